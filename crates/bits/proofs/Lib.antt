@@ -1,0 +1,6 @@
+pub mod Numbers
+pub mod Bytes
+pub mod Inside
+pub mod Reading
+pub mod Putting
+pub mod Copying

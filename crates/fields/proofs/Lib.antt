@@ -1,0 +1,4 @@
+pub mod Answers
+pub mod Widths
+pub mod Writers
+pub mod RoundTrip

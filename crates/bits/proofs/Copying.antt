@@ -32,12 +32,16 @@ none-left d s to at n e = rw (e, run-zero, put-nil)
 pub as-number : (d z s : List ℕ) (to at n v : ℕ) → at + n ≤ 8 * length s → v ≡ numOf (run s at n) → z ≡ putBits d to (bitsN n v) → z ≡ putBits d to (run s at n)
 as-number d z s to at n v h p e = e ∙ ap (putBits d to) (rw p (sym (run-bits s at n h)))
 
+-- a copy reads at the new place as it read at the old one
+pub copy-reads : (d s : List ℕ) (to at n : ℕ) → to + n ≤ 8 * length d → at + n ≤ 8 * length s → run (putBits d to (run s at n)) to n ≡ run s at n
+copy-reads d s to at n hd hs =
+    let k = length-run s at n hs in
+    rw k at (read-back d to (run s at n) (bits-run s at n) (rw k hd))
+
 -- by way of other bytes, from their first bit
 pub by-way : (d z t t′ s : List ℕ) (to at n : ℕ) → n ≤ 8 * length t → at + n ≤ 8 * length s → t′ ≡ putBits t 0 (run s at n) → z ≡ putBits d to (run t′ 0 n) → z ≡ putBits d to (run s at n)
 by-way d z t t′ s to at n ht hs e f =
-    let k = length-run s at n hs in
-    let b : run (putBits t 0 (run s at n)) 0 n ≡ run s at n = rw k at (read-back t 0 (run s at n) (bits-run s at n) (rw k (omega arith))) in
-    f ∙ ap (putBits d to) (rw e b)
+    f ∙ ap (putBits d to) (rw e (copy-reads t s 0 at n (omega arith) hs))
 
 -- ---- a turn of the loop over chunks
 

@@ -2,3 +2,4 @@ pub mod Answers
 pub mod Widths
 pub mod Writers
 pub mod RoundTrip
+pub mod Order

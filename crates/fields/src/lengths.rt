@@ -56,7 +56,7 @@ pub fn length_within(s: &[u8], end: usize, at: usize, least: u64, most: u64) -> 
 pub(crate) fn length_width(n: u64) -> usize
     ensures { λ w. ⌜ w ≡ listLength (lengthBits n) ⌝ }
 {
-    if n < 128 { 8 } else { 16 }
+    if 128 <= n { 16 } else { 8 }
 }
 
 pub fn put_length(buf: &mut [u8], end: usize, at: usize, n: u64) -> Put

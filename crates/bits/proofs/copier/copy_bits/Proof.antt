@@ -1,13 +1,11 @@
+-- `bits::copier::copy_bits` meets its contract.
+-- Assumes nothing.
 use native.Mathlib.Omega.{arith}
 use Rattle.bits.proofs.Inside.{Within, is-within, not-within}
 use Rattle.bits.proofs.Copying.{is-copied, no-room, not-there}
 use borrow.Author.Needs.{needs}
 use Rattle.bits.proofs.copier.copy_bits.Statement.{statement}
 use Rattle.bits.proofs.copier.copy_bits.Tie as tie
-use Rattle.bits.proofs.copier.copy_bits.Reads as reads
-use Rattle.bits.proofs.copier.copy_bits.Lts as lts
-use Rattle.bits.proofs.copier.copy_chunks.Reads as copy-chunks-reads
-use Rattle.bits.proofs.extent.within.Reads as within-reads
 
 there : (c : tie.Then1) → Within (c .before .before .before .before .args .src .now) (c .before .before .before .before .args .send) (c .before .before .before .before .args .at) (c .before .before .before .before .args .n)
 there c = is-within _ _ _ _ _ (c .before .within .ensures) (c .if1 .taken)
@@ -15,35 +13,27 @@ there c = is-within _ _ _ _ _ (c .before .within .ensures) (c .if1 .taken)
 room : (c : tie.Then2) → Within (c .before .before .before .before .before .before .args .dst .now) (c .before .before .before .before .before .before .args .dend) (c .before .before .before .before .before .before .args .to) (c .before .before .before .before .before .before .args .n)
 room c = is-within _ _ _ _ _ (c .before .within2 .ensures) (c .if2 .taken)
 
--- src/copier.rt:107:8
 within-requires : tie.Need-within-requires
 within-requires c κs = search needs
 
--- src/copier.rt:108:12
 within-requires-2 : tie.Need-within-requires-2
 within-requires-2 c κs = search needs
 
--- src/copier.rt:109:13
 copy-chunks-requires : tie.Need-copy-chunks-requires
 copy-chunks-requires c κs = omega (arith, there (c .before .before .before), room (c .before))
 
--- src/copier.rt:110:30
 add-t15 : tie.Need-add-t15
 add-t15 c = omega (arith, room (c .before .before .before .before))
 
--- src/copier.rt:110:13
 same-length : tie.Need-same-length
 same-length c = search needs
 
--- src/copier.rt:110:13
 returns : tie.Need-returns
 returns c = is-copied _ _ _ _ _ _ _ _ (there (c .before .before .before .before .before .before)) (room (c .before .before .before .before)) (c .before .before .copy-chunks .ensures)
 
--- src/copier.rt:112:9
 returns-2 : tie.Need-returns-2
 returns-2 c = no-room _ _ _ _ _ _ _ (there (c .before .before)) (not-within _ _ _ _ _ (c .before .within2 .ensures) (c .if2 .left))
 
--- src/copier.rt:96:1
 returns-3 : tie.Need-returns-3
 returns-3 c = not-there _ _ _ _ _ _ _ (not-within _ _ _ _ _ (c .before .within .ensures) (c .if1 .left))
 

@@ -1,34 +1,27 @@
+-- `bits::copier::copy_chunk` meets its contract.
+-- Assumes nothing.
 use native.Mathlib.Omega.{arith}
 use lib.ListN.{replicate}
 use Rattle.bits.proofs.Copying.{by-way}
 use borrow.Author.Needs.{needs}
 use Rattle.bits.proofs.copier.copy_chunk.Statement.{statement}
 use Rattle.bits.proofs.copier.copy_chunk.Tie as tie
-use Rattle.bits.proofs.copier.copy_chunk.Reads as reads
-use Rattle.bits.proofs.copier.copy_chunk.Lts as lts
-use Rattle.bits.proofs.copier.copy_straight.Reads as copy-straight-reads
 
--- src/copier.rt:78:19
 slice-aggregate-copy-straight : tie.Need-slice-aggregate-copy-straight
 slice-aggregate-copy-straight c = search needs
 
--- src/copier.rt:78:5
 copy-straight-requires : tie.Need-copy-straight-requires
 copy-straight-requires c κs = search needs
 
--- src/copier.rt:79:28
 slice-aggregate-copy-straight-2 : tie.Need-slice-aggregate-copy-straight-2
 slice-aggregate-copy-straight-2 c = search needs
 
--- src/copier.rt:79:5
 copy-straight-requires-2 : tie.Need-copy-straight-requires-2
 copy-straight-requires-2 c κs = search needs
 
--- src/copier.rt:73:1
 same-length : tie.Need-same-length
 same-length c = search needs
 
--- src/copier.rt:73:1
 returns : tie.Need-returns
 returns c = by-way _ _ (replicate 256 0) _ _ _ _ _ (omega arith) (omega arith) (c .before .before .before .before .before .before .copy-straight .ensures) (c .before .before .copy-straight2 .ensures)
 

@@ -1,97 +1,72 @@
+-- `bits::copier::copy_straight` meets its contract.
+-- Assumes nothing.
 use Prim.Native.Nat.{_+_, _*_, _-_, _/_, _≤_, _<_}
 use native.Mathlib.Omega.{arith}
 use Rattle.bits.proofs.Copying.{in-three}
 use borrow.Author.Needs.{needs}
 use Rattle.bits.proofs.copier.copy_straight.Statement.{statement}
 use Rattle.bits.proofs.copier.copy_straight.Tie as tie
-use Rattle.bits.proofs.copier.copy_straight.Reads as reads
-use Rattle.bits.proofs.copier.copy_straight.Lts as lts
-use Rattle.bits.proofs.copier.copy_bytes.Reads as copy-bytes-reads
-use Rattle.bits.proofs.copier.copy_few.Reads as copy-few-reads
-use Rattle.bits.proofs.copier.whole.Reads as whole-reads
-use Rattle.bits.proofs.reader.least.Reads as least-reads
 
--- src/copier.rt:65:23
 sub-least : tie.Need-sub-least
 sub-least c = search needs
 
--- src/copier.rt:65:9
 least-requires : tie.Need-least-requires
 least-requires c κs = search needs
 
--- src/copier.rt:66:5
 copy-few-requires : tie.Need-copy-few-requires
 copy-few-requires c κs = search needs
 
--- src/copier.rt:67:30
 add-whole : tie.Need-add-whole
 add-whole c = search needs
 
--- src/copier.rt:67:38
 sub-whole : tie.Need-sub-whole
 sub-whole c = search needs
 
--- src/copier.rt:67:9
 whole-requires : tie.Need-whole-requires
 whole-requires c κs = search needs
 
--- src/copier.rt:68:22
 add-copy-bytes : tie.Need-add-copy-bytes
 add-copy-bytes c = search needs
 
--- src/copier.rt:68:40
 add-copy-bytes-2 : tie.Need-add-copy-bytes-2
 add-copy-bytes-2 c = search needs
 
--- src/copier.rt:68:5
 copy-bytes-requires : tie.Need-copy-bytes-requires
 copy-bytes-requires c κs = search needs
 
--- src/copier.rt:69:19
 add-copy-few : tie.Need-add-copy-few
 add-copy-few c = search needs
 
--- src/copier.rt:69:28
 mul-copy-few : tie.Need-mul-copy-few
 mul-copy-few c = search needs
 
--- src/copier.rt:69:19
 add-copy-few-2 : tie.Need-add-copy-few-2
 add-copy-few-2 c = search needs
 
--- src/copier.rt:69:40
 add-copy-few-3 : tie.Need-add-copy-few-3
 add-copy-few-3 c = search needs
 
--- src/copier.rt:69:49
 mul-copy-few-2 : tie.Need-mul-copy-few-2
 mul-copy-few-2 c = search needs
 
--- src/copier.rt:69:40
 add-copy-few-4 : tie.Need-add-copy-few-4
 add-copy-few-4 c = search needs
 
--- src/copier.rt:69:56
 sub-copy-few : tie.Need-sub-copy-few
 sub-copy-few c = search needs
 
--- src/copier.rt:69:64
 mul-copy-few-3 : tie.Need-mul-copy-few-3
 mul-copy-few-3 c = search needs
 
--- src/copier.rt:69:56
 sub-copy-few-2 : tie.Need-sub-copy-few-2
 sub-copy-few-2 c = search needs
 
--- src/copier.rt:69:5
 copy-few-requires-2 : tie.Need-copy-few-requires-2
 copy-few-requires-2 c κs = omega (arith, c .before .before .before .before .before .whole .ensures .2 (omega arith))
 
--- src/copier.rt:61:1
 same-length : tie.Need-same-length
 same-length c = search needs
 
--- src/copier.rt:61:1
 returns : tie.Need-returns
 returns c = in-three _ _ _ _ _ _ _ _ (c .before .before .before .before .before .before .before .before .before .before .before .before .before .least .result) (c .before .before .before .before .before .before .before .before .whole .result) (omega arith) (omega arith) (λ h. omega arith) (c .before .before .before .before .before .before .before .before .before .before .before .copy-few .ensures) (c .before .before .before .before .before .before .copy-bytes .ensures) (c .before .before .copy-few2 .ensures)
 

@@ -1,3 +1,5 @@
+-- `bits::extent::within` meets its contract.
+-- Assumes nothing.
 use Prim.Native.Nat.{_+_, _*_, min}
 use mathlib.Core.Path.{sym}
 use borrow.Author.Tests.{lt-leb}
@@ -6,34 +8,25 @@ use Rattle.bits.proofs.Inside.{by-bytes}
 use borrow.Author.Needs.{needs}
 use Rattle.bits.proofs.extent.within.Statement.{statement}
 use Rattle.bits.proofs.extent.within.Tie as tie
-use Rattle.bits.proofs.extent.within.Reads as reads
-use Rattle.bits.proofs.extent.within.Lts as lts
 
--- src/extent.rt:11:9
 returns : tie.Need-returns
 returns c = sym (lt-leb (c .before .args .at + c .before .args .n) (min (c .before .args .end) (8 * c .before .args .len)) (omega arith))
 
--- src/extent.rt:14:9
 returns-2 : tie.Need-returns-2
 returns-2 c = sym (lt-leb (c .before .before .args .at + c .before .before .args .n) (min (c .before .before .args .end) (8 * c .before .before .args .len)) (omega arith))
 
--- src/extent.rt:16:5
 add-result : tie.Need-add-result
 add-result c = search needs
 
--- src/extent.rt:16:23
 add-result-2 : tie.Need-add-result-2
 add-result-2 c = search needs
 
--- src/extent.rt:16:23
 add-result-3 : tie.Need-add-result-3
 add-result-3 c = search needs
 
--- src/extent.rt:16:5
 add-result-4 : tie.Need-add-result-4
 add-result-4 c = search needs
 
--- src/extent.rt:7:1
 returns-3 : tie.Need-returns-3
 returns-3 c = by-bytes (c .before .before .args .len) (c .before .before .args .end) (c .before .before .args .at) (c .before .before .args .n) (omega arith) (omega arith)
 

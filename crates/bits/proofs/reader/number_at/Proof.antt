@@ -1,3 +1,5 @@
+-- `bits::reader::number_at` meets its contract.
+-- Assumes nothing.
 use borrow.Author.Needs.{needs}
 use Prim.Native.Nat.{ℕ, _+_, _*_, _-_, _^_, _≤_, _<_}
 use mathlib.Core.Path.{_≡_, refl, sym}
@@ -9,11 +11,6 @@ use Rattle.bits.proofs.Bytes.{run-zero}
 use Rattle.bits.proofs.Reading.{turn, turn-lt, turn-fits, piece-lt}
 use Rattle.bits.proofs.reader.number_at.Statement.{statement}
 use Rattle.bits.proofs.reader.number_at.Tie as tie
-use Rattle.bits.proofs.reader.number_at.Reads as reads
-use Rattle.bits.proofs.reader.number_at.Lts as lts
-use Rattle.bits.proofs.reader.least.Reads as least-reads
-use Rattle.bits.proofs.reader.piece.Reads as piece-reads
-use Rattle.bits.proofs.reader.pow2.Reads as pow2-reads
 
 abbrev Inv-loop : tie.InvT-loop
 Inv-loop s at n v₀ i₀ v i = (i ≤ n) × (v ≡ numOf (run s at i)) × (v < 2 ^ i)
@@ -21,59 +18,45 @@ Inv-loop s at n v₀ i₀ v i = (i ≤ n) × (v ≡ numOf (run s at i)) × (v < 
 abbrev μ-loop : tie.MeasureT-loop
 μ-loop s at n v₀ i₀ v i = n - i
 
--- src/reader.rt:44:5
 loop-holds : tie.Need-loop-holds Inv-loop μ-loop
 loop-holds c = (search needs, sym (rw run-zero num-nil), search needs)
 
--- src/reader.rt:45:17
 add-p : tie.Need-add-p Inv-loop μ-loop
 add-p c = search needs
 
--- src/reader.rt:46:23
 sub-least : tie.Need-sub-least Inv-loop μ-loop
 sub-least c = search needs
 
--- src/reader.rt:46:30
 sub-least-2 : tie.Need-sub-least-2 Inv-loop μ-loop
 sub-least-2 c = search needs
 
--- src/reader.rt:46:13
 least-requires : tie.Need-least-requires Inv-loop μ-loop
 least-requires c κs = tt
 
--- src/reader.rt:47:17
 pow2-requires : tie.Need-pow2-requires Inv-loop μ-loop
 pow2-requires c κs = search needs
 
--- src/reader.rt:47:13
 mul-v : tie.Need-mul-v Inv-loop μ-loop
 mul-v c = omega (arith, turn-fits (c .before .before .before .loop .v) (c .pow2 .result) 0 (c .before .before .before .loop .i) (c .before .least .result) (c .before .before .before .loop .inv .2) (c .pow2 .ensures) (pow-pos _) (omega arith))
 
--- src/reader.rt:47:33
 shared-slice-read-piece : tie.Need-shared-slice-read-piece Inv-loop μ-loop
 shared-slice-read-piece c = search needs
 
--- src/reader.rt:47:27
 piece-requires : tie.Need-piece-requires Inv-loop μ-loop
 piece-requires c κs = search needs
 
--- src/reader.rt:47:13
 add-v : tie.Need-add-v Inv-loop μ-loop
 add-v c = omega (arith, turn-fits (c .before .before .before .before .before .loop .v) (c .before .before .pow2 .result) (c .piece .result) (c .before .before .before .before .before .loop .i) (c .before .before .before .least .result) (c .before .before .before .before .before .loop .inv .2) (c .before .before .pow2 .ensures) (piece-lt _ _ _ _ (c .piece .ensures)) (omega arith))
 
--- src/reader.rt:48:9
 add-i : tie.Need-add-i Inv-loop μ-loop
 add-i c = search needs
 
--- src/reader.rt:44:5
 loop-less : tie.Need-loop-less Inv-loop μ-loop
 loop-less c = omega arith
 
--- src/reader.rt:44:5
 loop-again : tie.Need-loop-again Inv-loop μ-loop
 loop-again c = (search needs, turn (c .before .before .before .before .before .before .before .args .s .now) (c .before .before .before .before .before .before .before .args .at) (c .before .before .before .before .before .loop .i) (c .before .before .before .least .result) _ _ _ (omega arith) (omega arith) (omega arith) (c .before .before .pow2 .ensures) (c .piece .ensures) (c .before .before .before .before .before .loop .inv .1), turn-lt _ _ _ _ _ (c .before .before .before .before .before .loop .inv .2) (c .before .before .pow2 .ensures) (piece-lt _ _ _ _ (c .piece .ensures)))
 
--- src/reader.rt:38:1
 returns : tie.Need-returns Inv-loop μ-loop
 returns c = let e : c .before .loop .i ≡ c .before .before .before .args .n = omega arith in rw (← e) (c .before .loop .inv .1)
 

@@ -1,3 +1,5 @@
+-- `bits::writer::put_bits` meets its contract.
+-- Assumes nothing.
 use native.Mathlib.Omega.{arith}
 use borrow.Author.Tests.{leb-true}
 use Prim.Native.Nat.{_≤_}
@@ -8,11 +10,6 @@ use Rattle.bits.proofs.Putting.{is-put, is-full, is-too-wide}
 use borrow.Author.Needs.{needs}
 use Rattle.bits.proofs.writer.put_bits.Statement.{statement}
 use Rattle.bits.proofs.writer.put_bits.Tie as tie
-use Rattle.bits.proofs.writer.put_bits.Reads as reads
-use Rattle.bits.proofs.writer.put_bits.Lts as lts
-use Rattle.bits.proofs.extent.within.Reads as within-reads
-use Rattle.bits.proofs.writer.holds.Reads as holds-reads
-use Rattle.bits.proofs.writer.put_number_at.Reads as put-number-at-reads
 
 inside : (c : tie.Then2) → Within (c .before .before .before .before .before .args .buf .now) (c .before .before .before .before .before .args .end) (c .before .before .before .before .before .args .at) (c .before .before .before .before .before .args .n)
 inside c = is-within _ _ _ _ _ (c .before .within .ensures) (c .if2 .taken)
@@ -20,35 +17,27 @@ inside c = is-within _ _ _ _ _ (c .before .within .ensures) (c .if2 .taken)
 narrow : (c : tie.Then2) → c .before .before .before .before .before .args .n ≤ 64
 narrow c = leb-true _ _ (both-left _ _ (sym (c .before .before .before .holds .ensures) ∙ c .before .before .if1 .taken))
 
--- src/writer.rt:58:8
 holds-requires : tie.Need-holds-requires
 holds-requires c κs = search needs
 
--- src/writer.rt:59:12
 within-requires : tie.Need-within-requires
 within-requires c κs = search needs
 
--- src/writer.rt:60:13
 put-number-at-requires : tie.Need-put-number-at-requires
 put-number-at-requires c κs = omega (arith, inside (c .before), narrow (c .before))
 
--- src/writer.rt:61:30
 add-t12 : tie.Need-add-t12
 add-t12 c = omega (arith, inside (c .before .before .before .before))
 
--- src/writer.rt:61:13
 same-length : tie.Need-same-length
 same-length c = search needs
 
--- src/writer.rt:61:13
 returns : tie.Need-returns
 returns c = is-put _ _ _ _ _ _ _ (c .before .before .before .before .before .before .before .holds .ensures) (c .before .before .before .before .before .before .if1 .taken) (inside (c .before .before .before .before)) (c .before .before .put-number-at .ensures)
 
--- src/writer.rt:63:9
 returns-2 : tie.Need-returns-2
 returns-2 c = is-full _ _ _ _ _ _ (c .before .before .before .holds .ensures) (c .before .before .if1 .taken) (not-within _ _ _ _ _ (c .before .within .ensures) (c .if2 .left))
 
--- src/writer.rt:55:1
 returns-3 : tie.Need-returns-3
 returns-3 c = is-too-wide _ _ _ _ _ _ (c .before .holds .ensures) (c .if1 .left)
 

@@ -1,3 +1,5 @@
+-- `bits::writer::put_number_at` meets its contract.
+-- Assumes nothing.
 use borrow.Author.Needs.{needs}
 use Prim.Native.Nat.{_+_, _*_, _-_, _/_, _%_, _^_, _≤_, _<_}
 use mathlib.Core.Path.{_≡_, refl, sym, _∙_}
@@ -10,11 +12,6 @@ use Rattle.bits.specs.Put.{putBits}
 use Rattle.bits.proofs.Putting.{start, turn, done}
 use Rattle.bits.proofs.writer.put_number_at.Statement.{statement}
 use Rattle.bits.proofs.writer.put_number_at.Tie as tie
-use Rattle.bits.proofs.writer.put_number_at.Reads as reads
-use Rattle.bits.proofs.writer.put_number_at.Lts as lts
-use Rattle.bits.proofs.reader.least.Reads as least-reads
-use Rattle.bits.proofs.reader.pow2.Reads as pow2-reads
-use Rattle.bits.proofs.writer.with_piece.Reads as with-piece-reads
 
 abbrev Inv-loop : tie.InvT-loop
 Inv-loop buf₀ at n v i₀ buf i = (i ≤ n) × (length buf ≡ length buf₀) × (putBits buf (at + i) (bitsN (n - i) v) ≡ putBits buf₀ at (bitsN n v))
@@ -22,75 +19,57 @@ Inv-loop buf₀ at n v i₀ buf i = (i ≤ n) × (length buf ≡ length buf₀) 
 abbrev μ-loop : tie.MeasureT-loop
 μ-loop buf₀ at n v i₀ buf i = n - i
 
--- src/writer.rt:31:5
 loop-holds : tie.Need-loop-holds Inv-loop μ-loop
 loop-holds c = (search needs, refl, start _ _ _ _)
 
--- src/writer.rt:32:17
 add-p : tie.Need-add-p Inv-loop μ-loop
 add-p c = search needs
 
--- src/writer.rt:33:23
 sub-least : tie.Need-sub-least Inv-loop μ-loop
 sub-least c = search needs
 
--- src/writer.rt:33:30
 sub-least-2 : tie.Need-sub-least-2 Inv-loop μ-loop
 sub-least-2 c = search needs
 
--- src/writer.rt:33:13
 least-requires : tie.Need-least-requires Inv-loop μ-loop
 least-requires c κs = tt
 
--- src/writer.rt:35:27
 sub-part : tie.Need-sub-part Inv-loop μ-loop
 sub-part c = search needs
 
--- src/writer.rt:35:27
 sub-part-2 : tie.Need-sub-part-2 Inv-loop μ-loop
 sub-part-2 c = search needs
 
--- src/writer.rt:35:21
 shr-part : tie.Need-shr-part Inv-loop μ-loop
 shr-part c = omega arith
 
--- src/writer.rt:35:41
 pow2-requires : tie.Need-pow2-requires Inv-loop μ-loop
 pow2-requires c κs = search needs
 
--- src/writer.rt:35:20
 rem-part : tie.Need-rem-part Inv-loop μ-loop
 rem-part c = rw (c .pow2 .ensures) (pow-pos _)
 
--- src/writer.rt:36:29
 slice-read-with-piece : tie.Need-slice-read-with-piece Inv-loop μ-loop
 slice-read-with-piece c = search needs
 
--- src/writer.rt:36:18
 with-piece-requires : tie.Need-with-piece-requires Inv-loop μ-loop
 with-piece-requires c κs = (search needs, rw (c .before .pow2 .ensures) (mod-lt _ (pow-pos _)))
 
--- src/writer.rt:36:9
 slice-write-buf : tie.Need-slice-write-buf Inv-loop μ-loop
 slice-write-buf c = search needs
 
--- src/writer.rt:37:9
 add-i : tie.Need-add-i Inv-loop μ-loop
 add-i c = search needs
 
--- src/writer.rt:31:5
 loop-less : tie.Need-loop-less Inv-loop μ-loop
 loop-less c = omega arith
 
--- src/writer.rt:31:5
 loop-again : tie.Need-loop-again Inv-loop μ-loop
 loop-again c = (search needs, simp length-set (c .before .before .before .before .before .loop .inv .1), turn _ _ _ _ _ _ (c .before .before .before .least .result) _ _ _ _ (omega arith) (omega arith) (omega arith) (omega arith) (c .before .before .pow2 .ensures) refl (c .with-piece .ensures) refl (c .before .before .before .before .before .loop .inv .2))
 
--- src/writer.rt:26:1
 same-length : tie.Need-same-length Inv-loop μ-loop
 same-length c = search needs
 
--- src/writer.rt:26:1
 returns : tie.Need-returns Inv-loop μ-loop
 returns c = sym (done _ _ _ _ _ (omega arith)) ∙ c .before .loop .inv .2
 

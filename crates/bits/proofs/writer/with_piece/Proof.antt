@@ -1,3 +1,5 @@
+-- `bits::writer::with_piece` meets its contract.
+-- Assumes nothing.
 use Prim.Native.Nat.{_+_, _*_, _-_, _/_, _%_, _^_, _<_}
 use mathlib.Core.Path.{_≡_, refl, sym}
 use native.Mathlib.Omega.{arith}
@@ -6,67 +8,49 @@ use Rattle.bits.proofs.Putting.{piece-put, byte-lt}
 use borrow.Author.Needs.{needs}
 use Rattle.bits.proofs.writer.with_piece.Statement.{statement}
 use Rattle.bits.proofs.writer.with_piece.Tie as tie
-use Rattle.bits.proofs.writer.with_piece.Reads as reads
-use Rattle.bits.proofs.writer.with_piece.Lts as lts
-use Rattle.bits.proofs.reader.pow2.Reads as pow2-reads
-use Rattle.bits.proofs.reader.wide.Reads as wide-reads
 
 sum : (c : tie.After-wide) → c .wide .result / c .before .pow22 .result * c .before .pow22 .result + c .before .before .before .args .p * c .before .before .pow2 .result + c .wide .result % c .before .before .pow2 .result < 256
 sum c = rw (c .wide .ensures, c .before .pow22 .ensures, c .before .before .pow2 .ensures, piece-put (c .before .before .before .args .x) (c .before .before .before .args .r) (c .before .before .before .args .k) (c .before .before .before .args .p) (search needs) (c .before .before .before .pre .0) (c .before .before .before .pre .1)) (byte-lt _ _ _ _)
 
--- src/writer.rt:19:20
 sub-pow2 : tie.Need-sub-pow2
 sub-pow2 c = search needs
 
--- src/writer.rt:19:20
 sub-pow2-2 : tie.Need-sub-pow2-2
 sub-pow2-2 c = search needs
 
--- src/writer.rt:19:9
 pow2-requires : tie.Need-pow2-requires
 pow2-requires c κs = search needs
 
--- src/writer.rt:20:22
 sub-pow2-3 : tie.Need-sub-pow2-3
 sub-pow2-3 c = search needs
 
--- src/writer.rt:20:9
 pow2-requires-2 : tie.Need-pow2-requires-2
 pow2-requires-2 c κs = search needs
 
--- src/writer.rt:21:9
 wide-requires : tie.Need-wide-requires
 wide-requires c κs = search needs
 
--- src/writer.rt:22:6
 div-result : tie.Need-div-result
 div-result c = rw (c .before .pow22 .ensures) (pow-pos _)
 
--- src/writer.rt:22:6
 mul-result : tie.Need-mul-result
 mul-result c = omega (arith, sum c)
 
--- src/writer.rt:22:26
 mul-result-2 : tie.Need-mul-result-2
 mul-result-2 c = omega (arith, sum c)
 
--- src/writer.rt:22:6
 add-result : tie.Need-add-result
 add-result c = omega (arith, sum c)
 
--- src/writer.rt:22:36
 rem-result : tie.Need-rem-result
 rem-result c = rw (c .before .before .pow2 .ensures) (pow-pos _)
 
--- src/writer.rt:22:6
 add-result-2 : tie.Need-add-result-2
 add-result-2 c = omega (arith, sum c)
 
--- src/writer.rt:22:5
 cast-result : tie.Need-cast-result
 cast-result c = omega (arith, sum c)
 
--- src/writer.rt:15:1
 returns : tie.Need-returns
 returns c = rw (c .wide .ensures, c .before .pow22 .ensures, c .before .before .pow2 .ensures) (piece-put _ _ _ _ (search needs) (c .before .before .before .pre .0) (c .before .before .before .pre .1))
 

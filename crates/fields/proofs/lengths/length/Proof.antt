@@ -1,73 +1,55 @@
+-- `fields::lengths::length` meets its contract.
+-- Assumes nothing.
 use Rattle.fields.proofs.Answers.{len-handed, len-short, len-fragment, len-cut, len-low, len-long}
 use borrow.Author.Needs.{needs}
 use Rattle.fields.proofs.lengths.length.Statement.{statement}
 use Rattle.fields.proofs.lengths.length.Tie as tie
-use Rattle.fields.proofs.lengths.length.Reads as reads
-use Rattle.fields.proofs.lengths.length.Lts as lts
-use Rattle.fields.proofs.numbers.bit_field.Reads as bit-field-reads
-use Rattle.fields.proofs.numbers.refused_at.Reads as refused-at-reads
 
--- src/lengths.rt:17:9
 bit-field-requires : tie.Need-bit-field-requires
 bit-field-requires c κs = search needs
 
--- src/lengths.rt:18:22
 enum-known-first : tie.Need-enum-known-first
 enum-known-first c = search needs
 
--- src/lengths.rt:19:9
 enum-told : tie.Need-enum-told
 enum-told c = search needs
 
--- src/lengths.rt:19:9
 returns : tie.Need-returns
 returns c = len-handed _ _ _ (c .before .before .bit-field .ensures) _ (c .enum-told .given .1)
 
--- src/lengths.rt:22:9
 returns-2 : tie.Need-returns-2
 returns-2 c = len-short _ _ _ (c .before .before .before .before .bit-field .ensures) _ _ (c .before .before .first .given .1) (c .if1 .taken)
 
--- src/lengths.rt:25:9
 refused-at-requires : tie.Need-refused-at-requires
 refused-at-requires c κs = search needs
 
--- src/lengths.rt:25:9
 returns-3 : tie.Need-returns-3
 returns-3 c = len-fragment _ _ _ (c .before .before .before .before .before .before .bit-field .ensures) _ _ _ (c .before .before .before .before .first .given .1) (c .before .before .if1 .left) (c .before .if2 .taken) (c .refused-at .ensures)
 
--- src/lengths.rt:27:9
 bit-field-requires-2 : tie.Need-bit-field-requires-2
 bit-field-requires-2 c κs = search needs
 
--- src/lengths.rt:28:22
 enum-known-both : tie.Need-enum-known-both
 enum-known-both c = search needs
 
--- src/lengths.rt:29:9
 enum-told-2 : tie.Need-enum-told-2
 enum-told-2 c = search needs
 
--- src/lengths.rt:29:9
 returns-4 : tie.Need-returns-4
 returns-4 c = len-cut _ _ _ (c .before .before .before .before .before .before .before .before .bit-field .ensures) _ _ (c .before .before .before .before .before .before .first .given .1) (c .before .before .before .before .if1 .left) (c .before .before .before .if2 .left) _ (c .before .before .bit-field2 .ensures) _ (c .enum-told2 .given .1)
 
--- src/lengths.rt:31:12
 add-if3 : tie.Need-add-if3
 add-if3 c = search needs
 
--- src/lengths.rt:32:9
 refused-at-requires-2 : tie.Need-refused-at-requires-2
 refused-at-requires-2 c κs = search needs
 
--- src/lengths.rt:32:9
 returns-5 : tie.Need-returns-5
 returns-5 c = len-low _ _ _ (c .before .before .before .before .before .before .before .before .before .before .before .bit-field .ensures) _ _ (c .before .before .before .before .before .before .before .before .before .first .given .1) (c .before .before .before .before .before .before .before .if1 .left) (c .before .before .before .before .before .before .if2 .left) _ (c .before .before .before .before .before .bit-field2 .ensures) _ _ _ (c .before .before .before .both .given .1) (c .before .if3 .taken) (c .refused-at2 .ensures)
 
--- src/lengths.rt:34:18
 sub-t11 : tie.Need-sub-t11
 sub-t11 c = search needs
 
--- src/lengths.rt:14:1
 returns-6 : tie.Need-returns-6
 returns-6 c = len-long _ _ _ (c .before .before .before .before .before .before .before .before .before .before .bit-field .ensures) _ _ (c .before .before .before .before .before .before .before .before .first .given .1) (c .before .before .before .before .before .before .if1 .left) (c .before .before .before .before .before .if2 .left) _ (c .before .before .before .before .bit-field2 .ensures) _ _ (c .before .before .both .given .1) (c .if3 .left)
 

@@ -1,45 +1,34 @@
+-- `fields::lengths::length_within` meets its contract.
+-- Assumes nothing.
 use Rattle.fields.proofs.Answers.{within-handed, within-low, within-high, within-both}
 use borrow.Author.Needs.{needs}
 use Rattle.fields.proofs.lengths.length_within.Statement.{statement}
 use Rattle.fields.proofs.lengths.length_within.Tie as tie
-use Rattle.fields.proofs.lengths.length_within.Reads as reads
-use Rattle.fields.proofs.lengths.length_within.Lts as lts
-use Rattle.fields.proofs.lengths.length.Reads as length-reads
-use Rattle.fields.proofs.numbers.refused_at.Reads as refused-at-reads
 
--- src/lengths.rt:41:9
 length-requires : tie.Need-length-requires
 length-requires c κs = search needs
 
--- src/lengths.rt:42:22
 enum-known-any : tie.Need-enum-known-any
 enum-known-any c = search needs
 
--- src/lengths.rt:43:9
 enum-told : tie.Need-enum-told
 enum-told c = search needs
 
--- src/lengths.rt:43:9
 returns : tie.Need-returns
 returns c = within-handed _ _ _ _ _ (c .before .before .length .ensures) _ (c .enum-told .given .1)
 
--- src/lengths.rt:46:9
 refused-at-requires : tie.Need-refused-at-requires
 refused-at-requires c κs = search needs
 
--- src/lengths.rt:46:9
 returns-2 : tie.Need-returns-2
 returns-2 c = within-low _ _ _ _ _ (c .before .before .before .before .before .length .ensures) _ _ _ (c .before .before .before .any .given .1) (c .before .if1 .taken) (c .refused-at .ensures)
 
--- src/lengths.rt:49:9
 refused-at-requires-2 : tie.Need-refused-at-requires-2
 refused-at-requires-2 c κs = search needs
 
--- src/lengths.rt:49:9
 returns-3 : tie.Need-returns-3
 returns-3 c = within-high _ _ _ _ _ (c .before .before .before .before .before .before .length .ensures) _ _ _ (c .before .before .before .before .any .given .1) (c .before .before .if1 .left) (c .before .if2 .taken) (c .refused-at2 .ensures)
 
--- src/lengths.rt:38:1
 returns-4 : tie.Need-returns-4
 returns-4 c = within-both _ _ _ _ _ (c .before .before .before .before .before .length .ensures) _ _ (c .before .before .before .any .given .1) (c .before .if1 .left) (c .if2 .left)
 

@@ -1,33 +1,25 @@
+-- `fields::numbers::bit_field` meets its contract.
+-- Assumes nothing.
 use Rattle.fields.proofs.Answers.{field-short, field-value}
 use borrow.Author.Needs.{needs}
 use Rattle.fields.proofs.numbers.bit_field.Statement.{statement}
 use Rattle.fields.proofs.numbers.bit_field.Tie as tie
-use Rattle.fields.proofs.numbers.bit_field.Reads as reads
-use Rattle.fields.proofs.numbers.bit_field.Lts as lts
-use Rattle.bits.proofs.read_bits.Reads as read-bits-reads
-use Rattle.fields.proofs.numbers.refused_at.Reads as refused-at-reads
 
--- src/numbers.rt:25:33
 read-bits-requires : tie.Need-read-bits-requires
 read-bits-requires c κs = search needs
 
--- src/numbers.rt:25:22
 enum-known-v : tie.Need-enum-known-v
 enum-known-v c = search needs
 
--- src/numbers.rt:26:31
 enum-told : tie.Need-enum-told
 enum-told c = search needs
 
--- src/numbers.rt:26:9
 refused-at-requires : tie.Need-refused-at-requires
 refused-at-requires c κs = search needs
 
--- src/numbers.rt:26:9
 returns : tie.Need-returns
 returns c = field-short _ _ _ _ _ (c .before .before .before .read-bits .ensures) (c .before .enum-told .given .1) (c .refused-at .ensures)
 
--- src/numbers.rt:22:1
 returns-2 : tie.Need-returns-2
 returns-2 c = field-value _ _ _ _ _ _ (c .before .before .before .read-bits .ensures) (c .before .v .given .1)
 

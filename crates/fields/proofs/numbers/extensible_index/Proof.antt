@@ -1,35 +1,27 @@
+-- `fields::numbers::extensible_index` meets its contract.
+-- Assumes nothing.
 use Rattle.fields.proofs.Answers.{handed, went}
 use Rattle.fields.specs.Fields.{extensibleIndex}
 use borrow.Author.Needs.{needs}
 use Rattle.fields.proofs.numbers.extensible_index.Statement.{statement}
 use Rattle.fields.proofs.numbers.extensible_index.Tie as tie
-use Rattle.fields.proofs.numbers.extensible_index.Reads as reads
-use Rattle.fields.proofs.numbers.extensible_index.Lts as lts
-use Rattle.fields.proofs.numbers.extension_bit.Reads as extension-bit-reads
-use Rattle.fields.proofs.numbers.whole.Reads as whole-reads
 
--- src/numbers.rt:80:9
 extension-bit-requires : tie.Need-extension-bit-requires
 extension-bit-requires c κs = search needs
 
--- src/numbers.rt:81:25
 enum-known-bit : tie.Need-enum-known-bit
 enum-known-bit c = search needs
 
--- src/numbers.rt:82:9
 enum-told : tie.Need-enum-told
 enum-told c = search needs
 
--- src/numbers.rt:82:9
 returns : tie.Need-returns
 unfolding extensibleIndex
 returns c = handed _ _ _ _ (c .before .before .extension-bit .ensures) (c .enum-told .given .1)
 
--- src/numbers.rt:84:5
 whole-requires : tie.Need-whole-requires
 whole-requires c κs = search needs
 
--- src/numbers.rt:77:1
 returns-2 : tie.Need-returns-2
 unfolding extensibleIndex
 returns-2 c = went _ _ _ _ _ _ (c .before .before .before .before .extension-bit .ensures) (c .before .before .bit .given .1) (c .whole .ensures)

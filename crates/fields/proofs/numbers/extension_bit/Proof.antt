@@ -1,37 +1,28 @@
+-- `fields::numbers::extension_bit` meets its contract.
+-- Assumes nothing.
 use Rattle.fields.proofs.Answers.{ext-handed, ext-clear, ext-set}
 use borrow.Author.Needs.{needs}
 use Rattle.fields.proofs.numbers.extension_bit.Statement.{statement}
 use Rattle.fields.proofs.numbers.extension_bit.Tie as tie
-use Rattle.fields.proofs.numbers.extension_bit.Reads as reads
-use Rattle.fields.proofs.numbers.extension_bit.Lts as lts
-use Rattle.fields.proofs.numbers.bit_field.Reads as bit-field-reads
-use Rattle.fields.proofs.numbers.refused_at.Reads as refused-at-reads
 
--- src/numbers.rt:35:9
 bit-field-requires : tie.Need-bit-field-requires
 bit-field-requires c κs = search needs
 
--- src/numbers.rt:36:22
 enum-known-bit : tie.Need-enum-known-bit
 enum-known-bit c = search needs
 
--- src/numbers.rt:37:9
 enum-told : tie.Need-enum-told
 enum-told c = search needs
 
--- src/numbers.rt:37:9
 returns : tie.Need-returns
 returns c = ext-handed _ _ _ (c .before .before .bit-field .ensures) _ (c .enum-told .given .1)
 
--- src/numbers.rt:40:9
 returns-2 : tie.Need-returns-2
 returns-2 c = ext-clear _ _ _ (c .before .before .before .before .bit-field .ensures) _ _ (c .before .before .bit .given .1) (c .if1 .taken)
 
--- src/numbers.rt:42:5
 refused-at-requires : tie.Need-refused-at-requires
 refused-at-requires c κs = search needs
 
--- src/numbers.rt:32:1
 returns-3 : tie.Need-returns-3
 returns-3 c = ext-set _ _ _ (c .before .before .before .before .before .bit-field .ensures) _ _ _ (c .before .before .before .bit .given .1) (c .before .if1 .left) (c .refused-at .ensures)
 

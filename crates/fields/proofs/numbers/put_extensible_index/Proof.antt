@@ -1,3 +1,5 @@
+-- `fields::numbers::put_extensible_index` meets its contract.
+-- Assumes nothing.
 use native.Mathlib.Omega.{arith}
 use Rattle.bits.proofs.Inside.{Within, is-within, not-within}
 use Prim.Native.Nat.{_+_}
@@ -6,53 +8,37 @@ use Rattle.fields.proofs.Writers.{refused, above-high, no-room, in-rang
 use borrow.Author.Needs.{needs}
 use Rattle.fields.proofs.numbers.put_extensible_index.Statement.{statement}
 use Rattle.fields.proofs.numbers.put_extensible_index.Tie as tie
-use Rattle.fields.proofs.numbers.put_extensible_index.Reads as reads
-use Rattle.fields.proofs.numbers.put_extensible_index.Lts as lts
-use Rattle.bits.proofs.within.Reads as within-reads
-use Rattle.fields.proofs.numbers.put_extension_bit.Reads as put-extension-bit-reads
-use Rattle.fields.proofs.numbers.put_whole.Reads as put-whole-reads
-use Rattle.fields.proofs.numbers.width.Reads as width-reads
 
 inside : (c : tie.Then2) → Within (c .before .before .before .before .before .args .buf .now) (c .before .before .before .before .before .args .end) (c .before .before .before .before .before .args .at) (1 + c .before .before .width .result)
 inside c = is-within _ _ _ _ _ (c .before .within .ensures) (c .if2 .taken)
 
--- src/numbers.rt:109:9
 returns : tie.Need-returns
 returns c = refused _ _ _ _ _ (above-high 0 _ _ (omega arith) (c .if1 .taken))
 
--- src/numbers.rt:111:45
 width-requires : tie.Need-width-requires
 width-requires c κs = search needs
 
--- src/numbers.rt:111:41
 add-within : tie.Need-add-within
 add-within c = omega (arith, c .width .ensures, width-most 64 (c .before .before .before .args .last))
 
--- src/numbers.rt:111:8
 within-requires : tie.Need-within-requires
 within-requires c κs = search needs
 
--- src/numbers.rt:112:9
 put-extension-bit-requires : tie.Need-put-extension-bit-requires
 put-extension-bit-requires c κs = search needs
 
--- src/numbers.rt:113:36
 add-put-whole : tie.Need-add-put-whole
 add-put-whole c = omega (arith, inside (c .before .before .before .before .before))
 
--- src/numbers.rt:113:9
 put-whole-requires : tie.Need-put-whole-requires
 put-whole-requires c κs = search needs
 
--- src/numbers.rt:113:9
 same-length : tie.Need-same-length
 same-length c = search needs
 
--- src/numbers.rt:113:9
 returns-2 : tie.Need-returns-2
 returns-2 c = index-put _ _ _ _ _ _ _ _ _ (c .before .before .before .before .before .before .before .before .before .before .before .if1 .left) (c .before .before .before .before .before .before .before .before .before .before .width .ensures) (inside (c .before .before .before .before .before .before .before .before)) (c .before .before .before .before .before .before .put-extension-bit .ensures) (c .before .before .put-whole .ensures)
 
--- src/numbers.rt:105:1
 returns-3 : tie.Need-returns-3
 returns-3 c = no-room _ _ _ _ _ (in-range 0 _ _ (omega arith) (c .before .before .before .if1 .left)) (rw (length-index, ← c .before .before .width .ensures) (not-within _ _ _ _ _ (c .before .within .ensures) (c .if2 .left)))
 

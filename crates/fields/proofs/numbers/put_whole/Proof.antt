@@ -1,39 +1,29 @@
+-- `fields::numbers::put_whole` meets its contract.
+-- Assumes nothing.
 use native.Mathlib.Omega.{arith}
 use Rattle.fields.proofs.Writers.{refused, below-low, above-high, whole-put}
 use borrow.Author.Needs.{needs}
 use Rattle.fields.proofs.numbers.put_whole.Statement.{statement}
 use Rattle.fields.proofs.numbers.put_whole.Tie as tie
-use Rattle.fields.proofs.numbers.put_whole.Reads as reads
-use Rattle.fields.proofs.numbers.put_whole.Lts as lts
-use Rattle.bits.proofs.put_bits.Reads as put-bits-reads
-use Rattle.fields.proofs.numbers.above.Reads as above-reads
-use Rattle.fields.proofs.numbers.width.Reads as width-reads
 
--- src/numbers.rt:97:9
 returns : tie.Need-returns
 returns c = refused _ _ _ _ _ (below-low _ _ _ (c .if1 .taken))
 
--- src/numbers.rt:100:9
 returns-2 : tie.Need-returns-2
 returns-2 c = refused _ _ _ _ _ (above-high _ _ _ (c .before .if1 .left) (c .if2 .taken))
 
--- src/numbers.rt:102:40
 above-requires : tie.Need-above-requires
 above-requires c κs = search needs
 
--- src/numbers.rt:102:34
 width-requires : tie.Need-width-requires
 width-requires c κs = search needs
 
--- src/numbers.rt:102:5
 put-bits-requires : tie.Need-put-bits-requires
 put-bits-requires c κs = search needs
 
--- src/numbers.rt:93:1
 same-length : tie.Need-same-length
 same-length c = search needs
 
--- src/numbers.rt:93:1
 returns-3 : tie.Need-returns-3
 returns-3 c = whole-put _ _ _ _ _ _ _ _ _ (omega arith) (c .before .before .before .before .before .before .before .if1 .left) (c .before .before .before .before .before .before .if2 .left) (c .before .before .before .width .ensures) (c .before .before .before .before .above .ensures) (c .before .before .put-bits .ensures)
 

@@ -1,60 +1,44 @@
+-- `fields::numbers::whole` meets its contract.
+-- Assumes nothing.
 use native.Mathlib.Omega.{arith}
 use Rattle.fields.proofs.Answers.{whole-handed, whole-in, whole-out}
 use borrow.Author.Needs.{needs}
 use Rattle.fields.proofs.numbers.whole.Statement.{statement}
 use Rattle.fields.proofs.numbers.whole.Tie as tie
-use Rattle.fields.proofs.numbers.whole.Reads as reads
-use Rattle.fields.proofs.numbers.whole.Lts as lts
-use Rattle.fields.proofs.numbers.above.Reads as above-reads
-use Rattle.fields.proofs.numbers.bit_field.Reads as bit-field-reads
-use Rattle.fields.proofs.numbers.refused_at.Reads as refused-at-reads
-use Rattle.fields.proofs.numbers.width.Reads as width-reads
 
--- src/numbers.rt:63:48
 above-requires : tie.Need-above-requires
 above-requires c κs = search needs
 
--- src/numbers.rt:63:42
 width-requires : tie.Need-width-requires
 width-requires c κs = search needs
 
--- src/numbers.rt:63:9
 bit-field-requires : tie.Need-bit-field-requires
 bit-field-requires c κs = search needs
 
--- src/numbers.rt:64:22
 enum-known-distance : tie.Need-enum-known-distance
 enum-known-distance c = search needs
 
--- src/numbers.rt:65:9
 enum-told : tie.Need-enum-told
 enum-told c = search needs
 
--- src/numbers.rt:65:9
 returns : tie.Need-returns
 returns c = whole-handed _ _ _ _ _ _ _ (c .before .before .bit-field .ensures) (c .before .before .before .width .ensures) (c .before .before .before .before .above .ensures) _ (c .enum-told .given .1)
 
--- src/numbers.rt:68:9
 refused-at-requires : tie.Need-refused-at-requires
 refused-at-requires c κs = search needs
 
--- src/numbers.rt:68:9
 returns-2 : tie.Need-returns-2
 returns-2 c = whole-out _ _ _ _ _ _ _ (c .before .before .before .before .before .bit-field .ensures) (c .before .before .before .before .before .before .width .ensures) (c .before .before .before .before .before .before .before .above .ensures) _ _ _ (c .before .before .before .distance .given .1) (omega arith) (c .refused-at .ensures)
 
--- src/numbers.rt:71:9
 refused-at-requires-2 : tie.Need-refused-at-requires-2
 refused-at-requires-2 c κs = search needs
 
--- src/numbers.rt:71:9
 returns-3 : tie.Need-returns-3
 returns-3 c = whole-out _ _ _ _ _ _ _ (c .before .before .before .before .before .before .bit-field .ensures) (c .before .before .before .before .before .before .before .width .ensures) (c .before .before .before .before .before .before .before .before .above .ensures) _ _ _ (c .before .before .before .before .distance .given .1) (omega arith) (c .refused-at2 .ensures)
 
--- src/numbers.rt:73:18
 add-t10 : tie.Need-add-t10
 add-t10 c = search needs
 
--- src/numbers.rt:60:1
 returns-4 : tie.Need-returns-4
 returns-4 c = whole-in _ _ _ _ _ _ _ (c .before .before .before .before .before .bit-field .ensures) (c .before .before .before .before .before .before .width .ensures) (c .before .before .before .before .before .before .before .above .ensures) _ _ (c .before .before .before .distance .given .1) (omega arith)
 

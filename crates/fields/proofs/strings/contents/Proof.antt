@@ -1,3 +1,5 @@
+-- `fields::strings::contents` meets its contract.
+-- Assumes nothing.
 use native.Mathlib.Omega.{arith}
 use native.Mathlib.Nat.{zero-mul}
 use Prim.Native.Nat.{_<_}
@@ -5,40 +7,28 @@ use Rattle.fields.proofs.Answers.{past-end, run-short, product-fits}
 use borrow.Author.Needs.{needs}
 use Rattle.fields.proofs.strings.contents.Statement.{statement}
 use Rattle.fields.proofs.strings.contents.Tie as tie
-use Rattle.fields.proofs.strings.contents.Reads as reads
-use Rattle.fields.proofs.strings.contents.Lts as lts
-use Rattle.fields.proofs.numbers.refused_at.Reads as refused-at-reads
-use Rattle.fields.proofs.strings.within_end.Reads as within-end-reads
 
--- src/strings.rt:23:9
 within-end-requires : tie.Need-within-end-requires
 within-end-requires c κs = search needs
 
--- src/strings.rt:23:9
 returns : tie.Need-returns
 returns c = rw (c .before .if1 .taken, zero-mul) (c .within-end .ensures)
 
--- src/strings.rt:25:8
 div-if2 : tie.Need-div-if2
 div-if2 c = search needs
 
--- src/strings.rt:26:9
 refused-at-requires : tie.Need-refused-at-requires
 refused-at-requires c κs = search needs
 
--- src/strings.rt:26:9
 returns-2 : tie.Need-returns-2
 returns-2 c = run-short _ _ _ _ _ (past-end _ _ _ _ _ (omega arith) (c .before .if2 .taken)) (c .refused-at .ensures)
 
--- src/strings.rt:28:28
 mul-within-end : tie.Need-mul-within-end
 mul-within-end c = omega (arith, product-fits (c .before .before .before .args .end) (c .before .before .before .args .unit) (c .before .before .before .args .n) (omega arith) (c .if2 .left))
 
--- src/strings.rt:28:5
 within-end-requires-2 : tie.Need-within-end-requires-2
 within-end-requires-2 c κs = search needs
 
--- src/strings.rt:19:1
 returns-3 : tie.Need-returns-3
 returns-3 c = search needs
 

@@ -1,3 +1,5 @@
+-- `fields::strings::put_string` meets its contract.
+-- Assumes nothing.
 use mathlib.Core.List.{[]}
 use native.Mathlib.Omega.{arith}
 use mathlib.Core.Path.{_≡_}
@@ -7,13 +9,6 @@ use Rattle.fields.proofs.Writers.{refused, too-long, not-there, there, 
 use borrow.Author.Needs.{needs}
 use Rattle.fields.proofs.strings.put_string.Statement.{statement}
 use Rattle.fields.proofs.strings.put_string.Tie as tie
-use Rattle.fields.proofs.strings.put_string.Reads as reads
-use Rattle.fields.proofs.strings.put_string.Lts as lts
-use Rattle.bits.proofs.copy_bits.Reads as copy-bits-reads
-use Rattle.bits.proofs.within.Reads as within-reads
-use Rattle.fields.proofs.lengths.length_width.Reads as length-width-reads
-use Rattle.fields.proofs.lengths.put_length.Reads as put-length-reads
-use Rattle.fields.proofs.strings.contents.Reads as contents-reads
 
 ends : (c : tie.After-known-told) → c .before .after .given .0 .1 .0 ≡ c .before .before .before .before .before .before .before .args .from + c .before .before .before .before .before .before .before .args .unit * c .before .before .before .before .before .before .before .args .n
 ends c = there [] _ 0 0 _ _ _ _ (c .before .before .before .before .if1 .left) _ (c .before .before .before .contents .ensures) _ _ (c .before .after .given .1)
@@ -24,71 +19,54 @@ first c = is-within _ _ _ _ _ (c .before .within .ensures) (c .if2 .taken)
 second : (c : tie.Then3) → Within (c .before .before .before .before .before .before .before .before .before .before .before .before .args .buf .now) (c .before .before .before .before .before .before .before .before .before .before .before .before .args .end) (c .before .before .before .before .before .before .before .before .before .before .before .before .args .at + c .before .before .before .before .length-width .result) (c .before .before .before .before .before .before .after .given .0 .1 .0 - c .before .before .before .before .before .before .before .before .before .before .before .before .args .from)
 second c = is-within _ _ _ _ _ (c .before .within2 .ensures) (c .if3 .taken)
 
--- src/strings.rt:77:9
 returns : tie.Need-returns
 returns c = refused _ _ _ _ _ (too-long _ _ (c .if1 .taken))
 
--- src/strings.rt:79:34
 contents-requires : tie.Need-contents-requires
 contents-requires c κs = search needs
 
--- src/strings.rt:79:25
 enum-known-after : tie.Need-enum-known-after
 enum-known-after c = search needs
 
--- src/strings.rt:80:9
 enum-told : tie.Need-enum-told
 enum-told c = search needs
 
--- src/strings.rt:80:9
 returns-2 : tie.Need-returns-2
 returns-2 c = not-there _ _ _ _ _ _ _ _ (c .before .before .before .if1 .left) _ (c .before .before .contents .ensures) _ (c .enum-told .given .1)
 
--- src/strings.rt:82:17
 sub-count : tie.Need-sub-count
 sub-count c = omega (arith, ends c)
 
--- src/strings.rt:83:9
 length-width-requires : tie.Need-length-width-requires
 length-width-requires c κs = search needs
 
--- src/strings.rt:84:8
 within-requires : tie.Need-within-requires
 within-requires c κs = search needs
 
--- src/strings.rt:85:41
 add-within : tie.Need-add-within
 add-within c = omega (arith, first c)
 
--- src/strings.rt:85:12
 within-requires-2 : tie.Need-within-requires-2
 within-requires-2 c κs = search needs
 
--- src/strings.rt:86:13
 put-length-requires : tie.Need-put-length-requires
 put-length-requires c κs = search needs
 
--- src/strings.rt:87:46
 add-copy-bits : tie.Need-add-copy-bits
 add-copy-bits c = omega (arith, second (c .before .before .before .before .before))
 
--- src/strings.rt:87:13
 copy-bits-requires : tie.Need-copy-bits-requires
 copy-bits-requires c κs = search needs
 
--- src/strings.rt:87:13
 same-length : tie.Need-same-length
 same-length c = search needs
 
--- src/strings.rt:87:13
 returns-3 : tie.Need-returns-3
 returns-3 c = string-put _ _ _ _ _ _ _ _ (c .before .before .before .before .before .before .before .before .before .before .before .before .before .before .before .before .before .if1 .left) _ (c .before .before .before .before .before .before .before .before .before .before .before .before .before .before .before .before .contents .ensures) _ _ (c .before .before .before .before .before .before .before .before .before .before .before .before .before .before .after .given .1) _ _ _ _ _ (c .before .before .before .before .before .before .before .before .before .before .before .before .length-width .ensures) (omega (arith, ends (c .before .before .before .before .before .before .before .before .before .before .before .before .before))) (second (c .before .before .before .before .before .before .before .before)) (c .before .before .before .before .before .before .put-length .ensures) (c .before .before .copy-bits .ensures)
 
--- src/strings.rt:89:9
 returns-4 : tie.Need-returns-4
 returns-4 c = no-space-after _ _ _ _ _ _ _ _ (c .before .before .before .before .before .before .before .before .before .if1 .left) _ (c .before .before .before .before .before .before .before .before .contents .ensures) _ _ (c .before .before .before .before .before .before .after .given .1) _ _ (c .before .before .before .before .length-width .ensures) (omega (arith, ends (c .before .before .before .before .before))) (not-within _ _ _ _ _ (c .before .within2 .ensures) (c .if3 .left))
 
--- src/strings.rt:64:1
 returns-5 : tie.Need-returns-5
 returns-5 c = no-space _ _ _ _ _ _ _ _ (c .before .before .before .before .before .before .before .if1 .left) _ (c .before .before .before .before .before .before .contents .ensures) _ _ (c .before .before .before .before .after .given .1) _ (c .before .before .length-width .ensures) (not-within _ _ _ _ _ (c .before .within .ensures) (c .if2 .left))
 

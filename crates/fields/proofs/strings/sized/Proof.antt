@@ -1,35 +1,27 @@
+-- `fields::strings::sized` meets its contract.
+-- Assumes nothing.
 use Rattle.fields.proofs.Answers.{handed, went}
 use Rattle.fields.specs.Fields.{sizedAt}
 use borrow.Author.Needs.{needs}
 use Rattle.fields.proofs.strings.sized.Statement.{statement}
 use Rattle.fields.proofs.strings.sized.Tie as tie
-use Rattle.fields.proofs.strings.sized.Reads as reads
-use Rattle.fields.proofs.strings.sized.Lts as lts
-use Rattle.fields.proofs.numbers.whole.Reads as whole-reads
-use Rattle.fields.proofs.strings.contents.Reads as contents-reads
 
--- src/strings.rt:56:9
 whole-requires : tie.Need-whole-requires
 whole-requires c κs = search needs
 
--- src/strings.rt:57:22
 enum-known-size : tie.Need-enum-known-size
 enum-known-size c = search needs
 
--- src/strings.rt:58:9
 enum-told : tie.Need-enum-told
 enum-told c = search needs
 
--- src/strings.rt:58:9
 returns : tie.Need-returns
 unfolding sizedAt
 returns c = handed _ _ _ _ (c .before .before .whole .ensures) (c .enum-told .given .1)
 
--- src/strings.rt:60:5
 contents-requires : tie.Need-contents-requires
 contents-requires c κs = search needs
 
--- src/strings.rt:53:1
 returns-2 : tie.Need-returns-2
 unfolding sizedAt
 returns-2 c = went _ _ _ _ _ _ (c .before .before .before .before .whole .ensures) (c .before .before .size .given .1) (c .contents .ensures)

@@ -1,35 +1,27 @@
+-- `fields::strings::string` meets its contract.
+-- Assumes nothing.
 use Rattle.fields.proofs.Answers.{handed, went}
 use Rattle.fields.specs.Fields.{stringAt}
 use borrow.Author.Needs.{needs}
 use Rattle.fields.proofs.strings.string.Statement.{statement}
 use Rattle.fields.proofs.strings.string.Tie as tie
-use Rattle.fields.proofs.strings.string.Reads as reads
-use Rattle.fields.proofs.strings.string.Lts as lts
-use Rattle.fields.proofs.lengths.length_within.Reads as length-within-reads
-use Rattle.fields.proofs.strings.contents.Reads as contents-reads
 
--- src/strings.rt:45:9
 length-within-requires : tie.Need-length-within-requires
 length-within-requires c κs = search needs
 
--- src/strings.rt:46:22
 enum-known-count : tie.Need-enum-known-count
 enum-known-count c = search needs
 
--- src/strings.rt:47:9
 enum-told : tie.Need-enum-told
 enum-told c = search needs
 
--- src/strings.rt:47:9
 returns : tie.Need-returns
 unfolding stringAt
 returns c = handed _ _ _ _ (c .before .before .length-within .ensures) (c .enum-told .given .1)
 
--- src/strings.rt:49:5
 contents-requires : tie.Need-contents-requires
 contents-requires c κs = search needs
 
--- src/strings.rt:42:1
 returns-2 : tie.Need-returns-2
 unfolding stringAt
 returns-2 c = went _ _ _ _ _ _ (c .before .before .before .before .length-within .ensures) (c .before .before .count .given .1) (c .contents .ensures)

@@ -4,3 +4,4 @@ pub mod Inside
 pub mod Reading
 pub mod Putting
 pub mod Copying
+pub mod Whole

@@ -1,11 +1,10 @@
-/* Calls one exported function once on known bytes and holds what it did to a plain loop over bits.
+/* Makes the calls that standard input names, one a line, and holds what each did to a plain loop over bits.
  *
- *     cost FUNCTION TO AT BITS
+ *     FUNCTION TO AT BITS
  *
- * A slice passes from Rattle's C face as a pointer and a length. The status is 0 where the call did what it should. */
+ * A slice passes from Rattle's C face as a pointer and a length. The status is 0 where every call did what it should. */
 #include <stdint.h>
 #include <stdio.h>
-#include <stdlib.h>
 #include <string.h>
 
 enum { BYTES = 4096, SPARE = 64 };
@@ -15,15 +14,7 @@ static uint8_t src[BYTES + SPARE], dst[BYTES + SPARE], want[BYTES + SPARE];
 /* ---- the calls that can be measured; the crate bench_face exports them */
 
 uint64_t bench_copy(uint8_t *dst, size_t dst_len, size_t to, const uint8_t *src, size_t src_len, size_t at, size_t bits);
-
-struct call {
-    const char *name;
-    uint64_t (*function)(uint8_t *, size_t, size_t, const uint8_t *, size_t, size_t, size_t);
-};
-
-static const struct call calls[] = {
-    {"bench_copy", bench_copy},
-};
+uint64_t bench_read(const uint8_t *src, size_t src_len, size_t at, size_t bits);
 
 /* ---- what they should do */
 
@@ -43,34 +34,44 @@ static void fill(uint8_t *bytes, size_t count, uint32_t seed)
     }
 }
 
-int main(int argc, char **argv)
+static size_t bytes_for(size_t bits) { return (bits + 7) / 8; }
+
+/* The bits stand behind those that were there; every other bit of dst stays, behind its end too. */
+static int copies(size_t to, size_t at, size_t bits)
 {
-    if (argc != 5) {
-        fprintf(stderr, "usage: cost FUNCTION TO AT BITS\n");
-        return 2;
-    }
-    size_t to = strtoull(argv[2], NULL, 10), at = strtoull(argv[3], NULL, 10), bits = strtoull(argv[4], NULL, 10);
-    size_t dst_len = (to + bits + 7) / 8, src_len = (at + bits + 7) / 8;
-    if (dst_len > BYTES || src_len > BYTES) {
-        fprintf(stderr, "cost: more than %d bytes\n", BYTES);
-        return 2;
-    }
-    fill(src, sizeof src, 1);
-    fill(dst, sizeof dst, 2);
     memcpy(want, dst, sizeof dst);
     for (size_t i = 0; i < bits; i++)
         set_bit(want, to + i, bit(src, at + i));
-    for (size_t i = 0; i < sizeof calls / sizeof calls[0]; i++) {
-        if (strcmp(argv[1], calls[i].name) != 0)
-            continue;
-        uint64_t answer = calls[i].function(dst, dst_len, to, src, src_len, at, bits);
-        if (answer != 0 || memcmp(dst, want, sizeof dst) != 0) {
-            fprintf(stderr, "cost: %s answers %llu and the bytes are %s\n", argv[1], (unsigned long long)answer,
-                    memcmp(dst, want, sizeof dst) ? "wrong" : "right");
+    uint64_t answer = bench_copy(dst, bytes_for(to + bits), to, src, bytes_for(at + bits), at, bits);
+    return answer == to + bits && memcmp(dst, want, sizeof dst) == 0;
+}
+
+static int reads(size_t at, size_t bits)
+{
+    uint64_t number = 0;
+    for (size_t i = 0; i < bits; i++)
+        number = number * 2 + (uint64_t)bit(src, at + i);
+    return bench_read(src, bytes_for(at + bits), at, bits) == number;
+}
+
+int main(void)
+{
+    char function[32];
+    size_t to, at, bits;
+    fill(src, sizeof src, 1);
+    fill(dst, sizeof dst, 2);
+    while (scanf("%31s %zu %zu %zu", function, &to, &at, &bits) == 4) {
+        int right = 0;
+        if (bytes_for(to + bits) > BYTES || bytes_for(at + bits) > BYTES)
+            fprintf(stderr, "cost: more than %d bytes\n", BYTES);
+        else if (strcmp(function, "bench_copy") == 0)
+            right = copies(to, at, bits);
+        else if (strcmp(function, "bench_read") == 0)
+            right = reads(at, bits);
+        if (!right) {
+            fprintf(stderr, "cost: %s %zu %zu %zu is wrong\n", function, to, at, bits);
             return 1;
         }
-        return 0;
     }
-    fprintf(stderr, "cost: there is no call %s\n", argv[1]);
-    return 2;
+    return 0;
 }

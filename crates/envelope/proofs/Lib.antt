@@ -1,0 +1,11 @@
+pub mod Numbers
+pub mod Fields
+pub mod Puts
+pub mod Sizes
+pub mod RoundTrip
+pub mod Strings
+pub mod Digits
+pub mod Lines
+pub mod Examples
+pub mod Longer
+pub mod Both

@@ -1,0 +1,5 @@
+pub mod Numbers
+pub mod Envelopes
+pub mod Strings
+pub mod Texts
+pub mod Examples

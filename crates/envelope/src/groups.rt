@@ -1,0 +1,46 @@
+// Numbers in groups of seven bits, lowest group first, the top bit set on all but the last byte.
+ghost use mathlib.Core.Path.{_≡_};
+ghost use Rattle.envelope.specs.Numbers.{numberAt};
+use crate::Number;
+use crate::Refusal;
+use crate::wide;
+
+// The number at a position. Nine groups may be followed by another; the tenth has one bit.
+pub fn read_number(s: &[u8], at: usize) -> Number
+    ensures { λ r. ⌜ r ≡ numberAt (now (s .entry)) at ⌝ }
+{
+    let mut v: u64 = 0;
+    let mut w: u64 = 1;
+    let mut p = at;
+    let mut i: usize = 0;
+    while i < Number::FOLLOWED {
+        if s.len() <= p {
+            return Number::Refused(Refusal::Cut);
+        }
+        let b = wide(s[p]);
+        if b < 128 {
+            if 0 < b {
+                return Number::Value(v + b * w, p + 1);
+            }
+            if 0 < i {
+                return Number::Refused(Refusal::Groups);
+            }
+            return Number::Value(0, p + 1);
+        }
+        v = v + (b - 128) * w;
+        w = w * 128;
+        p = p + 1;
+        i += 1;
+    }
+    if s.len() <= p {
+        return Number::Refused(Refusal::Cut);
+    }
+    let b = wide(s[p]);
+    if 1 < b {
+        return Number::Refused(Refusal::Groups);
+    }
+    if b == 0 {
+        return Number::Refused(Refusal::Groups);
+    }
+    Number::Value(v + w, p + 1)
+}

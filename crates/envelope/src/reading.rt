@@ -1,0 +1,113 @@
+// The envelope at a position.
+ghost use mathlib.Core.Path.{_≡_};
+ghost use Prim.Native.Nat.{_+_, _≤_};
+ghost use lib.ListN.{length, drop};
+ghost use Rattle.envelope.specs.Envelopes.{isKind, sizeFits, bytesFor, isPadded, bodyAt, refusedBy, envelopeAt, mostBits};
+use crate::Envelope;
+use crate::Number;
+use crate::Read;
+use crate::Refusal;
+use crate::groups::read_number;
+use crate::wide;
+
+// Kind 1 is a message to send, 2 a delivered one, 3 a refusal.
+pub fn is_kind(kind: u64) -> bool
+    ensures { λ r. ⌜ r ≡ isKind kind ⌝ }
+{
+    if kind < 1 {
+        return false;
+    }
+    kind <= Envelope::REFUSAL
+}
+
+// A bit count that an envelope of the kind may have.
+pub fn size_fits(kind: u64, bits: u64) -> bool
+    ensures { λ r. ⌜ r ≡ sizeFits mostBits kind bits ⌝ }
+{
+    if Envelope::MOST_BITS < bits {
+        return false;
+    }
+    if kind == Envelope::REFUSAL {
+        return bits == Envelope::REFUSAL_BITS;
+    }
+    true
+}
+
+// The bytes that a body of so many bits takes.
+pub fn bytes_for(bits: u64) -> usize
+    ensures { λ r. ⌜ r ≡ bytesFor bits ⌝ }
+{
+    (bits / 8 + (bits % 8 + 7) / 8) as usize
+}
+
+// The bits past the last of a body are zero.
+pub(crate) fn padded(s: &[u8], at: usize, bits: u64) -> bool
+    requires { ⌜ at + bytesFor bits ≤ length (now s) ⌝ }
+    ensures { λ r. ⌜ r ≡ isPadded bits (drop at (now (s .entry))) ⌝ }
+{
+    let n = bytes_for(bits);
+    if n == 0 {
+        return true;
+    }
+    wide(s[at + n - 1]) % (128 >> ((bits % 8 + 7) % 8)) == 0
+}
+
+fn read_body(s: &[u8], kind: u64, job: u64, bits: u64, at: usize) -> Read
+    ensures { λ r. ⌜ r ≡ bodyAt (now (s .entry)) kind job bits at ⌝ }
+{
+    let n = bytes_for(bits);
+    if s.len() < n {
+        return Read::Refused(Refusal::Cut);
+    }
+    if s.len() - n < at {
+        return Read::Refused(Refusal::Cut);
+    }
+    if padded(s, at, bits) {
+        return Read::Is(Envelope {
+            kind,
+            job,
+            bits,
+            body: at,
+            next: at + n,
+        });
+    }
+    Read::Refused(Refusal::Size)
+}
+
+// A number's refusal is the envelope's.
+fn refused(n: Number) -> Read
+    ensures { λ r. ⌜ r ≡ refusedBy n ⌝ }
+{
+    match n {
+        Number::Value(_, _) => Read::Refused(Refusal::Cut),
+        Number::Refused(r) => Read::Refused(r),
+    }
+}
+
+// The envelope that begins at a position: kind number, job, bit count, body, and the first refusal among them.
+pub fn read_envelope(s: &[u8], at: usize) -> Read
+    ensures { λ r. ⌜ r ≡ envelopeAt mostBits (now (s .entry)) at ⌝ }
+{
+    let first = read_number(s, at);
+    let Number::Value(kind, p) = first else {
+        return refused(first);
+    };
+    if !is_kind(kind) {
+        return Read::Refused(Refusal::Kind);
+    }
+    let second = read_number(s, p);
+    let Number::Value(job, q) = second else {
+        return refused(second);
+    };
+    if job == 0 {
+        return Read::Refused(Refusal::Groups);
+    }
+    let third = read_number(s, q);
+    let Number::Value(bits, t) = third else {
+        return refused(third);
+    };
+    if !size_fits(kind, bits) {
+        return Read::Refused(Refusal::Size);
+    }
+    read_body(s, kind, job, bits, t)
+}

@@ -1,0 +1,18 @@
+-- `machine::calls::start_response` meets its contract.
+-- Assumes nothing.
+use Rattle.machine.specs.Calls.{startResponse}
+use Rattle.machine.proofs.calls.start_response.Statement.{statement}
+use Rattle.machine.proofs.calls.start_response.Tie as tie
+
+answer-requires : tie.Need-answer-requires
+answer-requires c κs = tt
+
+sent-requires : tie.Need-sent-requires
+sent-requires c κs = tt
+
+returns : tie.Need-returns
+unfolding startResponse
+returns c = rw (c .sent .ensures, c .before .answer .ensures)
+
+pub start-response-spec : {M : Type 1} → statement M
+start-response-spec = tie.close (tie.spec answer-requires sent-requires returns)

@@ -1,0 +1,16 @@
+-- `machine::control::is` meets its contract.
+-- Assumes nothing.
+use Rattle.machine.proofs.control.is.Statement.{statement}
+use Rattle.machine.proofs.control.is.Tie as tie
+
+number-requires : tie.Need-number-requires
+number-requires c κs = tt
+
+number-requires-2 : tie.Need-number-requires-2
+number-requires-2 c κs = tt
+
+returns : tie.Need-returns
+returns c = rw (c .before .number .ensures, c .number2 .ensures)
+
+pub is-spec : {M : Type 1} → statement M
+is-spec = tie.close (tie.spec number-requires number-requires-2 returns)

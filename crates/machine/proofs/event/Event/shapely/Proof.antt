@@ -1,0 +1,54 @@
+-- `machine::event::Event::shapely` meets its contract.
+-- Assumes nothing.
+use Rattle.machine.specs.Event.{shapely}
+use Rattle.machine.proofs.event.Event.shapely.Statement.{statement}
+use Rattle.machine.proofs.event.Event.shapely.Tie as tie
+
+enum-known-self : tie.Need-enum-known-self
+enum-known-self c = c .match .keys1
+
+shapely-requires : tie.Need-shapely-requires
+shapely-requires c κs = tt
+
+enum-known-self-2 : tie.Need-enum-known-self-2
+enum-known-self-2 c = c .match .keys2
+
+shapely-requires-2 : tie.Need-shapely-requires-2
+shapely-requires-2 c κs = tt
+
+enum-told : tie.Need-enum-told
+enum-told c = c .match .keys3
+
+enum-told-2 : tie.Need-enum-told-2
+enum-told-2 c = c .match .keys4
+
+returns : tie.Need-returns
+unfolding shapely
+returns c = rw (c .before .before .self .given .1) (c .shapely .ensures)
+
+returns-2 : tie.Need-returns-2
+unfolding shapely
+returns-2 c = rw (c .before .before .self2 .given .1) (c .shapely2 .ensures)
+
+returns-3 : tie.Need-returns-3
+unfolding shapely
+returns-3 c = rw (c .enum-told .given .1)
+
+returns-4 : tie.Need-returns-4
+unfolding shapely
+returns-4 c = rw (c .enum-told2 .given .1)
+
+pub shapely-spec : {M : Type 1} → statement M
+shapely-spec =
+    tie.close
+    (tie.spec
+    enum-known-self
+    shapely-requires
+    enum-known-self-2
+    shapely-requires-2
+    enum-told
+    enum-told-2
+    returns
+    returns-2
+    returns-3
+    returns-4)

@@ -1,0 +1,94 @@
+-- User requests and responses: whether they are taken, and what a taken one does.
+use Prim.Native.Nat.{ℕ}
+use mathlib.Core.Bool.{Bool, true, false, not, cond}
+use lib.Dec.{eqb, leb}
+use Rattle.machine.specs.Codes.{accepted, user, undefined, highPriority, lowErrorRate}
+use Rattle.machine.specs.Control.{goes}
+use Rattle.machine.specs.Record.{withTimer, withUser, withJob, withRequest, enter}
+use Rattle.machine.specs.Outcome.{outcome}
+use Rattle.machine.specs.declared.control.Answer.{Answer}
+use Rattle.machine.specs.declared.control.Answer.the-variants.{Accepted, Rejected}
+use Rattle.machine.specs.declared.control.Call.{Call}
+use Rattle.machine.specs.declared.control.Call.the-variants.{StartRequest, StartResponse, MessageRequest, EndRequest, EndResponse, UserAbort}
+use Rattle.machine.specs.declared.record.Record.{Record}
+use Rattle.machine.specs.declared.event.Apdu.{Apdu}
+use Rattle.machine.specs.declared.event.Apdu.the-variants.{Start, Send, AbortUser}
+use Rattle.machine.specs.declared.event.Qos.{Qos}
+use Rattle.machine.specs.declared.event.UserPrimitive.{UserPrimitive}
+use Rattle.machine.specs.declared.event.UserPrimitive.the-variants.{StartServiceRequest, StartServiceResponse, MessageServiceRequest, EndServiceRequest, EndServiceResponse, UserAbortServiceRequest}
+use Rattle.machine.specs.declared.outcome.Refusal.{Refusal}
+use Rattle.machine.specs.declared.outcome.Refusal.the-variants.{None, NoMessage, Repeat}
+use Rattle.machine.specs.declared.outcome.Invoked.{Invoked}
+use Rattle.machine.specs.declared.outcome.Invoked.the-variants.{DStartRequest, DStartResponse, DDataRequest, DEndRequest, DEndResponse, DAbortRequest}
+use Rattle.machine.specs.declared.outcome.Told.the-variants.{Untold}
+use Rattle.machine.specs.declared.outcome.Outcome.{Outcome}
+
+-- a Result: accepted, or rejected
+unfoldable pub answer : ℕ → Answer
+answer x = cond (eqb x accepted) Accepted Rejected
+
+-- the control goes where the call leads; a primitive is invoked with an APDU
+unfoldable pub sent : Record → Call → Invoked → Apdu → Outcome
+sent r k i a = outcome (enter r (goes (r .control) k)) i Untold a false
+
+-- the Quality of Service of a D-START request with Class of Communication k
+abbrev pub qosAsked : ℕ → Qos
+qosAsked k = record { priority = highPriority; rer = lowErrorRate; routing = k }
+
+-- CPDLC-start request: 2.3.5.3.7 (air), 2.3.5.5.7 (ground); DSC-start request: 3.5.3.9 (air).
+-- t-start is started and the user becomes active (2.3.5.3.1 Note 2 a, c; 3.5.5.1.6 a)
+unfoldable pub startRequest : Record → Bool → ℕ → ℕ → Outcome
+startRequest r m k s = sent (withRequest (withUser (withTimer r true) true) s) (StartRequest m) (DStartRequest (qosAsked k) s) (Start m)
+
+-- CPDLC-start response: 2.3.5.3.8 (air), 2.3.5.5.8 (ground); DSC-start response: 2.3.5.5.9 (ground).
+-- The security value received in the indication is the one that local policy accepts
+unfoldable pub startResponse : Record → Bool → ℕ → Outcome
+startResponse r m x = sent r (StartResponse m (answer x)) (DStartResponse x (r .policy)) Send
+
+-- CPDLC-message request: 3.5.3.10 (air), 2.3.5.5.10 (ground)
+unfoldable pub messageRequest : Record → ℕ → Outcome
+messageRequest r j = sent (withJob r j) MessageRequest DDataRequest Send
+
+-- CPDLC-end request: 2.3.5.5.11 (ground); DSC-end request: 3.5.3.12 (air)
+unfoldable pub endRequest : Record → Bool → Outcome
+endRequest r m = sent r (EndRequest m) DEndRequest Send
+
+-- CPDLC-end response: 3.5.3.11 (air); DSC-end response: 2.3.5.5.12 (ground)
+unfoldable pub endResponse : Record → Bool → ℕ → Outcome
+endResponse r m x = sent r (EndResponse m (answer x)) (DEndResponse x) Send
+
+-- no reason given means undefined
+abbrev pub reasonSent : Bool → ℕ → ℕ
+reasonSent given x = cond given x undefined
+
+-- CPDLC-user-abort request: 3.5.3.13 (air), 2.3.5.5.14 (ground)
+unfoldable pub userAbort : Record → Bool → ℕ → Outcome
+userAbort r given x = sent r UserAbort (DAbortRequest user) (AbortUser (reasonSent given x))
+
+-- ---- all of them
+
+-- what it is to the control
+unfoldable pub callOf : UserPrimitive → Call
+callOf (StartServiceRequest m k s) = StartRequest m
+callOf (StartServiceResponse m x) = StartResponse m (answer x)
+callOf (MessageServiceRequest h j) = MessageRequest
+callOf (EndServiceRequest m) = EndRequest m
+callOf (EndServiceResponse m x) = EndResponse m (answer x)
+callOf (UserAbortServiceRequest g x) = UserAbort
+
+-- a message request without a CPDLC message, then one whose job is not above the highest taken
+unfoldable pub unsent : ℕ → UserPrimitive → Refusal
+unsent highest (StartServiceRequest m k s) = None
+unsent highest (StartServiceResponse m x) = None
+unsent highest (MessageServiceRequest h j) = cond (not h) NoMessage (cond (leb j highest) Repeat None)
+unsent highest (EndServiceRequest m) = None
+unsent highest (EndServiceResponse m x) = None
+unsent highest (UserAbortServiceRequest g x) = None
+
+unfoldable pub called : Record → UserPrimitive → Outcome
+called r (StartServiceRequest m k s) = startRequest r m k s
+called r (StartServiceResponse m x) = startResponse r m x
+called r (MessageServiceRequest h j) = messageRequest r j
+called r (EndServiceRequest m) = endRequest r m
+called r (EndServiceResponse m x) = endResponse r m x
+called r (UserAbortServiceRequest g x) = userAbort r g x

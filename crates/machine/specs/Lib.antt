@@ -1,0 +1,10 @@
+pub mod Codes
+pub mod Control
+pub mod Record
+pub mod Event
+pub mod Outcome
+pub mod Exceptions
+pub mod Calls
+pub mod Primitives
+pub mod Step
+pub mod Run

@@ -1,0 +1,43 @@
+-- The step of either machine: the refusals in document 01's order, else the clause of the event.
+use mathlib.Core.Bool.{Bool, true, false, not, cond}
+use Rattle.machine.specs.Control.{takes}
+use Rattle.machine.specs.Event.{shapely}
+use Rattle.machine.specs.Outcome.{isNone, refused}
+use Rattle.machine.specs.Exceptions.{timerExpires, systemError}
+use Rattle.machine.specs.Calls.{callOf, unsent, called}
+use Rattle.machine.specs.Primitives.{reached}
+use Rattle.machine.specs.declared.control.Side.{Side}
+use Rattle.machine.specs.declared.record.Record.{Record}
+use Rattle.machine.specs.declared.event.Event.{Event}
+use Rattle.machine.specs.declared.event.Event.the-variants.{User, Service, TimerExpires, UnrecoverableSystemError}
+use Rattle.machine.specs.declared.outcome.Refusal.{Refusal}
+use Rattle.machine.specs.declared.outcome.Refusal.the-variants.{None, Shape, Prohibited}
+use Rattle.machine.specs.declared.outcome.Outcome.{Outcome}
+
+-- has a user primitive an action in this state with this DSC (2.3.5.3.1.1, 3.5.5.1.1); an expiry asks whether the timer runs;
+-- a dialogue-service primitive and a system error are never prohibited
+unfoldable pub permitted : Side → Record → Event → Bool
+permitted sd r (User u) = takes sd (r .control) (callOf u)
+permitted sd r (Service p) = true
+permitted sd r TimerExpires = r .timer
+permitted sd r UnrecoverableSystemError = true
+
+unfoldable pub messageRefusal : Record → Event → Refusal
+messageRefusal r (User u) = unsent (r .highest) u
+messageRefusal r (Service p) = None
+messageRefusal r TimerExpires = None
+messageRefusal r UnrecoverableSystemError = None
+
+-- the order of refusals: SHAPE, PROHIBITED, then NO-MESSAGE and REPEAT of a message request
+unfoldable pub refusalOf : Side → Record → Event → Refusal
+refusalOf sd r e = cond (not (shapely e)) Shape (cond (not (permitted sd r e)) Prohibited (messageRefusal r e))
+
+-- the clause of an event that is not refused
+unfoldable pub acts : Side → Record → Event → Outcome
+acts sd r (User u) = called r u
+acts sd r (Service p) = reached sd r p
+acts sd r TimerExpires = timerExpires r
+acts sd r UnrecoverableSystemError = systemError r
+
+unfoldable pub step : Side → Record → Event → Outcome
+step sd r e = cond (isNone (refusalOf sd r e)) (acts sd r e) (refused (refusalOf sd r e) r)

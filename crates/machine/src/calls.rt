@@ -1,0 +1,176 @@
+// User requests and responses that are taken: Doc 9880 3.5.3.9 to 3.5.3.13 and Doc 9705 2.3.5.3.7, 2.3.5.3.8 (air),
+// Doc 9705 2.3.5.5.7 to 2.3.5.5.14 (ground).
+use crate::control::Answer;
+use crate::control::Call;
+use crate::control::goes;
+use crate::event::Apdu;
+use crate::event::Qos;
+use crate::event::UserPrimitive;
+use crate::exceptions::USER;
+use crate::outcome::Invoked;
+use crate::outcome::Outcome;
+use crate::outcome::Refusal;
+use crate::outcome::Told;
+use crate::record::Record;
+ghost use mathlib.Core.Path.{_≡_};
+ghost use Rattle.machine.specs.Calls.{answer, sent, startRequest, startResponse, messageRequest, endRequest, endResponse, reasonSent, userAbort, callOf, unsent, called};
+
+// Result; the other value is "rejected", in a D-START "rejected (permanent)".
+pub const ACCEPTED: u64 = 0;
+
+// CPDLCUserAbortReason, where none is given.
+pub const UNDEFINED: u64 = 0;
+
+pub fn answer(result: u64) -> Answer
+    ensures { λ a. ⌜ a ≡ answer result ⌝ }
+{
+    if result == ACCEPTED {
+        Answer::Accepted
+    } else {
+        Answer::Rejected
+    }
+}
+
+// The control goes where the call leads; a primitive is invoked with an APDU.
+pub fn sent(r: Record, call: Call, invoked: Invoked, apdu: Apdu) -> Outcome
+    ensures { λ o. ⌜ o ≡ sent r call invoked apdu ⌝ }
+{
+    let c = r.control;
+    let n = r.enter(goes(c, call));
+    Outcome::taken(n, invoked, Told::Untold, apdu, false)
+}
+
+pub fn start_request(r: Record, dsc: bool, class: u64, security: u64) -> Outcome
+    ensures { λ o. ⌜ o ≡ startRequest r dsc class security ⌝ }
+{
+    let mut n = r;
+    n.timer = true;
+    n.active = true;
+    n.request = security;
+    let q = Qos {
+        priority: Qos::HIGH_PRIORITY,
+        rer: Qos::LOW_ERROR_RATE,
+        routing: class,
+    };
+    sent(
+        n,
+        Call::StartRequest(dsc),
+        Invoked::DStartRequest(q, security),
+        Apdu::Start(dsc),
+    )
+}
+
+pub fn start_response(r: Record, dsc: bool, result: u64) -> Outcome
+    ensures { λ o. ⌜ o ≡ startResponse r dsc result ⌝ }
+{
+    let a = answer(result);
+    sent(
+        r,
+        Call::StartResponse(dsc, a),
+        Invoked::DStartResponse(result, r.policy),
+        Apdu::Send,
+    )
+}
+
+pub fn message_request(r: Record, job: u64) -> Outcome
+    ensures { λ o. ⌜ o ≡ messageRequest r job ⌝ }
+{
+    let mut n = r;
+    n.highest = job;
+    sent(n, Call::MessageRequest, Invoked::DDataRequest, Apdu::Send)
+}
+
+pub fn end_request(r: Record, dsc: bool) -> Outcome
+    ensures { λ o. ⌜ o ≡ endRequest r dsc ⌝ }
+{
+    sent(r, Call::EndRequest(dsc), Invoked::DEndRequest, Apdu::Send)
+}
+
+pub fn end_response(r: Record, dsc: bool, result: u64) -> Outcome
+    ensures { λ o. ⌜ o ≡ endResponse r dsc result ⌝ }
+{
+    let a = answer(result);
+    sent(
+        r,
+        Call::EndResponse(dsc, a),
+        Invoked::DEndResponse(result),
+        Apdu::Send,
+    )
+}
+
+// No reason given means undefined.
+pub fn reason_sent(given: bool, reason: u64) -> u64
+    ensures { λ x. ⌜ x ≡ reasonSent given reason ⌝ }
+{
+    if given { reason } else { UNDEFINED }
+}
+
+pub fn user_abort(r: Record, given: bool, reason: u64) -> Outcome
+    ensures { λ o. ⌜ o ≡ userAbort r given reason ⌝ }
+{
+    let x = reason_sent(given, reason);
+    sent(
+        r,
+        Call::UserAbort,
+        Invoked::DAbortRequest(USER),
+        Apdu::AbortUser(x),
+    )
+}
+
+// What it is to the control.
+pub fn call_of(u: UserPrimitive) -> Call
+    ensures { λ k. ⌜ k ≡ callOf u ⌝ }
+{
+    match u {
+        UserPrimitive::StartServiceRequest(dsc, _, _) => Call::StartRequest(dsc),
+        UserPrimitive::StartServiceResponse(dsc, result) => Call::StartResponse(
+            dsc,
+            answer(result),
+        ),
+        UserPrimitive::MessageServiceRequest(_, _) => Call::MessageRequest,
+        UserPrimitive::EndServiceRequest(dsc) => Call::EndRequest(dsc),
+        UserPrimitive::EndServiceResponse(dsc, result) => Call::EndResponse(dsc, answer(result)),
+        UserPrimitive::UserAbortServiceRequest(_, _) => Call::UserAbort,
+    }
+}
+
+// A message request without a CPDLC message, then one whose job is not above the highest taken.
+pub fn unsent(highest: u64, u: UserPrimitive) -> Refusal
+    ensures { λ x. ⌜ x ≡ unsent highest u ⌝ }
+{
+    match u {
+        UserPrimitive::StartServiceRequest(_, _, _) => Refusal::None,
+        UserPrimitive::StartServiceResponse(_, _) => Refusal::None,
+        UserPrimitive::MessageServiceRequest(holds, job) => {
+            if !holds {
+                return Refusal::NoMessage;
+            }
+            if job <= highest {
+                return Refusal::Repeat;
+            }
+            Refusal::None
+        }
+        UserPrimitive::EndServiceRequest(_) => Refusal::None,
+        UserPrimitive::EndServiceResponse(_, _) => Refusal::None,
+        UserPrimitive::UserAbortServiceRequest(_, _) => Refusal::None,
+    }
+}
+
+// A user primitive that is not refused.
+pub fn called(r: Record, u: UserPrimitive) -> Outcome
+    ensures { λ o. ⌜ o ≡ called r u ⌝ }
+{
+    match u {
+        UserPrimitive::StartServiceRequest(dsc, class, security) => start_request(
+            r,
+            dsc,
+            class,
+            security,
+        ),
+        UserPrimitive::StartServiceResponse(dsc, result) => start_response(r, dsc, result),
+        UserPrimitive::MessageServiceRequest(_, job) => message_request(r, job),
+        UserPrimitive::EndServiceRequest(dsc) => end_request(r, dsc),
+        UserPrimitive::EndServiceResponse(dsc, result) => end_response(r, dsc, result),
+        UserPrimitive::UserAbortServiceRequest(given, reason) => user_abort(r, given, reason),
+    }
+}

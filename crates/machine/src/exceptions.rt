@@ -1,0 +1,123 @@
+// Exception handling: Doc 9880 3.5.4 (air), Doc 9705 2.3.5.6 (ground).
+use crate::control::Control;
+use crate::control::State;
+use crate::control::is;
+use crate::event::Apdu;
+use crate::outcome::Invoked;
+use crate::outcome::Outcome;
+use crate::outcome::Told;
+use crate::record::Record;
+ghost use mathlib.Core.Path.{_≡_};
+ghost use Rattle.machine.specs.Exceptions.{tell, closes, aborts, excepts, noInstruction, pduFault, timerExpires, systemError};
+
+// Originator of a D-ABORT.
+pub const USER: u64 = 0;
+
+pub const PROVIDER: u64 = 1;
+
+// CPDLCProviderAbortReason, and NOT_PERMITTED_PDU, which is told to the user only.
+pub const TIMER_EXPIRED: u64 = 0;
+
+pub const UNDEFINED_ERROR: u64 = 1;
+
+pub const INVALID_PDU: u64 = 2;
+
+pub const PROTOCOL_ERROR: u64 = 3;
+
+pub const COMMUNICATION_SERVICE_ERROR: u64 = 4;
+
+pub const COMMUNICATION_SERVICE_FAILURE: u64 = 5;
+
+pub const INVALID_QOS_PARAMETER: u64 = 6;
+
+pub const EXPECTED_PDU_MISSING: u64 = 7;
+
+pub const NOT_PERMITTED_PDU: u64 = 8;
+
+// Only an active user is told of an abort.
+pub fn tell(r: Record, t: Told) -> Told
+    ensures { λ x. ⌜ x ≡ tell r t ⌝ }
+{
+    if r.active { t } else { Told::Untold }
+}
+
+// The dialogue closes and nothing is sent.
+pub fn closes(r: Record, t: Told) -> Outcome
+    ensures { λ o. ⌜ o ≡ closes r t ⌝ }
+{
+    let n = r.enter(Control::CLOSED);
+    Outcome::taken(n, Invoked::Silent, t, Apdu::Absent, false)
+}
+
+// The dialogue closes with a D-ABORT from the provider.
+pub fn aborts(r: Record, reason: u64, t: Told) -> Outcome
+    ensures { λ o. ⌜ o ≡ aborts r reason t ⌝ }
+{
+    let n = r.enter(Control::CLOSED);
+    Outcome::taken(
+        n,
+        Invoked::DAbortRequest(PROVIDER),
+        t,
+        Apdu::AbortProvider(reason),
+        false,
+    )
+}
+
+// If the dialogue is open, abort as provider with the reason; tell an active user the other reason.
+pub fn excepts(r: Record, live: bool, reason: u64, told: u64) -> Outcome
+    ensures { λ o. ⌜ o ≡ excepts r live reason told ⌝ }
+{
+    let t = tell(r, Told::ProviderAbortIndication(told));
+    if live {
+        aborts(r, reason, t)
+    } else {
+        closes(r, t)
+    }
+}
+
+// A primitive with no instruction; in IDLE it leaves no output.
+pub fn no_instruction(r: Record, exists: bool) -> Outcome
+    ensures { λ o. ⌜ o ≡ noInstruction r exists ⌝ }
+{
+    let c = r.control;
+    let s = c.state;
+    if is(s, State::Idle) {
+        closes(r, Told::Untold)
+    } else {
+        excepts(r, exists, PROTOCOL_ERROR, PROTOCOL_ERROR)
+    }
+}
+
+// A PDU that is missing, not valid, or not permitted; i, u: is the dialogue open for the last two.
+pub fn pdu_fault(r: Record, i: bool, u: bool, apdu: Apdu) -> Outcome
+    ensures { λ o. ⌜ o ≡ pduFault r i u apdu ⌝ }
+{
+    match apdu {
+        Apdu::Absent => excepts(r, true, EXPECTED_PDU_MISSING, NOT_PERMITTED_PDU),
+        Apdu::NotValid => excepts(r, i, INVALID_PDU, INVALID_PDU),
+        Apdu::Start(_) => excepts(r, u, PROTOCOL_ERROR, PROTOCOL_ERROR),
+        Apdu::Send => excepts(r, u, PROTOCOL_ERROR, PROTOCOL_ERROR),
+        Apdu::AbortUser(_) => excepts(r, u, PROTOCOL_ERROR, PROTOCOL_ERROR),
+        Apdu::AbortProvider(_) => excepts(r, u, PROTOCOL_ERROR, PROTOCOL_ERROR),
+        Apdu::Forward => excepts(r, u, PROTOCOL_ERROR, PROTOCOL_ERROR),
+    }
+}
+
+pub fn timer_expires(r: Record) -> Outcome
+    ensures { λ o. ⌜ o ≡ timerExpires r ⌝ }
+{
+    excepts(r, true, TIMER_EXPIRED, TIMER_EXPIRED)
+}
+
+// In IDLE it gives no output.
+pub fn system_error(r: Record) -> Outcome
+    ensures { λ o. ⌜ o ≡ systemError r ⌝ }
+{
+    let c = r.control;
+    let s = c.state;
+    if is(s, State::Idle) {
+        closes(r, Told::Untold)
+    } else {
+        excepts(r, true, UNDEFINED_ERROR, UNDEFINED_ERROR)
+    }
+}

@@ -1,0 +1,85 @@
+// The CPDLC air machine and ground machine: Doc 9880 3.5.3 and 3.5.4, Doc 9705 2.3.5, as document 01 settles them.
+// Steps over a record by value. An APDU is a value here, and no bytes are handled.
+pub mod calls;
+pub mod control;
+pub mod event;
+pub mod exceptions;
+pub mod outcome;
+pub mod primitives;
+pub mod record;
+
+use calls::call_of;
+use calls::called;
+use calls::unsent;
+use control::Side;
+use control::takes;
+use event::Event;
+use exceptions::system_error;
+use exceptions::timer_expires;
+use outcome::Outcome;
+use outcome::Refusal;
+use primitives::reached;
+use record::Record;
+ghost use mathlib.Core.Path.{_≡_};
+ghost use Rattle.machine.specs.Step.{permitted, messageRefusal, refusalOf, acts, step};
+
+// Has a user primitive an action here? An expiry asks whether the timer runs; a dialogue-service primitive and a system error are never prohibited.
+pub fn permitted(side: Side, r: Record, e: Event) -> bool
+    ensures { λ b. ⌜ b ≡ permitted side r e ⌝ }
+{
+    let c = r.control;
+    match e {
+        Event::User(u) => takes(side, c, call_of(u)),
+        Event::Service(_) => true,
+        Event::TimerExpires => r.timer,
+        Event::UnrecoverableSystemError => true,
+    }
+}
+
+pub fn message_refusal(r: Record, e: Event) -> Refusal
+    ensures { λ x. ⌜ x ≡ messageRefusal r e ⌝ }
+{
+    match e {
+        Event::User(u) => unsent(r.highest, u),
+        Event::Service(_) => Refusal::None,
+        Event::TimerExpires => Refusal::None,
+        Event::UnrecoverableSystemError => Refusal::None,
+    }
+}
+
+// The order of refusals.
+pub fn refusal(side: Side, r: Record, e: Event) -> Refusal
+    ensures { λ x. ⌜ x ≡ refusalOf side r e ⌝ }
+{
+    if !e.shapely() {
+        return Refusal::Shape;
+    }
+    if !permitted(side, r, e) {
+        return Refusal::Prohibited;
+    }
+    message_refusal(r, e)
+}
+
+// The clause of an event that is not refused.
+pub fn acts(side: Side, r: Record, e: Event) -> Outcome
+    ensures { λ o. ⌜ o ≡ acts side r e ⌝ }
+{
+    match e {
+        Event::User(u) => called(r, u),
+        Event::Service(p) => reached(side, r, p),
+        Event::TimerExpires => timer_expires(r),
+        Event::UnrecoverableSystemError => system_error(r),
+    }
+}
+
+// One event at one machine.
+pub fn step(side: Side, r: Record, e: Event) -> Outcome
+    ensures { λ o. ⌜ o ≡ step side r e ⌝ }
+{
+    let why = refusal(side, r, e);
+    if why.is_none() {
+        acts(side, r, e)
+    } else {
+        Outcome::refused(why, r)
+    }
+}

@@ -1,0 +1,113 @@
+// What a call answers: a refusal, or the next record with what is invoked, told, written and delivered.
+use crate::event::Apdu;
+use crate::event::Qos;
+use crate::record::Record;
+ghost use mathlib.Core.Path.{_≡_};
+ghost use Rattle.machine.specs.Outcome.{refusalNumber, isNone, refused, outcome};
+
+pub enum Refusal {
+    None,
+    Shape,
+    Prohibited,
+    NoMessage,
+    Repeat,
+}
+
+// The dialogue-service primitive that is invoked; its user data is the outcome's APDU.
+pub enum Invoked {
+    Silent,
+    // Quality of Service, Security Requirements.
+    DStartRequest(Qos, u64),
+    // Result, Security Requirements.
+    DStartResponse(u64, u64),
+    DDataRequest,
+    DEndRequest,
+    // Result.
+    DEndResponse(u64),
+    // Originator.
+    DAbortRequest(u64),
+}
+
+// The user primitive that is invoked; a flag says whether it is the DSC- (true) or the CPDLC- one.
+pub enum Told {
+    Untold,
+    // Class of Communication.
+    StartIndication(bool, u64),
+    // Result.
+    StartConfirmation(bool, u64),
+    MessageIndication,
+    EndIndication(bool),
+    // Result.
+    EndConfirmation(bool, u64),
+    // Reason.
+    UserAbortIndication(u64),
+    ProviderAbortIndication(u64),
+}
+
+pub struct Outcome {
+    pub refusal: Refusal,
+    pub next: Record,
+    pub invoked: Invoked,
+    pub told: Told,
+    // The APDU to write; Absent: none.
+    pub apdu: Apdu,
+    // Is the message data of the received APDU delivered to the user.
+    pub delivers: bool,
+}
+
+impl Refusal {
+    // Document 01's number; 0: not refused.
+    pub fn number(self) -> u64
+        ensures { λ n. ⌜ n ≡ refusalNumber self ⌝ }
+    {
+        match self {
+            Refusal::None => 0,
+            Refusal::Shape => 2,
+            Refusal::Prohibited => 3,
+            Refusal::NoMessage => 4,
+            Refusal::Repeat => 5,
+        }
+    }
+
+    pub fn is_none(self) -> bool
+        ensures { λ b. ⌜ b ≡ isNone self ⌝ }
+    {
+        match self {
+            Refusal::None => true,
+            Refusal::Shape => false,
+            Refusal::Prohibited => false,
+            Refusal::NoMessage => false,
+            Refusal::Repeat => false,
+        }
+    }
+}
+
+impl Outcome {
+    // A refused call: the record as it was, and nothing else.
+    pub fn refused(why: Refusal, r: Record) -> Outcome
+        ensures { λ o. ⌜ o ≡ refused why r ⌝ }
+    {
+        Outcome {
+            refusal: why,
+            next: r,
+            invoked: Invoked::Silent,
+            told: Told::Untold,
+            apdu: Apdu::Absent,
+            delivers: false,
+        }
+    }
+
+    // What is not refused.
+    pub fn taken(r: Record, invoked: Invoked, told: Told, apdu: Apdu, delivers: bool) -> Outcome
+        ensures { λ o. ⌜ o ≡ outcome r invoked told apdu delivers ⌝ }
+    {
+        Outcome {
+            refusal: Refusal::None,
+            next: r,
+            invoked,
+            told,
+            apdu,
+            delivers,
+        }
+    }
+}

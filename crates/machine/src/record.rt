@@ -1,0 +1,81 @@
+// The record of one dialogue at one end.
+use crate::control::Control;
+use crate::control::State;
+use crate::control::is;
+ghost use mathlib.Core.Path.{_≡_};
+ghost use Rattle.machine.specs.Record.{configured, freshRecord, enter};
+
+// What a record is made with.
+pub struct Configuration {
+    // The security value that local policy accepts.
+    pub policy: u64,
+}
+
+pub struct Record {
+    pub control: Control,
+    // t-start runs.
+    pub timer: bool,
+    // The user is an active user (Doc 9880 3.5.5.1.6, Doc 9705 2.3.5.3.1 Note 2).
+    pub active: bool,
+    // The highest job taken.
+    pub highest: u64,
+    // The security value of the last start request.
+    pub request: u64,
+    // The security value that local policy accepts.
+    pub policy: u64,
+}
+
+impl Configuration {
+    // "no security" and "secured exchange" (Doc 9705 2.3.6.2.3.1).
+    pub const SECURITY_VALUES: u64 = 2;
+
+    // Are its codes of their types? A record is made of such a configuration only.
+    pub fn shapely(self) -> bool
+        ensures { λ b. ⌜ b ≡ configured self ⌝ }
+    {
+        self.policy < Configuration::SECURITY_VALUES
+    }
+}
+
+impl Record {
+    pub const NO_SECURITY: u64 = 0;
+
+    // IDLE, DSC false, timer stopped, user not active, highest job 0, request value "no security".
+    pub fn fresh(g: Configuration) -> Record
+        ensures { λ r. ⌜ r ≡ freshRecord g ⌝ }
+    {
+        Record {
+            control: Control::CLOSED,
+            timer: false,
+            active: false,
+            highest: 0,
+            request: Record::NO_SECURITY,
+            policy: g.policy,
+        }
+    }
+
+    // Entering IDLE stops the timer and makes the user not active.
+    pub fn enter(self, c: Control) -> Record
+        ensures { λ r. ⌜ r ≡ enter self c ⌝ }
+    {
+        let s = c.state;
+        if is(s, State::Idle) {
+            return Record {
+                control: c,
+                timer: false,
+                active: false,
+                highest: self.highest,
+                request: self.request,
+                policy: self.policy,
+            };
+        }
+        Record {
+            control: c,
+            timer: self.timer,
+            active: self.active,
+            highest: self.highest,
+            request: self.request,
+            policy: self.policy,
+        }
+    }
+}

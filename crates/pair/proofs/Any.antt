@@ -1,0 +1,67 @@
+-- Demand 3 for any machine that agrees with the control: the claims hold after every run from two fresh records.
+-- Assumes nothing.
+use mathlib.Core.Path.{_≡_, refl, sym, _∙_, subst}
+use mathlib.Core.Bool.{false}
+use mathlib.Core.List.{List, [], _∷_, _++_}
+use Prim.Native.Nat.{ℕ}
+use lib.Dec.{T}
+use Rattle.pair.specs.Names.{Air}
+use Rattle.pair.specs.Carrier.{Machine, Sys, Turn, fresh, run}
+use Rattle.pair.specs.Claims.{rising, Claims}
+use Rattle.pair.specs.ControlMachine.{new, control}
+use Rattle.pair.proofs.Agree.{Agree}
+use Rattle.pair.proofs.Lines.{LL}
+use Rattle.pair.proofs.Simulate.{SysRel, Run, run-rel}
+use Rattle.pair.proofs.Jobs.{no-repeat}
+use Rattle.pair.proofs.Pair.{control-holds}
+
+nil-rel : {X Y : Type 0} (EE : X → Y → Type 0) (l : List X) (k : List Y) → LL EE l k → l ≡ [] → k ≡ []
+nil-rel EE l [] h e = refl
+nil-rel EE l (f ∷ k) h e = absurd (subst (λ (m : List _). LL EE m (f ∷ k)) e h)
+
+module _ (m n : Machine) (g : Agree m n) (s : Sys m) (t : Sys n) (h : SysRel m n g Air s t) where
+  empty-here : s .here .line ≡ [] → t .here .line ≡ []
+  empty-here e = nil-rel _ _ _ (h .here .line) e
+
+  empty-there : s .there .line ≡ [] → t .there .line ≡ []
+  empty-there e = nil-rel _ _ _ (h .there .line) e
+
+  -- what is claimed of the second holds of the first
+  pub carried : Claims n t → Claims m s
+  carried c =
+      record {
+        ends-match = λ (p : s .here .line ≡ []) (q : s .there .line ≡ []).
+            rw (g .ctl-is (s .here .rec) (t .here .rec) (h .here .rec), g .ctl-is (s .there .rec) (t .there .rec) (h .there .rec)) (c .ends-match (empty-here p) (empty-there q));
+        handed-in-order = rw (h .there .given, h .here .taken, h .here .given, h .there .taken) (c .handed-in-order);
+        handed-all = λ (p : s .here .line ≡ []) (q : s .there .line ≡ []) (b : s .broken ≡ false).
+            rw (h .there .given, h .here .taken, h .here .given, h .there .taken) (c .handed-all (empty-here p) (empty-there q) (sym (h .broken) ∙ b));
+        jobs-rise = rw (h .here .jobs, h .there .jobs) (c .jobs-rise);
+      }
+
+module _ (m n : Machine) (g : Agree m n) (r q : m .R) (x y : n .R) (near : g .RR r x) (far : g .RR q y) where
+  -- the second follows every run of the first from corresponding records
+  pub followed : (ts : List (Turn (m .A))) → Run m n g (run m (fresh m r q) ts) (fresh n x y)
+  followed ts =
+      run-rel m n g ts (fresh m r q) (fresh n x y)
+      (record {
+        here = record { rec = near; line = tt; taken = refl; given = refl; jobs = refl };
+        there = record { rec = far; line = tt; taken = refl; given = refl; jobs = refl };
+        broken = refl;
+      })
+
+  -- so what is claimed of every run of the second holds of every run of the first
+  pub holds-through : ((us : List (Turn (n .A))) → Claims n (run n (fresh n x y) us)) → (ts : List (Turn (m .A))) → Claims m (run m (fresh m r q) ts)
+  holds-through c ts =
+      let v = followed ts in
+      carried m n g (run m (fresh m r q) ts) (run n (fresh n x y) (v .turns)) (v .rel) (c (v .turns))
+
+-- demand 3 for a machine that agrees with the control
+pub machine-holds : (m : Machine) (g : Agree m control) (r q : m .R) → g .RR r new → g .RR q new → (ts : List (Turn (m .A))) → Claims m (run m (fresh m r q) ts)
+machine-holds m g r q near far ts = holds-through m control g r q new new near far control-holds ts
+
+-- so no job is taken twice at an end
+pub taken-once : (m : Machine) (s : Sys m) → Claims m s → (xs ys zs : List ℕ) (j : ℕ) → (s .here .jobs ≡ xs ++ (j ∷ (ys ++ (j ∷ zs))) → ⊥) × (s .there .jobs ≡ xs ++ (j ∷ (ys ++ (j ∷ zs))) → ⊥)
+taken-once m s c xs ys zs j = (
+  λ (e : s .here .jobs ≡ xs ++ (j ∷ (ys ++ (j ∷ zs)))). no-repeat 0 xs ys zs j (subst (λ (l : List ℕ). T (rising 0 l)) e (c .jobs-rise .0)),
+  λ (e : s .there .jobs ≡ xs ++ (j ∷ (ys ++ (j ∷ zs)))). no-repeat 0 xs ys zs j (subst (λ (l : List ℕ). T (rising 0 l)) e (c .jobs-rise .1)),
+)

@@ -1,0 +1,84 @@
+-- The machines as they are agree with the control, so demand 3 holds of them: over any codec that reads back what it wrote.
+-- Assumes nothing.
+use mathlib.Core.Path.{refl, ap, subst}
+use mathlib.Core.Bool.{false}
+use mathlib.Core.List.{List, []}
+use Prim.Native.Nat.{ℕ}
+use lib.Dec.{T, ltb}
+use Rattle.machine.specs.Codes.{securityValues}
+use Rattle.machine.specs.Step.{step}
+use Rattle.machine.proofs.Laws.{fresh-formed}
+use Rattle.machine.specs.declared.record.Record.{Record}
+use Rattle.machine.specs.declared.event.ServicePrimitive.{ServicePrimitive}
+use Rattle.machine.specs.declared.event.ServicePrimitive.the-variants.{DPAbortIndication}
+use Rattle.machine.specs.declared.event.Event.{Event}
+use Rattle.machine.specs.declared.event.Event.the-variants.{User, Service, TimerExpires, UnrecoverableSystemError}
+use Rattle.pair.specs.Names.{Side, TimerExpiry, SystemError, DTurnedAway, DPAbort, other, Call, Air, Ground}
+use Rattle.pair.specs.Carrier.{Body, Turn, fresh, run}
+use Rattle.pair.specs.Carrier as C
+use Rattle.pair.specs.Claims.{Claims}
+use Rattle.pair.specs.ControlMachine.{Held, Ent, ent, ask, new, callOf, receives, control}
+use Rattle.pair.specs.StepMachine.{Codec, Wire, arrives, apduOf, bodyOf, rejects, happens, Order, asked, dataOf, jobOf, calls, stepMachine, freshWith}
+use Rattle.pair.proofs.Finite.{is-T}
+use Rattle.pair.proofs.Agree.{OutRel, Follows, Agree}
+use Rattle.pair.proofs.Any.{followed, machine-holds}
+use Rattle.pair.proofs.Quiet.{HeadQuiet, none-answered}
+use Rattle.pair.proofs.StepLocal.{Local, lowOf, Same, Low, happens-formed, calls-formed, same-out, same-follows}
+use Rattle.pair.proofs.StepMeans.{Means, meaning-sort}
+use Rattle.pair.proofs.StepCalls.{call-rel, expiry-rel, error-rel}
+use Rattle.pair.proofs.StepReceives.{receive-rel, away-rel, p-abort-rel}
+
+-- p is a security value
+module _ (K : Codec) (p : ℕ) (v : T (ltb p securityValues)) where
+  -- what a primitive does to a formed record leaves a formed one
+  pub formed-service : (sd : Side) (r : Record) (e : ServicePrimitive) (x : Body) (z : C.Outcome Held Ent) → Local p r → OutRel (Low p) (Means K p sd) (happens K sd (step sd r (Service e)) x) z → OutRel (Same p) (Means K p sd) (happens K sd (step sd r (Service e)) x) z
+  formed-service sd r e x z h y = same-out p (Means K p sd) (happens K sd (step sd r (Service e)) x) z (happens-formed K sd r (Service e) x (h .formed)) y
+
+  pub receive-at : (sd : Side) (r : Record) (w : Wire) (f : Ent) → Local p r → Means K p (other sd) w f → OutRel (Same p) (Means K p sd) (stepMachine K p .receive sd r w) (receives sd (lowOf r) f)
+  receive-at sd r w f h e =
+      let x = K .dec (other sd) (w .bytes) in
+      formed-service sd r (arrives sd (w .primitive) (apduOf x)) (bodyOf x) (receives sd (lowOf r) f) h (receive-rel K p sd r (w .primitive) x f h (is-T (ltb p securityValues) v) e)
+
+  -- a report: an expiry, a system error
+  pub formed-report : (sd : Side) (r : Record) (e : Event) (u : Call) → Local p r → Follows {X = Unit {0}} (Low p) (Means K p sd) (happens K sd (step sd r e) []) (lowOf r) (λ (y : Unit {0}). callOf sd (lowOf r) (ask u [] 0)) → Follows {X = Unit {0}} (Same p) (Means K p sd) (happens K sd (step sd r e) []) (lowOf r) (λ (y : Unit {0}). callOf sd (lowOf r) (ask u [] 0))
+  formed-report sd r e u h x = same-follows p (Means K p sd) (happens K sd (step sd r e) []) (lowOf r) (λ (y : Unit {0}). callOf sd (lowOf r) (ask u [] 0)) (happens-formed K sd r e [] (h .formed)) x
+
+  pub call-at : (sd : Side) (r : Record) (a : Order) → Local p r → Follows (Same p) (Means K p sd) (calls K sd (step sd r (User (asked K p a))) (dataOf a) (jobOf a)) (lowOf r) (callOf sd (lowOf r))
+  call-at sd r a h = same-follows p (Means K p sd) (calls K sd (step sd r (User (asked K p a))) (dataOf a) (jobOf a)) (lowOf r) (callOf sd (lowOf r)) (calls-formed K sd r (User (asked K p a)) (dataOf a) (jobOf a) (h .formed)) (call-rel K p sd r a h)
+
+  abbrev pub agrees : Agree (stepMachine K p) control
+  agrees = record {
+    RR = Same p;
+    EE = Means K p;
+    ctl-is = λ (r : Record) (q : Held) (h : Same p r q). ap (λ (x : Held). x .ctl) (h .low);
+    sort-is = λ (sd : Side) (w : Wire) (f : Ent) (e : Means K p sd w f). meaning-sort p (w .primitive) (K .dec sd (w .bytes)) f e;
+    call-is = λ (sd : Side) (r : Record) (q : Held) (a : Order) (h : Same p r q).
+        subst (λ (x : Held). Follows (Same p) (Means K p sd) (calls K sd (step sd r (User (asked K p a))) (dataOf a) (jobOf a)) x (callOf sd x)) (h .low) (call-at sd r a (h .local));
+    receive-is = λ (sd : Side) (r : Record) (q : Held) (w : Wire) (f : Ent) (h : Same p r q) (e : Means K p (other sd) w f).
+        subst (λ (x : Held). OutRel (Same p) (Means K p sd) (stepMachine K p .receive sd r w) (receives sd x f)) (h .low) (receive-at sd r w f (h .local) e);
+    expiry-is = λ (sd : Side) (r : Record) (q : Held) (h : Same p r q).
+        subst (λ (x : Held). Follows {X = Unit {0}} (Same p) (Means K p sd) (happens K sd (step sd r TimerExpires) []) x (λ (y : Unit {0}). callOf sd x (ask TimerExpiry [] 0))) (h .low) (formed-report sd r TimerExpires TimerExpiry (h .local) (expiry-rel K p sd r (h .local)));
+    error-is = λ (sd : Side) (r : Record) (q : Held) (h : Same p r q).
+        subst (λ (x : Held). Follows {X = Unit {0}} (Same p) (Means K p sd) (happens K sd (step sd r UnrecoverableSystemError) []) x (λ (y : Unit {0}). callOf sd x (ask SystemError [] 0))) (h .low) (formed-report sd r UnrecoverableSystemError SystemError (h .local) (error-rel K p sd r (h .local)));
+    away-is = λ (sd : Side) (r : Record) (q : Held) (h : Same p r q).
+        subst (λ (x : Held). OutRel (Same p) (Means K p sd) (stepMachine K p .away sd r) (receives sd x (ent DTurnedAway []))) (h .low) (formed-service sd r rejects [] (receives sd (lowOf r) (ent DTurnedAway [])) (h .local) (away-rel K p sd r (h .local)));
+    p-abort-is = λ (sd : Side) (r : Record) (q : Held) (h : Same p r q).
+        subst (λ (x : Held). OutRel (Same p) (Means K p sd) (stepMachine K p .pAbort sd r) (receives sd x (ent DPAbort []))) (h .low) (formed-service sd r DPAbortIndication [] (receives sd (lowOf r) (ent DPAbort [])) (h .local) (p-abort-rel K p sd r (h .local)));
+  }
+
+  fresh-same : Same p (freshWith p) new
+  fresh-same = record { low = refl; local = record { formed = fresh-formed (record { policy = p }); policy = refl; request = λ (x : T false). absurd x } }
+
+  -- demand 3 for the machines of crate machine
+  pub step-holds : (ts : List (Turn Order)) → Claims (stepMachine K p) (run (stepMachine K p) (fresh (stepMachine K p) (freshWith p) (freshWith p)) ts)
+  step-holds ts = machine-holds (stepMachine K p) agrees (freshWith p) (freshWith p) fresh-same fresh-same ts
+
+  -- and on every run t-start runs exactly in START-REQ, the user is active exactly outside IDLE, and IDLE has DSC false
+  pub step-local : (ts : List (Turn Order)) → Local p (run (stepMachine K p) (fresh (stepMachine K p) (freshWith p) (freshWith p)) ts .here .rec) × Local p (run (stepMachine K p) (fresh (stepMachine K p) (freshWith p) (freshWith p)) ts .there .rec)
+  step-local ts =
+      let h = followed (stepMachine K p) control agrees (freshWith p) (freshWith p) new new fresh-same fresh-same ts .rel in
+      (h .here .rec .local, h .there .rec .local)
+
+  -- and no machine answers an entry that is handed over by a D-ABORT
+  pub step-quiet : (ts : List (Turn Order)) → HeadQuiet (stepMachine K p) Air (run (stepMachine K p) (fresh (stepMachine K p) (freshWith p) (freshWith p)) ts .here .rec) (run (stepMachine K p) (fresh (stepMachine K p) (freshWith p) (freshWith p)) ts .there .line) × HeadQuiet (stepMachine K p) Ground (run (stepMachine K p) (fresh (stepMachine K p) (freshWith p) (freshWith p)) ts .there .rec) (run (stepMachine K p) (fresh (stepMachine K p) (freshWith p) (freshWith p)) ts .here .line)
+  step-quiet ts = none-answered (stepMachine K p) agrees (freshWith p) (freshWith p) fresh-same fresh-same ts

@@ -1,0 +1,5 @@
+pub mod Names
+pub mod Carrier
+pub mod Claims
+pub mod ControlMachine
+pub mod StepMachine

@@ -4,13 +4,14 @@ use mathlib.Core.Path.{_≡_, refl}
 use mathlib.Core.Bool.{true}
 use Rattle.bits.specs.Bits.{bitsN, bitsOf, accOf}
 use Rattle.bits.specs.Read.{readBits}
-use Rattle.fields.specs.Fields.{bitField, lengthAt}
-use Rattle.fields.specs.Encodings.{lengthBits}
+use Rattle.fields.specs.Fields.{bitField, lengthAt, digitsIn, wholeNumber, runAt, sizedAt}
+use Rattle.fields.specs.Encodings.{lengthBits, wholeBits, indexBits}
 use Rattle.fields.specs.Refusals.{numberOf}
+use Rattle.inner.specs.Arguments.{digitsBits, charactersBits, sizedBits, facilityBits}
 use Rattle.envelope.specs.Numbers.{numberIn, numberAt}
 use Rattle.envelope.specs.Envelopes.{isKind, sizeFits, bytesFor, isPadded, bodyAt, sizeAt, jobAt, kindAt, envelopeAt}
 use Rattle.examples.specs.Examples.{examples, allHold, same, are}
 
 pub all-hold : allHold examples ≡ true
-unfolding numberIn numberAt isKind sizeFits bytesFor isPadded bodyAt sizeAt jobAt kindAt envelopeAt same are bitsN bitsOf accOf readBits bitField lengthAt lengthBits numberOf
+unfolding digitsBits sizedBits facilityBits charactersBits indexBits wholeBits digitsIn sizedAt wholeNumber runAt numberIn numberAt isKind sizeFits bytesFor isPadded bodyAt sizeAt jobAt kindAt envelopeAt same are bitsN bitsOf accOf readBits bitField lengthAt lengthBits numberOf
 all-hold = refl

@@ -1,0 +1,32 @@
+-- `inner::header::read_acknowledgement` meets its contract.
+-- Assumes nothing.
+use Rattle.inner.proofs.HeaderWays.{ack-none, ack-handed, ack-required, ack-default}
+use borrow.Author.Needs.{needs}
+use Rattle.inner.proofs.header.read_acknowledgement.Statement.{statement}
+use Rattle.inner.proofs.header.read_acknowledgement.Tie as tie
+
+whole-requires : tie.Need-whole-requires
+whole-requires c κs = search needs
+
+enum-known-value : tie.Need-enum-known-value
+enum-known-value c = search needs
+
+enum-told : tie.Need-enum-told
+enum-told c = search needs
+
+returns : tie.Need-returns
+returns c = ack-handed _ _ _ (c .before .before .before .if1 .taken) _ (c .before .before .whole .ensures) _ (c .enum-told .given .1)
+
+returns-2 : tie.Need-returns-2
+returns-2 c = ack-required _ _ _ (c .before .before .before .before .before .if1 .taken) _ (c .before .before .before .before .whole .ensures) _ _ (c .before .before .value .given .1) (c .if2 .taken)
+
+returns-3 : tie.Need-returns-3
+returns-3 c = ack-default _ _ _ (c .before .before .before .before .before .if1 .taken) _ (c .before .before .before .before .whole .ensures) _ _ (c .before .before .value .given .1) (c .if2 .left)
+
+returns-4 : tie.Need-returns-4
+returns-4 c = ack-none _ _ _ (c .if1 .left)
+
+pub read-acknowledgement-spec : {M : Type 1} → statement M
+read-acknowledgement-spec =
+    tie.close
+    (tie.spec whole-requires enum-known-value enum-told returns returns-2 returns-3 returns-4)

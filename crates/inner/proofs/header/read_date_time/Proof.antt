@@ -1,0 +1,99 @@
+-- `inner::header::read_date_time` meets its contract.
+-- Assumes nothing.
+use native.Mathlib.Omega.{arith}
+use Rattle.inner.specs.declared.values.DateTimeRead.the-variants as date
+use Rattle.inner.specs.Headers.{dateTimeAt}
+use Rattle.inner.proofs.Steps.{handed-up, went}
+use Rattle.inner.proofs.Whole.{whole-most}
+use borrow.Author.Needs.{needs}
+use Rattle.inner.proofs.header.read_date_time.Statement.{statement}
+use Rattle.inner.proofs.header.read_date_time.Tie as tie
+
+whole-requires : tie.Need-whole-requires
+whole-requires c κs = search needs
+
+enum-known-first : tie.Need-enum-known-first
+enum-known-first c = search needs
+
+enum-told : tie.Need-enum-told
+enum-told c = search needs
+
+refusal-requires : tie.Need-refusal-requires
+refusal-requires c κs = search needs
+
+returns : tie.Need-returns
+unfolding dateTimeAt
+returns c = handed-up date.Refused _ _ _ _ _ (c .before .before .before .whole .ensures) (c .before .enum-told .given .1) (c .refusal .ensures)
+
+whole-requires-2 : tie.Need-whole-requires-2
+whole-requires-2 c κs = search needs
+
+enum-known-second : tie.Need-enum-known-second
+enum-known-second c = search needs
+
+enum-told-2 : tie.Need-enum-told-2
+enum-told-2 c = search needs
+
+refusal-requires-2 : tie.Need-refusal-requires-2
+refusal-requires-2 c κs = search needs
+
+returns-2 : tie.Need-returns-2
+unfolding dateTimeAt
+returns-2 c = went date.Refused _ _ _ _ _ _ (c .before .before .before .before .before .before .before .whole .ensures) (c .before .before .before .before .before .first .given .1) (handed-up date.Refused _ _ _ _ _ (c .before .before .before .whole2 .ensures) (c .before .enum-told2 .given .1) (c .refusal2 .ensures))
+
+whole-requires-3 : tie.Need-whole-requires-3
+whole-requires-3 c κs = search needs
+
+enum-known-third : tie.Need-enum-known-third
+enum-known-third c = search needs
+
+enum-told-3 : tie.Need-enum-told-3
+enum-told-3 c = search needs
+
+refusal-requires-3 : tie.Need-refusal-requires-3
+refusal-requires-3 c κs = search needs
+
+returns-3 : tie.Need-returns-3
+unfolding dateTimeAt
+returns-3 c = went date.Refused _ _ _ _ _ _ (c .before .before .before .before .before .before .before .before .before .before .before .whole .ensures) (c .before .before .before .before .before .before .before .before .before .first .given .1) (went date.Refused _ _ _ _ _ _ (c .before .before .before .before .before .before .before .whole2 .ensures) (c .before .before .before .before .before .second .given .1) (handed-up date.Refused _ _ _ _ _ (c .before .before .before .whole3 .ensures) (c .before .enum-told3 .given .1) (c .refusal3 .ensures)))
+
+cast-read-time-of-day : tie.Need-cast-read-time-of-day
+cast-read-time-of-day c = omega (arith, whole-most _ _ 1996 2095 _ _ _ (c .before .before .before .before .before .before .before .before .before .before .before .whole .ensures) (c .before .before .before .before .before .before .before .before .before .first .given .1))
+
+cast-read-time-of-day-2 : tie.Need-cast-read-time-of-day-2
+cast-read-time-of-day-2 c = omega (arith, whole-most _ _ 1 12 _ _ _ (c .before .before .before .before .before .before .before .whole2 .ensures) (c .before .before .before .before .before .second .given .1))
+
+cast-read-time-of-day-3 : tie.Need-cast-read-time-of-day-3
+cast-read-time-of-day-3 c = omega (arith, whole-most _ _ 1 31 _ _ _ (c .before .before .before .whole3 .ensures) (c .before .third .given .1))
+
+read-time-of-day-requires : tie.Need-read-time-of-day-requires
+read-time-of-day-requires c κs = search needs
+
+returns-4 : tie.Need-returns-4
+unfolding dateTimeAt
+returns-4 c = went date.Refused _ _ _ _ _ _ (c .before .before .before .before .before .before .before .before .before .before .before .before .whole .ensures) (c .before .before .before .before .before .before .before .before .before .before .first .given .1) (went date.Refused _ _ _ _ _ _ (c .before .before .before .before .before .before .before .before .whole2 .ensures) (c .before .before .before .before .before .before .second .given .1) (went date.Refused _ _ _ _ _ _ (c .before .before .before .before .whole3 .ensures) (c .before .before .third .given .1) (c .read-time-of-day .ensures)))
+
+pub read-date-time-spec : {M : Type 1} → statement M
+read-date-time-spec =
+    tie.close
+    (tie.spec
+    whole-requires
+    enum-known-first
+    enum-told
+    refusal-requires
+    returns
+    whole-requires-2
+    enum-known-second
+    enum-told-2
+    refusal-requires-2
+    returns-2
+    whole-requires-3
+    enum-known-third
+    enum-told-3
+    refusal-requires-3
+    returns-3
+    cast-read-time-of-day
+    cast-read-time-of-day-2
+    cast-read-time-of-day-3
+    read-time-of-day-requires
+    returns-4)

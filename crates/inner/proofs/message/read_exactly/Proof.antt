@@ -1,0 +1,52 @@
+-- `inner::message::read_exactly` meets its contract.
+-- Assumes nothing.
+use Rattle.bits.proofs.Inside.{is-within, not-within}
+use Rattle.inner.proofs.HeaderWays.{exactly-handed, exactly-more, exactly-done}
+use borrow.Author.Needs.{needs}
+use Rattle.inner.proofs.message.read_exactly.Statement.{statement}
+use Rattle.inner.proofs.message.read_exactly.Tie as tie
+
+read-message-requires : tie.Need-read-message-requires
+read-message-requires c κs = search needs
+
+enum-known-step : tie.Need-enum-known-step
+enum-known-step c = search needs
+
+enum-told : tie.Need-enum-told
+enum-told c = search needs
+
+step-refusal-requires : tie.Need-step-refusal-requires
+step-refusal-requires c κs = search needs
+
+no-message-requires : tie.Need-no-message-requires
+no-message-requires c κs = search needs
+
+returns : tie.Need-returns
+returns c = exactly-handed _ _ _ (c .before .before .before .before .read-message .ensures) _ _ _ (c .before .before .enum-told .given .1) (c .before .step-refusal .ensures) (c .no-message .ensures)
+
+within-requires : tie.Need-within-requires
+within-requires c κs = search needs
+
+no-message-requires-2 : tie.Need-no-message-requires-2
+no-message-requires-2 c κs = search needs
+
+returns-2 : tie.Need-returns-2
+returns-2 c = exactly-more _ _ _ (c .before .before .before .before .before .before .read-message .ensures) _ _ (c .before .before .before .before .step .given .1) (is-within _ _ _ _ _ (c .before .before .within .ensures) (c .before .if1 .taken) .test) (c .no-message2 .ensures)
+
+returns-3 : tie.Need-returns-3
+returns-3 c = exactly-done _ _ _ (c .before .before .before .before .before .read-message .ensures) _ (c .before .before .before .step .given .1) (not-within _ _ _ _ _ (c .before .within .ensures) (c .if1 .left))
+
+pub read-exactly-spec : {M : Type 1} → statement M
+read-exactly-spec =
+    tie.close
+    (tie.spec
+    read-message-requires
+    enum-known-step
+    enum-told
+    step-refusal-requires
+    no-message-requires
+    returns
+    within-requires
+    no-message-requires-2
+    returns-2
+    returns-3)

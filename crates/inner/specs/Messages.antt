@@ -1,0 +1,98 @@
+-- A message: the header, no constrained data, and one to five elements (ATCUplinkMessage, ATCDownlinkMessage, Doc 9705 2.3.4.3).
+use Prim.Native.Nat.{ℕ, _+_, _-_}
+use mathlib.Core.List.{List, [], _∷_, _++_}
+use mathlib.Core.Bool.{Bool, true, false, cond, _&&_}
+use lib.ListN.{length, take, drop, replicate}
+use lib.Dec.{eqb, leb}
+use Rattle.fields.specs.Fields.{wholeNumber}
+use Rattle.fields.specs.Encodings.{wholeBits, wholeFits}
+use Rattle.fields.specs.declared.Refusal.{Refusal}
+use Rattle.fields.specs.declared.Refusal.the-variants as refusal
+use Rattle.inner.specs.declared.elements.Direction.{Direction}
+use Rattle.inner.specs.declared.values.Header.{Header}
+use Rattle.inner.specs.declared.values.HeaderRead.{HeaderRead}
+use Rattle.inner.specs.declared.values.HeaderRead.the-variants as header
+use Rattle.inner.specs.declared.values.Step.{Step}
+use Rattle.inner.specs.declared.values.Step.the-variants as step
+use Rattle.inner.specs.declared.values.Element.{Element}
+use Rattle.inner.specs.declared.values.PlacesRead.{PlacesRead}
+use Rattle.inner.specs.declared.values.Message.{Message}
+use Rattle.inner.specs.declared.values.MessageRead.{MessageRead}
+use Rattle.inner.specs.Arguments.{onto}
+use Rattle.inner.specs.OneElement.{bare, noTime, plain}
+use Rattle.inner.specs.Headers.{headerFits, headerBits, headerAt}
+use Rattle.inner.specs.Places.{Row, rowAt, textAt, rowFits, rowBits, laid}
+
+abbrev pub noHeader : Header
+noHeader =
+    record {
+      identification = 0;
+      referenced = false;
+      reference = 0;
+      dated = record { year = 0; month = 0; day = 0; time = noTime; seconds = 0 };
+      acknowledged = false;
+    }
+
+abbrev pub noMessage : Refusal → MessageRead
+noMessage r = record { step = step.Refused r; message = record { header = noHeader; count = 0; places = replicate 5 (bare 0) } }
+
+abbrev pub ontoPlaces : Header → ℕ → List Element → Step → MessageRead
+ontoPlaces h n es (step.Next next) = record { step = step.Next next; message = record { header = h; count = n; places = es } }
+ontoPlaces h n es (step.Refused r) = noMessage r
+
+abbrev pub messageOf : Header → ℕ → PlacesRead → MessageRead
+messageOf h n r = ontoPlaces h n (r .places) (r .step)
+
+abbrev pub ontoHeader : HeaderRead → (Header → ℕ → MessageRead) → MessageRead
+ontoHeader (header.Got x next) k = k x next
+ontoHeader (header.Refused r) k = noMessage r
+
+-- constrained data marked present is not carried; the presence bit stands before the count of elements
+unfoldable pub bodyAt : Direction → List ℕ → Header → ℕ → MessageRead
+bodyAt d l h at =
+    onto noMessage (wholeNumber l at 0 1)
+    (λ (c p : ℕ). cond (eqb c 0)
+    (onto noMessage (wholeNumber l p 1 5) (λ (n q : ℕ). messageOf h n (laid (rowAt d l q n))))
+    (noMessage refusal.NotCarried))
+
+-- the message at a place; what follows it is not looked at
+unfoldable pub messageAt : Direction → List ℕ → ℕ → MessageRead
+messageAt d l at = ontoHeader (headerAt l at) (bodyAt d l)
+
+-- a message and nothing after it: any bit that is left over is refused
+abbrev pub endedAt : List ℕ → Message → Step → MessageRead
+endedAt l m (step.Next next) =
+    cond (leb (next + 1) (length l)) (noMessage refusal.Tail) (record { step = step.Next next; message = m })
+endedAt l m (step.Refused r) = noMessage r
+
+unfoldable pub exactly : Direction → List ℕ → MessageRead
+exactly d l = endedAt l (messageAt d l 0 .message) (messageAt d l 0 .step)
+
+abbrev pub isMessage : Message → ℕ → MessageRead
+isMessage m next = record { step = step.Next next; message = m }
+
+-- the characters of a message that was read: its elements follow the header, a presence bit and the count in three bits
+abbrev pub ontoElements : HeaderRead → (ℕ → List ℕ) → List ℕ
+ontoElements (header.Got x next) k = k (next + 4)
+ontoElements (header.Refused r) k = []
+
+unfoldable pub messageText : Direction → List ℕ → ℕ → Message → List ℕ
+messageText d l at m = ontoElements (headerAt l at) (λ (p : ℕ). textAt d l p (m .count))
+
+-- ---- which messages there are, with their characters t beside them, and their bits
+
+unfoldable pub empty : Element → Bool
+empty e = eqb (e .number) 0 && plain e && eqb (e .characters) 0
+
+unfoldable pub allEmpty : List Element → Bool
+allEmpty [] = true
+allEmpty (e ∷ es) = empty e && allEmpty es
+
+-- five places, the unused ones empty
+unfoldable pub messageFits : Direction → Message → List ℕ → Bool
+messageFits d m t =
+    headerFits (m .header) && wholeFits 1 5 (m .count) && eqb (length (m .places)) 5 && rowFits d (take (m .count) (m .places)) t
+    && allEmpty (drop (m .count) (m .places))
+
+unfoldable pub messageBits : Direction → Message → List ℕ → List ℕ
+messageBits d m t = headerBits (m .header) ++ wholeBits 0 1 0 ++ wholeBits 1 5 (m .count) ++ rowBits d (take (m .count) (m .places)) t

@@ -1,0 +1,142 @@
+// The header of a message.
+ghost use mathlib.Core.Path.{_≡_};
+ghost use Rattle.bits.specs.Bits.{bitsTo};
+ghost use Rattle.inner.specs.Headers.{acknowledgementAt, dateTimeAt, datedAt, headerAt, referenceAt, timeOfDayAt};
+use crate::arguments::read_time;
+use crate::values::DateTime;
+use crate::values::DateTimeRead;
+use crate::values::Header;
+use crate::values::HeaderRead;
+use crate::values::TimeRead;
+use crate::values::date_refusal;
+use crate::values::refusal;
+use crate::values::time_refusal;
+use fields::Field;
+use fields::Refusal;
+
+// The time that follows a date.
+fn read_time_of_day(s: &[u8], end: usize, year: u16, month: u8, day: u8, at: usize) -> DateTimeRead
+    ensures { λ r. ⌜ r ≡ timeOfDayAt (bitsTo (now (s .entry)) end) year month day at ⌝ }
+{
+    let minute = read_time(s, end, at);
+    let TimeRead::Got(time, from) = minute else {
+        return DateTimeRead::Refused(time_refusal(minute));
+    };
+    let last = fields::whole(s, end, from, 0, 59);
+    let Field::Value(seconds, next) = last else {
+        return DateTimeRead::Refused(refusal(last));
+    };
+    DateTimeRead::Got(
+        DateTime {
+            year,
+            month,
+            day,
+            time,
+            seconds: seconds as u8,
+        },
+        next,
+    )
+}
+
+fn read_date_time(s: &[u8], end: usize, at: usize) -> DateTimeRead
+    ensures { λ r. ⌜ r ≡ dateTimeAt (bitsTo (now (s .entry)) end) at ⌝ }
+{
+    let first = fields::whole(s, end, at, 1996, 2095);
+    let Field::Value(year, p) = first else {
+        return DateTimeRead::Refused(refusal(first));
+    };
+    let second = fields::whole(s, end, p, 1, 12);
+    let Field::Value(month, q) = second else {
+        return DateTimeRead::Refused(refusal(second));
+    };
+    let third = fields::whole(s, end, q, 1, 31);
+    let Field::Value(day, r) = third else {
+        return DateTimeRead::Refused(refusal(third));
+    };
+    read_time_of_day(s, end, year as u16, month as u8, day as u8, r)
+}
+
+fn read_reference(s: &[u8], end: usize, at: usize, present: bool) -> Field
+    ensures { λ r. ⌜ r ≡ referenceAt (bitsTo (now (s .entry)) end) at present ⌝ }
+{
+    if present {
+        return fields::whole(s, end, at, 0, 63);
+    }
+    Field::Value(0, at)
+}
+
+// An acknowledgement that is present is required: its other value is the default.
+fn read_acknowledgement(s: &[u8], end: usize, at: usize, present: bool) -> Field
+    ensures { λ r. ⌜ r ≡ acknowledgementAt (bitsTo (now (s .entry)) end) at present ⌝ }
+{
+    if present {
+        let value = fields::whole(s, end, at, 0, 1);
+        let Field::Value(v, next) = value else {
+            return value;
+        };
+        if v == 0 {
+            return Field::Value(0, next);
+        }
+        return Field::Refused(Refusal::Default);
+    }
+    Field::Value(0, at)
+}
+
+// What follows the reference.
+fn read_dated(
+    s: &[u8],
+    end: usize,
+    identification: u8,
+    referenced: bool,
+    reference: u8,
+    acknowledged: bool,
+    at: usize,
+) -> HeaderRead
+    ensures { λ r. ⌜ r ≡ datedAt (bitsTo (now (s .entry)) end) identification referenced reference acknowledged at ⌝ }
+{
+    let date = read_date_time(s, end, at);
+    let DateTimeRead::Got(dated, from) = date else {
+        return HeaderRead::Refused(date_refusal(date));
+    };
+    let last = read_acknowledgement(s, end, from, acknowledged);
+    let Field::Value(_, next) = last else {
+        return HeaderRead::Refused(refusal(last));
+    };
+    HeaderRead::Got(
+        Header {
+            identification,
+            referenced,
+            reference,
+            dated,
+            acknowledged,
+        },
+        next,
+    )
+}
+
+pub fn read_header(s: &[u8], end: usize, at: usize) -> HeaderRead
+    ensures { λ r. ⌜ r ≡ headerAt (bitsTo (now (s .entry)) end) at ⌝ }
+{
+    let presence = fields::whole(s, end, at, 0, 3);
+    let Field::Value(present, p) = presence else {
+        return HeaderRead::Refused(refusal(presence));
+    };
+    let number = fields::whole(s, end, p, 0, 63);
+    let Field::Value(identification, q) = number else {
+        return HeaderRead::Refused(refusal(number));
+    };
+    let referenced = 2 <= present;
+    let other = read_reference(s, end, q, referenced);
+    let Field::Value(reference, r) = other else {
+        return HeaderRead::Refused(refusal(other));
+    };
+    read_dated(
+        s,
+        end,
+        identification as u8,
+        referenced,
+        reference as u8,
+        present % 2 == 1,
+        r,
+    )
+}

@@ -1,0 +1,83 @@
+// A message read from its bits at any place.
+ghost use mathlib.Core.Path.{_≡_};
+ghost use Rattle.bits.specs.Bits.{bitsTo};
+ghost use Rattle.inner.specs.Messages.{bodyAt, exactly, messageAt, noMessage};
+use crate::elements::Direction;
+use crate::header::read_header;
+use crate::reading::read_places;
+use crate::values::Header;
+use crate::values::HeaderRead;
+use crate::values::Message;
+use crate::values::MessageRead;
+use crate::values::Step;
+use crate::values::header_refusal;
+use crate::values::refusal;
+use crate::values::step_refusal;
+use fields::Field;
+use fields::Refusal;
+
+fn no_message(r: Refusal) -> MessageRead
+    ensures { λ x. ⌜ x ≡ noMessage r ⌝ }
+{
+    MessageRead {
+        step: Step::Refused(r),
+        message: Message::EMPTY,
+    }
+}
+
+// What follows the header.
+fn read_body(direction: Direction, s: &[u8], end: usize, header: Header, at: usize) -> MessageRead
+    ensures { λ r. ⌜ r ≡ bodyAt direction (bitsTo (now (s .entry)) end) header at ⌝ }
+{
+    let presence = fields::whole(s, end, at, 0, 1);
+    let Field::Value(constrained, p) = presence else {
+        return no_message(refusal(presence));
+    };
+    if constrained == 0 {
+        let size = fields::whole(s, end, p, 1, 5);
+        let Field::Value(n, q) = size else {
+            return no_message(refusal(size));
+        };
+        let row = read_places(direction, s, end, q, n as usize);
+        let step = row.step;
+        let Step::Next(next) = step else {
+            return no_message(step_refusal(step));
+        };
+        let places = row.places;
+        return MessageRead {
+            step: Step::Next(next),
+            message: Message {
+                header,
+                count: n as usize,
+                places,
+            },
+        };
+    }
+    no_message(Refusal::NotCarried)
+}
+
+// The message at a place; what follows it is not looked at.
+pub fn read_message(direction: Direction, s: &[u8], end: usize, at: usize) -> MessageRead
+    ensures { λ r. ⌜ r ≡ messageAt direction (bitsTo (now (s .entry)) end) at ⌝ }
+{
+    let first = read_header(s, end, at);
+    let HeaderRead::Got(header, next) = first else {
+        return no_message(header_refusal(first));
+    };
+    read_body(direction, s, end, header, next)
+}
+
+// A message and nothing after it, in the first `end` bits.
+pub fn read_exactly(direction: Direction, s: &[u8], end: usize) -> MessageRead
+    ensures { λ r. ⌜ r ≡ exactly direction (bitsTo (now (s .entry)) end) ⌝ }
+{
+    let all = read_message(direction, s, end, 0);
+    let step = all.step;
+    let Step::Next(next) = step else {
+        return no_message(step_refusal(step));
+    };
+    if bits::within(s.len(), end, next, 1) {
+        return no_message(Refusal::Tail);
+    }
+    all
+}

@@ -1,0 +1,330 @@
+-- APDUs as bits: what is written reads back as it was, and what is read writes back to the same bits.
+-- Assumes nothing.
+use mathlib.Core.Path.{_≡_, refl, ap, sym, _∙_}
+use mathlib.Core.Bool.{Bool, true, false, cond}
+use mathlib.Core.List.{List, [], _++_}
+use Prim.Native.Nat.{ℕ, zero, suc, _+_, _^_, _≤_, _<_}
+use native.Mathlib.Omega.{arith}
+use borrow.Author.Tests.{le-leb, leb-true, ltb-true, eqb-true, eqb-false}
+use lib.Dec.{leb, ltb, eqb}
+use lib.ListN.{length}
+use Rattle.words.proofs.Laws.{both-left, both-right}
+use Rattle.bits.specs.Bits.{bitsN}
+use Rattle.bits.proofs.Numbers.{Bits}
+use Rattle.fields.specs.Fields.{then, bitField, wholeNumber, extensibleIndex}
+use Rattle.fields.specs.Encodings.{indexBits, wholeBits, wholeFits}
+use Rattle.fields.specs.declared.Refusal.{Refusal}
+use Rattle.fields.specs.declared.Refusal.the-variants.{Default}
+use Rattle.fields.specs.declared.Field.the-variants.{Value, Refused}
+use Rattle.fields.proofs.RoundTrip.{Stands, stands-join, stands-split, bit-field, whole-number, extensible-index}
+use Rattle.fields.proofs.RoundTrip as fields
+use Rattle.apdu.specs.Sizes.{userLast, providerLast, modeLast}
+use Rattle.apdu.specs.Pdus.{Pdu, abortUser, abortProvider, start, send, forward, forwardResponse, lastOf, kindOf, indexOf, pduIn, forwarded}
+use Rattle.apdu.specs.Encoding.{contentBits, contentFits, modeBits, modeFits, pduBits, pduFits}
+use Rattle.apdu.specs.Reading.{onField, onData, onLead, dataAt, modeValue, modeAt, kindMode, leadingAt, tailAt, endedAt, restAt, apduAt}
+use Rattle.apdu.specs.Writing.{apduShaped}
+use Rattle.apdu.specs.declared.Side.{Side}
+use Rattle.apdu.specs.declared.Side.the-variants.{Air, Ground}
+use Rattle.apdu.specs.declared.Kind.{Kind}
+use Rattle.apdu.specs.declared.Kind.the-variants as kind
+use Rattle.apdu.specs.declared.Data.{Data}
+use Rattle.apdu.specs.declared.Apdu.{Apdu}
+use Rattle.apdu.specs.declared.Apdu.the-variants as apdu
+use Rattle.apdu.specs.declared.Taken.{Taken}
+use Rattle.apdu.specs.declared.Taken.the-variants as taken
+use Rattle.apdu.specs.declared.Lead.{Lead}
+use Rattle.apdu.specs.declared.Lead.the-variants as lead
+use Rattle.apdu.specs.declared.Answer.{Answer}
+use Rattle.apdu.specs.declared.Answer.the-variants as answer
+use Rattle.apdu.proofs.Bounds.{never}
+use Rattle.apdu.proofs.Contents.{stands-at, stands-none, via, data-written, data-read}
+
+-- ---- the mode of a start
+
+value-written : (l : List ℕ) (at m next : ℕ) → wholeFits 0 modeLast m ≡ true → eqb m 0 ≡ false → Stands l at (wholeBits 0 modeLast m) next → modeValue l at ≡ Value m next
+unfolding modeValue
+value-written l at m next h e s = rw (whole-number 0 modeLast (omega arith) .written-read l at m next h s, e)
+
+mode-written : (side : Side) (l : List ℕ) (at m next : ℕ) → modeFits side m ≡ true → Stands l at (modeBits side m) next → modeAt side l at ≡ Value m next
+unfolding modeFits modeBits modeAt
+mode-written Ground l at m next h s =
+    let z : m ≡ 0 = eqb-true m 0 h in
+    let p = s .place in
+    let e : at ≡ next = omega arith in
+    rw (z, e)
+mode-written Air l at m next h s = go (eqb m 0) refl s
+  where
+    go : (t : Bool) → eqb m 0 ≡ t → Stands l at (cond t (bitsN 1 0) (bitsN 1 1 ++ wholeBits 0 modeLast m)) next
+        → then (bitField l at 1) (λ (p n : ℕ). cond (eqb p 0) (Value 0 n) (modeValue l n)) ≡ Value m next
+    go true e s =
+        let z : m ≡ 0 = eqb-true m 0 e in
+        rw (bit-field 1 .written-read l at 0 next refl s, z)
+    go false e s =
+        let w = stands-split l at next (bitsN 1 1) (wholeBits 0 modeLast m) s in
+        rw (bit-field 1 .written-read l at 1 (at + length (bitsN 1 1)) refl (w .first)) (value-written l (at + length (bitsN 1 1)) m next h e (w .second))
+
+record ModeIs (side : Side) (l : List ℕ) (at m next : ℕ) : Type 0 where
+  fits : modeFits side m ≡ true
+  stands : Stands l at (modeBits side m) next
+
+record ValueIs (l : List ℕ) (at m next : ℕ) : Type 0 where
+  other : eqb m 0 ≡ false
+  fits : wholeFits 0 modeLast m ≡ true
+  stands : Stands l at (wholeBits 0 modeLast m) next
+
+value-read : (l : List ℕ) (at m next : ℕ) → Bits l → modeValue l at ≡ Value m next → ValueIs l at m next
+unfolding modeValue
+value-read l at m next b e = fields.via (ValueIs l at m next) (wholeNumber l at 0 modeLast) _ m next found e
+  where
+    go : (v n : ℕ) → wholeNumber l at 0 modeLast ≡ Value v n → (t : Bool) → eqb v 0 ≡ t → cond t (Refused Default) (Value v n) ≡ Value m next → ValueIs l at m next
+    go v n f true p k = never (cc)
+    go v n f false p k =
+        let x : v ≡ m = cc in
+        let y : n ≡ next = cc in
+        let g : wholeNumber l at 0 modeLast ≡ Value m next = rw (← x, ← y) f in
+        record { other = rw (← x) p; fits = whole-number 0 modeLast (omega arith) .read-fits l at m next b g; stands = whole-number 0 modeLast (omega arith) .read-written l at m next b g }
+
+    found : (v n : ℕ) → wholeNumber l at 0 modeLast ≡ Value v n → cond (eqb v 0) (Refused Default) (Value v n) ≡ Value m next → ValueIs l at m next
+    found v n f k = go v n f (eqb v 0) refl k
+
+present : (l : List ℕ) (at p m next : ℕ) → Stands l at (bitsN 1 1) p → ValueIs l p m next → ModeIs Air l at m next
+unfolding modeFits modeBits
+present l at p m next s v = record { fits = v .fits; stands = rw (v .other) (stands-join l at p next (bitsN 1 1) (wholeBits 0 modeLast m) s (v .stands)) }
+
+default : (l : List ℕ) (at next : ℕ) → Stands l at (bitsN 1 0) next → ModeIs Air l at 0 next
+unfolding modeFits modeBits
+default l at next s = record { fits = refl; stands = s }
+
+mode-read : (side : Side) (l : List ℕ) (at m next : ℕ) → Bits l → at ≤ length l → modeAt side l at ≡ Value m next → ModeIs side l at m next
+unfolding modeAt modeFits modeBits
+mode-read Ground l at m next b h e =
+    let x : 0 ≡ m = cc in
+    let y : at ≡ next = cc in
+    rw (← x) (record { fits = refl; stands = stands-at l at at next [] y (stands-none l at h) })
+mode-read Air l at m next b h e = fields.via (ModeIs Air l at m next) (bitField l at 1) _ m next found e
+  where
+    one : (p : ℕ) → p < 2 → eqb p 0 ≡ false → p ≡ 1
+    one p h e =
+        let n = eqb-false p 0 e in
+        omega arith
+
+    go : (p n : ℕ) → bitField l at 1 ≡ Value p n → (t : Bool) → eqb p 0 ≡ t → cond t (Value 0 n) (modeValue l n) ≡ Value m next → ModeIs Air l at m next
+    go p n f true q k =
+        let x : 0 ≡ m = cc in
+        let y : n ≡ next = cc in
+        let z : p ≡ 0 = eqb-true p 0 q in
+        rw (← x) (default l at next (stands-at l at n next (bitsN 1 0) y (rw z at (bit-field 1 .read-written l at p n b f))))
+    go p n f false q k =
+        let lt : p < 2 ^ 1 = ltb-true p (2 ^ 1) (both-right (leb 1 64) (ltb p (2 ^ 1)) (bit-field 1 .read-fits l at p n b f)) in
+        let z : p ≡ 1 = one p (omega arith) q in
+        present l at n m next (rw z at (bit-field 1 .read-written l at p n b f)) (value-read l n m next b k)
+
+    found : (p n : ℕ) → bitField l at 1 ≡ Value p n → cond (eqb p 0) (Value 0 n) (modeValue l n) ≡ Value m next → ModeIs Air l at m next
+    found p n f k = go p n f (eqb p 0) refl k
+
+-- ---- an APDU, written and read
+
+-- its fields read, to a place where the tail is still to be looked at
+pub record FieldsRead (side : Side) (l : List ℕ) (at m : ℕ) (v : Pdu) : Type 0 where
+  pub value : Apdu
+  pub read : apduAt side l at ≡ endedAt l m value
+  pub same : pduIn l l l value ≡ v
+
+pub record ApduRead (side : Side) (l : List ℕ) (at : ℕ) (v : Pdu) : Type 0 where
+  pub value : Apdu
+  pub read : apduAt side l at ≡ answer.Is value
+  pub same : pduIn l l l value ≡ v
+
+small : (side : Side) → lastOf side < 2 ^ 64
+small Air = omega arith
+small Ground = omega arith
+
+has : (side : Side) (i : ℕ) → i ≤ 3 → wholeFits 0 (lastOf side) i ≡ true
+has Air i h = rw (le-leb 0 i (omega arith), le-leb i 3 h)
+has Ground i h = rw (le-leb 0 i (omega arith), le-leb i 5 (omega arith))
+
+pub fields-written : (side : Side) (l : List ℕ) (at m : ℕ) (v : Pdu) → pduFits side v ≡ true → Stands l at (pduBits side v) m → FieldsRead side l at m v
+unfolding pduFits pduBits apduAt leadingAt kindMode restAt pduIn
+fields-written side l at m (abortUser r) h s =
+    let w = stands-split l at m (indexBits (lastOf side) 0) (indexBits userLast r) s in
+    let a = extensible-index (lastOf side) (small side) .written-read l at 0 (at + length (indexBits (lastOf side) 0)) (has side 0 (omega arith)) (w .first) in
+    let b = extensible-index userLast (omega arith) .written-read l (at + length (indexBits (lastOf side) 0)) r m h (w .second) in
+    record { value = apdu.AbortUser r; read = rw (a, b); same = refl }
+fields-written side l at m (abortProvider r) h s =
+    let w = stands-split l at m (indexBits (lastOf side) 1) (indexBits providerLast r) s in
+    let a = extensible-index (lastOf side) (small side) .written-read l at 1 (at + length (indexBits (lastOf side) 1)) (has side 1 (omega arith)) (w .first) in
+    let b = extensible-index providerLast (omega arith) .written-read l (at + length (indexBits (lastOf side) 1)) r m h (w .second) in
+    record { value = apdu.AbortProvider r; read = rw (a, b); same = refl }
+fields-written side l at m (start v c) h s =
+    let p : ℕ = at + length (indexBits (lastOf side) 2) in
+    let q : ℕ = at + length (indexBits (lastOf side) 2) + length (modeBits side v) in
+    let w = stands-split l at m (indexBits (lastOf side) 2) (modeBits side v ++ contentBits c) s in
+    let u = stands-split l p m (modeBits side v) (contentBits c) (w .second) in
+    let a = extensible-index (lastOf side) (small side) .written-read l at 2 p (has side 2 (omega arith)) (w .first) in
+    let b = mode-written side l p v q (both-left (modeFits side v) (contentFits c) h) (u .first) in
+    let d = data-written l q m c (both-right (modeFits side v) (contentFits c) h) (u .second) in
+    record { value = apdu.Start v (d .parts); read = rw (a, b, d .read); same = ap (start v) (d .content) }
+fields-written side l at m (send c) h s =
+    let p : ℕ = at + length (indexBits (lastOf side) 3) in
+    let w = stands-split l at m (indexBits (lastOf side) 3) (contentBits c) s in
+    let a = extensible-index (lastOf side) (small side) .written-read l at 3 p (has side 3 (omega arith)) (w .first) in
+    let d = data-written l p m c h (w .second) in
+    record { value = apdu.Send (d .parts); read = rw (a, d .read); same = ap send (d .content) }
+fields-written side l at m forward h s = never (cc)
+fields-written side l at m forwardResponse h s = never (cc)
+
+ended-well : (l : List ℕ) (at v next : ℕ) (a : Apdu) → tailAt l at ≡ Value v next → endedAt l at a ≡ answer.Is a
+unfolding endedAt
+ended-well l at v next a t = rw t
+
+ended-badly : (l : List ℕ) (at : ℕ) (a : Apdu) (r : Refusal) → tailAt l at ≡ Refused r → endedAt l at a ≡ answer.Refused r
+unfolding endedAt
+ended-badly l at a r t = rw t
+
+pub apdu-written : (side : Side) (l : List ℕ) (at m next : ℕ) (v : Pdu) → pduFits side v ≡ true → Stands l at (pduBits side v) m → tailAt l m ≡ Value 0 next → ApduRead side l at v
+apdu-written side l at m next v h s t =
+    let f = fields-written side l at m v h s in
+    record { value = f .value; read = f .read ∙ ended-well l m 0 next (f .value) t; same = f .same }
+
+-- all fields stand, and the tail is not right
+pub tail-refused : (side : Side) (l : List ℕ) (at m : ℕ) (v : Pdu) (r : Refusal) → pduFits side v ≡ true → Stands l at (pduBits side v) m → tailAt l m ≡ Refused r → apduAt side l at ≡ answer.Refused r
+tail-refused side l at m v r h s t =
+    let f = fields-written side l at m v h s in
+    f .read ∙ ended-badly l m (f .value) r t
+
+-- ---- an APDU, read and written
+
+pub record ApduIs (side : Side) (l : List ℕ) (at : ℕ) (a : Apdu) : Type 0 where
+  pub place : ℕ
+  pub left : ℕ
+  pub end : ℕ
+  pub shaped : apduShaped side l l l a ≡ true
+  pub stands : Stands l at (pduBits side (pduIn l l l a)) place
+  pub tail : tailAt l place ≡ Value left end
+
+refused-not : (R : Type 0) (a : Apdu) (r : Refusal) → answer.Refused r ≡ answer.Is a → R
+refused-not R a r e = never (cc)
+
+via-data : (R : Type 0) (a : Apdu) (x : Taken) (k : Data → ℕ → Answer) → ((d : Data) (n : ℕ) → x ≡ taken.Is d n → k d n ≡ answer.Is a → R) → onData x k ≡ answer.Is a → R
+via-data R a (taken.Is d n) k g e = g d n refl e
+via-data R a (taken.Refused r) k g e = refused-not R a r e
+
+via-lead : (R : Type 0) (a : Apdu) (x : Lead) (k : Kind → ℕ → ℕ → Answer) → ((c : Kind) (m n : ℕ) → x ≡ lead.Is c m n → k c m n ≡ answer.Is a → R) → onLead x k ≡ answer.Is a → R
+via-lead R a (lead.Is c m n) k g e = g c m n refl e
+via-lead R a (lead.Refused r) k g e = refused-not R a r e
+
+record Ended (l : List ℕ) (at : ℕ) (a b : Apdu) : Type 0 where
+  left : ℕ
+  end : ℕ
+  tail : tailAt l at ≡ Value left end
+  same : b ≡ a
+
+ended-is : (l : List ℕ) (at : ℕ) (a b : Apdu) → endedAt l at b ≡ answer.Is a → Ended l at a b
+unfolding endedAt
+ended-is l at a b e = via (Ended l at a b) answer.Refused (answer.Is a) (refused-not (Ended l at a b) a) (tailAt l at) _ found e
+  where
+    found : (v n : ℕ) → tailAt l at ≡ Value v n → answer.Is b ≡ answer.Is a → Ended l at a b
+    found v n f k = record { left = v; end = n; tail = f; same = cc }
+
+-- the alternative that was read
+pub record LeadIs (side : Side) (l : List ℕ) (at : ℕ) (c : Kind) (m next : ℕ) : Type 0 where
+  pub place : ℕ
+  pub stands : Stands l at (indexBits (lastOf side) (indexOf c)) place
+  pub mode : kindMode side l c place ≡ Value m next
+
+index-kind : (i : ℕ) → i ≤ 5 → indexOf (kindOf i) ≡ i
+index-kind zero h = refl
+index-kind (suc zero) h = refl
+index-kind (suc (suc zero)) h = refl
+index-kind (suc (suc (suc zero))) h = refl
+index-kind (suc (suc (suc (suc zero)))) h = refl
+index-kind (suc (suc (suc (suc (suc zero))))) h = refl
+index-kind (suc (suc (suc (suc (suc (suc n)))))) h = absurd (omega arith)
+
+last-most : (side : Side) (i : ℕ) → i ≤ lastOf side → i ≤ 5
+last-most Air i h = omega arith
+last-most Ground i h = h
+
+lead-not : (R : Type 0) (c : Kind) (m n : ℕ) (r : Refusal) → lead.Refused r ≡ lead.Is c m n → R
+lead-not R c m n r e = never (cc)
+
+pub lead-read : (side : Side) (l : List ℕ) (at : ℕ) (c : Kind) (m next : ℕ) → Bits l → leadingAt side l at ≡ lead.Is c m next → LeadIs side l at c m next
+unfolding leadingAt
+lead-read side l at c m next b e = via (LeadIs side l at c m next) lead.Refused (lead.Is c m next) (lead-not (LeadIs side l at c m next) c m next) (extensibleIndex l at (lastOf side)) _ first e
+  where
+    second : (i p : ℕ) → extensibleIndex l at (lastOf side) ≡ Value i p → (v q : ℕ) → kindMode side l (kindOf i) p ≡ Value v q → lead.Is (kindOf i) v q ≡ lead.Is c m next → LeadIs side l at c m next
+    second i p f v q g k =
+        let x : kindOf i ≡ c = cc in
+        let y : v ≡ m = cc in
+        let z : q ≡ next = cc in
+        let h : i ≤ lastOf side = leb-true i (lastOf side) (both-right (leb 0 i) (leb i (lastOf side)) (extensible-index (lastOf side) (small side) .read-fits l at i p b f)) in
+        let j : i ≡ indexOf c = sym (index-kind i (last-most side i h)) ∙ ap indexOf x in
+        let s : Stands l at (indexBits (lastOf side) i) p = extensible-index (lastOf side) (small side) .read-written l at i p b f in
+        record { place = p; stands = rw (← j) s; mode = rw (← x, ← y, ← z) g }
+
+    first : (i p : ℕ) → extensibleIndex l at (lastOf side) ≡ Value i p → onField lead.Refused (kindMode side l (kindOf i) p) (λ (v q : ℕ). lead.Is (kindOf i) v q) ≡ lead.Is c m next → LeadIs side l at c m next
+    first i p f k = via (LeadIs side l at c m next) lead.Refused (lead.Is c m next) (lead-not (LeadIs side l at c m next) c m next) (kindMode side l (kindOf i) p) _ (second i p f) k
+
+-- what follows each alternative
+pub record Stood (side : Side) (l : List ℕ) (at : ℕ) (a : Apdu) (next : ℕ) : Type 0 where
+  pub shaped : apduShaped side l l l a ≡ true
+  pub stands : Stands l at (pduBits side (pduIn l l l a)) next
+
+ended-read : (side : Side) (l : List ℕ) (at n : ℕ) (a b : Apdu) → Stood side l at b n → endedAt l n b ≡ answer.Is a → ApduIs side l at a
+ended-read side l at n a b u k =
+    let e = ended-is l n a b k in
+    rw (← e .same) (record { place = n; left = e .left; end = e .end; shaped = u .shaped; stands = u .stands; tail = e .tail })
+
+pub abort-stood : (side : Side) (l : List ℕ) (at p n r i most : ℕ) (b : Apdu) → Bits l → most < 2 ^ 64 → Stands l at (indexBits (lastOf side) i) p → extensibleIndex l p most ≡ Value r n
+    → apduShaped side l l l b ≡ wholeFits 0 most r → pduBits side (pduIn l l l b) ≡ indexBits (lastOf side) i ++ indexBits most r → Stood side l at b n
+abort-stood side l at p n r i most b h lt s f x y =
+    let t = stands-join l at p n _ _ s (extensible-index most lt .read-written l p r n h f) in
+    record { shaped = x ∙ extensible-index most lt .read-fits l p r n h f; stands = rw y t }
+
+pub start-stood : (side : Side) (l : List ℕ) (at p q n m : ℕ) (d : Data) → Bits l → Stands l at (indexBits (lastOf side) 2) p → modeAt side l p ≡ Value m q → dataAt l q ≡ taken.Is d n → Stood side l at (apdu.Start m d) n
+unfolding apduShaped pduBits pduIn
+start-stood side l at p q n m d b s f g =
+    let sp = s .place in
+    let sw = s .within in
+    let v = mode-read side l p m q b (omega arith) f in
+    let w = data-read l q n d b g in
+    record { shaped = rw (v .fits) (w .shaped); stands = stands-join l at p n _ _ s (stands-join l p q n _ _ (v .stands) (w .stands)) }
+
+pub send-stood : (side : Side) (l : List ℕ) (at p n : ℕ) (d : Data) → Bits l → Stands l at (indexBits (lastOf side) 3) p → dataAt l p ≡ taken.Is d n → Stood side l at (apdu.Send d) n
+unfolding apduShaped pduBits pduIn
+send-stood side l at p n d b s g =
+    let w = data-read l p n d b g in
+    record { shaped = w .shaped; stands = stands-join l at p n _ _ s (w .stands) }
+
+pub value-place : (p m q : ℕ) → Value 0 p ≡ Value m q → p ≡ q
+value-place p m q e = cc
+
+rest-read : (side : Side) (l : List ℕ) (at p : ℕ) (c : Kind) (m q : ℕ) (a : Apdu) → Bits l → forwarded a ≡ false → Stands l at (indexBits (lastOf side) (indexOf c)) p → kindMode side l c p ≡ Value m q → restAt l c m q ≡ answer.Is a → ApduIs side l at a
+unfolding kindMode restAt forwarded apduShaped pduBits pduIn
+rest-read side l at p kind.AbortUser m q a b h s f k =
+    via (ApduIs side l at a) answer.Refused (answer.Is a) (refused-not (ApduIs side l at a) a) (extensibleIndex l q userLast) _
+    (λ (r n : ℕ) (g : extensibleIndex l q userLast ≡ Value r n) (e : endedAt l n (apdu.AbortUser r) ≡ answer.Is a). ended-read side l at n a (apdu.AbortUser r) (abort-stood side l at q n r 0 userLast (apdu.AbortUser r) b (omega arith) (stands-at l at p q _ (value-place p m q f) s) g refl refl) e) k
+rest-read side l at p kind.AbortProvider m q a b h s f k =
+    via (ApduIs side l at a) answer.Refused (answer.Is a) (refused-not (ApduIs side l at a) a) (extensibleIndex l q providerLast) _
+    (λ (r n : ℕ) (g : extensibleIndex l q providerLast ≡ Value r n) (e : endedAt l n (apdu.AbortProvider r) ≡ answer.Is a). ended-read side l at n a (apdu.AbortProvider r) (abort-stood side l at q n r 1 providerLast (apdu.AbortProvider r) b (omega arith) (stands-at l at p q _ (value-place p m q f) s) g refl refl) e) k
+rest-read side l at p kind.Start m q a b h s f k =
+    via-data (ApduIs side l at a) a (dataAt l q) _ (λ (d : Data) (n : ℕ) (g : dataAt l q ≡ taken.Is d n) (e : endedAt l n (apdu.Start m d) ≡ answer.Is a). ended-read side l at n a (apdu.Start m d) (start-stood side l at p q n m d b s f g) e) k
+rest-read side l at p kind.Send m q a b h s f k =
+    via-data (ApduIs side l at a) a (dataAt l q) _ (λ (d : Data) (n : ℕ) (g : dataAt l q ≡ taken.Is d n) (e : endedAt l n (apdu.Send d) ≡ answer.Is a). ended-read side l at n a (apdu.Send d) (send-stood side l at q n d b (stands-at l at p q _ (value-place p m q f) s) g) e) k
+rest-read side l at p kind.Forward m q a b h s f k =
+    let x : apdu.Forward ≡ a = cc in
+    let y : true ≡ false = rw (← x) at h in
+    never (cc)
+rest-read side l at p kind.ForwardResponse m q a b h s f k =
+    let x : apdu.ForwardResponse ≡ a = cc in
+    let y : true ≡ false = rw (← x) at h in
+    never (cc)
+
+pub apdu-read : (side : Side) (l : List ℕ) (at : ℕ) (a : Apdu) → Bits l → forwarded a ≡ false → apduAt side l at ≡ answer.Is a → ApduIs side l at a
+unfolding apduAt
+apdu-read side l at a b h e = via-lead (ApduIs side l at a) a (leadingAt side l at) (restAt l) found e
+  where
+    found : (c : Kind) (m n : ℕ) → leadingAt side l at ≡ lead.Is c m n → restAt l c m n ≡ answer.Is a → ApduIs side l at a
+    found c m n f k =
+        let i = lead-read side l at c m n b f in
+        rest-read side l at (i .place) c m n a b h (i .stands) (i .mode) k

@@ -1,0 +1,9 @@
+pub mod Answers
+pub mod Shapes
+pub mod Bounds
+pub mod Writers
+pub mod Contents
+pub mod Apdus
+pub mod Octets
+pub mod Theorems
+pub mod Order

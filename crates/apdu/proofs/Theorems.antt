@@ -1,0 +1,325 @@
+-- What holds of the definitions that the contracts cite: reading what was written gives the value, writing what was read gives the same bytes, what is
+-- accepted is what is written, what a user is delivered are bits of the APDU, and how large an APDU is.
+-- Assumes nothing.
+use mathlib.Core.Path.{_≡_, refl, ap, sym, _∙_}
+use mathlib.Core.Bool.{Bool, true, false, cond}
+use mathlib.Core.List.{List, [], _++_}
+use Prim.Native.Nat.{ℕ, _+_, _*_, _/_, _^_, _≤_, _<_}
+use native.Mathlib.Omega.{arith}
+use borrow.Author.Tests.{le-leb, lt-leb, le-ltb, lt-ltb, leb-false, eqb-true}
+use lib.Dec.{leb, eqb}
+use lib.ListN.{length, take, drop, replicate, length-append}
+use lib.Seq.{take-at, drop-at, take-length, length-take-le}
+use lib.Pow.{pow-pos}
+use Rattle.bits.specs.Bits.{bitsN, bitsOf}
+use Rattle.bits.specs.Put.{putBits}
+use Rattle.bits.proofs.Numbers.{Bits, bits-bitsN, length-bitsN}
+use Rattle.bits.proofs.Bytes.{Bytes, bits-append, bits-take, bits-drop, bits-to, length-bits, length-to}
+use Rattle.bits.proofs.Putting.{length-put}
+use Rattle.fields.specs.Fields.{bitField, digitsIn}
+use Rattle.fields.specs.Encodings.{bitsFit, indexBits, lengthBits, wholeBits}
+use Rattle.fields.specs.declared.Refusal.the-variants.{Tail}
+use Rattle.fields.specs.declared.Field.the-variants.{Value, Refused}
+use Rattle.fields.proofs.RoundTrip.{Stands, stands-join, stands-split, bit-field, whole-number, extensible-index, length-determinant}
+use Rattle.fields.proofs.RoundTrip as fields
+use Rattle.apdu.specs.Sizes.{bufferLeast, allBits, octet, bit, identifierMost, messageMost, checkMost, modeLast, userLast, providerLast}
+use Rattle.apdu.specs.Pdus.{given, Content, Pdu, start, lastOf, lent, itemsIn, partIn, contentIn, pduIn, forwarded}
+use Rattle.apdu.specs.Encoding.{stringBits, optionalBits, optionalFits, presence, contentBits, contentFits, modeBits, modeFits, pduBits, pduFits, padding, padded, bytesFor}
+use Rattle.apdu.specs.Reading.{kindMode, leadingAt, restAt, tailAt, apduAt}
+use Rattle.apdu.specs.Writing.{apduShaped, done, writeOut}
+use Rattle.apdu.specs.declared.Side.{Side}
+use Rattle.apdu.specs.declared.Side.the-variants.{Air, Ground}
+use Rattle.apdu.specs.declared.Span.{Span}
+use Rattle.apdu.specs.declared.Part.{Part}
+use Rattle.apdu.specs.declared.Part.the-variants.{Absent, Given}
+use Rattle.apdu.specs.declared.Data.{Data}
+use Rattle.apdu.specs.declared.Apdu.{Apdu}
+use Rattle.apdu.specs.declared.Apdu.the-variants as apdu
+use Rattle.apdu.specs.declared.Answer.the-variants as answer
+use Rattle.apdu.specs.declared.Written.the-variants as written
+use Rattle.apdu.proofs.Bounds.{never, apdu-fit, content-most, pduMost, pdu-most, width, length-alternative}
+use Rattle.apdu.proofs.Contents.{DataRead, data-written}
+use Rattle.apdu.proofs.Apdus.{ApduRead, apdu-written, apdu-read}
+use Rattle.apdu.proofs.Octets.{all-bits, put-bytes, front-bits}
+
+-- ---- whole bytes
+
+pad-bits : (bs : List ℕ) → Bits bs → Bits (padded bs)
+unfolding padded
+pad-bits bs h = bits-append bs (bitsN (padding (length bs)) 0) h (bits-bitsN (padding (length bs)) 0)
+
+length-padded : (bs : List ℕ) → length (padded bs) ≡ length bs + padding (length bs)
+unfolding padded
+length-padded bs = rw (length-append, length-bitsN)
+
+whole-bytes : (bs : List ℕ) → length (padded bs) ≡ 8 * bytesFor (length bs)
+whole-bytes bs = rw (length-padded bs) (omega arith)
+
+stands-front : (bs : List ℕ) → Stands (padded bs) 0 bs (length bs)
+unfolding padded
+stands-front bs =
+    let n = length-append bs (bitsN (padding (length bs)) 0) in
+    record { place = omega arith; within = omega arith; holds = take-at bs (bitsN (padding (length bs)) 0) (length bs) refl }
+
+stands-pad : (bs : List ℕ) → Stands (padded bs) (length bs) (bitsN (padding (length bs)) 0) (length bs + padding (length bs))
+unfolding padded
+stands-pad bs =
+    let k : ℕ = padding (length bs) in
+    let n = length-append bs (bitsN (padding (length bs)) 0) in
+    let m = length-bitsN (padding (length bs)) 0 in
+    record { place = omega arith; within = omega arith; holds = rw (drop-at bs (bitsN (padding (length bs)) 0) (length bs) refl) (take-length (bitsN (padding (length bs)) 0)) }
+
+-- no TAIL after a padded encoding
+tail-padded : (bs : List ℕ) → tailAt (padded bs) (length bs) ≡ Value 0 (length bs + padding (length bs))
+unfolding tailAt
+tail-padded bs =
+    let k : ℕ = padding (length bs) in
+    let n = length-padded bs in
+    let f : bitsFit (padding (length bs)) 0 ≡ true = rw (le-leb (padding (length bs)) 64 (omega arith), lt-ltb 0 (2 ^ padding (length bs)) (pow-pos (padding (length bs)))) in
+    let a = bit-field (padding (length bs)) .written-read (padded bs) (length bs) 0 (length bs + padding (length bs)) f (stands-pad bs) in
+    rw (a, lt-leb (length bs + padding (length bs) + 1) (length (padded bs)) (omega arith))
+
+-- whole bytes hold the padding after every place in them: it is never SHORT
+pub padding-there : (s : List ℕ) (at : ℕ) → at ≤ 8 * length s → 8 * length s ≤ allBits → at + padding at ≤ length (lent s)
+padding-there s at h g = rw (length-to s allBits) (omega arith)
+
+-- the bytes that a writer leaves in a buffer
+pub record Front (t bs : List ℕ) : Type 0 where
+  pub size : length (take (bytesFor (length bs)) (putBits t 0 (padded bs))) ≡ bytesFor (length bs)
+  pub bits : lent (take (bytesFor (length bs)) (putBits t 0 (padded bs))) ≡ padded bs
+
+pub front : (t bs : List ℕ) → Bits bs → length bs + 7 ≤ 8 * bufferLeast → bufferLeast ≤ length t → Front t bs
+front t bs hb h g =
+    let k : ℕ = bytesFor (length bs) in
+    let n = whole-bytes bs in
+    let m : length (take (bytesFor (length bs)) (putBits t 0 (padded bs))) ≡ bytesFor (length bs) = length-take-le (bytesFor (length bs)) (putBits t 0 (padded bs)) (rw (length-put (padded bs) t 0) (omega arith)) in
+    record { size = m; bits = all-bits (take (bytesFor (length bs)) (putBits t 0 (padded bs))) allBits (rw m (omega arith)) ∙ front-bits t (padded bs) (bytesFor (length bs)) (pad-bits bs hb) n (omega arith) }
+
+-- ---- an encoding of bits is bits
+
+no-bits : Bits []
+no-bits k = omega arith
+
+string-are-bits : (l : List ℕ) (unit : ℕ) (x : Span) → Bits l → Bits (stringBits unit (itemsIn l unit x))
+unfolding stringBits
+string-are-bits l unit x h = bits-append (lengthBits (length (itemsIn l unit x) / unit)) (itemsIn l unit x) (length-determinant .are-bits (length (itemsIn l unit x) / unit)) (bits-take (unit * x .count) (drop (x .at) l) (bits-drop (x .at) l h))
+
+part-are-bits : (l : List ℕ) (unit : ℕ) (p : Part) → Bits l → Bits (optionalBits unit (partIn l unit p))
+unfolding optionalBits partIn
+part-are-bits l unit Absent h = no-bits
+part-are-bits l unit (Given x) h = string-are-bits l unit x h
+
+content-are-bits : (li lm lc : List ℕ) (d : Data) → Bits li → Bits lm → Bits lc → Bits (contentBits (contentIn li lm lc d))
+unfolding contentBits contentIn
+content-are-bits li lm lc d i m c =
+    bits-append (bitsN 1 0) _ (bits-bitsN 1 0)
+    (bits-append (bitsN 2 (2 * presence (partIn li octet (d .identifier)) + presence (partIn lm bit (d .message)))) _ (bits-bitsN 2 (2 * presence (partIn li octet (d .identifier)) + presence (partIn lm bit (d .message))))
+    (bits-append (optionalBits octet (partIn li octet (d .identifier))) _ (part-are-bits li octet (d .identifier) i)
+    (bits-append (optionalBits bit (partIn lm bit (d .message))) _ (part-are-bits lm bit (d .message) m) (string-are-bits lc bit (d .check) c))))
+
+mode-are-bits : (side : Side) (m : ℕ) → Bits (modeBits side m)
+unfolding modeBits
+mode-are-bits Ground m = no-bits
+mode-are-bits Air m = go (eqb m 0)
+  where
+    go : (t : Bool) → Bits (cond t (bitsN 1 0) (bitsN 1 1 ++ wholeBits 0 modeLast m))
+    go true = bits-bitsN 1 0
+    go false = bits-append (bitsN 1 1) (wholeBits 0 modeLast m) (bits-bitsN 1 1) (whole-number 0 modeLast (omega arith) .are-bits m)
+
+index-are-bits : (side : Side) (i : ℕ) → Bits (indexBits (lastOf side) i)
+index-are-bits Air i = extensible-index 3 (omega arith) .are-bits i
+index-are-bits Ground i = extensible-index 5 (omega arith) .are-bits i
+
+pdu-are-bits : (side : Side) (li lm lc : List ℕ) (a : Apdu) → Bits li → Bits lm → Bits lc → Bits (pduBits side (pduIn li lm lc a))
+unfolding pduBits pduIn
+pdu-are-bits side li lm lc (apdu.AbortUser r) i m c = bits-append (indexBits (lastOf side) 0) (indexBits userLast r) (index-are-bits side 0) (extensible-index userLast (omega arith) .are-bits r)
+pdu-are-bits side li lm lc (apdu.AbortProvider r) i m c = bits-append (indexBits (lastOf side) 1) (indexBits providerLast r) (index-are-bits side 1) (extensible-index providerLast (omega arith) .are-bits r)
+pdu-are-bits side li lm lc (apdu.Start v d) i m c = bits-append (indexBits (lastOf side) 2) _ (index-are-bits side 2) (bits-append (modeBits side v) (contentBits (contentIn li lm lc d)) (mode-are-bits side v) (content-are-bits li lm lc d i m c))
+pdu-are-bits side li lm lc (apdu.Send d) i m c = bits-append (indexBits (lastOf side) 3) (contentBits (contentIn li lm lc d)) (index-are-bits side 3) (content-are-bits li lm lc d i m c)
+pdu-are-bits side li lm lc apdu.Forward i m c = no-bits
+pdu-are-bits side li lm lc apdu.ForwardResponse i m c = no-bits
+
+-- ---- reading what was written gives the value
+
+-- bits that are the padded encoding of a value within the sizes are read as that value
+pub encoding-accepted : (side : Side) (l : List ℕ) (v : Pdu) → pduFits side v ≡ true → l ≡ padded (pduBits side v) → ApduRead side l 0 v
+encoding-accepted side l v h e =
+    rw e (apdu-written side (padded (pduBits side v)) 0 (length (pduBits side v)) (length (pduBits side v) + padding (length (pduBits side v))) v h (stands-front (pduBits side v)) (tail-padded (pduBits side v)))
+
+-- what is written to a buffer is read as it was
+pub written-read : (side : Side) (v : Pdu) (t : List ℕ) → Bits (pduBits side v) → pduFits side v ≡ true → bufferLeast ≤ length t
+    → ApduRead side (lent (take (bytesFor (length (pduBits side v))) (putBits t 0 (padded (pduBits side v))))) 0 v
+written-read side v t b h g =
+    let m = pdu-most side v h in
+    encoding-accepted side _ v h (front t (pduBits side v) b (omega arith) g .bits)
+
+-- what stands in lent bytes, put into a buffer by `put_apdu`, is read as it was
+pub put-read : (side : Side) (a : Apdu) (ids msgs checks t : List ℕ) → apduShaped side (lent ids) (lent msgs) (lent checks) a ≡ true → bufferLeast ≤ length t
+    → ApduRead side (lent (take (bytesFor (length (pduBits side (pduIn (lent ids) (lent msgs) (lent checks) a)))) (putBits t 0 (padded (pduBits side (pduIn (lent ids) (lent msgs) (lent checks) a)))))) 0 (pduIn (lent ids) (lent msgs) (lent checks) a)
+put-read side a ids msgs checks t h g =
+    written-read side (pduIn (lent ids) (lent msgs) (lent checks) a) t
+    (pdu-are-bits side (lent ids) (lent msgs) (lent checks) a (bits-to ids allBits) (bits-to msgs allBits) (bits-to checks allBits)) (apdu-fit side (lent ids) (lent msgs) (lent checks) a h) g
+
+-- message data by itself
+pub data-written-read : (c : Content) (t : List ℕ) → Bits (contentBits c) → contentFits c ≡ true → bufferLeast ≤ length t
+    → DataRead (lent (take (bytesFor (length (contentBits c))) (putBits t 0 (padded (contentBits c))))) 0 (length (contentBits c)) c
+data-written-read c t b h g =
+    let m = content-most c h in
+    rw (front t (contentBits c) b (omega arith) g .bits) (data-written (padded (contentBits c)) 0 (length (contentBits c)) c h (stands-front (contentBits c)))
+
+-- one encoding, one value
+pub one-value : (side : Side) (v w : Pdu) → pduFits side v ≡ true → pduFits side w ≡ true → padded (pduBits side v) ≡ padded (pduBits side w) → v ≡ w
+one-value side v w f g e =
+    let l : List ℕ = padded (pduBits side v) in
+    let x = encoding-accepted side (padded (pduBits side v)) v f refl in
+    let y = encoding-accepted side (padded (pduBits side v)) w g e in
+    let q : answer.Is (x .value) ≡ answer.Is (y .value) = sym (x .read) ∙ y .read in
+    let z : x .value ≡ y .value = cc in
+    sym (x .same) ∙ ap (pduIn (padded (pduBits side v)) (padded (pduBits side v)) (padded (pduBits side v))) z ∙ y .same
+
+-- ---- writing what was read gives the same bytes
+
+record TailIs (l : List ℕ) (at next : ℕ) : Type 0 where
+  stands : Stands l at (bitsN (padding at) 0) next
+  end : length l ≤ next
+
+tail-is : (l : List ℕ) (at v next : ℕ) → Bits l → tailAt l at ≡ Value v next → TailIs l at next
+unfolding tailAt
+tail-is l at v next b e = fields.via (TailIs l at next) (bitField l at (padding at)) _ v next found e
+  where
+    last : (m : ℕ) → bitField l at (padding at) ≡ Value 0 m → (t : Bool) → leb (m + 1) (length l) ≡ t → cond t (Refused Tail) (Value 0 m) ≡ Value v next → TailIs l at next
+    last m f true p k = never (cc)
+    last m f false p k =
+        let x : m ≡ next = cc in
+        let h = leb-false (m + 1) (length l) p in
+        rw (← x) (record { stands = bit-field (padding at) .read-written l at 0 m b f; end = omega arith })
+
+    go : (w m : ℕ) → bitField l at (padding at) ≡ Value w m → (t : Bool) → eqb w 0 ≡ t → cond t (cond (leb (m + 1) (length l)) (Refused Tail) (Value 0 m)) (Refused Tail) ≡ Value v next → TailIs l at next
+    go w m f true p k =
+        let z : w ≡ 0 = eqb-true w 0 p in
+        last m (rw z at f) (leb (m + 1) (length l)) refl k
+    go w m f false p k = never (cc)
+
+    found : (w m : ℕ) → bitField l at (padding at) ≡ Value w m → cond (eqb w 0) (cond (leb (m + 1) (length l)) (Refused Tail) (Value 0 m)) (Refused Tail) ≡ Value v next → TailIs l at next
+    found w m f k = go w m f (eqb w 0) refl k
+
+all-of : (l bs : List ℕ) (next : ℕ) → Stands l 0 bs next → length l ≤ next → l ≡ bs
+all-of l bs next s h =
+    let p = s .place in
+    let w = s .within in
+    let n : length bs ≡ length l = omega arith in
+    sym (take-length l) ∙ rw (← n) (s .holds)
+
+-- Bits that are read as an APDU, a forward APDU apart, are the padded encoding of its value, which is within the sizes.
+pub record Accepted (side : Side) (l : List ℕ) (a : Apdu) : Type 0 where
+  pub shaped : apduShaped side l l l a ≡ true
+  pub fits : pduFits side (pduIn l l l a) ≡ true
+  pub bits : l ≡ padded (pduBits side (pduIn l l l a))
+  pub stands : Stands l 0 (pduBits side (pduIn l l l a)) (length (pduBits side (pduIn l l l a)))
+
+pub accepted-encoding : (side : Side) (l : List ℕ) (a : Apdu) → Bits l → forwarded a ≡ false → apduAt side l 0 ≡ answer.Is a → Accepted side l a
+unfolding padded
+accepted-encoding side l a b h e =
+    let i = apdu-read side l 0 a b h e in
+    let s = i .stands in
+    let p : i .place ≡ length (pduBits side (pduIn l l l a)) = omega (arith, s .place) in
+    let t = tail-is l (i .place) (i .left) (i .end) b (i .tail) in
+    let u = all-of l _ (i .end) (stands-join l 0 (i .place) (i .end) (pduBits side (pduIn l l l a)) (bitsN (padding (i .place)) 0) s (t .stands)) (t .end) in
+    record {
+      shaped = i .shaped;
+      fits = apdu-fit side l l l a (i .shaped);
+      bits = u ∙ ap (λ (n : ℕ). pduBits side (pduIn l l l a) ++ bitsN (padding n) 0) p;
+      stands = record { place = omega arith; within = s .within; holds = s .holds };
+    }
+
+-- every bit of accepted bytes is lent
+accepted-all : (side : Side) (s : List ℕ) (a : Apdu) → forwarded a ≡ false → apduAt side (lent s) 0 ≡ answer.Is a → lent s ≡ bitsOf s
+accepted-all side s a h e =
+    let c = accepted-encoding side (lent s) a (bits-to s allBits) h e in
+    let m = pdu-most side (pduIn (lent s) (lent s) (lent s) a) (c .fits) in
+    let n = length-padded (pduBits side (pduIn (lent s) (lent s) (lent s) a)) in
+    let k : length (lent s) ≡ length (padded (pduBits side (pduIn (lent s) (lent s) (lent s) a))) = ap length (c .bits) in
+    let t = length-to s allBits in
+    all-bits s allBits (omega arith)
+
+-- To write what was read from bytes, with the parts taken from where they stand, leaves those bytes in the buffer, and later bytes as they were.
+pub read-written : (side : Side) (s t : List ℕ) (a : Apdu) → Bytes s → Bytes t → bufferLeast ≤ length t → forwarded a ≡ false → apduAt side (lent s) 0 ≡ answer.Is a
+    → writeOut (apduShaped side (lent s) (lent s) (lent s) a) t (pduBits side (pduIn (lent s) (lent s) (lent s) a))
+    ≡ done (written.Bits (length (pduBits side (pduIn (lent s) (lent s) (lent s) a)))) (s ++ drop (length s) t)
+unfolding writeOut
+read-written side s t a hs ht g h e =
+    let c = accepted-encoding side (lent s) a (bits-to s allBits) h e in
+    let v : Pdu = pduIn (lent s) (lent s) (lent s) a in
+    let m = pdu-most side (pduIn (lent s) (lent s) (lent s) a) (c .fits) in
+    let n = length-padded (pduBits side (pduIn (lent s) (lent s) (lent s) a)) in
+    let q : padded (pduBits side (pduIn (lent s) (lent s) (lent s) a)) ≡ bitsOf s = sym (c .bits) ∙ accepted-all side s a h e in
+    let k : length (bitsOf s) ≡ length (padded (pduBits side (pduIn (lent s) (lent s) (lent s) a))) = ap length (sym q) in
+    let z = length-bits s in
+    let p : putBits t 0 (padded (pduBits side (pduIn (lent s) (lent s) (lent s) a))) ≡ s ++ drop (length s) t = ap (putBits t 0) q ∙ put-bytes t s ht hs (omega arith) in
+    rw (le-ltb (length t) bufferLeast g, c .shaped, p)
+
+-- ---- a forward APDU: the alternative alone decides
+
+pub forward-read : (l : List ℕ) (at next : ℕ) → Stands l at (indexBits 5 4) next → apduAt Ground l at ≡ answer.Is apdu.Forward
+unfolding apduAt leadingAt kindMode restAt
+forward-read l at next s = rw (extensible-index 5 (omega arith) .written-read l at 4 next refl s)
+
+pub response-read : (l : List ℕ) (at next : ℕ) → Stands l at (indexBits 5 5) next → apduAt Ground l at ≡ answer.Is apdu.ForwardResponse
+unfolding apduAt leadingAt kindMode restAt
+response-read l at next s = rw (extensible-index 5 (omega arith) .written-read l at 5 next refl s)
+
+-- ---- the writer's refusals, and no others
+
+pub refuses-room : (ok : Bool) (s bs : List ℕ) → length s < bufferLeast → writeOut ok s bs ≡ done written.Room s
+unfolding writeOut
+refuses-room ok s bs h = rw (lt-ltb (length s) bufferLeast h)
+
+pub refuses-shape : (s bs : List ℕ) → bufferLeast ≤ length s → writeOut false s bs ≡ done written.Shape s
+unfolding writeOut
+refuses-shape s bs h = rw (le-ltb (length s) bufferLeast h)
+
+pub writes : (s bs : List ℕ) → bufferLeast ≤ length s → writeOut true s bs ≡ done (written.Bits (length bs)) (putBits s 0 (padded bs))
+unfolding writeOut
+writes s bs h = rw (le-ltb (length s) bufferLeast h)
+
+-- ---- the message data that a user is delivered are bits of the APDU
+
+pub send-delivered : (side : Side) (s : List ℕ) (d : Data) → apduAt side (lent s) 0 ≡ answer.Is (apdu.Send d)
+    → contentBits (contentIn (lent s) (lent s) (lent s) d) ≡ take (length (contentBits (contentIn (lent s) (lent s) (lent s) d))) (drop (width side) (lent s))
+unfolding pduBits pduIn forwarded
+send-delivered side s d e =
+    let c = accepted-encoding side (lent s) (apdu.Send d) (bits-to s allBits) refl e in
+    let w = stands-split (lent s) 0 _ (indexBits (lastOf side) 3) (contentBits (contentIn (lent s) (lent s) (lent s) d)) (c .stands) in
+    let h = w .second .holds in
+    let p : 0 + length (indexBits (lastOf side) 3) ≡ width side = omega (arith, length-alternative side 3) in
+    sym (rw p at h)
+
+pub start-delivered : (side : Side) (s : List ℕ) (m : ℕ) (d : Data) → apduAt side (lent s) 0 ≡ answer.Is (apdu.Start m d)
+    → contentBits (contentIn (lent s) (lent s) (lent s) d) ≡ take (length (contentBits (contentIn (lent s) (lent s) (lent s) d))) (drop (width side + length (modeBits side m)) (lent s))
+unfolding pduBits pduIn forwarded
+start-delivered side s m d e =
+    let c = accepted-encoding side (lent s) (apdu.Start m d) (bits-to s allBits) refl e in
+    let w = stands-split (lent s) 0 _ (indexBits (lastOf side) 2) (modeBits side m ++ contentBits (contentIn (lent s) (lent s) (lent s) d)) (c .stands) in
+    let u = stands-split (lent s) _ _ (modeBits side m) (contentBits (contentIn (lent s) (lent s) (lent s) d)) (w .second) in
+    let h = u .second .holds in
+    let p : 0 + length (indexBits (lastOf side) 2) + length (modeBits side m) ≡ width side + length (modeBits side m) = omega (arith, length-alternative side 2) in
+    sym (rw p at h)
+
+-- ---- the largest APDU is a startdown with mode dsc and every part at its limit: 2,280 bits, 285 bytes
+
+unfoldable pub full : Content
+full = record { identifier = given (replicate (octet * identifierMost) 0); message = given (replicate (bit * messageMost) 0); check = replicate (bit * checkMost) 0 }
+
+pub largest : pduMost ≡ 2280
+largest = refl
+
+pub largest-bytes : bytesFor pduMost ≡ 285
+largest-bytes = refl
+
+pub largest-fits : pduFits Air (start modeLast full) ≡ true
+unfolding full pduFits modeFits contentFits optionalFits
+largest-fits = refl
+
+pub largest-reached : length (pduBits Air (start modeLast full)) ≡ pduMost
+unfolding full pduBits modeBits contentBits optionalBits stringBits indexBits wholeBits lengthBits bitsN digitsIn
+largest-reached = refl

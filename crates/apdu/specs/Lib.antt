@@ -1,0 +1,5 @@
+pub mod Sizes
+pub mod Pdus
+pub mod Encoding
+pub mod Reading
+pub mod Writing

@@ -1,0 +1,135 @@
+-- An APDU read from bits: its kind, its numbers and where the parts of its message data stand, or the refusal of the field where the fault
+-- is met first (document 01, order for decoding).
+use Prim.Native.Nat.{ℕ, _+_, _-_, _*_, _%_}
+use mathlib.Core.List.{List}
+use mathlib.Core.Bool.{Bool, cond}
+use lib.ListN.{length}
+use lib.Dec.{leb, eqb}
+use Rattle.fields.specs.Fields.{refusedAt, then, bitField, extensionBit, wholeNumber, extensibleIndex, stringAt}
+use Rattle.fields.specs.declared.Refusal.{Refusal}
+use Rattle.fields.specs.declared.Refusal.the-variants.{Short, Tail, Default}
+use Rattle.fields.specs.declared.Field.{Field}
+use Rattle.fields.specs.declared.Field.the-variants as field
+use Rattle.apdu.specs.Sizes.{identifierLeast, identifierMost, messageMost, checkMost, userLast, providerLast, modeLast, octet, bit}
+use Rattle.apdu.specs.Pdus.{lastOf, kindOf}
+use Rattle.apdu.specs.Encoding.{padding}
+use Rattle.apdu.specs.declared.Side.{Side}
+use Rattle.apdu.specs.declared.Side.the-variants.{Air, Ground}
+use Rattle.apdu.specs.declared.Kind.{Kind}
+use Rattle.apdu.specs.declared.Kind.the-variants as kind
+use Rattle.apdu.specs.declared.Span.{Span}
+use Rattle.apdu.specs.declared.Part.{Part}
+use Rattle.apdu.specs.declared.Part.the-variants.{Absent, Given}
+use Rattle.apdu.specs.declared.Data.{Data}
+use Rattle.apdu.specs.declared.Apdu.{Apdu}
+use Rattle.apdu.specs.declared.Apdu.the-variants as apdu
+use Rattle.apdu.specs.declared.Taken.{Taken}
+use Rattle.apdu.specs.declared.Taken.the-variants as taken
+use Rattle.apdu.specs.declared.Lead.{Lead}
+use Rattle.apdu.specs.declared.Lead.the-variants as lead
+use Rattle.apdu.specs.declared.Answer.{Answer}
+use Rattle.apdu.specs.declared.Answer.the-variants as answer
+
+-- ---- answers: a refusal is handed up unchanged, and nothing further is read
+
+-- after a field: what its value and the place after it lead to, or its refusal, as the answer above has it
+abbrev pub onField : {A : Type 0} → (Refusal → A) → Field → (ℕ → ℕ → A) → A
+onField up (field.Value v next) k = k v next
+onField up (field.Refused r) k = up r
+
+abbrev pub onData : Taken → (Data → ℕ → Answer) → Answer
+onData (taken.Is d next) k = k d next
+onData (taken.Refused r) k = answer.Refused r
+
+abbrev pub onLead : Lead → (Kind → ℕ → ℕ → Answer) → Answer
+onLead (lead.Is c m next) k = k c m next
+onLead (lead.Refused r) k = answer.Refused r
+
+-- the refusal of an answer that has one
+abbrev pub fieldRefusal : Field → Refusal
+fieldRefusal (field.Refused r) = r
+fieldRefusal (field.Value v next) = Short
+
+abbrev pub takenRefusal : Taken → Refusal
+takenRefusal (taken.Refused r) = r
+takenRefusal (taken.Is d next) = Short
+
+abbrev pub leadRefusal : Lead → Refusal
+leadRefusal (lead.Refused r) = r
+leadRefusal (lead.Is c m next) = Short
+
+-- ---- message data
+
+-- a field that is there, or not
+unfoldable pub optionalAt : List ℕ → Bool → ℕ → ℕ → ℕ → ℕ → Field
+optionalAt l there at unit least most = cond there (stringAt l at unit least most) (field.Value 0 at)
+
+-- n items that end at a place
+abbrev pub spanTo : ℕ → ℕ → ℕ → Span
+spanTo unit n next = record { at = next - unit * n; count = n }
+
+-- the part that they are, if they are there
+unfoldable pub partAt : Bool → ℕ → ℕ → ℕ → Part
+partAt there unit n next = cond there (Given (spanTo unit n next)) Absent
+
+-- the fields, of which the first two are there or not
+unfoldable pub partsAt : List ℕ → ℕ → Bool → Bool → Taken
+partsAt l at i m =
+    onField taken.Refused (optionalAt l i at octet identifierLeast identifierMost) (λ (octets p : ℕ).
+    onField taken.Refused (optionalAt l m p bit 0 messageMost) (λ (bits q : ℕ).
+    onField taken.Refused (stringAt l q bit 0 checkMost) (λ (n next : ℕ).
+    taken.Is (record { identifier = partAt i octet octets p; message = partAt m bit bits q; check = spanTo bit n next }) next)))
+
+-- the extension bit, the presence bits as one field of two bits, the fields
+unfoldable pub dataAt : List ℕ → ℕ → Taken
+dataAt l at =
+    onField taken.Refused (extensionBit l at) (λ (e p : ℕ). onField taken.Refused (bitField l p 2) (λ (v q : ℕ). partsAt l q (leb 2 v) (eqb (v % 2) 1)))
+
+-- ---- the leading fields: the alternative, and the mode of a start
+
+-- mode present: its default value is refused
+unfoldable pub modeValue : List ℕ → ℕ → Field
+modeValue l at =
+    then (wholeNumber l at 0 modeLast) (λ (m next : ℕ). cond (eqb m 0) (refusedAt at Default) (field.Value m next))
+
+-- the mode of a start: that of startup is cpdlc, in no bits
+unfoldable pub modeAt : Side → List ℕ → ℕ → Field
+modeAt Ground l at = field.Value 0 at
+modeAt Air l at = then (bitField l at 1) (λ (p next : ℕ). cond (eqb p 0) (field.Value 0 next) (modeValue l next))
+
+-- the mode, where the alternative has one
+unfoldable pub kindMode : Side → List ℕ → Kind → ℕ → Field
+kindMode side l kind.AbortUser at = field.Value 0 at
+kindMode side l kind.AbortProvider at = field.Value 0 at
+kindMode side l kind.Start at = modeAt side l at
+kindMode side l kind.Send at = field.Value 0 at
+kindMode side l kind.Forward at = field.Value 0 at
+kindMode side l kind.ForwardResponse at = field.Value 0 at
+
+unfoldable pub leadingAt : Side → List ℕ → ℕ → Lead
+leadingAt side l at =
+    onField lead.Refused (extensibleIndex l at (lastOf side)) (λ (i p : ℕ). onField lead.Refused (kindMode side l (kindOf i) p) (λ (m q : ℕ). lead.Is (kindOf i) m q))
+
+-- ---- the rest
+
+-- TAIL, last of all: a padding bit that is 1, or bits that follow the padding
+unfoldable pub tailAt : List ℕ → ℕ → Field
+tailAt l at =
+    then (bitField l at (padding at)) (λ (v next : ℕ).
+    cond (eqb v 0) (cond (leb (next + 1) (length l)) (refusedAt next Tail) (field.Value 0 next)) (refusedAt at Tail))
+
+unfoldable pub endedAt : List ℕ → ℕ → Apdu → Answer
+endedAt l at a = onField answer.Refused (tailAt l at) (λ (v next : ℕ). answer.Is a)
+
+-- Of a forward APDU the alternative alone decides.
+unfoldable pub restAt : List ℕ → Kind → ℕ → ℕ → Answer
+restAt l kind.AbortUser m at = onField answer.Refused (extensibleIndex l at userLast) (λ (r next : ℕ). endedAt l next (apdu.AbortUser r))
+restAt l kind.AbortProvider m at = onField answer.Refused (extensibleIndex l at providerLast) (λ (r next : ℕ). endedAt l next (apdu.AbortProvider r))
+restAt l kind.Start m at = onData (dataAt l at) (λ (d : Data) (next : ℕ). endedAt l next (apdu.Start m d))
+restAt l kind.Send m at = onData (dataAt l at) (λ (d : Data) (next : ℕ). endedAt l next (apdu.Send d))
+restAt l kind.Forward m at = answer.Is apdu.Forward
+restAt l kind.ForwardResponse m at = answer.Is apdu.ForwardResponse
+
+-- the leading fields, then the rest
+unfoldable pub apduAt : Side → List ℕ → ℕ → Answer
+apduAt side l at = onLead (leadingAt side l at) (restAt l)

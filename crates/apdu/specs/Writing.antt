@@ -1,0 +1,71 @@
+-- What a writer leaves in a lent buffer.
+use Prim.Native.Nat.{ℕ, _+_, _*_}
+use mathlib.Core.List.{List}
+use mathlib.Core.Bool.{Bool, true, false, cond, _&&_}
+use lib.ListN.{length}
+use lib.Dec.{leb, ltb}
+use Rattle.bits.specs.Put.{putBits}
+use Rattle.bits.specs.declared.Put.{Put}
+use Rattle.bits.specs.declared.Put.the-variants.{Next, Full}
+use Rattle.fields.specs.Encodings.{wholeFits, withinFits}
+use Rattle.apdu.specs.Sizes.{identifierLeast, identifierMost, messageMost, checkMost, bufferLeast, userLast, providerLast, octet, bit}
+use Rattle.apdu.specs.Encoding.{padded, modeFits}
+use Rattle.apdu.specs.declared.Side.{Side}
+use Rattle.apdu.specs.declared.Span.{Span}
+use Rattle.apdu.specs.declared.Part.{Part}
+use Rattle.apdu.specs.declared.Part.the-variants.{Absent, Given}
+use Rattle.apdu.specs.declared.Data.{Data}
+use Rattle.apdu.specs.declared.Apdu.{Apdu}
+use Rattle.apdu.specs.declared.Apdu.the-variants as apdu
+use Rattle.apdu.specs.declared.Written.{Written}
+use Rattle.apdu.specs.declared.Written.the-variants as written
+
+-- ---- SHAPE: an argument breaks the sizes, its type or its codes, or a count is more than the lent bytes hold
+
+-- items of `unit` bits each at a place of the bits l: from least to most of them, and l holds them
+unfoldable pub itemsShaped : List ℕ → ℕ → ℕ → ℕ → Span → Bool
+itemsShaped l unit least most x = withinFits least most (x .count) && leb (x .at + unit * x .count) (length l)
+
+unfoldable pub partShaped : List ℕ → ℕ → ℕ → ℕ → Part → Bool
+partShaped l unit least most Absent = true
+partShaped l unit least most (Given x) = itemsShaped l unit least most x
+
+unfoldable pub dataShaped : List ℕ → List ℕ → List ℕ → Data → Bool
+dataShaped li lm lc d =
+    partShaped li octet identifierLeast identifierMost (d .identifier) && partShaped lm bit 0 messageMost (d .message) &&
+    itemsShaped lc bit 0 checkMost (d .check)
+
+-- a forward APDU is not written
+unfoldable pub apduShaped : Side → List ℕ → List ℕ → List ℕ → Apdu → Bool
+apduShaped side li lm lc (apdu.AbortUser r) = wholeFits 0 userLast r
+apduShaped side li lm lc (apdu.AbortProvider r) = wholeFits 0 providerLast r
+apduShaped side li lm lc (apdu.Start m d) = modeFits side m && dataShaped li lm lc d
+apduShaped side li lm lc (apdu.Send d) = dataShaped li lm lc d
+apduShaped side li lm lc apdu.Forward = false
+apduShaped side li lm lc apdu.ForwardResponse = false
+
+-- ---- the answer and the buffer
+
+-- the presence bit of a part
+abbrev pub there : Part → ℕ
+there Absent = 0
+there (Given x) = 1
+
+-- the place after what was written
+abbrev pub placeOf : Put → ℕ
+placeOf (Next p) = p
+placeOf Full = 0
+
+pub record Done : Type 0 where
+  pub answer : Written
+  pub bytes : List ℕ
+
+abbrev pub done : Written → List ℕ → Done
+done a s = record { answer = a; bytes = s }
+
+-- Bits written from the first bit of a buffer on, padded with zeros to a whole byte, and their count before the padding; later bytes stay. A buffer
+-- that is too small, then a value that is not right, is refused, and every byte stays.
+unfoldable pub writeOut : Bool → List ℕ → List ℕ → Done
+writeOut ok s bs =
+    cond (ltb (length s) bufferLeast) (done written.Room s)
+    (cond ok (done (written.Bits (length bs)) (putBits s 0 (padded bs))) (done written.Shape s))

@@ -1,0 +1,107 @@
+// An APDU read: the leading fields, then the rest, then the tail.
+ghost use mathlib.Core.Path.{_≡_};
+ghost use Prim.Native.Nat.{_-_, _%_};
+ghost use Rattle.apdu.specs.Pdus.{lent};
+ghost use Rattle.apdu.specs.Encoding.{padding as paddingOf};
+ghost use Rattle.apdu.specs.Reading.{apduAt, endedAt, restAt, tailAt};
+use crate::Answer;
+use crate::Apdu;
+use crate::Kind;
+use crate::Lead;
+use crate::Side;
+use crate::Taken;
+use crate::leading::leading_at;
+use crate::leading::refused_at;
+use crate::parts::data_at;
+use crate::refusals::field_refusal;
+use crate::refusals::lead_refusal;
+use crate::refusals::taken_refusal;
+use fields::Field;
+use fields::Refusal;
+
+// The end of lent bytes: as many bits as a count can say, so all of them.
+pub(crate) const ALL: usize = 18446744073709551615;
+
+// How many bits follow n bits up to a whole byte.
+pub(crate) fn padding(n: usize) -> usize
+    ensures { λ r. ⌜ r ≡ paddingOf n ⌝ }
+{
+    (8 - n % 8) % 8
+}
+
+// The padding after the last field: zeros, and nothing follows it.
+fn tail(s: &[u8], at: usize) -> Field
+    ensures { λ f. ⌜ f ≡ tailAt (lent (now (s .entry))) at ⌝ }
+{
+    let zeros = fields::bit_field(s, ALL, at, padding(at));
+    let Field::Value(v, next) = zeros else {
+        return zeros;
+    };
+    if v == 0 {
+        if bits::within(s.len(), ALL, next, 1) {
+            return refused_at(next, Refusal::Tail);
+        }
+        return Field::Value(0, next);
+    }
+    refused_at(at, Refusal::Tail)
+}
+
+// An APDU whose last field ends at a place.
+fn ended(s: &[u8], at: usize, a: Apdu) -> Answer
+    ensures { λ r. ⌜ r ≡ endedAt (lent (now (s .entry))) at a ⌝ }
+{
+    let rest = tail(s, at);
+    let Field::Value(_, _) = rest else {
+        return Answer::Refused(field_refusal(rest));
+    };
+    Answer::Is(a)
+}
+
+// What follows the leading fields. Of a forward APDU nothing more is looked at.
+fn rest_at(s: &[u8], kind: Kind, mode: u64, at: usize) -> Answer
+    ensures { λ r. ⌜ r ≡ restAt (lent (now (s .entry))) kind mode at ⌝ }
+{
+    match kind {
+        Kind::AbortUser => {
+            let reason = fields::extensible_index(s, ALL, at, Apdu::USER_LAST);
+            let Field::Value(r, next) = reason else {
+                return Answer::Refused(field_refusal(reason));
+            };
+            ended(s, next, Apdu::AbortUser(r))
+        }
+        Kind::AbortProvider => {
+            let reason = fields::extensible_index(s, ALL, at, Apdu::PROVIDER_LAST);
+            let Field::Value(r, next) = reason else {
+                return Answer::Refused(field_refusal(reason));
+            };
+            ended(s, next, Apdu::AbortProvider(r))
+        }
+        Kind::Start => {
+            let parts = data_at(s, at);
+            let Taken::Is(d, next) = parts else {
+                return Answer::Refused(taken_refusal(parts));
+            };
+            ended(s, next, Apdu::Start(mode, d))
+        }
+        Kind::Send => {
+            let parts = data_at(s, at);
+            let Taken::Is(d, next) = parts else {
+                return Answer::Refused(taken_refusal(parts));
+            };
+            ended(s, next, Apdu::Send(d))
+        }
+        Kind::Forward => Answer::Is(Apdu::Forward),
+        Kind::ForwardResponse => Answer::Is(Apdu::ForwardResponse),
+    }
+}
+
+// The APDU that begins at a place and ends with the lent bytes.
+pub(crate) fn apdu_at(s: &[u8], at: usize, side: Side) -> Answer
+    ensures { λ r. ⌜ r ≡ apduAt side (lent (now (s .entry))) at ⌝ }
+{
+    let leading = leading_at(s, at, side);
+    let Lead::Is(kind, mode, next) = leading else {
+        return Answer::Refused(lead_refusal(leading));
+    };
+    rest_at(s, kind, mode, next)
+}

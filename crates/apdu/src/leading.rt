@@ -1,0 +1,125 @@
+// The leading fields: the alternative, and the mode of a start.
+ghost use mathlib.Core.Path.{_≡_};
+ghost use Rattle.fields.specs.Fields.{refusedAt};
+ghost use Rattle.apdu.specs.Pdus.{indexOf, kindOf, lastOf, lent};
+ghost use Rattle.apdu.specs.Reading.{kindMode, leadingAt, modeAt, modeValue};
+use crate::Apdu;
+use crate::Kind;
+use crate::Lead;
+use crate::Side;
+use crate::decoder::ALL;
+use crate::refusals::field_refusal;
+use fields::Field;
+use fields::Refusal;
+
+impl Side {
+    // The last alternative of the type.
+    pub fn last(self) -> u64
+        ensures { λ r. ⌜ r ≡ lastOf self ⌝ }
+    {
+        match self {
+            Side::Air => 3,
+            Side::Ground => 5,
+        }
+    }
+}
+
+// The refusal of the field that begins at a place.
+pub(crate) fn refused_at(at: usize, r: Refusal) -> Field
+    ensures { λ f. ⌜ f ≡ refusedAt at r ⌝ }
+{
+    Field::Refused(r)
+}
+
+// The alternatives by their tags.
+fn kind_of(i: u64) -> Kind
+    ensures { λ k. ⌜ k ≡ kindOf i ⌝ }
+{
+    match i {
+        0 => Kind::AbortUser,
+        1 => Kind::AbortProvider,
+        2 => Kind::Start,
+        3 => Kind::Send,
+        4 => Kind::Forward,
+        _ => Kind::ForwardResponse,
+    }
+}
+
+pub(crate) fn index_of(kind: Kind) -> u64
+    ensures { λ i. ⌜ i ≡ indexOf kind ⌝ }
+{
+    match kind {
+        Kind::AbortUser => 0,
+        Kind::AbortProvider => 1,
+        Kind::Start => 2,
+        Kind::Send => 3,
+        Kind::Forward => 4,
+        Kind::ForwardResponse => 5,
+    }
+}
+
+// A mode that is present: not its default.
+fn mode_value(s: &[u8], at: usize) -> Field
+    ensures { λ f. ⌜ f ≡ modeValue (lent (now (s .entry))) at ⌝ }
+{
+    let value = fields::whole(s, ALL, at, 0, Apdu::MODE_LAST);
+    let Field::Value(m, _) = value else {
+        return value;
+    };
+    if m == 0 {
+        return refused_at(at, Refusal::Default);
+    }
+    value
+}
+
+// The presence bit of StartDownMessage, and its mode.
+fn down_mode(s: &[u8], at: usize) -> Field
+    ensures { λ f. ⌜ f ≡ modeAt Side.Air (lent (now (s .entry))) at ⌝ }
+{
+    let presence = fields::bit_field(s, ALL, at, 1);
+    let Field::Value(p, next) = presence else {
+        return presence;
+    };
+    if p == 0 {
+        return Field::Value(0, next);
+    }
+    mode_value(s, next)
+}
+
+fn mode_at(s: &[u8], side: Side, at: usize) -> Field
+    ensures { λ f. ⌜ f ≡ modeAt side (lent (now (s .entry))) at ⌝ }
+{
+    match side {
+        Side::Air => down_mode(s, at),
+        Side::Ground => Field::Value(0, at),
+    }
+}
+
+// The mode, where the alternative has one.
+fn kind_mode(s: &[u8], side: Side, kind: Kind, at: usize) -> Field
+    ensures { λ f. ⌜ f ≡ kindMode side (lent (now (s .entry))) kind at ⌝ }
+{
+    match kind {
+        Kind::AbortUser => Field::Value(0, at),
+        Kind::AbortProvider => Field::Value(0, at),
+        Kind::Start => mode_at(s, side, at),
+        Kind::Send => Field::Value(0, at),
+        Kind::Forward => Field::Value(0, at),
+        Kind::ForwardResponse => Field::Value(0, at),
+    }
+}
+
+pub(crate) fn leading_at(s: &[u8], at: usize, side: Side) -> Lead
+    ensures { λ l. ⌜ l ≡ leadingAt side (lent (now (s .entry))) at ⌝ }
+{
+    let index = fields::extensible_index(s, ALL, at, side.last());
+    let Field::Value(i, p) = index else {
+        return Lead::Refused(field_refusal(index));
+    };
+    let kind = kind_of(i);
+    let mode = kind_mode(s, side, kind, p);
+    let Field::Value(m, q) = mode else {
+        return Lead::Refused(field_refusal(mode));
+    };
+    Lead::Is(kind, m, q)
+}

@@ -1,0 +1,90 @@
+// Message data read: the extension bit, the presence bits, then the fields that are there.
+ghost use mathlib.Core.Path.{_≡_};
+ghost use Prim.Native.Nat.{_*_, _≤_};
+ghost use Rattle.apdu.specs.Pdus.{lent};
+ghost use Rattle.apdu.specs.Reading.{dataAt, optionalAt, partAt, partsAt, spanTo};
+use crate::Data;
+use crate::Part;
+use crate::Span;
+use crate::Taken;
+use crate::decoder::ALL;
+use crate::refusals::field_refusal;
+use fields::Field;
+
+// A field that is there, or not.
+fn optional(s: &[u8], there: bool, at: usize, unit: usize, least: u64, most: u64) -> Field
+    ensures { λ f. ⌜ f ≡ optionalAt (lent (now (s .entry))) there at unit least most ⌝ }
+{
+    if there {
+        return fields::string(s, ALL, at, unit, least, most);
+    }
+    Field::Value(0, at)
+}
+
+// n items that end at a place.
+fn span_to(unit: usize, n: u64, next: usize) -> Span
+    requires { ⌜ unit * n ≤ next ⌝ }
+    ensures { λ x. ⌜ x ≡ spanTo unit n next ⌝ }
+{
+    let count = n as usize;
+    Span {
+        at: next - unit * count,
+        count,
+    }
+}
+
+// The part that they are, if they are there.
+fn part(there: bool, unit: usize, n: u64, next: usize) -> Part
+    requires { ⌜ unit * n ≤ next ⌝ }
+    ensures { λ p. ⌜ p ≡ partAt there unit n next ⌝ }
+{
+    if there {
+        return Part::Given(span_to(unit, n, next));
+    }
+    Part::Absent
+}
+
+// The fields, of which the first two are there or not.
+fn parts_at(s: &[u8], at: usize, identified: bool, messaged: bool) -> Taken
+    ensures { λ t. ⌜ t ≡ partsAt (lent (now (s .entry))) at identified messaged ⌝ }
+{
+    let identifier = optional(
+        s,
+        identified,
+        at,
+        Data::OCTET,
+        Data::IDENTIFIER_LEAST as u64,
+        Data::IDENTIFIER_MOST as u64,
+    );
+    let Field::Value(octets, p) = identifier else {
+        return Taken::Refused(field_refusal(identifier));
+    };
+    let message = optional(s, messaged, p, Data::BIT, 0, Data::MESSAGE_MOST as u64);
+    let Field::Value(bits, q) = message else {
+        return Taken::Refused(field_refusal(message));
+    };
+    let check = fields::string(s, ALL, q, Data::BIT, 0, Data::CHECK_MOST as u64);
+    let Field::Value(n, next) = check else {
+        return Taken::Refused(field_refusal(check));
+    };
+    let data = Data {
+        identifier: part(identified, Data::OCTET, octets, p),
+        message: part(messaged, Data::BIT, bits, q),
+        check: span_to(Data::BIT, n, next),
+    };
+    Taken::Is(data, next)
+}
+
+pub(crate) fn data_at(s: &[u8], at: usize) -> Taken
+    ensures { λ t. ⌜ t ≡ dataAt (lent (now (s .entry))) at ⌝ }
+{
+    let extension = fields::extension_bit(s, ALL, at);
+    let Field::Value(_, p) = extension else {
+        return Taken::Refused(field_refusal(extension));
+    };
+    let presence = fields::bit_field(s, ALL, p, 2);
+    let Field::Value(v, q) = presence else {
+        return Taken::Refused(field_refusal(presence));
+    };
+    parts_at(s, q, 2 <= v, v % 2 == 1)
+}

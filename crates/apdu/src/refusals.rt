@@ -1,0 +1,34 @@
+// A refusal handed up from a field, message data or leading fields to the answer above. (A value holds no refusal, and nobody asks for it.)
+ghost use mathlib.Core.Path.{_≡_};
+ghost use Rattle.apdu.specs.Reading.{fieldRefusal, takenRefusal, leadRefusal};
+use crate::Lead;
+use crate::Taken;
+use fields::Field;
+use fields::Refusal;
+
+pub(crate) fn field_refusal(f: Field) -> Refusal
+    ensures { λ r. ⌜ r ≡ fieldRefusal f ⌝ }
+{
+    match f {
+        Field::Refused(r) => r,
+        Field::Value(_, _) => Refusal::Short,
+    }
+}
+
+pub(crate) fn taken_refusal(t: Taken) -> Refusal
+    ensures { λ r. ⌜ r ≡ takenRefusal t ⌝ }
+{
+    match t {
+        Taken::Refused(r) => r,
+        Taken::Is(_, _) => Refusal::Short,
+    }
+}
+
+pub(crate) fn lead_refusal(l: Lead) -> Refusal
+    ensures { λ r. ⌜ r ≡ leadRefusal l ⌝ }
+{
+    match l {
+        Lead::Refused(r) => r,
+        Lead::Is(_, _, _) => Refusal::Short,
+    }
+}

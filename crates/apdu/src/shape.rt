@@ -1,0 +1,87 @@
+// SHAPE: whether a value to write keeps document 01's sizes, its type and its codes, and the lent bytes hold its parts.
+ghost use mathlib.Core.Path.{_≡_};
+ghost use Prim.Native.Nat.{_*_, _^_, _<_};
+ghost use Rattle.fields.specs.Encodings.{wholeFits};
+ghost use Rattle.apdu.specs.Pdus.{lent};
+ghost use Rattle.apdu.specs.Encoding.{modeFits};
+ghost use Rattle.apdu.specs.Writing.{apduShaped, dataShaped, itemsShaped, partShaped};
+use crate::Apdu;
+use crate::Data;
+use crate::Part;
+use crate::Side;
+use crate::Span;
+use crate::decoder::ALL;
+
+// From least to most items, and the bytes hold them.
+fn items_shaped(src: &[u8], unit: usize, least: usize, most: usize, x: Span) -> bool
+    requires { ⌜ (unit * most < 2 ^ 32) × (most < 16384) ⌝ }
+    ensures { λ r. ⌜ r ≡ itemsShaped (lent (now (src .entry))) unit least most x ⌝ }
+{
+    let n = x.count;
+    if n < least {
+        return false;
+    }
+    if most < n {
+        return false;
+    }
+    bits::within(src.len(), ALL, x.at, unit * n)
+}
+
+fn part_shaped(src: &[u8], unit: usize, least: usize, most: usize, part: Part) -> bool
+    requires { ⌜ (unit * most < 2 ^ 32) × (most < 16384) ⌝ }
+    ensures { λ r. ⌜ r ≡ partShaped (lent (now (src .entry))) unit least most part ⌝ }
+{
+    match part {
+        Part::Absent => true,
+        Part::Given(x) => items_shaped(src, unit, least, most, x),
+    }
+}
+
+// Message data: the identifier stands in ids, the message in msgs, the check in checks.
+pub fn data_shaped(d: Data, ids: &[u8], msgs: &[u8], checks: &[u8]) -> bool
+    ensures { λ r. ⌜ r ≡ dataShaped (lent (now (ids .entry))) (lent (now (msgs .entry))) (lent (now (checks .entry))) d ⌝ }
+{
+    let identifier = d.identifier;
+    let message = d.message;
+    let check = d.check;
+    if part_shaped(
+        ids,
+        Data::OCTET,
+        Data::IDENTIFIER_LEAST,
+        Data::IDENTIFIER_MOST,
+        identifier,
+    ) {
+        if part_shaped(msgs, Data::BIT, 0, Data::MESSAGE_MOST, message) {
+            return items_shaped(checks, Data::BIT, 0, Data::CHECK_MOST, check);
+        }
+        return false;
+    }
+    false
+}
+
+fn mode_shaped(side: Side, m: u64) -> bool
+    ensures { λ r. ⌜ r ≡ modeFits side m ⌝ }
+{
+    match side {
+        Side::Air => m <= Apdu::MODE_LAST,
+        Side::Ground => m == 0,
+    }
+}
+
+pub fn apdu_shaped(side: Side, a: Apdu, ids: &[u8], msgs: &[u8], checks: &[u8]) -> bool
+    ensures { λ r. ⌜ r ≡ apduShaped side (lent (now (ids .entry))) (lent (now (msgs .entry))) (lent (now (checks .entry))) a ⌝ }
+{
+    match a {
+        Apdu::AbortUser(r) => r <= Apdu::USER_LAST,
+        Apdu::AbortProvider(r) => r <= Apdu::PROVIDER_LAST,
+        Apdu::Start(m, d) => {
+            if mode_shaped(side, m) {
+                return data_shaped(d, ids, msgs, checks);
+            }
+            false
+        }
+        Apdu::Send(d) => data_shaped(d, ids, msgs, checks),
+        Apdu::Forward => false,
+        Apdu::ForwardResponse => false,
+    }
+}

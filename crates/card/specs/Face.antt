@@ -1,0 +1,64 @@
+-- What the host gives to a call, and a fresh record.
+use Prim.Native.Nat.{ℕ}
+use mathlib.Core.Bool.{Bool, true, false, not, cond}
+use mathlib.Core.List.{List, []}
+use lib.Dec.{eqb}
+use lib.ListN.{length}
+use Rattle.apdu.specs.declared.Span.{Span}
+use Rattle.apdu.specs.declared.Part.{Part}
+use Rattle.apdu.specs.declared.Part.the-variants as part
+use Rattle.apdu.specs.declared.Data.{Data}
+use Rattle.machine.specs.Record.{freshRecord}
+use Rattle.machine.specs.declared.control.Side.the-variants.{Air, Ground}
+use Rattle.machine.specs.declared.record.Configuration.{Configuration}
+use Rattle.machine.specs.declared.event.UserPrimitive.{UserPrimitive}
+use Rattle.machine.specs.declared.event.UserPrimitive.the-variants.{MessageServiceRequest, UserAbortServiceRequest}
+use Rattle.machine.specs.declared.event.Event.{Event}
+use Rattle.machine.specs.declared.event.Event.the-variants.{User}
+use Rattle.step.specs.Stored.{storeAt, Kept}
+use Rattle.step.specs.Call.{Called, userCall, noData}
+
+-- a call without message data
+abbrev pub plainCall : List ℕ → List ℕ → List ℕ → Event → Called
+plainCall r a b e = userCall r a b e [] [] [] noData
+
+-- the count that says "none": no message, no reason
+abbrev pub noCount : ℕ
+noCount = 18446744073709551615
+
+-- message data from the first bits of three ranges: an identifier of no octets is absent, and a message whose count says none
+unfoldable pub partOf : Bool → ℕ → Part
+partOf none n = cond none part.Absent (part.Given (record { at = 0; count = n }))
+
+unfoldable pub givenData : ℕ → ℕ → ℕ → Data
+givenData octets m k = record { identifier = partOf (eqb octets 0) octets; message = partOf (eqb m noCount) m; check = record { at = 0; count = k } }
+
+-- a user primitive with message data
+abbrev pub dataCall : List ℕ → List ℕ → List ℕ → UserPrimitive → List ℕ → List ℕ → ℕ → List ℕ → ℕ → Called
+dataCall r a b u ids msgs m checks k = userCall r a b (User u) ids msgs checks (givenData (length ids) m k)
+
+-- a message request holds a message, or not
+abbrev pub messageRequested : ℕ → ℕ → UserPrimitive
+messageRequested m j = MessageServiceRequest (not (eqb m noCount)) j
+
+-- a user abort gives a reason, or not
+abbrev pub abortRequested : ℕ → UserPrimitive
+abortRequested x = UserAbortServiceRequest (not (eqb x noCount)) (cond (eqb x noCount) 0 x)
+
+-- ---- a fresh record for a side (1 air, 2 ground), with the security value that local policy accepts
+
+pub record Made : Type 0 where
+  pub number : ℕ
+  pub bytes : List ℕ
+
+abbrev pub made : ℕ → List ℕ → Made
+made n r = record { number = n; bytes = r }
+
+-- 0 where the record was stored; SHAPE where the range is not of its size, or the value is none
+unfoldable pub freshFor : Kept → Made
+freshFor k = made (cond (k .done) 0 2) (k .bytes)
+
+unfoldable pub freshCall : List ℕ → ℕ → ℕ → Made
+freshCall r side policy =
+    cond (eqb side 1) (freshFor (storeAt r Air (freshRecord (record { policy = policy }))))
+    (cond (eqb side 2) (freshFor (storeAt r Ground (freshRecord (record { policy = policy })))) (made 2 r))

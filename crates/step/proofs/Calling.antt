@@ -1,0 +1,128 @@
+-- The ways out of a call, as the code has them.
+-- Assumes nothing.
+use mathlib.Core.Path.{_≡_, refl, ap, sym, _∙_}
+use mathlib.Core.Bool.{Bool, true, false, cond}
+use mathlib.Core.List.{List}
+use Prim.Native.Nat.{ℕ, _+_, _*_, _%_, _≤_, _<_}
+use native.Mathlib.Omega.{arith}
+use borrow.Author.Tests.{lt-ltb, le-ltb, eq-eqb, ne-eqb}
+use lib.ListN.{length}
+use Rattle.apdu.specs.Sizes.{bufferLeast}
+use Rattle.apdu.specs.Writing.{done, dataShaped}
+use Rattle.apdu.specs.declared.Data.{Data}
+use Rattle.apdu.specs.declared.Written.{Written}
+use Rattle.machine.specs.Outcome.{refusalNumber, isNone}
+use Rattle.machine.specs.Step.{step}
+use Rattle.machine.specs.declared.control.Side.{Side}
+use Rattle.machine.specs.declared.record.Record.{Record}
+use Rattle.machine.specs.declared.event.Apdu.{Apdu}
+use Rattle.machine.specs.declared.event.Apdu.the-variants.{Absent}
+use Rattle.machine.specs.declared.event.ServicePrimitive.{ServicePrimitive}
+use Rattle.machine.specs.declared.event.Event.{Event}
+use Rattle.machine.specs.declared.event.Event.the-variants.{Service}
+use Rattle.apdu.specs.declared.Answer.{Answer}
+use Rattle.machine.specs.declared.outcome.Invoked.{Invoked}
+use Rattle.machine.specs.declared.outcome.Invoked.the-variants.{Silent, DStartRequest, DStartResponse, DDataRequest, DEndRequest, DEndResponse, DAbortRequest}
+use Rattle.machine.specs.declared.outcome.Told.{Told}
+use Rattle.machine.specs.declared.outcome.Told.the-variants.{Untold, StartIndication, StartConfirmation, MessageIndication, EndIndication, EndConfirmation, UserAbortIndication, ProviderAbortIndication}
+use Rattle.machine.specs.declared.outcome.Outcome.{Outcome}
+use Rattle.step.specs.Stored.{loadAt, storeAt, kept}
+use Rattle.step.specs.Packed.{packed, invokedNumber, toldNumber}
+use Rattle.step.specs.Call.{Called, called, bitsOfWritten, firstTakes, secondTakes, finished, concluded, withRecord, entering, userStep, meaning, dataOf, readPdu, noData, arrives, dataStep, bareStep, serviceStep}
+use Rattle.step.specs.declared.arrived.Arrived.{Arrived}
+use Rattle.step.specs.declared.stored.Loaded.{Loaded}
+use Rattle.step.specs.declared.stored.Loaded.the-variants.{Is, NoRecord}
+
+-- ---- the number's parts have room
+
+pub invoked-low : (i : Invoked) → invokedNumber i < 4096
+unfolding invokedNumber
+invoked-low Silent = omega arith
+invoked-low (DStartRequest q s) = omega arith
+invoked-low (DStartResponse x s) = omega arith
+invoked-low DDataRequest = omega arith
+invoked-low DEndRequest = omega arith
+invoked-low (DEndResponse x) = omega arith
+invoked-low (DAbortRequest o) = omega arith
+
+pub told-low : (t : Told) → toldNumber t < 4096
+unfolding toldNumber
+told-low Untold = omega arith
+told-low (StartIndication m k) = omega arith
+told-low (StartConfirmation m x) = omega arith
+told-low MessageIndication = omega arith
+told-low (EndIndication m) = omega arith
+told-low (EndConfirmation m x) = omega arith
+told-low (UserAbortIndication x) = omega arith
+told-low (ProviderAbortIndication x) = omega arith
+
+-- ---- after the step
+
+module _ (r a b : List ℕ) (sd : Side) (o : Outcome) (li lm lc : List ℕ) (d : Data) (t : Bool) (p : t ≡ isNone (o .refusal)) where
+  pub is-refused : (n : ℕ) → t ≡ false → n ≡ refusalNumber (o .refusal) → called n r a b ≡ concluded r a b sd o li lm lc d
+  unfolding concluded
+  is-refused n q e = rw (← p, q, e)
+
+  pub is-taken : t ≡ true → (w v : Written) (a′ b′ : List ℕ) → done w a′ ≡ firstTakes sd li lm lc d (o .apdu) a → done v b′ ≡ secondTakes li lm lc d (o .delivers) b
+      → (x : Bool) (r′ : List ℕ) → kept x r′ ≡ storeAt r sd (o .next)
+      → (i u m n k : ℕ) → i ≡ invokedNumber (o .invoked) → u ≡ toldNumber (o .told) → m ≡ bitsOfWritten w → n ≡ bitsOfWritten v → k ≡ packed i u m n
+      → called k r′ a′ b′ ≡ concluded r a b sd o li lm lc d
+  unfolding concluded finished
+  is-taken q w v a′ b′ e f x r′ g i u m n k ei eu em en ek = rw (← p, q, ← e, ← f, ← g, ek, ei, eu, em, en)
+
+-- ---- before the step
+
+module _ (r a b : List ℕ) (k : Side → Record → Called) where
+  pub no-room-first : length a < bufferLeast → called 1 r a b ≡ entering r a b k
+  unfolding entering
+  no-room-first h = rw (lt-ltb (length a) bufferLeast h)
+
+  pub no-room-second : bufferLeast ≤ length a → length b < bufferLeast → called 1 r a b ≡ entering r a b k
+  unfolding entering
+  no-room-second h g = rw (le-ltb (length a) bufferLeast h, lt-ltb (length b) bufferLeast g)
+
+  module _ (ha : bufferLeast ≤ length a) (hb : bufferLeast ≤ length b) (l : Loaded) (p : l ≡ loadAt r) where
+    enters : entering r a b k ≡ withRecord r a b l k
+    unfolding entering
+    enters = rw (le-ltb (length a) bufferLeast ha, le-ltb (length b) bufferLeast hb, ← p)
+
+    pub no-record : l ≡ NoRecord → called 2 r a b ≡ entering r a b k
+    unfolding withRecord
+    no-record q = rw (enters, q)
+
+    pub with-record : (sd : Side) (x : Record) (o : Called) → l ≡ Is sd x → o ≡ k sd x → o ≡ entering r a b k
+    unfolding withRecord
+    with-record sd x o q e = e ∙ rw (enters, q)
+
+module _ (r a b : List ℕ) (e : Event) (li lm lc : List ℕ) (d : Data) (sd : Side) (x : Record) (t : Bool) (p : t ≡ dataShaped li lm lc d) where
+  pub no-shape : t ≡ false → called 2 r a b ≡ userStep r a b e li lm lc d sd x
+  unfolding userStep
+  no-shape q = rw (← p, q)
+
+  pub steps : (o : Outcome) (z : Called) → t ≡ true → o ≡ step sd x e → z ≡ concluded r a b sd o li lm lc d → z ≡ userStep r a b e li lm lc d sd x
+  unfolding userStep
+  steps o z q f g = g ∙ rw (← p, q, f)
+
+-- ---- a dialogue-service primitive
+
+module _ (r a b : List ℕ) (p : Arrived) (l : List ℕ) (sd : Side) (x : Record) where
+  pub data-steps : (f : Answer) (m : Apdu) (s : ServicePrimitive) (o : Outcome) (d : Data) (z : Called) → f ≡ readPdu sd p l → m ≡ meaning f → s ≡ arrives p m → o ≡ step sd x (Service s) → d ≡ dataOf f
+      → z ≡ concluded r a b sd o l l l d → z ≡ dataStep r a b p l sd x
+  unfolding dataStep
+  data-steps f m s o d z pf pm ps po pd e = e ∙ rw (po, pd, ps, pm, pf)
+
+  pub bare-steps : (s : ServicePrimitive) (o : Outcome) (d : Data) (z : Called) → s ≡ arrives p Absent → o ≡ step sd x (Service s) → d ≡ noData → z ≡ concluded r a b sd o l l l d → z ≡ bareStep r a b p l sd x
+  unfolding bareStep
+  bare-steps s o d z ps po pd e = e ∙ rw (po, pd, ps)
+
+  pub given-odd : (g : ℕ) → 1 < g → called 2 r a b ≡ serviceStep r a b p g l sd x
+  unfolding serviceStep
+  given-odd g h = rw (lt-ltb 1 g h)
+
+  pub given-data : (g : ℕ) (z : Called) → g ≡ 1 → z ≡ dataStep r a b p l sd x → z ≡ serviceStep r a b p g l sd x
+  unfolding serviceStep
+  given-data g z h e = e ∙ rw h
+
+  pub given-none : (g : ℕ) (z : Called) → g ≤ 1 → (g ≡ 1 → ⊥) → z ≡ bareStep r a b p l sd x → z ≡ serviceStep r a b p g l sd x
+  unfolding serviceStep
+  given-none g z h n e = e ∙ rw (le-ltb 1 g h, ne-eqb g 1 n)

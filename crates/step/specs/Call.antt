@@ -1,0 +1,213 @@
+-- The step on bytes: what a call answers and leaves, from the record's bytes, what the host gives, and the two lent output buffers.
+-- Read the record, read the APDU, take the machine's step, write the APDU and the message data, keep the record.
+use Prim.Native.Nat.{ℕ, _+_, _*_}
+use mathlib.Core.Bool.{Bool, true, false, not, cond, _&&_, _||_}
+use mathlib.Core.List.{List, []}
+use lib.Dec.{ltb, leb, eqb}
+use lib.ListN.{length}
+use Rattle.apdu.specs.Sizes.{bufferLeast}
+use Rattle.apdu.specs.Pdus.{lent, contentIn, pduIn}
+use Rattle.apdu.specs.Encoding.{pduBits, contentBits}
+use Rattle.apdu.specs.Reading.{apduAt}
+use Rattle.apdu.specs.Writing.{Done, done, writeOut, dataShaped, apduShaped}
+use Rattle.apdu.specs.declared.Side.the-variants as pdu
+use Rattle.apdu.specs.declared.Side.{Side as PduSide}
+use Rattle.apdu.specs.declared.Span.{Span}
+use Rattle.apdu.specs.declared.Part.{Part}
+use Rattle.apdu.specs.declared.Part.the-variants as part
+use Rattle.apdu.specs.declared.Data.{Data}
+use Rattle.apdu.specs.declared.Apdu.{Apdu as Pdu}
+use Rattle.apdu.specs.declared.Apdu.the-variants as is
+use Rattle.apdu.specs.declared.Answer.{Answer}
+use Rattle.apdu.specs.declared.Answer.the-variants as answer
+use Rattle.apdu.specs.declared.Written.{Written}
+use Rattle.apdu.specs.declared.Written.the-variants as written
+use Rattle.machine.specs.Codes.{aircraft, facility, provider}
+use Rattle.machine.specs.Outcome.{refusalNumber, isNone}
+use Rattle.machine.specs.Step.{step}
+use Rattle.machine.specs.declared.control.Side.{Side}
+use Rattle.machine.specs.declared.control.Side.the-variants.{Air, Ground}
+use Rattle.machine.specs.declared.record.Record.{Record}
+use Rattle.machine.specs.declared.event.Apdu.{Apdu}
+use Rattle.machine.specs.declared.event.Apdu.the-variants.{Absent, NotValid, Start, Send, AbortUser, AbortProvider, Forward}
+use Rattle.machine.specs.declared.event.ServicePrimitive.{ServicePrimitive}
+use Rattle.machine.specs.declared.event.ServicePrimitive.the-variants as service
+use Rattle.machine.specs.declared.event.Event.{Event}
+use Rattle.machine.specs.declared.event.Event.the-variants.{Service}
+use Rattle.machine.specs.declared.outcome.Outcome.{Outcome}
+use Rattle.step.specs.Stored.{flag, loadAt, storeAt, Kept}
+use Rattle.step.specs.Packed.{packed, invokedNumber, toldNumber}
+use Rattle.step.specs.declared.arrived.Arrived.{Arrived}
+use Rattle.step.specs.declared.arrived.Arrived.the-variants.{DStartIndication, DStartConfirmation, DDataIndication, DEndIndication, DEndConfirmation, DAbortIndication, DPAbortIndication}
+use Rattle.step.specs.declared.stored.Loaded.{Loaded}
+use Rattle.step.specs.declared.stored.Loaded.the-variants.{Is, NoRecord}
+
+-- what a call leaves: the number that it answers, the record's bytes and the two buffers
+pub record Called : Type 0 where
+  pub number : ℕ
+  pub kept : List ℕ
+  pub first : List ℕ
+  pub second : List ℕ
+
+abbrev pub called : ℕ → List ℕ → List ℕ → List ℕ → Called
+called n r a b = record { number = n; kept = r; first = a; second = b }
+
+-- ---- what is written
+
+abbrev pub pduSide : Side → PduSide
+pduSide Air = pdu.Air
+pduSide Ground = pdu.Ground
+
+-- the bits that were written
+abbrev pub bitsOfWritten : Written → ℕ
+bitsOfWritten (written.Bits n) = n
+bitsOfWritten written.Room = 0
+bitsOfWritten written.Shape = 0
+
+-- what a buffer takes: a count of bits and the buffer afterwards
+abbrev pub nothingTo : List ℕ → Done
+nothingTo s = done (written.Bits 0) s
+
+-- an APDU with its message data, whose parts stand in the bits li, lm and lc
+abbrev pub pduTo : PduSide → List ℕ → List ℕ → List ℕ → Pdu → List ℕ → Done
+pduTo side li lm lc a s = writeOut (apduShaped side li lm lc a) s (pduBits side (pduIn li lm lc a))
+
+-- the first buffer takes the outcome's APDU
+unfoldable pub firstTakes : Side → List ℕ → List ℕ → List ℕ → Data → Apdu → List ℕ → Done
+firstTakes sd li lm lc d Absent s = nothingTo s
+firstTakes sd li lm lc d NotValid s = nothingTo s
+firstTakes sd li lm lc d (Start m) s = pduTo (pduSide sd) li lm lc (is.Start (flag m) d) s
+firstTakes sd li lm lc d Send s = pduTo (pduSide sd) li lm lc (is.Send d) s
+firstTakes sd li lm lc d (AbortUser x) s = pduTo (pduSide sd) li lm lc (is.AbortUser x) s
+firstTakes sd li lm lc d (AbortProvider x) s = pduTo (pduSide sd) li lm lc (is.AbortProvider x) s
+firstTakes sd li lm lc d Forward s = nothingTo s
+
+-- the second buffer takes the message data that is delivered
+unfoldable pub secondTakes : List ℕ → List ℕ → List ℕ → Data → Bool → List ℕ → Done
+secondTakes li lm lc d delivers s = cond delivers (writeOut (dataShaped li lm lc d) s (contentBits (contentIn li lm lc d))) (nothingTo s)
+
+-- a step that was taken: the buffers, the record and the number
+unfoldable pub finished : List ℕ → List ℕ → List ℕ → Side → Outcome → Done → Done → Called
+finished r a b sd o one two =
+    called (packed (invokedNumber (o .invoked)) (toldNumber (o .told)) (bitsOfWritten (one .answer)) (bitsOfWritten (two .answer)))
+    (storeAt r sd (o .next) .bytes) (one .bytes) (two .bytes)
+
+-- the outcome of a step, with the message data that the host gave or that the APDU holds
+unfoldable pub concluded : List ℕ → List ℕ → List ℕ → Side → Outcome → List ℕ → List ℕ → List ℕ → Data → Called
+concluded r a b sd o li lm lc d =
+    cond (isNone (o .refusal))
+    (finished r a b sd o (firstTakes sd li lm lc d (o .apdu) a) (secondTakes li lm lc d (o .delivers) b))
+    (called (refusalNumber (o .refusal)) r a b)
+
+-- ---- refusals before the step
+
+-- ROOM, then bytes that are no record
+unfoldable pub withRecord : List ℕ → List ℕ → List ℕ → Loaded → (Side → Record → Called) → Called
+withRecord r a b (Is sd x) k = k sd x
+withRecord r a b NoRecord k = called 2 r a b
+
+unfoldable pub entering : List ℕ → List ℕ → List ℕ → (Side → Record → Called) → Called
+entering r a b k = cond (ltb (length a) bufferLeast) (called 1 r a b) (cond (ltb (length b) bufferLeast) (called 1 r a b) (withRecord r a b (loadAt r) k))
+
+-- ---- a user primitive, an expiry or a system error; the message data stand in the lent bytes ids, msgs and checks
+
+unfoldable pub userStep : List ℕ → List ℕ → List ℕ → Event → List ℕ → List ℕ → List ℕ → Data → Side → Record → Called
+userStep r a b e li lm lc d sd x =
+    cond (dataShaped li lm lc d) (concluded r a b sd (step sd x e) li lm lc d) (called 2 r a b)
+
+unfoldable pub userCall : List ℕ → List ℕ → List ℕ → Event → List ℕ → List ℕ → List ℕ → Data → Called
+userCall r a b e ids msgs checks d = entering r a b (userStep r a b e (lent ids) (lent msgs) (lent checks) d)
+
+-- no message data
+abbrev pub noData : Data
+noData = record { identifier = part.Absent; message = part.Absent; check = record { at = 0; count = 0 } }
+
+-- ---- a dialogue-service primitive; its user data stands in lent bytes, or there is none
+
+-- The type that the user data is read as. The air end reads GroundPDUs, the ground end AircraftPDUs; but what a facility sends in a D-START
+-- indication to the ground end is GroundPDUs (Doc 9705, 2.3.5.5.2.3).
+abbrev pub peerReads : ℕ → PduSide
+peerReads x = cond (eqb x facility) pdu.Ground pdu.Air
+
+unfoldable pub readsAs : Side → Arrived → PduSide
+readsAs Air p = pdu.Ground
+readsAs Ground (DStartIndication x s q) = peerReads x
+readsAs Ground (DStartConfirmation x o s) = pdu.Air
+readsAs Ground DDataIndication = pdu.Air
+readsAs Ground DEndIndication = pdu.Air
+readsAs Ground (DEndConfirmation x) = pdu.Air
+readsAs Ground (DAbortIndication o) = pdu.Air
+readsAs Ground DPAbortIndication = pdu.Air
+
+-- a D-ABORT of a provider at the ground end may hold the abort of a ground provider (Doc 9705, 2.3.5.5.15.2)
+unfoldable pub readsAgain : Side → Arrived → Bool
+readsAgain Air p = false
+readsAgain Ground (DStartIndication x s q) = false
+readsAgain Ground (DStartConfirmation x o s) = false
+readsAgain Ground DDataIndication = false
+readsAgain Ground DEndIndication = false
+readsAgain Ground (DEndConfirmation x) = false
+readsAgain Ground (DAbortIndication o) = eqb o provider
+readsAgain Ground DPAbortIndication = false
+
+-- of a second reading only an abort by a provider counts
+unfoldable pub abortOf : Answer → Pdu → Answer
+abortOf first (is.AbortUser r) = first
+abortOf first (is.AbortProvider r) = answer.Is (is.AbortProvider r)
+abortOf first (is.Start m d) = first
+abortOf first (is.Send d) = first
+abortOf first is.Forward = first
+abortOf first is.ForwardResponse = first
+
+unfoldable pub orAbort : Answer → Answer → Answer
+orAbort (answer.Is a) second = answer.Is a
+orAbort (answer.Refused x) (answer.Is a) = abortOf (answer.Refused x) a
+orAbort (answer.Refused x) (answer.Refused y) = answer.Refused x
+
+unfoldable pub readPdu : Side → Arrived → List ℕ → Answer
+readPdu sd p l = cond (readsAgain sd p) (orAbort (apduAt (readsAs sd p) l 0) (apduAt pdu.Ground l 0)) (apduAt (readsAs sd p) l 0)
+
+-- refusals 10 to 17 mean "no valid PDU"
+unfoldable pub meaning : Answer → Apdu
+meaning (answer.Refused r) = NotValid
+meaning (answer.Is (is.AbortUser r)) = AbortUser r
+meaning (answer.Is (is.AbortProvider r)) = AbortProvider r
+meaning (answer.Is (is.Start m d)) = Start (eqb m 1)
+meaning (answer.Is (is.Send d)) = Send
+meaning (answer.Is is.Forward) = Forward
+meaning (answer.Is is.ForwardResponse) = Forward
+
+-- where its message data stand
+unfoldable pub dataOf : Answer → Data
+dataOf (answer.Refused r) = noData
+dataOf (answer.Is (is.AbortUser r)) = noData
+dataOf (answer.Is (is.AbortProvider r)) = noData
+dataOf (answer.Is (is.Start m d)) = d
+dataOf (answer.Is (is.Send d)) = d
+dataOf (answer.Is is.Forward) = noData
+dataOf (answer.Is is.ForwardResponse) = noData
+
+-- the primitive with its APDU
+unfoldable pub arrives : Arrived → Apdu → ServicePrimitive
+arrives (DStartIndication x s q) a = service.DStartIndication (record { peer = x; security = s; qos = q; apdu = a })
+arrives (DStartConfirmation x o s) a = service.DStartConfirmation (record { result = x; source = o; security = s; apdu = a })
+arrives DDataIndication a = service.DDataIndication a
+arrives DEndIndication a = service.DEndIndication a
+arrives (DEndConfirmation x) a = service.DEndConfirmation x a
+arrives (DAbortIndication o) a = service.DAbortIndication o a
+arrives DPAbortIndication a = service.DPAbortIndication
+
+-- with user data, or without
+unfoldable pub dataStep : List ℕ → List ℕ → List ℕ → Arrived → List ℕ → Side → Record → Called
+dataStep r a b p l sd x = concluded r a b sd (step sd x (Service (arrives p (meaning (readPdu sd p l))))) l l l (dataOf (readPdu sd p l))
+
+unfoldable pub bareStep : List ℕ → List ℕ → List ℕ → Arrived → List ℕ → Side → Record → Called
+bareStep r a b p l sd x = concluded r a b sd (step sd x (Service (arrives p Absent))) l l l noData
+
+-- given: 0 no user data, 1 user data; another number is SHAPE
+unfoldable pub serviceStep : List ℕ → List ℕ → List ℕ → Arrived → ℕ → List ℕ → Side → Record → Called
+serviceStep r a b p given l sd x =
+    cond (ltb 1 given) (called 2 r a b) (cond (eqb given 1) (dataStep r a b p l sd x) (bareStep r a b p l sd x))
+
+unfoldable pub serviceCall : List ℕ → List ℕ → List ℕ → Arrived → ℕ → List ℕ → Called
+serviceCall r a b p given bytes = entering r a b (serviceStep r a b p given (lent bytes))

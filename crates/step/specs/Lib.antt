@@ -1,0 +1,3 @@
+pub mod Stored
+pub mod Packed
+pub mod Call

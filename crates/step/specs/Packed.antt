@@ -1,0 +1,48 @@
+-- The number that a call answers. A refusal is its number, and every other bit is zero. Else, from the lowest bit on:
+--    8 bits  0
+--    4 bits  the dialogue-service primitive that is invoked: 0 none, 1 D-START request, 2 D-START response, 3 D-DATA request, 4 D-END request,
+--            5 D-END response, 6 D-ABORT request
+--    4 bits  its parameter: routing class (1), result (2, 5), originator (6)
+--    4 bits  its security value (1, 2)
+--    4 bits  the user primitive that is invoked: 0 none, 1 start indication, 2 start confirmation, 3 message indication, 4 end indication,
+--            5 end confirmation, 6 user abort indication, 7 provider abort indication
+--    4 bits  its parameter: class of communication (1), result (2, 5), reason (6, 7)
+--    4 bits  1 where it is the DSC- one (1, 2, 4, 5)
+--   16 bits  the bits of the APDU in the first buffer, before the padding
+--   16 bits  the bits of the message data in the second buffer, before the padding
+use Prim.Native.Nat.{ℕ, _+_, _*_, _%_}
+use mathlib.Core.Bool.{Bool, true, false, cond}
+use Rattle.machine.specs.declared.event.Qos.{Qos}
+use Rattle.machine.specs.declared.outcome.Invoked.{Invoked}
+use Rattle.machine.specs.declared.outcome.Invoked.the-variants.{Silent, DStartRequest, DStartResponse, DDataRequest, DEndRequest, DEndResponse, DAbortRequest}
+use Rattle.machine.specs.declared.outcome.Told.{Told}
+use Rattle.machine.specs.declared.outcome.Told.the-variants.{Untold, StartIndication, StartConfirmation, MessageIndication, EndIndication, EndConfirmation, UserAbortIndication, ProviderAbortIndication}
+use Rattle.machine.specs.declared.outcome.Outcome.{Outcome}
+use Rattle.step.specs.Stored.{flag}
+
+-- a primitive, its parameter, and its security value or its mode
+abbrev pub three : ℕ → ℕ → ℕ → ℕ
+three code x y = code + 16 * (x % 16 + 16 * (y % 16))
+
+unfoldable pub invokedNumber : Invoked → ℕ
+invokedNumber Silent = three 0 0 0
+invokedNumber (DStartRequest q s) = three 1 (q .routing) s
+invokedNumber (DStartResponse x s) = three 2 x s
+invokedNumber DDataRequest = three 3 0 0
+invokedNumber DEndRequest = three 4 0 0
+invokedNumber (DEndResponse x) = three 5 x 0
+invokedNumber (DAbortRequest o) = three 6 o 0
+
+unfoldable pub toldNumber : Told → ℕ
+toldNumber Untold = three 0 0 0
+toldNumber (StartIndication m k) = three 1 k (flag m)
+toldNumber (StartConfirmation m x) = three 2 x (flag m)
+toldNumber MessageIndication = three 3 0 0
+toldNumber (EndIndication m) = three 4 0 (flag m)
+toldNumber (EndConfirmation m x) = three 5 x (flag m)
+toldNumber (UserAbortIndication x) = three 6 x 0
+toldNumber (ProviderAbortIndication x) = three 7 x 0
+
+-- a call that was taken
+unfoldable pub packed : ℕ → ℕ → ℕ → ℕ → ℕ
+packed invoked told sent given = 256 * (invoked + 4096 * (told + 4096 * (sent % 65536 + 65536 * (given % 65536))))

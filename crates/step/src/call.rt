@@ -1,0 +1,234 @@
+// The step on bytes.
+ghost use mathlib.Core.Path.{_≡_};
+ghost use Rattle.apdu.specs.Pdus.{lent};
+ghost use Rattle.apdu.specs.Writing.{done};
+ghost use Rattle.step.specs.Call.{bareStep, bitsOfWritten, called, concluded, dataStep, firstTakes, pduSide, secondTakes, serviceCall, userCall};
+use crate::arrived::Arrived;
+use crate::arrived::arrives;
+use crate::arrived::data_of;
+use crate::arrived::meaning;
+use crate::arrived::no_data;
+use crate::arrived::read_pdu;
+use crate::packing::invoked_number;
+use crate::packing::packed;
+use crate::packing::told_number;
+use crate::stored::Loaded;
+use crate::stored::flag_code;
+use crate::stored::load;
+use crate::stored::store;
+use apdu::Apdu as Pdu;
+use apdu::Data;
+use apdu::Side as PduSide;
+use apdu::Written;
+use machine::control::Side;
+use machine::event::Apdu;
+use machine::event::Event;
+use machine::outcome::Outcome;
+use machine::record::Record;
+
+fn pdu_side(s: Side) -> PduSide
+    ensures { λ p. ⌜ p ≡ pduSide s ⌝ }
+{
+    match s {
+        Side::Air => PduSide::Air,
+        Side::Ground => PduSide::Ground,
+    }
+}
+
+fn bits_of(w: Written) -> usize
+    ensures { λ n. ⌜ n ≡ bitsOfWritten w ⌝ }
+{
+    match w {
+        Written::Bits(n) => n,
+        Written::Room => 0,
+        Written::Shape => 0,
+    }
+}
+
+// The first buffer takes the APDU.
+fn write_first(
+    first: &mut [u8],
+    side: Side,
+    a: Apdu,
+    d: Data,
+    ids: &[u8],
+    msgs: &[u8],
+    checks: &[u8],
+) -> Written
+    ensures { λ w. ⌜ done w (now (first .exit)) ≡ firstTakes side (lent (now (ids .entry))) (lent (now (msgs .entry))) (lent (now (checks .entry))) d a (now (first .entry)) ⌝ }
+{
+    let pdu = pdu_side(side);
+    match a {
+        Apdu::Absent => Written::Bits(0),
+        Apdu::NotValid => Written::Bits(0),
+        Apdu::Start(m) => {
+            apdu::put_apdu(
+                first,
+                pdu,
+                Pdu::Start(flag_code(m) as u64, d),
+                ids,
+                msgs,
+                checks,
+            )
+        }
+        Apdu::Send => apdu::put_apdu(first, pdu, Pdu::Send(d), ids, msgs, checks),
+        Apdu::AbortUser(x) => apdu::put_apdu(first, pdu, Pdu::AbortUser(x), ids, msgs, checks),
+        Apdu::AbortProvider(x) => {
+            apdu::put_apdu(first, pdu, Pdu::AbortProvider(x), ids, msgs, checks)
+        }
+        Apdu::Forward => Written::Bits(0),
+    }
+}
+
+// The second buffer takes the message data that is delivered.
+fn write_second(
+    second: &mut [u8],
+    delivers: bool,
+    d: Data,
+    ids: &[u8],
+    msgs: &[u8],
+    checks: &[u8],
+) -> Written
+    ensures { λ w. ⌜ done w (now (second .exit)) ≡ secondTakes (lent (now (ids .entry))) (lent (now (msgs .entry))) (lent (now (checks .entry))) d delivers (now (second .entry)) ⌝ }
+{
+    if delivers {
+        return apdu::put_data(second, d, ids, msgs, checks);
+    }
+    Written::Bits(0)
+}
+
+// The outcome of a step: refused, and nothing changes; or the buffers are written and the record is kept.
+fn conclude(
+    rec: &mut [u8],
+    first: &mut [u8],
+    second: &mut [u8],
+    side: Side,
+    o: Outcome,
+    ids: &[u8],
+    msgs: &[u8],
+    checks: &[u8],
+    d: Data,
+) -> u64
+    ensures { λ n. ⌜ called n (now (rec .exit)) (now (first .exit)) (now (second .exit)) ≡ concluded (now (rec .entry)) (now (first .entry)) (now (second .entry)) side o (lent (now (ids .entry))) (lent (now (msgs .entry))) (lent (now (checks .entry))) d ⌝ }
+{
+    let why = o.refusal;
+    if why.is_none() {
+        let a = o.apdu;
+        let sent = write_first(first, side, a, d, ids, msgs, checks);
+        let given = write_second(second, o.delivers, d, ids, msgs, checks);
+        let next = o.next;
+        store(rec, side, next);
+        let i = o.invoked;
+        let t = o.told;
+        return packed(
+            invoked_number(i),
+            told_number(t),
+            bits_of(sent),
+            bits_of(given),
+        );
+    }
+    why.number()
+}
+
+// A user primitive, an expiry or a system error, with the message data that the host gives.
+pub fn user_call(
+    rec: &mut [u8],
+    first: &mut [u8],
+    second: &mut [u8],
+    e: Event,
+    ids: &[u8],
+    msgs: &[u8],
+    checks: &[u8],
+    d: Data,
+) -> u64
+    ensures { λ n. ⌜ called n (now (rec .exit)) (now (first .exit)) (now (second .exit)) ≡ userCall (now (rec .entry)) (now (first .entry)) (now (second .entry)) e (now (ids .entry)) (now (msgs .entry)) (now (checks .entry)) d ⌝ }
+{
+    if first.len() < Pdu::BUFFER {
+        return 1;
+    }
+    if second.len() < Pdu::BUFFER {
+        return 1;
+    }
+    let Loaded::Is(side, r) = load(rec) else {
+        return 2;
+    };
+    if apdu::data_shaped(d, ids, msgs, checks) {
+        let o = machine::step(side, r, e);
+        return conclude(rec, first, second, side, o, ids, msgs, checks, d);
+    }
+    2
+}
+
+// A primitive with user data: what it is read as decides the step, and its message data are what is delivered.
+fn data_step(
+    rec: &mut [u8],
+    first: &mut [u8],
+    second: &mut [u8],
+    p: Arrived,
+    bytes: &[u8],
+    side: Side,
+    r: Record,
+) -> u64
+    ensures { λ n. ⌜ called n (now (rec .exit)) (now (first .exit)) (now (second .exit)) ≡ dataStep (now (rec .entry)) (now (first .entry)) (now (second .entry)) p (lent (now (bytes .entry))) side r ⌝ }
+{
+    let pdu = read_pdu(side, p, bytes);
+    let e = Event::Service(arrives(p, meaning(pdu)));
+    let o = machine::step(side, r, e);
+    conclude(
+        rec,
+        first,
+        second,
+        side,
+        o,
+        bytes,
+        bytes,
+        bytes,
+        data_of(pdu),
+    )
+}
+
+// A primitive without user data.
+fn bare_step(
+    rec: &mut [u8],
+    first: &mut [u8],
+    second: &mut [u8],
+    p: Arrived,
+    bytes: &[u8],
+    side: Side,
+    r: Record,
+) -> u64
+    ensures { λ n. ⌜ called n (now (rec .exit)) (now (first .exit)) (now (second .exit)) ≡ bareStep (now (rec .entry)) (now (first .entry)) (now (second .entry)) p (lent (now (bytes .entry))) side r ⌝ }
+{
+    let e = Event::Service(arrives(p, Apdu::Absent));
+    let o = machine::step(side, r, e);
+    conclude(rec, first, second, side, o, bytes, bytes, bytes, no_data())
+}
+
+// A dialogue-service primitive, with user data (given 1) or without (0).
+pub fn service_call(
+    rec: &mut [u8],
+    first: &mut [u8],
+    second: &mut [u8],
+    p: Arrived,
+    given: u64,
+    bytes: &[u8],
+) -> u64
+    ensures { λ n. ⌜ called n (now (rec .exit)) (now (first .exit)) (now (second .exit)) ≡ serviceCall (now (rec .entry)) (now (first .entry)) (now (second .entry)) p given (now (bytes .entry)) ⌝ }
+{
+    if first.len() < Pdu::BUFFER {
+        return 1;
+    }
+    if second.len() < Pdu::BUFFER {
+        return 1;
+    }
+    let Loaded::Is(side, r) = load(rec) else {
+        return 2;
+    };
+    if 1 < given {
+        return 2;
+    }
+    if given == 1 {
+        return data_step(rec, first, second, p, bytes, side, r);
+    }
+    bare_step(rec, first, second, p, bytes, side, r)
+}

@@ -1,0 +1,14 @@
+// The step on bytes: a record as lent bytes, the host's message data or the user data of a primitive, and two lent output buffers.
+// Read the record, read the APDU, take the machine's step, write the APDU and the message data, keep the record.
+mod arrived;
+mod call;
+mod packing;
+mod stored;
+
+pub use arrived::Arrived;
+pub use arrived::no_data;
+pub use call::service_call;
+pub use call::user_call;
+pub use stored::Loaded;
+pub use stored::load;
+pub use stored::store;

@@ -1,0 +1,166 @@
+// A record as the host keeps it: a lent range of a fixed size, of which every byte has its meaning.
+ghost use mathlib.Core.Path.{_≡_};
+ghost use Prim.Native.Nat.{_<_};
+ghost use Rattle.machine.specs.Codes.{securityValues};
+ghost use Rattle.step.specs.Stored.{flag, headBytes, headFits, kept, loadAt, sideCode, sideOf, stateOf, storeAt};
+use bits::Read;
+use machine::control::Control;
+use machine::control::Side;
+use machine::control::State;
+use machine::control::number;
+use machine::record::Configuration;
+use machine::record::Record;
+
+// What a range of bytes says: a side and its record, or nothing.
+pub enum Loaded {
+    Is(Side, Record),
+    NoRecord,
+}
+
+impl Loaded {
+    // The bytes of a record.
+    pub const SIZE: usize = 16;
+
+    // The bits of a record, and the place of its highest job among them.
+    const BITS: usize = 128;
+
+    const JOB: usize = 64;
+}
+
+fn side_code(s: Side) -> u8
+    ensures { λ c. ⌜ c ≡ sideCode s ⌝ }
+{
+    match s {
+        Side::Air => 1,
+        Side::Ground => 2,
+    }
+}
+
+fn side_of(x: u8) -> Side
+    ensures { λ s. ⌜ s ≡ sideOf x ⌝ }
+{
+    if x == 1 { Side::Air } else { Side::Ground }
+}
+
+fn state_of(x: u8) -> State
+    ensures { λ s. ⌜ s ≡ stateOf x ⌝ }
+{
+    match x {
+        0 => State::Idle,
+        1 => State::StartReq,
+        2 => State::StartInd,
+        3 => State::Dialogue,
+        _ => State::End,
+    }
+}
+
+pub(crate) fn flag_code(b: bool) -> u8
+    ensures { λ c. ⌜ c ≡ flag b ⌝ }
+{
+    if b { 1 } else { 0 }
+}
+
+fn head_fits(
+    side: u8,
+    state: u8,
+    dsc: u8,
+    timer: u8,
+    active: u8,
+    request: u8,
+    policy: u8,
+    none: u8,
+) -> bool
+    ensures { λ r. ⌜ r ≡ headFits side state dsc timer active request policy none ⌝ }
+{
+    if side < 1 {
+        return false;
+    }
+    if 2 < side {
+        return false;
+    }
+    if 5 <= state {
+        return false;
+    }
+    if 2 <= dsc {
+        return false;
+    }
+    if 2 <= timer {
+        return false;
+    }
+    if 2 <= active {
+        return false;
+    }
+    if 2 <= request {
+        return false;
+    }
+    if 2 <= policy {
+        return false;
+    }
+    none == 0
+}
+
+// What the bytes say.
+pub fn load(b: &[u8]) -> Loaded
+    ensures { λ r. ⌜ r ≡ loadAt (now (b .entry)) ⌝ }
+{
+    if b.len() != Loaded::SIZE {
+        return Loaded::NoRecord;
+    }
+    if head_fits(b[0], b[1], b[2], b[3], b[4], b[5], b[6], b[7]) {
+        let Read::Number(highest, _) = bits::read_bits(b, Loaded::BITS, Loaded::JOB, 64) else {
+            return Loaded::NoRecord;
+        };
+        let state = state_of(b[1]);
+        let dsc = b[2] == 1;
+        return Loaded::Is(
+            side_of(b[0]),
+            Record {
+                control: Control { state, dsc },
+                timer: b[3] == 1,
+                active: b[4] == 1,
+                highest,
+                request: b[5] as u64,
+                policy: b[6] as u64,
+            },
+        );
+    }
+    Loaded::NoRecord
+}
+
+// The first eight bytes of a record.
+fn head_bytes(side: Side, r: Record) -> [u8; 8]
+    requires { ⌜ (r .request < securityValues) × (r .policy < securityValues) ⌝ }
+    ensures { λ b. ⌜ b ≡ headBytes side r ⌝ }
+{
+    let c = r.control;
+    let s = c.state;
+    [
+        side_code(side),
+        number(s) as u8,
+        flag_code(c.dsc),
+        flag_code(r.timer),
+        flag_code(r.active),
+        r.request as u8,
+        r.policy as u8,
+        0,
+    ]
+}
+
+// The bytes of a record, into a range of their size. Nothing is written elsewhere, nor a record with codes outside their types.
+pub fn store(b: &mut [u8], side: Side, r: Record) -> bool
+    ensures { λ x. ⌜ kept x (now (b .exit)) ≡ storeAt (now (b .entry)) side r ⌝ }
+{
+    if b.len() != Loaded::SIZE {
+        return false;
+    }
+    if Configuration::SECURITY_VALUES <= r.request {
+        return false;
+    }
+    if Configuration::SECURITY_VALUES <= r.policy {
+        return false;
+    }
+    let head = head_bytes(side, r);
+    bits::copy_bits(b, Loaded::BITS, 0, &head, Loaded::JOB, 0, Loaded::JOB);
+    bits::put_bits(b, Loaded::BITS, Loaded::JOB, 64, r.highest);
+    true
+}

@@ -1,0 +1,251 @@
+"""Requests for the probe (PROTOCOL.md), each with the answer that it must get: APDUs of the independent coder, and faults worked out by reference.py."""
+import random
+import struct
+import subprocess
+
+import reference
+from reference import AIR, GROUND, LIMITS, ROOM, packed, pdu_bits, data_bits
+
+HEADER = struct.Struct(">BBBBBQQQQQQQHH")
+INPUT = 65536           # the bytes that the probe takes in one run
+READ, WRITE, WRITE_DATA = 0, 1, 2
+NAMES = ("air", "ground")
+
+MESSAGES = (None, 0, 1, 7, 8, 127, 128, 129, 1000, 2047, 2048, 2049)
+CHECKS = tuple(range(66))
+IDENTIFIERS = (None, 0, 1, 16, 17)
+
+
+class Request:
+    def __init__(self, why, data, answer):
+        self.why, self.data, self.answer = why, data, answer
+
+
+def noise(rng, count):
+    return reference.binary(rng.getrandbits(count), count) if count else ""
+
+
+def identifier(rng, octets):
+    """Contents that the independent coder has too: arcs below 128."""
+    return None if octets is None else "".join("0" + noise(rng, 7) for _ in range(octets))
+
+
+def contents(rng, octets, message, check):
+    return identifier(rng, octets), None if message is None else noise(rng, message), noise(rng, check)
+
+
+def values():
+    """APDUs of every kind, with and without each optional part, at and past each size. The same on every run."""
+    rng = random.Random(9705)
+    for side in (AIR, GROUND):
+        for last, kind in ((12, "abort-user"), (7, "abort-provider")):
+            for reason in range(last + 1):
+                yield side, (kind, reason)
+        shapes = [(i, m, c) for i in IDENTIFIERS for m in MESSAGES for c in (0, 1, 64)]
+        shapes += [(None, None, c) for c in CHECKS] + [(16, 2048, c) for c in (63, 64, 65)]
+        for octets, message, check in shapes:
+            data = contents(rng, octets, message, check)
+            yield side, ("send", data)
+            yield side, ("start", 0, data)
+            if side == AIR:
+                yield side, ("start", 1, data)
+
+
+# ---- text that the independent coder reads and prints
+
+def bits_text(bits):
+    return "-" if bits is None else f"{len(bits)}:{packed(bits).hex() or '-'}"
+
+
+def text(side, pdu):
+    if pdu[0].startswith("abort"):
+        return f"{NAMES[side]} {pdu[0]} {pdu[1]} - - -"
+    number = pdu[1] if pdu[0] == "start" else "-"
+    i, m, c = pdu[-1]
+    return f"{NAMES[side]} {pdu[0]} {number} {'-' if i is None else packed(i).hex() or '-'} {bits_text(m)} {bits_text(c)}"
+
+
+def coded(pdu):
+    """Whether the independent coder's text tells the value: no octets are told as an absent identifier is."""
+    return pdu[0].startswith("abort") or pdu[-1][0] != ""
+
+
+# ---- reading
+
+def read(why, side, data):
+    return Request(why, HEADER.pack(READ, side, 0, 0, 0, 0, 0, 0, 0, 0, 0, 0, 0, len(data)) + data, reference.shown(side, data))
+
+
+def thorough(pdu):
+    """Whether an APDU is cut at every bit: aborts, and message data at the ends of each size with the other parts small."""
+    if pdu[0].startswith("abort"):
+        return True
+    sizes = tuple(None if p is None else len(p) for p in pdu[-1])
+    return sizes in {(None, None, 0), (None, None, 64), (8, None, 1), (128, None, 0), (None, 0, 0), (None, 7, 1), (None, 8, 64), (None, 127, 0), (None, 128, 1),
+                     (None, 2048, 64), (128, 2048, 64), (8, 8, 1), (None, None, 65), (136, None, 0), (0, None, 0), (None, 2049, 0)}
+
+
+def readings(side, pdu):
+    """An APDU; with each padding bit set; with bytes behind it; and some cut, filled with zeros, at every bit, and with each of their first bits turned."""
+    bits = pdu_bits(side, pdu)
+    why = f"{NAMES[side]} {pdu[0]} of {len(bits)} bits"
+    whole = packed(bits)
+    yield read(why, side, whole)
+    for k in range(len(bits), 8 * len(whole)):
+        yield read(f"{why}, padding bit {k} set", side, packed(bits.ljust(8 * len(whole), "0")[:k] + "1" + "0" * (8 * len(whole) - k - 1)))
+    for more in (b"\0", b"\1") + ((b"\0" * 400,) if len(bits) < 12 else ()):
+        yield read(f"{why}, {len(more)} bytes behind", side, whole + more)
+    if not thorough(pdu):
+        return
+    cuts = range(len(bits)) if len(bits) < 400 else list(range(300)) + list(range(300, len(bits), 97)) + list(range(len(bits) - 90, len(bits)))
+    for k in cuts:
+        yield read(f"{why}, cut at bit {k}", side, packed(bits[:k]))
+    for k in range(min(len(bits), 60)):
+        yield read(f"{why}, bit {k} turned", side, packed(bits[:k] + "10"[int(bits[k])] + bits[k + 1:]))
+
+
+def by_hand():
+    """Faults that are worked out by hand, each with its number."""
+    yield AIR, "", 10                               # no bytes
+    yield AIR, "011" + "000" + "00", 10             # send, the check's length cut
+    yield AIR, "1", 12                              # extension bit of the CHOICE, before SHORT
+    yield GROUND, "0110", 11                        # alternative 6 of GroundPDUs
+    yield GROUND, "0111", 11
+    yield AIR, "00001101", 11                       # user reason 13
+    yield AIR, "0001" + "0000", 12                  # extension bit of the reason
+    yield AIR, "0100" + "0" + "00" + "0", 10        # startdown, nothing behind the presence bits
+    yield AIR, "01010" + "0" + "00" + "00000000", 17        # mode present as cpdlc, before the faults behind it
+    yield AIR, "01010" + "111", 17
+    yield AIR, "011" + "1", 12                      # extension bit of the message data
+    yield AIR, "011" + "001" + "10001000" + "00000001", 14          # 88 01 as a message's length: LIMIT, before its contents are missing
+    yield AIR, "011" + "001" + "10000000" + "01111111", 13          # 80 7F
+    yield AIR, "011" + "001" + "11000001" + "00", 13                # a fragment
+    yield AIR, "011" + "001" + "10001", 10                          # a length cut
+    yield AIR, "011" + "010" + "00000000", 14                       # no octets in the identifier
+    yield AIR, "011" + "010" + "00010001", 14                       # seventeen
+    yield AIR, "011" + "011" + "00010001" + "11" * 8, 14            # two faults: the identifier's comes first
+    yield AIR, "011" + "000" + "01000001", 14                       # a check of 65 bits
+    yield AIR, "011" + "000" + "00000000" + "10", 15                # a padding bit
+    yield AIR, "011" + "000" + "00000000" + "00" + "0" * 8, 15      # a byte more
+    yield AIR, "011" + "000" + "00000000" + "01" + "0" * 8, 15
+    yield AIR, "0" * 8 * 60000, 15                                  # very long
+    yield AIR, "1" * 8 * 60000, 12
+    yield GROUND, "0100" + "1" * 12, None           # a forward APDU: the alternative alone decides
+    yield GROUND, "0101", None
+
+
+def hand_requests():
+    for side, bits, number in by_hand():
+        data = packed(bits)
+        answer = f"refused {number}" if number else ("forward" if bits[:4] == "0100" else "forward-response")
+        yield Request(f"{NAMES[side]} {bits[:40]}", HEADER.pack(READ, side, 0, 0, 0, 0, 0, 0, 0, 0, 0, 0, 0, len(data)) + data, answer)
+
+
+# ---- writing: the parts stand one after the other behind some other bits
+
+def after(buffer, bits):
+    """The buffer with bits at its front, padded with zeros to a whole byte."""
+    front = packed(bits)
+    return front + buffer[len(front):]
+
+
+def write(why, op, side, pdu, words, lead=5, stretch=None):
+    kind = reference.INDEX[pdu[0]]
+    number = pdu[1] if len(pdu) > 1 and isinstance(pdu[1], int) else 0
+    data = pdu[-1] if kind in (2, 3) else (None, None, "")
+    body, places = "1" * lead, []
+    for name, part in zip(LIMITS, data):
+        unit = LIMITS[name][0]
+        places += [len(body), len(part or "") // unit]
+        body += part or ""
+    if stretch:                                     # a part that the lent bytes do not hold, or a place or count beside all sense
+        places[stretch[0]] = stretch[1]
+    source = packed(body)
+    buffer = b"\xa5" * (8 * words)
+    held = all(part is None or LIMITS[name][1] <= places[2 * i + 1] <= LIMITS[name][2] and places[2 * i] + LIMITS[name][0] * places[2 * i + 1] <= 8 * len(source)
+               for i, (name, part) in enumerate(zip(LIMITS, data)))
+    typed = (0 <= number <= (12, 7, 1 if side == AIR else 0, 0, -1, -1)[kind] or kind == 3) if op == WRITE else True
+    if 8 * words < ROOM:
+        answer = f"room {buffer.hex()}"
+    elif not (held if op == WRITE_DATA else kind < 4 and typed and (kind < 2 or held)):
+        answer = f"shape {buffer.hex()}"
+    else:
+        bits = data_bits(data) if op == WRITE_DATA else pdu_bits(side, pdu)
+        answer = f"bits {len(bits)} {after(buffer, bits).hex()}"
+    header = HEADER.pack(op, side, kind, data[0] is not None, data[1] is not None, number, *places, words, len(source))
+    return Request(f"write {why}", header + source, answer)
+
+
+def writings(side, pdu):
+    why = f"{NAMES[side]} {pdu[0]}"
+    yield write(why, WRITE, side, pdu, 40)
+    yield write(why, WRITE, side, pdu, 41, lead=8)
+    yield write(why, WRITE, side, pdu, 39)
+    if pdu[0] == "send":
+        yield write(why, WRITE_DATA, side, pdu, 40, lead=3)
+        yield write(why, WRITE_DATA, side, pdu, 39)
+
+
+def odd_writings():
+    data = ("01" * 8, "10" * 20, "1" * 12)
+    far = (0, 1, 2 ** 63, 2 ** 64 - 1, 2 ** 64 - 9, 70000)
+    for side in (AIR, GROUND):
+        for number in (0, 1, 2, 7, 8, 12, 13, 255, 2 ** 32, 2 ** 64 - 1):
+            yield write("a reason", WRITE, side, ("abort-user", number), 40)
+            yield write("a reason", WRITE, side, ("abort-provider", number), 40)
+            yield write("a mode", WRITE, side, ("start", number, data), 40)
+        for kind in ("forward", "forward-response"):
+            yield write(kind, WRITE, side, (kind,), 40)
+        for words in (0, 1, 39, 40, 128):
+            yield write("a buffer", WRITE, side, ("send", data), words)
+            yield write("a buffer and a fault", WRITE, side, ("abort-user", 13), words)
+        for place in range(6):
+            for value in far:
+                if place % 2 == 0 or value not in (0, 1):
+                    yield write(f"place {place} is {value}", WRITE, side, ("send", data), 40, stretch=(place, value)) if value > 1 else write("a place", WRITE, side, ("send", data), 40)
+
+
+def noisy():
+    """Bytes by chance, most of which break off in the middle."""
+    rng = random.Random(691)
+    for _ in range(6000):
+        side = rng.randrange(2)
+        yield read("chance", side, bytes(rng.randrange(256) for _ in range(rng.randrange(24))))
+    for _ in range(3000):
+        side = rng.randrange(2)
+        octets, message, check = rng.choice((None, 1, 3, 16)), rng.choice((None, 0, 5, 40)), rng.randrange(20)
+        bits = list(pdu_bits(side, ("send", contents(rng, octets, message, check))))
+        for _ in range(rng.randrange(1, 4)):
+            k = rng.randrange(len(bits))
+            bits[k] = "10"[int(bits[k])]
+        yield read("chance", side, packed("".join(bits)))
+
+
+def requests():
+    yield from hand_requests()
+    for side, pdu in values():
+        yield from readings(side, pdu)
+        if pdu[0].startswith("abort") or pdu[-1][0] != "":
+            yield from writings(side, pdu)
+        else:
+            yield write("an identifier of no octets", WRITE, side, pdu, 40)
+    yield from odd_writings()
+    yield from noisy()
+
+
+def ask(command, asked, report):
+    """Runs the probe on as many requests at a time as one run takes."""
+    batch, size = [], 0
+    for request in list(asked) + [None]:
+        if request is None or size + len(request.data) > INPUT:
+            if batch:
+                done = subprocess.run(command, input=b"".join(r.data for r in batch), capture_output=True, check=False)
+                lines = done.stdout.decode("ascii", "replace").splitlines()
+                for i, r in enumerate(batch):
+                    report(r, lines[i] if i < len(lines) else "nothing")
+                if len(lines) > len(batch):
+                    report(None, "more lines than requests")
+            batch, size = [], 0
+        if request is not None:
+            batch.append(request)
+            size += len(request.data)

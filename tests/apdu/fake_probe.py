@@ -1,0 +1,59 @@
+"""A probe that goes by reference.py, with a fault on demand: shows that the driver notices one."""
+import sys
+
+import driver
+import reference
+from reference import LIMITS, ROOM
+
+
+def written(op, side, kind, identified, messaged, number, places, words, source, fault):
+    buffer = b"\xa5" * (8 * words)
+    if len(buffer) < ROOM:
+        return f"room {buffer.hex()}"
+    bits = reference.unpacked(source)
+    names = [n for n, there in zip(LIMITS, (identified, messaged, True)) if there]
+    parts = {}
+    for i, name in enumerate(LIMITS):
+        if name not in names or (op == driver.WRITE and kind < 2):
+            parts[name] = None
+            continue
+        unit, least, most = LIMITS[name]
+        at, count = places[2 * i], places[2 * i + 1]
+        if not least <= count <= most - (fault == "limit") or at + unit * count > len(bits):
+            return f"shape {buffer.hex()}"
+        parts[name] = bits[at:at + unit * count]
+    data = (parts["identifier"], parts["message"], parts["check"])
+    if op == driver.WRITE_DATA:
+        out = reference.data_bits(data)
+    else:
+        last = (12, 7, 1 if side == reference.AIR else 0, 2 ** 64, -1, -1)[kind]
+        if kind > 3 or number > last:
+            return f"shape {buffer.hex()}"
+        name = next(k for k, i in reference.INDEX.items() if i == kind)
+        out = reference.pdu_bits(side, (name, number) if kind < 2 else (name, number, data) if kind == 2 else (name, data))
+    front = reference.packed(out)
+    if fault == "padding" and len(out) % 8:
+        front = front[:-1] + bytes([front[-1] | 1])
+    return f"bits {len(out)} {(front + buffer[len(front):]).hex()}"
+
+
+def main():
+    fault = sys.argv[1] if len(sys.argv) > 1 else ""
+    data, at = sys.stdin.buffer.read(), 0
+    while at + driver.HEADER.size <= len(data):
+        op, side, kind, identified, messaged, number, *places, words, count = driver.HEADER.unpack_from(data, at)
+        at += driver.HEADER.size
+        body = data[at:at + count]
+        at += count
+        if op == driver.READ:
+            line = reference.shown(side, body)
+            if fault == "tail" and line == "refused 15":
+                line = "abort-user 0"
+            if fault == "order" and line == "refused 12":
+                line = "refused 10"
+            print(line)
+        else:
+            print(written(op, side, kind, identified, messaged, number, places, words, body, fault))
+
+
+main()

@@ -1,4 +1,4 @@
--- The table of the finite control as an independent model of the documents gives it (tests/machine_model.py), equal to the
+-- The table of the finite control as an independent model of the documents gives it (tests/machine/model.py), equal to the
 -- definitions by computation. A row for each state and DSC; a column for each call: 0 not taken, else 100 for each
 -- primitive that is sent plus the next control; a column for each primitive: 10 quiet, 100 aborts, 1000 handed out, plus the next control.
 -- Assumes nothing.

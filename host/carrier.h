@@ -1,0 +1,49 @@
+/*
+ * A carrier in memory: for each dialogue two lines, one each way, first in first out. An entry is a primitive of the
+ * dialogue service as one end invoked it, with its APDU.
+ */
+#ifndef CARRIER_H
+#define CARRIER_H
+
+#include <assert.h>
+
+#include "peatribbon.h"
+
+#define LINE_ENTRIES 32
+
+struct entry {
+    unsigned primitive; /* enum peat_invoked */
+    unsigned parameter; /* routing class, result or originator */
+    unsigned security;
+    size_t bytes;
+    uint8_t apdu[PEAT_BUFFER_LEAST];
+};
+
+struct line {
+    unsigned oldest, entries;
+    struct entry entry[LINE_ENTRIES];
+};
+
+/* whether n more entries fit */
+static inline int line_has_room(const struct line *l, unsigned n) { return l->entries + n <= LINE_ENTRIES; }
+
+/* the place for the next entry, which the caller fills */
+static inline struct entry *line_put(struct line *l)
+{
+    assert(line_has_room(l, 1));
+    return &l->entry[(l->oldest + l->entries++) % LINE_ENTRIES];
+}
+
+/* the oldest entry, which leaves the line; it stays readable until the next line_put */
+static inline struct entry *line_take(struct line *l)
+{
+    struct entry *e = &l->entry[l->oldest];
+    l->oldest = (l->oldest + 1) % LINE_ENTRIES;
+    l->entries--;
+    return e;
+}
+
+/* the youngest entry, which is lost */
+static inline struct entry *line_lose(struct line *l) { return &l->entry[(l->oldest + --l->entries) % LINE_ENTRIES]; }
+
+#endif

@@ -1,0 +1,397 @@
+/*
+ * Peatribbon, as a C host calls it.
+ *
+ * One record is one end (air or ground) of one dialogue. The host keeps it in 16 bytes and lends it to each call together
+ * with two output buffers. A call tells the record's machine of one event: a primitive of the user, a primitive of the
+ * dialogue service, the expiry of t-start, or a system error. It answers a number that says which primitive the machine
+ * invokes of the dialogue service and which of the user. The APDU for the one stands in the first buffer, the message data
+ * for the other in the second.
+ *
+ * Ranges. A range is a pointer and, as the next parameter, its length in bytes.
+ *   - A call reads and writes inside the ranges that it is lent, keeps no pointer, allocates nothing and has no memory of
+ *     its own: calls on different records may run at the same time.
+ *   - LENT RANGES MUST NOT OVERLAP: no byte of rec, first or second may be a byte of any other range of the same call.
+ *     (ids, msgs and checks are only read; they may share bytes with each other.) This is the host's to keep. No call can
+ *     see it, and the promises below do not hold without it.
+ *   - A range of length 0 is never looked at. Its pointer may be any pointer, the null pointer too.
+ *
+ * Numbers. A code is a uint64_t; a value outside its type is PEAT_SHAPE.
+ *
+ * Answers. Not refused: the lowest 8 bits are 0 and the functions peat_invoked .. peat_data_bytes below read the rest.
+ * Refused: the number of the refusal, all other bits 0, and NO byte of rec, first or second has changed. The refusals are
+ * tried in the order ROOM, SHAPE, PROHIBITED, NO_MESSAGE, REPEAT. A primitive of the dialogue service is refused with
+ * ROOM or SHAPE only: user data that is no valid PDU is not refused but answered as the protocol says.
+ *
+ * What a call writes, if it is not refused:
+ *   - rec, 16 bytes: the record after the event;
+ *   - first, from its first byte on, peat_apdu_bytes(answer) bytes; the bits after the last bit of the APDU are zero;
+ *   - second, from its first byte on, peat_data_bytes(answer) bytes; likewise.
+ * Every other byte stays. A buffer with nothing to take stays whole.
+ *
+ * The archive is for x86-64 Linux, needs no library, and takes less than 4 KiB of stack in a call.
+ *
+ * The host keeps the clock: it starts t-start when a record's timer (peat_record_timer) begins to run, stops it when it no
+ * longer runs, and reports the expiry. The host also keeps versions and the names of the peers.
+ */
+#ifndef PEATRIBBON_H
+#define PEATRIBBON_H
+
+#include <stddef.h>
+#include <stdint.h>
+
+#ifdef __cplusplus
+extern "C" {
+#endif
+
+/* ---- sizes */
+
+#define PEAT_RECORD_BYTES 16   /* a record, exactly */
+#define PEAT_BUFFER_LEAST 320  /* each output buffer, at least; there is no upper limit */
+#define PEAT_IDENTIFIER_MOST 16 /* algorithm identifier, contents octets; 0 octets: no identifier */
+#define PEAT_MESSAGE_MOST 2048 /* CPDLC message, bits */
+#define PEAT_CHECK_MOST 64     /* integrity check, bits */
+
+/* The count or reason that says "none": no message, no abort reason. */
+#define PEAT_NONE ((uint64_t)-1)
+
+/* ---- refusals */
+
+/* The calls of this header answer 0 to 5. The others are those of decoding (10 to 17) and of the broker's envelope
+   (20 to 23); an envelope of kind 3 carries any of them. */
+enum peat_refusal {
+    PEAT_TAKEN = 0,      /* not refused */
+    PEAT_ROOM = 1,       /* an output buffer is under PEAT_BUFFER_LEAST bytes */
+    PEAT_SHAPE = 2,      /* an argument breaks the sizes, its type or its codes; rec is not a record; a count is more than
+                            the lent bytes hold */
+    PEAT_PROHIBITED = 3, /* a user primitive with no action in this state, or an expiry while no timer runs */
+    PEAT_NO_MESSAGE = 4, /* a message request without a CPDLC message */
+    PEAT_REPEAT = 5,     /* a message request whose job number is not above the highest that the record has taken */
+    PEAT_SHORT = 10,
+    PEAT_RANGE = 11,
+    PEAT_EXTENSION = 12,
+    PEAT_LENGTH_FORM = 13,
+    PEAT_LIMIT = 14,
+    PEAT_TAIL = 15,
+    PEAT_NOT_CARRIED = 16,
+    PEAT_DEFAULT = 17,
+    PEAT_CUT = 20,
+    PEAT_GROUPS = 21,
+    PEAT_KIND = 22,
+    PEAT_SIZE = 23
+};
+
+/* ---- codes */
+
+enum peat_side { PEAT_AIR = 1, PEAT_GROUND = 2 };
+
+enum peat_state { PEAT_IDLE = 0, PEAT_START_REQ = 1, PEAT_START_IND = 2, PEAT_DIALOGUE = 3, PEAT_END = 4 };
+
+enum peat_security { PEAT_NO_SECURITY = 0, PEAT_SECURED_EXCHANGE = 1 };
+
+/* A user's result and that of a D-END are ACCEPTED or REJECTED. In a D-START, REJECTED is "rejected (permanent)", and a
+   confirmation may be REJECTED_TRANSIENT too. */
+enum peat_result { PEAT_ACCEPTED = 0, PEAT_REJECTED = 1, PEAT_REJECTED_TRANSIENT = 2 };
+
+/* Reject source of a D-START confirmation; PEAT_DS_USER in one that is accepted. */
+enum peat_reject_source { PEAT_DS_USER = 0, PEAT_DS_PROVIDER = 1 };
+
+enum peat_originator { PEAT_USER = 0, PEAT_PROVIDER = 1 };
+
+/* What the calling peer ID of a D-START indication is: a facility designation or an aircraft address. */
+enum peat_peer { PEAT_FACILITY = 0, PEAT_AIRCRAFT = 1 };
+
+/* Class of communication, and the routing class of a quality of service: no preference, or A to H. */
+enum peat_class {
+    PEAT_CLASS_ANY = 0,
+    PEAT_CLASS_A = 1,
+    PEAT_CLASS_B = 2,
+    PEAT_CLASS_C = 3,
+    PEAT_CLASS_D = 4,
+    PEAT_CLASS_E = 5,
+    PEAT_CLASS_F = 6,
+    PEAT_CLASS_G = 7,
+    PEAT_CLASS_H = 8
+};
+
+/* The quality of service that is right in a D-START: priority "high priority flight safety messages", residual error rate
+   "low", and any class above. As received, each of the three may be any number. */
+enum peat_qos { PEAT_HIGH_PRIORITY = 1, PEAT_LOW_ERROR_RATE = 1 };
+
+/* whether a primitive of the dialogue service carries user data */
+enum peat_given { PEAT_NO_USER_DATA = 0, PEAT_USER_DATA = 1 };
+
+/* CPDLCUserAbortReason */
+enum peat_user_reason {
+    PEAT_UNDEFINED = 0,
+    PEAT_NO_MESSAGE_IDENTIFICATION_NUMBERS_AVAILABLE = 1,
+    PEAT_DUPLICATE_MESSAGE_IDENTIFICATION_NUMBERS = 2,
+    PEAT_NO_LONGER_NEXT_DATA_AUTHORITY = 3,
+    PEAT_CURRENT_DATA_AUTHORITY_ABORT = 4,
+    PEAT_COMMANDED_TERMINATION = 5,
+    PEAT_INVALID_RESPONSE = 6,
+    PEAT_TIME_OUT_OF_SYNCHRONISATION = 7,
+    PEAT_UNKNOWN_INTEGRITY_CHECK = 8,
+    PEAT_VALIDATION_FAILURE = 9,
+    PEAT_UNABLE_TO_DECODE_MESSAGE = 10,
+    PEAT_USER_INVALID_PDU = 11,
+    PEAT_INVALID_CPDLC_MESSAGE = 12
+};
+
+/* CPDLCProviderAbortReason; the last is told to a user only and is in no APDU */
+enum peat_provider_reason {
+    PEAT_TIMER_EXPIRED = 0,
+    PEAT_UNDEFINED_ERROR = 1,
+    PEAT_INVALID_PDU = 2,
+    PEAT_PROTOCOL_ERROR = 3,
+    PEAT_COMMUNICATION_SERVICE_ERROR = 4,
+    PEAT_COMMUNICATION_SERVICE_FAILURE = 5,
+    PEAT_INVALID_QOS_PARAMETER = 6,
+    PEAT_EXPECTED_PDU_MISSING = 7,
+    PEAT_NOT_PERMITTED_PDU = 8
+};
+
+/* ---- the answer */
+
+/* the primitive of the dialogue service that the host invokes, with the APDU of the first buffer as its user data */
+enum peat_invoked {
+    PEAT_SILENT = 0,
+    PEAT_D_START_REQUEST = 1,  /* parameter: routing class; security. Priority and error rate: PEAT_HIGH_PRIORITY, PEAT_LOW_ERROR_RATE */
+    PEAT_D_START_RESPONSE = 2, /* parameter: result; security */
+    PEAT_D_DATA_REQUEST = 3,
+    PEAT_D_END_REQUEST = 4,
+    PEAT_D_END_RESPONSE = 5,   /* parameter: result */
+    PEAT_D_ABORT_REQUEST = 6   /* parameter: originator */
+};
+
+/* the primitive that the host gives to the user, with the message data of the second buffer (1 to 5) */
+enum peat_told {
+    PEAT_UNTOLD = 0,
+    PEAT_START_INDICATION = 1,         /* parameter: class of communication; DSC or not */
+    PEAT_START_CONFIRMATION = 2,       /* parameter: result; DSC or not */
+    PEAT_MESSAGE_INDICATION = 3,
+    PEAT_END_INDICATION = 4,           /* DSC or not */
+    PEAT_END_CONFIRMATION = 5,         /* parameter: result; DSC or not */
+    PEAT_USER_ABORT_INDICATION = 6,    /* parameter: enum peat_user_reason */
+    PEAT_PROVIDER_ABORT_INDICATION = 7 /* parameter: enum peat_provider_reason */
+};
+
+/* bits of an answer: the place of the lowest, and how many */
+#define PEAT_REFUSAL_AT 0
+#define PEAT_REFUSAL_BITS 8
+#define PEAT_INVOKED_AT 8
+#define PEAT_INVOKED_PARAMETER_AT 12
+#define PEAT_INVOKED_SECURITY_AT 16
+#define PEAT_TOLD_AT 20
+#define PEAT_TOLD_PARAMETER_AT 24
+#define PEAT_TOLD_DSC_AT 28
+#define PEAT_CODE_BITS 4
+#define PEAT_APDU_BITS_AT 32
+#define PEAT_DATA_BITS_AT 48
+#define PEAT_COUNT_BITS 16
+
+static inline unsigned peat_bits_of(uint64_t answer, unsigned at, unsigned bits)
+{
+    return (unsigned)((answer >> at) & (((uint64_t)1 << bits) - 1));
+}
+
+/* enum peat_refusal; PEAT_TAKEN: what follows says what the machine does */
+static inline unsigned peat_refusal(uint64_t answer) { return peat_bits_of(answer, PEAT_REFUSAL_AT, PEAT_REFUSAL_BITS); }
+
+/* enum peat_invoked, its parameter, and its security value */
+static inline unsigned peat_invoked(uint64_t answer) { return peat_bits_of(answer, PEAT_INVOKED_AT, PEAT_CODE_BITS); }
+static inline unsigned peat_invoked_parameter(uint64_t answer) { return peat_bits_of(answer, PEAT_INVOKED_PARAMETER_AT, PEAT_CODE_BITS); }
+static inline unsigned peat_invoked_security(uint64_t answer) { return peat_bits_of(answer, PEAT_INVOKED_SECURITY_AT, PEAT_CODE_BITS); }
+
+/* enum peat_told, its parameter, and whether it is the DSC- primitive (1) or the CPDLC- one (0) */
+static inline unsigned peat_told(uint64_t answer) { return peat_bits_of(answer, PEAT_TOLD_AT, PEAT_CODE_BITS); }
+static inline unsigned peat_told_parameter(uint64_t answer) { return peat_bits_of(answer, PEAT_TOLD_PARAMETER_AT, PEAT_CODE_BITS); }
+static inline unsigned peat_told_dsc(uint64_t answer) { return peat_bits_of(answer, PEAT_TOLD_DSC_AT, PEAT_CODE_BITS); }
+
+/* the APDU in the first buffer: its bits before the padding, and the bytes that it takes */
+static inline unsigned peat_apdu_bits(uint64_t answer) { return peat_bits_of(answer, PEAT_APDU_BITS_AT, PEAT_COUNT_BITS); }
+static inline size_t peat_apdu_bytes(uint64_t answer) { return (peat_apdu_bits(answer) + 7u) / 8u; }
+
+/* The message data in the second buffer, likewise. They are in unaligned PER: a bit 0; a bit, whether there is an
+   identifier; a bit, whether there is a message; the identifier, as its octets counted in 8 bits and then the octets; the
+   message, as its bits counted and then the bits; the check, likewise. A count of bits under 128 takes 8 bits, a greater
+   one takes 16: the bits 10 and then 14 bits. */
+static inline unsigned peat_data_bits(uint64_t answer) { return peat_bits_of(answer, PEAT_DATA_BITS_AT, PEAT_COUNT_BITS); }
+static inline size_t peat_data_bytes(uint64_t answer) { return (peat_data_bits(answer) + 7u) / 8u; }
+
+/* ---- the record: 16 bytes that the host may keep anywhere, copy, and read with these; it writes them through calls only */
+
+#define PEAT_RECORD_SIDE 0
+#define PEAT_RECORD_STATE 1
+#define PEAT_RECORD_DSC 2
+#define PEAT_RECORD_TIMER 3
+#define PEAT_RECORD_ACTIVE 4
+#define PEAT_RECORD_REQUEST 5
+#define PEAT_RECORD_POLICY 6
+#define PEAT_RECORD_ZERO 7
+#define PEAT_RECORD_HIGHEST 8
+
+static inline unsigned peat_record_side(const uint8_t *rec) { return rec[PEAT_RECORD_SIDE]; }       /* enum peat_side */
+static inline unsigned peat_record_state(const uint8_t *rec) { return rec[PEAT_RECORD_STATE]; }     /* enum peat_state */
+static inline unsigned peat_record_dsc(const uint8_t *rec) { return rec[PEAT_RECORD_DSC]; }         /* 0 or 1 */
+static inline unsigned peat_record_timer(const uint8_t *rec) { return rec[PEAT_RECORD_TIMER]; }     /* 1: t-start runs */
+static inline unsigned peat_record_active(const uint8_t *rec) { return rec[PEAT_RECORD_ACTIVE]; }   /* 1: the user is active */
+static inline unsigned peat_record_request(const uint8_t *rec) { return rec[PEAT_RECORD_REQUEST]; } /* security of its last start request */
+static inline unsigned peat_record_policy(const uint8_t *rec) { return rec[PEAT_RECORD_POLICY]; }   /* the security that policy accepts */
+
+/* the highest job taken, 0 at first */
+static inline uint64_t peat_record_highest(const uint8_t *rec)
+{
+    uint64_t n = 0;
+    size_t i;
+    for (i = PEAT_RECORD_HIGHEST; i < PEAT_RECORD_BYTES; i++)
+        n = n << 8 | rec[i];
+    return n;
+}
+
+/* ---- a fresh record */
+
+/* Makes a fresh record: IDLE, DSC false, timer stopped, user not active, highest job 0, request value "no security".
+   side: enum peat_side. policy: the enum peat_security that local policy accepts.
+   Answers 0 and writes rec, 16 bytes; or PEAT_SHAPE (rec_len is not 16, side or policy is none of its codes), and rec stays.
+   A dialogue that closes needs no fresh record; one would forget the highest job taken. */
+uint64_t peat_fresh(uint8_t *rec, size_t rec_len, uint64_t side, uint64_t policy);
+
+/* ---- primitives of the user
+ *
+ * Message data are given as three ranges, each used from its first bit on, the highest bit of a byte first:
+ *   ids     the contents octets of the algorithm identifier, 1 to PEAT_IDENTIFIER_MOST; length 0: no identifier
+ *   msgs    the CPDLC message: its first `message` bits, 0 to PEAT_MESSAGE_MOST; message = PEAT_NONE: no message (and msgs
+ *           is not looked at). A message of no bits is a message.
+ *   checks  the integrity check: its first `check` bits, 0 to PEAT_CHECK_MOST
+ * msgs and checks may be longer than their bits. All calls refuse with PEAT_ROOM (first or second) and PEAT_SHAPE (rec is
+ * not a record, message data outside these sizes, a code outside its type), and then with PEAT_PROHIBITED where it says so.
+ * They write rec and first, and second stays.
+ */
+
+/* CPDLC-start request. class_: enum peat_class. security: enum peat_security.
+   PROHIBITED unless IDLE. Invokes D-START request; the timer begins to run. */
+uint64_t peat_start_request(uint8_t *rec, size_t rec_len, uint64_t class_, uint64_t security,
+    const uint8_t *ids, size_t ids_len, const uint8_t *msgs, size_t msgs_len, uint64_t message,
+    const uint8_t *checks, size_t checks_len, uint64_t check,
+    uint8_t *first, size_t first_len, uint8_t *second, size_t second_len);
+
+/* DSC-start request, of the air user: as peat_start_request, with DSC. PROHIBITED at the ground end and unless IDLE. */
+uint64_t peat_dsc_start_request(uint8_t *rec, size_t rec_len, uint64_t class_, uint64_t security,
+    const uint8_t *ids, size_t ids_len, const uint8_t *msgs, size_t msgs_len, uint64_t message,
+    const uint8_t *checks, size_t checks_len, uint64_t check,
+    uint8_t *first, size_t first_len, uint8_t *second, size_t second_len);
+
+/* CPDLC-start response. result: PEAT_ACCEPTED or PEAT_REJECTED.
+   PROHIBITED unless START-IND with DSC false. Invokes D-START response. */
+uint64_t peat_start_response(uint8_t *rec, size_t rec_len, uint64_t result,
+    const uint8_t *ids, size_t ids_len, const uint8_t *msgs, size_t msgs_len, uint64_t message,
+    const uint8_t *checks, size_t checks_len, uint64_t check,
+    uint8_t *first, size_t first_len, uint8_t *second, size_t second_len);
+
+/* DSC-start response, of the ground user. result: PEAT_ACCEPTED or PEAT_REJECTED.
+   PROHIBITED at the air end and unless START-IND with DSC true. Invokes D-START response. */
+uint64_t peat_dsc_start_response(uint8_t *rec, size_t rec_len, uint64_t result,
+    const uint8_t *ids, size_t ids_len, const uint8_t *msgs, size_t msgs_len, uint64_t message,
+    const uint8_t *checks, size_t checks_len, uint64_t check,
+    uint8_t *first, size_t first_len, uint8_t *second, size_t second_len);
+
+/* CPDLC-message request. job: 1 to 2^64 - 1 (0: SHAPE), remembered if and only if the request is taken, also over the end
+   of the dialogue. PROHIBITED unless in DIALOGUE, or at the air end in END with DSC false, or at the ground end in END with
+   DSC true; then NO_MESSAGE where message is PEAT_NONE; then REPEAT where job is not above peat_record_highest.
+   Invokes D-DATA request.
+   The highest job taken decides REPEAT, so offer a job only when the one before it was taken: a job that waits while a
+   later one is taken is REPEAT from then on. PROHIBITED says nothing of whether a job is new: it comes before REPEAT. */
+uint64_t peat_message_request(uint8_t *rec, size_t rec_len, uint64_t job,
+    const uint8_t *ids, size_t ids_len, const uint8_t *msgs, size_t msgs_len, uint64_t message,
+    const uint8_t *checks, size_t checks_len, uint64_t check,
+    uint8_t *first, size_t first_len, uint8_t *second, size_t second_len);
+
+/* CPDLC-end request, of the ground user. PROHIBITED at the air end and unless DIALOGUE with DSC false.
+   Invokes D-END request. */
+uint64_t peat_end_request(uint8_t *rec, size_t rec_len,
+    const uint8_t *ids, size_t ids_len, const uint8_t *msgs, size_t msgs_len, uint64_t message,
+    const uint8_t *checks, size_t checks_len, uint64_t check,
+    uint8_t *first, size_t first_len, uint8_t *second, size_t second_len);
+
+/* DSC-end request, of the air user. PROHIBITED at the ground end and unless DIALOGUE with DSC true.
+   Invokes D-END request. */
+uint64_t peat_dsc_end_request(uint8_t *rec, size_t rec_len,
+    const uint8_t *ids, size_t ids_len, const uint8_t *msgs, size_t msgs_len, uint64_t message,
+    const uint8_t *checks, size_t checks_len, uint64_t check,
+    uint8_t *first, size_t first_len, uint8_t *second, size_t second_len);
+
+/* CPDLC-end response, of the air user. result: PEAT_ACCEPTED (the dialogue closes) or PEAT_REJECTED (back to DIALOGUE).
+   PROHIBITED at the ground end and unless END with DSC false. Invokes D-END response. */
+uint64_t peat_end_response(uint8_t *rec, size_t rec_len, uint64_t result,
+    const uint8_t *ids, size_t ids_len, const uint8_t *msgs, size_t msgs_len, uint64_t message,
+    const uint8_t *checks, size_t checks_len, uint64_t check,
+    uint8_t *first, size_t first_len, uint8_t *second, size_t second_len);
+
+/* DSC-end response, of the ground user. result: as above.
+   PROHIBITED at the air end and unless END with DSC true. Invokes D-END response. */
+uint64_t peat_dsc_end_response(uint8_t *rec, size_t rec_len, uint64_t result,
+    const uint8_t *ids, size_t ids_len, const uint8_t *msgs, size_t msgs_len, uint64_t message,
+    const uint8_t *checks, size_t checks_len, uint64_t check,
+    uint8_t *first, size_t first_len, uint8_t *second, size_t second_len);
+
+/* CPDLC-user-abort request. reason: enum peat_user_reason, or PEAT_NONE, which is sent as PEAT_UNDEFINED.
+   PROHIBITED in IDLE. Invokes D-ABORT request with originator PEAT_USER. */
+uint64_t peat_user_abort(uint8_t *rec, size_t rec_len, uint64_t reason,
+    uint8_t *first, size_t first_len, uint8_t *second, size_t second_len);
+
+/* ---- what the host reports; both calls write rec and first, and second stays */
+
+/* t-start expires. PROHIBITED while no timer runs. Invokes D-ABORT request with originator PEAT_PROVIDER, reason
+   PEAT_TIMER_EXPIRED, and tells an active user. */
+uint64_t peat_timer_expiry(uint8_t *rec, size_t rec_len, uint8_t *first, size_t first_len, uint8_t *second, size_t second_len);
+
+/* An unrecoverable system error; never PROHIBITED. Outside IDLE it invokes D-ABORT request with originator PEAT_PROVIDER,
+   reason PEAT_UNDEFINED_ERROR, and tells an active user. In IDLE it does nothing. */
+uint64_t peat_system_error(uint8_t *rec, size_t rec_len, uint8_t *first, size_t first_len, uint8_t *second, size_t second_len);
+
+/* ---- primitives of the dialogue service
+ *
+ * given: PEAT_USER_DATA, the user data being all the bytes of the range; or PEAT_NO_USER_DATA, and the range is not looked
+ * at. Another number is SHAPE. User data of no bytes are user data, and no valid PDU.
+ * All refuse with PEAT_ROOM and PEAT_SHAPE (rec is not a record, a code outside its type) only. They write rec, first (an
+ * abort, if one is invoked) and second (message data, if some are delivered).
+ */
+
+/* D-START indication. peer: enum peat_peer. security: enum peat_security. priority, rate, routing: the quality of service
+   as received, any numbers. */
+uint64_t peat_d_start_indication(uint8_t *rec, size_t rec_len, uint64_t peer, uint64_t security,
+    uint64_t priority, uint64_t rate, uint64_t routing, uint64_t given, const uint8_t *bytes, size_t bytes_len,
+    uint8_t *first, size_t first_len, uint8_t *second, size_t second_len);
+
+/* D-START confirmation. result: enum peat_result. source: enum peat_reject_source. security: enum peat_security. */
+uint64_t peat_d_start_confirmation(uint8_t *rec, size_t rec_len, uint64_t result, uint64_t source, uint64_t security,
+    uint64_t given, const uint8_t *bytes, size_t bytes_len,
+    uint8_t *first, size_t first_len, uint8_t *second, size_t second_len);
+
+/* D-DATA indication. */
+uint64_t peat_d_data_indication(uint8_t *rec, size_t rec_len, uint64_t given, const uint8_t *bytes, size_t bytes_len,
+    uint8_t *first, size_t first_len, uint8_t *second, size_t second_len);
+
+/* D-END indication. */
+uint64_t peat_d_end_indication(uint8_t *rec, size_t rec_len, uint64_t given, const uint8_t *bytes, size_t bytes_len,
+    uint8_t *first, size_t first_len, uint8_t *second, size_t second_len);
+
+/* D-END confirmation. result: PEAT_ACCEPTED or PEAT_REJECTED. */
+uint64_t peat_d_end_confirmation(uint8_t *rec, size_t rec_len, uint64_t result,
+    uint64_t given, const uint8_t *bytes, size_t bytes_len,
+    uint8_t *first, size_t first_len, uint8_t *second, size_t second_len);
+
+/* D-ABORT indication. originator: enum peat_originator. */
+uint64_t peat_d_abort_indication(uint8_t *rec, size_t rec_len, uint64_t originator,
+    uint64_t given, const uint8_t *bytes, size_t bytes_len,
+    uint8_t *first, size_t first_len, uint8_t *second, size_t second_len);
+
+/* D-P-ABORT indication, which has no user data. */
+uint64_t peat_d_p_abort_indication(uint8_t *rec, size_t rec_len,
+    uint8_t *first, size_t first_len, uint8_t *second, size_t second_len);
+
+#ifdef __cplusplus
+}
+#endif
+
+#endif

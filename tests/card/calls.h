@@ -1,0 +1,49 @@
+/* The entry points by number. */
+#ifndef CALLS_H
+#define CALLS_H
+
+#include "model.h"
+#include "peatribbon.h"
+
+static uint64_t card_call(enum which w, const struct args *a)
+{
+#define REC a->rec.at, a->rec.len
+#define DATA a->ids.at, a->ids.len, a->msgs.at, a->msgs.len, a->message, a->checks.at, a->checks.len, a->check
+#define GIVEN a->given, a->bytes.at, a->bytes.len
+#define OUT a->first.at, a->first.len, a->second.at, a->second.len
+    const uint64_t *n = a->n;
+    switch (w) {
+    case START_REQUEST: return peat_start_request(REC, n[0], n[1], DATA, OUT);
+    case DSC_START_REQUEST: return peat_dsc_start_request(REC, n[0], n[1], DATA, OUT);
+    case START_RESPONSE: return peat_start_response(REC, n[0], DATA, OUT);
+    case DSC_START_RESPONSE: return peat_dsc_start_response(REC, n[0], DATA, OUT);
+    case MESSAGE_REQUEST: return peat_message_request(REC, n[0], DATA, OUT);
+    case END_REQUEST: return peat_end_request(REC, DATA, OUT);
+    case DSC_END_REQUEST: return peat_dsc_end_request(REC, DATA, OUT);
+    case END_RESPONSE: return peat_end_response(REC, n[0], DATA, OUT);
+    case DSC_END_RESPONSE: return peat_dsc_end_response(REC, n[0], DATA, OUT);
+    case USER_ABORT: return peat_user_abort(REC, n[0], OUT);
+    case TIMER_EXPIRY: return peat_timer_expiry(REC, OUT);
+    case SYSTEM_ERROR: return peat_system_error(REC, OUT);
+    case D_START_INDICATION: return peat_d_start_indication(REC, n[0], n[1], n[2], n[3], n[4], GIVEN, OUT);
+    case D_START_CONFIRMATION: return peat_d_start_confirmation(REC, n[0], n[1], n[2], GIVEN, OUT);
+    case D_DATA_INDICATION: return peat_d_data_indication(REC, GIVEN, OUT);
+    case D_END_INDICATION: return peat_d_end_indication(REC, GIVEN, OUT);
+    case D_END_CONFIRMATION: return peat_d_end_confirmation(REC, n[0], GIVEN, OUT);
+    case D_ABORT_INDICATION: return peat_d_abort_indication(REC, n[0], GIVEN, OUT);
+    case D_P_ABORT_INDICATION: return peat_d_p_abort_indication(REC, OUT);
+    default: return peat_fresh(REC, n[0], n[1]);
+    }
+#undef REC
+#undef DATA
+#undef GIVEN
+#undef OUT
+}
+
+static const char *const names[CALLS] = {
+    "peat_start_request", "peat_dsc_start_request", "peat_start_response", "peat_dsc_start_response", "peat_message_request", "peat_end_request",
+    "peat_dsc_end_request", "peat_end_response", "peat_dsc_end_response", "peat_user_abort", "peat_timer_expiry", "peat_system_error",
+    "peat_d_start_indication", "peat_d_start_confirmation", "peat_d_data_indication", "peat_d_end_indication", "peat_d_end_confirmation",
+    "peat_d_abort_indication", "peat_d_p_abort_indication", "peat_fresh"};
+
+#endif

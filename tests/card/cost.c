@@ -1,0 +1,171 @@
+/*
+ * One call of each kind, to be measured.
+ *
+ *     cost          the rows: number, entry point, what it is
+ *     cost ROW      makes the call of a row (measure counts its instructions)
+ *     cost stack    the stack that the call of each row takes, on a stack of its own that was painted before
+ */
+#define _DEFAULT_SOURCE
+#include <stdio.h>
+#include <stdlib.h>
+#include <string.h>
+#include <ucontext.h>
+
+#include "calls.h"
+
+enum pdu { PDU_NONE, PDU_SEND, PDU_START, PDU_ABORT_USER, PDU_ABORT_PROVIDER, PDU_INVALID };
+
+struct row {
+    const char *title;
+    enum which which;
+    unsigned side, state, dsc;
+    uint64_t n[5];
+    int largest; /* message data: 16 octets, 2,048 bits, 64 bits; else the least that there is */
+    enum pdu pdu;
+};
+
+static const struct row rows[] = {
+    {"least data", START_REQUEST, 1, PEAT_IDLE, 0, {0}, 0, PDU_NONE},
+    {"largest data", START_REQUEST, 1, PEAT_IDLE, 0, {0}, 1, PDU_NONE},
+    {"PROHIBITED, largest data", START_REQUEST, 1, PEAT_DIALOGUE, 0, {0}, 1, PDU_NONE},
+    {"largest data", DSC_START_REQUEST, 1, PEAT_IDLE, 0, {0}, 1, PDU_NONE},
+    {"largest data", START_RESPONSE, 2, PEAT_START_IND, 0, {0}, 1, PDU_NONE},
+    {"largest data", DSC_START_RESPONSE, 2, PEAT_START_IND, 1, {0}, 1, PDU_NONE},
+    {"message of 8 bits", MESSAGE_REQUEST, 1, PEAT_DIALOGUE, 0, {9}, 0, PDU_NONE},
+    {"largest data, air", MESSAGE_REQUEST, 1, PEAT_DIALOGUE, 0, {9}, 1, PDU_NONE},
+    {"largest data, ground", MESSAGE_REQUEST, 2, PEAT_DIALOGUE, 0, {9}, 1, PDU_NONE},
+    {"REPEAT, largest data", MESSAGE_REQUEST, 1, PEAT_DIALOGUE, 0, {7}, 1, PDU_NONE},
+    {"largest data", END_REQUEST, 2, PEAT_DIALOGUE, 0, {0}, 1, PDU_NONE},
+    {"largest data", DSC_END_REQUEST, 1, PEAT_DIALOGUE, 1, {0}, 1, PDU_NONE},
+    {"largest data", END_RESPONSE, 1, PEAT_END, 0, {0}, 1, PDU_NONE},
+    {"largest data", DSC_END_RESPONSE, 2, PEAT_END, 1, {0}, 1, PDU_NONE},
+    {"", USER_ABORT, 1, PEAT_DIALOGUE, 0, {5}, 0, PDU_NONE},
+    {"", TIMER_EXPIRY, 1, PEAT_START_REQ, 0, {0}, 0, PDU_NONE},
+    {"", SYSTEM_ERROR, 1, PEAT_DIALOGUE, 0, {0}, 0, PDU_NONE},
+    {"largest data", D_START_INDICATION, 2, PEAT_IDLE, 0, {1, 0, 1, 1, 0}, 1, PDU_START},
+    {"invalid PDU", D_START_INDICATION, 2, PEAT_IDLE, 0, {1, 0, 1, 1, 0}, 1, PDU_INVALID},
+    {"largest data", D_START_CONFIRMATION, 1, PEAT_START_REQ, 0, {0}, 1, PDU_SEND},
+    {"message of 8 bits", D_DATA_INDICATION, 2, PEAT_DIALOGUE, 0, {0}, 0, PDU_SEND},
+    {"largest data, ground", D_DATA_INDICATION, 2, PEAT_DIALOGUE, 0, {0}, 1, PDU_SEND},
+    {"largest data, air", D_DATA_INDICATION, 1, PEAT_DIALOGUE, 0, {0}, 1, PDU_SEND},
+    {"invalid PDU", D_DATA_INDICATION, 1, PEAT_DIALOGUE, 0, {0}, 1, PDU_INVALID},
+    {"no user data", D_DATA_INDICATION, 1, PEAT_DIALOGUE, 0, {0}, 0, PDU_NONE},
+    {"largest data", D_END_INDICATION, 1, PEAT_DIALOGUE, 0, {0}, 1, PDU_SEND},
+    {"largest data", D_END_CONFIRMATION, 2, PEAT_END, 0, {0}, 1, PDU_SEND},
+    {"user", D_ABORT_INDICATION, 1, PEAT_DIALOGUE, 0, {0}, 0, PDU_ABORT_USER},
+    {"provider, invalid PDU, ground", D_ABORT_INDICATION, 2, PEAT_DIALOGUE, 0, {1}, 1, PDU_INVALID},
+    {"", D_P_ABORT_INDICATION, 1, PEAT_DIALOGUE, 0, {0}, 0, PDU_NONE},
+    {"", FRESH, 1, PEAT_IDLE, 0, {1, 0}, 0, PDU_NONE},
+};
+#define ROWS (sizeof rows / sizeof rows[0])
+
+static uint8_t rec[PEAT_RECORD_BYTES], ids[16], msgs[256], checks[8], bytes[PEAT_BUFFER_LEAST], first[PEAT_BUFFER_LEAST], second[PEAT_BUFFER_LEAST];
+static struct args args;
+static struct bits bits;
+
+/* a GroundPDU for the air end, an AircraftPDU for the ground end */
+static size_t put_pdu(const struct row *r)
+{
+    unsigned lead = r->side == PEAT_AIR ? 4 : 3;
+    static const unsigned index[] = {0, 3, 2, 0, 1, 3};
+    size_t n;
+    bits.n = 0;
+    put(&bits, index[r->pdu], lead);
+    if (r->pdu == PDU_ABORT_USER)
+        put(&bits, 5, 5);
+    else if (r->pdu == PDU_ABORT_PROVIDER)
+        put(&bits, 2, 4);
+    else {
+        if (r->pdu == PDU_START && lead == 3)
+            put(&bits, 3, 2);
+        put_data(&bits, &args);
+    }
+    n = whole(&bits, bytes);
+    return r->pdu == PDU_INVALID ? n - 1 : n;
+}
+
+static void prepare(const struct row *r)
+{
+    static const uint8_t highest = 7;
+    size_t i;
+    memset(&args, 0, sizeof args);
+    memset(rec, 0, sizeof rec);
+    rec[0] = (uint8_t)r->side, rec[1] = (uint8_t)r->state, rec[2] = (uint8_t)r->dsc;
+    rec[3] = r->state == PEAT_START_REQ, rec[4] = r->state != PEAT_IDLE, rec[15] = highest;
+    for (i = 0; i < sizeof msgs; i++)
+        msgs[i] = (uint8_t)(37 * i + 11);
+    memcpy(ids, msgs, sizeof ids);
+    memcpy(checks, msgs, sizeof checks);
+    memcpy(args.n, r->n, sizeof args.n);
+    args.rec = (struct range){rec, sizeof rec};
+    args.first = (struct range){first, sizeof first};
+    args.second = (struct range){second, sizeof second};
+    args.message = r->which == MESSAGE_REQUEST || r->which == D_DATA_INDICATION ? 8 : NONE;
+    args.msgs = (struct range){msgs, 1};
+    if (r->largest) {
+        args.ids = (struct range){ids, sizeof ids};
+        args.msgs = (struct range){msgs, sizeof msgs};
+        args.checks = (struct range){checks, sizeof checks};
+        args.message = 2048, args.check = 64;
+    }
+    if (r->pdu != PDU_NONE) {
+        args.bytes = (struct range){bytes, put_pdu(r)};
+        args.given = 1;
+    }
+}
+
+/* ---- the stack of a call, on a stack of its own */
+
+#define STACK 65536u
+static uint8_t stack[STACK];
+static ucontext_t here, there;
+static const struct row *now;
+static int empty;
+
+static void on_the_stack(void)
+{
+    if (!empty)
+        card_call(now->which, &args);
+}
+
+static size_t stack_of(const struct row *r, int none)
+{
+    size_t untouched = 0;
+    prepare(r);
+    now = r, empty = none;
+    memset(stack, 0xA5, sizeof stack);
+    getcontext(&there);
+    there.uc_stack.ss_sp = stack, there.uc_stack.ss_size = sizeof stack, there.uc_link = &here;
+    makecontext(&there, on_the_stack, 0);
+    swapcontext(&here, &there);
+    while (untouched < STACK && stack[untouched] == 0xA5)
+        untouched++;
+    return STACK - untouched;
+}
+
+int main(int argc, char **argv)
+{
+    size_t i, most = 0;
+    if (argc > 1 && strcmp(argv[1], "stack") == 0) {
+        for (i = 0; i < ROWS; i++) {
+            size_t n = stack_of(&rows[i], 0) - stack_of(&rows[i], 1);
+            printf("%s, %s: %lu bytes\n", names[rows[i].which], rows[i].title, (unsigned long)n);
+            most = n > most ? n : most;
+        }
+        printf("largest: %lu bytes\n", (unsigned long)most);
+        return 0;
+    }
+    if (argc > 1) {
+        uint64_t said;
+        i = strtoul(argv[1], NULL, 10);
+        if (i >= ROWS)
+            return 2;
+        prepare(&rows[i]);
+        said = card_call(rows[i].which, &args);
+        /* a row is of the kind that it says */
+        return (peat_refusal(said) != 0) != (strstr(rows[i].title, "PROHIBITED") || strstr(rows[i].title, "REPEAT"));
+    }
+    for (i = 0; i < ROWS; i++)
+        printf("%lu %s %s\n", (unsigned long)i, names[rows[i].which], rows[i].title);
+    return 0;
+}

@@ -1,0 +1,566 @@
+#include "model.h"
+
+#include <string.h>
+
+/* ---- bits (X.691) */
+
+void put(struct bits *b, uint64_t value, unsigned width)
+{
+    while (width-- > 0)
+        b->bit[b->n++] = (uint8_t)(value >> width & 1);
+}
+
+void put_range(struct bits *b, const uint8_t *bytes, size_t count)
+{
+    size_t i;
+    for (i = 0; i < count; i++)
+        b->bit[b->n++] = (uint8_t)(bytes[i / 8] >> (7 - i % 8) & 1);
+}
+
+void put_length(struct bits *b, size_t count) /* 11.9.3.6, 11.9.3.7 */
+{
+    if (count < 128)
+        put(b, count, 8);
+    else
+        put(b, 0x8000 | count, 16);
+}
+
+void put_data(struct bits *b, const struct args *a)
+{
+    put(b, 0, 1);
+    put(b, a->ids.len > 0, 1);
+    put(b, a->message != NONE, 1);
+    if (a->ids.len > 0) {
+        put_length(b, a->ids.len);
+        put_range(b, a->ids.at, 8 * a->ids.len);
+    }
+    if (a->message != NONE) {
+        put_length(b, a->message);
+        put_range(b, a->msgs.at, a->message);
+    }
+    put_length(b, a->check);
+    put_range(b, a->checks.at, a->check);
+}
+
+size_t whole(const struct bits *b, uint8_t *bytes)
+{
+    size_t i;
+    for (i = 0; i < (b->n + 7) / 8; i++)
+        bytes[i] = 0;
+    for (i = 0; i < b->n; i++)
+        bytes[i / 8] |= (uint8_t)(b->bit[i] << (7 - i % 8));
+    return (b->n + 7) / 8;
+}
+
+/* ---- APDUs (Doc 9705, 2.3.4) */
+
+enum kind { MISSING, INVALID, ABORT_USER, ABORT_PROVIDER, START, SEND, FORWARD };
+
+struct pdu {
+    enum kind kind;
+    unsigned value;       /* reason or mode */
+    size_t data, data_to; /* where the message data begin and end */
+};
+
+struct reader {
+    struct range in;
+    size_t at;
+    int bad;
+};
+
+static uint64_t get(struct reader *r, size_t width)
+{
+    uint64_t v = 0;
+    if (r->bad || width > 8 * r->in.len - r->at) {
+        r->bad = 1;
+        return 0;
+    }
+    for (; width > 0; width--, r->at++)
+        v = v << 1 | (r->in.at[r->at / 8] >> (7 - r->at % 8) & 1);
+    return v;
+}
+
+static void skip(struct reader *r, size_t width)
+{
+    if (r->bad || width > 8 * r->in.len - r->at)
+        r->bad = 1;
+    else
+        r->at += width;
+}
+
+static size_t get_length(struct reader *r)
+{
+    if (get(r, 1) == 0)
+        return get(r, 7);
+    if (get(r, 1) == 1)
+        r->bad = 1; /* in fragments */
+    {
+        size_t n = get(r, 14);
+        if (n < 128)
+            r->bad = 1; /* not the shortest form */
+        return n;
+    }
+}
+
+static void get_string(struct reader *r, unsigned unit, size_t least, size_t most)
+{
+    size_t n = get_length(r);
+    if (r->bad || n < least || n > most)
+        r->bad = 1;
+    else
+        skip(r, unit * n);
+}
+
+static void get_data(struct reader *r, struct pdu *p)
+{
+    unsigned identifier, message;
+    p->data = r->at;
+    if (get(r, 1) == 1)
+        r->bad = 1; /* extension */
+    identifier = (unsigned)get(r, 1);
+    message = (unsigned)get(r, 1);
+    if (identifier)
+        get_string(r, 8, 1, 16);
+    if (message)
+        get_string(r, 1, 0, 2048);
+    get_string(r, 1, 0, 64);
+    p->data_to = r->at;
+}
+
+static struct pdu decode(int aircraft, struct range in)
+{
+    struct pdu p = {INVALID, 0, 0, 0};
+    struct reader r = {in, 0, 0};
+    unsigned extension = (unsigned)get(&r, 1), index = (unsigned)get(&r, aircraft ? 2 : 3);
+    enum kind kind = INVALID;
+    if (r.bad || extension || index > 5)
+        return p;
+    if (index >= 4) {
+        p.kind = FORWARD;
+        return p;
+    }
+    if (index == 0 || index == 1) {
+        kind = index == 0 ? ABORT_USER : ABORT_PROVIDER;
+        if (get(&r, 1) == 1)
+            r.bad = 1;
+        p.value = (unsigned)get(&r, index == 0 ? 4 : 3);
+        if (p.value > 12)
+            r.bad = 1;
+    } else {
+        kind = index == 2 ? START : SEND;
+        if (index == 2 && aircraft && get(&r, 1) == 1) { /* mode, DEFAULT cpdlc */
+            p.value = 1;
+            if (get(&r, 1) == 0)
+                r.bad = 1;
+        }
+        get_data(&r, &p);
+    }
+    if (get(&r, (8 - r.at % 8) % 8) != 0 || r.at != 8 * in.len)
+        r.bad = 1;
+    p.kind = r.bad ? INVALID : kind;
+    return p;
+}
+
+/* ---- records and outcomes */
+
+enum { AIR = 1, GROUND = 2 };
+enum { IDLE, REQ, IND, DLG, END };
+enum { TIMER, UNDEFINED, BAD_PDU, PROTOCOL, SERVICE_ERROR, SERVICE_FAILURE, QOS, EXPECTED_MISSING, NOT_PERMITTED };
+enum { D_START_REQ = 1, D_START_RSP, D_DATA_REQ, D_END_REQ, D_END_RSP, D_ABORT_REQ };
+enum { START_IND = 1, START_CNF, MESSAGE_IND, END_IND, END_CNF, USER_ABORT_IND, PROVIDER_ABORT_IND };
+#define NOBODY 99u
+#define NOTHING 99u
+
+struct rec {
+    unsigned side, state, dsc, timer, active, request, policy;
+    uint64_t highest;
+};
+
+struct out {
+    unsigned refusal;
+    struct rec rec;
+    unsigned ds, ds_parameter, ds_security; /* dialogue-service primitive */
+    enum kind apdu;
+    unsigned apdu_value;
+    unsigned user, user_parameter, user_dsc; /* user primitive */
+    int data;                                /* message data delivered */
+};
+
+static int load(struct range b, struct rec *r)
+{
+    size_t i;
+    const uint8_t *x = b.at;
+    if (b.len != 16)
+        return 0;
+    if (x[0] < 1 || x[0] > 2 || x[1] > 4 || x[2] > 1 || x[3] > 1 || x[4] > 1 || x[5] > 1 || x[6] > 1 || x[7] != 0)
+        return 0;
+    r->side = x[0], r->state = x[1], r->dsc = x[2], r->timer = x[3], r->active = x[4], r->request = x[5], r->policy = x[6];
+    for (r->highest = 0, i = 8; i < 16; i++)
+        r->highest = r->highest << 8 | x[i];
+    return 1;
+}
+
+static void save(const struct rec *r, struct range b)
+{
+    size_t i;
+    uint8_t *x = b.at;
+    x[0] = (uint8_t)r->side, x[1] = (uint8_t)r->state, x[2] = (uint8_t)r->dsc, x[3] = (uint8_t)r->timer;
+    x[4] = (uint8_t)r->active, x[5] = (uint8_t)r->request, x[6] = (uint8_t)r->policy, x[7] = 0;
+    for (i = 0; i < 8; i++)
+        x[8 + i] = (uint8_t)(r->highest >> (56 - 8 * i));
+}
+
+static struct out stays(const struct rec *r)
+{
+    struct out o;
+    memset(&o, 0, sizeof o);
+    o.rec = *r;
+    o.apdu = MISSING;
+    return o;
+}
+
+static struct out refuse(const struct rec *r, unsigned n)
+{
+    struct out o = stays(r);
+    o.refusal = n;
+    return o;
+}
+
+/* Document 01: entering IDLE sets DSC false, stops the timer and makes the user not active. */
+static void close_record(struct rec *r) { r->state = IDLE, r->dsc = r->timer = r->active = 0; }
+
+static struct out closes(const struct rec *r)
+{
+    struct out o = stays(r);
+    close_record(&o.rec);
+    return o;
+}
+
+/* D-ABORT "provider" with a reason, or NOTHING; an active user is told a reason, or NOBODY */
+static struct out breaks(const struct rec *r, unsigned send, unsigned tells)
+{
+    struct out o = closes(r);
+    if (send != NOTHING)
+        o.ds = D_ABORT_REQ, o.ds_parameter = 1, o.apdu = ABORT_PROVIDER, o.apdu_value = send;
+    if (tells != NOBODY && r->active)
+        o.user = PROVIDER_ABORT_IND, o.user_parameter = tells;
+    return o;
+}
+
+/* 3.5.4.4.3, 2.3.5.6.4.4; document 01: in IDLE no output */
+static struct out no_instruction(const struct rec *r, int exists)
+{
+    return r->state == IDLE ? closes(r) : breaks(r, exists ? PROTOCOL : NOTHING, PROTOCOL);
+}
+
+static struct out sends(struct out o, unsigned ds, unsigned parameter, unsigned security, enum kind apdu, unsigned value)
+{
+    o.ds = ds, o.ds_parameter = parameter, o.ds_security = security, o.apdu = apdu, o.apdu_value = value;
+    return o;
+}
+
+static struct out tells(struct out o, unsigned user, unsigned parameter, unsigned dsc)
+{
+    o.user = user, o.user_parameter = parameter, o.user_dsc = dsc, o.data = 1;
+    return o;
+}
+
+static struct out goes(const struct rec *r, unsigned state)
+{
+    struct out o = stays(r);
+    o.rec.state = state;
+    if (state == IDLE)
+        close_record(&o.rec);
+    return o;
+}
+
+/* ---- codes (document 01: SHAPE) */
+
+static int shapely(enum which w, const uint64_t *n)
+{
+    switch (w) {
+    case START_REQUEST: case DSC_START_REQUEST: return n[0] <= 8 && n[1] <= 1;
+    case START_RESPONSE: case DSC_START_RESPONSE: case END_RESPONSE: case DSC_END_RESPONSE: return n[0] <= 1;
+    case MESSAGE_REQUEST: return n[0] >= 1;
+    case USER_ABORT: return n[0] == NONE || n[0] <= 12;
+    case D_START_INDICATION: return n[0] <= 1 && n[1] <= 1;
+    case D_START_CONFIRMATION: return n[0] <= 2 && n[1] <= 1 && n[2] <= 1;
+    case D_END_CONFIRMATION: case D_ABORT_INDICATION: return n[0] <= 1;
+    default: return 1;
+    }
+}
+
+static int qos_right(const uint64_t *n) { return n[2] == 1 && n[3] == 1 && n[4] <= 8; }
+
+static struct out starts(const struct rec *r, const uint64_t *n, unsigned dsc)
+{
+    struct out o = goes(r, REQ);
+    if (dsc)
+        o.rec.dsc = 1;
+    o.rec.timer = o.rec.active = 1;
+    o.rec.request = (unsigned)n[1];
+    return sends(o, D_START_REQ, (unsigned)n[0], (unsigned)n[1], START, dsc);
+}
+
+static struct out message(const struct rec *r, const struct args *a)
+{
+    struct out o = stays(r);
+    if (a->message == NONE)
+        return refuse(r, 4);
+    if (a->n[0] <= r->highest)
+        return refuse(r, 5);
+    o.rec.highest = a->n[0];
+    return sends(o, D_DATA_REQ, 0, 0, SEND, 0);
+}
+
+/* ---- air (Doc 9880 3.5.3, 3.5.4; Doc 9705 2.3.5.3) */
+
+static struct out air_bad(const struct rec *r, enum kind k, int open_invalid, int open_wrong)
+{
+    if (k == MISSING)
+        return breaks(r, EXPECTED_MISSING, NOT_PERMITTED); /* 3.5.4.7 */
+    if (k == INVALID)
+        return breaks(r, open_invalid ? BAD_PDU : NOTHING, BAD_PDU); /* 3.5.4.3 */
+    return breaks(r, open_wrong ? PROTOCOL : NOTHING, PROTOCOL); /* 3.5.4.4 */
+}
+
+static struct out air_step(enum which w, const struct rec *r, const struct args *a, const struct pdu *p)
+{
+    const uint64_t *n = a->n;
+    unsigned s = r->state, x = (unsigned)n[0];
+    struct out o;
+    switch (w) {
+    case START_REQUEST: return s == IDLE ? starts(r, n, 0) : refuse(r, 3);     /* 2.3.5.3.7 */
+    case DSC_START_REQUEST: return s == IDLE ? starts(r, n, 1) : refuse(r, 3); /* 3.5.3.9 */
+    case START_RESPONSE:                                                      /* 2.3.5.3.8 */
+        return s == IND && !r->dsc ? sends(goes(r, x == 0 ? DLG : IDLE), D_START_RSP, x, r->policy, SEND, 0) : refuse(r, 3);
+    case MESSAGE_REQUEST: /* 3.5.3.10 */
+        return s == DLG || (s == END && !r->dsc) ? message(r, a) : refuse(r, 3);
+    case END_RESPONSE: /* 3.5.3.11 */
+        return s == END && !r->dsc ? sends(goes(r, x == 0 ? IDLE : DLG), D_END_RSP, x, 0, SEND, 0) : refuse(r, 3);
+    case DSC_END_REQUEST: /* 3.5.3.12 */
+        return s == DLG && r->dsc ? sends(goes(r, END), D_END_REQ, 0, 0, SEND, 0) : refuse(r, 3);
+    case USER_ABORT: /* 3.5.3.13 */
+        return s != IDLE ? sends(closes(r), D_ABORT_REQ, 0, 0, ABORT_USER, n[0] == NONE ? 0 : x) : refuse(r, 3);
+    case TIMER_EXPIRY: return r->timer ? breaks(r, TIMER, TIMER) : refuse(r, 3);              /* 3.5.4.1 */
+    case SYSTEM_ERROR: return s == IDLE ? closes(r) : breaks(r, UNDEFINED, UNDEFINED);        /* 3.5.4.2 */
+    case D_START_INDICATION:                                                                 /* 2.3.5.3.2 */
+        if (s != IDLE)
+            return no_instruction(r, 1);
+        if (!qos_right(n))
+            return breaks(r, QOS, NOBODY); /* 3.5.4.6 */
+        if (n[1] != r->policy)
+            return breaks(r, SERVICE_FAILURE, SERVICE_FAILURE); /* 3.5.4.8 */
+        if (p->kind != START)
+            return air_bad(r, p->kind, 1, 1);
+        if (n[0] != 0)
+            return no_instruction(r, 1);
+        o = goes(r, IND);
+        o.rec.active = 1;
+        return tells(o, START_IND, (unsigned)n[4], 0);
+    case D_START_CONFIRMATION: /* 2.3.5.3.3 */
+        if (s != REQ)
+            return no_instruction(r, 1);
+        if (x == 2 || n[1] == 1)
+            return breaks(r, NOTHING, SERVICE_ERROR); /* 3.5.4.5 */
+        if (n[2] != r->request)
+            return breaks(r, x == 0 ? SERVICE_FAILURE : NOTHING, SERVICE_FAILURE); /* 3.5.4.8 */
+        if (p->kind != SEND)
+            return air_bad(r, p->kind, x == 0, 1);
+        o = goes(r, x == 0 ? DLG : IDLE);
+        o.rec.timer = 0;
+        return tells(o, START_CNF, x, r->dsc);
+    case D_DATA_INDICATION: /* 2.3.5.3.4 */
+        if (!(s == DLG || (s == END && r->dsc)))
+            return no_instruction(r, 1);
+        return p->kind != SEND ? air_bad(r, p->kind, 1, 1) : tells(stays(r), MESSAGE_IND, 0, 0);
+    case D_END_INDICATION: /* 2.3.5.3.5 */
+        if (s != DLG || r->dsc)
+            return no_instruction(r, 1);
+        return p->kind != SEND ? air_bad(r, p->kind, 1, 1) : tells(goes(r, END), END_IND, 0, 0);
+    case D_END_CONFIRMATION: /* 2.3.5.3.6, 3.5.4.3.2, 3.5.4.4.2 */
+        if (s != END || !r->dsc)
+            return no_instruction(r, 1);
+        return p->kind != SEND ? air_bad(r, p->kind, x == 1, x == 1) : tells(goes(r, x == 0 ? IDLE : DLG), END_CNF, x, 1);
+    case D_ABORT_INDICATION: /* 3.5.3.14 */
+        if (s == IDLE || p->kind != (x == 0 ? ABORT_USER : ABORT_PROVIDER))
+            return no_instruction(r, 0);
+        o = closes(r);
+        if (r->active)
+            o.user = x == 0 ? USER_ABORT_IND : PROVIDER_ABORT_IND, o.user_parameter = p->value;
+        return o;
+    case D_P_ABORT_INDICATION: return s == IDLE ? closes(r) : breaks(r, NOTHING, SERVICE_FAILURE); /* 3.5.3.15 */
+    default: return refuse(r, 3); /* primitives of the ground user */
+    }
+}
+
+/* ---- ground (Doc 9705 2.3.5.5, 2.3.5.6; Doc 9880 3.5.5.1.6) */
+
+static struct out ground_bad(const struct rec *r, enum kind k, int open_invalid, int open_wrong)
+{
+    if (k == MISSING)
+        return breaks(r, EXPECTED_MISSING, NOT_PERMITTED); /* 2.3.5.6.7 */
+    if (k == INVALID)
+        return breaks(r, open_invalid ? BAD_PDU : NOTHING, BAD_PDU); /* 2.3.5.6.3 */
+    return breaks(r, open_wrong ? PROTOCOL : NOTHING, PROTOCOL); /* 2.3.5.6.4.1, 2.3.5.6.4.3 */
+}
+
+static struct out ground_step(enum which w, const struct rec *r, const struct args *a, const struct pdu *p)
+{
+    const uint64_t *n = a->n;
+    unsigned st = r->state, accepted = n[0] == 0, fits;
+    struct out o;
+    switch (w) {
+    case START_REQUEST: if (st == IDLE) return starts(r, n, 0); break; /* 2.3.5.5.7 */
+    case START_RESPONSE: case DSC_START_RESPONSE:                      /* 2.3.5.5.8, 2.3.5.5.9 */
+        if (st == IND && r->dsc == (w == DSC_START_RESPONSE))
+            return sends(goes(r, accepted ? DLG : IDLE), D_START_RSP, (unsigned)n[0], r->policy, SEND, 0);
+        break;
+    case MESSAGE_REQUEST: if (st == DLG || (st == END && r->dsc)) return message(r, a); break;                               /* 2.3.5.5.10 */
+    case END_REQUEST: if (st == DLG && !r->dsc) return sends(goes(r, END), D_END_REQ, 0, 0, SEND, 0); break;                 /* 2.3.5.5.11 */
+    case DSC_END_RESPONSE: /* 2.3.5.5.12 */
+        if (st == END && r->dsc)
+            return sends(goes(r, accepted ? IDLE : DLG), D_END_RSP, (unsigned)n[0], 0, SEND, 0);
+        break;
+    case USER_ABORT: /* 2.3.5.5.14 */
+        if (st != IDLE)
+            return sends(closes(r), D_ABORT_REQ, 0, 0, ABORT_USER, n[0] == NONE ? 0 : (unsigned)n[0]);
+        break;
+    case TIMER_EXPIRY: if (r->timer) return breaks(r, TIMER, TIMER); break;            /* 2.3.5.6.1 */
+    case SYSTEM_ERROR: return st == IDLE ? closes(r) : breaks(r, UNDEFINED, UNDEFINED); /* 2.3.5.6.2 */
+    case D_START_INDICATION:                                                           /* 2.3.5.5.2 */
+        if (st != IDLE)
+            return no_instruction(r, 1);
+        if (!qos_right(n))
+            return breaks(r, QOS, NOBODY); /* 2.3.5.6.6 */
+        if (n[1] != r->policy)
+            return breaks(r, SERVICE_FAILURE, SERVICE_FAILURE); /* 2.3.5.6.8 */
+        if (p->kind != START || n[0] != 1) /* a facility forwards only, which is not ordered yet */
+            return ground_bad(r, p->kind, 1, 1);
+        o = goes(r, IND);
+        o.rec.active = 1;
+        if (p->value == 1)
+            o.rec.dsc = 1;
+        return tells(o, START_IND, (unsigned)n[4], p->value);
+    case D_START_CONFIRMATION: /* 2.3.5.5.3 */
+        if (st != REQ || r->dsc)
+            return no_instruction(r, 1);
+        if (n[0] == 2 || n[1] == 1)
+            return breaks(r, NOTHING, SERVICE_ERROR); /* 2.3.5.6.5 */
+        if (n[2] != r->request)
+            return breaks(r, accepted ? SERVICE_FAILURE : NOTHING, SERVICE_FAILURE);
+        if (p->kind != SEND)
+            return ground_bad(r, p->kind, (int)accepted, 1);
+        o = goes(r, accepted ? DLG : IDLE);
+        o.rec.timer = 0;
+        return tells(o, START_CNF, (unsigned)n[0], 0);
+    case D_DATA_INDICATION: /* 2.3.5.5.4 */
+        if (!(st == DLG || (st == END && !r->dsc)))
+            return no_instruction(r, 1);
+        return p->kind != SEND ? ground_bad(r, p->kind, 1, 1) : tells(stays(r), MESSAGE_IND, 0, 0);
+    case D_END_INDICATION: /* 2.3.5.5.5 */
+        if (st != DLG || !r->dsc)
+            return no_instruction(r, 1);
+        return p->kind != SEND ? ground_bad(r, p->kind, 1, 1) : tells(goes(r, END), END_IND, 0, 1);
+    case D_END_CONFIRMATION: /* 2.3.5.5.6 */
+        if (st != END || r->dsc)
+            return no_instruction(r, 1);
+        return p->kind != SEND ? ground_bad(r, p->kind, !accepted, !accepted) : tells(goes(r, accepted ? IDLE : DLG), END_CNF, (unsigned)n[0], 0);
+    case D_ABORT_INDICATION: /* 2.3.5.5.15 */
+        fits = n[0] == 0 ? ABORT_USER : ABORT_PROVIDER;
+        if (st == IDLE || (unsigned)p->kind != fits)
+            return no_instruction(r, 0);
+        o = closes(r);
+        if (r->active)
+            o.user = fits == ABORT_USER ? USER_ABORT_IND : PROVIDER_ABORT_IND, o.user_parameter = p->value;
+        return o;
+    case D_P_ABORT_INDICATION: return st == IDLE ? closes(r) : breaks(r, NOTHING, SERVICE_FAILURE); /* 2.3.5.5.16 */
+    default: break;
+    }
+    return refuse(r, 3);
+}
+
+/* ---- the call */
+
+/* Whose PDUs the user data are: the air end reads GroundPDUs, the ground end AircraftPDUs, but those of a facility that
+   starts are GroundPDUs (2.3.5.5.2.3), and a provider's abort may be (2.3.5.5.15.2). */
+static struct pdu received(enum which w, const struct rec *r, const struct args *a)
+{
+    struct pdu p = {MISSING, 0, 0, 0};
+    if (w == D_P_ABORT_INDICATION || a->given == 0)
+        return p;
+    if (r->side == AIR || (w == D_START_INDICATION && a->n[0] == 0))
+        return decode(0, a->bytes);
+    p = decode(1, a->bytes);
+    if (p.kind == INVALID && w == D_ABORT_INDICATION && a->n[0] == 1) {
+        struct pdu again = decode(0, a->bytes);
+        if (again.kind == ABORT_PROVIDER)
+            return again;
+    }
+    return p;
+}
+
+static int data_fits(const struct args *a)
+{
+    return a->ids.len <= 16 && (a->message == NONE || (a->message <= 2048 && a->message <= 8 * a->msgs.len)) && a->check <= 64 &&
+           a->check <= 8 * a->checks.len;
+}
+
+static void put_apdu(struct bits *b, const struct out *o, unsigned side, const struct args *a)
+{
+    static const unsigned index[] = {[ABORT_USER] = 0, [ABORT_PROVIDER] = 1, [START] = 2, [SEND] = 3};
+    put(b, index[o->apdu], side == AIR ? 3 : 4); /* the extension bit, and the alternative in 2 or 3 bits */
+    if (o->apdu == ABORT_USER)
+        put(b, o->apdu_value, 5);
+    else if (o->apdu == ABORT_PROVIDER)
+        put(b, o->apdu_value, 4);
+    else {
+        if (o->apdu == START && side == AIR)
+            put(b, o->apdu_value ? 3 : 0, o->apdu_value ? 2 : 1);
+        put_data(b, a);
+    }
+}
+
+static int has_data(enum which w) { return w <= DSC_END_RESPONSE; }
+static int is_service(enum which w) { return w >= D_START_INDICATION && w <= D_P_ABORT_INDICATION; }
+
+static uint64_t fresh(struct args *a)
+{
+    struct rec r = {(unsigned)a->n[0], IDLE, 0, 0, 0, 0, (unsigned)a->n[1], 0};
+    if (a->rec.len != 16 || a->n[0] < 1 || a->n[0] > 2 || a->n[1] > 1)
+        return 2;
+    save(&r, a->rec);
+    return 0;
+}
+
+uint64_t model_call(enum which w, struct args *a)
+{
+    static struct bits one, two;
+    struct rec r;
+    struct pdu p = {MISSING, 0, 0, 0};
+    struct out o;
+    if (w == FRESH)
+        return fresh(a);
+    if (a->first.len < 320 || a->second.len < 320)
+        return 1;
+    if (!load(a->rec, &r) || (has_data(w) && !data_fits(a)) || (is_service(w) && w != D_P_ABORT_INDICATION && a->given > 1) || !shapely(w, a->n))
+        return 2;
+    if (is_service(w))
+        p = received(w, &r, a);
+    o = r.side == AIR ? air_step(w, &r, a, &p) : ground_step(w, &r, a, &p);
+    if (o.refusal)
+        return o.refusal;
+    one.n = two.n = 0;
+    if (o.apdu != MISSING)
+        put_apdu(&one, &o, r.side, a);
+    if (o.data) {
+        struct reader from = {a->bytes, p.data, 0};
+        while (from.at < p.data_to)
+            put(&two, get(&from, 1), 1);
+    }
+    whole(&one, a->first.at);
+    whole(&two, a->second.at);
+    save(&o.rec, a->rec);
+    return (uint64_t)o.ds << 8 | (uint64_t)o.ds_parameter << 12 | (uint64_t)o.ds_security << 16 | (uint64_t)o.user << 20 |
+           (uint64_t)o.user_parameter << 24 | (uint64_t)o.user_dsc << 28 | (uint64_t)one.n << 32 | (uint64_t)two.n << 48;
+}

@@ -7,7 +7,7 @@ use Rattle.bits.specs.Read.{readBits}
 use Rattle.fields.specs.Fields.{bitField, lengthAt, digitsIn, wholeNumber, runAt, sizedAt}
 use Rattle.fields.specs.Encodings.{lengthBits, wholeBits, indexBits}
 use Rattle.fields.specs.Refusals.{numberOf}
-use Rattle.inner.specs.Arguments.{digitsBits, charactersBits, sizedBits, facilityBits}
+use Rattle.elements.specs.Arguments.{digitsBits, charactersBits, sizedBits, facilityBits}
 use Rattle.envelope.specs.Numbers.{numberIn, numberAt}
 use Rattle.envelope.specs.Envelopes.{isKind, sizeFits, bytesFor, isPadded, bodyAt, sizeAt, jobAt, kindAt, envelopeAt}
 use Rattle.examples.specs.Examples.{examples, allHold, same, are}

@@ -8,7 +8,7 @@ use Rattle.bits.specs.Bits.{bitsOf}
 use Rattle.fields.specs.Fields.{lengthAt}
 use Rattle.fields.specs.Encodings.{lengthBits}
 use Rattle.fields.specs.Refusals.{numberOf}
-use Rattle.inner.specs.Arguments.{digitsBits, charactersBits, sizedBits, facilityBits, designationAt}
+use Rattle.elements.specs.Arguments.{digitsBits, charactersBits, sizedBits, facilityBits, designationAt}
 use Rattle.envelope.specs.Envelopes.{envelopeAt, mostBits}
 use Rattle.envelope.specs.Examples.{answers, reads}
 use Rattle.envelope.specs.Examples.{Row as EnvelopeRow}

@@ -8,14 +8,14 @@ use native.Mathlib.Numerals.{add-one}
 use lib.ListN.{length, take, drop, set, replicate, length-set, take-append-drop}
 use lib.Seq.{take-suc-set, length-take-le, drop-set-lt, drop-drop}
 use Rattle.fields.specs.declared.Refusal.{Refusal}
-use Rattle.inner.specs.declared.elements.Direction.{Direction}
-use Rattle.inner.specs.declared.values.Step.{Step}
-use Rattle.inner.specs.declared.values.Step.the-variants as step
-use Rattle.inner.specs.declared.values.Element.{Element}
-use Rattle.inner.specs.declared.values.ElementRead.{ElementRead}
+use Rattle.elements.specs.declared.kinds.Direction.{Direction}
+use Rattle.elements.specs.declared.values.Step.{Step}
+use Rattle.elements.specs.declared.values.Step.the-variants as step
+use Rattle.elements.specs.declared.values.Element.{Element}
+use Rattle.elements.specs.declared.values.ElementRead.{ElementRead}
 use Rattle.inner.specs.declared.values.PlacesRead.{PlacesRead}
-use Rattle.inner.specs.Arguments.{stepRefusal}
-use Rattle.inner.specs.OneElement.{bare, elementAt}
+use Rattle.elements.specs.Arguments.{stepRefusal}
+use Rattle.elements.specs.OneElement.{bare, elementAt}
 use Rattle.inner.specs.Places.{Row, these, refused, after, ontoRow, rowAt, noPlaces, laid}
 
 after-after : (xs ys : List Element) (z : Row) → after xs (after ys z) ≡ after (xs ++ ys) z

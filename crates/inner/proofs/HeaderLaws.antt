@@ -17,21 +17,21 @@ use Rattle.fields.specs.declared.Refusal.{Refusal}
 use Rattle.fields.specs.declared.Refusal.the-variants as refusal
 use Rattle.fields.specs.declared.Field.{Field}
 use Rattle.fields.specs.declared.Field.the-variants as field
-use Rattle.inner.specs.declared.values.Time.{Time}
-use Rattle.inner.specs.declared.values.TimeRead.{TimeRead}
-use Rattle.inner.specs.declared.values.TimeRead.the-variants as time
+use Rattle.elements.specs.declared.values.Time.{Time}
+use Rattle.elements.specs.declared.values.TimeRead.{TimeRead}
+use Rattle.elements.specs.declared.values.TimeRead.the-variants as time
 use Rattle.inner.specs.declared.values.DateTime.{DateTime}
 use Rattle.inner.specs.declared.values.DateTimeRead.{DateTimeRead}
 use Rattle.inner.specs.declared.values.DateTimeRead.the-variants as date
 use Rattle.inner.specs.declared.values.Header.{Header}
 use Rattle.inner.specs.declared.values.HeaderRead.{HeaderRead}
 use Rattle.inner.specs.declared.values.HeaderRead.the-variants as header
-use Rattle.inner.specs.Arguments.{onto, flag, timeFits, timeBits, timeAt}
+use Rattle.elements.specs.Arguments.{onto, flag, timeFits, timeBits, timeAt}
 use Rattle.inner.specs.Headers.{dateTimeFits, dateTimeBits, ontoTimeOfDay, timeOfDayAt, dateTimeAt, presence, referenceFits, referenceBits, referenceAt, acknowledgementBits, acknowledgementAt, headerFits, headerBits, ontoDate, headerOf, datedAt, headerAt}
-use Rattle.inner.proofs.Standing.{Stands, stands-join, stands-split, stands-as, stands-nothing}
-use Rattle.inner.proofs.Steps.{never, onto-is}
-use Rattle.inner.proofs.Whole.{ranged, whole-reads, whole-stands, whole-below}
-use Rattle.inner.proofs.Times.{time-reads, time-stands}
+use Rattle.elements.proofs.Standing.{Stands, stands-join, stands-split, stands-as, stands-nothing}
+use Rattle.elements.proofs.Steps.{never, onto-is}
+use Rattle.elements.proofs.Whole.{ranged, whole-reads, whole-stands, whole-below}
+use Rattle.elements.proofs.Times.{time-reads, time-stands}
 
 -- ---- date and time
 

@@ -14,25 +14,25 @@ use Rattle.fields.specs.declared.Refusal.the-variants as refusal
 use Rattle.fields.specs.declared.Field.{Field}
 use Rattle.fields.specs.declared.Field.the-variants as field
 use Rattle.fields.proofs.Answers as answers
-use Rattle.inner.specs.declared.elements.Direction.{Direction}
-use Rattle.inner.specs.declared.values.Time.{Time}
-use Rattle.inner.specs.declared.values.TimeRead.{TimeRead}
-use Rattle.inner.specs.declared.values.TimeRead.the-variants as time
+use Rattle.elements.specs.declared.kinds.Direction.{Direction}
+use Rattle.elements.specs.declared.values.Time.{Time}
+use Rattle.elements.specs.declared.values.TimeRead.{TimeRead}
+use Rattle.elements.specs.declared.values.TimeRead.the-variants as time
 use Rattle.inner.specs.declared.values.DateTime.{DateTime}
 use Rattle.inner.specs.declared.values.DateTimeRead.{DateTimeRead}
 use Rattle.inner.specs.declared.values.DateTimeRead.the-variants as date
 use Rattle.inner.specs.declared.values.Header.{Header}
 use Rattle.inner.specs.declared.values.HeaderRead.{HeaderRead}
 use Rattle.inner.specs.declared.values.HeaderRead.the-variants as header
-use Rattle.inner.specs.declared.values.Step.{Step}
-use Rattle.inner.specs.declared.values.Step.the-variants as step
+use Rattle.elements.specs.declared.values.Step.{Step}
+use Rattle.elements.specs.declared.values.Step.the-variants as step
 use Rattle.inner.specs.declared.values.PlacesRead.{PlacesRead}
 use Rattle.inner.specs.declared.values.MessageRead.{MessageRead}
-use Rattle.inner.specs.Arguments.{timeRefusal, stepRefusal}
+use Rattle.elements.specs.Arguments.{timeRefusal, stepRefusal}
 use Rattle.inner.specs.Headers.{dateRefusal, headerRefusal, ontoTimeOfDay, ontoDate, referenceAt, acknowledgementAt}
 use Rattle.inner.specs.Messages.{noMessage, messageOf, ontoHeader, messageAt, exactly}
-use Rattle.inner.proofs.Steps.{never}
-use Rattle.inner.proofs.Whole.{whole-most}
+use Rattle.elements.proofs.Steps.{never}
+use Rattle.elements.proofs.Whole.{whole-most}
 
 pub minute-handed : (f g : TimeRead) (r x : Refusal) (k : Time → ℕ → DateTimeRead) → f ≡ g → f ≡ time.Refused r → x ≡ timeRefusal f → date.Refused x ≡ ontoTimeOfDay g k
 minute-handed f g r x k p q e = rw (← p, e, q)

@@ -16,24 +16,24 @@ use Rattle.fields.specs.Encodings.{wholeBits, wholeFits}
 use Rattle.fields.specs.declared.Refusal.{Refusal}
 use Rattle.fields.specs.declared.Refusal.the-variants as refusal
 use Rattle.fields.specs.declared.Field.the-variants as field
-use Rattle.inner.specs.declared.elements.Direction.{Direction}
+use Rattle.elements.specs.declared.kinds.Direction.{Direction}
 use Rattle.inner.specs.declared.values.Header.{Header}
 use Rattle.inner.specs.declared.values.HeaderRead.{HeaderRead}
 use Rattle.inner.specs.declared.values.HeaderRead.the-variants as header
-use Rattle.inner.specs.declared.values.Step.the-variants as step
-use Rattle.inner.specs.declared.values.Element.{Element}
+use Rattle.elements.specs.declared.values.Step.the-variants as step
+use Rattle.elements.specs.declared.values.Element.{Element}
 use Rattle.inner.specs.declared.values.PlacesRead.{PlacesRead}
 use Rattle.inner.specs.declared.values.Message.{Message}
 use Rattle.inner.specs.declared.values.MessageRead.{MessageRead}
-use Rattle.inner.specs.Arguments.{onto}
-use Rattle.inner.specs.OneElement.{bare, noLevel, noTime, noDigits, plain, levelsUnused, levelUnused, timeUnused, zeros, codeUnused}
+use Rattle.elements.specs.Arguments.{onto}
+use Rattle.elements.specs.OneElement.{bare, noLevel, noTime, noDigits, plain, levelsUnused, levelUnused, timeUnused, zeros, codeUnused}
 use Rattle.inner.specs.Headers.{headerFits, headerBits, headerAt}
 use Rattle.inner.specs.Places.{Row, these, refused, rowAt, textAt, rowFits, rowBits, laid}
 use Rattle.inner.specs.Messages.{noMessage, messageOf, ontoHeader, ontoElements, bodyAt, messageAt, isMessage, messageText, empty, allEmpty, messageFits, messageBits}
-use Rattle.inner.proofs.Standing.{Stands, stands-join, stands-split, stands-as, both-hold}
-use Rattle.inner.proofs.Steps.{never, onto-is}
-use Rattle.inner.proofs.Whole.{ranged, whole-reads, whole-stands, whole-below}
-use Rattle.inner.proofs.Unused.{element-is, plain-is}
+use Rattle.elements.proofs.Standing.{Stands, stands-join, stands-split, stands-as, both-hold}
+use Rattle.elements.proofs.Steps.{never, onto-is}
+use Rattle.elements.proofs.Whole.{ranged, whole-reads, whole-stands, whole-below}
+use Rattle.elements.proofs.Unused.{element-is, plain-is}
 use Rattle.inner.proofs.HeaderLaws.{header-reads, header-stands}
 use Rattle.inner.proofs.Rows.{row-reads, row-text, RowIs, row-is}
 

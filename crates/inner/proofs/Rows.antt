@@ -9,18 +9,18 @@ use lib.ListN.{length, take, drop, take-append-drop}
 use lib.Seq.{take-at, drop-at}
 use Rattle.bits.proofs.Numbers.{Bits}
 use Rattle.fields.specs.declared.Refusal.{Refusal}
-use Rattle.inner.specs.declared.elements.Direction.{Direction}
-use Rattle.inner.specs.declared.values.Step.{Step}
-use Rattle.inner.specs.declared.values.Step.the-variants as step
-use Rattle.inner.specs.declared.values.Element.{Element}
-use Rattle.inner.specs.declared.values.ElementRead.{ElementRead}
-use Rattle.inner.specs.OneElement.{isElement, elementAt, elementFits, elementBits, noText, textOf}
+use Rattle.elements.specs.declared.kinds.Direction.{Direction}
+use Rattle.elements.specs.declared.values.Step.{Step}
+use Rattle.elements.specs.declared.values.Step.the-variants as step
+use Rattle.elements.specs.declared.values.Element.{Element}
+use Rattle.elements.specs.declared.values.ElementRead.{ElementRead}
+use Rattle.elements.specs.OneElement.{isElement, elementAt, elementFits, elementBits, noText, textOf}
 use Rattle.inner.specs.Places.{Row, these, refused, after, ontoRow, ontoText, rowAt, textAt, rowFits, rowBits}
-use Rattle.inner.proofs.Standing.{Stands, stands-join, stands-split, stands-nothing}
-use Rattle.inner.proofs.Steps.{never}
-use Rattle.inner.proofs.Texts.{length-characters}
-use Rattle.inner.proofs.Unused.{no-text}
-use Rattle.inner.proofs.Placed.{element-reads, element-text, element-stands}
+use Rattle.elements.proofs.Standing.{Stands, stands-join, stands-split, stands-nothing}
+use Rattle.elements.proofs.Steps.{never}
+use Rattle.elements.proofs.Texts.{length-characters}
+use Rattle.elements.proofs.Unused.{no-text}
+use Rattle.elements.proofs.Placed.{element-reads, element-text, element-stands}
 
 pub row-reads : (d : Direction) (l : List ℕ) (es : List Element) (t : List ℕ) (at next : ℕ) → Stands l at (rowFits d es t) (rowBits d es t) next → rowAt d l at (length es) ≡ these es next
 unfolding rowFits rowBits rowAt

@@ -9,16 +9,16 @@ use Rattle.fields.specs.declared.Refusal.{Refusal}
 use Rattle.fields.specs.declared.Refusal.the-variants as refusal
 use Rattle.fields.specs.declared.Field.{Field}
 use Rattle.fields.specs.declared.Field.the-variants as field
-use Rattle.inner.specs.declared.values.Time.{Time}
-use Rattle.inner.specs.declared.values.TimeRead.{TimeRead}
-use Rattle.inner.specs.declared.values.TimeRead.the-variants as time
+use Rattle.elements.specs.declared.values.Time.{Time}
+use Rattle.elements.specs.declared.values.TimeRead.{TimeRead}
+use Rattle.elements.specs.declared.values.TimeRead.the-variants as time
 use Rattle.inner.specs.declared.values.DateTime.{DateTime}
 use Rattle.inner.specs.declared.values.DateTimeRead.{DateTimeRead}
 use Rattle.inner.specs.declared.values.DateTimeRead.the-variants as date
 use Rattle.inner.specs.declared.values.Header.{Header}
 use Rattle.inner.specs.declared.values.HeaderRead.{HeaderRead}
 use Rattle.inner.specs.declared.values.HeaderRead.the-variants as header
-use Rattle.inner.specs.Arguments.{onto, flag, timeFits, timeBits, timeAt}
+use Rattle.elements.specs.Arguments.{onto, flag, timeFits, timeBits, timeAt}
 
 -- the refusal in an answer that is one
 abbrev pub dateRefusal : DateTimeRead → Refusal

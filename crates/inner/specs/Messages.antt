@@ -8,18 +8,18 @@ use Rattle.fields.specs.Fields.{wholeNumber}
 use Rattle.fields.specs.Encodings.{wholeBits, wholeFits}
 use Rattle.fields.specs.declared.Refusal.{Refusal}
 use Rattle.fields.specs.declared.Refusal.the-variants as refusal
-use Rattle.inner.specs.declared.elements.Direction.{Direction}
+use Rattle.elements.specs.declared.kinds.Direction.{Direction}
 use Rattle.inner.specs.declared.values.Header.{Header}
 use Rattle.inner.specs.declared.values.HeaderRead.{HeaderRead}
 use Rattle.inner.specs.declared.values.HeaderRead.the-variants as header
-use Rattle.inner.specs.declared.values.Step.{Step}
-use Rattle.inner.specs.declared.values.Step.the-variants as step
-use Rattle.inner.specs.declared.values.Element.{Element}
+use Rattle.elements.specs.declared.values.Step.{Step}
+use Rattle.elements.specs.declared.values.Step.the-variants as step
+use Rattle.elements.specs.declared.values.Element.{Element}
 use Rattle.inner.specs.declared.values.PlacesRead.{PlacesRead}
 use Rattle.inner.specs.declared.values.Message.{Message}
 use Rattle.inner.specs.declared.values.MessageRead.{MessageRead}
-use Rattle.inner.specs.Arguments.{onto}
-use Rattle.inner.specs.OneElement.{bare, noTime, plain}
+use Rattle.elements.specs.Arguments.{onto}
+use Rattle.elements.specs.OneElement.{bare, noTime, plain}
 use Rattle.inner.specs.Headers.{headerFits, headerBits, headerAt}
 use Rattle.inner.specs.Places.{Row, rowAt, textAt, rowFits, rowBits, laid}
 

@@ -4,13 +4,13 @@ use mathlib.Core.List.{List, [], _∷_, _++_}
 use mathlib.Core.Bool.{Bool, _&&_}
 use lib.ListN.{length, take, drop, replicate}
 use Rattle.fields.specs.declared.Refusal.{Refusal}
-use Rattle.inner.specs.declared.elements.Direction.{Direction}
-use Rattle.inner.specs.declared.values.Step.{Step}
-use Rattle.inner.specs.declared.values.Step.the-variants as step
-use Rattle.inner.specs.declared.values.Element.{Element}
-use Rattle.inner.specs.declared.values.ElementRead.{ElementRead}
+use Rattle.elements.specs.declared.kinds.Direction.{Direction}
+use Rattle.elements.specs.declared.values.Step.{Step}
+use Rattle.elements.specs.declared.values.Step.the-variants as step
+use Rattle.elements.specs.declared.values.Element.{Element}
+use Rattle.elements.specs.declared.values.ElementRead.{ElementRead}
 use Rattle.inner.specs.declared.values.PlacesRead.{PlacesRead}
-use Rattle.inner.specs.OneElement.{bare, elementAt, elementFits, elementBits, noText, textOf}
+use Rattle.elements.specs.OneElement.{bare, elementAt, elementFits, elementBits, noText, textOf}
 
 -- elements that were read and the place after them, or the refusal
 pub data Row : Type 0 where

@@ -2,15 +2,15 @@
 ghost use mathlib.Core.Path.{_≡_};
 ghost use Rattle.bits.specs.Bits.{bitsTo};
 ghost use Rattle.inner.specs.Headers.{acknowledgementAt, dateTimeAt, datedAt, headerAt, referenceAt, timeOfDayAt};
-use crate::arguments::read_time;
 use crate::values::DateTime;
 use crate::values::DateTimeRead;
 use crate::values::Header;
 use crate::values::HeaderRead;
-use crate::values::TimeRead;
 use crate::values::date_refusal;
-use crate::values::refusal;
-use crate::values::time_refusal;
+use elements::arguments::read_time;
+use elements::values::TimeRead;
+use elements::values::refusal;
+use elements::values::time_refusal;
 use fields::Field;
 use fields::Refusal;
 

@@ -2,17 +2,17 @@
 ghost use mathlib.Core.Path.{_≡_};
 ghost use Rattle.bits.specs.Bits.{bitsTo};
 ghost use Rattle.inner.specs.Messages.{bodyAt, exactly, messageAt, noMessage};
-use crate::elements::Direction;
+use crate::five::read_places;
 use crate::header::read_header;
-use crate::reading::read_places;
 use crate::values::Header;
 use crate::values::HeaderRead;
 use crate::values::Message;
 use crate::values::MessageRead;
-use crate::values::Step;
 use crate::values::header_refusal;
-use crate::values::refusal;
-use crate::values::step_refusal;
+use elements::kinds::Direction;
+use elements::values::Step;
+use elements::values::refusal;
+use elements::values::step_refusal;
 use fields::Field;
 use fields::Refusal;
 

@@ -3,8 +3,8 @@
 use native.Mathlib.Omega.{arith}
 use Rattle.inner.specs.declared.values.DateTimeRead.the-variants as date
 use Rattle.inner.specs.Headers.{dateTimeAt}
-use Rattle.inner.proofs.Steps.{handed-up, went}
-use Rattle.inner.proofs.Whole.{whole-most}
+use Rattle.elements.proofs.Steps.{handed-up, went}
+use Rattle.elements.proofs.Whole.{whole-most}
 use borrow.Author.Needs.{needs}
 use Rattle.inner.proofs.header.read_date_time.Statement.{statement}
 use Rattle.inner.proofs.header.read_date_time.Tie as tie

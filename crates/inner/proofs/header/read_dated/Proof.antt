@@ -3,7 +3,7 @@
 use mathlib.Core.Path.{refl}
 use Rattle.inner.specs.declared.values.HeaderRead.the-variants as header
 use Rattle.inner.specs.Headers.{datedAt}
-use Rattle.inner.proofs.Steps.{handed-up, went}
+use Rattle.elements.proofs.Steps.{handed-up, went}
 use Rattle.inner.proofs.HeaderWays.{date-handed, date-went}
 use borrow.Author.Needs.{needs}
 use Rattle.inner.proofs.header.read_dated.Statement.{statement}

@@ -3,8 +3,8 @@
 use native.Mathlib.Omega.{arith}
 use Rattle.inner.specs.declared.values.HeaderRead.the-variants as header
 use Rattle.inner.specs.Headers.{headerAt}
-use Rattle.inner.proofs.Steps.{handed-up, went}
-use Rattle.inner.proofs.Whole.{whole-most}
+use Rattle.elements.proofs.Steps.{handed-up, went}
+use Rattle.elements.proofs.Whole.{whole-most}
 use Rattle.inner.proofs.HeaderWays.{reference-most}
 use borrow.Author.Needs.{needs}
 use Rattle.inner.proofs.header.read_header.Statement.{statement}

@@ -4,8 +4,8 @@ use mathlib.Core.Path.{refl}
 use native.Mathlib.Omega.{arith}
 use Rattle.inner.specs.declared.values.DateTimeRead.the-variants as date
 use Rattle.inner.specs.Headers.{timeOfDayAt}
-use Rattle.inner.proofs.Steps.{handed-up, went}
-use Rattle.inner.proofs.Whole.{whole-most}
+use Rattle.elements.proofs.Steps.{handed-up, went}
+use Rattle.elements.proofs.Whole.{whole-most}
 use Rattle.inner.proofs.HeaderWays.{minute-handed, minute-went}
 use borrow.Author.Needs.{needs}
 use Rattle.inner.proofs.header.read_time_of_day.Statement.{statement}

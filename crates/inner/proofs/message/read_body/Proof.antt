@@ -4,8 +4,8 @@ use mathlib.Core.Path.{_∙_}
 use native.Mathlib.Omega.{arith}
 use borrow.Author.Tests.{eq-eqb, ne-eqb}
 use Rattle.inner.specs.Messages.{bodyAt, noMessage}
-use Rattle.inner.proofs.Steps.{handed-up, went}
-use Rattle.inner.proofs.Whole.{whole-most}
+use Rattle.elements.proofs.Steps.{handed-up, went}
+use Rattle.elements.proofs.Whole.{whole-most}
 use Rattle.inner.proofs.HeaderWays.{places-handed, places-went}
 use borrow.Author.Needs.{needs}
 use Rattle.inner.proofs.message.read_body.Statement.{statement}

@@ -1,0 +1,71 @@
+-- `inner::arguments::read_time` meets its contract.
+-- Assumes nothing.
+use mathlib.Core.Path.{refl}
+use native.Mathlib.Omega.{arith}
+use Rattle.elements.specs.declared.values.TimeRead.the-variants as time
+use Rattle.elements.specs.Arguments.{timeAt}
+use Rattle.elements.proofs.Steps.{handed-up, went}
+use Rattle.elements.proofs.Whole.{whole-most}
+use borrow.Author.Needs.{needs}
+use Rattle.elements.proofs.arguments.read_time.Statement.{statement}
+use Rattle.elements.proofs.arguments.read_time.Tie as tie
+
+whole-requires : tie.Need-whole-requires
+whole-requires c κs = search needs
+
+enum-known-first : tie.Need-enum-known-first
+enum-known-first c = search needs
+
+enum-told : tie.Need-enum-told
+enum-told c = search needs
+
+refusal-requires : tie.Need-refusal-requires
+refusal-requires c κs = search needs
+
+returns : tie.Need-returns
+unfolding timeAt
+returns c = handed-up time.Refused _ _ _ _ _ (c .before .before .before .whole .ensures) (c .before .enum-told .given .1) (c .refusal .ensures)
+
+whole-requires-2 : tie.Need-whole-requires-2
+whole-requires-2 c κs = search needs
+
+enum-known-second : tie.Need-enum-known-second
+enum-known-second c = search needs
+
+enum-told-2 : tie.Need-enum-told-2
+enum-told-2 c = search needs
+
+refusal-requires-2 : tie.Need-refusal-requires-2
+refusal-requires-2 c κs = search needs
+
+returns-2 : tie.Need-returns-2
+unfolding timeAt
+returns-2 c = went time.Refused _ _ _ _ _ _ (c .before .before .before .before .before .before .before .whole .ensures) (c .before .before .before .before .before .first .given .1) (handed-up time.Refused _ _ _ _ _ (c .before .before .before .whole2 .ensures) (c .before .enum-told2 .given .1) (c .refusal2 .ensures))
+
+cast-t12 : tie.Need-cast-t12
+cast-t12 c = omega (arith, whole-most _ _ 0 23 _ _ _ (c .before .before .before .before .before .before .before .whole .ensures) (c .before .before .before .before .before .first .given .1))
+
+cast-t13 : tie.Need-cast-t13
+cast-t13 c = omega (arith, whole-most _ _ 0 59 _ _ _ (c .before .before .before .whole2 .ensures) (c .before .second .given .1))
+
+returns-3 : tie.Need-returns-3
+unfolding timeAt
+returns-3 c = went time.Refused _ _ _ _ _ _ (c .before .before .before .before .before .before .before .whole .ensures) (c .before .before .before .before .before .first .given .1) (went time.Refused _ _ _ _ _ _ (c .before .before .before .whole2 .ensures) (c .before .second .given .1) refl)
+
+pub read-time-spec : {M : Type 1} → statement M
+read-time-spec =
+    tie.close
+    (tie.spec
+    whole-requires
+    enum-known-first
+    enum-told
+    refusal-requires
+    returns
+    whole-requires-2
+    enum-known-second
+    enum-told-2
+    refusal-requires-2
+    returns-2
+    cast-t12
+    cast-t13
+    returns-3)

@@ -1,0 +1,26 @@
+-- `inner::elements::kind_at` meets its contract: a row is a place in the list of kinds, by the test that is computed over the table.
+-- Assumes nothing.
+use mathlib.Core.Path.{refl}
+use native.Mathlib.Omega.{arith}
+use Rattle.elements.specs.Elements.{kinds, downlink, uplink, rows, kindAt}
+use Rattle.elements.proofs.Table.{row-known, all-rows}
+use Rattle.elements.proofs.kinds.kind_at.Statement.{statement}
+use Rattle.elements.proofs.kinds.kind_at.Tie as tie
+
+array-read-result : tie.Need-array-read-result
+array-read-result c = omega (arith, all-rows)
+
+cast-result : tie.Need-cast-result
+unfolding kinds rows downlink uplink
+cast-result c = omega (arith, row-known (c .args .row) (c .pre))
+
+array-copy-out-result : tie.Need-array-copy-out-result
+unfolding kinds rows downlink uplink
+array-copy-out-result c = row-known (c .args .row) (c .pre)
+
+returns : tie.Need-returns
+unfolding kindAt kinds rows downlink uplink
+returns c = refl
+
+pub kind-at-spec : {M : Type 1} → statement M
+kind-at-spec = tie.close (tie.spec array-read-result cast-result array-copy-out-result returns)

@@ -1,0 +1,61 @@
+-- `inner::reading::read_element` meets its contract.
+-- Assumes nothing.
+use mathlib.Core.Path.{refl, _∙_}
+use native.Mathlib.Omega.{arith}
+use Rattle.elements.specs.OneElement.{elementAt, noElement}
+use Rattle.elements.proofs.Steps.{handed-up, went}
+use Rattle.elements.proofs.Indices.{index-as, index-most, last-small}
+use borrow.Author.Needs.{needs}
+use Rattle.elements.proofs.reading.read_element.Statement.{statement}
+use Rattle.elements.proofs.reading.read_element.Tie as tie
+
+last-of-requires : tie.Need-last-of-requires
+last-of-requires c κs = search needs
+
+extensible-index-requires : tie.Need-extensible-index-requires
+extensible-index-requires c κs = search needs
+
+enum-known-index : tie.Need-enum-known-index
+enum-known-index c = search needs
+
+enum-told : tie.Need-enum-told
+enum-told c = search needs
+
+refusal-requires : tie.Need-refusal-requires
+refusal-requires c κs = search needs
+
+no-element-requires : tie.Need-no-element-requires
+no-element-requires c κs = search needs
+
+returns : tie.Need-returns
+unfolding elementAt
+returns c = c .no-element .ensures ∙ handed-up noElement _ _ _ _ _ (index-as _ _ _ _ _ (c .before .before .before .before .extensible-index .ensures) (c .before .before .before .before .before .last-of .ensures)) (c .before .before .enum-told .given .1) (c .before .refusal .ensures)
+
+cast-number : tie.Need-cast-number
+cast-number c = omega (arith, index-most _ _ (c .before .before .before .before .last-of .result) _ _ _ (c .before .before .before .extensible-index .ensures) (c .before .index .given .1), c .before .before .before .before .last-of .ensures, last-small (c .before .before .before .before .before .before .args .direction))
+
+kind-of-requires : tie.Need-kind-of-requires
+kind-of-requires c κs = search needs
+
+read-argument-requires : tie.Need-read-argument-requires
+read-argument-requires c κs = search needs
+
+returns-2 : tie.Need-returns-2
+unfolding elementAt
+returns-2 c = went noElement _ _ _ _ _ _ (index-as _ _ _ _ _ (c .before .before .before .before .before .extensible-index .ensures) (c .before .before .before .before .before .before .last-of .ensures)) (c .before .before .before .index .given .1) (rw (← c .before .kind-of .ensures) (c .read-argument .ensures))
+
+pub read-element-spec : {M : Type 1} → statement M
+read-element-spec =
+    tie.close
+    (tie.spec
+    last-of-requires
+    extensible-index-requires
+    enum-known-index
+    enum-told
+    refusal-requires
+    no-element-requires
+    returns
+    cast-number
+    kind-of-requires
+    read-argument-requires
+    returns-2)

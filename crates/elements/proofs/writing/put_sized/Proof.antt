@@ -1,0 +1,44 @@
+-- `inner::writing::put_sized` meets its contract.
+-- Assumes nothing.
+use mathlib.Core.Path.{refl}
+use Rattle.elements.proofs.Pieces.{sized-full, sized-next}
+use borrow.Author.Needs.{needs}
+use Rattle.elements.proofs.writing.put_sized.Statement.{statement}
+use Rattle.elements.proofs.writing.put_sized.Tie as tie
+
+put-whole-requires : tie.Need-put-whole-requires
+put-whole-requires c κs = search needs
+
+enum-known-size : tie.Need-enum-known-size
+enum-known-size c = search needs
+
+enum-told : tie.Need-enum-told
+enum-told c = search needs
+
+same-length : tie.Need-same-length
+same-length c = search needs
+
+returns : tie.Need-returns
+returns c = sized-full _ _ _ _ _ _ _ _ _ (c .before .before .before .before .put-whole .ensures) refl (c .enum-told .given .1)
+
+put-numbers-requires : tie.Need-put-numbers-requires
+put-numbers-requires c κs = search needs
+
+same-length-2 : tie.Need-same-length-2
+same-length-2 c = search needs
+
+returns-2 : tie.Need-returns-2
+returns-2 c = sized-next _ _ _ _ _ _ _ _ _ _ _ _ (c .before .before .before .before .before .before .before .before .before .put-whole .ensures) refl (c .before .before .before .before .before .size .given .1) (c .before .before .put-numbers .ensures)
+
+pub put-sized-spec : {M : Type 1} → statement M
+put-sized-spec =
+    tie.close
+    (tie.spec
+    put-whole-requires
+    enum-known-size
+    enum-told
+    same-length
+    returns
+    put-numbers-requires
+    same-length-2
+    returns-2)

@@ -1,0 +1,4 @@
+pub mod Elements
+pub mod Arguments
+pub mod OneElement
+pub mod Writing

@@ -1,0 +1,157 @@
+// The arguments that are carried, kind by kind, read from the bits of a message at any place.
+ghost use mathlib.Core.Path.{_≡_};
+ghost use Rattle.bits.specs.Bits.{bitsTo};
+ghost use Rattle.elements.specs.Arguments.{codeAt, facilityAt, highest, levelAt, levelTypeAt, lowest, noCode, timeAt};
+use crate::values::CodeRead;
+use crate::values::Level;
+use crate::values::LevelRead;
+use crate::values::LevelType;
+use crate::values::LevelTypeRead;
+use crate::values::Step;
+use crate::values::Time;
+use crate::values::TimeRead;
+use crate::values::refusal;
+use crate::values::type_refusal;
+use fields::Field;
+use fields::Refusal;
+
+pub(crate) fn lowest(unit: u64) -> u64
+    ensures { λ r. ⌜ r ≡ lowest unit ⌝ }
+{
+    if unit < 4 {
+        return LevelType::LOWEST[unit as usize];
+    }
+    0
+}
+
+pub(crate) fn highest(unit: u64) -> u64
+    ensures { λ r. ⌜ r ≡ highest unit ⌝ }
+{
+    if unit < 4 {
+        return LevelType::HIGHEST[unit as usize];
+    }
+    0
+}
+
+pub fn read_level_type(s: &[u8], end: usize, at: usize) -> LevelTypeRead
+    ensures { λ r. ⌜ r ≡ levelTypeAt (bitsTo (now (s .entry)) end) at ⌝ }
+{
+    let choice = fields::whole(s, end, at, 0, 3);
+    let Field::Value(unit, next) = choice else {
+        return LevelTypeRead::Refused(refusal(choice));
+    };
+    let amount = fields::whole(s, end, next, lowest(unit), highest(unit));
+    let Field::Value(number, last) = amount else {
+        return LevelTypeRead::Refused(refusal(amount));
+    };
+    LevelTypeRead::Got(
+        LevelType {
+            unit: unit as u8,
+            number: number as u16,
+        },
+        last,
+    )
+}
+
+pub fn read_level(s: &[u8], end: usize, at: usize) -> LevelRead
+    ensures { λ r. ⌜ r ≡ levelAt (bitsTo (now (s .entry)) end) at ⌝ }
+{
+    let choice = fields::whole(s, end, at, 0, 1);
+    let Field::Value(block, from) = choice else {
+        return LevelRead::Refused(refusal(choice));
+    };
+    let one = read_level_type(s, end, from);
+    let LevelTypeRead::Got(first, next) = one else {
+        return LevelRead::Refused(type_refusal(one));
+    };
+    if block == 0 {
+        return LevelRead::Got(
+            Level {
+                block: false,
+                first,
+                second: LevelType::EMPTY,
+            },
+            next,
+        );
+    }
+    let two = read_level_type(s, end, next);
+    let LevelTypeRead::Got(second, last) = two else {
+        return LevelRead::Refused(type_refusal(two));
+    };
+    LevelRead::Got(
+        Level {
+            block: true,
+            first,
+            second,
+        },
+        last,
+    )
+}
+
+pub fn read_time(s: &[u8], end: usize, at: usize) -> TimeRead
+    ensures { λ r. ⌜ r ≡ timeAt (bitsTo (now (s .entry)) end) at ⌝ }
+{
+    let first = fields::whole(s, end, at, 0, 23);
+    let Field::Value(hours, next) = first else {
+        return TimeRead::Refused(refusal(first));
+    };
+    let second = fields::whole(s, end, next, 0, 59);
+    let Field::Value(minutes, last) = second else {
+        return TimeRead::Refused(refusal(second));
+    };
+    TimeRead::Got(
+        Time {
+            hours: hours as u8,
+            minutes: minutes as u8,
+        },
+        last,
+    )
+}
+
+fn no_code(r: Refusal) -> CodeRead
+    ensures { λ c. ⌜ c ≡ noCode r ⌝ }
+{
+    CodeRead {
+        step: Step::Refused(r),
+        digits: [0; 4],
+    }
+}
+
+pub fn read_code(s: &[u8], end: usize, at: usize) -> CodeRead
+    ensures { λ r. ⌜ r ≡ codeAt (bitsTo (now (s .entry)) end) at ⌝ }
+{
+    let first = fields::whole(s, end, at, 0, 7);
+    let Field::Value(a, p) = first else {
+        return no_code(refusal(first));
+    };
+    let second = fields::whole(s, end, p, 0, 7);
+    let Field::Value(b, q) = second else {
+        return no_code(refusal(second));
+    };
+    let third = fields::whole(s, end, q, 0, 7);
+    let Field::Value(c, r) = third else {
+        return no_code(refusal(third));
+    };
+    let fourth = fields::whole(s, end, r, 0, 7);
+    let Field::Value(d, next) = fourth else {
+        return no_code(refusal(fourth));
+    };
+    CodeRead {
+        step: Step::Next(next),
+        digits: [a as u8, b as u8, c as u8, d as u8],
+    }
+}
+
+// A facility: how many characters its designation has, none where there is none.
+pub fn facility(s: &[u8], end: usize, at: usize) -> Field
+    ensures { λ r. ⌜ r ≡ facilityAt (bitsTo (now (s .entry)) end) at ⌝ }
+{
+    let choice = fields::whole(s, end, at, 0, 1);
+    let Field::Value(designated, next) = choice else {
+        return choice;
+    };
+    if designated == 0 {
+        return Field::Value(0, next);
+    }
+    fields::sized(s, end, next, 7, 4, 8)
+}

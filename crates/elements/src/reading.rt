@@ -1,0 +1,164 @@
+// An element read from the bits of a message at any place.
+ghost use mathlib.Core.Path.{_≡_};
+ghost use Rattle.bits.specs.Bits.{bitsTo};
+ghost use Rattle.elements.specs.Arguments.{atisAt, designationAt, facilityAt, freeTextAt};
+ghost use Rattle.elements.specs.OneElement.{argumentAt, charactersOf, codeArgument, elementAt, lastOf, levelArgument, noElement, timeArgument, twoLevelsArgument};
+use crate::arguments::facility;
+use crate::arguments::read_code;
+use crate::arguments::read_level;
+use crate::arguments::read_time;
+use crate::kinds::Direction;
+use crate::kinds::Kind;
+use crate::kinds::kind_of;
+use crate::values::Element;
+use crate::values::ElementRead;
+use crate::values::LevelRead;
+use crate::values::Step;
+use crate::values::TimeRead;
+use crate::values::level_refusal;
+use crate::values::refusal;
+use crate::values::step_refusal;
+use crate::values::time_refusal;
+use fields::Field;
+use fields::Refusal;
+
+fn no_element(r: Refusal) -> ElementRead
+    ensures { λ x. ⌜ x ≡ noElement r ⌝ }
+{
+    ElementRead {
+        step: Step::Refused(r),
+        element: Element::EMPTY,
+    }
+}
+
+fn level_argument(number: u8, s: &[u8], end: usize, at: usize) -> ElementRead
+    ensures { λ r. ⌜ r ≡ levelArgument number (bitsTo (now (s .entry)) end) at ⌝ }
+{
+    let one = read_level(s, end, at);
+    let LevelRead::Got(level, next) = one else {
+        return no_element(level_refusal(one));
+    };
+    let mut element = Element::EMPTY;
+    element.number = number;
+    element.level = level;
+    ElementRead {
+        step: Step::Next(next),
+        element,
+    }
+}
+
+fn two_levels_argument(number: u8, s: &[u8], end: usize, at: usize) -> ElementRead
+    ensures { λ r. ⌜ r ≡ twoLevelsArgument number (bitsTo (now (s .entry)) end) at ⌝ }
+{
+    let one = read_level(s, end, at);
+    let LevelRead::Got(level, from) = one else {
+        return no_element(level_refusal(one));
+    };
+    let two = read_level(s, end, from);
+    let LevelRead::Got(other, next) = two else {
+        return no_element(level_refusal(two));
+    };
+    let mut element = Element::EMPTY;
+    element.number = number;
+    element.level = level;
+    element.other = other;
+    ElementRead {
+        step: Step::Next(next),
+        element,
+    }
+}
+
+fn time_argument(number: u8, s: &[u8], end: usize, at: usize) -> ElementRead
+    ensures { λ r. ⌜ r ≡ timeArgument number (bitsTo (now (s .entry)) end) at ⌝ }
+{
+    let one = read_time(s, end, at);
+    let TimeRead::Got(time, next) = one else {
+        return no_element(time_refusal(one));
+    };
+    let mut element = Element::EMPTY;
+    element.number = number;
+    element.time = time;
+    ElementRead {
+        step: Step::Next(next),
+        element,
+    }
+}
+
+fn code_argument(number: u8, s: &[u8], end: usize, at: usize) -> ElementRead
+    ensures { λ r. ⌜ r ≡ codeArgument number (bitsTo (now (s .entry)) end) at ⌝ }
+{
+    let code = read_code(s, end, at);
+    let step = code.step;
+    let Step::Next(next) = step else {
+        return no_element(step_refusal(step));
+    };
+    let digits = code.digits;
+    let mut element = Element::EMPTY;
+    element.number = number;
+    element.code = digits;
+    ElementRead {
+        step: Step::Next(next),
+        element,
+    }
+}
+
+// Characters that were read, at most 256.
+fn characters(number: u8, count: Field) -> ElementRead
+    ensures { λ r. ⌜ r ≡ charactersOf number count ⌝ }
+{
+    let Field::Value(n, next) = count else {
+        return no_element(refusal(count));
+    };
+    let mut element = Element::EMPTY;
+    element.number = number;
+    element.characters = n;
+    ElementRead {
+        step: Step::Next(next),
+        element,
+    }
+}
+
+fn read_argument(kind: Kind, number: u8, s: &[u8], end: usize, at: usize) -> ElementRead
+    ensures { λ r. ⌜ r ≡ argumentAt kind number (bitsTo (now (s .entry)) end) at ⌝ }
+{
+    match kind {
+        Kind::NotCarried => no_element(Refusal::NotCarried),
+        Kind::None => {
+            let mut element = Element::EMPTY;
+            element.number = number;
+            ElementRead {
+                step: Step::Next(at),
+                element,
+            }
+        }
+        Kind::Level => level_argument(number, s, end, at),
+        Kind::TwoLevels => two_levels_argument(number, s, end, at),
+        Kind::Time => time_argument(number, s, end, at),
+        Kind::Code => code_argument(number, s, end, at),
+        Kind::FreeText => characters(number, fields::sized(s, end, at, 7, 1, 256)),
+        Kind::Facility => characters(number, facility(s, end, at)),
+        Kind::FacilityDesignation => characters(number, fields::sized(s, end, at, 7, 4, 8)),
+        Kind::AtisCode => characters(number, fields::contents(s, end, at, 7, 1)),
+    }
+}
+
+fn last_of(direction: Direction) -> u64
+    ensures { λ r. ⌜ r ≡ lastOf direction ⌝ }
+{
+    match direction {
+        Direction::Downlink => Direction::DOWNLINK_LAST,
+        Direction::Uplink => Direction::UPLINK_LAST,
+    }
+}
+
+pub fn read_element(direction: Direction, s: &[u8], end: usize, at: usize) -> ElementRead
+    ensures { λ r. ⌜ r ≡ elementAt direction (bitsTo (now (s .entry)) end) at ⌝ }
+{
+    let index = fields::extensible_index(s, end, at, last_of(direction));
+    let Field::Value(i, next) = index else {
+        return no_element(refusal(index));
+    };
+    let number = i as u8;
+    let kind = kind_of(direction, number);
+    read_argument(kind, number, s, end, next)
+}

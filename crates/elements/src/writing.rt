@@ -1,0 +1,166 @@
+// The arguments written, piece after piece. A message is measured before it is written, so that none of these is refused then.
+ghost use mathlib.Core.Path.{_≡_};
+ghost use mathlib.Core.List.{_++_};
+ghost use Rattle.bits.specs.Put.{left};
+ghost use Rattle.elements.specs.Writing.{argumentPieces, choicePiece, facilityPieces, levelPieces, levelTypePieces, numberPieces, putPieces, sizedPieces, timePieces};
+use crate::arguments::highest;
+use crate::arguments::lowest;
+use crate::kinds::Kind;
+use crate::values::Element;
+use crate::values::Level;
+use crate::values::LevelType;
+use crate::values::Time;
+use bits::Put;
+
+fn put_level_type(buf: &mut [u8], end: usize, at: usize, x: LevelType) -> Put
+    ensures { λ r. ⌜ left r (now (buf .exit)) ≡ putPieces (now (buf .entry)) end at (levelTypePieces x) ⌝ }
+{
+    let unit = x.unit as u64;
+    let first = fields::put_whole(buf, end, at, 0, 3, unit);
+    let Put::Next(next) = first else {
+        return Put::Full;
+    };
+    fields::put_whole(buf, end, next, lowest(unit), highest(unit), x.number as u64)
+}
+
+fn put_time(buf: &mut [u8], end: usize, at: usize, x: Time) -> Put
+    ensures { λ r. ⌜ left r (now (buf .exit)) ≡ putPieces (now (buf .entry)) end at (timePieces x) ⌝ }
+{
+    let first = fields::put_whole(buf, end, at, 0, 23, x.hours as u64);
+    let Put::Next(next) = first else {
+        return Put::Full;
+    };
+    fields::put_whole(buf, end, next, 0, 59, x.minutes as u64)
+}
+
+// The index of a CHOICE of two.
+fn put_choice(buf: &mut [u8], end: usize, at: usize, second: bool) -> Put
+    ensures { λ r. ⌜ left r (now (buf .exit)) ≡ putPieces (now (buf .entry)) end at (choicePiece second) ⌝ }
+{
+    if second {
+        return fields::put_whole(buf, end, at, 0, 1, 1);
+    }
+    fields::put_whole(buf, end, at, 0, 1, 0)
+}
+
+fn put_level(buf: &mut [u8], end: usize, at: usize, x: Level) -> Put
+    ensures { λ r. ⌜ left r (now (buf .exit)) ≡ putPieces (now (buf .entry)) end at (levelPieces x) ⌝ }
+{
+    let block = x.block;
+    let choice = put_choice(buf, end, at, block);
+    let Put::Next(p) = choice else {
+        return Put::Full;
+    };
+    let one = x.first;
+    let first = put_level_type(buf, end, p, one);
+    let Put::Next(q) = first else {
+        return Put::Full;
+    };
+    if block {
+        let two = x.second;
+        return put_level_type(buf, end, q, two);
+    }
+    first
+}
+
+fn wide(x: u8) -> u64
+    ensures { λ r. ⌜ r ≡ x ⌝ }
+{
+    x as u64
+}
+
+// Numbers from 0 to hi, one after another: the digits of a code, or characters.
+fn put_numbers(buf: &mut [u8], end: usize, at: usize, hi: u64, items: &[u8]) -> Put
+    ensures { λ r. ⌜ left r (now (buf .exit)) ≡ putPieces (now (buf .entry)) end at (numberPieces hi (now (items .entry))) ⌝ }
+{
+    let mut i: usize = 0;
+    let mut p = at;
+    while i < items.len() {
+        let one = fields::put_whole(buf, end, p, 0, hi, wide(items[i]));
+        let Put::Next(next) = one else {
+            return Put::Full;
+        };
+        p = next;
+        i += 1;
+    }
+    Put::Next(p)
+}
+
+// A string of a size from least to most.
+fn put_sized(buf: &mut [u8], end: usize, at: usize, least: u64, most: u64, text: &[u8]) -> Put
+    ensures { λ r. ⌜ left r (now (buf .exit)) ≡ putPieces (now (buf .entry)) end at (sizedPieces least most (now (text .entry))) ⌝ }
+{
+    let size = fields::put_whole(buf, end, at, least, most, text.len() as u64);
+    let Put::Next(next) = size else {
+        return Put::Full;
+    };
+    put_numbers(buf, end, next, 127, text)
+}
+
+// A facility: none has no characters.
+fn put_facility(buf: &mut [u8], end: usize, at: usize, text: &[u8]) -> Put
+    ensures { λ r. ⌜ left r (now (buf .exit)) ≡ putPieces (now (buf .entry)) end at (facilityPieces (now (text .entry))) ⌝ }
+{
+    if text.len() == 0 {
+        return put_choice(buf, end, at, false);
+    }
+    let choice = put_choice(buf, end, at, true);
+    let Put::Next(next) = choice else {
+        return Put::Full;
+    };
+    put_sized(buf, end, next, 4, 8, text)
+}
+
+fn put_two_levels(buf: &mut [u8], end: usize, at: usize, x: Level, y: Level) -> Put
+    ensures { λ r. ⌜ left r (now (buf .exit)) ≡ putPieces (now (buf .entry)) end at (levelPieces x ++ levelPieces y) ⌝ }
+{
+    let first = put_level(buf, end, at, x);
+    let Put::Next(next) = first else {
+        return Put::Full;
+    };
+    put_level(buf, end, next, y)
+}
+
+fn put_code(buf: &mut [u8], end: usize, at: usize, code: [u8; 4]) -> Put
+    ensures { λ r. ⌜ left r (now (buf .exit)) ≡ putPieces (now (buf .entry)) end at (numberPieces 7 code) ⌝ }
+{
+    put_numbers(buf, end, at, 7, &code)
+}
+
+// The argument of an element, whose characters are `text`.
+pub(crate) fn put_argument(
+    buf: &mut [u8],
+    end: usize,
+    at: usize,
+    kind: Kind,
+    e: Element,
+    text: &[u8],
+) -> Put
+    ensures { λ r. ⌜ left r (now (buf .exit)) ≡ putPieces (now (buf .entry)) end at (argumentPieces kind e (now (text .entry))) ⌝ }
+{
+    match kind {
+        Kind::NotCarried => Put::Full,
+        Kind::None => Put::Next(at),
+        Kind::Level => {
+            let x = e.level;
+            put_level(buf, end, at, x)
+        }
+        Kind::TwoLevels => {
+            let x = e.level;
+            let y = e.other;
+            put_two_levels(buf, end, at, x, y)
+        }
+        Kind::Time => {
+            let x = e.time;
+            put_time(buf, end, at, x)
+        }
+        Kind::Code => {
+            let x = e.code;
+            put_code(buf, end, at, x)
+        }
+        Kind::FreeText => put_sized(buf, end, at, 1, 256, text),
+        Kind::Facility => put_facility(buf, end, at, text),
+        Kind::FacilityDesignation => put_sized(buf, end, at, 4, 8, text),
+        Kind::AtisCode => put_numbers(buf, end, at, 127, text),
+    }
+}

@@ -5,18 +5,23 @@
  *
  * Users open and close dialogues at random. At each end a broker hands out jobs, each with a message for the other end. The
  * broker hears late that a job was taken, so it delivers a job one to three times; the card refuses the second and third
- * as REPEAT. Timers expire, ends break down and the carrier fails, all at random from the seed. The host then lets every
- * line run empty and prints an account. Status 0: no user saw a message twice or behind a later one, no message is
- * missing that the carrier did not lose, and no dialogue is half closed.
+ * as REPEAT. Jobs come from the broker as envelopes (mail.h), and it gets back as envelopes what is delivered and what is
+ * refused. Timers expire, ends break down and the carrier fails, all at random from the seed. The host then lets every line
+ * run empty and prints an account.
  *
- * Where to begin: `act` does what the answer of a call says, `hand_over` makes a call of an entry of a line, `offer` is
- * the broker's job, and `step` picks what happens next.
+ * Status 0: whenever both lines of a dialogue were empty its ends matched (`matching`) and, unless something broke the
+ * dialogue, every message was handed out (`complete`); the messages that a user saw in a dialogue were in order the first
+ * so many that the other end took (`message_seen`); and no end took a job twice (`taken`).
+ *
+ * Where to begin: `act` does what the answer of a call says, `hand_over` makes a call of an entry of a line, `offer` takes
+ * the broker's mail, and `step` picks what happens next.
  */
 #include <stdio.h>
 #include <stdlib.h>
 #include <string.h>
 
 #include "carrier.h"
+#include "mail.h"
 
 #define DIALOGUES 48
 #define LATE 4 /* jobs whose acknowledgement is under way */
@@ -30,10 +35,16 @@ struct late {
 
 struct end {
     uint8_t rec[PEAT_RECORD_BYTES];
+    struct end *peer;
     struct line out;        /* what this end sent and the carrier has not delivered */
     uint64_t next_job;      /* the broker's next job for this end; the one after it is offered when this one is taken */
     struct late late[LATE]; /* jobs that were taken, but the broker does not know it yet */
-    uint64_t last_seen;     /* the job of the last message that this end's user saw */
+    uint64_t last_seen;     /* the job of the last message that this end's broker saw */
+    uint64_t deliveries;    /* the envelopes that it got with a delivered message */
+    /* of the dialogue that is open, or was last */
+    uint64_t first_job;     /* the first job that this end could take in it */
+    uint64_t seen;          /* the messages that were handed out to this end in it */
+    int broke;              /* this end invoked D-ABORT in it, or the carrier failed */
 };
 
 /* a dialogue: the air end, the ground end */
@@ -45,18 +56,20 @@ static struct dialogue dialogues[DIALOGUES];
 
 static struct end *air(struct dialogue *d) { return &d->end[0]; }
 static struct end *ground(struct dialogue *d) { return &d->end[1]; }
-static struct end *other(struct dialogue *d, const struct end *e) { return e == air(d) ? ground(d) : air(d); }
 
 static unsigned state(const struct end *e) { return peat_record_state(e->rec); }
 static int idle(const struct end *e) { return state(e) == PEAT_IDLE; }
 static int is_air(const struct end *e) { return peat_record_side(e->rec) == PEAT_AIR; }
 
+/* both lines are empty */
+static int quiet(struct dialogue *d) { return air(d)->out.entries == 0 && ground(d)->out.entries == 0; }
+
 /* ---- the account */
 
 static struct account {
-    unsigned long offered, taken, repeat, prohibited, taken_twice;
-    unsigned long delivered, lost, missing, deck_duplicates, ground_duplicates;
-    unsigned long opened, closed, aborted, failed, half_closed, refused;
+    unsigned long offered, taken, repeat, prohibited, taken_twice, read, written;
+    unsigned long delivered, lost, missing, misplaced, incomplete, deck_duplicates, ground_duplicates;
+    unsigned long opened, closed, aborted, failed, turned_back, expired, errors, half_closed, refused;
 } account;
 
 /* ---- chance */
@@ -71,45 +84,146 @@ static unsigned chance(unsigned n) /* 0 to n - 1 */
     return (unsigned)((z ^ z >> 31) % n);
 }
 
-/* ---- what the user of an end sees */
-
-/* The number in the next n bits; the highest bit of a byte is its first. */
-static uint64_t take_bits(const uint8_t *bytes, unsigned *at, unsigned n)
+/* What may not be refused, and was. */
+static void must(unsigned refusal)
 {
-    uint64_t v = 0;
-    for (; n > 0; n--, ++*at)
-        v = v << 1 | (bytes[*at / 8] >> (7 - *at % 8) & 1);
-    return v;
+    if (refusal != PEAT_TAKEN)
+        account.refused++;
 }
 
-/* A broker's jobs are 1, 2, 3, .. in the order in which it offers them. A message of this host is the job's
-   number in 64 bits. Message data: no extension, no identifier, a message; its length, 64; the message; the check. */
-static uint64_t job_in(const uint8_t *data)
+/* ---- messages: the job's number in 64 bits, and then some bits, more or fewer, that no other job has there */
+
+#define MESSAGE_BYTES 40
+
+static unsigned message_of(const struct end *from, uint64_t job, uint8_t *message)
 {
-    unsigned at = 0;
-    if (take_bits(data, &at, 3) != 1 || take_bits(data, &at, 8) != 64)
+    unsigned bits = 64 + (unsigned)(job * 29 % 250), i;
+    for (i = 0; i < (bits + 7) / 8; i++)
+        message[i] = (uint8_t)(i < 8 ? job >> (56 - 8 * i) : job * i + is_air(from));
+    if (bits % 8 != 0)
+        message[bits / 8] &= (uint8_t)(0xFF00u >> bits % 8);
+    return bits;
+}
+
+/* ---- the broker of an end, which reads and writes envelopes */
+
+static void post(struct mail *m, unsigned kind, uint64_t job, unsigned bits, const uint8_t *body)
+{
+    account.written++;
+    must(mail_put(m, kind, job, bits, body));
+}
+
+/* the next envelope of a mail, if there is one */
+static int open_next(const struct mail *m, size_t *at, struct letter *l)
+{
+    unsigned refusal;
+    if (*at == m->bytes)
         return 0;
-    return take_bits(data, &at, 64);
+    account.read++;
+    refusal = mail_take(m, at, l);
+    must(refusal);
+    return refusal == PEAT_TAKEN;
 }
 
-static void message_seen(struct end *e, const uint8_t *data)
+static void post_job(struct end *e, struct mail *m, uint64_t job)
 {
-    uint64_t job = job_in(data);
-    if (job > e->last_seen) {
+    uint8_t message[MESSAGE_BYTES];
+    unsigned bits = message_of(e, job, message);
+    account.offered++;
+    post(m, PEAT_ENVELOPE_TO_SEND, job, bits, message);
+}
+
+/* It hands out a job whose acknowledgement is late again, and the next job. */
+static void hand_out(struct end *e, struct mail *m)
+{
+    struct late *again = &e->late[chance(LATE)];
+    int repeats = again->times > 0;
+    if (repeats)
+        post_job(e, m, again->job);
+    if (!repeats || chance(2))
+        post_job(e, m, e->next_job);
+}
+
+/* A job was taken, which the broker may hear late: it is the next one, or else one is taken twice. */
+static void taken(struct end *e, uint64_t job)
+{
+    struct late *l = &e->late[chance(LATE)];
+    account.taken++;
+    account.taken_twice += job != e->next_job;
+    e->next_job++;
+    if (l->times == 0) {
+        l->job = job;
+        l->times = chance(3);
+    }
+}
+
+/* A job that the card knows (REPEAT) is acknowledged; one that it can not take now (PROHIBITED) stays with the broker. */
+static void refusal_seen(struct end *e, uint64_t job, unsigned refusal)
+{
+    int i;
+    if (refusal == PEAT_PROHIBITED) {
+        account.prohibited++;
+    } else if (refusal == PEAT_REPEAT) {
+        account.repeat++;
+        for (i = 0; i < LATE; i++)
+            e->late[i].times -= e->late[i].job == job && e->late[i].times > 0;
+    } else {
+        must(refusal);
+    }
+}
+
+/* In a dialogue the messages handed out are in order the first so many that the other end took. */
+static void message_seen(struct end *e, const uint8_t *message, unsigned bits)
+{
+    uint8_t want[MESSAGE_BYTES];
+    uint64_t job = 0, next = e->peer->first_job + e->seen;
+    unsigned i;
+    for (i = 0; i < 8 && bits >= 64; i++)
+        job = job << 8 | message[i];
+    if (job <= e->last_seen) {
+        ++*(is_air(e) ? &account.deck_duplicates : &account.ground_duplicates);
+    } else if (next < e->peer->next_job && bits == message_of(e->peer, next, want) && memcmp(message, want, (bits + 7) / 8) == 0) {
         account.delivered++;
         e->last_seen = job;
-    } else if (is_air(e)) {
-        account.deck_duplicates++;
+        e->seen++;
     } else {
-        account.ground_duplicates++;
+        account.misplaced++;
     }
+}
+
+/* It gets back what was delivered to this end, and what was refused. */
+static void broker_gets(struct end *e, const struct mail *m)
+{
+    struct letter l;
+    size_t at = 0;
+    while (open_next(m, &at, &l)) {
+        if (l.kind == PEAT_ENVELOPE_DELIVERED)
+            message_seen(e, l.body, l.bits);
+        else if (l.kind == PEAT_ENVELOPE_REFUSAL)
+            refusal_seen(e, l.job, l.body[0]);
+        else
+            must(PEAT_KIND);
+    }
+}
+
+/* ---- what the user of an end is told */
+
+/* A delivered message goes to the broker of this end. The envelope's job is its number among those of this end. */
+static void pass_on(struct end *e, const uint8_t *data, size_t bytes)
+{
+    struct mail m = {0};
+    uint8_t message[PEAT_BUFFER_LEAST];
+    uint64_t part = peat_data_part(PEAT_PART_MESSAGE, data, bytes, message, sizeof message);
+    must(peat_refusal(part));
+    post(&m, PEAT_ENVELOPE_DELIVERED, ++e->deliveries, peat_part_bits(part), message);
+    broker_gets(e, &m);
 }
 
 static void user_told(struct end *e, uint64_t answer, const uint8_t *data)
 {
     unsigned accepted = peat_told_parameter(answer) == PEAT_ACCEPTED;
     switch (peat_told(answer)) {
-    case PEAT_MESSAGE_INDICATION: message_seen(e, data); break;
+    case PEAT_MESSAGE_INDICATION: pass_on(e, data, peat_data_bytes(answer)); break;
     case PEAT_START_CONFIRMATION: account.opened += accepted; break;
     case PEAT_END_CONFIRMATION: account.closed += accepted; break;
     }
@@ -142,6 +256,7 @@ static unsigned act(struct end *e, uint64_t answer)
         return peat_refusal(answer);
     if (peat_invoked(answer) == PEAT_D_ABORT_REQUEST) {
         account.aborted++;
+        e->broke = 1;
         lose_youngest(&e->out, chance(e->out.entries + 1));
     }
     if (peat_invoked(answer) != PEAT_SILENT) {
@@ -161,13 +276,6 @@ static unsigned act(struct end *e, uint64_t answer)
 #define BUFFERS first, sizeof first, second, sizeof second
 #define NO_RANGE NULL, 0
 #define NO_MESSAGE NO_RANGE, NO_RANGE, PEAT_NONE, NO_RANGE, 0 /* no identifier, no message, a check of no bits */
-
-/* What this host's own users and reports may not be: refused. */
-static void must(unsigned refusal)
-{
-    if (refusal != PEAT_TAKEN)
-        account.refused++;
-}
 
 /* ---- what may happen */
 
@@ -189,9 +297,9 @@ static uint64_t arrives(struct end *to, const struct entry *e)
 }
 
 /* The oldest entry of an end's line is handed over. What reaches an IDLE end is discarded, but for a start. */
-static void hand_over(struct dialogue *d, struct end *from)
+static void hand_over(struct end *from)
 {
-    struct end *to = other(d, from);
+    struct end *to = from->peer;
     unsigned long seen = account.delivered;
     struct entry *e;
     if (from->out.entries == 0 || !line_has_room(&to->out, 1))
@@ -206,33 +314,38 @@ static void hand_over(struct dialogue *d, struct end *from)
         account.missing++;
 }
 
-/* The broker hands a job to its end: again one whose acknowledgement is late, or the next one. A job that the card takes
-   or knows is acknowledged; one that it takes at no time now (PROHIBITED) stays with the broker. */
+/* A job's message is given to the card; a refusal goes back to the broker. */
+static void request(struct end *e, const struct letter *l)
+{
+    uint8_t check[4] = {0};
+    unsigned i, refusal;
+    for (i = 0; i < (l->bits + 7) / 8; i++)
+        check[i % 4] ^= l->body[i];
+    refusal = act(e, peat_message_request(REC(e), l->job, NO_RANGE, l->body, (l->bits + 7) / 8, l->bits, check, sizeof check, 32, BUFFERS));
+    if (refusal == PEAT_TAKEN) {
+        taken(e, l->job);
+    } else {
+        struct mail back = {0};
+        uint8_t number = (uint8_t)refusal;
+        post(&back, PEAT_ENVELOPE_REFUSAL, l->job, 8, &number);
+        broker_gets(e, &back);
+    }
+}
+
+/* The broker of an end hands over its mail: messages to send. */
 static void offer(struct end *e)
 {
-    struct late *again = &e->late[chance(LATE)];
-    uint64_t job = again->times > 0 ? again->job : e->next_job;
-    uint8_t message[8], check[4] = {0};
-    unsigned i, refusal;
+    struct mail m = {0};
+    struct letter l;
+    size_t at = 0;
     if (!line_has_room(&e->out, 8)) /* leaves room for what must be sent later */
         return;
-    for (i = 0; i < 8; i++)
-        message[i] = (uint8_t)(job >> (56 - 8 * i));
-    for (i = 0; i < 8; i++)
-        check[i % 4] ^= message[i];
-    account.offered++;
-    refusal = act(e, peat_message_request(REC(e), job, NO_RANGE, message, sizeof message, 64, check, sizeof check, 32, BUFFERS));
-    if (refusal == PEAT_PROHIBITED) {
-        account.prohibited++;
-    } else if (refusal == PEAT_REPEAT) {
-        account.repeat++;
-        again->times--;
-    } else {
-        must(refusal);
-        account.taken++;
-        account.taken_twice += job != e->next_job;
-        again->job = e->next_job++;
-        again->times = chance(3);
+    hand_out(e, &m);
+    while (open_next(&m, &at, &l)) {
+        if (l.kind == PEAT_ENVELOPE_TO_SEND)
+            request(e, &l);
+        else
+            must(PEAT_KIND);
     }
 }
 
@@ -240,8 +353,14 @@ static void offer(struct end *e)
 static void start(struct dialogue *d, struct end *e)
 {
     unsigned class_ = chance(PEAT_CLASS_H + 1);
-    if (!idle(air(d)) || !idle(ground(d)) || air(d)->out.entries > 0 || ground(d)->out.entries > 0)
+    int i;
+    if (!idle(air(d)) || !idle(ground(d)) || !quiet(d))
         return;
+    for (i = 0; i < 2; i++) {
+        d->end[i].first_job = d->end[i].next_job;
+        d->end[i].seen = 0;
+        d->end[i].broke = 0;
+    }
     if (is_air(e) && chance(2))
         must(act(e, peat_dsc_start_request(REC(e), class_, PEAT_NO_SECURITY, NO_MESSAGE, BUFFERS)));
     else
@@ -271,18 +390,28 @@ static void respond(struct end *e)
 /* The clock: a running timer expires now and then. */
 static void expire(struct end *e)
 {
-    if (peat_record_timer(e->rec))
+    if (peat_record_timer(e->rec)) {
+        account.expired++;
         must(act(e, peat_timer_expiry(REC(e), BUFFERS)));
+    }
 }
 
 /* The carrier cannot deliver a start: it removes it and tells the starting end. */
 static void turn_back(struct end *e)
 {
     if (state(e) == PEAT_START_REQ && e->out.entries > 0) {
+        account.turned_back++;
         lose_youngest(&e->out, e->out.entries);
         must(act(e, peat_d_start_confirmation(REC(e), PEAT_REJECTED_TRANSIENT, PEAT_DS_PROVIDER, PEAT_NO_SECURITY,
             PEAT_NO_USER_DATA, NO_RANGE, BUFFERS)));
     }
+}
+
+/* An end breaks down. */
+static void break_down(struct end *e)
+{
+    account.errors += !idle(e);
+    must(act(e, peat_system_error(REC(e), BUFFERS)));
 }
 
 /* The carrier fails: both lines are emptied, and each end that is not IDLE hears of it. */
@@ -290,22 +419,41 @@ static void fail(struct dialogue *d)
 {
     int i;
     account.failed++;
-    for (i = 0; i < 2; i++)
+    for (i = 0; i < 2; i++) {
+        d->end[i].broke = 1;
         lose_youngest(&d->end[i].out, d->end[i].out.entries);
+    }
     for (i = 0; i < 2; i++)
         if (!idle(&d->end[i]))
             must(act(&d->end[i], peat_d_p_abort_indication(REC(&d->end[i]), BUFFERS)));
 }
 
-/* With both lines empty the two ends match: both IDLE, one START-REQ and the other START-IND, or the same in state and DSC. */
+/* The two ends match: both IDLE, one START-REQ and the other START-IND, or both DIALOGUE or END with the same DSC. */
 static int matching(struct dialogue *d)
 {
     unsigned a = state(air(d)), g = state(ground(d));
-    if (air(d)->out.entries > 0 || ground(d)->out.entries > 0)
-        return 1;
     if (a == PEAT_START_REQ || g == PEAT_START_REQ)
         return a + g == PEAT_START_REQ + PEAT_START_IND;
     return a == g && a != PEAT_START_IND && peat_record_dsc(air(d)->rec) == peat_record_dsc(ground(d)->rec);
+}
+
+/* All that each end took in a dialogue was handed out to the other, unless something broke it. */
+static int complete(struct dialogue *d)
+{
+    int i;
+    for (i = 0; i < 2; i++)
+        if (d->end[i].seen != d->end[1 - i].next_job - d->end[1 - i].first_job)
+            return air(d)->broke || ground(d)->broke;
+    return 1;
+}
+
+/* With both lines empty. */
+static void examine(struct dialogue *d)
+{
+    if (quiet(d)) {
+        account.half_closed += !matching(d);
+        account.incomplete += !complete(d);
+    }
 }
 
 /* One thing happens in one dialogue. */
@@ -315,7 +463,7 @@ static void step(void)
     struct end *e = &d->end[chance(2)];
     unsigned what = chance(1000);
     if (what < 450)
-        hand_over(d, e);
+        hand_over(e);
     else if (what < 750)
         offer(e);
     else if (what < 900)
@@ -327,26 +475,27 @@ static void step(void)
     else if (what < 996)
         turn_back(e);
     else if (what < 998)
-        must(act(e, peat_system_error(REC(e), BUFFERS)));
+        break_down(e);
     else
         fail(d);
-    account.half_closed += !matching(d);
+    examine(d);
 }
 
 /* Lets the lines run empty. */
 static void drain(struct dialogue *d)
 {
-    while (air(d)->out.entries > 0 || ground(d)->out.entries > 0) {
-        hand_over(d, air(d));
-        hand_over(d, ground(d));
+    while (!quiet(d)) {
+        hand_over(air(d));
+        hand_over(ground(d));
     }
-    account.half_closed += !matching(d);
+    examine(d);
 }
 
 static int good(void)
 {
-    return account.deck_duplicates == 0 && account.ground_duplicates == 0 && account.missing == 0 &&
-           account.taken == account.delivered + account.lost && account.taken_twice == 0 && account.half_closed == 0 && account.refused == 0;
+    return account.deck_duplicates == 0 && account.ground_duplicates == 0 && account.misplaced == 0 && account.missing == 0 &&
+           account.incomplete == 0 && account.taken == account.delivered + account.lost && account.taken_twice == 0 &&
+           account.half_closed == 0 && account.refused == 0;
 }
 
 static void print_account(void)
@@ -356,14 +505,18 @@ static void print_account(void)
     printf("  refused as REPEAT                  %lu\n", account.repeat);
     printf("  refused as PROHIBITED, kept        %lu\n", account.prohibited);
     printf("  taken a second time                %lu\n", account.taken_twice);
+    printf("envelopes read, written              %lu, %lu\n", account.read, account.written);
     printf("messages delivered in order          %lu\n", account.delivered);
     printf("  lost with a broken dialogue        %lu\n", account.lost);
     printf("  arrived, but not handed out        %lu\n", account.missing);
+    printf("  handed out, but not in their place %lu\n", account.misplaced);
+    printf("  missing where nothing broke        %lu\n", account.incomplete);
     printf("duplicates seen by a flight deck     %lu\n", account.deck_duplicates);
     printf("duplicates seen by a controller      %lu\n", account.ground_duplicates);
     printf("dialogues opened                     %lu\n", account.opened);
     printf("  ended by both                      %lu\n", account.closed);
     printf("  D-ABORTs, failures of the carrier  %lu, %lu\n", account.aborted, account.failed);
+    printf("  turned back, expired, broken down  %lu, %lu, %lu\n", account.turned_back, account.expired, account.errors);
     printf("dialogues left half closed           %lu\n", account.half_closed);
     printf("calls refused that may not be        %lu\n", account.refused);
 }
@@ -377,7 +530,10 @@ int main(int argc, char **argv)
         if (peat_fresh(REC(air(&dialogues[i])), PEAT_AIR, PEAT_NO_SECURITY) != PEAT_TAKEN ||
             peat_fresh(REC(ground(&dialogues[i])), PEAT_GROUND, PEAT_NO_SECURITY) != PEAT_TAKEN)
             return 2;
+        air(&dialogues[i])->peer = ground(&dialogues[i]);
+        ground(&dialogues[i])->peer = air(&dialogues[i]);
         air(&dialogues[i])->next_job = ground(&dialogues[i])->next_job = 1;
+        air(&dialogues[i])->first_job = ground(&dialogues[i])->first_job = 1;
     }
     for (n = 0; n < steps; n++)
         step();

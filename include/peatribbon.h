@@ -5,24 +5,28 @@
  * with two output buffers. A call tells the record's machine of one event: a primitive of the user, a primitive of the
  * dialogue service, the expiry of t-start, or a system error. It answers a number that says which primitive the machine
  * invokes of the dialogue service and which of the user. The APDU for the one stands in the first buffer, the message data
- * for the other in the second.
+ * for the other in the second. These are the machine's calls. The others have no record: they take message data apart, read
+ * and write the broker's envelope, and read and write a CPDLC message.
  *
  * Ranges. A range is a pointer and, as the next parameter, its length in bytes.
  *   - A call reads and writes inside the ranges that it is lent, keeps no pointer, allocates nothing and has no memory of
- *     its own: calls on different records may run at the same time.
- *   - LENT RANGES MUST NOT OVERLAP: no byte of rec, first or second may be a byte of any other range of the same call.
- *     (ids, msgs and checks are only read; they may share bytes with each other.) This is the host's to keep. No call can
- *     see it, and the promises below do not hold without it.
+ *     its own: calls on different records and buffers may run at the same time.
+ *   - LENT RANGES MUST NOT OVERLAP: no byte of a range that is lent without const (rec, first, second, out, and message and
+ *     text where they are read into) may be a byte of any other range of the same call. (Ranges lent as const are only
+ *     read; they may share bytes with each other.) This is the host's to keep. No call can see it, and the promises below do
+ *     not hold without it.
  *   - A range of length 0 is never looked at. Its pointer may be any pointer, the null pointer too.
  *
  * Numbers. A code is a uint64_t; a value outside its type is PEAT_SHAPE.
  *
- * Answers. Not refused: the lowest 8 bits are 0 and the functions peat_invoked .. peat_data_bytes below read the rest.
- * Refused: the number of the refusal, all other bits 0, and NO byte of rec, first or second has changed. The refusals are
- * tried in the order ROOM, SHAPE, PROHIBITED, NO_MESSAGE, REPEAT. A primitive of the dialogue service is refused with
- * ROOM or SHAPE only: user data that is no valid PDU is not refused but answered as the protocol says.
+ * Answers. Not refused: the lowest 8 bits are 0 and functions below read the rest, peat_invoked .. peat_data_bytes that of
+ * the machine's calls, peat_part_given .. peat_written_bytes that of message data and the envelope, peat_message_characters
+ * and peat_message_bits that of the message's. Refused: the number of the refusal, all other bits 0, and NO byte of any lent
+ * range has changed. (peat_envelope_job alone answers a plain number.) The refusals are tried in the order ROOM, SHAPE,
+ * PROHIBITED, NO_MESSAGE, REPEAT. A primitive of the dialogue service is refused with ROOM or SHAPE only: user data that is
+ * no valid PDU is not refused but answered as the protocol says.
  *
- * What a call writes, if it is not refused:
+ * What a machine's call writes, if it is not refused:
  *   - rec, 16 bytes: the record after the event;
  *   - first, from its first byte on, peat_apdu_bytes(answer) bytes; the bits after the last bit of the APDU are zero;
  *   - second, from its first byte on, peat_data_bytes(answer) bytes; likewise.
@@ -50,34 +54,39 @@ extern "C" {
 #define PEAT_IDENTIFIER_MOST 16 /* algorithm identifier, contents octets; 0 octets: no identifier */
 #define PEAT_MESSAGE_MOST 2048 /* CPDLC message, bits */
 #define PEAT_CHECK_MOST 64     /* integrity check, bits */
+#define PEAT_ENVELOPE_MOST 269 /* an envelope, bytes */
+#define PEAT_INNER_BYTES 132   /* a message range, exactly */
+#define PEAT_INNER_PLACES 5    /* the elements of a message, at most */
 
 /* The count or reason that says "none": no message, no abort reason. */
 #define PEAT_NONE ((uint64_t)-1)
 
 /* ---- refusals */
 
-/* The calls of this header answer 0 to 5. The others are those of decoding (10 to 17) and of the broker's envelope
-   (20 to 23); an envelope of kind 3 carries any of them. */
+/* The machine's calls answer 0 to 5, the readers of a message and of message data 1, 2 and 10 to 17, the reader of an
+   envelope 20 to 23, and the two writers 1 and 2. A machine's call that meets 10 to 17 in user data does as the protocol
+   says. An envelope of kind 3 carries any of these numbers. */
 enum peat_refusal {
     PEAT_TAKEN = 0,      /* not refused */
     PEAT_ROOM = 1,       /* an output buffer is under PEAT_BUFFER_LEAST bytes */
     PEAT_SHAPE = 2,      /* an argument breaks the sizes, its type or its codes; rec is not a record; a count is more than
-                            the lent bytes hold */
+                            the lent bytes hold; an envelope to write that reading refuses; an element to write that is
+                            not carried */
     PEAT_PROHIBITED = 3, /* a user primitive with no action in this state, or an expiry while no timer runs */
     PEAT_NO_MESSAGE = 4, /* a message request without a CPDLC message */
     PEAT_REPEAT = 5,     /* a message request whose job number is not above the highest that the record has taken */
-    PEAT_SHORT = 10,
-    PEAT_RANGE = 11,
-    PEAT_EXTENSION = 12,
-    PEAT_LENGTH_FORM = 13,
-    PEAT_LIMIT = 14,
-    PEAT_TAIL = 15,
-    PEAT_NOT_CARRIED = 16,
-    PEAT_DEFAULT = 17,
-    PEAT_CUT = 20,
-    PEAT_GROUPS = 21,
-    PEAT_KIND = 22,
-    PEAT_SIZE = 23
+    PEAT_SHORT = 10,       /* the bits end inside a field */
+    PEAT_RANGE = 11,       /* a value outside its type */
+    PEAT_EXTENSION = 12,   /* an extension bit is 1 */
+    PEAT_LENGTH_FORM = 13, /* a length not in its shortest form, or fragmented */
+    PEAT_LIMIT = 14,       /* well formed, outside the sizes */
+    PEAT_TAIL = 15,        /* a padding bit is 1, or whole bytes follow; of a message: any bit left over */
+    PEAT_NOT_CARRIED = 16, /* an element whose argument kind the card does not carry, or constrained data */
+    PEAT_DEFAULT = 17,     /* a field is present with its default value */
+    PEAT_CUT = 20,       /* an envelope ends inside */
+    PEAT_GROUPS = 21,    /* a number not in its shortest form or above 2^64 - 1, or job 0 */
+    PEAT_KIND = 22,      /* a kind that is none of enum peat_envelope */
+    PEAT_SIZE = 23       /* a bit count over PEAT_MESSAGE_MOST, a padding bit that is 1, or a refusal of other than 8 bits */
 };
 
 /* ---- codes */
@@ -150,7 +159,27 @@ enum peat_provider_reason {
     PEAT_NOT_PERMITTED_PDU = 8
 };
 
-/* ---- the answer */
+/* who sends a message: the aircraft down, the ground up */
+enum peat_direction { PEAT_DOWNLINK = 1, PEAT_UPLINK = 2 };
+
+/* the unit of a level, and the numbers that it has. Feet and metres may be below zero, so they are counted from the lowest. */
+enum peat_unit {
+    PEAT_FEET = 0,               /* tens of feet, 0 to 7060: 0 is PEAT_FEET_LOWEST */
+    PEAT_METRES = 1,             /* 0 to 25030: 0 is PEAT_METRES_LOWEST */
+    PEAT_FLIGHT_LEVEL = 2,       /* 30 to 700 */
+    PEAT_METRIC_FLIGHT_LEVEL = 3 /* tens of metres, 100 to 2500 */
+};
+#define PEAT_FEET_LOWEST (-60)
+#define PEAT_METRES_LOWEST (-30)
+
+/* what an envelope is: its kind */
+enum peat_envelope {
+    PEAT_ENVELOPE_TO_SEND = 1,   /* a message to send: its bits */
+    PEAT_ENVELOPE_DELIVERED = 2, /* a delivered message: its bits */
+    PEAT_ENVELOPE_REFUSAL = 3    /* a refusal: its number in 8 bits */
+};
+
+/* ---- the answer of a machine's call */
 
 /* the primitive of the dialogue service that the host invokes, with the APDU of the first buffer as its user data */
 enum peat_invoked {
@@ -214,9 +243,96 @@ static inline size_t peat_apdu_bytes(uint64_t answer) { return (peat_apdu_bits(a
 /* The message data in the second buffer, likewise. They are in unaligned PER: a bit 0; a bit, whether there is an
    identifier; a bit, whether there is a message; the identifier, as its octets counted in 8 bits and then the octets; the
    message, as its bits counted and then the bits; the check, likewise. A count of bits under 128 takes 8 bits, a greater
-   one takes 16: the bits 10 and then 14 bits. */
+   one takes 16: the bits 10 and then 14 bits. peat_data_part takes one of them out. */
 static inline unsigned peat_data_bits(uint64_t answer) { return peat_bits_of(answer, PEAT_DATA_BITS_AT, PEAT_COUNT_BITS); }
 static inline size_t peat_data_bytes(uint64_t answer) { return (peat_data_bits(answer) + 7u) / 8u; }
+
+/* a part of message data, for peat_data_part */
+enum peat_part { PEAT_PART_IDENTIFIER = 0, PEAT_PART_MESSAGE = 1, PEAT_PART_CHECK = 2 };
+
+/* bits of what it answers; the lowest 8 are the refusal */
+#define PEAT_PART_GIVEN_AT 8
+#define PEAT_PART_GIVEN_BITS 8
+#define PEAT_PART_BITS_AT 16
+#define PEAT_PART_BITS_BITS 16
+
+/* 1: the part is there, 0: it is not; its bits, and the bytes that they take of the buffer */
+static inline unsigned peat_part_given(uint64_t answer) { return peat_bits_of(answer, PEAT_PART_GIVEN_AT, PEAT_PART_GIVEN_BITS); }
+static inline unsigned peat_part_bits(uint64_t answer) { return peat_bits_of(answer, PEAT_PART_BITS_AT, PEAT_PART_BITS_BITS); }
+static inline size_t peat_part_bytes(uint64_t answer) { return (peat_part_bits(answer) + 7u) / 8u; }
+
+/* ---- the answer of an envelope's call */
+
+/* bits of what peat_read_envelope answers; the lowest 8 are the refusal */
+#define PEAT_ENVELOPE_KIND_AT 8
+#define PEAT_ENVELOPE_KIND_BITS 8
+#define PEAT_ENVELOPE_BITS_AT 16
+#define PEAT_ENVELOPE_BODY_AT 32
+#define PEAT_ENVELOPE_NEXT_AT 48
+#define PEAT_ENVELOPE_COUNT_BITS 16
+
+/* of what peat_write_envelope answers, likewise */
+#define PEAT_WRITTEN_BYTES_AT 8
+#define PEAT_WRITTEN_BYTES_BITS 16
+
+/* enum peat_envelope; the bits of the body; the bytes before the body; and the bytes before the next envelope, which are
+   those of this one */
+static inline unsigned peat_envelope_kind(uint64_t answer) { return peat_bits_of(answer, PEAT_ENVELOPE_KIND_AT, PEAT_ENVELOPE_KIND_BITS); }
+static inline unsigned peat_envelope_bits(uint64_t answer) { return peat_bits_of(answer, PEAT_ENVELOPE_BITS_AT, PEAT_ENVELOPE_COUNT_BITS); }
+static inline size_t peat_envelope_body(uint64_t answer) { return peat_bits_of(answer, PEAT_ENVELOPE_BODY_AT, PEAT_ENVELOPE_COUNT_BITS); }
+static inline size_t peat_envelope_next(uint64_t answer) { return peat_bits_of(answer, PEAT_ENVELOPE_NEXT_AT, PEAT_ENVELOPE_COUNT_BITS); }
+
+/* the bytes that the envelope takes of the buffer */
+static inline size_t peat_written_bytes(uint64_t answer) { return peat_bits_of(answer, PEAT_WRITTEN_BYTES_AT, PEAT_WRITTEN_BYTES_BITS); }
+
+/* ---- the answer of a message's call */
+
+/* of both calls: bits of the answer above the refusal */
+#define PEAT_MESSAGE_COUNT_AT 8
+#define PEAT_MESSAGE_COUNT_BITS 16
+
+/* what reading left in the text; what writing left in the buffer: bits, and the bytes that they take */
+static inline unsigned peat_message_characters(uint64_t answer) { return peat_bits_of(answer, PEAT_MESSAGE_COUNT_AT, PEAT_MESSAGE_COUNT_BITS); }
+static inline unsigned peat_message_bits(uint64_t answer) { return peat_bits_of(answer, PEAT_MESSAGE_COUNT_AT, PEAT_MESSAGE_COUNT_BITS); }
+static inline size_t peat_message_bytes(uint64_t answer) { return (peat_message_bits(answer) + 7u) / 8u; }
+
+/* ---- the message range: 132 bytes that the host may keep anywhere, read and write; of a number in two bytes the more
+ * significant is first
+ *
+ * The front, then PEAT_INNER_PLACES places of PEAT_PLACE_BYTES bytes each, the first at PEAT_PLACE_FIRST: the elements in
+ * order, one a place. What is absent, what an element's argument kind does not use, and places not used are zero.
+ */
+
+#define PEAT_INNER_IDENTIFICATION 0 /* 0 to 63 */
+#define PEAT_INNER_REFERENCED 1     /* 1: there is a reference number; 0: there is none */
+#define PEAT_INNER_REFERENCE 2      /* 0 to 63 */
+#define PEAT_INNER_YEAR 3           /* two bytes: 1996 to 2095 */
+#define PEAT_INNER_MONTH 5          /* 1 to 12 */
+#define PEAT_INNER_DAY 6            /* 1 to 31 */
+#define PEAT_INNER_HOURS 7          /* 0 to 23 */
+#define PEAT_INNER_MINUTES 8        /* 0 to 59 */
+#define PEAT_INNER_SECONDS 9        /* 0 to 59 */
+#define PEAT_INNER_ACKNOWLEDGED 10  /* 1: a logical acknowledgement is required; 0: it is not */
+#define PEAT_INNER_COUNT 11         /* the places used, 1 to PEAT_INNER_PLACES, from the first on */
+#define PEAT_PLACE_FIRST 12
+#define PEAT_PLACE_BYTES 24
+
+/* bytes of a place */
+#define PEAT_PLACE_NUMBER 0     /* the element's number, uM0 to uM236 or dM0 to dM113 */
+#define PEAT_PLACE_CHARACTERS 1 /* two bytes: how many characters of the text are its own */
+#define PEAT_PLACE_LEVEL 3      /* a level, or the first of two */
+#define PEAT_PLACE_OTHER 10     /* the other level of two */
+#define PEAT_PLACE_HOURS 17
+#define PEAT_PLACE_MINUTES 18
+#define PEAT_PLACE_CODE 19      /* four digits, 0 to 7 */
+#define PEAT_PLACE_ZERO 23
+
+/* bytes of a level */
+#define PEAT_LEVEL_BLOCK 0         /* 1: a block of two; 0: one level, and the second is zero */
+#define PEAT_LEVEL_UNIT 1          /* enum peat_unit */
+#define PEAT_LEVEL_NUMBER 2        /* two bytes */
+#define PEAT_LEVEL_SECOND_UNIT 4   /* likewise, of the second */
+#define PEAT_LEVEL_SECOND_NUMBER 5
 
 /* ---- the record: 16 bytes that the host may keep anywhere, copy, and read with these; it writes them through calls only */
 
@@ -389,6 +505,79 @@ uint64_t peat_d_abort_indication(uint8_t *rec, size_t rec_len, uint64_t originat
 /* D-P-ABORT indication, which has no user data. */
 uint64_t peat_d_p_abort_indication(uint8_t *rec, size_t rec_len,
     uint8_t *first, size_t first_len, uint8_t *second, size_t second_len);
+
+/* ---- message data that were delivered */
+
+/* Takes one part out of message data, into out from its first bit on. which: enum peat_part. delivered: the message data, all
+   bytes of the range, as a call left them in its second buffer (peat_data_bytes of them).
+   Answers PEAT_ROOM (out is under PEAT_BUFFER_LEAST bytes); PEAT_SHAPE (which is none of its codes); or where the bytes are
+   no message data the fault met first, PEAT_SHORT to PEAT_TAIL (never for what a call left there); and then out stays.
+   Else peat_part_given says whether the part is there. If it is, out has it in its first peat_part_bits(answer) bits, the
+   bits after the last one are zero up to the end of the byte, and every other byte stays; if not, out stays. */
+uint64_t peat_data_part(uint64_t which, const uint8_t *delivered, size_t delivered_len, uint8_t *out, size_t out_len);
+
+/* ---- the broker's envelope
+ *
+ * Kind, job number and bit count, each in groups of seven bits, the lowest group first, the top bit set on all but the last
+ * byte and the shortest form only; then the body, padded with zero bits to a whole byte. The broker hands over envelopes
+ * one behind the other; these calls read and write one, and look at no record.
+ */
+
+/* The envelope at the front of the lent bytes; what follows it is not looked at.
+   Answers PEAT_CUT (the bytes end inside it; none at all, too), PEAT_GROUPS, PEAT_KIND or PEAT_SIZE, whichever it meets
+   first in the order kind, job, bit count, body. Else peat_envelope_kind, _bits, _body and _next read the answer: the body
+   is peat_envelope_bits bits, from byte peat_envelope_body of the lent ones on, and the next envelope, if there are bytes
+   left, begins at byte peat_envelope_next. Both places are at most PEAT_ENVELOPE_MOST. Writes nothing. */
+uint64_t peat_read_envelope(const uint8_t *lent, size_t lent_len);
+
+/* The job number of the envelope at the front of the lent bytes, 1 to 2^64 - 1; 0 where peat_read_envelope refuses it.
+   (A job takes all bits of a number, so it has a call of its own.) Writes nothing. */
+uint64_t peat_envelope_job(const uint8_t *lent, size_t lent_len);
+
+/* An envelope into out, from its first byte on. kind: enum peat_envelope. job: 1 to 2^64 - 1. bits: of the body, 0 to
+   PEAT_MESSAGE_MOST, and 8 where the kind is PEAT_ENVELOPE_REFUSAL. body: its bits from the first bit on; the range may be
+   longer, and the bits of its last byte in use past the count must be zero.
+   Answers PEAT_ROOM (out is under PEAT_BUFFER_LEAST bytes); PEAT_SHAPE (a kind, job or bit count outside these, a count
+   more than the body holds, a padding bit that is 1), and out stays. Else out has the envelope in its first
+   peat_written_bytes(answer) bytes, at most PEAT_ENVELOPE_MOST, and every other byte stays; peat_read_envelope reads it
+   back. body and out must not overlap. */
+uint64_t peat_write_envelope(uint64_t kind, uint64_t job, uint64_t bits, const uint8_t *body, size_t body_len,
+    uint8_t *out, size_t out_len);
+
+/* ---- the CPDLC message
+ *
+ * A message is kept in a message range (PEAT_INNER_BYTES, see above), and its characters in a text: those of all elements,
+ * one a byte (0 to 127), one element's behind another's. The argument kinds that the card carries, and what an element of
+ * each uses beside its number:
+ *   none                  nothing
+ *   level                 PEAT_PLACE_LEVEL
+ *   two levels            PEAT_PLACE_LEVEL and PEAT_PLACE_OTHER
+ *   time                  PEAT_PLACE_HOURS, PEAT_PLACE_MINUTES
+ *   code                  PEAT_PLACE_CODE
+ *   free text             1 to 256 characters
+ *   facility              no characters: no facility; else 4 to 8
+ *   facility designation  4 to 8 characters
+ *   ATIS code             1 character
+ */
+
+/* Reads the first `count` bits of the lent ones as a message. direction: enum peat_direction. text: PEAT_BUFFER_LEAST bytes
+   at least, which no message's characters pass.
+   Answers PEAT_ROOM (text is under that); PEAT_SHAPE (direction is none of its codes, message is not PEAT_INNER_BYTES
+   bytes, count is over PEAT_MESSAGE_MOST or more than the lent bytes hold); or the fault met first in the bits, PEAT_SHORT
+   to PEAT_DEFAULT; and then message and text stay. Else message is written whole, text has the characters in its first
+   peat_message_characters(answer) bytes, and its other bytes stay. */
+uint64_t peat_read_message(uint64_t direction, const uint8_t *bits, size_t bits_len, uint64_t count,
+    uint8_t *message, size_t message_len, uint8_t *text, size_t text_len);
+
+/* Writes a message into out, from its first bit on. direction: as above. text: the characters of its elements and no more;
+   its length is their sum.
+   Answers PEAT_ROOM (out is under PEAT_BUFFER_LEAST bytes); PEAT_SHAPE (direction is none of its codes, message is not
+   PEAT_INNER_BYTES bytes, a number, digit or character is outside its type, an element is not carried, something is not
+   zero that is absent or not used, text has more or fewer characters, or the message has more than PEAT_MESSAGE_MOST bits);
+   and then out stays. Else out has the message in its first peat_message_bits(answer) bits, the bits after the last one are
+   zero up to the end of the byte, and every other byte stays; peat_read_message reads it back. */
+uint64_t peat_write_message(uint64_t direction, const uint8_t *message, size_t message_len, const uint8_t *text, size_t text_len,
+    uint8_t *out, size_t out_len);
 
 #ifdef __cplusplus
 }

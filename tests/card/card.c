@@ -1,5 +1,5 @@
 /*
- * Calls every entry point of the card: scripted dialogues, then random calls, each compared with the model (model.h) in the
+ * Calls every entry point of the card: scripted dialogues, edges, then random calls, each compared with the model (model.h) in the
  * number and in every byte of every lent range.
  *
  *     card CALLS      the last line is `N passed, M failed`
@@ -113,13 +113,29 @@ static int as_copied(struct args *a)
     return 1;
 }
 
-/* Makes the call: a refusal is its number alone and changes no byte, else it does what the model does. */
+/* the refusals that a call may answer */
+static int can_refuse(enum which w, unsigned x)
+{
+    if (w == READ_ENVELOPE)
+        return x >= PEAT_CUT && x <= PEAT_SIZE;
+    if (w == WRITE_ENVELOPE || w == WRITE_MESSAGE)
+        return x == PEAT_ROOM || x == PEAT_SHAPE;
+    if (w == DATA_PART)
+        return x == PEAT_ROOM || x == PEAT_SHAPE || x == PEAT_SHORT || (x >= PEAT_EXTENSION && x <= PEAT_TAIL);
+    if (w == READ_MESSAGE)
+        return x == PEAT_ROOM || x == PEAT_SHAPE || (x >= PEAT_SHORT && x <= PEAT_EXTENSION) || (x >= PEAT_TAIL && x <= PEAT_DEFAULT);
+    return x == PEAT_SHAPE || (x == PEAT_ROOM && w != FRESH) || (x == PEAT_PROHIBITED && w <= TIMER_EXPIRY) ||
+           ((x == PEAT_NO_MESSAGE || x == PEAT_REPEAT) && w == MESSAGE_REQUEST);
+}
+
+/* Makes the call: a refusal is its number alone and changes no byte, else it does what the model does. (The answer of
+   ENVELOPE_JOB is a job and no refusal.) */
 static int agrees(enum which w, struct args *a, uint64_t *said)
 {
     struct args m = copied(a);
     uint64_t want;
     *said = card_call(w, a);
-    if (*said >= 1 && *said <= 255 && (*said > 5 || !as_copied(a)))
+    if (w != ENVELOPE_JOB && *said % 256 != 0 && (*said > 255 || !can_refuse(w, (unsigned)*said) || !as_copied(a)))
         return 0;
     want = model_call(w, &m);
     return *said == want && as_copied(a);
@@ -237,6 +253,151 @@ static void random_apdu(struct args *a)
     a->given = once_in(12) ? 0 : once_in(100) ? any() : 1;
 }
 
+/* ---- random envelopes */
+
+/* a job number of any length; now and then 0 */
+static uint64_t some_job(void) { return once_in(30) ? 0 : any() >> below(64); }
+
+/* a number in groups, now and then in a longer form or in too many groups */
+static size_t put_groups(uint8_t *at, uint64_t value)
+{
+    size_t n = 0, more = once_in(40) ? 1 + below(3) : once_in(60) ? 9 + below(3) : 0;
+    for (; value > 127; value >>= 7)
+        at[n++] = (uint8_t)(0x80 | value);
+    at[n++] = (uint8_t)value;
+    for (; more > 0 && n < 12; more--) {
+        at[n - 1] |= 0x80;
+        at[n++] = (uint8_t)(once_in(2) ? 0 : below(128));
+    }
+    return n;
+}
+
+/* fills a body of so many bits, mostly with zeros behind them */
+static void random_body(uint8_t *at, size_t bits)
+{
+    fill(at, (bits + 7) / 8);
+    if (bits % 8 != 0 && !once_in(12))
+        at[bits / 8] &= (uint8_t)(0xFF00 >> bits % 8);
+}
+
+/* an envelope, now and then with a fault, and with bytes behind it or without */
+static void random_envelope(struct args *a)
+{
+    uint8_t bytes[400];
+    unsigned kind = once_in(15) ? below(300) : 1 + below(3);
+    size_t bits = kind == 3 && !once_in(10) ? 8 : message_bits(), len = put_groups(bytes, kind);
+    len += put_groups(bytes + len, some_job());
+    len += put_groups(bytes + len, once_in(60) ? any() : bits);
+    random_body(bytes + len, bits);
+    len += (bits + 7) / 8;
+    if (once_in(3)) {
+        size_t more = 1 + below(20);
+        fill(bytes + len, more);
+        len += more;
+    }
+    if (once_in(10))
+        bytes[below(once_in(2) ? 4 : (unsigned)len)] ^= (uint8_t)(1u << below(8));
+    if (once_in(10))
+        len = below((unsigned)len + 1);
+    if (once_in(30))
+        fill(bytes, len);
+    lend(a, 4, len);
+    if (len > 0)
+        memcpy(a->bytes.at, bytes, len);
+}
+
+static void random_content(struct args *a)
+{
+    size_t bits = message_bits();
+    a->n[0] = once_in(15) ? any() >> below(64) : 1 + below(3);
+    a->n[1] = some_job();
+    if (a->n[0] == 3 && !once_in(10))
+        bits = 8;
+    a->n[2] = once_in(60) ? any() : bits;
+    lend(a, 2, once_in(30) ? bits / 8 : (bits + 7) / 8 + (once_in(3) ? below(3) : 0));
+    random_body(lent[2] - a->msgs.len, bits < 8 * a->msgs.len ? bits : 8 * a->msgs.len);
+}
+
+/* ---- random message data and messages */
+
+static void random_part(struct args *a)
+{
+    static struct bits b;
+    uint8_t bytes[600];
+    size_t len;
+    b.n = 0;
+    put_random_data(&b);
+    len = whole(&b, bytes);
+    if (once_in(15))
+        bytes[below(once_in(2) ? (unsigned)len : 3)] ^= (uint8_t)(1u << below(8));
+    if (once_in(30))
+        bytes[len++] = (uint8_t)(any() & any());
+    if (once_in(20))
+        len = below((unsigned)len + 1);
+    lend(a, 4, len);
+    if (len > 0)
+        memcpy(a->bytes.at, bytes, len);
+    a->n[0] = code(2);
+}
+
+/* a message range and a text, now and then with a fault */
+static void random_message(struct args *a)
+{
+    uint8_t message[132], text[5 * 256 + 2];
+    size_t len;
+    a->n[0] = once_in(40) ? any() : 1 + below(2);
+    len = make_message(any, 1 + below(20) % 2, message, text);
+    if (a->n[0] == 1 || a->n[0] == 2)
+        len = make_message(any, (unsigned)a->n[0], message, text);
+    if (once_in(4)) {
+        uint8_t *at = &message[once_in(2) ? below(36) : below(132)];
+        *at = (uint8_t)(once_in(2) ? *at + 1 - 2 * (any() & 1) : any());
+    }
+    if (once_in(15) && len > 0)
+        text[below((unsigned)len)] |= 0x80;
+    if (once_in(20))
+        len = once_in(2) || len == 0 ? len + 1 : len - 1;
+    lend(a, 1, once_in(60) ? below(200) : sizeof message);
+    if (a->ids.len == sizeof message)
+        memcpy(a->ids.at, message, sizeof message);
+    lend(a, 2, len);
+    if (len > 0)
+        memcpy(a->msgs.at, text, len);
+}
+
+/* the bits of a message, now and then with a fault, or some other bits */
+static void random_bits(struct args *a)
+{
+    struct args made;
+    uint8_t message[132], text[5 * 256], bytes[PEAT_BUFFER_LEAST + 1] = {0};
+    uint64_t n;
+    size_t bits;
+    do {
+        memset(&made, 0, sizeof made);
+        made.n[0] = 1 + below(2);
+        made.msgs.at = text, made.msgs.len = make_message(any, (unsigned)made.n[0], message, text);
+        made.ids.at = message, made.ids.len = sizeof message;
+        made.first.at = bytes, made.first.len = PEAT_BUFFER_LEAST;
+        n = model_call(WRITE_MESSAGE, &made);
+    } while (n < 256);
+    bits = (size_t)(n >> 8);
+    a->n[0] = once_in(60) ? any() : once_in(20) ? 3 - made.n[0] : made.n[0];
+    if (once_in(3))
+        bytes[once_in(2) ? below(9) : below((unsigned)bits / 8 + 1)] ^= (uint8_t)(1u << below(8));
+    if (once_in(30))
+        fill(bytes, (bits + 7) / 8);
+    if (once_in(10))
+        bits = below((unsigned)bits + 1);
+    if (once_in(15))
+        bits += 1 + below(9);
+    lend(a, 4, once_in(60) ? bits / 8 : bits / 8 + 1);
+    if (a->bytes.len > 0)
+        memcpy(a->bytes.at, bytes, a->bytes.len < sizeof bytes ? a->bytes.len : sizeof bytes);
+    a->n[1] = once_in(60) ? any() >> below(64) : bits;
+    lend(a, 0, once_in(60) ? below(200) : 132);
+    fill(lent[0] - 132, 132);
+}
+
 static void random_call(enum which w, struct args *a)
 {
     int i;
@@ -267,6 +428,16 @@ static void random_call(enum which w, struct args *a)
         random_data(a);
     if (w >= D_START_INDICATION && w <= D_ABORT_INDICATION)
         random_apdu(a);
+    if (w == READ_ENVELOPE || w == ENVELOPE_JOB)
+        random_envelope(a);
+    if (w == WRITE_ENVELOPE)
+        random_content(a);
+    if (w == DATA_PART)
+        random_part(a);
+    if (w == READ_MESSAGE)
+        random_bits(a);
+    if (w == WRITE_MESSAGE)
+        random_message(a);
 }
 
 /* how often a call came to each side in each state and DSC, and how often each side invoked and told each primitive */
@@ -275,7 +446,7 @@ static unsigned long cells[2][5][2][CALLS], invoked[2][16], reported[2][16];
 static void seen(enum which w, const uint8_t *rec, uint64_t said)
 {
     unsigned side = peat_record_side(rec) - 1;
-    if (w == FRESH || said == PEAT_ROOM || said == PEAT_SHAPE)
+    if (w >= FRESH || said == PEAT_ROOM || said == PEAT_SHAPE)
         return;
     cells[side][peat_record_state(rec)][peat_record_dsc(rec)][w]++;
     if (peat_refusal(said) == PEAT_TAKEN) {
@@ -302,13 +473,41 @@ static void all_seen(void)
     check(least >= 100, "a call hardly reached a state");
 }
 
+/* what a call was answered: 0 for taken, or the refusal. A job of 0 is the refusal that the reader answers. */
+static unsigned kind_of_answer(enum which w, struct args *a, uint64_t said)
+{
+    if (w == ENVELOPE_JOB)
+        return said != 0 ? PEAT_TAKEN : peat_refusal(card_call(READ_ENVELOPE, a));
+    return said <= PEAT_SIZE ? (unsigned)said : PEAT_TAKEN;
+}
+
+/* a table of how often calls were answered in each way */
+static void print_answers(unsigned long answered[][PEAT_SIZE + 1], int from, int to, const unsigned *way, const char *const *title, int ways)
+{
+    int w, i;
+    printf("%-26s %9s", "calls", "taken");
+    for (i = 0; i < ways; i++)
+        printf(" %10s", title[i]);
+    for (w = from; w <= to; w++) {
+        printf("\n%-26s %9lu", names[w], answered[w][0]);
+        for (i = 0; i < ways; i++)
+            printf(" %10lu", answered[w][way[i]]);
+    }
+    printf("\n");
+}
+
 /* Each entry point agrees with the model on all its calls, and its calls were of every kind: taken, and refused with
    each number that it can answer. */
 static void random_calls(unsigned long calls)
 {
-    static unsigned long answered[CALLS][6], wrong[CALLS];
+    static unsigned long answered[CALLS][PEAT_SIZE + 1], wrong[CALLS];
+    static const unsigned machine[] = {1, 2, 3, 4, 5}, envelope[] = {1, 2, 20, 21, 22, 23}, message[] = {1, 2, 10, 11, 12, 13, 14, 15, 16, 17};
+    static const char *const machine_title[] = {"ROOM", "SHAPE", "PROHIBITED", "NO-MESSAGE", "REPEAT"};
+    static const char *const envelope_title[] = {"ROOM", "SHAPE", "CUT", "GROUPS", "KIND", "SIZE"};
+    static const char *const message_title[] = {"ROOM", "SHAPE", "SHORT", "RANGE", "EXTENSION", "FORM", "LIMIT", "TAIL", "CARRIED", "DEFAULT"};
     unsigned long n;
-    int w, x;
+    int w;
+    unsigned x;
     for (n = 0; n < calls; n++) {
         struct args a;
         uint64_t said;
@@ -318,25 +517,23 @@ static void random_calls(unsigned long calls)
         memcpy(before, lent[0] - sizeof before, sizeof before);
         if (!agrees((enum which)w, &a, &said) && wrong[w]++ == 0)
             printf("card: %s, call %lu: answers %llx, which is not as the model has it\n", names[w], n, (unsigned long long)said);
-        answered[w][said >= 1 && said <= 5 ? said : 0]++;
+        answered[w][kind_of_answer((enum which)w, &a, said)]++;
         seen((enum which)w, before, said);
     }
     if (calls >= 500000)
         all_seen();
-    printf("%-26s %9s %8s %8s %10s %10s %8s\n", "calls", "taken", "ROOM", "SHAPE", "PROHIBITED", "NO-MESSAGE", "REPEAT");
+    print_answers(answered, 0, FRESH, machine, machine_title, 5);
+    print_answers(answered, READ_ENVELOPE, WRITE_ENVELOPE, envelope, envelope_title, 6);
+    print_answers(answered, DATA_PART, WRITE_MESSAGE, message, message_title, 10);
     for (w = 0; w < CALLS; w++) {
-        printf("%-26s %9lu %8lu %8lu %10lu %10lu %8lu\n", names[w], answered[w][0], answered[w][1], answered[w][2], answered[w][3], answered[w][4],
-            answered[w][5]);
         check(wrong[w] == 0, names[w]);
-        for (x = 0; x < 6; x++) {
-            int can = x == 0 || x == 2 || (x == 1 && w != FRESH) || (x == 3 && w <= TIMER_EXPIRY) || (x > 3 && w == MESSAGE_REQUEST);
-            if (calls >= 100000)
-                check((answered[w][x] > 0) == can, "an entry point's random calls do not have all its answers, or have others");
-        }
+        for (x = 0; x <= PEAT_SIZE && calls >= 100000; x++)
+            check((answered[w][x] > 0) == (x == 0 || can_refuse(w == ENVELOPE_JOB ? READ_ENVELOPE : (enum which)w, x)),
+                "an entry point's random calls do not have all its answers, or have others");
     }
 }
 
-/* ---- edges: every entry point, with ranges of no bytes, short buffers and codes of no type */
+/* ---- edges: every entry point of the machine, with ranges of no bytes, short buffers and codes of no type */
 
 static void set_record(struct args *a, unsigned side, unsigned state)
 {
@@ -352,7 +549,7 @@ static void edges(void)
     static const size_t lengths[] = {0, 1, 319, 320};
     uint64_t said;
     int w, i, j, k;
-    for (w = 0; w < CALLS; w++) {
+    for (w = 0; w <= FRESH; w++) {
         int buffers = 1, nothing = 1, record = 1, codes = 1;
         struct args a;
         for (i = 0; i < 4; i++) /* both buffers, of each length; all that is read has no bytes; each side and state */
@@ -396,6 +593,237 @@ static void edges(void)
         check(record, "a record of another length");
         check(codes, "codes of no type");
     }
+}
+
+/* ---- edges of the envelope's calls */
+
+/* lends these bytes to be read; the number that reading answers, or a wrong one where a call is not as the model has it */
+static uint64_t reads(const uint8_t *bytes, size_t len)
+{
+    struct args a;
+    uint64_t said, job;
+    memset(&a, 0, sizeof a);
+    lend(&a, 4, len);
+    if (len > 0)
+        memcpy(a.bytes.at, bytes, len);
+    if (!agrees(ENVELOPE_JOB, &a, &job) || !agrees(READ_ENVELOPE, &a, &said) || (job == 0) != (peat_refusal(said) != PEAT_TAKEN))
+        return (uint64_t)-1;
+    return said;
+}
+
+#define READS(...) reads((const uint8_t[]){__VA_ARGS__}, sizeof((const uint8_t[]){__VA_ARGS__}))
+
+/* each truncation, each byte in each place, each number of groups: as the model has it, and each refusal comes */
+static void damaged_envelopes(void)
+{
+    static const struct {
+        size_t len;
+        uint8_t at[16];
+    } whole_ones[] = {{6, {0x01, 0xAC, 0x02, 0x0A, 0xA5, 0x40}}, {4, {0x03, 0x07, 0x08, 0x15}}, {3, {0x02, 0x05, 0x00}}, {4, {0x02, 0x01, 0x01, 0x80}},
+        {14, {0x01, 0xFF, 0xFF, 0xFF, 0xFF, 0xFF, 0xFF, 0xFF, 0xFF, 0xFF, 0x01, 0x09, 0xFF, 0x80}}};
+    static unsigned long count[PEAT_SIZE + 1];
+    uint8_t made[40];
+    size_t i, j, k;
+    int cut = 1, byte = 1, groups = 1, count_of = 1;
+    for (i = 0; i < sizeof whole_ones / sizeof whole_ones[0]; i++) {
+        size_t len = whole_ones[i].len;
+        cut &= peat_refusal(reads(whole_ones[i].at, len)) == PEAT_TAKEN && peat_envelope_next(reads(whole_ones[i].at, len)) == len;
+        for (j = 0; j < len; j++)
+            cut &= reads(whole_ones[i].at, j) == PEAT_CUT;
+        for (j = 0; j < len; j++)
+            for (k = 0; k < 256; k++) {
+                uint64_t said;
+                memcpy(made, whole_ones[i].at, len);
+                made[j] = (uint8_t)k;
+                said = reads(made, len);
+                byte &= said != (uint64_t)-1;
+                count[said <= PEAT_SIZE ? said : 0]++;
+            }
+    }
+    check(cut, "an envelope cut at each byte is CUT");
+    check(byte, "an envelope with another byte");
+    check(count[0] > 0 && count[PEAT_CUT] > 0 && count[PEAT_GROUPS] > 0 && count[PEAT_KIND] > 0 && count[PEAT_SIZE] > 0, "each refusal of an envelope comes");
+    for (i = 0; i < 3; i++) /* the numbers before it are 1 */
+        for (j = 0; j < 12; j++)
+            for (k = 0; k < 256; k++) {
+                static const uint8_t follows[] = {0x80, 0x81, 0xFF};
+                int f;
+                for (f = 0; f < 3; f++) {
+                    memset(made, 1, i);
+                    memset(made + i, follows[f], j);
+                    made[i + j] = (uint8_t)k;
+                    memset(made + i + j + 1, 1, 3);
+                    groups &= reads(made, i + j) != (uint64_t)-1 && reads(made, i + j + 1) != (uint64_t)-1 && reads(made, i + j + 4) != (uint64_t)-1;
+                }
+            }
+    check(groups, "numbers of 0 to 12 groups");
+    for (i = 0; i <= 2050; i++) { /* each bit count, with the body whole, cut, and with each padding bit */
+        static uint8_t long_one[300];
+        size_t head = 2, whole_len;
+        uint64_t want;
+        memset(long_one, 0, sizeof long_one);
+        long_one[0] = 1 + i % 2, long_one[1] = 9;
+        if (i > 127)
+            long_one[head++] = (uint8_t)(0x80 | i);
+        long_one[head++] = (uint8_t)(i > 127 ? i >> 7 : i);
+        whole_len = head + (i + 7) / 8;
+        want = (uint64_t)long_one[0] << 8 | (uint64_t)i << 16 | (uint64_t)head << 32 | (uint64_t)whole_len << 48;
+        count_of &= reads(long_one, whole_len) == (i > 2048 ? PEAT_SIZE : want);
+        if (i > 0)
+            count_of &= reads(long_one, whole_len - 1) == (i > 2048 ? PEAT_SIZE : PEAT_CUT);
+        for (j = i; j < 8 * (whole_len - head); j++) {
+            long_one[head + j / 8] = (uint8_t)(1u << (7 - j % 8));
+            count_of &= reads(long_one, whole_len) == PEAT_SIZE;
+        }
+        long_one[0] = 3;
+        count_of &= (peat_refusal(reads(long_one, whole_len)) == PEAT_SIZE) == (i != 8);
+    }
+    check(count_of, "each bit count, and a bit behind it");
+}
+
+/* by hand */
+static void known_envelopes(void)
+{
+    static const uint8_t one[] = {0x01, 0xAC, 0x02, 0x0A, 0xA5, 0x40, 0x03}; /* and one byte of the next */
+    uint64_t n = reads(one, sizeof one);
+    check(peat_refusal(n) == PEAT_TAKEN && peat_envelope_kind(n) == PEAT_ENVELOPE_TO_SEND && peat_envelope_bits(n) == 10 && peat_envelope_body(n) == 4 &&
+        peat_envelope_next(n) == 6 && peat_envelope_job(one, sizeof one) == 300, "01 AC 02 0A A5 40: kind 1, job 300, ten bits");
+    check(peat_read_envelope(NULL, 0) == PEAT_CUT && peat_envelope_job(NULL, 0) == 0, "no bytes at all are CUT");
+    check(READS(0x01, 0x80, 0x00) == PEAT_GROUPS, "01 80 00: GROUPS");
+    check(READS(0x01, 0x00, 0x00) == PEAT_GROUPS, "job 0: GROUPS");
+    check(READS(0x00) == PEAT_KIND && READS(0x04) == PEAT_KIND && READS(0x80) == PEAT_CUT && READS(0x80, 0x00) == PEAT_GROUPS, "a kind");
+    check(READS(0x01, 0x80, 0x80, 0x80, 0x80, 0x80, 0x80, 0x80, 0x80, 0x80, 0x02) == PEAT_GROUPS &&
+        READS(0x01, 0x80, 0x80, 0x80, 0x80, 0x80, 0x80, 0x80, 0x80, 0x80, 0x80) == PEAT_GROUPS &&
+        READS(0x01, 0x80, 0x80, 0x80, 0x80, 0x80, 0x80, 0x80, 0x80, 0x80) == PEAT_CUT, "a tenth byte above 1 is GROUPS at once, before CUT");
+    check(READS(0x03, 0x07, 0x09, 0x15, 0x00) == PEAT_SIZE && READS(0x03, 0x07, 0x07, 0x14) == PEAT_SIZE, "a refusal of other than 8 bits");
+    check(READS(0x01, 0x01, 0x81, 0x10) == PEAT_SIZE && READS(0x01, 0x01, 0x80, 0x10) == PEAT_CUT, "2,049 bits are SIZE before the body is CUT");
+}
+
+static struct args content(uint64_t kind, uint64_t job, uint64_t bits, const uint8_t *body, size_t len, size_t out)
+{
+    struct args a;
+    memset(&a, 0, sizeof a);
+    a.n[0] = kind, a.n[1] = job, a.n[2] = bits;
+    lend(&a, 2, len);
+    if (len > 0)
+        memcpy(a.msgs.at, body, len);
+    lend(&a, 5, out);
+    fill(lent[5] - 400, 400);
+    return a;
+}
+
+/* what is written, and read back from the buffer as the host would */
+static int writes(uint64_t kind, uint64_t job, uint64_t bits, const uint8_t *body, size_t len, size_t out, uint64_t *said)
+{
+    struct args a = content(kind, job, bits, body, len, out);
+    uint64_t n;
+    if (!agrees(WRITE_ENVELOPE, &a, said))
+        return 0;
+    if (peat_refusal(*said) != PEAT_TAKEN)
+        return 1;
+    n = peat_read_envelope(a.first.at, out);
+    return peat_written_bytes(*said) <= PEAT_ENVELOPE_MOST && peat_refusal(n) == PEAT_TAKEN && peat_envelope_kind(n) == kind && peat_envelope_bits(n) == bits &&
+           peat_envelope_job(a.first.at, out) == job && peat_envelope_next(n) == peat_written_bytes(*said) &&
+           (bits == 0 || memcmp(a.first.at + peat_envelope_body(n), body, (size_t)(bits + 7) / 8) == 0);
+}
+
+static void written_envelopes(void)
+{
+    static const size_t rooms[] = {0, 1, 269, 319, 320, 321, 400};
+    static uint8_t body[300];
+    uint64_t said, kind, bits;
+    unsigned i, j;
+    int room = 1, kinds = 1, jobs_ok = 1, counts = 1, pads = 1, holds = 1;
+    for (i = 0; i < 7; i++) { /* ROOM comes before SHAPE */
+        room &= writes(1, 1, 0, NULL, 0, rooms[i], &said) && (said == PEAT_ROOM) == (rooms[i] < 320);
+        room &= writes(0, 0, 9999, NULL, 0, rooms[i], &said) && said == (rooms[i] < 320 ? PEAT_ROOM : PEAT_SHAPE);
+    }
+    for (kind = 0; kind < 600; kind++)
+        kinds &= writes(kind, 5, 8, body, 1, 320, &said) && (said == PEAT_SHAPE) == (kind < 1 || kind > 3);
+    for (i = 2; i < 64; i++) /* a kind that is 1 in its low bits */
+        kinds &= writes(((uint64_t)1 << i) + 1, 5, 8, body, 1, 320, &said) && said == PEAT_SHAPE;
+    for (i = 0; i < 64; i++)
+        for (j = 0; j < 3; j++) {
+            uint64_t job = ((uint64_t)1 << i) - 1 + j;
+            jobs_ok &= writes(1 + i % 2, job, 9, body, 2, 320, &said) && (said == PEAT_SHAPE) == (job == 0);
+        }
+    jobs_ok &= writes(2, UINT64_MAX, 2048, body, 256, 320, &said) && peat_written_bytes(said) == PEAT_ENVELOPE_MOST;
+    for (bits = 0; bits <= 2060; bits++) {
+        unsigned len = (unsigned)(bits + 7) / 8;
+        memset(body, 0xFF, sizeof body);
+        if (bits % 8)
+            body[bits / 8] = (uint8_t)(0xFF00 >> bits % 8);
+        for (kind = 1; kind <= 3; kind++)
+            counts &= writes(kind, 77, bits, body, len, 320, &said) && (said == PEAT_SHAPE) == (bits > 2048 || (kind == 3 && bits != 8));
+        if (len > 0)
+            holds &= writes(1, 77, bits, body, len - 1, 320, &said) && said == PEAT_SHAPE;
+        holds &= writes(2, 77, bits, body, len + 2, 320, &said) && (said == PEAT_SHAPE) == (bits > 2048);
+        for (i = (unsigned)bits; i < 8 * len; i++) {
+            uint8_t was = body[i / 8];
+            body[i / 8] |= (uint8_t)(1u << (7 - i % 8));
+            pads &= writes(1, 77, bits, body, len, 320, &said) && said == PEAT_SHAPE;
+            body[i / 8] = was;
+        }
+    }
+    for (i = 11; i < 64; i++)
+        counts &= writes(1, 77, (uint64_t)1 << i, body, i == 11 ? 256 : 300, 320, &said) && (said == PEAT_SHAPE) == (i != 11);
+    check(room, "an envelope into 0, 1, 269, 319 and 320 bytes");
+    check(kinds, "an envelope of each kind");
+    check(jobs_ok, "an envelope of each length of a job");
+    check(counts, "an envelope of each bit count");
+    check(holds, "an envelope of more bits than its bytes hold");
+    check(pads, "an envelope with a padding bit");
+}
+
+/* ---- edges of message data and of the message: ranges of no bytes, short buffers, wrong codes (tests/inner does the rest) */
+
+static void message_edges(void)
+{
+    static const size_t lengths[] = {0, 1, 131, 132, 133, 319, 320};
+    static const uint8_t data[] = {0x21, 0x54, 0xA8, 0x00}; /* no identifier, ten bits 1010010101, a check of no bits */
+    uint8_t message[132], text[5 * 256];
+    int i, j, k, w, parts = 1, sizes = 1, codes = 1, nothing = 1;
+    struct args a;
+    uint64_t said;
+    for (w = DATA_PART; w <= WRITE_MESSAGE; w++) {
+        for (i = 0; i < 7; i++)
+            for (j = 0; j < 7; j++)
+                for (k = 0; k < 3; k++) {
+                    memset(&a, 0, sizeof a);
+                    a.n[0] = 1 + (uint64_t)k % 2;
+                    lend(&a, 2, w == WRITE_MESSAGE ? make_message(any, 1 + (unsigned)k % 2, message, text) : 0);
+                    if (a.msgs.len > 0)
+                        memcpy(a.msgs.at, text, a.msgs.len);
+                    lend(&a, w == READ_MESSAGE ? 0 : 1, lengths[i]);
+                    if (w == WRITE_MESSAGE && lengths[i] == 132)
+                        memcpy(a.ids.at, message, 132);
+                    lend(&a, 5, lengths[j]);
+                    sizes &= agrees((enum which)w, &a, &said) && (said == PEAT_ROOM) == (lengths[j] < 320);
+                }
+        for (i = 0; i < 64; i++) {
+            memset(&a, 0, sizeof a);
+            a.n[0] = ((uint64_t)1 << i) | 1;
+            a.n[1] = (uint64_t)1 << i;
+            lend(&a, w == READ_MESSAGE ? 0 : 1, 132);
+            lend(&a, 4, 64);
+            lend(&a, 5, 320);
+            codes &= agrees((enum which)w, &a, &said) && (i < 2 || said == PEAT_SHAPE);
+        }
+        memset(&a, 0, sizeof a);
+        nothing &= agrees((enum which)w, &a, &said) && said == PEAT_ROOM;
+    }
+    for (i = 0; i < 3; i++) {
+        memset(&a, 0, sizeof a);
+        a.n[0] = (uint64_t)i;
+        lend(&a, 4, sizeof data);
+        memcpy(a.bytes.at, data, sizeof data);
+        lend(&a, 5, 320);
+        parts &= agrees(DATA_PART, &a, &said) && peat_part_given(said) == (i > 0) && peat_part_bits(said) == (i == 1 ? 10 : 0);
+    }
+    check(sizes, "message ranges and buffers of other lengths");
+    check(codes, "codes of no type, in the calls of a message");
+    check(nothing, "the calls of a message with ranges of no bytes");
+    check(parts && a.first.at != NULL, "the parts of message data");
 }
 
 /* ---- scripted dialogues */
@@ -605,6 +1033,10 @@ int main(int argc, char **argv)
     jobs();
     largest();
     edges();
+    known_envelopes();
+    damaged_envelopes();
+    written_envelopes();
+    message_edges();
     random_calls(calls);
     printf("%lu passed, %lu failed\n", passed, failed);
     return failed != 0;

@@ -56,6 +56,19 @@ static const struct row rows[] = {
     {"provider, invalid PDU, ground", D_ABORT_INDICATION, 2, PEAT_DIALOGUE, 0, {1}, 1, PDU_INVALID},
     {"", D_P_ABORT_INDICATION, 1, PEAT_DIALOGUE, 0, {0}, 0, PDU_NONE},
     {"", FRESH, 1, PEAT_IDLE, 0, {1, 0}, 0, PDU_NONE},
+    {"least", READ_ENVELOPE, 1, PEAT_IDLE, 0, {1, 1, 0}, 0, PDU_NONE},
+    {"largest, 269 bytes", READ_ENVELOPE, 1, PEAT_IDLE, 0, {2, UINT64_MAX, 2048}, 1, PDU_NONE},
+    {"largest, 269 bytes", ENVELOPE_JOB, 1, PEAT_IDLE, 0, {2, UINT64_MAX, 2048}, 1, PDU_NONE},
+    {"least", WRITE_ENVELOPE, 1, PEAT_IDLE, 0, {1, 1, 0}, 0, PDU_NONE},
+    {"largest, 269 bytes", WRITE_ENVELOPE, 1, PEAT_IDLE, 0, {2, UINT64_MAX, 2048}, 1, PDU_NONE},
+    {"SHAPE, job 0, largest body", WRITE_ENVELOPE, 1, PEAT_IDLE, 0, {2, 0, 2048}, 1, PDU_NONE},
+    {"message of 8 bits", DATA_PART, 1, PEAT_IDLE, 0, {1}, 0, PDU_NONE},
+    {"message, largest data", DATA_PART, 1, PEAT_IDLE, 0, {1}, 1, PDU_NONE},
+    {"one element, no argument", READ_MESSAGE, 1, PEAT_IDLE, 0, {PEAT_UPLINK}, 0, PDU_NONE},
+    {"five elements, 2,048 bits", READ_MESSAGE, 1, PEAT_IDLE, 0, {PEAT_UPLINK}, 1, PDU_NONE},
+    {"one element, no argument", WRITE_MESSAGE, 1, PEAT_IDLE, 0, {PEAT_UPLINK}, 0, PDU_NONE},
+    {"five elements, 2,048 bits", WRITE_MESSAGE, 1, PEAT_IDLE, 0, {PEAT_UPLINK}, 1, PDU_NONE},
+    {"SHAPE, day 32, largest", WRITE_MESSAGE, 1, PEAT_IDLE, 0, {PEAT_UPLINK}, 1, PDU_NONE},
 };
 #define ROWS (sizeof rows / sizeof rows[0])
 
@@ -82,6 +95,59 @@ static size_t put_pdu(const struct row *r)
     }
     n = whole(&bits, bytes);
     return r->pdu == PDU_INVALID ? n - 1 : n;
+}
+
+/* a kind, a job and a body of so many bits, as the broker puts them */
+static size_t put_envelope(const struct row *r)
+{
+    size_t n = 0, i;
+    for (i = 0; i < 3; i++) {
+        uint64_t left = r->n[i];
+        for (; left > 127; left >>= 7)
+            bytes[n++] = (uint8_t)(left | 128);
+        bytes[n++] = (uint8_t)left;
+    }
+    memcpy(bytes + n, msgs, (size_t)(r->n[2] + 7) / 8);
+    return n + (size_t)(r->n[2] + 7) / 8;
+}
+
+/* A message of one element, uM0; or of uM30 (two levels, blocks), uM169 twice (free text), uM160 and uM123, with a reference
+   and an acknowledgement: of 2,048 bits. */
+static void put_message(const struct row *r)
+{
+    static uint8_t message[132], text[PEAT_BUFFER_LEAST], range[132];
+    static const uint8_t blocks[14] = {1, 1, 0x61, 0xC6, 0, 0x1B, 0x94, 1, 0, 0x1B, 0x94, 0, 0x1B, 0x94}; /* 25,000 metres, 70,000 feet thrice */
+    static const unsigned first_text = 151, second_text = 106;
+    struct args made;
+    uint64_t said;
+    memset(message, 0, sizeof message);
+    memset(text, 'A', sizeof text);
+    message[3] = 0x07, message[4] = 0xEA, message[5] = 11, message[6] = 15, message[11] = 1;
+    if (r->largest) {
+        uint8_t *place = message + 12;
+        message[1] = 1, message[2] = 63, message[10] = 1, message[11] = 5;
+        place[0] = 30, memcpy(place + 3, blocks, 14);
+        place[24] = 169, place[24 + 2] = first_text;
+        place[48] = 169, place[48 + 2] = second_text;
+        place[72] = 160, place[72 + 2] = 8;
+        place[96] = 123, memset(place + 96 + 19, 7, 4);
+    }
+    memset(&made, 0, sizeof made);
+    made.n[0] = PEAT_UPLINK;
+    made.ids = (struct range){message, sizeof message};
+    made.msgs = (struct range){text, r->largest ? first_text + second_text + 8 : 0};
+    made.first = (struct range){bytes, sizeof bytes};
+    said = model_call(WRITE_MESSAGE, &made);
+    if (said < 256 || (r->largest && said >> 8 != 2048)) {
+        printf("the message has %lu bits\n", (unsigned long)(said >> 8));
+        exit(2);
+    }
+    if (strstr(r->title, "SHAPE"))
+        message[6] = 32;
+    args.ids = made.ids, args.msgs = made.msgs;
+    args.rec = (struct range){range, sizeof range};
+    args.n[1] = said >> 8;
+    args.bytes = (struct range){bytes, (size_t)((said >> 8) + 7) / 8};
 }
 
 static void prepare(const struct row *r)
@@ -112,6 +178,16 @@ static void prepare(const struct row *r)
         args.bytes = (struct range){bytes, put_pdu(r)};
         args.given = 1;
     }
+    if (r->which == READ_ENVELOPE || r->which == ENVELOPE_JOB)
+        args.bytes = (struct range){bytes, put_envelope(r)};
+    if (r->which == DATA_PART) {
+        args.message = r->largest ? 2048 : 8;
+        bits.n = 0;
+        put_data(&bits, &args);
+        args.bytes = (struct range){bytes, whole(&bits, bytes)};
+    }
+    if (r->which == READ_MESSAGE || r->which == WRITE_MESSAGE)
+        put_message(r);
 }
 
 /* ---- the stack of a call, on a stack of its own */
@@ -163,7 +239,9 @@ int main(int argc, char **argv)
         prepare(&rows[i]);
         said = card_call(rows[i].which, &args);
         /* a row is of the kind that it says */
-        return (peat_refusal(said) != 0) != (strstr(rows[i].title, "PROHIBITED") || strstr(rows[i].title, "REPEAT"));
+        if (rows[i].which == ENVELOPE_JOB)
+            return said != rows[i].n[1];
+        return (peat_refusal(said) != 0) != (strstr(rows[i].title, "PROHIBITED") || strstr(rows[i].title, "REPEAT") || strstr(rows[i].title, "SHAPE"));
     }
     for (i = 0; i < ROWS; i++)
         printf("%lu %s %s\n", (unsigned long)i, names[rows[i].which], rows[i].title);

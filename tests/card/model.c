@@ -62,17 +62,17 @@ struct pdu {
     size_t data, data_to; /* where the message data begin and end */
 };
 
-struct reader {
-    struct range in;
-    size_t at;
-    int bad;
-};
+void fault(struct reader *r, unsigned refusal)
+{
+    if (!r->bad)
+        r->bad = refusal;
+}
 
-static uint64_t get(struct reader *r, size_t width)
+uint64_t get(struct reader *r, size_t width)
 {
     uint64_t v = 0;
-    if (r->bad || width > 8 * r->in.len - r->at) {
-        r->bad = 1;
+    if (r->bad || width > r->end - r->at) {
+        fault(r, SHORT);
         return 0;
     }
     for (; width > 0; width--, r->at++)
@@ -80,35 +80,33 @@ static uint64_t get(struct reader *r, size_t width)
     return v;
 }
 
-static void skip(struct reader *r, size_t width)
+void skip(struct reader *r, size_t width)
 {
-    if (r->bad || width > 8 * r->in.len - r->at)
-        r->bad = 1;
+    if (r->bad || width > r->end - r->at)
+        fault(r, SHORT);
     else
         r->at += width;
 }
 
-static size_t get_length(struct reader *r)
+static size_t get_length(struct reader *r) /* 11.9.3.6 to 11.9.3.8 */
 {
-    if (get(r, 1) == 0)
-        return get(r, 7);
-    if (get(r, 1) == 1)
-        r->bad = 1; /* in fragments */
-    {
-        size_t n = get(r, 14);
-        if (n < 128)
-            r->bad = 1; /* not the shortest form */
+    uint64_t n = get(r, 8);
+    if (n < 128)
         return n;
-    }
+    if (n >= 192)
+        fault(r, LENGTH_FORM); /* in fragments */
+    n = (n - 128) << 8 | get(r, 8);
+    if (n < 128)
+        fault(r, LENGTH_FORM); /* not the shortest form */
+    return n;
 }
 
 static void get_string(struct reader *r, unsigned unit, size_t least, size_t most)
 {
     size_t n = get_length(r);
-    if (r->bad || n < least || n > most)
-        r->bad = 1;
-    else
-        skip(r, unit * n);
+    if (n < least || n > most)
+        fault(r, LIMIT);
+    skip(r, unit * n);
 }
 
 static void get_data(struct reader *r, struct pdu *p)
@@ -116,7 +114,7 @@ static void get_data(struct reader *r, struct pdu *p)
     unsigned identifier, message;
     p->data = r->at;
     if (get(r, 1) == 1)
-        r->bad = 1; /* extension */
+        fault(r, EXTENSION);
     identifier = (unsigned)get(r, 1);
     message = (unsigned)get(r, 1);
     if (identifier)
@@ -127,10 +125,17 @@ static void get_data(struct reader *r, struct pdu *p)
     p->data_to = r->at;
 }
 
+/* zeros up to the end of a byte, and nothing behind them */
+static void get_end(struct reader *r)
+{
+    if (get(r, (8 - r->at % 8) % 8) != 0 || r->at != r->end)
+        fault(r, TAIL);
+}
+
 static struct pdu decode(int aircraft, struct range in)
 {
     struct pdu p = {INVALID, 0, 0, 0};
-    struct reader r = {in, 0, 0};
+    struct reader r = {in, 8 * in.len, 0, 0};
     unsigned extension = (unsigned)get(&r, 1), index = (unsigned)get(&r, aircraft ? 2 : 3);
     enum kind kind = INVALID;
     if (r.bad || extension || index > 5)
@@ -142,21 +147,20 @@ static struct pdu decode(int aircraft, struct range in)
     if (index == 0 || index == 1) {
         kind = index == 0 ? ABORT_USER : ABORT_PROVIDER;
         if (get(&r, 1) == 1)
-            r.bad = 1;
+            fault(&r, EXTENSION);
         p.value = (unsigned)get(&r, index == 0 ? 4 : 3);
         if (p.value > 12)
-            r.bad = 1;
+            fault(&r, RANGE);
     } else {
         kind = index == 2 ? START : SEND;
         if (index == 2 && aircraft && get(&r, 1) == 1) { /* mode, DEFAULT cpdlc */
             p.value = 1;
             if (get(&r, 1) == 0)
-                r.bad = 1;
+                fault(&r, DEFAULT);
         }
         get_data(&r, &p);
     }
-    if (get(&r, (8 - r.at % 8) % 8) != 0 || r.at != 8 * in.len)
-        r.bad = 1;
+    get_end(&r);
     p.kind = r.bad ? INVALID : kind;
     return p;
 }
@@ -533,14 +537,143 @@ static uint64_t fresh(struct args *a)
     return 0;
 }
 
+/* ---- the broker's envelope (document 01) */
+
+enum { CUT = 20, GROUPS, KIND, SIZE };
+
+/* An envelope: its three numbers, and how many of the bytes were looked at so far. */
+struct envelope {
+    uint64_t number[3]; /* kind, job, bit count */
+    size_t at, body;
+};
+
+/* Groups of seven bits, the lowest first; the last is the first byte without the top bit. */
+static unsigned get_number(struct range in, size_t *at, uint64_t *value)
+{
+    size_t first = *at, i;
+    do {
+        if (*at == in.len)
+            return CUT;
+        if (*at - first == 9 && in.at[*at] > 1)
+            return GROUPS;
+    } while (in.at[(*at)++] >> 7);
+    if (*at - first > 1 && in.at[*at - 1] == 0)
+        return GROUPS; /* a shorter form says the same */
+    for (*value = 0, i = *at; i > first; i--)
+        *value = *value << 7 | (in.at[i - 1] & 127u);
+    return 0;
+}
+
+/* "kind number (20, 21, 22), job (20, 21), bit count (20, 21, 23), body (20, 23)" */
+static unsigned get_envelope(struct range in, struct envelope *e)
+{
+    size_t i;
+    e->at = 0;
+    for (i = 0; i < 3; i++) {
+        unsigned refusal = get_number(in, &e->at, &e->number[i]);
+        if (refusal)
+            return refusal;
+        if (i == 0 && (e->number[0] < 1 || e->number[0] > 3))
+            return KIND;
+        if (i == 1 && e->number[1] == 0)
+            return GROUPS;
+    }
+    if (e->number[2] > 2048 || (e->number[0] == 3 && e->number[2] != 8))
+        return SIZE;
+    e->body = e->at;
+    e->at += (size_t)(e->number[2] + 7) / 8;
+    if (e->at > in.len)
+        return CUT;
+    for (i = (size_t)e->number[2]; i < 8 * (e->at - e->body); i++)
+        if (in.at[e->body + i / 8] >> (7 - i % 8) & 1)
+            return SIZE;
+    return 0;
+}
+
+static uint64_t read_envelope(const struct args *a)
+{
+    struct envelope e;
+    unsigned refusal = get_envelope(a->bytes, &e);
+    return refusal ? refusal : e.number[0] << 8 | e.number[2] << 16 | (uint64_t)e.body << 32 | (uint64_t)e.at << 48;
+}
+
+static uint64_t envelope_job(const struct args *a)
+{
+    struct envelope e;
+    return get_envelope(a->bytes, &e) ? 0 : e.number[1];
+}
+
+/* "A writer answers SHAPE to a kind, job or bit count that reading refuses": what was put together is read. */
+static uint64_t write_envelope(struct args *a)
+{
+    uint8_t made[10 * 3 + 256];
+    struct envelope e;
+    size_t n = 0, i;
+    if (a->first.len < 320)
+        return 1;
+    if (a->n[2] > 8 * (uint64_t)a->msgs.len || a->n[2] > 2048)
+        return 2;
+    for (i = 0; i < 3; i++) {
+        uint64_t left = a->n[i];
+        for (; left > 127; left >>= 7)
+            made[n++] = (uint8_t)(left | 128);
+        made[n++] = (uint8_t)left;
+    }
+    for (i = 0; i < (a->n[2] + 7) / 8; i++)
+        made[n++] = a->msgs.at[i];
+    if (get_envelope((struct range){made, n}, &e))
+        return 2;
+    for (i = 0; i < n; i++)
+        a->first.at[i] = made[i];
+    return (uint64_t)n << 8;
+}
+
+/* ---- a part of message data: 0 the identifier, 1 the message, 2 the check */
+
+static uint64_t data_part(struct args *a)
+{
+    static struct bits out;
+    struct pdu p;
+    struct reader r = {a->bytes, 8 * a->bytes.len, 0, 0};
+    unsigned i, there;
+    if (a->first.len < 320)
+        return 1;
+    if (a->n[0] > 2)
+        return 2;
+    get_data(&r, &p);
+    get_end(&r);
+    if (r.bad)
+        return r.bad;
+    r.at = 1;
+    there = (unsigned)get(&r, 2) << 1 | 1; /* the identifier's bit, the message's, and the check is always there */
+    for (i = 0; i < a->n[0]; i++)
+        if (there >> (2 - i) & 1)
+            skip(&r, (i == 0 ? 8 : 1) * get_length(&r));
+    if ((there >> (2 - a->n[0]) & 1) == 0)
+        return 0;
+    i = (unsigned)get_length(&r) * (a->n[0] == 0 ? 8 : 1);
+    for (out.n = 0; i > 0; i--)
+        put(&out, get(&r, 1), 1);
+    whole(&out, a->first.at);
+    return 1 << 8 | (uint64_t)out.n << 16;
+}
+
 uint64_t model_call(enum which w, struct args *a)
 {
     static struct bits one, two;
     struct rec r;
     struct pdu p = {MISSING, 0, 0, 0};
     struct out o;
-    if (w == FRESH)
-        return fresh(a);
+    switch (w) {
+    case FRESH: return fresh(a);
+    case READ_ENVELOPE: return read_envelope(a);
+    case ENVELOPE_JOB: return envelope_job(a);
+    case WRITE_ENVELOPE: return write_envelope(a);
+    case DATA_PART: return data_part(a);
+    case READ_MESSAGE: return read_message(a);
+    case WRITE_MESSAGE: return write_message(a);
+    default: break;
+    }
     if (a->first.len < 320 || a->second.len < 320)
         return 1;
     if (!load(a->rec, &r) || (has_data(w) && !data_fits(a)) || (is_service(w) && w != D_P_ABORT_INDICATION && a->given > 1) || !shapely(w, a->n))
@@ -554,7 +687,7 @@ uint64_t model_call(enum which w, struct args *a)
     if (o.apdu != MISSING)
         put_apdu(&one, &o, r.side, a);
     if (o.data) {
-        struct reader from = {a->bytes, p.data, 0};
+        struct reader from = {a->bytes, 8 * a->bytes.len, p.data, 0};
         while (from.at < p.data_to)
             put(&two, get(&from, 1), 1);
     }

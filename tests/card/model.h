@@ -1,7 +1,8 @@
 /*
  * The card as the documents give it, to be compared with the card as it is: Doc 9880 3.5.3 and 3.5.4, Doc 9705 2.3.4 and
  * 2.3.5, X.691 and document 01. It shares no code and no header with the card. The two machines are written apart and by
- * event; the card has one machine over the side.
+ * event; the card has one machine over the side. model.c has the machines, the APDUs and the envelope, message.c the CPDLC
+ * message.
  */
 #ifndef MODEL_H
 #define MODEL_H
@@ -12,7 +13,8 @@
 enum which {
     START_REQUEST, DSC_START_REQUEST, START_RESPONSE, DSC_START_RESPONSE, MESSAGE_REQUEST, END_REQUEST, DSC_END_REQUEST, END_RESPONSE,
     DSC_END_RESPONSE, USER_ABORT, TIMER_EXPIRY, SYSTEM_ERROR, D_START_INDICATION, D_START_CONFIRMATION, D_DATA_INDICATION,
-    D_END_INDICATION, D_END_CONFIRMATION, D_ABORT_INDICATION, D_P_ABORT_INDICATION, FRESH, CALLS
+    D_END_INDICATION, D_END_CONFIRMATION, D_ABORT_INDICATION, D_P_ABORT_INDICATION, FRESH, READ_ENVELOPE, ENVELOPE_JOB,
+    WRITE_ENVELOPE, DATA_PART, READ_MESSAGE, WRITE_MESSAGE, CALLS
 };
 
 struct range {
@@ -20,7 +22,10 @@ struct range {
     size_t len;
 };
 
-/* what a call is lent and given; `n` holds its codes in the order of its parameters */
+/* what a call is lent and given; `n` holds its codes in the order of its parameters. An envelope, message data and the bits
+   of a message are read from `bytes`. An envelope is written of the body `msgs` into `first`, and there goes a part of
+   message data. A message is read into the message range `rec` and the text `first`, and written of the message range `ids`
+   and the text `msgs` into `first`. */
 struct args {
     struct range rec, ids, msgs, checks, bytes, first, second;
     uint64_t n[5], message, check, given;
@@ -32,7 +37,7 @@ uint64_t model_call(enum which which, struct args *a);
 /* bits, one in a byte */
 struct bits {
     size_t n;
-    uint8_t bit[4096];
+    uint8_t bit[16384];
 };
 
 void put(struct bits *b, uint64_t value, unsigned width);
@@ -42,6 +47,25 @@ void put_length(struct bits *b, size_t count);
 void put_data(struct bits *b, const struct args *a);
 /* into bytes, padded with zeros; the number of bytes */
 size_t whole(const struct bits *b, uint8_t *bytes);
+
+/* reads the first `end` bits of a range; `bad` is the refusal of the fault that it met first, or 0 */
+struct reader {
+    struct range in;
+    size_t end, at;
+    unsigned bad;
+};
+
+enum { SHORT = 10, RANGE, EXTENSION, LENGTH_FORM, LIMIT, TAIL, NOT_CARRIED, DEFAULT };
+
+void fault(struct reader *r, unsigned refusal);
+uint64_t get(struct reader *r, size_t width);
+void skip(struct reader *r, size_t width);
+
+/* message.c */
+uint64_t read_message(struct args *a);
+uint64_t write_message(struct args *a);
+/* a message range and its text that are a message, or nearly; the length of the text */
+size_t make_message(uint64_t (*any)(void), unsigned direction, uint8_t *message, uint8_t *text);
 
 #define NONE ((uint64_t)-1)
 

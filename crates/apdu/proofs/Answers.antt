@@ -11,7 +11,7 @@ use Rattle.fields.specs.declared.Field.{Field}
 use Rattle.fields.specs.declared.Field.the-variants.{Value, Refused}
 use Rattle.fields.proofs.Answers.{run-is}
 use Rattle.apdu.specs.Pdus.{kindOf}
-use Rattle.apdu.specs.Reading.{onField, onData, onLead, fieldRefusal, takenRefusal, leadRefusal, optionalAt}
+use Rattle.apdu.specs.Reading.{onField, onData, onTaken, onLead, fieldRefusal, takenRefusal, leadRefusal, optionalAt}
 use Rattle.apdu.specs.declared.Kind.{Kind}
 use Rattle.apdu.specs.declared.Kind.the-variants as kind
 use Rattle.apdu.specs.declared.Data.{Data}
@@ -77,3 +77,9 @@ optional-room l false at unit least most n next e =
 -- a function of an enum's value, by the case that was found
 pub under : {A B : Type 0} (f : A → B) (x y : A) (o : B) → x ≡ y → o ≡ f y → o ≡ f x
 under f x y o e p = p ∙ ap f (sym e)
+
+pub taken-handed : (t u : Taken) (r x : Refusal) (k : Data → ℕ → Taken) → t ≡ u → t ≡ taken.Refused r → x ≡ takenRefusal t → taken.Refused x ≡ onTaken u k
+taken-handed t u r x k p q h = ap taken.Refused (h ∙ ap takenRefusal q) ∙ ap (λ (y : Taken). onTaken y k) (sym q ∙ p)
+
+pub taken-went : (t u o : Taken) (d : Data) (n : ℕ) (k : Data → ℕ → Taken) → t ≡ u → t ≡ taken.Is d n → o ≡ k d n → o ≡ onTaken u k
+taken-went t u o d n k p q h = h ∙ ap (λ (y : Taken). onTaken y k) (sym q ∙ p)

@@ -10,9 +10,9 @@ use lib.Dec.{leb}
 use lib.ListN.{length}
 use Rattle.bits.proofs.Bytes.{length-to}
 use Rattle.fields.specs.Encodings.{wholeFits}
-use Rattle.apdu.specs.Sizes.{allBits}
+use Rattle.apdu.specs.Sizes.{allBits, messageMost}
 use Rattle.apdu.specs.Pdus.{lent}
-use Rattle.apdu.specs.Writing.{itemsShaped}
+use Rattle.apdu.specs.Writing.{itemsShaped, runShaped}
 use Rattle.apdu.specs.declared.Span.{Span}
 
 pub too-few : (l : List ℕ) (unit least most : ℕ) (x : Span) → x .count < least → false ≡ itemsShaped l unit least most x
@@ -29,3 +29,11 @@ held s unit least most x t h g k e = e ∙ rw (le-leb least (x .count) h, le-leb
 
 pub from-zero : (hi v : ℕ) → leb v hi ≡ wholeFits 0 hi v
 from-zero hi v = rw (le-leb 0 v (omega arith))
+
+pub run-long : (s : List ℕ) (at n : ℕ) → messageMost < n → false ≡ runShaped s at n
+unfolding runShaped
+run-long s at n h = rw (lt-leb n messageMost h)
+
+pub run-held : (s : List ℕ) (at n : ℕ) (t : Bool) → n ≤ messageMost → t ≡ leb (at + n) (min allBits (8 * length s)) → t ≡ runShaped s at n
+unfolding runShaped
+run-held s at n t h e = e ∙ rw (le-leb n messageMost h, length-to)

@@ -19,13 +19,16 @@ use Rattle.bits.proofs.Putting.{length-put}
 use Rattle.fields.specs.Fields.{bitField, digitsIn}
 use Rattle.fields.specs.Encodings.{bitsFit, indexBits, lengthBits, wholeBits}
 use Rattle.fields.specs.declared.Refusal.the-variants.{Tail}
+use Rattle.fields.specs.declared.Field.{Field}
 use Rattle.fields.specs.declared.Field.the-variants.{Value, Refused}
+use Rattle.apdu.specs.declared.Taken.{Taken}
+use Rattle.apdu.specs.declared.Taken.the-variants as taken
 use Rattle.fields.proofs.RoundTrip.{Stands, stands-join, stands-split, bit-field, whole-number, extensible-index, length-determinant}
 use Rattle.fields.proofs.RoundTrip as fields
 use Rattle.apdu.specs.Sizes.{bufferLeast, allBits, octet, bit, identifierMost, messageMost, checkMost, modeLast, userLast, providerLast}
 use Rattle.apdu.specs.Pdus.{given, Content, Pdu, start, lastOf, lent, itemsIn, partIn, contentIn, pduIn, forwarded}
 use Rattle.apdu.specs.Encoding.{stringBits, optionalBits, optionalFits, presence, contentBits, contentFits, modeBits, modeFits, pduBits, pduFits, padding, padded, bytesFor}
-use Rattle.apdu.specs.Reading.{kindMode, leadingAt, restAt, tailAt, apduAt}
+use Rattle.apdu.specs.Reading.{onField, onTaken, kindMode, leadingAt, restAt, tailAt, apduAt, dataAt, wholeData}
 use Rattle.apdu.specs.Writing.{apduShaped, done, writeOut}
 use Rattle.apdu.specs.declared.Side.{Side}
 use Rattle.apdu.specs.declared.Side.the-variants.{Air, Ground}
@@ -38,7 +41,7 @@ use Rattle.apdu.specs.declared.Apdu.the-variants as apdu
 use Rattle.apdu.specs.declared.Answer.the-variants as answer
 use Rattle.apdu.specs.declared.Written.the-variants as written
 use Rattle.apdu.proofs.Bounds.{never, apdu-fit, content-most, pduMost, pdu-most, width, length-alternative}
-use Rattle.apdu.proofs.Contents.{DataRead, data-written}
+use Rattle.apdu.proofs.Contents.{DataIs, data-written, data-read}
 use Rattle.apdu.proofs.Apdus.{ApduRead, apdu-written, apdu-read}
 use Rattle.apdu.proofs.Octets.{all-bits, put-bytes, front-bits}
 
@@ -109,7 +112,7 @@ unfolding optionalBits partIn
 part-are-bits l unit Absent h = no-bits
 part-are-bits l unit (Given x) h = string-are-bits l unit x h
 
-content-are-bits : (li lm lc : List ℕ) (d : Data) → Bits li → Bits lm → Bits lc → Bits (contentBits (contentIn li lm lc d))
+pub content-are-bits : (li lm lc : List ℕ) (d : Data) → Bits li → Bits lm → Bits lc → Bits (contentBits (contentIn li lm lc d))
 unfolding contentBits contentIn
 content-are-bits li lm lc d i m c =
     bits-append (bitsN 1 0) _ (bits-bitsN 1 0)
@@ -117,7 +120,7 @@ content-are-bits li lm lc d i m c =
     (bits-append (optionalBits octet (partIn li octet (d .identifier))) _ (part-are-bits li octet (d .identifier) i)
     (bits-append (optionalBits bit (partIn lm bit (d .message))) _ (part-are-bits lm bit (d .message) m) (string-are-bits lc bit (d .check) c))))
 
-mode-are-bits : (side : Side) (m : ℕ) → Bits (modeBits side m)
+pub mode-are-bits : (side : Side) (m : ℕ) → Bits (modeBits side m)
 unfolding modeBits
 mode-are-bits Ground m = no-bits
 mode-are-bits Air m = go (eqb m 0)
@@ -126,7 +129,7 @@ mode-are-bits Air m = go (eqb m 0)
     go true = bits-bitsN 1 0
     go false = bits-append (bitsN 1 1) (wholeBits 0 modeLast m) (bits-bitsN 1 1) (whole-number 0 modeLast (omega arith) .are-bits m)
 
-index-are-bits : (side : Side) (i : ℕ) → Bits (indexBits (lastOf side) i)
+pub index-are-bits : (side : Side) (i : ℕ) → Bits (indexBits (lastOf side) i)
 index-are-bits Air i = extensible-index 3 (omega arith) .are-bits i
 index-are-bits Ground i = extensible-index 5 (omega arith) .are-bits i
 
@@ -160,12 +163,36 @@ put-read side a ids msgs checks t h g =
     written-read side (pduIn (lent ids) (lent msgs) (lent checks) a) t
     (pdu-are-bits side (lent ids) (lent msgs) (lent checks) a (bits-to ids allBits) (bits-to msgs allBits) (bits-to checks allBits)) (apdu-fit side (lent ids) (lent msgs) (lent checks) a h) g
 
--- message data by itself
+-- message data by itself, as it is delivered
+pub record DataWhole (l : List ℕ) (c : Content) : Type 0 where
+  pub parts : Data
+  pub read : wholeData l ≡ taken.Is parts (length (contentBits c))
+  pub content : contentIn l l l parts ≡ c
+
+data-accepted : (c : Content) → contentFits c ≡ true → DataWhole (padded (contentBits c)) c
+unfolding wholeData
+data-accepted c h =
+    let d = data-written (padded (contentBits c)) 0 (length (contentBits c)) c h (stands-front (contentBits c)) in
+    record { parts = d .parts; read = rw (d .read, tail-padded (contentBits c)); content = d .content }
+
 pub data-written-read : (c : Content) (t : List ℕ) → Bits (contentBits c) → contentFits c ≡ true → bufferLeast ≤ length t
-    → DataRead (lent (take (bytesFor (length (contentBits c))) (putBits t 0 (padded (contentBits c))))) 0 (length (contentBits c)) c
+    → DataWhole (lent (take (bytesFor (length (contentBits c))) (putBits t 0 (padded (contentBits c))))) c
 data-written-read c t b h g =
     let m = content-most c h in
-    rw (front t (contentBits c) b (omega arith) g .bits) (data-written (padded (contentBits c)) 0 (length (contentBits c)) c h (stands-front (contentBits c)))
+    rw (front t (contentBits c) b (omega arith) g .bits) (data-accepted c h)
+
+-- what was read by itself stands there, within the sizes
+pub whole-data : (l : List ℕ) (d : Data) (next : ℕ) → Bits l → wholeData l ≡ taken.Is d next → DataIs l 0 next d
+unfolding wholeData
+whole-data l d next b h = from (dataAt l 0) refl h
+  where
+    ended : (e : Data) (n : ℕ) (f : Field) → onField taken.Refused f (λ (v m : ℕ). taken.Is e n) ≡ taken.Is d next → taken.Is e n ≡ taken.Is d next
+    ended e n (Value v m) p = p
+    ended e n (Refused r) p = let z : _≡_ {A = ℕ} 0 1 = cc in absurd (omega arith)
+
+    from : (t : Taken) → dataAt l 0 ≡ t → onTaken t (λ (e : Data) (n : ℕ). onField taken.Refused (tailAt l n) (λ (v m : ℕ). taken.Is e n)) ≡ taken.Is d next → DataIs l 0 next d
+    from (taken.Is e n) q p = data-read l 0 next d b (q ∙ ended e n (tailAt l n) p)
+    from (taken.Refused r) q p = let z : _≡_ {A = ℕ} 0 1 = cc in absurd (omega arith)
 
 -- one encoding, one value
 pub one-value : (side : Side) (v w : Pdu) → pduFits side v ≡ true → pduFits side w ≡ true → padded (pduBits side v) ≡ padded (pduBits side w) → v ≡ w

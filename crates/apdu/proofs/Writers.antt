@@ -5,24 +5,24 @@ use mathlib.Core.Bool.{Bool, true, false, _&&_}
 use mathlib.Core.List.{List, [], _++_}
 use Prim.Native.Nat.{ℕ, _+_, _*_, _^_, _≤_, _<_}
 use native.Mathlib.Omega.{arith}
-use borrow.Author.Tests.{le-leb, le-ltb, lt-ltb, eq-eqb, ne-eqb}
+use borrow.Author.Tests.{le-leb, le-ltb, lt-ltb, eq-eqb, ne-eqb, leb-true}
 use lib.Dec.{leb}
 use lib.ListN.{length, length-append}
 use lib.Pow.{pow-pos}
 use Rattle.words.proofs.Laws.{both-left, both-right}
 use Rattle.bits.specs.Bits.{bitsN, bitsTo, run}
-use Rattle.bits.specs.Put.{Left, left, putBits, putRun, putIf, putNumber}
+use Rattle.bits.specs.Put.{Left, left, putBits, putRun, putIf, putNumber, copyRun}
 use Rattle.bits.specs.declared.Put.{Put}
 use Rattle.bits.specs.declared.Put.the-variants.{Next}
 use Rattle.bits.proofs.Numbers.{length-bitsN, bitsN-zero}
-use Rattle.bits.proofs.Bytes.{length-to, run-to}
+use Rattle.bits.proofs.Bytes.{length-to, length-run, run-to}
 use Rattle.bits.proofs.Putting.{put-fits, put-if-yes, put-then, length-put}
 use Rattle.fields.specs.Encodings.{indexBits, lengthBits, lengthFits, wholeBits, wholeFits}
 use Rattle.fields.proofs.Writers.{as-number, in-range}
-use Rattle.apdu.specs.Sizes.{bufferLeast, userLast, providerLast, modeLast, allBits, lengthMost, octet, bit}
+use Rattle.apdu.specs.Sizes.{bufferLeast, messageMost, userLast, providerLast, modeLast, allBits, lengthMost, octet, bit}
 use Rattle.apdu.specs.Pdus.{lastOf, lent, itemsIn, partIn, contentIn, pduIn}
 use Rattle.apdu.specs.Encoding.{stringBits, optionalBits, presence, contentBits, modeBits, modeFits, pduBits, padding, padded}
-use Rattle.apdu.specs.Writing.{itemsShaped, partShaped, dataShaped, apduShaped, there, placeOf, done, writeOut}
+use Rattle.apdu.specs.Writing.{itemsShaped, partShaped, dataShaped, apduShaped, runShaped, there, placeOf, done, writeOut}
 use Rattle.apdu.specs.declared.Side.{Side}
 use Rattle.apdu.specs.declared.Side.the-variants.{Air, Ground}
 use Rattle.apdu.specs.declared.Span.{Span}
@@ -299,3 +299,26 @@ module _ (li lm lc : List ℕ) (d : Data) (h : dataShaped li lm lc d ≡ true) w
 
   pub data-room : (s : List ℕ) → bufferLeast ≤ length s → 0 + length (contentBits (contentIn li lm lc d)) ≤ length (bitsTo s allBits)
   data-room s b = room-for s _ b (omega (arith, data-pads))
+
+-- a run that lent bytes hold is copied as its bits are put
+pub record RunHeld (s : List ℕ) (at n : ℕ) : Type 0 where
+  pub few : n ≤ messageMost
+  pub there : at + n ≤ length (lent s)
+
+pub run-is : (s : List ℕ) (at n : ℕ) → runShaped s at n ≡ true → RunHeld s at n
+unfolding runShaped
+run-is s at n h =
+    record {
+      few = leb-true n messageMost (both-left (leb n messageMost) (leb (at + n) (length (lent s))) h);
+      there = leb-true (at + n) (length (lent s)) (both-right (leb n messageMost) (leb (at + n) (length (lent s))) h);
+    }
+
+pub run-pads : (s : List ℕ) (at n : ℕ) → runShaped s at n ≡ true → length (run s at n) + 7 ≤ 8 * bufferLeast
+run-pads s at n h =
+    let p = run-is s at n h in
+    let w : at + n ≤ 8 * length s = omega (arith, p .there, length-to s allBits) in
+    omega (arith, p .few, length-run s at n w)
+
+pub run-copied : (d s z : List ℕ) (at n : ℕ) (r : Put) → runShaped s at n ≡ true → left r z ≡ copyRun d allBits 0 s allBits at n → left r z ≡ putRun d allBits 0 (run s at n)
+unfolding copyRun putIf
+run-copied d s z at n r h e = e ∙ rw (le-leb (at + n) (length (lent s)) (run-is s at n h .there))

@@ -41,6 +41,10 @@ abbrev pub onData : Taken → (Data → ℕ → Answer) → Answer
 onData (taken.Is d next) k = k d next
 onData (taken.Refused r) k = answer.Refused r
 
+abbrev pub onTaken : Taken → (Data → ℕ → Taken) → Taken
+onTaken (taken.Is d next) k = k d next
+onTaken (taken.Refused r) k = taken.Refused r
+
 abbrev pub onLead : Lead → (Kind → ℕ → ℕ → Answer) → Answer
 onLead (lead.Is c m next) k = k c m next
 onLead (lead.Refused r) k = answer.Refused r
@@ -133,3 +137,7 @@ restAt l kind.ForwardResponse m at = answer.Is apdu.ForwardResponse
 -- the leading fields, then the rest
 unfoldable pub apduAt : Side → List ℕ → ℕ → Answer
 apduAt side l at = onLead (leadingAt side l at) (restAt l)
+
+-- message data by itself, as it is delivered: its parts, and nothing after it but the padding
+unfoldable pub wholeData : List ℕ → Taken
+wholeData l = onTaken (dataAt l 0) (λ (d : Data) (next : ℕ). onField taken.Refused (tailAt l next) (λ (v m : ℕ). taken.Is d next))

@@ -1,5 +1,6 @@
 -- Limits, each named once: document 01, "Sizes", and the enumerations of Doc 9705, 2.3.4.2.
 use Prim.Native.Nat.{ℕ}
+use Rattle.words.specs.Limits.{messageBits, bufferBytes}
 
 -- algorithm identifier, contents octets, if present
 abbrev pub identifierLeast : ℕ
@@ -10,7 +11,7 @@ identifierMost = 16
 
 -- CPDLC message, bits
 abbrev pub messageMost : ℕ
-messageMost = 2048
+messageMost = messageBits
 
 -- integrity check, bits
 abbrev pub checkMost : ℕ
@@ -18,7 +19,7 @@ checkMost = 64
 
 -- each of the two lent output buffers, bytes
 abbrev pub bufferLeast : ℕ
-bufferLeast = 320
+bufferLeast = bufferBytes
 
 -- the last numbers of CPDLCUserAbortReason, CPDLCProviderAbortReason and Mode
 abbrev pub userLast : ℕ

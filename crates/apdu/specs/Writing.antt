@@ -9,6 +9,7 @@ use Rattle.bits.specs.declared.Put.{Put}
 use Rattle.bits.specs.declared.Put.the-variants.{Next, Full}
 use Rattle.fields.specs.Encodings.{wholeFits, withinFits}
 use Rattle.apdu.specs.Sizes.{identifierLeast, identifierMost, messageMost, checkMost, bufferLeast, userLast, providerLast, octet, bit}
+use Rattle.apdu.specs.Pdus.{lent}
 use Rattle.apdu.specs.Encoding.{padded, modeFits}
 use Rattle.apdu.specs.declared.Side.{Side}
 use Rattle.apdu.specs.declared.Span.{Span}
@@ -43,6 +44,10 @@ apduShaped side li lm lc (apdu.Start m d) = modeFits side m && dataShaped li lm 
 apduShaped side li lm lc (apdu.Send d) = dataShaped li lm lc d
 apduShaped side li lm lc apdu.Forward = false
 apduShaped side li lm lc apdu.ForwardResponse = false
+
+-- n bits at a place of lent bytes, at most those of a message
+unfoldable pub runShaped : List ℕ → ℕ → ℕ → Bool
+runShaped s at n = leb n messageMost && leb (at + n) (length (lent s))
 
 -- ---- the answer and the buffer
 

@@ -3,7 +3,7 @@ ghost use mathlib.Core.Path.{_≡_};
 ghost use Prim.Native.Nat.{_-_, _%_};
 ghost use Rattle.apdu.specs.Pdus.{lent};
 ghost use Rattle.apdu.specs.Encoding.{padding as paddingOf};
-ghost use Rattle.apdu.specs.Reading.{apduAt, endedAt, restAt, tailAt};
+ghost use Rattle.apdu.specs.Reading.{apduAt, endedAt, restAt, tailAt, wholeData};
 use crate::Answer;
 use crate::Apdu;
 use crate::Kind;
@@ -11,7 +11,6 @@ use crate::Lead;
 use crate::Side;
 use crate::Taken;
 use crate::leading::leading_at;
-use crate::leading::refused_at;
 use crate::parts::data_at;
 use crate::refusals::field_refusal;
 use crate::refusals::lead_refusal;
@@ -39,11 +38,11 @@ fn tail(s: &[u8], at: usize) -> Field
     };
     if v == 0 {
         if bits::within(s.len(), ALL, next, 1) {
-            return refused_at(next, Refusal::Tail);
+            return fields::refused_at(next, Refusal::Tail);
         }
         return Field::Value(0, next);
     }
-    refused_at(at, Refusal::Tail)
+    fields::refused_at(at, Refusal::Tail)
 }
 
 // An APDU whose last field ends at a place.
@@ -104,4 +103,19 @@ pub(crate) fn apdu_at(s: &[u8], at: usize, side: Side) -> Answer
         return Answer::Refused(lead_refusal(leading));
     };
     rest_at(s, kind, mode, next)
+}
+
+// Message data by itself, as it is delivered to a user: the lent bytes hold nothing else.
+pub fn read_data(s: &[u8]) -> Taken
+    ensures { λ t. ⌜ t ≡ wholeData (lent (now (s .entry))) ⌝ }
+{
+    let parts = data_at(s, 0);
+    let Taken::Is(d, next) = parts else {
+        return Taken::Refused(taken_refusal(parts));
+    };
+    let rest = tail(s, next);
+    let Field::Value(_, _) = rest else {
+        return Taken::Refused(field_refusal(rest));
+    };
+    Taken::Is(d, next)
 }

@@ -4,12 +4,13 @@ ghost use mathlib.Core.Path.{_≡_};
 ghost use mathlib.Core.Bool.{true};
 ghost use Prim.Native.Nat.{_+_, _≤_, _<_};
 ghost use lib.ListN.{length};
+ghost use Rattle.bits.specs.Bits.{run};
 ghost use Rattle.bits.specs.Put.{left, putIf, putRun};
 ghost use Rattle.fields.specs.Encodings.{wholeFits};
 ghost use Rattle.apdu.specs.Sizes.{allBits, lengthMost};
 ghost use Rattle.apdu.specs.Pdus.{contentIn, indexOf, lastOf, lent, partIn, pduIn};
 ghost use Rattle.apdu.specs.Encoding.{alternative, contentBits, modeBits, modeFits, optionalBits, pduBits};
-ghost use Rattle.apdu.specs.Writing.{apduShaped, dataShaped, done, partShaped, placeOf, there, writeOut};
+ghost use Rattle.apdu.specs.Writing.{apduShaped, dataShaped, done, partShaped, placeOf, runShaped, there, writeOut};
 use crate::Apdu;
 use crate::Data;
 use crate::Kind;
@@ -157,6 +158,31 @@ pub fn put_data(buf: &mut [u8], d: Data, ids: &[u8], msgs: &[u8], checks: &[u8])
         let n = place(put_content(buf, 0, d, ids, msgs, checks));
         bits::put_bits(buf, ALL, n, padding(n), 0);
         return Written::Bits(n);
+    }
+    Written::Shape
+}
+
+// Whether lent bytes hold n bits at a place, at most those of a message.
+fn run_shaped(src: &[u8], at: usize, n: usize) -> bool
+    ensures { λ r. ⌜ r ≡ runShaped (now (src .entry)) at n ⌝ }
+{
+    if Data::MESSAGE_MOST < n {
+        return false;
+    }
+    bits::within(src.len(), ALL, at, n)
+}
+
+// The n bits at a place of lent bytes, by themselves: a part of message data where its reader found it.
+pub fn put_run(buf: &mut [u8], src: &[u8], at: usize, n: usize) -> Written
+    ensures { λ r. ⌜ done r (now (buf .exit)) ≡ writeOut (runShaped (now (src .entry)) at n) (now (buf .entry)) (run (now (src .entry)) at n) ⌝ }
+{
+    if buf.len() < Apdu::BUFFER {
+        return Written::Room;
+    }
+    if run_shaped(src, at, n) {
+        let p = place(bits::copy_bits(buf, ALL, 0, src, ALL, at, n));
+        bits::put_bits(buf, ALL, p, padding(p), 0);
+        return Written::Bits(p);
     }
     Written::Shape
 }

@@ -1,6 +1,5 @@
 // The leading fields: the alternative, and the mode of a start.
 ghost use mathlib.Core.Path.{_≡_};
-ghost use Rattle.fields.specs.Fields.{refusedAt};
 ghost use Rattle.apdu.specs.Pdus.{indexOf, kindOf, lastOf, lent};
 ghost use Rattle.apdu.specs.Reading.{kindMode, leadingAt, modeAt, modeValue};
 use crate::Apdu;
@@ -22,13 +21,6 @@ impl Side {
             Side::Ground => 5,
         }
     }
-}
-
-// The refusal of the field that begins at a place.
-pub(crate) fn refused_at(at: usize, r: Refusal) -> Field
-    ensures { λ f. ⌜ f ≡ refusedAt at r ⌝ }
-{
-    Field::Refused(r)
 }
 
 // The alternatives by their tags.
@@ -67,7 +59,7 @@ fn mode_value(s: &[u8], at: usize) -> Field
         return value;
     };
     if m == 0 {
-        return refused_at(at, Refusal::Default);
+        return fields::refused_at(at, Refusal::Default);
     }
     value
 }

@@ -13,11 +13,14 @@ mod refusals;
 mod shape;
 
 use decoder::apdu_at;
+pub use decoder::read_data;
 pub use encoder::put_apdu;
 pub use encoder::put_data;
+pub use encoder::put_run;
 use fields::Refusal;
 pub use shape::apdu_shaped;
 pub use shape::data_shaped;
+use words::Limit;
 
 // Which of the two types an APDU is of: the air end writes AircraftPDUs, the ground end GroundPDUs.
 pub enum Side {
@@ -60,7 +63,7 @@ impl Data {
 
     pub const IDENTIFIER_MOST: usize = 16;
 
-    pub const MESSAGE_MOST: usize = 2048;
+    pub const MESSAGE_MOST: usize = Limit::MESSAGE_BITS;
 
     pub const CHECK_MOST: usize = 64;
     // Bits of an item: the identifier counts octets, the message and the check count bits.
@@ -86,7 +89,7 @@ impl Apdu {
 
     pub const MODE_LAST: u64 = 1;
     // Bytes that a lent output buffer has at least.
-    pub const BUFFER: usize = 320;
+    pub const BUFFER: usize = Limit::BUFFER_BYTES;
 }
 
 // What reading message data finds: its parts and the place after it.

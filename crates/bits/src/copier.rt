@@ -94,6 +94,18 @@ fn copy_chunks(dst: &mut [u8], to: usize, src: &[u8], at: usize, n: usize)
     }
 }
 
+// A run that one number holds goes without the scratch buffer: most fields of a message are that short.
+fn copy_run(dst: &mut [u8], to: usize, src: &[u8], at: usize, n: usize)
+    requires { ⌜ (to + n ≤ 8 * length (now dst)) × (to + n < 2 ^ 64) × (at + n ≤ 8 * length (now src)) × (at + n < 2 ^ 64) ⌝ }
+    ensures { λ r. ⌜ now (dst .exit) ≡ putBits (now (dst .entry)) to (run (now (src .entry)) at n) ⌝ }
+{
+    if n <= 64 {
+        copy_few(dst, to, src, at, n);
+    } else {
+        copy_chunks(dst, to, src, at, n);
+    }
+}
+
 // n bits at a place within the first send bits of src, to a place within the first dend bits of dst.
 pub fn copy_bits(
     dst: &mut [u8],
@@ -108,7 +120,7 @@ pub fn copy_bits(
 {
     if within(src.len(), send, at, n) {
         if within(dst.len(), dend, to, n) {
-            copy_chunks(dst, to, src, at, n);
+            copy_run(dst, to, src, at, n);
             return Put::Next(to + n);
         }
         return Put::Full;

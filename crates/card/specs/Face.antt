@@ -4,6 +4,7 @@ use mathlib.Core.Bool.{Bool, true, false, not, cond}
 use mathlib.Core.List.{List, []}
 use lib.Dec.{eqb}
 use lib.ListN.{length}
+use Rattle.words.specs.Limits.{shape}
 use Rattle.apdu.specs.declared.Span.{Span}
 use Rattle.apdu.specs.declared.Part.{Part}
 use Rattle.apdu.specs.declared.Part.the-variants as part
@@ -56,9 +57,9 @@ made n r = record { number = n; bytes = r }
 
 -- 0 where the record was stored; SHAPE where the range is not of its size, or the value is none
 unfoldable pub freshFor : Kept → Made
-freshFor k = made (cond (k .done) 0 2) (k .bytes)
+freshFor k = made (cond (k .done) 0 shape) (k .bytes)
 
 unfoldable pub freshCall : List ℕ → ℕ → ℕ → Made
 freshCall r side policy =
     cond (eqb side 1) (freshFor (storeAt r Air (freshRecord (record { policy = policy }))))
-    (cond (eqb side 2) (freshFor (storeAt r Ground (freshRecord (record { policy = policy })))) (made 2 r))
+    (cond (eqb side 2) (freshFor (storeAt r Ground (freshRecord (record { policy = policy })))) (made shape r))

@@ -1,4 +1,4 @@
--- Each piece of an argument fits where the argument does, so that an argument with room for its bits is written whole.
+-- Each piece of an element fits where the element does, so that an element with room for its bits is written whole.
 -- Assumes nothing.
 use mathlib.Core.Path.{_≡_, refl, sym, ap, _∙_}
 use mathlib.Core.Bool.{Bool, true, false, cond, _&&_}
@@ -13,20 +13,22 @@ use Rattle.bits.specs.Bits.{bitsTo}
 use Rattle.bits.specs.Put.{Left, left, putBits}
 use Rattle.bits.specs.declared.Put.the-variants.{Next}
 use Rattle.fields.specs.Encodings.{wholeFits}
+use Rattle.elements.specs.declared.kinds.Direction.{Direction}
 use Rattle.elements.specs.declared.kinds.Kind.{Kind}
 use Rattle.elements.specs.declared.kinds.Kind.the-variants as kind
 use Rattle.elements.specs.declared.values.LevelType.{LevelType}
 use Rattle.elements.specs.declared.values.Level.{Level}
 use Rattle.elements.specs.declared.values.Time.{Time}
 use Rattle.elements.specs.declared.values.Element.{Element}
+use Rattle.elements.specs.Elements.{kindOf}
 use Rattle.elements.specs.Arguments.{flag, noType, same?, lowest, highest, levelTypeFits, levelFits, timeFits, digitsFit, codeFits, charactersFit, sizedFits, facilityFits, atisFits}
-use Rattle.elements.specs.OneElement.{levelUnused, timeUnused, codeUnused, levelsUnused, plain, noText, argumentFits, argumentBits}
-use Rattle.elements.specs.Writing.{Piece, whole, putPieces, piecesFit, piecesBits, choicePiece, levelTypePieces, levelPieces, timePieces, numberPieces, sizedPieces, facilityPieces, argumentPieces}
+use Rattle.elements.specs.OneElement.{levelUnused, timeUnused, codeUnused, levelsUnused, plain, noText, argumentFits, argumentBits, lastOf, elementFits, elementBits}
+use Rattle.elements.specs.Writing.{Piece, whole, putPieces, piecesFit, piecesBits, choicePiece, levelTypePieces, levelPieces, timePieces, numberPieces, sizedPieces, facilityPieces, argumentPieces, indexPiece, elementPieces}
 use Rattle.elements.proofs.Standing.{both-hold}
 use Rattle.elements.proofs.Steps.{never}
 use Rattle.elements.proofs.ReadBack.{parts}
 use Rattle.elements.proofs.Pieces.{pieces-left}
-use Rattle.elements.proofs.Written.{argument-bits}
+use Rattle.elements.proofs.Written.{element-bits}
 
 fit-append : (xs ys : List Piece) → piecesFit xs ≡ true → piecesFit ys ≡ true → piecesFit (xs ++ ys) ≡ true
 unfolding piecesFit
@@ -104,6 +106,14 @@ argument-fit kind.Facility e t p = facility-fit t (both-right (plain e) (facilit
 argument-fit kind.FacilityDesignation e t p = sized-fit 4 8 t (both-right (plain e) (sizedFits 4 8 t) p)
 argument-fit kind.AtisCode e t p = characters-fit t (both-right (eqb (length t) 1) (charactersFit t) (both-right (plain e) (eqb (length t) 1 && charactersFit t) p))
 
--- an argument of its type, with room for its bits, is written whole
-pub argument-written : (k : Kind) (e : Element) (t s : List ℕ) (end at : ℕ) → argumentFits k e t ≡ true → at + length (argumentBits k e t) ≤ length (bitsTo s end) → putPieces s end at (argumentPieces k e t) ≡ left (Next (at + length (argumentBits k e t))) (putBits s at (argumentBits k e t))
-argument-written k e t s end at p h = rw (argument-bits k e t) at (pieces-left (argumentPieces k e t) s end at (argument-fit k e t p) (rw (argument-bits k e t) h))
+pub element-fit : (d : Direction) (e : Element) (t : List ℕ) → elementFits d e t ≡ true → piecesFit (elementPieces d e t) ≡ true
+unfolding elementPieces elementFits
+element-fit d e t p =
+    let q = both-left (wholeFits 0 (lastOf d) (e .number) && eqb (e .characters) (length t)) (argumentFits (kindOf d (e .number)) e t) p in
+    fit-append (indexPiece (lastOf d) (e .number) ∷ []) (argumentPieces (kindOf d (e .number)) e t)
+    (one-fits (indexPiece (lastOf d) (e .number)) (both-left (wholeFits 0 (lastOf d) (e .number)) (eqb (e .characters) (length t)) q))
+    (argument-fit (kindOf d (e .number)) e t (both-right (wholeFits 0 (lastOf d) (e .number) && eqb (e .characters) (length t)) (argumentFits (kindOf d (e .number)) e t) p))
+
+-- an element of its type, with room for its bits, is written whole
+pub element-written : (d : Direction) (e : Element) (t s : List ℕ) (end at : ℕ) → elementFits d e t ≡ true → at + length (elementBits d e t) ≤ length (bitsTo s end) → putPieces s end at (elementPieces d e t) ≡ left (Next (at + length (elementBits d e t))) (putBits s at (elementBits d e t))
+element-written d e t s end at p h = rw (element-bits d e t) at (pieces-left (elementPieces d e t) s end at (element-fit d e t p) (rw (element-bits d e t) h))

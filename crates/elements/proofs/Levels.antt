@@ -1,12 +1,12 @@
 -- Levels: what is written is read back, and what is read stands there.
 -- Assumes nothing.
-use mathlib.Core.Path.{_≡_, refl, sym, ap, _∙_}
+use mathlib.Core.Path.{_≡_, refl, sym, _∙_}
 use mathlib.Core.Bool.{Bool, true, false, cond, _&&_}
 use mathlib.Core.List.{List, [], _∷_, _++_}
-use Prim.Native.Nat.{ℕ, zero, suc, _+_, _<_, _≤_, _^_}
+use Prim.Native.Nat.{ℕ, zero, suc, _+_, _<_, _≤_}
 use native.Mathlib.Omega.{arith}
 use native.Mathlib.Nat.{add-zero}
-use lib.ListN.{length, List·getD-eq-default}
+use lib.ListN.{List·getD-eq-default}
 use lib.Dec.{eqb}
 use borrow.Author.Tests.{eqb-true, eqb-false}
 use Rattle.words.proofs.Laws.{both-left, both-right}
@@ -21,7 +21,7 @@ use Rattle.elements.specs.declared.values.LevelTypeRead.the-variants as 
 use Rattle.elements.specs.declared.values.Level.{Level}
 use Rattle.elements.specs.declared.values.LevelRead.{LevelRead}
 use Rattle.elements.specs.declared.values.LevelRead.the-variants as level
-use Rattle.elements.specs.Arguments.{onto, lowest, highest, levelTypeFits, levelTypeBits, numberInUnit, levelTypeAt, typeRefusal, ontoType, secondOf, flag, noType, same?, levelFits, levelBits, levelAt}
+use Rattle.elements.specs.Arguments.{lowest, highest, levelTypeFits, levelTypeBits, levelTypeAt, typeRefusal, ontoType, secondOf, flag, noType, same?, levelFits, levelBits, levelAt}
 use Rattle.elements.proofs.Standing.{Stands, stands-join, stands-split, stands-as, stands-nothing}
 use Rattle.elements.proofs.Whole.{Ranged, ranged, whole-reads, whole-stands, whole-below}
 use Rattle.elements.proofs.Pairs.{pair-reads, pair-is}
@@ -43,6 +43,14 @@ highest-small (suc zero) = omega arith
 highest-small (suc (suc zero)) = omega arith
 highest-small (suc (suc (suc zero))) = omega arith
 highest-small (suc (suc (suc (suc u)))) = omega arith
+
+-- a table of the four units, row by row
+pub by-unit : (f : ℕ → ℕ) (u v : ℕ) → u < 4 → (u ≡ 0 → v ≡ f 0) → (u ≡ 1 → v ≡ f 1) → (u ≡ 2 → v ≡ f 2) → (u ≡ 3 → v ≡ f 3) → v ≡ f u
+by-unit f zero v h feet metres flight metric = feet refl
+by-unit f (suc zero) v h feet metres flight metric = metres refl
+by-unit f (suc (suc zero)) v h feet metres flight metric = flight refl
+by-unit f (suc (suc (suc zero))) v h feet metres flight metric = metric refl
+by-unit f (suc (suc (suc (suc u)))) v h feet metres flight metric = absurd (omega arith)
 
 -- what is no unit has no range
 pub past-lowest : (u : ℕ) → 4 ≤ u → 0 ≡ lowest u

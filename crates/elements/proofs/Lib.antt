@@ -16,3 +16,5 @@ pub mod Placed
 pub mod Pieces
 pub mod Written
 pub mod Fitting
+pub mod Measured
+pub mod Largest

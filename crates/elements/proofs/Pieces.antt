@@ -17,9 +17,14 @@ use Rattle.bits.specs.declared.Put.{Put}
 use Rattle.bits.specs.declared.Put.the-variants.{Next, Full}
 use Rattle.bits.proofs.Bytes.{length-to}
 use Rattle.bits.proofs.Putting.{put-append, put-nil, put-fits, length-put}
-use Rattle.fields.specs.Encodings.{wholeBits, wholeFits}
+use Rattle.fields.specs.Encodings.{indexBits, wholeBits, wholeFits}
+use Rattle.elements.specs.declared.kinds.Direction.{Direction}
+use Rattle.elements.specs.declared.kinds.Kind.{Kind}
 use Rattle.elements.specs.declared.values.Level.{Level}
-use Rattle.elements.specs.Writing.{Piece, onPut, putPieces, piecesFit, piecesBits, whole, choicePiece, levelTypePieces, levelPieces, numberPieces, sizedPieces, facilityPieces}
+use Rattle.elements.specs.declared.values.Element.{Element}
+use Rattle.elements.specs.Elements.{kindOf}
+use Rattle.elements.specs.OneElement.{lastOf}
+use Rattle.elements.specs.Writing.{Piece, onPut, putPieces, piecesFit, piecesBits, whole, choicePiece, levelTypePieces, levelPieces, numberPieces, sizedPieces, facilityPieces, argumentPieces, indexPiece, elementPieces}
 
 pub pieces-nil : (s : List ℕ) (e at : ℕ) → putPieces s e at [] ≡ left (Next at) s
 unfolding putPieces
@@ -138,6 +143,12 @@ numbers-nil : (hi : ℕ) → numberPieces hi [] ≡ []
 unfolding numberPieces
 numbers-nil hi = refl
 
+pub drop-all : (xs : List ℕ) (i : ℕ) → length xs ≤ i → drop i xs ≡ []
+drop-all [] zero h = refl
+drop-all [] (suc i) h = refl
+drop-all (x ∷ xs) zero h = absurd (omega arith)
+drop-all (x ∷ xs) (suc i) h = drop-all xs i (omega arith)
+
 module _ (xs : List ℕ) (i p e hi : ℕ) (s : List ℕ) (z : Left) (inv : putPieces s e p (numberPieces hi (drop i xs)) ≡ z) where
   module _ (h : i < length xs) (t : List ℕ) (a : Put) (k : left a t ≡ putIf (wholeFits 0 hi (getD xs i 0)) s e p (wholeBits 0 hi (getD xs i 0))) where
     split : putPieces s e p (whole 0 hi (getD xs i 0) ∷ numberPieces hi (drop (suc i) xs)) ≡ z
@@ -151,12 +162,6 @@ module _ (xs : List ℕ) (i p e hi : ℕ) (s : List ℕ) (z : Left) (inv : putPi
 
   pub numbers-done : length xs ≤ i → left (Next p) s ≡ z
   numbers-done h = rw (drop-all xs i h, numbers-nil, pieces-nil) at inv
-    where
-      drop-all : (xs : List ℕ) (i : ℕ) → length xs ≤ i → drop i xs ≡ []
-      drop-all [] zero h = refl
-      drop-all [] (suc i) h = refl
-      drop-all (x ∷ xs) zero h = absurd (omega arith)
-      drop-all (x ∷ xs) (suc i) h = drop-all xs i (omega arith)
 
 -- the same number, by another name
 pub put-as : (s t : List ℕ) (e at hi v w : ℕ) (a : Put) → left a t ≡ putIf (wholeFits 0 hi v) s e at (wholeBits 0 hi v) → v ≡ w → left a t ≡ putIf (wholeFits 0 hi w) s e at (wholeBits 0 hi w)
@@ -191,3 +196,17 @@ not-written s e at = one-piece s s e at Full (record { fits = false; bits = [] }
   where
     refused : (s : List ℕ) (e at : ℕ) → left Full s ≡ putIf false s e at []
     refused s e at = if-false s e at []
+
+-- ---- an element
+
+module _ (d : Direction) (e : Element) (xs s t : List ℕ) (end at last : ℕ) (a : Put) (l : last ≡ lastOf d) (h : left a t ≡ putIf (wholeFits 0 last (e .number)) s end at (indexBits last (e .number))) where
+  index-put : left a t ≡ putPieces s end at (indexPiece (lastOf d) (e .number) ∷ [])
+  index-put = one-piece s t end at a (indexPiece (lastOf d) (e .number)) (rw l at h)
+
+  pub element-full : a ≡ Full → left Full t ≡ putPieces s end at (elementPieces d e xs)
+  unfolding elementPieces
+  element-full q = pieces-full (indexPiece (lastOf d) (e .number) ∷ []) (argumentPieces (kindOf d (e .number)) e xs) s t end at a index-put q
+
+  pub element-next : (z : List ℕ) (p : ℕ) (k : Kind) (b : Put) → a ≡ Next p → k ≡ kindOf d (e .number) → left b z ≡ putPieces t end p (argumentPieces k e xs) → left b z ≡ putPieces s end at (elementPieces d e xs)
+  unfolding elementPieces
+  element-next z p k b q i w = pieces-next (indexPiece (lastOf d) (e .number) ∷ []) (argumentPieces (kindOf d (e .number)) e xs) s t z end at p a b index-put q (rw i at w)

@@ -50,7 +50,7 @@ module _ (d : Direction) (l : List ℕ) (at next : ℕ) (e : Element) where
       (λ (i m : ℕ) (p : extensibleIndex l at (lastOf d) ≡ field.Value i m) (q : argumentAt (kindOf d i) i l m ≡ isElement e next).
       let a = argument-stands l m i next b e (kindOf d i) q in
       let j : i ≡ e .number = sym (a .number) in
-      let s = rw j at (index-stands l at (lastOf d) i m b p) in
+      let s = rw j at (index-stands l at (lastOf d) i m (last-ranged d) b p) in
       let c = eq-eqb (e .characters) (length (textOf l e next)) (sym (length-characters l (next - 7 * e .characters) (e .characters))) in
       stands-join l at m next _ _ _ _ (stands-as l at m _ _ _ (both-hold _ _ (s .fits) c) s) (rw j at (a .stands)))
       (λ (r : Refusal) (q : noElement r ≡ isElement e next). no-place r e next q)

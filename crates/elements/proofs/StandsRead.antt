@@ -1,13 +1,9 @@
 -- The argument of each carried kind, in its element: what was read stands there, with the characters that stand at its end.
 -- Assumes nothing.
-use mathlib.Core.Path.{_≡_, refl, sym, ap, _∙_}
-use mathlib.Core.Bool.{Bool, true, false, _&&_}
-use mathlib.Core.List.{List, [], _∷_, _++_}
-use Prim.Native.Nat.{ℕ, _+_, _-_, _*_}
-use native.Mathlib.Omega.{arith}
-use lib.ListN.{length}
-use lib.Dec.{eqb}
-use borrow.Author.Tests.{eq-eqb}
+use mathlib.Core.Path.{_≡_, refl, ap, _∙_}
+use mathlib.Core.Bool.{Bool, true, _&&_}
+use mathlib.Core.List.{List}
+use Prim.Native.Nat.{ℕ, _-_, _*_}
 use Rattle.bits.proofs.Numbers.{Bits}
 use Rattle.fields.specs.declared.Refusal.{Refusal}
 use Rattle.fields.specs.declared.Refusal.the-variants as refusal
@@ -26,10 +22,11 @@ use Rattle.elements.specs.declared.values.Step.the-variants as step
 use Rattle.elements.specs.declared.values.CodeRead.{CodeRead}
 use Rattle.elements.specs.declared.values.Element.{Element}
 use Rattle.elements.specs.declared.values.ElementRead.{ElementRead}
-use Rattle.elements.specs.Arguments.{onto, isCode, levelFits, levelBits, levelAt, timeFits, timeBits, timeAt, digitsFit, codeFits, digitsBits, codeAt, charactersIn, sizedFits, sizedBits, freeTextAt, designationAt, facilityFits, facilityBits, facilityAt, atisFits, charactersBits, atisAt}
-use Rattle.elements.specs.OneElement.{noLevel, noTime, noDigits, bare, withLevels, withTime, withCode, withCharacters, isElement, noElement, ontoLevel, ontoTime, ontoStep, charactersOf, levelArgument, twoLevelsArgument, timeArgument, codeArgument, argumentAt, levelUnused, timeUnused, zeros, codeUnused, levelsUnused, plain, noText, argumentFits, argumentBits, textOf}
-use Rattle.elements.proofs.Standing.{Stands, stands-join, stands-as, stands-nothing, both-hold}
+use Rattle.elements.specs.Arguments.{isCode, levelFits, levelBits, levelAt, timeFits, timeBits, timeAt, codeFits, digitsBits, codeAt, charactersIn, freeTextAt, designationAt, facilityAt, atisAt}
+use Rattle.elements.specs.OneElement.{noLevel, bare, withLevels, withTime, withCode, withCharacters, isElement, noElement, ontoLevel, ontoTime, ontoStep, charactersOf, levelArgument, twoLevelsArgument, timeArgument, codeArgument, argumentAt, levelUnused, timeUnused, zeros, codeUnused, levelsUnused, plain, argumentFits, argumentBits, textOf}
+use Rattle.elements.proofs.Standing.{Stands, stands-join, stands-as, stands-nothing}
 use Rattle.elements.proofs.Steps.{never, onto-is}
+use Rattle.elements.proofs.Whole.{ranged}
 use Rattle.elements.proofs.Levels.{level-stands}
 use Rattle.elements.proofs.Times.{time-stands}
 use Rattle.elements.proofs.Codes.{code-stands}
@@ -161,7 +158,7 @@ module _ (l : List ℕ) (at i next : ℕ) (b : Bits l) where
     free-text-found h =
         characters-are kind.FreeText (freeTextAt l at)
         (λ (n m : ℕ) (p : freeTextAt l at ≡ field.Value n m) (j : m ≡ next).
-        text-argued kind.FreeText n _ _ refl refl (sized-stands l at 1 256 next n b (rw j at p)))
+        text-argued kind.FreeText n _ _ refl refl (sized-stands l at 1 256 next (ranged 1 256 tt tt) n b (rw j at p)))
         h
 
     facility-found : charactersOf i (facilityAt l at) ≡ isElement e next → Goal kind.Facility
@@ -177,7 +174,7 @@ module _ (l : List ℕ) (at i next : ℕ) (b : Bits l) where
     designation-found h =
         characters-are kind.FacilityDesignation (designationAt l at)
         (λ (n m : ℕ) (p : designationAt l at ≡ field.Value n m) (j : m ≡ next).
-        text-argued kind.FacilityDesignation n _ _ refl refl (sized-stands l at 4 8 next n b (rw j at p)))
+        text-argued kind.FacilityDesignation n _ _ refl refl (sized-stands l at 4 8 next (ranged 4 8 tt tt) n b (rw j at p)))
         h
 
     atis-found : charactersOf i (atisAt l at) ≡ isElement e next → Goal kind.AtisCode

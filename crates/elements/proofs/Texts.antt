@@ -1,26 +1,25 @@
 -- Characters: what is written is read back, and what is read stands there.
 -- Assumes nothing.
-use mathlib.Core.Path.{_≡_, refl, sym, ap, _∙_}
-use mathlib.Core.Bool.{Bool, true, false, cond, _&&_}
-use mathlib.Core.List.{List, [], _∷_, _++_}
-use Prim.Native.Nat.{ℕ, zero, suc, _+_, _-_, _*_, _%_, _^_, _<_, _≤_}
+use mathlib.Core.Path.{_≡_, refl, ap, _∙_}
+use mathlib.Core.Bool.{Bool, true, false, cond}
+use mathlib.Core.List.{List, [], _∷_}
+use Prim.Native.Nat.{ℕ, zero, suc, _+_, _-_, _*_, _<_, _≤_}
 use native.Mathlib.Omega.{arith}
 use native.Mathlib.Nat.{mod-eq-of-lt}
 use lib.ListN.{length, take, drop, length-append}
-use lib.Dec.{leb, ltb, eqb}
-use borrow.Author.Tests.{ltb-true, lt-ltb, leb-true, le-leb, eqb-true, eqb-false, eq-eqb}
+use lib.Dec.{ltb, eqb}
+use borrow.Author.Tests.{ltb-true, lt-ltb, le-leb, eqb-true, eqb-false, eq-eqb}
 use Rattle.words.proofs.Laws.{both-left, both-right}
 use Rattle.bits.specs.Bits.{bitsN, numOf}
 use Rattle.bits.proofs.Numbers.{Bits, length-bitsN, num-bitsN}
 use Rattle.bits.proofs.Bytes.{Holds, holds-split, holds-join, holds-within, part-bits, part-lt}
-use Rattle.fields.specs.Fields.{then, refusedAt, wholeNumber, runAt, contentsAt, sizedAt}
+use Rattle.fields.specs.Fields.{wholeNumber, runAt, sizedAt}
 use Rattle.fields.specs.Encodings.{wholeBits, wholeFits}
-use Rattle.fields.specs.declared.Refusal.{Refusal}
-use Rattle.fields.specs.declared.Refusal.the-variants.{Short}
-use Rattle.fields.specs.declared.Field.{Field}
 use Rattle.fields.specs.declared.Field.the-variants as field
+use Rattle.fields.proofs.Answers.{run-is}
+use Rattle.fields.proofs.RoundTrip.{via, sized-read, sized-written}
 use Rattle.elements.specs.Arguments.{charactersFit, charactersBits, charactersIn, sizedFits, sizedBits, facilityFits, facilityBits, facilityAt, designationAt, atisFits, atisAt}
-use Rattle.elements.proofs.Standing.{Stands, stands-join, stands-split, stands-as, both-hold}
+use Rattle.elements.proofs.Standing.{Stands, stands-join, stands-split, stands-as, both-hold, as-field, of-field}
 use Rattle.elements.proofs.Steps.{never}
 use Rattle.elements.proofs.Whole.{Ranged, ranged, whole-reads, whole-stands, whole-above, whole-below}
 
@@ -67,82 +66,45 @@ characters-stand l at (suc n) b h =
     let e : take 7 (drop at l) ≡ bitsN 7 v = part-bits l at 7 b (omega arith) in
     holds-join l at (bitsN 7 v) (charactersBits (charactersIn l (at + 7) n)) (rw k e) (rw k (characters-stand l (at + 7) n b (omega arith)))
 
--- ---- contents
-
-pub record RunIs (l : List ℕ) (at count n v next : ℕ) : Type 0 where
-  pub items : v ≡ n
-  pub place : next ≡ at + count
-  pub within : at + count ≤ length l
-
-pub run-is : (l : List ℕ) (at count n v next : ℕ) → runAt l at count n ≡ field.Value v next → RunIs l at count n v next
-unfolding runAt
-run-is l at count n v next e = go (leb (at + count) (length l)) refl e
-  where
-    go : (t : Bool) → leb (at + count) (length l) ≡ t → cond t (field.Value n (at + count)) (refusedAt at Short) ≡ field.Value v next → RunIs l at count n v next
-    go true h f = record { items = sym (cc); place = sym (cc); within = leb-true (at + count) (length l) h }
-    go false h f = never (cc)
-
-pub run-reads : (l : List ℕ) (at count n : ℕ) → at + count ≤ length l → runAt l at count n ≡ field.Value n (at + count)
-unfolding runAt
-run-reads l at count n h = rw (le-leb (at + count) (length l) h)
-
--- characters that stand at a place up to the next, as contents without a length
-pub contents-reads : (l : List ℕ) (at next : ℕ) (ok : Bool) (t : List ℕ) → 0 < length t → Stands l at ok (charactersBits t) next → contentsAt l at 7 (length t) ≡ field.Value (length t) next
-contents-reads l at next ok t p s =
-    let n = length-charactersBits t in
-    let h = holds-within l at (charactersBits t) (omega arith) (s .holds) in
-    run-reads l at (7 * length t) (length t) (omega arith) ∙ rw (s .place, n)
-
-pub contents-stands : (l : List ℕ) (at n v next : ℕ) → Bits l → contentsAt l at 7 n ≡ field.Value v next → Stands l at (charactersFit (charactersIn l at n)) (charactersBits (charactersIn l at n)) next
-contents-stands l at n v next b e =
-    let r = run-is l at (7 * n) n v next e in
-    let k = length-charactersBits (charactersIn l at n) in
-    let m = length-characters l at n in
-    record {
-      fits = characters-fit l at n b (r .within);
-      holds = characters-stand l at n b (r .within);
-      place = let p = r .place in omega arith;
-    }
-
--- ---- a string with a size
-
 -- the characters are the last of a string
-pub text-of : (l : List ℕ) (at m next : ℕ) (ok : Bool) (t : List ℕ) → charactersFit t ≡ true → Stands l m ok (charactersBits t) next → charactersIn l (next - 7 * length t) (length t) ≡ t
-text-of l at m next ok t f s =
+text-of : (l : List ℕ) (m next : ℕ) (ok : Bool) (t : List ℕ) → charactersFit t ≡ true → Stands l m ok (charactersBits t) next → charactersIn l (next - 7 * length t) (length t) ≡ t
+text-of l m next ok t f s =
     let n = length-charactersBits t in
     let p = s .place in
     let e : next - 7 * length t ≡ m = omega arith in
     rw e (characters-found l m t f (s .holds))
 
+-- ---- a string with a size
+
 module _ (l : List ℕ) (at least most next : ℕ) where
   pub sized-reads : Ranged least most → 0 < least → (t : List ℕ) → Stands l at (sizedFits least most t) (sizedBits least most t) next → sizedAt l at 7 least most ≡ field.Value (length t) next
-  unfolding sizedFits sizedBits sizedAt
+  unfolding sizedFits sizedBits
   sized-reads r p t s =
-      let q = stands-split l at next (wholeFits least most (length t)) (charactersFit t) (wholeBits least most (length t)) (charactersBits t) s in
-      let k = whole-above least most (length t) (q .0 .fits) in
-      rw (whole-reads l at least most (length t) _ r (q .0)) (contents-reads l _ next _ t (omega arith) (q .1))
+      let h = both-left (wholeFits least most (length t)) (charactersFit t) (s .fits) in
+      let k = whole-above least most (length t) h in
+      let n = length-append (wholeBits least most (length t)) (charactersBits t) in
+      let c = length-charactersBits t in
+      sized-written l at 7 least most (length t) next (charactersBits t) (r .small) h c (as-field l at next _ _ (omega arith) s)
 
   pub sized-text : (t : List ℕ) → Stands l at (sizedFits least most t) (sizedBits least most t) next → charactersIn l (next - 7 * length t) (length t) ≡ t
   unfolding sizedFits sizedBits
   sized-text t s =
       let q = stands-split l at next (wholeFits least most (length t)) (charactersFit t) (wholeBits least most (length t)) (charactersBits t) s in
-      text-of l at _ next _ t (q .1 .fits) (q .1)
+      text-of l _ next _ t (q .1 .fits) (q .1)
 
-  pub sized-stands : (n : ℕ) → Bits l → sizedAt l at 7 least most ≡ field.Value n next → Stands l at (sizedFits least most (charactersIn l (next - 7 * n) n)) (sizedBits least most (charactersIn l (next - 7 * n) n)) next
-  unfolding sizedFits sizedBits sizedAt
-  sized-stands n b e = go (wholeNumber l at least most) refl e
-    where
-      go : (f : Field) → wholeNumber l at least most ≡ f → then f (λ (n from : ℕ). contentsAt l from 7 n) ≡ field.Value n next → Stands l at (wholeFits least most (length (charactersIn l (next - 7 * n) n)) && charactersFit (charactersIn l (next - 7 * n) n)) (wholeBits least most (length (charactersIn l (next - 7 * n) n)) ++ charactersBits (charactersIn l (next - 7 * n) n)) next
-      go (field.Value k m) p q =
-          let r = run-is l m (7 * k) k n next q in
-          let i = r .items in
-          let j = r .place in
-          let a : next - 7 * n ≡ m = omega arith in
-          let c : length (charactersIn l m n) ≡ n = length-characters l m n in
-          let s = whole-stands l at least most k m b p in
-          let t = contents-stands l m k n next b q in
-          rw (a, c) (stands-join l at m next _ _ _ _ (rw (← i) at s) (rw (← i) at t))
-      go (field.Refused r) p q = never (cc)
+  pub sized-stands : Ranged least most → (n : ℕ) → Bits l → sizedAt l at 7 least most ≡ field.Value n next → Stands l at (sizedFits least most (charactersIn l (next - 7 * n) n)) (sizedBits least most (charactersIn l (next - 7 * n) n)) next
+  unfolding sizedFits sizedBits
+  sized-stands r n b e =
+      let s = sized-read l at 7 least most n next (r .small) b e in
+      let m : ℕ = at + length (wholeBits least most n) in
+      let f = s .from in
+      let w = s .stands .within in
+      let p = s .stands .place in
+      let a : next - 7 * n ≡ m = omega arith in
+      let c : length (charactersIn l m n) ≡ n = length-characters l m n in
+      let i : m + 7 * n ≤ length l = omega arith in
+      let t : take (7 * n) (drop m l) ≡ charactersBits (charactersIn l m n) = rw (length-charactersBits (charactersIn l m n), c) at (characters-stand l m n b i) in
+      rw (a, c) (of-field l at next _ _ (both-hold (wholeFits least most n) _ (s .count) (characters-fit l m n b i)) (rw t at (s .stands)))
 
 -- ---- a facility
 
@@ -172,7 +134,7 @@ module _ (l : List ℕ) (at next : ℕ) where
 
   pub facility-stands : (n : ℕ) → Bits l → facilityAt l at ≡ field.Value n next → Stands l at (facilityFits (charactersIn l (next - 7 * n) n)) (facilityBits (charactersIn l (next - 7 * n) n)) next
   unfolding facilityAt
-  facility-stands n b e = go (wholeNumber l at 0 1) refl e
+  facility-stands n b e = via _ (wholeNumber l at 0 1) _ n next (λ (k m : ℕ) (p : wholeNumber l at 0 1 ≡ field.Value k m) (q : cond (eqb k 0) (field.Value 0 m) (designationAt l m) ≡ field.Value n next). chosen k m (whole-stands l at 0 1 k m b p) (eqb k 0) refl q) e
     where
       chosen : (k m : ℕ) → Stands l at (wholeFits 0 1 k) (wholeBits 0 1 k) m → (z : Bool) → eqb k 0 ≡ z → cond z (field.Value 0 m) (designationAt l m) ≡ field.Value n next → Stands l at (facilityFits (charactersIn l (next - 7 * n) n)) (facilityBits (charactersIn l (next - 7 * n) n)) next
       chosen k m s true h q =
@@ -181,30 +143,32 @@ module _ (l : List ℕ) (at next : ℕ) where
           rw (← i, ← j) (none m _ k (eqb-true k 0 h) s)
       chosen k m s false h q =
           let i : k ≡ 1 = let a = whole-below 0 1 k (s .fits) in let z = eqb-false k 0 h in omega arith in
-          some m _ (rw i at s) (sized-stands l m 4 8 next n b q)
-
-      go : (f : Field) → wholeNumber l at 0 1 ≡ f → then f (λ (choice from : ℕ). cond (eqb choice 0) (field.Value 0 from) (designationAt l from)) ≡ field.Value n next → Stands l at (facilityFits (charactersIn l (next - 7 * n) n)) (facilityBits (charactersIn l (next - 7 * n) n)) next
-      go (field.Value k m) p q = chosen k m (whole-stands l at 0 1 k m b p) (eqb k 0) refl q
-      go (field.Refused r) p q = never (cc)
+          some m _ (rw i at s) (sized-stands l m 4 8 next (ranged 4 8 tt tt) n b q)
 
 -- ---- an ATIS code
 
 pub atis-reads : (l : List ℕ) (at next : ℕ) (t : List ℕ) → Stands l at (atisFits t) (charactersBits t) next → atisAt l at ≡ field.Value (length t) next
-unfolding atisFits
+unfolding atisFits runAt
 atis-reads l at next t s =
     let n : length t ≡ 1 = eqb-true (length t) 1 (both-left (eqb (length t) 1) (charactersFit t) (s .fits)) in
-    rw n (rw n at (contents-reads l at next _ t (omega arith) s))
+    let c = length-charactersBits t in
+    let h = holds-within l at (charactersBits t) (omega arith) (s .holds) in
+    let p = s .place in
+    let e : next ≡ at + 7 = omega arith in
+    rw (le-leb (at + 7) (length l) (omega arith), n, e)
 
 pub atis-text : (l : List ℕ) (at next : ℕ) (t : List ℕ) → Stands l at (atisFits t) (charactersBits t) next → charactersIn l (next - 7 * length t) (length t) ≡ t
 unfolding atisFits
-atis-text l at next t s = text-of l at at next _ t (both-right (eqb (length t) 1) (charactersFit t) (s .fits)) s
+atis-text l at next t s = text-of l at next _ t (both-right (eqb (length t) 1) (charactersFit t) (s .fits)) s
 
 pub atis-stands : (l : List ℕ) (at n next : ℕ) → Bits l → atisAt l at ≡ field.Value n next → Stands l at (atisFits (charactersIn l (next - 7 * n) n)) (charactersBits (charactersIn l (next - 7 * n) n)) next
 unfolding atisFits
 atis-stands l at n next b e =
     let r = run-is l at 7 1 n next e in
-    let i : n ≡ 1 = r .items in
+    let i : n ≡ 1 = r .value in
     let j = r .place in
-    let s = contents-stands l at 1 n next b e in
+    let w : at + 7 * 1 ≤ length l = r .within in
     let k : next - 7 * 1 ≡ at = omega arith in
-    rw (i, k) (stands-as l at next _ _ _ (both-hold _ _ (eq-eqb _ 1 (length-characters l at 1)) (s .fits)) s)
+    let c = length-characters l at 1 in
+    let d = length-charactersBits (charactersIn l at 1) in
+    rw (i, k) (record { fits = both-hold _ _ (eq-eqb _ 1 c) (characters-fit l at 1 b w); holds = characters-stand l at 1 b w; place = omega arith })

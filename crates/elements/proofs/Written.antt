@@ -12,15 +12,17 @@ use Rattle.words.proofs.Laws.{both-left, both-right}
 use Rattle.bits.specs.Bits.{bitsN}
 use Rattle.fields.specs.Fields.{digitsIn}
 use Rattle.fields.specs.Encodings.{wholeBits, wholeFits}
+use Rattle.elements.specs.declared.kinds.Direction.{Direction}
 use Rattle.elements.specs.declared.kinds.Kind.{Kind}
 use Rattle.elements.specs.declared.kinds.Kind.the-variants as kind
 use Rattle.elements.specs.declared.values.LevelType.{LevelType}
 use Rattle.elements.specs.declared.values.Level.{Level}
 use Rattle.elements.specs.declared.values.Time.{Time}
 use Rattle.elements.specs.declared.values.Element.{Element}
+use Rattle.elements.specs.Elements.{kindOf}
 use Rattle.elements.specs.Arguments.{flag, levelTypeFits, levelTypeBits, levelFits, levelBits, timeFits, timeBits, digitsFit, digitsBits, charactersFit, charactersBits, sizedFits, sizedBits, facilityFits, facilityBits}
-use Rattle.elements.specs.OneElement.{argumentBits}
-use Rattle.elements.specs.Writing.{Piece, whole, piecesFit, piecesBits, choicePiece, levelTypePieces, levelPieces, timePieces, numberPieces, sizedPieces, facilityPieces, argumentPieces}
+use Rattle.elements.specs.OneElement.{argumentBits, elementBits, lastOf}
+use Rattle.elements.specs.Writing.{Piece, whole, piecesFit, piecesBits, choicePiece, levelTypePieces, levelPieces, timePieces, numberPieces, sizedPieces, facilityPieces, argumentPieces, indexPiece, elementPieces}
 
 pub bits-append : (xs ys : List Piece) → piecesBits (xs ++ ys) ≡ piecesBits xs ++ piecesBits ys
 unfolding piecesBits
@@ -87,3 +89,8 @@ argument-bits kind.FreeText e t = sized-bits 1 256 t
 argument-bits kind.Facility e t = facility-bits t
 argument-bits kind.FacilityDesignation e t = sized-bits 4 8 t
 argument-bits kind.AtisCode e t = characters-bits t
+
+-- and those of an element the element's
+pub element-bits : (d : Direction) (e : Element) (t : List ℕ) → piecesBits (elementPieces d e t) ≡ elementBits d e t
+unfolding elementPieces elementBits
+element-bits d e t = rw (bits-append, one-bits, argument-bits)

@@ -2,3 +2,4 @@ pub mod Elements
 pub mod Arguments
 pub mod OneElement
 pub mod Writing
+pub mod Measuring

@@ -8,14 +8,17 @@ use lib.Dec.{eqb}
 use Rattle.bits.specs.Put.{Left, left, putIf}
 use Rattle.bits.specs.declared.Put.{Put}
 use Rattle.bits.specs.declared.Put.the-variants.{Next, Full}
-use Rattle.fields.specs.Encodings.{wholeBits, wholeFits}
+use Rattle.fields.specs.Encodings.{indexBits, wholeBits, wholeFits}
 use Rattle.elements.specs.declared.values.LevelType.{LevelType}
 use Rattle.elements.specs.declared.values.Level.{Level}
 use Rattle.elements.specs.declared.values.Time.{Time}
 use Rattle.elements.specs.declared.values.Element.{Element}
+use Rattle.elements.specs.declared.kinds.Direction.{Direction}
 use Rattle.elements.specs.declared.kinds.Kind.{Kind}
 use Rattle.elements.specs.declared.kinds.Kind.the-variants as kind
+use Rattle.elements.specs.Elements.{kindOf}
 use Rattle.elements.specs.Arguments.{flag, lowest, highest}
+use Rattle.elements.specs.OneElement.{lastOf}
 
 pub record Piece : Type 0 where
   pub fits : Bool
@@ -80,3 +83,11 @@ argumentPieces kind.FreeText e t = sizedPieces 1 256 t
 argumentPieces kind.Facility e t = facilityPieces t
 argumentPieces kind.FacilityDesignation e t = sizedPieces 4 8 t
 argumentPieces kind.AtisCode e t = numberPieces 127 t
+
+-- ---- an element: the index of an extensible CHOICE, and the argument of its kind
+
+abbrev pub indexPiece : ℕ → ℕ → Piece
+indexPiece last i = record { fits = wholeFits 0 last i; bits = indexBits last i }
+
+unfoldable pub elementPieces : Direction → Element → List ℕ → List Piece
+elementPieces d e t = (indexPiece (lastOf d) (e .number) ∷ []) ++ argumentPieces (kindOf d (e .number)) e t

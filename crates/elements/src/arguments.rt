@@ -3,6 +3,7 @@ ghost use mathlib.Core.Path.{_≡_};
 ghost use Rattle.bits.specs.Bits.{bitsTo};
 ghost use Rattle.elements.specs.Arguments.{codeAt, facilityAt, highest, levelAt, levelTypeAt, lowest, noCode, timeAt};
 use crate::values::CodeRead;
+use crate::values::Element;
 use crate::values::Level;
 use crate::values::LevelRead;
 use crate::values::LevelType;
@@ -36,7 +37,7 @@ pub(crate) fn highest(unit: u64) -> u64
 pub fn read_level_type(s: &[u8], end: usize, at: usize) -> LevelTypeRead
     ensures { λ r. ⌜ r ≡ levelTypeAt (bitsTo (now (s .entry)) end) at ⌝ }
 {
-    let choice = fields::whole(s, end, at, 0, 3);
+    let choice = fields::whole(s, end, at, 0, LevelType::LAST_UNIT);
     let Field::Value(unit, next) = choice else {
         return LevelTypeRead::Refused(refusal(choice));
     };
@@ -91,11 +92,11 @@ pub fn read_level(s: &[u8], end: usize, at: usize) -> LevelRead
 pub fn read_time(s: &[u8], end: usize, at: usize) -> TimeRead
     ensures { λ r. ⌜ r ≡ timeAt (bitsTo (now (s .entry)) end) at ⌝ }
 {
-    let first = fields::whole(s, end, at, 0, 23);
+    let first = fields::whole(s, end, at, 0, Time::LAST_HOUR);
     let Field::Value(hours, next) = first else {
         return TimeRead::Refused(refusal(first));
     };
-    let second = fields::whole(s, end, next, 0, 59);
+    let second = fields::whole(s, end, next, 0, Time::LAST_MINUTE);
     let Field::Value(minutes, last) = second else {
         return TimeRead::Refused(refusal(second));
     };
@@ -120,19 +121,19 @@ fn no_code(r: Refusal) -> CodeRead
 pub fn read_code(s: &[u8], end: usize, at: usize) -> CodeRead
     ensures { λ r. ⌜ r ≡ codeAt (bitsTo (now (s .entry)) end) at ⌝ }
 {
-    let first = fields::whole(s, end, at, 0, 7);
+    let first = fields::whole(s, end, at, 0, Element::LAST_DIGIT);
     let Field::Value(a, p) = first else {
         return no_code(refusal(first));
     };
-    let second = fields::whole(s, end, p, 0, 7);
+    let second = fields::whole(s, end, p, 0, Element::LAST_DIGIT);
     let Field::Value(b, q) = second else {
         return no_code(refusal(second));
     };
-    let third = fields::whole(s, end, q, 0, 7);
+    let third = fields::whole(s, end, q, 0, Element::LAST_DIGIT);
     let Field::Value(c, r) = third else {
         return no_code(refusal(third));
     };
-    let fourth = fields::whole(s, end, r, 0, 7);
+    let fourth = fields::whole(s, end, r, 0, Element::LAST_DIGIT);
     let Field::Value(d, next) = fourth else {
         return no_code(refusal(fourth));
     };
@@ -153,5 +154,12 @@ pub fn facility(s: &[u8], end: usize, at: usize) -> Field
     if designated == 0 {
         return Field::Value(0, next);
     }
-    fields::sized(s, end, next, 7, 4, 8)
+    fields::sized(
+        s,
+        end,
+        next,
+        Element::CHARACTER_BITS,
+        Element::DESIGNATION_LEAST,
+        Element::DESIGNATION_MOST,
+    )
 }

@@ -135,14 +135,37 @@ fn read_argument(kind: Kind, number: u8, s: &[u8], end: usize, at: usize) -> Ele
         Kind::TwoLevels => two_levels_argument(number, s, end, at),
         Kind::Time => time_argument(number, s, end, at),
         Kind::Code => code_argument(number, s, end, at),
-        Kind::FreeText => characters(number, fields::sized(s, end, at, 7, 1, 256)),
+        Kind::FreeText => characters(
+            number,
+            fields::sized(
+                s,
+                end,
+                at,
+                Element::CHARACTER_BITS,
+                Element::FREE_TEXT_LEAST,
+                Element::FREE_TEXT_MOST,
+            ),
+        ),
         Kind::Facility => characters(number, facility(s, end, at)),
-        Kind::FacilityDesignation => characters(number, fields::sized(s, end, at, 7, 4, 8)),
-        Kind::AtisCode => characters(number, fields::contents(s, end, at, 7, 1)),
+        Kind::FacilityDesignation => characters(
+            number,
+            fields::sized(
+                s,
+                end,
+                at,
+                Element::CHARACTER_BITS,
+                Element::DESIGNATION_LEAST,
+                Element::DESIGNATION_MOST,
+            ),
+        ),
+        Kind::AtisCode => characters(
+            number,
+            fields::contents(s, end, at, Element::CHARACTER_BITS, 1),
+        ),
     }
 }
 
-fn last_of(direction: Direction) -> u64
+pub(crate) fn last_of(direction: Direction) -> u64
     ensures { λ r. ⌜ r ≡ lastOf direction ⌝ }
 {
     match direction {

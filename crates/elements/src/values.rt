@@ -34,6 +34,8 @@ pub struct Element {
 }
 
 impl LevelType {
+    // The four units of the CHOICE, 0 to 3.
+    pub const LAST_UNIT: u64 = 3;
     // The range of each unit: Doc 9705 2.3.4.3, LevelFeet, LevelMeters, LevelFlightLevel, LevelFlightLevelMetric.
     pub const LOWEST: [u64; 4] = [0, 0, 30, 100];
 
@@ -51,6 +53,11 @@ impl Level {
 }
 
 impl Time {
+    // Timehours (0..23), Timeminutes (0..59).
+    pub const LAST_HOUR: u64 = 23;
+
+    pub const LAST_MINUTE: u64 = 59;
+
     pub const EMPTY: Time = Time {
         hours: 0,
         minutes: 0,
@@ -58,6 +65,21 @@ impl Time {
 }
 
 impl Element {
+    // CodeOctalDigit (0..7).
+    pub const LAST_DIGIT: u64 = 7;
+    // IA5String: the characters are 0 to 127, in seven bits each.
+    pub const CHARACTER_BITS: usize = 7;
+
+    pub const LAST_CHARACTER: u64 = 127;
+    // FreeText: IA5String (SIZE (1..256)).
+    pub const FREE_TEXT_LEAST: u64 = 1;
+
+    pub const FREE_TEXT_MOST: u64 = 256;
+    // FacilityDesignation: IA5String (SIZE (4..8)).
+    pub const DESIGNATION_LEAST: u64 = 4;
+
+    pub const DESIGNATION_MOST: u64 = 8;
+
     pub const EMPTY: Element = Element {
         number: 0,
         level: Level::EMPTY,
@@ -97,6 +119,12 @@ pub struct CodeRead {
 pub struct ElementRead {
     pub step: Step,
     pub element: Element,
+}
+
+// What measuring finds: how many bits a value takes, or that it is none of its type.
+pub enum Size {
+    Bits(usize),
+    Shape,
 }
 
 // The refusal in an answer that is one.

@@ -1,11 +1,14 @@
-// The arguments written, piece after piece. A message is measured before it is written, so that none of these is refused then.
+// Elements and their arguments written, piece after piece. A message is measured before it is written, so that none of these is refused then.
 ghost use mathlib.Core.Path.{_≡_};
 ghost use mathlib.Core.List.{_++_};
 ghost use Rattle.bits.specs.Put.{left};
-ghost use Rattle.elements.specs.Writing.{argumentPieces, choicePiece, facilityPieces, levelPieces, levelTypePieces, numberPieces, putPieces, sizedPieces, timePieces};
+ghost use Rattle.elements.specs.Writing.{argumentPieces, choicePiece, elementPieces, facilityPieces, levelPieces, levelTypePieces, numberPieces, putPieces, sizedPieces, timePieces};
 use crate::arguments::highest;
 use crate::arguments::lowest;
+use crate::kinds::Direction;
 use crate::kinds::Kind;
+use crate::kinds::kind_of;
+use crate::reading::last_of;
 use crate::values::Element;
 use crate::values::Level;
 use crate::values::LevelType;
@@ -16,7 +19,7 @@ fn put_level_type(buf: &mut [u8], end: usize, at: usize, x: LevelType) -> Put
     ensures { λ r. ⌜ left r (now (buf .exit)) ≡ putPieces (now (buf .entry)) end at (levelTypePieces x) ⌝ }
 {
     let unit = x.unit as u64;
-    let first = fields::put_whole(buf, end, at, 0, 3, unit);
+    let first = fields::put_whole(buf, end, at, 0, LevelType::LAST_UNIT, unit);
     let Put::Next(next) = first else {
         return Put::Full;
     };
@@ -26,11 +29,11 @@ fn put_level_type(buf: &mut [u8], end: usize, at: usize, x: LevelType) -> Put
 fn put_time(buf: &mut [u8], end: usize, at: usize, x: Time) -> Put
     ensures { λ r. ⌜ left r (now (buf .exit)) ≡ putPieces (now (buf .entry)) end at (timePieces x) ⌝ }
 {
-    let first = fields::put_whole(buf, end, at, 0, 23, x.hours as u64);
+    let first = fields::put_whole(buf, end, at, 0, Time::LAST_HOUR, x.hours as u64);
     let Put::Next(next) = first else {
         return Put::Full;
     };
-    fields::put_whole(buf, end, next, 0, 59, x.minutes as u64)
+    fields::put_whole(buf, end, next, 0, Time::LAST_MINUTE, x.minutes as u64)
 }
 
 // The index of a CHOICE of two.
@@ -63,7 +66,7 @@ fn put_level(buf: &mut [u8], end: usize, at: usize, x: Level) -> Put
     first
 }
 
-fn wide(x: u8) -> u64
+pub(crate) fn wide(x: u8) -> u64
     ensures { λ r. ⌜ r ≡ x ⌝ }
 {
     x as u64
@@ -94,7 +97,7 @@ fn put_sized(buf: &mut [u8], end: usize, at: usize, least: u64, most: u64, text:
     let Put::Next(next) = size else {
         return Put::Full;
     };
-    put_numbers(buf, end, next, 127, text)
+    put_numbers(buf, end, next, Element::LAST_CHARACTER, text)
 }
 
 // A facility: none has no characters.
@@ -108,7 +111,14 @@ fn put_facility(buf: &mut [u8], end: usize, at: usize, text: &[u8]) -> Put
     let Put::Next(next) = choice else {
         return Put::Full;
     };
-    put_sized(buf, end, next, 4, 8, text)
+    put_sized(
+        buf,
+        end,
+        next,
+        Element::DESIGNATION_LEAST,
+        Element::DESIGNATION_MOST,
+        text,
+    )
 }
 
 fn put_two_levels(buf: &mut [u8], end: usize, at: usize, x: Level, y: Level) -> Put
@@ -124,18 +134,11 @@ fn put_two_levels(buf: &mut [u8], end: usize, at: usize, x: Level, y: Level) -> 
 fn put_code(buf: &mut [u8], end: usize, at: usize, code: [u8; 4]) -> Put
     ensures { λ r. ⌜ left r (now (buf .exit)) ≡ putPieces (now (buf .entry)) end at (numberPieces 7 code) ⌝ }
 {
-    put_numbers(buf, end, at, 7, &code)
+    put_numbers(buf, end, at, Element::LAST_DIGIT, &code)
 }
 
 // The argument of an element, whose characters are `text`.
-pub(crate) fn put_argument(
-    buf: &mut [u8],
-    end: usize,
-    at: usize,
-    kind: Kind,
-    e: Element,
-    text: &[u8],
-) -> Put
+fn put_argument(buf: &mut [u8], end: usize, at: usize, kind: Kind, e: Element, text: &[u8]) -> Put
     ensures { λ r. ⌜ left r (now (buf .exit)) ≡ putPieces (now (buf .entry)) end at (argumentPieces kind e (now (text .entry))) ⌝ }
 {
     match kind {
@@ -158,9 +161,43 @@ pub(crate) fn put_argument(
             let x = e.code;
             put_code(buf, end, at, x)
         }
-        Kind::FreeText => put_sized(buf, end, at, 1, 256, text),
+        Kind::FreeText => put_sized(
+            buf,
+            end,
+            at,
+            Element::FREE_TEXT_LEAST,
+            Element::FREE_TEXT_MOST,
+            text,
+        ),
         Kind::Facility => put_facility(buf, end, at, text),
-        Kind::FacilityDesignation => put_sized(buf, end, at, 4, 8, text),
-        Kind::AtisCode => put_numbers(buf, end, at, 127, text),
+        Kind::FacilityDesignation => put_sized(
+            buf,
+            end,
+            at,
+            Element::DESIGNATION_LEAST,
+            Element::DESIGNATION_MOST,
+            text,
+        ),
+        Kind::AtisCode => put_numbers(buf, end, at, Element::LAST_CHARACTER, text),
     }
+}
+
+// An element, whose characters are `text`.
+pub fn put_element(
+    buf: &mut [u8],
+    end: usize,
+    at: usize,
+    direction: Direction,
+    e: Element,
+    text: &[u8],
+) -> Put
+    ensures { λ r. ⌜ left r (now (buf .exit)) ≡ putPieces (now (buf .entry)) end at (elementPieces direction e (now (text .entry))) ⌝ }
+{
+    let number = e.number;
+    let index = fields::put_extensible_index(buf, end, at, last_of(direction), number as u64);
+    let Put::Next(next) = index else {
+        return Put::Full;
+    };
+    let kind = kind_of(direction, number);
+    put_argument(buf, end, next, kind, e, text)
 }

@@ -6,6 +6,7 @@ use mathlib.Core.Bool.{Bool, true, false, cond, _&&_, _||_, not}
 use mathlib.Core.List.{List, _++_}
 use lib.ListN.{length, take, drop, getD}
 use lib.Dec.{leb, ltb, eqb}
+use Rattle.words.specs.Limits.{messageBits, bufferBytes}
 use Rattle.envelope.specs.Numbers.{number, numberAt}
 use Rattle.envelope.specs.declared.Refusal.{Refusal}
 use Rattle.envelope.specs.declared.Refusal.the-variants.{Cut, Groups, Kind, Size}
@@ -31,10 +32,10 @@ writtenNumber Shape = 2
 
 -- "Sizes": a message has 2,048 bits at most, a lent output buffer 320 bytes at least
 abbrev pub mostBits : ℕ
-mostBits = 2048
+mostBits = messageBits
 
 abbrev pub leastRoom : ℕ
-leastRoom = 320
+leastRoom = bufferBytes
 
 -- the kind that is a refusal, and the bits of its number
 abbrev pub refusalKind : ℕ

@@ -9,6 +9,8 @@ pub mod reporting; // reporting.rt: the text that is printed of a string of enve
 pub mod writing; // writing.rt: an envelope into a lent buffer
 mod putting; // putting.rt: bytes and numbers into a buffer
 
+use words::Limit;
+
 // Why an envelope is refused.
 pub enum Refusal {
     // it ends inside
@@ -57,9 +59,9 @@ pub struct Envelope {
 
 impl Envelope {
     // The largest bit count.
-    pub const MOST_BITS: u64 = 2048;
+    pub const MOST_BITS: u64 = Limit::MESSAGE_BITS as u64;
     // The bytes that a lent output buffer has at least.
-    pub const ROOM: usize = 320;
+    pub const ROOM: usize = Limit::BUFFER_BYTES;
     // The kind that carries the number of a refusal, and the bits that the number takes.
     pub const REFUSAL: u64 = 3;
 
@@ -86,8 +88,8 @@ impl Written {
     {
         match self {
             Written::Bytes(_) => 0,
-            Written::Room => 1,
-            Written::Shape => 2,
+            Written::Room => Limit::ROOM,
+            Written::Shape => Limit::SHAPE,
         }
     }
 }

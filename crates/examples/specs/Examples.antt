@@ -8,8 +8,12 @@ use Rattle.bits.specs.Bits.{bitsOf}
 use Rattle.fields.specs.Fields.{lengthAt}
 use Rattle.fields.specs.Encodings.{lengthBits}
 use Rattle.fields.specs.Refusals.{numberOf}
-use Rattle.elements.specs.Arguments.{digitsBits, charactersBits, sizedBits, facilityBits, designationAt}
-use Rattle.envelope.specs.Envelopes.{envelopeAt, mostBits}
+use Rattle.elements.specs.Arguments.{codeFits, digitsBits, codeAt, charactersIn, charactersBits, sizedFits, sizedBits, freeTextAt, designationAt, facilityFits, facilityBits, facilityAt, atisFits, atisAt}
+use Rattle.elements.specs.declared.values.Step.{Step}
+use Rattle.elements.specs.declared.values.Step.the-variants as step
+use Rattle.envelope.specs.Envelopes.{envelopeAt, mostBits, contentOf, bytesOf}
+use Rattle.envelope.specs.declared.Read.{Read}
+use Rattle.envelope.specs.declared.Read.the-variants as envelope
 use Rattle.envelope.specs.Examples.{answers, reads}
 use Rattle.envelope.specs.Examples.{Row as EnvelopeRow}
 use Rattle.fields.specs.declared.Field.{Field}
@@ -20,11 +24,19 @@ pub data Says (A : Type 0) : Type 0 where
   value : A → ℕ → Says A
   refused : ℕ → Says A
 
--- bytes and what they say, by their subject. An argument of an element: its bits, how many there are, and the bytes; a facility designation that
--- is refused: the bytes, and the number
+-- arguments that are characters
+pub data Text : Type 0 where
+  designation : Text
+  facility : Text
+  freeText : Text
+  atisCode : Text
+
+-- bytes and what they say, by their subject. A code: its digits, how many bits, and the bytes; characters the same; a facility designation that is
+-- refused: the bytes, and the number
 pub data Row : Type 0 where
   aLength : List ℕ → Says ℕ → Row
-  anArgument : List ℕ → ℕ → List ℕ → Row
+  aCode : List ℕ → ℕ → List ℕ → Row
+  aText : Text → List ℕ → ℕ → List ℕ → Row
   noDesignation : List ℕ → ℕ → Row
   anEnvelope : EnvelopeRow → Row
 
@@ -34,13 +46,13 @@ examples =
     aLength (0x80 ∷ 0x80 ∷ []) (value 128 16) ∷
     aLength (0x88 ∷ 0x00 ∷ []) (value 2048 16) ∷
     aLength (0x80 ∷ 0x7F ∷ []) (refused 13) ∷
-    anArgument (digitsBits (7 ∷ 5 ∷ 0 ∷ 0 ∷ [])) 12 (0xF4 ∷ 0x00 ∷ []) ∷
-    anArgument (sizedBits 4 8 (65 ∷ 66 ∷ 67 ∷ 68 ∷ [])) 31 (0x10 ∷ 0x61 ∷ 0x43 ∷ 0x88 ∷ []) ∷
+    aCode (7 ∷ 5 ∷ 0 ∷ 0 ∷ []) 12 (0xF4 ∷ 0x00 ∷ []) ∷
+    aText designation (65 ∷ 66 ∷ 67 ∷ 68 ∷ []) 31 (0x10 ∷ 0x61 ∷ 0x43 ∷ 0x88 ∷ []) ∷
     noDesignation (0xA0 ∷ []) 11 ∷
-    anArgument (facilityBits []) 1 (0x00 ∷ []) ∷
-    anArgument (facilityBits (65 ∷ 66 ∷ 67 ∷ 68 ∷ [])) 32 (0x88 ∷ 0x30 ∷ 0xA1 ∷ 0xC4 ∷ []) ∷
-    anArgument (sizedBits 1 256 (65 ∷ [])) 15 (0x00 ∷ 0x82 ∷ []) ∷
-    anArgument (charactersBits (66 ∷ [])) 7 (0x84 ∷ []) ∷
+    aText facility [] 1 (0x00 ∷ []) ∷
+    aText facility (65 ∷ 66 ∷ 67 ∷ 68 ∷ []) 32 (0x88 ∷ 0x30 ∷ 0xA1 ∷ 0xC4 ∷ []) ∷
+    aText freeText (65 ∷ []) 15 (0x00 ∷ 0x82 ∷ []) ∷
+    aText atisCode (66 ∷ []) 7 (0x84 ∷ []) ∷
     anEnvelope (reads (0x01 ∷ 0xAC ∷ 0x02 ∷ 0x0A ∷ 0xA5 ∷ 0x40 ∷ []) 1 300 10) ∷
     []
 
@@ -70,12 +82,46 @@ abbrev pub written : {A : Type 0} → (A → List ℕ) → List ℕ → Says A �
 written bitsOfIt bytes (value v n) = are (bitsOfIt v) n bytes
 written bitsOfIt bytes (refused r) = true
 
+-- which characters such an argument may have, its bits, and what reading finds
+abbrev pub textFits : Text → List ℕ → Bool
+textFits designation t = sizedFits 4 8 t
+textFits facility t = facilityFits t
+textFits freeText t = sizedFits 1 256 t
+textFits atisCode t = atisFits t
+
+abbrev pub textBits : Text → List ℕ → List ℕ
+textBits designation t = sizedBits 4 8 t
+textBits facility t = facilityBits t
+textBits freeText t = sizedBits 1 256 t
+textBits atisCode t = charactersBits t
+
+abbrev pub textAt : Text → List ℕ → Field
+textAt designation l = designationAt l 0
+textAt facility l = facilityAt l 0
+textAt freeText l = freeTextAt l 0
+textAt atisCode l = atisAt l 0
+
+-- the characters end with the argument
+abbrev pub textSays : Text → List ℕ → List ℕ → ℕ → Bool
+textSays x l t n = fieldSays (textAt x l) (value (length t) n) && same (charactersIn l (n - 7 * length t) (length t)) t
+
+abbrev pub ends : Step → ℕ → Bool
+ends (step.Next next) n = eqb next n
+ends (step.Refused r) n = false
+
+abbrev pub writesBack : Read → List ℕ → Bool
+writesBack (envelope.Is e) bytes = same (bytesOf (contentOf bytes e)) bytes
+writesBack (envelope.Refused r) bytes = true
+
 -- a row holds both ways: the bytes are read as what they say, and the value is written as the bytes
 abbrev pub holds : Row → Bool
 holds (aLength bytes says) = fieldSays (lengthAt (bitsOf bytes) 0) says && written lengthBits bytes says
-holds (anArgument bits n bytes) = are bits n bytes
+holds (aCode ds n bytes) =
+    codeFits ds && are (digitsBits ds) n bytes && ends (codeAt (bitsOf bytes) 0 .step) n && same (codeAt (bitsOf bytes) 0 .digits) ds
+holds (aText x t n bytes) = textFits x t && are (textBits x t) n bytes && textSays x (bitsOf bytes) t n
 holds (noDesignation bytes r) = fieldSays (designationAt (bitsOf bytes) 0) (refused r)
-holds (anEnvelope row) = answers (envelopeAt mostBits (row .bytes) 0) row
+holds (anEnvelope row) =
+    answers (envelopeAt mostBits (row .bytes) 0) row && writesBack (envelopeAt mostBits (row .bytes) 0) (row .bytes)
 
 abbrev pub allHold : List Row → Bool
 allHold [] = true

@@ -17,6 +17,7 @@ pub use numbers::extension_bit;
 pub use numbers::put_extensible_index;
 pub use numbers::put_extension_bit;
 pub use numbers::put_whole;
+pub use numbers::refused_at;
 pub use numbers::whole;
 pub use strings::contents;
 pub use strings::put_string;

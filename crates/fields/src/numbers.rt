@@ -11,8 +11,8 @@ use crate::Refusal;
 use bits::Put;
 use bits::Read;
 
-// The refusal of the field that begins at a place.
-pub(crate) fn refused_at(at: usize, r: Refusal) -> Field
+// The refusal of the field that begins at a place: every refusal of decoding is made here.
+pub fn refused_at(at: usize, r: Refusal) -> Field
     ensures { λ f. ⌜ f ≡ refusedAt at r ⌝ }
 {
     Field::Refused(r)

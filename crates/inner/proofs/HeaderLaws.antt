@@ -140,7 +140,7 @@ both-present (suc (suc zero)) h = refl
 both-present (suc (suc (suc zero))) h = refl
 both-present (suc (suc (suc (suc b)))) h = absurd (omega arith)
 
-presence-fits : (r a : Bool) → wholeFits 0 3 (presence r a) ≡ true
+pub presence-fits : (r a : Bool) → wholeFits 0 3 (presence r a) ≡ true
 presence-fits true true = refl
 presence-fits true false = refl
 presence-fits false true = refl

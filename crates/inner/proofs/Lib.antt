@@ -1,6 +1,16 @@
+pub mod Runs
+pub mod HeaderPieces
 pub mod Filling
 pub mod Rows
 pub mod HeaderWays
 pub mod HeaderLaws
+pub mod HeaderWritten
+pub mod RowPieces
+pub mod Unfilled
+pub mod Copied
 pub mod MessageLaws
+pub mod MessageWritten
+pub mod Openings
+pub mod AreBits
+pub mod Theorems
 pub mod Examples

@@ -56,7 +56,7 @@ empty-places (e ∷ es) h =
     let q = empty-places es (both-right (empty e) (allEmpty es) h) in
     rw p (ap (λ (x : List Element). bare 0 ∷ x) q)
 
-places-empty : (n : ℕ) → allEmpty (replicate n (bare 0)) ≡ true
+pub places-empty : (n : ℕ) → allEmpty (replicate n (bare 0)) ≡ true
 unfolding allEmpty empty plain levelsUnused levelUnused timeUnused codeUnused zeros
 places-empty zero = refl
 places-empty (suc n) = places-empty n
@@ -70,22 +70,22 @@ five-places m f five h =
     let e = empty-places (drop (m .count) (m .places)) h in
     rw n (rw (← d, ← e) (take-append-drop (m .count) (m .places)))
 
-one-bit : length (wholeBits 0 1 0) ≡ 1
+pub one-bit : length (wholeBits 0 1 0) ≡ 1
 unfolding wholeBits digitsIn
 one-bit = length-bitsN 1 0
 
-three-bits : (n : ℕ) → length (wholeBits 1 5 n) ≡ 3
+pub three-bits : (n : ℕ) → length (wholeBits 1 5 n) ≡ 3
 unfolding wholeBits digitsIn
 three-bits n = length-bitsN 3 (n - 1)
 
-record Fits (d : Direction) (m : Message) (t : List ℕ) : Type 0 where
-  header : headerFits (m .header) ≡ true
-  count : wholeFits 1 5 (m .count) ≡ true
-  five : length (m .places) ≡ 5
-  row : rowFits d (take (m .count) (m .places)) t ≡ true
-  unused : allEmpty (drop (m .count) (m .places)) ≡ true
+pub record Fits (d : Direction) (m : Message) (t : List ℕ) : Type 0 where
+  pub header : headerFits (m .header) ≡ true
+  pub count : wholeFits 1 5 (m .count) ≡ true
+  pub five : length (m .places) ≡ 5
+  pub row : rowFits d (take (m .count) (m .places)) t ≡ true
+  pub unused : allEmpty (drop (m .count) (m .places)) ≡ true
 
-fits-of : (d : Direction) (m : Message) (t : List ℕ) → messageFits d m t ≡ true → Fits d m t
+pub fits-of : (d : Direction) (m : Message) (t : List ℕ) → messageFits d m t ≡ true → Fits d m t
 unfolding messageFits
 fits-of d m t h =
     let n : ℕ = m .count in

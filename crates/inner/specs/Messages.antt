@@ -1,9 +1,12 @@
 -- A message: the header, no constrained data, and one to five elements (ATCUplinkMessage, ATCDownlinkMessage, Doc 9705 2.3.4.3).
-use Prim.Native.Nat.{ℕ, _+_, _-_}
+use Prim.Native.Nat.{ℕ, _+_, _-_, _*_, _%_}
 use mathlib.Core.List.{List, [], _∷_, _++_}
 use mathlib.Core.Bool.{Bool, true, false, cond, _&&_}
 use lib.ListN.{length, take, drop, replicate}
-use lib.Dec.{eqb, leb}
+use lib.Dec.{eqb, leb, ltb}
+use Rattle.words.specs.Limits as limits
+use Rattle.bits.specs.Bits.{bitsN, bitsTo}
+use Rattle.bits.specs.Put.{putBits}
 use Rattle.fields.specs.Fields.{wholeNumber}
 use Rattle.fields.specs.Encodings.{wholeBits, wholeFits}
 use Rattle.fields.specs.declared.Refusal.{Refusal}
@@ -18,6 +21,11 @@ use Rattle.elements.specs.declared.values.Element.{Element}
 use Rattle.inner.specs.declared.values.PlacesRead.{PlacesRead}
 use Rattle.inner.specs.declared.values.Message.{Message}
 use Rattle.inner.specs.declared.values.MessageRead.{MessageRead}
+use Rattle.inner.specs.declared.values.MessageOpened.{MessageOpened}
+use Rattle.inner.specs.declared.values.Opened.{Opened}
+use Rattle.inner.specs.declared.values.Opened.the-variants as opened
+use Rattle.inner.specs.declared.values.Written.{Written}
+use Rattle.inner.specs.declared.values.Written.the-variants as written
 use Rattle.elements.specs.Arguments.{onto}
 use Rattle.elements.specs.OneElement.{bare, noTime, plain}
 use Rattle.inner.specs.Headers.{headerFits, headerBits, headerAt}
@@ -33,8 +41,11 @@ noHeader =
       acknowledged = false;
     }
 
+abbrev pub emptyMessage : Message
+emptyMessage = record { header = noHeader; count = 0; places = replicate 5 (bare 0) }
+
 abbrev pub noMessage : Refusal → MessageRead
-noMessage r = record { step = step.Refused r; message = record { header = noHeader; count = 0; places = replicate 5 (bare 0) } }
+noMessage r = record { step = step.Refused r; message = emptyMessage }
 
 abbrev pub ontoPlaces : Header → ℕ → List Element → Step → MessageRead
 ontoPlaces h n es (step.Next next) = record { step = step.Next next; message = record { header = h; count = n; places = es } }
@@ -76,8 +87,11 @@ abbrev pub ontoElements : HeaderRead → (ℕ → List ℕ) → List ℕ
 ontoElements (header.Got x next) k = k (next + 4)
 ontoElements (header.Refused r) k = []
 
+abbrev pub elementsText : Direction → List ℕ → ℕ → ℕ → List ℕ
+elementsText d l at n = ontoElements (headerAt l at) (λ (p : ℕ). textAt d l p n)
+
 unfoldable pub messageText : Direction → List ℕ → ℕ → Message → List ℕ
-messageText d l at m = ontoElements (headerAt l at) (λ (p : ℕ). textAt d l p (m .count))
+messageText d l at m = elementsText d l at (m .count)
 
 -- ---- which messages there are, with their characters t beside them, and their bits
 
@@ -96,3 +110,64 @@ messageFits d m t =
 
 unfoldable pub messageBits : Direction → Message → List ℕ → List ℕ
 messageBits d m t = headerBits (m .header) ++ wholeBits 0 1 0 ++ wholeBits 1 5 (m .count) ++ rowBits d (take (m .count) (m .places)) t
+
+-- ---- limits, each named once (document 01, "Sizes"): the bits of a message, the bytes of a lent output buffer
+
+abbrev pub bitsMost : ℕ
+bitsMost = limits.messageBits
+
+abbrev pub roomLeast : ℕ
+roomLeast = limits.bufferBytes
+
+-- a message that the card carries: it is of its type, and it does not pass the limit
+abbrev pub messageShaped : Direction → Message → List ℕ → Bool
+messageShaped d m t = messageFits d m t && leb (length (messageBits d m t)) bitsMost
+
+-- ---- writing: what a call leaves in a lent buffer
+
+-- zero bits up to a whole byte
+abbrev pub padding : ℕ → ℕ
+padding n = (8 - n % 8) % 8
+
+unfoldable pub padded : List ℕ → List ℕ
+padded l = l ++ bitsN (padding (length l)) 0
+
+pub record Done : Type 0 where
+  pub answer : Written
+  pub bytes : List ℕ
+
+abbrev pub done : Written → List ℕ → Done
+done a s = record { answer = a; bytes = s }
+
+-- A buffer that is too small is refused first, then a message that is not carried; every byte stays. Else the bits stand from the buffer's first
+-- bit on, padded with zeros to a whole byte, and their count is answered; later bytes stay.
+unfoldable pub writeMessage : Direction → Message → List ℕ → List ℕ → Done
+writeMessage d m t out =
+    cond (ltb (length out) roomLeast) (done written.Room out)
+    (cond (messageShaped d m t) (done (written.Bits (length (messageBits d m t))) (putBits out 0 (padded (messageBits d m t)))) (done written.Shape out))
+
+-- ---- reading: the message in the first n bits of lent bytes, its characters in a lent text
+
+pub record Opening : Type 0 where
+  pub answer : MessageOpened
+  pub text : List ℕ
+
+abbrev pub opening : MessageOpened → List ℕ → Opening
+opening a z = record { answer = a; text = z }
+
+abbrev pub notOpened : Opened → MessageOpened
+notOpened a = record { answer = a; message = emptyMessage }
+
+-- what was read, with its characters t: they lie in the first bytes of the text z, and later bytes stay
+abbrev pub openedAs : List ℕ → Message → List ℕ → Step → Opening
+openedAs z m t (step.Next next) = opening (record { answer = opened.Characters (length t); message = m }) (t ++ drop (length t) z)
+openedAs z m t (step.Refused r) = opening (notOpened (opened.Refused r)) z
+
+-- A text that is too small is refused first, then a count that passes the limit or the lent bytes, then what reading refuses; every byte of the
+-- text stays.
+unfoldable pub openMessage : Direction → List ℕ → ℕ → List ℕ → Opening
+openMessage d s n z =
+    cond (ltb (length z) roomLeast) (opening (notOpened opened.Room) z)
+    (cond (leb n bitsMost && leb n (8 * length s))
+    (openedAs z (exactly d (bitsTo s n) .message) (messageText d (bitsTo s n) 0 (exactly d (bitsTo s n) .message)) (exactly d (bitsTo s n) .step))
+    (opening (notOpened opened.Shape) z))

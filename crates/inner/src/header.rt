@@ -22,7 +22,7 @@ fn read_time_of_day(s: &[u8], end: usize, year: u16, month: u8, day: u8, at: usi
     let TimeRead::Got(time, from) = minute else {
         return DateTimeRead::Refused(time_refusal(minute));
     };
-    let last = fields::whole(s, end, from, 0, 59);
+    let last = fields::whole(s, end, from, 0, DateTime::LAST_SECOND);
     let Field::Value(seconds, next) = last else {
         return DateTimeRead::Refused(refusal(last));
     };
@@ -41,15 +41,15 @@ fn read_time_of_day(s: &[u8], end: usize, year: u16, month: u8, day: u8, at: usi
 fn read_date_time(s: &[u8], end: usize, at: usize) -> DateTimeRead
     ensures { λ r. ⌜ r ≡ dateTimeAt (bitsTo (now (s .entry)) end) at ⌝ }
 {
-    let first = fields::whole(s, end, at, 1996, 2095);
+    let first = fields::whole(s, end, at, DateTime::FIRST_YEAR, DateTime::LAST_YEAR);
     let Field::Value(year, p) = first else {
         return DateTimeRead::Refused(refusal(first));
     };
-    let second = fields::whole(s, end, p, 1, 12);
+    let second = fields::whole(s, end, p, 1, DateTime::LAST_MONTH);
     let Field::Value(month, q) = second else {
         return DateTimeRead::Refused(refusal(second));
     };
-    let third = fields::whole(s, end, q, 1, 31);
+    let third = fields::whole(s, end, q, 1, DateTime::LAST_DAY);
     let Field::Value(day, r) = third else {
         return DateTimeRead::Refused(refusal(third));
     };
@@ -60,7 +60,7 @@ fn read_reference(s: &[u8], end: usize, at: usize, present: bool) -> Field
     ensures { λ r. ⌜ r ≡ referenceAt (bitsTo (now (s .entry)) end) at present ⌝ }
 {
     if present {
-        return fields::whole(s, end, at, 0, 63);
+        return fields::whole(s, end, at, 0, Header::LAST_NUMBER);
     }
     Field::Value(0, at)
 }
@@ -121,7 +121,7 @@ pub fn read_header(s: &[u8], end: usize, at: usize) -> HeaderRead
     let Field::Value(present, p) = presence else {
         return HeaderRead::Refused(refusal(presence));
     };
-    let number = fields::whole(s, end, p, 0, 63);
+    let number = fields::whole(s, end, p, 0, Header::LAST_NUMBER);
     let Field::Value(identification, q) = number else {
         return HeaderRead::Refused(refusal(number));
     };

@@ -5,6 +5,7 @@ use elements::values::Element;
 use elements::values::Step;
 use elements::values::Time;
 use fields::Refusal;
+use words::Limit;
 
 pub struct DateTime {
     pub year: u16,
@@ -31,6 +32,17 @@ pub struct Message {
 }
 
 impl DateTime {
+    // Year (1996..2095), Month (1..12), Day (1..31), TimeSeconds (0..59): Doc 9705 2.3.4.3.
+    pub const FIRST_YEAR: u64 = 1996;
+
+    pub const LAST_YEAR: u64 = 2095;
+
+    pub const LAST_MONTH: u64 = 12;
+
+    pub const LAST_DAY: u64 = 31;
+
+    pub const LAST_SECOND: u64 = 59;
+
     pub const EMPTY: DateTime = DateTime {
         year: 0,
         month: 0,
@@ -41,6 +53,13 @@ impl DateTime {
 }
 
 impl Header {
+    // MsgIdentificationNumber, MsgReferenceNumber (0..63).
+    pub const LAST_NUMBER: u64 = 63;
+    // Bits of a header without a reference and an acknowledgement, and those of a reference.
+    pub const LEAST_BITS: u64 = 41;
+
+    pub const REFERENCE_BITS: u64 = 6;
+
     pub const EMPTY: Header = Header {
         identification: 0,
         referenced: false,
@@ -52,6 +71,12 @@ impl Header {
 
 impl Message {
     pub const PLACES: usize = 5;
+    // Bits that a message has at most (document 01, "Sizes").
+    pub const BITS: usize = Limit::MESSAGE_BITS;
+    // Bytes that a lent output buffer has at least.
+    pub const ROOM: usize = Limit::BUFFER_BYTES;
+    // Bits between the header and the elements: that there is no constrained data, and the count of elements.
+    pub const BETWEEN: usize = 4;
 
     pub const EMPTY: Message = Message {
         header: Header::EMPTY,
@@ -78,6 +103,28 @@ pub struct PlacesRead {
 
 pub struct MessageRead {
     pub step: Step,
+    pub message: Message,
+}
+
+// What writing a message finds: the count of bits before the padding; or, with every byte as it was, a buffer under the least size, or a message
+// that is none of its type or passes the most bits.
+pub enum Written {
+    Bits(usize),
+    Room,
+    Shape,
+}
+
+// What reading a message and its text finds: how many characters there are; or, with every byte of the text as it was, a text under the least size,
+// a count of bits that is more than a message has at most or than the lent bytes hold, or the refusal.
+pub enum Opened {
+    Characters(usize),
+    Room,
+    Shape,
+    Refused(Refusal),
+}
+
+pub struct MessageOpened {
+    pub answer: Opened,
     pub message: Message,
 }
 

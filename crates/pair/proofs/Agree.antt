@@ -38,15 +38,15 @@ pub data Follows {R Q E F X : Type 0} (RR : R → Q → Type 0) (EE : E → F �
   stays : Still RR o q → Follows RR EE o q event
   does : (x : X) → OutRel RR EE o (event x) → Follows RR EE o q event
 
--- RR: of records; EE sd: of entries that side sd sent
+-- RR sd: of records at side sd; EE sd: of entries that side sd sent
 pub record Agree (m n : Machine) : Type 1 where
-  pub RR : m .R → n .R → Type 0
+  pub RR : Side → m .R → n .R → Type 0
   pub EE : Side → m .E → n .E → Type 0
-  pub ctl-is : (r : m .R) (q : n .R) → RR r q → m .ctl r ≡ n .ctl q
+  pub ctl-is : (sd : Side) (r : m .R) (q : n .R) → RR sd r q → m .ctl r ≡ n .ctl q
   pub sort-is : (sd : Side) (e : m .E) (f : n .E) → EE sd e f → m .sort e ≡ n .sort f
-  pub call-is : (sd : Side) (r : m .R) (q : n .R) (a : m .A) → RR r q → Follows RR (EE sd) (m .call sd r a) q (n .call sd q)
-  pub receive-is : (sd : Side) (r : m .R) (q : n .R) (e : m .E) (f : n .E) → RR r q → EE (other sd) e f → OutRel RR (EE sd) (m .receive sd r e) (n .receive sd q f)
-  pub expiry-is : (sd : Side) (r : m .R) (q : n .R) → RR r q → Follows {X = Unit {0}} RR (EE sd) (m .expiry sd r) q (λ (x : Unit {0}). n .expiry sd q)
-  pub error-is : (sd : Side) (r : m .R) (q : n .R) → RR r q → Follows {X = Unit {0}} RR (EE sd) (m .error sd r) q (λ (x : Unit {0}). n .error sd q)
-  pub away-is : (sd : Side) (r : m .R) (q : n .R) → RR r q → OutRel RR (EE sd) (m .away sd r) (n .away sd q)
-  pub p-abort-is : (sd : Side) (r : m .R) (q : n .R) → RR r q → OutRel RR (EE sd) (m .pAbort sd r) (n .pAbort sd q)
+  pub call-is : (sd : Side) (r : m .R) (q : n .R) (a : m .A) → RR sd r q → Follows (RR sd) (EE sd) (m .call sd r a) q (n .call sd q)
+  pub receive-is : (sd : Side) (r : m .R) (q : n .R) (e : m .E) (f : n .E) → RR sd r q → EE (other sd) e f → OutRel (RR sd) (EE sd) (m .receive sd r e) (n .receive sd q f)
+  pub expiry-is : (sd : Side) (r : m .R) (q : n .R) → RR sd r q → Follows {X = Unit {0}} (RR sd) (EE sd) (m .expiry sd r) q (λ (x : Unit {0}). n .expiry sd q)
+  pub error-is : (sd : Side) (r : m .R) (q : n .R) → RR sd r q → Follows {X = Unit {0}} (RR sd) (EE sd) (m .error sd r) q (λ (x : Unit {0}). n .error sd q)
+  pub away-is : (sd : Side) (r : m .R) (q : n .R) → RR sd r q → OutRel (RR sd) (EE sd) (m .away sd r) (n .away sd q)
+  pub p-abort-is : (sd : Side) (r : m .R) (q : n .R) → RR sd r q → OutRel (RR sd) (EE sd) (m .pAbort sd r) (n .pAbort sd q)

@@ -5,7 +5,7 @@ use mathlib.Core.Bool.{false}
 use mathlib.Core.List.{List, [], _∷_, _++_}
 use Prim.Native.Nat.{ℕ}
 use lib.Dec.{T}
-use Rattle.pair.specs.Names.{Air}
+use Rattle.pair.specs.Names.{Air, Ground}
 use Rattle.pair.specs.Carrier.{Machine, Sys, Turn, fresh, run}
 use Rattle.pair.specs.Claims.{rising, Claims}
 use Rattle.pair.specs.ControlMachine.{new, control}
@@ -31,14 +31,14 @@ module _ (m n : Machine) (g : Agree m n) (s : Sys m) (t : Sys n) (h : SysRel m n
   carried c =
       record {
         ends-match = λ (p : s .here .line ≡ []) (q : s .there .line ≡ []).
-            rw (g .ctl-is (s .here .rec) (t .here .rec) (h .here .rec), g .ctl-is (s .there .rec) (t .there .rec) (h .there .rec)) (c .ends-match (empty-here p) (empty-there q));
+            rw (g .ctl-is Air (s .here .rec) (t .here .rec) (h .here .rec), g .ctl-is Ground (s .there .rec) (t .there .rec) (h .there .rec)) (c .ends-match (empty-here p) (empty-there q));
         handed-in-order = rw (h .there .given, h .here .taken, h .here .given, h .there .taken) (c .handed-in-order);
         handed-all = λ (p : s .here .line ≡ []) (q : s .there .line ≡ []) (b : s .broken ≡ false).
             rw (h .there .given, h .here .taken, h .here .given, h .there .taken) (c .handed-all (empty-here p) (empty-there q) (sym (h .broken) ∙ b));
         jobs-rise = rw (h .here .jobs, h .there .jobs) (c .jobs-rise);
       }
 
-module _ (m n : Machine) (g : Agree m n) (r q : m .R) (x y : n .R) (near : g .RR r x) (far : g .RR q y) where
+module _ (m n : Machine) (g : Agree m n) (r q : m .R) (x y : n .R) (near : g .RR Air r x) (far : g .RR Ground q y) where
   -- the second follows every run of the first from corresponding records
   pub followed : (ts : List (Turn (m .A))) → Run m n g (run m (fresh m r q) ts) (fresh n x y)
   followed ts =
@@ -56,7 +56,7 @@ module _ (m n : Machine) (g : Agree m n) (r q : m .R) (x y : n .R) (near : g .RR
       carried m n g (run m (fresh m r q) ts) (run n (fresh n x y) (v .turns)) (v .rel) (c (v .turns))
 
 -- demand 3 for a machine that agrees with the control
-pub machine-holds : (m : Machine) (g : Agree m control) (r q : m .R) → g .RR r new → g .RR q new → (ts : List (Turn (m .A))) → Claims m (run m (fresh m r q) ts)
+pub machine-holds : (m : Machine) (g : Agree m control) (r q : m .R) → g .RR Air r new → g .RR Ground q new → (ts : List (Turn (m .A))) → Claims m (run m (fresh m r q) ts)
 machine-holds m g r q near far ts = holds-through m control g r q new new near far control-holds ts
 
 -- so no job is taken twice at an end

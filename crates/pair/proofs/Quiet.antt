@@ -5,13 +5,14 @@ use mathlib.Core.Bool.{Bool, false, not, _&&_, _||_}
 use mathlib.Core.List.{List, [], _∷_}
 use lib.Dec.{T}
 use Rattle.pair.specs.Names.{Side, Air, Ground, Control, Did, isIdle, other, expects, hands}
-use Rattle.pair.specs.Carrier.{nothing, puts, message, Outcome, refused, acts, Sort, begins?, Machine, Turn, fresh, run, discards}
-use Rattle.pair.specs.ControlMachine.{Held, Ent, new, handed, met, receives, control}
+use Rattle.pair.specs.Carrier.{nothing, puts, message, Outcome, refused, acts, Sort, begins?, Machine, Sys, Turn, fresh, run, discards}
+use Rattle.pair.specs.ControlMachine.{Held, Ent, Ask, new, handed, met, control}
 use Rattle.pair.proofs.Drain.{deaf}
 use Rattle.pair.proofs.HandOver.{meets-is}
 use Rattle.pair.proofs.Pair.{headFits, none-unexpected}
 use Rattle.pair.proofs.Lines.{LL}
 use Rattle.pair.proofs.Agree.{OutRel, Agree}
+use Rattle.pair.proofs.Simulate.{SysRel}
 use Rattle.pair.proofs.Any.{followed}
 
 -- nothing is sent
@@ -26,13 +27,17 @@ abbrev pub HeadQuiet : (m : Machine) → Side → m .R → List (m .E) → Type 
 HeadQuiet m sd r [] = Unit {0}
 HeadQuiet m sd r (e ∷ l) = discards m r e ≡ false → Quiet (m .receive sd r e)
 
+-- at either end
+abbrev pub BothQuiet : (m : Machine) → Sys m → Type 0
+BothQuiet m s = HeadQuiet m Air (s .here .rec) (s .there .line) × HeadQuiet m Ground (s .there .rec) (s .here .line)
+
 control-quiet : (sd : Side) (q : Held) (l : List Ent) → T (headFits sd (q .ctl) l) → HeadQuiet control sd q l
 control-quiet sd q [] t = tt
 control-quiet sd q (e ∷ l) t = λ (d : deaf (q .ctl) (e .kind) ≡ false).
     subst (λ (x : Did). Quiet (met q x (handed (hands sd (q .ctl) (e .kind)) (e .body)))) (sym (meets-is sd (q .ctl) (e .kind) (subst (λ (b : Bool). T (b || expects sd (q .ctl) (e .kind))) d t))) tt
 
-module _ (m : Machine) (g : Agree m control) where
-  same-quiet : (sd : Side) (o : Outcome (m .R) (m .E)) (z : Outcome Held Ent) → OutRel (g .RR) (g .EE sd) o z → Quiet z → Quiet o
+module _ (m n : Machine) (g : Agree m n) where
+  same-quiet : (sd : Side) (o : Outcome (m .R) (m .E)) (z : Outcome (n .R) (n .E)) → OutRel (g .RR sd) (g .EE sd) o z → Quiet z → Quiet o
   same-quiet sd refused z x y = tt
   same-quiet sd (acts r l nothing) z x y = tt
   same-quiet sd (acts r l (puts e)) refused x y = x
@@ -44,20 +49,28 @@ module _ (m : Machine) (g : Agree m control) where
   same-quiet sd (acts r l (message e b i)) (acts q k (puts f)) x y = y
   same-quiet sd (acts r l (message e b i)) (acts q k (message f c j)) x y = y
 
-  head-quiet : (sd : Side) (r : m .R) (q : Held) (l : List (m .E)) (k : List Ent) → g .RR r q → LL (g .EE (other sd)) l k → HeadQuiet control sd q k → HeadQuiet m sd r l
+  head-quiet : (sd : Side) (r : m .R) (q : n .R) (l : List (m .E)) (k : List (n .E)) → g .RR sd r q → LL (g .EE (other sd)) l k → HeadQuiet n sd q k → HeadQuiet m sd r l
   head-quiet sd r q [] k x y h = tt
   head-quiet sd r q (e ∷ l) [] x y h = absurd y
   head-quiet sd r q (e ∷ l) (f ∷ k) x y h = λ (d : discards m r e ≡ false).
-      same-quiet sd (m .receive sd r e) (receives sd q f) (g .receive-is sd r q e f x (y .0))
-      (h (ap (λ (c : Control). isIdle c && not (begins? (control .sort f))) (sym (g .ctl-is r q x)) ∙ ap (λ (so : Sort). isIdle (m .ctl r) && not (begins? so)) (sym (g .sort-is (other sd) e f (y .0))) ∙ d))
+      same-quiet sd (m .receive sd r e) (n .receive sd q f) (g .receive-is sd r q e f x (y .0))
+      (h (ap (λ (c : Control). isIdle c && not (begins? (n .sort f))) (sym (g .ctl-is sd r q x)) ∙ ap (λ (so : Sort). isIdle (m .ctl r) && not (begins? so)) (sym (g .sort-is (other sd) e f (y .0))) ∙ d))
 
-  -- at either end, after every run
-  pub none-answered : (r q : m .R) → g .RR r new → g .RR q new → (ts : List (Turn (m .A))) → HeadQuiet m Air (run m (fresh m r q) ts .here .rec) (run m (fresh m r q) ts .there .line) × HeadQuiet m Ground (run m (fresh m r q) ts .there .rec) (run m (fresh m r q) ts .here .line)
-  none-answered r q near far ts =
-      let v = followed m control g r q new new near far ts in
-      let s = run m (fresh m r q) ts in
-      let t = run control (fresh control new new) (v .turns) in
-      let f = none-unexpected (v .turns) in (
-        head-quiet Air (s .here .rec) (t .here .rec) (s .there .line) (t .there .line) (v .rel .here .rec) (v .rel .there .line) (control-quiet Air (t .here .rec) (t .there .line) (f .0)),
-        head-quiet Ground (s .there .rec) (t .there .rec) (s .here .line) (t .here .line) (v .rel .there .rec) (v .rel .here .line) (control-quiet Ground (t .there .rec) (t .here .line) (f .1)),
-      )
+  -- where the second answers nothing that is handed over, the first does not
+  pub quiet-through : (s : Sys m) (t : Sys n) → SysRel m n g Air s t → BothQuiet n t → BothQuiet m s
+  quiet-through s t h f = (
+    head-quiet Air (s .here .rec) (t .here .rec) (s .there .line) (t .there .line) (h .here .rec) (h .there .line) (f .0),
+    head-quiet Ground (s .there .rec) (t .there .rec) (s .here .line) (t .here .line) (h .there .rec) (h .here .line) (f .1),
+  )
+
+control-both : (ts : List (Turn Ask)) → BothQuiet control (run control (fresh control new new) ts)
+control-both ts =
+    let t = run control (fresh control new new) ts in
+    let f = none-unexpected ts in
+    (control-quiet Air (t .here .rec) (t .there .line) (f .0), control-quiet Ground (t .there .rec) (t .here .line) (f .1))
+
+-- after every run
+pub none-answered : (m : Machine) (g : Agree m control) (r q : m .R) → g .RR Air r new → g .RR Ground q new → (ts : List (Turn (m .A))) → BothQuiet m (run m (fresh m r q) ts)
+none-answered m g r q near far ts =
+    let v = followed m control g r q new new near far ts in
+    quiet-through m control g (run m (fresh m r q) ts) (run control (fresh control new new) (v .turns)) (v .rel) (control-both (v .turns))

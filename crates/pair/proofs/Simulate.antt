@@ -13,7 +13,7 @@ use Rattle.pair.proofs.Agree.{SentRel, OutRel, Still, Follows, stays, d
 -- ---- systems
 
 pub record PartyRel (m n : Machine) (g : Agree m n) (sd : Side) (x : Party m) (y : Party n) : Type 0 where
-  pub rec : g .RR (x .rec) (y .rec)
+  pub rec : g .RR sd (x .rec) (y .rec)
   pub line : LL (g .EE sd) (x .line) (y .line)
   pub taken : x .taken ≡ y .taken
   pub given : x .given ≡ y .given
@@ -93,7 +93,7 @@ module _ (m n : Machine) (g : Agree m n) where
   sent-rel sd s t (message e b i) (puts f) keep h x = absurd x
   sent-rel sd s t (message e b i) (message f c j) keep h x = took-rel sd (put m (m .sort e) s e keep) (put n (n .sort f) t f keep) b c i j (puts-rel sd s t e f keep h (x .0)) (x .1) (x .2)
 
-  left-rel : (sd : Side) (s : Sys m) (t : Sys n) (r : m .R) (q : n .R) (l k : List Body) → Rel sd s t → g .RR r q → l ≡ k → Rel sd (left m s r l) (left n t q k)
+  left-rel : (sd : Side) (s : Sys m) (t : Sys n) (r : m .R) (q : n .R) (l k : List Body) → Rel sd s t → g .RR sd r q → l ≡ k → Rel sd (left m s r l) (left n t q k)
   left-rel sd s t r q l k h x e =
       record {
         here = record { rec = x; line = h .here .line; taken = h .here .taken; given = ap (λ (v : List Body). v ++ l) (h .here .given) ∙ ap (λ (v : List Body). t .here .given ++ v) e; jobs = h .here .jobs };
@@ -101,7 +101,7 @@ module _ (m n : Machine) (g : Agree m n) where
         broken = h .broken;
       }
 
-  did-rel : (sd : Side) (s : Sys m) (t : Sys n) (o : Outcome (m .R) (m .E)) (p : Outcome (n .R) (n .E)) (keep : ℕ) → Rel sd s t → OutRel (g .RR) (g .EE sd) o p → Rel sd (did m s o keep) (did n t p keep)
+  did-rel : (sd : Side) (s : Sys m) (t : Sys n) (o : Outcome (m .R) (m .E)) (p : Outcome (n .R) (n .E)) (keep : ℕ) → Rel sd s t → OutRel (g .RR sd) (g .EE sd) o p → Rel sd (did m s o keep) (did n t p keep)
   did-rel sd s t refused refused keep h x = h
   did-rel sd s t refused (acts q k o) keep h x = absurd x
   did-rel sd s t (acts r l p) refused keep h x = absurd x
@@ -109,13 +109,13 @@ module _ (m n : Machine) (g : Agree m n) where
 
   -- ---- a user call
 
-  idle-rel : (r : m .R) (q : n .R) → g .RR r q → idle m r ≡ idle n q
-  idle-rel r q x = ap isIdle (g .ctl-is r q x)
+  idle-rel : (sd : Side) (r : m .R) (q : n .R) → g .RR sd r q → idle m r ≡ idle n q
+  idle-rel sd r q x = ap isIdle (g .ctl-is sd r q x)
 
   ready-rel : (sd : Side) (s : Sys m) (t : Sys n) → Rel sd s t → ready m s ≡ ready n t
   ready-rel sd s t h =
-      ap (λ (b : Bool). b && (idle m (s .there .rec) && (isNil (s .here .line) && isNil (s .there .line)))) (idle-rel (s .here .rec) (t .here .rec) (h .here .rec))
-      ∙ ap (λ (b : Bool). idle n (t .here .rec) && (b && (isNil (s .here .line) && isNil (s .there .line)))) (idle-rel (s .there .rec) (t .there .rec) (h .there .rec))
+      ap (λ (b : Bool). b && (idle m (s .there .rec) && (isNil (s .here .line) && isNil (s .there .line)))) (idle-rel sd (s .here .rec) (t .here .rec) (h .here .rec))
+      ∙ ap (λ (b : Bool). idle n (t .here .rec) && (b && (isNil (s .here .line) && isNil (s .there .line)))) (idle-rel (other sd) (s .there .rec) (t .there .rec) (h .there .rec))
       ∙ ap (λ (b : Bool). idle n (t .here .rec) && (idle n (t .there .rec) && (b && isNil (s .there .line)))) (ll-nil (g .EE sd) (s .here .line) (t .here .line) (h .here .line))
       ∙ ap (λ (b : Bool). idle n (t .here .rec) && (idle n (t .there .rec) && (isNil (t .here .line) && b))) (ll-nil (g .EE (other sd)) (s .there .line) (t .there .line) (h .there .line))
 
@@ -133,7 +133,7 @@ module _ (m n : Machine) (g : Agree m n) where
   starts-rel sd (message e b i) (puts f) x = absurd x
   starts-rel sd (message e b i) (message f c j) x = start-rel sd e f (x .0)
 
-  acts-rel : (sd : Side) (s : Sys m) (t : Sys n) (r : m .R) (l : List Body) (p : Sent (m .E)) (o : Outcome (n .R) (n .E)) (keep : ℕ) → Rel sd s t → OutRel (g .RR) (g .EE sd) (acts r l p) o → Rel sd (called m s (acts r l p) keep) (called n t o keep)
+  acts-rel : (sd : Side) (s : Sys m) (t : Sys n) (r : m .R) (l : List Body) (p : Sent (m .E)) (o : Outcome (n .R) (n .E)) (keep : ℕ) → Rel sd s t → OutRel (g .RR sd) (g .EE sd) (acts r l p) o → Rel sd (called m s (acts r l p) keep) (called n t o keep)
   acts-rel sd s t r l p refused keep h x = absurd x
   acts-rel sd s t r l p (acts q k o) keep h x =
       either sd (not (starts m p) || ready m s) (not (starts n o) || ready n t) (did m s (acts r l p) keep) s (did n t (acts q k o) keep) t
@@ -141,7 +141,7 @@ module _ (m n : Machine) (g : Agree m n) where
       (did-rel sd s t (acts r l p) (acts q k o) keep h x) h
 
   -- an event that needs no partner
-  still-rel : (sd : Side) (s : Sys m) (t : Sys n) (o : Outcome (m .R) (m .E)) (keep : ℕ) → Rel sd s t → Still (g .RR) o (t .here .rec) → Rel sd (did m s o keep) t
+  still-rel : (sd : Side) (s : Sys m) (t : Sys n) (o : Outcome (m .R) (m .E)) (keep : ℕ) → Rel sd s t → Still (g .RR sd) o (t .here .rec) → Rel sd (did m s o keep) t
   still-rel sd s t refused keep h x = h
   still-rel sd s t (acts r l nothing) keep h x =
       record {
@@ -152,23 +152,23 @@ module _ (m n : Machine) (g : Agree m n) where
   still-rel sd s t (acts r l (puts e)) keep h x = absurd x
   still-rel sd s t (acts r l (message e b i)) keep h x = absurd x
 
-  still-call : (sd : Side) (s : Sys m) (t : Sys n) (o : Outcome (m .R) (m .E)) (keep : ℕ) → Rel sd s t → Still (g .RR) o (t .here .rec) → Rel sd (called m s o keep) t
+  still-call : (sd : Side) (s : Sys m) (t : Sys n) (o : Outcome (m .R) (m .E)) (keep : ℕ) → Rel sd s t → Still (g .RR sd) o (t .here .rec) → Rel sd (called m s o keep) t
   still-call sd s t refused keep h x = h
   still-call sd s t (acts r l nothing) keep h x = still-rel sd s t (acts r l nothing) keep h x
   still-call sd s t (acts r l (puts e)) keep h x = absurd x
   still-call sd s t (acts r l (message e b i)) keep h x = absurd x
 
-  does-call : (sd : Side) (s : Sys m) (t : Sys n) (o : Outcome (m .R) (m .E)) (p : Outcome (n .R) (n .E)) (keep : ℕ) → Rel sd s t → OutRel (g .RR) (g .EE sd) o p → Rel sd (called m s o keep) (called n t p keep)
+  does-call : (sd : Side) (s : Sys m) (t : Sys n) (o : Outcome (m .R) (m .E)) (p : Outcome (n .R) (n .E)) (keep : ℕ) → Rel sd s t → OutRel (g .RR sd) (g .EE sd) o p → Rel sd (called m s o keep) (called n t p keep)
   does-call sd s t refused refused keep h x = h
   does-call sd s t refused (acts q k o) keep h x = absurd x
   does-call sd s t (acts r l p) o keep h x = acts-rel sd s t r l p o keep h x
 
-  called-rel : (sd : Side) (s : Sys m) (t : Sys n) (o : Outcome (m .R) (m .E)) (keep : ℕ) → Rel sd s t → Follows (g .RR) (g .EE sd) o (t .here .rec) (n .call sd (t .here .rec)) → Follow m n g sd (called m s o keep) t
+  called-rel : (sd : Side) (s : Sys m) (t : Sys n) (o : Outcome (m .R) (m .E)) (keep : ℕ) → Rel sd s t → Follows (g .RR sd) (g .EE sd) o (t .here .rec) (n .call sd (t .here .rec)) → Follow m n g sd (called m s o keep) t
   called-rel sd s t o keep h (stays x) = waits (still-call sd s t o keep h x)
   called-rel sd s t o keep h (does a x) = steps (user-call a keep) (does-call sd s t o (n .call sd (t .here .rec) a) keep h x)
 
   -- c: the step that reports the event
-  report-rel : (sd : Side) (s : Sys m) (t : Sys n) (o : Outcome (m .R) (m .E)) (p : Outcome (n .R) (n .E)) (keep : ℕ) (c : Step (n .A)) → stepped n sd t c ≡ did n t p keep → Rel sd s t → Follows {X = Unit {0}} (g .RR) (g .EE sd) o (t .here .rec) (λ (x : Unit {0}). p) → Follow m n g sd (did m s o keep) t
+  report-rel : (sd : Side) (s : Sys m) (t : Sys n) (o : Outcome (m .R) (m .E)) (p : Outcome (n .R) (n .E)) (keep : ℕ) (c : Step (n .A)) → stepped n sd t c ≡ did n t p keep → Rel sd s t → Follows {X = Unit {0}} (g .RR sd) (g .EE sd) o (t .here .rec) (λ (x : Unit {0}). p) → Follow m n g sd (did m s o keep) t
   report-rel sd s t o p keep c e h (stays x) = waits (still-rel sd s t o keep h x)
   report-rel sd s t o p keep c e h (does i x) = steps c (subst (λ (z : Sys n). Rel sd (did m s o keep) z) (sym e) (did-rel sd s t o p keep h x))
 
@@ -183,7 +183,7 @@ module _ (m n : Machine) (g : Agree m n) where
   over-rel sd s t (e ∷ l) [] keep h x = absurd x
   over-rel sd s t (e ∷ l) (f ∷ k) keep h x =
       either sd (discards m (s .here .rec) e) (discards n (t .here .rec) f) (off m s l) (did m (off m s l) (m .receive sd (s .here .rec) e) keep) (off n t k) (did n (off n t k) (n .receive sd (t .here .rec) f) keep)
-      (ap (λ (b : Bool). b && not (isStart m e)) (idle-rel (s .here .rec) (t .here .rec) (h .here .rec)) ∙ ap (λ (b : Bool). idle n (t .here .rec) && not b) (start-rel (other sd) e f (x .0)))
+      (ap (λ (b : Bool). b && not (isStart m e)) (idle-rel sd (s .here .rec) (t .here .rec) (h .here .rec)) ∙ ap (λ (b : Bool). idle n (t .here .rec) && not b) (start-rel (other sd) e f (x .0)))
       (off-rel sd s t l k h (x .1))
       (did-rel sd (off m s l) (off n t k) (m .receive sd (s .here .rec) e) (n .receive sd (t .here .rec) f) keep (off-rel sd s t l k h (x .1)) (g .receive-is sd (s .here .rec) (t .here .rec) e f (h .here .rec) (x .0)))
 
@@ -213,14 +213,14 @@ module _ (m n : Machine) (g : Agree m n) where
   away-rel : (sd : Side) (s : Sys m) (t : Sys n) (keep : ℕ) → Rel sd s t → Rel sd (turnedAway m sd s keep) (turnedAway n sd t keep)
   away-rel sd s t keep h =
       either sd (mayTurnAway m s) (mayTurnAway n t) (did m (recalled m s) (m .away sd (s .here .rec)) keep) s (did n (recalled n t) (n .away sd (t .here .rec)) keep) t
-      (ap (λ (c : Control). is (c .state) StartReq && hasStart m (s .here .line)) (g .ctl-is (s .here .rec) (t .here .rec) (h .here .rec)) ∙ ap (λ (b : Bool). is (n .ctl (t .here .rec) .state) StartReq && b) (has-rel sd (s .here .line) (t .here .line) (h .here .line)))
+      (ap (λ (c : Control). is (c .state) StartReq && hasStart m (s .here .line)) (g .ctl-is sd (s .here .rec) (t .here .rec) (h .here .rec)) ∙ ap (λ (b : Bool). is (n .ctl (t .here .rec) .state) StartReq && b) (has-rel sd (s .here .line) (t .here .line) (h .here .line)))
       (did-rel sd (recalled m s) (recalled n t) (m .away sd (s .here .rec)) (n .away sd (t .here .rec)) keep (recalled-rel sd s t h) (g .away-is sd (s .here .rec) (t .here .rec) (h .here .rec)))
       h
 
   told-rel : (sd : Side) (s : Sys m) (t : Sys n) → Rel sd s t → Rel sd (toldLost m sd s) (toldLost n sd t)
   told-rel sd s t h =
       either sd (idle m (s .here .rec)) (idle n (t .here .rec)) s (did m s (m .pAbort sd (s .here .rec)) 0) t (did n t (n .pAbort sd (t .here .rec)) 0)
-      (idle-rel (s .here .rec) (t .here .rec) (h .here .rec)) h (did-rel sd s t (m .pAbort sd (s .here .rec)) (n .pAbort sd (t .here .rec)) 0 h (g .p-abort-is sd (s .here .rec) (t .here .rec) (h .here .rec)))
+      (idle-rel sd (s .here .rec) (t .here .rec) (h .here .rec)) h (did-rel sd s t (m .pAbort sd (s .here .rec)) (n .pAbort sd (t .here .rec)) 0 h (g .p-abort-is sd (s .here .rec) (t .here .rec) (h .here .rec)))
 
   swap-rel : (sd : Side) (s : Sys m) (t : Sys n) → Rel sd s t → Rel (other sd) (swap m s) (swap n t)
   swap-rel Air s t h = record { here = h .there; there = h .here; broken = h .broken }

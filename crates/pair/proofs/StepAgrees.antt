@@ -13,7 +13,7 @@ use Rattle.machine.specs.declared.event.ServicePrimitive.{ServicePrimitive}
 use Rattle.machine.specs.declared.event.ServicePrimitive.the-variants.{DPAbortIndication}
 use Rattle.machine.specs.declared.event.Event.{Event}
 use Rattle.machine.specs.declared.event.Event.the-variants.{User, Service, TimerExpires, UnrecoverableSystemError}
-use Rattle.pair.specs.Names.{Side, TimerExpiry, SystemError, DTurnedAway, DPAbort, other, Call, Air, Ground}
+use Rattle.pair.specs.Names.{Side, TimerExpiry, SystemError, DTurnedAway, DPAbort, other, Call}
 use Rattle.pair.specs.Carrier.{Body, Turn, fresh, run}
 use Rattle.pair.specs.Carrier as C
 use Rattle.pair.specs.Claims.{Claims}
@@ -22,7 +22,7 @@ use Rattle.pair.specs.StepMachine.{Codec, Wire, arrives, apduOf, bodyOf,
 use Rattle.pair.proofs.Finite.{is-T}
 use Rattle.pair.proofs.Agree.{OutRel, Follows, Agree}
 use Rattle.pair.proofs.Any.{followed, machine-holds}
-use Rattle.pair.proofs.Quiet.{HeadQuiet, none-answered}
+use Rattle.pair.proofs.Quiet.{BothQuiet, none-answered}
 use Rattle.pair.proofs.StepLocal.{Local, lowOf, Same, Low, happens-formed, calls-formed, same-out, same-follows}
 use Rattle.pair.proofs.StepMeans.{Means, meaning-sort}
 use Rattle.pair.proofs.StepCalls.{call-rel, expiry-rel, error-rel}
@@ -48,9 +48,9 @@ module _ (K : Codec) (p : ℕ) (v : T (ltb p securityValues)) where
 
   abbrev pub agrees : Agree (stepMachine K p) control
   agrees = record {
-    RR = Same p;
+    RR = λ (sd : Side) (r : Record) (q : Held). Same p r q;
     EE = Means K p;
-    ctl-is = λ (r : Record) (q : Held) (h : Same p r q). ap (λ (x : Held). x .ctl) (h .low);
+    ctl-is = λ (sd : Side) (r : Record) (q : Held) (h : Same p r q). ap (λ (x : Held). x .ctl) (h .low);
     sort-is = λ (sd : Side) (w : Wire) (f : Ent) (e : Means K p sd w f). meaning-sort p (w .primitive) (K .dec sd (w .bytes)) f e;
     call-is = λ (sd : Side) (r : Record) (q : Held) (a : Order) (h : Same p r q).
         subst (λ (x : Held). Follows (Same p) (Means K p sd) (calls K sd (step sd r (User (asked K p a))) (dataOf a) (jobOf a)) x (callOf sd x)) (h .low) (call-at sd r a (h .local));
@@ -80,5 +80,5 @@ module _ (K : Codec) (p : ℕ) (v : T (ltb p securityValues)) where
       (h .here .rec .local, h .there .rec .local)
 
   -- and no machine answers an entry that is handed over by a D-ABORT
-  pub step-quiet : (ts : List (Turn Order)) → HeadQuiet (stepMachine K p) Air (run (stepMachine K p) (fresh (stepMachine K p) (freshWith p) (freshWith p)) ts .here .rec) (run (stepMachine K p) (fresh (stepMachine K p) (freshWith p) (freshWith p)) ts .there .line) × HeadQuiet (stepMachine K p) Ground (run (stepMachine K p) (fresh (stepMachine K p) (freshWith p) (freshWith p)) ts .there .rec) (run (stepMachine K p) (fresh (stepMachine K p) (freshWith p) (freshWith p)) ts .here .line)
+  pub step-quiet : (ts : List (Turn Order)) → BothQuiet (stepMachine K p) (run (stepMachine K p) (fresh (stepMachine K p) (freshWith p) (freshWith p)) ts)
   step-quiet ts = none-answered (stepMachine K p) agrees (freshWith p) (freshWith p) fresh-same fresh-same ts

@@ -1,4 +1,4 @@
--- A record that was stored is loaded again, and bytes that are loaded are those that storing writes.
+-- A record that was stored is loaded again, and the ways out of loading and storing, as the code has them.
 -- Assumes nothing.
 use mathlib.Core.Path.{_≡_, refl, ap, sym, subst, _∙_}
 use mathlib.Core.Bool.{Bool, true, false, cond, _&&_}

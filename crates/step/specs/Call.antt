@@ -5,6 +5,7 @@ use mathlib.Core.Bool.{Bool, true, false, not, cond, _&&_, _||_}
 use mathlib.Core.List.{List, []}
 use lib.Dec.{ltb, leb, eqb}
 use lib.ListN.{length}
+use Rattle.words.specs.Limits.{room, shape}
 use Rattle.apdu.specs.Sizes.{bufferLeast}
 use Rattle.apdu.specs.Pdus.{lent, contentIn, pduIn}
 use Rattle.apdu.specs.Encoding.{pduBits, contentBits}
@@ -104,16 +105,16 @@ concluded r a b sd o li lm lc d =
 -- ROOM, then bytes that are no record
 unfoldable pub withRecord : List ℕ → List ℕ → List ℕ → Loaded → (Side → Record → Called) → Called
 withRecord r a b (Is sd x) k = k sd x
-withRecord r a b NoRecord k = called 2 r a b
+withRecord r a b NoRecord k = called shape r a b
 
 unfoldable pub entering : List ℕ → List ℕ → List ℕ → (Side → Record → Called) → Called
-entering r a b k = cond (ltb (length a) bufferLeast) (called 1 r a b) (cond (ltb (length b) bufferLeast) (called 1 r a b) (withRecord r a b (loadAt r) k))
+entering r a b k = cond (ltb (length a) bufferLeast) (called room r a b) (cond (ltb (length b) bufferLeast) (called room r a b) (withRecord r a b (loadAt r) k))
 
 -- ---- a user primitive, an expiry or a system error; the message data stand in the lent bytes ids, msgs and checks
 
 unfoldable pub userStep : List ℕ → List ℕ → List ℕ → Event → List ℕ → List ℕ → List ℕ → Data → Side → Record → Called
 userStep r a b e li lm lc d sd x =
-    cond (dataShaped li lm lc d) (concluded r a b sd (step sd x e) li lm lc d) (called 2 r a b)
+    cond (dataShaped li lm lc d) (concluded r a b sd (step sd x e) li lm lc d) (called shape r a b)
 
 unfoldable pub userCall : List ℕ → List ℕ → List ℕ → Event → List ℕ → List ℕ → List ℕ → Data → Called
 userCall r a b e ids msgs checks d = entering r a b (userStep r a b e (lent ids) (lent msgs) (lent checks) d)
@@ -207,7 +208,7 @@ bareStep r a b p l sd x = concluded r a b sd (step sd x (Service (arrives p Abse
 -- given: 0 no user data, 1 user data; another number is SHAPE
 unfoldable pub serviceStep : List ℕ → List ℕ → List ℕ → Arrived → ℕ → List ℕ → Side → Record → Called
 serviceStep r a b p given l sd x =
-    cond (ltb 1 given) (called 2 r a b) (cond (eqb given 1) (dataStep r a b p l sd x) (bareStep r a b p l sd x))
+    cond (ltb 1 given) (called shape r a b) (cond (eqb given 1) (dataStep r a b p l sd x) (bareStep r a b p l sd x))
 
 unfoldable pub serviceCall : List ℕ → List ℕ → List ℕ → Arrived → ℕ → List ℕ → Called
 serviceCall r a b p given bytes = entering r a b (serviceStep r a b p given (lent bytes))

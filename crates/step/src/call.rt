@@ -25,6 +25,7 @@ use machine::event::Apdu;
 use machine::event::Event;
 use machine::outcome::Outcome;
 use machine::record::Record;
+use words::Limit;
 
 fn pdu_side(s: Side) -> PduSide
     ensures { λ p. ⌜ p ≡ pduSide s ⌝ }
@@ -144,13 +145,13 @@ pub fn user_call(
     ensures { λ n. ⌜ called n (now (rec .exit)) (now (first .exit)) (now (second .exit)) ≡ userCall (now (rec .entry)) (now (first .entry)) (now (second .entry)) e (now (ids .entry)) (now (msgs .entry)) (now (checks .entry)) d ⌝ }
 {
     if first.len() < Pdu::BUFFER {
-        return 1;
+        return Limit::ROOM;
     }
     if second.len() < Pdu::BUFFER {
-        return 1;
+        return Limit::ROOM;
     }
     let Loaded::Is(side, r) = load(rec) else {
-        return 2;
+        return Limit::SHAPE;
     };
     if apdu::data_shaped(d, ids, msgs, checks) {
         let o = machine::step(side, r, e);
@@ -216,16 +217,16 @@ pub fn service_call(
     ensures { λ n. ⌜ called n (now (rec .exit)) (now (first .exit)) (now (second .exit)) ≡ serviceCall (now (rec .entry)) (now (first .entry)) (now (second .entry)) p given (now (bytes .entry)) ⌝ }
 {
     if first.len() < Pdu::BUFFER {
-        return 1;
+        return Limit::ROOM;
     }
     if second.len() < Pdu::BUFFER {
-        return 1;
+        return Limit::ROOM;
     }
     let Loaded::Is(side, r) = load(rec) else {
-        return 2;
+        return Limit::SHAPE;
     };
     if 1 < given {
-        return 2;
+        return Limit::SHAPE;
     }
     if given == 1 {
         return data_step(rec, first, second, p, bytes, side, r);

@@ -1,2 +1,18 @@
-// Laws of the words that every definition uses: a choice by a test, tests joined, a contract that is one equation.
-// There is no code here; the words themselves are the library's.
+// What every crate may know: laws of the words that every definition uses (a choice by a test, tests joined, a contract that is one equation), and
+// the limits and refusals of document 01 that more than one crate keeps.
+
+// A number that a call is held to.
+pub struct Limit {
+    pub most: usize,
+}
+
+impl Limit {
+    // The bits of a CPDLC message, at most.
+    pub const MESSAGE_BITS: usize = 2048;
+    // The bytes of a lent output buffer, at least.
+    pub const BUFFER_BYTES: usize = 320;
+    // Document 01's numbers of a lent output buffer that is too small, and of an argument that breaks its type or a size.
+    pub const ROOM: u64 = 1;
+
+    pub const SHAPE: u64 = 2;
+}

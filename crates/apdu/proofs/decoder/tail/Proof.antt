@@ -7,7 +7,6 @@ use Rattle.apdu.proofs.decoder.tail.Tie as tie
 use Rattle.apdu.proofs.decoder.tail.Reads as reads
 use Rattle.apdu.proofs.decoder.tail.Lts as lts
 use Rattle.apdu.proofs.decoder.padding.Reads as padding-reads
-use Rattle.apdu.proofs.leading.refused_at.Reads as refused-at-reads
 use Rattle.bits.proofs.within.Reads as within-reads
 use Rattle.fields.proofs.bit_field.Reads as bit-field-reads
 

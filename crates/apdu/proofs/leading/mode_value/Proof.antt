@@ -5,7 +5,6 @@ use Rattle.apdu.proofs.leading.mode_value.Statement.{statement}
 use Rattle.apdu.proofs.leading.mode_value.Tie as tie
 use Rattle.apdu.proofs.leading.mode_value.Reads as reads
 use Rattle.apdu.proofs.leading.mode_value.Lts as lts
-use Rattle.apdu.proofs.leading.refused_at.Reads as refused-at-reads
 use Rattle.fields.proofs.whole.Reads as whole-reads
 
 -- src/leading.rt:52:9

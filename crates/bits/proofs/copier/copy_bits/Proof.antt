@@ -19,8 +19,8 @@ within-requires c κs = search needs
 within-requires-2 : tie.Need-within-requires-2
 within-requires-2 c κs = search needs
 
-copy-chunks-requires : tie.Need-copy-chunks-requires
-copy-chunks-requires c κs = omega (arith, there (c .before .before .before), room (c .before))
+copy-run-requires : tie.Need-copy-run-requires
+copy-run-requires c κs = omega (arith, there (c .before .before .before), room (c .before))
 
 add-t15 : tie.Need-add-t15
 add-t15 c = omega (arith, room (c .before .before .before .before))
@@ -29,7 +29,7 @@ same-length : tie.Need-same-length
 same-length c = search needs
 
 returns : tie.Need-returns
-returns c = is-copied _ _ _ _ _ _ _ _ (there (c .before .before .before .before .before .before)) (room (c .before .before .before .before)) (c .before .before .copy-chunks .ensures)
+returns c = is-copied _ _ _ _ _ _ _ _ (there (c .before .before .before .before .before .before)) (room (c .before .before .before .before)) (c .before .before .copy-run .ensures)
 
 returns-2 : tie.Need-returns-2
 returns-2 c = no-room _ _ _ _ _ _ _ (there (c .before .before)) (not-within _ _ _ _ _ (c .before .within2 .ensures) (c .if2 .left))
@@ -43,7 +43,7 @@ copy-bits-spec =
     (tie.spec
     within-requires
     within-requires-2
-    copy-chunks-requires
+    copy-run-requires
     add-t15
     same-length
     returns

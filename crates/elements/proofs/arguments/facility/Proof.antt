@@ -1,6 +1,5 @@
--- `inner::arguments::facility` meets its contract.
+-- `elements::arguments::facility` meets its contract.
 -- Assumes nothing.
-use mathlib.Core.Path.{_∙_}
 use borrow.Author.Tests.{eq-eqb, ne-eqb}
 use Rattle.elements.specs.Arguments.{facilityAt}
 use Rattle.fields.proofs.Answers.{handed, went}

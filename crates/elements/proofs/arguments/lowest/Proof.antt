@@ -1,8 +1,8 @@
--- `inner::arguments::lowest` meets its contract.
+-- `elements::arguments::lowest` meets its contract.
 -- Assumes nothing.
-use mathlib.Core.Path.{refl}
+use mathlib.Core.Path.{_≡_}
 use Rattle.elements.specs.Arguments.{lowest}
-use Rattle.elements.proofs.Levels.{past-lowest}
+use Rattle.elements.proofs.Levels.{by-unit, past-lowest}
 use borrow.Author.Needs.{needs}
 use Rattle.elements.proofs.arguments.lowest.Statement.{statement}
 use Rattle.elements.proofs.arguments.lowest.Tie as tie
@@ -15,7 +15,12 @@ array-read-result c = search needs
 
 returns : tie.Need-returns
 unfolding lowest
-returns c = refl
+returns c =
+    by-unit lowest (c .before .args .unit) _ (c .if1 .taken)
+    (λ (e : c .before .args .unit ≡ 0). rw e)
+    (λ (e : c .before .args .unit ≡ 1). rw e)
+    (λ (e : c .before .args .unit ≡ 2). rw e)
+    (λ (e : c .before .args .unit ≡ 3). rw e)
 
 returns-2 : tie.Need-returns-2
 returns-2 c = past-lowest _ (c .if1 .left)

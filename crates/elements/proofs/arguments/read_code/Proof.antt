@@ -1,9 +1,9 @@
--- `inner::arguments::read_code` meets its contract.
+-- `elements::arguments::read_code` meets its contract.
 -- Assumes nothing.
 use mathlib.Core.Path.{refl, _∙_}
 use native.Mathlib.Omega.{arith}
 use Rattle.elements.specs.Arguments.{codeAt, noCode}
-use Rattle.elements.proofs.Steps.{handed, handed-up, went}
+use Rattle.elements.proofs.Steps.{handed-up, went}
 use Rattle.elements.proofs.Whole.{whole-most}
 use borrow.Author.Needs.{needs}
 use Rattle.elements.proofs.arguments.read_code.Statement.{statement}

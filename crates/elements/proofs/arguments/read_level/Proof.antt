@@ -1,4 +1,4 @@
--- `inner::arguments::read_level` meets its contract.
+-- `elements::arguments::read_level` meets its contract.
 -- Assumes nothing.
 use mathlib.Core.Path.{refl}
 use borrow.Author.Tests.{eq-eqb, ne-eqb}

@@ -1,8 +1,8 @@
--- `inner::arguments::read_level_type` meets its contract.
+-- `elements::arguments::read_level_type` meets its contract.
 -- Assumes nothing.
 use mathlib.Core.Path.{refl}
 use Rattle.elements.specs.declared.values.LevelTypeRead.the-variants as type
-use Rattle.elements.specs.Arguments.{levelTypeAt, numberInUnit}
+use Rattle.elements.specs.Arguments.{levelTypeAt}
 use Rattle.elements.proofs.Steps.{handed-up, went}
 use Rattle.elements.proofs.Whole.{whole-most, whole-as}
 use Rattle.elements.proofs.Levels.{highest-small}

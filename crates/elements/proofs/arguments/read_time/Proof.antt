@@ -1,4 +1,4 @@
--- `inner::arguments::read_time` meets its contract.
+-- `elements::arguments::read_time` meets its contract.
 -- Assumes nothing.
 use mathlib.Core.Path.{refl}
 use native.Mathlib.Omega.{arith}

@@ -1,4 +1,4 @@
--- `inner::elements::kind_at` meets its contract: a row is a place in the list of kinds, by the test that is computed over the table.
+-- `elements::kinds::kind_at` meets its contract.
 -- Assumes nothing.
 use mathlib.Core.Path.{refl}
 use native.Mathlib.Omega.{arith}

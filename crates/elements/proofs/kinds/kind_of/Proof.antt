@@ -1,4 +1,4 @@
--- `inner::elements::kind_of` meets its contract.
+-- `elements::kinds::kind_of` meets its contract.
 -- Assumes nothing.
 use mathlib.Core.Path.{_∙_}
 use native.Mathlib.Omega.{arith}

@@ -1,4 +1,4 @@
--- `inner::reading::characters` meets its contract.
+-- `elements::reading::characters` meets its contract.
 -- Assumes nothing.
 use mathlib.Core.Path.{refl, _∙_}
 use Rattle.elements.specs.OneElement.{noElement}

@@ -1,6 +1,6 @@
--- `inner::reading::code_argument` meets its contract.
+-- `elements::reading::code_argument` meets its contract.
 -- Assumes nothing.
-use mathlib.Core.Path.{refl, ap}
+use mathlib.Core.Path.{ap}
 use Rattle.elements.specs.declared.values.CodeRead.{CodeRead}
 use Rattle.elements.specs.OneElement.{codeArgument, isElement, withCode}
 use Rattle.elements.proofs.Ways.{step-handed, step-went}

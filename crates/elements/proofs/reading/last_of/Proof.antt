@@ -1,6 +1,5 @@
--- `inner::reading::last_of` meets its contract.
+-- `elements::reading::last_of` meets its contract.
 -- Assumes nothing.
-use mathlib.Core.Path.{refl}
 use Rattle.elements.specs.OneElement.{lastOf}
 use borrow.Author.Needs.{needs}
 use Rattle.elements.proofs.reading.last_of.Statement.{statement}

@@ -1,6 +1,5 @@
--- `inner::reading::read_argument` meets its contract.
+-- `elements::reading::read_argument` meets its contract.
 -- Assumes nothing.
-use mathlib.Core.Path.{refl}
 use Rattle.elements.specs.OneElement.{argumentAt}
 use borrow.Author.Needs.{needs}
 use Rattle.elements.proofs.reading.read_argument.Statement.{statement}

@@ -1,6 +1,6 @@
--- `inner::reading::read_element` meets its contract.
+-- `elements::reading::read_element` meets its contract.
 -- Assumes nothing.
-use mathlib.Core.Path.{refl, _∙_}
+use mathlib.Core.Path.{_∙_}
 use native.Mathlib.Omega.{arith}
 use Rattle.elements.specs.OneElement.{elementAt, noElement}
 use Rattle.elements.proofs.Steps.{handed-up, went}

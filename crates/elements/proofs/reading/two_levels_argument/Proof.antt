@@ -1,4 +1,4 @@
--- `inner::reading::two_levels_argument` meets its contract.
+-- `elements::reading::two_levels_argument` meets its contract.
 -- Assumes nothing.
 use mathlib.Core.Path.{refl}
 use Rattle.elements.specs.OneElement.{twoLevelsArgument}

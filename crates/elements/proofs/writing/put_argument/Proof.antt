@@ -1,6 +1,6 @@
--- `inner::writing::put_argument` meets its contract.
+-- `elements::writing::put_argument` meets its contract.
 -- Assumes nothing.
-use mathlib.Core.Path.{refl, sym}
+use mathlib.Core.Path.{sym}
 use Rattle.elements.specs.Writing.{argumentPieces}
 use Rattle.elements.proofs.Pieces.{not-written, pieces-nil}
 use borrow.Author.Needs.{needs}

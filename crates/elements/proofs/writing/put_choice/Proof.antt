@@ -1,4 +1,4 @@
--- `inner::writing::put_choice` meets its contract.
+-- `elements::writing::put_choice` meets its contract.
 -- Assumes nothing.
 use Rattle.elements.specs.Writing.{whole}
 use Rattle.elements.proofs.Pieces.{one-piece}

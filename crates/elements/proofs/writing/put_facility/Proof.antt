@@ -1,4 +1,4 @@
--- `inner::writing::put_facility` meets its contract.
+-- `elements::writing::put_facility` meets its contract.
 -- Assumes nothing.
 use Rattle.elements.proofs.Pieces.{no-facility, facility-full, facility-next}
 use borrow.Author.Needs.{needs}

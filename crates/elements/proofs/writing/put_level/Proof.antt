@@ -1,4 +1,4 @@
--- `inner::writing::put_level` meets its contract.
+-- `elements::writing::put_level` meets its contract.
 -- Assumes nothing.
 use Rattle.elements.proofs.Pieces.{level-first, level-second, level-block, level-single}
 use borrow.Author.Needs.{needs}

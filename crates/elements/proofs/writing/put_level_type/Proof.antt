@@ -1,4 +1,4 @@
--- `inner::writing::put_level_type` meets its contract.
+-- `elements::writing::put_level_type` meets its contract.
 -- Assumes nothing.
 use Rattle.elements.specs.Writing.{levelTypePieces}
 use Rattle.elements.proofs.Pieces.{two-full, two-next, whole-put-as}

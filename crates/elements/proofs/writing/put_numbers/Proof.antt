@@ -1,4 +1,4 @@
--- `inner::writing::put_numbers` meets its contract.
+-- `elements::writing::put_numbers` meets its contract.
 -- Assumes nothing.
 use mathlib.Core.Path.{_≡_, refl, _∙_}
 use Prim.Native.Nat.{_≤_, _-_}

@@ -1,4 +1,4 @@
--- `inner::writing::put_sized` meets its contract.
+-- `elements::writing::put_sized` meets its contract.
 -- Assumes nothing.
 use mathlib.Core.Path.{refl}
 use Rattle.elements.proofs.Pieces.{sized-full, sized-next}

@@ -1,4 +1,4 @@
--- `inner::writing::put_time` meets its contract.
+-- `elements::writing::put_time` meets its contract.
 -- Assumes nothing.
 use Rattle.elements.specs.Writing.{timePieces}
 use Rattle.elements.proofs.Pieces.{two-full, two-next}

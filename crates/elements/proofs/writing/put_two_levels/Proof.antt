@@ -1,4 +1,4 @@
--- `inner::writing::put_two_levels` meets its contract.
+-- `elements::writing::put_two_levels` meets its contract.
 -- Assumes nothing.
 use Rattle.elements.specs.Writing.{levelPieces}
 use Rattle.elements.proofs.Pieces.{pieces-full, pieces-next}

@@ -1,0 +1,31 @@
+// A fresh record in a lent range.
+ghost use mathlib.Core.Path.{_≡_};
+ghost use mathlib.Core.Bool.{cond};
+ghost use Rattle.words.specs.Limits.{shape};
+ghost use Rattle.card.specs.Face.{freshCall, made};
+use machine::control::Side;
+use machine::record::Configuration;
+use machine::record::Record;
+use step::store;
+use words::Limit;
+
+fn told_made(stored: bool) -> u64
+    ensures { λ n. ⌜ n ≡ cond stored 0 shape ⌝ }
+{
+    if stored { 0 } else { Limit::SHAPE }
+}
+
+// A fresh record for a side (1 air, 2 ground), with the security value that local policy accepts.
+#[no_mangle]
+pub extern "C" fn peat_fresh(rec: &mut [u8], side: u64, policy: u64) -> u64
+    ensures { λ n. ⌜ made n (now (rec .exit)) ≡ freshCall (now (rec .entry)) side policy ⌝ }
+{
+    let r = Record::fresh(Configuration { policy });
+    if side == 1 {
+        return told_made(store(rec, Side::Air, r));
+    }
+    if side == 2 {
+        return told_made(store(rec, Side::Ground, r));
+    }
+    Limit::SHAPE
+}

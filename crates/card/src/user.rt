@@ -1,0 +1,300 @@
+// The primitives of the user, and what the host reports.
+ghost use mathlib.Core.Path.{_≡_};
+ghost use mathlib.Core.Bool.{true, false};
+ghost use Rattle.card.specs.Face.{abortRequested, dataCall, messageRequested, plainCall};
+ghost use Rattle.step.specs.Call.{called};
+use crate::given::NONE;
+use crate::given::data_call;
+use crate::given::plain_call;
+use machine::event::Event;
+use machine::event::UserPrimitive;
+
+// CPDLC-start request.
+#[no_mangle]
+pub extern "C" fn peat_start_request(
+    rec: &mut [u8],
+    class: u64,
+    security: u64,
+    ids: &[u8],
+    msgs: &[u8],
+    message: u64,
+    checks: &[u8],
+    check: u64,
+    first: &mut [u8],
+    second: &mut [u8],
+) -> u64
+    ensures { λ n. ⌜ called n (now (rec .exit)) (now (first .exit)) (now (second .exit)) ≡ dataCall (now (rec .entry)) (now (first .entry)) (now (second .entry)) (UserPrimitive.StartServiceRequest false class security) (now (ids .entry)) (now (msgs .entry)) message (now (checks .entry)) check ⌝ }
+{
+    data_call(
+        rec,
+        UserPrimitive::StartServiceRequest(false, class, security),
+        ids,
+        msgs,
+        message,
+        checks,
+        check,
+        first,
+        second,
+    )
+}
+
+// DSC-start request.
+#[no_mangle]
+pub extern "C" fn peat_dsc_start_request(
+    rec: &mut [u8],
+    class: u64,
+    security: u64,
+    ids: &[u8],
+    msgs: &[u8],
+    message: u64,
+    checks: &[u8],
+    check: u64,
+    first: &mut [u8],
+    second: &mut [u8],
+) -> u64
+    ensures { λ n. ⌜ called n (now (rec .exit)) (now (first .exit)) (now (second .exit)) ≡ dataCall (now (rec .entry)) (now (first .entry)) (now (second .entry)) (UserPrimitive.StartServiceRequest true class security) (now (ids .entry)) (now (msgs .entry)) message (now (checks .entry)) check ⌝ }
+{
+    data_call(
+        rec,
+        UserPrimitive::StartServiceRequest(true, class, security),
+        ids,
+        msgs,
+        message,
+        checks,
+        check,
+        first,
+        second,
+    )
+}
+
+// CPDLC-start response.
+#[no_mangle]
+pub extern "C" fn peat_start_response(
+    rec: &mut [u8],
+    result: u64,
+    ids: &[u8],
+    msgs: &[u8],
+    message: u64,
+    checks: &[u8],
+    check: u64,
+    first: &mut [u8],
+    second: &mut [u8],
+) -> u64
+    ensures { λ n. ⌜ called n (now (rec .exit)) (now (first .exit)) (now (second .exit)) ≡ dataCall (now (rec .entry)) (now (first .entry)) (now (second .entry)) (UserPrimitive.StartServiceResponse false result) (now (ids .entry)) (now (msgs .entry)) message (now (checks .entry)) check ⌝ }
+{
+    data_call(
+        rec,
+        UserPrimitive::StartServiceResponse(false, result),
+        ids,
+        msgs,
+        message,
+        checks,
+        check,
+        first,
+        second,
+    )
+}
+
+// DSC-start response.
+#[no_mangle]
+pub extern "C" fn peat_dsc_start_response(
+    rec: &mut [u8],
+    result: u64,
+    ids: &[u8],
+    msgs: &[u8],
+    message: u64,
+    checks: &[u8],
+    check: u64,
+    first: &mut [u8],
+    second: &mut [u8],
+) -> u64
+    ensures { λ n. ⌜ called n (now (rec .exit)) (now (first .exit)) (now (second .exit)) ≡ dataCall (now (rec .entry)) (now (first .entry)) (now (second .entry)) (UserPrimitive.StartServiceResponse true result) (now (ids .entry)) (now (msgs .entry)) message (now (checks .entry)) check ⌝ }
+{
+    data_call(
+        rec,
+        UserPrimitive::StartServiceResponse(true, result),
+        ids,
+        msgs,
+        message,
+        checks,
+        check,
+        first,
+        second,
+    )
+}
+
+// CPDLC-message request, with its job.
+#[no_mangle]
+pub extern "C" fn peat_message_request(
+    rec: &mut [u8],
+    job: u64,
+    ids: &[u8],
+    msgs: &[u8],
+    message: u64,
+    checks: &[u8],
+    check: u64,
+    first: &mut [u8],
+    second: &mut [u8],
+) -> u64
+    ensures { λ n. ⌜ called n (now (rec .exit)) (now (first .exit)) (now (second .exit)) ≡ dataCall (now (rec .entry)) (now (first .entry)) (now (second .entry)) (messageRequested message job) (now (ids .entry)) (now (msgs .entry)) message (now (checks .entry)) check ⌝ }
+{
+    data_call(
+        rec,
+        UserPrimitive::MessageServiceRequest(message != NONE, job),
+        ids,
+        msgs,
+        message,
+        checks,
+        check,
+        first,
+        second,
+    )
+}
+
+// CPDLC-end request.
+#[no_mangle]
+pub extern "C" fn peat_end_request(
+    rec: &mut [u8],
+    ids: &[u8],
+    msgs: &[u8],
+    message: u64,
+    checks: &[u8],
+    check: u64,
+    first: &mut [u8],
+    second: &mut [u8],
+) -> u64
+    ensures { λ n. ⌜ called n (now (rec .exit)) (now (first .exit)) (now (second .exit)) ≡ dataCall (now (rec .entry)) (now (first .entry)) (now (second .entry)) (UserPrimitive.EndServiceRequest false) (now (ids .entry)) (now (msgs .entry)) message (now (checks .entry)) check ⌝ }
+{
+    data_call(
+        rec,
+        UserPrimitive::EndServiceRequest(false),
+        ids,
+        msgs,
+        message,
+        checks,
+        check,
+        first,
+        second,
+    )
+}
+
+// DSC-end request.
+#[no_mangle]
+pub extern "C" fn peat_dsc_end_request(
+    rec: &mut [u8],
+    ids: &[u8],
+    msgs: &[u8],
+    message: u64,
+    checks: &[u8],
+    check: u64,
+    first: &mut [u8],
+    second: &mut [u8],
+) -> u64
+    ensures { λ n. ⌜ called n (now (rec .exit)) (now (first .exit)) (now (second .exit)) ≡ dataCall (now (rec .entry)) (now (first .entry)) (now (second .entry)) (UserPrimitive.EndServiceRequest true) (now (ids .entry)) (now (msgs .entry)) message (now (checks .entry)) check ⌝ }
+{
+    data_call(
+        rec,
+        UserPrimitive::EndServiceRequest(true),
+        ids,
+        msgs,
+        message,
+        checks,
+        check,
+        first,
+        second,
+    )
+}
+
+// CPDLC-end response.
+#[no_mangle]
+pub extern "C" fn peat_end_response(
+    rec: &mut [u8],
+    result: u64,
+    ids: &[u8],
+    msgs: &[u8],
+    message: u64,
+    checks: &[u8],
+    check: u64,
+    first: &mut [u8],
+    second: &mut [u8],
+) -> u64
+    ensures { λ n. ⌜ called n (now (rec .exit)) (now (first .exit)) (now (second .exit)) ≡ dataCall (now (rec .entry)) (now (first .entry)) (now (second .entry)) (UserPrimitive.EndServiceResponse false result) (now (ids .entry)) (now (msgs .entry)) message (now (checks .entry)) check ⌝ }
+{
+    data_call(
+        rec,
+        UserPrimitive::EndServiceResponse(false, result),
+        ids,
+        msgs,
+        message,
+        checks,
+        check,
+        first,
+        second,
+    )
+}
+
+// DSC-end response.
+#[no_mangle]
+pub extern "C" fn peat_dsc_end_response(
+    rec: &mut [u8],
+    result: u64,
+    ids: &[u8],
+    msgs: &[u8],
+    message: u64,
+    checks: &[u8],
+    check: u64,
+    first: &mut [u8],
+    second: &mut [u8],
+) -> u64
+    ensures { λ n. ⌜ called n (now (rec .exit)) (now (first .exit)) (now (second .exit)) ≡ dataCall (now (rec .entry)) (now (first .entry)) (now (second .entry)) (UserPrimitive.EndServiceResponse true result) (now (ids .entry)) (now (msgs .entry)) message (now (checks .entry)) check ⌝ }
+{
+    data_call(
+        rec,
+        UserPrimitive::EndServiceResponse(true, result),
+        ids,
+        msgs,
+        message,
+        checks,
+        check,
+        first,
+        second,
+    )
+}
+
+fn abort_requested(reason: u64) -> UserPrimitive
+    ensures { λ u. ⌜ u ≡ abortRequested reason ⌝ }
+{
+    if reason == NONE {
+        return UserPrimitive::UserAbortServiceRequest(false, 0);
+    }
+    UserPrimitive::UserAbortServiceRequest(true, reason)
+}
+
+// CPDLC-user-abort request, with a reason or NONE.
+#[no_mangle]
+pub extern "C" fn peat_user_abort(
+    rec: &mut [u8],
+    reason: u64,
+    first: &mut [u8],
+    second: &mut [u8],
+) -> u64
+    ensures { λ n. ⌜ called n (now (rec .exit)) (now (first .exit)) (now (second .exit)) ≡ plainCall (now (rec .entry)) (now (first .entry)) (now (second .entry)) (Event.User (abortRequested reason)) ⌝ }
+{
+    plain_call(rec, Event::User(abort_requested(reason)), first, second)
+}
+
+// t-start expires.
+#[no_mangle]
+pub extern "C" fn peat_timer_expiry(rec: &mut [u8], first: &mut [u8], second: &mut [u8]) -> u64
+    ensures { λ n. ⌜ called n (now (rec .exit)) (now (first .exit)) (now (second .exit)) ≡ plainCall (now (rec .entry)) (now (first .entry)) (now (second .entry)) Event.TimerExpires ⌝ }
+{
+    plain_call(rec, Event::TimerExpires, first, second)
+}
+
+// An unrecoverable system error.
+#[no_mangle]
+pub extern "C" fn peat_system_error(rec: &mut [u8], first: &mut [u8], second: &mut [u8]) -> u64
+    ensures { λ n. ⌜ called n (now (rec .exit)) (now (first .exit)) (now (second .exit)) ≡ plainCall (now (rec .entry)) (now (first .entry)) (now (second .entry)) Event.UnrecoverableSystemError ⌝ }
+{
+    plain_call(rec, Event::UnrecoverableSystemError, first, second)
+}

@@ -1,0 +1,278 @@
+-- What a call that was taken leaves, read as the host reads it: the record's bytes, the primitive, the APDU's bytes and the message data are those of
+-- the machine's outcome.
+-- Assumes nothing.
+use mathlib.Core.Path.{_≡_, refl, ap, sym, subst, _∙_}
+use mathlib.Core.Bool.{Bool, true, false, not, cond, _&&_, _||_}
+use mathlib.Core.List.{List, [], _∷_}
+use Prim.Native.Nat.{ℕ, _+_, _*_, _%_, _≤_, _<_}
+use native.Mathlib.Omega.{arith}
+use borrow.Author.Tests.{eq-eqb, lt-ltb}
+use lib.ListN.{length, take}
+use lib.Seq.{take-at}
+use Rattle.bits.specs.Bits.{bitsN, bitsOf, bitsTo}
+use Rattle.bits.proofs.Numbers.{Bits}
+use Rattle.bits.proofs.Bytes.{bits-append}
+use Rattle.fields.specs.Encodings.{indexBits}
+use Rattle.fields.proofs.RoundTrip.{extensible-index}
+use Rattle.apdu.specs.Sizes.{bufferLeast, userLast, providerLast}
+use Rattle.apdu.specs.Pdus.{lastOf, lent, contentIn, pduIn}
+use Rattle.apdu.specs.Encoding.{contentBits, modeBits, pduBits, padded, bytesFor, padding}
+use Rattle.apdu.specs.Writing.{Done, writeOut, dataShaped, apduShaped}
+use Rattle.apdu.specs.declared.Data.{Data}
+use Rattle.apdu.specs.declared.Apdu.{Apdu as Pdu}
+use Rattle.apdu.specs.declared.Apdu.the-variants as is
+use Rattle.apdu.proofs.Bounds.{data-fit, apdu-fit, content-most, pdu-most}
+use Rattle.apdu.proofs.Theorems.{front, writes}
+use Rattle.machine.specs.Codes.{securityValues}
+use Rattle.machine.specs.Outcome.{isNone, refusalNumber}
+use Rattle.machine.specs.declared.event.Qos.{Qos}
+use Rattle.machine.specs.Primitives.{isSend}
+use Rattle.machine.specs.declared.record.Record.{Record}
+use Rattle.machine.specs.declared.event.Apdu.{Apdu}
+use Rattle.machine.specs.declared.event.Apdu.the-variants.{Absent, NotValid, Start, Send, AbortUser, AbortProvider, Forward}
+use Rattle.machine.specs.declared.outcome.Refusal.{Refusal}
+use Rattle.machine.specs.declared.outcome.Refusal.the-variants.{None, Shape, Prohibited, NoMessage, Repeat}
+use Rattle.machine.specs.declared.outcome.Invoked.{Invoked}
+use Rattle.machine.specs.declared.outcome.Invoked.the-variants.{Silent, DStartRequest, DStartResponse, DDataRequest, DEndRequest, DEndResponse, DAbortRequest}
+use Rattle.machine.specs.declared.outcome.Told.{Told}
+use Rattle.machine.specs.declared.outcome.Told.the-variants.{Untold, StartIndication, StartConfirmation, MessageIndication, EndIndication, EndConfirmation, UserAbortIndication, ProviderAbortIndication}
+use Rattle.machine.specs.declared.outcome.Outcome.{Outcome}
+use Rattle.step.specs.Stored.{flag, loadAt, storeAt}
+use Rattle.step.specs.Packed.{packed, invokedNumber, toldNumber}
+use Rattle.step.specs.Call.{Called, pduSide, bitsOfWritten, nothingTo, pduTo, firstTakes, secondTakes, finished, concluded}
+use Rattle.step.specs.declared.stored.Loaded.the-variants.{Is}
+use Rattle.step.proofs.Storing.{length-stored, loaded-stored}
+use Rattle.step.proofs.Calling.{invoked-low, told-low}
+use Rattle.step.proofs.Unpacked.{refusal-unpacked, invoked-unpacked, told-unpacked, sent-unpacked, given-unpacked, code-unpacked, parameter-unpacked, last-unpacked}
+use Rattle.step.proofs.Taken.{never, Coded, writable, Brings, GoesOut, Roomy, quiet, Fit}
+use Rattle.pair.specs.Names.{Side}
+use Rattle.pair.specs.Carrier.{Body}
+use Rattle.pair.specs.StepMachine.{handedBy}
+use Rattle.card_pair.specs.Answered.{isTaken, invokedPart, toldPart, sentBits, givenBits, invokedOf, entryOf, isMessage, dataIn, handedOf}
+use Rattle.apdu.proofs.Theorems.{content-are-bits, mode-are-bits, index-are-bits}
+use Rattle.card_pair.proofs.Codec.{apduBits, zeros, full, frontOf, enc}
+
+-- ---- a buffer: bs were written to it
+
+pub record Wrote (bs : List ℕ) (x : Done) : Type 0 where
+  pub count : bitsOfWritten (x .answer) ≡ length bs
+  pub bytes : lent (take (bytesFor (length bs)) (x .bytes)) ≡ padded bs
+  pub zeroed : lent (frontOf zeros bs) ≡ padded bs
+  pub small : length bs < 65536
+
+write-is : (ok : Bool) (s bs : List ℕ) → ok ≡ true → Bits bs → length bs + 7 ≤ 8 * bufferLeast → bufferLeast ≤ length s → Wrote bs (writeOut ok s bs)
+write-is ok s bs e b h g = rw (e, writes s bs g) (record { count = refl; bytes = front s bs b h g .bits; zeroed = front zeros bs b h full .bits; small = omega arith })
+
+nothing-is : (s : List ℕ) → Wrote [] (nothingTo s)
+unfolding bitsTo bitsOf padded bitsN
+nothing-is s = record { count = refl; bytes = refl; zeroed = refl; small = omega arith }
+
+-- the bits of an APDU are bits
+apdu-are-bits : (sd : Side) (a : Apdu) (b : Body) → Bits b → Bits (apduBits sd a b)
+unfolding apduBits pduBits
+apdu-are-bits sd Absent b h = λ (k : ℕ). omega arith
+apdu-are-bits sd NotValid b h = λ (k : ℕ). omega arith
+apdu-are-bits sd (Start m) b h = bits-append (indexBits (lastOf (pduSide sd)) 2) _ (index-are-bits (pduSide sd) 2) (bits-append (modeBits (pduSide sd) (flag m)) b (mode-are-bits (pduSide sd) (flag m)) h)
+apdu-are-bits sd Send b h = bits-append (indexBits (lastOf (pduSide sd)) 3) b (index-are-bits (pduSide sd) 3) h
+apdu-are-bits sd (AbortUser x) b h = bits-append (indexBits (lastOf (pduSide sd)) 0) (indexBits userLast x) (index-are-bits (pduSide sd) 0) (extensible-index userLast (omega arith) .are-bits x)
+apdu-are-bits sd (AbortProvider x) b h = bits-append (indexBits (lastOf (pduSide sd)) 1) (indexBits providerLast x) (index-are-bits (pduSide sd) 1) (extensible-index providerLast (omega arith) .are-bits x)
+apdu-are-bits sd Forward b h = λ (k : ℕ). omega arith
+
+module _ (sd : Side) (li lm lc : List ℕ) (d : Data) (hi : Bits li) (hm : Bits lm) (hc : Bits lc) (sh : dataShaped li lm lc d ≡ true) where
+  abbrev pub body : Body
+  body = contentBits (contentIn li lm lc d)
+
+  pub body-bits : Bits body
+  body-bits = content-are-bits li lm lc d hi hm hc
+
+  pdu-is : (a : Pdu) (s : List ℕ) → apduShaped (pduSide sd) li lm lc a ≡ true → Bits (pduBits (pduSide sd) (pduIn li lm lc a)) → bufferLeast ≤ length s → Wrote (pduBits (pduSide sd) (pduIn li lm lc a)) (pduTo (pduSide sd) li lm lc a s)
+  pdu-is a s e b g =
+      let m = pdu-most (pduSide sd) (pduIn li lm lc a) (apdu-fit (pduSide sd) li lm lc a e) in
+      write-is (apduShaped (pduSide sd) li lm lc a) s (pduBits (pduSide sd) (pduIn li lm lc a)) e b (omega arith) g
+
+  -- the first buffer takes an APDU that is writable
+  first-is : (a : Apdu) (s : List ℕ) → writable sd a ≡ true → bufferLeast ≤ length s → Wrote (apduBits sd a body) (firstTakes sd li lm lc d a s)
+  unfolding firstTakes apduBits pduBits pduIn apduShaped
+  first-is Absent s e g = never e
+  first-is NotValid s e g = never e
+  first-is (Start m) s e g = pdu-is (is.Start (flag m) d) s (rw (e, sh)) (apdu-are-bits sd (Start m) body body-bits) g
+  first-is Send s e g = pdu-is (is.Send d) s sh (apdu-are-bits sd Send body body-bits) g
+  first-is (AbortUser x) s e g = pdu-is (is.AbortUser x) s e (apdu-are-bits sd (AbortUser x) body body-bits) g
+  first-is (AbortProvider x) s e g = pdu-is (is.AbortProvider x) s e (apdu-are-bits sd (AbortProvider x) body body-bits) g
+  first-is Forward s e g = never e
+
+  absent-is : (a : Apdu) (s : List ℕ) → a ≡ Absent → Wrote (apduBits sd a body) (firstTakes sd li lm lc d a s)
+  unfolding firstTakes apduBits
+  absent-is a s e = subst (λ (z : Apdu). Wrote (apduBits sd z body) (firstTakes sd li lm lc d z s)) (sym e) (nothing-is s)
+
+  goes-is : (u : Bool) (i : Invoked) (a : Apdu) (s : List ℕ) → GoesOut u sd i a → bufferLeast ≤ length s → Wrote (apduBits sd a body) (firstTakes sd li lm lc d a s)
+  goes-is u Silent a s h g = absent-is a s (h .1)
+  goes-is u (DStartRequest q x) a s h g = first-is a s h g
+  goes-is u (DStartResponse x y) a s h g = first-is a s h g
+  goes-is u DDataRequest a s h g = first-is a s h g
+  goes-is u DEndRequest a s h g = first-is a s h g
+  goes-is u (DEndResponse x) a s h g = first-is a s h g
+  goes-is u (DAbortRequest o) a s h g = first-is a s h g
+
+  -- the second takes message data that are delivered
+  second-is : (delivers : Bool) (s : List ℕ) → bufferLeast ≤ length s → Wrote (cond delivers body []) (secondTakes li lm lc d delivers s)
+  unfolding secondTakes
+  second-is true s g =
+      let m = content-most (contentIn li lm lc d) (data-fit li lm lc d sh) in
+      write-is (dataShaped li lm lc d) s body sh body-bits (omega arith) g
+  second-is false s g = nothing-is s
+
+-- ---- the number's parts
+
+invoked-back : (i : Invoked) → Roomy i → invokedOf (invokedNumber i) ≡ i
+unfolding invokedNumber
+invoked-back Silent h = refl
+invoked-back (DStartRequest q s) h =
+    rw (code-unpacked 1 (q .routing) s (omega arith), parameter-unpacked 1 (q .routing) s (omega arith) (h .1), last-unpacked 1 (q .routing) s (omega arith) (h .2)) (ap (λ (z : Qos). DStartRequest z s) (sym (h .0)))
+invoked-back (DStartResponse x s) h = rw (code-unpacked 2 x s (omega arith), parameter-unpacked 2 x s (omega arith) (h .0), last-unpacked 2 x s (omega arith) (h .1))
+invoked-back DDataRequest h = refl
+invoked-back DEndRequest h = refl
+invoked-back (DEndResponse x) h = rw (code-unpacked 5 x 0 (omega arith), parameter-unpacked 5 x 0 (omega arith) h)
+invoked-back (DAbortRequest o) h = rw (code-unpacked 6 o 0 (omega arith), parameter-unpacked 6 o 0 (omega arith) h)
+
+told-back : (t : Told) → isMessage (toldNumber t) ≡ not (quiet t)
+unfolding toldNumber
+told-back Untold = refl
+told-back (StartIndication m k) = rw (code-unpacked 1 k (flag m) (omega arith))
+told-back (StartConfirmation m x) = rw (code-unpacked 2 x (flag m) (omega arith))
+told-back MessageIndication = refl
+told-back (EndIndication m) = rw (code-unpacked 4 0 (flag m) (omega arith))
+told-back (EndConfirmation m x) = rw (code-unpacked 5 x (flag m) (omega arith))
+told-back (UserAbortIndication x) = rw (code-unpacked 6 x 0 (omega arith))
+told-back (ProviderAbortIndication x) = rw (code-unpacked 7 x 0 (omega arith))
+
+-- ---- the record
+
+-- the bytes b are those of the record r at side sd
+pub record Keeps (sd : Side) (b : List ℕ) (r : Record) : Type 0 where
+  pub load : loadAt b ≡ Is sd r
+  pub size : length b ≡ 16
+  pub coded : Coded r
+
+pub stored-keeps : (sd : Side) (r : List ℕ) (x : Record) → length r ≡ 16 → Coded x → Keeps sd (storeAt r sd x .bytes) x
+unfolding storeAt
+stored-keeps sd r x h k =
+    rw (eq-eqb (length r) 16 h, lt-ltb (x .request) securityValues (k .request), lt-ltb (x .policy) securityValues (k .policy))
+    (record { load = loaded-stored sd x (k .request) (k .policy) (k .highest); size = length-stored sd x (k .request) (k .policy) (k .highest); coded = k })
+
+-- ---- all of it
+
+-- b: the message data that the APDU was made with, and that are delivered
+pub record Ended (sd : Side) (v : Brings) (o : Outcome) (b : Body) (c : Called) : Type 0 where
+  pub taken : isTaken (c .number) ≡ true
+  pub keeps : Keeps sd (c .kept) (o .next)
+  pub primitive : entryOf c .primitive ≡ o .invoked
+  pub bits : lent (entryOf c .bytes) ≡ lent (enc sd (o .apdu) b)
+  pub handed : (x : Body) → (isSend (v .apdu) ≡ true → b ≡ x) → handedOf c ≡ cond (o .delivers) (handedBy (o .told) x) []
+
+take-padded : (bs : List ℕ) → take (length bs) (padded bs) ≡ bs
+unfolding padded
+take-padded bs = take-at bs (bitsN (padding (length bs)) 0) (length bs) refl
+
+handed-told : (t : Told) (delivers sends : Bool) (b x z : Body) → (quiet t || (delivers && sends)) ≡ true → (delivers ≡ true → z ≡ b) → (sends ≡ true → b ≡ x) → cond (not (quiet t)) (z ∷ []) [] ≡ cond delivers (handedBy t x) []
+handed-told Untold true s b x z h e f = refl
+handed-told Untold false s b x z h e f = refl
+handed-told (StartIndication m k) true s b x z h e f = refl
+handed-told (StartIndication m k) false s b x z h e f = refl
+handed-told (StartConfirmation m k) true s b x z h e f = refl
+handed-told (StartConfirmation m k) false s b x z h e f = refl
+handed-told MessageIndication true s b x z h e f = ap (λ (y : Body). y ∷ []) (e refl ∙ f h)
+handed-told MessageIndication false s b x z h e f = never h
+handed-told (EndIndication m) true s b x z h e f = refl
+handed-told (EndIndication m) false s b x z h e f = refl
+handed-told (EndConfirmation m k) true s b x z h e f = refl
+handed-told (EndConfirmation m k) false s b x z h e f = refl
+handed-told (UserAbortIndication k) true s b x z h e f = refl
+handed-told (UserAbortIndication k) false s b x z h e f = refl
+handed-told (ProviderAbortIndication k) true s b x z h e f = refl
+handed-told (ProviderAbortIndication k) false s b x z h e f = refl
+
+module _ (i t s g : ℕ) (hi : i < 4096) (ht : t < 4096) (hs : s < 65536) (hg : g < 65536) where
+  pub is-taken : isTaken (packed i t s g) ≡ true
+  is-taken = eq-eqb (packed i t s g % 256) 0 (refusal-unpacked i t s g)
+
+  pub invoked-part : invokedPart (packed i t s g) ≡ i
+  invoked-part = invoked-unpacked i t s g hi
+
+  pub told-part : toldPart (packed i t s g) ≡ t
+  told-part = told-unpacked i t s g hi ht
+
+  pub sent-part : sentBits (packed i t s g) ≡ s
+  sent-part = sent-unpacked i t s g hi ht hs
+
+  pub given-part : givenBits (packed i t s g) ≡ g
+  given-part = given-unpacked i t s g hi ht hg
+
+-- from what the two buffers took
+module _ (r a b : List ℕ) (sd : Side) (v : Brings) (o : Outcome) (y : Body) (one two : Done) (size : length r ≡ 16) (k : Fit sd v o) (w : Wrote (apduBits sd (o .apdu) y) one) (z : Wrote (cond (o .delivers) y []) two) where
+  abbrev N : ℕ
+  N = packed (invokedNumber (o .invoked)) (toldNumber (o .told)) (length (apduBits sd (o .apdu) y)) (length (cond (o .delivers) y []))
+
+  hi : invokedNumber (o .invoked) < 4096
+  hi = invoked-low (o .invoked)
+
+  ht : toldNumber (o .told) < 4096
+  ht = told-low (o .told)
+
+  number-is : finished r a b sd o one two .number ≡ N
+  unfolding finished
+  number-is = rw (w .count, z .count)
+
+  number-taken : isTaken (finished r a b sd o one two .number) ≡ true
+  number-taken = ap isTaken number-is ∙ is-taken _ _ _ _ hi ht (w .small) (z .small)
+
+  number-sent : sentBits (finished r a b sd o one two .number) ≡ length (apduBits sd (o .apdu) y)
+  number-sent = ap sentBits number-is ∙ sent-part _ _ _ _ hi ht (w .small) (z .small)
+
+  number-given : givenBits (finished r a b sd o one two .number) ≡ length (cond (o .delivers) y [])
+  number-given = ap givenBits number-is ∙ given-part _ _ _ _ hi ht (w .small) (z .small)
+
+  number-invoked : invokedOf (invokedPart (finished r a b sd o one two .number)) ≡ o .invoked
+  number-invoked = ap (λ (n : ℕ). invokedOf (invokedPart n)) number-is ∙ ap invokedOf (invoked-part _ _ _ _ hi ht (w .small) (z .small)) ∙ invoked-back (o .invoked) (k .roomy)
+
+  number-told : isMessage (toldPart (finished r a b sd o one two .number)) ≡ not (quiet (o .told))
+  number-told = ap (λ (n : ℕ). isMessage (toldPart n)) number-is ∙ ap isMessage (told-part _ _ _ _ hi ht (w .small) (z .small)) ∙ told-back (o .told)
+
+  -- the message data in the second buffer
+  data-is : dataIn (finished r a b sd o one two) ≡ cond (o .delivers) y []
+  unfolding finished
+  data-is = ap (λ (n : ℕ). take n (lent (take (bytesFor n) (two .bytes)))) number-given ∙ ap (take (length (cond (o .delivers) y []))) (z .bytes) ∙ take-padded (cond (o .delivers) y [])
+
+  finished-is : Ended sd v o y (finished r a b sd o one two)
+  unfolding finished
+  finished-is =
+      record {
+        taken = number-taken;
+        keeps = stored-keeps sd r (o .next) size (k .coded);
+        primitive = number-invoked;
+        bits = ap (λ (n : ℕ). lent (take (bytesFor n) (one .bytes))) number-sent ∙ w .bytes ∙ sym (w .zeroed);
+        handed = λ (x : Body) (f : isSend (v .apdu) ≡ true → y ≡ x).
+            ap (λ (t : Bool). cond t (dataIn (finished r a b sd o one two) ∷ []) []) number-told
+            ∙ handed-told (o .told) (o .delivers) (isSend (v .apdu)) y x (dataIn (finished r a b sd o one two)) (k .told) (λ (e : o .delivers ≡ true). data-is ∙ ap (λ (t : Bool). cond t y []) e) f;
+      }
+
+-- a step that was taken
+pub concluded-is : (r a b : List ℕ) (sd : Side) (v : Brings) (o : Outcome) (li lm lc : List ℕ) (d : Data) → bufferLeast ≤ length a → bufferLeast ≤ length b → length r ≡ 16 → Bits li → Bits lm → Bits lc → dataShaped li lm lc d ≡ true → isNone (o .refusal) ≡ true → Fit sd v o
+    → Ended sd v o (contentBits (contentIn li lm lc d)) (concluded r a b sd o li lm lc d)
+unfolding concluded
+concluded-is r a b sd v o li lm lc d ha hb size hi hm hc sh n k =
+    rw n (finished-is r a b sd v o (contentBits (contentIn li lm lc d)) (firstTakes sd li lm lc d (o .apdu) a) (secondTakes li lm lc d (o .delivers) b) size k
+    (goes-is sd li lm lc d hi hm hc sh (v .user) (o .invoked) (o .apdu) a (k .apdu) ha)
+    (second-is sd li lm lc d hi hm hc sh (o .delivers) b hb))
+
+refusal-told : (w : Refusal) → isNone w ≡ false → isTaken (refusalNumber w) ≡ false
+refusal-told None e = never (sym e)
+refusal-told Shape e = refl
+refusal-told Prohibited e = refl
+refusal-told NoMessage e = refl
+refusal-told Repeat e = refl
+
+-- one that was refused
+pub concluded-refused : (r a b : List ℕ) (sd : Side) (o : Outcome) (li lm lc : List ℕ) (d : Data) → isNone (o .refusal) ≡ false → isTaken (concluded r a b sd o li lm lc d .number) ≡ false
+unfolding concluded
+concluded-refused r a b sd o li lm lc d n = rw n (refusal-told (o .refusal) n)

@@ -1,0 +1,167 @@
+-- Runs of two cards, computed from the definitions that the contracts cite: every call's record, APDU and message data are bytes. (A claim about all
+-- runs says nothing of cards that refuse everything.)
+-- Assumes nothing.
+use mathlib.Core.Path.{_≡_, refl}
+use mathlib.Core.Bool.{Bool, true, false}
+use mathlib.Core.List.{List, [], _∷_, _++_}
+use Prim.Native.Nat.{ℕ, _^_, _<_}
+use native.Mathlib.Omega.{arith}
+use lib.ListN.{replicate}
+use Rattle.bits.specs.Bits.{bitsN, bitsOf, accOf, bitsTo, bytesOf}
+use Rattle.bits.specs.Put.{withBit, setBit, putBits}
+use Rattle.bits.specs.Read.{readBits}
+use Rattle.fields.specs.Encodings.{wholeBits, indexBits, lengthBits}
+use Rattle.fields.specs.Fields.{bitField, extensionBit, digitsIn, wholeNumber, extensibleIndex, lengthAt, lengthWithin, runAt, stringAt}
+use Rattle.apdu.specs.Encoding.{stringBits, optionalBits, optionalFits, contentBits, contentFits, modeBits, modeFits, pduBits, pduFits, padded}
+use Rattle.apdu.specs.Pdus.{partIn, contentIn, pduIn}
+use Rattle.apdu.specs.Reading.{optionalAt, partAt, partsAt, dataAt, modeValue, modeAt, kindMode, leadingAt, tailAt, endedAt, restAt, apduAt}
+use Rattle.apdu.specs.Writing.{itemsShaped, partShaped, dataShaped, apduShaped, writeOut}
+use Rattle.machine.specs.Calls.{answer, sent, startRequest, startResponse, messageRequest, endRequest, endResponse, userAbort, callOf, unsent, called}
+use Rattle.machine.specs.Event.{readable, qosFits, indicationShapely, confirmationShapely, userShapely, serviceShapely, shapely}
+use Rattle.machine.specs.Exceptions.{tell, closes, aborts, excepts, timerExpires, systemError, noInstruction, pduFault}
+use Rattle.machine.specs.Primitives.{handed, read, received, startFits, offered, dStartIndication, confirmed, dStartConfirmation, dDataIndication, dEndIndication, dEndConfirmation, abortExpected, dAbortIndication, dPAbortIndication, reached}
+use Rattle.machine.specs.Record.{enter}
+use Rattle.machine.specs.Step.{permitted, messageRefusal, refusalOf, acts, step}
+use Rattle.step.specs.Call.{firstTakes, secondTakes, finished, concluded, withRecord, entering, userStep, userCall, readsAs, readsAgain, abortOf, orAbort, readPdu, meaning, dataOf, arrives, dataStep, bareStep, serviceStep, serviceCall}
+use Rattle.step.specs.Packed.{invokedNumber, toldNumber, packed}
+use Rattle.step.specs.Stored.{headBytes, storedBytes, headFits, withHighest, loadAt, storeAt}
+use Rattle.card.specs.Face.{noCount, partOf, givenData, freshFor, freshCall}
+use Rattle.machine.specs.declared.outcome.Invoked.{Invoked}
+use Rattle.machine.specs.declared.outcome.Invoked.the-variants.{DDataRequest, DEndResponse, DAbortRequest}
+use Rattle.pair.specs.Names.{Side, Air, Ground, Dialogue, End, Control, entered, closed}
+use Rattle.pair.specs.Carrier.{Body, Party, Step, user-call, hand-over, timer-expires, error-reported, turn-away, fail, Turn, fresh, run}
+use Rattle.pair.specs.StepMachine.{Wire}
+use Rattle.card_pair.specs.CardMachine.{Buffers, Given, Job, Asked, start-request, start-response, message-request, end-request, end-response, user-abort, bodyGiven, newly, controlIn, cardMachine}
+
+-- ---- the words of a run
+
+-- both buffers of the least size, with bits in them
+abbrev lends : Side → ℕ → Buffers
+lends sd n = record { first = replicate 320 255; second = replicate 320 170; first-full = omega arith; second-full = omega arith }
+
+-- no message data; a message of ten bits, 01 after its first byte; one with an identifier and a check besides
+abbrev none : Given
+none = record { ids = []; msgs = []; bits = noCount; checks = []; check = 0 }
+
+abbrev text : ℕ → Given
+text x = record { ids = []; msgs = x ∷ 64 ∷ []; bits = 10; checks = []; check = 0 }
+
+abbrev signed : ℕ → Given
+signed x = record { ids = 42 ∷ 3 ∷ []; msgs = x ∷ []; bits = 7; checks = 165 ∷ []; check = 8 }
+
+abbrev job : (n : ℕ) → n < 2 ^ 64 → Job
+job n h = record { number = n; low = h }
+
+abbrev turn : Side → Step Asked → Turn Asked
+turn sd c = record { side = sd; step = c }
+
+abbrev asks : Side → Asked → Turn Asked
+asks sd a = turn sd (user-call a 0)
+
+abbrev says : Side → Job → Given → Turn Asked
+says sd j g = asks sd (message-request j g)
+
+abbrev gets : Side → Turn Asked
+gets sd = turn sd (hand-over 0)
+
+-- an end: state and DSC, its line, the messages taken and handed out in this dialogue, the jobs it ever took
+record Seen : Type 0 where
+  ctl : Control
+  line : List Wire
+  took : List Body
+  gave : List Body
+  jobs : List ℕ
+
+record View : Type 0 where
+  air : Seen
+  ground : Seen
+  broken : Bool
+
+abbrev seen : Control → List Wire → List Body → List Body → List ℕ → Seen
+seen c l t g j = record { ctl = c; line = l; took = t; gave = g; jobs = j }
+
+abbrev ofParty : Party (cardMachine 1 lends) → Seen
+ofParty x = seen (controlIn (loadAt (x .rec .bytes))) (x .line) (x .taken) (x .given) (x .jobs)
+
+-- from two fresh records that the card made, with "secured exchange" at both ends
+abbrev after : List (Turn Asked) → View
+after ts =
+    let s = run (cardMachine 1 lends) (fresh (cardMachine 1 lends) (newly (freshCall (replicate 16 0) 1 1 .bytes)) (newly (freshCall (replicate 16 0) 2 1 .bytes))) ts in
+    record { air = ofParty (s .here); ground = ofParty (s .there); broken = s .broken }
+
+abbrev view : Seen → Seen → Bool → View
+view a g b = record { air = a; ground = g; broken = b }
+
+abbrev wire : Invoked → List ℕ → Wire
+wire i l = record { primitive = i; bytes = l }
+
+-- a run and what is seen after it
+record Row : Type 0 where
+  turns : List (Turn Asked)
+  ends : View
+
+abbrev row : List (Turn Asked) → View → Row
+row ts v = record { turns = ts; ends = v }
+
+abbrev seenIn : List Row → List View
+seenIn [] = []
+seenIn (r ∷ rs) = after (r .turns) ∷ seenIn rs
+
+abbrev saidIn : List Row → List View
+saidIn [] = []
+saidIn (r ∷ rs) = r .ends ∷ saidIn rs
+
+-- ---- a dialogue, and the next
+
+-- the air starts, the ground accepts and sends at once
+abbrev opening : List (Turn Asked)
+opening =
+    asks Air (start-request false 3 (text 7)) ∷ gets Ground ∷ asks Ground (start-response false 0 none) ∷ says Ground (job 1 (omega arith)) (text 80) ∷ gets Air ∷ gets Air ∷ []
+
+-- messages both ways; job 1 again is refused, and a message request without a message; the ground asks for the end with messages on both lines
+abbrev talking : List (Turn Asked)
+talking =
+    opening
+    ++ (says Air (job 1 (omega arith)) (text 96) ∷ says Air (job 1 (omega arith)) (text 97) ∷ says Air (job 2 (omega arith)) none ∷ says Air (job 2 (omega arith)) (signed 98) ∷ asks Ground (end-request false none) ∷
+    says Ground (job 2 (omega arith)) (text 81) ∷ gets Ground ∷ gets Air ∷ says Air (job 3 (omega arith)) (text 99) ∷ [])
+
+-- the air accepts the end behind its messages
+abbrev closing : List (Turn Asked)
+closing = talking ++ (asks Air (end-response false 0 none) ∷ gets Ground ∷ gets Ground ∷ gets Ground ∷ [])
+
+-- the ground starts the next one; the jobs go on: the air's job 3 and the ground's job 1 stay taken
+abbrev again : List (Turn Asked)
+again =
+    closing
+    ++ (asks Ground (start-request false 0 none) ∷ gets Air ∷ asks Air (start-response false 0 none) ∷ gets Ground ∷ says Air (job 3 (omega arith)) (text 70) ∷ says Air (job 4 (omega arith)) (text 71) ∷ gets Ground ∷
+    says Ground (job 1 (omega arith)) (text 72) ∷ says Ground (job 2 (omega arith)) (text 73) ∷ [])
+
+-- ---- DSC: the ground may not ask for the end, but sends behind a rejected one; all of it is handed out, and the second request for the end is accepted
+
+abbrev dsc : List (Turn Asked)
+dsc =
+    asks Air (start-request true 0 none) ∷ gets Ground ∷ asks Ground (start-response true 0 none) ∷ gets Air ∷ asks Ground (end-request true none) ∷ asks Air (end-request true none) ∷ gets Ground ∷
+    says Ground (job 5 (omega arith)) (text 80) ∷ asks Ground (end-response true 1 none) ∷ says Ground (job 6 (omega arith)) (text 81) ∷ []
+
+abbrev dscClosed : List (Turn Asked)
+dscClosed = dsc ++ (gets Air ∷ gets Air ∷ gets Air ∷ asks Air (end-request true none) ∷ gets Ground ∷ asks Ground (end-response true 0 none) ∷ gets Air ∷ [])
+
+abbrev rows : List Row
+rows =
+    row opening (view (seen (entered Dialogue false) [] [] (bodyGiven (text 80) ∷ []) []) (seen (entered Dialogue false) [] (bodyGiven (text 80) ∷ []) [] (1 ∷ [])) false) ∷
+    row talking (view (seen (entered End false) (wire DDataRequest (108 ∷ 8 ∷ 168 ∷ 12 ∷ 29 ∷ 136 ∷ 69 ∷ 40 ∷ []) ∷ wire DDataRequest (100 ∷ 41 ∷ 141 ∷ 0 ∷ []) ∷ []) (bodyGiven (text 96) ∷ bodyGiven (signed 98) ∷ bodyGiven (text 99) ∷ []) (bodyGiven (text 80) ∷ []) (1 ∷ 2 ∷ 3 ∷ [])) (seen (entered End false) [] (bodyGiven (text 80) ∷ []) (bodyGiven (text 96) ∷ []) (1 ∷ [])) false) ∷
+    row closing (view (seen closed [] (bodyGiven (text 96) ∷ bodyGiven (signed 98) ∷ bodyGiven (text 99) ∷ []) (bodyGiven (text 80) ∷ []) (1 ∷ 2 ∷ 3 ∷ [])) (seen closed [] (bodyGiven (text 80) ∷ []) (bodyGiven (text 96) ∷ bodyGiven (signed 98) ∷ bodyGiven (text 99) ∷ []) (1 ∷ [])) false) ∷
+    row again (view (seen (entered Dialogue false) [] (bodyGiven (text 71) ∷ []) [] (1 ∷ 2 ∷ 3 ∷ 4 ∷ [])) (seen (entered Dialogue false) (wire DDataRequest (50 ∷ 20 ∷ 146 ∷ 128 ∷ 0 ∷ []) ∷ []) (bodyGiven (text 73) ∷ []) (bodyGiven (text 71) ∷ []) (1 ∷ 2 ∷ [])) false) ∷
+    row dsc (view (seen (entered End true) [] [] [] []) (seen (entered Dialogue true) (wire DDataRequest (50 ∷ 20 ∷ 160 ∷ 128 ∷ 0 ∷ []) ∷ wire (DEndResponse 1) (48 ∷ 0 ∷ []) ∷ wire DDataRequest (50 ∷ 20 ∷ 162 ∷ 128 ∷ 0 ∷ []) ∷ []) (bodyGiven (text 80) ∷ bodyGiven (text 81) ∷ []) [] (5 ∷ 6 ∷ [])) false) ∷
+    row dscClosed (view (seen closed [] [] (bodyGiven (text 80) ∷ bodyGiven (text 81) ∷ []) []) (seen closed [] (bodyGiven (text 80) ∷ bodyGiven (text 81) ∷ []) [] (5 ∷ 6 ∷ [])) false) ∷
+    -- t-start expires with the start undelivered; a start is turned away; a system error; the carrier fails; a user abort keeps the oldest message
+    row (asks Air (start-request false 0 none) ∷ turn Air (timer-expires 0) ∷ []) (view (seen closed (wire (DAbortRequest 1) (32 ∷ []) ∷ []) [] [] []) (seen closed [] [] [] []) true) ∷
+    row (asks Air (start-request true 0 none) ∷ turn Air (turn-away 0) ∷ []) (view (seen closed [] [] [] []) (seen closed [] [] [] []) false) ∷
+    row (opening ++ (turn Ground (error-reported 0) ∷ gets Air ∷ [])) (view (seen closed [] [] (bodyGiven (text 80) ∷ []) []) (seen closed [] (bodyGiven (text 80) ∷ []) [] (1 ∷ [])) true) ∷
+    row (opening ++ (turn Ground fail ∷ [])) (view (seen closed [] [] (bodyGiven (text 80) ∷ []) []) (seen closed [] (bodyGiven (text 80) ∷ []) [] (1 ∷ [])) true) ∷
+    row (opening ++ (says Air (job 1 (omega arith)) (text 96) ∷ says Air (job 2 (omega arith)) (text 97) ∷ turn Air (user-call (user-abort 3) 1) ∷ gets Ground ∷ []))
+    (view (seen closed (wire (DAbortRequest 0) (3 ∷ []) ∷ []) (bodyGiven (text 96) ∷ bodyGiven (text 97) ∷ []) (bodyGiven (text 80) ∷ []) (1 ∷ 2 ∷ [])) (seen (entered Dialogue false) [] (bodyGiven (text 80) ∷ []) (bodyGiven (text 96) ∷ []) (1 ∷ [])) true) ∷ []
+
+pub all-as-said : seenIn rows ≡ saidIn rows
+unfolding bitsN bitsOf accOf bitsTo bytesOf withBit setBit putBits readBits wholeBits indexBits lengthBits bitField extensionBit digitsIn wholeNumber extensibleIndex lengthAt lengthWithin runAt stringAt stringBits optionalBits optionalFits contentBits contentFits modeBits modeFits pduBits pduFits padded partIn contentIn pduIn optionalAt partAt partsAt dataAt modeValue modeAt kindMode leadingAt tailAt endedAt restAt apduAt itemsShaped partShaped dataShaped apduShaped writeOut answer sent startRequest startResponse messageRequest endRequest endResponse userAbort callOf unsent called readable qosFits indicationShapely confirmationShapely userShapely serviceShapely shapely tell closes aborts excepts timerExpires systemError noInstruction pduFault handed read received startFits offered dStartIndication confirmed dStartConfirmation dDataIndication dEndIndication dEndConfirmation abortExpected dAbortIndication dPAbortIndication reached enter permitted messageRefusal refusalOf acts step firstTakes secondTakes finished concluded withRecord entering userStep userCall readsAs readsAgain abortOf orAbort readPdu meaning dataOf arrives dataStep bareStep serviceStep serviceCall invokedNumber toldNumber packed headBytes storedBytes headFits withHighest loadAt storeAt partOf givenData freshFor freshCall run
+all-as-said = refl

@@ -1,0 +1,154 @@
+-- The exported calls at the two ends of the carrier. A record is its bytes, as the host keeps them; an entry of a line is a primitive's numbers and
+-- the bytes of its user data; a user call is an exported call with its arguments. What a call sends and hands out is taken out of its answer.
+use Prim.Native.Nat.{ℕ, suc, _^_, _≤_, _<_}
+use mathlib.Core.Bool.{Bool, cond}
+use mathlib.Core.List.{List, []}
+use lib.ListN.{length}
+use Rattle.apdu.specs.Sizes.{bufferLeast}
+use Rattle.apdu.specs.Pdus.{lent, contentIn}
+use Rattle.apdu.specs.Encoding.{contentBits}
+use Rattle.machine.specs.Codes.{noSecurity, transient, dsProvider}
+use Rattle.machine.specs.declared.event.UserPrimitive.the-variants.{StartServiceRequest, StartServiceResponse, EndServiceRequest, EndServiceResponse}
+use Rattle.machine.specs.declared.event.Event.{Event}
+use Rattle.machine.specs.declared.event.Event.the-variants.{User, TimerExpires, UnrecoverableSystemError}
+use Rattle.machine.specs.declared.outcome.Invoked.{Invoked}
+use Rattle.machine.specs.declared.outcome.Invoked.the-variants.{Silent, DStartRequest, DStartResponse, DDataRequest, DEndRequest, DEndResponse, DAbortRequest}
+use Rattle.step.specs.Stored.{loadAt}
+use Rattle.step.specs.Call.{Called, serviceCall}
+use Rattle.step.specs.declared.arrived.Arrived.{Arrived}
+use Rattle.step.specs.declared.arrived.Arrived.the-variants.{DStartIndication, DStartConfirmation, DDataIndication, DEndIndication, DEndConfirmation, DAbortIndication, DPAbortIndication}
+use Rattle.step.specs.declared.stored.Loaded.{Loaded}
+use Rattle.step.specs.declared.stored.Loaded.the-variants.{Is, NoRecord}
+use Rattle.card.specs.Face.{givenData, dataCall, plainCall, messageRequested, abortRequested}
+use Rattle.pair.specs.Names.{Side, Control, closed}
+use Rattle.pair.specs.Carrier.{Body, Sent, nothing, puts, message, Outcome, refused, acts, Machine}
+use Rattle.pair.specs.StepMachine.{Wire, sortOf, callerOf, dsUser}
+use Rattle.card_pair.specs.Answered.{isTaken, entryOf, handedOf}
+
+-- ---- what the host gives
+
+-- the two output buffers, lent at full size, with any bytes in them
+pub record Buffers : Type 0 where
+  pub first : List ℕ
+  pub second : List ℕ
+  pub first-full : bufferLeast ≤ length first
+  pub second-full : bufferLeast ≤ length second
+
+-- message data: the identifier's octets; a message and its count of bits, or the count that says none; a check and its count of bits
+pub record Given : Type 0 where
+  pub ids : List ℕ
+  pub msgs : List ℕ
+  pub bits : ℕ
+  pub checks : List ℕ
+  pub check : ℕ
+
+-- a number of eight bytes
+pub record Job : Type 0 where
+  pub number : ℕ
+  pub low : number < 2 ^ 64
+
+-- the calls, any numbers and any ranges; true: the DSC- one. A number or a byte that C has no place for is taken too, but for a job's, which the
+-- record keeps in eight bytes
+pub data Asked : Type 0 where
+  start-request : Bool → ℕ → Given → Asked
+  start-response : Bool → ℕ → Given → Asked
+  message-request : Job → Given → Asked
+  end-request : Bool → Given → Asked
+  end-response : Bool → ℕ → Given → Asked
+  user-abort : ℕ → Asked
+
+-- what a host keeps for an end: the record's bytes, and how many calls were taken with it. The count only says which buffers are lent
+pub record Kept : Type 0 where
+  pub bytes : List ℕ
+  pub calls : ℕ
+
+abbrev pub newly : List ℕ → Kept
+newly b = record { bytes = b; calls = 0 }
+
+-- ---- calls, with a record's bytes and two buffers; every start asks for the security value p
+
+abbrev pub answered : ℕ → Buffers → List ℕ → Asked → Called
+answered p w r (start-request m k g) = dataCall r (w .first) (w .second) (StartServiceRequest m k p) (g .ids) (g .msgs) (g .bits) (g .checks) (g .check)
+answered p w r (start-response m x g) = dataCall r (w .first) (w .second) (StartServiceResponse m x) (g .ids) (g .msgs) (g .bits) (g .checks) (g .check)
+answered p w r (message-request j g) = dataCall r (w .first) (w .second) (messageRequested (g .bits) (j .number)) (g .ids) (g .msgs) (g .bits) (g .checks) (g .check)
+answered p w r (end-request m g) = dataCall r (w .first) (w .second) (EndServiceRequest m) (g .ids) (g .msgs) (g .bits) (g .checks) (g .check)
+answered p w r (end-response m x g) = dataCall r (w .first) (w .second) (EndServiceResponse m x) (g .ids) (g .msgs) (g .bits) (g .checks) (g .check)
+answered p w r (user-abort x) = plainCall r (w .first) (w .second) (User (abortRequested x))
+
+-- the encoding of the message data that the host gave
+abbrev pub bodyGiven : Given → Body
+bodyGiven g = contentBits (contentIn (lent (g .ids)) (lent (g .msgs)) (lent (g .checks)) (givenData (length (g .ids)) (g .bits) (g .check)))
+
+-- nothing, or the primitive that the call invoked
+abbrev pub putOn : Wire → Invoked → Sent Wire
+putOn e Silent = nothing
+putOn e (DStartRequest q s) = puts e
+putOn e (DStartResponse x s) = puts e
+putOn e DDataRequest = puts e
+putOn e DEndRequest = puts e
+putOn e (DEndResponse x) = puts e
+putOn e (DAbortRequest o) = puts e
+
+abbrev pub sentOf : Called → Sent Wire
+sentOf c = putOn (entryOf c) (entryOf c .primitive)
+
+-- a message request that is not refused took its message and its job
+abbrev pub sentFor : Asked → Called → Sent Wire
+sentFor (start-request m k g) c = sentOf c
+sentFor (start-response m x g) c = sentOf c
+sentFor (message-request j g) c = message (entryOf c) (bodyGiven g) (j .number)
+sentFor (end-request m g) c = sentOf c
+sentFor (end-response m x g) c = sentOf c
+sentFor (user-abort x) c = sentOf c
+
+-- what a call leaves of an end whose calls so far were n. A refused one leaves everything (crate step, proofs/Refusing)
+abbrev pub left : ℕ → Called → Sent Wire → Outcome Kept Wire
+left n c s = cond (isTaken (c .number)) (acts (record { bytes = c .kept; calls = suc n }) (handedOf c) s) refused
+
+-- a call that takes no message
+abbrev pub simply : ℕ → Called → Outcome Kept Wire
+simply n c = left n c (sentOf c)
+
+-- ---- primitives
+
+-- what a primitive is at the other end, whose side is sd (nothing silent is on a line)
+abbrev pub arrivedAs : Side → Invoked → Arrived
+arrivedAs sd Silent = DPAbortIndication
+arrivedAs sd (DStartRequest q s) = DStartIndication (callerOf sd) s q
+arrivedAs sd (DStartResponse x s) = DStartConfirmation x dsUser s
+arrivedAs sd DDataRequest = DDataIndication
+arrivedAs sd DEndRequest = DEndIndication
+arrivedAs sd (DEndResponse x) = DEndConfirmation x
+arrivedAs sd (DAbortRequest o) = DAbortIndication o
+
+-- ---- the machine; p: the security value of both ends; host: the buffers that a side lends to its next call after so many
+
+abbrev pub controlIn : Loaded → Control
+controlIn (Is sd r) = r .control
+controlIn NoRecord = closed
+
+module _ (p : ℕ) (host : Side → ℕ → Buffers) where
+  -- an exported call of a dialogue-service primitive, an expiry or a system error
+  abbrev pub arriving : Side → Kept → Arrived → ℕ → List ℕ → Outcome Kept Wire
+  arriving sd r a given bytes = simply (r .calls) (serviceCall (r .bytes) (host sd (r .calls) .first) (host sd (r .calls) .second) a given bytes)
+
+  abbrev pub reported : Side → Kept → Event → Outcome Kept Wire
+  reported sd r e = simply (r .calls) (plainCall (r .bytes) (host sd (r .calls) .first) (host sd (r .calls) .second) e)
+
+  abbrev pub asking : Side → Kept → Asked → Outcome Kept Wire
+  asking sd r a = left (r .calls) (answered p (host sd (r .calls)) (r .bytes) a) (sentFor a (answered p (host sd (r .calls)) (r .bytes) a))
+
+  abbrev pub cardMachine : Machine
+  cardMachine = record {
+    R = Kept;
+    E = Wire;
+    A = Asked;
+    ctl = λ (r : Kept). controlIn (loadAt (r .bytes));
+    sort = λ (w : Wire). sortOf (w .primitive);
+    call = asking;
+    receive = λ (sd : Side) (r : Kept) (w : Wire). arriving sd r (arrivedAs sd (w .primitive)) 1 (w .bytes);
+    expiry = λ (sd : Side) (r : Kept). reported sd r TimerExpires;
+    error = λ (sd : Side) (r : Kept). reported sd r UnrecoverableSystemError;
+    away = λ (sd : Side) (r : Kept). arriving sd r (DStartConfirmation transient dsProvider noSecurity) 0 [];
+    pAbort = λ (sd : Side) (r : Kept). arriving sd r DPAbortIndication 0 [];
+  }

@@ -1,0 +1,294 @@
+// An element measured: whether it is one of its type, and how many bits it takes. It is measured before it is written.
+ghost use mathlib.Core.Path.{_≡_};
+ghost use mathlib.Core.Bool.{_&&_, cond};
+ghost use Prim.Native.Nat.{_≤_, _-_};
+ghost use lib.ListN.{length};
+ghost use Rattle.fields.specs.Encodings.{wholeFits};
+ghost use Rattle.fields.specs.Fields.{widthOf};
+ghost use Rattle.elements.specs.Arguments.{levelBits, levelTypeBits, sizedBits, sizedFits};
+ghost use Rattle.elements.specs.Measuring.{allMost, codeOk, levelOk, textOk, timeOk, typeOk, usesOf};
+ghost use Rattle.elements.specs.OneElement.{argumentBits, argumentFits, elementBits, elementFits};
+use crate::arguments::highest;
+use crate::arguments::lowest;
+use crate::kinds::Direction;
+use crate::kinds::Kind;
+use crate::kinds::kind_of;
+use crate::reading::last_of;
+use crate::values::Element;
+use crate::values::Level;
+use crate::values::LevelType;
+use crate::values::Size;
+use crate::values::Time;
+use crate::writing::wide;
+
+fn both(a: bool, b: bool) -> bool
+    ensures { λ r. ⌜ r ≡ a && b ⌝ }
+{
+    if a {
+        return b;
+    }
+    false
+}
+
+fn fits(lo: u64, hi: u64, v: u64) -> bool
+    ensures { λ r. ⌜ r ≡ wholeFits lo hi v ⌝ }
+{
+    both(lo <= v, v <= hi)
+}
+
+// Numbers of which none is above hi: the digits of a code, characters, what is unused.
+fn all_most(hi: u64, items: &[u8]) -> bool
+    ensures { λ r. ⌜ r ≡ allMost hi (now (items .entry)) ⌝ }
+{
+    let mut i: usize = 0;
+    while i < items.len() {
+        if hi < wide(items[i]) {
+            return false;
+        }
+        i += 1;
+    }
+    true
+}
+
+// A part that is used is of its type, and one that is not is zero.
+fn type_ok(used: bool, x: LevelType) -> bool
+    ensures { λ r. ⌜ r ≡ typeOk used x ⌝ }
+{
+    let unit = x.unit as u64;
+    if used {
+        return both(
+            fits(0, LevelType::LAST_UNIT, unit),
+            fits(lowest(unit), highest(unit), x.number as u64),
+        );
+    }
+    both(x.unit == 0, x.number == 0)
+}
+
+fn level_ok(used: bool, x: Level) -> bool
+    ensures { λ r. ⌜ r ≡ levelOk used x ⌝ }
+{
+    let first = x.first;
+    let second = x.second;
+    if used {
+        return both(type_ok(true, first), type_ok(x.block, second));
+    }
+    both(
+        both(!x.block, type_ok(false, first)),
+        type_ok(false, second),
+    )
+}
+
+fn time_ok(used: bool, x: Time) -> bool
+    ensures { λ r. ⌜ r ≡ timeOk used x ⌝ }
+{
+    if used {
+        return both(
+            fits(0, Time::LAST_HOUR, x.hours as u64),
+            fits(0, Time::LAST_MINUTE, x.minutes as u64),
+        );
+    }
+    both(x.hours == 0, x.minutes == 0)
+}
+
+fn code_ok(used: bool, x: [u8; 4]) -> bool
+    ensures { λ r. ⌜ r ≡ codeOk used x ⌝ }
+{
+    if used {
+        return all_most(Element::LAST_DIGIT, &x);
+    }
+    all_most(0, &x)
+}
+
+fn sized_fits(least: u64, most: u64, text: &[u8]) -> bool
+    ensures { λ r. ⌜ r ≡ sizedFits least most (now (text .entry)) ⌝ }
+{
+    both(
+        fits(least, most, text.len() as u64),
+        all_most(Element::LAST_CHARACTER, text),
+    )
+}
+
+fn text_ok(kind: Kind, text: &[u8]) -> bool
+    ensures { λ r. ⌜ r ≡ textOk kind (now (text .entry)) ⌝ }
+{
+    match kind {
+        Kind::NotCarried => false,
+        Kind::None => text.len() == 0,
+        Kind::Level => text.len() == 0,
+        Kind::TwoLevels => text.len() == 0,
+        Kind::Time => text.len() == 0,
+        Kind::Code => text.len() == 0,
+        Kind::FreeText => sized_fits(Element::FREE_TEXT_LEAST, Element::FREE_TEXT_MOST, text),
+        Kind::Facility => {
+            if text.len() == 0 {
+                return true;
+            }
+            sized_fits(Element::DESIGNATION_LEAST, Element::DESIGNATION_MOST, text)
+        }
+        Kind::FacilityDesignation => {
+            sized_fits(Element::DESIGNATION_LEAST, Element::DESIGNATION_MOST, text)
+        }
+        Kind::AtisCode => both(text.len() == 1, all_most(Element::LAST_CHARACTER, text)),
+    }
+}
+
+// What a kind uses besides characters: how many levels, a time, a code.
+struct Uses {
+    levels: u8,
+    time: bool,
+    code: bool,
+}
+
+impl Uses {
+    const NOTHING: Uses = Uses {
+        levels: 0,
+        time: false,
+        code: false,
+    };
+
+    const LEVEL: Uses = Uses {
+        levels: 1,
+        time: false,
+        code: false,
+    };
+
+    const TWO_LEVELS: Uses = Uses {
+        levels: 2,
+        time: false,
+        code: false,
+    };
+
+    const TIME: Uses = Uses {
+        levels: 0,
+        time: true,
+        code: false,
+    };
+
+    const CODE: Uses = Uses {
+        levels: 0,
+        time: false,
+        code: true,
+    };
+}
+
+fn used_by(kind: Kind) -> Uses
+    ensures { λ r. ⌜ r ≡ usesOf kind ⌝ }
+{
+    match kind {
+        Kind::NotCarried => Uses::NOTHING,
+        Kind::None => Uses::NOTHING,
+        Kind::Level => Uses::LEVEL,
+        Kind::TwoLevels => Uses::TWO_LEVELS,
+        Kind::Time => Uses::TIME,
+        Kind::Code => Uses::CODE,
+        Kind::FreeText => Uses::NOTHING,
+        Kind::Facility => Uses::NOTHING,
+        Kind::FacilityDesignation => Uses::NOTHING,
+        Kind::AtisCode => Uses::NOTHING,
+    }
+}
+
+// What the kind uses is of its type, and what it does not use is zero.
+fn argument_fits(kind: Kind, e: Element, text: &[u8]) -> bool
+    ensures { λ r. ⌜ r ≡ argumentFits kind e (now (text .entry)) ⌝ }
+{
+    let level = e.level;
+    let other = e.other;
+    let time = e.time;
+    let code = e.code;
+    let used = used_by(kind);
+    let levels = both(
+        level_ok(1 <= used.levels, level),
+        level_ok(2 <= used.levels, other),
+    );
+    both(
+        both(
+            both(levels, time_ok(used.time, time)),
+            code_ok(used.code, code),
+        ),
+        text_ok(kind, text),
+    )
+}
+
+// How many bits a whole number from lo to hi takes.
+fn whole_bits(lo: u64, hi: u64) -> usize
+    ensures { λ r. ⌜ r ≡ widthOf (hi - lo) ⌝ }
+{
+    if lo <= hi {
+        return 64 - u64::leading_zeros(hi - lo) as usize;
+    }
+    0
+}
+
+fn level_type_bits(x: LevelType) -> usize
+    ensures { λ r. ⌜ r ≡ length (levelTypeBits x) ⌝ }
+{
+    let unit = x.unit as u64;
+    whole_bits(0, LevelType::LAST_UNIT) + whole_bits(lowest(unit), highest(unit))
+}
+
+fn level_bits(x: Level) -> usize
+    ensures { λ r. ⌜ r ≡ length (levelBits x) ⌝ }
+{
+    let first = x.first;
+    let one = whole_bits(0, 1) + level_type_bits(first);
+    if x.block {
+        let second = x.second;
+        return one + level_type_bits(second);
+    }
+    one
+}
+
+fn sized_bits(least: u64, most: u64, text: &[u8]) -> usize
+    requires { ⌜ length (now text) ≤ 256 ⌝ }
+    ensures { λ r. ⌜ r ≡ length (sizedBits least most (now (text .entry))) ⌝ }
+{
+    whole_bits(least, most) + Element::CHARACTER_BITS * text.len()
+}
+
+// The bits of an argument whose characters are few enough.
+fn argument_bits(kind: Kind, e: Element, text: &[u8]) -> usize
+    requires { ⌜ length (now text) ≤ 256 ⌝ }
+    ensures { λ r. ⌜ r ≡ length (argumentBits kind e (now (text .entry))) ⌝ }
+{
+    let level = e.level;
+    let other = e.other;
+    match kind {
+        Kind::NotCarried => 0,
+        Kind::None => 0,
+        Kind::Level => level_bits(level),
+        Kind::TwoLevels => level_bits(level) + level_bits(other),
+        Kind::Time => whole_bits(0, Time::LAST_HOUR) + whole_bits(0, Time::LAST_MINUTE),
+        Kind::Code => 4 * whole_bits(0, Element::LAST_DIGIT),
+        Kind::FreeText => sized_bits(Element::FREE_TEXT_LEAST, Element::FREE_TEXT_MOST, text),
+        Kind::Facility => {
+            let choice = whole_bits(0, 1);
+            if text.len() == 0 {
+                return choice;
+            }
+            choice + sized_bits(Element::DESIGNATION_LEAST, Element::DESIGNATION_MOST, text)
+        }
+        Kind::FacilityDesignation => {
+            sized_bits(Element::DESIGNATION_LEAST, Element::DESIGNATION_MOST, text)
+        }
+        Kind::AtisCode => Element::CHARACTER_BITS * text.len(),
+    }
+}
+
+// How many bits an element takes whose characters are `text`; an element that is none of its type has the wrong shape.
+pub fn element_bits(direction: Direction, e: Element, text: &[u8]) -> Size
+    ensures { λ r. ⌜ r ≡ cond (elementFits direction e (now (text .entry))) (Size.Bits (length (elementBits direction e (now (text .entry))))) Size.Shape ⌝ }
+{
+    let number = e.number;
+    let kind = kind_of(direction, number);
+    let last = last_of(direction);
+    let own = both(
+        fits(0, last, number as u64),
+        e.characters == text.len() as u64,
+    );
+    if both(own, argument_fits(kind, e, text)) {
+        let index = 1 + whole_bits(0, last);
+        return Size::Bits(index + argument_bits(kind, e, text));
+    }
+    Size::Shape
+}

@@ -1,0 +1,185 @@
+-- The characters of a message, as the code copies them into a text.
+-- Assumes nothing.
+use mathlib.Core.Path.{_≡_, refl, sym, ap, _∙_}
+use mathlib.Core.Bool.{true, _&&_}
+use mathlib.Core.List.{List, [], _∷_, _++_}
+use Prim.Native.Nat.{ℕ, suc, _+_, _*_, _-_, _≤_, _<_}
+use native.Mathlib.Omega.{arith}
+use native.Mathlib.Nat.{add-zero}
+use lib.ListN.{length, take, drop, set, length-append}
+use lib.Seq.{sets, sets-eq, length-sets}
+use lib.Dec.{eqb}
+use borrow.Author.Tests.{eqb-true, le-leb}
+use Rattle.words.proofs.Laws.{both-right}
+use Rattle.bits.specs.Bits.{numOf}
+use Rattle.bits.specs.Read.{readBits}
+use Rattle.bits.specs.declared.Read.{Read}
+use Rattle.bits.specs.declared.Read.the-variants.{Number, Short}
+use Rattle.bits.proofs.Numbers.{Bits}
+use Rattle.bits.proofs.Bytes.{holds-within}
+use Rattle.bits.proofs.Reading.{number-is, number-lt}
+use Rattle.fields.specs.Encodings.{wholeFits}
+use Rattle.fields.specs.declared.Refusal.{Refusal}
+use Rattle.elements.specs.declared.kinds.Direction.{Direction}
+use Rattle.elements.specs.declared.kinds.Kind.{Kind}
+use Rattle.elements.specs.declared.kinds.Kind.the-variants as kind
+use Rattle.elements.specs.declared.values.Element.{Element}
+use Rattle.elements.specs.declared.values.ElementRead.{ElementRead}
+use Rattle.elements.specs.declared.values.Step.the-variants as step
+use Rattle.elements.specs.Elements.{kindOf}
+use Rattle.elements.specs.Arguments.{charactersIn, levelFits, timeFits, codeFits, facilityBits}
+use Rattle.elements.specs.OneElement.{isElement, elementAt, elementFits, elementBits, lastOf, textOf, argumentFits, argumentBits, levelUnused, levelsUnused, timeUnused, codeUnused, plain, noText}
+use Rattle.elements.proofs.Steps.{never}
+use Rattle.elements.proofs.ReadBack.{parts}
+use Rattle.elements.proofs.Texts.{length-characters, length-charactersBits}
+use Rattle.elements.proofs.Measured.{length-element, length-sized, length-facility}
+use Rattle.elements.proofs.Placed.{element-stands}
+use Rattle.inner.specs.Places.{ontoText, textAt}
+
+-- ---- one character
+
+module _ (l : List ℕ) (at : ℕ) (r : Read) (e : r ≡ readBits l at 7) where
+  pub character-is : (v next : ℕ) → r ≡ Number v next → v ≡ numOf (take 7 (drop at l))
+  character-is v next q = number-is l at 7 v next (sym e ∙ q) .value
+
+  pub character-small : Bits l → (v next : ℕ) → r ≡ Number v next → v < 128
+  character-small b v next q = number-lt l at 7 v next b (sym e ∙ q)
+
+  pub character-there : at + 7 ≤ length l → r ≡ Short → {A : Type 0} → A
+  unfolding readBits
+  character-there h q = let z : Number (numOf (take 7 (drop at l))) (at + 7) ≡ Short = rw (le-leb (at + 7) (length l) h) at (sym e ∙ q) in never (cc)
+
+-- ---- characters one after another
+
+characters-suc : (l : List ℕ) (at n : ℕ) → charactersIn l at (suc n) ≡ numOf (take 7 (drop at l)) ∷ charactersIn l (at + 7) n
+unfolding charactersIn
+characters-suc l at n = refl
+
+characters-none : (l : List ℕ) (at : ℕ) → charactersIn l at 0 ≡ []
+unfolding charactersIn
+characters-none l at = refl
+
+pub characters-start : (z l : List ℕ) (from at n : ℕ) → sets z (from + 0) (charactersIn l (at + 7 * 0) (n - 0)) ≡ sets z from (charactersIn l at n)
+characters-start z l from at n =
+    let a : from + 0 ≡ from = omega arith in
+    let b : at + 7 * 0 ≡ at = omega arith in
+    let c : n - 0 ≡ n = omega arith in
+    rw (a, b, c)
+
+module _ (z l o : List ℕ) (from at n i : ℕ) (inv : sets z (from + i) (charactersIn l (at + 7 * i) (n - i)) ≡ o) where
+  pub characters-turn : i < n → (v : ℕ) → v ≡ numOf (take 7 (drop (at + 7 * i) l)) → sets (set z (from + i) v) (from + (i + 1)) (charactersIn l (at + 7 * (i + 1)) (n - (i + 1))) ≡ o
+  characters-turn h v e =
+      let a : n - i ≡ suc (n - (i + 1)) = omega arith in
+      let b : from + (i + 1) ≡ suc (from + i) = omega arith in
+      let c : at + 7 * (i + 1) ≡ at + 7 * i + 7 = omega arith in
+      rw (b, c, e) (rw (a, characters-suc) at inv)
+
+  pub characters-done : n ≤ i → z ≡ o
+  characters-done h = let a : n - i ≡ 0 = omega arith in rw (a, characters-none) at inv
+
+-- ---- an element's characters are the last of its bits
+
+argument-holds : (k : Kind) (e : Element) (t : List ℕ) → argumentFits k e t ≡ true → 7 * length t ≤ length (argumentBits k e t)
+unfolding argumentFits argumentBits levelsUnused
+argument-holds kind.NotCarried e t p = never (cc)
+argument-holds kind.None e t p = omega (arith, eqb-true (length t) 0 (both-right (plain e) (noText t) p))
+argument-holds kind.Level e t p = omega (arith, eqb-true (length t) 0 (parts (levelFits (e .level)) (levelUnused (e .other)) (timeUnused (e .time)) (codeUnused (e .code)) (noText t) p .fifth))
+argument-holds kind.TwoLevels e t p = omega (arith, eqb-true (length t) 0 (parts (levelFits (e .level)) (levelFits (e .other)) (timeUnused (e .time)) (codeUnused (e .code)) (noText t) p .fifth))
+argument-holds kind.Time e t p = omega (arith, eqb-true (length t) 0 (parts (levelUnused (e .level)) (levelUnused (e .other)) (timeFits (e .time)) (codeUnused (e .code)) (noText t) p .fifth))
+argument-holds kind.Code e t p = omega (arith, eqb-true (length t) 0 (parts (levelUnused (e .level)) (levelUnused (e .other)) (timeUnused (e .time)) (codeFits (e .code)) (noText t) p .fifth))
+argument-holds kind.FreeText e t p = omega (arith, length-sized 1 256 t)
+argument-holds kind.Facility e t p = facility t
+  where
+    facility : (t : List ℕ) → 7 * length t ≤ length (facilityBits t)
+    facility [] = omega arith
+    facility (c ∷ cs) = omega (arith, length-facility (c ∷ cs) (λ (z : suc (length cs) ≡ 0). omega arith), length-sized 4 8 (c ∷ cs))
+argument-holds kind.FacilityDesignation e t p = omega (arith, length-sized 4 8 t)
+argument-holds kind.AtisCode e t p = omega (arith, length-charactersBits t)
+
+its-argument : (d : Direction) (e : Element) (t : List ℕ) → elementFits d e t ≡ true → argumentFits (kindOf d (e .number)) e t ≡ true
+unfolding elementFits
+its-argument d e t p = both-right (wholeFits 0 (lastOf d) (e .number) && eqb (e .characters) (length t)) (argumentFits (kindOf d (e .number)) e t) p
+
+pub record Inside (l : List ℕ) (at next n : ℕ) : Type 0 where
+  pub after : at + 7 * n ≤ next
+  pub within : next ≤ length l
+
+pub element-inside : (d : Direction) (l : List ℕ) (at next : ℕ) (r : ElementRead) → Bits l → r ≡ elementAt d l at → r .step ≡ step.Next next → Inside l at next (r .element .characters)
+element-inside d l at next r b h q =
+    let e : Element = r .element in
+    let t : List ℕ = textOf l e next in
+    let m : elementAt d l at ≡ isElement e next = sym h ∙ rw (← q) in
+    let s = element-stands d l at next e b m in
+    let n : length t ≡ e .characters = length-characters l (next - 7 * e .characters) (e .characters) in
+    let a = length-element d e t in
+    let c = argument-holds (kindOf d (e .number)) e t (its-argument d e t (s .fits)) in
+    let p = s .place in
+    let w = holds-within l at (elementBits d e t) (omega arith) (s .holds) in
+    record { after = omega arith; within = omega arith }
+
+-- ---- the characters of elements: those of the first i are copied, up to place k of the text
+
+sets-append : (xs ys z : List ℕ) (k : ℕ) → sets z k (xs ++ ys) ≡ sets (sets z k xs) (k + length xs) ys
+sets-append [] ys z k = rw (add-zero k)
+sets-append (x ∷ xs) ys z k = let a : k + suc (length xs) ≡ suc k + length xs = omega arith in rw a (sets-append xs ys (set z k x) (suc k))
+
+pub text-suc : (d : Direction) (l : List ℕ) (at n : ℕ) → textAt d l at (suc n) ≡ ontoText (elementAt d l at .step) (λ (next : ℕ). textOf l (elementAt d l at .element) next ++ textAt d l next n)
+unfolding textAt
+text-suc d l at n = refl
+
+pub text-none : (d : Direction) (l : List ℕ) (at : ℕ) → textAt d l at 0 ≡ []
+unfolding textAt
+text-none d l at = refl
+
+pub record Copied (d : Direction) (l : List ℕ) (at n : ℕ) (z₀ : List ℕ) (i p k : ℕ) (z : List ℕ) : Type 0 where
+  pub text : sets z k (textAt d l p (n - i)) ≡ sets z₀ 0 (textAt d l at n)
+  pub count : k + length (textAt d l p (n - i)) ≡ length (textAt d l at n)
+  pub place : 7 * k ≤ p
+  pub size : length z ≡ length z₀
+
+pub copied-start : (d : Direction) (l : List ℕ) (at n : ℕ) (z : List ℕ) → Copied d l at n z 0 at 0 z
+copied-start d l at n z =
+    let e : n - 0 ≡ n = omega arith in
+    record { text = rw e; count = rw e (omega arith); place = omega arith; size = refl }
+
+module _ (d : Direction) (l : List ℕ) (at n : ℕ) (z₀ : List ℕ) (i p k : ℕ) (z : List ℕ) (inv : Copied d l at n z₀ i p k z) where
+  module _ (h : i < n) (r : ElementRead) (e : r ≡ elementAt d l p) where
+    one-more : n - i ≡ suc (n - (i + 1))
+    one-more = omega arith
+
+    pub copied-turn : (next : ℕ) → r .step ≡ step.Next next → Bits l → (y : List ℕ) → y ≡ sets z k (charactersIn l (next - 7 * r .element .characters) (r .element .characters)) → Copied d l at n z₀ (i + 1) next (k + r .element .characters) y
+    copied-turn next q b y w =
+        let c : ℕ = r .element .characters in
+        let t : List ℕ = textOf l (r .element) next in
+        let u : textAt d l p (n - i) ≡ t ++ textAt d l next (n - (i + 1)) = rw (one-more, text-suc, ← e, q) in
+        let m : length t ≡ c = length-characters l (next - 7 * c) c in
+        let v = length-append t (textAt d l next (n - (i + 1))) in
+        let o = element-inside d l p next r b e q in
+        let x : sets (sets z k t) (k + length t) (textAt d l next (n - (i + 1))) ≡ sets z₀ 0 (textAt d l at n) = sym (sets-append t (textAt d l next (n - (i + 1))) z k) ∙ rw u at (inv .text) in
+        record {
+          text = rw w (rw m at x);
+          count = let f = inv .count in let g = ap length u in omega arith;
+          place = let f = inv .place in let g = o .after in omega arith;
+          size = ap length w ∙ length-sets z k t ∙ inv .size;
+        }
+
+    module _ (f : Refusal) (q : r .step ≡ step.Refused f) where
+      none-more : textAt d l p (n - i) ≡ []
+      none-more = rw (one-more, text-suc, ← e, q)
+
+      pub copied-cut : (k ≡ length (textAt d l at n)) × (z ≡ sets z₀ 0 (textAt d l at n))
+      copied-cut = (let a = inv .count in let b = ap length none-more in omega arith, rw none-more at (inv .text))
+
+  pub copied-done : n ≤ i → (k ≡ length (textAt d l at n)) × (z ≡ sets z₀ 0 (textAt d l at n))
+  copied-done h =
+      let e : n - i ≡ 0 = omega arith in
+      let a : textAt d l p (n - i) ≡ [] = rw (e, text-none) in
+      (let f = inv .count in let g = ap length a in omega arith, rw a at (inv .text))
+
+  -- the characters of the next element are there, and the text has room for them
+  pub copied-room : (next c : ℕ) → Inside l p next c → length l ≤ 7 * length z₀ → (next - 7 * c + 7 * c ≤ length l) × (k + c ≤ length z)
+  copied-room next c o h = (let a = o .after in let b = o .within in omega arith, let a = o .after in let b = o .within in let f = inv .place in let g = inv .size in omega arith)
+
+-- what was copied lies before the bytes that stay
+pub copied-front : (z t : List ℕ) → length t ≤ length z → sets z 0 t ≡ t ++ drop (length t) z
+copied-front z t h = sets-eq t z 0 (omega arith) ∙ (let e : 0 + length t ≡ length t = omega arith in rw e)

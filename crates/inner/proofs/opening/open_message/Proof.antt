@@ -1,0 +1,76 @@
+-- `inner::opening::open_message` meets its contract.
+-- Assumes nothing.
+use native.Mathlib.Omega.{arith}
+use borrow.Author.Needs.{needs}
+use Rattle.inner.proofs.Openings.{open-room, open-long, open-past, open-refused, open-space, open-read}
+use Rattle.inner.proofs.opening.open_message.Statement.{statement}
+use Rattle.inner.proofs.opening.open_message.Tie as tie
+
+not-opened-requires : tie.Need-not-opened-requires
+not-opened-requires c κs = search needs
+
+returns : tie.Need-returns
+returns c = open-room _ _ _ _ _ (c .before .if1 .taken) (c .not-opened .ensures)
+
+not-opened-requires-2 : tie.Need-not-opened-requires-2
+not-opened-requires-2 c κs = search needs
+
+returns-2 : tie.Need-returns-2
+returns-2 c = open-long _ _ _ _ _ (c .before .before .if1 .left) (c .before .if2 .taken) (c .not-opened2 .ensures)
+
+within-requires : tie.Need-within-requires
+within-requires c κs = search needs
+
+read-exactly-requires : tie.Need-read-exactly-requires
+read-exactly-requires c κs = search needs
+
+enum-told : tie.Need-enum-told
+enum-told c = search needs
+
+enum-told-2 : tie.Need-enum-told-2
+enum-told-2 c = search needs
+
+step-refusal-requires : tie.Need-step-refusal-requires
+step-refusal-requires c κs = search needs
+
+not-opened-requires-3 : tie.Need-not-opened-requires-3
+not-opened-requires-3 c κs = search needs
+
+returns-3 : tie.Need-returns-3
+returns-3 c = open-refused _ _ _ _ _ (c .before .before .before .before .before .before .before .before .if1 .left) (c .before .before .before .before .before .before .before .if2 .left) _ (c .before .before .before .before .before .before .within .ensures) (c .before .before .before .before .before .if3 .taken) _ (c .before .before .before .before .read-exactly .ensures) _ _ (c .before .before .enum-told2 .given .1) (c .before .step-refusal .ensures) (c .not-opened3 .ensures)
+
+message-text-requires : tie.Need-message-text-requires
+message-text-requires c κs = (open-space (c .before .before .before .before .before .before .before .before .before .before .before .args .direction) _ _ (c .before .before .before .before .before .before .before .before .before .before .before .args .text .now) (c .before .before .before .before .before .before .before .before .if1 .left) (c .before .before .before .before .before .before .before .if2 .left) _ (c .before .before .before .before .before .before .within .ensures) (c .before .before .before .before .before .if3 .taken), omega arith)
+
+same-length : tie.Need-same-length
+same-length c = search needs
+
+returns-4 : tie.Need-returns-4
+returns-4 c = open-read _ _ _ _ (c .before .before .before .before .before .before .before .before .before .before .before .if1 .left) (c .before .before .before .before .before .before .before .before .before .before .if2 .left) _ (c .before .before .before .before .before .before .before .before .before .within .ensures) (c .before .before .before .before .before .before .before .before .if3 .taken) _ (c .before .before .before .before .before .before .before .read-exactly .ensures) _ _ _ (c .before .before .before .before .before .enum-told .given .1) (c .before .before .message-text .ensures)
+
+not-opened-requires-4 : tie.Need-not-opened-requires-4
+not-opened-requires-4 c κs = search needs
+
+returns-5 : tie.Need-returns-5
+returns-5 c = open-past _ _ _ _ _ (c .before .before .before .before .if1 .left) (c .before .before .before .if2 .left) _ (c .before .before .within .ensures) (c .before .if3 .left) (c .not-opened4 .ensures)
+
+pub open-message-spec : {M : Type 1} → statement M
+open-message-spec =
+    tie.close
+    (tie.spec
+    not-opened-requires
+    returns
+    not-opened-requires-2
+    returns-2
+    within-requires
+    read-exactly-requires
+    enum-told
+    enum-told-2
+    step-refusal-requires
+    not-opened-requires-3
+    returns-3
+    message-text-requires
+    same-length
+    returns-4
+    not-opened-requires-4
+    returns-5)

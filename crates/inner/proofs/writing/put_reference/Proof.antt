@@ -1,0 +1,25 @@
+-- `inner::writing::put_reference` meets its contract.
+-- Assumes nothing.
+use borrow.Author.Needs.{needs}
+use Rattle.elements.specs.Writing.{whole}
+use Rattle.inner.specs.Writing.{referencePieces}
+use Rattle.inner.proofs.Runs.{piece-there, piece-absent}
+use Rattle.inner.proofs.writing.put_reference.Statement.{statement}
+use Rattle.inner.proofs.writing.put_reference.Tie as tie
+
+put-whole-requires : tie.Need-put-whole-requires
+put-whole-requires c κs = search needs
+
+same-length : tie.Need-same-length
+same-length c = search needs
+
+returns : tie.Need-returns
+unfolding referencePieces
+returns c = piece-there _ _ _ _ _ (whole 0 63 (c .before .before .before .before .before .before .args .n)) _ (c .before .before .before .before .if1 .taken) (c .before .before .put-whole .ensures)
+
+returns-2 : tie.Need-returns-2
+unfolding referencePieces
+returns-2 c = piece-absent _ _ _ _ (whole 0 63 (c .before .before .args .n)) (c .if1 .left)
+
+pub put-reference-spec : {M : Type 1} → statement M
+put-reference-spec = tie.close (tie.spec put-whole-requires same-length returns returns-2)

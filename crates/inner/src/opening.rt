@@ -1,0 +1,130 @@
+// A message read from lent bytes, and its characters copied into a lent text. It is read first, so that a refusal leaves every byte of the text.
+ghost use mathlib.Core.Path.{_≡_};
+ghost use Prim.Native.Nat.{_+_, _*_, _^_, _≤_, _<_};
+ghost use lib.ListN.{drop, length, take};
+ghost use lib.Seq.{sets};
+ghost use Rattle.bits.specs.Bits.{bitsTo, numOf};
+ghost use Rattle.elements.specs.Arguments.{charactersIn};
+ghost use Rattle.inner.specs.Messages.{elementsText, notOpened, openMessage, opening};
+ghost use Rattle.inner.specs.Places.{textAt};
+use crate::header::read_header;
+use crate::message::read_exactly;
+use crate::values::HeaderRead;
+use crate::values::Message;
+use crate::values::MessageOpened;
+use crate::values::Opened;
+use bits::Read;
+use elements::kinds::Direction;
+use elements::reading::read_element;
+use elements::values::Element;
+use elements::values::Step;
+use elements::values::step_refusal;
+
+// One character, in seven bits that are there.
+fn character(s: &[u8], end: usize, at: usize) -> u8
+    requires { ⌜ at + 7 ≤ length (bitsTo (now s) end) ⌝ }
+    ensures { λ r. ⌜ r ≡ numOf (take 7 (drop at (bitsTo (now (s .entry)) end))) ⌝ }
+{
+    let Read::Number(v, _) = bits::read_bits(s, end, at, Element::CHARACTER_BITS) else {
+        return 0;
+    };
+    v as u8
+}
+
+// The n characters at a place, into the text from a place on.
+fn copy_characters(s: &[u8], end: usize, at: usize, n: usize, text: &mut [u8], from: usize)
+    requires { ⌜ (at + 7 * n ≤ length (bitsTo (now s) end)) × (from + n ≤ length (now text)) ⌝ }
+    ensures { λ r. ⌜ now (text .exit) ≡ sets (now (text .entry)) from (charactersIn (bitsTo (now (s .entry)) end) at n) ⌝ }
+{
+    let mut i: usize = 0;
+    while i < n {
+        let p = at + Element::CHARACTER_BITS * i;
+        text[from + i] = character(s, end, p);
+        i += 1;
+    }
+}
+
+// The characters of n elements, from the text's first byte on; how many there are.
+fn copy_text(
+    direction: Direction,
+    s: &[u8],
+    end: usize,
+    at: usize,
+    n: usize,
+    text: &mut [u8],
+) -> usize
+    requires { ⌜ length (bitsTo (now s) end) ≤ 7 * length (now text) ⌝ }
+    ensures { λ r. ⌜ (r ≡ length (textAt direction (bitsTo (now (s .entry)) end) at n)) × (now (text .exit) ≡ sets (now (text .entry)) 0 (textAt direction (bitsTo (now (s .entry)) end) at n)) ⌝ }
+{
+    let mut i: usize = 0;
+    let mut p = at;
+    let mut t: usize = 0;
+    while i < n {
+        let one = read_element(direction, s, end, p);
+        let step = one.step;
+        let Step::Next(next) = step else {
+            return t;
+        };
+        let e = one.element;
+        let c = e.characters as usize;
+        copy_characters(s, end, next - Element::CHARACTER_BITS * c, c, text, t);
+        t += c;
+        p = next;
+        i += 1;
+    }
+    t
+}
+
+// The characters of the n elements of a message at a place.
+fn message_text(
+    direction: Direction,
+    s: &[u8],
+    end: usize,
+    at: usize,
+    n: usize,
+    text: &mut [u8],
+) -> usize
+    requires { ⌜ (length (bitsTo (now s) end) ≤ 7 * length (now text)) × (at < 2 ^ 32) ⌝ }
+    ensures { λ r. ⌜ (r ≡ length (elementsText direction (bitsTo (now (s .entry)) end) at n)) × (now (text .exit) ≡ sets (now (text .entry)) 0 (elementsText direction (bitsTo (now (s .entry)) end) at n)) ⌝ }
+{
+    let first = read_header(s, end, at);
+    let HeaderRead::Got(_, next) = first else {
+        return 0;
+    };
+    copy_text(direction, s, end, next + Message::BETWEEN, n, text)
+}
+
+fn not_opened(answer: Opened) -> MessageOpened
+    ensures { λ r. ⌜ r ≡ notOpened answer ⌝ }
+{
+    MessageOpened {
+        answer,
+        message: Message::EMPTY,
+    }
+}
+
+// The message that the first `count` bits of lent bytes are, its characters in the first bytes of `text`.
+pub fn open_message(direction: Direction, s: &[u8], count: usize, text: &mut [u8]) -> MessageOpened
+    ensures { λ r. ⌜ opening r (now (text .exit)) ≡ openMessage direction (now (s .entry)) count (now (text .entry)) ⌝ }
+{
+    if text.len() < Message::ROOM {
+        return not_opened(Opened::Room);
+    }
+    if Message::BITS < count {
+        return not_opened(Opened::Shape);
+    }
+    if bits::within(s.len(), count, 0, count) {
+        let all = read_exactly(direction, s, count);
+        let step = all.step;
+        let Step::Next(_) = step else {
+            return not_opened(Opened::Refused(step_refusal(step)));
+        };
+        let message = all.message;
+        let n = message_text(direction, s, count, 0, message.count, text);
+        return MessageOpened {
+            answer: Opened::Characters(n),
+            message,
+        };
+    }
+    not_opened(Opened::Shape)
+}

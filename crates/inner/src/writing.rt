@@ -1,0 +1,231 @@
+// A message written, piece after piece, once it is measured, so that none of these is refused.
+ghost use mathlib.Core.Path.{_≡_};
+ghost use mathlib.Core.List.{[], _∷_, _++_};
+ghost use Prim.Native.Nat.{_≤_};
+ghost use Rattle.inner.specs.Messages.{done, padding as paddingOf, writeMessage};
+ghost use lib.ListN.{take};
+ghost use Rattle.bits.specs.Put.{left};
+ghost use Rattle.elements.specs.Writing.{putPieces, whole};
+ghost use Rattle.inner.specs.Writing.{acknowledgementPieces, dateTimePieces, headerPieces, messagePieces, referencePieces, rowPieces};
+use crate::measuring::flag;
+use crate::measuring::message_bits;
+use crate::measuring::part_end;
+use crate::values::DateTime;
+use crate::values::Header;
+use crate::values::Message;
+use crate::values::Written;
+use bits::Put;
+use elements::kinds::Direction;
+use elements::values::Size;
+use elements::values::Time;
+use elements::writing::put_element;
+
+// Two whole numbers, one after the other.
+fn put_two(
+    buf: &mut [u8],
+    end: usize,
+    at: usize,
+    lo: u64,
+    hi: u64,
+    v: u64,
+    low: u64,
+    high: u64,
+    w: u64,
+) -> Put
+    ensures { λ r. ⌜ left r (now (buf .exit)) ≡ putPieces (now (buf .entry)) end at (whole lo hi v ∷ whole low high w ∷ []) ⌝ }
+{
+    let first = fields::put_whole(buf, end, at, lo, hi, v);
+    let Put::Next(next) = first else {
+        return Put::Full;
+    };
+    fields::put_whole(buf, end, next, low, high, w)
+}
+
+fn put_date_time(buf: &mut [u8], end: usize, at: usize, x: DateTime) -> Put
+    ensures { λ r. ⌜ left r (now (buf .exit)) ≡ putPieces (now (buf .entry)) end at (dateTimePieces x) ⌝ }
+{
+    let t = x.time;
+    let first = put_two(
+        buf,
+        end,
+        at,
+        DateTime::FIRST_YEAR,
+        DateTime::LAST_YEAR,
+        x.year as u64,
+        1,
+        DateTime::LAST_MONTH,
+        x.month as u64,
+    );
+    let Put::Next(p) = first else {
+        return Put::Full;
+    };
+    let second = put_two(
+        buf,
+        end,
+        p,
+        1,
+        DateTime::LAST_DAY,
+        x.day as u64,
+        0,
+        Time::LAST_HOUR,
+        t.hours as u64,
+    );
+    let Put::Next(q) = second else {
+        return Put::Full;
+    };
+    put_two(
+        buf,
+        end,
+        q,
+        0,
+        Time::LAST_MINUTE,
+        t.minutes as u64,
+        0,
+        DateTime::LAST_SECOND,
+        x.seconds as u64,
+    )
+}
+
+fn put_reference(buf: &mut [u8], end: usize, at: usize, present: bool, n: u64) -> Put
+    ensures { λ r. ⌜ left r (now (buf .exit)) ≡ putPieces (now (buf .entry)) end at (referencePieces present n) ⌝ }
+{
+    if present {
+        return fields::put_whole(buf, end, at, 0, Header::LAST_NUMBER, n);
+    }
+    Put::Next(at)
+}
+
+// An acknowledgement that is not required is the default, and left out.
+fn put_acknowledgement(buf: &mut [u8], end: usize, at: usize, present: bool) -> Put
+    ensures { λ r. ⌜ left r (now (buf .exit)) ≡ putPieces (now (buf .entry)) end at (acknowledgementPieces present) ⌝ }
+{
+    if present {
+        return fields::put_whole(buf, end, at, 0, 1, 0);
+    }
+    Put::Next(at)
+}
+
+// What follows the reference.
+fn put_dated(buf: &mut [u8], end: usize, at: usize, x: DateTime, acknowledged: bool) -> Put
+    ensures { λ r. ⌜ left r (now (buf .exit)) ≡ putPieces (now (buf .entry)) end at (dateTimePieces x ++ acknowledgementPieces acknowledged) ⌝ }
+{
+    let first = put_date_time(buf, end, at, x);
+    let Put::Next(next) = first else {
+        return Put::Full;
+    };
+    put_acknowledgement(buf, end, next, acknowledged)
+}
+
+pub fn put_header(buf: &mut [u8], end: usize, at: usize, h: Header) -> Put
+    ensures { λ r. ⌜ left r (now (buf .exit)) ≡ putPieces (now (buf .entry)) end at (headerPieces h) ⌝ }
+{
+    let present = 2 * flag(h.referenced) + flag(h.acknowledged);
+    let first = put_two(
+        buf,
+        end,
+        at,
+        0,
+        3,
+        present,
+        0,
+        Header::LAST_NUMBER,
+        h.identification as u64,
+    );
+    let Put::Next(p) = first else {
+        return Put::Full;
+    };
+    let second = put_reference(buf, end, p, h.referenced, h.reference as u64);
+    let Put::Next(q) = second else {
+        return Put::Full;
+    };
+    let dated = h.dated;
+    put_dated(buf, end, q, dated, h.acknowledged)
+}
+
+// The elements of a message; the characters of each follow those of the one before.
+fn put_row(
+    buf: &mut [u8],
+    end: usize,
+    at: usize,
+    direction: Direction,
+    m: Message,
+    text: &[u8],
+) -> Put
+    requires { ⌜ m .count ≤ 5 ⌝ }
+    ensures { λ r. ⌜ left r (now (buf .exit)) ≡ putPieces (now (buf .entry)) end at (rowPieces direction (take (m .count) (m .places)) (now (text .entry))) ⌝ }
+{
+    let n = m.count;
+    let mut i: usize = 0;
+    let mut from: usize = 0;
+    let mut p = at;
+    while i < n {
+        let e = m.places[i];
+        let to = part_end(text.len(), from, e.characters);
+        let one = put_element(buf, end, p, direction, e, &text[from..to]);
+        let Put::Next(next) = one else {
+            return Put::Full;
+        };
+        p = next;
+        from = to;
+        i += 1;
+    }
+    Put::Next(p)
+}
+
+// The header, that there is no constrained data, the count of elements, and the elements.
+fn put_message(
+    buf: &mut [u8],
+    end: usize,
+    at: usize,
+    direction: Direction,
+    m: Message,
+    text: &[u8],
+) -> Put
+    requires { ⌜ m .count ≤ 5 ⌝ }
+    ensures { λ r. ⌜ left r (now (buf .exit)) ≡ putPieces (now (buf .entry)) end at (messagePieces direction m (now (text .entry))) ⌝ }
+{
+    let h = m.header;
+    let first = put_header(buf, end, at, h);
+    let Put::Next(p) = first else {
+        return Put::Full;
+    };
+    let second = put_two(
+        buf,
+        end,
+        p,
+        0,
+        1,
+        0,
+        1,
+        Message::PLACES as u64,
+        m.count as u64,
+    );
+    let Put::Next(q) = second else {
+        return Put::Full;
+    };
+    put_row(buf, end, q, direction, m, text)
+}
+
+// How many zero bits follow n bits up to a whole byte.
+fn padding(n: usize) -> usize
+    ensures { λ r. ⌜ r ≡ paddingOf n ⌝ }
+{
+    (8 - n % 8) % 8
+}
+
+// The message, whose characters are `text`, from the buffer's first bit on. Everything that can be refused is decided first.
+pub fn write_message(direction: Direction, m: Message, text: &[u8], out: &mut [u8]) -> Written
+    ensures { λ r. ⌜ done r (now (out .exit)) ≡ writeMessage direction m (now (text .entry)) (now (out .entry)) ⌝ }
+{
+    if out.len() < Message::ROOM {
+        return Written::Room;
+    }
+    let size = message_bits(direction, m, text);
+    let Size::Bits(n) = size else {
+        return Written::Shape;
+    };
+    let end = 8 * Message::ROOM;
+    put_message(out, end, 0, direction, m, text);
+    bits::put_bits(out, end, n, padding(n), 0);
+    Written::Bits(n)
+}

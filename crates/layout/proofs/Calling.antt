@@ -1,0 +1,178 @@
+-- The ways out of the calls on bytes, as the code has them; and what reading leaves is loaded as the message that was read.
+-- Assumes nothing.
+use mathlib.Core.Path.{_≡_, refl, ap, _∙_}
+use mathlib.Core.Bool.{Bool, true, false, cond, _&&_}
+use mathlib.Core.List.{List}
+use Prim.Native.Nat.{ℕ, _+_, _*_, _≤_, _<_}
+use native.Mathlib.Omega.{arith}
+use borrow.Author.Tests.{eq-eqb, ne-eqb, lt-ltb, le-ltb, leb-true}
+use lib.Dec.{leb, ltb}
+use lib.ListN.{length}
+use Rattle.words.proofs.Laws.{both-left, both-right}
+use Rattle.bits.specs.Bits.{bitsTo}
+use Rattle.bits.specs.Put.{putBits}
+use Rattle.bits.proofs.Numbers.{Bits}
+use Rattle.bits.proofs.Bytes.{bits-to, length-to}
+use Rattle.fields.specs.Refusals.{numberOf}
+use Rattle.fields.specs.declared.Refusal.{Refusal}
+use Rattle.fields.specs.declared.Refusal.the-variants as refusal
+use Rattle.elements.specs.declared.kinds.Direction.{Direction}
+use Rattle.elements.specs.declared.values.Step.{Step}
+use Rattle.elements.specs.declared.values.Step.the-variants as step
+use Rattle.inner.specs.Messages.{noMessage, endedAt, messageAt, exactly, isMessage, messageText, messageFits, messageBits, padded, opening, Opening, notOpened, openedAs, openMessage, done, Done, writeMessage, messageShaped}
+use Rattle.inner.specs.declared.values.Message.{Message}
+use Rattle.inner.specs.declared.values.MessageRead.{MessageRead}
+use Rattle.inner.specs.declared.values.MessageOpened.{MessageOpened}
+use Rattle.inner.specs.declared.values.Opened.{Opened}
+use Rattle.inner.specs.declared.values.Opened.the-variants as opened
+use Rattle.inner.specs.declared.values.Written.{Written}
+use Rattle.inner.specs.declared.values.Written.the-variants as written
+use Rattle.inner.proofs.MessageLaws.{message-stands}
+use Rattle.inner.proofs.Openings.{elements-few}
+use Rattle.layout.specs.Layout.{messageBytes, bytesFit, kept, storeAt, loadAt, Kept, isMessage as loadedAs}
+use Rattle.layout.specs.Calls.{told, toldAs, toldOf, wayOf, readBy, readCall, sent, sentAs, sentOf, writeBy, writeCall}
+use Rattle.layout.specs.declared.calls.Way.{Way}
+use Rattle.layout.specs.declared.calls.Way.the-variants as way
+use Rattle.layout.specs.declared.stored.Laid.{Laid}
+use Rattle.layout.proofs.RoundTrip.{loaded-bytes}
+use Rattle.layout.proofs.Typing.{Storable, storable}
+
+never : {A : Type 0} → _≡_ {A = ℕ} 0 1 → A
+never z = absurd (omega arith)
+
+-- ---- a message that was read is stored
+
+-- with nothing behind it, it is the message at the first bit
+ended : (l : List ℕ) (x m : Message) (next : ℕ) (s : Step) → endedAt l x s ≡ isMessage m next → record { step = s; message = x } ≡ isMessage m next
+ended l x m next (step.Next p) e = tail (leb (p + 1) (length l)) e
+  where
+    tail : (t : Bool) → cond t (noMessage refusal.Tail) (isMessage x p) ≡ isMessage m next → isMessage x p ≡ isMessage m next
+    tail true q = let g : step.Refused refusal.Tail ≡ step.Next next = ap (λ (z : MessageRead). z .step) q in never (cc)
+    tail false q = q
+ended l x m next (step.Refused r) e = let g : step.Refused r ≡ step.Next next = ap (λ (z : MessageRead). z .step) e in never (cc)
+
+read-storable : (d : Direction) (l : List ℕ) (m : Message) (next : ℕ) → Bits l → exactly d l ≡ isMessage m next → Storable m
+unfolding exactly
+read-storable d l m next b e =
+    storable d m _ (message-stands d l 0 next m b (ended l (messageAt d l 0 .message) m next (messageAt d l 0 .step) e) .fits)
+
+stored-is : (b z : List ℕ) (m : Message) (t : Bool) → length b ≡ 132 → bytesFit m ≡ true → kept t z ≡ storeAt b m → z ≡ messageBytes m
+unfolding storeAt
+stored-is b z m t h f e =
+    let q : kept t z ≡ kept true (messageBytes m) = e ∙ rw (eq-eqb (length b) 132 h, f) in
+    ap (λ (k : Kept). k .bytes) q
+
+module _ (d : Direction) (s : List ℕ) (n : ℕ) (t u : List ℕ) (r : MessageOpened) (e : opening r u ≡ openMessage d s n t) (c : ℕ) (h : r .answer ≡ opened.Characters c) where
+  record Read : Type 0 where
+    next : ℕ
+    exact : exactly d (bitsTo s n) ≡ isMessage (r .message) next
+    count : c ≡ length (messageText d (bitsTo s n) 0 (r .message))
+    few : n ≤ 2048
+
+  read-is : Read
+  unfolding openMessage
+  read-is = go (ltb (length t) 320) (leb n 2048 && leb n (8 * length s)) refl (exactly d (bitsTo s n) .message) (exactly d (bitsTo s n) .step) refl e
+    where
+      go : (a b : Bool) → (leb n 2048 && leb n (8 * length s)) ≡ b → (y : Message) (z : Step) → exactly d (bitsTo s n) ≡ record { step = z; message = y } → opening r u ≡ cond a (opening (notOpened opened.Room) t) (cond b (openedAs t y (messageText d (bitsTo s n) 0 y) z) (opening (notOpened opened.Shape) t)) → Read
+      go true b p y z x q = let g : r .answer ≡ opened.Room = ap (λ (o : Opening). o .answer .answer) q in never (cc)
+      go false false p y z x q = let g : r .answer ≡ opened.Shape = ap (λ (o : Opening). o .answer .answer) q in never (cc)
+      go false true p y (step.Next k) x q =
+          let i : r .message ≡ y = ap (λ (o : Opening). o .answer .message) q in
+          let j : r .answer ≡ opened.Characters (length (messageText d (bitsTo s n) 0 y)) = ap (λ (o : Opening). o .answer .answer) q in
+          let f : c ≡ length (messageText d (bitsTo s n) 0 y) = cc in
+          record {
+            next = k;
+            exact = rw i x;
+            count = rw i f;
+            few = leb-true n 2048 (both-left (leb n 2048) (leb n (8 * length s)) p);
+          }
+      go false true p y (step.Refused f) x q = let g : r .answer ≡ opened.Refused f = ap (λ (o : Opening). o .answer .answer) q in never (cc)
+
+  pub opened-storable : Storable (r .message)
+  opened-storable = read-storable d (bitsTo s n) (r .message) (read-is .next) (bits-to s n) (read-is .exact)
+
+  -- a character takes seven bits
+  pub opened-few : c ≤ 292
+  unfolding messageText
+  opened-few =
+      let k = read-is .count in
+      let f = read-is .few in
+      let g = elements-few d (bitsTo s n) 0 (r .message .count) (bits-to s n) in
+      let l = length-to s n in
+      omega arith
+
+-- ---- the ways out of `read_call`
+
+module _ (d : ℕ) (s : List ℕ) (n : ℕ) (m t : List ℕ) where
+  pub read-room : length t < 320 → told 1 m t ≡ readCall d s n m t
+  unfolding readCall
+  read-room h = rw (lt-ltb (length t) 320 h)
+
+  pub read-size : 320 ≤ length t → (length m ≡ 132 → ⊥) → told 2 m t ≡ readCall d s n m t
+  unfolding readCall
+  read-size h g = rw (le-ltb (length t) 320 h, ne-eqb (length m) 132 g)
+
+  module _ (h : 320 ≤ length t) (sized : length m ≡ 132) (w : Way) (p : w ≡ wayOf d) where
+    pub read-no-way : w ≡ way.NoWay → told 2 m t ≡ readCall d s n m t
+    unfolding readCall readBy
+    read-no-way q = rw (le-ltb (length t) 320 h, eq-eqb (length m) 132 sized, ← p, q)
+
+    module _ (x : Direction) (q : w ≡ way.Is x) (r : MessageOpened) (u : List ℕ) (e : opening r u ≡ openMessage x s n t) where
+      read-as : (a : Opened) → r .answer ≡ a → toldAs m (r .message) u a ≡ readCall d s n m t
+      unfolding readCall readBy toldOf
+      read-as a f = rw (le-ltb (length t) 320 h, eq-eqb (length m) 132 sized, ← p, q, ← e, f)
+
+      pub read-small : r .answer ≡ opened.Room → told 1 m u ≡ readCall d s n m t
+      unfolding toldAs
+      read-small f = read-as opened.Room f
+
+      pub read-shape : r .answer ≡ opened.Shape → told 2 m u ≡ readCall d s n m t
+      unfolding toldAs
+      read-shape f = read-as opened.Shape f
+
+      pub read-refused : (f : Refusal) (c : ℕ) → r .answer ≡ opened.Refused f → c ≡ numberOf f → told c m u ≡ readCall d s n m t
+      unfolding toldAs
+      read-refused f c g k = rw k (read-as (opened.Refused f) g)
+
+      pub read-taken : (c : ℕ) (b : Bool) (z : List ℕ) → r .answer ≡ opened.Characters c → kept b z ≡ storeAt m (r .message) → told (256 * c) z u ≡ readCall d s n m t
+      unfolding toldAs
+      read-taken c b z f g = rw (stored-is m z (r .message) b sized (opened-storable x s n t u r e c f .fit) g) (read-as (opened.Characters c) f)
+
+      -- what reading leaves is loaded as the message that was read
+      pub read-loaded : (c : ℕ) → r .answer ≡ opened.Characters c → loadAt (readCall d s n m t .message) ≡ loadedAs (r .message)
+      unfolding toldAs
+      read-loaded c f = let y = opened-storable x s n t u r e c f in rw (← read-as (opened.Characters c) f) (loaded-bytes (r .message) (y .typed) (y .fit))
+
+-- ---- the ways out of `write_call`
+
+pub written-few : (d : Direction) (m : Message) (t o z : List ℕ) (a : Written) (n : ℕ) → done a z ≡ writeMessage d m t o → a ≡ written.Bits n → n ≤ 2048
+unfolding writeMessage
+written-few d m t o z a n e h = go (ltb (length o) 320) (messageShaped d m t) refl e
+  where
+    go : (x y : Bool) → messageShaped d m t ≡ y → done a z ≡ cond x (done written.Room o) (cond y (done (written.Bits (length (messageBits d m t))) (putBits o 0 (padded (messageBits d m t)))) (done written.Shape o)) → n ≤ 2048
+    go true y p q = let g : a ≡ written.Room = ap (λ (w : Done). w .answer) q in never (cc)
+    go false true p q =
+        let g : a ≡ written.Bits (length (messageBits d m t)) = ap (λ (w : Done). w .answer) q in
+        let f : n ≡ length (messageBits d m t) = cc in
+        let k = leb-true (length (messageBits d m t)) 2048 (both-right (messageFits d m t) (leb (length (messageBits d m t)) 2048) p) in
+        omega arith
+    go false false p q = let g : a ≡ written.Shape = ap (λ (w : Done). w .answer) q in never (cc)
+
+module _ (d : ℕ) (b t o : List ℕ) where
+  pub write-room : length o < 320 → sent 1 o ≡ writeCall d b t o
+  unfolding writeCall
+  write-room h = rw (lt-ltb (length o) 320 h)
+
+  module _ (h : 320 ≤ length o) (l : Laid) (e : l ≡ loadAt b) where
+    pub write-unknown : l .known ≡ false → sent 2 o ≡ writeCall d b t o
+    unfolding writeCall
+    write-unknown k = rw (le-ltb (length o) 320 h, ← e, k)
+
+    module _ (k : l .known ≡ true) (w : Way) (p : w ≡ wayOf d) where
+      pub write-no-way : w ≡ way.NoWay → sent 2 o ≡ writeCall d b t o
+      unfolding writeCall writeBy
+      write-no-way q = rw (le-ltb (length o) 320 h, ← e, k, ← p, q)
+
+      pub write-is : (x : Direction) → w ≡ way.Is x → (a v : Written) (z : List ℕ) → done a z ≡ writeMessage x (l .message) t o → a ≡ v → sentAs v z ≡ writeCall d b t o
+      unfolding writeCall writeBy sentOf
+      write-is x q a v z f g = rw (le-ltb (length o) 320 h, ← e, k, ← p, q, ← f, g)

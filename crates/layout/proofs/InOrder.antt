@@ -1,0 +1,150 @@
+-- What the loops over the five places keep: i of them are done, and those that are left give what is meant.
+-- Assumes nothing.
+use mathlib.Core.Path.{_≡_, refl, sym, _∙_}
+use mathlib.Core.Bool.{Bool, true, false, _&&_}
+use mathlib.Core.List.{List, [], _∷_, _++_, append-assoc, append-nil}
+use Prim.Native.Nat.{ℕ, suc, _+_, _-_, _*_, _≤_, _<_}
+use native.Mathlib.Omega.{arith}
+use native.Mathlib.Numerals.{add-one}
+use borrow.Author.Tests.{lt-ltb, le-ltb}
+use lib.Dec.{ltb}
+use lib.ListN.{length, take, drop, set, getD, length-set}
+use lib.Seq.{sets, drop-cons, drop-drop, drop-length, take-all, take-suc-set}
+use Rattle.elements.specs.declared.values.Element.{Element}
+use Rattle.layout.specs.Layout.{placeBytes, placesBytes, elementOf, elementsOf, placeStands, placesStand, placesFit}
+use Rattle.layout.proofs.Copied.{sets-append}
+
+-- ---- one place and those behind it
+
+pub elements-suc : (n : ℕ) (b : List ℕ) → elementsOf (suc n) b ≡ elementOf (take 24 b) ∷ elementsOf n (drop 24 b)
+unfolding elementsOf
+elements-suc n b = refl
+
+pub elements-zero : (b : List ℕ) → elementsOf 0 b ≡ []
+unfolding elementsOf
+elements-zero b = refl
+
+pub stand-zero : (b : List ℕ) → placesStand 0 b ≡ true
+unfolding placesStand
+stand-zero b = refl
+
+pub stand-suc : (n : ℕ) (b : List ℕ) → placesStand (suc n) b ≡ (placeStands (take 24 b) && placesStand n (drop 24 b))
+unfolding placesStand
+stand-suc n b = refl
+
+pub fit-cons : (e : Element) (es : List Element) → placesFit (e ∷ es) ≡ (ltb (e .characters) 65536 && placesFit es)
+unfolding placesFit
+fit-cons e es = refl
+
+pub bytes-cons : (e : Element) (es : List Element) → placesBytes (e ∷ es) ≡ placeBytes e ++ placesBytes es
+unfolding placesBytes
+bytes-cons e es = refl
+
+pub length-place : (e : Element) → length (placeBytes e) ≡ 24
+unfolding placeBytes
+length-place e = refl
+
+-- the part that the code lends is the place
+part : (b : List ℕ) (i : ℕ) → take (12 + 24 * i + 24 - (12 + 24 * i)) (drop (12 + 24 * i) b) ≡ take 24 (drop (12 + 24 * i) b)
+part b i = let e : 12 + 24 * i + 24 - (12 + 24 * i) ≡ 24 = omega arith in rw e
+
+next : (b : List ℕ) (i : ℕ) → drop 24 (drop (12 + 24 * i) b) ≡ drop (12 + 24 * (i + 1)) b
+next b i = let e : 12 + 24 * i + 24 ≡ 12 + 24 * (i + 1) = omega arith in drop-drop 24 (12 + 24 * i) b ∙ rw e
+
+-- ---- whether the places stand
+
+abbrev pub Standing : List ℕ → ℕ → Type 0
+Standing b i = (i ≤ 5) × (placesStand (5 - i) (drop (12 + 24 * i) b) ≡ placesStand 5 (drop 12 b))
+
+module _ (b : List ℕ) (i : ℕ) (h : i < 5) where
+  standing-suc : placesStand (5 - i) (drop (12 + 24 * i) b) ≡ (placeStands (take 24 (drop (12 + 24 * i) b)) && placesStand (5 - (i + 1)) (drop (12 + 24 * (i + 1)) b))
+  standing-suc =
+      let k : 5 - i ≡ suc (5 - (i + 1)) = omega arith in
+      rw (k, stand-suc, next b i)
+
+  pub standing-more : (t : Bool) → t ≡ placeStands (take (12 + 24 * i + 24 - (12 + 24 * i)) (drop (12 + 24 * i) b)) → t ≡ true → Standing b i → Standing b (i + 1)
+  standing-more t p q inv =
+      let e : placeStands (take 24 (drop (12 + 24 * i) b)) ≡ true = rw (← part b i, ← p, q) in
+      (omega arith, rw (standing-suc, e) at (inv .1))
+
+  pub standing-not : (t : Bool) → t ≡ placeStands (take (12 + 24 * i + 24 - (12 + 24 * i)) (drop (12 + 24 * i) b)) → t ≡ false → Standing b i → false ≡ placesStand 5 (drop 12 b)
+  standing-not t p q inv =
+      let e : placeStands (take 24 (drop (12 + 24 * i) b)) ≡ false = rw (← part b i, ← p, q) in
+      rw (standing-suc, e) at (inv .1)
+
+pub standing-done : (b : List ℕ) (i : ℕ) → 5 ≤ i → Standing b i → true ≡ placesStand 5 (drop 12 b)
+unfolding placesStand
+standing-done b i h inv = let k : 5 - i ≡ 0 = omega arith in rw k at (inv .1)
+
+-- ---- the elements of the places
+
+pub record Loading (b : List ℕ) (m : List Element) (i : ℕ) : Type 0 where
+  pub five : length m ≡ 5
+  pub read : take i m ++ elementsOf (5 - i) (drop (12 + 24 * i) b) ≡ elementsOf 5 (drop 12 b)
+
+pub loading-start : (b : List ℕ) (m : List Element) → length m ≡ 5 → Loading b m 0
+loading-start b m h = record { five = h; read = refl }
+
+pub loading-more : (b : List ℕ) (m : List Element) (i : ℕ) (e : Element) → i < 5 → e ≡ elementOf (take (12 + 24 * i + 24 - (12 + 24 * i)) (drop (12 + 24 * i) b)) → Loading b m i → Loading b (set m i e) (i + 1)
+loading-more b m i e h p inv =
+    let five = inv .five in
+    let k : 5 - i ≡ suc (5 - (i + 1)) = omega arith in
+    let z : take i m ++ (elementOf (take 24 (drop (12 + 24 * i) b)) ∷ elementsOf (5 - (i + 1)) (drop (12 + 24 * (i + 1)) b)) ≡ elementsOf 5 (drop 12 b) = rw (k, elements-suc (5 - (i + 1)) (drop (12 + 24 * i) b), next b i) at (inv .read) in
+    let q : elementOf (take 24 (drop (12 + 24 * i) b)) ≡ e = rw (← part b i) (sym p) in
+    let t : take (i + 1) (set m i e) ≡ take i m ++ (e ∷ []) = rw (add-one i) (take-suc-set m i e (omega arith)) in
+    record {
+      five = length-set m i e ∙ five;
+      read = rw (t, append-assoc) (rw q at z);
+    }
+
+pub loading-done : (b : List ℕ) (m : List Element) (i : ℕ) → 5 ≤ i → Loading b m i → m ≡ elementsOf 5 (drop 12 b)
+unfolding elementsOf
+loading-done b m i h inv =
+    let five = inv .five in
+    let k : 5 - i ≡ 0 = omega arith in
+    let z : take i m ++ [] ≡ elementsOf 5 (drop 12 b) = rw k at (inv .read) in
+    rw (append-nil, take-all i m (omega arith)) at z
+
+-- ---- whether the places' numbers fit
+
+abbrev pub Fitting : List Element → ℕ → Type 0
+Fitting m i = (i ≤ 5) × (placesFit (drop i m) ≡ placesFit m)
+
+module _ (m : List Element) (d : Element) (five : length m ≡ 5) (i : ℕ) (h : i < 5) where
+  fitting-suc : placesFit (drop i m) ≡ (ltb (getD m i d .characters) 65536 && placesFit (drop (i + 1) m))
+  fitting-suc = rw (drop-cons m i d (omega arith), fit-cons, add-one i)
+
+  pub fitting-more : getD m i d .characters < 65536 → Fitting m i → Fitting m (i + 1)
+  fitting-more g inv = (omega arith, rw (fitting-suc, lt-ltb (getD m i d .characters) 65536 g) at (inv .1))
+
+  pub fitting-not : 65536 ≤ getD m i d .characters → Fitting m i → false ≡ placesFit m
+  fitting-not g inv = rw (fitting-suc, le-ltb (getD m i d .characters) 65536 g) at (inv .1)
+
+pub fitting-done : (m : List Element) (i : ℕ) → length m ≡ 5 → 5 ≤ i → Fitting m i → true ≡ placesFit m
+unfolding placesFit
+fitting-done m i five h inv =
+    let e : i ≡ length m = omega (arith, inv .0) in
+    rw (e, drop-length m) at (inv .1)
+
+-- ---- the bytes of the places
+
+pub record Putting (s₀ s : List ℕ) (m : List Element) (i : ℕ) : Type 0 where
+  pub count : i ≤ 5
+  pub same : length s ≡ length s₀
+  pub rest : sets s (12 + 24 * i) (placesBytes (drop i m)) ≡ sets s₀ 12 (placesBytes m)
+
+pub putting-start : (s : List ℕ) (m : List Element) → Putting s s m 0
+putting-start s m = record { count = omega arith; same = refl; rest = refl }
+
+pub putting-more : (s₀ s z a : List ℕ) (m : List Element) (d : Element) (i : ℕ) → length m ≡ 5 → i < 5 → a ≡ placeBytes (getD m i d) → z ≡ sets s (12 + 24 * i) a → length z ≡ length s → Putting s₀ s m i → Putting s₀ z m (i + 1)
+putting-more s₀ s z a m d i five h p q l inv =
+    let k : drop i m ≡ getD m i d ∷ drop (i + 1) m = rw (add-one i) (drop-cons m i d (omega arith)) in
+    let n : 12 + 24 * i + 24 ≡ 12 + 24 * (i + 1) = omega arith in
+    let y : sets (sets s (12 + 24 * i) a) (12 + 24 * (i + 1)) (placesBytes (drop (i + 1) m)) ≡ sets s₀ 12 (placesBytes m) = rw (k, bytes-cons, sets-append, length-place, n, ← p) at (inv .rest) in
+    record { count = omega arith; same = l ∙ inv .same; rest = rw q y }
+
+pub putting-done : (s₀ s : List ℕ) (m : List Element) (i : ℕ) → length m ≡ 5 → 5 ≤ i → Putting s₀ s m i → s ≡ sets s₀ 12 (placesBytes m)
+unfolding placesBytes
+putting-done s₀ s m i five h inv =
+    let e : i ≡ length m = omega (arith, inv .count) in
+    rw (e, drop-length m) at (inv .rest)

@@ -1,0 +1,94 @@
+// The calls on bytes that the card exports.
+ghost use mathlib.Core.Path.{_≡_};
+ghost use Rattle.layout.specs.Calls.{readCall, sent, told, wayOf, writeCall};
+use crate::stored::Laid;
+use crate::stored::load_message;
+use crate::stored::store_message;
+use elements::kinds::Direction;
+use inner::opening::open_message;
+use inner::values::Message;
+use inner::values::Opened;
+use inner::values::Written;
+use inner::writing::write_message;
+use words::Limit;
+
+// The direction that a number names: 1 is the downlink, 2 the uplink.
+pub enum Way {
+    Is(Direction),
+    NoWay,
+}
+
+impl Way {
+    // A count is answered in the bits above a refusal's number.
+    const COUNTED: u64 = 256;
+}
+
+fn way_of(n: u64) -> Way
+    ensures { λ w. ⌜ w ≡ wayOf n ⌝ }
+{
+    if n == 1 {
+        return Way::Is(Direction::Downlink);
+    }
+    if n == 2 {
+        return Way::Is(Direction::Uplink);
+    }
+    Way::NoWay
+}
+
+// The message that the first `count` bits are, into the range `message`, and its characters into the first bytes of `text`.
+pub fn read_call(
+    direction: u64,
+    bits: &[u8],
+    count: u64,
+    message: &mut [u8],
+    text: &mut [u8],
+) -> u64
+    ensures { λ r. ⌜ told r (now (message .exit)) (now (text .exit)) ≡ readCall direction (now (bits .entry)) count (now (message .entry)) (now (text .entry)) ⌝ }
+{
+    if text.len() < Message::ROOM {
+        return Limit::ROOM;
+    }
+    if message.len() != Laid::BYTES {
+        return Limit::SHAPE;
+    }
+    let way = way_of(direction);
+    let Way::Is(d) = way else {
+        return Limit::SHAPE;
+    };
+    let read = open_message(d, bits, count as usize, text);
+    let answer = read.answer;
+    match answer {
+        Opened::Characters(n) => {
+            let m = read.message;
+            store_message(message, m);
+            Way::COUNTED * n as u64
+        }
+        Opened::Room => Limit::ROOM,
+        Opened::Shape => Limit::SHAPE,
+        Opened::Refused(r) => fields::number(r),
+    }
+}
+
+// The message in the range `message`, whose characters are `text`, from the buffer's first bit on.
+pub fn write_call(direction: u64, message: &[u8], text: &[u8], out: &mut [u8]) -> u64
+    ensures { λ r. ⌜ sent r (now (out .exit)) ≡ writeCall direction (now (message .entry)) (now (text .entry)) (now (out .entry)) ⌝ }
+{
+    if out.len() < Message::ROOM {
+        return Limit::ROOM;
+    }
+    let laid = load_message(message);
+    if !laid.known {
+        return Limit::SHAPE;
+    }
+    let way = way_of(direction);
+    let Way::Is(d) = way else {
+        return Limit::SHAPE;
+    };
+    let m = laid.message;
+    let answer = write_message(d, m, text, out);
+    match answer {
+        Written::Bits(n) => Way::COUNTED * n as u64,
+        Written::Room => Limit::ROOM,
+        Written::Shape => Limit::SHAPE,
+    }
+}

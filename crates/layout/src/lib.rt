@@ -1,0 +1,6 @@
+// An inner message in a lent range of one fixed size, as a host keeps it that has numbers and byte ranges only.
+mod bytes;
+pub mod calls;
+mod front;
+mod place;
+pub mod stored;

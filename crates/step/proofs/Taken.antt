@@ -1,0 +1,329 @@
+-- After a step that was taken no writer refuses the APDU and no store the record, and the primitive's parameters have room in the number.
+-- Assumes nothing.
+use mathlib.Core.Path.{_≡_, refl, sym, subst, _∙_}
+use mathlib.Core.Bool.{Bool, true, false, not, cond, _&&_, _||_}
+use Prim.Native.Nat.{ℕ, _^_, _≤_, _<_}
+use native.Mathlib.Omega.{arith}
+use borrow.Author.Tests.{ltb-true, le-leb}
+use lib.Dec.{T, ltb, eqb}
+use Rattle.words.proofs.Laws.{both-left, both-right}
+use Rattle.fields.specs.Encodings.{wholeFits}
+use Rattle.apdu.specs.Sizes.{userLast, providerLast}
+use Rattle.apdu.specs.Encoding.{modeFits}
+use Rattle.machine.specs.Codes.{securityValues, results, userReasons, routingClasses, accepted}
+use Rattle.machine.specs.Control.{isIdle, expects, takes, mayStart}
+use Rattle.machine.specs.Record.{withTimer, withUser, withJob, withRequest, enter}
+use Rattle.machine.specs.Event.{qosFits, userShapely, shapely}
+use Rattle.machine.specs.Outcome.{isNone, refused}
+use Rattle.machine.specs.Exceptions.{tell, closes, aborts, excepts, noInstruction, pduFault, timerExpires, systemError}
+use Rattle.machine.specs.Calls.{answer, sent, qosAsked, startRequest, startResponse, messageRequest, endRequest, endResponse, reasonSent, userAbort, callOf, called}
+use Rattle.machine.specs.Primitives.{isSend, handed, read, received, startFits, peerFits, modeOf, offered, dStartIndication, turnedAway, confirmed, dStartConfirmation, dDataIndication, dEndIndication, dEndConfirmation, abortExpected, abortTold, dAbortIndication, dPAbortIndication, reached}
+use Rattle.machine.specs.Step.{permitted, messageRefusal, refusalOf, acts, step}
+use Rattle.machine.proofs.Ways.{by-test, not-refused}
+use Rattle.machine.specs.declared.control.Side.{Side}
+use Rattle.machine.specs.declared.control.Side.the-variants.{Air, Ground}
+use Rattle.machine.specs.declared.control.Call.{Call}
+use Rattle.machine.specs.declared.control.Call.the-variants.{StartRequest, StartResponse, MessageRequest, EndRequest, EndResponse, UserAbort}
+use Rattle.machine.specs.declared.control.Primitive.{Primitive}
+use Rattle.machine.specs.declared.control.Primitive.the-variants.{DStart, DStartCnf, DData, DEnd, DEndCnf, DPAbort}
+use Rattle.machine.specs.declared.record.Record.{Record}
+use Rattle.machine.specs.declared.event.Apdu.{Apdu}
+use Rattle.machine.specs.declared.event.Apdu.the-variants.{Absent, NotValid, Start, Send, AbortUser, AbortProvider, Forward}
+use Rattle.machine.specs.declared.event.StartIndicationParameters.{StartIndicationParameters}
+use Rattle.machine.specs.declared.event.StartConfirmationParameters.{StartConfirmationParameters}
+use Rattle.machine.specs.declared.event.UserPrimitive.{UserPrimitive}
+use Rattle.machine.specs.declared.event.UserPrimitive.the-variants.{StartServiceRequest, StartServiceResponse, MessageServiceRequest, EndServiceRequest, EndServiceResponse, UserAbortServiceRequest}
+use Rattle.machine.specs.declared.event.ServicePrimitive.{ServicePrimitive}
+use Rattle.machine.specs.declared.event.ServicePrimitive.the-variants.{DStartIndication, DStartConfirmation, DDataIndication, DEndIndication, DEndConfirmation, DAbortIndication, DPAbortIndication}
+use Rattle.machine.specs.declared.event.Event.{Event}
+use Rattle.machine.specs.declared.event.Event.the-variants.{User, Service, TimerExpires, UnrecoverableSystemError}
+use Rattle.machine.specs.declared.outcome.Invoked.{Invoked}
+use Rattle.machine.specs.declared.outcome.Invoked.the-variants.{Silent, DStartRequest, DStartResponse, DDataRequest, DEndRequest, DEndResponse, DAbortRequest}
+use Rattle.machine.specs.declared.outcome.Told.{Told}
+use Rattle.machine.specs.declared.outcome.Told.the-variants.{Untold, StartIndication, StartConfirmation, MessageIndication, EndIndication, EndConfirmation, UserAbortIndication, ProviderAbortIndication}
+use Rattle.machine.specs.declared.outcome.Outcome.{Outcome}
+use Rattle.step.specs.Stored.{flag}
+use Rattle.step.specs.Call.{pduSide}
+
+-- ---- what is shown
+
+-- the codes of a record are of their types
+pub record Coded (r : Record) : Type 0 where
+  pub request : r .request < securityValues
+  pub policy : r .policy < securityValues
+  pub highest : r .highest < 2 ^ 64
+
+-- an APDU that the side's writer takes, with message data that are within the sizes
+abbrev pub writable : Side → Apdu → Bool
+writable sd Absent = false
+writable sd NotValid = false
+writable sd (Start m) = modeFits (pduSide sd) (flag m)
+writable sd Send = true
+writable sd (AbortUser x) = wholeFits 0 userLast x
+writable sd (AbortProvider x) = wholeFits 0 providerLast x
+writable sd Forward = false
+
+-- message data travel in it
+abbrev pub withBody : Apdu → Bool
+withBody Absent = false
+withBody NotValid = false
+withBody (Start m) = true
+withBody Send = true
+withBody (AbortUser x) = false
+withBody (AbortProvider x) = false
+withBody Forward = false
+
+-- what an event brings: is it a user primitive, do message data come with it, is it a message request; the APDU of a primitive
+pub record Brings : Type 0 where
+  pub user : Bool
+  pub body : Bool
+  pub message : Bool
+  pub apdu : Apdu
+
+abbrev pub asks : Bool → Bool → Brings
+asks b m = record { user = true; body = b; message = m; apdu = Absent }
+
+abbrev pub hears : Apdu → Brings
+hears a = record { user = false; body = false; message = false; apdu = a }
+
+abbrev pub apduIn : ServicePrimitive → Apdu
+apduIn (DStartIndication i) = i .apdu
+apduIn (DStartConfirmation c) = c .apdu
+apduIn (DDataIndication a) = a
+apduIn (DEndIndication a) = a
+apduIn (DEndConfirmation x a) = a
+apduIn (DAbortIndication o a) = a
+apduIn DPAbortIndication = Absent
+
+abbrev pub brings : Event → Brings
+brings (User (StartServiceRequest m k s)) = asks true false
+brings (User (StartServiceResponse m x)) = asks true false
+brings (User (MessageServiceRequest h j)) = asks true true
+brings (User (EndServiceRequest m)) = asks true false
+brings (User (EndServiceResponse m x)) = asks true false
+brings (User (UserAbortServiceRequest g x)) = asks false false
+brings (Service p) = hears (apduIn p)
+brings TimerExpires = hears Absent
+brings UnrecoverableSystemError = hears Absent
+
+-- a primitive that is invoked has such an APDU; a user primitive invokes one; where none is invoked there is no APDU
+abbrev pub GoesOut : Bool → Side → Invoked → Apdu → Type 0
+GoesOut u sd Silent a = (u ≡ false) × (a ≡ Absent)
+GoesOut u sd (DStartRequest q s) a = writable sd a ≡ true
+GoesOut u sd (DStartResponse x s) a = writable sd a ≡ true
+GoesOut u sd DDataRequest a = writable sd a ≡ true
+GoesOut u sd DEndRequest a = writable sd a ≡ true
+GoesOut u sd (DEndResponse x) a = writable sd a ≡ true
+GoesOut u sd (DAbortRequest o) a = writable sd a ≡ true
+
+abbrev pub isDData : Invoked → Bool
+isDData Silent = false
+isDData (DStartRequest q s) = false
+isDData (DStartResponse x s) = false
+isDData DDataRequest = true
+isDData DEndRequest = false
+isDData (DEndResponse x) = false
+isDData (DAbortRequest o) = false
+
+-- its parameters have room in four bits each, and the quality of service that is not in the number is the right one
+abbrev pub Roomy : Invoked → Type 0
+Roomy Silent = Unit {0}
+Roomy (DStartRequest q s) = (q ≡ qosAsked (q .routing)) × (q .routing < 16) × (s < 16)
+Roomy (DStartResponse x s) = (x < 16) × (s < 16)
+Roomy DDataRequest = Unit {0}
+Roomy DEndRequest = Unit {0}
+Roomy (DEndResponse x) = x < 16
+Roomy (DAbortRequest o) = o < 16
+
+-- no message indication
+abbrev pub quiet : Told → Bool
+quiet Untold = true
+quiet (StartIndication m k) = true
+quiet (StartConfirmation m x) = true
+quiet MessageIndication = false
+quiet (EndIndication m) = true
+quiet (EndConfirmation m x) = true
+quiet (UserAbortIndication x) = true
+quiet (ProviderAbortIndication x) = true
+
+pub record Fit (sd : Side) (v : Brings) (o : Outcome) : Type 0 where
+  pub coded : Coded (o .next)
+  pub apdu : GoesOut (v .user) sd (o .invoked) (o .apdu)
+  -- message data go out where they came with the call
+  pub body : withBody (o .apdu) ≡ v .body
+  -- a D-DATA request is invoked by a message request, and by nothing else
+  pub invokes : isDData (o .invoked) ≡ v .message
+  pub roomy : Roomy (o .invoked)
+  -- a message indication is told with the data of the send that was received
+  pub told : (quiet (o .told) || (o .delivers && isSend (v .apdu))) ≡ true
+
+-- the job of a message request is a number of eight bytes
+abbrev pub JobLow : Event → Type 0
+JobLow (User (StartServiceRequest m k s)) = Unit {0}
+JobLow (User (StartServiceResponse m x)) = Unit {0}
+JobLow (User (MessageServiceRequest h j)) = j < 2 ^ 64
+JobLow (User (EndServiceRequest m)) = Unit {0}
+JobLow (User (EndServiceResponse m x)) = Unit {0}
+JobLow (User (UserAbortServiceRequest g x)) = Unit {0}
+JobLow (Service p) = Unit {0}
+JobLow TimerExpires = Unit {0}
+JobLow UnrecoverableSystemError = Unit {0}
+
+-- ---- a primitive, an expiry, a system error
+
+pub never : {A : Type 0} → false ≡ true → A
+never e = absurd (subst T (sym e) tt)
+
+module _ (sd : Side) (r : Record) (k : Coded r) (a : Apdu) where
+  closed-fits : (t : Told) → quiet t ≡ true → Fit sd (hears a) (closes r t)
+  unfolding closes enter
+  closed-fits t q = record { coded = record { request = k .request; policy = k .policy; highest = k .highest }; apdu = (refl, refl); body = refl; invokes = refl; roomy = tt; told = rw q }
+
+  aborted-fits : (p : ℕ) (t : Told) → wholeFits 0 providerLast p ≡ true → quiet t ≡ true → Fit sd (hears a) (aborts r p t)
+  unfolding aborts enter
+  aborted-fits p t h q = record { coded = record { request = k .request; policy = k .policy; highest = k .highest }; apdu = h; body = refl; invokes = refl; roomy = omega arith; told = rw q }
+
+  tell-quiet : (t : Told) → quiet t ≡ true → quiet (tell r t) ≡ true
+  unfolding tell
+  tell-quiet t q = by-test (λ (x : Told). quiet x ≡ true) (r .active) t Untold (λ e. q) (λ e. refl)
+
+  except-fits : (o : Bool) (p s : ℕ) → wholeFits 0 providerLast p ≡ true → Fit sd (hears a) (excepts r o p s)
+  unfolding excepts
+  except-fits true p s h = aborted-fits p _ h (tell-quiet (ProviderAbortIndication s) refl)
+  except-fits false p s h = closed-fits _ (tell-quiet (ProviderAbortIndication s) refl)
+
+  none-fits : (x : Bool) → Fit sd (hears a) (noInstruction r x)
+  unfolding noInstruction
+  none-fits x = by-test (Fit sd (hears a)) (isIdle (r .control)) _ _ (λ e. closed-fits Untold refl) (λ e. except-fits x _ _ refl)
+
+  fault-fits : (i u : Bool) (f : Apdu) → Fit sd (hears a) (pduFault r i u f)
+  unfolding pduFault
+  fault-fits i u Absent = except-fits true _ _ refl
+  fault-fits i u NotValid = except-fits i _ _ refl
+  fault-fits i u (Start m) = except-fits u _ _ refl
+  fault-fits i u Send = except-fits u _ _ refl
+  fault-fits i u (AbortUser x) = except-fits u _ _ refl
+  fault-fits i u (AbortProvider x) = except-fits u _ _ refl
+  fault-fits i u Forward = except-fits u _ _ refl
+
+  handed-fits : (p : Primitive) (t : Told) → (quiet t || isSend a) ≡ true → Fit sd (hears a) (handed r p t)
+  unfolding handed enter
+  handed-fits p t q = record { coded = record { request = k .request; policy = k .policy; highest = k .highest }; apdu = (refl, refl); body = refl; invokes = refl; roomy = tt; told = q }
+
+  either-way : (b : Bool) → (b || true) ≡ true
+  either-way true = refl
+  either-way false = refl
+
+  read-fits : (p : Primitive) (i u : Bool) (t : Told) → Fit sd (hears a) (read r p i u a t)
+  unfolding read
+  read-fits p i u t = by-test (Fit sd (hears a)) (isSend a) _ _ (λ e. handed-fits p t (rw e (either-way (quiet t)))) (λ e. fault-fits i u a)
+
+  received-fits : (p : Primitive) (i u : Bool) (t : Told) → Fit sd (hears a) (received sd r p i u a t)
+  unfolding received
+  received-fits p i u t = by-test (Fit sd (hears a)) (expects sd (r .control) p) _ _ (λ e. read-fits p i u t) (λ e. none-fits true)
+
+same-coded : (r : Record) (on : Bool) → Coded r → Coded (withUser r on) × Coded (withTimer r on)
+same-coded r on k = (record { request = k .request; policy = k .policy; highest = k .highest }, record { request = k .request; policy = k .policy; highest = k .highest })
+
+abort-quiet : (a : Apdu) → quiet (abortTold a) ≡ true
+abort-quiet Absent = refl
+abort-quiet NotValid = refl
+abort-quiet (Start m) = refl
+abort-quiet Send = refl
+abort-quiet (AbortUser x) = refl
+abort-quiet (AbortProvider x) = refl
+abort-quiet Forward = refl
+
+module _ (sd : Side) (r : Record) (k : Coded r) where
+  offered-fits : (i : StartIndicationParameters) → Fit sd (hears (i .apdu)) (offered sd r i)
+  unfolding offered
+  offered-fits i =
+      by-test (Fit sd (hears (i .apdu))) (not (startFits sd r (i .peer) (i .apdu))) _ _ (λ e. fault-fits sd r k (i .apdu) true true (i .apdu))
+      (λ e. by-test (Fit sd (hears (i .apdu))) (not (peerFits sd (i .peer))) _ _ (λ f. none-fits sd r k (i .apdu) true)
+      (λ f. handed-fits sd (withUser r true) (same-coded r true k .0) (i .apdu) (DStart (modeOf (i .apdu))) _ refl))
+
+  indication-fits : (i : StartIndicationParameters) → Fit sd (hears (i .apdu)) (dStartIndication sd r i)
+  unfolding dStartIndication
+  indication-fits i =
+      by-test (Fit sd (hears (i .apdu))) (not (isIdle (r .control))) _ _ (λ e. none-fits sd r k (i .apdu) true)
+      (λ e. by-test (Fit sd (hears (i .apdu))) (not (qosFits (i .qos))) _ _ (λ f. aborted-fits sd r k (i .apdu) _ Untold refl refl)
+      (λ f. by-test (Fit sd (hears (i .apdu))) (not (eqb (i .security) (r .policy))) _ _ (λ g. except-fits sd r k (i .apdu) true _ _ refl) (λ g. offered-fits i)))
+
+  confirmed-fits : (c : StartConfirmationParameters) → Fit sd (hears (c .apdu)) (confirmed r c)
+  unfolding confirmed
+  confirmed-fits c =
+      by-test (Fit sd (hears (c .apdu))) (not (eqb (c .security) (r .request))) _ _ (λ e. except-fits sd r k (c .apdu) (eqb (c .result) accepted) _ _ refl)
+      (λ e. read-fits sd (withTimer r false) (same-coded r false k .1) (c .apdu) _ _ _ _)
+
+  confirmation-fits : (c : StartConfirmationParameters) → Fit sd (hears (c .apdu)) (dStartConfirmation sd r c)
+  unfolding dStartConfirmation
+  confirmation-fits c =
+      by-test (Fit sd (hears (c .apdu))) (not (expects sd (r .control) (DStartCnf (answer (c .result))))) _ _ (λ e. none-fits sd r k (c .apdu) true)
+      (λ e. by-test (Fit sd (hears (c .apdu))) (turnedAway (c .result) (c .source)) _ _ (λ f. closed-fits sd r k (c .apdu) _ (tell-quiet sd r k (c .apdu) _ refl)) (λ f. confirmed-fits c))
+
+  reached-fits : (p : ServicePrimitive) → Fit sd (hears (apduIn p)) (reached sd r p)
+  unfolding reached dDataIndication dEndIndication dEndConfirmation dAbortIndication dPAbortIndication
+  reached-fits (DStartIndication i) = indication-fits i
+  reached-fits (DStartConfirmation c) = confirmation-fits c
+  reached-fits (DDataIndication a) = received-fits sd r k a DData true true MessageIndication
+  reached-fits (DEndIndication a) = received-fits sd r k a DEnd true true _
+  reached-fits (DEndConfirmation x a) = received-fits sd r k a (DEndCnf (answer x)) _ _ _
+  reached-fits (DAbortIndication o a) =
+      by-test (Fit sd (hears a)) (abortExpected sd (r .control) o a) _ _ (λ e. closed-fits sd r k a _ (tell-quiet sd r k a (abortTold a) (abort-quiet a))) (λ e. none-fits sd r k a false)
+  reached-fits DPAbortIndication =
+      by-test (Fit sd (hears Absent)) (expects sd (r .control) DPAbort) _ _ (λ e. closed-fits sd r k Absent _ (tell-quiet sd r k Absent _ refl)) (λ e. none-fits sd r k Absent false)
+
+  -- ---- a user primitive
+
+  -- only the air starts in mode dsc
+  start-writable : (s : Side) (m i : Bool) → (i && mayStart s m) ≡ true → modeFits (pduSide s) (flag m) ≡ true
+  unfolding modeFits
+  start-writable Air true i e = refl
+  start-writable Air false i e = refl
+  start-writable Ground true true e = never e
+  start-writable Ground true false e = never e
+  start-writable Ground false i e = refl
+
+  reason-low : (g : Bool) (x : ℕ) → x < userReasons → reasonSent g x ≤ userLast
+  reason-low true x h = omega arith
+  reason-low false x h = omega arith
+
+  sent-fits : (q : Record) (c : Call) (i : Invoked) (a : Apdu) (m : Bool) → Coded q → GoesOut true sd i a → isDData i ≡ m → Roomy i → Fit sd (asks (withBody a) m) (sent q c i a)
+  unfolding sent enter
+  sent-fits q c i a m kq g d n = record { coded = record { request = kq .request; policy = kq .policy; highest = kq .highest }; apdu = g; body = refl; invokes = d; roomy = n; told = refl }
+
+  called-fits : (u : UserPrimitive) → userShapely u ≡ true → takes sd (r .control) (callOf u) ≡ true → JobLow (User u) → Fit sd (brings (User u)) (called r u)
+  unfolding called callOf userShapely startRequest startResponse messageRequest endRequest endResponse userAbort
+  called-fits (StartServiceRequest m c s) h t j =
+      let hc = ltb-true c routingClasses (both-left (ltb c routingClasses) (ltb s securityValues) h) in
+      let hs = ltb-true s securityValues (both-right (ltb c routingClasses) (ltb s securityValues) h) in
+      sent-fits (withRequest (withUser (withTimer r true) true) s) (StartRequest m) _ _ false (record { request = hs; policy = k .policy; highest = k .highest }) (start-writable sd m (isIdle (r .control)) t) refl (refl, omega arith, omega arith)
+  called-fits (StartServiceResponse m x) h t j =
+      let hx = ltb-true x results h in
+      let hp = k .policy in
+      sent-fits r (StartResponse m (answer x)) _ _ false k refl refl (omega arith, omega arith)
+  called-fits (MessageServiceRequest b n) h t j = sent-fits (withJob r n) MessageRequest _ _ true (record { request = k .request; policy = k .policy; highest = j }) refl refl tt
+  called-fits (EndServiceRequest m) h t j = sent-fits r (EndRequest m) _ _ false k refl refl tt
+  called-fits (EndServiceResponse m x) h t j =
+      let hx = ltb-true x results h in
+      sent-fits r (EndResponse m (answer x)) _ _ false k refl refl (omega arith)
+  called-fits (UserAbortServiceRequest g x) h t j =
+      let hx = reason-low g x (ltb-true x userReasons h) in
+      sent-fits r UserAbort _ _ false k (rw (le-leb 0 (reasonSent g x) (omega arith), le-leb (reasonSent g x) userLast hx)) refl (omega arith)
+
+  acts-fits : (e : Event) → shapely e ≡ true → permitted sd r e ≡ true → JobLow e → Fit sd (brings e) (acts sd r e)
+  unfolding acts shapely permitted timerExpires systemError
+  acts-fits (User u) h t j = called-fits u h t j
+  acts-fits (Service p) h t j = reached-fits p
+  acts-fits TimerExpires h t j = except-fits sd r k Absent true _ _ refl
+  acts-fits UnrecoverableSystemError h t j = by-test (Fit sd (hears Absent)) (isIdle (r .control)) _ _ (λ e. closed-fits sd r k Absent Untold refl) (λ e. except-fits sd r k Absent true _ _ refl)
+
+  -- whatever is taken
+  pub step-fits : (e : Event) → JobLow e → isNone (step sd r e .refusal) ≡ true → Fit sd (brings e) (step sd r e)
+  unfolding step refusalOf
+  step-fits e j n = go (isNone (refusalOf sd r e)) refl n
+    where
+      go : (b : Bool) → isNone (refusalOf sd r e) ≡ b → isNone (cond b (acts sd r e) (refused (refusalOf sd r e) r) .refusal) ≡ true → Fit sd (brings e) (cond b (acts sd r e) (refused (refusalOf sd r e) r))
+      go true q n =
+          let v = not-refused (shapely e) (permitted sd r e) (messageRefusal r e) q in acts-fits e (v .0) (v .1 .0) j
+      go false q n = never (sym q ∙ n)

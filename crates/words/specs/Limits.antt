@@ -1,0 +1,16 @@
+-- What document 01 says once and more than one crate keeps.
+use Prim.Native.Nat.{ℕ}
+
+-- "Sizes": the bits of a CPDLC message, at most; the bytes of a lent output buffer, at least
+abbrev pub messageBits : ℕ
+messageBits = 2048
+
+abbrev pub bufferBytes : ℕ
+bufferBytes = 320
+
+-- "The numbers a refusal carries": the two that a call has before it knows more
+abbrev pub room : ℕ
+room = 1
+
+abbrev pub shape : ℕ
+shape = 2

@@ -13,6 +13,7 @@ pub mod Unused
 pub mod ReadBack
 pub mod StandsRead
 pub mod Placed
+pub mod NotCarried
 pub mod Pieces
 pub mod Written
 pub mod Fitting

@@ -224,3 +224,8 @@ module _ (d : Direction) (l : List ℕ) (at next : ℕ) (m : Message) (bits : Bi
       g)
       no-message
       h
+
+-- document 01, refusal 16: constrained data marked present, before the count of elements is looked at
+pub constrained : (d : Direction) (l : List ℕ) (x : Header) (at next : ℕ) → wholeNumber l at 0 1 ≡ field.Value 1 next → bodyAt d l x at ≡ noMessage refusal.NotCarried
+unfolding bodyAt
+constrained d l x at next e = rw e

@@ -31,7 +31,7 @@ answer x = cond (eqb x accepted) Accepted Rejected
 unfoldable pub sent : Record → Call → Invoked → Apdu → Outcome
 sent r k i a = outcome (enter r (goes (r .control) k)) i Untold a false
 
--- the Quality of Service of a D-START request with Class of Communication k
+-- the Quality of Service of a D-START request with Class of Communication k (2.3.5.3.7 b, 3.5.3.9 b)
 abbrev pub qosAsked : ℕ → Qos
 qosAsked k = record { priority = highPriority; rer = lowErrorRate; routing = k }
 
@@ -76,7 +76,7 @@ callOf (EndServiceRequest m) = EndRequest m
 callOf (EndServiceResponse m x) = EndResponse m (answer x)
 callOf (UserAbortServiceRequest g x) = UserAbort
 
--- a message request without a CPDLC message, then one whose job is not above the highest taken
+-- document 01, NO-MESSAGE and REPEAT: a message request without a CPDLC message, then one whose job is not above the highest taken
 unfoldable pub unsent : ℕ → UserPrimitive → Refusal
 unsent highest (StartServiceRequest m k s) = None
 unsent highest (StartServiceResponse m x) = None

@@ -61,14 +61,15 @@ abbrev pub mayStart : Side → Bool → Bool
 mayStart Air dsc = true
 mayStart Ground dsc = not dsc
 
--- which side may ask for the end: the ground of a CPDLC dialogue (2.3.5.5.11), the air of a DSC dialogue (2.3.5.3.12)
+-- which side may ask for the end: the ground of a CPDLC dialogue (2.3.5.5.11), the air of a DSC dialogue (3.5.3.12)
 abbrev pub ender : Side → Bool → Bool
 ender Air dsc = dsc
 ender Ground dsc = not dsc
 
 -- ---- a call
 
--- is there an action for it in this state with this DSC
+-- Is there an action for it in this state with this DSC. An expiry and a system error are said as the pair needs them, of records that a run reaches: there t-start
+-- runs in START-REQ and nowhere else, and a system error in IDLE does nothing. What is refused is `permitted` (Step).
 abbrev pub takes : Side → Control → Call → Bool
 takes sd c (StartRequest m) = is (c .state) Idle && mayStart sd m
 takes sd c (StartResponse m a) = within c StartInd m && mayStart (other sd) m

@@ -29,6 +29,7 @@ readable Forward = true
 unfoldable pub qosFits : Qos → Bool
 qosFits q = eqb (q .priority) highPriority && (eqb (q .rer) lowErrorRate && ltb (q .routing) routingClasses)
 
+-- the codes of a received D-START are of their types; its quality of service is not looked at (document 01, SHAPE: "received QOS values excepted")
 unfoldable pub indicationShapely : StartIndicationParameters → Bool
 indicationShapely i = ltb (i .peer) peers && (ltb (i .security) securityValues && readable (i .apdu))
 
@@ -36,6 +37,7 @@ unfoldable pub confirmationShapely : StartConfirmationParameters → Bool
 confirmationShapely k =
     ltb (k .result) startResults && (ltb (k .source) rejectSources && (ltb (k .security) securityValues && readable (k .apdu)))
 
+-- document 01, SHAPE: "an argument breaks the sizes above, its type or its codes"; a job is 1 or more ("Sizes")
 unfoldable pub userShapely : UserPrimitive → Bool
 userShapely (StartServiceRequest m k s) = ltb k routingClasses && ltb s securityValues
 userShapely (StartServiceResponse m x) = ltb x results

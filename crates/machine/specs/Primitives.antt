@@ -82,7 +82,7 @@ abbrev pub readsStarts : Side → ℕ → Bool
 readsStarts Air x = true
 readsStarts Ground x = eqb x aircraft
 
--- a PDU for which action is described: a start of a mode that the other side may start
+-- a PDU for which action is described (3.5.4.4.1): a start of a mode that the other side may start
 unfoldable pub startFits : Side → Record → ℕ → Apdu → Bool
 startFits sd r x a = isStartPdu a && (readsStarts sd x && expects sd (r .control) (DStart (modeOf a)))
 
@@ -136,7 +136,7 @@ unfoldable pub dEndConfirmation : Side → Record → ℕ → Apdu → Outcome
 dEndConfirmation sd r x a =
     received sd r (DEndCnf (answer x)) (not (eqb x accepted)) (not (eqb x accepted)) a (EndConfirmation (r .control .dsc) x)
 
--- does the APDU fit the originator
+-- does the APDU fit the originator (3.5.3.14, 2.3.5.5.15)
 abbrev pub abortFits : ℕ → Apdu → Bool
 abortFits o Absent = false
 abortFits o NotValid = false

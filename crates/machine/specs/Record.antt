@@ -8,6 +8,7 @@ use Rattle.machine.specs.declared.record.Record.{Record}
 use Rattle.machine.specs.Codes.{noSecurity, securityValues}
 use Rattle.machine.specs.Control.{isIdle, closed}
 
+-- document 01: the security value that local policy accepts, "given when the record is made", is of its type
 abbrev pub configured : Configuration → Bool
 configured g = ltb (g .policy) securityValues
 

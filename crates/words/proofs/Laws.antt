@@ -9,6 +9,10 @@ use native.Mathlib.Omega.{arith}
 pub determined : {A : Type 0} (x y z : A) → x ≡ z → y ≡ z → x ≡ y
 determined x y z p q = p ∙ sym q
 
+-- and every part of it: the answer, and each lent byte at exit
+pub determined-part : {A B : Type 0} (f : A → B) (x y z : A) → x ≡ z → y ≡ z → f x ≡ f y
+determined-part f x y z p q = ap f (determined x y z p q)
+
 -- a choice whose test held, or did not
 pub cond-yes : {A : Type 0} (b : Bool) (x y o : A) → b ≡ true → o ≡ x → o ≡ cond b x y
 cond-yes b x y o e p = p ∙ ap (λ (t : Bool). cond t x y) (sym e)

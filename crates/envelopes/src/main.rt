@@ -19,6 +19,11 @@ fn show(s: &[u8], text: &mut [u8]) {
     io::write_all(1, &text[..n]);
 }
 
+// Room for the text of the largest input (envelope::reporting): 80 bytes, and ten for each byte.
+fn text_buffer() -> [u8; 655440] {
+    [0u8; 655440]
+}
+
 fn main() {
     let mut input = io::large_buffer();
     let n = io::read_full(0, &mut input);
@@ -28,7 +33,6 @@ fn main() {
             return;
         }
     }
-    // room for the text of the largest input (envelope::reporting): 80 bytes, and ten for each byte
-    let mut text = [0u8; 655440];
+    let mut text = text_buffer();
     show(&input[..n], &mut text);
 }

@@ -60,6 +60,11 @@ pub then-repeat : (sd : Side) (r : Record) (j : ℕ) → ltb 0 j ≡ true → ta
 unfolding step refusalOf shapely userShapely permitted callOf messageRefusal unsent
 then-repeat sd r j s p h = rw (s, p, le-leb j (r .highest) h)
 
+-- document 01, "Sizes": a job number is from 1 on. So job 0 is SHAPE, in every state and with or without a message
+pub job-zero : (sd : Side) (r : Record) (h : Bool) → step sd r (User (MessageServiceRequest h 0)) ≡ refused Shape r
+unfolding shapely userShapely
+job-zero sd r h = shape-first sd r (User (MessageServiceRequest h 0)) refl
+
 -- a taken message request moves the highest job to its own
 pub job-taken : (sd : Side) (r : Record) (j : ℕ) → ltb 0 j ≡ true → takes sd (r .control) MessageRequest ≡ true → r .highest < j → step sd r (User (MessageServiceRequest true j)) ≡ messageRequest r j
 unfolding step refusalOf shapely userShapely permitted callOf messageRefusal unsent acts called
@@ -197,6 +202,11 @@ unfolding step acts reached dPAbortIndication closes
 p-abort-unanswered sd r =
     by-test Unsent (isNone (refusalOf sd r (Service DPAbortIndication))) _ _
     (λ n. by-test Unsent (expects sd (r .control) DPAbort) _ _ (λ e. refl) (λ e. none-unsent r)) (λ n. refl)
+
+-- 3.5.3.15, 2.3.5.5.16: outside IDLE an active user is told communication-service-failure, which is 5 in CPDLCProviderAbortReason; IDLE
+pub p-abort-told : (sd : Side) (r : Record) → isIdle (r .control) ≡ false → step sd r (Service DPAbortIndication) ≡ closes r (tell r (ProviderAbortIndication 5))
+unfolding shapely serviceShapely reached dPAbortIndication
+p-abort-told sd r i = service-taken sd r DPAbortIndication refl ∙ rw i
 
 -- ---- in IDLE a primitive with no instruction, an abort indication and a system error leave no output
 

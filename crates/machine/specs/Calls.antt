@@ -31,7 +31,7 @@ answer x = cond (eqb x accepted) Accepted Rejected
 unfoldable pub sent : Record → Call → Invoked → Apdu → Outcome
 sent r k i a = outcome (enter r (goes (r .control) k)) i Untold a false
 
--- the Quality of Service of a D-START request with Class of Communication k (2.3.5.3.7 b, 3.5.3.9 b)
+-- the Quality of Service of a D-START request with Class of Communication k (2.3.5.3.7 b, 3.5.3.9 b; 2.3.5.5.7 b)
 abbrev pub qosAsked : ℕ → Qos
 qosAsked k = record { priority = highPriority; rer = lowErrorRate; routing = k }
 

@@ -42,7 +42,7 @@ isIdle c = is (c .state) Idle
 abbrev pub entered : State → Bool → Control
 entered s d = record { state = s; dsc = d }
 
--- a start with the mode dsc sets DSC, one with cpdlc leaves it (2.3.5.3.9 c, 2.3.5.5.2.2 b)
+-- a start with the mode dsc sets DSC, one with cpdlc leaves it (3.5.3.9 c, 2.3.5.5.2.2 b)
 abbrev pub marked : Bool → Bool → Bool
 marked m d = m || d
 
@@ -56,7 +56,7 @@ other Ground = Air
 
 -- ---- the two differences between the sides
 
--- which side may start a dialogue in which mode: the ground has no DSC-start request (2.3.5.3.7, 2.3.5.3.9, 2.3.5.5.7)
+-- which side may start a dialogue in which mode: the ground has no DSC-start request (2.3.5.3.7, 3.5.3.9, 2.3.5.5.7)
 abbrev pub mayStart : Side → Bool → Bool
 mayStart Air dsc = true
 mayStart Ground dsc = not dsc

@@ -25,7 +25,7 @@ readable (AbortUser r) = ltb r userReasons
 readable (AbortProvider r) = ltb r providerReasons
 readable Forward = true
 
--- Doc 9880 3.5.4.6, Doc 9705 2.3.6.2.2
+-- Doc 9880 3.5.4.6 (air), Doc 9705 2.3.5.6.6 (ground); the values: Doc 9705 2.3.6.2.2
 unfoldable pub qosFits : Qos → Bool
 qosFits q = eqb (q .priority) highPriority && (eqb (q .rer) lowErrorRate && ltb (q .routing) routingClasses)
 

@@ -14,7 +14,7 @@ use Rattle.machine.specs.declared.outcome.Refusal.{Refusal}
 use Rattle.machine.specs.declared.outcome.Refusal.the-variants.{None, Shape, Prohibited}
 use Rattle.machine.specs.declared.outcome.Outcome.{Outcome}
 
--- has a user primitive an action in this state with this DSC (2.3.5.3.1.1, 3.5.5.1.1); an expiry asks whether the timer runs;
+-- has a user primitive an action in this state with this DSC (2.3.5.3.1.1, 2.3.5.5.1.1); an expiry asks whether the timer runs;
 -- a dialogue-service primitive and a system error are never prohibited
 unfoldable pub permitted : Side → Record → Event → Bool
 permitted sd r (User u) = takes sd (r .control) (callOf u)

@@ -119,7 +119,7 @@ pub fn ender(side: Side, dsc: bool) -> bool
     }
 }
 
-// A start with the mode dsc sets DSC, one with cpdlc leaves it (2.3.5.3.9 c, 2.3.5.5.2.2 b).
+// A start with the mode dsc sets DSC, one with cpdlc leaves it (3.5.3.9 c, 2.3.5.5.2.2 b).
 pub fn marked(dsc: bool, held: bool) -> bool
     ensures { λ r. ⌜ r ≡ marked dsc held ⌝ }
 {

@@ -1,6 +1,6 @@
 -- Demand 3 of the definitions that the exported calls' contracts cite: two cards, a carrier, and bytes on the lines.
 -- Assumes nothing.
-use mathlib.Core.Path.{_≡_, refl, ap}
+use mathlib.Core.Path.{_≡_, refl, ap, subst}
 use mathlib.Core.List.{List, [], _∷_, _++_}
 use Prim.Native.Nat.{ℕ, _<_}
 use native.Mathlib.Omega.{arith}
@@ -12,28 +12,25 @@ use Rattle.machine.specs.declared.record.Record.{Record}
 use Rattle.machine.specs.declared.event.Apdu.the-variants.{Absent}
 use Rattle.machine.specs.declared.event.Event.the-variants.{TimerExpires, UnrecoverableSystemError}
 use Rattle.machine.specs.declared.event.ServicePrimitive.the-variants as service
-use Rattle.machine.specs.Run.{Formed}
-use Rattle.step.specs.Stored.{loadAt}
-use Rattle.step.specs.declared.stored.Loaded.the-variants.{Is}
 use Rattle.step.specs.Call.{arrives}
 use Rattle.step.specs.declared.arrived.Arrived.the-variants.{DStartConfirmation, DPAbortIndication}
 use Rattle.step.proofs.Refusing.{Leaves, user-leaves}
-use Rattle.card.specs.Face.{freshFor, freshCall}
+use Rattle.card.specs.Face.{freshCall}
 use Rattle.pair.specs.Names.{Side, Air, Ground, other}
 use Rattle.pair.specs.Carrier.{Sys, Turn, fresh, run}
-use Rattle.pair.specs.Claims.{Claims}
-use Rattle.pair.specs.StepMachine.{Wire, sortOf, rejects, stepMachine, freshWith}
+use Rattle.pair.specs.StepMachine.{Wire, sortOf, rejects, stepMachine}
 use Rattle.pair.proofs.Agree.{Agree, does}
-use Rattle.pair.proofs.Any.{followed, holds-through, taken-once}
+use Rattle.pair.proofs.Any.{carried, followed, taken-once}
 use Rattle.pair.proofs.Simulate.{Run}
 use Rattle.pair.proofs.Quiet.{BothQuiet, quiet-through}
 use Rattle.pair.proofs.StepAgrees.{step-holds, step-local, step-quiet}
 use Rattle.card_pair.specs.CardMachine.{Buffers, Asked, start-request, start-response, message-request, end-request, end-response, user-abort, answered, Kept, newly, controlIn, cardMachine}
+use Rattle.card_pair.specs.Promise.{Begins, Promise}
 use Rattle.card_pair.proofs.Codec.{cardCodec, true-holds}
-use Rattle.card_pair.proofs.Ends.{Keeps, stored-keeps}
 use Rattle.card_pair.proofs.Entries.{KeepsAt, Carries}
 use Rattle.card_pair.proofs.CardCalls.{call-rel, report-rel}
 use Rattle.card_pair.proofs.CardReceives.{receive-rel, bare-rel}
+use Rattle.card_pair.proofs.Beginnings.{begins-keeps, begins-idle, begins-local, begins-valid, fresh-begins, fresh-highest}
 
 pub confirmation : arrives (DStartConfirmation transient dsProvider noSecurity) Absent ≡ rejects
 unfolding arrives
@@ -53,12 +50,6 @@ answered-leaves p w r (end-request m g) = user-leaves r (w .first) (w .second) _
 answered-leaves p w r (end-response m x g) = user-leaves r (w .first) (w .second) _ _ _ _ _
 answered-leaves p w r (user-abort x) = user-leaves r (w .first) (w .second) _ _ _ _ _
 
--- the bytes b are those of a record that is formed, at side sd
-pub record Formedly (sd : Side) (b : List ℕ) : Type 0 where
-  pub held : Record
-  pub load : loadAt b ≡ Is sd held
-  pub formed : Formed held
-
 -- p: the security value of both ends; host: the buffers that a side lends to each call, of full size and with any bytes in them
 module _ (p : ℕ) (host : Side → ℕ → Buffers) where
   -- the exported calls do at bytes what the machines' steps do at records, with the card's own codec
@@ -76,46 +67,55 @@ module _ (p : ℕ) (host : Side → ℕ → Buffers) where
     p-abort-is = λ (sd : Side) (r : Kept) (q : Record) (h : KeepsAt sd r q). bare-rel (r .calls) (r .bytes) (host sd (r .calls)) sd q h DPAbortIndication service.DPAbortIndication lost refl;
   }
 
-  -- ---- fresh records, made by the exported call in any two ranges of sixteen bytes
+  -- ---- from any two IDLE records, as the host keeps them
 
-  module _ (v : p < securityValues) (r q : List ℕ) (hr : length r ≡ 16) (hq : length q ≡ 16) where
-    air-fresh : Keeps Air (freshCall r 1 p .bytes) (freshWith p)
-    unfolding freshCall freshFor
-    air-fresh = stored-keeps Air r (freshWith p) hr (record { request = omega arith; policy = v; highest = omega arith })
-
-    ground-fresh : Keeps Ground (freshCall q 2 p .bytes) (freshWith p)
-    unfolding freshCall freshFor
-    ground-fresh = stored-keeps Ground q (freshWith p) hq (record { request = omega arith; policy = v; highest = omega arith })
-
+  module _ (r q : List ℕ) (a : Begins p Air r) (g : Begins p Ground q) where
     abbrev pub after : List (Turn Asked) → Sys (cardMachine p host)
-    after ts = run (cardMachine p host) (fresh (cardMachine p host) (newly (freshCall r 1 p .bytes)) (newly (freshCall q 2 p .bytes))) ts
+    after ts = run (cardMachine p host) (fresh (cardMachine p host) (newly r) (newly q)) ts
 
     valued : T (ltb p securityValues)
-    valued = true-holds (ltb p securityValues) (lt-ltb p securityValues v)
+    valued = true-holds (ltb p securityValues) (lt-ltb p securityValues (begins-valid p Air r a))
 
-    -- THE theorem: after any steps the ends match where nothing is on its way; what was handed out is, in order, the first of what was taken,
-    -- and all of it where nothing is on its way and nothing broke the dialogue; and each record takes its jobs in rising order
-    pub cards-hold : (ts : List (Turn Asked)) → Claims (cardMachine p host) (after ts)
-    cards-hold ts = holds-through (cardMachine p host) (stepMachine cardCodec p) agrees (newly (freshCall r 1 p .bytes)) (newly (freshCall q 2 p .bytes)) (freshWith p) (freshWith p) air-fresh ground-fresh (step-holds cardCodec p valued) ts
+    follows : (ts : List (Turn Asked)) → Run (cardMachine p host) (stepMachine cardCodec p) agrees (after ts) (fresh (stepMachine cardCodec p) (a .held) (g .held))
+    follows ts = followed (cardMachine p host) (stepMachine cardCodec p) agrees (newly r) (newly q) (a .held) (g .held) (begins-keeps p Air r a) (begins-keeps p Ground q g) ts
 
-    follows : (ts : List (Turn Asked)) → Run (cardMachine p host) (stepMachine cardCodec p) agrees (after ts) (fresh (stepMachine cardCodec p) (freshWith p) (freshWith p))
-    follows ts = followed (cardMachine p host) (stepMachine cardCodec p) agrees (newly (freshCall r 1 p .bytes)) (newly (freshCall q 2 p .bytes)) (freshWith p) (freshWith p) air-fresh ground-fresh ts
-
-    -- no card answers what the other card sent by a D-ABORT
-    pub cards-quiet : (ts : List (Turn Asked)) → BothQuiet (cardMachine p host) (after ts)
-    cards-quiet ts =
+    -- THE theorem: after any steps both ends' bytes are records of their side; the ends match where nothing is on its way; what was handed out is, in
+    -- order, the first of what was taken, and all of it where nothing is on its way and nothing broke the dialogue; and each record takes its jobs in
+    -- rising order, from the highest that it had taken
+    pub cards-hold : (ts : List (Turn Asked)) → Promise p host (a .held .highest) (g .held .highest) (after ts)
+    cards-hold ts =
         let f = follows ts in
-        quiet-through (cardMachine p host) (stepMachine cardCodec p) agrees (after ts) (run (stepMachine cardCodec p) (fresh (stepMachine cardCodec p) (freshWith p) (freshWith p)) (f .turns)) (f .rel) (step-quiet cardCodec p valued (f .turns))
-
-    -- the bytes of each end are those of a record in which t-start runs exactly in START-REQ, the user is active exactly outside IDLE, and IDLE has DSC false
-    pub cards-formed : (ts : List (Turn Asked)) → Formedly Air (after ts .here .rec .bytes) × Formedly Ground (after ts .there .rec .bytes)
-    cards-formed ts =
-        let f = follows ts in
-        let l = step-local cardCodec p valued (f .turns) in (
-          record { held = _; load = f .rel .here .rec .load; formed = l .0 .formed },
-          record { held = _; load = f .rel .there .rec .load; formed = l .1 .formed },
-        )
+        let l = step-local cardCodec p valued (a .held) (g .held) (begins-local p Air r a) (begins-idle p Air r a) (begins-local p Ground q g) (begins-idle p Ground q g) (f .turns) in
+        let c = step-holds cardCodec p valued (a .held) (g .held) (begins-local p Air r a) (begins-idle p Air r a) (begins-local p Ground q g) (begins-idle p Ground q g) (f .turns) in
+        record {
+          air = record { held = _; load = f .rel .here .rec .load; policy = l .0 .policy; formed = l .0 .formed };
+          ground = record { held = _; load = f .rel .there .rec .load; policy = l .1 .policy; formed = l .1 .formed };
+          claims = carried (cardMachine p host) (stepMachine cardCodec p) agrees (after ts) (run (stepMachine cardCodec p) (fresh (stepMachine cardCodec p) (a .held) (g .held)) (f .turns)) (f .rel) c;
+        }
 
     -- so no job is taken twice by one record over its whole life
     pub cards-take-once : (ts : List (Turn Asked)) (xs ys zs : List ℕ) (j : ℕ) → (after ts .here .jobs ≡ xs ++ (j ∷ (ys ++ (j ∷ zs))) → ⊥) × (after ts .there .jobs ≡ xs ++ (j ∷ (ys ++ (j ∷ zs))) → ⊥)
-    cards-take-once ts xs ys zs j = taken-once (cardMachine p host) (after ts) (cards-hold ts) xs ys zs j
+    cards-take-once ts xs ys zs j = taken-once (cardMachine p host) (after ts) (cards-hold ts .claims) xs ys zs j
+
+    -- and no card answers what the other card sent by a D-ABORT
+    pub cards-quiet : (ts : List (Turn Asked)) → BothQuiet (cardMachine p host) (after ts)
+    cards-quiet ts =
+        let f = follows ts in
+        quiet-through (cardMachine p host) (stepMachine cardCodec p) agrees (after ts) (run (stepMachine cardCodec p) (fresh (stepMachine cardCodec p) (a .held) (g .held)) (f .turns)) (f .rel)
+        (step-quiet cardCodec p valued (a .held) (g .held) (begins-local p Air r a) (begins-idle p Air r a) (begins-local p Ground q g) (begins-idle p Ground q g) (f .turns))
+
+  -- two records that peat_fresh made, in any two ranges of sixteen bytes
+  module _ (v : p < securityValues) (r q : List ℕ) (hr : length r ≡ 16) (hq : length q ≡ 16) where
+    abbrev air-fresh : Begins p Air (freshCall r 1 p .bytes)
+    air-fresh = fresh-begins p Air r v hr
+
+    abbrev ground-fresh : Begins p Ground (freshCall q 2 p .bytes)
+    ground-fresh = fresh-begins p Ground q v hq
+
+    abbrev pub fresh-after : List (Turn Asked) → Sys (cardMachine p host)
+    fresh-after = after (freshCall r 1 p .bytes) (freshCall q 2 p .bytes) air-fresh ground-fresh
+
+    pub fresh-cards-hold : (ts : List (Turn Asked)) → Promise p host 0 0 (fresh-after ts)
+    fresh-cards-hold ts =
+        subst (λ (i : ℕ). Promise p host i 0 (fresh-after ts)) (fresh-highest p Air r v hr)
+        (subst (λ (j : ℕ). Promise p host (air-fresh .held .highest) j (fresh-after ts)) (fresh-highest p Ground q v hq) (cards-hold (freshCall r 1 p .bytes) (freshCall q 2 p .bytes) air-fresh ground-fresh ts))

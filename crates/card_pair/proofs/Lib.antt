@@ -4,5 +4,6 @@ pub mod Ends
 pub mod Entries
 pub mod CardCalls
 pub mod CardReceives
+pub mod Beginnings
 pub mod Card
 pub mod Worked

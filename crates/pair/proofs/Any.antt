@@ -1,14 +1,14 @@
--- Demand 3 for any machine that agrees with the control: the claims hold after every run from two fresh records.
+-- Demand 3 for any machine that agrees with the control: the claims hold after every run from two records that are IDLE there.
 -- Assumes nothing.
 use mathlib.Core.Path.{_≡_, refl, sym, _∙_, subst}
 use mathlib.Core.Bool.{false}
 use mathlib.Core.List.{List, [], _∷_, _++_}
 use Prim.Native.Nat.{ℕ}
 use lib.Dec.{T}
-use Rattle.pair.specs.Names.{Air, Ground}
+use Rattle.pair.specs.Names.{Air, Ground, closed}
 use Rattle.pair.specs.Carrier.{Machine, Sys, Turn, fresh, run}
 use Rattle.pair.specs.Claims.{rising, Claims}
-use Rattle.pair.specs.ControlMachine.{new, control}
+use Rattle.pair.specs.ControlMachine.{held, control}
 use Rattle.pair.proofs.Agree.{Agree}
 use Rattle.pair.proofs.Lines.{LL}
 use Rattle.pair.proofs.Simulate.{SysRel, Run, run-rel}
@@ -27,7 +27,7 @@ module _ (m n : Machine) (g : Agree m n) (s : Sys m) (t : Sys n) (h : SysRel m n
   empty-there e = nil-rel _ _ _ (h .there .line) e
 
   -- what is claimed of the second holds of the first
-  pub carried : Claims n t → Claims m s
+  pub carried : {i j : ℕ} → Claims n i j t → Claims m i j s
   carried c =
       record {
         ends-match = λ (p : s .here .line ≡ []) (q : s .there .line ≡ []).
@@ -50,18 +50,18 @@ module _ (m n : Machine) (g : Agree m n) (r q : m .R) (x y : n .R) (near : g .RR
       })
 
   -- so what is claimed of every run of the second holds of every run of the first
-  pub holds-through : ((us : List (Turn (n .A))) → Claims n (run n (fresh n x y) us)) → (ts : List (Turn (m .A))) → Claims m (run m (fresh m r q) ts)
+  pub holds-through : {i j : ℕ} → ((us : List (Turn (n .A))) → Claims n i j (run n (fresh n x y) us)) → (ts : List (Turn (m .A))) → Claims m i j (run m (fresh m r q) ts)
   holds-through c ts =
       let v = followed ts in
       carried m n g (run m (fresh m r q) ts) (run n (fresh n x y) (v .turns)) (v .rel) (c (v .turns))
 
--- demand 3 for a machine that agrees with the control
-pub machine-holds : (m : Machine) (g : Agree m control) (r q : m .R) → g .RR Air r new → g .RR Ground q new → (ts : List (Turn (m .A))) → Claims m (run m (fresh m r q) ts)
-machine-holds m g r q near far ts = holds-through m control g r q new new near far control-holds ts
+-- demand 3 for a machine that agrees with the control, from any two records that correspond to IDLE ones
+pub machine-holds : (m : Machine) (g : Agree m control) (i j : ℕ) (r q : m .R) → g .RR Air r (held closed i) → g .RR Ground q (held closed j) → (ts : List (Turn (m .A))) → Claims m i j (run m (fresh m r q) ts)
+machine-holds m g i j r q near far ts = holds-through m control g r q (held closed i) (held closed j) near far (control-holds i j) ts
 
 -- so no job is taken twice at an end
-pub taken-once : (m : Machine) (s : Sys m) → Claims m s → (xs ys zs : List ℕ) (j : ℕ) → (s .here .jobs ≡ xs ++ (j ∷ (ys ++ (j ∷ zs))) → ⊥) × (s .there .jobs ≡ xs ++ (j ∷ (ys ++ (j ∷ zs))) → ⊥)
-taken-once m s c xs ys zs j = (
-  λ (e : s .here .jobs ≡ xs ++ (j ∷ (ys ++ (j ∷ zs)))). no-repeat 0 xs ys zs j (subst (λ (l : List ℕ). T (rising 0 l)) e (c .jobs-rise .0)),
-  λ (e : s .there .jobs ≡ xs ++ (j ∷ (ys ++ (j ∷ zs)))). no-repeat 0 xs ys zs j (subst (λ (l : List ℕ). T (rising 0 l)) e (c .jobs-rise .1)),
+pub taken-once : {f g : ℕ} (m : Machine) (s : Sys m) → Claims m f g s → (xs ys zs : List ℕ) (j : ℕ) → (s .here .jobs ≡ xs ++ (j ∷ (ys ++ (j ∷ zs))) → ⊥) × (s .there .jobs ≡ xs ++ (j ∷ (ys ++ (j ∷ zs))) → ⊥)
+taken-once {f} {g} m s c xs ys zs j = (
+  λ (e : s .here .jobs ≡ xs ++ (j ∷ (ys ++ (j ∷ zs)))). no-repeat f xs ys zs j (subst (λ (l : List ℕ). T (rising f l)) e (c .jobs-rise .0)),
+  λ (e : s .there .jobs ≡ xs ++ (j ∷ (ys ++ (j ∷ zs)))). no-repeat g xs ys zs j (subst (λ (l : List ℕ). T (rising g l)) e (c .jobs-rise .1)),
 )

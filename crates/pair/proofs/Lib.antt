@@ -1,4 +1,5 @@
 pub mod Finite
+pub mod Claimed
 pub mod Drain
 pub mod Tests
 pub mod Flow

@@ -3,10 +3,11 @@
 use mathlib.Core.Path.{_≡_, ap, sym, _∙_, subst}
 use mathlib.Core.Bool.{Bool, false, not, _&&_, _||_}
 use mathlib.Core.List.{List, [], _∷_}
+use Prim.Native.Nat.{ℕ}
 use lib.Dec.{T}
-use Rattle.pair.specs.Names.{Side, Air, Ground, Control, Did, isIdle, other, expects, hands}
+use Rattle.pair.specs.Names.{Side, Air, Ground, Control, Did, isIdle, closed, other, expects, hands}
 use Rattle.pair.specs.Carrier.{nothing, puts, message, Outcome, refused, acts, Sort, begins?, Machine, Sys, Turn, fresh, run, discards}
-use Rattle.pair.specs.ControlMachine.{Held, Ent, Ask, new, handed, met, control}
+use Rattle.pair.specs.ControlMachine.{Held, held, Ent, Ask, handed, met, control, bothIdle}
 use Rattle.pair.proofs.Drain.{deaf}
 use Rattle.pair.proofs.HandOver.{meets-is}
 use Rattle.pair.proofs.Pair.{headFits, none-unexpected}
@@ -31,7 +32,7 @@ HeadQuiet m sd r (e ∷ l) = discards m r e ≡ false → Quiet (m .receive sd r
 abbrev pub BothQuiet : (m : Machine) → Sys m → Type 0
 BothQuiet m s = HeadQuiet m Air (s .here .rec) (s .there .line) × HeadQuiet m Ground (s .there .rec) (s .here .line)
 
-control-quiet : (sd : Side) (q : Held) (l : List Ent) → T (headFits sd (q .ctl) l) → HeadQuiet control sd q l
+pub control-quiet : (sd : Side) (q : Held) (l : List Ent) → T (headFits sd (q .ctl) l) → HeadQuiet control sd q l
 control-quiet sd q [] t = tt
 control-quiet sd q (e ∷ l) t = λ (d : deaf (q .ctl) (e .kind) ≡ false).
     subst (λ (x : Did). Quiet (met q x (handed (hands sd (q .ctl) (e .kind)) (e .body)))) (sym (meets-is sd (q .ctl) (e .kind) (subst (λ (b : Bool). T (b || expects sd (q .ctl) (e .kind))) d t))) tt
@@ -49,7 +50,7 @@ module _ (m n : Machine) (g : Agree m n) where
   same-quiet sd (acts r l (message e b i)) (acts q k (puts f)) x y = y
   same-quiet sd (acts r l (message e b i)) (acts q k (message f c j)) x y = y
 
-  head-quiet : (sd : Side) (r : m .R) (q : n .R) (l : List (m .E)) (k : List (n .E)) → g .RR sd r q → LL (g .EE (other sd)) l k → HeadQuiet n sd q k → HeadQuiet m sd r l
+  pub head-quiet : (sd : Side) (r : m .R) (q : n .R) (l : List (m .E)) (k : List (n .E)) → g .RR sd r q → LL (g .EE (other sd)) l k → HeadQuiet n sd q k → HeadQuiet m sd r l
   head-quiet sd r q [] k x y h = tt
   head-quiet sd r q (e ∷ l) [] x y h = absurd y
   head-quiet sd r q (e ∷ l) (f ∷ k) x y h = λ (d : discards m r e ≡ false).
@@ -63,14 +64,14 @@ module _ (m n : Machine) (g : Agree m n) where
     head-quiet Ground (s .there .rec) (t .there .rec) (s .here .line) (t .here .line) (h .there .rec) (h .here .line) (f .1),
   )
 
-control-both : (ts : List (Turn Ask)) → BothQuiet control (run control (fresh control new new) ts)
-control-both ts =
-    let t = run control (fresh control new new) ts in
-    let f = none-unexpected ts in
+control-both : (i j : ℕ) (ts : List (Turn Ask)) → BothQuiet control (run control (bothIdle i j) ts)
+control-both i j ts =
+    let t = run control (bothIdle i j) ts in
+    let f = none-unexpected i j ts in
     (control-quiet Air (t .here .rec) (t .there .line) (f .0), control-quiet Ground (t .there .rec) (t .here .line) (f .1))
 
 -- after every run
-pub none-answered : (m : Machine) (g : Agree m control) (r q : m .R) → g .RR Air r new → g .RR Ground q new → (ts : List (Turn (m .A))) → BothQuiet m (run m (fresh m r q) ts)
-none-answered m g r q near far ts =
-    let v = followed m control g r q new new near far ts in
-    quiet-through m control g (run m (fresh m r q) ts) (run control (fresh control new new) (v .turns)) (v .rel) (control-both (v .turns))
+pub none-answered : (m : Machine) (g : Agree m control) (i j : ℕ) (r q : m .R) → g .RR Air r (held closed i) → g .RR Ground q (held closed j) → (ts : List (Turn (m .A))) → BothQuiet m (run m (fresh m r q) ts)
+none-answered m g i j r q near far ts =
+    let v = followed m control g r q (held closed i) (held closed j) near far ts in
+    quiet-through m control g (run m (fresh m r q) ts) (run control (bothIdle i j) (v .turns)) (v .rel) (control-both i j (v .turns))

@@ -1,29 +1,27 @@
 -- The machines as they are agree with the control, so demand 3 holds of them: over any codec that reads back what it wrote.
 -- Assumes nothing.
-use mathlib.Core.Path.{refl, ap, subst}
-use mathlib.Core.Bool.{false}
+use mathlib.Core.Path.{ap, sym, subst}
 use mathlib.Core.List.{List, []}
 use Prim.Native.Nat.{ℕ}
 use lib.Dec.{T, ltb}
 use Rattle.machine.specs.Codes.{securityValues}
 use Rattle.machine.specs.Step.{step}
-use Rattle.machine.proofs.Laws.{fresh-formed}
 use Rattle.machine.specs.declared.record.Record.{Record}
 use Rattle.machine.specs.declared.event.ServicePrimitive.{ServicePrimitive}
 use Rattle.machine.specs.declared.event.ServicePrimitive.the-variants.{DPAbortIndication}
 use Rattle.machine.specs.declared.event.Event.{Event}
 use Rattle.machine.specs.declared.event.Event.the-variants.{User, Service, TimerExpires, UnrecoverableSystemError}
-use Rattle.pair.specs.Names.{Side, TimerExpiry, SystemError, DTurnedAway, DPAbort, other, Call}
-use Rattle.pair.specs.Carrier.{Body, Turn, fresh, run}
+use Rattle.pair.specs.Names.{Side, Control, isIdle, closed, TimerExpiry, SystemError, DTurnedAway, DPAbort, other, Call}
+use Rattle.pair.specs.Carrier.{Body, Sys, Turn, fresh, run}
 use Rattle.pair.specs.Carrier as C
 use Rattle.pair.specs.Claims.{Claims}
-use Rattle.pair.specs.ControlMachine.{Held, Ent, ent, ask, new, callOf, receives, control}
-use Rattle.pair.specs.StepMachine.{Codec, Wire, arrives, apduOf, bodyOf, rejects, happens, Order, asked, dataOf, jobOf, calls, stepMachine, freshWith}
+use Rattle.pair.specs.ControlMachine.{Held, held, Ent, ent, ask, callOf, receives, control}
+use Rattle.pair.specs.StepMachine.{Codec, Wire, arrives, apduOf, bodyOf, rejects, happens, Order, asked, dataOf, jobOf, calls, stepMachine}
 use Rattle.pair.proofs.Finite.{is-T}
 use Rattle.pair.proofs.Agree.{OutRel, Follows, Agree}
 use Rattle.pair.proofs.Any.{followed, machine-holds}
 use Rattle.pair.proofs.Quiet.{BothQuiet, none-answered}
-use Rattle.pair.proofs.StepLocal.{Local, lowOf, Same, Low, happens-formed, calls-formed, same-out, same-follows}
+use Rattle.pair.proofs.StepLocal.{Local, lowOf, Same, Low, closed-is-idle, happens-formed, calls-formed, same-out, same-follows}
 use Rattle.pair.proofs.StepMeans.{Means, meaning-sort}
 use Rattle.pair.proofs.StepCalls.{call-rel, expiry-rel, error-rel}
 use Rattle.pair.proofs.StepReceives.{receive-rel, away-rel, p-abort-rel}
@@ -66,19 +64,25 @@ module _ (K : Codec) (p : ℕ) (v : T (ltb p securityValues)) where
         subst (λ (x : Held). OutRel (Same p) (Means K p sd) (stepMachine K p .pAbort sd r) (receives sd x (ent DPAbort []))) (h .low) (formed-service sd r DPAbortIndication [] (receives sd (lowOf r) (ent DPAbort [])) (h .local) (p-abort-rel K p sd r (h .local)));
   }
 
-  fresh-same : Same p (freshWith p) new
-  fresh-same = record { low = refl; local = record { formed = fresh-formed (record { policy = p }); policy = refl; request = λ (x : T false). absurd x } }
+  -- an IDLE record, whatever its highest job
+  pub idle-same : (r : Record) → Local p r → T (isIdle (r .control)) → Same p r (held closed (r .highest))
+  idle-same r h i = record { low = ap (λ (c : Control). held c (r .highest)) (sym (closed-is-idle r (h .formed) (is-T (isIdle (r .control)) i))); local = h }
 
-  -- demand 3 for the machines of crate machine
-  pub step-holds : (ts : List (Turn Order)) → Claims (stepMachine K p) (run (stepMachine K p) (fresh (stepMachine K p) (freshWith p) (freshWith p)) ts)
-  step-holds ts = machine-holds (stepMachine K p) agrees (freshWith p) (freshWith p) fresh-same fresh-same ts
+  -- from any two IDLE records of the pair
+  module _ (r q : Record) (h : Local p r) (i : T (isIdle (r .control))) (k : Local p q) (j : T (isIdle (q .control))) where
+    abbrev pub after : List (Turn Order) → Sys (stepMachine K p)
+    after ts = run (stepMachine K p) (fresh (stepMachine K p) r q) ts
 
-  -- and on every run t-start runs exactly in START-REQ, the user is active exactly outside IDLE, and IDLE has DSC false
-  pub step-local : (ts : List (Turn Order)) → Local p (run (stepMachine K p) (fresh (stepMachine K p) (freshWith p) (freshWith p)) ts .here .rec) × Local p (run (stepMachine K p) (fresh (stepMachine K p) (freshWith p) (freshWith p)) ts .there .rec)
-  step-local ts =
-      let h = followed (stepMachine K p) control agrees (freshWith p) (freshWith p) new new fresh-same fresh-same ts .rel in
-      (h .here .rec .local, h .there .rec .local)
+    -- demand 3 for the machines of crate machine
+    pub step-holds : (ts : List (Turn Order)) → Claims (stepMachine K p) (r .highest) (q .highest) (after ts)
+    step-holds ts = machine-holds (stepMachine K p) agrees (r .highest) (q .highest) r q (idle-same r h i) (idle-same q k j) ts
 
-  -- and no machine answers an entry that is handed over by a D-ABORT
-  pub step-quiet : (ts : List (Turn Order)) → BothQuiet (stepMachine K p) (run (stepMachine K p) (fresh (stepMachine K p) (freshWith p) (freshWith p)) ts)
-  step-quiet ts = none-answered (stepMachine K p) agrees (freshWith p) (freshWith p) fresh-same fresh-same ts
+    -- and on every run t-start runs exactly in START-REQ, the user is active exactly outside IDLE, and IDLE has DSC false
+    pub step-local : (ts : List (Turn Order)) → Local p (after ts .here .rec) × Local p (after ts .there .rec)
+    step-local ts =
+        let f = followed (stepMachine K p) control agrees r q (held closed (r .highest)) (held closed (q .highest)) (idle-same r h i) (idle-same q k j) ts .rel in
+        (f .here .rec .local, f .there .rec .local)
+
+    -- and no machine answers an entry that is handed over by a D-ABORT
+    pub step-quiet : (ts : List (Turn Order)) → BothQuiet (stepMachine K p) (after ts)
+    step-quiet ts = none-answered (stepMachine K p) agrees (r .highest) (q .highest) r q (idle-same r h i) (idle-same q k j) ts

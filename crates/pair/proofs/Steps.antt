@@ -3,10 +3,11 @@
 use mathlib.Core.Path.{refl}
 use mathlib.Core.Bool.{false}
 use mathlib.Core.List.{List, [], _∷_}
+use Prim.Native.Nat.{ℕ}
 use lib.Dec.{T}
 use Rattle.pair.specs.Names.{Side, Air, Ground, TimerExpiry, SystemError, other}
-use Rattle.pair.specs.Carrier.{Sys, Step, user-call, hand-over, timer-expires, error-reported, turn-away, fail, Turn, swap, fresh, stepped, turned, run}
-use Rattle.pair.specs.ControlMachine.{Ask, ask, new, control}
+use Rattle.pair.specs.Carrier.{Sys, Step, user-call, hand-over, timer-expires, error-reported, turn-away, fail, Turn, swap, stepped, turned, run}
+use Rattle.pair.specs.ControlMachine.{Ask, ask, control, bothIdle}
 use Rattle.pair.proofs.Drain.{front}
 use Rattle.pair.proofs.Tests.{flip-at}
 use Rattle.pair.proofs.Invariant.{Inv, no-data}
@@ -36,5 +37,5 @@ unfolding run
 run-keeps [] s h = h
 run-keeps (t ∷ ts) s h = run-keeps ts (turned control (t .side) s (t .step)) (turn-keeps (t .side) s (t .step) h)
 
-pub fresh-inv : Inv Air (fresh control new new)
-fresh-inv = record { con = tt; wfH = tt; wfT = tt; headO = λ (y : T false). absurd y; headI = λ (y : T false). absurd y; dataO = no-data false; dataI = no-data false }
+pub idle-inv : (i j : ℕ) → Inv Air (bothIdle i j)
+idle-inv i j = record { con = tt; wfH = tt; wfT = tt; headO = λ (y : T false). absurd y; headI = λ (y : T false). absurd y; dataO = no-data false; dataI = no-data false }

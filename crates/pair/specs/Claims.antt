@@ -26,7 +26,8 @@ abbrev pub rising : ℕ → List ℕ → Bool
 rising n [] = true
 rising n (j ∷ js) = ltb n j && rising j js
 
-pub record Claims (m : Machine) (s : Sys m) : Type 0 where
+-- i, j: the highest jobs that the two ends had taken when the run began
+pub record Claims (m : Machine) (i j : ℕ) (s : Sys m) : Type 0 where
   -- both lines empty: the two ends are a matching pair
   pub ends-match : s .here .line ≡ [] → s .there .line ≡ [] → T (matching (m .ctl (s .here .rec)) (m .ctl (s .there .rec)))
   -- what an end handed out in this dialogue is the beginning of what the other took in it, in that order
@@ -34,4 +35,4 @@ pub record Claims (m : Machine) (s : Sys m) : Type 0 where
   -- and all of it, if both lines are empty and nothing broke the dialogue
   pub handed-all : s .here .line ≡ [] → s .there .line ≡ [] → s .broken ≡ false → (s .there .given ≡ s .here .taken) × (s .here .given ≡ s .there .taken)
   -- each end takes its jobs in strictly rising order, over all its dialogues: none is taken twice
-  pub jobs-rise : T (rising 0 (s .here .jobs)) × T (rising 0 (s .there .jobs))
+  pub jobs-rise : T (rising i (s .here .jobs)) × T (rising j (s .there .jobs))

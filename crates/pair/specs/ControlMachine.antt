@@ -5,7 +5,7 @@ use mathlib.Core.Bool.{Bool, true, cond, _&&_}
 use mathlib.Core.List.{List, [], _∷_}
 use lib.Dec.{ltb}
 use Rattle.pair.specs.Names.{Side, Control, Primitive, DStart, DStartCnf, DTurnedAway, DData, DEnd, DEndCnf, DAbort, DPAbort, Call, TimerExpiry, SystemError, closed, takes, goes, sends, isData, Did, quiet, aborts, meets, hands}
-use Rattle.pair.specs.Carrier.{Body, Sent, nothing, puts, message, Outcome, refused, acts, Sort, begins, breaks, plain, Machine}
+use Rattle.pair.specs.Carrier.{Body, Sent, nothing, puts, message, Outcome, refused, acts, Sort, begins, breaks, plain, Machine, Sys, fresh}
 
 pub record Held : Type 0 where
   pub ctl : Control
@@ -91,3 +91,7 @@ control = record {
   away = λ (sd : Side) (q : Held). receives sd q (ent DTurnedAway []);
   pAbort = λ (sd : Side) (q : Held). receives sd q (ent DPAbort []);
 }
+
+-- two ends that are IDLE with DSC false, and whose highest jobs are i and j
+abbrev pub bothIdle : ℕ → ℕ → Sys control
+bothIdle i j = fresh control (held closed i) (held closed j)

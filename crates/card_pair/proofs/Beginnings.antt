@@ -1,0 +1,127 @@
+-- The bytes at which a run may begin hold a record of the pair. Those that peat_fresh made are such bytes, and so are those of an end that a run left IDLE.
+-- Assumes nothing.
+use mathlib.Core.Path.{_≡_, refl, ap, sym, subst, _∙_}
+use mathlib.Core.Bool.{Bool, true, false, not, cond, _&&_}
+use mathlib.Core.List.{List}
+use Prim.Native.Nat.{ℕ, _<_}
+use native.Mathlib.Omega.{arith}
+use borrow.Author.Tests.{eqb-true, ltb-true}
+use lib.Dec.{T, leb, ltb, eqb}
+use lib.ListN.{length, getD}
+use Rattle.words.proofs.Laws.{both-left, both-right}
+use Rattle.bits.specs.Bits.{bitsTo}
+use Rattle.bits.specs.Read.{readBits}
+use Rattle.bits.specs.declared.Read.{Read}
+use Rattle.bits.specs.declared.Read.the-variants.{Number, Short}
+use Rattle.bits.proofs.Bytes.{bits-to}
+use Rattle.bits.proofs.Reading.{number-lt}
+use Rattle.machine.specs.Codes.{securityValues}
+use Rattle.machine.specs.Record.{freshRecord}
+use Rattle.machine.specs.Run.{waits, Formed}
+use Rattle.machine.specs.declared.record.Record.{Record}
+use Rattle.step.specs.Stored.{sideCode, headFits, headOf, withHighest, loadAt, storeAt}
+use Rattle.step.specs.declared.stored.Loaded.{Loaded}
+use Rattle.step.specs.declared.stored.Loaded.the-variants.{Is, NoRecord}
+use Rattle.step.proofs.Taken.{never, Coded}
+use Rattle.card.specs.Face.{freshFor, freshCall}
+use Rattle.pair.specs.Names.{Side, Air, Ground, StartReq, Control, is, isIdle, closed}
+use Rattle.pair.proofs.Finite.{is-T, T-is}
+use Rattle.pair.proofs.StepLocal.{Local, closed-is-idle}
+use Rattle.card_pair.specs.Promise.{Begins, Stands}
+use Rattle.card_pair.proofs.Ends.{Keeps, stored-keeps}
+
+-- ---- what is loaded is coded
+
+abbrev isRecord : Loaded → Bool
+isRecord (Is sd r) = true
+isRecord NoRecord = false
+
+abbrev recordIn : Loaded → Record → Record
+recordIn (Is sd r) q = r
+recordIn NoRecord q = q
+
+by-test : (t : Bool) (x : Loaded) (sd : Side) (r : Record) → cond t x NoRecord ≡ Is sd r → (t ≡ true) × (x ≡ Is sd r)
+by-test true x sd r e = (refl, e)
+by-test false x sd r e = never (ap isRecord e)
+
+-- the tests of the first eight bytes before those of the two security values
+abbrev before : List ℕ → Bool
+before b = leb 1 (getD b 0 0) && leb (getD b 0 0) 2 && ltb (getD b 1 0) 5 && ltb (getD b 2 0) 2 && ltb (getD b 3 0) 2 && ltb (getD b 4 0) 2
+
+number-coded : (b : List ℕ) (x : Read) (sd : Side) (r : Record) → readBits (bitsTo b 128) 64 64 ≡ x → headOf b ≡ true → withHighest b x ≡ Is sd r → Coded r
+unfolding withHighest headFits
+number-coded b (Number h next) sd r e t f =
+    let p = both-left (before b && ltb (getD b 5 0) securityValues && ltb (getD b 6 0) securityValues) (eqb (getD b 7 0) 0) t in
+    let q = both-left (before b && ltb (getD b 5 0) securityValues) (ltb (getD b 6 0) securityValues) p in
+    subst Coded (ap (λ (z : Loaded). recordIn z r) f)
+    (record {
+      request = ltb-true (getD b 5 0) securityValues (both-right (before b) (ltb (getD b 5 0) securityValues) q);
+      policy = ltb-true (getD b 6 0) securityValues (both-right (before b && ltb (getD b 5 0) securityValues) (ltb (getD b 6 0) securityValues) p);
+      highest = number-lt (bitsTo b 128) 64 64 h next (bits-to b 128) e;
+    })
+number-coded b Short sd r e t f = never (ap isRecord f)
+
+pub loaded-keeps : (b : List ℕ) (sd : Side) (r : Record) → loadAt b ≡ Is sd r → Keeps sd b r
+unfolding loadAt
+loaded-keeps b sd r e =
+    let x = by-test (eqb (length b) 16 && headOf b) (withHighest b (readBits (bitsTo b 128) 64 64)) sd r e in
+    record {
+      load = e;
+      size = eqb-true (length b) 16 (both-left (eqb (length b) 16) (headOf b) (x .0));
+      coded = number-coded b (readBits (bitsTo b 128) 64 64) sd r refl (both-right (eqb (length b) 16) (headOf b) (x .0)) (x .1);
+    }
+
+-- ---- a record at which a run may begin is one of the pair
+
+module _ (p : ℕ) (sd : Side) (b : List ℕ) (h : Begins p sd b) where
+  pub begins-keeps : Keeps sd b (h .held)
+  begins-keeps = loaded-keeps b sd (h .held) (h .load)
+
+  pub begins-idle : T (isIdle (h .held .control))
+  begins-idle = subst (λ (c : Control). T (isIdle c)) (sym (h .idle)) tt
+
+  pub begins-local : Local p (h .held)
+  begins-local =
+      record {
+        formed = record {
+          timer = h .timer ∙ sym (ap (λ (c : Control). waits (c .state)) (h .idle));
+          user = h .user ∙ sym (ap (λ (c : Control). not (isIdle c)) (h .idle));
+          idle = λ (i : isIdle (h .held .control) ≡ true). ap (λ (c : Control). c .dsc) (h .idle);
+        };
+        policy = h .policy;
+        request = λ (x : T (is (h .held .control .state) StartReq)). absurd (subst (λ (c : Control). T (is (c .state) StartReq)) (h .idle) x);
+      }
+
+  pub begins-valid : p < securityValues
+  begins-valid = subst (λ (n : ℕ). n < securityValues) (h .policy) (begins-keeps .coded .policy)
+
+-- ---- which bytes are such
+
+stored-begins : (p : ℕ) (sd : Side) (r : List ℕ) → p < securityValues → length r ≡ 16 → Begins p sd (storeAt r sd (freshRecord (record { policy = p })) .bytes)
+stored-begins p sd r v h =
+    let k = stored-keeps sd r (freshRecord (record { policy = p })) h (record { request = omega arith; policy = v; highest = omega arith }) in
+    record { held = freshRecord (record { policy = p }); load = k .load; policy = refl; idle = refl; timer = refl; user = refl }
+
+-- what peat_fresh made in any range of sixteen bytes
+pub fresh-begins : (p : ℕ) (sd : Side) (r : List ℕ) → p < securityValues → length r ≡ 16 → Begins p sd (freshCall r (sideCode sd) p .bytes)
+unfolding freshCall freshFor
+fresh-begins p Air r v h = stored-begins p Air r v h
+fresh-begins p Ground r v h = stored-begins p Ground r v h
+
+pub fresh-highest : (p : ℕ) (sd : Side) (r : List ℕ) (v : p < securityValues) (h : length r ≡ 16) → fresh-begins p sd r v h .held .highest ≡ 0
+unfolding fresh-begins stored-begins
+fresh-highest p Air r v h = refl
+fresh-highest p Ground r v h = refl
+
+-- the bytes of an end that is IDLE after a run: the record may meet the next aircraft
+pub idle-begins : (p : ℕ) (sd : Side) (b : List ℕ) (s : Stands p sd b) → T (isIdle (s .held .control)) → Begins p sd b
+idle-begins p sd b s i =
+    let e = sym (closed-is-idle (s .held) (s .formed) (is-T _ i)) in
+    record {
+      held = s .held;
+      load = s .load;
+      policy = s .policy;
+      idle = e;
+      timer = s .formed .timer ∙ ap (λ (c : Control). waits (c .state)) e;
+      user = s .formed .user ∙ ap (λ (c : Control). not (isIdle c)) e;
+    }

@@ -1,0 +1,37 @@
+-- What is promised of two cards and a carrier: the bytes of an end at which a run may begin, and what holds after every step.
+use Prim.Native.Nat.{ℕ}
+use mathlib.Core.Path.{_≡_}
+use mathlib.Core.Bool.{false}
+use mathlib.Core.List.{List}
+use Rattle.machine.specs.Run.{Formed}
+use Rattle.machine.specs.declared.record.Record.{Record}
+use Rattle.step.specs.Stored.{loadAt}
+use Rattle.step.specs.declared.stored.Loaded.the-variants.{Is}
+use Rattle.pair.specs.Names.{Side, Air, Ground, closed}
+use Rattle.pair.specs.Carrier.{Sys}
+use Rattle.pair.specs.Claims.{Claims}
+use Rattle.card_pair.specs.CardMachine.{Buffers, cardMachine}
+
+-- document 01: an end at the beginning is "IDLE with DSC false, timer stopped and user not active". b are the bytes of such a record, of side sd, whose policy
+-- accepts p. Its highest job is any, and so is the value of its last start request
+pub record Begins (p : ℕ) (sd : Side) (b : List ℕ) : Type 0 where
+  pub held : Record
+  pub load : loadAt b ≡ Is sd held
+  pub policy : held .policy ≡ p
+  pub idle : held .control ≡ closed
+  pub timer : held .timer ≡ false
+  pub user : held .active ≡ false
+
+-- b are the bytes of a record of side sd whose policy accepts p, in which t-start runs exactly in START-REQ, the user is active exactly outside IDLE, and IDLE has
+-- DSC false. So bytes that are no record can't count as an IDLE end
+pub record Stands (p : ℕ) (sd : Side) (b : List ℕ) : Type 0 where
+  pub held : Record
+  pub load : loadAt b ≡ Is sd held
+  pub policy : held .policy ≡ p
+  pub formed : Formed held
+
+-- demand 3 of two cards; i, j: the highest jobs of the air's and the ground's record at the beginning
+pub record Promise (p : ℕ) (host : Side → ℕ → Buffers) (i j : ℕ) (s : Sys (cardMachine p host)) : Type 0 where
+  pub air : Stands p Air (s .here .rec .bytes)
+  pub ground : Stands p Ground (s .there .rec .bytes)
+  pub claims : Claims (cardMachine p host) i j s

@@ -6,8 +6,8 @@ use mathlib.Core.List.{List}
 use Prim.Native.Nat.{ℕ}
 use borrow.Author.Tests.{ne-eqb}
 use Rattle.machine.specs.Record.{freshRecord}
-use Rattle.machine.specs.declared.control.Side.{Side}
-use Rattle.machine.specs.declared.control.Side.the-variants.{Air, Ground}
+use Rattle.control.specs.declared.Side.{Side}
+use Rattle.control.specs.declared.Side.the-variants.{Air, Ground}
 use Rattle.machine.specs.declared.record.Record.{Record}
 use Rattle.step.specs.Stored.{storeAt, kept}
 use Rattle.card.specs.Face.{made, freshFor, freshCall}

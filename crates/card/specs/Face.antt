@@ -10,7 +10,7 @@ use Rattle.apdu.specs.declared.Part.{Part}
 use Rattle.apdu.specs.declared.Part.the-variants as part
 use Rattle.apdu.specs.declared.Data.{Data}
 use Rattle.machine.specs.Record.{freshRecord}
-use Rattle.machine.specs.declared.control.Side.the-variants.{Air, Ground}
+use Rattle.control.specs.declared.Side.the-variants.{Air, Ground}
 use Rattle.machine.specs.declared.record.Configuration.{Configuration}
 use Rattle.machine.specs.declared.event.UserPrimitive.{UserPrimitive}
 use Rattle.machine.specs.declared.event.UserPrimitive.the-variants.{MessageServiceRequest, UserAbortServiceRequest}

@@ -3,7 +3,7 @@ ghost use mathlib.Core.Path.{_≡_};
 ghost use mathlib.Core.Bool.{cond};
 ghost use Rattle.words.specs.Limits.{shape};
 ghost use Rattle.card.specs.Face.{freshCall, made};
-use machine::control::Side;
+use control::Side;
 use machine::record::Configuration;
 use machine::record::Record;
 use step::store;

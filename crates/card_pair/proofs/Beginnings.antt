@@ -17,7 +17,8 @@ use Rattle.bits.proofs.Bytes.{bits-to}
 use Rattle.bits.proofs.Reading.{number-lt}
 use Rattle.machine.specs.Codes.{securityValues}
 use Rattle.machine.specs.Record.{freshRecord}
-use Rattle.machine.specs.Run.{waits, Formed}
+use Rattle.control.specs.Control.{waits}
+use Rattle.machine.specs.Run.{Formed}
 use Rattle.machine.specs.declared.record.Record.{Record}
 use Rattle.step.specs.Stored.{sideCode, headFits, headOf, withHighest, loadAt, storeAt}
 use Rattle.step.specs.declared.stored.Loaded.{Loaded}

@@ -7,7 +7,7 @@ use Prim.Native.Nat.{ℕ, _≤_, _<_}
 use lib.Dec.{T, ltb, leb, eqb}
 use borrow.Author.Tests.{le-leb, lt-leb, eqb-true, not-false}
 use Rattle.machine.specs.Codes.{accepted, user, undefined, userReasons, timerExpired, invalidPdu, protocolError, communicationServiceFailure, communicationServiceError, invalidQosParameter, expectedPduMissing, notPermittedPdu}
-use Rattle.machine.specs.Control.{isIdle, entered, takes, goes, sends, expects, after, isStart}
+use Rattle.control.specs.Control.{isIdle, takes, goes, sends, expects, after, isStart}
 use Rattle.machine.specs.Record.{withJob, enter}
 use Rattle.machine.specs.Event.{readable, qosFits, userShapely, serviceShapely, indicationShapely, confirmationShapely, shapely}
 use Rattle.machine.specs.Outcome.{isNone, refused}
@@ -16,14 +16,12 @@ use Rattle.machine.specs.Calls.{answer, sent, startRequest, startRespons
 use Rattle.machine.specs.Primitives.{modeOf, turnedAway, startFits, handed, read, received, offered, dStartIndication, confirmed, dStartConfirmation, dDataIndication, dEndIndication, dEndConfirmation, abortFits, abortExpected, dAbortIndication, dPAbortIndication, reached}
 use Rattle.machine.specs.Step.{permitted, messageRefusal, refusalOf, acts, step}
 use Rattle.machine.proofs.Ways.{by-test}
-use Rattle.machine.proofs.Tests.{idle-expects}
-use Rattle.machine.specs.declared.control.Side.{Side}
-use Rattle.machine.specs.declared.control.Side.the-variants.{Air, Ground}
-use Rattle.machine.specs.declared.control.State.the-variants.{End}
-use Rattle.machine.specs.declared.control.Answer.the-variants.{Accepted, Rejected}
-use Rattle.machine.specs.declared.control.Call.the-variants.{MessageRequest}
-use Rattle.machine.specs.declared.control.Primitive.{Primitive}
-use Rattle.machine.specs.declared.control.Primitive.the-variants.{DStart, DStartCnf, DData, DEnd, DEndCnf, DAbort, DPAbort}
+use Rattle.control.proofs.Moves.{idle-expects}
+use Rattle.control.specs.declared.Side.{Side}
+use Rattle.control.specs.declared.Answer.the-variants.{Accepted, Rejected}
+use Rattle.control.specs.declared.Call.the-variants.{MessageRequest}
+use Rattle.control.specs.declared.Primitive.{Primitive}
+use Rattle.control.specs.declared.Primitive.the-variants.{DStart, DStartCnf, DData, DEnd, DEndCnf, DAbort, DPAbort}
 use Rattle.machine.specs.declared.record.Record.{Record}
 use Rattle.machine.specs.declared.event.Apdu.{Apdu}
 use Rattle.machine.specs.declared.event.Apdu.the-variants.{Absent, NotValid, AbortUser, Forward}
@@ -279,17 +277,11 @@ start-secure sd r i =
     (λ q. by-test (Secure (eqb (i .security) (r .policy))) (not (eqb (i .security) (r .policy))) _ _ (λ y. except-secure r _ true _ _) (λ y e. not-false _ y))))
     (λ n e. absurd (subst T (sym e) tt))
 
--- ---- a message request stays in DIALOGUE, and in END where the other side asked for the end (3.5.3.10, 2.3.5.5.10)
+-- ---- a message request stays in its state (3.5.3.10, 2.3.5.5.10)
 
 pub message-stays : (r : Record) (j : ℕ) → messageRequest r j .next .control ≡ r .control
 unfolding messageRequest sent enter
 message-stays r j = refl
-
-pub air-end-messages : (takes Air (entered End false) MessageRequest ≡ true) × (takes Air (entered End true) MessageRequest ≡ false)
-air-end-messages = (refl, refl)
-
-pub ground-end-messages : (takes Ground (entered End false) MessageRequest ≡ false) × (takes Ground (entered End true) MessageRequest ≡ true)
-ground-end-messages = (refl, refl)
 
 -- ---- user abort outside IDLE: D-ABORT with originator "user"; no reason given means undefined
 

@@ -6,23 +6,23 @@ use mathlib.Core.List.{List, [], _∷_}
 use Prim.Native.Nat.{ℕ, _≤_, _<_}
 use native.Mathlib.Omega.{arith}
 use lib.Dec.{T}
-use Rattle.machine.specs.Control.{isIdle, goes, after, isStart}
+use Rattle.control.specs.Control.{isIdle, waits, goes, after, isStart}
 use Rattle.machine.specs.Record.{freshRecord, withTimer, withUser, withJob, enter}
 use Rattle.machine.specs.Outcome.{isNone, refused}
 use Rattle.machine.specs.Exceptions.{tell, closes, aborts}
 use Rattle.machine.specs.Calls.{sent, startRequest, messageRequest}
 use Rattle.machine.specs.Primitives.{handed}
 use Rattle.machine.specs.Step.{step}
-use Rattle.machine.specs.Run.{run, waits, Formed}
+use Rattle.machine.specs.Run.{run, Formed}
 use Rattle.machine.proofs.Ways.{Way, is-refused, is-closed, is-aborted, is-started, is-message, is-called, is-invited, is-confirmed, is-read, ways, isAbort, within}
-use Rattle.machine.proofs.Tests.{isConfirmation, call-rests, primitive-rests, call-timed, call-held, primitive-timed, primitive-held, busy-takes}
-use Rattle.machine.specs.declared.control.Side.{Side}
-use Rattle.machine.specs.declared.control.Control.{Control}
-use Rattle.machine.specs.declared.control.Answer.{Answer}
-use Rattle.machine.specs.declared.control.Answer.the-variants.{Accepted, Rejected}
-use Rattle.machine.specs.declared.control.Call.the-variants.{MessageRequest}
-use Rattle.machine.specs.declared.control.Primitive.{Primitive}
-use Rattle.machine.specs.declared.control.Primitive.the-variants.{DStart, DStartCnf, DTurnedAway, DData, DEnd, DEndCnf, DAbort, DPAbort}
+use Rattle.control.proofs.Moves.{isConfirmation, call-rests, primitive-rests, call-timed, call-held, primitive-timed, primitive-held, busy-takes}
+use Rattle.control.specs.declared.Side.{Side}
+use Rattle.control.specs.declared.Control.{Control}
+use Rattle.control.specs.declared.Answer.{Answer}
+use Rattle.control.specs.declared.Answer.the-variants.{Accepted, Rejected}
+use Rattle.control.specs.declared.Call.the-variants.{MessageRequest}
+use Rattle.control.specs.declared.Primitive.{Primitive}
+use Rattle.control.specs.declared.Primitive.the-variants.{DStart, DStartCnf, DTurnedAway, DData, DEnd, DEndCnf, DAbort, DPAbort}
 use Rattle.machine.specs.declared.record.Configuration.{Configuration}
 use Rattle.machine.specs.declared.record.Record.{Record}
 use Rattle.machine.specs.declared.event.Event.{Event}

@@ -6,7 +6,7 @@ use Prim.Native.Nat.{ℕ, _<_}
 use lib.Dec.{T, ltb, leb, eqb}
 use borrow.Author.Tests.{leb-false, not-false}
 use Rattle.words.proofs.Laws.{both-left, both-right}
-use Rattle.machine.specs.Control.{isIdle, takes, expects}
+use Rattle.control.specs.Control.{isIdle, takes, expects}
 use Rattle.machine.specs.Record.{withTimer, withUser, enter}
 use Rattle.machine.specs.Codes.{accepted}
 use Rattle.machine.specs.Event.{qosFits, shapely}
@@ -14,13 +14,14 @@ use Rattle.machine.specs.Outcome.{isNone, refused}
 use Rattle.machine.specs.Exceptions.{tell, closes, aborts, excepts, timerExpires, systemError, noInstruction, pduFault}
 use Rattle.machine.specs.Calls.{answer, sent, startRequest, startResponse, messageRequest, endRequest, endResponse, userAbort, callOf, unsent, called}
 use Rattle.machine.specs.Primitives.{isSend, isStartPdu, modeOf, readsStarts, startFits, peerFits, turnedAway, handed, read, received, offered, dStartIndication, confirmed, dStartConfirmation, dDataIndication, dEndIndication, dEndConfirmation, abortExpected, abortTold, dAbortIndication, dPAbortIndication, reached}
+use Rattle.control.proofs.Moves.{busy}
 use Rattle.machine.specs.Step.{permitted, messageRefusal, refusalOf, acts, step}
-use Rattle.machine.specs.declared.control.Side.{Side}
-use Rattle.machine.specs.declared.control.Answer.{Answer}
-use Rattle.machine.specs.declared.control.Call.{Call}
-use Rattle.machine.specs.declared.control.Call.the-variants.{StartRequest, StartResponse, MessageRequest, EndRequest, EndResponse, UserAbort, TimerExpiry, SystemError}
-use Rattle.machine.specs.declared.control.Primitive.{Primitive}
-use Rattle.machine.specs.declared.control.Primitive.the-variants.{DStart, DStartCnf, DTurnedAway, DData, DEnd, DEndCnf, DAbort, DPAbort}
+use Rattle.control.specs.declared.Side.{Side}
+use Rattle.control.specs.declared.Answer.{Answer}
+use Rattle.control.specs.declared.Call.{Call}
+use Rattle.control.specs.declared.Call.the-variants.{StartRequest, StartResponse, MessageRequest, EndRequest, EndResponse, UserAbort}
+use Rattle.control.specs.declared.Primitive.{Primitive}
+use Rattle.control.specs.declared.Primitive.the-variants.{DStart, DStartCnf, DTurnedAway, DData, DEnd, DEndCnf, DAbort, DPAbort}
 use Rattle.machine.specs.declared.record.Record.{Record}
 use Rattle.machine.specs.declared.event.Apdu.{Apdu}
 use Rattle.machine.specs.declared.event.Apdu.the-variants.{Absent, NotValid, Start, Send, AbortUser, AbortProvider, Forward}
@@ -38,17 +39,6 @@ use Rattle.machine.specs.declared.outcome.Invoked.{Invoked}
 use Rattle.machine.specs.declared.outcome.Told.{Told}
 use Rattle.machine.specs.declared.outcome.Told.the-variants.{Untold, StartIndication, StartConfirmation, MessageIndication, EndIndication, EndConfirmation, UserAbortIndication, ProviderAbortIndication}
 use Rattle.machine.specs.declared.outcome.Outcome.{Outcome}
-
--- a call inside a dialogue
-abbrev pub busy : Call → Bool
-busy (StartRequest m) = false
-busy (StartResponse m a) = true
-busy MessageRequest = true
-busy (EndRequest m) = true
-busy (EndResponse m a) = true
-busy UserAbort = true
-busy TimerExpiry = false
-busy SystemError = false
 
 -- a primitive inside a dialogue: data, an end or its confirmation
 abbrev pub within : Primitive → Bool

@@ -13,9 +13,9 @@ use Rattle.machine.specs.Calls.{answer, sent, startRequest, startRespons
 use Rattle.machine.specs.Primitives.{startFits, handed, read, received, offered, dStartIndication, confirmed, dStartConfirmation, dDataIndication, dEndIndication, dEndConfirmation, reached}
 use Rattle.machine.specs.Step.{permitted, messageRefusal, refusalOf, acts, step}
 use Rattle.machine.specs.Run.{run}
-use Rattle.machine.specs.declared.control.Side.{Side}
-use Rattle.machine.specs.declared.control.Side.the-variants.{Air, Ground}
-use Rattle.machine.specs.declared.control.State.the-variants.{Idle, Dialogue}
+use Rattle.control.specs.declared.Side.{Side}
+use Rattle.control.specs.declared.Side.the-variants.{Air, Ground}
+use Rattle.control.specs.declared.State.the-variants.{Idle, Dialogue}
 use Rattle.machine.specs.declared.record.Record.{Record}
 use Rattle.machine.specs.declared.event.Apdu.the-variants.{Start, Send}
 use Rattle.machine.specs.declared.event.UserPrimitive.the-variants.{StartServiceRequest, StartServiceResponse, MessageServiceRequest, EndServiceRequest, EndServiceResponse}

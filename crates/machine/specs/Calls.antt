@@ -3,13 +3,13 @@ use Prim.Native.Nat.{ℕ}
 use mathlib.Core.Bool.{Bool, true, false, not, cond}
 use lib.Dec.{eqb, leb}
 use Rattle.machine.specs.Codes.{accepted, user, undefined, highPriority, lowErrorRate}
-use Rattle.machine.specs.Control.{goes}
+use Rattle.control.specs.Control.{goes}
 use Rattle.machine.specs.Record.{withTimer, withUser, withJob, withRequest, enter}
 use Rattle.machine.specs.Outcome.{outcome}
-use Rattle.machine.specs.declared.control.Answer.{Answer}
-use Rattle.machine.specs.declared.control.Answer.the-variants.{Accepted, Rejected}
-use Rattle.machine.specs.declared.control.Call.{Call}
-use Rattle.machine.specs.declared.control.Call.the-variants.{StartRequest, StartResponse, MessageRequest, EndRequest, EndResponse, UserAbort}
+use Rattle.control.specs.declared.Answer.{Answer}
+use Rattle.control.specs.declared.Answer.the-variants.{Accepted, Rejected}
+use Rattle.control.specs.declared.Call.{Call}
+use Rattle.control.specs.declared.Call.the-variants.{StartRequest, StartResponse, MessageRequest, EndRequest, EndResponse, UserAbort}
 use Rattle.machine.specs.declared.record.Record.{Record}
 use Rattle.machine.specs.declared.event.Apdu.{Apdu}
 use Rattle.machine.specs.declared.event.Apdu.the-variants.{Start, Send, AbortUser}

@@ -2,7 +2,7 @@
 use Prim.Native.Nat.{ℕ}
 use mathlib.Core.Bool.{Bool, true, false, cond}
 use Rattle.machine.specs.Codes.{provider, timerExpired, undefinedError, invalidPdu, protocolError, expectedPduMissing, notPermittedPdu}
-use Rattle.machine.specs.Control.{isIdle, closed}
+use Rattle.control.specs.Control.{isIdle, closed}
 use Rattle.machine.specs.Record.{enter}
 use Rattle.machine.specs.Outcome.{outcome}
 use Rattle.machine.specs.declared.record.Record.{Record}

@@ -1,5 +1,4 @@
 pub mod Codes
-pub mod Control
 pub mod Record
 pub mod Event
 pub mod Outcome

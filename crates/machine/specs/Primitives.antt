@@ -3,17 +3,17 @@ use Prim.Native.Nat.{ℕ}
 use mathlib.Core.Bool.{Bool, true, false, not, cond, _&&_, _||_}
 use lib.Dec.{eqb}
 use Rattle.machine.specs.Codes.{accepted, transient, dsProvider, user, provider, facility, aircraft, communicationServiceError, communicationServiceFailure, invalidQosParameter}
-use Rattle.machine.specs.Control.{isIdle, expects, after}
+use Rattle.control.specs.Control.{isIdle, expects, after}
 use Rattle.machine.specs.Record.{withTimer, withUser, enter}
 use Rattle.machine.specs.Event.{qosFits}
 use Rattle.machine.specs.Outcome.{outcome}
 use Rattle.machine.specs.Exceptions.{tell, closes, aborts, excepts, noInstruction, pduFault}
 use Rattle.machine.specs.Calls.{answer}
-use Rattle.machine.specs.declared.control.Side.{Side}
-use Rattle.machine.specs.declared.control.Side.the-variants.{Air, Ground}
-use Rattle.machine.specs.declared.control.Control.{Control}
-use Rattle.machine.specs.declared.control.Primitive.{Primitive}
-use Rattle.machine.specs.declared.control.Primitive.the-variants.{DStart, DStartCnf, DData, DEnd, DEndCnf, DAbort, DPAbort}
+use Rattle.control.specs.declared.Side.{Side}
+use Rattle.control.specs.declared.Side.the-variants.{Air, Ground}
+use Rattle.control.specs.declared.Control.{Control}
+use Rattle.control.specs.declared.Primitive.{Primitive}
+use Rattle.control.specs.declared.Primitive.the-variants.{DStart, DStartCnf, DData, DEnd, DEndCnf, DAbort, DPAbort}
 use Rattle.machine.specs.declared.record.Record.{Record}
 use Rattle.machine.specs.declared.event.Apdu.{Apdu}
 use Rattle.machine.specs.declared.event.Apdu.the-variants.{Absent, NotValid, Start, Send, AbortUser, AbortProvider, Forward}

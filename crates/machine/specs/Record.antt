@@ -1,16 +1,11 @@
 -- The record of one dialogue at one end: how it is made, and how one field of it is set. Every other field stays.
 use Prim.Native.Nat.{ℕ}
 use mathlib.Core.Bool.{Bool, true, false, not, _&&_}
-use lib.Dec.{ltb}
-use Rattle.machine.specs.declared.control.Control.{Control}
+use Rattle.control.specs.declared.Control.{Control}
 use Rattle.machine.specs.declared.record.Configuration.{Configuration}
 use Rattle.machine.specs.declared.record.Record.{Record}
-use Rattle.machine.specs.Codes.{noSecurity, securityValues}
-use Rattle.machine.specs.Control.{isIdle, closed}
-
--- document 01: the security value that local policy accepts, "given when the record is made", is of its type
-abbrev pub configured : Configuration → Bool
-configured g = ltb (g .policy) securityValues
+use Rattle.machine.specs.Codes.{noSecurity}
+use Rattle.control.specs.Control.{isIdle, closed}
 
 -- document 01, "A fresh record"; Doc 9705 2.3.5.3.1.5, 2.3.5.3.1.6, 2.3.5.5.1.5, 2.3.5.5.1.6
 abbrev pub freshRecord : Configuration → Record

@@ -2,21 +2,15 @@
 use mathlib.Core.Path.{_≡_}
 use mathlib.Core.Bool.{Bool, true, false, not}
 use mathlib.Core.List.{List, [], _∷_}
-use Rattle.machine.specs.Control.{is, isIdle}
+use Rattle.control.specs.Control.{isIdle, waits}
 use Rattle.machine.specs.Step.{step}
-use Rattle.machine.specs.declared.control.Side.{Side}
-use Rattle.machine.specs.declared.control.State.{State}
-use Rattle.machine.specs.declared.control.State.the-variants.{StartReq}
+use Rattle.control.specs.declared.Side.{Side}
 use Rattle.machine.specs.declared.record.Record.{Record}
 use Rattle.machine.specs.declared.event.Event.{Event}
 
 unfoldable pub run : Side → Record → List Event → Record
 run sd r [] = r
 run sd r (e ∷ es) = run sd (step sd r e .next) es
-
--- a state that waits for a confirmation of its start: t-start runs there
-abbrev pub waits : State → Bool
-waits s = is s StartReq
 
 -- the timer runs exactly where a start is to be confirmed, the user is active exactly outside IDLE, and IDLE has DSC false
 pub record Formed (r : Record) : Type 0 where

@@ -1,12 +1,12 @@
 -- The step of either machine: the refusals in document 01's order, else the clause of the event.
 use mathlib.Core.Bool.{Bool, true, false, not, cond}
-use Rattle.machine.specs.Control.{takes}
+use Rattle.control.specs.Control.{takes}
 use Rattle.machine.specs.Event.{shapely}
 use Rattle.machine.specs.Outcome.{isNone, refused}
 use Rattle.machine.specs.Exceptions.{timerExpires, systemError}
 use Rattle.machine.specs.Calls.{callOf, unsent, called}
 use Rattle.machine.specs.Primitives.{reached}
-use Rattle.machine.specs.declared.control.Side.{Side}
+use Rattle.control.specs.declared.Side.{Side}
 use Rattle.machine.specs.declared.record.Record.{Record}
 use Rattle.machine.specs.declared.event.Event.{Event}
 use Rattle.machine.specs.declared.event.Event.the-variants.{User, Service, TimerExpires, UnrecoverableSystemError}

@@ -1,8 +1,5 @@
 // User requests and responses that are taken: Doc 9880 3.5.3.9 to 3.5.3.13 and Doc 9705 2.3.5.3.7, 2.3.5.3.8 (air),
 // Doc 9705 2.3.5.5.7 to 2.3.5.5.14 (ground).
-use crate::control::Answer;
-use crate::control::Call;
-use crate::control::goes;
 use crate::event::Apdu;
 use crate::event::Qos;
 use crate::event::UserPrimitive;
@@ -12,16 +9,19 @@ use crate::outcome::Outcome;
 use crate::outcome::Refusal;
 use crate::outcome::Told;
 use crate::record::Record;
+use control::Answer;
+use control::Call;
+use control::goes;
 ghost use mathlib.Core.Path.{_≡_};
 ghost use Rattle.machine.specs.Calls.{answer, sent, startRequest, startResponse, messageRequest, endRequest, endResponse, reasonSent, userAbort, callOf, unsent, called};
 
 // Result; the other value is "rejected", in a D-START "rejected (permanent)".
-pub const ACCEPTED: u64 = 0;
+pub(crate) const ACCEPTED: u64 = 0;
 
 // CPDLCUserAbortReason, where none is given.
-pub const UNDEFINED: u64 = 0;
+pub(crate) const UNDEFINED: u64 = 0;
 
-pub fn answer(result: u64) -> Answer
+pub(crate) fn answer(result: u64) -> Answer
     ensures { λ a. ⌜ a ≡ answer result ⌝ }
 {
     if result == ACCEPTED {
@@ -32,7 +32,7 @@ pub fn answer(result: u64) -> Answer
 }
 
 // The control goes where the call leads; a primitive is invoked with an APDU.
-pub fn sent(r: Record, call: Call, invoked: Invoked, apdu: Apdu) -> Outcome
+fn sent(r: Record, call: Call, invoked: Invoked, apdu: Apdu) -> Outcome
     ensures { λ o. ⌜ o ≡ sent r call invoked apdu ⌝ }
 {
     let c = r.control;
@@ -40,7 +40,7 @@ pub fn sent(r: Record, call: Call, invoked: Invoked, apdu: Apdu) -> Outcome
     Outcome::taken(n, invoked, Told::Untold, apdu, false)
 }
 
-pub fn start_request(r: Record, dsc: bool, class: u64, security: u64) -> Outcome
+fn start_request(r: Record, dsc: bool, class: u64, security: u64) -> Outcome
     ensures { λ o. ⌜ o ≡ startRequest r dsc class security ⌝ }
 {
     let mut n = r;
@@ -60,7 +60,7 @@ pub fn start_request(r: Record, dsc: bool, class: u64, security: u64) -> Outcome
     )
 }
 
-pub fn start_response(r: Record, dsc: bool, result: u64) -> Outcome
+fn start_response(r: Record, dsc: bool, result: u64) -> Outcome
     ensures { λ o. ⌜ o ≡ startResponse r dsc result ⌝ }
 {
     let a = answer(result);
@@ -72,7 +72,7 @@ pub fn start_response(r: Record, dsc: bool, result: u64) -> Outcome
     )
 }
 
-pub fn message_request(r: Record, job: u64) -> Outcome
+fn message_request(r: Record, job: u64) -> Outcome
     ensures { λ o. ⌜ o ≡ messageRequest r job ⌝ }
 {
     let mut n = r;
@@ -80,13 +80,13 @@ pub fn message_request(r: Record, job: u64) -> Outcome
     sent(n, Call::MessageRequest, Invoked::DDataRequest, Apdu::Send)
 }
 
-pub fn end_request(r: Record, dsc: bool) -> Outcome
+fn end_request(r: Record, dsc: bool) -> Outcome
     ensures { λ o. ⌜ o ≡ endRequest r dsc ⌝ }
 {
     sent(r, Call::EndRequest(dsc), Invoked::DEndRequest, Apdu::Send)
 }
 
-pub fn end_response(r: Record, dsc: bool, result: u64) -> Outcome
+fn end_response(r: Record, dsc: bool, result: u64) -> Outcome
     ensures { λ o. ⌜ o ≡ endResponse r dsc result ⌝ }
 {
     let a = answer(result);
@@ -99,13 +99,13 @@ pub fn end_response(r: Record, dsc: bool, result: u64) -> Outcome
 }
 
 // No reason given means undefined.
-pub fn reason_sent(given: bool, reason: u64) -> u64
+fn reason_sent(given: bool, reason: u64) -> u64
     ensures { λ x. ⌜ x ≡ reasonSent given reason ⌝ }
 {
     if given { reason } else { UNDEFINED }
 }
 
-pub fn user_abort(r: Record, given: bool, reason: u64) -> Outcome
+fn user_abort(r: Record, given: bool, reason: u64) -> Outcome
     ensures { λ o. ⌜ o ≡ userAbort r given reason ⌝ }
 {
     let x = reason_sent(given, reason);
@@ -118,7 +118,7 @@ pub fn user_abort(r: Record, given: bool, reason: u64) -> Outcome
 }
 
 // What it is to the control.
-pub fn call_of(u: UserPrimitive) -> Call
+pub(crate) fn call_of(u: UserPrimitive) -> Call
     ensures { λ k. ⌜ k ≡ callOf u ⌝ }
 {
     match u {
@@ -135,7 +135,7 @@ pub fn call_of(u: UserPrimitive) -> Call
 }
 
 // A message request without a CPDLC message, then one whose job is not above the highest taken.
-pub fn unsent(highest: u64, u: UserPrimitive) -> Refusal
+pub(crate) fn unsent(highest: u64, u: UserPrimitive) -> Refusal
     ensures { λ x. ⌜ x ≡ unsent highest u ⌝ }
 {
     match u {
@@ -157,7 +157,7 @@ pub fn unsent(highest: u64, u: UserPrimitive) -> Refusal
 }
 
 // A user primitive that is not refused.
-pub fn called(r: Record, u: UserPrimitive) -> Outcome
+pub(crate) fn called(r: Record, u: UserPrimitive) -> Outcome
     ensures { λ o. ⌜ o ≡ called r u ⌝ }
 {
     match u {

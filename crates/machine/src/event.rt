@@ -80,7 +80,7 @@ impl Apdu {
 
     pub const PROVIDER_REASONS: u64 = 8;
 
-    pub fn readable(self) -> bool
+    pub(crate) fn readable(self) -> bool
         ensures { λ b. ⌜ b ≡ readable self ⌝ }
     {
         match self {
@@ -102,7 +102,7 @@ impl Qos {
 
     pub const ROUTING_CLASSES: u64 = 9;
 
-    pub fn fits(self) -> bool
+    pub(crate) fn fits(self) -> bool
         ensures { λ b. ⌜ b ≡ qosFits self ⌝ }
     {
         if self.priority != Qos::HIGH_PRIORITY {
@@ -118,7 +118,7 @@ impl Qos {
 impl StartIndicationParameters {
     pub const PEERS: u64 = 2;
 
-    pub fn shapely(self) -> bool
+    pub(crate) fn shapely(self) -> bool
         ensures { λ b. ⌜ b ≡ indicationShapely self ⌝ }
     {
         if StartIndicationParameters::PEERS <= self.peer {
@@ -137,7 +137,7 @@ impl StartConfirmationParameters {
 
     pub const SOURCES: u64 = 2;
 
-    pub fn shapely(self) -> bool
+    pub(crate) fn shapely(self) -> bool
         ensures { λ b. ⌜ b ≡ confirmationShapely self ⌝ }
     {
         if StartConfirmationParameters::RESULTS <= self.result {
@@ -157,7 +157,7 @@ impl StartConfirmationParameters {
 impl UserPrimitive {
     pub const RESULTS: u64 = 2;
 
-    pub fn shapely(self) -> bool
+    pub(crate) fn shapely(self) -> bool
         ensures { λ b. ⌜ b ≡ userShapely self ⌝ }
     {
         match self {
@@ -178,7 +178,7 @@ impl ServicePrimitive {
 
     pub const ORIGINATORS: u64 = 2;
 
-    pub fn shapely(self) -> bool
+    pub(crate) fn shapely(self) -> bool
         ensures { λ b. ⌜ b ≡ serviceShapely self ⌝ }
     {
         match self {
@@ -199,7 +199,7 @@ impl ServicePrimitive {
 
 impl Event {
     // Are its codes of their types? SHAPE is answered otherwise.
-    pub fn shapely(self) -> bool
+    pub(crate) fn shapely(self) -> bool
         ensures { λ b. ⌜ b ≡ shapely self ⌝ }
     {
         match self {

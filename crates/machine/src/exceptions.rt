@@ -1,48 +1,48 @@
 // Exception handling: Doc 9880 3.5.4 (air), Doc 9705 2.3.5.6 (ground).
-use crate::control::Control;
-use crate::control::State;
-use crate::control::is;
 use crate::event::Apdu;
 use crate::outcome::Invoked;
 use crate::outcome::Outcome;
 use crate::outcome::Told;
 use crate::record::Record;
+use control::Control;
+use control::State;
+use control::is;
 ghost use mathlib.Core.Path.{_≡_};
 ghost use Rattle.machine.specs.Exceptions.{tell, closes, aborts, excepts, noInstruction, pduFault, timerExpires, systemError};
 
 // Originator of a D-ABORT.
-pub const USER: u64 = 0;
+pub(crate) const USER: u64 = 0;
 
-pub const PROVIDER: u64 = 1;
+pub(crate) const PROVIDER: u64 = 1;
 
 // CPDLCProviderAbortReason, and NOT_PERMITTED_PDU, which is told to the user only.
-pub const TIMER_EXPIRED: u64 = 0;
+pub(crate) const TIMER_EXPIRED: u64 = 0;
 
-pub const UNDEFINED_ERROR: u64 = 1;
+pub(crate) const UNDEFINED_ERROR: u64 = 1;
 
-pub const INVALID_PDU: u64 = 2;
+pub(crate) const INVALID_PDU: u64 = 2;
 
-pub const PROTOCOL_ERROR: u64 = 3;
+pub(crate) const PROTOCOL_ERROR: u64 = 3;
 
-pub const COMMUNICATION_SERVICE_ERROR: u64 = 4;
+pub(crate) const COMMUNICATION_SERVICE_ERROR: u64 = 4;
 
-pub const COMMUNICATION_SERVICE_FAILURE: u64 = 5;
+pub(crate) const COMMUNICATION_SERVICE_FAILURE: u64 = 5;
 
-pub const INVALID_QOS_PARAMETER: u64 = 6;
+pub(crate) const INVALID_QOS_PARAMETER: u64 = 6;
 
-pub const EXPECTED_PDU_MISSING: u64 = 7;
+pub(crate) const EXPECTED_PDU_MISSING: u64 = 7;
 
-pub const NOT_PERMITTED_PDU: u64 = 8;
+pub(crate) const NOT_PERMITTED_PDU: u64 = 8;
 
 // Only an active user is told of an abort.
-pub fn tell(r: Record, t: Told) -> Told
+pub(crate) fn tell(r: Record, t: Told) -> Told
     ensures { λ x. ⌜ x ≡ tell r t ⌝ }
 {
     if r.active { t } else { Told::Untold }
 }
 
 // The dialogue closes and nothing is sent.
-pub fn closes(r: Record, t: Told) -> Outcome
+pub(crate) fn closes(r: Record, t: Told) -> Outcome
     ensures { λ o. ⌜ o ≡ closes r t ⌝ }
 {
     let n = r.enter(Control::CLOSED);
@@ -50,7 +50,7 @@ pub fn closes(r: Record, t: Told) -> Outcome
 }
 
 // The dialogue closes with a D-ABORT from the provider.
-pub fn aborts(r: Record, reason: u64, t: Told) -> Outcome
+pub(crate) fn aborts(r: Record, reason: u64, t: Told) -> Outcome
     ensures { λ o. ⌜ o ≡ aborts r reason t ⌝ }
 {
     let n = r.enter(Control::CLOSED);
@@ -64,7 +64,7 @@ pub fn aborts(r: Record, reason: u64, t: Told) -> Outcome
 }
 
 // If the dialogue is open, abort as provider with the reason; tell an active user the other reason.
-pub fn excepts(r: Record, live: bool, reason: u64, told: u64) -> Outcome
+pub(crate) fn excepts(r: Record, live: bool, reason: u64, told: u64) -> Outcome
     ensures { λ o. ⌜ o ≡ excepts r live reason told ⌝ }
 {
     let t = tell(r, Told::ProviderAbortIndication(told));
@@ -76,7 +76,7 @@ pub fn excepts(r: Record, live: bool, reason: u64, told: u64) -> Outcome
 }
 
 // A primitive with no instruction; in IDLE it leaves no output.
-pub fn no_instruction(r: Record, exists: bool) -> Outcome
+pub(crate) fn no_instruction(r: Record, exists: bool) -> Outcome
     ensures { λ o. ⌜ o ≡ noInstruction r exists ⌝ }
 {
     let c = r.control;
@@ -89,7 +89,7 @@ pub fn no_instruction(r: Record, exists: bool) -> Outcome
 }
 
 // A PDU that is missing, not valid, or not permitted; i, u: is the dialogue open for the last two.
-pub fn pdu_fault(r: Record, i: bool, u: bool, apdu: Apdu) -> Outcome
+pub(crate) fn pdu_fault(r: Record, i: bool, u: bool, apdu: Apdu) -> Outcome
     ensures { λ o. ⌜ o ≡ pduFault r i u apdu ⌝ }
 {
     match apdu {
@@ -103,14 +103,14 @@ pub fn pdu_fault(r: Record, i: bool, u: bool, apdu: Apdu) -> Outcome
     }
 }
 
-pub fn timer_expires(r: Record) -> Outcome
+pub(crate) fn timer_expires(r: Record) -> Outcome
     ensures { λ o. ⌜ o ≡ timerExpires r ⌝ }
 {
     excepts(r, true, TIMER_EXPIRED, TIMER_EXPIRED)
 }
 
 // In IDLE it gives no output.
-pub fn system_error(r: Record) -> Outcome
+pub(crate) fn system_error(r: Record) -> Outcome
     ensures { λ o. ⌜ o ≡ systemError r ⌝ }
 {
     let c = r.control;

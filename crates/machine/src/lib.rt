@@ -1,11 +1,10 @@
 // The CPDLC air machine and ground machine: Doc 9880 3.5.3 and 3.5.4, Doc 9705 2.3.5, as document 01 settles them.
 // Steps over a record by value. An APDU is a value here, and no bytes are handled.
-pub mod calls;
-pub mod control;
+mod calls;
 pub mod event;
-pub mod exceptions;
+mod exceptions;
 pub mod outcome;
-pub mod primitives;
+mod primitives;
 pub mod record;
 
 use calls::call_of;
@@ -24,7 +23,7 @@ ghost use mathlib.Core.Path.{_≡_};
 ghost use Rattle.machine.specs.Step.{permitted, messageRefusal, refusalOf, acts, step};
 
 // Has a user primitive an action here? An expiry asks whether the timer runs; a dialogue-service primitive and a system error are never prohibited.
-pub fn permitted(side: Side, r: Record, e: Event) -> bool
+fn permitted(side: Side, r: Record, e: Event) -> bool
     ensures { λ b. ⌜ b ≡ permitted side r e ⌝ }
 {
     let c = r.control;
@@ -36,7 +35,7 @@ pub fn permitted(side: Side, r: Record, e: Event) -> bool
     }
 }
 
-pub fn message_refusal(r: Record, e: Event) -> Refusal
+fn message_refusal(r: Record, e: Event) -> Refusal
     ensures { λ x. ⌜ x ≡ messageRefusal r e ⌝ }
 {
     match e {
@@ -48,7 +47,7 @@ pub fn message_refusal(r: Record, e: Event) -> Refusal
 }
 
 // The order of refusals.
-pub fn refusal(side: Side, r: Record, e: Event) -> Refusal
+fn refusal(side: Side, r: Record, e: Event) -> Refusal
     ensures { λ x. ⌜ x ≡ refusalOf side r e ⌝ }
 {
     if !e.shapely() {
@@ -61,7 +60,7 @@ pub fn refusal(side: Side, r: Record, e: Event) -> Refusal
 }
 
 // The clause of an event that is not refused.
-pub fn acts(side: Side, r: Record, e: Event) -> Outcome
+fn acts(side: Side, r: Record, e: Event) -> Outcome
     ensures { λ o. ⌜ o ≡ acts side r e ⌝ }
 {
     match e {

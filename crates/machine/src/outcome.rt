@@ -84,7 +84,7 @@ impl Refusal {
 
 impl Outcome {
     // A refused call: the record as it was, and nothing else.
-    pub fn refused(why: Refusal, r: Record) -> Outcome
+    pub(crate) fn refused(why: Refusal, r: Record) -> Outcome
         ensures { λ o. ⌜ o ≡ refused why r ⌝ }
     {
         Outcome {
@@ -98,7 +98,13 @@ impl Outcome {
     }
 
     // What is not refused.
-    pub fn taken(r: Record, invoked: Invoked, told: Told, apdu: Apdu, delivers: bool) -> Outcome
+    pub(crate) fn taken(
+        r: Record,
+        invoked: Invoked,
+        told: Told,
+        apdu: Apdu,
+        delivers: bool,
+    ) -> Outcome
         ensures { λ o. ⌜ o ≡ outcome r invoked told apdu delivers ⌝ }
     {
         Outcome {

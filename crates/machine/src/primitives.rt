@@ -2,13 +2,6 @@
 // Doc 9705 2.3.5.5.2 to 2.3.5.5.6, 2.3.5.5.15 and 2.3.5.5.16 (ground).
 use crate::calls::ACCEPTED;
 use crate::calls::answer;
-use crate::control::Control;
-use crate::control::Primitive;
-use crate::control::Side;
-use crate::control::State;
-use crate::control::after;
-use crate::control::expects;
-use crate::control::is;
 use crate::event::Apdu;
 use crate::event::ServicePrimitive;
 use crate::event::StartConfirmationParameters;
@@ -28,20 +21,27 @@ use crate::outcome::Invoked;
 use crate::outcome::Outcome;
 use crate::outcome::Told;
 use crate::record::Record;
+use control::Control;
+use control::Primitive;
+use control::Side;
+use control::State;
+use control::after;
+use control::expects;
+use control::is;
 ghost use mathlib.Core.Path.{_≡_};
 ghost use Rattle.machine.specs.Primitives.{isSend, isStartPdu, modeOf, peerFits, readsStarts, startFits, turnedAway, handed, read, received, offered, dStartIndication, confirmed, dStartConfirmation, dDataIndication, dEndIndication, dEndConfirmation, abortFits, abortExpected, abortTold, dAbortIndication, dPAbortIndication, reached};
 
 // What the Calling Peer ID is.
-pub const FACILITY: u64 = 0;
+pub(crate) const FACILITY: u64 = 0;
 
-pub const AIRCRAFT: u64 = 1;
+pub(crate) const AIRCRAFT: u64 = 1;
 
 // Result of a D-START confirmation, and its Reject Source.
-pub const TRANSIENT: u64 = 2;
+pub(crate) const TRANSIENT: u64 = 2;
 
-pub const DS_PROVIDER: u64 = 1;
+pub(crate) const DS_PROVIDER: u64 = 1;
 
-pub fn is_send(apdu: Apdu) -> bool
+fn is_send(apdu: Apdu) -> bool
     ensures { λ b. ⌜ b ≡ isSend apdu ⌝ }
 {
     match apdu {
@@ -55,7 +55,7 @@ pub fn is_send(apdu: Apdu) -> bool
     }
 }
 
-pub fn is_start(apdu: Apdu) -> bool
+fn is_start(apdu: Apdu) -> bool
     ensures { λ b. ⌜ b ≡ isStartPdu apdu ⌝ }
 {
     match apdu {
@@ -69,7 +69,7 @@ pub fn is_start(apdu: Apdu) -> bool
     }
 }
 
-pub fn mode_of(apdu: Apdu) -> bool
+fn mode_of(apdu: Apdu) -> bool
     ensures { λ b. ⌜ b ≡ modeOf apdu ⌝ }
 {
     match apdu {
@@ -84,7 +84,7 @@ pub fn mode_of(apdu: Apdu) -> bool
 }
 
 // The control goes where the primitive leads; the user is told, with the message data.
-pub fn handed(r: Record, p: Primitive, t: Told) -> Outcome
+fn handed(r: Record, p: Primitive, t: Told) -> Outcome
     ensures { λ o. ⌜ o ≡ handed r p t ⌝ }
 {
     let c = r.control;
@@ -93,7 +93,7 @@ pub fn handed(r: Record, p: Primitive, t: Told) -> Outcome
 }
 
 // The PDU is to be a send; i, u: is the dialogue open for a PDU that is not valid, for one that is not permitted.
-pub fn read(r: Record, p: Primitive, i: bool, u: bool, apdu: Apdu, t: Told) -> Outcome
+fn read(r: Record, p: Primitive, i: bool, u: bool, apdu: Apdu, t: Told) -> Outcome
     ensures { λ o. ⌜ o ≡ read r p i u apdu t ⌝ }
 {
     if is_send(apdu) {
@@ -104,15 +104,7 @@ pub fn read(r: Record, p: Primitive, i: bool, u: bool, apdu: Apdu, t: Told) -> O
 }
 
 // The order of faults: unexpected state; missing, invalid, not permitted.
-pub fn received(
-    side: Side,
-    r: Record,
-    p: Primitive,
-    i: bool,
-    u: bool,
-    apdu: Apdu,
-    t: Told,
-) -> Outcome
+fn received(side: Side, r: Record, p: Primitive, i: bool, u: bool, apdu: Apdu, t: Told) -> Outcome
     ensures { λ o. ⌜ o ≡ received side r p i u apdu t ⌝ }
 {
     let c = r.control;
@@ -124,7 +116,7 @@ pub fn received(
 }
 
 // The Calling Peer ID of a start is a facility designation at the air machine, an aircraft address at the ground machine.
-pub fn peer_fits(side: Side, peer: u64) -> bool
+fn peer_fits(side: Side, peer: u64) -> bool
     ensures { λ b. ⌜ b ≡ peerFits side peer ⌝ }
 {
     match side {
@@ -134,7 +126,7 @@ pub fn peer_fits(side: Side, peer: u64) -> bool
 }
 
 // What a facility sends to the ground machine is GroundPDUs, and no start of it is permitted there.
-pub fn reads_starts(side: Side, peer: u64) -> bool
+fn reads_starts(side: Side, peer: u64) -> bool
     ensures { λ b. ⌜ b ≡ readsStarts side peer ⌝ }
 {
     match side {
@@ -143,7 +135,7 @@ pub fn reads_starts(side: Side, peer: u64) -> bool
     }
 }
 
-pub fn start_fits(side: Side, r: Record, peer: u64, apdu: Apdu) -> bool
+fn start_fits(side: Side, r: Record, peer: u64, apdu: Apdu) -> bool
     ensures { λ b. ⌜ b ≡ startFits side r peer apdu ⌝ }
 {
     let c = r.control;
@@ -157,7 +149,7 @@ pub fn start_fits(side: Side, r: Record, peer: u64, apdu: Apdu) -> bool
 }
 
 // A D-START indication whose state, quality of service and security are as expected.
-pub fn offered(side: Side, r: Record, i: StartIndicationParameters) -> Outcome
+fn offered(side: Side, r: Record, i: StartIndicationParameters) -> Outcome
     ensures { λ o. ⌜ o ≡ offered side r i ⌝ }
 {
     let apdu = i.apdu;
@@ -179,7 +171,7 @@ pub fn offered(side: Side, r: Record, i: StartIndicationParameters) -> Outcome
 }
 
 // The order of faults: unexpected state, quality of service, security; missing, invalid, not permitted.
-pub fn d_start_indication(side: Side, r: Record, i: StartIndicationParameters) -> Outcome
+fn d_start_indication(side: Side, r: Record, i: StartIndicationParameters) -> Outcome
     ensures { λ o. ⌜ o ≡ dStartIndication side r i ⌝ }
 {
     let c = r.control;
@@ -202,14 +194,14 @@ pub fn d_start_indication(side: Side, r: Record, i: StartIndicationParameters) -
     offered(side, r, i)
 }
 
-pub fn turned_away(result: u64, source: u64) -> bool
+fn turned_away(result: u64, source: u64) -> bool
     ensures { λ b. ⌜ b ≡ turnedAway result source ⌝ }
 {
     result == TRANSIENT || source == DS_PROVIDER
 }
 
 // A D-START confirmation whose state, result and reject source are as expected.
-pub fn confirmed(r: Record, k: StartConfirmationParameters) -> Outcome
+fn confirmed(r: Record, k: StartConfirmationParameters) -> Outcome
     ensures { λ o. ⌜ o ≡ confirmed r k ⌝ }
 {
     let c = r.control;
@@ -237,7 +229,7 @@ pub fn confirmed(r: Record, k: StartConfirmationParameters) -> Outcome
 }
 
 // The order of faults: unexpected state, result or reject source, security; missing, invalid, not permitted.
-pub fn d_start_confirmation(side: Side, r: Record, k: StartConfirmationParameters) -> Outcome
+fn d_start_confirmation(side: Side, r: Record, k: StartConfirmationParameters) -> Outcome
     ensures { λ o. ⌜ o ≡ dStartConfirmation side r k ⌝ }
 {
     let c = r.control;
@@ -256,7 +248,7 @@ pub fn d_start_confirmation(side: Side, r: Record, k: StartConfirmationParameter
     confirmed(r, k)
 }
 
-pub fn d_data_indication(side: Side, r: Record, apdu: Apdu) -> Outcome
+fn d_data_indication(side: Side, r: Record, apdu: Apdu) -> Outcome
     ensures { λ o. ⌜ o ≡ dDataIndication side r apdu ⌝ }
 {
     received(
@@ -270,7 +262,7 @@ pub fn d_data_indication(side: Side, r: Record, apdu: Apdu) -> Outcome
     )
 }
 
-pub fn d_end_indication(side: Side, r: Record, apdu: Apdu) -> Outcome
+fn d_end_indication(side: Side, r: Record, apdu: Apdu) -> Outcome
     ensures { λ o. ⌜ o ≡ dEndIndication side r apdu ⌝ }
 {
     let c = r.control;
@@ -286,7 +278,7 @@ pub fn d_end_indication(side: Side, r: Record, apdu: Apdu) -> Outcome
 }
 
 // After "accepted" the peer is gone.
-pub fn d_end_confirmation(side: Side, r: Record, result: u64, apdu: Apdu) -> Outcome
+fn d_end_confirmation(side: Side, r: Record, result: u64, apdu: Apdu) -> Outcome
     ensures { λ o. ⌜ o ≡ dEndConfirmation side r result apdu ⌝ }
 {
     let c = r.control;
@@ -304,7 +296,7 @@ pub fn d_end_confirmation(side: Side, r: Record, result: u64, apdu: Apdu) -> Out
 }
 
 // Does the APDU fit the originator?
-pub fn abort_fits(originator: u64, apdu: Apdu) -> bool
+fn abort_fits(originator: u64, apdu: Apdu) -> bool
     ensures { λ b. ⌜ b ≡ abortFits originator apdu ⌝ }
 {
     match apdu {
@@ -318,14 +310,14 @@ pub fn abort_fits(originator: u64, apdu: Apdu) -> bool
     }
 }
 
-pub fn abort_expected(side: Side, c: Control, originator: u64, apdu: Apdu) -> bool
+fn abort_expected(side: Side, c: Control, originator: u64, apdu: Apdu) -> bool
     ensures { λ b. ⌜ b ≡ abortExpected side c originator apdu ⌝ }
 {
     expects(side, c, Primitive::DAbort) && abort_fits(originator, apdu)
 }
 
 // The indication with the reason of the APDU.
-pub fn abort_told(apdu: Apdu) -> Told
+fn abort_told(apdu: Apdu) -> Told
     ensures { λ t. ⌜ t ≡ abortTold apdu ⌝ }
 {
     match apdu {
@@ -340,7 +332,7 @@ pub fn abort_told(apdu: Apdu) -> Told
 }
 
 // No dialogue exists after it.
-pub fn d_abort_indication(side: Side, r: Record, originator: u64, apdu: Apdu) -> Outcome
+fn d_abort_indication(side: Side, r: Record, originator: u64, apdu: Apdu) -> Outcome
     ensures { λ o. ⌜ o ≡ dAbortIndication side r originator apdu ⌝ }
 {
     let c = r.control;
@@ -351,7 +343,7 @@ pub fn d_abort_indication(side: Side, r: Record, originator: u64, apdu: Apdu) ->
     }
 }
 
-pub fn d_p_abort_indication(side: Side, r: Record) -> Outcome
+fn d_p_abort_indication(side: Side, r: Record) -> Outcome
     ensures { λ o. ⌜ o ≡ dPAbortIndication side r ⌝ }
 {
     let c = r.control;
@@ -369,7 +361,7 @@ pub fn d_p_abort_indication(side: Side, r: Record) -> Outcome
 }
 
 // A primitive of the dialogue service.
-pub fn reached(side: Side, r: Record, p: ServicePrimitive) -> Outcome
+pub(crate) fn reached(side: Side, r: Record, p: ServicePrimitive) -> Outcome
     ensures { λ o. ⌜ o ≡ reached side r p ⌝ }
 {
     match p {

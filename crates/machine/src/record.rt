@@ -1,9 +1,9 @@
 // The record of one dialogue at one end.
-use crate::control::Control;
-use crate::control::State;
-use crate::control::is;
+use control::Control;
+use control::State;
+use control::is;
 ghost use mathlib.Core.Path.{_≡_};
-ghost use Rattle.machine.specs.Record.{configured, freshRecord, enter};
+ghost use Rattle.machine.specs.Record.{freshRecord, enter};
 
 // What a record is made with.
 pub struct Configuration {
@@ -28,13 +28,6 @@ pub struct Record {
 impl Configuration {
     // "no security" and "secured exchange" (Doc 9705 2.3.6.2.3.1).
     pub const SECURITY_VALUES: u64 = 2;
-
-    // Are its codes of their types? A record is made of such a configuration only.
-    pub fn shapely(self) -> bool
-        ensures { λ b. ⌜ b ≡ configured self ⌝ }
-    {
-        self.policy < Configuration::SECURITY_VALUES
-    }
 }
 
 impl Record {
@@ -55,7 +48,7 @@ impl Record {
     }
 
     // Entering IDLE stops the timer and makes the user not active.
-    pub fn enter(self, c: Control) -> Record
+    pub(crate) fn enter(self, c: Control) -> Record
         ensures { λ r. ⌜ r ≡ enter self c ⌝ }
     {
         let s = c.state;

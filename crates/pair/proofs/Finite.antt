@@ -4,7 +4,7 @@
 use mathlib.Core.Path.{_≡_, refl, subst, sym}
 use mathlib.Core.Bool.{Bool, true, false, not, _&&_, _||_}
 use lib.Dec.{T}
-use Rattle.machine.proofs.Finite.{imp, allControl, at-control}
+use Rattle.control.proofs.Finite.{imp, allControl, at-control}
 use Rattle.pair.specs.Names.{Control}
 
 -- ---- tests as facts

@@ -6,7 +6,7 @@ use mathlib.Core.List.{[]}
 use Prim.Native.Nat.{ℕ, suc}
 use lib.Dec.{T, ltb, leb, le→leb, nleb→lt}
 use Rattle.machine.specs.Codes.{user, results, userReasons, routingClasses, securityValues, timerExpired, undefinedError}
-use Rattle.machine.specs.Control.{started, ended}
+use Rattle.control.specs.Control.{started, ended}
 use Rattle.machine.specs.Record.{withTimer, withUser, withJob, withRequest, enter}
 use Rattle.machine.specs.Outcome.{isNone}
 use Rattle.machine.specs.Outcome as O

@@ -9,7 +9,7 @@ use native.Mathlib.Omega.{arith}
 use lib.Dec.{T, ltb, eqb, eqb→eq, ltb→lt}
 use borrow.Author.Tests.{eq-eqb}
 use Rattle.machine.specs.Codes.{accepted, user, provider, results, startResults, originators, userReasons, providerReasons, securityValues, protocolError, communicationServiceError, communicationServiceFailure}
-use Rattle.machine.specs.Control.{started, ended}
+use Rattle.control.specs.Control.{started, ended}
 use Rattle.machine.specs.Record.{withTimer, withUser, enter}
 use Rattle.machine.specs.Outcome.{isNone}
 use Rattle.machine.specs.Outcome as O

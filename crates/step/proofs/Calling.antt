@@ -13,7 +13,7 @@ use Rattle.apdu.specs.declared.Data.{Data}
 use Rattle.apdu.specs.declared.Written.{Written}
 use Rattle.machine.specs.Outcome.{refusalNumber, isNone}
 use Rattle.machine.specs.Step.{step}
-use Rattle.machine.specs.declared.control.Side.{Side}
+use Rattle.control.specs.declared.Side.{Side}
 use Rattle.machine.specs.declared.record.Record.{Record}
 use Rattle.machine.specs.declared.event.Apdu.{Apdu}
 use Rattle.machine.specs.declared.event.Apdu.the-variants.{Absent}

@@ -11,7 +11,7 @@ use Rattle.apdu.specs.Writing.{dataShaped}
 use Rattle.apdu.specs.declared.Data.{Data}
 use Rattle.machine.specs.Outcome.{isNone}
 use Rattle.machine.proofs.Ways.{by-test}
-use Rattle.machine.specs.declared.control.Side.{Side}
+use Rattle.control.specs.declared.Side.{Side}
 use Rattle.machine.specs.declared.record.Record.{Record}
 use Rattle.machine.specs.declared.event.Event.{Event}
 use Rattle.machine.specs.declared.outcome.Outcome.{Outcome}

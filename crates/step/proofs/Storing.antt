@@ -21,11 +21,11 @@ use Rattle.bits.proofs.Whole.{put-whole, bytes-of-bits, run-all, bits-of-append
 use Rattle.bits.specs.Read.{readBits}
 use Rattle.bits.specs.declared.Read.{Read}
 use Rattle.bits.specs.declared.Read.the-variants.{Number, Short}
-use Rattle.machine.specs.Control.{number, entered}
-use Rattle.machine.specs.declared.control.Side.{Side}
-use Rattle.machine.specs.declared.control.Side.the-variants.{Air, Ground}
-use Rattle.machine.specs.declared.control.State.{State}
-use Rattle.machine.specs.declared.control.State.the-variants.{Idle, StartReq, StartInd, Dialogue, End}
+use Rattle.control.specs.Control.{number, entered}
+use Rattle.control.specs.declared.Side.{Side}
+use Rattle.control.specs.declared.Side.the-variants.{Air, Ground}
+use Rattle.control.specs.declared.State.{State}
+use Rattle.control.specs.declared.State.the-variants.{Idle, StartReq, StartInd, Dialogue, End}
 use Rattle.machine.specs.declared.record.Record.{Record}
 use Rattle.step.specs.Stored.{sideCode, sideOf, stateOf, flag, headBytes, storedBytes, headFits, headOf, withHighest, loadAt, kept, storeAt}
 use Rattle.step.specs.declared.stored.Loaded.{Loaded}

@@ -11,7 +11,7 @@ use Rattle.fields.specs.Encodings.{wholeFits}
 use Rattle.apdu.specs.Sizes.{userLast, providerLast}
 use Rattle.apdu.specs.Encoding.{modeFits}
 use Rattle.machine.specs.Codes.{securityValues, results, userReasons, routingClasses, accepted}
-use Rattle.machine.specs.Control.{isIdle, expects, takes, mayStart}
+use Rattle.control.specs.Control.{isIdle, expects, takes, mayStart}
 use Rattle.machine.specs.Record.{withTimer, withUser, withJob, withRequest, enter}
 use Rattle.machine.specs.Event.{qosFits, userShapely, shapely}
 use Rattle.machine.specs.Outcome.{isNone, refused}
@@ -20,12 +20,12 @@ use Rattle.machine.specs.Calls.{answer, sent, qosAsked, startRequest, startResp
 use Rattle.machine.specs.Primitives.{isSend, handed, read, received, startFits, peerFits, modeOf, offered, dStartIndication, turnedAway, confirmed, dStartConfirmation, dDataIndication, dEndIndication, dEndConfirmation, abortExpected, abortTold, dAbortIndication, dPAbortIndication, reached}
 use Rattle.machine.specs.Step.{permitted, messageRefusal, refusalOf, acts, step}
 use Rattle.machine.proofs.Ways.{by-test, not-refused}
-use Rattle.machine.specs.declared.control.Side.{Side}
-use Rattle.machine.specs.declared.control.Side.the-variants.{Air, Ground}
-use Rattle.machine.specs.declared.control.Call.{Call}
-use Rattle.machine.specs.declared.control.Call.the-variants.{StartRequest, StartResponse, MessageRequest, EndRequest, EndResponse, UserAbort}
-use Rattle.machine.specs.declared.control.Primitive.{Primitive}
-use Rattle.machine.specs.declared.control.Primitive.the-variants.{DStart, DStartCnf, DData, DEnd, DEndCnf, DPAbort}
+use Rattle.control.specs.declared.Side.{Side}
+use Rattle.control.specs.declared.Side.the-variants.{Air, Ground}
+use Rattle.control.specs.declared.Call.{Call}
+use Rattle.control.specs.declared.Call.the-variants.{StartRequest, StartResponse, MessageRequest, EndRequest, EndResponse, UserAbort}
+use Rattle.control.specs.declared.Primitive.{Primitive}
+use Rattle.control.specs.declared.Primitive.the-variants.{DStart, DStartCnf, DData, DEnd, DEndCnf, DPAbort}
 use Rattle.machine.specs.declared.record.Record.{Record}
 use Rattle.machine.specs.declared.event.Apdu.{Apdu}
 use Rattle.machine.specs.declared.event.Apdu.the-variants.{Absent, NotValid, Start, Send, AbortUser, AbortProvider, Forward}

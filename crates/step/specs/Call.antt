@@ -26,8 +26,8 @@ use Rattle.apdu.specs.declared.Written.the-variants as written
 use Rattle.machine.specs.Codes.{aircraft, facility, provider}
 use Rattle.machine.specs.Outcome.{refusalNumber, isNone}
 use Rattle.machine.specs.Step.{step}
-use Rattle.machine.specs.declared.control.Side.{Side}
-use Rattle.machine.specs.declared.control.Side.the-variants.{Air, Ground}
+use Rattle.control.specs.declared.Side.{Side}
+use Rattle.control.specs.declared.Side.the-variants.{Air, Ground}
 use Rattle.machine.specs.declared.record.Record.{Record}
 use Rattle.machine.specs.declared.event.Apdu.{Apdu}
 use Rattle.machine.specs.declared.event.Apdu.the-variants.{Absent, NotValid, Start, Send, AbortUser, AbortProvider, Forward}

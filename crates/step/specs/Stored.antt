@@ -12,11 +12,11 @@ use Rattle.bits.specs.Read.{readBits}
 use Rattle.bits.specs.declared.Read.{Read}
 use Rattle.bits.specs.declared.Read.the-variants.{Number, Short}
 use Rattle.machine.specs.Codes.{securityValues}
-use Rattle.machine.specs.Control.{number, entered}
-use Rattle.machine.specs.declared.control.Side.{Side}
-use Rattle.machine.specs.declared.control.Side.the-variants.{Air, Ground}
-use Rattle.machine.specs.declared.control.State.{State}
-use Rattle.machine.specs.declared.control.State.the-variants.{Idle, StartReq, StartInd, Dialogue, End}
+use Rattle.control.specs.Control.{number, entered}
+use Rattle.control.specs.declared.Side.{Side}
+use Rattle.control.specs.declared.Side.the-variants.{Air, Ground}
+use Rattle.control.specs.declared.State.{State}
+use Rattle.control.specs.declared.State.the-variants.{Idle, StartReq, StartInd, Dialogue, End}
 use Rattle.machine.specs.declared.record.Record.{Record}
 use Rattle.step.specs.declared.stored.Loaded.{Loaded}
 use Rattle.step.specs.declared.stored.Loaded.the-variants.{Is, NoRecord}

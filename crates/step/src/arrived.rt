@@ -8,7 +8,7 @@ use apdu::Data;
 use apdu::Part;
 use apdu::Side as PduSide;
 use apdu::Span;
-use machine::control::Side;
+use control::Side;
 use machine::event::Apdu;
 use machine::event::Qos;
 use machine::event::ServicePrimitive;

@@ -20,7 +20,7 @@ use apdu::Apdu as Pdu;
 use apdu::Data;
 use apdu::Side as PduSide;
 use apdu::Written;
-use machine::control::Side;
+use control::Side;
 use machine::event::Apdu;
 use machine::event::Event;
 use machine::outcome::Outcome;

@@ -9,6 +9,4 @@ pub use arrived::Arrived;
 pub use arrived::no_data;
 pub use call::service_call;
 pub use call::user_call;
-pub use stored::Loaded;
-pub use stored::load;
 pub use stored::store;

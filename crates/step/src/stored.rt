@@ -4,10 +4,10 @@ ghost use Prim.Native.Nat.{_<_};
 ghost use Rattle.machine.specs.Codes.{securityValues};
 ghost use Rattle.step.specs.Stored.{flag, headBytes, headFits, kept, loadAt, sideCode, sideOf, stateOf, storeAt};
 use bits::Read;
-use machine::control::Control;
-use machine::control::Side;
-use machine::control::State;
-use machine::control::number;
+use control::Control;
+use control::Side;
+use control::State;
+use control::number;
 use machine::record::Configuration;
 use machine::record::Record;
 
@@ -100,7 +100,7 @@ fn head_fits(
 }
 
 // What the bytes say.
-pub fn load(b: &[u8]) -> Loaded
+pub(crate) fn load(b: &[u8]) -> Loaded
     ensures { λ r. ⌜ r ≡ loadAt (now (b .entry)) ⌝ }
 {
     if b.len() != Loaded::SIZE {

@@ -2,9 +2,9 @@
 // A line gives the state and DSC (+ true, - false) before the event; then the state and DSC after it, whether t-start runs and
 // the user is active, the highest job; the dialogue-service primitive with its parameters and its APDU; the user primitive with
 // its parameters; and whether message data is delivered. The numbers are those of the documents' codes.
-use machine::control::Control;
-use machine::control::Side;
-use machine::control::State;
+use control::Control;
+use control::Side;
+use control::State;
 use machine::event::Apdu;
 use machine::event::Event;
 use machine::event::Qos;
@@ -193,10 +193,10 @@ fn both(a: bool, b: bool) -> bool {
 
 // The outcome in one state: highest job 7, no security.
 fn cell(v: View, s: State, dsc: bool, e: Event) {
-    let waits = machine::control::is(s, State::StartReq);
-    let idle = machine::control::is(s, State::Idle);
-    let timer = machine::control::same(waits, !v.reversed);
-    let user = machine::control::same(both(v.active, !idle), !v.reversed);
+    let waits = control::is(s, State::StartReq);
+    let idle = control::is(s, State::Idle);
+    let timer = control::same(waits, !v.reversed);
+    let user = control::same(both(v.active, !idle), !v.reversed);
     let side = v.side;
     let r = Record {
         control: Control { state: s, dsc },

@@ -1,7 +1,7 @@
--- `machine::control::ended` meets its contract.
+-- `control::ended` meets its contract.
 -- Assumes nothing.
-use Rattle.machine.proofs.control.ended.Statement.{statement}
-use Rattle.machine.proofs.control.ended.Tie as tie
+use Rattle.control.proofs.ended.Statement.{statement}
+use Rattle.control.proofs.ended.Tie as tie
 
 enum-told : tie.Need-enum-told
 enum-told c = c .match .keys1

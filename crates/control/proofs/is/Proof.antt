@@ -1,7 +1,7 @@
--- `machine::control::is` meets its contract.
+-- `control::is` meets its contract.
 -- Assumes nothing.
-use Rattle.machine.proofs.control.is.Statement.{statement}
-use Rattle.machine.proofs.control.is.Tie as tie
+use Rattle.control.proofs.is.Statement.{statement}
+use Rattle.control.proofs.is.Tie as tie
 
 number-requires : tie.Need-number-requires
 number-requires c κs = tt

@@ -1,7 +1,7 @@
--- `machine::control::after` meets its contract.
+-- `control::after` meets its contract.
 -- Assumes nothing.
-use Rattle.machine.proofs.control.after.Statement.{statement}
-use Rattle.machine.proofs.control.after.Tie as tie
+use Rattle.control.proofs.after.Statement.{statement}
+use Rattle.control.proofs.after.Tie as tie
 
 enum-known-p : tie.Need-enum-known-p
 enum-known-p c = c .match .keys1

@@ -1,7 +1,7 @@
--- `machine::control::within` meets its contract.
+-- `control::within` meets its contract.
 -- Assumes nothing.
-use Rattle.machine.proofs.control.within.Statement.{statement}
-use Rattle.machine.proofs.control.within.Tie as tie
+use Rattle.control.proofs.within.Statement.{statement}
+use Rattle.control.proofs.within.Tie as tie
 
 is-requires : tie.Need-is-requires
 is-requires c κs = tt

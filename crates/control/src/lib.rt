@@ -1,7 +1,7 @@
 // The finite control of both machines, once over the side: state and DSC, and what a call or a primitive does to them.
 // It decides every next state and every entry on the line; security, reasons, message data and jobs ride beside it.
 ghost use mathlib.Core.Path.{_≡_};
-ghost use Rattle.machine.specs.Control.{number, is, same, within, other, mayStart, ender, marked, started, ended, takes, goes, expects, after};
+ghost use Rattle.control.specs.Control.{number, is, same, within, other, mayStart, ender, marked, started, ended, takes, goes, expects, after};
 
 // The side that a machine stands at.
 pub enum Side {
@@ -85,14 +85,14 @@ pub fn same(a: bool, b: bool) -> bool
     if a { b } else { !b }
 }
 
-pub fn within(c: Control, s: State, dsc: bool) -> bool
+fn within(c: Control, s: State, dsc: bool) -> bool
     ensures { λ r. ⌜ r ≡ within c s dsc ⌝ }
 {
     let t = c.state;
     is(t, s) && same(dsc, c.dsc)
 }
 
-pub fn other(side: Side) -> Side
+fn other(side: Side) -> Side
     ensures { λ r. ⌜ r ≡ other side ⌝ }
 {
     match side {
@@ -101,7 +101,7 @@ pub fn other(side: Side) -> Side
     }
 }
 
-pub fn may_start(side: Side, dsc: bool) -> bool
+fn may_start(side: Side, dsc: bool) -> bool
     ensures { λ r. ⌜ r ≡ mayStart side dsc ⌝ }
 {
     match side {
@@ -110,7 +110,7 @@ pub fn may_start(side: Side, dsc: bool) -> bool
     }
 }
 
-pub fn ender(side: Side, dsc: bool) -> bool
+fn ender(side: Side, dsc: bool) -> bool
     ensures { λ r. ⌜ r ≡ ender side dsc ⌝ }
 {
     match side {
@@ -120,13 +120,13 @@ pub fn ender(side: Side, dsc: bool) -> bool
 }
 
 // A start with the mode dsc sets DSC, one with cpdlc leaves it (3.5.3.9 c, 2.3.5.5.2.2 b).
-pub fn marked(dsc: bool, held: bool) -> bool
+fn marked(dsc: bool, held: bool) -> bool
     ensures { λ r. ⌜ r ≡ marked dsc held ⌝ }
 {
     if dsc { true } else { held }
 }
 
-pub fn started(a: Answer, dsc: bool) -> Control
+fn started(a: Answer, dsc: bool) -> Control
     ensures { λ r. ⌜ r ≡ started a dsc ⌝ }
 {
     match a {
@@ -138,7 +138,7 @@ pub fn started(a: Answer, dsc: bool) -> Control
     }
 }
 
-pub fn ended(a: Answer, dsc: bool) -> Control
+fn ended(a: Answer, dsc: bool) -> Control
     ensures { λ r. ⌜ r ≡ ended a dsc ⌝ }
 {
     match a {

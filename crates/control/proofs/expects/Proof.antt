@@ -1,7 +1,7 @@
--- `machine::control::expects` meets its contract.
+-- `control::expects` meets its contract.
 -- Assumes nothing.
-use Rattle.machine.proofs.control.expects.Statement.{statement}
-use Rattle.machine.proofs.control.expects.Tie as tie
+use Rattle.control.proofs.expects.Statement.{statement}
+use Rattle.control.proofs.expects.Tie as tie
 
 enum-known-p : tie.Need-enum-known-p
 enum-known-p c = c .match .keys1

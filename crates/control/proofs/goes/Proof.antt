@@ -1,7 +1,7 @@
--- `machine::control::goes` meets its contract.
+-- `control::goes` meets its contract.
 -- Assumes nothing.
-use Rattle.machine.proofs.control.goes.Statement.{statement}
-use Rattle.machine.proofs.control.goes.Tie as tie
+use Rattle.control.proofs.goes.Statement.{statement}
+use Rattle.control.proofs.goes.Tie as tie
 
 enum-known-call : tie.Need-enum-known-call
 enum-known-call c = c .match .keys1

@@ -1,18 +1,19 @@
--- Facts of the finite control, each a test over all its values that is computed.
+-- What every move of the finite control keeps, each a test over all its values that is computed.
 -- Assumes nothing.
 use mathlib.Core.Path.{_≡_, refl, subst, sym, _∙_}
 use mathlib.Core.Bool.{Bool, true, false, not, _&&_}
 use lib.Dec.{T}
-use Rattle.machine.specs.Control.{same, isIdle, takes, goes, expects, after, isStart}
-use Rattle.machine.specs.Run.{waits}
-use Rattle.machine.proofs.Ways.{busy}
-use Rattle.machine.proofs.Finite.{imp, imp-e, allBool, allSide, at-side, allState, allAnswer, allControl, at-control, allResponse, allCall, at-call, allPrimitive, at-primitive}
-use Rattle.machine.specs.declared.control.Side.{Side}
-use Rattle.machine.specs.declared.control.Control.{Control}
-use Rattle.machine.specs.declared.control.Answer.{Answer}
-use Rattle.machine.specs.declared.control.Call.{Call}
-use Rattle.machine.specs.declared.control.Primitive.{Primitive}
-use Rattle.machine.specs.declared.control.Primitive.the-variants.{DStart, DStartCnf, DTurnedAway, DData, DEnd, DEndCnf, DAbort, DPAbort}
+use Rattle.control.specs.Control.{same, isIdle, waits, entered, takes, goes, expects, after, isStart}
+use Rattle.control.proofs.Finite.{imp, imp-e, allBool, allSide, at-side, allState, allAnswer, allControl, at-control, allResponse, allCall, at-call, allPrimitive, at-primitive}
+use Rattle.control.specs.declared.Side.{Side}
+use Rattle.control.specs.declared.Side.the-variants.{Air, Ground}
+use Rattle.control.specs.declared.State.the-variants.{End}
+use Rattle.control.specs.declared.Control.{Control}
+use Rattle.control.specs.declared.Answer.{Answer}
+use Rattle.control.specs.declared.Call.{Call}
+use Rattle.control.specs.declared.Call.the-variants.{StartRequest, StartResponse, MessageRequest, EndRequest, EndResponse, UserAbort, TimerExpiry, SystemError}
+use Rattle.control.specs.declared.Primitive.{Primitive}
+use Rattle.control.specs.declared.Primitive.the-variants.{DStart, DStartCnf, DTurnedAway, DData, DEnd, DEndCnf, DAbort, DPAbort}
 
 pub not-T : (b : Bool) → not b ≡ true → b ≡ false
 not-T true e = absurd (subst T (sym e) tt)
@@ -76,6 +77,17 @@ pub primitive-rests : (sd : Side) (c : Control) (p : Primitive) → expects sd c
 primitive-rests sd c p e i = rest-is (after c p) (imp-e (expects sd c p) (rest (after c p)) (at-every-primitive primitiveRests primitive-rests-passed sd c p) e) i
 
 -- ---- where the timer runs and the user is active
+
+-- a call inside a dialogue
+abbrev pub busy : Call → Bool
+busy (StartRequest m) = false
+busy (StartResponse m a) = true
+busy MessageRequest = true
+busy (EndRequest m) = true
+busy (EndResponse m a) = true
+busy UserAbort = true
+busy TimerExpiry = false
+busy SystemError = false
 
 -- the timer stays with the state that it runs in, or is stopped by IDLE
 abbrev timed : Control → Control → Bool
@@ -162,3 +174,11 @@ busy-takes-passed = tt
 pub busy-takes : (sd : Side) (c : Control) (k : Call) → takes sd c k ≡ true → busy k ≡ true → isIdle c ≡ false
 busy-takes sd c k e b =
     not-T (isIdle c) (imp-e (busy k) (not (isIdle c)) (T-is (imp-e (takes sd c k) (imp (busy k) (not (isIdle c))) (at-every-call idleTakes busy-takes-passed sd c k) e)) b)
+
+-- ---- a message request in END: taken where the other side asked for the end (3.5.3.10, 2.3.5.5.10)
+
+pub air-end-messages : (takes Air (entered End false) MessageRequest ≡ true) × (takes Air (entered End true) MessageRequest ≡ false)
+air-end-messages = (refl, refl)
+
+pub ground-end-messages : (takes Ground (entered End false) MessageRequest ≡ false) × (takes Ground (entered End true) MessageRequest ≡ true)
+ground-end-messages = (refl, refl)

@@ -1,7 +1,7 @@
--- `machine::control::started` meets its contract.
+-- `control::started` meets its contract.
 -- Assumes nothing.
-use Rattle.machine.proofs.control.started.Statement.{statement}
-use Rattle.machine.proofs.control.started.Tie as tie
+use Rattle.control.proofs.started.Statement.{statement}
+use Rattle.control.proofs.started.Tie as tie
 
 enum-told : tie.Need-enum-told
 enum-told c = c .match .keys1

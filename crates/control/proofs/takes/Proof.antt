@@ -1,7 +1,7 @@
--- `machine::control::takes` meets its contract.
+-- `control::takes` meets its contract.
 -- Assumes nothing.
-use Rattle.machine.proofs.control.takes.Statement.{statement}
-use Rattle.machine.proofs.control.takes.Tie as tie
+use Rattle.control.proofs.takes.Statement.{statement}
+use Rattle.control.proofs.takes.Tie as tie
 
 enum-known-call : tie.Need-enum-known-call
 enum-known-call c = c .match .keys1

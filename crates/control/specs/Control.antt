@@ -4,17 +4,17 @@
 use Prim.Native.Nat.{ℕ}
 use mathlib.Core.Bool.{Bool, true, false, not, cond, _&&_, _||_}
 use lib.Dec.{eqb}
-use Rattle.machine.specs.declared.control.Side.{Side}
-use Rattle.machine.specs.declared.control.Side.the-variants.{Air, Ground}
-use Rattle.machine.specs.declared.control.State.{State}
-use Rattle.machine.specs.declared.control.State.the-variants.{Idle, StartReq, StartInd, Dialogue, End}
-use Rattle.machine.specs.declared.control.Control.{Control}
-use Rattle.machine.specs.declared.control.Answer.{Answer}
-use Rattle.machine.specs.declared.control.Answer.the-variants.{Accepted, Rejected}
-use Rattle.machine.specs.declared.control.Call.{Call}
-use Rattle.machine.specs.declared.control.Call.the-variants.{StartRequest, StartResponse, MessageRequest, EndRequest, EndResponse, UserAbort, TimerExpiry, SystemError}
-use Rattle.machine.specs.declared.control.Primitive.{Primitive}
-use Rattle.machine.specs.declared.control.Primitive.the-variants.{DStart, DStartCnf, DTurnedAway, DData, DEnd, DEndCnf, DAbort, DPAbort}
+use Rattle.control.specs.declared.Side.{Side}
+use Rattle.control.specs.declared.Side.the-variants.{Air, Ground}
+use Rattle.control.specs.declared.State.{State}
+use Rattle.control.specs.declared.State.the-variants.{Idle, StartReq, StartInd, Dialogue, End}
+use Rattle.control.specs.declared.Control.{Control}
+use Rattle.control.specs.declared.Answer.{Answer}
+use Rattle.control.specs.declared.Answer.the-variants.{Accepted, Rejected}
+use Rattle.control.specs.declared.Call.{Call}
+use Rattle.control.specs.declared.Call.the-variants.{StartRequest, StartResponse, MessageRequest, EndRequest, EndResponse, UserAbort, TimerExpiry, SystemError}
+use Rattle.control.specs.declared.Primitive.{Primitive}
+use Rattle.control.specs.declared.Primitive.the-variants.{DStart, DStartCnf, DTurnedAway, DData, DEnd, DEndCnf, DAbort, DPAbort}
 
 -- ---- small words
 
@@ -38,6 +38,10 @@ within c s d = is (c .state) s && same d (c .dsc)
 
 abbrev pub isIdle : Control → Bool
 isIdle c = is (c .state) Idle
+
+-- a state that waits for a confirmation of its start: t-start runs there
+abbrev pub waits : State → Bool
+waits s = is s StartReq
 
 abbrev pub entered : State → Bool → Control
 entered s d = record { state = s; dsc = d }

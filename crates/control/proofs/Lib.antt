@@ -1,0 +1,3 @@
+pub mod Finite
+pub mod Moves
+pub mod Table

@@ -210,13 +210,14 @@ enum peat_told {
 #define PEAT_INVOKED_AT 8
 #define PEAT_INVOKED_PARAMETER_AT 12
 #define PEAT_INVOKED_SECURITY_AT 16
-#define PEAT_TOLD_AT 20
-#define PEAT_TOLD_PARAMETER_AT 24
-#define PEAT_TOLD_DSC_AT 28
+#define PEAT_TOLD_AT 17
+#define PEAT_TOLD_PARAMETER_AT 21
+#define PEAT_TOLD_DSC_AT 25
 #define PEAT_CODE_BITS 4
-#define PEAT_APDU_BITS_AT 32
-#define PEAT_DATA_BITS_AT 48
-#define PEAT_COUNT_BITS 16
+#define PEAT_FLAG_BITS 1
+#define PEAT_APDU_BITS_AT 26
+#define PEAT_DATA_BITS_AT 41
+#define PEAT_COUNT_BITS 15
 
 static inline unsigned peat_bits_of(uint64_t answer, unsigned at, unsigned bits)
 {
@@ -229,12 +230,12 @@ static inline unsigned peat_refusal(uint64_t answer) { return peat_bits_of(answe
 /* enum peat_invoked, its parameter, and its security value */
 static inline unsigned peat_invoked(uint64_t answer) { return peat_bits_of(answer, PEAT_INVOKED_AT, PEAT_CODE_BITS); }
 static inline unsigned peat_invoked_parameter(uint64_t answer) { return peat_bits_of(answer, PEAT_INVOKED_PARAMETER_AT, PEAT_CODE_BITS); }
-static inline unsigned peat_invoked_security(uint64_t answer) { return peat_bits_of(answer, PEAT_INVOKED_SECURITY_AT, PEAT_CODE_BITS); }
+static inline unsigned peat_invoked_security(uint64_t answer) { return peat_bits_of(answer, PEAT_INVOKED_SECURITY_AT, PEAT_FLAG_BITS); }
 
 /* enum peat_told, its parameter, and whether it is the DSC- primitive (1) or the CPDLC- one (0) */
 static inline unsigned peat_told(uint64_t answer) { return peat_bits_of(answer, PEAT_TOLD_AT, PEAT_CODE_BITS); }
 static inline unsigned peat_told_parameter(uint64_t answer) { return peat_bits_of(answer, PEAT_TOLD_PARAMETER_AT, PEAT_CODE_BITS); }
-static inline unsigned peat_told_dsc(uint64_t answer) { return peat_bits_of(answer, PEAT_TOLD_DSC_AT, PEAT_CODE_BITS); }
+static inline unsigned peat_told_dsc(uint64_t answer) { return peat_bits_of(answer, PEAT_TOLD_DSC_AT, PEAT_FLAG_BITS); }
 
 /* the APDU in the first buffer: its bits before the padding, and the bytes that it takes */
 static inline unsigned peat_apdu_bits(uint64_t answer) { return peat_bits_of(answer, PEAT_APDU_BITS_AT, PEAT_COUNT_BITS); }

@@ -694,6 +694,6 @@ uint64_t model_call(enum which w, struct args *a)
     whole(&one, a->first.at);
     whole(&two, a->second.at);
     save(&o.rec, a->rec);
-    return (uint64_t)o.ds << 8 | (uint64_t)o.ds_parameter << 12 | (uint64_t)o.ds_security << 16 | (uint64_t)o.user << 20 |
-           (uint64_t)o.user_parameter << 24 | (uint64_t)o.user_dsc << 28 | (uint64_t)one.n << 32 | (uint64_t)two.n << 48;
+    return (uint64_t)o.ds << 8 | (uint64_t)o.ds_parameter << 12 | (uint64_t)o.ds_security << 16 | (uint64_t)o.user << 17 |
+           (uint64_t)o.user_parameter << 21 | (uint64_t)o.user_dsc << 25 | (uint64_t)one.n << 26 | (uint64_t)two.n << 41;
 }

@@ -20,7 +20,7 @@ use Rattle.machine.specs.Record.{freshRecord}
 use Rattle.control.specs.Control.{waits}
 use Rattle.machine.specs.Run.{Formed}
 use Rattle.machine.specs.declared.record.Record.{Record}
-use Rattle.step.specs.Stored.{sideCode, headFits, headOf, withHighest, loadAt, storeAt}
+use Rattle.step.specs.Stored.{recordBytes, recordBits, jobBit, jobBits, sideCode, headFits, headOf, withHighest, loadAt, storeAt}
 use Rattle.step.specs.declared.stored.Loaded.{Loaded}
 use Rattle.step.specs.declared.stored.Loaded.the-variants.{Is, NoRecord}
 use Rattle.step.proofs.Taken.{never, Coded}
@@ -49,7 +49,7 @@ by-test false x sd r e = never (ap isRecord e)
 abbrev before : List ℕ → Bool
 before b = leb 1 (getD b 0 0) && leb (getD b 0 0) 2 && ltb (getD b 1 0) 5 && ltb (getD b 2 0) 2 && ltb (getD b 3 0) 2 && ltb (getD b 4 0) 2
 
-number-coded : (b : List ℕ) (x : Read) (sd : Side) (r : Record) → readBits (bitsTo b 128) 64 64 ≡ x → headOf b ≡ true → withHighest b x ≡ Is sd r → Coded r
+number-coded : (b : List ℕ) (x : Read) (sd : Side) (r : Record) → readBits (bitsTo b recordBits) jobBit jobBits ≡ x → headOf b ≡ true → withHighest b x ≡ Is sd r → Coded r
 unfolding withHighest headFits
 number-coded b (Number h next) sd r e t f =
     let p = both-left (before b && ltb (getD b 5 0) securityValues && ltb (getD b 6 0) securityValues) (eqb (getD b 7 0) 0) t in
@@ -65,11 +65,11 @@ number-coded b Short sd r e t f = never (ap isRecord f)
 pub loaded-keeps : (b : List ℕ) (sd : Side) (r : Record) → loadAt b ≡ Is sd r → Keeps sd b r
 unfolding loadAt
 loaded-keeps b sd r e =
-    let x = by-test (eqb (length b) 16 && headOf b) (withHighest b (readBits (bitsTo b 128) 64 64)) sd r e in
+    let x = by-test (eqb (length b) recordBytes && headOf b) (withHighest b (readBits (bitsTo b recordBits) jobBit jobBits)) sd r e in
     record {
       load = e;
-      size = eqb-true (length b) 16 (both-left (eqb (length b) 16) (headOf b) (x .0));
-      coded = number-coded b (readBits (bitsTo b 128) 64 64) sd r refl (both-right (eqb (length b) 16) (headOf b) (x .0)) (x .1);
+      size = eqb-true (length b) recordBytes (both-left (eqb (length b) recordBytes) (headOf b) (x .0));
+      coded = number-coded b (readBits (bitsTo b recordBits) jobBit jobBits) sd r refl (both-right (eqb (length b) recordBytes) (headOf b) (x .0)) (x .1);
     }
 
 -- ---- a record at which a run may begin is one of the pair
@@ -98,18 +98,18 @@ module _ (p : ℕ) (sd : Side) (b : List ℕ) (h : Begins p sd b) where
 
 -- ---- which bytes are such
 
-stored-begins : (p : ℕ) (sd : Side) (r : List ℕ) → p < securityValues → length r ≡ 16 → Begins p sd (storeAt r sd (freshRecord (record { policy = p })) .bytes)
+stored-begins : (p : ℕ) (sd : Side) (r : List ℕ) → p < securityValues → length r ≡ recordBytes → Begins p sd (storeAt r sd (freshRecord (record { policy = p })) .bytes)
 stored-begins p sd r v h =
     let k = stored-keeps sd r (freshRecord (record { policy = p })) h (record { request = omega arith; policy = v; highest = omega arith }) in
     record { held = freshRecord (record { policy = p }); load = k .load; policy = refl; idle = refl; timer = refl; user = refl }
 
 -- what peat_fresh made in any range of sixteen bytes
-pub fresh-begins : (p : ℕ) (sd : Side) (r : List ℕ) → p < securityValues → length r ≡ 16 → Begins p sd (freshCall r (sideCode sd) p .bytes)
+pub fresh-begins : (p : ℕ) (sd : Side) (r : List ℕ) → p < securityValues → length r ≡ recordBytes → Begins p sd (freshCall r (sideCode sd) p .bytes)
 unfolding freshCall freshFor
 fresh-begins p Air r v h = stored-begins p Air r v h
 fresh-begins p Ground r v h = stored-begins p Ground r v h
 
-pub fresh-highest : (p : ℕ) (sd : Side) (r : List ℕ) (v : p < securityValues) (h : length r ≡ 16) → fresh-begins p sd r v h .held .highest ≡ 0
+pub fresh-highest : (p : ℕ) (sd : Side) (r : List ℕ) (v : p < securityValues) (h : length r ≡ recordBytes) → fresh-begins p sd r v h .held .highest ≡ 0
 unfolding fresh-begins stored-begins
 fresh-highest p Air r v h = refl
 fresh-highest p Ground r v h = refl

@@ -12,6 +12,7 @@ use Rattle.machine.specs.declared.record.Record.{Record}
 use Rattle.machine.specs.declared.event.Apdu.the-variants.{Absent}
 use Rattle.machine.specs.declared.event.Event.the-variants.{TimerExpires, UnrecoverableSystemError}
 use Rattle.machine.specs.declared.event.ServicePrimitive.the-variants as service
+use Rattle.step.specs.Stored.{recordBytes}
 use Rattle.step.specs.Call.{arrives}
 use Rattle.step.specs.declared.arrived.Arrived.the-variants.{DStartConfirmation, DPAbortIndication}
 use Rattle.step.proofs.Refusing.{Leaves, user-leaves}
@@ -105,7 +106,7 @@ module _ (p : ℕ) (host : Side → ℕ → Buffers) where
         (step-quiet cardCodec p valued (a .held) (g .held) (begins-local p Air r a) (begins-idle p Air r a) (begins-local p Ground q g) (begins-idle p Ground q g) (f .turns))
 
   -- two records that peat_fresh made, in any two ranges of sixteen bytes
-  module _ (v : p < securityValues) (r q : List ℕ) (hr : length r ≡ 16) (hq : length q ≡ 16) where
+  module _ (v : p < securityValues) (r q : List ℕ) (hr : length r ≡ recordBytes) (hq : length q ≡ recordBytes) where
     abbrev air-fresh : Begins p Air (freshCall r 1 p .bytes)
     air-fresh = fresh-begins p Air r v hr
 

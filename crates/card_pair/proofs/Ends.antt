@@ -37,8 +37,8 @@ use Rattle.machine.specs.declared.outcome.Invoked.the-variants.{Silent, DStartR
 use Rattle.machine.specs.declared.outcome.Told.{Told}
 use Rattle.machine.specs.declared.outcome.Told.the-variants.{Untold, StartIndication, StartConfirmation, MessageIndication, EndIndication, EndConfirmation, UserAbortIndication, ProviderAbortIndication}
 use Rattle.machine.specs.declared.outcome.Outcome.{Outcome}
-use Rattle.step.specs.Stored.{flag, loadAt, storeAt}
-use Rattle.step.specs.Packed.{packed, invokedNumber, toldNumber}
+use Rattle.step.specs.Stored.{recordBytes, flag, loadAt, storeAt}
+use Rattle.step.specs.Packed.{refusals, primitives, counts, packed, invokedNumber, toldNumber}
 use Rattle.step.specs.Call.{Called, pduSide, bitsOfWritten, nothingTo, pduTo, firstTakes, secondTakes, finished, concluded}
 use Rattle.step.specs.declared.stored.Loaded.the-variants.{Is}
 use Rattle.step.proofs.Storing.{length-stored, loaded-stored}
@@ -58,7 +58,7 @@ pub record Wrote (bs : List ℕ) (x : Done) : Type 0 where
   pub count : bitsOfWritten (x .answer) ≡ length bs
   pub bytes : lent (take (bytesFor (length bs)) (x .bytes)) ≡ padded bs
   pub zeroed : lent (frontOf zeros bs) ≡ padded bs
-  pub small : length bs < 65536
+  pub small : length bs < counts
 
 write-is : (ok : Bool) (s bs : List ℕ) → ok ≡ true → Bits bs → length bs + 7 ≤ 8 * bufferLeast → bufferLeast ≤ length s → Wrote bs (writeOut ok s bs)
 write-is ok s bs e b h g = rw (e, writes s bs g) (record { count = refl; bytes = front s bs b h g .bits; zeroed = front zeros bs b h full .bits; small = omega arith })
@@ -151,13 +151,13 @@ told-back (ProviderAbortIndication x) = rw (code-unpacked 7 x 0 (omega arith))
 -- the bytes b are those of the record r at side sd
 pub record Keeps (sd : Side) (b : List ℕ) (r : Record) : Type 0 where
   pub load : loadAt b ≡ Is sd r
-  pub size : length b ≡ 16
+  pub size : length b ≡ recordBytes
   pub coded : Coded r
 
-pub stored-keeps : (sd : Side) (r : List ℕ) (x : Record) → length r ≡ 16 → Coded x → Keeps sd (storeAt r sd x .bytes) x
+pub stored-keeps : (sd : Side) (r : List ℕ) (x : Record) → length r ≡ recordBytes → Coded x → Keeps sd (storeAt r sd x .bytes) x
 unfolding storeAt
 stored-keeps sd r x h k =
-    rw (eq-eqb (length r) 16 h, lt-ltb (x .request) securityValues (k .request), lt-ltb (x .policy) securityValues (k .policy))
+    rw (eq-eqb (length r) recordBytes h, lt-ltb (x .request) securityValues (k .request), lt-ltb (x .policy) securityValues (k .policy))
     (record { load = loaded-stored sd x (k .request) (k .policy) (k .highest); size = length-stored sd x (k .request) (k .policy) (k .highest); coded = k })
 
 -- ---- all of it
@@ -192,9 +192,9 @@ handed-told (UserAbortIndication k) false s b x z h e f = refl
 handed-told (ProviderAbortIndication k) true s b x z h e f = refl
 handed-told (ProviderAbortIndication k) false s b x z h e f = refl
 
-module _ (i t s g : ℕ) (hi : i < 4096) (ht : t < 4096) (hs : s < 65536) (hg : g < 65536) where
+module _ (i t s g : ℕ) (hi : i < primitives) (ht : t < primitives) (hs : s < counts) (hg : g < counts) where
   pub is-taken : isTaken (packed i t s g) ≡ true
-  is-taken = eq-eqb (packed i t s g % 256) 0 (refusal-unpacked i t s g)
+  is-taken = eq-eqb (packed i t s g % refusals) 0 (refusal-unpacked i t s g)
 
   pub invoked-part : invokedPart (packed i t s g) ≡ i
   invoked-part = invoked-unpacked i t s g hi
@@ -209,14 +209,14 @@ module _ (i t s g : ℕ) (hi : i < 4096) (ht : t < 4096) (hs : s < 65536) (hg : 
   given-part = given-unpacked i t s g hi ht hg
 
 -- from what the two buffers took
-module _ (r a b : List ℕ) (sd : Side) (v : Brings) (o : Outcome) (y : Body) (one two : Done) (size : length r ≡ 16) (k : Fit sd v o) (w : Wrote (apduBits sd (o .apdu) y) one) (z : Wrote (cond (o .delivers) y []) two) where
+module _ (r a b : List ℕ) (sd : Side) (v : Brings) (o : Outcome) (y : Body) (one two : Done) (size : length r ≡ recordBytes) (k : Fit sd v o) (w : Wrote (apduBits sd (o .apdu) y) one) (z : Wrote (cond (o .delivers) y []) two) where
   abbrev N : ℕ
   N = packed (invokedNumber (o .invoked)) (toldNumber (o .told)) (length (apduBits sd (o .apdu) y)) (length (cond (o .delivers) y []))
 
-  hi : invokedNumber (o .invoked) < 4096
+  hi : invokedNumber (o .invoked) < primitives
   hi = invoked-low (o .invoked)
 
-  ht : toldNumber (o .told) < 4096
+  ht : toldNumber (o .told) < primitives
   ht = told-low (o .told)
 
   number-is : finished r a b sd o one two .number ≡ N
@@ -257,7 +257,7 @@ module _ (r a b : List ℕ) (sd : Side) (v : Brings) (o : Outcome) (y : Body) (o
       }
 
 -- a step that was taken
-pub concluded-is : (r a b : List ℕ) (sd : Side) (v : Brings) (o : Outcome) (li lm lc : List ℕ) (d : Data) → bufferLeast ≤ length a → bufferLeast ≤ length b → length r ≡ 16 → Bits li → Bits lm → Bits lc → dataShaped li lm lc d ≡ true → isNone (o .refusal) ≡ true → Fit sd v o
+pub concluded-is : (r a b : List ℕ) (sd : Side) (v : Brings) (o : Outcome) (li lm lc : List ℕ) (d : Data) → bufferLeast ≤ length a → bufferLeast ≤ length b → length r ≡ recordBytes → Bits li → Bits lm → Bits lc → dataShaped li lm lc d ≡ true → isNone (o .refusal) ≡ true → Fit sd v o
     → Ended sd v o (contentBits (contentIn li lm lc d)) (concluded r a b sd o li lm lc d)
 unfolding concluded
 concluded-is r a b sd v o li lm lc d ha hb size hi hm hc sh n k =

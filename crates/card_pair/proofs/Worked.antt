@@ -24,7 +24,7 @@ use Rattle.machine.specs.Record.{enter}
 use Rattle.machine.specs.Step.{permitted, messageRefusal, refusalOf, acts, step}
 use Rattle.step.specs.Call.{firstTakes, secondTakes, finished, concluded, withRecord, entering, userStep, userCall, readsAs, readsAgain, abortOf, orAbort, readPdu, meaning, dataOf, arrives, dataStep, bareStep, serviceStep, serviceCall}
 use Rattle.step.specs.Packed.{invokedNumber, toldNumber, packed}
-use Rattle.step.specs.Stored.{headBytes, storedBytes, headFits, withHighest, loadAt, storeAt}
+use Rattle.step.specs.Stored.{recordBytes, headBytes, storedBytes, headFits, withHighest, loadAt, storeAt}
 use Rattle.card.specs.Face.{noCount, partOf, givenData, freshFor, freshCall}
 use Rattle.machine.specs.declared.outcome.Invoked.{Invoked}
 use Rattle.machine.specs.declared.outcome.Invoked.the-variants.{DDataRequest, DEndResponse, DAbortRequest}
@@ -86,7 +86,7 @@ ofParty x = seen (controlIn (loadAt (x .rec .bytes))) (x .line) (x .taken) (x .g
 -- from two fresh records that the card made, with "secured exchange" at both ends
 abbrev after : List (Turn Asked) → View
 after ts =
-    let s = run (cardMachine 1 lends) (fresh (cardMachine 1 lends) (newly (freshCall (replicate 16 0) 1 1 .bytes)) (newly (freshCall (replicate 16 0) 2 1 .bytes))) ts in
+    let s = run (cardMachine 1 lends) (fresh (cardMachine 1 lends) (newly (freshCall (replicate recordBytes 0) 1 1 .bytes)) (newly (freshCall (replicate recordBytes 0) 2 1 .bytes))) ts in
     record { air = ofParty (s .here); ground = ofParty (s .there); broken = s .broken }
 
 abbrev view : Seen → Seen → Bool → View

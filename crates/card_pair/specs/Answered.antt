@@ -1,5 +1,5 @@
 -- What a host takes out of a call's answer: the parts of the number (crate step, Packed), and the first bytes of the two buffers.
-use Prim.Native.Nat.{ℕ, zero, suc, _/_, _%_}
+use Prim.Native.Nat.{ℕ, zero, suc, _*_, _/_, _%_}
 use mathlib.Core.Bool.{Bool, cond}
 use mathlib.Core.List.{List, [], _∷_}
 use lib.Dec.{eqb}
@@ -10,25 +10,26 @@ use Rattle.machine.specs.Calls.{qosAsked}
 use Rattle.machine.specs.declared.outcome.Invoked.{Invoked}
 use Rattle.machine.specs.declared.outcome.Invoked.the-variants.{Silent, DStartRequest, DStartResponse, DDataRequest, DEndRequest, DEndResponse, DAbortRequest}
 use Rattle.step.specs.Call.{Called}
+use Rattle.step.specs.Packed.{refusals, codes, primitives, counts}
 use Rattle.pair.specs.Carrier.{Body}
 use Rattle.pair.specs.StepMachine.{Wire}
 
 -- the low byte is a refusal's number
 abbrev pub isTaken : ℕ → Bool
-isTaken n = eqb (n % 256) 0
+isTaken n = eqb (n % refusals) 0
 
--- twelve bits for the dialogue-service primitive, twelve for the user primitive, sixteen for each count of bits
+-- nine bits for the dialogue-service primitive, nine for the user primitive, fifteen for each count of bits
 abbrev pub invokedPart : ℕ → ℕ
-invokedPart n = n / 256 % 4096
+invokedPart n = n / refusals % primitives
 
 abbrev pub toldPart : ℕ → ℕ
-toldPart n = n / 1048576 % 4096
+toldPart n = n / (refusals * primitives) % primitives
 
 abbrev pub sentBits : ℕ → ℕ
-sentBits n = n / 4294967296 % 65536
+sentBits n = n / (refusals * primitives * primitives) % counts
 
 abbrev pub givenBits : ℕ → ℕ
-givenBits n = n / 281474976710656 % 65536
+givenBits n = n / (refusals * primitives * primitives * counts) % counts
 
 -- the primitive of a code, with its parameter and security value. A D-START request has the quality of service that document 01 calls right,
 -- with the routing class of the number
@@ -42,7 +43,7 @@ primitiveOf (suc (suc (suc (suc (suc zero))))) x s = DEndResponse x
 primitiveOf (suc (suc (suc (suc (suc (suc n)))))) x s = DAbortRequest x
 
 abbrev pub invokedOf : ℕ → Invoked
-invokedOf i = primitiveOf (i % 16) (i / 16 % 16) (i / 256 % 16)
+invokedOf i = primitiveOf (i % codes) (i / codes % codes) (i / (codes * codes) % 2)
 
 -- what goes on the line: the primitive, and the bytes of the APDU in the first buffer
 abbrev pub entryOf : Called → Wire
@@ -50,7 +51,7 @@ entryOf c = record { primitive = invokedOf (invokedPart (c .number)); bytes = ta
 
 -- a message indication (3) hands out the message data in the second buffer
 abbrev pub isMessage : ℕ → Bool
-isMessage t = eqb (t % 16) 3
+isMessage t = eqb (t % codes) 3
 
 abbrev pub dataIn : Called → Body
 dataIn c = take (givenBits (c .number)) (lent (take (bytesFor (givenBits (c .number))) (c .second)))

@@ -27,7 +27,7 @@ use Rattle.machine.specs.declared.outcome.Told.{Told}
 use Rattle.machine.specs.declared.outcome.Told.the-variants.{Untold, StartIndication, StartConfirmation, MessageIndication, EndIndication, EndConfirmation, UserAbortIndication, ProviderAbortIndication}
 use Rattle.machine.specs.declared.outcome.Outcome.{Outcome}
 use Rattle.step.specs.Stored.{loadAt, storeAt, kept}
-use Rattle.step.specs.Packed.{packed, invokedNumber, toldNumber}
+use Rattle.step.specs.Packed.{primitives, packed, invokedNumber, toldNumber}
 use Rattle.step.specs.Call.{Called, called, bitsOfWritten, firstTakes, secondTakes, finished, concluded, withRecord, entering, userStep, meaning, dataOf, readPdu, noData, arrives, dataStep, bareStep, serviceStep}
 use Rattle.step.specs.declared.arrived.Arrived.{Arrived}
 use Rattle.step.specs.declared.stored.Loaded.{Loaded}
@@ -35,7 +35,7 @@ use Rattle.step.specs.declared.stored.Loaded.the-variants.{Is, NoRecord}
 
 -- ---- the number's parts have room
 
-pub invoked-low : (i : Invoked) → invokedNumber i < 4096
+pub invoked-low : (i : Invoked) → invokedNumber i < primitives
 unfolding invokedNumber
 invoked-low Silent = omega arith
 invoked-low (DStartRequest q s) = omega arith
@@ -45,7 +45,7 @@ invoked-low DEndRequest = omega arith
 invoked-low (DEndResponse x) = omega arith
 invoked-low (DAbortRequest o) = omega arith
 
-pub told-low : (t : Told) → toldNumber t < 4096
+pub told-low : (t : Told) → toldNumber t < primitives
 unfolding toldNumber
 told-low Untold = omega arith
 told-low (StartIndication m k) = omega arith

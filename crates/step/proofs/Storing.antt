@@ -27,7 +27,7 @@ use Rattle.control.specs.declared.Side.the-variants.{Air, Ground}
 use Rattle.control.specs.declared.State.{State}
 use Rattle.control.specs.declared.State.the-variants.{Idle, StartReq, StartInd, Dialogue, End}
 use Rattle.machine.specs.declared.record.Record.{Record}
-use Rattle.step.specs.Stored.{sideCode, sideOf, stateOf, flag, headBytes, storedBytes, headFits, headOf, withHighest, loadAt, kept, storeAt}
+use Rattle.step.specs.Stored.{sideByte, stateByte, dscByte, timerByte, activeByte, requestByte, policyByte, jobByte, jobBytes, recordBytes, jobBit, jobBits, recordBits, sideCode, sideOf, stateOf, flag, headBytes, storedBytes, headFits, codeAt, headOf, withHighest, loadAt, kept, storeAt}
 use Rattle.step.specs.declared.stored.Loaded.{Loaded}
 use Rattle.step.specs.declared.stored.Loaded.the-variants.{Is, NoRecord}
 
@@ -40,26 +40,26 @@ other-state (suc (suc (suc (suc n)))) a b c d = refl
 
 -- ---- the ways out of `load`, as the code has them
 
-pub load-long : (b : List ℕ) → (length b ≡ 16 → ⊥) → NoRecord ≡ loadAt b
+pub load-long : (b : List ℕ) → (length b ≡ recordBytes → ⊥) → NoRecord ≡ loadAt b
 unfolding loadAt
-load-long b h = rw (ne-eqb (length b) 16 h)
+load-long b h = rw (ne-eqb (length b) recordBytes h)
 
-module _ (b : List ℕ) (sized : length b ≡ 16) (t : Bool) (p : t ≡ headOf b) where
+module _ (b : List ℕ) (sized : length b ≡ recordBytes) (t : Bool) (p : t ≡ headOf b) where
   pub load-odd : t ≡ false → NoRecord ≡ loadAt b
   unfolding loadAt
-  load-odd q = rw (eq-eqb (length b) 16 sized, ← p, q)
+  load-odd q = rw (eq-eqb (length b) recordBytes sized, ← p, q)
 
-  module _ (q : t ≡ true) (r : Read) (pr : r ≡ readBits (bitsTo b 128) 64 64) where
+  module _ (q : t ≡ true) (r : Read) (pr : r ≡ readBits (bitsTo b recordBits) jobBit jobBits) where
     loads : loadAt b ≡ withHighest b r
     unfolding loadAt
-    loads = rw (eq-eqb (length b) 16 sized, ← p, q, ← pr)
+    loads = rw (eq-eqb (length b) recordBytes sized, ← p, q, ← pr)
 
     pub load-none : r ≡ Short → NoRecord ≡ loadAt b
     unfolding withHighest
     load-none e = rw (loads, e)
 
-    pub load-is : (h next : ℕ) → r ≡ Number h next → (sd : Side) (s : State) → sd ≡ sideOf (getD b 0 0) → s ≡ stateOf (getD b 1 0)
-        → Is sd (record { control = record { state = s; dsc = eqb (getD b 2 0) 1 }; timer = eqb (getD b 3 0) 1; active = eqb (getD b 4 0) 1; highest = h; request = getD b 5 0; policy = getD b 6 0 }) ≡ loadAt b
+    pub load-is : (h next : ℕ) → r ≡ Number h next → (sd : Side) (s : State) → sd ≡ sideOf (codeAt b sideByte) → s ≡ stateOf (codeAt b stateByte)
+        → Is sd (record { control = record { state = s; dsc = eqb (codeAt b dscByte) 1 }; timer = eqb (codeAt b timerByte) 1; active = eqb (codeAt b activeByte) 1; highest = h; request = codeAt b requestByte; policy = codeAt b policyByte }) ≡ loadAt b
     unfolding withHighest
     load-is h next e sd s x y = rw (loads, e, x, y)
 
@@ -93,55 +93,55 @@ module _ (sd : Side) (r : Record) (hr : r .request < 2) (hp : r .policy < 2) whe
   bytes-head (suc (suc (suc (suc (suc (suc (suc zero))))))) = omega arith
   bytes-head (suc (suc (suc (suc (suc (suc (suc (suc k)))))))) = omega arith
 
-  length-head : length (headBytes sd r) ≡ 8
+  length-head : length (headBytes sd r) ≡ jobByte
   unfolding headBytes
   length-head = refl
 
 -- ---- the ways out of `store`, as the code has them
 
-pub store-long : (b : List ℕ) (sd : Side) (r : Record) → (length b ≡ 16 → ⊥) → kept false b ≡ storeAt b sd r
+pub store-long : (b : List ℕ) (sd : Side) (r : Record) → (length b ≡ recordBytes → ⊥) → kept false b ≡ storeAt b sd r
 unfolding storeAt
-store-long b sd r h = rw (ne-eqb (length b) 16 h)
+store-long b sd r h = rw (ne-eqb (length b) recordBytes h)
 
-pub store-request : (b : List ℕ) (sd : Side) (r : Record) → length b ≡ 16 → 2 ≤ r .request → kept false b ≡ storeAt b sd r
+pub store-request : (b : List ℕ) (sd : Side) (r : Record) → length b ≡ recordBytes → 2 ≤ r .request → kept false b ≡ storeAt b sd r
 unfolding storeAt
-store-request b sd r h g = rw (eq-eqb (length b) 16 h, le-ltb (r .request) 2 g)
+store-request b sd r h g = rw (eq-eqb (length b) recordBytes h, le-ltb (r .request) 2 g)
 
-pub store-policy : (b : List ℕ) (sd : Side) (r : Record) → length b ≡ 16 → r .request < 2 → 2 ≤ r .policy → kept false b ≡ storeAt b sd r
+pub store-policy : (b : List ℕ) (sd : Side) (r : Record) → length b ≡ recordBytes → r .request < 2 → 2 ≤ r .policy → kept false b ≡ storeAt b sd r
 unfolding storeAt
-store-policy b sd r h g k = rw (eq-eqb (length b) 16 h, lt-ltb (r .request) 2 g, le-ltb (r .policy) 2 k)
+store-policy b sd r h g k = rw (eq-eqb (length b) recordBytes h, lt-ltb (r .request) 2 g, le-ltb (r .policy) 2 k)
 
-module _ (b a y z : List ℕ) (p q : Put) (sd : Side) (r : Record) (sized : length b ≡ 16) (bs : Bytes b) (hr : r .request < 2) (hp : r .policy < 2) (hh : r .highest < 2 ^ 64) where
-  first-half : a ≡ headBytes sd r → left p y ≡ copyRun b 128 0 a 64 0 64 → y ≡ putBits b 0 (bitsOf a)
+module _ (b a y z : List ℕ) (p q : Put) (sd : Side) (r : Record) (sized : length b ≡ recordBytes) (bs : Bytes b) (hr : r .request < 2) (hp : r .policy < 2) (hh : r .highest < 2 ^ 64) where
+  first-half : a ≡ headBytes sd r → left p y ≡ copyRun b recordBits 0 a jobBit 0 jobBit → y ≡ putBits b 0 (bitsOf a)
   unfolding copyRun
   first-half e f =
-      let n : length a ≡ 8 = ap length e ∙ length-head sd r hr hp in
-      let m : length (bitsTo a 64) ≡ 64 = length-to a 64 ∙ omega arith in
-      let k : length (bitsTo b 128) ≡ 128 = length-to b 128 ∙ omega arith in
-      let w : length (run a 0 64) ≡ 64 = length-run a 0 64 (omega arith) in
-      let g : run a 0 64 ≡ bitsOf a = subst (λ (j : ℕ). run a 0 j ≡ bitsOf a) (omega arith) (run-all a) in
-      ap (λ (o : Left). o .bytes) (f ∙ put-if-yes _ b 128 0 (run a 0 64) (le-leb (0 + 64) (length (bitsTo a 64)) (omega arith)) ∙ put-fits b 128 0 (run a 0 64) (omega arith)) ∙ ap (putBits b 0) g
+      let n : length a ≡ jobByte = ap length e ∙ length-head sd r hr hp in
+      let m : length (bitsTo a jobBit) ≡ jobBit = length-to a jobBit ∙ omega arith in
+      let k : length (bitsTo b recordBits) ≡ recordBits = length-to b recordBits ∙ omega arith in
+      let w : length (run a 0 jobBit) ≡ jobBit = length-run a 0 jobBit (omega arith) in
+      let g : run a 0 jobBit ≡ bitsOf a = subst (λ (j : ℕ). run a 0 j ≡ bitsOf a) (omega arith) (run-all a) in
+      ap (λ (o : Left). o .bytes) (f ∙ put-if-yes _ b recordBits 0 (run a 0 jobBit) (le-leb (0 + jobBit) (length (bitsTo a jobBit)) (omega arith)) ∙ put-fits b recordBits 0 (run a 0 jobBit) (omega arith)) ∙ ap (putBits b 0) g
 
-  second-half : length y ≡ 16 → left q z ≡ putNumber y 128 64 64 (r .highest) → z ≡ putBits y 64 (bitsN 64 (r .highest))
+  second-half : length y ≡ recordBytes → left q z ≡ putNumber y recordBits jobBit jobBits (r .highest) → z ≡ putBits y jobBit (bitsN jobBits (r .highest))
   unfolding putNumber
   second-half n f =
-      let k : length (bitsTo y 128) ≡ 128 = length-to y 128 ∙ omega arith in
-      let w : length (bitsN 64 (r .highest)) ≡ 64 = length-bitsN 64 (r .highest) in
-      ap (λ (o : Left). o .bytes) (f ∙ put-if-yes _ y 128 64 (bitsN 64 (r .highest)) (lt-ltb (r .highest) (2 ^ 64) hh) ∙ put-fits y 128 64 (bitsN 64 (r .highest)) (omega arith))
+      let k : length (bitsTo y recordBits) ≡ recordBits = length-to y recordBits ∙ omega arith in
+      let w : length (bitsN jobBits (r .highest)) ≡ jobBits = length-bitsN jobBits (r .highest) in
+      ap (λ (o : Left). o .bytes) (f ∙ put-if-yes _ y recordBits jobBit (bitsN jobBits (r .highest)) (lt-ltb (r .highest) (2 ^ 64) hh) ∙ put-fits y recordBits jobBit (bitsN jobBits (r .highest)) (omega arith))
 
-  pub store-is : a ≡ headBytes sd r → left p y ≡ copyRun b 128 0 a 64 0 64 → left q z ≡ putNumber y 128 64 64 (r .highest) → kept true z ≡ storeAt b sd r
+  pub store-is : a ≡ headBytes sd r → left p y ≡ copyRun b recordBits 0 a jobBit 0 jobBit → left q z ≡ putNumber y recordBits jobBit jobBits (r .highest) → kept true z ≡ storeAt b sd r
   unfolding storeAt storedBytes
   store-is e f g =
-      let n : length a ≡ 8 = ap length e ∙ length-head sd r hr hp in
+      let n : length a ≡ jobByte = ap length e ∙ length-head sd r hr hp in
       let ba : Bytes a = rw e (bytes-head sd r hr hp) in
       let u = first-half e f in
-      let l : length (bitsOf a) ≡ 64 = length-bits a ∙ omega arith in
+      let l : length (bitsOf a) ≡ jobBit = length-bits a ∙ omega arith in
       let v = second-half (ap length u ∙ length-put (bitsOf a) b 0 ∙ sized) g in
-      let j : putBits y 64 (bitsN 64 (r .highest)) ≡ putBits b 0 (bitsOf a ++ bitsN 64 (r .highest)) = rw u (sym (put-append (bitsOf a) (bitsN 64 (r .highest)) b 0 ∙ rw (zero-add, l))) in
-      let w : length (bitsOf a ++ bitsN 64 (r .highest)) ≡ 8 * 16 = rw (length-append, l, length-bitsN) in
-      let x : putBits b 0 (bitsOf a ++ bitsN 64 (r .highest)) ≡ bytesOf 16 (bitsOf a ++ bitsN 64 (r .highest)) = put-whole b _ 16 bs (bits-append (bitsOf a) (bitsN 64 (r .highest)) (bits-bits a) (bits-bitsN 64 (r .highest))) sized w in
-      let i : bytesOf 16 (bitsOf a ++ bitsN 64 (r .highest)) ≡ a ++ bytesOf 8 (bitsN 64 (r .highest)) = subst (λ (m : ℕ). bytesOf (m + 8) (bitsOf a ++ bitsN 64 (r .highest)) ≡ a ++ bytesOf 8 (bitsN 64 (r .highest))) n (bytes-of-bits a (bitsN 64 (r .highest)) 8 ba) in
-      rw (eq-eqb (length b) 16 sized, lt-ltb (r .request) 2 hr, lt-ltb (r .policy) 2 hp) (ap (kept true) (v ∙ j ∙ x ∙ i ∙ ap (λ (h : List ℕ). h ++ bytesOf 8 (bitsN 64 (r .highest))) e))
+      let j : putBits y jobBit (bitsN jobBits (r .highest)) ≡ putBits b 0 (bitsOf a ++ bitsN jobBits (r .highest)) = rw u (sym (put-append (bitsOf a) (bitsN jobBits (r .highest)) b 0 ∙ rw (zero-add, l))) in
+      let w : length (bitsOf a ++ bitsN jobBits (r .highest)) ≡ 8 * recordBytes = rw (length-append, l, length-bitsN) in
+      let x : putBits b 0 (bitsOf a ++ bitsN jobBits (r .highest)) ≡ bytesOf recordBytes (bitsOf a ++ bitsN jobBits (r .highest)) = put-whole b _ recordBytes bs (bits-append (bitsOf a) (bitsN jobBits (r .highest)) (bits-bits a) (bits-bitsN jobBits (r .highest))) sized w in
+      let i : bytesOf recordBytes (bitsOf a ++ bitsN jobBits (r .highest)) ≡ a ++ bytesOf jobBytes (bitsN jobBits (r .highest)) = subst (λ (m : ℕ). bytesOf (m + jobBytes) (bitsOf a ++ bitsN jobBits (r .highest)) ≡ a ++ bytesOf jobBytes (bitsN jobBits (r .highest))) n (bytes-of-bits a (bitsN jobBits (r .highest)) jobBytes ba) in
+      rw (eq-eqb (length b) recordBytes sized, lt-ltb (r .request) 2 hr, lt-ltb (r .policy) 2 hp) (ap (kept true) (v ∙ j ∙ x ∙ i ∙ ap (λ (h : List ℕ). h ++ bytesOf jobBytes (bitsN jobBits (r .highest))) e))
 
 -- ---- what was stored is loaded
 
@@ -169,7 +169,7 @@ side-fits Air = refl
 side-fits Ground = refl
 
 module _ (sd : Side) (r : Record) (hr : r .request < 2) (hp : r .policy < 2) (hh : r .highest < 2 ^ 64) where
-  pub length-stored : length (storedBytes sd r) ≡ 16
+  pub length-stored : length (storedBytes sd r) ≡ recordBytes
   unfolding storedBytes
   length-stored = length-append (headBytes sd r) _ ∙ rw (length-head sd r hr hp, length-bytes)
 
@@ -186,21 +186,21 @@ module _ (sd : Side) (r : Record) (hr : r .request < 2) (hp : r .policy < 2) (hh
         lt-ltb (r .policy) 2 hp,
       )
 
-  job-stands : Holds (bitsTo (storedBytes sd r) 128) 64 (bitsN 64 (r .highest))
+  job-stands : Holds (bitsTo (storedBytes sd r) recordBits) jobBit (bitsN jobBits (r .highest))
   unfolding storedBytes
   job-stands =
-      let j : List ℕ = bitsN 64 (r .highest) in
-      let e : bitsOf (headBytes sd r ++ bytesOf 8 (bitsN 64 (r .highest))) ≡ bitsOf (headBytes sd r) ++ bitsN 64 (r .highest) = bits-of-append (headBytes sd r) _ ∙ rw (bits-bytes 8 (bitsN 64 (r .highest)) (bits-bitsN 64 (r .highest)) (length-bitsN 64 (r .highest))) in
-      let n : length (bitsOf (headBytes sd r)) ≡ 64 = length-bits (headBytes sd r) ∙ rw (length-head sd r hr hp) in
-      let m : length (bitsN 64 (r .highest)) ≡ 64 = length-bitsN 64 (r .highest) in
-      rw m (run-to _ 128 64 64 (omega arith) ∙ run-is _ 64 64 ∙ rw (e, drop-at (bitsOf (headBytes sd r)) (bitsN 64 (r .highest)) 64 n) (take-all 64 (bitsN 64 (r .highest)) (omega arith)))
+      let j : List ℕ = bitsN jobBits (r .highest) in
+      let e : bitsOf (headBytes sd r ++ bytesOf jobBytes (bitsN jobBits (r .highest))) ≡ bitsOf (headBytes sd r) ++ bitsN jobBits (r .highest) = bits-of-append (headBytes sd r) _ ∙ rw (bits-bytes jobBytes (bitsN jobBits (r .highest)) (bits-bitsN jobBits (r .highest)) (length-bitsN jobBits (r .highest))) in
+      let n : length (bitsOf (headBytes sd r)) ≡ jobBit = length-bits (headBytes sd r) ∙ rw (length-head sd r hr hp) in
+      let m : length (bitsN jobBits (r .highest)) ≡ jobBits = length-bitsN jobBits (r .highest) in
+      rw m (run-to _ recordBits jobBit jobBits (omega arith) ∙ run-is _ jobBit jobBits ∙ rw (e, drop-at (bitsOf (headBytes sd r)) (bitsN jobBits (r .highest)) jobBit n) (take-all jobBits (bitsN jobBits (r .highest)) (omega arith)))
 
-  job-read : readBits (bitsTo (storedBytes sd r) 128) 64 64 ≡ Number (r .highest) 128
+  job-read : readBits (bitsTo (storedBytes sd r) recordBits) jobBit jobBits ≡ Number (r .highest) recordBits
   job-read =
-      let k : length (bitsTo (storedBytes sd r) 128) ≡ 128 = length-to (storedBytes sd r) 128 ∙ omega (arith, length-stored) in
-      number-read _ 64 64 (r .highest) (omega arith) hh (omega arith) job-stands
+      let k : length (bitsTo (storedBytes sd r) recordBits) ≡ recordBits = length-to (storedBytes sd r) recordBits ∙ omega (arith, length-stored) in
+      number-read _ jobBit jobBits (r .highest) (omega arith) hh (omega arith) job-stands
 
-  record-back : withHighest (storedBytes sd r) (Number (r .highest) 128) ≡ Is sd r
+  record-back : withHighest (storedBytes sd r) (Number (r .highest) recordBits) ≡ Is sd r
   unfolding storedBytes headBytes withHighest
   record-back = rw (side-back sd, state-back (r .control .state), flag-back (r .control .dsc), flag-back (r .timer), flag-back (r .active))
 

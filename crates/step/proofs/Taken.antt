@@ -42,6 +42,7 @@ use Rattle.machine.specs.declared.outcome.Invoked.the-variants.{Silent, DStartR
 use Rattle.machine.specs.declared.outcome.Told.{Told}
 use Rattle.machine.specs.declared.outcome.Told.the-variants.{Untold, StartIndication, StartConfirmation, MessageIndication, EndIndication, EndConfirmation, UserAbortIndication, ProviderAbortIndication}
 use Rattle.machine.specs.declared.outcome.Outcome.{Outcome}
+use Rattle.step.specs.Packed.{codes}
 use Rattle.step.specs.Stored.{flag}
 use Rattle.step.specs.Call.{pduSide}
 
@@ -125,15 +126,15 @@ isDData DEndRequest = false
 isDData (DEndResponse x) = false
 isDData (DAbortRequest o) = false
 
--- its parameters have room in four bits each, and the quality of service that is not in the number is the right one
+-- its parameter has room in four bits and its security value in one, and the quality of service that is not in the number is the right one
 abbrev pub Roomy : Invoked → Type 0
 Roomy Silent = Unit {0}
-Roomy (DStartRequest q s) = (q ≡ qosAsked (q .routing)) × (q .routing < 16) × (s < 16)
-Roomy (DStartResponse x s) = (x < 16) × (s < 16)
+Roomy (DStartRequest q s) = (q ≡ qosAsked (q .routing)) × (q .routing < codes) × (s < 2)
+Roomy (DStartResponse x s) = (x < codes) × (s < 2)
 Roomy DDataRequest = Unit {0}
 Roomy DEndRequest = Unit {0}
-Roomy (DEndResponse x) = x < 16
-Roomy (DAbortRequest o) = o < 16
+Roomy (DEndResponse x) = x < codes
+Roomy (DAbortRequest o) = o < codes
 
 -- no message indication
 abbrev pub quiet : Told → Bool

@@ -3,13 +3,14 @@
 --    4 bits  the dialogue-service primitive that is invoked: 0 none, 1 D-START request, 2 D-START response, 3 D-DATA request, 4 D-END request,
 --            5 D-END response, 6 D-ABORT request
 --    4 bits  its parameter: routing class (1), result (2, 5), originator (6)
---    4 bits  its security value (1, 2)
+--    1 bit   its security value (1, 2)
 --    4 bits  the user primitive that is invoked: 0 none, 1 start indication, 2 start confirmation, 3 message indication, 4 end indication,
 --            5 end confirmation, 6 user abort indication, 7 provider abort indication
 --    4 bits  its parameter: class of communication (1), result (2, 5), reason (6, 7)
---    4 bits  1 where it is the DSC- one (1, 2, 4, 5)
---   16 bits  the bits of the APDU in the first buffer, before the padding
---   16 bits  the bits of the message data in the second buffer, before the padding
+--    1 bit   1 where it is the DSC- one (1, 2, 4, 5)
+--   15 bits  the bits of the APDU in the first buffer, before the padding
+--   15 bits  the bits of the message data in the second buffer, before the padding
+--    8 bits  0
 use Prim.Native.Nat.{ℕ, _+_, _*_, _%_}
 use mathlib.Core.Bool.{Bool, true, false, cond}
 use Rattle.machine.specs.declared.event.Qos.{Qos}
@@ -20,9 +21,22 @@ use Rattle.machine.specs.declared.outcome.Told.the-variants.{Untold, StartIndic
 use Rattle.machine.specs.declared.outcome.Outcome.{Outcome}
 use Rattle.step.specs.Stored.{flag}
 
+-- how many numbers there are in a refusal's eight bits, a code's four, a primitive's nine, and a count's fifteen
+abbrev pub refusals : ℕ
+refusals = 256
+
+abbrev pub codes : ℕ
+codes = 16
+
+abbrev pub primitives : ℕ
+primitives = 512
+
+abbrev pub counts : ℕ
+counts = 32768
+
 -- a primitive, its parameter, and its security value or its mode
 abbrev pub three : ℕ → ℕ → ℕ → ℕ
-three code x y = code + 16 * (x % 16 + 16 * (y % 16))
+three code x y = code + codes * (x % codes + codes * (y % 2))
 
 unfoldable pub invokedNumber : Invoked → ℕ
 invokedNumber Silent = three 0 0 0
@@ -45,4 +59,4 @@ toldNumber (ProviderAbortIndication x) = three 7 x 0
 
 -- a call that was taken
 unfoldable pub packed : ℕ → ℕ → ℕ → ℕ → ℕ
-packed invoked told sent given = 256 * (invoked + 4096 * (told + 4096 * (sent % 65536 + 65536 * (given % 65536))))
+packed invoked told sent given = refusals * (invoked + primitives * (told + primitives * (sent % counts + counts * (given % counts))))

@@ -1,7 +1,4 @@
--- A record as the host keeps it, in sixteen bytes:
---   0 the side (1 air, 2 ground)   1 the state (0 IDLE, 1 START-REQ, 2 START-IND, 3 DIALOGUE, 4 END)   2 DSC   3 t-start runs   4 the user is active
---   5 the security value of the last start request   6 the one that local policy accepts   7 zero   8 to 15 the highest job taken, most significant byte first
--- A range of zeros is no record.
+-- A record as the host keeps it: eight bytes of one code each, then the highest job taken, most significant byte first. A range of zeros is no record.
 use Prim.Native.Nat.{ℕ, zero, suc, _+_, _*_}
 use mathlib.Core.Bool.{Bool, true, false, cond, _&&_}
 use mathlib.Core.List.{List, [], _∷_, _++_}
@@ -21,6 +18,61 @@ use Rattle.machine.specs.declared.record.Record.{Record}
 use Rattle.step.specs.declared.stored.Loaded.{Loaded}
 use Rattle.step.specs.declared.stored.Loaded.the-variants.{Is, NoRecord}
 
+-- ---- the layout: the byte of each field
+
+-- the side: 1 air, 2 ground
+abbrev pub sideByte : ℕ
+sideByte = 0
+
+-- the state: 0 IDLE, 1 START-REQ, 2 START-IND, 3 DIALOGUE, 4 END
+abbrev pub stateByte : ℕ
+stateByte = 1
+
+abbrev pub dscByte : ℕ
+dscByte = 2
+
+-- whether t-start runs
+abbrev pub timerByte : ℕ
+timerByte = 3
+
+-- whether the user is active
+abbrev pub activeByte : ℕ
+activeByte = 4
+
+-- the security value of the last start request
+abbrev pub requestByte : ℕ
+requestByte = 5
+
+-- the security value that local policy accepts
+abbrev pub policyByte : ℕ
+policyByte = 6
+
+-- zero
+abbrev pub spareByte : ℕ
+spareByte = 7
+
+-- the highest job taken: where its bytes begin, and how many they are
+abbrev pub jobByte : ℕ
+jobByte = 8
+
+abbrev pub jobBytes : ℕ
+jobBytes = 8
+
+abbrev pub recordBytes : ℕ
+recordBytes = jobByte + jobBytes
+
+-- the same in bits
+abbrev pub jobBit : ℕ
+jobBit = 8 * jobByte
+
+abbrev pub jobBits : ℕ
+jobBits = 8 * jobBytes
+
+abbrev pub recordBits : ℕ
+recordBits = 8 * recordBytes
+
+-- ---- the codes
+
 abbrev pub sideCode : Side → ℕ
 sideCode Air = 1
 sideCode Ground = 2
@@ -39,39 +91,44 @@ abbrev pub flag : Bool → ℕ
 flag true = 1
 flag false = 0
 
--- the first eight bytes
+-- ---- bytes and record
+
+-- the bytes in front of the job
 unfoldable pub headBytes : Side → Record → List ℕ
 headBytes sd r =
     sideCode sd ∷ number (r .control .state) ∷ flag (r .control .dsc) ∷ flag (r .timer) ∷ flag (r .active) ∷ r .request ∷ r .policy ∷ 0 ∷ []
 
 -- the bytes of a record
 unfoldable pub storedBytes : Side → Record → List ℕ
-storedBytes sd r = headBytes sd r ++ bytesOf 8 (bitsN 64 (r .highest))
+storedBytes sd r = headBytes sd r ++ bytesOf jobBytes (bitsN jobBits (r .highest))
 
--- whether the first eight bytes are those of a record
+-- whether the bytes in front of the job are those of a record
 unfoldable pub headFits : ℕ → ℕ → ℕ → ℕ → ℕ → ℕ → ℕ → ℕ → Bool
 headFits side state dsc timer active request policy none =
     leb 1 side && leb side 2 && ltb state 5 && ltb dsc 2 && ltb timer 2 && ltb active 2 && ltb request securityValues && ltb policy securityValues && eqb none 0
 
+abbrev pub codeAt : List ℕ → ℕ → ℕ
+codeAt b i = getD b i 0
+
 abbrev pub headOf : List ℕ → Bool
-headOf b = headFits (getD b 0 0) (getD b 1 0) (getD b 2 0) (getD b 3 0) (getD b 4 0) (getD b 5 0) (getD b 6 0) (getD b 7 0)
+headOf b = headFits (codeAt b sideByte) (codeAt b stateByte) (codeAt b dscByte) (codeAt b timerByte) (codeAt b activeByte) (codeAt b requestByte) (codeAt b policyByte) (codeAt b spareByte)
 
 -- the record whose highest job was read
 unfoldable pub withHighest : List ℕ → Read → Loaded
 withHighest b (Number h next) =
-    Is (sideOf (getD b 0 0)) (record {
-      control = entered (stateOf (getD b 1 0)) (eqb (getD b 2 0) 1);
-      timer = eqb (getD b 3 0) 1;
-      active = eqb (getD b 4 0) 1;
+    Is (sideOf (codeAt b sideByte)) (record {
+      control = entered (stateOf (codeAt b stateByte)) (eqb (codeAt b dscByte) 1);
+      timer = eqb (codeAt b timerByte) 1;
+      active = eqb (codeAt b activeByte) 1;
       highest = h;
-      request = getD b 5 0;
-      policy = getD b 6 0;
+      request = codeAt b requestByte;
+      policy = codeAt b policyByte;
     })
 withHighest b Short = NoRecord
 
 -- what a range of bytes says
 unfoldable pub loadAt : List ℕ → Loaded
-loadAt b = cond (eqb (length b) 16 && headOf b) (withHighest b (readBits (bitsTo b 128) 64 64)) NoRecord
+loadAt b = cond (eqb (length b) recordBytes && headOf b) (withHighest b (readBits (bitsTo b recordBits) jobBit jobBits)) NoRecord
 
 -- what storing leaves: whether the record was stored, and the bytes
 pub record Kept : Type 0 where
@@ -81,7 +138,7 @@ pub record Kept : Type 0 where
 abbrev pub kept : Bool → List ℕ → Kept
 kept d b = record { done = d; bytes = b }
 
--- into a range of sixteen bytes, if the record's codes are of their types
+-- into a range of its size, if the record's codes are of their types
 unfoldable pub storeAt : List ℕ → Side → Record → Kept
 storeAt b sd r =
-    cond (eqb (length b) 16 && ltb (r .request) securityValues && ltb (r .policy) securityValues) (kept true (storedBytes sd r)) (kept false b)
+    cond (eqb (length b) recordBytes && ltb (r .request) securityValues && ltb (r .policy) securityValues) (kept true (storedBytes sd r)) (kept false b)

@@ -1,18 +1,31 @@
 // The number that a call answers.
 ghost use mathlib.Core.Path.{_≡_};
 ghost use Prim.Native.Nat.{_+_, _*_, _<_};
-ghost use Rattle.step.specs.Packed.{invokedNumber, packed, three, toldNumber};
+ghost use Rattle.step.specs.Packed.{codes, invokedNumber, packed, primitives, three, toldNumber};
 ghost use Rattle.step.specs.Stored.{flag};
 use crate::stored::flag_code;
 use machine::outcome::Invoked;
 use machine::outcome::Told;
 
+// How many numbers there are in each part of the answer.
+struct Parts {}
+
+impl Parts {
+    const REFUSALS: u64 = 256;
+
+    const CODES: u64 = 16;
+
+    const PRIMITIVES: u64 = 512;
+
+    const COUNTS: u64 = 32768;
+}
+
 // A primitive, its parameter, and its security value or its mode.
 fn three(code: u64, x: u64, y: u64) -> u64
-    requires { ⌜ code < 16 ⌝ }
+    requires { ⌜ code < codes ⌝ }
     ensures { λ r. ⌜ r ≡ three code x y ⌝ }
 {
-    code + 16 * (x % 16 + 16 * (y % 16))
+    code + Parts::CODES * (x % Parts::CODES + Parts::CODES * (y % 2))
 }
 
 fn mode(dsc: bool) -> u64
@@ -52,9 +65,9 @@ pub(crate) fn told_number(t: Told) -> u64
 
 // A call that was taken.
 pub(crate) fn packed(invoked: u64, told: u64, sent: usize, given: usize) -> u64
-    requires { ⌜ (invoked < 4096) × (told < 4096) ⌝ }
+    requires { ⌜ (invoked < primitives) × (told < primitives) ⌝ }
     ensures { λ r. ⌜ r ≡ packed invoked told sent given ⌝ }
 {
-    let bits = (sent % 65536) as u64 + 65536 * ((given % 65536) as u64);
-    256 * (invoked + 4096 * (told + 4096 * bits))
+    let bits = sent as u64 % Parts::COUNTS + Parts::COUNTS * (given as u64 % Parts::COUNTS);
+    Parts::REFUSALS * (invoked + Parts::PRIMITIVES * (told + Parts::PRIMITIVES * bits))
 }

@@ -18,13 +18,19 @@ pub enum Loaded {
 }
 
 impl Loaded {
-    // The bytes of a record.
-    pub const SIZE: usize = 16;
+    // The bytes of a record: those of one code each, then those of the highest job.
+    const HEAD: usize = 8;
 
-    // The bits of a record, and the place of its highest job among them.
-    const BITS: usize = 128;
+    const JOB: usize = 8;
 
-    const JOB: usize = 64;
+    pub const SIZE: usize = Loaded::HEAD + Loaded::JOB;
+
+    // The same in bits.
+    const JOB_AT: usize = 8 * Loaded::HEAD;
+
+    const JOB_BITS: usize = 8 * Loaded::JOB;
+
+    const BITS: usize = 8 * Loaded::SIZE;
 }
 
 fn side_code(s: Side) -> u8
@@ -107,7 +113,12 @@ pub(crate) fn load(b: &[u8]) -> Loaded
         return Loaded::NoRecord;
     }
     if head_fits(b[0], b[1], b[2], b[3], b[4], b[5], b[6], b[7]) {
-        let Read::Number(highest, _) = bits::read_bits(b, Loaded::BITS, Loaded::JOB, 64) else {
+        let Read::Number(highest, _) = bits::read_bits(
+            b,
+            Loaded::BITS,
+            Loaded::JOB_AT,
+            Loaded::JOB_BITS,
+        ) else {
             return Loaded::NoRecord;
         };
         let state = state_of(b[1]);
@@ -127,7 +138,7 @@ pub(crate) fn load(b: &[u8]) -> Loaded
     Loaded::NoRecord
 }
 
-// The first eight bytes of a record.
+// The bytes of a record in front of the job.
 fn head_bytes(side: Side, r: Record) -> [u8; 8]
     requires { ⌜ (r .request < securityValues) × (r .policy < securityValues) ⌝ }
     ensures { λ b. ⌜ b ≡ headBytes side r ⌝ }
@@ -160,7 +171,7 @@ pub fn store(b: &mut [u8], side: Side, r: Record) -> bool
         return false;
     }
     let head = head_bytes(side, r);
-    bits::copy_bits(b, Loaded::BITS, 0, &head, Loaded::JOB, 0, Loaded::JOB);
-    bits::put_bits(b, Loaded::BITS, Loaded::JOB, 64, r.highest);
+    bits::copy_bits(b, Loaded::BITS, 0, &head, Loaded::JOB_AT, 0, Loaded::JOB_AT);
+    bits::put_bits(b, Loaded::BITS, Loaded::JOB_AT, Loaded::JOB_BITS, r.highest);
     true
 }

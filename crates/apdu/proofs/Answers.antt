@@ -3,13 +3,20 @@
 use mathlib.Core.Path.{_≡_, refl, ap, sym, _∙_}
 use mathlib.Core.Bool.{Bool, true, false}
 use mathlib.Core.List.{List}
-use Prim.Native.Nat.{ℕ, zero, suc, _*_, _≤_}
+use Prim.Native.Nat.{ℕ, zero, suc, _*_, _^_, _≤_}
 use native.Mathlib.Omega.{arith}
-use Rattle.fields.specs.Fields.{then, lengthWithin, runAt, stringAt}
+use borrow.Author.Tests.{leb-true, ltb-true}
+use lib.Dec.{leb, ltb}
+use lib.Pow.{pow-mono}
+use Rattle.words.proofs.Laws.{both-left, both-right}
+use Rattle.bits.proofs.Numbers.{Bits, length-bitsN}
+use Rattle.fields.specs.Fields.{then, bitField, widthOf, lengthWithin, runAt, stringAt}
 use Rattle.fields.specs.declared.Refusal.{Refusal}
 use Rattle.fields.specs.declared.Field.{Field}
 use Rattle.fields.specs.declared.Field.the-variants.{Value, Refused}
 use Rattle.fields.proofs.Answers.{run-is}
+use Rattle.fields.proofs.RoundTrip.{bit-field}
+use Rattle.fields.proofs.Widths.{width-within}
 use Rattle.apdu.specs.Pdus.{kindOf}
 use Rattle.apdu.specs.Reading.{onField, onData, onTaken, onLead, fieldRefusal, takenRefusal, leadRefusal, optionalAt}
 use Rattle.apdu.specs.declared.Kind.{Kind}
@@ -73,6 +80,16 @@ optional-room l false at unit least most n next e =
     let z : _≡_ {A = ℕ} 0 n = cc in
     let k : unit * n ≡ unit * 0 = ap (λ (x : ℕ). unit * x) (sym z) in
     omega arith
+
+-- the digits of a number that was read lie in its bits
+pub digits-room : (l : List ℕ) (at n v next : ℕ) (f : Field) → Bits l → f ≡ bitField l at n → f ≡ Value v next → widthOf v ≤ next
+digits-room l at n v next f b p q =
+    let e = bit-field n .read-fits l at v next b (sym p ∙ q) in
+    let m = leb-true n 64 (both-left (leb n 64) (ltb v (2 ^ n)) e) in
+    let h = ltb-true v (2 ^ n) (both-right (leb n 64) (ltb v (2 ^ n)) e) in
+    let k : 2 ^ n ≤ 2 ^ 64 = pow-mono {i = n} {j = 64} m in
+    let s = bit-field n .read-written l at v next b (sym p ∙ q) .place in
+    omega (arith, width-within 64 v n (omega arith) h, length-bitsN n v)
 
 -- a function of an enum's value, by the case that was found
 pub under : {A B : Type 0} (f : A → B) (x y : A) (o : B) → x ≡ y → o ≡ f y → o ≡ f x

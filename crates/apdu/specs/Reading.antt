@@ -5,7 +5,7 @@ use mathlib.Core.List.{List}
 use mathlib.Core.Bool.{Bool, cond}
 use lib.ListN.{length}
 use lib.Dec.{leb, eqb}
-use Rattle.fields.specs.Fields.{refusedAt, then, bitField, extensionBit, wholeNumber, extensibleIndex, stringAt}
+use Rattle.fields.specs.Fields.{refusedAt, then, bitField, extensionBit, widthOf, wholeNumber, extensibleIndex, stringAt}
 use Rattle.fields.specs.declared.Refusal.{Refusal}
 use Rattle.fields.specs.declared.Refusal.the-variants.{Short, Tail, Default}
 use Rattle.fields.specs.declared.Field.{Field}
@@ -116,11 +116,12 @@ leadingAt side l at =
 
 -- ---- the rest
 
--- TAIL, last of all: a padding bit that is 1, or bits that follow the padding
+-- TAIL, last of all: the first padding bit that is 1, which stands as far before the padding's end as its number has digits; where there is none,
+-- the first bit that follows the padding
 unfoldable pub tailAt : List ℕ → ℕ → Field
 tailAt l at =
     then (bitField l at (padding at)) (λ (v next : ℕ).
-    cond (eqb v 0) (cond (leb (next + 1) (length l)) (refusedAt next Tail) (field.Value 0 next)) (refusedAt at Tail))
+    cond (eqb v 0) (cond (leb (next + 1) (length l)) (refusedAt next Tail) (field.Value 0 next)) (refusedAt (next - widthOf v) Tail))
 
 unfoldable pub endedAt : List ℕ → ℕ → Apdu → Answer
 endedAt l at a = onField answer.Refused (tailAt l at) (λ (v next : ℕ). answer.Is a)

@@ -28,7 +28,8 @@ pub(crate) fn padding(n: usize) -> usize
     (8 - n % 8) % 8
 }
 
-// The padding after the last field: zeros, and nothing follows it.
+// The padding after the last field: zeros, and nothing follows it. The first padding bit that is 1 stands as far before the padding's end as its
+// number has digits.
 fn tail(s: &[u8], at: usize) -> Field
     ensures { λ f. ⌜ f ≡ tailAt (lent (now (s .entry))) at ⌝ }
 {
@@ -42,7 +43,7 @@ fn tail(s: &[u8], at: usize) -> Field
         }
         return Field::Value(0, next);
     }
-    fields::refused_at(at, Refusal::Tail)
+    fields::refused_at(next - fields::width(v), Refusal::Tail)
 }
 
 // An APDU whose last field ends at a place.

@@ -49,3 +49,7 @@ module _ (l : List ℕ) (at last i next : ℕ) where
   pub index-most : (f : Field) → f ≡ extensibleIndex l at last → f ≡ field.Value i next → i ≤ last
   unfolding extensibleIndex
   index-most f p q = via (i ≤ last) (extensionBit l at) (λ (v m : ℕ). wholeNumber l m 0 last) i next (λ (v m : ℕ) (a : _) (e : wholeNumber l m 0 last ≡ field.Value i next). whole-most l m 0 last i next (wholeNumber l m 0 last) refl e) (sym p ∙ q)
+
+  -- it stands behind its extension bit
+  pub index-behind : Ranged 0 last → Bits l → (f : Field) → f ≡ extensibleIndex l at last → f ≡ field.Value i next → at + 1 ≤ next
+  index-behind r b f p q = omega (arith, index-stands r b (sym p ∙ q) .place, length-index last i)

@@ -34,7 +34,7 @@ module _ (d : Direction) (l : List ℕ) (at next : ℕ) (e : Element) where
       let p = stands-split l at next (wholeFits 0 (lastOf d) (e .number) && eqb (e .characters) (length t)) (argumentFits (kindOf d (e .number)) e t) (indexBits (lastOf d) (e .number)) (argumentBits (kindOf d (e .number)) e t) s in
       let f = both-left (wholeFits 0 (lastOf d) (e .number)) (eqb (e .characters) (length t)) (p .0 .fits) in
       let n = eqb-true (e .characters) (length t) (both-right (wholeFits 0 (lastOf d) (e .number)) (eqb (e .characters) (length t)) (p .0 .fits)) in
-      rw (index-reads l at (lastOf d) (e .number) _ (last-ranged d) (stands-as l at _ _ _ _ f (p .0))) (argument-reads l _ next e t n (kindOf d (e .number)) (p .1))
+      rw (index-reads l at (lastOf d) (e .number) _ (last-ranged d) (stands-as l at _ _ _ _ f (p .0))) (argument-reads l _ next e t n (at + 1) (kindOf d (e .number)) (p .1))
 
   pub element-text : (t : List ℕ) → Stands l at (elementFits d e t) (elementBits d e t) next → textOf l e next ≡ t
   unfolding elementFits elementBits
@@ -46,9 +46,9 @@ module _ (d : Direction) (l : List ℕ) (at next : ℕ) (e : Element) where
   pub element-stands : Bits l → elementAt d l at ≡ isElement e next → Stands l at (elementFits d e (textOf l e next)) (elementBits d e (textOf l e next)) next
   unfolding elementFits elementBits elementAt
   element-stands b h =
-      onto-is noElement (extensibleIndex l at (lastOf d)) (λ (i m : ℕ). argumentAt (kindOf d i) i l m) (isElement e next)
-      (λ (i m : ℕ) (p : extensibleIndex l at (lastOf d) ≡ field.Value i m) (q : argumentAt (kindOf d i) i l m ≡ isElement e next).
-      let a = argument-stands l m i next b e (kindOf d i) q in
+      onto-is noElement (extensibleIndex l at (lastOf d)) (λ (i m : ℕ). argumentAt (kindOf d i) i (at + 1) l m) (isElement e next)
+      (λ (i m : ℕ) (p : extensibleIndex l at (lastOf d) ≡ field.Value i m) (q : argumentAt (kindOf d i) i (at + 1) l m ≡ isElement e next).
+      let a = argument-stands l m i next b e (at + 1) (kindOf d i) q in
       let j : i ≡ e .number = sym (a .number) in
       let s = rw j at (index-stands l at (lastOf d) i m (last-ranged d) b p) in
       let c = eq-eqb (e .characters) (length (textOf l e next)) (sym (length-characters l (next - 7 * e .characters) (e .characters))) in

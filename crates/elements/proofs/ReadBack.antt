@@ -131,18 +131,18 @@ module _ (l : List ℕ) (at next : ℕ) (e : Element) (t : List ℕ) (n : e .cha
   unfolding argumentFits
   atis-reads-in s = characters-read (atisFits t) (atisAt l at) (s .fits) (atis-reads l at next t (stands-as l at next _ _ _ (both-right (plain e) (atisFits t) (s .fits)) s))
 
-  pub argument-reads : (k : Kind) → Stands l at (argumentFits k e t) (argumentBits k e t) next → argumentAt k (e .number) l at ≡ isElement e next
+  pub argument-reads : (index : ℕ) (k : Kind) → Stands l at (argumentFits k e t) (argumentBits k e t) next → argumentAt k (e .number) index l at ≡ isElement e next
   unfolding argumentBits argumentAt
-  argument-reads kind.NotCarried s = not-carried (s .fits)
-  argument-reads kind.None s = none-reads s
-  argument-reads kind.Level s = level-reads-in s
-  argument-reads kind.TwoLevels s = two-levels-read s
-  argument-reads kind.Time s = time-reads-in s
-  argument-reads kind.Code s = code-reads-in s
-  argument-reads kind.FreeText s = free-text-reads s
-  argument-reads kind.Facility s = facility-reads-in s
-  argument-reads kind.FacilityDesignation s = designation-reads s
-  argument-reads kind.AtisCode s = atis-reads-in s
+  argument-reads index kind.NotCarried s = not-carried (s .fits)
+  argument-reads index kind.None s = none-reads s
+  argument-reads index kind.Level s = level-reads-in s
+  argument-reads index kind.TwoLevels s = two-levels-read s
+  argument-reads index kind.Time s = time-reads-in s
+  argument-reads index kind.Code s = code-reads-in s
+  argument-reads index kind.FreeText s = free-text-reads s
+  argument-reads index kind.Facility s = facility-reads-in s
+  argument-reads index kind.FacilityDesignation s = designation-reads s
+  argument-reads index kind.AtisCode s = atis-reads-in s
 
   -- ---- the characters
 

@@ -190,15 +190,15 @@ module _ (l : List ℕ) (at i next : ℕ) (b : Bits l) where
         let j = same-place e (bare i) at next h in
         moved kind.None (bare i) at h none-argued
 
-    pub argument-stands : (k : Kind) → argumentAt k i l at ≡ isElement e next → Argued l at i k e next
+    pub argument-stands : (index : ℕ) (k : Kind) → argumentAt k i index l at ≡ isElement e next → Argued l at i k e next
     unfolding argumentAt Goal
-    argument-stands kind.NotCarried h = no-place refusal.NotCarried e next h
-    argument-stands kind.None h = none-found h
-    argument-stands kind.Level h = level-found h
-    argument-stands kind.TwoLevels h = two-levels-found h
-    argument-stands kind.Time h = time-found h
-    argument-stands kind.Code h = code-found h
-    argument-stands kind.FreeText h = free-text-found h
-    argument-stands kind.Facility h = facility-found h
-    argument-stands kind.FacilityDesignation h = designation-found h
-    argument-stands kind.AtisCode h = atis-found h
+    argument-stands index kind.NotCarried h = no-place _ e next h
+    argument-stands index kind.None h = none-found h
+    argument-stands index kind.Level h = level-found h
+    argument-stands index kind.TwoLevels h = two-levels-found h
+    argument-stands index kind.Time h = time-found h
+    argument-stands index kind.Code h = code-found h
+    argument-stands index kind.FreeText h = free-text-found h
+    argument-stands index kind.Facility h = facility-found h
+    argument-stands index kind.FacilityDesignation h = designation-found h
+    argument-stands index kind.AtisCode h = atis-found h

@@ -5,7 +5,7 @@ use mathlib.Core.Bool.{Bool, true, false, cond, not, _&&_}
 use lib.ListN.{length, getD, take, drop}
 use lib.Dec.{eqb, ltb, leb}
 use Rattle.bits.specs.Bits.{bitsN}
-use Rattle.fields.specs.Fields.{extensibleIndex}
+use Rattle.fields.specs.Fields.{refusedAt, extensibleIndex}
 use Rattle.fields.specs.Encodings.{indexBits, wholeFits}
 use Rattle.fields.specs.declared.Refusal.{Refusal}
 use Rattle.fields.specs.declared.Refusal.the-variants as refusal
@@ -26,7 +26,7 @@ use Rattle.elements.specs.declared.values.CodeRead.{CodeRead}
 use Rattle.elements.specs.declared.values.Element.{Element}
 use Rattle.elements.specs.declared.values.ElementRead.{ElementRead}
 use Rattle.elements.specs.Elements.{kindOf}
-use Rattle.elements.specs.Arguments.{onto, noType, same?, levelFits, levelBits, levelAt, timeFits, timeBits, timeAt, codeFits, digitsBits, codeAt, charactersFit, charactersBits, charactersIn, sizedFits, sizedBits, freeTextAt, designationAt, facilityFits, facilityBits, facilityAt, atisFits, atisAt}
+use Rattle.elements.specs.Arguments.{onto, refusalOf, noType, same?, levelFits, levelBits, levelAt, timeFits, timeBits, timeAt, codeFits, digitsBits, codeAt, charactersFit, charactersBits, charactersIn, sizedFits, sizedBits, freeTextAt, designationAt, facilityFits, facilityBits, facilityAt, atisFits, atisAt}
 
 -- ---- what an element holds besides its number; what its kind does not use is zero
 
@@ -93,27 +93,28 @@ timeArgument i l at = ontoTime (timeAt l at) (λ (x : Time) (next : ℕ). isElem
 unfoldable pub codeArgument : ℕ → List ℕ → ℕ → ElementRead
 codeArgument i l at = ontoStep (codeAt l at .step) (λ (next : ℕ). isElement (withCode i (codeAt l at .digits)) next)
 
--- the argument of element i, by its kind
-unfoldable pub argumentAt : Kind → ℕ → List ℕ → ℕ → ElementRead
-argumentAt kind.NotCarried i l at = noElement refusal.NotCarried
-argumentAt kind.None i l at = isElement (bare i) at
-argumentAt kind.Level i l at = levelArgument i l at
-argumentAt kind.TwoLevels i l at = twoLevelsArgument i l at
-argumentAt kind.Time i l at = timeArgument i l at
-argumentAt kind.Code i l at = codeArgument i l at
-argumentAt kind.FreeText i l at = charactersOf i (freeTextAt l at)
-argumentAt kind.Facility i l at = charactersOf i (facilityAt l at)
-argumentAt kind.FacilityDesignation i l at = charactersOf i (designationAt l at)
-argumentAt kind.AtisCode i l at = charactersOf i (atisAt l at)
+-- the argument of element i, by its kind; an element that is not carried is refused at its index
+unfoldable pub argumentAt : Kind → ℕ → ℕ → List ℕ → ℕ → ElementRead
+argumentAt kind.NotCarried i index l at = noElement (refusalOf (refusedAt index refusal.NotCarried))
+argumentAt kind.None i index l at = isElement (bare i) at
+argumentAt kind.Level i index l at = levelArgument i l at
+argumentAt kind.TwoLevels i index l at = twoLevelsArgument i l at
+argumentAt kind.Time i index l at = timeArgument i l at
+argumentAt kind.Code i index l at = codeArgument i l at
+argumentAt kind.FreeText i index l at = charactersOf i (freeTextAt l at)
+argumentAt kind.Facility i index l at = charactersOf i (facilityAt l at)
+argumentAt kind.FacilityDesignation i index l at = charactersOf i (designationAt l at)
+argumentAt kind.AtisCode i index l at = charactersOf i (atisAt l at)
 
 -- the last index of the root: ATCDownlinkMsgElementId has 114 alternatives, ATCUplinkMsgElementId 237 and one behind the extension marker
 unfoldable pub lastOf : Direction → ℕ
 lastOf Downlink = 113
 lastOf Uplink = 236
 
--- an element: the index of an extensible CHOICE, and the argument; a kind that is not carried is a fault of the index
+-- an element: the index of an extensible CHOICE, which stands behind the extension bit, and the argument; a kind that is not carried is a fault of
+-- the index
 unfoldable pub elementAt : Direction → List ℕ → ℕ → ElementRead
-elementAt d l at = onto noElement (extensibleIndex l at (lastOf d)) (λ (i next : ℕ). argumentAt (kindOf d i) i l next)
+elementAt d l at = onto noElement (extensibleIndex l at (lastOf d)) (λ (i next : ℕ). argumentAt (kindOf d i) i (at + 1) l next)
 
 -- ---- which elements there are, with the characters t beside them, and their bits
 

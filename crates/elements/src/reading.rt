@@ -118,11 +118,19 @@ fn characters(number: u8, count: Field) -> ElementRead
     }
 }
 
-fn read_argument(kind: Kind, number: u8, s: &[u8], end: usize, at: usize) -> ElementRead
-    ensures { λ r. ⌜ r ≡ argumentAt kind number (bitsTo (now (s .entry)) end) at ⌝ }
+// The argument of the element whose index stands at a place.
+fn read_argument(
+    kind: Kind,
+    number: u8,
+    index: usize,
+    s: &[u8],
+    end: usize,
+    at: usize,
+) -> ElementRead
+    ensures { λ r. ⌜ r ≡ argumentAt kind number index (bitsTo (now (s .entry)) end) at ⌝ }
 {
     match kind {
-        Kind::NotCarried => no_element(Refusal::NotCarried),
+        Kind::NotCarried => no_element(refusal(fields::refused_at(index, Refusal::NotCarried))),
         Kind::None => {
             let mut element = Element::EMPTY;
             element.number = number;
@@ -183,5 +191,6 @@ pub fn read_element(direction: Direction, s: &[u8], end: usize, at: usize) -> El
     };
     let number = i as u8;
     let kind = kind_of(direction, number);
-    read_argument(kind, number, s, end, next)
+    // The index stands behind the extension bit.
+    read_argument(kind, number, at + 1, s, end, next)
 }

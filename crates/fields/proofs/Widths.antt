@@ -3,6 +3,8 @@
 use mathlib.Core.Path.{_≡_, refl, ap, sym, _∙_}
 use Prim.Native.Nat.{ℕ, zero, suc, _+_, _-_, _*_, _/_, _^_, _≤_, _<_}
 use native.Mathlib.Omega.{arith}
+use native.Mathlib.Decide.{decLt}
+use lib.Pow.{pow-mono}
 use lib.Count.{leadingZeros, leading-length, leading-top, leading-le}
 use Rattle.fields.specs.Fields.{digitsIn, widthOf}
 
@@ -28,3 +30,17 @@ width-fewest k n pos h =
     let t = leading-top k n pos h in
     let e : digitsIn k n - 1 ≡ t .0 = omega (arith, leading-digits k n, t .1) in
     rw e (t .2)
+
+-- what so many bits hold has no more digits than that
+pub width-within : (k n p : ℕ) → n < 2 ^ k → n < 2 ^ p → digitsIn k n ≤ p
+unfolding digitsIn
+width-within zero n p h g = omega arith
+width-within (suc k) zero p h g = omega arith
+width-within (suc k) (suc n) p h g =
+    elim (decLt p (digitsIn (suc k) (suc n))) [
+      | yes l ↦
+          let a = width-fewest (suc k) (suc n) (omega arith) h in
+          let b : 2 ^ p ≤ 2 ^ (digitsIn (suc k) (suc n) - 1) = pow-mono {i = p} {j = digitsIn (suc k) (suc n) - 1} (omega arith) in
+          absurd (omega arith)
+      | no l ↦ omega arith
+    ]

@@ -19,6 +19,7 @@ pub use numbers::put_extension_bit;
 pub use numbers::put_whole;
 pub use numbers::refused_at;
 pub use numbers::whole;
+pub use numbers::width;
 pub use strings::contents;
 pub use strings::put_string;
 pub use strings::sized;

@@ -43,7 +43,7 @@ pub fn extension_bit(s: &[u8], end: usize, at: usize) -> Field
 }
 
 // How many binary digits a number has.
-fn width(n: u64) -> usize
+pub fn width(n: u64) -> usize
     ensures { λ w. ⌜ w ≡ widthOf n ⌝ }
 {
     64 - u64::leading_zeros(n) as usize

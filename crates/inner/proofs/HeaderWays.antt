@@ -28,7 +28,7 @@ use Rattle.elements.specs.declared.values.Step.{Step}
 use Rattle.elements.specs.declared.values.Step.the-variants as step
 use Rattle.inner.specs.declared.values.PlacesRead.{PlacesRead}
 use Rattle.inner.specs.declared.values.MessageRead.{MessageRead}
-use Rattle.elements.specs.Arguments.{timeRefusal, stepRefusal}
+use Rattle.elements.specs.Arguments.{refusalOf, timeRefusal, stepRefusal}
 use Rattle.inner.specs.Headers.{dateRefusal, headerRefusal, ontoTimeOfDay, ontoDate, referenceAt, acknowledgementAt}
 use Rattle.inner.specs.Messages.{noMessage, messageOf, ontoHeader, messageAt, exactly}
 use Rattle.elements.proofs.Steps.{never}
@@ -87,9 +87,9 @@ module _ (l : List ℕ) (at : ℕ) (b : Bool) where
     unfolding acknowledgementAt
     ack-required v next q e = rw h (answers.went f _ _ v next _ p q (rw (eq-eqb v 0 e)))
 
-    pub ack-default : (v next : ℕ) → f ≡ field.Value v next → (v ≡ 0 → ⊥) → field.Refused refusal.Default ≡ acknowledgementAt l at b
+    pub ack-default : (v next : ℕ) (o : Field) → f ≡ field.Value v next → (v ≡ 0 → ⊥) → o ≡ refusedAt at refusal.Default → o ≡ acknowledgementAt l at b
     unfolding acknowledgementAt
-    ack-default v next q e = rw h (answers.went f _ _ v next _ p q (rw (ne-eqb v 0 e)))
+    ack-default v next o q e d = rw h (answers.went f _ _ v next _ p q (rw (ne-eqb v 0 e) d))
 
 -- ---- nothing after it
 
@@ -98,9 +98,9 @@ module _ (d : Direction) (l : List ℕ) (f : MessageRead) (p : f ≡ messageAt d
   unfolding exactly
   exactly-handed r x o q e z = rw (← p, q, z, e, q)
 
-  pub exactly-more : (n : ℕ) (o : MessageRead) → f .step ≡ step.Next n → leb (n + 1) (length l) ≡ true → o ≡ noMessage refusal.Tail → o ≡ exactly d l
+  pub exactly-more : (n : ℕ) (t : Field) (x : Refusal) (o : MessageRead) → f .step ≡ step.Next n → leb (n + 1) (length l) ≡ true → t ≡ refusedAt n refusal.Tail → x ≡ refusalOf t → o ≡ noMessage x → o ≡ exactly d l
   unfolding exactly
-  exactly-more n o q e z = rw (← p, q, e, z)
+  exactly-more n t x o q e r y z = z ∙ ap noMessage (y ∙ ap refusalOf r) ∙ rw (← p, q, e)
 
   pub exactly-done : (n : ℕ) → f .step ≡ step.Next n → leb (n + 1) (length l) ≡ false → f ≡ exactly d l
   unfolding exactly

@@ -11,7 +11,7 @@ use lib.Dec.{eqb}
 use borrow.Author.Tests.{eqb-true, eq-eqb}
 use Rattle.words.proofs.Laws.{both-left, both-right}
 use Rattle.bits.proofs.Numbers.{Bits, length-bitsN}
-use Rattle.fields.specs.Fields.{wholeNumber, digitsIn}
+use Rattle.fields.specs.Fields.{refusedAt, wholeNumber, digitsIn}
 use Rattle.fields.specs.Encodings.{wholeBits, wholeFits}
 use Rattle.fields.specs.declared.Refusal.{Refusal}
 use Rattle.fields.specs.declared.Refusal.the-variants as refusal
@@ -25,7 +25,7 @@ use Rattle.elements.specs.declared.values.Element.{Element}
 use Rattle.inner.specs.declared.values.PlacesRead.{PlacesRead}
 use Rattle.inner.specs.declared.values.Message.{Message}
 use Rattle.inner.specs.declared.values.MessageRead.{MessageRead}
-use Rattle.elements.specs.Arguments.{onto}
+use Rattle.elements.specs.Arguments.{onto, refusalOf}
 use Rattle.elements.specs.OneElement.{bare, noLevel, noTime, noDigits, plain, levelsUnused, levelUnused, timeUnused, zeros, codeUnused}
 use Rattle.inner.specs.Headers.{headerFits, headerBits, headerAt}
 use Rattle.inner.specs.Places.{Row, these, refused, rowAt, textAt, rowFits, rowBits, laid}
@@ -209,9 +209,9 @@ module _ (d : Direction) (l : List ℕ) (at next : ℕ) (m : Message) (bits : Bi
       no-message
       h
 
-  body-found : (x : Header) (p c q : ℕ) → headerAt l at ≡ header.Got x p → wholeNumber l p 0 1 ≡ field.Value c q → (t : Bool) → eqb c 0 ≡ t → cond t (onto noMessage (wholeNumber l q 1 5) (λ (n r : ℕ). messageOf x n (laid (rowAt d l r n)))) (noMessage refusal.NotCarried) ≡ isMessage m next → Goal
+  body-found : (x : Header) (p c q : ℕ) → headerAt l at ≡ header.Got x p → wholeNumber l p 0 1 ≡ field.Value c q → (t : Bool) → eqb c 0 ≡ t → cond t (onto noMessage (wholeNumber l q 1 5) (λ (n r : ℕ). messageOf x n (laid (rowAt d l r n)))) (noMessage (refusalOf (refusedAt p refusal.NotCarried))) ≡ isMessage m next → Goal
   body-found x p c q eh ec true z h = count-found x p q eh (stands-as l p q _ _ _ refl (rw (eqb-true c 0 z) at (whole-stands l p 0 1 c q bits ec))) h
-  body-found x p c q eh ec false z h = no-message refusal.NotCarried h
+  body-found x p c q eh ec false z h = no-message _ h
 
   pub message-stands : messageAt d l at ≡ isMessage m next → Stands l at (messageFits d m (messageText d l at m)) (messageBits d m (messageText d l at m)) next
   unfolding messageAt bodyAt Goal
@@ -226,6 +226,6 @@ module _ (d : Direction) (l : List ℕ) (at next : ℕ) (m : Message) (bits : Bi
       h
 
 -- document 01, refusal 16: constrained data marked present, before the count of elements is looked at
-pub constrained : (d : Direction) (l : List ℕ) (x : Header) (at next : ℕ) → wholeNumber l at 0 1 ≡ field.Value 1 next → bodyAt d l x at ≡ noMessage refusal.NotCarried
+pub constrained : (d : Direction) (l : List ℕ) (x : Header) (at next : ℕ) → wholeNumber l at 0 1 ≡ field.Value 1 next → bodyAt d l x at ≡ noMessage (refusalOf (refusedAt at refusal.NotCarried))
 unfolding bodyAt
 constrained d l x at next e = rw e

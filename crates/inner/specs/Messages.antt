@@ -7,7 +7,7 @@ use lib.Dec.{eqb, leb, ltb}
 use Rattle.words.specs.Limits as limits
 use Rattle.bits.specs.Bits.{bitsN, bitsTo}
 use Rattle.bits.specs.Put.{putBits}
-use Rattle.fields.specs.Fields.{wholeNumber}
+use Rattle.fields.specs.Fields.{refusedAt, wholeNumber}
 use Rattle.fields.specs.Encodings.{wholeBits, wholeFits}
 use Rattle.fields.specs.declared.Refusal.{Refusal}
 use Rattle.fields.specs.declared.Refusal.the-variants as refusal
@@ -26,7 +26,7 @@ use Rattle.inner.specs.declared.values.Opened.{Opened}
 use Rattle.inner.specs.declared.values.Opened.the-variants as opened
 use Rattle.inner.specs.declared.values.Written.{Written}
 use Rattle.inner.specs.declared.values.Written.the-variants as written
-use Rattle.elements.specs.Arguments.{onto}
+use Rattle.elements.specs.Arguments.{onto, refusalOf}
 use Rattle.elements.specs.OneElement.{bare, noTime, plain}
 use Rattle.inner.specs.Headers.{headerFits, headerBits, headerAt}
 use Rattle.inner.specs.Places.{Row, rowAt, textAt, rowFits, rowBits, laid}
@@ -58,22 +58,22 @@ abbrev pub ontoHeader : HeaderRead → (Header → ℕ → MessageRead) → Mess
 ontoHeader (header.Got x next) k = k x next
 ontoHeader (header.Refused r) k = noMessage r
 
--- constrained data marked present is not carried; the presence bit stands before the count of elements
+-- constrained data marked present is not carried, which is a fault of its presence bit; that stands before the count of elements
 unfoldable pub bodyAt : Direction → List ℕ → Header → ℕ → MessageRead
 bodyAt d l h at =
     onto noMessage (wholeNumber l at 0 1)
     (λ (c p : ℕ). cond (eqb c 0)
     (onto noMessage (wholeNumber l p 1 5) (λ (n q : ℕ). messageOf h n (laid (rowAt d l q n))))
-    (noMessage refusal.NotCarried))
+    (noMessage (refusalOf (refusedAt at refusal.NotCarried))))
 
 -- the message at a place; what follows it is not looked at
 unfoldable pub messageAt : Direction → List ℕ → ℕ → MessageRead
 messageAt d l at = ontoHeader (headerAt l at) (bodyAt d l)
 
--- a message and nothing after it: any bit that is left over is refused
+-- a message and nothing after it: any bit that is left over is refused, at the first of them
 abbrev pub endedAt : List ℕ → Message → Step → MessageRead
 endedAt l m (step.Next next) =
-    cond (leb (next + 1) (length l)) (noMessage refusal.Tail) (record { step = step.Next next; message = m })
+    cond (leb (next + 1) (length l)) (noMessage (refusalOf (refusedAt next refusal.Tail))) (record { step = step.Next next; message = m })
 endedAt l m (step.Refused r) = noMessage r
 
 unfoldable pub exactly : Direction → List ℕ → MessageRead

@@ -77,7 +77,7 @@ fn read_acknowledgement(s: &[u8], end: usize, at: usize, present: bool) -> Field
         if v == 0 {
             return Field::Value(0, next);
         }
-        return Field::Refused(Refusal::Default);
+        return fields::refused_at(at, Refusal::Default);
     }
     Field::Value(0, at)
 }

@@ -53,7 +53,7 @@ fn read_body(direction: Direction, s: &[u8], end: usize, header: Header, at: usi
             },
         };
     }
-    no_message(Refusal::NotCarried)
+    no_message(refusal(fields::refused_at(at, Refusal::NotCarried)))
 }
 
 // The message at a place; what follows it is not looked at.
@@ -77,7 +77,7 @@ pub fn read_exactly(direction: Direction, s: &[u8], end: usize) -> MessageRead
         return no_message(step_refusal(step));
     };
     if bits::within(s.len(), end, next, 1) {
-        return no_message(Refusal::Tail);
+        return no_message(refusal(fields::refused_at(next, Refusal::Tail)));
     }
     all
 }

@@ -1,6 +1,8 @@
 use borrow.Author.Tests.{eq-eqb, ne-eqb}
 use Rattle.bits.proofs.Inside.{is-within, not-within}
+use Rattle.bits.proofs.Bytes.{bits-to}
 use Rattle.fields.proofs.Answers.{handed, went}
+use Rattle.apdu.proofs.Answers.{digits-room}
 use Rattle.apdu.specs.Reading.{tailAt}
 use Rattle.apdu.proofs.decoder.tail.Statement.{statement}
 use Rattle.apdu.proofs.decoder.tail.Tie as tie
@@ -49,14 +51,22 @@ returns-3 : tie.Need-returns-3
 unfolding tailAt
 returns-3 c = rw (← c .before .before .before .before .before .before .before .padding .ensures) (went _ _ _ _ _ _ (c .before .before .before .before .before .before .bit-field .ensures) (c .before .before .before .before .zeros .given .1) (rw (eq-eqb _ _ (c .before .before .if1 .taken), not-within _ _ _ _ _ (c .before .within .ensures) (c .if2 .left))))
 
--- src/decoder.rt:46:5
+-- src/decoder.rt:47:31
+width-requires : tie.Need-width-requires
+width-requires c κs = tt
+
+-- src/decoder.rt:47:24
+sub-refused-at : tie.Need-sub-refused-at
+sub-refused-at c = rw (c .width .ensures) (digits-room _ _ _ _ _ _ (bits-to _ _) (c .before .before .before .before .before .bit-field .ensures) (c .before .before .before .zeros .given .1))
+
+-- src/decoder.rt:47:5
 refused-at-requires-2 : tie.Need-refused-at-requires-2
 refused-at-requires-2 c κs = tt
 
 -- src/decoder.rt:33:1
 returns-4 : tie.Need-returns-4
 unfolding tailAt
-returns-4 c = rw (← c .before .before .before .before .before .before .padding .ensures) (went _ _ _ _ _ _ (c .before .before .before .before .before .bit-field .ensures) (c .before .before .before .zeros .given .1) (rw (ne-eqb _ _ (c .before .if1 .left)) (c .refused-at2 .ensures)))
+returns-4 c = rw (← c .before .before .before .before .before .before .before .padding .ensures) (went _ _ _ _ _ _ (c .before .before .before .before .before .before .bit-field .ensures) (c .before .before .before .before .zeros .given .1) (rw (ne-eqb _ _ (c .before .before .if1 .left)) (c .refused-at2 .ensures)))
 
 pub tail-spec : {M : Type 1} → statement M
 tail-spec =
@@ -71,5 +81,7 @@ tail-spec =
     refused-at-requires
     returns-2
     returns-3
+    width-requires
+    sub-refused-at
     refused-at-requires-2
     returns-4)

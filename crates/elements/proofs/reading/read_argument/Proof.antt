@@ -1,12 +1,20 @@
 -- `elements::reading::read_argument` meets its contract.
 -- Assumes nothing.
-use Rattle.elements.specs.OneElement.{argumentAt}
+use mathlib.Core.Path.{ap, _∙_}
+use Rattle.elements.specs.Arguments.{refusalOf}
+use Rattle.elements.specs.OneElement.{argumentAt, noElement}
 use borrow.Author.Needs.{needs}
 use Rattle.elements.proofs.reading.read_argument.Statement.{statement}
 use Rattle.elements.proofs.reading.read_argument.Tie as tie
 
 enum-told : tie.Need-enum-told
 enum-told c = search needs
+
+refused-at-requires : tie.Need-refused-at-requires
+refused-at-requires c κs = search needs
+
+refusal-requires : tie.Need-refusal-requires
+refusal-requires c κs = search needs
 
 no-element-requires : tie.Need-no-element-requires
 no-element-requires c κs = search needs
@@ -76,7 +84,7 @@ characters-requires-4 c κs = search needs
 
 returns : tie.Need-returns
 unfolding argumentAt
-returns c = rw (c .before .enum-told .given .1) (c .no-element .ensures)
+returns c = rw (c .before .before .before .enum-told .given .1) (c .no-element .ensures ∙ ap noElement (c .before .refusal .ensures ∙ ap refusalOf (c .before .before .refused-at .ensures)))
 
 returns-2 : tie.Need-returns-2
 unfolding argumentAt
@@ -119,6 +127,8 @@ read-argument-spec =
     tie.close
     (tie.spec
     enum-told
+    refused-at-requires
+    refusal-requires
     no-element-requires
     enum-told-2
     enum-told-3

@@ -4,7 +4,8 @@ use mathlib.Core.Path.{_∙_}
 use native.Mathlib.Omega.{arith}
 use Rattle.elements.specs.OneElement.{elementAt, noElement}
 use Rattle.elements.proofs.Steps.{handed-up, went}
-use Rattle.elements.proofs.Indices.{index-as, index-most, last-small}
+use Rattle.bits.proofs.Bytes.{bits-to}
+use Rattle.elements.proofs.Indices.{index-as, index-behind, index-most, last-ranged, last-small}
 use borrow.Author.Needs.{needs}
 use Rattle.elements.proofs.reading.read_element.Statement.{statement}
 use Rattle.elements.proofs.reading.read_element.Tie as tie
@@ -37,6 +38,9 @@ cast-number c = omega (arith, index-most _ _ (c .before .before .before .before 
 kind-of-requires : tie.Need-kind-of-requires
 kind-of-requires c κs = search needs
 
+add-read-argument : tie.Need-add-read-argument
+add-read-argument c = omega (arith, index-behind _ _ _ _ _ (last-ranged (c .before .before .before .before .before .before .before .args .direction)) (bits-to _ _) _ (index-as _ _ _ _ _ (c .before .before .before .before .extensible-index .ensures) (c .before .before .before .before .before .last-of .ensures)) (c .before .before .index .given .1))
+
 read-argument-requires : tie.Need-read-argument-requires
 read-argument-requires c κs = search needs
 
@@ -57,5 +61,6 @@ read-element-spec =
     returns
     cast-number
     kind-of-requires
+    add-read-argument
     read-argument-requires
     returns-2)

@@ -20,8 +20,11 @@ returns c = ack-handed _ _ _ (c .before .before .before .if1 .taken) _ (c .befor
 returns-2 : tie.Need-returns-2
 returns-2 c = ack-required _ _ _ (c .before .before .before .before .before .if1 .taken) _ (c .before .before .before .before .whole .ensures) _ _ (c .before .before .value .given .1) (c .if2 .taken)
 
+refused-at-requires : tie.Need-refused-at-requires
+refused-at-requires c κs = search needs
+
 returns-3 : tie.Need-returns-3
-returns-3 c = ack-default _ _ _ (c .before .before .before .before .before .if1 .taken) _ (c .before .before .before .before .whole .ensures) _ _ (c .before .before .value .given .1) (c .if2 .left)
+returns-3 c = ack-default _ _ _ (c .before .before .before .before .before .before .if1 .taken) _ (c .before .before .before .before .before .whole .ensures) _ _ _ (c .before .before .before .value .given .1) (c .before .if2 .left) (c .refused-at .ensures)
 
 returns-4 : tie.Need-returns-4
 returns-4 c = ack-none _ _ _ (c .if1 .left)
@@ -29,4 +32,12 @@ returns-4 c = ack-none _ _ _ (c .if1 .left)
 pub read-acknowledgement-spec : {M : Type 1} → statement M
 read-acknowledgement-spec =
     tie.close
-    (tie.spec whole-requires enum-known-value enum-told returns returns-2 returns-3 returns-4)
+    (tie.spec
+    whole-requires
+    enum-known-value
+    enum-told
+    returns
+    returns-2
+    refused-at-requires
+    returns-3
+    returns-4)

@@ -1,8 +1,9 @@
 -- `inner::message::read_body` meets its contract.
 -- Assumes nothing.
-use mathlib.Core.Path.{_∙_}
+use mathlib.Core.Path.{ap, _∙_}
 use native.Mathlib.Omega.{arith}
 use borrow.Author.Tests.{eq-eqb, ne-eqb}
+use Rattle.elements.specs.Arguments.{refusalOf}
 use Rattle.inner.specs.Messages.{bodyAt, noMessage}
 use Rattle.elements.proofs.Steps.{handed-up, went}
 use Rattle.elements.proofs.Whole.{whole-most}
@@ -72,12 +73,18 @@ returns-4 : tie.Need-returns-4
 unfolding bodyAt
 returns-4 c = went noMessage _ _ _ _ _ _ (c .before .before .before .before .before .before .before .before .before .before .before .before .before .whole .ensures) (c .before .before .before .before .before .before .before .before .before .before .before .presence .given .1) (rw (eq-eqb _ _ (c .before .before .before .before .before .before .before .before .before .if1 .taken)) (went noMessage _ _ _ _ _ _ (c .before .before .before .before .before .before .before .before .whole2 .ensures) (c .before .before .before .before .before .before .size .given .1) (places-went _ _ _ _ _ (c .before .before .before .before .read-places .ensures) (c .before .before .step .given .1))))
 
+refused-at-requires : tie.Need-refused-at-requires
+refused-at-requires c κs = search needs
+
+refusal-requires-3 : tie.Need-refusal-requires-3
+refusal-requires-3 c κs = search needs
+
 no-message-requires-4 : tie.Need-no-message-requires-4
 no-message-requires-4 c κs = search needs
 
 returns-5 : tie.Need-returns-5
 unfolding bodyAt
-returns-5 c = went noMessage _ _ _ _ _ _ (c .before .before .before .before .before .whole .ensures) (c .before .before .before .presence .given .1) (rw (ne-eqb _ _ (c .before .if1 .left)) (c .no-message4 .ensures))
+returns-5 c = went noMessage _ _ _ _ _ _ (c .before .before .before .before .before .before .before .whole .ensures) (c .before .before .before .before .before .presence .given .1) (rw (ne-eqb _ _ (c .before .before .before .if1 .left)) (c .no-message4 .ensures ∙ ap noMessage (c .before .refusal3 .ensures ∙ ap refusalOf (c .before .before .refused-at .ensures))))
 
 pub read-body-spec : {M : Type 1} → statement M
 read-body-spec =
@@ -102,5 +109,7 @@ read-body-spec =
     no-message-requires-3
     returns-3
     returns-4
+    refused-at-requires
+    refusal-requires-3
     no-message-requires-4
     returns-5)

@@ -19,7 +19,8 @@ use Rattle.step.proofs.Refusing.{Leaves, user-leaves}
 use Rattle.card.specs.Face.{freshCall}
 use Rattle.pair.specs.Names.{Side, Air, Ground, other}
 use Rattle.pair.specs.Carrier.{Sys, Turn, fresh, run}
-use Rattle.pair.specs.StepMachine.{Wire, sortOf, rejects, stepMachine}
+use Rattle.pair.specs.Wires.{Wire, sortOf}
+use Rattle.pair.proofs.StepMachine.{rejects, stepMachine}
 use Rattle.pair.proofs.Agree.{Agree, does}
 use Rattle.pair.proofs.Any.{carried, followed, taken-once}
 use Rattle.pair.proofs.Simulate.{Run}

@@ -35,8 +35,9 @@ use Rattle.card.specs.Face.{noCount, partOf, givenData, plainCall, messageReque
 use Rattle.pair.specs.Names.{Side}
 use Rattle.pair.specs.Carrier.{Body, Sent}
 use Rattle.pair.specs.Carrier as C
-use Rattle.pair.specs.StepMachine.{Wire, sentBy, taken, happens, Order, asked, dataOf, jobOf, calls}
-use Rattle.pair.specs.StepMachine as S
+use Rattle.pair.specs.Wires.{Wire}
+use Rattle.pair.proofs.StepMachine.{sentBy, taken, happens, Order, asked, dataOf, jobOf, calls}
+use Rattle.pair.proofs.StepMachine as S
 use Rattle.pair.proofs.Agree.{SentRel, OutRel, Follows, stays, does}
 use Rattle.card_pair.specs.Answered.{isTaken, entryOf, handedOf}
 use Rattle.card_pair.specs.CardMachine.{Buffers, Kept, Given, Asked, start-request, start-response, message-request, end-request, end-response, user-abort, answered, bodyGiven, sentOf, sentFor, left, simply}

@@ -36,7 +36,8 @@ use Rattle.step.specs.declared.arrived.Arrived.{Arrived}
 use Rattle.step.proofs.Taken.{never, apduIn}
 use Rattle.pair.specs.Names.{Side, Air, Ground, other}
 use Rattle.pair.specs.Carrier.{Body}
-use Rattle.pair.specs.StepMachine.{Wire, arrives, apduOf, bodyOf, happens}
+use Rattle.pair.specs.Wires.{Wire}
+use Rattle.pair.proofs.StepMachine.{arrives, apduOf, bodyOf, happens}
 use Rattle.pair.proofs.Agree.{OutRel}
 use Rattle.card_pair.specs.CardMachine.{Buffers, simply, arrivedAs}
 use Rattle.card_pair.proofs.Codec.{readOf, cardCodec}

@@ -47,7 +47,7 @@ use Rattle.step.proofs.Unpacked.{refusal-unpacked, invoked-unpacked, told-unpac
 use Rattle.step.proofs.Taken.{never, Coded, writable, Brings, GoesOut, Roomy, quiet, Fit}
 use Rattle.pair.specs.Names.{Side}
 use Rattle.pair.specs.Carrier.{Body}
-use Rattle.pair.specs.StepMachine.{handedBy}
+use Rattle.pair.proofs.StepMachine.{handedBy}
 use Rattle.card_pair.specs.Answered.{isTaken, invokedPart, toldPart, sentBits, givenBits, invokedOf, entryOf, isMessage, dataIn, handedOf}
 use Rattle.apdu.proofs.Theorems.{content-are-bits, mode-are-bits, index-are-bits}
 use Rattle.card_pair.proofs.Codec.{apduBits, zeros, full, frontOf, enc}

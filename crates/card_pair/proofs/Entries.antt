@@ -29,7 +29,8 @@ use Rattle.step.proofs.Taken.{never, writable, withBody, Brings, brings, GoesOu
 use Rattle.pair.specs.Names.{Side}
 use Rattle.pair.specs.Carrier.{Body, Sent, message}
 use Rattle.pair.specs.Carrier as C
-use Rattle.pair.specs.StepMachine.{Read, got, fault, Wire, sentBy, taken, happens}
+use Rattle.pair.specs.Wires.{Wire}
+use Rattle.pair.proofs.StepMachine.{Read, got, fault, sentBy, taken, happens}
 use Rattle.pair.proofs.Agree.{SentRel, OutRel}
 use Rattle.card_pair.specs.Answered.{entryOf, handedOf}
 use Rattle.card_pair.specs.CardMachine.{Buffers, Kept, putOn, sentOf, left, simply}

@@ -30,7 +30,7 @@ use Rattle.machine.specs.declared.outcome.Invoked.{Invoked}
 use Rattle.machine.specs.declared.outcome.Invoked.the-variants.{DDataRequest, DEndResponse, DAbortRequest}
 use Rattle.pair.specs.Names.{Side, Air, Ground, Dialogue, End, Control, entered, closed}
 use Rattle.pair.specs.Carrier.{Body, Party, Step, user-call, hand-over, timer-expires, error-reported, turn-away, fail, Turn, fresh, run}
-use Rattle.pair.specs.StepMachine.{Wire}
+use Rattle.pair.specs.Wires.{Wire}
 use Rattle.card_pair.specs.CardMachine.{Buffers, Given, Job, Asked, start-request, start-response, message-request, end-request, end-response, user-abort, bodyGiven, newly, controlIn, cardMachine}
 
 -- ---- the words of a run

@@ -12,7 +12,7 @@ use Rattle.machine.specs.declared.outcome.Invoked.the-variants.{Silent, DStartR
 use Rattle.step.specs.Call.{Called}
 use Rattle.step.specs.Packed.{refusals, codes, primitives, counts}
 use Rattle.pair.specs.Carrier.{Body}
-use Rattle.pair.specs.StepMachine.{Wire}
+use Rattle.pair.specs.Wires.{Wire}
 
 -- the low byte is a refusal's number
 abbrev pub isTaken : ℕ → Bool

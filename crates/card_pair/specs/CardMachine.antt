@@ -22,7 +22,7 @@ use Rattle.step.specs.declared.stored.Loaded.the-variants.{Is, NoRecord}
 use Rattle.card.specs.Face.{givenData, dataCall, plainCall, messageRequested, abortRequested}
 use Rattle.pair.specs.Names.{Side, Control, closed}
 use Rattle.pair.specs.Carrier.{Body, Sent, nothing, puts, message, Outcome, refused, acts, Machine}
-use Rattle.pair.specs.StepMachine.{Wire, sortOf, callerOf, dsUser}
+use Rattle.pair.specs.Wires.{Wire, sortOf, callerOf, dsUser}
 use Rattle.card_pair.specs.Answered.{isTaken, entryOf, handedOf}
 
 -- ---- what the host gives

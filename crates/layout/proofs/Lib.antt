@@ -1,3 +1,4 @@
+pub mod StructTypes
 pub mod Copied
 pub mod InOrder
 pub mod Pieces

@@ -17,7 +17,8 @@ use Rattle.elements.specs.declared.values.Level.{Level}
 use Rattle.elements.specs.declared.values.Element.{Element}
 use Rattle.elements.proofs.Unused.{four}
 use Rattle.inner.specs.declared.values.Header.{Header}
-use Rattle.layout.specs.Layout.{isFlag, frontBytes, placeBytes, headerOf, levelOf, elementOf, frontStands, placeStands, LevelTyped, ElementTyped}
+use Rattle.layout.specs.Layout.{isFlag, frontBytes, placeBytes, headerOf, levelOf, elementOf, frontStands, placeStands}
+use Rattle.layout.proofs.StructTypes.{LevelTyped, ElementTyped}
 
 -- ---- the bytes, as the code has them
 

@@ -14,7 +14,8 @@ use Rattle.bits.proofs.Bytes.{Bytes}
 use Rattle.elements.specs.declared.values.Element.{Element}
 use Rattle.inner.specs.declared.values.Header.{Header}
 use Rattle.inner.specs.declared.values.Message.{Message}
-use Rattle.layout.specs.Layout.{frontBytes, placeBytes, placesBytes, messageBytes, headerOf, elementOf, elementsOf, messageOf, frontStands, placeStands, placesStand, isMessage, noMessage, loadAt, placesFit, bytesFit, Kept, kept, storeAt, ElementsTyped, none, more, Typed}
+use Rattle.layout.specs.Layout.{frontBytes, placeBytes, placesBytes, messageBytes, headerOf, elementOf, elementsOf, messageOf, frontStands, placeStands, placesStand, isMessage, noMessage, loadAt, placesFit, bytesFit, Kept, kept, storeAt}
+use Rattle.layout.proofs.StructTypes.{ElementsTyped, none, more, Typed}
 use Rattle.layout.specs.declared.stored.Laid.{Laid}
 use Rattle.layout.proofs.InOrder.{elements-zero, elements-suc, stand-zero, stand-suc, fit-cons, bytes-cons, length-place}
 use Rattle.layout.proofs.Pieces.{length-front, header-back, count-back, front-stands, place-stands, element-back, front-of, place-of, characters-of, element-typed}

@@ -13,7 +13,8 @@ use Rattle.machine.specs.Exceptions.{tell, closes, aborts}
 use Rattle.machine.specs.Calls.{sent, startRequest, messageRequest}
 use Rattle.machine.specs.Primitives.{handed}
 use Rattle.machine.specs.Step.{step}
-use Rattle.machine.specs.Run.{run, Formed}
+use Rattle.machine.specs.Run.{Formed}
+use Rattle.machine.proofs.Runs.{run}
 use Rattle.machine.proofs.Ways.{Way, is-refused, is-closed, is-aborted, is-started, is-message, is-called, is-invited, is-confirmed, is-read, ways, isAbort, within}
 use Rattle.control.proofs.Moves.{isConfirmation, call-rests, primitive-rests, call-timed, call-held, primitive-timed, primitive-held, busy-takes}
 use Rattle.control.specs.declared.Side.{Side}

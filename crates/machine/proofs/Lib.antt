@@ -1,4 +1,5 @@
 pub mod Ways
+pub mod Runs
 pub mod Laws
 pub mod Clauses
 pub mod Worked

@@ -12,7 +12,7 @@ use Rattle.machine.specs.Exceptions.{tell, closes, aborts, excepts, noIn
 use Rattle.machine.specs.Calls.{answer, sent, startRequest, startResponse, messageRequest, endRequest, endResponse, userAbort, callOf, unsent, called}
 use Rattle.machine.specs.Primitives.{startFits, handed, read, received, offered, dStartIndication, confirmed, dStartConfirmation, dDataIndication, dEndIndication, dEndConfirmation, reached}
 use Rattle.machine.specs.Step.{permitted, messageRefusal, refusalOf, acts, step}
-use Rattle.machine.specs.Run.{run}
+use Rattle.machine.proofs.Runs.{run}
 use Rattle.control.specs.declared.Side.{Side}
 use Rattle.control.specs.declared.Side.the-variants.{Air, Ground}
 use Rattle.control.specs.declared.State.the-variants.{Idle, Dialogue}

@@ -8,7 +8,7 @@ use lib.Dec.{T}
 use Rattle.pair.specs.Names.{Air, Ground, closed}
 use Rattle.pair.specs.Carrier.{Machine, Sys, Turn, fresh, run}
 use Rattle.pair.specs.Claims.{rising, Claims}
-use Rattle.pair.specs.ControlMachine.{held, control}
+use Rattle.pair.proofs.ControlMachine.{held, control}
 use Rattle.pair.proofs.Agree.{Agree}
 use Rattle.pair.proofs.Lines.{LL}
 use Rattle.pair.proofs.Simulate.{SysRel, Run, run-rel}

@@ -8,7 +8,7 @@ use lib.Dec.{T}
 use Rattle.pair.specs.Names.{Side, Control, Call, other, sends}
 use Rattle.pair.specs.Carrier.{Body}
 use Rattle.pair.specs.Claims.{Prefix}
-use Rattle.pair.specs.ControlMachine.{Ent, ent}
+use Rattle.pair.proofs.ControlMachine.{Ent, ent}
 use Rattle.pair.proofs.Finite.{Dr, ok, no-T}
 use Rattle.pair.proofs.Drain.{isStart, calm, cuts, says, recv, later, drain, front, fine, sound, front-snoc, drain-fine}
 use Rattle.pair.proofs.Tests.{commutes, abort-at, calm-at, none-at}

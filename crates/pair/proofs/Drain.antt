@@ -7,7 +7,7 @@ use lib.Dec.{T}
 use Rattle.pair.specs.Names.{Side, StartReq, StartInd, Control, Primitive, DStart, DStartCnf, DTurnedAway, DData, DEnd, DEndCnf, DAbort, DPAbort, Call, same, is, isIdle, other, mayStart, sends, isData, Did, quiet, aborts, meets}
 use Rattle.pair.specs.Carrier.{Sort, begins, breaks, plain, begins?}
 use Rattle.pair.specs.Claims.{matching}
-use Rattle.pair.specs.ControlMachine.{Ent, sortOf}
+use Rattle.pair.proofs.ControlMachine.{Ent, sortOf}
 use Rattle.pair.proofs.Finite.{Dr, ok, dead, bad, and-l, no-T}
 
 -- ---- entries and calls by their sort

@@ -7,7 +7,7 @@ use lib.Dec.{T}
 use Rattle.pair.specs.Names.{Side, isIdle, closed, other, quiet, aborts}
 use Rattle.pair.specs.Carrier.{Body, Party, Sys, swap, did, emptied, toldLost, failed}
 use Rattle.pair.specs.Claims.{Prefix}
-use Rattle.pair.specs.ControlMachine.{met, control}
+use Rattle.pair.proofs.ControlMachine.{met, control}
 use Rattle.pair.proofs.Finite.{ok, T-is}
 use Rattle.pair.proofs.Drain.{isClosed, wf}
 use Rattle.pair.proofs.Tests.{rest-at}

@@ -7,7 +7,7 @@ use lib.Dec.{T}
 use Rattle.pair.specs.Names.{Side, Control, Primitive, Call, other, takes, goes, sends}
 use Rattle.pair.specs.Carrier.{Body}
 use Rattle.pair.specs.Claims.{Prefix}
-use Rattle.pair.specs.ControlMachine.{Ent, handed}
+use Rattle.pair.proofs.ControlMachine.{Ent, handed}
 use Rattle.pair.proofs.Finite.{Dr, ok, dead, bad, and-l, and-r, is-T}
 use Rattle.pair.proofs.Drain.{isStart, calm, cuts, mild, recv, later, drain, front, still, fine, matched, drain-fine, later-ok}
 use Rattle.pair.proofs.Tests.{commutes, gives, over, first-nil, first-at, closed-at, abort-at, head-at, alike-at, over-gives, over-later}

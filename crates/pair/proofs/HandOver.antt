@@ -8,7 +8,7 @@ use lib.Dec.{T}
 use Rattle.control.specs.Control as M
 use Rattle.pair.specs.Names.{Side, Control, Primitive, isIdle, closed, other, expects, after, Did, quiet, aborts, meets}
 use Rattle.pair.specs.Carrier.{Body, Sys, isNil, did, off, handedOver}
-use Rattle.pair.specs.ControlMachine.{Ent, met, receives, control}
+use Rattle.pair.proofs.ControlMachine.{Ent, met, receives, control}
 use Rattle.control.proofs.Finite.{imp}
 use Rattle.pair.proofs.Finite.{Dr, ok, dead, bad, and-l, and-r, is-T, T-is, imp-e}
 use Rattle.pair.proofs.Drain.{isStart, deaf, isLoss, recv, later, drain, front, isClosed, wf, still, fine, sound, drain-fine, sound-left, later-start, front-of}

@@ -7,7 +7,7 @@ use lib.Dec.{T}
 use Rattle.pair.specs.Names.{Side, Control, isIdle, other}
 use Rattle.pair.specs.Carrier.{Body, Sys, isNil}
 use Rattle.pair.specs.Claims.{Prefix}
-use Rattle.pair.specs.ControlMachine.{Ent, control}
+use Rattle.pair.proofs.ControlMachine.{Ent, control}
 use Rattle.pair.proofs.Finite.{is-T}
 use Rattle.pair.proofs.Drain.{isStart, front, isClosed, wf, sound}
 use Rattle.pair.proofs.Flow.{flow, pre-nil, pre-cons, pre-trans}

@@ -1,5 +1,7 @@
+pub mod ControlMachine
+pub mod StepMachine
 pub mod Finite
-pub mod Claimed
+pub mod Against
 pub mod Drain
 pub mod Tests
 pub mod Flow

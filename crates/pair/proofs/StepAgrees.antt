@@ -15,8 +15,9 @@ use Rattle.pair.specs.Names.{Side, Control, isIdle, closed, TimerExpiry,
 use Rattle.pair.specs.Carrier.{Body, Sys, Turn, fresh, run}
 use Rattle.pair.specs.Carrier as C
 use Rattle.pair.specs.Claims.{Claims}
-use Rattle.pair.specs.ControlMachine.{Held, held, Ent, ent, ask, callOf, receives, control}
-use Rattle.pair.specs.StepMachine.{Codec, Wire, arrives, apduOf, bodyOf, rejects, happens, Order, asked, dataOf, jobOf, calls, stepMachine}
+use Rattle.pair.proofs.ControlMachine.{Held, held, Ent, ent, ask, callOf, receives, control}
+use Rattle.pair.specs.Wires.{Wire}
+use Rattle.pair.proofs.StepMachine.{Codec, arrives, apduOf, bodyOf, rejects, happens, Order, asked, dataOf, jobOf, calls, stepMachine}
 use Rattle.pair.proofs.Finite.{is-T}
 use Rattle.pair.proofs.Agree.{OutRel, Follows, Agree}
 use Rattle.pair.proofs.Any.{followed, machine-holds}

@@ -26,9 +26,10 @@ use Rattle.machine.specs.declared.outcome.Told.the-variants.{Untold}
 use Rattle.pair.specs.Names.{Side, Control, Call, StartRequest, StartResponse, MessageRequest, EndRequest, EndResponse, UserAbort, TimerExpiry, SystemError, is, isIdle, takes, goes, StartReq, Answer, Accepted, Rejected}
 use Rattle.pair.specs.Carrier.{Body, Sent}
 use Rattle.pair.specs.Carrier as C
-use Rattle.pair.specs.ControlMachine.{Held, held, Ent, Ask, ask, jobFine, mayCall, highest, moved, callOf}
-use Rattle.pair.specs.ControlMachine as M
-use Rattle.pair.specs.StepMachine.{Codec, Wire, taken, happens, Order, start-request, start-response, message-request, end-request, end-response, user-abort, asked, dataOf, jobOf, calls}
+use Rattle.pair.proofs.ControlMachine.{Held, held, Ent, Ask, ask, jobFine, mayCall, highest, moved, callOf}
+use Rattle.pair.proofs.ControlMachine as M
+use Rattle.pair.specs.Wires.{Wire}
+use Rattle.pair.proofs.StepMachine.{Codec, taken, happens, Order, start-request, start-response, message-request, end-request, end-response, user-abort, asked, dataOf, jobOf, calls}
 use Rattle.pair.proofs.Finite.{and-l, both, is-T, T-is}
 use Rattle.pair.proofs.Agree.{SentRel, OutRel, Follows, stays, does}
 use Rattle.pair.proofs.StepLocal.{Local, lowOf, Low, closed-is-idle}

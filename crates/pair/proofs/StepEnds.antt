@@ -16,8 +16,9 @@ use Rattle.pair.specs.Names.{Side, DAbort, isIdle, closed, quiet}
 use Rattle.pair.specs.Names as N
 use Rattle.pair.specs.Carrier.{Body, nothing, puts}
 use Rattle.pair.specs.Carrier as C
-use Rattle.pair.specs.ControlMachine.{Held, held, Ent, ent, met}
-use Rattle.pair.specs.StepMachine.{Codec, Wire, happens}
+use Rattle.pair.proofs.ControlMachine.{Held, held, Ent, ent, met}
+use Rattle.pair.specs.Wires.{Wire}
+use Rattle.pair.proofs.StepMachine.{Codec, happens}
 use Rattle.pair.proofs.Agree.{OutRel}
 use Rattle.pair.proofs.StepLocal.{Local, lowOf, Low, closed-low}
 use Rattle.pair.proofs.StepMeans.{Means, abort-means}

@@ -17,8 +17,9 @@ use Rattle.machine.specs.declared.outcome.Outcome.{Outcome}
 use Rattle.pair.specs.Names.{Side, State, Idle, StartReq, StartInd, Dialogue, End, is, isIdle, entered, closed}
 use Rattle.pair.specs.Carrier.{Body, nothing, puts, message}
 use Rattle.pair.specs.Carrier as C
-use Rattle.pair.specs.ControlMachine.{Held, held, Ent}
-use Rattle.pair.specs.StepMachine.{Codec, Wire, taken, happens, calls}
+use Rattle.pair.proofs.ControlMachine.{Held, held, Ent}
+use Rattle.pair.specs.Wires.{Wire}
+use Rattle.pair.proofs.StepMachine.{Codec, taken, happens, calls}
 use Rattle.pair.proofs.Agree.{OutRel, Still, Follows, stays, does}
 
 pub record Local (p : ℕ) (r : Record) : Type 0 where

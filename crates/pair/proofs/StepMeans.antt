@@ -16,9 +16,10 @@ use Rattle.machine.specs.declared.outcome.Invoked.{Invoked}
 use Rattle.machine.specs.declared.outcome.Invoked.the-variants.{Silent, DStartRequest, DStartResponse, DDataRequest, DEndRequest, DEndResponse, DAbortRequest}
 use Rattle.pair.specs.Names.{Side, Primitive, DStart, DStartCnf, DData, DEnd, DEndCnf, DAbort}
 use Rattle.pair.specs.Carrier.{Body}
-use Rattle.pair.specs.ControlMachine.{Ent, ent}
-use Rattle.pair.specs.ControlMachine as M
-use Rattle.pair.specs.StepMachine.{Read, got, fault, Codec, Wire, sortOf}
+use Rattle.pair.proofs.ControlMachine.{Ent, ent}
+use Rattle.pair.proofs.ControlMachine as M
+use Rattle.pair.specs.Wires.{Wire, sortOf}
+use Rattle.pair.proofs.StepMachine.{Read, got, fault, Codec}
 use Rattle.pair.proofs.Finite.{is-T}
 
 -- odd: a fault would be met

@@ -37,9 +37,10 @@ use Rattle.pair.specs.Names.{Side, Air, Ground, StartReq, Control, Primi
 use Rattle.pair.specs.Names as N
 use Rattle.pair.specs.Carrier.{Body, nothing}
 use Rattle.pair.specs.Carrier as C
-use Rattle.pair.specs.ControlMachine.{held, Ent, ent, met, receives}
-use Rattle.pair.specs.ControlMachine as M
-use Rattle.pair.specs.StepMachine.{Read, got, fault, Codec, callerOf, dsUser, arrives, apduOf, bodyOf, rejects, handedBy, happens}
+use Rattle.pair.proofs.ControlMachine.{held, Ent, ent, met, receives}
+use Rattle.pair.proofs.ControlMachine as M
+use Rattle.pair.specs.Wires.{callerOf, dsUser}
+use Rattle.pair.proofs.StepMachine.{Read, got, fault, Codec, arrives, apduOf, bodyOf, rejects, handedBy, happens}
 use Rattle.pair.proofs.Finite.{and-l, and-r, is-T, T-is}
 use Rattle.pair.proofs.StepLocal.{Local, lowOf}
 use Rattle.pair.proofs.StepCalls.{started-not, ended-not}

@@ -7,7 +7,7 @@ use Prim.Native.Nat.{ℕ}
 use lib.Dec.{T}
 use Rattle.pair.specs.Names.{Side, Air, Ground, TimerExpiry, SystemError, other}
 use Rattle.pair.specs.Carrier.{Sys, Step, user-call, hand-over, timer-expires, error-reported, turn-away, fail, Turn, swap, stepped, turned, run}
-use Rattle.pair.specs.ControlMachine.{Ask, ask, control, bothIdle}
+use Rattle.pair.proofs.ControlMachine.{Ask, ask, control, bothIdle}
 use Rattle.pair.proofs.Drain.{front}
 use Rattle.pair.proofs.Tests.{flip-at}
 use Rattle.pair.proofs.Invariant.{Inv, no-data}

@@ -5,7 +5,7 @@ use mathlib.Core.Bool.{Bool, true, false, not, _&&_, _||_}
 use lib.Dec.{T}
 use Rattle.pair.specs.Names.{Side, Air, StartReq, StartInd, Control, Primitive, DTurnedAway, Call, same, is, isIdle, closed, other, takes, goes, sends, expects, after, isData, hands}
 use Rattle.pair.specs.Carrier.{Sort, begins, breaks, plain}
-use Rattle.pair.specs.ControlMachine.{sortOf}
+use Rattle.pair.proofs.ControlMachine.{sortOf}
 use Rattle.control.proofs.Finite.{imp, allBool, at-bool, allSide, at-side, allState, allAnswer, allControl, at-control, allPrimitive, at-primitive, allCall, at-call, allResponse}
 use Rattle.pair.proofs.Finite.{Dr, ok, dead, bad, imp-e, and-l, and-r, no-T, allDr, at-dr}
 use Rattle.pair.proofs.Drain.{isStart, deaf, starting, calm, cuts, mild, says, isLoss, recv, later, isClosed, wf, sameCtl, still, fine, sound}

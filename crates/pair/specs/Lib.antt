@@ -1,5 +1,4 @@
 pub mod Names
 pub mod Carrier
 pub mod Claims
-pub mod ControlMachine
-pub mod StepMachine
+pub mod Wires

@@ -1,11 +1,12 @@
 -- The air machine and the ground machine as they are, at the two ends: crate machine's step, with lines that carry encoded
 -- APDUs. The codec is any that reads back what it wrote.
+-- Assumes nothing.
 use Prim.Native.Nat.{ℕ}
 use mathlib.Core.Path.{_≡_}
 use mathlib.Core.Bool.{Bool, cond, _&&_}
 use mathlib.Core.List.{List, [], _∷_}
 use lib.Dec.{T, ltb}
-use Rattle.machine.specs.Codes.{noSecurity, transient, dsProvider, facility, aircraft, providerReasons}
+use Rattle.machine.specs.Codes.{noSecurity, transient, dsProvider, providerReasons}
 use Rattle.machine.specs.Outcome.{isNone}
 use Rattle.machine.specs.Record.{freshRecord}
 use Rattle.machine.specs.Step.{step}
@@ -22,9 +23,10 @@ use Rattle.machine.specs.declared.outcome.Invoked.the-variants.{Silent, DStartR
 use Rattle.machine.specs.declared.outcome.Told.{Told}
 use Rattle.machine.specs.declared.outcome.Told.the-variants.{Untold, StartIndication, StartConfirmation, MessageIndication, EndIndication, EndConfirmation, UserAbortIndication, ProviderAbortIndication}
 use Rattle.machine.specs.declared.outcome.Outcome.{Outcome}
-use Rattle.pair.specs.Names.{Side, Air, Ground, other}
-use Rattle.pair.specs.Carrier.{Body, Sent, nothing, puts, message, Sort, begins, breaks, plain, Machine}
+use Rattle.pair.specs.Names.{Side, other}
+use Rattle.pair.specs.Carrier.{Body, Sent, nothing, puts, message, Machine}
 use Rattle.pair.specs.Carrier as C
+use Rattle.pair.specs.Wires.{Wire, sortOf, callerOf, dsUser}
 
 -- ---- the codec
 
@@ -44,29 +46,6 @@ pub record Codec : Type 0 where
   pub back : (sd : Side) (a : Apdu) (b : Body) → T (fits sd a b) → dec sd (enc sd a b) ≡ got a b
 
 -- ---- what travels
-
--- a primitive with its parameters, and the bytes of its user data
-pub record Wire : Type 0 where
-  pub primitive : Invoked
-  pub bytes : List ℕ
-
-abbrev pub sortOf : Invoked → Sort
-sortOf Silent = plain
-sortOf (DStartRequest q s) = begins
-sortOf (DStartResponse x s) = plain
-sortOf DDataRequest = plain
-sortOf DEndRequest = plain
-sortOf (DEndResponse x) = plain
-sortOf (DAbortRequest o) = breaks
-
--- who calls the end at side sd: a facility calls the air, an aircraft the ground
-abbrev pub callerOf : Side → ℕ
-callerOf Air = facility
-callerOf Ground = aircraft
-
--- the Reject Source of a confirmation that the other end's user made
-abbrev pub dsUser : ℕ
-dsUser = 0
 
 -- what a primitive is at the other end, whose side is sd (nothing silent is on a line)
 abbrev pub arrives : Side → Invoked → Apdu → ServicePrimitive

@@ -1,5 +1,6 @@
 -- The finite control of both machines as a machine for the carrier: a record is state, DSC and the highest job taken; an
 -- entry is the primitive that the other end will meet, with its message.
+-- Assumes nothing.
 use Prim.Native.Nat.{ℕ}
 use mathlib.Core.Bool.{Bool, true, cond, _&&_}
 use mathlib.Core.List.{List, [], _∷_}

@@ -1,5 +1,6 @@
--- The claims as a test, and runs on which it is computed after every step. Each run is one on which a changed rule of the carrier makes a claim
--- false; with the rules as they are it is true.
+-- Runs against changed rules: the claims as a test, and runs on which it is computed after every step. Each run is one on which a changed rule of the
+-- carrier makes a claim false; with the rules as they are none is. (The modules are checked in the order of their names. So a changed rule is
+-- refused here, by the claims, before it is refused at the laws that restate it.)
 -- Assumes nothing.
 use mathlib.Core.Path.{_≡_, refl, sym, subst}
 use mathlib.Core.Bool.{Bool, true, false, not, _&&_, _||_}
@@ -10,7 +11,7 @@ use lib.Dec.{T, eqb}
 use Rattle.pair.specs.Names.{Side, Air, Ground, Accepted, Call, StartRequest, StartResponse, MessageRequest, EndRequest, EndResponse, UserAbort}
 use Rattle.pair.specs.Carrier.{Body, Machine, Sys, Step, user-call, hand-over, turn-away, fail, Turn, isNil, turned}
 use Rattle.pair.specs.Claims.{matching, Prefix, rising, Claims}
-use Rattle.pair.specs.ControlMachine.{Ask, ask, control, bothIdle}
+use Rattle.pair.proofs.ControlMachine.{Ask, ask, control, bothIdle}
 use Rattle.pair.proofs.Finite.{and-l, and-r, both, no-T, is-T, T-is}
 
 -- ---- the test
@@ -132,13 +133,13 @@ abbrev opening : List (Turn Ask)
 opening = asks Air (StartRequest false) ∷ gets Ground ∷ asks Ground (StartResponse false Accepted) ∷ gets Air ∷ []
 
 -- two messages and an abort that loses one of them: lost the oldest, the second would be handed out without the first; lost the D-ABORT, the ground would stay
--- in DIALOGUE for ever
+-- in DIALOGUE for ever; with the dialogue not broken, a message would be missing
 abbrev aborted : List (Turn Ask)
 aborted = opening ++ (says Air 1 ∷ says Air 2 ∷ turn Air (user-call (ask UserAbort [] 0) 1) ∷ gets Ground ∷ gets Ground ∷ [])
 
--- two messages, and the end behind a third: handed over youngest first, they would come out of order
+-- two messages, then the end: handed over youngest first, the second would come out before the first
 abbrev ended : List (Turn Ask)
-ended = opening ++ (says Ground 1 ∷ says Ground 2 ∷ asks Ground (EndRequest false) ∷ gets Air ∷ gets Air ∷ gets Air ∷ says Air 1 ∷ asks Air (EndResponse false Accepted) ∷ gets Ground ∷ gets Ground ∷ [])
+ended = opening ++ (says Ground 1 ∷ says Ground 2 ∷ gets Air ∷ gets Air ∷ asks Ground (EndRequest false) ∷ gets Air ∷ says Air 1 ∷ asks Air (EndResponse false Accepted) ∷ gets Ground ∷ gets Ground ∷ [])
 
 -- both abort at once, and the air asks for the next start before the aborts have arrived: the ground's old abort would end the new dialogue at the air, and the
 -- ground would stay in it

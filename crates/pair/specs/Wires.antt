@@ -1,0 +1,31 @@
+-- What travels on a line when an end is a card: a primitive with its parameters, and bytes.
+use Prim.Native.Nat.{ℕ}
+use mathlib.Core.List.{List}
+use Rattle.machine.specs.Codes.{facility, aircraft}
+use Rattle.machine.specs.declared.outcome.Invoked.{Invoked}
+use Rattle.machine.specs.declared.outcome.Invoked.the-variants.{Silent, DStartRequest, DStartResponse, DDataRequest, DEndRequest, DEndResponse, DAbortRequest}
+use Rattle.pair.specs.Names.{Side, Air, Ground}
+use Rattle.pair.specs.Carrier.{Sort, begins, breaks, plain}
+
+-- a primitive with its parameters, and the bytes of its user data
+pub record Wire : Type 0 where
+  pub primitive : Invoked
+  pub bytes : List ℕ
+
+abbrev pub sortOf : Invoked → Sort
+sortOf Silent = plain
+sortOf (DStartRequest q s) = begins
+sortOf (DStartResponse x s) = plain
+sortOf DDataRequest = plain
+sortOf DEndRequest = plain
+sortOf (DEndResponse x) = plain
+sortOf (DAbortRequest o) = breaks
+
+-- who calls the end at side sd: a facility calls the air, an aircraft the ground
+abbrev pub callerOf : Side → ℕ
+callerOf Air = facility
+callerOf Ground = aircraft
+
+-- the Reject Source of a confirmation that the other end's user made
+abbrev pub dsUser : ℕ
+dsUser = 0

@@ -313,7 +313,7 @@ def ground(r, ev):
         o.user, o.data = primitive, True
         return o
 
-    # ---- the user: what has no action is prohibited (3.5.5.1.1)
+    # ---- the user: what has no action is prohibited (2.3.5.5.1.1)
     if name == "CPDLC-start request" and st == IDLE:                    # 2.3.5.5.7
         n = to(r, REQ)
         n.timer = n.active = True
@@ -399,17 +399,18 @@ STEP = {"air": air, "ground": ground}
 SEND, START, START_DSC, FORWARD = ("send",), ("start", "cpdlc"), ("start", "dsc"), ("forward",)
 
 
-def rows():
-    """(title, event) in the order in which the program prints them."""
+def rows(policy):
+    """(title, event) in the order in which the program prints them, at records that accept the security value `policy`."""
     results = {0: "accepted", 1: "rejected", 2: "rejected (transient)"}
-    pdus = {SEND: "send", START: "start cpdlc", START_DSC: "start dsc", FORWARD: "forward", BAD_PDU: "invalid", MISSING_PDU: "missing",
-            ("abort user", 5): "abort user 5", ("abort provider", 1): "abort provider 1"}
+    pdus = {SEND: "send", START: "start cpdlc", START_DSC: "start dsc", FORWARD: "forward", ("abort user", 5): "abort user 5",
+            ("abort provider", 1): "abort provider 1", BAD_PDU: "invalid", MISSING_PDU: "missing"}
+    wrong = 1 - policy
 
     def title(*parts):
         return ", ".join(x for x in parts if x)
 
     for kind in ("CPDLC", "DSC"):
-        yield kind + "-start request", (kind + "-start request", {"class": 2, "security": 0})
+        yield kind + "-start request", (kind + "-start request", {"class": 2, "security": policy})
         for n in (0, 1):
             yield title(kind + "-start response", results[n]), (kind + "-start response", {"result": n})
         yield kind + "-end request", (kind + "-end request", {})
@@ -423,24 +424,37 @@ def rows():
     yield "timer expires", ("timer expires", {})
     yield "system error", ("system error", {})
 
+    def start(peer, security, priority, rate, klass, apdu):
+        return title("D-START indication", pdus[apdu], "from an aircraft" if peer else "from a facility", "security" if security != policy else "",
+                     "priority" if priority != 1 else "", "residual error rate" if rate != 1 else "", "routing class" if klass > 8 else ""), (
+            "D-START indication", {"peer": peer, "security": security, "priority": priority, "rate": rate, "class": klass, "apdu": apdu})
+
+    def started(n, source, security, apdu):
+        return title("D-START confirmation", results[n], pdus[apdu], "DS provider" if source else "", "security" if security != policy else ""), (
+            "D-START confirmation", {"result": n, "source": source, "security": security, "apdu": apdu})
+
     for peer in (0, 1):
-        for security, priority, rate, klass, apdu in (
-                (0, 1, 1, 2, START), (0, 1, 1, 2, START_DSC), (0, 1, 1, 2, FORWARD), (0, 1, 1, 2, SEND), (0, 1, 1, 2, BAD_PDU),
-                (0, 1, 1, 2, MISSING_PDU), (1, 1, 1, 2, MISSING_PDU), (1, 7, 1, 2, MISSING_PDU), (0, 1, 7, 2, START), (0, 1, 1, 9, START)):
-            yield title("D-START indication", pdus[apdu], "from an aircraft" if peer else "from a facility", "security" if security else "",
-                        "priority" if priority != 1 else "", "residual error rate" if rate != 1 else "", "routing class" if klass > 8 else ""), (
-                "D-START indication", {"peer": peer, "security": security, "priority": priority, "rate": rate, "class": klass, "apdu": apdu})
+        for apdu in pdus:
+            yield start(peer, policy, 1, 1, 2, apdu)
+    for peer in (0, 1):
+        yield start(peer, wrong, 1, 1, 2, MISSING_PDU)
+        yield start(peer, wrong, 7, 1, 2, MISSING_PDU)
+        yield start(peer, policy, 1, 7, 2, START)
+        yield start(peer, policy, 1, 1, 9, START)
     for n in (0, 1, 2):
-        for source, security, apdu in ((0, 0, SEND), (0, 0, START), (0, 0, BAD_PDU), (0, 0, MISSING_PDU), (0, 1, MISSING_PDU), (1, 1, MISSING_PDU)):
-            yield title("D-START confirmation", results[n], pdus[apdu], "DS provider" if source else "", "security" if security else ""), (
-                "D-START confirmation", {"result": n, "source": source, "security": security, "apdu": apdu})
-    for apdu in (SEND, START, BAD_PDU, MISSING_PDU):
-        yield title("D-DATA indication", pdus[apdu]), ("D-DATA indication", {"apdu": apdu})
-        yield title("D-END indication", pdus[apdu]), ("D-END indication", {"apdu": apdu})
-        for n in (0, 1):
+        for apdu in pdus:
+            yield started(n, 0, policy, apdu)
+    for n in (0, 1, 2):
+        for source in (0, 1):
+            yield started(n, source, wrong, MISSING_PDU)
+    for name in ("D-DATA indication", "D-END indication"):
+        for apdu in pdus:
+            yield title(name, pdus[apdu]), (name, {"apdu": apdu})
+    for n in (0, 1):
+        for apdu in pdus:
             yield title("D-END confirmation", results[n], pdus[apdu]), ("D-END confirmation", {"result": n, "apdu": apdu})
     for n, word in ((0, "user"), (1, "provider")):
-        for apdu in (("abort user", 5), ("abort provider", 1), BAD_PDU, MISSING_PDU):
+        for apdu in pdus:
             yield title("D-ABORT indication", word, pdus[apdu]), ("D-ABORT indication", {"originator": n, "apdu": apdu})
     yield "D-P-ABORT indication", ("D-P-ABORT indication", {})
 
@@ -468,22 +482,22 @@ def cell(o):
     return text
 
 
-def made(state, dsc, active, reverse=False):
+def made(state, dsc, active, reverse=False, policy=0):
     """The records of the table: timer and user as a run has them, or the user not active; or both the wrong way round, as no run
-    has them. Highest job 7, no security."""
+    has them. Highest job 7; the last request had the security value that local policy accepts."""
     timer, user = state == REQ, active and state != IDLE
-    return Rec(state, dsc, timer != reverse, user != reverse, 7, 0, 0)
+    return Rec(state, dsc, timer != reverse, user != reverse, 7, policy, policy)
 
 
 def table():
     for side in ("air", "ground"):
-        for active, reverse in ((True, False), (False, False), (True, True)):
-            view = side + ("" if active else ", user not active") + (", timer and user reversed" if reverse else "")
-            for title, ev in rows():
+        for active, reverse, policy in ((True, False, 0), (False, False, 0), (True, True, 0), (True, False, 1)):
+            view = side + ("" if active else ", user not active") + (", timer and user reversed" if reverse else "") + (", secured" if policy else "")
+            for title, ev in rows(policy):
                 print("%s: %s" % (view, title))
                 for state in STATES:
                     for dsc in (False, True):
-                        r = made(state, dsc, active, reverse)
+                        r = made(state, dsc, active, reverse, policy)
                         print("  %s: %s" % (where(r), cell(STEP[side](r, ev))))
 
 
@@ -499,17 +513,17 @@ def jobs():
         r = o.rec
 
     def seven():
-        go("job 7", ("CPDLC-message request", {"message": True, "job": 7}))
+        go("CPDLC-message request, job 7", ("CPDLC-message request", {"message": True, "job": 7}))
 
     seven()
     go("CPDLC-start request", ("CPDLC-start request", {"class": 0, "security": 0}))
-    go("D-START confirmation", ("D-START confirmation", {"result": 0, "source": 0, "security": 0, "apdu": SEND}))
+    go("D-START confirmation, accepted, send", ("D-START confirmation", {"result": 0, "source": 0, "security": 0, "apdu": SEND}))
     seven()
     seven()
-    go("D-END indication", ("D-END indication", {"apdu": SEND}))
-    go("CPDLC-end response", ("CPDLC-end response", {"result": 0}))
+    go("D-END indication, send", ("D-END indication", {"apdu": SEND}))
+    go("CPDLC-end response, accepted", ("CPDLC-end response", {"result": 0}))
     go("CPDLC-start request", ("CPDLC-start request", {"class": 0, "security": 0}))
-    go("D-START confirmation", ("D-START confirmation", {"result": 0, "source": 0, "security": 0, "apdu": SEND}))
+    go("D-START confirmation, accepted, send", ("D-START confirmation", {"result": 0, "source": 0, "security": 0, "apdu": SEND}))
     seven()
 
 

@@ -4,8 +4,9 @@
 A row is written as on the page: event, the DSC that it names (None: none), and a cell for each state. A cell is "cannot occur",
 "not permitted", or what the page has: next state, dialogue-service primitive, user primitive. Where a cell names DSC itself, it is
 a pair for DSC false and true. The FORWARD column and the forward rows are left out until forwarding is ordered.
-Prints the cells that differ; notes/TABLE-CELLS.md has each with its paragraph. Ends with status 1 if a cell differs in another way
-than "cannot occur" or the ones listed in EXPECTED.
+Prints the cells that differ; docs/TABLE-CELLS.md has each with its paragraph. Where a row names a DSC and the page has no row for the other
+one, an action of it has none there: refusal 3, or no instruction. Ends with status 1 if a cell differs in another way
+than "cannot occur" or the ones listed in EXPECTED, or if a cell of the other DSC has another answer.
 """
 import sys
 
@@ -103,6 +104,7 @@ def what(o):
 
 
 agree, never, other = 0, [], set()
+beside = {"refused": 0, "aborted": 0, "otherwise": 0}   # cells of the DSC that a row does not name
 for side, page in PAGES.items():
     for title, event, named, cells in page:
         for state, cell in zip(STATES, cells):
@@ -116,10 +118,18 @@ for side, page in PAGES.items():
                 else:
                     other.add((side, title, state, dsc))
                     print("differs:", side, title, state, "DSC", dsc, "page", here, "text", what(o))
+        if named is not None and not any(e == event and n == (not named) for _, e, n, _ in page):
+            for state, cell in zip(STATES, cells):
+                if isinstance(cell, tuple):
+                    said = what(STEP[side](made(state, not named, True), event))
+                    way = "refused" if said == "refused 3" else "aborted" if said == (IDLE, "D-ABORT request", PA) else "otherwise"
+                    beside[way] += 1
+                    print("the other DSC:", side, title, state, "DSC", not named, way)
 kinds = {}
 for side, title, state, dsc, w in never:
     kinds.setdefault((side, w), []).append("%s in %s%s" % (title, state, "+" if dsc else "-"))
 for (side, w), where in sorted(kinds.items(), key=str):
     print("%s, cannot occur, text %s: %d cells" % (side, w, len(where)))
-print("%d cells agree, %d cannot occur, %d differ otherwise" % (agree, len(never), len(other)))
-sys.exit(0 if other == EXPECTED else 1)
+print("%d cells agree, %d cannot occur, %d differ otherwise; of the other DSC %d are refused, %d aborted, %d otherwise" % (
+    agree, len(never), len(other), beside["refused"], beside["aborted"], beside["otherwise"]))
+sys.exit(0 if other == EXPECTED and not beside["otherwise"] else 1)

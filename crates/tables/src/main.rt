@@ -1,4 +1,5 @@
 // Prints the tables of the two machines: for each event a title, then for each state and DSC the outcome of the proved step.
+// Records, events and their parameters are counted through; what is printed of one is taken from the value itself.
 // A line gives the state and DSC (+ true, - false) before the event; then the state and DSC after it, whether t-start runs and
 // the user is active, the highest job; the dialogue-service primitive with its parameters and its APDU; the user primitive with
 // its parameters; and whether message data is delivered. The numbers are those of the documents' codes.
@@ -42,17 +43,13 @@ fn place(s: State, dsc: bool) {
     }
 }
 
-fn family(dsc: bool) {
+fn service_name(dsc: bool, name: &[u8]) {
     if dsc {
-        text(b"; DSC");
+        text(b"DSC-");
     } else {
-        text(b"; CPDLC");
+        text(b"CPDLC-");
     }
-}
-
-fn result(n: u64) {
-    text(b" confirmation");
-    number(n);
+    text(name);
 }
 
 fn show_record(r: Record) {
@@ -68,59 +65,66 @@ fn show_record(r: Record) {
     number(r.highest);
 }
 
-fn show_qos(q: Qos) {
-    number(q.priority);
-    number(q.rer);
-    number(q.routing);
+fn pdu_name(a: Apdu) {
+    match a {
+        Apdu::Absent => text(b"missing"),
+        Apdu::NotValid => text(b"invalid"),
+        Apdu::Start(dsc) => {
+            if dsc {
+                text(b"start dsc");
+            } else {
+                text(b"start cpdlc");
+            }
+        }
+        Apdu::Send => text(b"send"),
+        Apdu::AbortUser(n) => {
+            text(b"abort user");
+            number(n);
+        }
+        Apdu::AbortProvider(n) => {
+            text(b"abort provider");
+            number(n);
+        }
+        Apdu::Forward => text(b"forward"),
+    }
 }
 
-fn show_invoked(i: Invoked) {
+// Whether there is one.
+fn show_invoked(i: Invoked) -> bool {
     match i {
-        Invoked::Silent => text(b""),
+        Invoked::Silent => false,
         Invoked::DStartRequest(q, security) => {
             text(b"; D-START request");
-            show_qos(q);
+            number(q.priority);
+            number(q.rer);
+            number(q.routing);
             number(security);
+            true
         }
         Invoked::DStartResponse(n, security) => {
             text(b"; D-START response");
             number(n);
             number(security);
+            true
         }
-        Invoked::DDataRequest => text(b"; D-DATA request"),
-        Invoked::DEndRequest => text(b"; D-END request"),
+        Invoked::DDataRequest => {
+            text(b"; D-DATA request");
+            true
+        }
+        Invoked::DEndRequest => {
+            text(b"; D-END request");
+            true
+        }
         Invoked::DEndResponse(n) => {
             text(b"; D-END response");
             number(n);
+            true
         }
         Invoked::DAbortRequest(n) => {
             text(b"; D-ABORT request");
             number(n);
+            true
         }
-    }
-}
-
-fn reason(t: &[u8], n: u64) {
-    text(t);
-    number(n);
-    text(b"]");
-}
-
-fn show_apdu(a: Apdu) {
-    match a {
-        Apdu::Absent => text(b""),
-        Apdu::NotValid => text(b" [invalid]"),
-        Apdu::Start(dsc) => {
-            if dsc {
-                text(b" [start dsc]");
-            } else {
-                text(b" [start cpdlc]");
-            }
-        }
-        Apdu::Send => text(b" [send]"),
-        Apdu::AbortUser(n) => reason(b" [abort user", n),
-        Apdu::AbortProvider(n) => reason(b" [abort provider", n),
-        Apdu::Forward => text(b" [forward]"),
     }
 }
 
@@ -128,24 +132,24 @@ fn show_told(t: Told) {
     match t {
         Told::Untold => text(b""),
         Told::StartIndication(dsc, n) => {
-            family(dsc);
-            text(b"-start indication");
+            text(b"; ");
+            service_name(dsc, b"start indication");
             number(n);
         }
         Told::StartConfirmation(dsc, n) => {
-            family(dsc);
-            text(b"-start");
-            result(n);
+            text(b"; ");
+            service_name(dsc, b"start confirmation");
+            number(n);
         }
         Told::MessageIndication => text(b"; CPDLC-message indication"),
         Told::EndIndication(dsc) => {
-            family(dsc);
-            text(b"-end indication");
+            text(b"; ");
+            service_name(dsc, b"end indication");
         }
         Told::EndConfirmation(dsc, n) => {
-            family(dsc);
-            text(b"-end");
-            result(n);
+            text(b"; ");
+            service_name(dsc, b"end confirmation");
+            number(n);
         }
         Told::UserAbortIndication(n) => {
             text(b"; CPDLC-user-abort indication");
@@ -166,8 +170,11 @@ fn show_outcome(o: Outcome) {
         let a = o.apdu;
         let t = o.told;
         show_record(n);
-        show_invoked(i);
-        show_apdu(a);
+        if show_invoked(i) {
+            text(b" [");
+            pdu_name(a);
+            text(b"]");
+        }
         show_told(t);
         if o.delivers {
             text(b" with data");
@@ -179,166 +186,163 @@ fn show_outcome(o: Outcome) {
     text(b"\n");
 }
 
-// What a row is printed for: a side; whether the user is active outside IDLE; or records that no run reaches, with timer and
-// user the wrong way round.
+// ---- the records
+
+// What a table is printed for: a side; whether the user is active outside IDLE; or records that no run reaches, with timer and
+// user the wrong way round; and the security value that local policy accepts, which the last request had too.
 struct View {
     side: Side,
     active: bool,
     reversed: bool,
+    policy: u64,
+}
+
+const VIEWS: u64 = 8;
+
+fn side_of(n: u64) -> Side {
+    if n < 4 {
+        return Side::Air;
+    }
+    Side::Ground
+}
+
+// Of each side: the usual records; a user who is not active; timer and user reversed; "secured exchange".
+fn view_of(n: u64) -> View {
+    let side = side_of(n);
+    let kind = n % 4;
+    View {
+        side,
+        active: kind != 1,
+        reversed: kind == 2,
+        policy: kind / 3,
+    }
+}
+
+const PLACES: u64 = 10;
+
+fn state_of(n: u64) -> State {
+    match n / 2 {
+        0 => State::Idle,
+        1 => State::StartReq,
+        2 => State::StartInd,
+        3 => State::Dialogue,
+        _ => State::End,
+    }
 }
 
 fn both(a: bool, b: bool) -> bool {
     a && b
 }
 
-// The outcome in one state: highest job 7, no security.
-fn cell(v: View, s: State, dsc: bool, e: Event) {
-    let waits = control::is(s, State::StartReq);
-    let idle = control::is(s, State::Idle);
-    let timer = control::same(waits, !v.reversed);
-    let user = control::same(both(v.active, !idle), !v.reversed);
-    let side = v.side;
-    let r = Record {
-        control: Control { state: s, dsc },
+fn unlike(a: bool, b: bool) -> bool {
+    if a { !b } else { b }
+}
+
+// The record of a state and DSC, with highest job 7.
+fn record_of(v: View, n: u64) -> Record {
+    let state = state_of(n);
+    let timer = unlike(n / 2 == 1, v.reversed);
+    let active = unlike(both(v.active, 1 < n), v.reversed);
+    Record {
+        control: Control {
+            state,
+            dsc: n % 2 == 1,
+        },
         timer,
-        active: user,
+        active,
         highest: 7,
-        request: 0,
-        policy: 0,
-    };
-    text(b"  ");
-    place(s, dsc);
-    text(b": ");
-    show_outcome(machine::step(side, r, e));
-}
-
-fn cells(v: View, e: Event) {
-    text(b"\n");
-    cell(v, State::Idle, false, e);
-    cell(v, State::Idle, true, e);
-    cell(v, State::StartReq, false, e);
-    cell(v, State::StartReq, true, e);
-    cell(v, State::StartInd, false, e);
-    cell(v, State::StartInd, true, e);
-    cell(v, State::Dialogue, false, e);
-    cell(v, State::Dialogue, true, e);
-    cell(v, State::End, false, e);
-    cell(v, State::End, true, e);
-}
-
-// ---- titles
-
-fn title(v: View, name: &[u8]) {
-    let side = v.side;
-    match side {
-        Side::Air => text(b"air"),
-        Side::Ground => text(b"ground"),
-    }
-    if !v.active {
-        text(b", user not active");
-    }
-    if v.reversed {
-        text(b", timer and user reversed");
-    }
-    text(b": ");
-    text(name);
-}
-
-fn titled(v: View, dsc: bool, name: &[u8]) {
-    if dsc {
-        title(v, b"DSC-");
-    } else {
-        title(v, b"CPDLC-");
-    }
-    text(name);
-}
-
-fn noted(on: bool, name: &[u8]) {
-    if on {
-        text(name);
+        request: v.policy,
+        policy: v.policy,
     }
 }
 
-fn result_name(n: u64) {
-    noted(n == 0, b", accepted");
-    noted(n == 1, b", rejected");
-    noted(n == 2, b", rejected (transient)");
-}
+// ---- the events, in kinds
 
-fn pdu_name(a: Apdu) {
-    match a {
-        Apdu::Absent => text(b", missing"),
-        Apdu::NotValid => text(b", invalid"),
-        Apdu::Start(dsc) => {
-            noted(dsc, b", start dsc");
-            noted(!dsc, b", start cpdlc");
-        }
-        Apdu::Send => text(b", send"),
-        Apdu::AbortUser(n) => {
-            text(b", abort user");
-            number(n);
-        }
-        Apdu::AbortProvider(n) => {
-            text(b", abort provider");
-            number(n);
-        }
-        Apdu::Forward => text(b", forward"),
+const KINDS: u64 = 11;
+
+fn events_of(kind: u64) -> u64 {
+    match kind {
+        0 => 12,
+        1 => 5,
+        2 => 4,
+        3 => 16,
+        4 => 8,
+        5 => 24,
+        6 => 6,
+        7 => 16,
+        8 => 16,
+        9 => 16,
+        _ => 1,
     }
 }
 
-// ---- a row for each event
-
-fn user(v: View, u: UserPrimitive) {
-    cells(v, Event::User(u));
+fn event_of(policy: u64, kind: u64, n: u64) -> Event {
+    match kind {
+        0 => Event::User(in_mode(policy, n)),
+        1 => Event::User(message(n)),
+        2 => report(n),
+        3 => Event::Service(start(policy, n)),
+        4 => Event::Service(faulty_start(policy, n)),
+        5 => Event::Service(started(policy, n)),
+        6 => Event::Service(faulty_started(policy, n)),
+        7 => Event::Service(data_or_end(n)),
+        8 => Event::Service(ServicePrimitive::DEndConfirmation(n / 8, pdu(n % 8))),
+        9 => Event::Service(ServicePrimitive::DAbortIndication(n / 8, pdu(n % 8))),
+        _ => Event::Service(ServicePrimitive::DPAbortIndication),
+    }
 }
 
-fn service(v: View, p: ServicePrimitive) {
-    cells(v, Event::Service(p));
+// The requests and responses that have a mode, first all of CPDLC.
+fn in_mode(policy: u64, n: u64) -> UserPrimitive {
+    let dsc = 5 < n;
+    match n % 6 {
+        0 => UserPrimitive::StartServiceRequest(dsc, 2, policy),
+        1 => UserPrimitive::StartServiceResponse(dsc, 0),
+        2 => UserPrimitive::StartServiceResponse(dsc, 1),
+        3 => UserPrimitive::EndServiceRequest(dsc),
+        4 => UserPrimitive::EndServiceResponse(dsc, 0),
+        _ => UserPrimitive::EndServiceResponse(dsc, 1),
+    }
 }
 
-fn start_request(v: View, dsc: bool) {
-    titled(v, dsc, b"start request");
-    user(v, UserPrimitive::StartServiceRequest(dsc, 2, 0));
+fn message(n: u64) -> UserPrimitive {
+    match n {
+        0 => UserPrimitive::MessageServiceRequest(true, 8),
+        1 => UserPrimitive::MessageServiceRequest(false, 8),
+        2 => UserPrimitive::MessageServiceRequest(true, 7),
+        3 => UserPrimitive::MessageServiceRequest(false, 7),
+        _ => UserPrimitive::MessageServiceRequest(true, 0),
+    }
 }
 
-fn start_response(v: View, dsc: bool, n: u64) {
-    titled(v, dsc, b"start response");
-    result_name(n);
-    user(v, UserPrimitive::StartServiceResponse(dsc, n));
+fn report(n: u64) -> Event {
+    match n {
+        0 => Event::User(UserPrimitive::UserAbortServiceRequest(true, 5)),
+        1 => Event::User(UserPrimitive::UserAbortServiceRequest(false, 5)),
+        2 => Event::TimerExpires,
+        _ => Event::UnrecoverableSystemError,
+    }
 }
 
-fn message_request(v: View, holds: bool, job: u64) {
-    title(v, b"CPDLC-message request, job");
-    number(job);
-    noted(!holds, b", no message");
-    user(v, UserPrimitive::MessageServiceRequest(holds, job));
+// Eight user data: one of each PDU, none valid, none at all.
+fn pdu(n: u64) -> Apdu {
+    match n {
+        0 => Apdu::Send,
+        1 => Apdu::Start(false),
+        2 => Apdu::Start(true),
+        3 => Apdu::Forward,
+        4 => Apdu::AbortUser(5),
+        5 => Apdu::AbortProvider(1),
+        6 => Apdu::NotValid,
+        _ => Apdu::Absent,
+    }
 }
 
-fn end_request(v: View, dsc: bool) {
-    titled(v, dsc, b"end request");
-    user(v, UserPrimitive::EndServiceRequest(dsc));
-}
-
-fn end_response(v: View, dsc: bool, n: u64) {
-    titled(v, dsc, b"end response");
-    result_name(n);
-    user(v, UserPrimitive::EndServiceResponse(dsc, n));
-}
-
-fn user_abort(v: View, given: bool) {
-    title(v, b"CPDLC-user-abort request");
-    noted(given, b", reason 5");
-    user(v, UserPrimitive::UserAbortServiceRequest(given, 5));
-}
-
-fn timer_expires(v: View) {
-    title(v, b"timer expires");
-    cells(v, Event::TimerExpires);
-}
-
-fn system_error(v: View) {
-    title(v, b"system error");
-    cells(v, Event::UnrecoverableSystemError);
+fn other(policy: u64) -> u64 {
+    if policy == 0 {
+        return 1;
+    }
+    0
 }
 
 fn indication(peer: u64, security: u64, qos: Qos, apdu: Apdu) -> ServicePrimitive {
@@ -359,226 +363,242 @@ fn confirmation(result: u64, source: u64, security: u64, apdu: Apdu) -> ServiceP
     })
 }
 
-// Peer 0 is a facility, 1 an aircraft.
-fn start(v: View, peer: u64, security: u64, priority: u64, rer: u64, routing: u64, apdu: Apdu) {
-    title(v, b"D-START indication");
-    pdu_name(apdu);
-    noted(peer == 0, b", from a facility");
-    noted(peer == 1, b", from an aircraft");
-    noted(security != 0, b", security");
-    noted(priority != 1, b", priority");
-    noted(rer != 1, b", residual error rate");
-    noted(8 < routing, b", routing class");
-    service(
-        v,
-        indication(
-            peer,
-            security,
-            Qos {
-                priority,
-                rer,
-                routing,
-            },
-            apdu,
-        ),
-    );
+fn quality(priority: u64, rer: u64, routing: u64) -> Qos {
+    Qos {
+        priority,
+        rer,
+        routing,
+    }
 }
 
-fn started(v: View, n: u64, source: u64, security: u64, apdu: Apdu) {
-    title(v, b"D-START confirmation");
-    result_name(n);
-    pdu_name(apdu);
-    noted(source == 1, b", DS provider");
-    noted(security != 0, b", security");
-    service(v, confirmation(n, source, security, apdu));
+// A start from a facility, then from an aircraft, with each PDU.
+fn start(policy: u64, n: u64) -> ServicePrimitive {
+    indication(n / 8, policy, quality(1, 1, 2), pdu(n % 8))
 }
 
-fn data(v: View, apdu: Apdu) {
-    title(v, b"D-DATA indication");
-    pdu_name(apdu);
-    service(v, ServicePrimitive::DDataIndication(apdu));
+// Its other faults, one behind another.
+fn faulty_start(policy: u64, n: u64) -> ServicePrimitive {
+    let peer = n / 4;
+    match n % 4 {
+        0 => indication(peer, other(policy), quality(1, 1, 2), Apdu::Absent),
+        1 => indication(peer, other(policy), quality(7, 1, 2), Apdu::Absent),
+        2 => indication(peer, policy, quality(1, 7, 2), Apdu::Start(false)),
+        _ => indication(peer, policy, quality(1, 1, 9), Apdu::Start(false)),
+    }
 }
 
-fn end(v: View, apdu: Apdu) {
-    title(v, b"D-END indication");
-    pdu_name(apdu);
-    service(v, ServicePrimitive::DEndIndication(apdu));
+// A confirmation of each result, with each PDU.
+fn started(policy: u64, n: u64) -> ServicePrimitive {
+    confirmation(n / 8, 0, policy, pdu(n % 8))
 }
 
-fn ended(v: View, n: u64, apdu: Apdu) {
-    title(v, b"D-END confirmation");
-    result_name(n);
-    pdu_name(apdu);
-    service(v, ServicePrimitive::DEndConfirmation(n, apdu));
+fn faulty_started(policy: u64, n: u64) -> ServicePrimitive {
+    confirmation(n / 2, n % 2, other(policy), Apdu::Absent)
 }
 
-fn aborted(v: View, originator: u64, apdu: Apdu) {
-    title(v, b"D-ABORT indication");
-    noted(originator == 0, b", user");
-    noted(originator == 1, b", provider");
-    pdu_name(apdu);
-    service(v, ServicePrimitive::DAbortIndication(originator, apdu));
+fn data_or_end(n: u64) -> ServicePrimitive {
+    if n < 8 {
+        return ServicePrimitive::DDataIndication(pdu(n));
+    }
+    ServicePrimitive::DEndIndication(pdu(n % 8))
 }
 
-fn p_aborted(v: View) {
-    title(v, b"D-P-ABORT indication");
-    service(v, ServicePrimitive::DPAbortIndication);
+// ---- titles
+
+fn view_title(v: View) {
+    let side = v.side;
+    match side {
+        Side::Air => text(b"air"),
+        Side::Ground => text(b"ground"),
+    }
+    noted(!v.active, b", user not active");
+    noted(v.reversed, b", timer and user reversed");
+    noted(v.policy == 1, b", secured");
+    text(b": ");
 }
 
-// ---- the rows
-
-fn user_rows(v: View, dsc: bool) {
-    start_request(v, dsc);
-    start_response(v, dsc, 0);
-    start_response(v, dsc, 1);
-    end_request(v, dsc);
-    end_response(v, dsc, 0);
-    end_response(v, dsc, 1);
+fn noted(on: bool, name: &[u8]) {
+    if on {
+        text(name);
+    }
 }
 
-fn message_rows(v: View) {
-    message_request(v, true, 8);
-    message_request(v, false, 8);
-    message_request(v, true, 7);
-    message_request(v, false, 7);
-    message_request(v, true, 0);
+fn result_name(n: u64) {
+    noted(n == 0, b", accepted");
+    noted(n == 1, b", rejected");
+    noted(n == 2, b", rejected (transient)");
 }
 
-fn abort_rows(v: View) {
-    user_abort(v, true);
-    user_abort(v, false);
-    timer_expires(v);
-    system_error(v);
+fn pdu_title(a: Apdu) {
+    text(b", ");
+    pdu_name(a);
 }
 
-// A start from either peer, then its faults, one behind the other.
-fn start_rows(v: View, peer: u64) {
-    start(v, peer, 0, 1, 1, 2, Apdu::Start(false));
-    start(v, peer, 0, 1, 1, 2, Apdu::Start(true));
-    start(v, peer, 0, 1, 1, 2, Apdu::Forward);
-    start(v, peer, 0, 1, 1, 2, Apdu::Send);
-    start(v, peer, 0, 1, 1, 2, Apdu::NotValid);
-    start(v, peer, 0, 1, 1, 2, Apdu::Absent);
-    start(v, peer, 1, 1, 1, 2, Apdu::Absent);
-    start(v, peer, 1, 7, 1, 2, Apdu::Absent);
-    start(v, peer, 0, 1, 7, 2, Apdu::Start(false));
-    start(v, peer, 0, 1, 1, 9, Apdu::Start(false));
+fn user_title(u: UserPrimitive) {
+    match u {
+        UserPrimitive::StartServiceRequest(dsc, _, _) => service_name(dsc, b"start request"),
+        UserPrimitive::StartServiceResponse(dsc, n) => {
+            service_name(dsc, b"start response");
+            result_name(n);
+        }
+        UserPrimitive::MessageServiceRequest(holds, job) => {
+            text(b"CPDLC-message request, job");
+            number(job);
+            noted(!holds, b", no message");
+        }
+        UserPrimitive::EndServiceRequest(dsc) => service_name(dsc, b"end request"),
+        UserPrimitive::EndServiceResponse(dsc, n) => {
+            service_name(dsc, b"end response");
+            result_name(n);
+        }
+        UserPrimitive::UserAbortServiceRequest(given, _) => {
+            text(b"CPDLC-user-abort request");
+            noted(given, b", reason 5");
+        }
+    }
 }
 
-fn started_rows(v: View, n: u64) {
-    started(v, n, 0, 0, Apdu::Send);
-    started(v, n, 0, 0, Apdu::Start(false));
-    started(v, n, 0, 0, Apdu::NotValid);
-    started(v, n, 0, 0, Apdu::Absent);
-    started(v, n, 0, 1, Apdu::Absent);
-    started(v, n, 1, 1, Apdu::Absent);
+fn start_title(policy: u64, i: StartIndicationParameters) {
+    let apdu = i.apdu;
+    let qos = i.qos;
+    pdu_title(apdu);
+    noted(i.peer == 0, b", from a facility");
+    noted(i.peer == 1, b", from an aircraft");
+    noted(i.security != policy, b", security");
+    noted(qos.priority != 1, b", priority");
+    noted(qos.rer != 1, b", residual error rate");
+    noted(8 < qos.routing, b", routing class");
 }
 
-fn pdu_rows(v: View, apdu: Apdu) {
-    data(v, apdu);
-    end(v, apdu);
-    ended(v, 0, apdu);
-    ended(v, 1, apdu);
+fn started_title(policy: u64, k: StartConfirmationParameters) {
+    let apdu = k.apdu;
+    result_name(k.result);
+    pdu_title(apdu);
+    noted(k.source == 1, b", DS provider");
+    noted(k.security != policy, b", security");
 }
 
-fn aborted_rows(v: View, originator: u64) {
-    aborted(v, originator, Apdu::AbortUser(5));
-    aborted(v, originator, Apdu::AbortProvider(1));
-    aborted(v, originator, Apdu::NotValid);
-    aborted(v, originator, Apdu::Absent);
+fn service_title(policy: u64, p: ServicePrimitive) {
+    match p {
+        ServicePrimitive::DStartIndication(i) => {
+            text(b"D-START indication");
+            start_title(policy, i);
+        }
+        ServicePrimitive::DStartConfirmation(k) => {
+            text(b"D-START confirmation");
+            started_title(policy, k);
+        }
+        ServicePrimitive::DDataIndication(a) => {
+            text(b"D-DATA indication");
+            pdu_title(a);
+        }
+        ServicePrimitive::DEndIndication(a) => {
+            text(b"D-END indication");
+            pdu_title(a);
+        }
+        ServicePrimitive::DEndConfirmation(n, a) => {
+            text(b"D-END confirmation");
+            result_name(n);
+            pdu_title(a);
+        }
+        ServicePrimitive::DAbortIndication(o, a) => {
+            text(b"D-ABORT indication");
+            noted(o == 0, b", user");
+            noted(o == 1, b", provider");
+            pdu_title(a);
+        }
+        ServicePrimitive::DPAbortIndication => text(b"D-P-ABORT indication"),
+    }
 }
 
-fn table(side: Side, active: bool, reversed: bool) {
-    let v = View {
-        side,
-        active,
-        reversed,
-    };
-    user_rows(v, false);
-    user_rows(v, true);
-    message_rows(v);
-    abort_rows(v);
-    start_rows(v, 0);
-    start_rows(v, 1);
-    started_rows(v, 0);
-    started_rows(v, 1);
-    started_rows(v, 2);
-    pdu_rows(v, Apdu::Send);
-    pdu_rows(v, Apdu::Start(false));
-    pdu_rows(v, Apdu::NotValid);
-    pdu_rows(v, Apdu::Absent);
-    aborted_rows(v, 0);
-    aborted_rows(v, 1);
-    p_aborted(v);
+fn event_title(policy: u64, e: Event) {
+    match e {
+        Event::User(u) => user_title(u),
+        Event::Service(p) => service_title(policy, p),
+        Event::TimerExpires => text(b"timer expires"),
+        Event::UnrecoverableSystemError => text(b"system error"),
+    }
+}
+
+// ---- the tables
+
+fn cell(v: View, n: u64, e: Event) {
+    let side = v.side;
+    let r = record_of(v, n);
+    let state = state_of(n);
+    text(b"  ");
+    place(state, n % 2 == 1);
+    text(b": ");
+    show_outcome(machine::step(side, r, e));
+}
+
+fn row(v: View, e: Event) {
+    view_title(v);
+    event_title(v.policy, e);
+    text(b"\n");
+    let mut n: u64 = 0;
+    while n < PLACES {
+        cell(v, n, e);
+        n += 1;
+    }
+}
+
+fn rows(v: View, kind: u64) {
+    let most = events_of(kind);
+    let mut n: u64 = 0;
+    while n < most {
+        row(v, event_of(v.policy, kind, n));
+        n += 1;
+    }
+}
+
+fn table(v: View) {
+    let mut kind: u64 = 0;
+    while kind < KINDS {
+        rows(v, kind);
+        kind += 1;
+    }
 }
 
 // ---- document 01's examples of jobs
 
-// One event after another: prints the outcome and hands back the record.
-fn then(r: Record, name: &[u8], e: Event) -> Record {
-    text(b"  ");
-    text(name);
-    text(b": ");
-    let o = machine::step(Side::Air, r, e);
-    show_outcome(o);
-    let n = o.next;
-    n
-}
-
-fn then_user(r: Record, name: &[u8], u: UserPrimitive) -> Record {
-    then(r, name, Event::User(u))
-}
-
-fn then_service(r: Record, name: &[u8], p: ServicePrimitive) -> Record {
-    then(r, name, Event::Service(p))
-}
-
-fn dialogue(r: Record) -> Record {
-    let s = then_user(
-        r,
-        b"CPDLC-start request",
-        UserPrimitive::StartServiceRequest(false, 0, 0),
-    );
-    then_service(
-        s,
-        b"D-START confirmation",
-        confirmation(0, 0, 0, Apdu::Send),
-    )
-}
-
-fn seven(r: Record) -> Record {
-    then_user(r, b"job 7", UserPrimitive::MessageServiceRequest(true, 7))
-}
-
-fn close(r: Record) -> Record {
-    let s = then_service(
-        r,
-        b"D-END indication",
-        ServicePrimitive::DEndIndication(Apdu::Send),
-    );
-    then_user(
-        s,
-        b"CPDLC-end response",
-        UserPrimitive::EndServiceResponse(false, 0),
-    )
-}
+const STEPS: u64 = 10;
 
 // Job 7 refused with 3, then 7 in DIALOGUE, then 7 again; and 7 in the next dialogue.
-fn jobs() {
-    text(b"jobs at the air machine\n");
-    let a = seven(Record::fresh(Configuration { policy: 0 }));
-    let b = seven(seven(dialogue(a)));
-    seven(dialogue(close(b)));
+fn job_event(n: u64) -> Event {
+    match n {
+        1 => Event::User(UserPrimitive::StartServiceRequest(false, 0, 0)),
+        2 => Event::Service(confirmation(0, 0, 0, Apdu::Send)),
+        5 => Event::Service(ServicePrimitive::DEndIndication(Apdu::Send)),
+        6 => Event::User(UserPrimitive::EndServiceResponse(false, 0)),
+        7 => Event::User(UserPrimitive::StartServiceRequest(false, 0, 0)),
+        8 => Event::Service(confirmation(0, 0, 0, Apdu::Send)),
+        _ => Event::User(UserPrimitive::MessageServiceRequest(true, 7)),
+    }
 }
 
-fn tables(side: Side) {
-    table(side, true, false);
-    table(side, false, false);
-    table(side, true, true);
+// One event after another, from a fresh record.
+fn jobs() {
+    text(b"jobs at the air machine\n");
+    let mut r = Record::fresh(Configuration { policy: 0 });
+    let mut n: u64 = 0;
+    while n < STEPS {
+        let e = job_event(n);
+        text(b"  ");
+        event_title(0, e);
+        text(b": ");
+        let o = machine::step(Side::Air, r, e);
+        show_outcome(o);
+        r = o.next;
+        n += 1;
+    }
 }
 
 fn main() {
-    tables(Side::Air);
-    tables(Side::Ground);
+    let mut n: u64 = 0;
+    while n < VIEWS {
+        table(view_of(n));
+        n += 1;
+    }
     jobs();
 }

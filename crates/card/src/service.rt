@@ -3,7 +3,7 @@ ghost use mathlib.Core.Path.{_≡_};
 ghost use mathlib.Core.List.{[]};
 ghost use Rattle.step.specs.Call.{called, serviceCall};
 use machine::event::Qos;
-use step::Arrived;
+use machine::event::ServicePrimitive;
 use step::service_call;
 
 // D-START indication: its calling peer, security, and quality of service as received.
@@ -20,14 +20,14 @@ pub extern "C" fn peat_d_start_indication(
     first: &mut [u8],
     second: &mut [u8],
 ) -> u64
-    ensures { λ n. ⌜ called n (now (rec .exit)) (now (first .exit)) (now (second .exit)) ≡ serviceCall (now (rec .entry)) (now (first .entry)) (now (second .entry)) (Arrived.DStartIndication peer security (record { priority = priority; rer = rate; routing = routing })) given (now (bytes .entry)) ⌝ }
+    ensures { λ n. ⌜ called n (now (rec .exit)) (now (first .exit)) (now (second .exit)) ≡ serviceCall (now (rec .entry)) (now (first .entry)) (now (second .entry)) (ServicePrimitive.DStartIndication peer security (record { priority = priority; rer = rate; routing = routing })) given (now (bytes .entry)) ⌝ }
 {
     let qos = Qos {
         priority,
         rer: rate,
         routing,
     };
-    let p = Arrived::DStartIndication(peer, security, qos);
+    let p = ServicePrimitive::DStartIndication(peer, security, qos);
     service_call(rec, first, second, p, given, bytes)
 }
 
@@ -43,13 +43,13 @@ pub extern "C" fn peat_d_start_confirmation(
     first: &mut [u8],
     second: &mut [u8],
 ) -> u64
-    ensures { λ n. ⌜ called n (now (rec .exit)) (now (first .exit)) (now (second .exit)) ≡ serviceCall (now (rec .entry)) (now (first .entry)) (now (second .entry)) (Arrived.DStartConfirmation result source security) given (now (bytes .entry)) ⌝ }
+    ensures { λ n. ⌜ called n (now (rec .exit)) (now (first .exit)) (now (second .exit)) ≡ serviceCall (now (rec .entry)) (now (first .entry)) (now (second .entry)) (ServicePrimitive.DStartConfirmation result source security) given (now (bytes .entry)) ⌝ }
 {
     service_call(
         rec,
         first,
         second,
-        Arrived::DStartConfirmation(result, source, security),
+        ServicePrimitive::DStartConfirmation(result, source, security),
         given,
         bytes,
     )
@@ -64,9 +64,16 @@ pub extern "C" fn peat_d_data_indication(
     first: &mut [u8],
     second: &mut [u8],
 ) -> u64
-    ensures { λ n. ⌜ called n (now (rec .exit)) (now (first .exit)) (now (second .exit)) ≡ serviceCall (now (rec .entry)) (now (first .entry)) (now (second .entry)) Arrived.DDataIndication given (now (bytes .entry)) ⌝ }
+    ensures { λ n. ⌜ called n (now (rec .exit)) (now (first .exit)) (now (second .exit)) ≡ serviceCall (now (rec .entry)) (now (first .entry)) (now (second .entry)) ServicePrimitive.DDataIndication given (now (bytes .entry)) ⌝ }
 {
-    service_call(rec, first, second, Arrived::DDataIndication, given, bytes)
+    service_call(
+        rec,
+        first,
+        second,
+        ServicePrimitive::DDataIndication,
+        given,
+        bytes,
+    )
 }
 
 // D-END indication.
@@ -78,9 +85,16 @@ pub extern "C" fn peat_d_end_indication(
     first: &mut [u8],
     second: &mut [u8],
 ) -> u64
-    ensures { λ n. ⌜ called n (now (rec .exit)) (now (first .exit)) (now (second .exit)) ≡ serviceCall (now (rec .entry)) (now (first .entry)) (now (second .entry)) Arrived.DEndIndication given (now (bytes .entry)) ⌝ }
+    ensures { λ n. ⌜ called n (now (rec .exit)) (now (first .exit)) (now (second .exit)) ≡ serviceCall (now (rec .entry)) (now (first .entry)) (now (second .entry)) ServicePrimitive.DEndIndication given (now (bytes .entry)) ⌝ }
 {
-    service_call(rec, first, second, Arrived::DEndIndication, given, bytes)
+    service_call(
+        rec,
+        first,
+        second,
+        ServicePrimitive::DEndIndication,
+        given,
+        bytes,
+    )
 }
 
 // D-END confirmation.
@@ -93,13 +107,13 @@ pub extern "C" fn peat_d_end_confirmation(
     first: &mut [u8],
     second: &mut [u8],
 ) -> u64
-    ensures { λ n. ⌜ called n (now (rec .exit)) (now (first .exit)) (now (second .exit)) ≡ serviceCall (now (rec .entry)) (now (first .entry)) (now (second .entry)) (Arrived.DEndConfirmation result) given (now (bytes .entry)) ⌝ }
+    ensures { λ n. ⌜ called n (now (rec .exit)) (now (first .exit)) (now (second .exit)) ≡ serviceCall (now (rec .entry)) (now (first .entry)) (now (second .entry)) (ServicePrimitive.DEndConfirmation result) given (now (bytes .entry)) ⌝ }
 {
     service_call(
         rec,
         first,
         second,
-        Arrived::DEndConfirmation(result),
+        ServicePrimitive::DEndConfirmation(result),
         given,
         bytes,
     )
@@ -115,13 +129,13 @@ pub extern "C" fn peat_d_abort_indication(
     first: &mut [u8],
     second: &mut [u8],
 ) -> u64
-    ensures { λ n. ⌜ called n (now (rec .exit)) (now (first .exit)) (now (second .exit)) ≡ serviceCall (now (rec .entry)) (now (first .entry)) (now (second .entry)) (Arrived.DAbortIndication originator) given (now (bytes .entry)) ⌝ }
+    ensures { λ n. ⌜ called n (now (rec .exit)) (now (first .exit)) (now (second .exit)) ≡ serviceCall (now (rec .entry)) (now (first .entry)) (now (second .entry)) (ServicePrimitive.DAbortIndication originator) given (now (bytes .entry)) ⌝ }
 {
     service_call(
         rec,
         first,
         second,
-        Arrived::DAbortIndication(originator),
+        ServicePrimitive::DAbortIndication(originator),
         given,
         bytes,
     )
@@ -134,8 +148,15 @@ pub extern "C" fn peat_d_p_abort_indication(
     first: &mut [u8],
     second: &mut [u8],
 ) -> u64
-    ensures { λ n. ⌜ called n (now (rec .exit)) (now (first .exit)) (now (second .exit)) ≡ serviceCall (now (rec .entry)) (now (first .entry)) (now (second .entry)) Arrived.DPAbortIndication 0 [] ⌝ }
+    ensures { λ n. ⌜ called n (now (rec .exit)) (now (first .exit)) (now (second .exit)) ≡ serviceCall (now (rec .entry)) (now (first .entry)) (now (second .entry)) ServicePrimitive.DPAbortIndication 0 [] ⌝ }
 {
     let empty = [0u8; 0];
-    service_call(rec, first, second, Arrived::DPAbortIndication, 0, &empty)
+    service_call(
+        rec,
+        first,
+        second,
+        ServicePrimitive::DPAbortIndication,
+        0,
+        &empty,
+    )
 }

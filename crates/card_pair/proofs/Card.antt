@@ -7,20 +7,17 @@ use native.Mathlib.Omega.{arith}
 use borrow.Author.Tests.{lt-ltb}
 use lib.Dec.{T, ltb}
 use lib.ListN.{length}
-use Rattle.machine.specs.Codes.{securityValues, noSecurity, transient, dsProvider}
+use Rattle.machine.specs.Codes.{securityValues}
 use Rattle.machine.specs.declared.record.Record.{Record}
-use Rattle.machine.specs.declared.event.Apdu.the-variants.{Absent}
 use Rattle.machine.specs.declared.event.Event.the-variants.{TimerExpires, UnrecoverableSystemError}
-use Rattle.machine.specs.declared.event.ServicePrimitive.the-variants as service
+use Rattle.machine.specs.declared.event.ServicePrimitive.the-variants.{DPAbortIndication}
 use Rattle.step.specs.Stored.{recordBytes}
-use Rattle.step.specs.Call.{arrives}
-use Rattle.step.specs.declared.arrived.Arrived.the-variants.{DStartConfirmation, DPAbortIndication}
 use Rattle.step.proofs.Refusing.{Leaves, user-leaves}
 use Rattle.card.specs.Face.{freshCall}
 use Rattle.pair.specs.Names.{Side, Air, Ground, other}
 use Rattle.pair.specs.Carrier.{Sys, Turn, fresh, run}
-use Rattle.pair.specs.Wires.{Wire, sortOf}
-use Rattle.pair.proofs.StepMachine.{rejects, stepMachine}
+use Rattle.pair.specs.Wires.{Wire, sortOf, rejects}
+use Rattle.pair.proofs.StepMachine.{stepMachine}
 use Rattle.pair.proofs.Agree.{Agree, does}
 use Rattle.pair.proofs.Any.{carried, followed, taken-once}
 use Rattle.pair.proofs.Simulate.{Run}
@@ -33,14 +30,6 @@ use Rattle.card_pair.proofs.Entries.{KeepsAt, Carries}
 use Rattle.card_pair.proofs.CardCalls.{call-rel, report-rel}
 use Rattle.card_pair.proofs.CardReceives.{receive-rel, bare-rel}
 use Rattle.card_pair.proofs.Beginnings.{begins-keeps, begins-idle, begins-local, begins-valid, fresh-begins, fresh-highest}
-
-pub confirmation : arrives (DStartConfirmation transient dsProvider noSecurity) Absent ≡ rejects
-unfolding arrives
-confirmation = refl
-
-pub lost : arrives DPAbortIndication Absent ≡ service.DPAbortIndication
-unfolding arrives
-lost = refl
 
 -- What the machine says of a refused call is what the call does: the record's bytes and both buffers stay. (Of a primitive, an expiry and a system
 -- error: crate step, Refusing.)
@@ -65,8 +54,8 @@ module _ (p : ℕ) (host : Side → ℕ → Buffers) where
     receive-is = λ (sd : Side) (r : Kept) (q : Record) (e f : Wire) (h : KeepsAt sd r q) (x : Carries (other sd) e f). receive-rel (r .calls) (r .bytes) (host sd (r .calls)) sd q h e f x;
     expiry-is = λ (sd : Side) (r : Kept) (q : Record) (h : KeepsAt sd r q). does tt (report-rel p (r .calls) (r .bytes) (host sd (r .calls)) sd q h TimerExpires tt refl refl refl);
     error-is = λ (sd : Side) (r : Kept) (q : Record) (h : KeepsAt sd r q). does tt (report-rel p (r .calls) (r .bytes) (host sd (r .calls)) sd q h UnrecoverableSystemError tt refl refl refl);
-    away-is = λ (sd : Side) (r : Kept) (q : Record) (h : KeepsAt sd r q). bare-rel (r .calls) (r .bytes) (host sd (r .calls)) sd q h (DStartConfirmation transient dsProvider noSecurity) rejects confirmation refl;
-    p-abort-is = λ (sd : Side) (r : Kept) (q : Record) (h : KeepsAt sd r q). bare-rel (r .calls) (r .bytes) (host sd (r .calls)) sd q h DPAbortIndication service.DPAbortIndication lost refl;
+    away-is = λ (sd : Side) (r : Kept) (q : Record) (h : KeepsAt sd r q). bare-rel (r .calls) (r .bytes) (host sd (r .calls)) sd q h rejects;
+    p-abort-is = λ (sd : Side) (r : Kept) (q : Record) (h : KeepsAt sd r q). bare-rel (r .calls) (r .bytes) (host sd (r .calls)) sd q h DPAbortIndication;
   }
 
   -- ---- from any two IDLE records, as the host keeps them

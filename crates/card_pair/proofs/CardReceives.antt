@@ -1,6 +1,6 @@
 -- An entry that is handed over does at the record's bytes what it does at the record: its bytes are read as the side that sent them wrote them.
 -- Assumes nothing.
-use mathlib.Core.Path.{_≡_, refl, sym, subst, _∙_}
+use mathlib.Core.Path.{_≡_, refl, sym, subst}
 use mathlib.Core.Bool.{Bool, true, false, cond}
 use mathlib.Core.List.{List, []}
 use Prim.Native.Nat.{ℕ}
@@ -21,7 +21,7 @@ use Rattle.apdu.specs.declared.Answer.the-variants as answer
 use Rattle.apdu.specs.Pdus.{forwarded}
 use Rattle.apdu.proofs.Theorems.{accepted-encoding}
 use Rattle.machine.specs.Codes.{provider}
-use Rattle.machine.specs.Primitives.{isSend}
+use Rattle.machine.specs.Apdus.{isSend}
 use Rattle.machine.specs.Step.{step}
 use Rattle.machine.specs.declared.record.Record.{Record}
 use Rattle.machine.specs.declared.event.Apdu.{Apdu}
@@ -31,15 +31,13 @@ use Rattle.machine.specs.declared.event.Event.the-variants.{Service}
 use Rattle.machine.specs.declared.outcome.Invoked.{Invoked}
 use Rattle.machine.specs.declared.outcome.Invoked.the-variants.{Silent, DStartRequest, DStartResponse, DDataRequest, DEndRequest, DEndResponse, DAbortRequest}
 use Rattle.step.specs.Call.{Called, pduSide, noData, readsAs, readsAgain, orAbort, readPdu, meaning, dataOf, dataStep, bareStep, serviceStep, serviceCall, concluded}
-use Rattle.step.specs.Call as L
-use Rattle.step.specs.declared.arrived.Arrived.{Arrived}
-use Rattle.step.proofs.Taken.{never, apduIn}
+use Rattle.step.proofs.Taken.{never}
 use Rattle.pair.specs.Names.{Side, Air, Ground, other}
 use Rattle.pair.specs.Carrier.{Body}
-use Rattle.pair.specs.Wires.{Wire}
-use Rattle.pair.proofs.StepMachine.{arrives, apduOf, bodyOf, happens}
+use Rattle.pair.specs.Wires.{Wire, arrives}
+use Rattle.pair.proofs.StepMachine.{apduOf, bodyOf, happens}
 use Rattle.pair.proofs.Agree.{OutRel}
-use Rattle.card_pair.specs.CardMachine.{Buffers, simply, arrivedAs}
+use Rattle.card_pair.specs.CardMachine.{Buffers, simply}
 use Rattle.card_pair.proofs.Codec.{readOf, cardCodec}
 use Rattle.card_pair.proofs.Ends.{Keeps}
 use Rattle.card_pair.proofs.Entries.{isRead, KeepsAt, Carries, happens-rel}
@@ -57,7 +55,7 @@ again : (b : Bool) (x y : Answer) → isRead x ≡ true → cond b (orAbort x y)
 again true x y e = or-first x y e
 again false x y e = refl
 
-pub reads-once : (sd : Side) (i : Invoked) (l : List ℕ) → isRead (apduAt (pduSide (other sd)) l 0) ≡ true → readPdu sd (arrivedAs sd i) l ≡ apduAt (pduSide (other sd)) l 0
+pub reads-once : (sd : Side) (i : Invoked) (l : List ℕ) → isRead (apduAt (pduSide (other sd)) l 0) ≡ true → readPdu sd (arrives sd i) l ≡ apduAt (pduSide (other sd)) l 0
 unfolding readPdu readsAs readsAgain
 reads-once Air i l e = refl
 reads-once Ground Silent l e = refl
@@ -68,17 +66,7 @@ reads-once Ground DEndRequest l e = refl
 reads-once Ground (DEndResponse x) l e = refl
 reads-once Ground (DAbortRequest o) l e = again (eqb o provider) (apduAt pdu.Air l 0) (apduAt pdu.Ground l 0) e
 
--- ---- the primitive, its APDU and its message data
-
-arrives-same : (sd : Side) (i : Invoked) (a : Apdu) → L.arrives (arrivedAs sd i) a ≡ arrives sd i a
-unfolding L.arrives
-arrives-same sd Silent a = refl
-arrives-same sd (DStartRequest q s) a = refl
-arrives-same sd (DStartResponse x s) a = refl
-arrives-same sd DDataRequest a = refl
-arrives-same sd DEndRequest a = refl
-arrives-same sd (DEndResponse x) a = refl
-arrives-same sd (DAbortRequest o) a = refl
+-- ---- the APDU and its message data
 
 apdu-same : (l : List ℕ) (x : Answer) → meaning x ≡ apduOf (readOf l x)
 unfolding meaning pduIn
@@ -100,16 +88,6 @@ body-same l (answer.Is (is.Send d)) e = refl
 body-same l (answer.Is is.Forward) e = never e
 body-same l (answer.Is is.ForwardResponse) e = never e
 
--- only a D-DATA, a start, an end and their answers hold an APDU; it is the one that was read
-apdu-in : (sd : Side) (i : Invoked) (a : Apdu) → isSend (apduIn (arrives sd i a)) ≡ true → isSend a ≡ true
-apdu-in sd Silent a e = never e
-apdu-in sd (DStartRequest q s) a e = e
-apdu-in sd (DStartResponse x s) a e = e
-apdu-in sd DDataRequest a e = e
-apdu-in sd DEndRequest a e = e
-apdu-in sd (DEndResponse x) a e = e
-apdu-in sd (DAbortRequest o) a e = e
-
 -- message data that were read are within the sizes
 data-shaped : (side : PduSide) (l : List ℕ) → Bits l → (x : Answer) → apduAt side l 0 ≡ x → dataShaped l l l (dataOf x) ≡ true
 unfolding dataOf apduShaped forwarded
@@ -124,45 +102,43 @@ data-shaped side l b (answer.Is is.ForwardResponse) e = none-shaped l l l
 -- ---- calls
 
 module _ (n : ℕ) (r : List ℕ) (w : Buffers) (sd : Side) (q : Record) (keeps : Keeps sd r q) where
-  -- the call c does what the primitive p with the message data x does at the record
-  abbrev Does : Called → ServicePrimitive → Body → Type 0
-  Does c p x = OutRel (KeepsAt sd) (Carries sd) (simply n c) (happens cardCodec sd (step sd q (Service p)) x)
+  -- the call c does what the primitive p with the APDU a and the message data x does at the record
+  abbrev Does : Called → ServicePrimitive → Apdu → Body → Type 0
+  Does c p a x = OutRel (KeepsAt sd) (Carries sd) (simply n c) (happens cardCodec sd (step sd q (Service p a)) x)
 
   -- the call when the user data in the bits l is read as x
   abbrev Read-as : Invoked → List ℕ → Answer → Called
-  Read-as i l x = concluded r (w .first) (w .second) sd (step sd q (Service (L.arrives (arrivedAs sd i) (meaning x)))) l l l (dataOf x)
+  Read-as i l x = concluded r (w .first) (w .second) sd (step sd q (Service (arrives sd i) (meaning x))) l l l (dataOf x)
 
-  reading : (i : Invoked) (l : List ℕ) (x : Answer) → Bits l → dataShaped l l l (dataOf x) ≡ true → Does (Read-as i l x) (arrives sd i (apduOf (readOf l x))) (bodyOf (readOf l x))
+  reading : (i : Invoked) (l : List ℕ) (x : Answer) → Bits l → dataShaped l l l (dataOf x) ≡ true → Does (Read-as i l x) (arrives sd i) (apduOf (readOf l x)) (bodyOf (readOf l x))
   reading i l x b sh =
-      subst (λ (a : Apdu). Does (Read-as i l x) (arrives sd i a) (bodyOf (readOf l x))) (apdu-same l x)
-      (subst (λ (p : ServicePrimitive). Does (concluded r (w .first) (w .second) sd (step sd q (Service p)) l l l (dataOf x)) (arrives sd i (meaning x)) (bodyOf (readOf l x))) (sym (arrives-same sd i (meaning x)))
-      (happens-rel r w sd q (Service (arrives sd i (meaning x))) l l l (dataOf x) keeps b b b sh n (bodyOf (readOf l x)) tt refl refl (λ e. body-same l x (apdu-in sd i (meaning x) e))))
+      subst (λ (a : Apdu). Does (Read-as i l x) (arrives sd i) a (bodyOf (readOf l x))) (apdu-same l x)
+      (happens-rel r w sd q (Service (arrives sd i) (meaning x)) l l l (dataOf x) keeps b b b sh n (bodyOf (readOf l x)) tt refl refl (body-same l x))
 
   -- as the other side wrote it
   abbrev heard : List ℕ → Answer
   heard l = apduAt (pduSide (other sd)) l 0
 
   abbrev Does-as : Called → Invoked → List ℕ → Type 0
-  Does-as c i l = Does c (arrives sd i (apduOf (readOf l (heard l)))) (bodyOf (readOf l (heard l)))
+  Does-as c i l = Does c (arrives sd i) (apduOf (readOf l (heard l))) (bodyOf (readOf l (heard l)))
 
-  received : (i : Invoked) (s : List ℕ) → isRead (heard (lent s)) ≡ true → Does-as (serviceCall r (w .first) (w .second) (arrivedAs sd i) 1 s) i (lent s)
+  received : (i : Invoked) (s : List ℕ) → isRead (heard (lent s)) ≡ true → Does-as (serviceCall r (w .first) (w .second) (arrives sd i) 1 s) i (lent s)
   unfolding serviceCall serviceStep dataStep
   received i s e =
-      subst (λ (c : Called). Does-as c i (lent s)) (sym (entered r w sd q keeps (serviceStep r (w .first) (w .second) (arrivedAs sd i) 1 (lent s))))
+      subst (λ (c : Called). Does-as c i (lent s)) (sym (entered r w sd q keeps (serviceStep r (w .first) (w .second) (arrives sd i) 1 (lent s))))
       (subst (λ (x : Answer). Does-as (Read-as i (lent s) x) i (lent s)) (sym (reads-once sd i (lent s) e))
       (reading i (lent s) (heard (lent s)) (bits-to s allBits) (data-shaped (pduSide (other sd)) (lent s) (bits-to s allBits) (heard (lent s)) refl)))
 
   pub receive-rel : (e f : Wire) → Carries (other sd) e f
-      → OutRel (KeepsAt sd) (Carries sd) (simply n (serviceCall r (w .first) (w .second) (arrivedAs sd (e .primitive)) 1 (e .bytes))) (happens cardCodec sd (step sd q (Service (arrives sd (f .primitive) (apduOf (cardCodec .dec (other sd) (f .bytes)))))) (bodyOf (cardCodec .dec (other sd) (f .bytes))))
+      → OutRel (KeepsAt sd) (Carries sd) (simply n (serviceCall r (w .first) (w .second) (arrives sd (e .primitive)) 1 (e .bytes))) (happens cardCodec sd (step sd q (Service (arrives sd (f .primitive)) (apduOf (cardCodec .dec (other sd) (f .bytes))))) (bodyOf (cardCodec .dec (other sd) (f .bytes))))
   receive-rel e f h =
-      subst (λ (l : List ℕ). Does-as (serviceCall r (w .first) (w .second) (arrivedAs sd (e .primitive)) 1 (e .bytes)) (f .primitive) l) (h .bits)
-      (subst (λ (i : Invoked). Does-as (serviceCall r (w .first) (w .second) (arrivedAs sd (e .primitive)) 1 (e .bytes)) i (lent (e .bytes))) (h .primitive)
+      subst (λ (l : List ℕ). Does-as (serviceCall r (w .first) (w .second) (arrives sd (e .primitive)) 1 (e .bytes)) (f .primitive) l) (h .bits)
+      (subst (λ (i : Invoked). Does-as (serviceCall r (w .first) (w .second) (arrives sd (e .primitive)) 1 (e .bytes)) i (lent (e .bytes))) (h .primitive)
       (received (e .primitive) (e .bytes) (subst (λ (l : List ℕ). isRead (heard l) ≡ true) (sym (h .bits)) (h .read))))
 
   -- without user data
-  pub bare-rel : (p : Arrived) (s : ServicePrimitive) → L.arrives p Absent ≡ s → isSend (apduIn s) ≡ false → OutRel (KeepsAt sd) (Carries sd) (simply n (serviceCall r (w .first) (w .second) p 0 [])) (happens cardCodec sd (step sd q (Service s)) [])
+  pub bare-rel : (p : ServicePrimitive) → OutRel (KeepsAt sd) (Carries sd) (simply n (serviceCall r (w .first) (w .second) p 0 [])) (happens cardCodec sd (step sd q (Service p Absent)) [])
   unfolding serviceCall serviceStep bareStep
-  bare-rel p s e f =
-      subst (λ (c : Called). Does c s []) (sym (entered r w sd q keeps (serviceStep r (w .first) (w .second) p 0 (lent []))))
-      (subst (λ (z : ServicePrimitive). Does (concluded r (w .first) (w .second) sd (step sd q (Service z)) (lent []) (lent []) (lent []) noData) s []) (sym e)
-      (happens-rel r w sd q (Service s) (lent []) (lent []) (lent []) noData keeps (bits-to [] allBits) (bits-to [] allBits) (bits-to [] allBits) (none-shaped (lent []) (lent []) (lent [])) n [] tt refl refl (λ g. never (sym f ∙ g))))
+  bare-rel p =
+      subst (λ (c : Called). Does c p Absent []) (sym (entered r w sd q keeps (serviceStep r (w .first) (w .second) p 0 (lent []))))
+      (happens-rel r w sd q (Service p Absent) (lent []) (lent []) (lent []) noData keeps (bits-to [] allBits) (bits-to [] allBits) (bits-to [] allBits) (none-shaped (lent []) (lent []) (lent [])) n [] tt refl refl (λ g. never g))

@@ -26,7 +26,7 @@ use Rattle.apdu.proofs.Theorems.{front, writes}
 use Rattle.machine.specs.Codes.{securityValues}
 use Rattle.machine.specs.Outcome.{isNone, refusalNumber}
 use Rattle.machine.specs.declared.event.Qos.{Qos}
-use Rattle.machine.specs.Primitives.{isSend}
+use Rattle.machine.specs.Apdus.{isSend}
 use Rattle.machine.specs.declared.record.Record.{Record}
 use Rattle.machine.specs.declared.event.Apdu.{Apdu}
 use Rattle.machine.specs.declared.event.Apdu.the-variants.{Absent, NotValid, Start, Send, AbortUser, AbortProvider, Forward}

@@ -17,12 +17,14 @@ use Rattle.apdu.specs.Pdus.{partIn, contentIn, pduIn}
 use Rattle.apdu.specs.Reading.{optionalAt, partAt, partsAt, dataAt, modeValue, modeAt, kindMode, leadingAt, tailAt, endedAt, restAt, apduAt}
 use Rattle.apdu.specs.Writing.{itemsShaped, partShaped, dataShaped, apduShaped, writeOut}
 use Rattle.machine.specs.Calls.{answer, sent, startRequest, startResponse, messageRequest, endRequest, endResponse, userAbort, callOf, unsent, called}
-use Rattle.machine.specs.Event.{readable, qosFits, indicationShapely, confirmationShapely, userShapely, serviceShapely, shapely}
-use Rattle.machine.specs.Exceptions.{tell, closes, aborts, excepts, timerExpires, systemError, noInstruction, pduFault}
-use Rattle.machine.specs.Primitives.{handed, read, received, startFits, offered, dStartIndication, confirmed, dStartConfirmation, dDataIndication, dEndIndication, dEndConfirmation, abortExpected, dAbortIndication, dPAbortIndication, reached}
+use Rattle.machine.specs.Apdus.{readable}
+use Rattle.machine.specs.Event.{qosFits, userShapely, serviceShapely, shapely}
+use Rattle.machine.specs.Exceptions.{tell, closes, aborts, excepts, timerExpires, systemError, noInstruction}
+use Rattle.machine.specs.Faults.{pduFault, sendFault, abortFault, startFits, indicationFault, confirmationFault, firstFault}
+use Rattle.machine.specs.Primitives.{handed, instructed, answered, reached}
 use Rattle.machine.specs.Record.{enter}
 use Rattle.machine.specs.Step.{permitted, messageRefusal, refusalOf, acts, step}
-use Rattle.step.specs.Call.{firstTakes, secondTakes, finished, concluded, withRecord, entering, userStep, userCall, readsAs, readsAgain, abortOf, orAbort, readPdu, meaning, dataOf, arrives, dataStep, bareStep, serviceStep, serviceCall}
+use Rattle.step.specs.Call.{firstTakes, secondTakes, finished, concluded, withRecord, entering, userStep, userCall, readsAs, readsAgain, abortOf, orAbort, readPdu, meaning, dataOf, dataStep, bareStep, serviceStep, serviceCall}
 use Rattle.step.specs.Packed.{invokedNumber, toldNumber, packed}
 use Rattle.step.specs.Stored.{recordBytes, headBytes, storedBytes, headFits, withHighest, loadAt, storeAt}
 use Rattle.card.specs.Face.{noCount, partOf, givenData, freshFor, freshCall}
@@ -163,5 +165,5 @@ rows =
     (view (seen closed (wire (DAbortRequest 0) (3 ∷ []) ∷ []) (bodyGiven (text 96) ∷ bodyGiven (text 97) ∷ []) (bodyGiven (text 80) ∷ []) (1 ∷ 2 ∷ [])) (seen (entered Dialogue false) [] (bodyGiven (text 80) ∷ []) (bodyGiven (text 96) ∷ []) (1 ∷ [])) true) ∷ []
 
 pub all-as-said : seenIn rows ≡ saidIn rows
-unfolding bitsN bitsOf accOf bitsTo bytesOf withBit setBit putBits readBits wholeBits indexBits lengthBits bitField extensionBit digitsIn wholeNumber extensibleIndex lengthAt lengthWithin runAt stringAt stringBits optionalBits optionalFits contentBits contentFits modeBits modeFits pduBits pduFits padded partIn contentIn pduIn optionalAt partAt partsAt dataAt modeValue modeAt kindMode leadingAt tailAt endedAt restAt apduAt itemsShaped partShaped dataShaped apduShaped writeOut answer sent startRequest startResponse messageRequest endRequest endResponse userAbort callOf unsent called readable qosFits indicationShapely confirmationShapely userShapely serviceShapely shapely tell closes aborts excepts timerExpires systemError noInstruction pduFault handed read received startFits offered dStartIndication confirmed dStartConfirmation dDataIndication dEndIndication dEndConfirmation abortExpected dAbortIndication dPAbortIndication reached enter permitted messageRefusal refusalOf acts step firstTakes secondTakes finished concluded withRecord entering userStep userCall readsAs readsAgain abortOf orAbort readPdu meaning dataOf arrives dataStep bareStep serviceStep serviceCall invokedNumber toldNumber packed headBytes storedBytes headFits withHighest loadAt storeAt partOf givenData freshFor freshCall run
+unfolding bitsN bitsOf accOf bitsTo bytesOf withBit setBit putBits readBits wholeBits indexBits lengthBits bitField extensionBit digitsIn wholeNumber extensibleIndex lengthAt lengthWithin runAt stringAt stringBits optionalBits optionalFits contentBits contentFits modeBits modeFits pduBits pduFits padded partIn contentIn pduIn optionalAt partAt partsAt dataAt modeValue modeAt kindMode leadingAt tailAt endedAt restAt apduAt itemsShaped partShaped dataShaped apduShaped writeOut answer sent startRequest startResponse messageRequest endRequest endResponse userAbort callOf unsent called readable qosFits userShapely serviceShapely shapely tell closes aborts excepts timerExpires systemError noInstruction pduFault sendFault abortFault startFits indicationFault confirmationFault firstFault handed instructed answered reached enter permitted messageRefusal refusalOf acts step firstTakes secondTakes finished concluded withRecord entering userStep userCall readsAs readsAgain abortOf orAbort readPdu meaning dataOf dataStep bareStep serviceStep serviceCall invokedNumber toldNumber packed headBytes storedBytes headFits withHighest loadAt storeAt partOf givenData freshFor freshCall run
 all-as-said = refl

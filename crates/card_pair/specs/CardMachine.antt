@@ -7,22 +7,21 @@ use lib.ListN.{length}
 use Rattle.apdu.specs.Sizes.{bufferLeast}
 use Rattle.apdu.specs.Pdus.{lent, contentIn}
 use Rattle.apdu.specs.Encoding.{contentBits}
-use Rattle.machine.specs.Codes.{noSecurity, transient, dsProvider}
 use Rattle.machine.specs.declared.event.UserPrimitive.the-variants.{StartServiceRequest, StartServiceResponse, EndServiceRequest, EndServiceResponse}
 use Rattle.machine.specs.declared.event.Event.{Event}
 use Rattle.machine.specs.declared.event.Event.the-variants.{User, TimerExpires, UnrecoverableSystemError}
+use Rattle.machine.specs.declared.event.ServicePrimitive.{ServicePrimitive}
+use Rattle.machine.specs.declared.event.ServicePrimitive.the-variants.{DPAbortIndication}
 use Rattle.machine.specs.declared.outcome.Invoked.{Invoked}
 use Rattle.machine.specs.declared.outcome.Invoked.the-variants.{Silent, DStartRequest, DStartResponse, DDataRequest, DEndRequest, DEndResponse, DAbortRequest}
 use Rattle.step.specs.Stored.{loadAt}
 use Rattle.step.specs.Call.{Called, serviceCall}
-use Rattle.step.specs.declared.arrived.Arrived.{Arrived}
-use Rattle.step.specs.declared.arrived.Arrived.the-variants.{DStartIndication, DStartConfirmation, DDataIndication, DEndIndication, DEndConfirmation, DAbortIndication, DPAbortIndication}
 use Rattle.step.specs.declared.stored.Loaded.{Loaded}
 use Rattle.step.specs.declared.stored.Loaded.the-variants.{Is, NoRecord}
 use Rattle.card.specs.Face.{givenData, dataCall, plainCall, messageRequested, abortRequested}
 use Rattle.pair.specs.Names.{Side, Control, closed}
 use Rattle.pair.specs.Carrier.{Body, Sent, nothing, puts, message, Outcome, refused, acts, Machine}
-use Rattle.pair.specs.Wires.{Wire, sortOf, callerOf, dsUser}
+use Rattle.pair.specs.Wires.{Wire, sortOf, arrives, rejects}
 use Rattle.card_pair.specs.Answered.{isTaken, entryOf, handedOf}
 
 -- ---- what the host gives
@@ -109,18 +108,6 @@ left n c s = cond (isTaken (c .number)) (acts (record { bytes = c .kept; calls =
 abbrev pub simply : ℕ → Called → Outcome Kept Wire
 simply n c = left n c (sentOf c)
 
--- ---- primitives
-
--- what a primitive is at the other end, whose side is sd (nothing silent is on a line)
-abbrev pub arrivedAs : Side → Invoked → Arrived
-arrivedAs sd Silent = DPAbortIndication
-arrivedAs sd (DStartRequest q s) = DStartIndication (callerOf sd) s q
-arrivedAs sd (DStartResponse x s) = DStartConfirmation x dsUser s
-arrivedAs sd DDataRequest = DDataIndication
-arrivedAs sd DEndRequest = DEndIndication
-arrivedAs sd (DEndResponse x) = DEndConfirmation x
-arrivedAs sd (DAbortRequest o) = DAbortIndication o
-
 -- ---- the machine; p: the security value of both ends; host: the buffers that a side lends to its next call after so many
 
 abbrev pub controlIn : Loaded → Control
@@ -129,7 +116,7 @@ controlIn NoRecord = closed
 
 module _ (p : ℕ) (host : Side → ℕ → Buffers) where
   -- an exported call of a dialogue-service primitive, an expiry or a system error
-  abbrev pub arriving : Side → Kept → Arrived → ℕ → List ℕ → Outcome Kept Wire
+  abbrev pub arriving : Side → Kept → ServicePrimitive → ℕ → List ℕ → Outcome Kept Wire
   arriving sd r a given bytes = simply (r .calls) (serviceCall (r .bytes) (host sd (r .calls) .first) (host sd (r .calls) .second) a given bytes)
 
   abbrev pub reported : Side → Kept → Event → Outcome Kept Wire
@@ -146,9 +133,9 @@ module _ (p : ℕ) (host : Side → ℕ → Buffers) where
     ctl = λ (r : Kept). controlIn (loadAt (r .bytes));
     sort = λ (w : Wire). sortOf (w .primitive);
     call = asking;
-    receive = λ (sd : Side) (r : Kept) (w : Wire). arriving sd r (arrivedAs sd (w .primitive)) 1 (w .bytes);
+    receive = λ (sd : Side) (r : Kept) (w : Wire). arriving sd r (arrives sd (w .primitive)) 1 (w .bytes);
     expiry = λ (sd : Side) (r : Kept). reported sd r TimerExpires;
     error = λ (sd : Side) (r : Kept). reported sd r UnrecoverableSystemError;
-    away = λ (sd : Side) (r : Kept). arriving sd r (DStartConfirmation transient dsProvider noSecurity) 0 [];
+    away = λ (sd : Side) (r : Kept). arriving sd r rejects 0 [];
     pAbort = λ (sd : Side) (r : Kept). arriving sd r DPAbortIndication 0 [];
   }

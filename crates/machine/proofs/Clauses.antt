@@ -9,11 +9,13 @@ use borrow.Author.Tests.{le-leb, lt-leb, eqb-true, not-false}
 use Rattle.machine.specs.Codes.{accepted, user, undefined, userReasons, timerExpired, invalidPdu, protocolError, communicationServiceFailure, communicationServiceError, invalidQosParameter, expectedPduMissing, notPermittedPdu}
 use Rattle.control.specs.Control.{isIdle, takes, goes, sends, expects, after, isStart}
 use Rattle.machine.specs.Record.{withJob, enter}
-use Rattle.machine.specs.Event.{readable, qosFits, userShapely, serviceShapely, indicationShapely, confirmationShapely, shapely}
+use Rattle.machine.specs.Apdus.{modeOf, isSend, readable, abortFits}
+use Rattle.machine.specs.Event.{qosFits, userShapely, serviceShapely, shapely}
 use Rattle.machine.specs.Outcome.{isNone, refused}
-use Rattle.machine.specs.Exceptions.{tell, closes, aborts, excepts, timerExpires, systemError, noInstruction, pduFault}
+use Rattle.machine.specs.Exceptions.{tell, closes, aborts, excepts, timerExpires, systemError, noInstruction}
 use Rattle.machine.specs.Calls.{answer, sent, startRequest, startResponse, messageRequest, endRequest, endResponse, userAbort, callOf, unsent, called}
-use Rattle.machine.specs.Primitives.{modeOf, turnedAway, startFits, handed, read, received, offered, dStartIndication, confirmed, dStartConfirmation, dDataIndication, dEndIndication, dEndConfirmation, abortFits, abortExpected, dAbortIndication, dPAbortIndication, reached}
+use Rattle.machine.specs.Faults.{turnedAway, startFits, pduFault, sendFault, abortFault, indicationFault, confirmationFault, firstFault}
+use Rattle.machine.specs.Primitives.{handed, instructed, answered, reached}
 use Rattle.machine.specs.Step.{permitted, messageRefusal, refusalOf, acts, step}
 use Rattle.machine.proofs.Ways.{by-test}
 use Rattle.control.proofs.Moves.{idle-expects}
@@ -25,14 +27,15 @@ use Rattle.control.specs.declared.Primitive.the-variants.{DStart, DStartCnf, DD
 use Rattle.machine.specs.declared.record.Record.{Record}
 use Rattle.machine.specs.declared.event.Apdu.{Apdu}
 use Rattle.machine.specs.declared.event.Apdu.the-variants.{Absent, NotValid, AbortUser, Forward}
-use Rattle.machine.specs.declared.event.StartIndicationParameters.{StartIndicationParameters}
-use Rattle.machine.specs.declared.event.StartConfirmationParameters.{StartConfirmationParameters}
 use Rattle.machine.specs.declared.event.UserPrimitive.{UserPrimitive}
 use Rattle.machine.specs.declared.event.UserPrimitive.the-variants.{StartServiceRequest, StartServiceResponse, MessageServiceRequest, EndServiceRequest, EndServiceResponse, UserAbortServiceRequest}
 use Rattle.machine.specs.declared.event.ServicePrimitive.{ServicePrimitive}
 use Rattle.machine.specs.declared.event.ServicePrimitive.the-variants.{DStartIndication, DStartConfirmation, DDataIndication, DEndIndication, DEndConfirmation, DAbortIndication, DPAbortIndication}
 use Rattle.machine.specs.declared.event.Event.{Event}
 use Rattle.machine.specs.declared.event.Event.the-variants.{User, Service, TimerExpires, UnrecoverableSystemError}
+use Rattle.machine.specs.declared.event.Qos.{Qos}
+use Rattle.machine.specs.declared.faults.Fault.{Fault}
+use Rattle.machine.specs.declared.faults.Fault.the-variants.{NoFault, NoInstruction, Quality, TurnedAway, Security, Missing, Invalid, NotPermitted}
 use Rattle.machine.specs.declared.outcome.Refusal.the-variants.{None, Shape, Prohibited, NoMessage, Repeat}
 use Rattle.machine.specs.declared.outcome.Invoked.{Invoked}
 use Rattle.machine.specs.declared.outcome.Invoked.the-variants.{Silent, DStartRequest, DStartResponse, DDataRequest, DEndRequest, DEndResponse, DAbortRequest}
@@ -69,9 +72,14 @@ unfolding step refusalOf shapely userShapely permitted callOf messageRefusal uns
 job-taken sd r j s p h = rw (s, p, lt-leb j (r .highest) h)
 
 -- a dialogue-service primitive is never refused but for SHAPE
-pub service-taken : (sd : Side) (r : Record) (p : ServicePrimitive) → shapely (Service p) ≡ true → step sd r (Service p) ≡ reached sd r p
+pub service-taken : (sd : Side) (r : Record) (p : ServicePrimitive) (a : Apdu) → shapely (Service p a) ≡ true → step sd r (Service p a) ≡ reached sd r p a
 unfolding step refusalOf permitted messageRefusal acts
-service-taken sd r p s = rw s
+service-taken sd r p a s = rw s
+
+-- and its first fault decides what is done
+pub fault-answered : (sd : Side) (r : Record) (p : ServicePrimitive) (a : Apdu) (f : Fault) → shapely (Service p a) ≡ true → firstFault sd r p a ≡ f → step sd r (Service p a) ≡ answered r p a f
+unfolding reached
+fault-answered sd r p a f s e = service-taken sd r p a s ∙ ap (answered r p a) e
 
 -- ---- the control decides where a call leads
 
@@ -111,74 +119,74 @@ handed-after r p t = (refl, refl)
 
 -- ---- a PDU that is not valid where the peer is gone: no D-ABORT, the active user is told invalid-PDU
 
-pub end-unreadable : (sd : Side) (r : Record) → expects sd (r .control) (DEndCnf Accepted) ≡ true → step sd r (Service (DEndConfirmation accepted NotValid)) ≡ closes r (tell r (ProviderAbortIndication invalidPdu))
-unfolding step refusalOf shapely serviceShapely readable permitted messageRefusal acts reached dEndConfirmation received read pduFault excepts answer
-end-unreadable sd r e = rw e
+pub end-unreadable : (sd : Side) (r : Record) → expects sd (r .control) (DEndCnf Accepted) ≡ true → step sd r (Service (DEndConfirmation accepted) NotValid) ≡ closes r (tell r (ProviderAbortIndication invalidPdu))
+unfolding shapely serviceShapely readable firstFault sendFault pduFault answered excepts answer
+end-unreadable sd r e = fault-answered sd r (DEndConfirmation accepted) NotValid (Invalid false) refl (rw e)
 
-pub end-unreadable-silent : (sd : Side) (r : Record) → expects sd (r .control) (DEndCnf Accepted) ≡ true → step sd r (Service (DEndConfirmation accepted NotValid)) .invoked ≡ Silent
+pub end-unreadable-silent : (sd : Side) (r : Record) → expects sd (r .control) (DEndCnf Accepted) ≡ true → step sd r (Service (DEndConfirmation accepted) NotValid) .invoked ≡ Silent
 unfolding closes
 end-unreadable-silent sd r e = rw (end-unreadable sd r e)
 
-pub start-unreadable : (sd : Side) (r : Record) (k : StartConfirmationParameters) → confirmationShapely k ≡ true → expects sd (r .control) (DStartCnf Rejected) ≡ true → eqb (k .result) accepted ≡ false → turnedAway (k .result) (k .source) ≡ false → eqb (k .security) (r .request) ≡ true → k .apdu ≡ NotValid → step sd r (Service (DStartConfirmation k)) ≡ closes r (tell r (ProviderAbortIndication invalidPdu))
-unfolding step refusalOf shapely serviceShapely permitted messageRefusal acts reached dStartConfirmation confirmed read pduFault excepts answer closes tell enter
-start-unreadable sd r k s e x t q a = rw (s, x, e, t, q, a)
+pub start-unreadable : (sd : Side) (r : Record) (x o s : ℕ) → serviceShapely (DStartConfirmation x o s) ≡ true → expects sd (r .control) (DStartCnf Rejected) ≡ true → eqb x accepted ≡ false → turnedAway x o ≡ false → eqb s (r .request) ≡ true → step sd r (Service (DStartConfirmation x o s) NotValid) ≡ closes r (tell r (ProviderAbortIndication invalidPdu))
+unfolding shapely readable firstFault confirmationFault pduFault answered excepts answer
+start-unreadable sd r x o s h e n t y = fault-answered sd r (DStartConfirmation x o s) NotValid (Invalid false) (rw h) (rw (n, e, t, y))
 
 -- ---- a missing PDU: the APDU says expected-PDU-missing, the user is told not-permitted-PDU
 
-pub missing : (sd : Side) (r : Record) (p : Primitive) (i u : Bool) (t : Told) → expects sd (r .control) p ≡ true → received sd r p i u Absent t ≡ aborts r expectedPduMissing (tell r (ProviderAbortIndication notPermittedPdu))
-unfolding received read pduFault excepts
-missing sd r p i u t e = rw e
+pub missing : (sd : Side) (r : Record) (p : ServicePrimitive) → shapely (Service p Absent) ≡ true → firstFault sd r p Absent ≡ Missing → step sd r (Service p Absent) ≡ aborts r expectedPduMissing (tell r (ProviderAbortIndication notPermittedPdu))
+unfolding answered excepts
+missing sd r p s e = fault-answered sd r p Absent Missing s e
 
-pub missing-data : (sd : Side) (r : Record) → expects sd (r .control) DData ≡ true → step sd r (Service (DDataIndication Absent)) ≡ aborts r expectedPduMissing (tell r (ProviderAbortIndication notPermittedPdu))
-unfolding shapely serviceShapely readable reached dDataIndication
-missing-data sd r e = service-taken sd r (DDataIndication Absent) refl ∙ missing sd r DData true true _ e
+pub missing-data : (sd : Side) (r : Record) → expects sd (r .control) DData ≡ true → step sd r (Service DDataIndication Absent) ≡ aborts r expectedPduMissing (tell r (ProviderAbortIndication notPermittedPdu))
+unfolding shapely serviceShapely readable firstFault sendFault pduFault
+missing-data sd r e = missing sd r DDataIndication refl (rw e)
 
-pub missing-end : (sd : Side) (r : Record) → expects sd (r .control) DEnd ≡ true → step sd r (Service (DEndIndication Absent)) ≡ aborts r expectedPduMissing (tell r (ProviderAbortIndication notPermittedPdu))
-unfolding shapely serviceShapely readable reached dEndIndication
-missing-end sd r e = service-taken sd r (DEndIndication Absent) refl ∙ missing sd r DEnd true true _ e
+pub missing-end : (sd : Side) (r : Record) → expects sd (r .control) DEnd ≡ true → step sd r (Service DEndIndication Absent) ≡ aborts r expectedPduMissing (tell r (ProviderAbortIndication notPermittedPdu))
+unfolding shapely serviceShapely readable firstFault sendFault pduFault
+missing-end sd r e = missing sd r DEndIndication refl (rw e)
 
-pub missing-end-confirmation : (sd : Side) (r : Record) (x : ℕ) → ltb x 2 ≡ true → expects sd (r .control) (DEndCnf (answer x)) ≡ true → step sd r (Service (DEndConfirmation x Absent)) ≡ aborts r expectedPduMissing (tell r (ProviderAbortIndication notPermittedPdu))
-unfolding step refusalOf shapely serviceShapely readable permitted messageRefusal acts reached dEndConfirmation
-missing-end-confirmation sd r x s e = rw s (missing sd r (DEndCnf (answer x)) _ _ _ e)
+pub missing-end-confirmation : (sd : Side) (r : Record) (x : ℕ) → ltb x 2 ≡ true → expects sd (r .control) (DEndCnf (answer x)) ≡ true → step sd r (Service (DEndConfirmation x) Absent) ≡ aborts r expectedPduMissing (tell r (ProviderAbortIndication notPermittedPdu))
+unfolding shapely serviceShapely readable firstFault sendFault pduFault
+missing-end-confirmation sd r x s e = missing sd r (DEndConfirmation x) (rw s) (rw e)
 
-pub missing-start : (sd : Side) (r : Record) (i : StartIndicationParameters) → indicationShapely i ≡ true → isIdle (r .control) ≡ true → qosFits (i .qos) ≡ true → eqb (i .security) (r .policy) ≡ true → i .apdu ≡ Absent → step sd r (Service (DStartIndication i)) ≡ aborts r expectedPduMissing (tell r (ProviderAbortIndication notPermittedPdu))
-unfolding step refusalOf shapely serviceShapely permitted messageRefusal acts reached dStartIndication offered startFits pduFault excepts
-missing-start sd r i s d q y a = rw (s, d, q, y, a)
+pub missing-start : (sd : Side) (r : Record) (x s : ℕ) (q : Qos) → serviceShapely (DStartIndication x s q) ≡ true → isIdle (r .control) ≡ true → qosFits q ≡ true → eqb s (r .policy) ≡ true → step sd r (Service (DStartIndication x s q) Absent) ≡ aborts r expectedPduMissing (tell r (ProviderAbortIndication notPermittedPdu))
+unfolding shapely readable firstFault indicationFault pduFault
+missing-start sd r x s q h d g y = missing sd r (DStartIndication x s q) (rw h) (rw (d, g, y))
 
-pub missing-confirmation : (sd : Side) (r : Record) (k : StartConfirmationParameters) → confirmationShapely k ≡ true → expects sd (r .control) (DStartCnf (answer (k .result))) ≡ true → turnedAway (k .result) (k .source) ≡ false → eqb (k .security) (r .request) ≡ true → k .apdu ≡ Absent → step sd r (Service (DStartConfirmation k)) ≡ aborts r expectedPduMissing (tell r (ProviderAbortIndication notPermittedPdu))
-unfolding step refusalOf shapely serviceShapely permitted messageRefusal acts reached dStartConfirmation confirmed read pduFault excepts aborts tell enter
-missing-confirmation sd r k s e t y a = rw (s, e, t, y, a)
+pub missing-confirmation : (sd : Side) (r : Record) (x o s : ℕ) → serviceShapely (DStartConfirmation x o s) ≡ true → expects sd (r .control) (DStartCnf (answer x)) ≡ true → turnedAway x o ≡ false → eqb s (r .request) ≡ true → step sd r (Service (DStartConfirmation x o s) Absent) ≡ aborts r expectedPduMissing (tell r (ProviderAbortIndication notPermittedPdu))
+unfolding shapely readable firstFault confirmationFault pduFault
+missing-confirmation sd r x o s h e t y = missing sd r (DStartConfirmation x o s) (rw h) (rw (e, t, y))
 
 -- ---- several faults in one D-START indication: each hides those behind it
 
-module _ (sd : Side) (r : Record) (i : StartIndicationParameters) (s : indicationShapely i ≡ true) where
-  pub start-unexpected : isIdle (r .control) ≡ false → step sd r (Service (DStartIndication i)) ≡ noInstruction r true
-  unfolding step refusalOf shapely serviceShapely permitted messageRefusal acts reached dStartIndication
-  start-unexpected d = rw (s, d)
+module _ (sd : Side) (r : Record) (x s : ℕ) (q : Qos) (a : Apdu) (h : shapely (Service (DStartIndication x s q) a) ≡ true) where
+  pub start-unexpected : isIdle (r .control) ≡ false → step sd r (Service (DStartIndication x s q) a) ≡ noInstruction r true
+  unfolding firstFault indicationFault answered
+  start-unexpected d = fault-answered sd r (DStartIndication x s q) a (NoInstruction true) h (rw d)
 
-  pub then-quality : isIdle (r .control) ≡ true → qosFits (i .qos) ≡ false → step sd r (Service (DStartIndication i)) ≡ aborts r invalidQosParameter Untold
-  unfolding step refusalOf shapely serviceShapely permitted messageRefusal acts reached dStartIndication
-  then-quality d q = rw (s, d, q)
+  pub then-quality : isIdle (r .control) ≡ true → qosFits q ≡ false → step sd r (Service (DStartIndication x s q) a) ≡ aborts r invalidQosParameter Untold
+  unfolding firstFault indicationFault answered
+  then-quality d g = fault-answered sd r (DStartIndication x s q) a Quality h (rw (d, g))
 
-  pub then-security : isIdle (r .control) ≡ true → qosFits (i .qos) ≡ true → eqb (i .security) (r .policy) ≡ false → step sd r (Service (DStartIndication i)) ≡ aborts r communicationServiceFailure (tell r (ProviderAbortIndication communicationServiceFailure))
-  unfolding step refusalOf shapely serviceShapely permitted messageRefusal acts reached dStartIndication excepts
-  then-security d q y = rw (s, d, q, y)
+  pub then-security : isIdle (r .control) ≡ true → qosFits q ≡ true → eqb s (r .policy) ≡ false → step sd r (Service (DStartIndication x s q) a) ≡ aborts r communicationServiceFailure (tell r (ProviderAbortIndication communicationServiceFailure))
+  unfolding firstFault indicationFault answered excepts
+  then-security d g y = fault-answered sd r (DStartIndication x s q) a (Security true) h (rw (d, g, y))
 
 -- ---- and in one D-START confirmation
 
-module _ (sd : Side) (r : Record) (k : StartConfirmationParameters) (s : confirmationShapely k ≡ true) where
-  pub confirmation-unexpected : expects sd (r .control) (DStartCnf (answer (k .result))) ≡ false → step sd r (Service (DStartConfirmation k)) ≡ noInstruction r true
-  unfolding step refusalOf shapely serviceShapely permitted messageRefusal acts reached dStartConfirmation
-  confirmation-unexpected e = rw (s, e)
+module _ (sd : Side) (r : Record) (x o s : ℕ) (a : Apdu) (h : shapely (Service (DStartConfirmation x o s) a) ≡ true) where
+  pub confirmation-unexpected : expects sd (r .control) (DStartCnf (answer x)) ≡ false → step sd r (Service (DStartConfirmation x o s) a) ≡ noInstruction r true
+  unfolding firstFault confirmationFault answered
+  confirmation-unexpected e = fault-answered sd r (DStartConfirmation x o s) a (NoInstruction true) h (rw e)
 
-  pub then-turned-away : expects sd (r .control) (DStartCnf (answer (k .result))) ≡ true → turnedAway (k .result) (k .source) ≡ true → step sd r (Service (DStartConfirmation k)) ≡ closes r (tell r (ProviderAbortIndication communicationServiceError))
-  unfolding step refusalOf shapely serviceShapely permitted messageRefusal acts reached dStartConfirmation
-  then-turned-away e t = rw (s, e, t)
+  pub then-turned-away : expects sd (r .control) (DStartCnf (answer x)) ≡ true → turnedAway x o ≡ true → step sd r (Service (DStartConfirmation x o s) a) ≡ closes r (tell r (ProviderAbortIndication communicationServiceError))
+  unfolding firstFault confirmationFault answered
+  then-turned-away e t = fault-answered sd r (DStartConfirmation x o s) a TurnedAway h (rw (e, t))
 
   -- the dialogue is open at an accepted confirmation only
-  pub then-insecure : expects sd (r .control) (DStartCnf (answer (k .result))) ≡ true → turnedAway (k .result) (k .source) ≡ false → eqb (k .security) (r .request) ≡ false → step sd r (Service (DStartConfirmation k)) ≡ excepts r (eqb (k .result) accepted) communicationServiceFailure communicationServiceFailure
-  unfolding step refusalOf shapely serviceShapely permitted messageRefusal acts reached dStartConfirmation confirmed
-  then-insecure e t y = rw (s, e, t, y)
+  pub then-insecure : expects sd (r .control) (DStartCnf (answer x)) ≡ true → turnedAway x o ≡ false → eqb s (r .request) ≡ false → step sd r (Service (DStartConfirmation x o s) a) ≡ excepts r (eqb x accepted) communicationServiceFailure communicationServiceFailure
+  unfolding firstFault confirmationFault answered
+  then-insecure e t y = fault-answered sd r (DStartConfirmation x o s) a (Security (eqb x accepted)) h (rw (e, t, y))
 
 -- ---- no dialogue exists after a D-ABORT or D-P-ABORT indication: none is sent back
 
@@ -189,55 +197,59 @@ none-unsent : (r : Record) → Unsent (noInstruction r false)
 unfolding noInstruction excepts closes
 none-unsent r = by-test Unsent (isIdle (r .control)) _ _ (λ e. refl) (λ e. refl)
 
-pub abort-unanswered : (sd : Side) (r : Record) (o : ℕ) (a : Apdu) → step sd r (Service (DAbortIndication o a)) .invoked ≡ Silent
-unfolding step acts reached dAbortIndication closes
-abort-unanswered sd r o a =
-    by-test Unsent (isNone (refusalOf sd r (Service (DAbortIndication o a)))) _ _
-    (λ n. by-test Unsent (abortExpected sd (r .control) o a) _ _ (λ e. refl) (λ e. none-unsent r)) (λ n. refl)
+abort-unsent : (sd : Side) (r : Record) (p : ServicePrimitive) (a : Apdu) (k : Primitive) (fits : Bool) → Unsent (instructed r p a) → Unsent (answered r p a (abortFault sd r k fits))
+unfolding answered abortFault
+abort-unsent sd r p a k fits u =
+    by-test (λ (f : Fault). Unsent (answered r p a f)) (not (expects sd (r .control) k)) _ _ (λ e. none-unsent r)
+    (λ e. by-test (λ (f : Fault). Unsent (answered r p a f)) (not fits) _ _ (λ n. none-unsent r) (λ n. u))
 
-pub p-abort-unanswered : (sd : Side) (r : Record) → step sd r (Service DPAbortIndication) .invoked ≡ Silent
-unfolding step acts reached dPAbortIndication closes
-p-abort-unanswered sd r =
-    by-test Unsent (isNone (refusalOf sd r (Service DPAbortIndication))) _ _
-    (λ n. by-test Unsent (expects sd (r .control) DPAbort) _ _ (λ e. refl) (λ e. none-unsent r)) (λ n. refl)
+pub abort-unanswered : (sd : Side) (r : Record) (o : ℕ) (a : Apdu) → step sd r (Service (DAbortIndication o) a) .invoked ≡ Silent
+unfolding step acts reached firstFault instructed closes
+abort-unanswered sd r o a =
+    by-test Unsent (isNone (refusalOf sd r (Service (DAbortIndication o) a))) _ _ (λ n. abort-unsent sd r (DAbortIndication o) a DAbort _ refl) (λ n. refl)
+
+pub p-abort-unanswered : (sd : Side) (r : Record) (a : Apdu) → step sd r (Service DPAbortIndication a) .invoked ≡ Silent
+unfolding step acts reached firstFault instructed closes
+p-abort-unanswered sd r a =
+    by-test Unsent (isNone (refusalOf sd r (Service DPAbortIndication a))) _ _ (λ n. abort-unsent sd r DPAbortIndication a DPAbort true refl) (λ n. refl)
 
 -- 3.5.3.15, 2.3.5.5.16: outside IDLE an active user is told communication-service-failure, which is 5 in CPDLCProviderAbortReason; IDLE
-pub p-abort-told : (sd : Side) (r : Record) → isIdle (r .control) ≡ false → step sd r (Service DPAbortIndication) ≡ closes r (tell r (ProviderAbortIndication 5))
-unfolding shapely serviceShapely reached dPAbortIndication
-p-abort-told sd r i = service-taken sd r DPAbortIndication refl ∙ rw i
+pub p-abort-told : (sd : Side) (r : Record) (a : Apdu) → readable a ≡ true → isIdle (r .control) ≡ false → step sd r (Service DPAbortIndication a) ≡ closes r (tell r (ProviderAbortIndication 5))
+unfolding shapely serviceShapely firstFault abortFault answered instructed
+p-abort-told sd r a w i = fault-answered sd r DPAbortIndication a NoFault w (rw i)
 
 -- ---- in IDLE a primitive with no instruction, an abort indication and a system error leave no output
 
 abbrev pub startsHere : ServicePrimitive → Bool
-startsHere (DStartIndication i) = true
-startsHere (DStartConfirmation k) = false
-startsHere (DDataIndication a) = false
-startsHere (DEndIndication a) = false
-startsHere (DEndConfirmation x a) = false
-startsHere (DAbortIndication o a) = false
+startsHere (DStartIndication x s q) = true
+startsHere (DStartConfirmation x o s) = false
+startsHere DDataIndication = false
+startsHere DEndIndication = false
+startsHere (DEndConfirmation x) = false
+startsHere (DAbortIndication o) = false
 startsHere DPAbortIndication = false
 
 none-idle : (r : Record) (x : Bool) → isIdle (r .control) ≡ true → noInstruction r x ≡ closes r Untold
 unfolding noInstruction
 none-idle r x i = rw i
 
-received-idle : (sd : Side) (r : Record) (p : Primitive) (i u : Bool) (a : Apdu) (t : Told) → isIdle (r .control) ≡ true → isStart p ≡ false → received sd r p i u a t ≡ closes r Untold
-unfolding received
-received-idle sd r p i u a t d n = rw (idle-expects sd (r .control) p d n) (none-idle r true d)
+send-idle : (sd : Side) (r : Record) (p : Primitive) (live : Bool) (a : Apdu) → isIdle (r .control) ≡ true → isStart p ≡ false → sendFault sd r p live a ≡ NoInstruction true
+unfolding sendFault
+send-idle sd r p live a d n = rw (idle-expects sd (r .control) p d n)
 
-abort-idle : (sd : Side) (r : Record) (o : ℕ) (a : Apdu) → isIdle (r .control) ≡ true → abortExpected sd (r .control) o a ≡ false
-unfolding abortExpected
-abort-idle sd r o a d = rw (idle-expects sd (r .control) DAbort d refl)
+abort-idle : (sd : Side) (r : Record) (p : Primitive) (fits : Bool) → isIdle (r .control) ≡ true → isStart p ≡ false → abortFault sd r p fits ≡ NoInstruction false
+unfolding abortFault
+abort-idle sd r p fits d n = rw (idle-expects sd (r .control) p d n)
 
-pub reached-idle : (sd : Side) (r : Record) (p : ServicePrimitive) → isIdle (r .control) ≡ true → startsHere p ≡ false → reached sd r p ≡ closes r Untold
-unfolding reached dStartConfirmation dDataIndication dEndIndication dEndConfirmation dAbortIndication dPAbortIndication
-reached-idle sd r (DStartIndication i) d n = absurd (subst T n tt)
-reached-idle sd r (DStartConfirmation k) d n = rw (idle-expects sd (r .control) (DStartCnf (answer (k .result))) d refl) (none-idle r true d)
-reached-idle sd r (DDataIndication a) d n = received-idle sd r DData true true a _ d refl
-reached-idle sd r (DEndIndication a) d n = received-idle sd r DEnd true true a _ d refl
-reached-idle sd r (DEndConfirmation x a) d n = received-idle sd r (DEndCnf (answer x)) _ _ a _ d refl
-reached-idle sd r (DAbortIndication o a) d n = rw (abort-idle sd r o a d) (none-idle r false d)
-reached-idle sd r DPAbortIndication d n = rw (idle-expects sd (r .control) DPAbort d refl) (none-idle r false d)
+pub reached-idle : (sd : Side) (r : Record) (p : ServicePrimitive) (a : Apdu) → isIdle (r .control) ≡ true → startsHere p ≡ false → reached sd r p a ≡ closes r Untold
+unfolding reached firstFault confirmationFault answered
+reached-idle sd r (DStartIndication x s q) a d n = absurd (subst T n tt)
+reached-idle sd r (DStartConfirmation x o s) a d n = rw (idle-expects sd (r .control) (DStartCnf (answer x)) d refl) (none-idle r true d)
+reached-idle sd r DDataIndication a d n = rw (send-idle sd r DData true a d refl) (none-idle r true d)
+reached-idle sd r DEndIndication a d n = rw (send-idle sd r DEnd true a d refl) (none-idle r true d)
+reached-idle sd r (DEndConfirmation x) a d n = rw (send-idle sd r (DEndCnf (answer x)) (not (eqb x accepted)) a d refl) (none-idle r true d)
+reached-idle sd r (DAbortIndication o) a d n = rw (abort-idle sd r DAbort (abortFits o a) d refl) (none-idle r false d)
+reached-idle sd r DPAbortIndication a d n = rw (abort-idle sd r DPAbort true d refl) (none-idle r false d)
 
 pub error-idle : (sd : Side) (r : Record) → isIdle (r .control) ≡ true → step sd r UnrecoverableSystemError ≡ closes r Untold
 unfolding step refusalOf shapely permitted messageRefusal acts systemError
@@ -268,14 +280,17 @@ none-secure : (r : Record) (b x : Bool) → Secure b (noInstruction r x)
 unfolding noInstruction closes
 none-secure r b x = by-test (Secure b) (isIdle (r .control)) _ _ (λ d e. absurd (subst T (sym e) tt)) (λ d. except-secure r b x _ _)
 
-pub start-secure : (sd : Side) (r : Record) (i : StartIndicationParameters) → invites (step sd r (Service (DStartIndication i)) .told) ≡ true → eqb (i .security) (r .policy) ≡ true
-unfolding step acts reached dStartIndication aborts
-start-secure sd r i =
-    by-test (Secure (eqb (i .security) (r .policy))) (isNone (refusalOf sd r (Service (DStartIndication i)))) _ _
-    (λ n. by-test (Secure (eqb (i .security) (r .policy))) (not (isIdle (r .control))) _ _ (λ d. none-secure r _ true)
-    (λ d. by-test (Secure (eqb (i .security) (r .policy))) (not (qosFits (i .qos))) _ _ (λ q e. absurd (subst T (sym e) tt))
-    (λ q. by-test (Secure (eqb (i .security) (r .policy))) (not (eqb (i .security) (r .policy))) _ _ (λ y. except-secure r _ true _ _) (λ y e. not-false _ y))))
+pub start-secure : (sd : Side) (r : Record) (x s : ℕ) (q : Qos) (a : Apdu) → invites (step sd r (Service (DStartIndication x s q) a) .told) ≡ true → eqb s (r .policy) ≡ true
+unfolding step acts reached firstFault indicationFault answered aborts
+start-secure sd r x s q a =
+    by-test (Secure (eqb s (r .policy))) (isNone (refusalOf sd r (Service (DStartIndication x s q) a))) _ _
+    (λ n. by-test Offers (not (isIdle (r .control))) _ _ (λ d. none-secure r _ true)
+    (λ d. by-test Offers (not (qosFits q)) _ _ (λ g e. absurd (subst T (sym e) tt))
+    (λ g. by-test Offers (not (eqb s (r .policy))) _ _ (λ y. except-secure r _ true _ _) (λ y e. not-false _ y))))
     (λ n e. absurd (subst T (sym e) tt))
+  where
+    Offers : Fault → Type 0
+    Offers f = Secure (eqb s (r .policy)) (answered r (DStartIndication x s q) a f)
 
 -- ---- a message request stays in its state (3.5.3.10, 2.3.5.5.10)
 
@@ -305,9 +320,9 @@ no-expiry sd r t = rw t
 
 -- ---- a primitive with no instruction: protocol-error; D-ABORT only if a dialogue exists
 
-pub unexpected : (sd : Side) (r : Record) (p : Primitive) (i u : Bool) (a : Apdu) (t : Told) → expects sd (r .control) p ≡ false → received sd r p i u a t ≡ noInstruction r true
-unfolding received
-unexpected sd r p i u a t e = rw e
+pub unexpected : (sd : Side) (r : Record) (p : Primitive) (live : Bool) (a : Apdu) → expects sd (r .control) p ≡ false → sendFault sd r p live a ≡ NoInstruction true
+unfolding sendFault
+unexpected sd r p live a e = rw e
 
 pub no-instruction-outside : (r : Record) (x : Bool) → isIdle (r .control) ≡ false → noInstruction r x ≡ excepts r x protocolError protocolError
 unfolding noInstruction
@@ -315,10 +330,10 @@ no-instruction-outside r x i = rw i
 
 -- ---- a forward APDU counts as not permitted
 
-pub forward-read : (r : Record) (p : Primitive) (i u : Bool) (t : Told) → read r p i u Forward t ≡ excepts r u protocolError protocolError
-unfolding read pduFault
-forward-read r p i u t = refl
+pub forward-read : (i u : Bool) (g : Fault) → pduFault (isSend Forward) i u Forward g ≡ NotPermitted u
+unfolding pduFault
+forward-read i u g = refl
 
-pub forward-start : (sd : Side) (r : Record) (i : StartIndicationParameters) → indicationShapely i ≡ true → isIdle (r .control) ≡ true → qosFits (i .qos) ≡ true → eqb (i .security) (r .policy) ≡ true → i .apdu ≡ Forward → step sd r (Service (DStartIndication i)) ≡ aborts r protocolError (tell r (ProviderAbortIndication protocolError))
-unfolding step refusalOf shapely serviceShapely permitted messageRefusal acts reached dStartIndication offered startFits pduFault excepts
-forward-start sd r i s d q y a = rw (s, d, q, y, a)
+pub forward-start : (sd : Side) (r : Record) (x s : ℕ) (q : Qos) → serviceShapely (DStartIndication x s q) ≡ true → isIdle (r .control) ≡ true → qosFits q ≡ true → eqb s (r .policy) ≡ true → step sd r (Service (DStartIndication x s q) Forward) ≡ aborts r protocolError (tell r (ProviderAbortIndication protocolError))
+unfolding shapely readable firstFault indicationFault startFits pduFault answered excepts
+forward-start sd r x s q h d g y = fault-answered sd r (DStartIndication x s q) Forward (NotPermitted true) (rw h) (rw (d, g, y))

@@ -7,13 +7,14 @@ use lib.Dec.{T, ltb, leb, eqb}
 use borrow.Author.Tests.{leb-false, not-false}
 use Rattle.words.proofs.Laws.{both-left, both-right}
 use Rattle.control.specs.Control.{isIdle, takes, expects}
-use Rattle.machine.specs.Record.{withTimer, withUser, enter}
-use Rattle.machine.specs.Codes.{accepted}
+use Rattle.machine.specs.Record.{withTimer, withUser}
 use Rattle.machine.specs.Event.{qosFits, shapely}
 use Rattle.machine.specs.Outcome.{isNone, refused}
-use Rattle.machine.specs.Exceptions.{tell, closes, aborts, excepts, timerExpires, systemError, noInstruction, pduFault}
+use Rattle.machine.specs.Exceptions.{tell, closes, aborts, excepts, timerExpires, systemError, noInstruction}
 use Rattle.machine.specs.Calls.{answer, sent, startRequest, startResponse, messageRequest, endRequest, endResponse, userAbort, callOf, unsent, called}
-use Rattle.machine.specs.Primitives.{isSend, isStartPdu, modeOf, readsStarts, startFits, peerFits, turnedAway, handed, read, received, offered, dStartIndication, confirmed, dStartConfirmation, dDataIndication, dEndIndication, dEndConfirmation, abortExpected, abortTold, dAbortIndication, dPAbortIndication, reached}
+use Rattle.machine.specs.Apdus.{modeOf, isMissing, isInvalid, isStartPdu, isSend}
+use Rattle.machine.specs.Faults.{pduFault, sendFault, peerFits, readsStarts, startFits, indicationFault, confirmationFault, firstFault}
+use Rattle.machine.specs.Primitives.{handed, abortTold, instructed, answered, reached}
 use Rattle.control.proofs.Moves.{busy}
 use Rattle.machine.specs.Step.{permitted, messageRefusal, refusalOf, acts, step}
 use Rattle.control.specs.declared.Side.{Side}
@@ -24,15 +25,14 @@ use Rattle.control.specs.declared.Primitive.{Primitive}
 use Rattle.control.specs.declared.Primitive.the-variants.{DStart, DStartCnf, DTurnedAway, DData, DEnd, DEndCnf, DAbort, DPAbort}
 use Rattle.machine.specs.declared.record.Record.{Record}
 use Rattle.machine.specs.declared.event.Apdu.{Apdu}
-use Rattle.machine.specs.declared.event.Apdu.the-variants.{Absent, NotValid, Start, Send, AbortUser, AbortProvider, Forward}
-use Rattle.machine.specs.declared.event.StartIndicationParameters.{StartIndicationParameters}
-use Rattle.machine.specs.declared.event.StartConfirmationParameters.{StartConfirmationParameters}
 use Rattle.machine.specs.declared.event.UserPrimitive.{UserPrimitive}
 use Rattle.machine.specs.declared.event.UserPrimitive.the-variants.{StartServiceRequest, StartServiceResponse, MessageServiceRequest, EndServiceRequest, EndServiceResponse, UserAbortServiceRequest}
 use Rattle.machine.specs.declared.event.ServicePrimitive.{ServicePrimitive}
 use Rattle.machine.specs.declared.event.ServicePrimitive.the-variants.{DStartIndication, DStartConfirmation, DDataIndication, DEndIndication, DEndConfirmation, DAbortIndication, DPAbortIndication}
 use Rattle.machine.specs.declared.event.Event.{Event}
 use Rattle.machine.specs.declared.event.Event.the-variants.{User, Service, TimerExpires, UnrecoverableSystemError}
+use Rattle.machine.specs.declared.faults.Fault.{Fault}
+use Rattle.machine.specs.declared.faults.Fault.the-variants.{NoFault, NoInstruction, Quality, TurnedAway, Security, Missing, Invalid, NotPermitted}
 use Rattle.machine.specs.declared.outcome.Refusal.{Refusal}
 use Rattle.machine.specs.declared.outcome.Refusal.the-variants.{None, Shape, Prohibited, NoMessage, Repeat}
 use Rattle.machine.specs.declared.outcome.Invoked.{Invoked}
@@ -82,6 +82,30 @@ pub by-test : {A : Type 0} (P : A → Type 0) (b : Bool) (x y : A) → (b ≡ tr
 by-test P true x y f g = f refl
 by-test P false x y f g = g refl
 
+-- ---- a fault that did not come first
+
+abbrev isFault : Fault → Bool
+isFault NoFault = false
+isFault (NoInstruction live) = true
+isFault Quality = true
+isFault TurnedAway = true
+isFault (Security live) = true
+isFault Missing = true
+isFault (Invalid live) = true
+isFault (NotPermitted live) = true
+
+-- without a fault each test is passed
+passed : (b : Bool) (f g : Fault) → isFault f ≡ true → cond b f g ≡ NoFault → (b ≡ false) × (g ≡ NoFault)
+passed true f g n e = absurd (subst T (sym n ∙ ap isFault e) tt)
+passed false f g n e = (refl, e)
+
+pdu-fits : (fits i u : Bool) (a : Apdu) (g : Fault) → pduFault fits i u a g ≡ NoFault → fits ≡ true
+unfolding pduFault
+pdu-fits fits i u a g e =
+    let there = passed (isMissing a) Missing _ refl e in
+    let valid = passed (isInvalid a) (Invalid i) _ refl (there .1) in
+    not-false fits (passed (not fits) (NotPermitted u) g refl (valid .1) .0)
+
 -- ---- the parts
 
 module _ (sd : Side) (r : Record) where
@@ -99,86 +123,51 @@ module _ (sd : Side) (r : Record) where
   none-way x =
       by-test (Way sd r) (isIdle (r .control)) _ _ (λ e. is-closed Untold (λ f. refl)) (λ e. except-way x _ _)
 
-  fault-way : (i u : Bool) (a : Apdu) → Way sd r (pduFault r i u a)
-  unfolding pduFault
-  fault-way i u Absent = except-way true _ _
-  fault-way i u NotValid = except-way i _ _
-  fault-way i u (Start m) = except-way u _ _
-  fault-way i u Send = except-way u _ _
-  fault-way i u (AbortUser x) = except-way u _ _
-  fault-way i u (AbortProvider x) = except-way u _ _
-  fault-way i u Forward = except-way u _ _
+  -- what is done about a fault; without one, the instruction
+  answered-way : (p : ServicePrimitive) (a : Apdu) (f : Fault) → (f ≡ NoFault → Way sd r (instructed r p a)) → Way sd r (answered r p a f)
+  unfolding answered
+  answered-way p a NoFault k = k refl
+  answered-way p a (NoInstruction live) k = none-way live
+  answered-way p a Quality k = is-aborted _ Untold (λ g. refl)
+  answered-way p a TurnedAway k = is-closed _ (tell-active _)
+  answered-way p a (Security live) k = except-way live _ _
+  answered-way p a Missing k = except-way true _ _
+  answered-way p a (Invalid live) k = except-way live _ _
+  answered-way p a (NotPermitted live) k = except-way live _ _
 
-  read-way : (p : Primitive) (i u : Bool) (a : Apdu) (t : Told) → expects sd (r .control) p ≡ true → within p ≡ true → isAbort t ≡ false → Way sd r (read r p i u a t)
-  unfolding read
-  read-way p i u a t e w n = by-test (Way sd r) (isSend a) _ _ (λ s. is-read p t e w n) (λ s. fault-way i u a)
+  send-expected : (p : Primitive) (live : Bool) (a : Apdu) → sendFault sd r p live a ≡ NoFault → expects sd (r .control) p ≡ true
+  unfolding sendFault
+  send-expected p live a e = not-false _ (passed (not (expects sd (r .control) p)) (NoInstruction true) _ refl e .0)
 
-  received-way : (p : Primitive) (i u : Bool) (a : Apdu) (t : Told) → within p ≡ true → isAbort t ≡ false → Way sd r (received sd r p i u a t)
-  unfolding received
-  received-way p i u a t w n =
-      by-test (Way sd r) (expects sd (r .control) p) _ _ (λ e. read-way p i u a t e w n) (λ e. none-way true)
+  pub send-there : (p : Primitive) (live : Bool) (a : Apdu) → sendFault sd r p live a ≡ NoFault → isSend a ≡ true
+  unfolding sendFault
+  send-there p live a e =
+      pdu-fits (isSend a) live live a NoFault (passed (not (expects sd (r .control) p)) (NoInstruction true) _ refl e .1)
 
   -- a start that fits is one that the control expects
   fits-expected : (x : ℕ) (a : Apdu) → startFits sd r x a ≡ true → expects sd (r .control) (DStart (modeOf a)) ≡ true
   unfolding startFits
   fits-expected x a e = both-right (readsStarts sd x) _ (both-right (isStartPdu a) _ e)
 
-  offered-way : (i : StartIndicationParameters) → Way sd r (offered sd r i)
-  unfolding offered
-  offered-way i =
-      by-test (Way sd r) (not (startFits sd r (i .peer) (i .apdu))) _ _ (λ e. fault-way true true (i .apdu))
-      (λ e. by-test (Way sd r) (not (peerFits sd (i .peer))) _ _ (λ f. none-way true)
-      (λ f. is-invited (modeOf (i .apdu)) (i .qos .routing) (fits-expected (i .peer) (i .apdu) (not-false _ e))))
+  -- a primitive without a fault is one that the control expects
+  instructed-way : (p : ServicePrimitive) (a : Apdu) → firstFault sd r p a ≡ NoFault → Way sd r (instructed r p a)
+  unfolding instructed firstFault indicationFault confirmationFault
+  instructed-way (DStartIndication x s q) a e =
+      let idle = passed (not (isIdle (r .control))) (NoInstruction true) _ refl e in
+      let quality = passed (not (qosFits q)) Quality _ refl (idle .1) in
+      let secure = passed (not (eqb s (r .policy))) (Security true) _ refl (quality .1) in
+      is-invited (modeOf a) (q .routing) (fits-expected x a (pdu-fits (startFits sd r x a) true true a (cond (peerFits sd x) NoFault (NoInstruction true)) (secure .1)))
+  instructed-way (DStartConfirmation x o s) a e =
+      is-confirmed (answer x) (r .control .dsc) x (not-false _ (passed (not (expects sd (r .control) (DStartCnf (answer x)))) (NoInstruction true) _ refl e .0))
+  instructed-way DDataIndication a e = is-read DData MessageIndication (send-expected DData true a e) refl refl
+  instructed-way DEndIndication a e = is-read DEnd _ (send-expected DEnd true a e) refl refl
+  instructed-way (DEndConfirmation x) a e = is-read (DEndCnf (answer x)) _ (send-expected (DEndCnf (answer x)) _ a e) refl refl
+  instructed-way (DAbortIndication o) a e = is-closed _ (tell-active (abortTold a))
+  instructed-way DPAbortIndication a e = is-closed _ (tell-active _)
 
-  indication-way : (i : StartIndicationParameters) → Way sd r (dStartIndication sd r i)
-  unfolding dStartIndication
-  indication-way i =
-      by-test (Way sd r) (not (isIdle (r .control))) _ _ (λ e. none-way true)
-      (λ e. by-test (Way sd r) (not (qosFits (i .qos))) _ _ (λ f. is-aborted _ Untold (λ g. refl))
-      (λ f. by-test (Way sd r) (not (eqb (i .security) (r .policy))) _ _ (λ g. except-way true _ _) (λ g. offered-way i)))
-
-  -- stopping the timer first makes no difference to a fault
-  fault-stopped : (i u : Bool) (a : Apdu) → pduFault (withTimer r false) i u a ≡ pduFault r i u a
-  unfolding pduFault excepts aborts closes tell enter
-  fault-stopped i u Absent = refl
-  fault-stopped i u NotValid = refl
-  fault-stopped i u (Start m) = refl
-  fault-stopped i u Send = refl
-  fault-stopped i u (AbortUser x) = refl
-  fault-stopped i u (AbortProvider x) = refl
-  fault-stopped i u Forward = refl
-
-  confirmed-way : (k : StartConfirmationParameters) → expects sd (r .control) (DStartCnf (answer (k .result))) ≡ true → Way sd r (confirmed r k)
-  unfolding confirmed read
-  confirmed-way k e =
-      by-test (Way sd r) (not (eqb (k .security) (r .request))) _ _ (λ f. except-way (eqb (k .result) accepted) _ _)
-      (λ f. by-test (Way sd r) (isSend (k .apdu)) _ _ (λ s. is-confirmed (answer (k .result)) (r .control .dsc) (k .result) e)
-      (λ s. subst (Way sd r) (sym (fault-stopped (eqb (k .result) accepted) true (k .apdu))) (fault-way (eqb (k .result) accepted) true (k .apdu))))
-
-  confirmation-way : (k : StartConfirmationParameters) → Way sd r (dStartConfirmation sd r k)
-  unfolding dStartConfirmation
-  confirmation-way k =
-      by-test (Way sd r) (not (expects sd (r .control) (DStartCnf (answer (k .result))))) _ _ (λ e. none-way true)
-      (λ e. by-test (Way sd r) (turnedAway (k .result) (k .source)) _ _ (λ f. is-closed _ (tell-active _)) (λ f. confirmed-way k (not-false _ e)))
-
-  abort-way : (o : ℕ) (a : Apdu) → Way sd r (dAbortIndication sd r o a)
-  unfolding dAbortIndication
-  abort-way o a =
-      by-test (Way sd r) (abortExpected sd (r .control) o a) _ _ (λ e. is-closed _ (tell-active (abortTold a))) (λ e. none-way false)
-
-  p-abort-way : Way sd r (dPAbortIndication sd r)
-  unfolding dPAbortIndication
-  p-abort-way = by-test (Way sd r) (expects sd (r .control) DPAbort) _ _ (λ e. is-closed _ (tell-active _)) (λ e. none-way false)
-
-  reached-way : (p : ServicePrimitive) → Way sd r (reached sd r p)
-  unfolding reached dDataIndication dEndIndication dEndConfirmation
-  reached-way (DStartIndication i) = indication-way i
-  reached-way (DStartConfirmation k) = confirmation-way k
-  reached-way (DDataIndication a) = received-way DData true true a MessageIndication refl refl
-  reached-way (DEndIndication a) = received-way DEnd true true a _ refl refl
-  reached-way (DEndConfirmation x a) = received-way (DEndCnf (answer x)) _ _ a _ refl refl
-  reached-way (DAbortIndication o a) = abort-way o a
-  reached-way DPAbortIndication = p-abort-way
+  reached-way : (p : ServicePrimitive) (a : Apdu) → Way sd r (reached sd r p a)
+  unfolding reached
+  reached-way p a = answered-way p a (firstFault sd r p a) (instructed-way p a)
 
   -- ---- a user primitive
 
@@ -203,7 +192,7 @@ module _ (sd : Side) (r : Record) where
   acts-way : (e : Event) → permitted sd r e ≡ true → isNone (messageRefusal r e) ≡ true → Way sd r (acts sd r e)
   unfolding acts permitted messageRefusal timerExpires systemError
   acts-way (User u) p n = called-way u p n
-  acts-way (Service s) p n = reached-way s
+  acts-way (Service s a) p n = reached-way s a
   acts-way TimerExpires p n = except-way true _ _
   acts-way UnrecoverableSystemError p n =
       by-test (Way sd r) (isIdle (r .control)) _ _ (λ e. is-closed Untold (λ f. refl)) (λ e. except-way true _ _)

@@ -6,11 +6,12 @@ use mathlib.Core.List.{List, [], _∷_}
 use Prim.Native.Nat.{ℕ}
 use Rattle.machine.specs.Codes.{accepted}
 use Rattle.machine.specs.Record.{freshRecord, enter}
-use Rattle.machine.specs.Event.{readable, qosFits, userShapely, serviceShapely, indicationShapely, confirmationShapely, shapely}
+use Rattle.machine.specs.Apdus.{readable}
+use Rattle.machine.specs.Event.{qosFits, userShapely, serviceShapely, shapely}
 use Rattle.machine.specs.Outcome.{refusalNumber}
-use Rattle.machine.specs.Exceptions.{tell, closes, aborts, excepts, noInstruction, pduFault}
 use Rattle.machine.specs.Calls.{answer, sent, startRequest, startResponse, messageRequest, endRequest, endResponse, userAbort, callOf, unsent, called}
-use Rattle.machine.specs.Primitives.{startFits, handed, read, received, offered, dStartIndication, confirmed, dStartConfirmation, dDataIndication, dEndIndication, dEndConfirmation, reached}
+use Rattle.machine.specs.Faults.{pduFault, sendFault, startFits, indicationFault, confirmationFault, firstFault}
+use Rattle.machine.specs.Primitives.{handed, instructed, answered, reached}
 use Rattle.machine.specs.Step.{permitted, messageRefusal, refusalOf, acts, step}
 use Rattle.machine.proofs.Runs.{run}
 use Rattle.control.specs.declared.Side.{Side}
@@ -28,7 +29,7 @@ abbrev fresh : Record
 fresh = freshRecord (record { policy = 0 })
 
 abbrev confirmation : Event
-confirmation = Service (DStartConfirmation (record { result = 0; source = 0; security = 0; apdu = Send }))
+confirmation = Service (DStartConfirmation 0 0 0) Send
 
 abbrev message : ℕ → Event
 message j = User (MessageServiceRequest true j)
@@ -39,7 +40,7 @@ last sd es e = refusalNumber (step sd (run sd fresh es) e .refusal)
 
 -- job 7, then 7: REPEAT
 pub seven-twice : last Air (User (StartServiceRequest false 0 0) ∷ confirmation ∷ message 7 ∷ []) (message 7) ≡ 5
-unfolding run step refusalOf permitted messageRefusal acts shapely userShapely serviceShapely confirmationShapely readable callOf unsent called reached startRequest messageRequest sent enter dStartConfirmation confirmed answer read handed
+unfolding run step refusalOf permitted messageRefusal acts shapely userShapely serviceShapely readable callOf unsent called reached startRequest messageRequest sent enter firstFault confirmationFault pduFault answered instructed answer handed
 seven-twice = refl
 
 -- job 7 refused with 3, then 7 again in DIALOGUE: taken
@@ -48,15 +49,15 @@ unfolding run step refusalOf permitted messageRefusal shapely userShapely callOf
 seven-refused = refl
 
 pub seven-again : last Air (message 7 ∷ User (StartServiceRequest false 0 0) ∷ confirmation ∷ []) (message 7) ≡ 0
-unfolding run step refusalOf permitted messageRefusal acts shapely userShapely serviceShapely confirmationShapely readable callOf unsent called reached startRequest messageRequest sent enter dStartConfirmation confirmed answer read handed
+unfolding run step refusalOf permitted messageRefusal acts shapely userShapely serviceShapely readable callOf unsent called reached startRequest messageRequest sent enter firstFault confirmationFault pduFault answered instructed answer handed
 seven-again = refl
 
 -- the highest job survives the closing: after an end, 7 is refused with 5 in the next dialogue
-pub seven-later : last Air (User (StartServiceRequest false 0 0) ∷ confirmation ∷ message 7 ∷ Service (DEndIndication Send) ∷ User (EndServiceResponse false accepted) ∷ User (StartServiceRequest false 0 0) ∷ confirmation ∷ []) (message 7) ≡ 5
-unfolding run step refusalOf permitted messageRefusal acts shapely userShapely serviceShapely confirmationShapely readable callOf unsent called reached startRequest messageRequest endResponse sent enter dStartConfirmation confirmed dEndIndication received answer read handed
+pub seven-later : last Air (User (StartServiceRequest false 0 0) ∷ confirmation ∷ message 7 ∷ Service DEndIndication Send ∷ User (EndServiceResponse false accepted) ∷ User (StartServiceRequest false 0 0) ∷ confirmation ∷ []) (message 7) ≡ 5
+unfolding run step refusalOf permitted messageRefusal acts shapely userShapely serviceShapely readable callOf unsent called reached startRequest messageRequest endResponse sent enter firstFault confirmationFault sendFault pduFault answered instructed answer handed
 seven-later = refl
 
--- a DSC dialogue at the ground: invited, accepted, ended by the air, closed by the accepted DSC-end response
-pub downstream : run Ground fresh (Service (DStartIndication (record { peer = 1; security = 0; qos = record { priority = 1; rer = 1; routing = 0 }; apdu = Start true })) ∷ User (StartServiceResponse true 0) ∷ Service (DDataIndication Send) ∷ Service (DEndIndication Send) ∷ message 9 ∷ User (EndServiceResponse true 0) ∷ []) ≡ record { control = record { state = Idle; dsc = false }; timer = false; active = false; highest = 9; request = 0; policy = 0 }
-unfolding run step refusalOf permitted messageRefusal acts shapely userShapely serviceShapely indicationShapely readable qosFits callOf unsent called reached startResponse messageRequest endResponse sent enter dStartIndication offered startFits dDataIndication dEndIndication received answer read handed
+-- a DSC dialogue at the ground: invited, accepted, abortFault by the air, closed by the accepted DSC-end response
+pub downstream : run Ground fresh (Service (DStartIndication 1 0 (record { priority = 1; rer = 1; routing = 0 })) (Start true) ∷ User (StartServiceResponse true 0) ∷ Service DDataIndication Send ∷ Service DEndIndication Send ∷ message 9 ∷ User (EndServiceResponse true 0) ∷ []) ≡ record { control = record { state = Idle; dsc = false }; timer = false; active = false; highest = 9; request = 0; policy = 0 }
+unfolding run step refusalOf permitted messageRefusal acts shapely userShapely serviceShapely readable qosFits callOf unsent called reached startResponse messageRequest endResponse sent enter firstFault indicationFault startFits sendFault pduFault answered instructed answer handed
 downstream = refl

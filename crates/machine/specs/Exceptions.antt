@@ -1,13 +1,12 @@
 -- Exception handling: Doc 9880 3.5.4 (air), Doc 9705 2.3.5.4 (air) and 2.3.5.6 (ground). Every clause here ends in IDLE.
 use Prim.Native.Nat.{ℕ}
 use mathlib.Core.Bool.{Bool, true, false, cond}
-use Rattle.machine.specs.Codes.{provider, timerExpired, undefinedError, invalidPdu, protocolError, expectedPduMissing, notPermittedPdu}
+use Rattle.machine.specs.Codes.{provider, timerExpired, undefinedError, protocolError}
 use Rattle.control.specs.Control.{isIdle, closed}
 use Rattle.machine.specs.Record.{enter}
 use Rattle.machine.specs.Outcome.{outcome}
 use Rattle.machine.specs.declared.record.Record.{Record}
-use Rattle.machine.specs.declared.event.Apdu.{Apdu}
-use Rattle.machine.specs.declared.event.Apdu.the-variants.{Absent, NotValid, Start, Send, AbortUser, AbortProvider, Forward}
+use Rattle.machine.specs.declared.event.Apdu.the-variants.{Absent, AbortProvider}
 use Rattle.machine.specs.declared.outcome.Invoked.the-variants.{Silent, DAbortRequest}
 use Rattle.machine.specs.declared.outcome.Told.{Told}
 use Rattle.machine.specs.declared.outcome.Told.the-variants.{Untold, ProviderAbortIndication}
@@ -44,14 +43,3 @@ systemError r = cond (isIdle (r .control)) (closes r Untold) (excepts r true und
 -- 3.5.4.4.3, 2.3.5.6.4.4: a primitive for which there are no instructions; D-ABORT if a dialogue exists. In IDLE no output (document 01)
 unfoldable pub noInstruction : Record → Bool → Outcome
 noInstruction r exists = cond (isIdle (r .control)) (closes r Untold) (excepts r exists protocolError protocolError)
-
--- the PDU is missing (3.5.4.7, 2.3.5.6.7), not valid (3.5.4.3, 2.3.5.6.3) or not permitted (3.5.4.4.1, 3.5.4.4.2, 2.3.5.6.4.1, 2.3.5.6.4.3);
--- i, u: is the dialogue open for a PDU that is not valid, for one that is not permitted
-unfoldable pub pduFault : Record → Bool → Bool → Apdu → Outcome
-pduFault r i u Absent = excepts r true expectedPduMissing notPermittedPdu
-pduFault r i u NotValid = excepts r i invalidPdu invalidPdu
-pduFault r i u (Start m) = excepts r u protocolError protocolError
-pduFault r i u Send = excepts r u protocolError protocolError
-pduFault r i u (AbortUser x) = excepts r u protocolError protocolError
-pduFault r i u (AbortProvider x) = excepts r u protocolError protocolError
-pduFault r i u Forward = excepts r u protocolError protocolError

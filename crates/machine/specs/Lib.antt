@@ -1,9 +1,11 @@
 pub mod Codes
 pub mod Record
+pub mod Apdus
 pub mod Event
 pub mod Outcome
 pub mod Exceptions
 pub mod Calls
+pub mod Faults
 pub mod Primitives
 pub mod Step
 pub mod Run

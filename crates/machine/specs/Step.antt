@@ -18,13 +18,13 @@ use Rattle.machine.specs.declared.outcome.Outcome.{Outcome}
 -- a dialogue-service primitive and a system error are never prohibited
 unfoldable pub permitted : Side → Record → Event → Bool
 permitted sd r (User u) = takes sd (r .control) (callOf u)
-permitted sd r (Service p) = true
+permitted sd r (Service p a) = true
 permitted sd r TimerExpires = r .timer
 permitted sd r UnrecoverableSystemError = true
 
 unfoldable pub messageRefusal : Record → Event → Refusal
 messageRefusal r (User u) = unsent (r .highest) u
-messageRefusal r (Service p) = None
+messageRefusal r (Service p a) = None
 messageRefusal r TimerExpires = None
 messageRefusal r UnrecoverableSystemError = None
 
@@ -35,7 +35,7 @@ refusalOf sd r e = cond (not (shapely e)) Shape (cond (not (permitted sd r e)) P
 -- the clause of an event that is not refused
 unfoldable pub acts : Side → Record → Event → Outcome
 acts sd r (User u) = called r u
-acts sd r (Service p) = reached sd r p
+acts sd r (Service p a) = reached sd r p a
 acts sd r TimerExpires = timerExpires r
 acts sd r UnrecoverableSystemError = systemError r
 

@@ -2,8 +2,8 @@
 // Doc 9705 2.3.5.5.7 to 2.3.5.5.14 (ground).
 use crate::event::Apdu;
 use crate::event::Qos;
+use crate::event::ServicePrimitive;
 use crate::event::UserPrimitive;
-use crate::exceptions::USER;
 use crate::outcome::Invoked;
 use crate::outcome::Outcome;
 use crate::outcome::Refusal;
@@ -112,7 +112,7 @@ fn user_abort(r: Record, given: bool, reason: u64) -> Outcome
     sent(
         r,
         Call::UserAbort,
-        Invoked::DAbortRequest(USER),
+        Invoked::DAbortRequest(ServicePrimitive::USER),
         Apdu::AbortUser(x),
     )
 }

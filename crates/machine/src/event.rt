@@ -1,7 +1,8 @@
-// The events: user requests and responses, dialogue-service primitives with their parameters, timer expiry, system error.
+// The events: user requests and responses, dialogue-service primitives with their parameters and user data, timer expiry, system error.
 use crate::record::Configuration;
 ghost use mathlib.Core.Path.{_≡_};
-ghost use Rattle.machine.specs.Event.{readable, qosFits, indicationShapely, confirmationShapely, userShapely, serviceShapely, shapely};
+ghost use Rattle.machine.specs.Apdus.{kindOf, modeOf, reasonOf, readable};
+ghost use Rattle.machine.specs.Event.{qosFits, userShapely, serviceShapely, shapely};
 
 // The user data of a primitive: none, not a valid PDU, or an APDU with its numbers. Message data is not held here.
 pub enum Apdu {
@@ -24,22 +25,6 @@ pub struct Qos {
     pub routing: u64,
 }
 
-// The parameters of a D-START indication. Peer identifiers and version numbers stay with the host.
-pub struct StartIndicationParameters {
-    // What the Calling Peer ID is: a facility designation, or an aircraft address.
-    pub peer: u64,
-    pub security: u64,
-    pub qos: Qos,
-    pub apdu: Apdu,
-}
-
-pub struct StartConfirmationParameters {
-    pub result: u64,
-    pub source: u64,
-    pub security: u64,
-    pub apdu: Apdu,
-}
-
 // The user's requests and responses. A flag before the other parameters says whether it is the DSC- (true) or the CPDLC- one.
 pub enum UserPrimitive {
     // Class of Communication, Security Required.
@@ -55,43 +40,105 @@ pub enum UserPrimitive {
     UserAbortServiceRequest(bool, u64),
 }
 
-// The dialogue service's indications and confirmations.
+// The dialogue service's indications and confirmations, but for their user data. Peer identifiers and version numbers stay with the host.
 pub enum ServicePrimitive {
-    DStartIndication(StartIndicationParameters),
-    DStartConfirmation(StartConfirmationParameters),
-    DDataIndication(Apdu),
-    DEndIndication(Apdu),
+    // What the Calling Peer ID is, security, quality of service.
+    DStartIndication(u64, u64, Qos),
+    // Result, reject source, security.
+    DStartConfirmation(u64, u64, u64),
+    DDataIndication,
+    DEndIndication,
     // Result.
-    DEndConfirmation(u64, Apdu),
+    DEndConfirmation(u64),
     // Originator.
-    DAbortIndication(u64, Apdu),
+    DAbortIndication(u64),
     DPAbortIndication,
 }
 
 pub enum Event {
     User(UserPrimitive),
-    Service(ServicePrimitive),
+    // A primitive of the dialogue service, with its user data.
+    Service(ServicePrimitive, Apdu),
     TimerExpires,
     UnrecoverableSystemError,
 }
 
 impl Apdu {
-    pub const USER_REASONS: u64 = 13;
+    // The kinds that are asked for, as `kind` numbers them.
+    pub(crate) const ABSENT: u64 = 0;
 
-    pub const PROVIDER_REASONS: u64 = 8;
+    pub(crate) const NOT_VALID: u64 = 1;
 
+    pub(crate) const START: u64 = 2;
+
+    pub(crate) const SEND: u64 = 3;
+
+    pub(crate) const ABORT_USER: u64 = 4;
+
+    pub(crate) const ABORT_PROVIDER: u64 = 5;
+
+    // The values of the two types of reason.
+    pub(crate) const USER_REASONS: u64 = 13;
+
+    pub(crate) const PROVIDER_REASONS: u64 = 8;
+
+    // Which kind it is.
+    pub(crate) fn kind(self) -> u64
+        ensures { λ k. ⌜ k ≡ kindOf self ⌝ }
+    {
+        match self {
+            Apdu::Absent => 0,
+            Apdu::NotValid => 1,
+            Apdu::Start(_) => 2,
+            Apdu::Send => 3,
+            Apdu::AbortUser(_) => 4,
+            Apdu::AbortProvider(_) => 5,
+            Apdu::Forward => 6,
+        }
+    }
+
+    // The mode of a start (true: dsc).
+    pub(crate) fn mode(self) -> bool
+        ensures { λ b. ⌜ b ≡ modeOf self ⌝ }
+    {
+        match self {
+            Apdu::Absent => false,
+            Apdu::NotValid => false,
+            Apdu::Start(dsc) => dsc,
+            Apdu::Send => false,
+            Apdu::AbortUser(_) => false,
+            Apdu::AbortProvider(_) => false,
+            Apdu::Forward => false,
+        }
+    }
+
+    // The reason of an abort.
+    pub(crate) fn reason(self) -> u64
+        ensures { λ x. ⌜ x ≡ reasonOf self ⌝ }
+    {
+        match self {
+            Apdu::Absent => 0,
+            Apdu::NotValid => 0,
+            Apdu::Start(_) => 0,
+            Apdu::Send => 0,
+            Apdu::AbortUser(reason) => reason,
+            Apdu::AbortProvider(reason) => reason,
+            Apdu::Forward => 0,
+        }
+    }
+
+    // Is its reason of its type?
     pub(crate) fn readable(self) -> bool
         ensures { λ b. ⌜ b ≡ readable self ⌝ }
     {
-        match self {
-            Apdu::Absent => true,
-            Apdu::NotValid => true,
-            Apdu::Start(_) => true,
-            Apdu::Send => true,
-            Apdu::AbortUser(reason) => reason < Apdu::USER_REASONS,
-            Apdu::AbortProvider(reason) => reason < Apdu::PROVIDER_REASONS,
-            Apdu::Forward => true,
+        let kind = self.kind();
+        if kind == Apdu::ABORT_USER {
+            return self.reason() < Apdu::USER_REASONS;
         }
+        if kind == Apdu::ABORT_PROVIDER {
+            return self.reason() < Apdu::PROVIDER_REASONS;
+        }
+        true
     }
 }
 
@@ -115,47 +162,8 @@ impl Qos {
     }
 }
 
-impl StartIndicationParameters {
-    pub const PEERS: u64 = 2;
-
-    pub(crate) fn shapely(self) -> bool
-        ensures { λ b. ⌜ b ≡ indicationShapely self ⌝ }
-    {
-        if StartIndicationParameters::PEERS <= self.peer {
-            return false;
-        }
-        if Configuration::SECURITY_VALUES <= self.security {
-            return false;
-        }
-        let apdu = self.apdu;
-        apdu.readable()
-    }
-}
-
-impl StartConfirmationParameters {
-    pub const RESULTS: u64 = 3;
-
-    pub const SOURCES: u64 = 2;
-
-    pub(crate) fn shapely(self) -> bool
-        ensures { λ b. ⌜ b ≡ confirmationShapely self ⌝ }
-    {
-        if StartConfirmationParameters::RESULTS <= self.result {
-            return false;
-        }
-        if StartConfirmationParameters::SOURCES <= self.source {
-            return false;
-        }
-        if Configuration::SECURITY_VALUES <= self.security {
-            return false;
-        }
-        let apdu = self.apdu;
-        apdu.readable()
-    }
-}
-
 impl UserPrimitive {
-    pub const RESULTS: u64 = 2;
+    pub(crate) const RESULTS: u64 = 2;
 
     pub(crate) fn shapely(self) -> bool
         ensures { λ b. ⌜ b ≡ userShapely self ⌝ }
@@ -174,24 +182,54 @@ impl UserPrimitive {
 }
 
 impl ServicePrimitive {
-    pub const END_RESULTS: u64 = 2;
+    // What the Calling Peer ID is: a facility designation, an aircraft address.
+    pub const FACILITY: u64 = 0;
 
-    pub const ORIGINATORS: u64 = 2;
+    pub const AIRCRAFT: u64 = 1;
+
+    // Result "rejected (transient)", and Reject Source "DS provider".
+    pub(crate) const TRANSIENT: u64 = 2;
+
+    pub(crate) const DS_PROVIDER: u64 = 1;
+
+    // Originator of a D-ABORT.
+    pub(crate) const USER: u64 = 0;
+
+    pub const PROVIDER: u64 = 1;
+
+    // The values of each type.
+    pub(crate) const PEERS: u64 = 2;
+
+    pub(crate) const START_RESULTS: u64 = 3;
+
+    pub(crate) const SOURCES: u64 = 2;
+
+    pub(crate) const END_RESULTS: u64 = 2;
+
+    pub(crate) const ORIGINATORS: u64 = 2;
 
     pub(crate) fn shapely(self) -> bool
         ensures { λ b. ⌜ b ≡ serviceShapely self ⌝ }
     {
         match self {
-            ServicePrimitive::DStartIndication(i) => i.shapely(),
-            ServicePrimitive::DStartConfirmation(k) => k.shapely(),
-            ServicePrimitive::DDataIndication(apdu) => apdu.readable(),
-            ServicePrimitive::DEndIndication(apdu) => apdu.readable(),
-            ServicePrimitive::DEndConfirmation(result, apdu) => result
-                < ServicePrimitive::END_RESULTS
-                && apdu.readable(),
-            ServicePrimitive::DAbortIndication(originator, apdu) => originator
-                < ServicePrimitive::ORIGINATORS
-                && apdu.readable(),
+            ServicePrimitive::DStartIndication(peer, security, _) => {
+                peer < ServicePrimitive::PEERS && security < Configuration::SECURITY_VALUES
+            }
+            ServicePrimitive::DStartConfirmation(result, source, security) => {
+                if ServicePrimitive::START_RESULTS <= result {
+                    return false;
+                }
+                if ServicePrimitive::SOURCES <= source {
+                    return false;
+                }
+                security < Configuration::SECURITY_VALUES
+            }
+            ServicePrimitive::DDataIndication => true,
+            ServicePrimitive::DEndIndication => true,
+            ServicePrimitive::DEndConfirmation(result) => result < ServicePrimitive::END_RESULTS,
+            ServicePrimitive::DAbortIndication(originator) => {
+                originator < ServicePrimitive::ORIGINATORS
+            }
             ServicePrimitive::DPAbortIndication => true,
         }
     }
@@ -204,7 +242,7 @@ impl Event {
     {
         match self {
             Event::User(u) => u.shapely(),
-            Event::Service(p) => p.shapely(),
+            Event::Service(p, apdu) => p.shapely() && apdu.readable(),
             Event::TimerExpires => true,
             Event::UnrecoverableSystemError => true,
         }

@@ -1,5 +1,6 @@
 // Exception handling: Doc 9880 3.5.4 (air), Doc 9705 2.3.5.6 (ground).
 use crate::event::Apdu;
+use crate::event::ServicePrimitive;
 use crate::outcome::Invoked;
 use crate::outcome::Outcome;
 use crate::outcome::Told;
@@ -8,12 +9,7 @@ use control::Control;
 use control::State;
 use control::is;
 ghost use mathlib.Core.Path.{_≡_};
-ghost use Rattle.machine.specs.Exceptions.{tell, closes, aborts, excepts, noInstruction, pduFault, timerExpires, systemError};
-
-// Originator of a D-ABORT.
-pub(crate) const USER: u64 = 0;
-
-pub(crate) const PROVIDER: u64 = 1;
+ghost use Rattle.machine.specs.Exceptions.{tell, closes, aborts, excepts, noInstruction, timerExpires, systemError};
 
 // CPDLCProviderAbortReason, and NOT_PERMITTED_PDU, which is told to the user only.
 pub(crate) const TIMER_EXPIRED: u64 = 0;
@@ -56,7 +52,7 @@ pub(crate) fn aborts(r: Record, reason: u64, t: Told) -> Outcome
     let n = r.enter(Control::CLOSED);
     Outcome::taken(
         n,
-        Invoked::DAbortRequest(PROVIDER),
+        Invoked::DAbortRequest(ServicePrimitive::PROVIDER),
         t,
         Apdu::AbortProvider(reason),
         false,
@@ -85,21 +81,6 @@ pub(crate) fn no_instruction(r: Record, exists: bool) -> Outcome
         closes(r, Told::Untold)
     } else {
         excepts(r, exists, PROTOCOL_ERROR, PROTOCOL_ERROR)
-    }
-}
-
-// A PDU that is missing, not valid, or not permitted; i, u: is the dialogue open for the last two.
-pub(crate) fn pdu_fault(r: Record, i: bool, u: bool, apdu: Apdu) -> Outcome
-    ensures { λ o. ⌜ o ≡ pduFault r i u apdu ⌝ }
-{
-    match apdu {
-        Apdu::Absent => excepts(r, true, EXPECTED_PDU_MISSING, NOT_PERMITTED_PDU),
-        Apdu::NotValid => excepts(r, i, INVALID_PDU, INVALID_PDU),
-        Apdu::Start(_) => excepts(r, u, PROTOCOL_ERROR, PROTOCOL_ERROR),
-        Apdu::Send => excepts(r, u, PROTOCOL_ERROR, PROTOCOL_ERROR),
-        Apdu::AbortUser(_) => excepts(r, u, PROTOCOL_ERROR, PROTOCOL_ERROR),
-        Apdu::AbortProvider(_) => excepts(r, u, PROTOCOL_ERROR, PROTOCOL_ERROR),
-        Apdu::Forward => excepts(r, u, PROTOCOL_ERROR, PROTOCOL_ERROR),
     }
 }
 

@@ -3,6 +3,7 @@
 mod calls;
 pub mod event;
 mod exceptions;
+mod faults;
 pub mod outcome;
 mod primitives;
 pub mod record;
@@ -29,7 +30,7 @@ fn permitted(side: Side, r: Record, e: Event) -> bool
     let c = r.control;
     match e {
         Event::User(u) => takes(side, c, call_of(u)),
-        Event::Service(_) => true,
+        Event::Service(_, _) => true,
         Event::TimerExpires => r.timer,
         Event::UnrecoverableSystemError => true,
     }
@@ -40,7 +41,7 @@ fn message_refusal(r: Record, e: Event) -> Refusal
 {
     match e {
         Event::User(u) => unsent(r.highest, u),
-        Event::Service(_) => Refusal::None,
+        Event::Service(_, _) => Refusal::None,
         Event::TimerExpires => Refusal::None,
         Event::UnrecoverableSystemError => Refusal::None,
     }
@@ -65,7 +66,7 @@ fn acts(side: Side, r: Record, e: Event) -> Outcome
 {
     match e {
         Event::User(u) => called(r, u),
-        Event::Service(p) => reached(side, r, p),
+        Event::Service(p, apdu) => reached(side, r, p, apdu),
         Event::TimerExpires => timer_expires(r),
         Event::UnrecoverableSystemError => system_error(r),
     }

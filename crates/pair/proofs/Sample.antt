@@ -8,10 +8,12 @@ use Prim.Native.Nat.{ℕ}
 use lib.Dec.{T, ltb, eqb}
 use Rattle.machine.specs.Codes.{providerReasons}
 use Rattle.machine.specs.Record.{enter}
-use Rattle.machine.specs.Event.{readable, qosFits, indicationShapely, confirmationShapely, userShapely, serviceShapely, shapely}
+use Rattle.machine.specs.Apdus.{readable}
+use Rattle.machine.specs.Event.{qosFits, userShapely, serviceShapely, shapely}
 use Rattle.machine.specs.Exceptions.{tell, aborts, excepts, timerExpires}
 use Rattle.machine.specs.Calls.{answer, sent, startRequest, startResponse, messageRequest, endRequest, callOf, unsent, called}
-use Rattle.machine.specs.Primitives.{handed, read, received, startFits, offered, dStartIndication, dStartConfirmation, dDataIndication, confirmed, reached}
+use Rattle.machine.specs.Faults.{pduFault, sendFault, startFits, indicationFault, confirmationFault, firstFault}
+use Rattle.machine.specs.Primitives.{handed, instructed, answered, reached}
 use Rattle.machine.specs.Step.{permitted, messageRefusal, refusalOf, acts, step}
 use Rattle.machine.specs.declared.event.Apdu.{Apdu}
 use Rattle.machine.specs.declared.event.Apdu.the-variants.{Absent, NotValid, Start, Send, AbortUser, AbortProvider, Forward}
@@ -87,7 +89,7 @@ after ts = run (stepMachine sample 1) (fresh (stepMachine sample 1) (freshWith 1
 pub bytes-run :
     (after turns .here .rec .control ≡ entered End true) × (after turns .there .rec .control ≡ entered Dialogue true) × (after turns .here .taken ≡ (5 ∷ []) ∷ (6 ∷ []) ∷ []) × (after turns .there .given ≡ (5 ∷ []) ∷ [])
     × (after turns .here .jobs ≡ 1 ∷ 2 ∷ []) × (after turns .here .line ≡ record { primitive = DDataRequest; bytes = 2 ∷ (0 ∷ (6 ∷ [])) } ∷ (record { primitive = DEndRequest; bytes = 2 ∷ (0 ∷ []) } ∷ []))
-unfolding run step refusalOf shapely userShapely serviceShapely indicationShapely confirmationShapely readable permitted callOf messageRefusal unsent acts called reached startRequest startResponse messageRequest endRequest sent answer enter dStartIndication qosFits offered startFits handed dStartConfirmation confirmed read dDataIndication received
+unfolding run step refusalOf shapely userShapely serviceShapely readable permitted callOf messageRefusal unsent acts called reached startRequest startResponse messageRequest endRequest sent answer enter qosFits firstFault indicationFault confirmationFault sendFault startFits pduFault answered instructed handed
 bytes-run = (refl, refl, refl, refl, refl, refl)
 
 -- t-start expires before the response is delivered: the ground is told by the D-ABORT, and the air discards the response
@@ -96,5 +98,5 @@ late = asks Air (start-request true 0 []) ∷ gets Ground ∷ asks Ground (start
 
 pub bytes-late :
     (after late .here .rec .control ≡ closed) × (after late .there .rec .control ≡ entered Dialogue true) × (after late .here .line ≡ record { primitive = DAbortRequest 1; bytes = 4 ∷ (0 ∷ []) } ∷ []) × (after late .there .line ≡ []) × (after late .broken ≡ true)
-unfolding run step refusalOf shapely userShapely serviceShapely indicationShapely confirmationShapely readable permitted callOf messageRefusal unsent acts called reached startRequest startResponse sent answer enter dStartIndication qosFits offered startFits handed timerExpires excepts aborts tell
+unfolding run step refusalOf shapely userShapely serviceShapely readable permitted callOf messageRefusal unsent acts called reached startRequest startResponse sent answer enter qosFits firstFault indicationFault startFits pduFault answered instructed handed timerExpires excepts aborts tell
 bytes-late = (refl, refl, refl, refl, refl)

@@ -7,6 +7,8 @@ use lib.Dec.{T, ltb}
 use Rattle.machine.specs.Codes.{securityValues}
 use Rattle.machine.specs.Step.{step}
 use Rattle.machine.specs.declared.record.Record.{Record}
+use Rattle.machine.specs.declared.event.Apdu.{Apdu}
+use Rattle.machine.specs.declared.event.Apdu.the-variants.{Absent}
 use Rattle.machine.specs.declared.event.ServicePrimitive.{ServicePrimitive}
 use Rattle.machine.specs.declared.event.ServicePrimitive.the-variants.{DPAbortIndication}
 use Rattle.machine.specs.declared.event.Event.{Event}
@@ -16,8 +18,8 @@ use Rattle.pair.specs.Carrier.{Body, Sys, Turn, fresh, run}
 use Rattle.pair.specs.Carrier as C
 use Rattle.pair.specs.Claims.{Claims}
 use Rattle.pair.proofs.ControlMachine.{Held, held, Ent, ent, ask, callOf, receives, control}
-use Rattle.pair.specs.Wires.{Wire}
-use Rattle.pair.proofs.StepMachine.{Codec, arrives, apduOf, bodyOf, rejects, happens, Order, asked, dataOf, jobOf, calls, stepMachine}
+use Rattle.pair.specs.Wires.{Wire, arrives, rejects}
+use Rattle.pair.proofs.StepMachine.{Codec, apduOf, bodyOf, happens, Order, asked, dataOf, jobOf, calls, stepMachine}
 use Rattle.pair.proofs.Finite.{is-T}
 use Rattle.pair.proofs.Agree.{OutRel, Follows, Agree}
 use Rattle.pair.proofs.Any.{followed, machine-holds}
@@ -30,13 +32,13 @@ use Rattle.pair.proofs.StepReceives.{receive-rel, away-rel, p-abort-rel
 -- p is a security value
 module _ (K : Codec) (p : ℕ) (v : T (ltb p securityValues)) where
   -- what a primitive does to a formed record leaves a formed one
-  pub formed-service : (sd : Side) (r : Record) (e : ServicePrimitive) (x : Body) (z : C.Outcome Held Ent) → Local p r → OutRel (Low p) (Means K p sd) (happens K sd (step sd r (Service e)) x) z → OutRel (Same p) (Means K p sd) (happens K sd (step sd r (Service e)) x) z
-  formed-service sd r e x z h y = same-out p (Means K p sd) (happens K sd (step sd r (Service e)) x) z (happens-formed K sd r (Service e) x (h .formed)) y
+  pub formed-service : (sd : Side) (r : Record) (e : ServicePrimitive) (a : Apdu) (x : Body) (z : C.Outcome Held Ent) → Local p r → OutRel (Low p) (Means K p sd) (happens K sd (step sd r (Service e a)) x) z → OutRel (Same p) (Means K p sd) (happens K sd (step sd r (Service e a)) x) z
+  formed-service sd r e a x z h y = same-out p (Means K p sd) (happens K sd (step sd r (Service e a)) x) z (happens-formed K sd r (Service e a) x (h .formed)) y
 
   pub receive-at : (sd : Side) (r : Record) (w : Wire) (f : Ent) → Local p r → Means K p (other sd) w f → OutRel (Same p) (Means K p sd) (stepMachine K p .receive sd r w) (receives sd (lowOf r) f)
   receive-at sd r w f h e =
       let x = K .dec (other sd) (w .bytes) in
-      formed-service sd r (arrives sd (w .primitive) (apduOf x)) (bodyOf x) (receives sd (lowOf r) f) h (receive-rel K p sd r (w .primitive) x f h (is-T (ltb p securityValues) v) e)
+      formed-service sd r (arrives sd (w .primitive)) (apduOf x) (bodyOf x) (receives sd (lowOf r) f) h (receive-rel K p sd r (w .primitive) x f h (is-T (ltb p securityValues) v) e)
 
   -- a report: an expiry, a system error
   pub formed-report : (sd : Side) (r : Record) (e : Event) (u : Call) → Local p r → Follows {X = Unit {0}} (Low p) (Means K p sd) (happens K sd (step sd r e) []) (lowOf r) (λ (y : Unit {0}). callOf sd (lowOf r) (ask u [] 0)) → Follows {X = Unit {0}} (Same p) (Means K p sd) (happens K sd (step sd r e) []) (lowOf r) (λ (y : Unit {0}). callOf sd (lowOf r) (ask u [] 0))
@@ -60,9 +62,9 @@ module _ (K : Codec) (p : ℕ) (v : T (ltb p securityValues)) where
     error-is = λ (sd : Side) (r : Record) (q : Held) (h : Same p r q).
         subst (λ (x : Held). Follows {X = Unit {0}} (Same p) (Means K p sd) (happens K sd (step sd r UnrecoverableSystemError) []) x (λ (y : Unit {0}). callOf sd x (ask SystemError [] 0))) (h .low) (formed-report sd r UnrecoverableSystemError SystemError (h .local) (error-rel K p sd r (h .local)));
     away-is = λ (sd : Side) (r : Record) (q : Held) (h : Same p r q).
-        subst (λ (x : Held). OutRel (Same p) (Means K p sd) (stepMachine K p .away sd r) (receives sd x (ent DTurnedAway []))) (h .low) (formed-service sd r rejects [] (receives sd (lowOf r) (ent DTurnedAway [])) (h .local) (away-rel K p sd r (h .local)));
+        subst (λ (x : Held). OutRel (Same p) (Means K p sd) (stepMachine K p .away sd r) (receives sd x (ent DTurnedAway []))) (h .low) (formed-service sd r rejects Absent [] (receives sd (lowOf r) (ent DTurnedAway [])) (h .local) (away-rel K p sd r (h .local)));
     p-abort-is = λ (sd : Side) (r : Record) (q : Held) (h : Same p r q).
-        subst (λ (x : Held). OutRel (Same p) (Means K p sd) (stepMachine K p .pAbort sd r) (receives sd x (ent DPAbort []))) (h .low) (formed-service sd r DPAbortIndication [] (receives sd (lowOf r) (ent DPAbort [])) (h .local) (p-abort-rel K p sd r (h .local)));
+        subst (λ (x : Held). OutRel (Same p) (Means K p sd) (stepMachine K p .pAbort sd r) (receives sd x (ent DPAbort []))) (h .low) (formed-service sd r DPAbortIndication Absent [] (receives sd (lowOf r) (ent DPAbort [])) (h .local) (p-abort-rel K p sd r (h .local)));
   }
 
   -- an IDLE record, whatever its highest job

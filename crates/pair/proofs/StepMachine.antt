@@ -6,7 +6,7 @@ use mathlib.Core.Path.{_≡_}
 use mathlib.Core.Bool.{Bool, cond, _&&_}
 use mathlib.Core.List.{List, [], _∷_}
 use lib.Dec.{T, ltb}
-use Rattle.machine.specs.Codes.{noSecurity, transient, dsProvider, providerReasons}
+use Rattle.machine.specs.Codes.{providerReasons}
 use Rattle.machine.specs.Outcome.{isNone}
 use Rattle.machine.specs.Record.{freshRecord}
 use Rattle.machine.specs.Step.{step}
@@ -16,7 +16,7 @@ use Rattle.machine.specs.declared.event.Apdu.the-variants.{Absent, NotValid, Ab
 use Rattle.machine.specs.declared.event.UserPrimitive.{UserPrimitive}
 use Rattle.machine.specs.declared.event.UserPrimitive.the-variants.{StartServiceRequest, StartServiceResponse, MessageServiceRequest, EndServiceRequest, EndServiceResponse, UserAbortServiceRequest}
 use Rattle.machine.specs.declared.event.ServicePrimitive.{ServicePrimitive}
-use Rattle.machine.specs.declared.event.ServicePrimitive.the-variants.{DStartIndication, DStartConfirmation, DDataIndication, DEndIndication, DEndConfirmation, DAbortIndication, DPAbortIndication}
+use Rattle.machine.specs.declared.event.ServicePrimitive.the-variants.{DPAbortIndication}
 use Rattle.machine.specs.declared.event.Event.the-variants.{User, Service, TimerExpires, UnrecoverableSystemError}
 use Rattle.machine.specs.declared.outcome.Invoked.{Invoked}
 use Rattle.machine.specs.declared.outcome.Invoked.the-variants.{Silent, DStartRequest, DStartResponse, DDataRequest, DEndRequest, DEndResponse, DAbortRequest}
@@ -26,7 +26,7 @@ use Rattle.machine.specs.declared.outcome.Outcome.{Outcome}
 use Rattle.pair.specs.Names.{Side, other}
 use Rattle.pair.specs.Carrier.{Body, Sent, nothing, puts, message, Machine}
 use Rattle.pair.specs.Carrier as C
-use Rattle.pair.specs.Wires.{Wire, sortOf, callerOf, dsUser}
+use Rattle.pair.specs.Wires.{Wire, sortOf, arrives, rejects}
 
 -- ---- the codec
 
@@ -45,21 +45,7 @@ pub record Codec : Type 0 where
   pub reasons-fit : (sd : Side) (x : ℕ) → T (ltb x providerReasons) → T (fits sd (AbortProvider x) [])
   pub back : (sd : Side) (a : Apdu) (b : Body) → T (fits sd a b) → dec sd (enc sd a b) ≡ got a b
 
--- ---- what travels
-
--- what a primitive is at the other end, whose side is sd (nothing silent is on a line)
-abbrev pub arrives : Side → Invoked → Apdu → ServicePrimitive
-arrives sd Silent a = DPAbortIndication
-arrives sd (DStartRequest q s) a = DStartIndication (record { peer = callerOf sd; security = s; qos = q; apdu = a })
-arrives sd (DStartResponse x s) a = DStartConfirmation (record { result = x; source = dsUser; security = s; apdu = a })
-arrives sd DDataRequest a = DDataIndication a
-arrives sd DEndRequest a = DEndIndication a
-arrives sd (DEndResponse x) a = DEndConfirmation x a
-arrives sd (DAbortRequest o) a = DAbortIndication o a
-
--- the confirmation that the carrier makes when it turns a start away: rejected (transient), DS provider
-abbrev pub rejects : ServicePrimitive
-rejects = DStartConfirmation (record { result = transient; source = dsProvider; security = noSecurity; apdu = Absent })
+-- ---- what is read
 
 abbrev pub apduOf : Read → Apdu
 apduOf (got a b) = a
@@ -148,11 +134,11 @@ stepMachine K p = record {
   ctl = λ (r : Record). r .control;
   sort = λ (w : Wire). sortOf (w .primitive);
   call = λ (sd : Side) (r : Record) (a : Order). calls K sd (step sd r (User (asked K p a))) (dataOf a) (jobOf a);
-  receive = λ (sd : Side) (r : Record) (w : Wire). happens K sd (step sd r (Service (arrives sd (w .primitive) (apduOf (K .dec (other sd) (w .bytes)))))) (bodyOf (K .dec (other sd) (w .bytes)));
+  receive = λ (sd : Side) (r : Record) (w : Wire). happens K sd (step sd r (Service (arrives sd (w .primitive)) (apduOf (K .dec (other sd) (w .bytes))))) (bodyOf (K .dec (other sd) (w .bytes)));
   expiry = λ (sd : Side) (r : Record). happens K sd (step sd r TimerExpires) [];
   error = λ (sd : Side) (r : Record). happens K sd (step sd r UnrecoverableSystemError) [];
-  away = λ (sd : Side) (r : Record). happens K sd (step sd r (Service rejects)) [];
-  pAbort = λ (sd : Side) (r : Record). happens K sd (step sd r (Service DPAbortIndication)) [];
+  away = λ (sd : Side) (r : Record). happens K sd (step sd r (Service rejects Absent)) [];
+  pAbort = λ (sd : Side) (r : Record). happens K sd (step sd r (Service DPAbortIndication Absent)) [];
 }
 
 -- a fresh record whose policy accepts p

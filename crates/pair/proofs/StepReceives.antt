@@ -10,23 +10,27 @@ use lib.Dec.{T, ltb, eqb, eqb→eq, ltb→lt}
 use borrow.Author.Tests.{eq-eqb}
 use Rattle.machine.specs.Codes.{accepted, user, provider, results, startResults, originators, userReasons, providerReasons, securityValues, protocolError, communicationServiceError, communicationServiceFailure}
 use Rattle.control.specs.Control.{started, ended}
+use Rattle.machine.proofs.Clauses.{no-instruction-outside}
 use Rattle.machine.specs.Record.{withTimer, withUser, enter}
 use Rattle.machine.specs.Outcome.{isNone}
 use Rattle.machine.specs.Outcome as O
-use Rattle.machine.specs.Event.{readable, qosFits, indicationShapely, confirmationShapely, serviceShapely, shapely}
-use Rattle.machine.specs.Exceptions.{tell, closes, aborts, excepts, noInstruction, pduFault}
+use Rattle.machine.specs.Apdus.{readable, abortFits}
+use Rattle.machine.specs.Event.{qosFits, serviceShapely, shapely}
+use Rattle.machine.specs.Exceptions.{tell, closes, excepts, noInstruction}
 use Rattle.machine.specs.Calls.{answer}
-use Rattle.machine.specs.Primitives.{handed, read, received, startFits, offered, dStartIndication, turnedAway, confirmed, dStartConfirmation, dDataIndication, dEndIndication, dEndConfirmation, abortFits, abortExpected, abortTold, dAbortIndication, dPAbortIndication, reached}
+use Rattle.machine.specs.Faults.{pduFault, sendFault, abortFault, startFits, turnedAway, indicationFault, confirmationFault, firstFault}
+use Rattle.machine.specs.Primitives.{handed, abortTold, instructed, answered, reached}
 use Rattle.machine.specs.Step.{permitted, messageRefusal, refusalOf, acts, step}
 use Rattle.machine.specs.declared.record.Record.{Record}
 use Rattle.machine.specs.declared.event.Apdu.{Apdu}
 use Rattle.machine.specs.declared.event.Apdu.the-variants.{Absent, NotValid, Start, Send, AbortUser, AbortProvider, Forward}
 use Rattle.machine.specs.declared.event.Qos.{Qos}
-use Rattle.machine.specs.declared.event.StartIndicationParameters.{StartIndicationParameters}
-use Rattle.machine.specs.declared.event.StartConfirmationParameters.{StartConfirmationParameters}
+use Rattle.machine.specs.declared.event.ServicePrimitive.{ServicePrimitive}
 use Rattle.machine.specs.declared.event.ServicePrimitive.the-variants.{DStartIndication, DStartConfirmation, DDataIndication, DEndIndication, DEndConfirmation, DAbortIndication, DPAbortIndication}
 use Rattle.machine.specs.declared.event.Event.{Event}
 use Rattle.machine.specs.declared.event.Event.the-variants.{Service}
+use Rattle.machine.specs.declared.faults.Fault.{Fault}
+use Rattle.machine.specs.declared.faults.Fault.the-variants.{NoFault, NoInstruction, Quality, TurnedAway, Security, NotPermitted}
 use Rattle.machine.specs.declared.outcome.Refusal.the-variants.{None, Shape}
 use Rattle.machine.specs.declared.outcome.Invoked.{Invoked}
 use Rattle.machine.specs.declared.outcome.Invoked.the-variants.{Silent, DStartRequest, DStartResponse, DDataRequest, DEndRequest, DEndResponse, DAbortRequest}
@@ -39,8 +43,8 @@ use Rattle.pair.specs.Carrier.{Body, nothing}
 use Rattle.pair.specs.Carrier as C
 use Rattle.pair.proofs.ControlMachine.{held, Ent, ent, met, receives}
 use Rattle.pair.proofs.ControlMachine as M
-use Rattle.pair.specs.Wires.{callerOf, dsUser}
-use Rattle.pair.proofs.StepMachine.{Read, got, fault, Codec, arrives, apduOf, bodyOf, rejects, handedBy, happens}
+use Rattle.pair.specs.Wires.{callerOf, dsUser, arrives, rejects}
+use Rattle.pair.proofs.StepMachine.{Read, got, fault, Codec, apduOf, bodyOf, handedBy, happens}
 use Rattle.pair.proofs.Finite.{and-l, and-r, is-T, T-is}
 use Rattle.pair.proofs.StepLocal.{Local, lowOf}
 use Rattle.pair.proofs.StepCalls.{started-not, ended-not}
@@ -76,178 +80,173 @@ module _ (K : Codec) (p : ℕ) where
   and-false true = refl
   and-false false = refl
 
-  expected-rel : (sd : Side) (r : Record) (k : Primitive) (b : Body) (o n : Outcome)
-      → (T (expects sd (r .control) k) → Out K p sd (happens K sd o b) (C.acts (held (after (r .control) k) (r .highest)) (M.handed (isData k) b) nothing))
-      → Out K p sd (happens K sd n b) (met (lowOf r) (cond (isIdle (r .control) && true) (quiet closed) (N.aborts closed)) [])
-      → Meets sd r k b (cond (expects sd (r .control) k) o n)
-  expected-rel sd r k b o n x y = go (expects sd (r .control) k) refl
+  -- the first fault is an unexpected state, or f
+  expected-rel : (sd : Side) (r : Record) (k : Primitive) (b : Body) (q : ServicePrimitive) (a : Apdu) (f : Fault) → Local p r
+      → (T (expects sd (r .control) k) → Out K p sd (happens K sd (answered r q a f) b) (C.acts (held (after (r .control) k) (r .highest)) (M.handed (isData k) b) nothing))
+      → Meets sd r k b (answered r q a (cond (not (expects sd (r .control) k)) (NoInstruction true) f))
+  unfolding answered
+  expected-rel sd r k b q a f h x = go (expects sd (r .control) k) refl
     where
-      go : (e : Bool) → expects sd (r .control) k ≡ e → Out K p sd (happens K sd (cond e o n) b) (met (lowOf r) (cond e (quiet (after (r .control) k)) (cond (isIdle (r .control) && true) (quiet closed) (N.aborts closed))) (M.handed (isData k && e) b))
-      go true q = rw (and-true (isData k)) (x (T-is _ q))
-      go false q = rw (and-false (isData k)) y
+      go : (e : Bool) → expects sd (r .control) k ≡ e → Out K p sd (happens K sd (answered r q a (cond (not e) (NoInstruction true) f)) b) (met (lowOf r) (cond e (quiet (after (r .control) k)) (cond (isIdle (r .control) && true) (quiet closed) (N.aborts closed))) (M.handed (isData k && e) b))
+      go true w = rw (and-true (isData k)) (x (T-is _ w))
+      go false w = rw (and-false (isData k)) (none-rel K p sd r b h)
 
   -- ---- D-DATA, D-END
 
-  data-rel : (sd : Side) (r : Record) (b : Body) → Local p r → Out K p sd (happens K sd (step sd r (Service (DDataIndication Send))) b) (receives sd (lowOf r) (ent DData b))
-  unfolding step refusalOf shapely serviceShapely readable permitted messageRefusal acts reached dDataIndication received read
+  data-rel : (sd : Side) (r : Record) (b : Body) → Local p r → Out K p sd (happens K sd (step sd r (Service DDataIndication Send)) b) (receives sd (lowOf r) (ent DData b))
+  unfolding step refusalOf shapely serviceShapely readable permitted messageRefusal acts reached firstFault sendFault pduFault answered instructed
   data-rel sd r b h =
-      expected-rel sd r DData b (handed r DData MessageIndication) (noInstruction r true)
+      expected-rel sd r DData b DDataIndication Send NoFault h
       (λ (v : T (expects sd (r .control) DData)). handed-rel sd r r DData MessageIndication b h v refl refl refl (h .request) refl)
-      (none-rel K p sd r b h)
 
-  end-rel : (sd : Side) (r : Record) (b : Body) → Local p r → Out K p sd (happens K sd (step sd r (Service (DEndIndication Send))) b) (receives sd (lowOf r) (ent DEnd b))
-  unfolding step refusalOf shapely serviceShapely readable permitted messageRefusal acts reached dEndIndication received read
+  end-rel : (sd : Side) (r : Record) (b : Body) → Local p r → Out K p sd (happens K sd (step sd r (Service DEndIndication Send)) b) (receives sd (lowOf r) (ent DEnd b))
+  unfolding step refusalOf shapely serviceShapely readable permitted messageRefusal acts reached firstFault sendFault pduFault answered instructed
   end-rel sd r b h =
-      expected-rel sd r DEnd b (handed r DEnd (EndIndication (r .control .dsc))) (noInstruction r true)
+      expected-rel sd r DEnd b DEndIndication Send NoFault h
       (λ (v : T (expects sd (r .control) DEnd)). handed-rel sd r r DEnd (EndIndication (r .control .dsc)) b h v refl refl refl (λ (x : T false). absurd x) refl)
-      (none-rel K p sd r b h)
 
   -- ---- D-END confirmation
 
-  ended-rel : (sd : Side) (r : Record) (x : ℕ) (b : Body) → Local p r → T (ltb x results) → Out K p sd (happens K sd (step sd r (Service (DEndConfirmation x Send))) b) (receives sd (lowOf r) (ent (DEndCnf (answer x)) b))
-  unfolding step refusalOf shapely serviceShapely readable permitted messageRefusal acts reached dEndConfirmation received read
-  ended-rel sd r x b h t = two (λ (y : ℕ). Out K p sd (happens K sd (step sd r (Service (DEndConfirmation y Send))) b) (receives sd (lowOf r) (ent (DEndCnf (answer y)) b))) (go 0) (go 1) x t
+  ended-rel : (sd : Side) (r : Record) (x : ℕ) (b : Body) → Local p r → T (ltb x results) → Out K p sd (happens K sd (step sd r (Service (DEndConfirmation x) Send)) b) (receives sd (lowOf r) (ent (DEndCnf (answer x)) b))
+  unfolding step refusalOf shapely serviceShapely readable permitted messageRefusal acts reached firstFault sendFault pduFault answered instructed
+  ended-rel sd r x b h t = two (λ (y : ℕ). Out K p sd (happens K sd (step sd r (Service (DEndConfirmation y) Send)) b) (receives sd (lowOf r) (ent (DEndCnf (answer y)) b))) (go 0) (go 1) x t
     where
-      go : (y : ℕ) → Meets sd r (DEndCnf (answer y)) b (cond (expects sd (r .control) (DEndCnf (answer y))) (handed r (DEndCnf (answer y)) (EndConfirmation (r .control .dsc) y)) (noInstruction r true))
+      go : (y : ℕ) → Meets sd r (DEndCnf (answer y)) b (answered r (DEndConfirmation y) Send (cond (not (expects sd (r .control) (DEndCnf (answer y)))) (NoInstruction true) NoFault))
       go y =
-          expected-rel sd r (DEndCnf (answer y)) b (handed r (DEndCnf (answer y)) (EndConfirmation (r .control .dsc) y)) (noInstruction r true)
+          expected-rel sd r (DEndCnf (answer y)) b (DEndConfirmation y) Send NoFault h
           (λ (v : T (expects sd (r .control) (DEndCnf (answer y)))). handed-rel sd r r (DEndCnf (answer y)) (EndConfirmation (r .control .dsc) y) b h v refl refl refl (λ (x : T (is (ended (answer y) (r .control .dsc) .state) StartReq)). absurd (ended-not K p (answer y) (r .control .dsc) x)) refl)
-          (none-rel K p sd r b h)
 
   -- ---- D-START confirmation
 
-  -- a test that chooses the other way
-  not-cond : {A : Type 0} (e : Bool) (x y : A) → cond (not e) y x ≡ cond e x y
-  not-cond true x y = refl
-  not-cond false x y = refl
+  -- the tests of the result and of the security value are passed
+  confirmed-none : (w e : Bool) (g : Fault) → w ≡ false → e ≡ true → cond w TurnedAway (cond (not e) g NoFault) ≡ NoFault
+  confirmed-none true e g q d = absurd (subst T q tt)
+  confirmed-none false true g q d = refl
+  confirmed-none false false g q d = absurd (subst T (sym d) tt)
 
-  abbrev confirmation : ℕ → ℕ → StartConfirmationParameters
-  confirmation x s = record { result = x; source = dsUser; security = s; apdu = Send }
-
-  -- the security value is that of the request
-  secure : (r : Record) (x s : ℕ) (o n : Outcome) → s ≡ r .request → cond (not (eqb s (r .request))) n o ≡ o
-  secure r x s o n e = ap (λ (b : Bool). cond (not b) n o) (eq-eqb s (r .request) e)
-
-  confirmed-acts : (sd : Side) (r : Record) (x s : ℕ) (b : Body) → Local p r → s ≡ p → turnedAway x dsUser ≡ false → Meets sd r (DStartCnf (answer x)) b (dStartConfirmation sd r (confirmation x s))
-  unfolding dStartConfirmation confirmed read
+  confirmed-acts : (sd : Side) (r : Record) (x s : ℕ) (b : Body) → Local p r → s ≡ p → turnedAway x dsUser ≡ false → Meets sd r (DStartCnf (answer x)) b (reached sd r (DStartConfirmation x dsUser s) Send)
+  unfolding reached firstFault confirmationFault pduFault answered instructed
   confirmed-acts sd r x s b h e w =
       let k = DStartCnf (answer x) in
-      let o = handed (withTimer r false) k (StartConfirmation (r .control .dsc) x) in
-      let n = excepts r (eqb x accepted) communicationServiceFailure communicationServiceFailure in
-      let a = closes r (tell r (ProviderAbortIndication communicationServiceError)) in
-      subst (λ (z : Outcome). Meets sd r k b z) (sym (not-cond (expects sd (r .control) k) (cond (turnedAway x dsUser) a (cond (not (eqb s (r .request))) n o)) (noInstruction r true)))
-      (expected-rel sd r k b (cond (turnedAway x dsUser) a (cond (not (eqb s (r .request))) n o)) (noInstruction r true)
+      let f = cond (turnedAway x dsUser) TurnedAway (cond (not (eqb s (r .request))) (Security (eqb x accepted)) NoFault) in
+      expected-rel sd r k b (DStartConfirmation x dsUser s) Send f h
       (λ (v : T (expects sd (r .control) k)).
-      subst (λ (z : Outcome). Out K p sd (happens K sd z b) (C.acts (held (after (r .control) k) (r .highest)) [] nothing))
-      (sym (ap (λ (t : Bool). cond t a (cond (not (eqb s (r .request))) n o)) w ∙ secure r x s o n (e ∙ sym (h .request (and-l (is (r .control .state) StartReq) (mayStart sd (r .control .dsc)) v)))))
+      subst (λ (z : Fault). Out K p sd (happens K sd (answered r (DStartConfirmation x dsUser s) Send z) b) (C.acts (held (after (r .control) k) (r .highest)) [] nothing))
+      (sym (confirmed-none (turnedAway x dsUser) (eqb s (r .request)) (Security (eqb x accepted)) w (eq-eqb s (r .request) (e ∙ sym (h .request (and-l (is (r .control .state) StartReq) (mayStart sd (r .control .dsc)) v))))))
       (handed-rel sd r (withTimer r false) k (StartConfirmation (r .control .dsc) x) b h v refl refl refl (λ (y : T (is (started (answer x) (r .control .dsc) .state) StartReq)). absurd (started-not K p (answer x) (r .control .dsc) y)) refl))
-      (none-rel K p sd r b h))
 
   -- an event with the codes of its types is not refused
   step-fits : (sd : Side) (r : Record) (e : Event) → isNone (refusalOf sd r e) ≡ true → step sd r e ≡ acts sd r e
   unfolding step
   step-fits sd r e t = ap (λ (b : Bool). cond b (acts sd r e) (O.refused (refusalOf sd r e) r)) t
 
-  confirmed-fits : (sd : Side) (r : Record) (x s : ℕ) → ltb x startResults ≡ true → ltb s securityValues ≡ true → isNone (refusalOf sd r (Service (DStartConfirmation (confirmation x s)))) ≡ true
-  unfolding refusalOf shapely serviceShapely confirmationShapely readable permitted messageRefusal
-  confirmed-fits sd r x s t v = ap (λ (b : Bool). isNone (cond (not (b && (true && (ltb s securityValues && true)))) Shape None)) t ∙ ap (λ (b : Bool). isNone (cond (not (b && true)) Shape None)) v
+  confirmed-fits : (sd : Side) (r : Record) (x s : ℕ) → ltb x startResults ≡ true → ltb s securityValues ≡ true → isNone (refusalOf sd r (Service (DStartConfirmation x dsUser s) Send)) ≡ true
+  unfolding refusalOf shapely serviceShapely readable permitted messageRefusal
+  confirmed-fits sd r x s t v = ap (λ (b : Bool). isNone (cond (not ((b && (true && ltb s securityValues)) && true)) Shape None)) t ∙ ap (λ (b : Bool). isNone (cond (not (b && true)) Shape None)) v
 
-  confirmed-rel : (sd : Side) (r : Record) (x s : ℕ) (b : Body) → Local p r → T (ltb x results) → s ≡ p → ltb p securityValues ≡ true → Out K p sd (happens K sd (step sd r (Service (DStartConfirmation (confirmation x s)))) b) (receives sd (lowOf r) (ent (DStartCnf (answer x)) b))
-  unfolding acts reached
+  confirmed-rel : (sd : Side) (r : Record) (x s : ℕ) (b : Body) → Local p r → T (ltb x results) → s ≡ p → ltb p securityValues ≡ true → Out K p sd (happens K sd (step sd r (Service (DStartConfirmation x dsUser s) Send)) b) (receives sd (lowOf r) (ent (DStartCnf (answer x)) b))
+  unfolding acts
   confirmed-rel sd r x s b h t e v =
-      two (λ (y : ℕ). Out K p sd (happens K sd (step sd r (Service (DStartConfirmation (confirmation y s)))) b) (receives sd (lowOf r) (ent (DStartCnf (answer y)) b))) (go 0 refl refl) (go 1 refl refl) x t
+      two (λ (y : ℕ). Out K p sd (happens K sd (step sd r (Service (DStartConfirmation y dsUser s) Send)) b) (receives sd (lowOf r) (ent (DStartCnf (answer y)) b))) (go 0 refl refl) (go 1 refl refl) x t
     where
-      go : (y : ℕ) → ltb y startResults ≡ true → turnedAway y dsUser ≡ false → Out K p sd (happens K sd (step sd r (Service (DStartConfirmation (confirmation y s)))) b) (receives sd (lowOf r) (ent (DStartCnf (answer y)) b))
+      go : (y : ℕ) → ltb y startResults ≡ true → turnedAway y dsUser ≡ false → Out K p sd (happens K sd (step sd r (Service (DStartConfirmation y dsUser s) Send)) b) (receives sd (lowOf r) (ent (DStartCnf (answer y)) b))
       go y f w =
           subst (λ (z : Outcome). Out K p sd (happens K sd z b) (receives sd (lowOf r) (ent (DStartCnf (answer y)) b)))
-          (sym (step-fits sd r (Service (DStartConfirmation (confirmation y s))) (confirmed-fits sd r y s f (ap (λ (a : ℕ). ltb a securityValues) e ∙ v))))
+          (sym (step-fits sd r (Service (DStartConfirmation y dsUser s) Send) (confirmed-fits sd r y s f (ap (λ (a : ℕ). ltb a securityValues) e ∙ v))))
           (confirmed-acts sd r y s b h e w)
 
   -- ---- the carrier turns a start away
 
-  pub away-rel : (sd : Side) (r : Record) → Local p r → Out K p sd (happens K sd (step sd r (Service rejects)) []) (receives sd (lowOf r) (ent DTurnedAway []))
-  unfolding step refusalOf shapely serviceShapely confirmationShapely readable permitted messageRefusal acts reached dStartConfirmation answer
+  pub away-rel : (sd : Side) (r : Record) → Local p r → Out K p sd (happens K sd (step sd r (Service rejects Absent)) []) (receives sd (lowOf r) (ent DTurnedAway []))
+  unfolding step refusalOf shapely serviceShapely readable permitted messageRefusal acts reached firstFault confirmationFault answered answer
   away-rel sd r h =
-      let a = closes r (tell r (ProviderAbortIndication communicationServiceError)) in
-      subst (λ (z : Outcome). Meets sd r DTurnedAway [] z) (sym (not-cond (expects sd (r .control) DTurnedAway) a (noInstruction r true)))
-      (expected-rel sd r DTurnedAway [] a (noInstruction r true)
+      expected-rel sd r DTurnedAway [] rejects Absent TurnedAway h
       (λ (v : T (expects sd (r .control) DTurnedAway)). closes-rel K p sd r (tell r (ProviderAbortIndication communicationServiceError)) [] h)
-      (none-rel K p sd r [] h))
 
   -- ---- D-ABORT, D-P-ABORT: outside IDLE they close; in IDLE there is no output
 
   abbrev Closes : Side → Record → Body → Outcome → Type 0
   Closes sd r b o = Out K p sd (happens K sd o b) (met (lowOf r) (cond (not (isIdle (r .control))) (quiet closed) (cond (isIdle (r .control) && true) (quiet closed) (N.aborts closed))) [])
 
-  ends-rel : (sd : Side) (r : Record) (b : Body) (t : Told) → Local p r → Closes sd r b (cond (not (isIdle (r .control))) (closes r t) (noInstruction r false))
-  unfolding noInstruction
-  ends-rel sd r b t h = go (isIdle (r .control))
+  none-closes : (sd : Side) (r : Record) (b : Body) → Local p r → Out K p sd (happens K sd (noInstruction r false) b) (C.acts (held closed (r .highest)) [] nothing)
+  unfolding noInstruction excepts
+  none-closes sd r b h = go (isIdle (r .control))
     where
-      go : (i : Bool) → Out K p sd (happens K sd (cond (not i) (closes r t) (cond i (closes r Untold) (excepts r false protocolError protocolError))) b) (met (lowOf r) (cond (not i) (quiet closed) (cond (i && true) (quiet closed) (N.aborts closed))) [])
+      go : (i : Bool) → Out K p sd (happens K sd (cond i (closes r Untold) (closes r (tell r (ProviderAbortIndication protocolError)))) b) (C.acts (held closed (r .highest)) [] nothing)
       go true = closes-rel K p sd r Untold b h
-      go false = closes-rel K p sd r t b h
+      go false = closes-rel K p sd r (tell r (ProviderAbortIndication protocolError)) b h
 
-  pub p-abort-rel : (sd : Side) (r : Record) → Local p r → Out K p sd (happens K sd (step sd r (Service DPAbortIndication)) []) (receives sd (lowOf r) (ent DPAbort []))
-  unfolding step refusalOf shapely serviceShapely permitted messageRefusal acts reached dPAbortIndication
-  p-abort-rel sd r h = ends-rel sd r [] (tell r (ProviderAbortIndication communicationServiceFailure)) h
+  ends-rel : (sd : Side) (r : Record) (b : Body) (q : ServicePrimitive) (a : Apdu) (t : Told) → Local p r → instructed r q a ≡ closes r t → Closes sd r b (answered r q a (cond (not (not (isIdle (r .control)))) (NoInstruction false) NoFault))
+  unfolding answered
+  ends-rel sd r b q a t h e = go (isIdle (r .control))
+    where
+      go : (i : Bool) → Out K p sd (happens K sd (answered r q a (cond (not (not i)) (NoInstruction false) NoFault)) b) (met (lowOf r) (cond (not i) (quiet closed) (cond (i && true) (quiet closed) (N.aborts closed))) [])
+      go true = none-closes sd r b h
+      go false = subst (λ (z : Outcome). Out K p sd (happens K sd z b) (C.acts (held closed (r .highest)) [] nothing)) (sym e) (closes-rel K p sd r t b h)
 
-  abort-fits : (sd : Side) (r : Record) (o : ℕ) (a : Apdu) → ltb o originators && readable a ≡ true → isNone (refusalOf sd r (Service (DAbortIndication o a))) ≡ true
+  pub p-abort-rel : (sd : Side) (r : Record) → Local p r → Out K p sd (happens K sd (step sd r (Service DPAbortIndication Absent)) []) (receives sd (lowOf r) (ent DPAbort []))
+  unfolding step refusalOf shapely serviceShapely readable permitted messageRefusal acts reached firstFault abortFault instructed
+  p-abort-rel sd r h = ends-rel sd r [] DPAbortIndication Absent (tell r (ProviderAbortIndication communicationServiceFailure)) h refl
+
+  abort-fits : (sd : Side) (r : Record) (o : ℕ) (a : Apdu) → ltb o originators && readable a ≡ true → isNone (refusalOf sd r (Service (DAbortIndication o) a)) ≡ true
   unfolding refusalOf shapely serviceShapely permitted messageRefusal
   abort-fits sd r o a e = ap (λ (z : Bool). isNone (cond (not z) Shape None)) e
 
-  abort-rel : (sd : Side) (r : Record) (o : ℕ) (a : Apdu) (b : Body) → Local p r → ltb o originators && readable a ≡ true → abortFits o a ≡ true → Out K p sd (happens K sd (step sd r (Service (DAbortIndication o a))) b) (receives sd (lowOf r) (ent DAbort []))
-  unfolding acts reached dAbortIndication abortExpected
+  abort-rel : (sd : Side) (r : Record) (o : ℕ) (a : Apdu) (b : Body) → Local p r → ltb o originators && readable a ≡ true → abortFits o a ≡ true → Out K p sd (happens K sd (step sd r (Service (DAbortIndication o) a)) b) (receives sd (lowOf r) (ent DAbort []))
+  unfolding acts reached firstFault abortFault instructed
   abort-rel sd r o a b h s f =
-      subst (λ (z : Outcome). Closes sd r b z) (sym (step-fits sd r (Service (DAbortIndication o a)) (abort-fits sd r o a s)))
-      (subst (λ (z : Bool). Closes sd r b (cond z (closes r (tell r (abortTold a))) (noInstruction r false))) (sym (ap (λ (z : Bool). not (isIdle (r .control)) && z) f ∙ and-true (not (isIdle (r .control)))))
-      (ends-rel sd r b (tell r (abortTold a)) h))
+      subst (λ (z : Outcome). Closes sd r b z) (sym (step-fits sd r (Service (DAbortIndication o) a) (abort-fits sd r o a s)))
+      (subst (λ (z : Bool). Closes sd r b (answered r (DAbortIndication o) a (cond (not (not (isIdle (r .control)))) (NoInstruction false) (cond (not z) (NoInstruction false) NoFault)))) (sym f)
+      (ends-rel sd r b (DAbortIndication o) a (tell r (abortTold a)) h refl))
 
   -- ---- D-START indication
 
-  abbrev indication : Side → Qos → ℕ → Bool → StartIndicationParameters
-  indication sd q s m = record { peer = callerOf sd; security = s; qos = q; apdu = Start m }
+  abbrev indication : Side → Qos → ℕ → ServicePrimitive
+  indication sd q s = DStartIndication (callerOf sd) s q
 
   -- i: IDLE; y: the other side may start in this mode
-  offered-rel : (sd : Side) (r : Record) (m i y : Bool) (t : Told) (b : Body) → Local p r → handedBy t b ≡ [] → (T (i && y) → T (expects sd (r .control) (DStart m)))
-      → Out K p sd (happens K sd (cond (not i) (cond i (closes r Untold) (excepts r true protocolError protocolError)) (cond (not (i && y)) (excepts r true protocolError protocolError) (handed (withUser r true) (DStart m) t))) b)
+  offered-rel : (sd : Side) (r : Record) (q : Qos) (s : ℕ) (m i y : Bool) (b : Body) → Local p r → isIdle (r .control) ≡ i → (T (i && y) → T (expects sd (r .control) (DStart m)))
+      → Out K p sd (happens K sd (answered r (indication sd q s) (Start m) (cond (not i) (NoInstruction true) (cond (not (i && y)) (NotPermitted true) NoFault))) b)
       (met (lowOf r) (cond (i && y) (quiet (after (r .control) (DStart m))) (cond (i && false) (quiet closed) (N.aborts closed))) [])
-  offered-rel sd r m true true t b h e v = handed-rel sd r (withUser r true) (DStart m) t b h (v tt) refl refl refl (λ (x : T false). absurd x) e
-  offered-rel sd r m true false t b h e v = excepts-rel K p sd r protocolError protocolError b h tt
-  offered-rel sd r m false y t b h e v = excepts-rel K p sd r protocolError protocolError b h tt
+  unfolding answered instructed
+  offered-rel sd r q s m true true b h w v = handed-rel sd r (withUser r true) (DStart m) (StartIndication m (q .routing)) b h (v tt) refl refl refl (λ (x : T false). absurd x) refl
+  offered-rel sd r q s m true false b h w v = excepts-rel K p sd r protocolError protocolError b h tt
+  offered-rel sd r q s m false y b h w v =
+      subst (λ (z : Outcome). Out K p sd (happens K sd z b) (met (lowOf r) (N.aborts closed) [])) (sym (no-instruction-outside r true w)) (excepts-rel K p sd r protocolError protocolError b h tt)
 
   -- the tests of quality of service and security are passed
-  passed : (a c : Bool) (w x y o n : Outcome) (i : Bool) → a ≡ true → c ≡ true → cond (not i) n o ≡ y → cond (not i) n (cond (not a) w (cond (not c) x o)) ≡ y
-  passed true true w x y o n i e f q = q
-  passed true false w x y o n i e f q = absurd (subst T (sym f) tt)
-  passed false c w x y o n i e f q = absurd (subst T (sym e) tt)
+  passed : (a c : Bool) (o : Fault) (i : Bool) → a ≡ true → c ≡ true → cond (not i) (NoInstruction true) (cond (not a) Quality (cond (not c) (Security true) o)) ≡ cond (not i) (NoInstruction true) o
+  passed true true o i e f = refl
+  passed true false o i e f = absurd (subst T (sym f) tt)
+  passed false c o i e f = absurd (subst T (sym e) tt)
 
-  start-acts : (sd : Side) (r : Record) (q : Qos) (s : ℕ) (m : Bool) (b : Body) → Local p r → qosFits q ≡ true → s ≡ p → Out K p sd (happens K sd (dStartIndication sd r (indication sd q s m)) b) (receives sd (lowOf r) (ent (DStart m) b))
-  unfolding dStartIndication offered startFits noInstruction pduFault
+  start-acts : (sd : Side) (r : Record) (q : Qos) (s : ℕ) (m : Bool) (b : Body) → Local p r → qosFits q ≡ true → s ≡ p → Out K p sd (happens K sd (reached sd r (indication sd q s) (Start m)) b) (receives sd (lowOf r) (ent (DStart m) b))
+  unfolding reached firstFault indicationFault startFits pduFault
   start-acts Air r q s m b h f e =
-      subst (λ (z : Outcome). Out K p Air (happens K Air z b) (receives Air (lowOf r) (ent (DStart m) b)))
-      (sym (passed (qosFits q) (eqb s (r .policy)) _ _ _ (offered Air r (indication Air q s m)) (noInstruction r true) (isIdle (r .control)) f (eq-eqb s (r .policy) (e ∙ sym (h .policy))) refl))
-      (offered-rel Air r m (isIdle (r .control)) (mayStart Ground m) (StartIndication m (q .routing)) b h refl (λ (v : T (isIdle (r .control) && mayStart Ground m)). v))
+      subst (λ (z : Fault). Out K p Air (happens K Air (answered r (indication Air q s) (Start m) z) b) (receives Air (lowOf r) (ent (DStart m) b)))
+      (sym (passed (qosFits q) (eqb s (r .policy)) (cond (not (isIdle (r .control) && mayStart Ground m)) (NotPermitted true) NoFault) (isIdle (r .control)) f (eq-eqb s (r .policy) (e ∙ sym (h .policy)))))
+      (offered-rel Air r q s m (isIdle (r .control)) (mayStart Ground m) b h refl (λ (v : T (isIdle (r .control) && mayStart Ground m)). v))
   start-acts Ground r q s m b h f e =
-      subst (λ (z : Outcome). Out K p Ground (happens K Ground z b) (receives Ground (lowOf r) (ent (DStart m) b)))
-      (sym (passed (qosFits q) (eqb s (r .policy)) _ _ _ (offered Ground r (indication Ground q s m)) (noInstruction r true) (isIdle (r .control)) f (eq-eqb s (r .policy) (e ∙ sym (h .policy))) refl))
-      (offered-rel Ground r m (isIdle (r .control)) (mayStart Air m) (StartIndication m (q .routing)) b h refl (λ (v : T (isIdle (r .control) && mayStart Air m)). v))
+      subst (λ (z : Fault). Out K p Ground (happens K Ground (answered r (indication Ground q s) (Start m) z) b) (receives Ground (lowOf r) (ent (DStart m) b)))
+      (sym (passed (qosFits q) (eqb s (r .policy)) (cond (not (isIdle (r .control) && mayStart Air m)) (NotPermitted true) NoFault) (isIdle (r .control)) f (eq-eqb s (r .policy) (e ∙ sym (h .policy)))))
+      (offered-rel Ground r q s m (isIdle (r .control)) (mayStart Air m) b h refl (λ (v : T (isIdle (r .control) && mayStart Air m)). v))
 
-  start-fits : (sd : Side) (r : Record) (q : Qos) (s : ℕ) (m : Bool) → ltb s securityValues ≡ true → isNone (refusalOf sd r (Service (DStartIndication (indication sd q s m)))) ≡ true
-  unfolding refusalOf shapely serviceShapely indicationShapely readable permitted messageRefusal
+  start-fits : (sd : Side) (r : Record) (q : Qos) (s : ℕ) (m : Bool) → ltb s securityValues ≡ true → isNone (refusalOf sd r (Service (indication sd q s) (Start m))) ≡ true
+  unfolding refusalOf shapely serviceShapely readable permitted messageRefusal
   start-fits Air r q s m v = ap (λ (b : Bool). isNone (cond (not (b && true)) Shape None)) v
   start-fits Ground r q s m v = ap (λ (b : Bool). isNone (cond (not (b && true)) Shape None)) v
 
-  start-rel : (sd : Side) (r : Record) (q : Qos) (s : ℕ) (m : Bool) (b : Body) → Local p r → qosFits q ≡ true → s ≡ p → ltb p securityValues ≡ true → Out K p sd (happens K sd (step sd r (Service (DStartIndication (indication sd q s m)))) b) (receives sd (lowOf r) (ent (DStart m) b))
-  unfolding acts reached
+  start-rel : (sd : Side) (r : Record) (q : Qos) (s : ℕ) (m : Bool) (b : Body) → Local p r → qosFits q ≡ true → s ≡ p → ltb p securityValues ≡ true → Out K p sd (happens K sd (step sd r (Service (indication sd q s) (Start m))) b) (receives sd (lowOf r) (ent (DStart m) b))
+  unfolding acts
   start-rel sd r q s m b h f e v =
       subst (λ (z : Outcome). Out K p sd (happens K sd z b) (receives sd (lowOf r) (ent (DStart m) b)))
-      (sym (step-fits sd r (Service (DStartIndication (indication sd q s m))) (start-fits sd r q s m (ap (λ (a : ℕ). ltb a securityValues) e ∙ v))))
+      (sym (step-fits sd r (Service (indication sd q s) (Start m)) (start-fits sd r q s m (ap (λ (a : ℕ). ltb a securityValues) e ∙ v))))
       (start-acts sd r q s m b h f e)
 
   -- ---- every entry that means something
 
   abbrev Received : Side → Record → Invoked → Apdu → Body → Ent → Type 0
-  Received sd r i a b f = Out K p sd (happens K sd (step sd r (Service (arrives sd i a))) b) (receives sd (lowOf r) f)
+  Received sd r i a b f = Out K p sd (happens K sd (step sd r (Service (arrives sd i) a)) b) (receives sd (lowOf r) f)
 
   -- what is known of the entry is what it means
   at-known : (sd : Side) (r : Record) (i : Invoked) (a : Apdu) (b : Body) (g f : Ent) → known g ≡ known f → Received sd r i a b g → Received sd r i a b f
@@ -281,12 +280,12 @@ module _ (K : Codec) (p : ℕ) where
       let v = known-if (eqb o user && ltb x userReasons) (known (ent DAbort [])) f k in
       let e = is-T (eqb o user) (and-l (eqb o user) (ltb x userReasons) (v .0)) in
       at-known sd r (DAbortRequest o) (AbortUser x) b (ent DAbort []) f (v .1)
-      (abort-rel sd r o (AbortUser x) b h (ap (λ (z : ℕ). ltb z originators && ltb x userReasons) (eqb→eq o user (T-is _ e)) ∙ is-T (ltb x userReasons) (and-r (eqb o user) (ltb x userReasons) (v .0))) e)
+      (abort-rel sd r o (AbortUser x) b h (ap (λ (z : ℕ). ltb z originators && ltb x userReasons) (eqb→eq o user (T-is _ e)) ∙ is-T (ltb x userReasons) (and-r (eqb o user) (ltb x userReasons) (v .0))) (ap (λ (z : ℕ). abortFits z (AbortUser x)) (eqb→eq o user (T-is _ e))))
   abort-core sd r o (AbortProvider x) b f h k =
       let v = known-if (eqb o provider && ltb x providerReasons) (known (ent DAbort [])) f k in
       let e = is-T (eqb o provider) (and-l (eqb o provider) (ltb x providerReasons) (v .0)) in
       at-known sd r (DAbortRequest o) (AbortProvider x) b (ent DAbort []) f (v .1)
-      (abort-rel sd r o (AbortProvider x) b h (ap (λ (z : ℕ). ltb z originators && ltb x providerReasons) (eqb→eq o provider (T-is _ e)) ∙ is-T (ltb x providerReasons) (and-r (eqb o provider) (ltb x providerReasons) (v .0))) e)
+      (abort-rel sd r o (AbortProvider x) b h (ap (λ (z : ℕ). ltb z originators && ltb x providerReasons) (eqb→eq o provider (T-is _ e)) ∙ is-T (ltb x providerReasons) (and-r (eqb o provider) (ltb x providerReasons) (v .0))) (ap (λ (z : ℕ). abortFits z (AbortProvider x)) (eqb→eq o provider (T-is _ e))))
   abort-core sd r o Forward b f h k = never f k
 
   core : (sd : Side) (r : Record) (i : Invoked) (a : Apdu) (b : Body) (f : Ent) → Local p r → ltb p securityValues ≡ true → meant p i a b ≡ known f → Received sd r i a b f
@@ -304,6 +303,6 @@ module _ (K : Codec) (p : ℕ) where
       send-core sd r (DEndResponse x) (DEndCnf (answer x)) a b f (ended-rel sd r x b h (w .0)) (w .1)
   core sd r (DAbortRequest o) a b f h v k = abort-core sd r o a b f h k
 
-  pub receive-rel : (sd : Side) (r : Record) (i : Invoked) (x : Read) (f : Ent) → Local p r → ltb p securityValues ≡ true → meaning p i x ≡ known f → Out K p sd (happens K sd (step sd r (Service (arrives sd i (apduOf x)))) (bodyOf x)) (receives sd (lowOf r) f)
+  pub receive-rel : (sd : Side) (r : Record) (i : Invoked) (x : Read) (f : Ent) → Local p r → ltb p securityValues ≡ true → meaning p i x ≡ known f → Out K p sd (happens K sd (step sd r (Service (arrives sd i) (apduOf x))) (bodyOf x)) (receives sd (lowOf r) f)
   receive-rel sd r i (got a b) f h v k = core sd r i a b f h v k
   receive-rel sd r i fault f h v k = never f k

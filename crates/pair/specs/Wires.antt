@@ -1,7 +1,9 @@
 -- What travels on a line when an end is a card: a primitive with its parameters, and bytes.
 use Prim.Native.Nat.{ℕ}
 use mathlib.Core.List.{List}
-use Rattle.machine.specs.Codes.{facility, aircraft}
+use Rattle.machine.specs.Codes.{noSecurity, transient, dsProvider, facility, aircraft}
+use Rattle.machine.specs.declared.event.ServicePrimitive.{ServicePrimitive}
+use Rattle.machine.specs.declared.event.ServicePrimitive.the-variants.{DStartIndication, DStartConfirmation, DDataIndication, DEndIndication, DEndConfirmation, DAbortIndication, DPAbortIndication}
 use Rattle.machine.specs.declared.outcome.Invoked.{Invoked}
 use Rattle.machine.specs.declared.outcome.Invoked.the-variants.{Silent, DStartRequest, DStartResponse, DDataRequest, DEndRequest, DEndResponse, DAbortRequest}
 use Rattle.pair.specs.Names.{Side, Air, Ground}
@@ -29,3 +31,17 @@ callerOf Ground = aircraft
 -- the Reject Source of a confirmation that the other end's user made
 abbrev pub dsUser : ℕ
 dsUser = 0
+
+-- what a primitive is at the other end, whose side is sd (nothing silent is on a line)
+abbrev pub arrives : Side → Invoked → ServicePrimitive
+arrives sd Silent = DPAbortIndication
+arrives sd (DStartRequest q s) = DStartIndication (callerOf sd) s q
+arrives sd (DStartResponse x s) = DStartConfirmation x dsUser s
+arrives sd DDataRequest = DDataIndication
+arrives sd DEndRequest = DEndIndication
+arrives sd (DEndResponse x) = DEndConfirmation x
+arrives sd (DAbortRequest o) = DAbortIndication o
+
+-- the confirmation that the carrier makes when it turns a start away: rejected (transient), DS provider
+abbrev pub rejects : ServicePrimitive
+rejects = DStartConfirmation transient dsProvider noSecurity

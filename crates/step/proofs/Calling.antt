@@ -28,8 +28,7 @@ use Rattle.machine.specs.declared.outcome.Told.the-variants.{Untold, StartIndic
 use Rattle.machine.specs.declared.outcome.Outcome.{Outcome}
 use Rattle.step.specs.Stored.{loadAt, storeAt, kept}
 use Rattle.step.specs.Packed.{primitives, packed, invokedNumber, toldNumber}
-use Rattle.step.specs.Call.{Called, called, bitsOfWritten, firstTakes, secondTakes, finished, concluded, withRecord, entering, userStep, meaning, dataOf, readPdu, noData, arrives, dataStep, bareStep, serviceStep}
-use Rattle.step.specs.declared.arrived.Arrived.{Arrived}
+use Rattle.step.specs.Call.{Called, called, bitsOfWritten, firstTakes, secondTakes, finished, concluded, withRecord, entering, userStep, meaning, dataOf, readPdu, noData, dataStep, bareStep, serviceStep}
 use Rattle.step.specs.declared.stored.Loaded.{Loaded}
 use Rattle.step.specs.declared.stored.Loaded.the-variants.{Is, NoRecord}
 
@@ -105,15 +104,15 @@ module _ (r a b : List ℕ) (e : Event) (li lm lc : List ℕ) (d : Data) (sd : S
 
 -- ---- a dialogue-service primitive
 
-module _ (r a b : List ℕ) (p : Arrived) (l : List ℕ) (sd : Side) (x : Record) where
-  pub data-steps : (f : Answer) (m : Apdu) (s : ServicePrimitive) (o : Outcome) (d : Data) (z : Called) → f ≡ readPdu sd p l → m ≡ meaning f → s ≡ arrives p m → o ≡ step sd x (Service s) → d ≡ dataOf f
+module _ (r a b : List ℕ) (p : ServicePrimitive) (l : List ℕ) (sd : Side) (x : Record) where
+  pub data-steps : (f : Answer) (m : Apdu) (o : Outcome) (d : Data) (z : Called) → f ≡ readPdu sd p l → m ≡ meaning f → o ≡ step sd x (Service p m) → d ≡ dataOf f
       → z ≡ concluded r a b sd o l l l d → z ≡ dataStep r a b p l sd x
   unfolding dataStep
-  data-steps f m s o d z pf pm ps po pd e = e ∙ rw (po, pd, ps, pm, pf)
+  data-steps f m o d z pf pm po pd e = e ∙ rw (po, pd, pm, pf)
 
-  pub bare-steps : (s : ServicePrimitive) (o : Outcome) (d : Data) (z : Called) → s ≡ arrives p Absent → o ≡ step sd x (Service s) → d ≡ noData → z ≡ concluded r a b sd o l l l d → z ≡ bareStep r a b p l sd x
+  pub bare-steps : (o : Outcome) (d : Data) (z : Called) → o ≡ step sd x (Service p Absent) → d ≡ noData → z ≡ concluded r a b sd o l l l d → z ≡ bareStep r a b p l sd x
   unfolding bareStep
-  bare-steps s o d z ps po pd e = e ∙ rw (po, pd, ps)
+  bare-steps o d z po pd e = e ∙ rw (po, pd)
 
   pub given-odd : (g : ℕ) → 1 < g → called 2 r a b ≡ serviceStep r a b p g l sd x
   unfolding serviceStep

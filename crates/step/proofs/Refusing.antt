@@ -17,7 +17,7 @@ use Rattle.machine.specs.declared.event.Event.{Event}
 use Rattle.machine.specs.declared.outcome.Outcome.{Outcome}
 use Rattle.step.specs.Stored.{loadAt}
 use Rattle.step.specs.Call.{Called, finished, concluded, withRecord, entering, userStep, userCall, dataStep, bareStep, serviceStep, serviceCall}
-use Rattle.step.specs.declared.arrived.Arrived.{Arrived}
+use Rattle.machine.specs.declared.event.ServicePrimitive.{ServicePrimitive}
 use Rattle.step.specs.declared.stored.Loaded.{Loaded}
 use Rattle.step.specs.declared.stored.Loaded.the-variants.{Is, NoRecord}
 use Rattle.step.proofs.Unpacked.{refusal-unpacked}
@@ -47,7 +47,7 @@ module _ (r a b : List ℕ) where
   user-leaves e ids msgs checks d =
       entering-leaves (userStep r a b e (lent ids) (lent msgs) (lent checks) d) (λ sd x. by-test (Leaves r a b) (dataShaped (lent ids) (lent msgs) (lent checks) d) _ _ (λ h. concluded-leaves sd _ _ _ _ d) (λ h n. (refl, refl, refl)))
 
-  pub service-leaves : (p : Arrived) (given : ℕ) (bytes : List ℕ) → Leaves r a b (serviceCall r a b p given bytes)
+  pub service-leaves : (p : ServicePrimitive) (given : ℕ) (bytes : List ℕ) → Leaves r a b (serviceCall r a b p given bytes)
   unfolding serviceCall serviceStep dataStep bareStep
   service-leaves p given bytes =
       entering-leaves (serviceStep r a b p given (lent bytes)) (λ sd x. by-test (Leaves r a b) (ltb 1 given) _ _ (λ h n. (refl, refl, refl))

@@ -10,33 +10,35 @@ use Rattle.words.proofs.Laws.{both-left, both-right}
 use Rattle.fields.specs.Encodings.{wholeFits}
 use Rattle.apdu.specs.Sizes.{userLast, providerLast}
 use Rattle.apdu.specs.Encoding.{modeFits}
-use Rattle.machine.specs.Codes.{securityValues, results, userReasons, routingClasses, accepted}
-use Rattle.control.specs.Control.{isIdle, expects, takes, mayStart}
+use Rattle.machine.specs.Codes.{securityValues, results, userReasons, routingClasses}
+use Rattle.control.specs.Control.{isIdle, takes, mayStart}
 use Rattle.machine.specs.Record.{withTimer, withUser, withJob, withRequest, enter}
-use Rattle.machine.specs.Event.{qosFits, userShapely, shapely}
+use Rattle.machine.specs.Apdus.{isSend, modeOf, isUserAbort}
+use Rattle.machine.specs.Event.{userShapely, shapely}
 use Rattle.machine.specs.Outcome.{isNone, refused}
-use Rattle.machine.specs.Exceptions.{tell, closes, aborts, excepts, noInstruction, pduFault, timerExpires, systemError}
+use Rattle.machine.specs.Exceptions.{tell, closes, aborts, excepts, noInstruction, timerExpires, systemError}
 use Rattle.machine.specs.Calls.{answer, sent, qosAsked, startRequest, startResponse, messageRequest, endRequest, endResponse, reasonSent, userAbort, callOf, called}
-use Rattle.machine.specs.Primitives.{isSend, handed, read, received, startFits, peerFits, modeOf, offered, dStartIndication, turnedAway, confirmed, dStartConfirmation, dDataIndication, dEndIndication, dEndConfirmation, abortExpected, abortTold, dAbortIndication, dPAbortIndication, reached}
+use Rattle.machine.specs.Faults.{firstFault}
+use Rattle.machine.specs.Primitives.{handed, abortTold, instructed, answered, reached}
 use Rattle.machine.specs.Step.{permitted, messageRefusal, refusalOf, acts, step}
-use Rattle.machine.proofs.Ways.{by-test, not-refused}
+use Rattle.machine.proofs.Ways.{by-test, not-refused, send-there}
 use Rattle.control.specs.declared.Side.{Side}
 use Rattle.control.specs.declared.Side.the-variants.{Air, Ground}
 use Rattle.control.specs.declared.Call.{Call}
 use Rattle.control.specs.declared.Call.the-variants.{StartRequest, StartResponse, MessageRequest, EndRequest, EndResponse, UserAbort}
 use Rattle.control.specs.declared.Primitive.{Primitive}
-use Rattle.control.specs.declared.Primitive.the-variants.{DStart, DStartCnf, DData, DEnd, DEndCnf, DPAbort}
+use Rattle.control.specs.declared.Primitive.the-variants.{DStart, DStartCnf, DData, DEnd, DEndCnf}
 use Rattle.machine.specs.declared.record.Record.{Record}
 use Rattle.machine.specs.declared.event.Apdu.{Apdu}
 use Rattle.machine.specs.declared.event.Apdu.the-variants.{Absent, NotValid, Start, Send, AbortUser, AbortProvider, Forward}
-use Rattle.machine.specs.declared.event.StartIndicationParameters.{StartIndicationParameters}
-use Rattle.machine.specs.declared.event.StartConfirmationParameters.{StartConfirmationParameters}
 use Rattle.machine.specs.declared.event.UserPrimitive.{UserPrimitive}
 use Rattle.machine.specs.declared.event.UserPrimitive.the-variants.{StartServiceRequest, StartServiceResponse, MessageServiceRequest, EndServiceRequest, EndServiceResponse, UserAbortServiceRequest}
 use Rattle.machine.specs.declared.event.ServicePrimitive.{ServicePrimitive}
 use Rattle.machine.specs.declared.event.ServicePrimitive.the-variants.{DStartIndication, DStartConfirmation, DDataIndication, DEndIndication, DEndConfirmation, DAbortIndication, DPAbortIndication}
 use Rattle.machine.specs.declared.event.Event.{Event}
 use Rattle.machine.specs.declared.event.Event.the-variants.{User, Service, TimerExpires, UnrecoverableSystemError}
+use Rattle.machine.specs.declared.faults.Fault.{Fault}
+use Rattle.machine.specs.declared.faults.Fault.the-variants.{NoFault, NoInstruction, Quality, TurnedAway, Security, Missing, Invalid, NotPermitted}
 use Rattle.machine.specs.declared.outcome.Invoked.{Invoked}
 use Rattle.machine.specs.declared.outcome.Invoked.the-variants.{Silent, DStartRequest, DStartResponse, DDataRequest, DEndRequest, DEndResponse, DAbortRequest}
 use Rattle.machine.specs.declared.outcome.Told.{Told}
@@ -87,15 +89,6 @@ asks b m = record { user = true; body = b; message = m; apdu = Absent }
 abbrev pub hears : Apdu → Brings
 hears a = record { user = false; body = false; message = false; apdu = a }
 
-abbrev pub apduIn : ServicePrimitive → Apdu
-apduIn (DStartIndication i) = i .apdu
-apduIn (DStartConfirmation c) = c .apdu
-apduIn (DDataIndication a) = a
-apduIn (DEndIndication a) = a
-apduIn (DEndConfirmation x a) = a
-apduIn (DAbortIndication o a) = a
-apduIn DPAbortIndication = Absent
-
 abbrev pub brings : Event → Brings
 brings (User (StartServiceRequest m k s)) = asks true false
 brings (User (StartServiceResponse m x)) = asks true false
@@ -103,7 +96,7 @@ brings (User (MessageServiceRequest h j)) = asks true true
 brings (User (EndServiceRequest m)) = asks true false
 brings (User (EndServiceResponse m x)) = asks true false
 brings (User (UserAbortServiceRequest g x)) = asks false false
-brings (Service p) = hears (apduIn p)
+brings (Service p a) = hears a
 brings TimerExpires = hears Absent
 brings UnrecoverableSystemError = hears Absent
 
@@ -155,7 +148,7 @@ pub record Fit (sd : Side) (v : Brings) (o : Outcome) : Type 0 where
   -- a D-DATA request is invoked by a message request, and by nothing else
   pub invokes : isDData (o .invoked) ≡ v .message
   pub roomy : Roomy (o .invoked)
-  -- a message indication is told with the data of the send that was received
+  -- a message indication is told with the data of the send that was sendFault
   pub told : (quiet (o .told) || (o .delivers && isSend (v .apdu))) ≡ true
 
 -- the job of a message request is a number of eight bytes
@@ -166,7 +159,7 @@ JobLow (User (MessageServiceRequest h j)) = j < 2 ^ 64
 JobLow (User (EndServiceRequest m)) = Unit {0}
 JobLow (User (EndServiceResponse m x)) = Unit {0}
 JobLow (User (UserAbortServiceRequest g x)) = Unit {0}
-JobLow (Service p) = Unit {0}
+JobLow (Service p a) = Unit {0}
 JobLow TimerExpires = Unit {0}
 JobLow UnrecoverableSystemError = Unit {0}
 
@@ -197,16 +190,6 @@ module _ (sd : Side) (r : Record) (k : Coded r) (a : Apdu) where
   unfolding noInstruction
   none-fits x = by-test (Fit sd (hears a)) (isIdle (r .control)) _ _ (λ e. closed-fits Untold refl) (λ e. except-fits x _ _ refl)
 
-  fault-fits : (i u : Bool) (f : Apdu) → Fit sd (hears a) (pduFault r i u f)
-  unfolding pduFault
-  fault-fits i u Absent = except-fits true _ _ refl
-  fault-fits i u NotValid = except-fits i _ _ refl
-  fault-fits i u (Start m) = except-fits u _ _ refl
-  fault-fits i u Send = except-fits u _ _ refl
-  fault-fits i u (AbortUser x) = except-fits u _ _ refl
-  fault-fits i u (AbortProvider x) = except-fits u _ _ refl
-  fault-fits i u Forward = except-fits u _ _ refl
-
   handed-fits : (p : Primitive) (t : Told) → (quiet t || isSend a) ≡ true → Fit sd (hears a) (handed r p t)
   unfolding handed enter
   handed-fits p t q = record { coded = record { request = k .request; policy = k .policy; highest = k .highest }; apdu = (refl, refl); body = refl; invokes = refl; roomy = tt; told = q }
@@ -215,64 +198,38 @@ module _ (sd : Side) (r : Record) (k : Coded r) (a : Apdu) where
   either-way true = refl
   either-way false = refl
 
-  read-fits : (p : Primitive) (i u : Bool) (t : Told) → Fit sd (hears a) (read r p i u a t)
-  unfolding read
-  read-fits p i u t = by-test (Fit sd (hears a)) (isSend a) _ _ (λ e. handed-fits p t (rw e (either-way (quiet t)))) (λ e. fault-fits i u a)
-
-  received-fits : (p : Primitive) (i u : Bool) (t : Told) → Fit sd (hears a) (received sd r p i u a t)
-  unfolding received
-  received-fits p i u t = by-test (Fit sd (hears a)) (expects sd (r .control) p) _ _ (λ e. read-fits p i u t) (λ e. none-fits true)
-
 same-coded : (r : Record) (on : Bool) → Coded r → Coded (withUser r on) × Coded (withTimer r on)
 same-coded r on k = (record { request = k .request; policy = k .policy; highest = k .highest }, record { request = k .request; policy = k .policy; highest = k .highest })
 
 abort-quiet : (a : Apdu) → quiet (abortTold a) ≡ true
-abort-quiet Absent = refl
-abort-quiet NotValid = refl
-abort-quiet (Start m) = refl
-abort-quiet Send = refl
-abort-quiet (AbortUser x) = refl
-abort-quiet (AbortProvider x) = refl
-abort-quiet Forward = refl
+abort-quiet a = by-test (λ (t : Told). quiet t ≡ true) (isUserAbort a) _ _ (λ e. refl) (λ e. refl)
 
 module _ (sd : Side) (r : Record) (k : Coded r) where
-  offered-fits : (i : StartIndicationParameters) → Fit sd (hears (i .apdu)) (offered sd r i)
-  unfolding offered
-  offered-fits i =
-      by-test (Fit sd (hears (i .apdu))) (not (startFits sd r (i .peer) (i .apdu))) _ _ (λ e. fault-fits sd r k (i .apdu) true true (i .apdu))
-      (λ e. by-test (Fit sd (hears (i .apdu))) (not (peerFits sd (i .peer))) _ _ (λ f. none-fits sd r k (i .apdu) true)
-      (λ f. handed-fits sd (withUser r true) (same-coded r true k .0) (i .apdu) (DStart (modeOf (i .apdu))) _ refl))
+  answered-fits : (p : ServicePrimitive) (a : Apdu) (f : Fault) → (f ≡ NoFault → Fit sd (hears a) (instructed r p a)) → Fit sd (hears a) (answered r p a f)
+  unfolding answered
+  answered-fits p a NoFault i = i refl
+  answered-fits p a (NoInstruction live) i = none-fits sd r k a live
+  answered-fits p a Quality i = aborted-fits sd r k a _ Untold refl refl
+  answered-fits p a TurnedAway i = closed-fits sd r k a _ (tell-quiet sd r k a _ refl)
+  answered-fits p a (Security live) i = except-fits sd r k a live _ _ refl
+  answered-fits p a Missing i = except-fits sd r k a true _ _ refl
+  answered-fits p a (Invalid live) i = except-fits sd r k a live _ _ refl
+  answered-fits p a (NotPermitted live) i = except-fits sd r k a live _ _ refl
 
-  indication-fits : (i : StartIndicationParameters) → Fit sd (hears (i .apdu)) (dStartIndication sd r i)
-  unfolding dStartIndication
-  indication-fits i =
-      by-test (Fit sd (hears (i .apdu))) (not (isIdle (r .control))) _ _ (λ e. none-fits sd r k (i .apdu) true)
-      (λ e. by-test (Fit sd (hears (i .apdu))) (not (qosFits (i .qos))) _ _ (λ f. aborted-fits sd r k (i .apdu) _ Untold refl refl)
-      (λ f. by-test (Fit sd (hears (i .apdu))) (not (eqb (i .security) (r .policy))) _ _ (λ g. except-fits sd r k (i .apdu) true _ _ refl) (λ g. offered-fits i)))
+  -- without a fault, what a D-DATA indication tells is with a send
+  instructed-fits : (p : ServicePrimitive) (a : Apdu) → firstFault sd r p a ≡ NoFault → Fit sd (hears a) (instructed r p a)
+  unfolding instructed firstFault
+  instructed-fits (DStartIndication x s q) a e = handed-fits sd (withUser r true) (same-coded r true k .0) a (DStart (modeOf a)) _ refl
+  instructed-fits (DStartConfirmation x o s) a e = handed-fits sd (withTimer r false) (same-coded r false k .1) a (DStartCnf (answer x)) _ refl
+  instructed-fits DDataIndication a e = handed-fits sd r k a DData MessageIndication (send-there sd r DData true a e)
+  instructed-fits DEndIndication a e = handed-fits sd r k a DEnd _ refl
+  instructed-fits (DEndConfirmation x) a e = handed-fits sd r k a (DEndCnf (answer x)) _ refl
+  instructed-fits (DAbortIndication o) a e = closed-fits sd r k a _ (tell-quiet sd r k a (abortTold a) (abort-quiet a))
+  instructed-fits DPAbortIndication a e = closed-fits sd r k a _ (tell-quiet sd r k a _ refl)
 
-  confirmed-fits : (c : StartConfirmationParameters) → Fit sd (hears (c .apdu)) (confirmed r c)
-  unfolding confirmed
-  confirmed-fits c =
-      by-test (Fit sd (hears (c .apdu))) (not (eqb (c .security) (r .request))) _ _ (λ e. except-fits sd r k (c .apdu) (eqb (c .result) accepted) _ _ refl)
-      (λ e. read-fits sd (withTimer r false) (same-coded r false k .1) (c .apdu) _ _ _ _)
-
-  confirmation-fits : (c : StartConfirmationParameters) → Fit sd (hears (c .apdu)) (dStartConfirmation sd r c)
-  unfolding dStartConfirmation
-  confirmation-fits c =
-      by-test (Fit sd (hears (c .apdu))) (not (expects sd (r .control) (DStartCnf (answer (c .result))))) _ _ (λ e. none-fits sd r k (c .apdu) true)
-      (λ e. by-test (Fit sd (hears (c .apdu))) (turnedAway (c .result) (c .source)) _ _ (λ f. closed-fits sd r k (c .apdu) _ (tell-quiet sd r k (c .apdu) _ refl)) (λ f. confirmed-fits c))
-
-  reached-fits : (p : ServicePrimitive) → Fit sd (hears (apduIn p)) (reached sd r p)
-  unfolding reached dDataIndication dEndIndication dEndConfirmation dAbortIndication dPAbortIndication
-  reached-fits (DStartIndication i) = indication-fits i
-  reached-fits (DStartConfirmation c) = confirmation-fits c
-  reached-fits (DDataIndication a) = received-fits sd r k a DData true true MessageIndication
-  reached-fits (DEndIndication a) = received-fits sd r k a DEnd true true _
-  reached-fits (DEndConfirmation x a) = received-fits sd r k a (DEndCnf (answer x)) _ _ _
-  reached-fits (DAbortIndication o a) =
-      by-test (Fit sd (hears a)) (abortExpected sd (r .control) o a) _ _ (λ e. closed-fits sd r k a _ (tell-quiet sd r k a (abortTold a) (abort-quiet a))) (λ e. none-fits sd r k a false)
-  reached-fits DPAbortIndication =
-      by-test (Fit sd (hears Absent)) (expects sd (r .control) DPAbort) _ _ (λ e. closed-fits sd r k Absent _ (tell-quiet sd r k Absent _ refl)) (λ e. none-fits sd r k Absent false)
+  reached-fits : (p : ServicePrimitive) (a : Apdu) → Fit sd (hears a) (reached sd r p a)
+  unfolding reached
+  reached-fits p a = answered-fits p a (firstFault sd r p a) (instructed-fits p a)
 
   -- ---- a user primitive
 
@@ -315,7 +272,7 @@ module _ (sd : Side) (r : Record) (k : Coded r) where
   acts-fits : (e : Event) → shapely e ≡ true → permitted sd r e ≡ true → JobLow e → Fit sd (brings e) (acts sd r e)
   unfolding acts shapely permitted timerExpires systemError
   acts-fits (User u) h t j = called-fits u h t j
-  acts-fits (Service p) h t j = reached-fits p
+  acts-fits (Service p a) h t j = reached-fits p a
   acts-fits TimerExpires h t j = except-fits sd r k Absent true _ _ refl
   acts-fits UnrecoverableSystemError h t j = by-test (Fit sd (hears Absent)) (isIdle (r .control)) _ _ (λ e. closed-fits sd r k Absent Untold refl) (λ e. except-fits sd r k Absent true _ _ refl)
 

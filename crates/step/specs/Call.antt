@@ -32,14 +32,12 @@ use Rattle.machine.specs.declared.record.Record.{Record}
 use Rattle.machine.specs.declared.event.Apdu.{Apdu}
 use Rattle.machine.specs.declared.event.Apdu.the-variants.{Absent, NotValid, Start, Send, AbortUser, AbortProvider, Forward}
 use Rattle.machine.specs.declared.event.ServicePrimitive.{ServicePrimitive}
-use Rattle.machine.specs.declared.event.ServicePrimitive.the-variants as service
+use Rattle.machine.specs.declared.event.ServicePrimitive.the-variants.{DStartIndication, DStartConfirmation, DDataIndication, DEndIndication, DEndConfirmation, DAbortIndication, DPAbortIndication}
 use Rattle.machine.specs.declared.event.Event.{Event}
 use Rattle.machine.specs.declared.event.Event.the-variants.{Service}
 use Rattle.machine.specs.declared.outcome.Outcome.{Outcome}
 use Rattle.step.specs.Stored.{flag, loadAt, storeAt, Kept}
 use Rattle.step.specs.Packed.{packed, invokedNumber, toldNumber}
-use Rattle.step.specs.declared.arrived.Arrived.{Arrived}
-use Rattle.step.specs.declared.arrived.Arrived.the-variants.{DStartIndication, DStartConfirmation, DDataIndication, DEndIndication, DEndConfirmation, DAbortIndication, DPAbortIndication}
 use Rattle.step.specs.declared.stored.Loaded.{Loaded}
 use Rattle.step.specs.declared.stored.Loaded.the-variants.{Is, NoRecord}
 
@@ -130,7 +128,7 @@ noData = record { identifier = part.Absent; message = part.Absent; check = recor
 abbrev pub peerReads : ℕ → PduSide
 peerReads x = cond (eqb x facility) pdu.Ground pdu.Air
 
-unfoldable pub readsAs : Side → Arrived → PduSide
+unfoldable pub readsAs : Side → ServicePrimitive → PduSide
 readsAs Air p = pdu.Ground
 readsAs Ground (DStartIndication x s q) = peerReads x
 readsAs Ground (DStartConfirmation x o s) = pdu.Air
@@ -141,7 +139,7 @@ readsAs Ground (DAbortIndication o) = pdu.Air
 readsAs Ground DPAbortIndication = pdu.Air
 
 -- a D-ABORT of a provider at the ground end may hold the abort of a ground provider (Doc 9705, 2.3.5.5.15.2)
-unfoldable pub readsAgain : Side → Arrived → Bool
+unfoldable pub readsAgain : Side → ServicePrimitive → Bool
 readsAgain Air p = false
 readsAgain Ground (DStartIndication x s q) = false
 readsAgain Ground (DStartConfirmation x o s) = false
@@ -165,7 +163,7 @@ orAbort (answer.Is a) second = answer.Is a
 orAbort (answer.Refused x) (answer.Is a) = abortOf (answer.Refused x) a
 orAbort (answer.Refused x) (answer.Refused y) = answer.Refused x
 
-unfoldable pub readPdu : Side → Arrived → List ℕ → Answer
+unfoldable pub readPdu : Side → ServicePrimitive → List ℕ → Answer
 readPdu sd p l = cond (readsAgain sd p) (orAbort (apduAt (readsAs sd p) l 0) (apduAt pdu.Ground l 0)) (apduAt (readsAs sd p) l 0)
 
 -- refusals 10 to 17 mean "no valid PDU"
@@ -188,27 +186,17 @@ dataOf (answer.Is (is.Send d)) = d
 dataOf (answer.Is is.Forward) = noData
 dataOf (answer.Is is.ForwardResponse) = noData
 
--- the primitive with its APDU
-unfoldable pub arrives : Arrived → Apdu → ServicePrimitive
-arrives (DStartIndication x s q) a = service.DStartIndication (record { peer = x; security = s; qos = q; apdu = a })
-arrives (DStartConfirmation x o s) a = service.DStartConfirmation (record { result = x; source = o; security = s; apdu = a })
-arrives DDataIndication a = service.DDataIndication a
-arrives DEndIndication a = service.DEndIndication a
-arrives (DEndConfirmation x) a = service.DEndConfirmation x a
-arrives (DAbortIndication o) a = service.DAbortIndication o a
-arrives DPAbortIndication a = service.DPAbortIndication
-
 -- with user data, or without
-unfoldable pub dataStep : List ℕ → List ℕ → List ℕ → Arrived → List ℕ → Side → Record → Called
-dataStep r a b p l sd x = concluded r a b sd (step sd x (Service (arrives p (meaning (readPdu sd p l))))) l l l (dataOf (readPdu sd p l))
+unfoldable pub dataStep : List ℕ → List ℕ → List ℕ → ServicePrimitive → List ℕ → Side → Record → Called
+dataStep r a b p l sd x = concluded r a b sd (step sd x (Service p (meaning (readPdu sd p l)))) l l l (dataOf (readPdu sd p l))
 
-unfoldable pub bareStep : List ℕ → List ℕ → List ℕ → Arrived → List ℕ → Side → Record → Called
-bareStep r a b p l sd x = concluded r a b sd (step sd x (Service (arrives p Absent))) l l l noData
+unfoldable pub bareStep : List ℕ → List ℕ → List ℕ → ServicePrimitive → List ℕ → Side → Record → Called
+bareStep r a b p l sd x = concluded r a b sd (step sd x (Service p Absent)) l l l noData
 
 -- given: 0 no user data, 1 user data; another number is SHAPE
-unfoldable pub serviceStep : List ℕ → List ℕ → List ℕ → Arrived → ℕ → List ℕ → Side → Record → Called
+unfoldable pub serviceStep : List ℕ → List ℕ → List ℕ → ServicePrimitive → ℕ → List ℕ → Side → Record → Called
 serviceStep r a b p given l sd x =
     cond (ltb 1 given) (called shape r a b) (cond (eqb given 1) (dataStep r a b p l sd x) (bareStep r a b p l sd x))
 
-unfoldable pub serviceCall : List ℕ → List ℕ → List ℕ → Arrived → ℕ → List ℕ → Called
+unfoldable pub serviceCall : List ℕ → List ℕ → List ℕ → ServicePrimitive → ℕ → List ℕ → Called
 serviceCall r a b p given bytes = entering r a b (serviceStep r a b p given (lent bytes))

@@ -1,7 +1,7 @@
-// A dialogue-service primitive as it arrives: its numbers, and the user data that is read as its APDU.
+// The user data of a dialogue-service primitive as it arrives: what it is read as, and what it is to the machine.
 ghost use mathlib.Core.Path.{_≡_};
 ghost use Rattle.apdu.specs.Pdus.{lent};
-ghost use Rattle.step.specs.Call.{abortOf, arrives, dataOf, meaning, noData, orAbort, peerReads, readPdu, readsAgain, readsAs};
+ghost use Rattle.step.specs.Call.{abortOf, dataOf, meaning, noData, orAbort, peerReads, readPdu, readsAgain, readsAs};
 use apdu::Answer;
 use apdu::Apdu as Pdu;
 use apdu::Data;
@@ -10,59 +10,34 @@ use apdu::Side as PduSide;
 use apdu::Span;
 use control::Side;
 use machine::event::Apdu;
-use machine::event::Qos;
 use machine::event::ServicePrimitive;
-use machine::event::StartConfirmationParameters;
-use machine::event::StartIndicationParameters;
-
-// A primitive but for its user data.
-pub enum Arrived {
-    // Calling peer, security, quality of service.
-    DStartIndication(u64, u64, Qos),
-    // Result, reject source, security.
-    DStartConfirmation(u64, u64, u64),
-    DDataIndication,
-    DEndIndication,
-    // Result.
-    DEndConfirmation(u64),
-    // Originator.
-    DAbortIndication(u64),
-    DPAbortIndication,
-}
-
-impl Arrived {
-    // What the calling peer of a D-START indication is, and the originator of a D-ABORT.
-    const FACILITY: u64 = 0;
-
-    const PROVIDER: u64 = 1;
-}
 
 // The type that a facility's, or an aircraft's, D-START is read as.
 fn of_peer(peer: u64) -> PduSide
     ensures { λ s. ⌜ s ≡ peerReads peer ⌝ }
 {
-    if peer == Arrived::FACILITY {
+    if peer == ServicePrimitive::FACILITY {
         PduSide::Ground
     } else {
         PduSide::Air
     }
 }
 
-fn ground_reads(p: Arrived) -> PduSide
+fn ground_reads(p: ServicePrimitive) -> PduSide
     ensures { λ s. ⌜ s ≡ readsAs Side.Ground p ⌝ }
 {
     match p {
-        Arrived::DStartIndication(x, _, _) => of_peer(x),
-        Arrived::DStartConfirmation(_, _, _) => PduSide::Air,
-        Arrived::DDataIndication => PduSide::Air,
-        Arrived::DEndIndication => PduSide::Air,
-        Arrived::DEndConfirmation(_) => PduSide::Air,
-        Arrived::DAbortIndication(_) => PduSide::Air,
-        Arrived::DPAbortIndication => PduSide::Air,
+        ServicePrimitive::DStartIndication(x, _, _) => of_peer(x),
+        ServicePrimitive::DStartConfirmation(_, _, _) => PduSide::Air,
+        ServicePrimitive::DDataIndication => PduSide::Air,
+        ServicePrimitive::DEndIndication => PduSide::Air,
+        ServicePrimitive::DEndConfirmation(_) => PduSide::Air,
+        ServicePrimitive::DAbortIndication(_) => PduSide::Air,
+        ServicePrimitive::DPAbortIndication => PduSide::Air,
     }
 }
 
-fn reads_as(side: Side, p: Arrived) -> PduSide
+fn reads_as(side: Side, p: ServicePrimitive) -> PduSide
     ensures { λ s. ⌜ s ≡ readsAs side p ⌝ }
 {
     match side {
@@ -71,21 +46,21 @@ fn reads_as(side: Side, p: Arrived) -> PduSide
     }
 }
 
-fn ground_reads_again(p: Arrived) -> bool
+fn ground_reads_again(p: ServicePrimitive) -> bool
     ensures { λ b. ⌜ b ≡ readsAgain Side.Ground p ⌝ }
 {
     match p {
-        Arrived::DStartIndication(_, _, _) => false,
-        Arrived::DStartConfirmation(_, _, _) => false,
-        Arrived::DDataIndication => false,
-        Arrived::DEndIndication => false,
-        Arrived::DEndConfirmation(_) => false,
-        Arrived::DAbortIndication(o) => o == Arrived::PROVIDER,
-        Arrived::DPAbortIndication => false,
+        ServicePrimitive::DStartIndication(_, _, _) => false,
+        ServicePrimitive::DStartConfirmation(_, _, _) => false,
+        ServicePrimitive::DDataIndication => false,
+        ServicePrimitive::DEndIndication => false,
+        ServicePrimitive::DEndConfirmation(_) => false,
+        ServicePrimitive::DAbortIndication(o) => o == ServicePrimitive::PROVIDER,
+        ServicePrimitive::DPAbortIndication => false,
     }
 }
 
-fn reads_again(side: Side, p: Arrived) -> bool
+fn reads_again(side: Side, p: ServicePrimitive) -> bool
     ensures { λ b. ⌜ b ≡ readsAgain side p ⌝ }
 {
     match side {
@@ -121,7 +96,7 @@ fn or_abort(first: Answer, second: Answer) -> Answer
 }
 
 // What the user data is, of which the types that may be there are tried.
-pub(crate) fn read_pdu(side: Side, p: Arrived, bytes: &[u8]) -> Answer
+pub(crate) fn read_pdu(side: Side, p: ServicePrimitive, bytes: &[u8]) -> Answer
     ensures { λ a. ⌜ a ≡ readPdu side p (lent (now (bytes .entry))) ⌝ }
 {
     let first = apdu::read_apdu(bytes, reads_as(side, p));
@@ -184,34 +159,5 @@ pub(crate) fn data_of(a: Answer) -> Data
     match a {
         Answer::Is(p) => data_of_pdu(p),
         Answer::Refused(_) => no_data(),
-    }
-}
-
-// The primitive with its APDU.
-pub(crate) fn arrives(p: Arrived, a: Apdu) -> ServicePrimitive
-    ensures { λ s. ⌜ s ≡ arrives p a ⌝ }
-{
-    match p {
-        Arrived::DStartIndication(peer, security, qos) => {
-            ServicePrimitive::DStartIndication(StartIndicationParameters {
-                peer,
-                security,
-                qos,
-                apdu: a,
-            })
-        }
-        Arrived::DStartConfirmation(result, source, security) => {
-            ServicePrimitive::DStartConfirmation(StartConfirmationParameters {
-                result,
-                source,
-                security,
-                apdu: a,
-            })
-        }
-        Arrived::DDataIndication => ServicePrimitive::DDataIndication(a),
-        Arrived::DEndIndication => ServicePrimitive::DEndIndication(a),
-        Arrived::DEndConfirmation(result) => ServicePrimitive::DEndConfirmation(result, a),
-        Arrived::DAbortIndication(originator) => ServicePrimitive::DAbortIndication(originator, a),
-        Arrived::DPAbortIndication => ServicePrimitive::DPAbortIndication,
     }
 }

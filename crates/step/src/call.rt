@@ -3,8 +3,6 @@ ghost use mathlib.Core.Path.{_≡_};
 ghost use Rattle.apdu.specs.Pdus.{lent};
 ghost use Rattle.apdu.specs.Writing.{done};
 ghost use Rattle.step.specs.Call.{bareStep, bitsOfWritten, called, concluded, dataStep, firstTakes, pduSide, secondTakes, serviceCall, userCall};
-use crate::arrived::Arrived;
-use crate::arrived::arrives;
 use crate::arrived::data_of;
 use crate::arrived::meaning;
 use crate::arrived::no_data;
@@ -23,6 +21,7 @@ use apdu::Written;
 use control::Side;
 use machine::event::Apdu;
 use machine::event::Event;
+use machine::event::ServicePrimitive;
 use machine::outcome::Outcome;
 use machine::record::Record;
 use words::Limit;
@@ -165,7 +164,7 @@ fn data_step(
     rec: &mut [u8],
     first: &mut [u8],
     second: &mut [u8],
-    p: Arrived,
+    p: ServicePrimitive,
     bytes: &[u8],
     side: Side,
     r: Record,
@@ -173,7 +172,7 @@ fn data_step(
     ensures { λ n. ⌜ called n (now (rec .exit)) (now (first .exit)) (now (second .exit)) ≡ dataStep (now (rec .entry)) (now (first .entry)) (now (second .entry)) p (lent (now (bytes .entry))) side r ⌝ }
 {
     let pdu = read_pdu(side, p, bytes);
-    let e = Event::Service(arrives(p, meaning(pdu)));
+    let e = Event::Service(p, meaning(pdu));
     let o = machine::step(side, r, e);
     conclude(
         rec,
@@ -193,14 +192,14 @@ fn bare_step(
     rec: &mut [u8],
     first: &mut [u8],
     second: &mut [u8],
-    p: Arrived,
+    p: ServicePrimitive,
     bytes: &[u8],
     side: Side,
     r: Record,
 ) -> u64
     ensures { λ n. ⌜ called n (now (rec .exit)) (now (first .exit)) (now (second .exit)) ≡ bareStep (now (rec .entry)) (now (first .entry)) (now (second .entry)) p (lent (now (bytes .entry))) side r ⌝ }
 {
-    let e = Event::Service(arrives(p, Apdu::Absent));
+    let e = Event::Service(p, Apdu::Absent);
     let o = machine::step(side, r, e);
     conclude(rec, first, second, side, o, bytes, bytes, bytes, no_data())
 }
@@ -210,7 +209,7 @@ pub fn service_call(
     rec: &mut [u8],
     first: &mut [u8],
     second: &mut [u8],
-    p: Arrived,
+    p: ServicePrimitive,
     given: u64,
     bytes: &[u8],
 ) -> u64

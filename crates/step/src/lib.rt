@@ -5,7 +5,6 @@ mod call;
 mod packing;
 mod stored;
 
-pub use arrived::Arrived;
 pub use arrived::no_data;
 pub use call::service_call;
 pub use call::user_call;

@@ -10,8 +10,6 @@ use machine::event::Apdu;
 use machine::event::Event;
 use machine::event::Qos;
 use machine::event::ServicePrimitive;
-use machine::event::StartConfirmationParameters;
-use machine::event::StartIndicationParameters;
 use machine::event::UserPrimitive;
 use machine::outcome::Invoked;
 use machine::outcome::Outcome;
@@ -281,14 +279,14 @@ fn event_of(policy: u64, kind: u64, n: u64) -> Event {
         0 => Event::User(in_mode(policy, n)),
         1 => Event::User(message(n)),
         2 => report(n),
-        3 => Event::Service(start(policy, n)),
-        4 => Event::Service(faulty_start(policy, n)),
-        5 => Event::Service(started(policy, n)),
-        6 => Event::Service(faulty_started(policy, n)),
-        7 => Event::Service(data_or_end(n)),
-        8 => Event::Service(ServicePrimitive::DEndConfirmation(n / 8, pdu(n % 8))),
-        9 => Event::Service(ServicePrimitive::DAbortIndication(n / 8, pdu(n % 8))),
-        _ => Event::Service(ServicePrimitive::DPAbortIndication),
+        3 => start(policy, n),
+        4 => faulty_start(policy, n),
+        5 => started(policy, n),
+        6 => faulty_started(policy, n),
+        7 => data_or_end(n),
+        8 => Event::Service(ServicePrimitive::DEndConfirmation(n / 8), pdu(n % 8)),
+        9 => Event::Service(ServicePrimitive::DAbortIndication(n / 8), pdu(n % 8)),
+        _ => Event::Service(ServicePrimitive::DPAbortIndication, Apdu::Absent),
     }
 }
 
@@ -345,22 +343,18 @@ fn other(policy: u64) -> u64 {
     0
 }
 
-fn indication(peer: u64, security: u64, qos: Qos, apdu: Apdu) -> ServicePrimitive {
-    ServicePrimitive::DStartIndication(StartIndicationParameters {
-        peer,
-        security,
-        qos,
+fn indication(peer: u64, security: u64, qos: Qos, apdu: Apdu) -> Event {
+    Event::Service(
+        ServicePrimitive::DStartIndication(peer, security, qos),
         apdu,
-    })
+    )
 }
 
-fn confirmation(result: u64, source: u64, security: u64, apdu: Apdu) -> ServicePrimitive {
-    ServicePrimitive::DStartConfirmation(StartConfirmationParameters {
-        result,
-        source,
-        security,
+fn confirmation(result: u64, source: u64, security: u64, apdu: Apdu) -> Event {
+    Event::Service(
+        ServicePrimitive::DStartConfirmation(result, source, security),
         apdu,
-    })
+    )
 }
 
 fn quality(priority: u64, rer: u64, routing: u64) -> Qos {
@@ -372,12 +366,12 @@ fn quality(priority: u64, rer: u64, routing: u64) -> Qos {
 }
 
 // A start from a facility, then from an aircraft, with each PDU.
-fn start(policy: u64, n: u64) -> ServicePrimitive {
+fn start(policy: u64, n: u64) -> Event {
     indication(n / 8, policy, quality(1, 1, 2), pdu(n % 8))
 }
 
 // Its other faults, one behind another.
-fn faulty_start(policy: u64, n: u64) -> ServicePrimitive {
+fn faulty_start(policy: u64, n: u64) -> Event {
     let peer = n / 4;
     match n % 4 {
         0 => indication(peer, other(policy), quality(1, 1, 2), Apdu::Absent),
@@ -388,19 +382,19 @@ fn faulty_start(policy: u64, n: u64) -> ServicePrimitive {
 }
 
 // A confirmation of each result, with each PDU.
-fn started(policy: u64, n: u64) -> ServicePrimitive {
+fn started(policy: u64, n: u64) -> Event {
     confirmation(n / 8, 0, policy, pdu(n % 8))
 }
 
-fn faulty_started(policy: u64, n: u64) -> ServicePrimitive {
+fn faulty_started(policy: u64, n: u64) -> Event {
     confirmation(n / 2, n % 2, other(policy), Apdu::Absent)
 }
 
-fn data_or_end(n: u64) -> ServicePrimitive {
+fn data_or_end(n: u64) -> Event {
     if n < 8 {
-        return ServicePrimitive::DDataIndication(pdu(n));
+        return Event::Service(ServicePrimitive::DDataIndication, pdu(n));
     }
-    ServicePrimitive::DEndIndication(pdu(n % 8))
+    Event::Service(ServicePrimitive::DEndIndication, pdu(n % 8))
 }
 
 // ---- titles
@@ -458,50 +452,43 @@ fn user_title(u: UserPrimitive) {
     }
 }
 
-fn start_title(policy: u64, i: StartIndicationParameters) {
-    let apdu = i.apdu;
-    let qos = i.qos;
-    pdu_title(apdu);
-    noted(i.peer == 0, b", from a facility");
-    noted(i.peer == 1, b", from an aircraft");
-    noted(i.security != policy, b", security");
+fn start_title(policy: u64, peer: u64, security: u64, qos: Qos) {
+    noted(peer == 0, b", from a facility");
+    noted(peer == 1, b", from an aircraft");
+    noted(security != policy, b", security");
     noted(qos.priority != 1, b", priority");
     noted(qos.rer != 1, b", residual error rate");
     noted(8 < qos.routing, b", routing class");
 }
 
-fn started_title(policy: u64, k: StartConfirmationParameters) {
-    let apdu = k.apdu;
-    result_name(k.result);
-    pdu_title(apdu);
-    noted(k.source == 1, b", DS provider");
-    noted(k.security != policy, b", security");
-}
-
-fn service_title(policy: u64, p: ServicePrimitive) {
+fn service_title(policy: u64, p: ServicePrimitive, a: Apdu) {
     match p {
-        ServicePrimitive::DStartIndication(i) => {
+        ServicePrimitive::DStartIndication(peer, security, qos) => {
             text(b"D-START indication");
-            start_title(policy, i);
+            pdu_title(a);
+            start_title(policy, peer, security, qos);
         }
-        ServicePrimitive::DStartConfirmation(k) => {
+        ServicePrimitive::DStartConfirmation(n, source, security) => {
             text(b"D-START confirmation");
-            started_title(policy, k);
+            result_name(n);
+            pdu_title(a);
+            noted(source == 1, b", DS provider");
+            noted(security != policy, b", security");
         }
-        ServicePrimitive::DDataIndication(a) => {
+        ServicePrimitive::DDataIndication => {
             text(b"D-DATA indication");
             pdu_title(a);
         }
-        ServicePrimitive::DEndIndication(a) => {
+        ServicePrimitive::DEndIndication => {
             text(b"D-END indication");
             pdu_title(a);
         }
-        ServicePrimitive::DEndConfirmation(n, a) => {
+        ServicePrimitive::DEndConfirmation(n) => {
             text(b"D-END confirmation");
             result_name(n);
             pdu_title(a);
         }
-        ServicePrimitive::DAbortIndication(o, a) => {
+        ServicePrimitive::DAbortIndication(o) => {
             text(b"D-ABORT indication");
             noted(o == 0, b", user");
             noted(o == 1, b", provider");
@@ -514,7 +501,7 @@ fn service_title(policy: u64, p: ServicePrimitive) {
 fn event_title(policy: u64, e: Event) {
     match e {
         Event::User(u) => user_title(u),
-        Event::Service(p) => service_title(policy, p),
+        Event::Service(p, a) => service_title(policy, p, a),
         Event::TimerExpires => text(b"timer expires"),
         Event::UnrecoverableSystemError => text(b"system error"),
     }
@@ -568,11 +555,11 @@ const STEPS: u64 = 10;
 fn job_event(n: u64) -> Event {
     match n {
         1 => Event::User(UserPrimitive::StartServiceRequest(false, 0, 0)),
-        2 => Event::Service(confirmation(0, 0, 0, Apdu::Send)),
-        5 => Event::Service(ServicePrimitive::DEndIndication(Apdu::Send)),
+        2 => confirmation(0, 0, 0, Apdu::Send),
+        5 => Event::Service(ServicePrimitive::DEndIndication, Apdu::Send),
         6 => Event::User(UserPrimitive::EndServiceResponse(false, 0)),
         7 => Event::User(UserPrimitive::StartServiceRequest(false, 0, 0)),
-        8 => Event::Service(confirmation(0, 0, 0, Apdu::Send)),
+        8 => confirmation(0, 0, 0, Apdu::Send),
         _ => Event::User(UserPrimitive::MessageServiceRequest(true, 7)),
     }
 }

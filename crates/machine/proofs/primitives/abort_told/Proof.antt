@@ -1,65 +1,26 @@
 -- `machine::primitives::abort_told` meets its contract.
 -- Assumes nothing.
+use borrow.Author.Tests.{eq-eqb, ne-eqb}
 use Rattle.machine.proofs.primitives.abort_told.Statement.{statement}
 use Rattle.machine.proofs.primitives.abort_told.Tie as tie
 
-enum-told : tie.Need-enum-told
-enum-told c = c .match .keys1
+reason-requires : tie.Need-reason-requires
+reason-requires c κs = tt
 
-enum-told-2 : tie.Need-enum-told-2
-enum-told-2 c = c .match .keys2
-
-enum-told-3 : tie.Need-enum-told-3
-enum-told-3 c = c .match .keys3
-
-enum-told-4 : tie.Need-enum-told-4
-enum-told-4 c = c .match .keys4
-
-enum-known-apdu : tie.Need-enum-known-apdu
-enum-known-apdu c = c .match .keys5
-
-enum-known-apdu-2 : tie.Need-enum-known-apdu-2
-enum-known-apdu-2 c = c .match .keys6
-
-enum-told-5 : tie.Need-enum-told-5
-enum-told-5 c = c .match .keys7
+kind-requires : tie.Need-kind-requires
+kind-requires c κs = tt
 
 returns : tie.Need-returns
-returns c = rw (c .enum-told .given .1)
+returns c = rw (← c .before .before .reason .ensures, ← c .before .kind .ensures, eq-eqb _ _ (c .if1 .taken))
 
 returns-2 : tie.Need-returns-2
-returns-2 c = rw (c .enum-told2 .given .1)
-
-returns-3 : tie.Need-returns-3
-returns-3 c = rw (c .enum-told3 .given .1)
-
-returns-4 : tie.Need-returns-4
-returns-4 c = rw (c .enum-told4 .given .1)
-
-returns-5 : tie.Need-returns-5
-returns-5 c = rw (c .before .apdu .given .1)
-
-returns-6 : tie.Need-returns-6
-returns-6 c = rw (c .before .apdu2 .given .1)
-
-returns-7 : tie.Need-returns-7
-returns-7 c = rw (c .enum-told5 .given .1)
+returns-2 c = rw (← c .before .before .reason .ensures, ← c .before .kind .ensures, ne-eqb _ _ (c .if1 .left))
 
 pub abort-told-spec : {M : Type 1} → statement M
 abort-told-spec =
     tie.close
     (tie.spec
-    enum-told
-    enum-told-2
-    enum-told-3
-    enum-told-4
-    enum-known-apdu
-    enum-known-apdu-2
-    enum-told-5
+    reason-requires
+    kind-requires
     returns
-    returns-2
-    returns-3
-    returns-4
-    returns-5
-    returns-6
-    returns-7)
+    returns-2)

@@ -5,9 +5,6 @@ use borrow.Author.Needs.{needs}
 use Rattle.step.proofs.call.bare_step.Statement.{statement}
 use Rattle.step.proofs.call.bare_step.Tie as tie
 
-arrives-requires : tie.Need-arrives-requires
-arrives-requires c κs = search needs
-
 step-requires : tie.Need-step-requires
 step-requires c κs = search needs
 
@@ -27,13 +24,12 @@ same-length-3 : tie.Need-same-length-3
 same-length-3 c = search needs
 
 returns : tie.Need-returns
-returns c = bare-steps _ _ _ _ _ _ _ _ _ _ _ (c .before .before .before .before .before .before .before .before .before .before .before .before .arrives .ensures) (c .before .before .before .before .before .before .before .before .before .before .before .step .ensures) (c .before .before .before .before .before .before .before .no-data .ensures) (c .before .before .before .before .before .before .conclude .ensures)
+returns c = bare-steps _ _ _ _ _ _ _ _ _ _ (c .before .before .before .before .before .before .before .before .before .before .before .step .ensures) (c .before .before .before .before .before .before .before .no-data .ensures) (c .before .before .before .before .before .before .conclude .ensures)
 
 pub bare-step-spec : {M : Type 1} → statement M
 bare-step-spec =
     tie.close
     (tie.spec
-    arrives-requires
     step-requires
     no-data-requires
     conclude-requires

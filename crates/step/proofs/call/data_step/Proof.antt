@@ -11,9 +11,6 @@ read-pdu-requires c κs = search needs
 meaning-requires : tie.Need-meaning-requires
 meaning-requires c κs = search needs
 
-arrives-requires : tie.Need-arrives-requires
-arrives-requires c κs = search needs
-
 step-requires : tie.Need-step-requires
 step-requires c κs = search needs
 
@@ -33,7 +30,7 @@ same-length-3 : tie.Need-same-length-3
 same-length-3 c = search needs
 
 returns : tie.Need-returns
-returns c = data-steps _ _ _ _ _ _ _ _ _ _ _ _ _ (c .before .before .before .before .before .before .before .before .before .before .before .before .before .before .read-pdu .ensures) (c .before .before .before .before .before .before .before .before .before .before .before .before .before .meaning .ensures) (c .before .before .before .before .before .before .before .before .before .before .before .before .arrives .ensures) (c .before .before .before .before .before .before .before .before .before .before .before .step .ensures) (c .before .before .before .before .before .before .before .data-of .ensures) (c .before .before .before .before .before .before .conclude .ensures)
+returns c = data-steps _ _ _ _ _ _ _ _ _ _ _ _ (c .before .before .before .before .before .before .before .before .before .before .before .before .before .read-pdu .ensures) (c .before .before .before .before .before .before .before .before .before .before .before .before .meaning .ensures) (c .before .before .before .before .before .before .before .before .before .before .before .step .ensures) (c .before .before .before .before .before .before .before .data-of .ensures) (c .before .before .before .before .before .before .conclude .ensures)
 
 pub data-step-spec : {M : Type 1} → statement M
 data-step-spec =
@@ -41,7 +38,6 @@ data-step-spec =
     (tie.spec
     read-pdu-requires
     meaning-requires
-    arrives-requires
     step-requires
     data-of-requires
     conclude-requires

@@ -16,6 +16,9 @@ enum-known-self-2 c = c .match .keys2
 shapely-requires-2 : tie.Need-shapely-requires-2
 shapely-requires-2 c κs = tt
 
+readable-requires : tie.Need-readable-requires
+readable-requires c κs = tt
+
 enum-told : tie.Need-enum-told
 enum-told c = c .match .keys3
 
@@ -28,15 +31,19 @@ returns c = rw (c .before .before .self .given .1) (c .shapely .ensures)
 
 returns-2 : tie.Need-returns-2
 unfolding shapely
-returns-2 c = rw (c .before .before .self2 .given .1) (c .shapely2 .ensures)
+returns-2 c = rw (c .before .before .before .before .self2 .given .1, ← c .before .before .shapely2 .ensures, c .before .if1 .taken) (c .readable .ensures)
 
 returns-3 : tie.Need-returns-3
 unfolding shapely
-returns-3 c = rw (c .enum-told .given .1)
+returns-3 c = rw (c .before .before .before .self2 .given .1, ← c .before .shapely2 .ensures, c .if1 .left)
 
 returns-4 : tie.Need-returns-4
 unfolding shapely
-returns-4 c = rw (c .enum-told2 .given .1)
+returns-4 c = rw (c .enum-told .given .1)
+
+returns-5 : tie.Need-returns-5
+unfolding shapely
+returns-5 c = rw (c .enum-told2 .given .1)
 
 pub shapely-spec : {M : Type 1} → statement M
 shapely-spec =
@@ -46,9 +53,11 @@ shapely-spec =
     shapely-requires
     enum-known-self-2
     shapely-requires-2
+    readable-requires
     enum-told
     enum-told-2
     returns
     returns-2
     returns-3
-    returns-4)
+    returns-4
+    returns-5)

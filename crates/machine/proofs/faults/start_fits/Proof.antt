@@ -1,0 +1,42 @@
+-- `machine::faults::start_fits` meets its contract.
+-- Assumes nothing.
+use Rattle.machine.specs.Faults.{startFits}
+use borrow.Author.Tests.{eq-eqb, ne-eqb, not-true, not-false}
+use Rattle.machine.proofs.faults.start_fits.Statement.{statement}
+use Rattle.machine.proofs.faults.start_fits.Tie as tie
+
+kind-requires : tie.Need-kind-requires
+kind-requires c κs = tt
+
+returns : tie.Need-returns
+unfolding startFits
+returns c = rw (← c .before .kind .ensures, ne-eqb _ _ (c .if1 .taken))
+
+reads-starts-requires : tie.Need-reads-starts-requires
+reads-starts-requires c κs = tt
+
+returns-2 : tie.Need-returns-2
+unfolding startFits
+returns-2 c = rw (← c .before .before .before .kind .ensures, eq-eqb _ _ (c .before .before .if1 .left), ← c .before .reads-starts .ensures, not-true (c .before .reads-starts .result) (c .if2 .taken))
+
+mode-requires : tie.Need-mode-requires
+mode-requires c κs = tt
+
+expects-requires : tie.Need-expects-requires
+expects-requires c κs = tt
+
+returns-3 : tie.Need-returns-3
+unfolding startFits
+returns-3 c = rw (← c .before .before .before .before .before .kind .ensures, eq-eqb _ _ (c .before .before .before .before .if1 .left), ← c .before .before .before .reads-starts .ensures, not-false (c .before .before .before .reads-starts .result) (c .before .before .if2 .left), ← c .before .mode .ensures) (c .expects .ensures)
+
+pub start-fits-spec : {M : Type 1} → statement M
+start-fits-spec =
+    tie.close
+    (tie.spec
+    kind-requires
+    returns
+    reads-starts-requires
+    returns-2
+    mode-requires
+    expects-requires
+    returns-3)

@@ -1,0 +1,213 @@
+// The first fault of a dialogue-service primitive: the orders that document 01 gives for several faults in one.
+use crate::calls::ACCEPTED;
+use crate::calls::answer;
+use crate::event::Apdu;
+use crate::event::Qos;
+use crate::event::ServicePrimitive;
+use crate::record::Record;
+use control::Primitive;
+use control::Side;
+use control::State;
+use control::expects;
+use control::is;
+ghost use mathlib.Core.Path.{_≡_};
+ghost use Rattle.machine.specs.Apdus.{abortFits};
+ghost use Rattle.machine.specs.Faults.{pduFault, sendFault, abortFault, peerFits, readsStarts, startFits, turnedAway, indicationFault, confirmationFault, firstFault};
+
+// A flag says whether the dialogue is open still, so that a D-ABORT is sent.
+pub enum Fault {
+    NoFault,
+    // An unexpected state, or what else has no instruction.
+    NoInstruction(bool),
+    // Quality of service.
+    Quality,
+    // The result or the reject source.
+    TurnedAway,
+    Security(bool),
+    // The PDU is missing, not valid, not permitted.
+    Missing,
+    Invalid(bool),
+    NotPermitted(bool),
+}
+
+// Missing, invalid, not permitted; then what is behind them. i, u: is the dialogue open for the last two.
+fn pdu_fault(fits: bool, i: bool, u: bool, apdu: Apdu, behind: Fault) -> Fault
+    ensures { λ f. ⌜ f ≡ pduFault fits i u apdu behind ⌝ }
+{
+    let kind = apdu.kind();
+    if kind == Apdu::ABSENT {
+        return Fault::Missing;
+    }
+    if kind == Apdu::NOT_VALID {
+        return Fault::Invalid(i);
+    }
+    if !fits {
+        return Fault::NotPermitted(u);
+    }
+    behind
+}
+
+// A primitive whose PDU is to be a send.
+fn send_fault(side: Side, r: Record, p: Primitive, live: bool, apdu: Apdu) -> Fault
+    ensures { λ f. ⌜ f ≡ sendFault side r p live apdu ⌝ }
+{
+    let c = r.control;
+    if !expects(side, c, p) {
+        return Fault::NoInstruction(true);
+    }
+    let send = apdu.kind() == Apdu::SEND;
+    pdu_fault(send, live, live, apdu, Fault::NoFault)
+}
+
+// A D-ABORT or a D-P-ABORT, after which no dialogue exists.
+fn abort_fault(side: Side, r: Record, p: Primitive, fits: bool) -> Fault
+    ensures { λ f. ⌜ f ≡ abortFault side r p fits ⌝ }
+{
+    let c = r.control;
+    if !expects(side, c, p) {
+        return Fault::NoInstruction(false);
+    }
+    if !fits {
+        return Fault::NoInstruction(false);
+    }
+    Fault::NoFault
+}
+
+// The Calling Peer ID of a start is a facility designation at the air machine, an aircraft address at the ground machine.
+fn peer_fits(side: Side, peer: u64) -> bool
+    ensures { λ b. ⌜ b ≡ peerFits side peer ⌝ }
+{
+    match side {
+        Side::Air => peer == ServicePrimitive::FACILITY,
+        Side::Ground => peer == ServicePrimitive::AIRCRAFT,
+    }
+}
+
+// What a facility sends to the ground machine is GroundPDUs, and no start of it is permitted there.
+fn reads_starts(side: Side, peer: u64) -> bool
+    ensures { λ b. ⌜ b ≡ readsStarts side peer ⌝ }
+{
+    match side {
+        Side::Air => true,
+        Side::Ground => peer == ServicePrimitive::AIRCRAFT,
+    }
+}
+
+fn start_fits(side: Side, r: Record, peer: u64, apdu: Apdu) -> bool
+    ensures { λ b. ⌜ b ≡ startFits side r peer apdu ⌝ }
+{
+    let c = r.control;
+    if apdu.kind() != Apdu::START {
+        return false;
+    }
+    if !reads_starts(side, peer) {
+        return false;
+    }
+    expects(side, c, Primitive::DStart(apdu.mode()))
+}
+
+fn turned_away(result: u64, source: u64) -> bool
+    ensures { λ b. ⌜ b ≡ turnedAway result source ⌝ }
+{
+    result == ServicePrimitive::TRANSIENT || source == ServicePrimitive::DS_PROVIDER
+}
+
+// A wrong calling peer comes last, and has no instruction.
+fn indication_fault(side: Side, r: Record, peer: u64, security: u64, qos: Qos, apdu: Apdu) -> Fault
+    ensures { λ f. ⌜ f ≡ indicationFault side r peer security qos apdu ⌝ }
+{
+    let c = r.control;
+    let s = c.state;
+    if !is(s, State::Idle) {
+        return Fault::NoInstruction(true);
+    }
+    if !qos.fits() {
+        return Fault::Quality;
+    }
+    if security != r.policy {
+        return Fault::Security(true);
+    }
+    let fits = start_fits(side, r, peer, apdu);
+    if peer_fits(side, peer) {
+        return pdu_fault(fits, true, true, apdu, Fault::NoFault);
+    }
+    pdu_fault(fits, true, true, apdu, Fault::NoInstruction(true))
+}
+
+fn confirmation_fault(
+    side: Side,
+    r: Record,
+    result: u64,
+    source: u64,
+    security: u64,
+    apdu: Apdu,
+) -> Fault
+    ensures { λ f. ⌜ f ≡ confirmationFault side r result source security apdu ⌝ }
+{
+    let c = r.control;
+    let open = result == ACCEPTED;
+    if !expects(side, c, Primitive::DStartCnf(answer(result))) {
+        return Fault::NoInstruction(true);
+    }
+    if turned_away(result, source) {
+        return Fault::TurnedAway;
+    }
+    if security != r.request {
+        return Fault::Security(open);
+    }
+    let send = apdu.kind() == Apdu::SEND;
+    pdu_fault(send, open, true, apdu, Fault::NoFault)
+}
+
+// Does the APDU fit the originator?
+fn abort_fits(originator: u64, apdu: Apdu) -> bool
+    ensures { λ b. ⌜ b ≡ abortFits originator apdu ⌝ }
+{
+    let kind = apdu.kind();
+    if originator == ServicePrimitive::USER {
+        return kind == Apdu::ABORT_USER;
+    }
+    if originator == ServicePrimitive::PROVIDER {
+        return kind == Apdu::ABORT_PROVIDER;
+    }
+    false
+}
+
+pub(crate) fn first_fault(side: Side, r: Record, p: ServicePrimitive, apdu: Apdu) -> Fault
+    ensures { λ f. ⌜ f ≡ firstFault side r p apdu ⌝ }
+{
+    match p {
+        ServicePrimitive::DStartIndication(peer, security, qos) => indication_fault(
+            side,
+            r,
+            peer,
+            security,
+            qos,
+            apdu,
+        ),
+        ServicePrimitive::DStartConfirmation(result, source, security) => confirmation_fault(
+            side,
+            r,
+            result,
+            source,
+            security,
+            apdu,
+        ),
+        ServicePrimitive::DDataIndication => send_fault(side, r, Primitive::DData, true, apdu),
+        ServicePrimitive::DEndIndication => send_fault(side, r, Primitive::DEnd, true, apdu),
+        ServicePrimitive::DEndConfirmation(result) => send_fault(
+            side,
+            r,
+            Primitive::DEndCnf(answer(result)),
+            result != ACCEPTED,
+            apdu,
+        ),
+        ServicePrimitive::DAbortIndication(originator) => abort_fault(
+            side,
+            r,
+            Primitive::DAbort,
+            abort_fits(originator, apdu),
+        ),
+        ServicePrimitive::DPAbortIndication => abort_fault(side, r, Primitive::DPAbort, true),
+    }
+}

@@ -6,12 +6,14 @@
  * Users open and close dialogues at random. At each end a broker hands out jobs, each with a message for the other end. The
  * broker hears late that a job was taken, so it delivers a job one to three times; the card refuses the second and third
  * as REPEAT. Jobs come from the broker as envelopes (mail.h), and it gets back as envelopes what is delivered and what is
- * refused. Timers expire, ends break down and the carrier fails, all at random from the seed. The host then lets every line
- * run empty and prints an account.
+ * refused. Each message of a controller has an identification number from the book of its dialogue (book.h), and a message of
+ * the flight deck is the reply that closes it. Timers expire, ends break down and the carrier fails, all at random from the
+ * seed. The host then lets every line run empty and prints an account.
  *
  * Status 0: whenever both lines of a dialogue were empty its ends matched (`matching`) and, unless something broke the
  * dialogue, every message was handed out (`complete`); the messages that a user saw in a dialogue were in order the first
- * so many that the other end took (`message_seen`); and no end took a job twice (`taken`).
+ * so many that the other end took (`message_seen`); no end took a job twice (`taken`); and no two open messages of a dialogue
+ * had one number (book.h).
  *
  * Where to begin: `act` does what the answer of a call says, `hand_over` makes a call of an entry of a line, `offer` takes
  * the broker's mail, and `step` picks what happens next.
@@ -20,6 +22,7 @@
 #include <stdlib.h>
 #include <string.h>
 
+#include "book.h"
 #include "carrier.h"
 #include "mail.h"
 
@@ -45,6 +48,9 @@ struct end {
     uint64_t first_job;     /* the first job that this end could take in it */
     uint64_t seen;          /* the messages that were handed out to this end in it */
     int broke;              /* this end invoked D-ABORT in it, or the carrier failed */
+    uint8_t book[PEAT_BOOK_BYTES];  /* of a ground end: the numbers of its messages */
+    struct book_watch watch;
+    struct book_replies replies;    /* of an air end: those that it owes */
 };
 
 /* a dialogue: the air end, the ground end */
@@ -67,10 +73,13 @@ static int quiet(struct dialogue *d) { return air(d)->out.entries == 0 && ground
 /* ---- the account */
 
 static struct account {
-    unsigned long offered, taken, repeat, prohibited, taken_twice, read, written;
+    unsigned long offered, taken, repeat, prohibited, all_open, taken_twice, read, written, replies;
     unsigned long delivered, lost, missing, misplaced, incomplete, deck_duplicates, ground_duplicates;
     unsigned long opened, closed, aborted, failed, turned_back, expired, errors, half_closed, refused;
+    struct book_account book;
 } account;
+
+#define BOOK(e) (e)->book, &(e)->watch, &account.book
 
 /* ---- chance */
 
@@ -91,13 +100,15 @@ static void must(unsigned refusal)
         account.refused++;
 }
 
-/* ---- messages: the job's number in 64 bits, and then some bits, more or fewer, that no other job has there */
+/* ---- messages: the job's number in 64 bits, in 8 bits the number that the host puts there, and then some bits, more or
+   fewer, that no other job has there */
 
-#define MESSAGE_BYTES 40
+#define MESSAGE_BYTES 42
+#define NUMBER_AT 8 /* the byte of a message that has its identification number or, of a flight deck's, the number it replies to */
 
 static unsigned message_of(const struct end *from, uint64_t job, uint8_t *message)
 {
-    unsigned bits = 64 + (unsigned)(job * 29 % 250), i;
+    unsigned bits = 72 + (unsigned)(job * 29 % 250), i;
     for (i = 0; i < (bits + 7) / 8; i++)
         message[i] = (uint8_t)(i < 8 ? job >> (56 - 8 * i) : job * i + is_air(from));
     if (bits % 8 != 0)
@@ -157,12 +168,15 @@ static void taken(struct end *e, uint64_t job)
     }
 }
 
-/* A job that the card knows (REPEAT) is acknowledged; one that it can not take now (PROHIBITED) stays with the broker. */
+/* A job that the card knows (REPEAT) is acknowledged; one that it can not take now (PROHIBITED, ALL_OPEN) stays with the
+   broker. */
 static void refusal_seen(struct end *e, uint64_t job, unsigned refusal)
 {
     int i;
     if (refusal == PEAT_PROHIBITED) {
         account.prohibited++;
+    } else if (refusal == PEAT_ALL_OPEN) {
+        account.all_open++;
     } else if (refusal == PEAT_REPEAT) {
         account.repeat++;
         for (i = 0; i < LATE; i++)
@@ -172,20 +186,34 @@ static void refusal_seen(struct end *e, uint64_t job, unsigned refusal)
     }
 }
 
+/* A flight deck is shown a message and owes a reply to its number; a controller is shown a reply, which closes the number. */
+static void number_seen(struct end *e, uint64_t job, unsigned number)
+{
+    if (is_air(e)) {
+        account.book.astray += !book_has(e->peer->book, &e->peer->watch, number, job);
+        reply_owed(&e->replies, number);
+    } else if (number != NO_NUMBER) {
+        account.replies++;
+        book_closes(BOOK(e), number, &account.book.closed);
+    }
+}
+
 /* In a dialogue the messages handed out are in order the first so many that the other end took. */
 static void message_seen(struct end *e, const uint8_t *message, unsigned bits)
 {
     uint8_t want[MESSAGE_BYTES];
     uint64_t job = 0, next = e->peer->first_job + e->seen;
-    unsigned i;
+    unsigned i, bits_wanted = message_of(e->peer, next, want);
     for (i = 0; i < 8 && bits >= 64; i++)
         job = job << 8 | message[i];
+    want[NUMBER_AT] = message[NUMBER_AT]; /* the host put it there */
     if (job <= e->last_seen) {
         ++*(is_air(e) ? &account.deck_duplicates : &account.ground_duplicates);
-    } else if (next < e->peer->next_job && bits == message_of(e->peer, next, want) && memcmp(message, want, (bits + 7) / 8) == 0) {
+    } else if (next < e->peer->next_job && bits == bits_wanted && memcmp(message, want, (bits + 7) / 8) == 0) {
         account.delivered++;
         e->last_seen = job;
         e->seen++;
+        number_seen(e, job, message[NUMBER_AT]);
     } else {
         account.misplaced++;
     }
@@ -314,14 +342,36 @@ static void hand_over(struct end *from)
         account.missing++;
 }
 
-/* A job's message is given to the card; a refusal goes back to the broker. */
+/* A message with its number is given to the card. */
+static unsigned send(struct end *e, const struct letter *l, unsigned number)
+{
+    uint8_t check[4] = {0}, message[MESSAGE_BYTES];
+    unsigned i;
+    memcpy(message, l->body, (l->bits + 7) / 8);
+    message[NUMBER_AT] = (uint8_t)number;
+    for (i = 0; i < (l->bits + 7) / 8; i++)
+        check[i % 4] ^= message[i];
+    return act(e, peat_message_request(REC(e), l->job, NO_RANGE, message, (l->bits + 7) / 8, l->bits, check, sizeof check, 32, BUFFERS));
+}
+
+/* A controller's message has a number of its own, which a refusal gives back; a flight deck's is a reply, if one is owed. */
+static unsigned send_numbered(struct end *e, const struct letter *l)
+{
+    unsigned number = is_air(e) ? reply_next(&e->replies) : book_opens(BOOK(e), l->job), refusal;
+    if (!is_air(e) && number == NO_NUMBER)
+        return PEAT_ALL_OPEN;
+    refusal = send(e, l, number);
+    if (is_air(e) && refusal == PEAT_TAKEN)
+        reply_sent(&e->replies);
+    else if (!is_air(e) && refusal != PEAT_TAKEN)
+        book_closes(BOOK(e), number, &account.book.withdrawn);
+    return refusal;
+}
+
+/* A job's message goes to the card; a refusal goes back to the broker. */
 static void request(struct end *e, const struct letter *l)
 {
-    uint8_t check[4] = {0};
-    unsigned i, refusal;
-    for (i = 0; i < (l->bits + 7) / 8; i++)
-        check[i % 4] ^= l->body[i];
-    refusal = act(e, peat_message_request(REC(e), l->job, NO_RANGE, l->body, (l->bits + 7) / 8, l->bits, check, sizeof check, 32, BUFFERS));
+    unsigned refusal = send_numbered(e, l);
     if (refusal == PEAT_TAKEN) {
         taken(e, l->job);
     } else {
@@ -360,7 +410,9 @@ static void start(struct dialogue *d, struct end *e)
         d->end[i].first_job = d->end[i].next_job;
         d->end[i].seen = 0;
         d->end[i].broke = 0;
+        d->end[i].replies.owed = 0;
     }
+    book_empties(BOOK(ground(d)));
     if (is_air(e) && chance(2))
         must(act(e, peat_dsc_start_request(REC(e), class_, PEAT_NO_SECURITY, NO_MESSAGE, BUFFERS)));
     else
@@ -385,6 +437,17 @@ static void respond(struct end *e)
         must(act(e, dsc ? peat_dsc_end_request(REC(e), NO_MESSAGE, BUFFERS) : peat_end_request(REC(e), NO_MESSAGE, BUFFERS)));
     else if (!idle(e) && chance(64) == 0)
         must(act(e, peat_user_abort(REC(e), chance(2) ? PEAT_NONE : PEAT_COMMANDED_TERMINATION, BUFFERS)));
+}
+
+/* A controller sends more messages than there are numbers, and the flight deck replies to none of them meanwhile. */
+static void crowd(struct dialogue *d)
+{
+    unsigned long full = account.book.full;
+    int i;
+    for (i = 0; i < 500 && state(ground(d)) == PEAT_DIALOGUE && account.book.full == full; i++) {
+        offer(ground(d));
+        hand_over(ground(d));
+    }
 }
 
 /* The clock: a running timer expires now and then. */
@@ -468,6 +531,8 @@ static void step(void)
         offer(e);
     else if (what < 900)
         respond(e);
+    else if (what < 902)
+        crowd(d);
     else if (what < 985)
         start(d, e);
     else if (what < 992)
@@ -495,7 +560,8 @@ static int good(void)
 {
     return account.deck_duplicates == 0 && account.ground_duplicates == 0 && account.misplaced == 0 && account.missing == 0 &&
            account.incomplete == 0 && account.taken == account.delivered + account.lost && account.taken_twice == 0 &&
-           account.half_closed == 0 && account.refused == 0;
+           account.half_closed == 0 && account.refused == 0 && account.book.twice == 0 && account.book.not_lowest == 0 &&
+           account.book.astray == 0 && account.replies == account.book.closed;
 }
 
 static void print_account(void)
@@ -504,6 +570,7 @@ static void print_account(void)
     printf("  taken                              %lu\n", account.taken);
     printf("  refused as REPEAT                  %lu\n", account.repeat);
     printf("  refused as PROHIBITED, kept        %lu\n", account.prohibited);
+    printf("  refused as ALL_OPEN, kept          %lu\n", account.all_open);
     printf("  taken a second time                %lu\n", account.taken_twice);
     printf("envelopes read, written              %lu, %lu\n", account.read, account.written);
     printf("messages delivered in order          %lu\n", account.delivered);
@@ -513,6 +580,13 @@ static void print_account(void)
     printf("  missing where nothing broke        %lu\n", account.incomplete);
     printf("duplicates seen by a flight deck     %lu\n", account.deck_duplicates);
     printf("duplicates seen by a controller      %lu\n", account.ground_duplicates);
+    printf("message numbers given                %lu\n", account.book.given);
+    printf("  closed by a reply                  %lu\n", account.book.closed);
+    printf("  taken back, message refused        %lu\n", account.book.withdrawn);
+    printf("  most open at once in a dialogue    %u\n", account.book.most);
+    printf("  given while it was open            %lu\n", account.book.twice);
+    printf("  given, but not the lowest free     %lu\n", account.book.not_lowest);
+    printf("  with another job than its own      %lu\n", account.book.astray);
     printf("dialogues opened                     %lu\n", account.opened);
     printf("  ended by both                      %lu\n", account.closed);
     printf("  D-ABORTs, failures of the carrier  %lu, %lu\n", account.aborted, account.failed);

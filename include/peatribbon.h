@@ -6,12 +6,12 @@
  * dialogue service, the expiry of t-start, or a system error. It answers a number that says which primitive the machine
  * invokes of the dialogue service and which of the user. The APDU for the one stands in the first buffer, the message data
  * for the other in the second. These are the machine's calls. The others have no record: they take message data apart, read
- * and write the broker's envelope, and read and write a CPDLC message.
+ * and write the broker's envelope, read and write a CPDLC message, and keep a book of message identification numbers.
  *
  * Ranges. A range is a pointer and, as the next parameter, its length in bytes.
  *   - A call reads and writes inside the ranges that it is lent, keeps no pointer, allocates nothing and has no memory of
  *     its own: calls on different records and buffers may run at the same time.
- *   - LENT RANGES MUST NOT OVERLAP: no byte of a range that is lent without const (rec, first, second, out, and message and
+ *   - LENT RANGES MUST NOT OVERLAP: no byte of a range that is lent without const (rec, first, second, out, book, and message and
  *     text where they are read into) may be a byte of any other range of the same call. (Ranges lent as const are only
  *     read; they may share bytes with each other.) This is the host's to keep. No call can see it, and the promises below do
  *     not hold without it.
@@ -21,10 +21,11 @@
  *
  * Answers. Not refused: the lowest 8 bits are 0 and functions below read the rest, peat_invoked .. peat_data_bytes that of
  * the machine's calls, peat_part_given .. peat_written_bytes that of message data and the envelope, peat_message_characters
- * and peat_message_bits that of the message's. Refused: the number of the refusal, all other bits 0, and NO byte of any lent
- * range has changed. (peat_envelope_job alone answers a plain number.) The refusals are tried in the order ROOM, SHAPE,
- * PROHIBITED, NO_MESSAGE, REPEAT. A primitive of the dialogue service is refused with ROOM or SHAPE only: user data that is
- * no valid PDU is not refused but answered as the protocol says.
+ * and peat_message_bits that of the message's, peat_opened_number and peat_open_count that of the book's. Refused: the number
+ * of the refusal, all other bits 0, and NO byte of any lent range has changed. (peat_envelope_job and peat_book_job answer a
+ * plain number.) The refusals are tried in the order ROOM, SHAPE, PROHIBITED, NO_MESSAGE, REPEAT; of a book SHAPE, then
+ * ALL_OPEN or NOT_OPEN. A primitive of the dialogue service is refused with ROOM or SHAPE only: user data that is no valid
+ * PDU is not refused but answered as the protocol says.
  *
  * What a machine's call writes, if it is not refused:
  *   - rec, 16 bytes: the record after the event;
@@ -57,6 +58,8 @@ extern "C" {
 #define PEAT_ENVELOPE_MOST 269 /* an envelope, bytes */
 #define PEAT_INNER_BYTES 132   /* a message range, exactly */
 #define PEAT_INNER_PLACES 5    /* the elements of a message, at most */
+#define PEAT_BOOK_BYTES 520    /* a book, exactly */
+#define PEAT_BOOK_NUMBERS 64   /* message identification numbers: 0 to 63 */
 
 /* The count or reason that says "none": no message, no abort reason. */
 #define PEAT_NONE ((uint64_t)-1)
@@ -64,17 +67,19 @@ extern "C" {
 /* ---- refusals */
 
 /* The machine's calls answer 0 to 5, the readers of a message and of message data 1, 2 and 10 to 17, the reader of an
-   envelope 20 to 23, and the two writers 1 and 2. A machine's call that meets 10 to 17 in user data does as the protocol
-   says. An envelope of kind 3 carries any of these numbers. */
+   envelope 20 to 23, the two writers 1 and 2, and the book's calls 2, 7 and 8. A machine's call that meets 10 to 17 in user
+   data does as the protocol says. An envelope of kind 3 carries any of these numbers. */
 enum peat_refusal {
     PEAT_TAKEN = 0,      /* not refused */
     PEAT_ROOM = 1,       /* an output buffer is under PEAT_BUFFER_LEAST bytes */
-    PEAT_SHAPE = 2,      /* an argument breaks the sizes, its type or its codes; rec is not a record; a count is more than
-                            the lent bytes hold; an envelope to write that reading refuses; an element to write that is
-                            not carried */
+    PEAT_SHAPE = 2,      /* an argument breaks the sizes, its type or its codes; rec is not a record, or book not a book; a
+                            count is more than the lent bytes hold; an envelope to write that reading refuses; an element to
+                            write that is not carried */
     PEAT_PROHIBITED = 3, /* a user primitive with no action in this state, or an expiry while no timer runs */
     PEAT_NO_MESSAGE = 4, /* a message request without a CPDLC message */
     PEAT_REPEAT = 5,     /* a message request whose job number is not above the highest that the record has taken */
+    PEAT_ALL_OPEN = 7,   /* all PEAT_BOOK_NUMBERS numbers of a book are open */
+    PEAT_NOT_OPEN = 8,   /* a number to close is not open, or is no number */
     PEAT_SHORT = 10,       /* the bits end inside a field */
     PEAT_RANGE = 11,       /* a value outside its type */
     PEAT_EXTENSION = 12,   /* an extension bit is 1 */
@@ -296,6 +301,16 @@ static inline size_t peat_written_bytes(uint64_t answer) { return peat_bits_of(a
 static inline unsigned peat_message_characters(uint64_t answer) { return peat_bits_of(answer, PEAT_MESSAGE_COUNT_AT, PEAT_MESSAGE_COUNT_BITS); }
 static inline unsigned peat_message_bits(uint64_t answer) { return peat_bits_of(answer, PEAT_MESSAGE_COUNT_AT, PEAT_MESSAGE_COUNT_BITS); }
 static inline size_t peat_message_bytes(uint64_t answer) { return (peat_message_bits(answer) + 7u) / 8u; }
+
+/* ---- the answer of a book's call */
+
+/* of all but peat_book_job: bits of the answer above the refusal */
+#define PEAT_BOOK_ANSWER_AT 8
+#define PEAT_BOOK_ANSWER_BITS 8
+
+/* the number that peat_book_open gives, 0 to 63; how many are open, 0 to 64, of peat_book_count */
+static inline unsigned peat_opened_number(uint64_t answer) { return peat_bits_of(answer, PEAT_BOOK_ANSWER_AT, PEAT_BOOK_ANSWER_BITS); }
+static inline unsigned peat_open_count(uint64_t answer) { return peat_bits_of(answer, PEAT_BOOK_ANSWER_AT, PEAT_BOOK_ANSWER_BITS); }
 
 /* ---- the message range: 132 bytes that the host may keep anywhere, read and write; of a number in two bytes the more
  * significant is first
@@ -579,6 +594,42 @@ uint64_t peat_read_message(uint64_t direction, const uint8_t *bits, size_t bits_
    zero up to the end of the byte, and every other byte stays; peat_read_message reads it back. */
 uint64_t peat_write_message(uint64_t direction, const uint8_t *message, size_t message_len, const uint8_t *text, size_t text_len,
     uint8_t *out, size_t out_len);
+
+/* ---- the book of message identification numbers
+ *
+ * One book stands beside one record: which of the numbers 0 to 63 are open in this end's direction, and the job that each is
+ * open for. The host opens a number for each message that it sends, and puts it into the message (PEAT_INNER_IDENTIFICATION);
+ * it closes the number when the exchange is over, for example when the reply came, which has it as its reference number. The
+ * book does not look at the record or into a message: the host empties it when a new dialogue opens, and closes what it
+ * opened for a request that was then refused.
+ *
+ * A book is PEAT_BOOK_BYTES bytes that the host may keep anywhere and copy; it writes them through calls only. Of a number in
+ * eight bytes the most significant is first.
+ *   byte 0          eight bytes, the open numbers: bit n, counted from the lowest, is 1 where number n is open
+ *   byte 8 (n + 1)  eight bytes, the job of number n: 0 where it is not open
+ * The jobs decide which numbers are open, so two books with the same open numbers and jobs have the same bytes. Any other
+ * bytes are no book: every call but peat_book_empty looks at all of them first, and refuses them.
+ */
+
+/* Empties a book, or makes one of any bytes: no number is open.
+   Answers 0 and writes book, all zeros; or PEAT_SHAPE (book_len is not PEAT_BOOK_BYTES), and book stays. */
+uint64_t peat_book_empty(uint8_t *book, size_t book_len);
+
+/* Opens the lowest free number for a job, 1 to 2^64 - 1. The book does not mind a job that has a number already: it then has
+   two. Answers PEAT_SHAPE (job is 0, or book is not a book); PEAT_ALL_OPEN, exactly where all PEAT_BOOK_NUMBERS are open; and
+   book stays. Else peat_opened_number reads the answer. */
+uint64_t peat_book_open(uint8_t *book, size_t book_len, uint64_t job);
+
+/* Closes a number that is open; it may be given again from then on.
+   Answers PEAT_SHAPE (book is not a book); PEAT_NOT_OPEN (number is not open, or above 63); and book stays. Else 0. */
+uint64_t peat_book_close(uint8_t *book, size_t book_len, uint64_t number);
+
+/* How many numbers are open: peat_open_count reads the answer. Or PEAT_SHAPE (book is not a book). Writes nothing. */
+uint64_t peat_book_count(const uint8_t *book, size_t book_len);
+
+/* The job that a number is open for, 1 to 2^64 - 1; 0 where it is not open, is above 63, or book is not a book. (A job takes
+   all bits of a number, so no refusal has room beside it; peat_book_count tells whether a range is a book.) Writes nothing. */
+uint64_t peat_book_job(const uint8_t *book, size_t book_len, uint64_t number);
 
 #ifdef __cplusplus
 }

@@ -1,3 +1,4 @@
 pub mod Fresh
 pub mod Answered
 pub mod Taking
+pub mod Numbered

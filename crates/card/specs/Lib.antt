@@ -1,3 +1,4 @@
 pub mod Face
 pub mod Mail
+pub mod MessageNumbers
 pub mod Parts

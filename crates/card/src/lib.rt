@@ -5,5 +5,6 @@ mod fresh_record; // fresh_record.rt: a fresh record
 mod given; // given.rt: message data from three ranges, and a call with them or without
 mod mail; // mail.rt: the broker's envelopes
 mod message; // message.rt: the CPDLC message
+mod message_numbers; // message_numbers.rt: the book of message identification numbers
 mod service; // service.rt: the primitives of the dialogue service
 mod user; // user.rt: the primitives of the user, and what the host reports

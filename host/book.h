@@ -1,102 +1,53 @@
 /*
- * Message identification numbers at a host: each message of a controller has a number from the book of its dialogue, and the
- * reply closes it. Beside the book stands a watch, the simulator's own list of what is open, made of what happened and not of
- * the book's bytes. It holds the book to document 02 (E2): no two open messages of a dialogue have one number, and the number
- * given is the lowest free one.
+ * Message identification numbers. Each message of a controller has a number from the book of its dialogue, which is part of
+ * the memory of the ground end (memory.h), and the flight deck's reply closes it. Beside the book stands a watch, the
+ * simulator's own list of what is open, made of what happened and not of the book's bytes. It holds the book to document 02
+ * (E2): no two open messages of a dialogue have one number, and the number given is the lowest free one.
  */
 #ifndef BOOK_H
 #define BOOK_H
 
 #include "peatribbon.h"
 
-#define NO_NUMBER 255 /* in a message: no number, or a reply to none */
+#define NO_NUMBER 255 /* no number is free, or a reply to none */
 
-/* the job that each number is open for, 0 where it is not open */
+/* The number that the book gives a job's message: the lowest free one, or NO_NUMBER. The book stays: it is opened by the
+   change that takes the job (memory_apply), so a message that is refused has taken none. */
+unsigned book_next(const uint8_t *book, uint64_t job);
+
+/* ---- the watch */
+
 struct book_watch {
-    uint64_t job[PEAT_BOOK_NUMBERS];
+    uint64_t job[PEAT_BOOK_NUMBERS]; /* that each number is open for, 0 where it is not open */
 };
 
-struct book_account {
-    unsigned long given, closed, withdrawn, full; /* numbers: opened, closed by a reply, closed since the message was refused; openings refused */
-    unsigned long twice, not_lowest, astray;      /* given while open; not the lowest free; closed or delivered with another job */
-    unsigned most;                                /* open at once */
-};
+/* a new dialogue: nothing is open */
+void book_watch_begins(struct book_watch *w);
 
-static inline unsigned book_lowest_free(const struct book_watch *w)
-{
-    unsigned n = 0;
-    while (n < PEAT_BOOK_NUMBERS && w->job[n] != 0)
-        n++;
-    return n;
-}
+/* a job's message was taken with this number, and `open` are open by the book now */
+void book_watch_gives(struct book_watch *w, unsigned number, uint64_t job, unsigned open);
 
-/* A new dialogue: no number is open. */
-static inline void book_empties(uint8_t *book, struct book_watch *w, struct book_account *a)
-{
-    unsigned n;
-    a->astray += peat_book_empty(book, PEAT_BOOK_BYTES) != PEAT_TAKEN;
-    for (n = 0; n < PEAT_BOOK_NUMBERS; n++)
-        w->job[n] = 0;
-}
+/* the book had no number to give */
+void book_watch_all_open(const struct book_watch *w);
 
-/* The number of a job's message; NO_NUMBER where all are open. */
-static inline unsigned book_opens(uint8_t *book, struct book_watch *w, struct book_account *a, uint64_t job)
-{
-    uint64_t answer = peat_book_open(book, PEAT_BOOK_BYTES, job);
-    unsigned n = peat_opened_number(answer), open;
-    if (peat_refusal(answer) != PEAT_TAKEN) {
-        a->full += peat_refusal(answer) == PEAT_ALL_OPEN;
-        a->astray += peat_refusal(answer) != PEAT_ALL_OPEN || book_lowest_free(w) < PEAT_BOOK_NUMBERS;
-        return NO_NUMBER;
-    }
-    a->given++;
-    a->twice += w->job[n] != 0;
-    a->not_lowest += n != book_lowest_free(w);
-    w->job[n] = job;
-    open = peat_open_count(peat_book_count(book, PEAT_BOOK_BYTES));
-    a->most = open > a->most ? open : a->most;
-    return n;
-}
+/* a message with this number is shown: the job that it has by the watch; 0 where it has none, or the book another */
+uint64_t book_watch_job(const struct book_watch *w, const uint8_t *book, unsigned number);
 
-/* whether a number is open for a job, by the watch and by the book */
-static inline int book_has(const uint8_t *book, const struct book_watch *w, unsigned number, uint64_t job)
-{
-    return number < PEAT_BOOK_NUMBERS && w->job[number] == job && peat_book_job(book, PEAT_BOOK_BYTES, number) == job;
-}
+/* the reply to a number is shown, which closes it */
+void book_watch_replied(struct book_watch *w, unsigned number);
 
-/* A number is closed: by its reply, or since its message was refused. */
-static inline void book_closes(uint8_t *book, struct book_watch *w, struct book_account *a, unsigned number, unsigned long *why)
-{
-    if (number >= PEAT_BOOK_NUMBERS || w->job[number] == 0 || peat_book_close(book, PEAT_BOOK_BYTES, number) != PEAT_TAKEN) {
-        a->astray++;
-        return;
-    }
-    w->job[number] = 0;
-    ++*why;
-}
-
-/* ---- the other end, which owes replies: to the numbers that it was shown, the oldest first */
+/* ---- what a flight deck owes: a reply to each number that it was shown, the oldest first */
 
 struct book_replies {
     unsigned oldest, owed;
     uint8_t number[PEAT_BOOK_NUMBERS];
 };
 
-static inline void reply_owed(struct book_replies *r, unsigned number)
-{
-    if (r->owed < PEAT_BOOK_NUMBERS)
-        r->number[(r->oldest + r->owed++) % PEAT_BOOK_NUMBERS] = (uint8_t)number;
-}
+void reply_owed(struct book_replies *r, unsigned number);
 
-/* the number that the next message is a reply to, if one is owed */
-static inline unsigned reply_next(const struct book_replies *r) { return r->owed > 0 ? r->number[r->oldest] : NO_NUMBER; }
+/* the number that its next message replies to, or NO_NUMBER */
+unsigned reply_next(const struct book_replies *r);
 
-static inline void reply_sent(struct book_replies *r)
-{
-    if (r->owed > 0) {
-        r->oldest = (r->oldest + 1) % PEAT_BOOK_NUMBERS;
-        r->owed--;
-    }
-}
+void reply_sent(struct book_replies *r);
 
 #endif

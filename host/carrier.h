@@ -12,9 +12,11 @@
 #define LINE_ENTRIES 32
 
 struct entry {
-    unsigned primitive; /* enum peat_invoked */
-    unsigned parameter; /* routing class, result or originator */
+    unsigned long serial; /* which entry of its dialogue this is, for the story */
+    unsigned primitive;   /* enum peat_invoked */
+    unsigned parameter;   /* routing class, result or originator */
     unsigned security;
+    unsigned bits; /* of the APDU */
     size_t bytes;
     uint8_t apdu[PEAT_BUFFER_LEAST];
 };

@@ -37,6 +37,9 @@
  *
  * The host keeps the clock: it starts t-start when a record's timer (peat_record_timer) begins to run, stops it when it no
  * longer runs, and reports the expiry. The host also keeps versions and the names of the peers.
+ *
+ * WHAT THE HOST OWES THE CARD is in docs/HOST.md, on one page: above all, what a call left of a record is on stable storage
+ * before anything of that call leaves the host, and no record that has lived is ever replaced by a fresh one.
  */
 #ifndef PEATRIBBON_H
 #define PEATRIBBON_H
@@ -63,6 +66,12 @@ extern "C" {
 
 /* The count or reason that says "none": no message, no abort reason. */
 #define PEAT_NONE ((uint64_t)-1)
+
+/* Ranges as a call takes them: a whole array (not a pointer, whose size is another), the two buffers of a machine's call,
+   and message data that are none: no identifier, no message, a check of no bits. */
+#define PEAT_ARRAY(array) (array), sizeof(array)
+#define PEAT_BUFFERS(first, second) PEAT_ARRAY(first), PEAT_ARRAY(second)
+#define PEAT_NO_DATA NULL, 0, NULL, 0, PEAT_NONE, NULL, 0, 0
 
 /* ---- refusals */
 
@@ -176,6 +185,40 @@ enum peat_unit {
 };
 #define PEAT_FEET_LOWEST (-60)
 #define PEAT_METRES_LOWEST (-30)
+
+/* which argument an element has */
+enum peat_kind {
+    PEAT_KIND_NOT_CARRIED = 0, /* one that the card does not carry, or no such element */
+    PEAT_KIND_NONE = 1,
+    PEAT_KIND_LEVEL = 2,
+    PEAT_KIND_TWO_LEVELS = 3,
+    PEAT_KIND_TIME = 4,
+    PEAT_KIND_CODE = 5,
+    PEAT_KIND_FREE_TEXT = 6,
+    PEAT_KIND_FACILITY = 7,
+    PEAT_KIND_FACILITY_DESIGNATION = 8,
+    PEAT_KIND_ATIS_CODE = 9
+};
+
+/* The kind of an element, by enum peat_direction and number; PEAT_KIND_NOT_CARRIED for numbers that are none. docs/ELEMENTS.md
+   lists the elements that are carried. One digit an element, from number 0 on, written by tools/elements from the card's
+   own table. */
+static inline unsigned peat_element_kind(uint64_t direction, uint64_t number)
+{
+    static const char uplink[] =
+        "111111240404000000022002000000333122222211000000000000000000"
+        "000000010404100000000000000000000400100000000001000000001000"
+        "000511112201110111111111111120000010109071181101166000021111"
+        "3016000600010166666611166666600100001112201111410111111110";
+    static const char downlink[] =
+        "111111232220000000001000000022202000022001040045000111211010"
+        "020181166100201133090020000220666666666111110021140010";
+    if (direction == PEAT_UPLINK && number < sizeof uplink - 1)
+        return (unsigned)(uplink[number] - '0');
+    if (direction == PEAT_DOWNLINK && number < sizeof downlink - 1)
+        return (unsigned)(downlink[number] - '0');
+    return PEAT_KIND_NOT_CARRIED;
+}
 
 /* what an envelope is: its kind */
 enum peat_envelope {
@@ -293,13 +336,15 @@ static inline size_t peat_written_bytes(uint64_t answer) { return peat_bits_of(a
 
 /* ---- the answer of a message's call */
 
-/* of both calls: bits of the answer above the refusal */
-#define PEAT_MESSAGE_COUNT_AT 8
+/* Bits of the answer above the refusal. Reading and writing count different things, and each has places of its own: what one
+   answers, read as the other's, is 0. */
+#define PEAT_MESSAGE_CHARACTERS_AT 8
+#define PEAT_MESSAGE_BITS_AT 24
 #define PEAT_MESSAGE_COUNT_BITS 16
 
-/* what reading left in the text; what writing left in the buffer: bits, and the bytes that they take */
-static inline unsigned peat_message_characters(uint64_t answer) { return peat_bits_of(answer, PEAT_MESSAGE_COUNT_AT, PEAT_MESSAGE_COUNT_BITS); }
-static inline unsigned peat_message_bits(uint64_t answer) { return peat_bits_of(answer, PEAT_MESSAGE_COUNT_AT, PEAT_MESSAGE_COUNT_BITS); }
+/* what peat_read_message left in the text; what peat_write_message left in the buffer: bits, and the bytes that they take */
+static inline unsigned peat_message_characters(uint64_t answer) { return peat_bits_of(answer, PEAT_MESSAGE_CHARACTERS_AT, PEAT_MESSAGE_COUNT_BITS); }
+static inline unsigned peat_message_bits(uint64_t answer) { return peat_bits_of(answer, PEAT_MESSAGE_BITS_AT, PEAT_MESSAGE_COUNT_BITS); }
 static inline size_t peat_message_bytes(uint64_t answer) { return (peat_message_bits(answer) + 7u) / 8u; }
 
 /* ---- the answer of a book's call */
@@ -349,6 +394,60 @@ static inline unsigned peat_open_count(uint64_t answer) { return peat_bits_of(an
 #define PEAT_LEVEL_NUMBER 2        /* two bytes */
 #define PEAT_LEVEL_SECOND_UNIT 4   /* likewise, of the second */
 #define PEAT_LEVEL_SECOND_NUMBER 5
+#define PEAT_LEVEL_BYTES 7
+
+/* where place i of a message range begins, i from 0 on */
+static inline size_t peat_place_at(unsigned i) { return PEAT_PLACE_FIRST + (size_t)i * PEAT_PLACE_BYTES; }
+
+/* a number in two bytes (a year, a count of characters, a level's number) */
+static inline unsigned peat_two_bytes(const uint8_t *at) { return (unsigned)at[0] << 8 | at[1]; }
+static inline void peat_put_two_bytes(uint8_t *at, unsigned n)
+{
+    at[0] = (uint8_t)(n >> 8);
+    at[1] = (uint8_t)n;
+}
+
+/* The number that a level has in a place, or -1 where its unit has no such level. level is what is said: feet, metres, a
+   flight level, or a metric flight level (tens of metres). So 35000 feet are 3560, 10670 metres 10700, FL350 is 350 and
+   metric FL1067 is 1067. (350 as a number of feet would be 2,900 ft.) */
+static inline long peat_level_number(unsigned unit, long level)
+{
+    switch (unit) {
+    case PEAT_FEET: return level % 10 == 0 && level >= 10L * PEAT_FEET_LOWEST && level <= 70000 ? level / 10 - PEAT_FEET_LOWEST : -1;
+    case PEAT_METRES: return level >= PEAT_METRES_LOWEST && level <= 25000 ? level - PEAT_METRES_LOWEST : -1;
+    case PEAT_FLIGHT_LEVEL: return level >= 30 && level <= 700 ? level : -1;
+    case PEAT_METRIC_FLIGHT_LEVEL: return level >= 100 && level <= 2500 ? level : -1;
+    default: return -1;
+    }
+}
+
+/* the level that a number is, in the same words */
+static inline long peat_level_said(unsigned unit, unsigned number)
+{
+    switch (unit) {
+    case PEAT_FEET: return ((long)number + PEAT_FEET_LOWEST) * 10;
+    case PEAT_METRES: return (long)number + PEAT_METRES_LOWEST;
+    default: return (long)number;
+    }
+}
+
+/* One level, no block, into the PEAT_LEVEL_BYTES bytes that begin at `at` (PEAT_PLACE_LEVEL or PEAT_PLACE_OTHER of a place).
+   1; or 0, and nothing is written, where there is no such level.
+   A LEVEL THAT IS FORGOTTEN IS A LEVEL: a place whose level was left zero reads as unit PEAT_FEET, number 0, and
+   peat_write_message writes it as -600 ft. Nothing in the bytes says that nobody put it there, so it is no SHAPE. Put the
+   level of every element of kind PEAT_KIND_LEVEL and both of PEAT_KIND_TWO_LEVELS. */
+static inline int peat_put_level(uint8_t *at, unsigned unit, long level)
+{
+    long number = peat_level_number(unit, level);
+    size_t i;
+    if (number < 0)
+        return 0;
+    for (i = 0; i < PEAT_LEVEL_BYTES; i++)
+        at[i] = 0;
+    at[PEAT_LEVEL_UNIT] = (uint8_t)unit;
+    peat_put_two_bytes(at + PEAT_LEVEL_NUMBER, (unsigned)number);
+    return 1;
+}
 
 /* ---- the record: 16 bytes that the host may keep anywhere, copy, and read with these; it writes them through calls only */
 
@@ -378,6 +477,79 @@ static inline uint64_t peat_record_highest(const uint8_t *rec)
     for (i = PEAT_RECORD_HIGHEST; i < PEAT_RECORD_BYTES; i++)
         n = n << 8 | rec[i];
     return n;
+}
+
+/* ---- names, for a log; "?" for a number that has none */
+
+static inline const char *peat_name_in(const char *const *names, size_t count, unsigned n) { return n < count ? names[n] : "?"; }
+#define PEAT_NAMED(names, n) peat_name_in(names, sizeof(names) / sizeof *(names), n)
+
+/* of enum peat_refusal, as document 01 has it */
+static inline const char *peat_refusal_name(unsigned refusal)
+{
+    static const char *const names[] = {"taken", "ROOM", "SHAPE", "PROHIBITED", "NO-MESSAGE", "REPEAT", "?", "?", "?", "?", "SHORT", "RANGE",
+        "EXTENSION", "LENGTH-FORM", "LIMIT", "TAIL", "NOT-CARRIED", "DEFAULT", "?", "?", "CUT", "GROUPS", "KIND", "SIZE"};
+    return PEAT_NAMED(names, refusal);
+}
+
+static inline const char *peat_side_name(unsigned side)
+{
+    static const char *const names[] = {"?", "air", "ground"};
+    return PEAT_NAMED(names, side);
+}
+
+static inline const char *peat_state_name(unsigned state)
+{
+    static const char *const names[] = {"IDLE", "START-REQ", "START-IND", "DIALOGUE", "END"};
+    return PEAT_NAMED(names, state);
+}
+
+/* of enum peat_invoked */
+static inline const char *peat_invoked_name(unsigned invoked)
+{
+    static const char *const names[] = {
+        "nothing", "D-START request", "D-START response", "D-DATA request", "D-END request", "D-END response", "D-ABORT request"};
+    return PEAT_NAMED(names, invoked);
+}
+
+/* of enum peat_told; dsc: peat_told_dsc of the answer */
+static inline const char *peat_told_name(unsigned told, unsigned dsc)
+{
+    static const char *const names[] = {"nothing", "CPDLC-start indication", "CPDLC-start confirmation", "CPDLC-message indication",
+        "CPDLC-end indication", "CPDLC-end confirmation", "CPDLC-user-abort indication", "CPDLC-provider-abort indication"};
+    static const char *const dsc_names[] = {"nothing", "DSC-start indication", "DSC-start confirmation", "CPDLC-message indication",
+        "DSC-end indication", "DSC-end confirmation", "CPDLC-user-abort indication", "CPDLC-provider-abort indication"};
+    return dsc ? PEAT_NAMED(dsc_names, told) : PEAT_NAMED(names, told);
+}
+
+/* of enum peat_result, enum peat_user_reason, enum peat_provider_reason and enum peat_kind */
+static inline const char *peat_result_name(unsigned result)
+{
+    static const char *const names[] = {"accepted", "rejected", "rejected (transient)"};
+    return PEAT_NAMED(names, result);
+}
+
+static inline const char *peat_user_reason_name(unsigned reason)
+{
+    static const char *const names[] = {"undefined", "no-message-identification-numbers-available", "duplicate-message-identification-numbers",
+        "no-longer-next-data-authority", "current-data-authority-abort", "commanded-termination", "invalid-response",
+        "time-out-of-synchronisation", "unknown-integrity-check", "validation-failure", "unable-to-decode-message", "invalid-pdu",
+        "invalid-CPDLC-message"};
+    return PEAT_NAMED(names, reason);
+}
+
+static inline const char *peat_provider_reason_name(unsigned reason)
+{
+    static const char *const names[] = {"timer-expired", "undefined-error", "invalid-PDU", "protocol-error", "communication-service-error",
+        "communication-service-failure", "invalid-QOS-parameter", "expected-PDU-missing", "not-permitted-PDU"};
+    return PEAT_NAMED(names, reason);
+}
+
+static inline const char *peat_kind_name(unsigned kind)
+{
+    static const char *const names[] = {"not carried", "none", "level", "two levels", "time", "code", "free text", "facility",
+        "facility designation", "ATIS code"};
+    return PEAT_NAMED(names, kind);
 }
 
 /* ---- a fresh record */
@@ -484,7 +656,8 @@ uint64_t peat_system_error(uint8_t *rec, size_t rec_len, uint8_t *first, size_t 
 /* ---- primitives of the dialogue service
  *
  * given: PEAT_USER_DATA, the user data being all the bytes of the range; or PEAT_NO_USER_DATA, and the range is not looked
- * at. Another number is SHAPE. User data of no bytes are user data, and no valid PDU.
+ * at. Another number is SHAPE. User data of no bytes are user data, and no valid PDU. User data that are lent may be read
+ * also where the outcome does not depend on them.
  * All refuse with PEAT_ROOM and PEAT_SHAPE (rec is not a record, a code outside its type) only. They write rec, first (an
  * abort, if one is invoked) and second (message data, if some are delivered).
  */
@@ -508,7 +681,7 @@ uint64_t peat_d_data_indication(uint8_t *rec, size_t rec_len, uint64_t given, co
 uint64_t peat_d_end_indication(uint8_t *rec, size_t rec_len, uint64_t given, const uint8_t *bytes, size_t bytes_len,
     uint8_t *first, size_t first_len, uint8_t *second, size_t second_len);
 
-/* D-END confirmation. result: PEAT_ACCEPTED or PEAT_REJECTED. */
+/* D-END confirmation. result: PEAT_ACCEPTED or PEAT_REJECTED; another, PEAT_REJECTED_TRANSIENT too, is SHAPE. */
 uint64_t peat_d_end_confirmation(uint8_t *rec, size_t rec_len, uint64_t result,
     uint64_t given, const uint8_t *bytes, size_t bytes_len,
     uint8_t *first, size_t first_len, uint8_t *second, size_t second_len);
@@ -580,7 +753,8 @@ uint64_t peat_write_envelope(uint64_t kind, uint64_t job, uint64_t bits, const u
    at least, which no message's characters pass.
    Answers PEAT_ROOM (text is under that); PEAT_SHAPE (direction is none of its codes, message is not PEAT_INNER_BYTES
    bytes, count is over PEAT_MESSAGE_MOST or more than the lent bytes hold); or the fault met first in the bits, PEAT_SHORT
-   to PEAT_DEFAULT; and then message and text stay. Else message is written whole, text has the characters in its first
+   to PEAT_DEFAULT; and then message and text stay. (PEAT_LENGTH_FORM and PEAT_LIMIT never come here: a message has no field
+   whose length has a form or a limit of its own. They come from peat_data_part.) Else message is written whole, text has the characters in its first
    peat_message_characters(answer) bytes, and its other bytes stay. */
 uint64_t peat_read_message(uint64_t direction, const uint8_t *bits, size_t bits_len, uint64_t count,
     uint8_t *message, size_t message_len, uint8_t *text, size_t text_len);

@@ -380,7 +380,7 @@ static void random_bits(struct args *a)
         made.first.at = bytes, made.first.len = PEAT_BUFFER_LEAST;
         n = model_call(WRITE_MESSAGE, &made);
     } while (n < 256);
-    bits = (size_t)(n >> 8);
+    bits = peat_message_bits(n);
     a->n[0] = once_in(60) ? any() : once_in(20) ? 3 - made.n[0] : made.n[0];
     if (once_in(3))
         bytes[once_in(2) ? below(9) : below((unsigned)bits / 8 + 1)] ^= (uint8_t)(1u << below(8));

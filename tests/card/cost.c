@@ -138,16 +138,16 @@ static void put_message(const struct row *r)
     made.msgs = (struct range){text, r->largest ? first_text + second_text + 8 : 0};
     made.first = (struct range){bytes, sizeof bytes};
     said = model_call(WRITE_MESSAGE, &made);
-    if (said < 256 || (r->largest && said >> 8 != 2048)) {
-        printf("the message has %lu bits\n", (unsigned long)(said >> 8));
+    if (said < 256 || (r->largest && peat_message_bits(said) != 2048)) {
+        printf("the message has %u bits\n", peat_message_bits(said));
         exit(2);
     }
     if (strstr(r->title, "SHAPE"))
         message[6] = 32;
     args.ids = made.ids, args.msgs = made.msgs;
     args.rec = (struct range){range, sizeof range};
-    args.n[1] = said >> 8;
-    args.bytes = (struct range){bytes, (size_t)((said >> 8) + 7) / 8};
+    args.n[1] = peat_message_bits(said);
+    args.bytes = (struct range){bytes, peat_message_bytes(said)};
 }
 
 static void prepare(const struct row *r)

@@ -235,7 +235,7 @@ uint64_t write_message(struct args *a)
     if (w.wrong || used != a->msgs.len || w.bits.n > 2048)
         return 2;
     whole(&w.bits, a->first.at);
-    return (uint64_t)w.bits.n << 8;
+    return (uint64_t)w.bits.n << 24; /* not where reading has its characters */
 }
 
 /* ---- messages of chance */

@@ -108,7 +108,7 @@ static void read_one(void)
     n = peat_read_message(direction, bits.at, bits.len, count, message.at, message.len, text.at, text.len);
     printf("%" PRIu64 " ", n);
     if (n % 256 == 0) {
-        characters = (size_t)(n / 256);
+        characters = peat_message_characters(n);
         written = message.len;
         print_bytes(&message, written);
         print_bytes(&text, characters);
@@ -127,7 +127,7 @@ static void write_one(void)
     n = peat_write_message(direction, message.at, message.len, text.at, text.len, out.at, out.len);
     printf("%" PRIu64 " ", n);
     if (n % 256 == 0) {
-        bytes = (size_t)(n / 256 + 7) / 8;
+        bytes = peat_message_bytes(n);
         print_bytes(&out, bytes);
     }
     printf("%s\n", kept(&message, 0) && kept(&text, 0) && kept(&out, bytes) ? "kept" : "lost");

@@ -17,6 +17,7 @@ ROOM, SHAPE = 1, 2
 TAIL, NOT_CARRIED, DEFAULT = 15, 16, 17
 DOWNLINK, UPLINK = 1, 2
 MOST_BITS, LEAST_BUFFER = 2048, 320
+BITS_COUNTED = 1 << 24   # a count of bits in an answer; a count of characters is 256 times
 
 CARRIED = ("NULL", "Level", "LevelLevel", "Time", "Code", "FreeText", "Facility", "FacilityDesignation", "ATISCode")
 UNITS = ((-60, 7000), (-30, 25000), (30, 700), (100, 2500))     # feet, metres, flight level, metric flight level
@@ -289,4 +290,4 @@ def write_call(direction, message, text, out_len):
             raise Shape
     except Shape:
         return (SHAPE,)
-    return 256 * len(bits), packed(bits)
+    return BITS_COUNTED * len(bits), packed(bits)

@@ -167,3 +167,20 @@ rows =
 pub all-as-said : seenIn rows ≡ saidIn rows
 unfolding bitsN bitsOf accOf bitsTo bytesOf withBit setBit putBits readBits wholeBits indexBits lengthBits bitField extensionBit digitsIn wholeNumber extensibleIndex lengthAt lengthWithin runAt stringAt stringBits optionalBits optionalFits contentBits contentFits modeBits modeFits pduBits pduFits padded partIn contentIn pduIn optionalAt partAt partsAt dataAt modeValue modeAt kindMode leadingAt tailAt endedAt restAt apduAt itemsShaped partShaped dataShaped apduShaped writeOut answer sent startRequest startResponse messageRequest endRequest endResponse userAbort callOf unsent called readable qosFits userShapely serviceShapely shapely tell closes aborts excepts timerExpires systemError noInstruction pduFault sendFault abortFault startFits indicationFault confirmationFault firstFault handed instructed answered reached enter permitted messageRefusal refusalOf acts step firstTakes secondTakes finished concluded withRecord entering userStep userCall readsAs readsAgain abortOf orAbort readPdu meaning dataOf dataStep bareStep serviceStep serviceCall invokedNumber toldNumber packed headBytes storedBytes headFits withHighest loadAt storeAt partOf givenData freshFor freshCall run
 all-as-said = refl
+
+-- ---- a restart (docs/HOST.md): the host loses its power and loads the sixteen bytes that it stored. That is the step `fail`: between two calls a record
+-- is its bytes and nothing else, the carrier is gone with the host, and both ends get D-P-ABORT
+
+-- job 2 is taken, and its message is on the line when the power fails; then a new dialogue, in which jobs 1 and 2 come again, and 3 for the first time
+abbrev restarted : List (Turn Asked)
+restarted =
+    opening
+    ++ (says Ground (job 2 (omega arith)) (text 81) ∷ turn Ground fail ∷ asks Air (start-request false 0 none) ∷ gets Ground ∷ asks Ground (start-response false 0 none) ∷ gets Air ∷
+    says Ground (job 1 (omega arith)) (text 80) ∷ says Ground (job 2 (omega arith)) (text 81) ∷ says Ground (job 3 (omega arith)) (text 82) ∷ gets Air ∷ [])
+
+-- the jobs of the old dialogue are refused: the ground takes 1, 2 and 3 once each, and the air is handed the message of job 3 alone
+pub restart-takes-once :
+    after restarted
+    ≡ view (seen (entered Dialogue false) [] [] (bodyGiven (text 82) ∷ []) []) (seen (entered Dialogue false) [] (bodyGiven (text 82) ∷ []) [] (1 ∷ 2 ∷ 3 ∷ [])) false
+unfolding bitsN bitsOf accOf bitsTo bytesOf withBit setBit putBits readBits wholeBits indexBits lengthBits bitField extensionBit digitsIn wholeNumber extensibleIndex lengthAt lengthWithin runAt stringAt stringBits optionalBits optionalFits contentBits contentFits modeBits modeFits pduBits pduFits padded partIn contentIn pduIn optionalAt partAt partsAt dataAt modeValue modeAt kindMode leadingAt tailAt endedAt restAt apduAt itemsShaped partShaped dataShaped apduShaped writeOut answer sent startRequest startResponse messageRequest endRequest endResponse userAbort callOf unsent called readable qosFits userShapely serviceShapely shapely tell closes aborts excepts timerExpires systemError noInstruction pduFault sendFault abortFault startFits indicationFault confirmationFault firstFault handed instructed answered reached enter permitted messageRefusal refusalOf acts step firstTakes secondTakes finished concluded withRecord entering userStep userCall readsAs readsAgain abortOf orAbort readPdu meaning dataOf dataStep bareStep serviceStep serviceCall invokedNumber toldNumber packed headBytes storedBytes headFits withHighest loadAt storeAt partOf givenData freshFor freshCall run
+restart-takes-once = refl

@@ -92,7 +92,7 @@ module _ (d : ℕ) (s : List ℕ) (n : ℕ) (m t : List ℕ) (c : ℕ) (h : read
       let y = opened-storable (k .direction) s n t (o .text) (o .answer) refl c (k .answer) in
       ap loadAt (k .message) ∙ loaded-bytes (o .answer .message) (y .typed) (y .fit)
 
-  pub call-read-written : (out : List ℕ) → 320 ≤ length out → writeCall d (readCall d s n m t .message) (take c (readCall d s n m t .text)) out ≡ sent (256 * n) (putBits out 0 (padded (bitsTo s n)))
+  pub call-read-written : (out : List ℕ) → 320 ≤ length out → writeCall d (readCall d s n m t .message) (take c (readCall d s n m t .text)) out ≡ sent (16777216 * n) (putBits out 0 (padded (bitsTo s n)))
   unfolding writeCall writeBy sentOf sentAs
   call-read-written out r =
       let k = took d s n m t c h in
@@ -110,7 +110,7 @@ record Gave (d : ℕ) (b t out : List ℕ) (n : ℕ) : Type 0 where
   bytes : writeCall d b t out .bytes ≡ writeMessage direction (loadAt b .message) t out .bytes
 
 module _ (d : ℕ) (b t out : List ℕ) (n : ℕ) where
-  gave-as : (x : Direction) → wayOf d ≡ way.Is x → loadAt b ≡ loadedAs (loadAt b .message) → (a : Written) → writeMessage x (loadAt b .message) t out .answer ≡ a → writeCall d b t out ≡ sentAs a (writeMessage x (loadAt b .message) t out .bytes) → writeCall d b t out .number ≡ 256 * n → Gave d b t out n
+  gave-as : (x : Direction) → wayOf d ≡ way.Is x → loadAt b ≡ loadedAs (loadAt b .message) → (a : Written) → writeMessage x (loadAt b .message) t out .answer ≡ a → writeCall d b t out ≡ sentAs a (writeMessage x (loadAt b .message) t out .bytes) → writeCall d b t out .number ≡ 16777216 * n → Gave d b t out n
   unfolding sentAs
   gave-as x p l (written.Bits k) f e h =
       let g = ap (λ (o : Sent). o .number) e in
@@ -119,12 +119,12 @@ module _ (d : ℕ) (b t out : List ℕ) (n : ℕ) where
   gave-as x p l written.Room f e h = let g = ap (λ (o : Sent). o .number) e in absurd (omega arith)
   gave-as x p l written.Shape f e h = let g = ap (λ (o : Sent). o .number) e in absurd (omega arith)
 
-  gave-by : (w : Way) → wayOf d ≡ w → loadAt b ≡ loadedAs (loadAt b .message) → writeCall d b t out ≡ writeBy (loadAt b .message) t out w → writeCall d b t out .number ≡ 256 * n → Gave d b t out n
+  gave-by : (w : Way) → wayOf d ≡ w → loadAt b ≡ loadedAs (loadAt b .message) → writeCall d b t out ≡ writeBy (loadAt b .message) t out w → writeCall d b t out .number ≡ 16777216 * n → Gave d b t out n
   unfolding writeBy sentOf
   gave-by (way.Is x) p l e h = gave-as x p l (writeMessage x (loadAt b .message) t out .answer) refl e h
   gave-by way.NoWay p l e h = let g = ap (λ (o : Sent). o .number) e in absurd (omega arith)
 
-  gave : writeCall d b t out .number ≡ 256 * n → Gave d b t out n
+  gave : writeCall d b t out .number ≡ 16777216 * n → Gave d b t out n
   unfolding writeCall
   gave h = go (ltb (length out) 320) (loadAt b .known) refl refl
     where
@@ -136,7 +136,7 @@ module _ (d : ℕ) (b t out : List ℕ) (n : ℕ) where
       go false true p e = gave-by (wayOf d) refl (known (loadAt b) p) e h
       go false false p e = let g = ap (λ (o : Sent). o .number) e in absurd (omega arith)
 
-pub call-written-read : (d : ℕ) (b t out : List ℕ) (n : ℕ) → Bytes b → writeCall d b t out .number ≡ 256 * n → (m z : List ℕ) → length m ≡ 132 → 320 ≤ length z → readCall d (writeCall d b t out .bytes) n m z ≡ told (256 * length t) b (t ++ drop (length t) z)
+pub call-written-read : (d : ℕ) (b t out : List ℕ) (n : ℕ) → Bytes b → writeCall d b t out .number ≡ 16777216 * n → (m z : List ℕ) → length m ≡ 132 → 320 ≤ length z → readCall d (writeCall d b t out .bytes) n m z ≡ told (256 * length t) b (t ++ drop (length t) z)
 unfolding readCall readBy toldOf toldAs
 call-written-read d b t out n s h m z sized r =
     let k = gave d b t out n h in
@@ -189,11 +189,11 @@ sent-bytes (written.Bits k) z = refl
 sent-bytes written.Room z = refl
 sent-bytes written.Shape z = refl
 
-sent-count : (a : Written) (z : List ℕ) (k : ℕ) → a ≡ written.Bits k → sentAs a z .number ≡ 256 * k
+sent-count : (a : Written) (z : List ℕ) (k : ℕ) → a ≡ written.Bits k → sentAs a z .number ≡ 16777216 * k
 unfolding sentAs
 sent-count a z k e = rw e
 
-module _ (d : ℕ) (b t out : List ℕ) (h : (n : ℕ) → writeCall d b t out .number ≡ 256 * n → ⊥) where
+module _ (d : ℕ) (b t out : List ℕ) (h : (n : ℕ) → writeCall d b t out .number ≡ 16777216 * n → ⊥) where
   kept-by : (w : Way) → writeCall d b t out ≡ writeBy (loadAt b .message) t out w → writeCall d b t out .bytes ≡ out
   unfolding writeBy sentOf
   kept-by (way.Is x) e = ap (λ (o : Sent). o .bytes) e ∙ sent-bytes _ _ ∙ refused-leaves x (loadAt b .message) t out not-written

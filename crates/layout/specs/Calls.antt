@@ -1,5 +1,6 @@
 -- The calls on bytes that the card exports: reading and writing an inner message. The direction is a number, 1 downlink and 2 uplink. The answer is the
--- number of a refusal and nothing else, or 256 times a count, of characters or of bits. A refusal leaves every lent byte.
+-- number of a refusal and nothing else, or a count: of characters, 256 times, or of bits, 2^24 times. Each has places of its own in the answer, so that one
+-- taken for the other is 0. A refusal leaves every lent byte.
 use Prim.Native.Nat.{ℕ, _*_}
 use mathlib.Core.Bool.{cond}
 use mathlib.Core.List.{List}
@@ -20,6 +21,9 @@ use Rattle.layout.specs.declared.calls.Way.the-variants as way
 
 abbrev pub counted : ℕ → ℕ
 counted n = 256 * n
+
+abbrev pub countedBits : ℕ → ℕ
+countedBits n = 16777216 * n
 
 unfoldable pub wayOf : ℕ → Way
 wayOf n = cond (eqb n 1) (way.Is Downlink) (cond (eqb n 2) (way.Is Uplink) way.NoWay)
@@ -65,7 +69,7 @@ abbrev pub sent : ℕ → List ℕ → Sent
 sent n o = record { number = n; bytes = o }
 
 unfoldable pub sentAs : Written → List ℕ → Sent
-sentAs (written.Bits n) o = sent (counted n) o
+sentAs (written.Bits n) o = sent (countedBits n) o
 sentAs written.Room o = sent room o
 sentAs written.Shape o = sent shape o
 

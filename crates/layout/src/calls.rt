@@ -19,8 +19,10 @@ pub enum Way {
 }
 
 impl Way {
-    // A count is answered in the bits above a refusal's number.
+    // A count of characters is answered in the bits above a refusal's number, a count of bits in those above it.
     const COUNTED: u64 = 256;
+
+    const COUNTED_BITS: u64 = 16777216;
 }
 
 fn way_of(n: u64) -> Way
@@ -87,7 +89,7 @@ pub fn write_call(direction: u64, message: &[u8], text: &[u8], out: &mut [u8]) -
     let m = laid.message;
     let answer = write_message(d, m, text, out);
     match answer {
-        Written::Bits(n) => Way::COUNTED * n as u64,
+        Written::Bits(n) => Way::COUNTED_BITS * n as u64,
         Written::Room => Limit::ROOM,
         Written::Shape => Limit::SHAPE,
     }

@@ -1,0 +1,266 @@
+#include "dialogue.h"
+
+#include "account.h"
+#include "capture.h"
+#include "chance.h"
+#include "faults.h"
+#include "power.h"
+#include "story.h"
+
+/* ---- the users */
+
+void dialogue_start(struct dialogue *d, struct end *e)
+{
+    unsigned class_ = chance(PEAT_CLASS_H + 1);
+    int i;
+    if (!idle(air(d)) || !idle(ground(d)) || !quiet(d))
+        return;
+    for (i = 0; i < 2; i++) {
+        d->end[i].watch.sent = d->end[i].watch.seen = 0;
+        d->end[i].watch.broke = 0;
+        d->end[i].user.replies.owed = 0;
+        book_watch_begins(&d->end[i].watch.numbers);
+    }
+    if (fault(FORGETS_HIGHEST))
+        must((unsigned)peat_fresh(REC(e), e->user.side, PEAT_NO_SECURITY));
+    if (is_air(e) && chance(2))
+        must(end_act(e, "DSC-start request", peat_dsc_start_request(REC(e), class_, PEAT_NO_SECURITY, PEAT_NO_DATA, BUFFERS)));
+    else
+        must(end_act(e, "CPDLC-start request", peat_start_request(REC(e), class_, PEAT_NO_SECURITY, PEAT_NO_DATA, BUFFERS)));
+}
+
+static void start_response(struct end *e, unsigned dsc, unsigned result)
+{
+    e->user.talking = result == PEAT_ACCEPTED;
+    if (dsc)
+        must(end_act(e, result == PEAT_ACCEPTED ? "DSC-start response, accepted" : "DSC-start response, rejected",
+            peat_dsc_start_response(REC(e), result, PEAT_NO_DATA, BUFFERS)));
+    else
+        must(end_act(e, result == PEAT_ACCEPTED ? "CPDLC-start response, accepted" : "CPDLC-start response, rejected",
+            peat_start_response(REC(e), result, PEAT_NO_DATA, BUFFERS)));
+}
+
+static void end_request(struct end *e, unsigned dsc)
+{
+    if (dsc)
+        must(end_act(e, "DSC-end request", peat_dsc_end_request(REC(e), PEAT_NO_DATA, BUFFERS)));
+    else
+        must(end_act(e, "CPDLC-end request", peat_end_request(REC(e), PEAT_NO_DATA, BUFFERS)));
+}
+
+static void end_response(struct end *e, unsigned dsc, unsigned result)
+{
+    e->user.talking = result != PEAT_ACCEPTED;
+    if (dsc)
+        must(end_act(e, result == PEAT_ACCEPTED ? "DSC-end response, accepted" : "DSC-end response, rejected",
+            peat_dsc_end_response(REC(e), result, PEAT_NO_DATA, BUFFERS)));
+    else
+        must(end_act(e, result == PEAT_ACCEPTED ? "CPDLC-end response, accepted" : "CPDLC-end response, rejected",
+            peat_end_response(REC(e), result, PEAT_NO_DATA, BUFFERS)));
+}
+
+static void user_abort(struct end *e)
+{
+    e->user.talking = 0;
+    must(end_act(e, "CPDLC-user-abort request", peat_user_abort(REC(e), chance(2) ? PEAT_NONE : PEAT_COMMANDED_TERMINATION, BUFFERS)));
+}
+
+/* In a DSC dialogue the air user ends it, else the ground user does. */
+void dialogue_respond(struct end *e)
+{
+    unsigned dsc = peat_record_dsc(e->memory.rec), result = chance(4) ? PEAT_ACCEPTED : PEAT_REJECTED;
+    int ends = is_air(e) == (int)dsc;
+    if (state(e) == PEAT_START_IND)
+        start_response(e, dsc, result);
+    else if (state(e) == PEAT_END && !ends)
+        end_response(e, dsc, result);
+    else if (state(e) == PEAT_DIALOGUE && ends && chance(8) == 0)
+        end_request(e, dsc);
+    else if (!idle(e) && chance(64) == 0)
+        user_abort(e);
+}
+
+/* ---- the host and the carrier */
+
+static const char *arrival_name(unsigned primitive)
+{
+    static const char *const names[] = {"?", "D-START indication", "D-START confirmation", "D-DATA indication", "D-END indication",
+        "D-END confirmation", "D-ABORT indication"};
+    return PEAT_NAMED(names, primitive);
+}
+
+/* A primitive that one end invoked reaches the other. */
+static uint64_t arrives(struct end *to, const struct entry *e)
+{
+    unsigned peer = is_air(to) ? PEAT_FACILITY : PEAT_AIRCRAFT;
+    switch (e->primitive) {
+    case PEAT_D_START_REQUEST:
+        return peat_d_start_indication(REC(to), peer, e->security, PEAT_HIGH_PRIORITY, PEAT_LOW_ERROR_RATE, e->parameter,
+            PEAT_USER_DATA, e->apdu, e->bytes, BUFFERS);
+    case PEAT_D_START_RESPONSE:
+        return peat_d_start_confirmation(REC(to), e->parameter, PEAT_DS_USER, e->security, PEAT_USER_DATA, e->apdu, e->bytes, BUFFERS);
+    case PEAT_D_DATA_REQUEST: return peat_d_data_indication(REC(to), PEAT_USER_DATA, e->apdu, e->bytes, BUFFERS);
+    case PEAT_D_END_REQUEST: return peat_d_end_indication(REC(to), PEAT_USER_DATA, e->apdu, e->bytes, BUFFERS);
+    case PEAT_D_END_RESPONSE: return peat_d_end_confirmation(REC(to), e->parameter, PEAT_USER_DATA, e->apdu, e->bytes, BUFFERS);
+    default: return peat_d_abort_indication(REC(to), e->parameter, PEAT_USER_DATA, e->apdu, e->bytes, BUFFERS);
+    }
+}
+
+/* What reaches an IDLE end is discarded, but for a start. Its host sees all the same that the connection is lost: what this
+   end sent before it closed may not have arrived. */
+static void discard(struct end *to, const struct entry *e)
+{
+    story_arrives(to->peer, e, 1);
+    if (e->primitive == PEAT_D_ABORT_REQUEST)
+        end_settles(to, BROKEN);
+}
+
+static void receive(struct end *to, const struct entry *e)
+{
+    uint64_t answer = arrives(to, e);
+    char what[64];
+    snprintf(what, sizeof what, "%s %c%lu", arrival_name(e->primitive), is_air(to) ? 'g' : 'a', e->serial);
+    account.missing += e->primitive == PEAT_D_DATA_REQUEST && peat_told(answer) != PEAT_MESSAGE_INDICATION;
+    must(end_act(to, what, answer));
+}
+
+/* what a carrier must not do, and one of the faults has it do */
+static int loses(const struct entry *e)
+{
+    return (fault(LOSES_ABORTS) && e->primitive == PEAT_D_ABORT_REQUEST) ||
+           (fault(LOSES_MESSAGES) && e->primitive == PEAT_D_DATA_REQUEST && chance(500) == 0);
+}
+
+void dialogue_hand_over(struct end *from)
+{
+    struct end *to = from->peer;
+    struct entry *e;
+    if (from->out.entries == 0 || !line_has_room(&to->out, 1))
+        return;
+    e = fault(TURNS_LINES) ? line_lose(&from->out) : line_take(&from->out);
+    if (loses(e))
+        return;
+    capture_entry(from->dialogue, is_air(from), e);
+    if (idle(to) && e->primitive != PEAT_D_START_REQUEST) {
+        discard(to, e);
+        return;
+    }
+    receive(to, e);
+    if (fault(HANDS_OVER_TWICE) && e->primitive == PEAT_D_DATA_REQUEST && chance(100) == 0 && !idle(to))
+        receive(to, e);
+}
+
+void dialogue_expire(struct end *e)
+{
+    if (peat_record_timer(e->memory.rec)) {
+        account.expired++;
+        must(end_act(e, "t-start expires", peat_timer_expiry(REC(e), BUFFERS)));
+    }
+}
+
+void dialogue_turn_back(struct end *e)
+{
+    if (state(e) != PEAT_START_REQ || e->out.entries == 0)
+        return;
+    account.turned_back++;
+    lose_youngest(e, e->out.entries);
+    if (!fault(SILENT_TURN_BACK))
+        must(end_act(e, "D-START confirmation: start turned back",
+            peat_d_start_confirmation(REC(e), PEAT_REJECTED_TRANSIENT, PEAT_DS_PROVIDER, PEAT_NO_SECURITY, PEAT_NO_USER_DATA, NULL, 0, BUFFERS)));
+}
+
+void dialogue_break_down(struct end *e)
+{
+    account.errors += !idle(e);
+    must(end_act(e, "a system error", peat_system_error(REC(e), BUFFERS)));
+}
+
+/* One end hears that the carrier failed; an IDLE one has nothing to hear, but jobs whose fate is open now have one. An end
+   without power hears of it when it comes up. */
+static void hears_of_failure(struct end *e)
+{
+    if (e->down)
+        return;
+    if (idle(e))
+        end_settles(e, BROKEN);
+    else
+        must(end_act(e, "D-P-ABORT indication", peat_d_p_abort_indication(REC(e), BUFFERS)));
+}
+
+void dialogue_fail(struct dialogue *d)
+{
+    int i;
+    account.failed++;
+    for (i = 0; i < 2; i++) {
+        d->end[i].watch.broke = 1;
+        lose_youngest(&d->end[i], d->end[i].out.entries);
+    }
+    hears_of_failure(air(d));
+    if (!fault(TELLS_ONE_END))
+        hears_of_failure(ground(d));
+}
+
+/* ---- what must hold */
+
+/* both IDLE, one START-REQ and the other START-IND, or both DIALOGUE or END with the same DSC */
+static int matching(struct dialogue *d)
+{
+    unsigned a = state(air(d)), g = state(ground(d));
+    if (a == PEAT_START_REQ || g == PEAT_START_REQ)
+        return a + g == PEAT_START_REQ + PEAT_START_IND;
+    return a == g && a != PEAT_START_IND && peat_record_dsc(air(d)->memory.rec) == peat_record_dsc(ground(d)->memory.rec);
+}
+
+/* All that each end took in a dialogue was shown at the other, unless something broke it. */
+static int complete(struct dialogue *d)
+{
+    int broke = air(d)->watch.broke || ground(d)->watch.broke;
+    return broke || (air(d)->watch.seen == ground(d)->watch.sent && ground(d)->watch.seen == air(d)->watch.sent);
+}
+
+void dialogue_examine(struct dialogue *d)
+{
+    if (!quiet(d))
+        return;
+    account.half_closed += !matching(d);
+    account.incomplete += !complete(d);
+    if (idle(air(d)) && idle(ground(d))) {
+        end_settles(air(d), ENDED);
+        end_settles(ground(d), ENDED);
+    }
+}
+
+void dialogue_drain(struct dialogue *d)
+{
+    while (!quiet(d)) {
+        dialogue_hand_over(air(d));
+        dialogue_hand_over(ground(d));
+    }
+    dialogue_examine(d);
+}
+
+/* ---- the audit */
+
+/* the job is among those of a dialogue that is not over */
+static int under_way(const struct end *e, uint64_t job)
+{
+    unsigned i;
+    for (i = 0; i < e->memory.open; i++)
+        if (e->memory.opened[i] == job)
+            return 1;
+    return 0;
+}
+
+void dialogue_audit(const struct end *e)
+{
+    uint64_t job;
+    for (job = 1; job <= e->broker.jobs; job++) {
+        unsigned shown = user_saw(&e->peer->user, broker_job(&e->broker, job)->clearance);
+        switch (user_knows(&e->user, job)) {
+        case REFUSED: break;
+        case ENDED: account.told_wrong += shown == 0; break; /* it was told that the message arrived */
+        case BROKEN: account.lost += shown == 0; break;
+        case NOTHING_TOLD: account.silent += shown == 0 && broker_job(&e->broker, job)->acknowledged && !under_way(e, job); break;
+        }
+    }
+}

@@ -1,0 +1,56 @@
+/*
+ * A dialogue: an air end and a ground end, joined by the carrier, and what may happen to them. The steps are those of the
+ * pair statement (docs/PAIR.md), and a restart of an end, which is one of them: the carrier fails.
+ */
+#ifndef DIALOGUE_H
+#define DIALOGUE_H
+
+#include "end.h"
+
+struct dialogue {
+    struct end end[2]; /* the air end, the ground end */
+};
+
+static inline struct end *air(struct dialogue *d) { return &d->end[0]; }
+static inline struct end *ground(struct dialogue *d) { return &d->end[1]; }
+
+/* both lines are empty */
+static inline int quiet(struct dialogue *d) { return air(d)->out.entries == 0 && ground(d)->out.entries == 0; }
+
+/* ---- the users */
+
+/* A user starts, when both ends are IDLE and both lines are empty. */
+void dialogue_start(struct dialogue *d, struct end *e);
+
+/* A user answers what it was asked, and now and then asks for the end or aborts. */
+void dialogue_respond(struct end *e);
+
+/* ---- the host and the carrier */
+
+/* The oldest entry of an end's line is handed over. */
+void dialogue_hand_over(struct end *from);
+
+/* A running timer expires. */
+void dialogue_expire(struct end *e);
+
+/* The carrier can not deliver a start: it removes it and tells the starting end. */
+void dialogue_turn_back(struct end *e);
+
+/* An end breaks down, and goes on. */
+void dialogue_break_down(struct end *e);
+
+/* The carrier fails: both lines are emptied, and each end that is not IDLE hears of it. */
+void dialogue_fail(struct dialogue *d);
+
+/* ---- what must hold */
+
+/* With both lines empty the ends match, nothing is missing, and a dialogue that is over has released its connection. */
+void dialogue_examine(struct dialogue *d);
+
+/* Lets the lines run empty. */
+void dialogue_drain(struct dialogue *d);
+
+/* At the end of the run: each job was shown, or its user knows, or it is still under way. */
+void dialogue_audit(const struct end *e);
+
+#endif

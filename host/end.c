@@ -1,0 +1,322 @@
+#include "end.h"
+
+#include <stdlib.h>
+#include <string.h>
+
+#include "account.h"
+#include "chance.h"
+#include "faults.h"
+#include "mail.h"
+#include "power.h"
+#include "story.h"
+
+uint8_t first[PEAT_BUFFER_LEAST], second[PEAT_BUFFER_LEAST];
+
+int end_begin(struct end *e, int dialogue, unsigned side, struct end *peer, const char *folder)
+{
+    char name[32];
+    e->dialogue = dialogue;
+    e->peer = peer;
+    e->user.side = side;
+    e->user.next = (uint64_t)dialogue + 1;
+    e->user.apart = DIALOGUES;
+    if (peat_fresh(REC(e), side, PEAT_NO_SECURITY) != PEAT_TAKEN || peat_book_empty(PEAT_ARRAY(e->memory.book)) != PEAT_TAKEN)
+        return -1;
+    e->memory.wanted = 1;
+    e->watch.kept = e->memory;
+    snprintf(name, sizeof name, "%s-%02d", peat_side_name(side), dialogue);
+    return journal_begin(&e->journal, folder, name, &e->memory);
+}
+
+/* ---- keep */
+
+static void fails_here(void *e) { power_point(e); }
+
+static void watch_taken(struct end *e, uint64_t job)
+{
+    struct watch *w = &e->watch;
+    struct job *j;
+    account.taken++;
+    account.nobodys += !broker_knows(&e->broker, job);
+    if (!broker_knows(&e->broker, job))
+        return;
+    j = broker_job(&e->broker, job);
+    account.taken_twice += (unsigned long)j->taken;
+    j->taken = 1;
+    if (w->sent < OPEN_MOST)
+        w->clearance[w->sent++] = j->clearance;
+}
+
+/* A controller's message has opened its number, a flight deck's is the reply that was owed. */
+static void watch_number(struct end *e, const struct change *c)
+{
+    if (!is_air(e))
+        book_watch_gives(&e->watch.numbers, c->number, c->job, peat_open_count(peat_book_count(PEAT_ARRAY(e->memory.book))));
+    else if (c->number != NO_NUMBER)
+        reply_sent(&e->user.replies);
+}
+
+/* A change is on the disk when this returns. A host whose disk fails stops: nothing of the change has left it. */
+static void keep(struct end *e, const struct change *c)
+{
+    power_point(e);
+    if (journal_append(&e->journal, c, fails_here, e) != 0) {
+        fprintf(stderr, "host: the journal %s can not be written\n", e->journal.path);
+        exit(2);
+    }
+    memory_apply(&e->memory, c);
+    if (c->job != 0 && c->outcome == PEAT_TAKEN) {
+        watch_taken(e, c->job);
+        watch_number(e, c);
+    }
+    e->watch.kept = e->memory;
+    power_point(e);
+}
+
+/* ---- release */
+
+void lose_youngest(struct end *e, unsigned n)
+{
+    while (n-- > 0)
+        story_lost(e, line_lose(&e->out));
+}
+
+/* The primitive goes on the line. When an end invokes D-ABORT, the carrier may lose the youngest entries that this end sent
+   before it. */
+static void invoke(struct end *e, uint64_t answer)
+{
+    struct entry *n;
+    if (peat_invoked(answer) == PEAT_SILENT)
+        return;
+    if (peat_invoked(answer) == PEAT_D_ABORT_REQUEST) {
+        account.aborted++;
+        e->watch.broke = 1;
+        if (fault(LOSES_OLDEST) && e->out.entries > 1)
+            story_lost(e, line_take(&e->out));
+        else if (!fault(LOSES_OLDEST))
+            lose_youngest(e, chance(e->out.entries + 1));
+    }
+    n = line_put(&e->out);
+    n->serial = ++e->watch.entries;
+    n->primitive = peat_invoked(answer);
+    n->parameter = peat_invoked_parameter(answer);
+    n->security = peat_invoked_security(answer);
+    n->bits = peat_apdu_bits(answer);
+    n->bytes = peat_apdu_bytes(answer);
+    memcpy(n->apdu, first, n->bytes);
+}
+
+/* The number of a message that a flight deck is shown is open for the message's job, and a reply to it is owed. A reply that
+   a controller is shown closes its number. */
+static void show_number(struct end *e, uint64_t clearance, unsigned number)
+{
+    struct end *from = e->peer;
+    if (is_air(e)) {
+        uint64_t job = book_watch_job(&from->watch.numbers, from->watch.kept.book, number);
+        account.number_astray += !broker_knows(&from->broker, job) || broker_job(&from->broker, job)->clearance != clearance;
+        reply_owed(&e->user.replies, number);
+    } else if (number != NO_NUMBER) {
+        book_watch_replied(&e->watch.numbers, number);
+    }
+}
+
+/* A user is shown a message. In a dialogue the messages shown are in order the first so many that the other end took. */
+static void show(struct end *e, const uint8_t *body, unsigned bits)
+{
+    static struct clearance c;
+    const struct watch *from = &e->peer->watch;
+    unsigned by = e->peer->user.side;
+    uint64_t clearance = clearance_read(&c, by, body, bits) ? clearance_of(&c, by) : 0;
+    int in_place = clearance != 0 && e->watch.seen < from->sent && from->clearance[e->watch.seen] == clearance;
+    unsigned times = clearance == 0 ? 0 : user_shown(&e->user, clearance);
+    e->watch.seen += (unsigned)in_place;
+    story_shown(e, clearance);
+    if (clearance != 0)
+        show_number(e, clearance, clearance_numbered(&c, by));
+    if (times > 1)
+        ++*(is_air(e) ? &account.deck_duplicates : &account.ground_duplicates);
+    else if (in_place)
+        account.shown++;
+    else
+        account.misplaced++;
+}
+
+/* the message among what a call told, and its bits */
+static unsigned message_told(uint64_t answer, uint8_t *message, size_t room)
+{
+    uint64_t part = peat_data_part(PEAT_PART_MESSAGE, second, peat_data_bytes(answer), message, room);
+    must(peat_refusal(part));
+    return peat_part_bits(part);
+}
+
+/* A delivered message goes to the broker of this end in an envelope, and from there to its user. */
+static void deliver(struct end *e, uint64_t answer)
+{
+    struct mail m = {0};
+    struct letter l;
+    size_t at = 0;
+    uint8_t message[PEAT_BUFFER_LEAST];
+    unsigned bits = message_told(answer, PEAT_ARRAY(message));
+    mail_post(&m, fault(MIXES_KINDS) ? PEAT_ENVELOPE_TO_SEND : PEAT_ENVELOPE_DELIVERED, ++e->watch.delivered, bits, message);
+    while (mail_next(&m, &at, &l)) {
+        if (l.kind == PEAT_ENVELOPE_DELIVERED)
+            show(e, l.body, l.bits);
+        else
+            must(PEAT_KIND);
+    }
+}
+
+static void tell(struct end *e, uint64_t answer)
+{
+    unsigned accepted = peat_told_parameter(answer) == PEAT_ACCEPTED;
+    switch (peat_told(answer)) {
+    case PEAT_MESSAGE_INDICATION: deliver(e, answer); break;
+    case PEAT_START_CONFIRMATION:
+        account.opened += accepted;
+        e->user.talking = (int)accepted;
+        break;
+    case PEAT_END_CONFIRMATION:
+        account.closed += accepted;
+        e->user.talking = !accepted;
+        break;
+    case PEAT_USER_ABORT_INDICATION:
+    case PEAT_PROVIDER_ABORT_INDICATION: e->user.talking = 0; break;
+    }
+}
+
+static void release(struct end *e, uint64_t answer)
+{
+    invoke(e, answer);
+    power_point(e);
+    tell(e, answer);
+}
+
+/* ---- what a call changed is kept, and then what it wrote leaves */
+
+static void conclude(struct end *e, const struct change *c, uint64_t answer)
+{
+    e->watch.state = state(e);
+    if (fault(KEEPS_LATE))
+        release(e, answer);
+    keep(e, c);
+    if (!fault(KEEPS_LATE))
+        release(e, answer);
+}
+
+/* whether the dialogue broke with this call: what was sent in it may never arrive */
+static int breaks(uint64_t answer)
+{
+    return peat_invoked(answer) == PEAT_D_ABORT_REQUEST || peat_told(answer) == PEAT_USER_ABORT_INDICATION ||
+           peat_told(answer) == PEAT_PROVIDER_ABORT_INDICATION;
+}
+
+/* whether a dialogue begins with this call */
+static int begins(uint64_t answer) { return peat_invoked(answer) == PEAT_D_START_REQUEST || peat_told(answer) == PEAT_START_INDICATION; }
+
+/* the number that the message of a flight deck replies to, where it is open */
+static unsigned number_replied(const struct end *e, uint64_t answer)
+{
+    static struct clearance c;
+    uint8_t message[PEAT_BUFFER_LEAST];
+    unsigned bits = message_told(answer, PEAT_ARRAY(message));
+    unsigned number = clearance_read(&c, PEAT_AIR, message, bits) ? clearance_numbered(&c, PEAT_AIR) : NO_NUMBER;
+    if (fault(CLOSES_ANOTHER_NUMBER) && number != NO_NUMBER)
+        number ^= 1;
+    return peat_book_job(PEAT_ARRAY(e->memory.book), number) != 0 ? number : NO_NUMBER;
+}
+
+/* The book of a ground end: a new dialogue empties it, a reply closes its number. That is kept with the record, before the
+   reply is shown. */
+static void keep_book(const struct end *e, struct change *c, uint64_t answer)
+{
+    if (is_air(e))
+        return;
+    if (begins(answer))
+        c->book = BOOK_EMPTIED;
+    if (peat_told(answer) != PEAT_MESSAGE_INDICATION || fault(CLOSES_NONE))
+        return;
+    c->number = number_replied(e, answer);
+    if (c->number != NO_NUMBER)
+        c->book = NUMBER_CLOSED;
+}
+
+/* the fate of the jobs of a dialogue that broke */
+static enum fate broken(const struct end *e, enum fate fate)
+{
+    return e->memory.open == 0 || (fate == BROKEN && fault(SILENT_ON_BREAK)) ? NOTHING_TOLD : fate;
+}
+
+unsigned end_act(struct end *e, const char *what, uint64_t answer)
+{
+    struct change c = no_change(&e->memory);
+    if (peat_refusal(answer) != PEAT_TAKEN)
+        return peat_refusal(answer);
+    story_call(e, what, answer);
+    if (breaks(answer))
+        c.over = broken(e, BROKEN);
+    keep_book(e, &c, answer);
+    conclude(e, &c, answer);
+    return PEAT_TAKEN;
+}
+
+void end_takes(struct end *e, uint64_t job, unsigned number, uint64_t answer)
+{
+    struct change c = no_change(&e->memory);
+    story_took(e, job, answer);
+    c.job = job;
+    c.number = number;
+    if (!is_air(e) && number != NO_NUMBER && !fault(NUMBERS_ITSELF) && !fault(CLOSES_TOO_EARLY))
+        c.book = NUMBER_OPENED;
+    conclude(e, &c, answer);
+}
+
+void end_refuses(struct end *e, uint64_t job, unsigned refusal)
+{
+    struct change c = no_change(&e->memory);
+    c.job = job;
+    c.outcome = refusal;
+    keep(e, &c);
+}
+
+void end_settles(struct end *e, enum fate fate)
+{
+    struct change c = no_change(&e->memory);
+    c.over = broken(e, fate);
+    if (e->memory.open > 0 && c.over != NOTHING_TOLD)
+        keep(e, &c);
+}
+
+void end_confirmed(struct end *e, unsigned notices)
+{
+    struct change c = no_change(&e->memory);
+    c.confirmed = notices;
+    keep(e, &c);
+}
+
+/* ---- the power is back */
+
+static int as_kept(const struct memory *m, const struct memory *k)
+{
+    return memcmp(m->rec, k->rec, sizeof m->rec) == 0 && m->wanted == k->wanted && m->open == k->open && m->notices == k->notices &&
+           m->posts == k->posts && memcmp(m->book, k->book, sizeof m->book) == 0 && memcmp(m->opened, k->opened, m->open * sizeof *m->opened) == 0;
+}
+
+void end_loads(struct end *e)
+{
+    unsigned was = e->user.side;
+    enum loaded loaded;
+    memset(&e->memory, 0xA5, sizeof e->memory); /* nothing of what it had in memory is left */
+    memset(e->held, 0, sizeof e->held);
+    loaded = journal_load(&e->journal, &e->memory);
+    if (loaded == NOT_LOADED) {
+        fprintf(stderr, "host: the journal %s is damaged; its end stays down\n", e->journal.path);
+        exit(2);
+    }
+    account.loaded++;
+    account.torn += loaded == LOADED_TORN;
+    account.loaded_wrong += !as_kept(&e->memory, &e->watch.kept);
+    if (fault(FRESH_AT_RESTART))
+        must((unsigned)peat_fresh(REC(e), was, PEAT_NO_SECURITY));
+    e->watch.state = state(e);
+    story_loaded(e);
+}

@@ -1,0 +1,87 @@
+/*
+ * One end of a dialogue, air or ground: its record and what its host does with the answer of a call. The rule of this file
+ * is the first duty of docs/HOST.md: keep, then release. What a call changed is in the journal before its primitive, its
+ * word for the user or an acknowledgement leaves.
+ */
+#ifndef END_H
+#define END_H
+
+#include "book.h"
+#include "broker.h"
+#include "carrier.h"
+#include "clearance.h"
+#include "journal.h"
+#include "memory.h"
+#include "user.h"
+
+#define DIALOGUES 48
+#define HELD_MOST 8 /* jobs that came before their turn and wait for it */
+
+struct held {
+    uint64_t job; /* 0: nothing is held here */
+    unsigned bits;
+    uint8_t body[CLEARANCE_BYTES];
+};
+
+/* What the simulator knows of an end, and no host does: it holds the dialogue to docs/PAIR.md. */
+struct watch {
+    unsigned state;              /* after its last call */
+    unsigned sent;               /* the clearances that it took in this dialogue, in order */
+    uint64_t clearance[OPEN_MOST];
+    unsigned seen;               /* how many of the other end's it was shown */
+    struct book_watch numbers;   /* of a ground end: those of its messages that are open */
+    int broke;                   /* it invoked D-ABORT in this dialogue, or the carrier failed */
+    struct memory kept;          /* what the journal has to give back */
+    unsigned long entries;       /* that it put on its line */
+    uint64_t delivered;          /* messages that its broker was given */
+};
+
+struct end {
+    int dialogue;
+    struct end *peer;
+    struct memory memory;           /* lost with the power, and loaded from the journal */
+    struct held held[HELD_MOST];    /* lost with the power */
+    struct journal journal;         /* what follows is not: the disk, the carrier, the broker, the user */
+    struct line out;                /* what this end sent and the carrier has not delivered */
+    struct broker broker;
+    struct user user;
+    int down;                       /* its power failed, and it is not up again */
+    struct watch watch;
+};
+
+/* The buffers of every call: a call's answer is used before the next call. */
+extern uint8_t first[PEAT_BUFFER_LEAST], second[PEAT_BUFFER_LEAST];
+
+#define REC(e) PEAT_ARRAY((e)->memory.rec)
+#define BUFFERS PEAT_BUFFERS(first, second)
+
+static inline unsigned side(const struct end *e) { return peat_record_side(e->memory.rec); }
+static inline unsigned state(const struct end *e) { return peat_record_state(e->memory.rec); }
+static inline int idle(const struct end *e) { return state(e) == PEAT_IDLE; }
+static inline int is_air(const struct end *e) { return side(e) == PEAT_AIR; }
+
+/* makes the record of an end, once, and begins its journal; -1 where that does not go */
+int end_begin(struct end *e, int dialogue, unsigned side, struct end *peer, const char *folder);
+
+/* Does what the answer of a call says; `what` names the call. The refusal, or PEAT_TAKEN. */
+unsigned end_act(struct end *e, const char *what, uint64_t answer);
+
+/* likewise of a message request, which took a job, with the number that was set in the message */
+void end_takes(struct end *e, uint64_t job, unsigned number, uint64_t answer);
+
+/* A job was refused for good: that is kept, and its user will be told. */
+void end_refuses(struct end *e, uint64_t job, unsigned refusal);
+
+/* The connection of a dialogue is gone, released (ENDED) or lost (BROKEN): the jobs that were taken in it have this fate. */
+void end_settles(struct end *e, enum fate fate);
+
+/* the oldest notices were given to the broker, which confirmed them */
+void end_confirmed(struct end *e, unsigned notices);
+
+/* The power is back: everything is as the journal has it. */
+void end_loads(struct end *e);
+
+/* what the carrier loses of a line, the youngest first */
+void lose_youngest(struct end *e, unsigned n);
+
+#endif

@@ -1,0 +1,39 @@
+#include "notices.h"
+
+#include "account.h"
+#include "end.h"
+#include "faults.h"
+#include "mail.h"
+#include "power.h"
+#include "story.h"
+
+/* A refusal goes as an envelope with its number; the broker reads it. */
+static void refusal_posted(uint64_t job, unsigned refusal)
+{
+    struct mail m = {0};
+    struct letter l;
+    size_t at = 0;
+    uint8_t number = (uint8_t)(fault(MIXES_REFUSALS) ? PEAT_SHAPE : refusal);
+    mail_post(&m, PEAT_ENVELOPE_REFUSAL, job, 8, &number);
+    account.refused_told++;
+    while (mail_next(&m, &at, &l))
+        must(l.kind == PEAT_ENVELOPE_REFUSAL && l.job == job && l.body[0] == PEAT_PROHIBITED ? PEAT_TAKEN : PEAT_KIND);
+}
+
+void notices_post(struct end *e)
+{
+    unsigned i, posts = e->memory.posts;
+    for (i = 0; i < posts; i++) {
+        const struct notice *n = &e->memory.post[i];
+        int news = n->id > e->user.heard;
+        power_point(e);
+        if (n->fate == REFUSED)
+            refusal_posted(n->job, n->refusal);
+        account.notices += (unsigned long)news;
+        account.broken_told += news && n->fate == BROKEN;
+        account.told_wrong += !user_told_fate(&e->user, &e->broker, n);
+        story_told(e, n);
+    }
+    if (posts > 0)
+        end_confirmed(e, posts);
+}

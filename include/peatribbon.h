@@ -6,7 +6,8 @@
  * dialogue service, the expiry of t-start, or a system error. It answers a number that says which primitive the machine
  * invokes of the dialogue service and which of the user. The APDU for the one stands in the first buffer, the message data
  * for the other in the second. These are the machine's calls. The others have no record: they take message data apart, read
- * and write the broker's envelope, read and write a CPDLC message, and keep a book of message identification numbers.
+ * an APDU by itself, read and write the broker's envelope, read and write a CPDLC message, and keep a book of message
+ * identification numbers.
  *
  * Ranges. A range is a pointer and, as the next parameter, its length in bytes.
  *   - A call reads and writes inside the ranges that it is lent, keeps no pointer, allocates nothing and has no memory of
@@ -20,12 +21,13 @@
  * Numbers. A code is a uint64_t; a value outside its type is PEAT_SHAPE.
  *
  * Answers. Not refused: the lowest 8 bits are 0 and functions below read the rest, peat_invoked .. peat_data_bytes that of
- * the machine's calls, peat_part_given .. peat_written_bytes that of message data and the envelope, peat_message_characters
- * and peat_message_bits that of the message's, peat_opened_number and peat_open_count that of the book's. Refused: the number
- * of the refusal, all other bits 0, and NO byte of any lent range has changed. (peat_envelope_job and peat_book_job answer a
- * plain number.) The refusals are tried in the order ROOM, SHAPE, PROHIBITED, NO_MESSAGE, REPEAT; of a book SHAPE, then
- * ALL_OPEN or NOT_OPEN. A primitive of the dialogue service is refused with ROOM or SHAPE only: user data that is no valid
- * PDU is not refused but answered as the protocol says.
+ * the machine's calls, peat_part_given .. peat_written_bytes that of message data, an APDU and the envelope,
+ * peat_message_characters and peat_message_bits that of the message's, peat_opened_number and peat_open_count that of the
+ * book's. Refused: the number of the refusal and, where bits were at fault (PEAT_SHORT to PEAT_DEFAULT), the position of the
+ * fault, which peat_position reads; all other bits 0, and NO byte of any lent range has changed. (peat_envelope_job and
+ * peat_book_job answer a plain number.) The refusals are tried in the order ROOM, SHAPE, PROHIBITED, NO_MESSAGE, REPEAT; of a
+ * book SHAPE, then ALL_OPEN or NOT_OPEN. A primitive of the dialogue service is refused with ROOM or SHAPE only: user data
+ * that is no valid PDU is not refused but answered as the protocol says.
  *
  * What a machine's call writes, if it is not refused:
  *   - rec, 16 bytes: the record after the event;
@@ -75,9 +77,9 @@ extern "C" {
 
 /* ---- refusals */
 
-/* The machine's calls answer 0 to 5, the readers of a message and of message data 1, 2 and 10 to 17, the reader of an
-   envelope 20 to 23, the two writers 1 and 2, and the book's calls 2, 7 and 8. A machine's call that meets 10 to 17 in user
-   data does as the protocol says. An envelope of kind 3 carries any of these numbers. */
+/* The machine's calls answer 0 to 5, the readers of a message, of message data and of an APDU 1, 2 and 10 to 17, the reader of
+   an envelope 20 to 23, the two writers 1 and 2, and the book's calls 2, 7 and 8. A machine's call that meets 10 to 17 in
+   user data does as the protocol says. An envelope of kind 3 carries any of these numbers. */
 enum peat_refusal {
     PEAT_TAKEN = 0,      /* not refused */
     PEAT_ROOM = 1,       /* an output buffer is under PEAT_BUFFER_LEAST bytes */
@@ -275,6 +277,23 @@ static inline unsigned peat_bits_of(uint64_t answer, unsigned at, unsigned bits)
 /* enum peat_refusal; PEAT_TAKEN: what follows says what the machine does */
 static inline unsigned peat_refusal(uint64_t answer) { return peat_bits_of(answer, PEAT_REFUSAL_AT, PEAT_REFUSAL_BITS); }
 
+/* The position in a refusal PEAT_SHORT to PEAT_DEFAULT: the bit at which the field begins that was refused, counted from 0, which
+   is the highest bit of the first byte that the call was lent to read. So byte position / 8, bit position % 8 from the top.
+   - A length is one field, also where 8 of its 16 bits are there; the presence bits of a SEQUENCE are one field; contents
+     begin behind their length; an extension bit, a digit and an index are fields of their own.
+   - PEAT_NOT_CARRIED: the element's index, or the presence bit of constrained data. PEAT_DEFAULT: the value's bit.
+   - PEAT_TAIL: the first padding bit that is 1; where there is none, the first bit of the bytes that follow, whatever they
+     hold. Of a message: the first bit left over.
+   0 for any other answer. (0 is a position too: the number tells.) A machine's call has none: there these faults are no
+   refusals. */
+#define PEAT_POSITION_AT 8
+#define PEAT_POSITION_BITS 56
+
+static inline uint64_t peat_position(uint64_t answer)
+{
+    return peat_refusal(answer) >= PEAT_SHORT && peat_refusal(answer) <= PEAT_DEFAULT ? answer >> PEAT_POSITION_AT : 0;
+}
+
 /* enum peat_invoked, its parameter, and its security value */
 static inline unsigned peat_invoked(uint64_t answer) { return peat_bits_of(answer, PEAT_INVOKED_AT, PEAT_CODE_BITS); }
 static inline unsigned peat_invoked_parameter(uint64_t answer) { return peat_bits_of(answer, PEAT_INVOKED_PARAMETER_AT, PEAT_CODE_BITS); }
@@ -309,6 +328,31 @@ enum peat_part { PEAT_PART_IDENTIFIER = 0, PEAT_PART_MESSAGE = 1, PEAT_PART_CHEC
 static inline unsigned peat_part_given(uint64_t answer) { return peat_bits_of(answer, PEAT_PART_GIVEN_AT, PEAT_PART_GIVEN_BITS); }
 static inline unsigned peat_part_bits(uint64_t answer) { return peat_bits_of(answer, PEAT_PART_BITS_AT, PEAT_PART_BITS_BITS); }
 static inline size_t peat_part_bytes(uint64_t answer) { return (peat_part_bits(answer) + 7u) / 8u; }
+
+/* the type that an APDU is of: AircraftPDUs are what an air end sends, GroundPDUs what a ground end sends */
+enum peat_apdu_type { PEAT_AIRCRAFT_PDUS = 1, PEAT_GROUND_PDUS = 2 };
+
+/* an APDU's alternative, by its tag. A start is startdown or startup; GroundPDUs alone have the last two. */
+enum peat_apdu_kind {
+    PEAT_APDU_ABORT_USER = 0,
+    PEAT_APDU_ABORT_PROVIDER = 1,
+    PEAT_APDU_START = 2,
+    PEAT_APDU_SEND = 3,
+    PEAT_APDU_FORWARD = 4,
+    PEAT_APDU_FORWARD_RESPONSE = 5
+};
+
+/* bits of what peat_read_apdu answers; the lowest 8 are the refusal */
+#define PEAT_APDU_KIND_AT 8
+#define PEAT_APDU_NUMBER_AT 16
+#define PEAT_APDU_DATA_AT 24
+#define PEAT_APDU_PART_BITS 8
+
+/* enum peat_apdu_kind; the reason of an abort (enum peat_user_reason, enum peat_provider_reason), the mode of a start (0 CPDLC,
+   1 DSC), else 0; and whether it has message data (1: a start or a send, 0: any other) */
+static inline unsigned peat_apdu_kind(uint64_t answer) { return peat_bits_of(answer, PEAT_APDU_KIND_AT, PEAT_APDU_PART_BITS); }
+static inline unsigned peat_apdu_number(uint64_t answer) { return peat_bits_of(answer, PEAT_APDU_NUMBER_AT, PEAT_APDU_PART_BITS); }
+static inline unsigned peat_apdu_has_data(uint64_t answer) { return peat_bits_of(answer, PEAT_APDU_DATA_AT, PEAT_APDU_PART_BITS); }
 
 /* ---- the answer of an envelope's call */
 
@@ -700,10 +744,19 @@ uint64_t peat_d_p_abort_indication(uint8_t *rec, size_t rec_len,
 /* Takes one part out of message data, into out from its first bit on. which: enum peat_part. delivered: the message data, all
    bytes of the range, as a call left them in its second buffer (peat_data_bytes of them).
    Answers PEAT_ROOM (out is under PEAT_BUFFER_LEAST bytes); PEAT_SHAPE (which is none of its codes); or where the bytes are
-   no message data the fault met first, PEAT_SHORT to PEAT_TAIL (never for what a call left there); and then out stays.
+   no message data the fault met first, PEAT_SHORT to PEAT_TAIL, with its position (never for what a call left there); and then
+   out stays.
    Else peat_part_given says whether the part is there. If it is, out has it in its first peat_part_bits(answer) bits, the
    bits after the last one are zero up to the end of the byte, and every other byte stays; if not, out stays. */
 uint64_t peat_data_part(uint64_t which, const uint8_t *delivered, size_t delivered_len, uint8_t *out, size_t out_len);
+
+/* ---- an APDU by itself, as it was recorded: for whoever looks for a fault. No machine is asked whether it is permitted. */
+
+/* Reads the lent bytes as one APDU. which: enum peat_apdu_type. bytes: all of the range.
+   Answers PEAT_SHAPE (which is none of its codes); or the fault met first, PEAT_SHORT to PEAT_TAIL or PEAT_DEFAULT, with its
+   position. Else peat_apdu_kind, peat_apdu_number and peat_apdu_has_data read the answer. Of a forward APDU the alternative
+   alone is looked at. Writes nothing. */
+uint64_t peat_read_apdu(uint64_t which, const uint8_t *bytes, size_t bytes_len);
 
 /* ---- the broker's envelope
  *
@@ -753,7 +806,7 @@ uint64_t peat_write_envelope(uint64_t kind, uint64_t job, uint64_t bits, const u
    at least, which no message's characters pass.
    Answers PEAT_ROOM (text is under that); PEAT_SHAPE (direction is none of its codes, message is not PEAT_INNER_BYTES
    bytes, count is over PEAT_MESSAGE_MOST or more than the lent bytes hold); or the fault met first in the bits, PEAT_SHORT
-   to PEAT_DEFAULT; and then message and text stay. (PEAT_LENGTH_FORM and PEAT_LIMIT never come here: a message has no field
+   to PEAT_DEFAULT, with its position in these bits; and then message and text stay. (PEAT_LENGTH_FORM and PEAT_LIMIT never come here: a message has no field
    whose length has a form or a limit of its own. They come from peat_data_part.) Else message is written whole, text has the characters in its first
    peat_message_characters(answer) bytes, and its other bytes stay. */
 uint64_t peat_read_message(uint64_t direction, const uint8_t *bits, size_t bits_len, uint64_t count,

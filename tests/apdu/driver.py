@@ -105,39 +105,39 @@ def readings(side, pdu):
 
 
 def by_hand():
-    """Faults that are worked out by hand, each with its number."""
-    yield AIR, "", 10                               # no bytes
-    yield AIR, "011" + "000" + "00", 10             # send, the check's length cut
-    yield AIR, "1", 12                              # extension bit of the CHOICE, before SHORT
-    yield GROUND, "0110", 11                        # alternative 6 of GroundPDUs
-    yield GROUND, "0111", 11
-    yield AIR, "00001101", 11                       # user reason 13
-    yield AIR, "0001" + "0000", 12                  # extension bit of the reason
-    yield AIR, "0100" + "0" + "00" + "0", 10        # startdown, nothing behind the presence bits
-    yield AIR, "01010" + "0" + "00" + "00000000", 17        # mode present as cpdlc, before the faults behind it
-    yield AIR, "01010" + "111", 17
-    yield AIR, "011" + "1", 12                      # extension bit of the message data
-    yield AIR, "011" + "001" + "10001000" + "00000001", 14          # 88 01 as a message's length: LIMIT, before its contents are missing
-    yield AIR, "011" + "001" + "10000000" + "01111111", 13          # 80 7F
-    yield AIR, "011" + "001" + "11000001" + "00", 13                # a fragment
-    yield AIR, "011" + "001" + "10001", 10                          # a length cut
-    yield AIR, "011" + "010" + "00000000", 14                       # no octets in the identifier
-    yield AIR, "011" + "010" + "00010001", 14                       # seventeen
-    yield AIR, "011" + "011" + "00010001" + "11" * 8, 14            # two faults: the identifier's comes first
-    yield AIR, "011" + "000" + "01000001", 14                       # a check of 65 bits
-    yield AIR, "011" + "000" + "00000000" + "10", 15                # a padding bit
-    yield AIR, "011" + "000" + "00000000" + "00" + "0" * 8, 15      # a byte more
-    yield AIR, "011" + "000" + "00000000" + "01" + "0" * 8, 15
-    yield AIR, "0" * 8 * 60000, 15                                  # very long
-    yield AIR, "1" * 8 * 60000, 12
+    """Faults that are worked out by hand, each with its number and the bit at which its field begins."""
+    yield AIR, "", (10, 0)                          # no bytes
+    yield AIR, "011" + "000" + "00", (10, 6)        # send, the check's length cut
+    yield AIR, "1", (12, 0)                         # extension bit of the CHOICE, before SHORT
+    yield GROUND, "0110", (11, 1)                   # alternative 6 of GroundPDUs
+    yield GROUND, "0111", (11, 1)
+    yield AIR, "00001101", (11, 4)                  # user reason 13
+    yield AIR, "0001" + "0000", (12, 3)             # extension bit of the reason
+    yield AIR, "0100" + "0" + "00" + "0", (10, 7)   # startdown, nothing behind the presence bits
+    yield AIR, "01010" + "0" + "00" + "00000000", (17, 4)   # mode present as cpdlc, before the faults behind it
+    yield AIR, "01010" + "111", (17, 4)
+    yield AIR, "011" + "1", (12, 3)                 # extension bit of the message data
+    yield AIR, "011" + "001" + "10001000" + "00000001", (14, 6)     # 88 01 as a message's length: LIMIT, before its contents are missing
+    yield AIR, "011" + "001" + "10000000" + "01111111", (13, 6)     # 80 7F
+    yield AIR, "011" + "001" + "11000001" + "00", (13, 6)           # a fragment
+    yield AIR, "011" + "001" + "10001", (10, 6)                     # a length cut
+    yield AIR, "011" + "010" + "00000000", (14, 6)                  # no octets in the identifier
+    yield AIR, "011" + "010" + "00010001", (14, 6)                  # seventeen
+    yield AIR, "011" + "011" + "00010001" + "11" * 8, (14, 6)       # two faults: the identifier's comes first
+    yield AIR, "011" + "000" + "01000001", (14, 6)                  # a check of 65 bits
+    yield AIR, "011" + "000" + "00000000" + "10", (15, 14)           # a padding bit
+    yield AIR, "011" + "000" + "00000000" + "00" + "0" * 8, (15, 16)  # a byte more
+    yield AIR, "011" + "000" + "00000000" + "01" + "0" * 8, (15, 15)
+    yield AIR, "0" * 8 * 60000, (15, 8)                             # very long
+    yield AIR, "1" * 8 * 60000, (12, 0)
     yield GROUND, "0100" + "1" * 12, None           # a forward APDU: the alternative alone decides
     yield GROUND, "0101", None
 
 
 def hand_requests():
-    for side, bits, number in by_hand():
+    for side, bits, fault in by_hand():
         data = packed(bits)
-        answer = f"refused {number}" if number else ("forward" if bits[:4] == "0100" else "forward-response")
+        answer = "refused %d at %d" % fault if fault else ("forward" if bits[:4] == "0100" else "forward-response")
         yield Request(f"{NAMES[side]} {bits[:40]}", HEADER.pack(READ, side, 0, 0, 0, 0, 0, 0, 0, 0, 0, 0, 0, len(data)) + data, answer)
 
 

@@ -47,10 +47,17 @@ def main():
         at += count
         if op == driver.READ:
             line = reference.shown(side, body)
-            if fault == "tail" and line == "refused 15":
+            number, place = (line.split()[1], int(line.split()[3])) if line.startswith("refused") else ("", 0)
+            if fault == "tail" and number == "15":
                 line = "abort-user 0"
-            if fault == "order" and line == "refused 12":
-                line = "refused 10"
+            if fault == "order" and number == "12":
+                line = f"refused 10 at {place}"
+            if fault == "stopped" and number in ("11", "13", "14"):     # where reading stopped, not where the field begins
+                line = f"refused {number} at {place + 8}"
+            if fault == "second" and number == "10" and place >= 8:     # the second byte of a length that is cut
+                line = f"refused 10 at {place + 8}"
+            if fault == "padded" and number == "15" and place % 8:      # the beginning of the padding
+                line = f"refused 15 at {place - 1}"
             print(line)
         else:
             print(written(op, side, kind, identified, messaged, number, places, words, body, fault))

@@ -14,9 +14,14 @@ SHORT, RANGE, EXTENSION, LENGTH_FORM, LIMIT, TAIL, DEFAULT = 10, 11, 12, 13, 14,
 
 
 class Refused(Exception):
-    def __init__(self, number):
-        super().__init__(number)
-        self.number = number
+    """A number, the bit at which its field begins, and which field it is."""
+
+    def __init__(self, number, at, field):
+        super().__init__(number, at, field)
+        self.number, self.at, self.field = number, at, field
+
+    def __str__(self):
+        return f"refused {self.number} at {self.at}"
 
 
 def binary(value, width):
@@ -71,76 +76,94 @@ def unpacked(data):
 
 class Bits:
     def __init__(self, bits):
-        self.bits, self.at = bits, 0
+        self.bits, self.at, self.begin, self.field = bits, 0, 0, ""
+
+    def begins(self, field):
+        """A field begins: what is refused before the next one begins is refused here."""
+        self.begin, self.field = self.at, field
+
+    def refuse(self, number):
+        raise Refused(number, self.begin, self.field)
 
     def take(self, count):
         if self.at + count > len(self.bits):
-            raise Refused(SHORT)
+            self.refuse(SHORT)
         self.at += count
         return self.bits[self.at - count:self.at]
 
     def number(self, count):
         return int(self.take(count) or "0", 2)
 
-    def extension(self):
+    def extension(self, of):
+        self.begins(f"extension bit of {of}")
         if self.number(1):
-            raise Refused(EXTENSION)
+            self.refuse(EXTENSION)
 
-    def index(self, last):
-        self.extension()
+    def index(self, last, of):
+        self.extension(of)
+        self.begins(of)
         value = self.number(last.bit_length())
         if value > last:
-            raise Refused(RANGE)
+            self.refuse(RANGE)
         return value
 
     def part(self, name):
         """Where its contents begin, and their count."""
         unit, least, most = LIMITS[name]
+        self.begins(f"length of {name}")
         first = self.number(8)
         if first < 128:
             count = first
         elif first >= 192:
-            raise Refused(LENGTH_FORM)
+            self.refuse(LENGTH_FORM)
         else:
             count = (first - 128) * 256 + self.number(8)
             if count < 128:
-                raise Refused(LENGTH_FORM)
+                self.refuse(LENGTH_FORM)
         if not least <= count <= most:
-            raise Refused(LIMIT)
+            self.refuse(LIMIT)
+        self.begins(name)
         at = self.at
         self.take(unit * count)
         return at, count
 
     def data(self):
-        self.extension()
+        self.extension("message data")
+        self.begins("presence bits")
         there = self.number(2)
         identifier = self.part("identifier") if there & 2 else None
         message = self.part("message") if there & 1 else None
         return identifier, message, self.part("check")
 
     def tail(self):
+        """The first padding bit that is 1; where there is none, the first bit of the bytes that follow, whatever they are."""
         while self.at % 8:
+            self.begins("padding")
             if self.number(1):
-                raise Refused(TAIL)
+                self.refuse(TAIL)
+        self.begins("bytes behind")
         if self.at < len(self.bits):
-            raise Refused(TAIL)
+            self.refuse(TAIL)
 
 
 def read(side, data):
     """The APDU with places for its parts: ("send", (identifier, message, check)), each (at, count) or None."""
     bits = Bits(unpacked(data))
-    index = bits.index(LAST[side])
+    index = bits.index(LAST[side], "alternative")
     kind = next(k for k, i in INDEX.items() if i == index)
     if kind == "abort-user":
-        pdu = (kind, bits.index(USER))
+        pdu = (kind, bits.index(USER, "user reason"))
     elif kind == "abort-provider":
-        pdu = (kind, bits.index(PROVIDER))
+        pdu = (kind, bits.index(PROVIDER, "provider reason"))
     elif kind == "start":
         mode = 0
-        if side == AIR and bits.number(1):
-            mode = bits.number(1)
-            if mode == 0:
-                raise Refused(DEFAULT)
+        if side == AIR:
+            bits.begins("presence of mode")
+            if bits.number(1):
+                bits.begins("mode")
+                mode = bits.number(1)
+                if mode == 0:
+                    bits.refuse(DEFAULT)
         pdu = (kind, mode, bits.data())
     elif kind == "send":
         pdu = (kind, bits.data())
@@ -155,8 +178,20 @@ def shown(side, data):
     try:
         pdu = read(side, data)
     except Refused as refused:
-        return f"refused {refused.number}"
+        return str(refused)
     words = [pdu[0]]
     for x in pdu[1:]:
         words += [str(x)] if isinstance(x, int) else ["-" if p is None else "%d:%d" % p for p in x]
     return " ".join(words)
+
+
+# ---- which refusals can come at which field (document 01, "The numbers a refusal carries")
+
+def expected():
+    """Each pair of a field and a refusal that it can have. SHORT in whole bytes needs a field that a byte's end can cut."""
+    pairs = {("extension bit of alternative", SHORT), ("alternative", RANGE), ("padding", TAIL), ("bytes behind", TAIL), ("mode", DEFAULT)}
+    pairs |= {(f"extension bit of {of}", EXTENSION) for of in ("alternative", "user reason", "provider reason", "message data")}
+    pairs |= {("user reason", RANGE), ("user reason", SHORT)}
+    for name in LIMITS:
+        pairs |= {(f"length of {name}", SHORT), (f"length of {name}", LENGTH_FORM), (f"length of {name}", LIMIT), (name, SHORT)}
+    return pairs

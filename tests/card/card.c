@@ -122,20 +122,29 @@ static int can_refuse(enum which w, unsigned x)
         return x == PEAT_ROOM || x == PEAT_SHAPE;
     if (w == DATA_PART)
         return x == PEAT_ROOM || x == PEAT_SHAPE || x == PEAT_SHORT || (x >= PEAT_EXTENSION && x <= PEAT_TAIL);
+    if (w == READ_APDU)
+        return x == PEAT_SHAPE || (x >= PEAT_SHORT && x <= PEAT_TAIL) || x == PEAT_DEFAULT;
     if (w == READ_MESSAGE)
         return x == PEAT_ROOM || x == PEAT_SHAPE || (x >= PEAT_SHORT && x <= PEAT_EXTENSION) || (x >= PEAT_TAIL && x <= PEAT_DEFAULT);
     return x == PEAT_SHAPE || (x == PEAT_ROOM && w != FRESH) || (x == PEAT_PROHIBITED && w <= TIMER_EXPIRY) ||
            ((x == PEAT_NO_MESSAGE || x == PEAT_REPEAT) && w == MESSAGE_REQUEST);
 }
 
-/* Makes the call: a refusal is its number alone and changes no byte, else it does what the model does. (The answer of
-   ENVELOPE_JOB is a job and no refusal.) */
+/* the position in a refusal: of a call that reads bits, at most the bits that it was lent; of any other, and of ROOM and SHAPE, 0 */
+static int position_fits(enum which w, const struct args *a, uint64_t said)
+{
+    size_t bits = w == READ_MESSAGE ? (size_t)a->n[1] : w == DATA_PART || w == READ_APDU ? 8 * a->bytes.len : 0;
+    return peat_position(said) <= (peat_refusal(said) < PEAT_SHORT ? 0 : bits);
+}
+
+/* Makes the call: a refusal is its number and its position alone and changes no byte, else it does what the model does. (The answer
+   of ENVELOPE_JOB is a job and no refusal.) */
 static int agrees(enum which w, struct args *a, uint64_t *said)
 {
     struct args m = copied(a);
     uint64_t want;
     *said = card_call(w, a);
-    if (w != ENVELOPE_JOB && *said % 256 != 0 && (*said > 255 || !can_refuse(w, (unsigned)*said) || !as_copied(a)))
+    if (w != ENVELOPE_JOB && peat_refusal(*said) != PEAT_TAKEN && (!position_fits(w, a, *said) || !can_refuse(w, peat_refusal(*said)) || !as_copied(a)))
         return 0;
     want = model_call(w, &m);
     return *said == want && as_copied(a);
@@ -434,6 +443,10 @@ static void random_call(enum which w, struct args *a)
         random_content(a);
     if (w == DATA_PART)
         random_part(a);
+    if (w == READ_APDU) {
+        random_apdu(a);
+        a->n[0] = once_in(40) ? any() : once_in(40) ? below(4) : 1 + below(2);
+    }
     if (w == READ_MESSAGE)
         random_bits(a);
     if (w == WRITE_MESSAGE)
@@ -478,7 +491,7 @@ static unsigned kind_of_answer(enum which w, struct args *a, uint64_t said)
 {
     if (w == ENVELOPE_JOB)
         return said != 0 ? PEAT_TAKEN : peat_refusal(card_call(READ_ENVELOPE, a));
-    return said <= PEAT_SIZE ? (unsigned)said : PEAT_TAKEN;
+    return peat_refusal(said);
 }
 
 /* a table of how often calls were answered in each way */
@@ -786,6 +799,8 @@ static void message_edges(void)
     struct args a;
     uint64_t said;
     for (w = DATA_PART; w <= WRITE_MESSAGE; w++) {
+        if (w == READ_APDU)
+            continue;
         for (i = 0; i < 7; i++)
             for (j = 0; j < 7; j++)
                 for (k = 0; k < 3; k++) {
@@ -824,6 +839,75 @@ static void message_edges(void)
     check(codes, "codes of no type, in the calls of a message");
     check(nothing, "the calls of a message with ranges of no bytes");
     check(parts && a.first.at != NULL, "the parts of message data");
+}
+
+/* ---- edges of an APDU by itself: every type code, bytes of no length, every cut, every bit turned, and positions by hand */
+
+static uint64_t reads_apdu(uint64_t type, const uint8_t *bytes, size_t len, int *ok)
+{
+    struct args a;
+    uint64_t said;
+    memset(&a, 0, sizeof a);
+    a.n[0] = type;
+    lend(&a, 4, len);
+    if (len > 0)
+        memcpy(a.bytes.at, bytes, len);
+    *ok &= agrees(READ_APDU, &a, &said);
+    return said;
+}
+
+static void apdu_edges(void)
+{
+    static const struct {
+        uint64_t type;
+        uint8_t bytes[4];
+        size_t len;
+        unsigned refusal, position;
+    } hand[] = {
+        {PEAT_AIRCRAFT_PDUS, {0}, 0, PEAT_SHORT, 0},                    /* no bytes */
+        {PEAT_AIRCRAFT_PDUS, {0x80}, 1, PEAT_EXTENSION, 0},             /* of the CHOICE */
+        {PEAT_GROUND_PDUS, {0x60}, 1, PEAT_RANGE, 1},                   /* alternative 6 */
+        {PEAT_AIRCRAFT_PDUS, {0x0D}, 1, PEAT_RANGE, 4},                 /* user reason 13 */
+        {PEAT_AIRCRAFT_PDUS, {0x10}, 1, PEAT_EXTENSION, 3},             /* of the reason */
+        {PEAT_AIRCRAFT_PDUS, {0x50}, 1, PEAT_DEFAULT, 4},               /* mode present as cpdlc */
+        {PEAT_AIRCRAFT_PDUS, {0x60}, 1, PEAT_SHORT, 6},                 /* send: the check's length is cut */
+        {PEAT_AIRCRAFT_PDUS, {0x66, 0x20}, 2, PEAT_SHORT, 6},           /* a length of 16 bits, cut after 8: its first bit */
+        {PEAT_AIRCRAFT_PDUS, {0x66, 0x20, 0x04}, 3, PEAT_LIMIT, 6},     /* a message of 2,049 bits */
+        {PEAT_AIRCRAFT_PDUS, {0x66, 0x01, 0xFC}, 3, PEAT_LENGTH_FORM, 6}, /* 80 7F */
+        {PEAT_AIRCRAFT_PDUS, {0x60, 0x02}, 2, PEAT_TAIL, 14},           /* the first padding bit */
+        {PEAT_AIRCRAFT_PDUS, {0x60, 0x01}, 2, PEAT_TAIL, 15},           /* the second: not the beginning of the padding */
+        {PEAT_AIRCRAFT_PDUS, {0x60, 0x00, 0x00}, 3, PEAT_TAIL, 16},     /* a byte of zeros behind it */
+        {PEAT_AIRCRAFT_PDUS, {0x60, 0x01, 0x00}, 3, PEAT_TAIL, 15},     /* the padding before the bytes */
+    };
+    uint8_t bytes[4];
+    uint64_t said;
+    size_t i, j;
+    int ok = 1, codes = 1, positions = 1, cuts = 1;
+    for (i = 0; i < sizeof hand / sizeof *hand; i++) {
+        said = reads_apdu(hand[i].type, hand[i].bytes, hand[i].len, &ok);
+        positions &= peat_refusal(said) == hand[i].refusal && peat_position(said) == hand[i].position;
+        for (j = 0; j <= hand[i].len; j++)
+            cuts &= peat_position(reads_apdu(hand[i].type, hand[i].bytes, j, &ok)) <= 8 * j;
+        for (j = 0; j < 8 * hand[i].len; j++) {
+            memcpy(bytes, hand[i].bytes, sizeof bytes);
+            bytes[j / 8] ^= (uint8_t)(0x80u >> j % 8);
+            reads_apdu(hand[i].type, bytes, hand[i].len, &ok);
+        }
+    }
+    for (i = 0; i < 64; i++)
+        codes &= reads_apdu(((uint64_t)1 << i) | 4, hand[6].bytes, 1, &ok) == PEAT_SHAPE;
+    codes &= reads_apdu(0, NULL, 0, &ok) == PEAT_SHAPE && reads_apdu(3, NULL, 0, &ok) == PEAT_SHAPE && reads_apdu(PEAT_NONE, NULL, 0, &ok) == PEAT_SHAPE;
+    memcpy(bytes, "\x58\x00\x00", 3); /* startdown, mode dsc, a check of no bits */
+    said = reads_apdu(PEAT_AIRCRAFT_PDUS, bytes, 2, &ok);
+    codes &= peat_refusal(said) == PEAT_TAKEN && peat_position(said) == 0 && peat_apdu_kind(said) == PEAT_APDU_START && peat_apdu_number(said) == 1 && peat_apdu_has_data(said) == 1;
+    said = reads_apdu(PEAT_GROUND_PDUS, (const uint8_t *)"\x06\x00", 2, &ok); /* abort by the user: 0000 0 1100 */
+    codes &= peat_refusal(said) == PEAT_TAKEN && peat_apdu_kind(said) == PEAT_APDU_ABORT_USER && peat_apdu_number(said) == 12 && peat_apdu_has_data(said) == 0;
+    said = reads_apdu(PEAT_GROUND_PDUS, (const uint8_t *)"\x4F", 1, &ok);
+    codes &= peat_refusal(said) == PEAT_TAKEN && peat_apdu_kind(said) == PEAT_APDU_FORWARD;
+    check(ok, "APDUs by themselves, cut and with each bit turned, are as the model has them");
+    check(positions, "the position of a refused APDU, by hand");
+    check(cuts, "a position within the bits of a cut APDU");
+    check(codes, "codes of no type, and the answer of an APDU that is accepted");
 }
 
 /* ---- scripted dialogues */
@@ -1037,6 +1121,7 @@ int main(int argc, char **argv)
     damaged_envelopes();
     written_envelopes();
     message_edges();
+    apdu_edges();
     random_calls(calls);
     printf("%lu passed, %lu failed\n", passed, failed);
     return failed != 0;

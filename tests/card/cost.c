@@ -64,6 +64,9 @@ static const struct row rows[] = {
     {"SHAPE, job 0, largest body", WRITE_ENVELOPE, 1, PEAT_IDLE, 0, {2, 0, 2048}, 1, PDU_NONE},
     {"message of 8 bits", DATA_PART, 1, PEAT_IDLE, 0, {1}, 0, PDU_NONE},
     {"message, largest data", DATA_PART, 1, PEAT_IDLE, 0, {1}, 1, PDU_NONE},
+    {"a send, message of 8 bits", READ_APDU, 1, PEAT_IDLE, 0, {PEAT_GROUND_PDUS}, 0, PDU_SEND},
+    {"a send, largest data", READ_APDU, 1, PEAT_IDLE, 0, {PEAT_GROUND_PDUS}, 1, PDU_SEND},
+    {"SHORT, largest data", READ_APDU, 1, PEAT_IDLE, 0, {PEAT_GROUND_PDUS}, 1, PDU_INVALID},
     {"one element, no argument", READ_MESSAGE, 1, PEAT_IDLE, 0, {PEAT_UPLINK}, 0, PDU_NONE},
     {"five elements, 2,048 bits", READ_MESSAGE, 1, PEAT_IDLE, 0, {PEAT_UPLINK}, 1, PDU_NONE},
     {"one element, no argument", WRITE_MESSAGE, 1, PEAT_IDLE, 0, {PEAT_UPLINK}, 0, PDU_NONE},
@@ -241,7 +244,7 @@ int main(int argc, char **argv)
         /* a row is of the kind that it says */
         if (rows[i].which == ENVELOPE_JOB)
             return said != rows[i].n[1];
-        return (peat_refusal(said) != 0) != (strstr(rows[i].title, "PROHIBITED") || strstr(rows[i].title, "REPEAT") || strstr(rows[i].title, "SHAPE"));
+        return (peat_refusal(said) != 0) != (strstr(rows[i].title, "PROHIBITED") || strstr(rows[i].title, "REPEAT") || strstr(rows[i].title, "SHAPE") || strstr(rows[i].title, "SHORT"));
     }
     for (i = 0; i < ROWS; i++)
         printf("%lu %s %s\n", (unsigned long)i, names[rows[i].which], rows[i].title);

@@ -55,8 +55,9 @@ static void get_level(struct reader *r, uint8_t *at)
 static void get_text(struct reader *r, unsigned kind, uint8_t *place, uint8_t *text, size_t *characters)
 {
     unsigned n = get_whole(r, least_text(kind), most_text(kind));
+    begin(r); /* the contents are one field */
     if (7 * n > r->end - r->at)
-        fault(r, SHORT); /* the contents are one field */
+        fault(r, SHORT);
     if (r->bad)
         return;
     keep(place + 1, n);
@@ -94,7 +95,7 @@ static void get_element(struct reader *r, uint64_t direction, uint8_t *place, ui
 uint64_t read_message(struct args *a)
 {
     uint8_t m[132] = {0}, text[5 * 256];
-    struct reader r = {a->bytes, (size_t)a->n[1], 0, 0};
+    struct reader r = reader_of(a->bytes, (size_t)a->n[1]);
     size_t characters = 0;
     unsigned here, i;
     if (a->first.len < 320)
@@ -116,10 +117,11 @@ uint64_t read_message(struct args *a)
     m[11] = (uint8_t)get_whole(&r, 1, 5);
     for (i = 0; i < m[11] && !r.bad; i++)
         get_element(&r, a->n[0], m + 12 + 24 * i, text, &characters);
+    begin(&r);
     if (r.at != r.end)
         fault(&r, TAIL);
     if (r.bad)
-        return r.bad;
+        return refused(&r);
     memcpy(a->rec.at, m, sizeof m);
     if (characters > 0)
         memcpy(a->first.at, text, characters);

@@ -62,13 +62,31 @@ struct pdu {
     size_t data, data_to; /* where the message data begin and end */
 };
 
-void fault(struct reader *r, unsigned refusal)
+struct reader reader_of(struct range in, size_t end)
 {
-    if (!r->bad)
-        r->bad = refusal;
+    struct reader r = {in, end, 0, 0, 0, 0};
+    return r;
 }
 
+void fault(struct reader *r, unsigned refusal)
+{
+    if (!r->bad) {
+        r->bad = refusal;
+        r->where = r->field;
+    }
+}
+
+uint64_t refused(const struct reader *r) { return r->bad | (uint64_t)r->where << 8; }
+
+void begin(struct reader *r) { r->field = r->at; }
+
 uint64_t get(struct reader *r, size_t width)
+{
+    begin(r);
+    return get_more(r, width);
+}
+
+uint64_t get_more(struct reader *r, size_t width)
 {
     uint64_t v = 0;
     if (r->bad || width > r->end - r->at) {
@@ -82,6 +100,7 @@ uint64_t get(struct reader *r, size_t width)
 
 void skip(struct reader *r, size_t width)
 {
+    begin(r);
     if (r->bad || width > r->end - r->at)
         fault(r, SHORT);
     else
@@ -95,7 +114,7 @@ static size_t get_length(struct reader *r) /* 11.9.3.6 to 11.9.3.8 */
         return n;
     if (n >= 192)
         fault(r, LENGTH_FORM); /* in fragments */
-    n = (n - 128) << 8 | get(r, 8);
+    n = (n - 128) << 8 | get_more(r, 8);
     if (n < 128)
         fault(r, LENGTH_FORM); /* not the shortest form */
     return n;
@@ -116,7 +135,7 @@ static void get_data(struct reader *r, struct pdu *p)
     if (get(r, 1) == 1)
         fault(r, EXTENSION);
     identifier = (unsigned)get(r, 1);
-    message = (unsigned)get(r, 1);
+    message = (unsigned)get_more(r, 1);
     if (identifier)
         get_string(r, 8, 1, 16);
     if (message)
@@ -128,41 +147,72 @@ static void get_data(struct reader *r, struct pdu *p)
 /* zeros up to the end of a byte, and nothing behind them */
 static void get_end(struct reader *r)
 {
-    if (get(r, (8 - r->at % 8) % 8) != 0 || r->at != r->end)
+    while (!r->bad && r->at % 8 != 0)
+        if (get(r, 1) == 1)
+            fault(r, TAIL);
+    begin(r);
+    if (r->at != r->end)
         fault(r, TAIL);
 }
 
-static struct pdu decode(int aircraft, struct range in)
+static struct pdu decode(int aircraft, struct reader *r)
 {
     struct pdu p = {INVALID, 0, 0, 0};
-    struct reader r = {in, 8 * in.len, 0, 0};
-    unsigned extension = (unsigned)get(&r, 1), index = (unsigned)get(&r, aircraft ? 2 : 3);
+    unsigned index;
     enum kind kind = INVALID;
-    if (r.bad || extension || index > 5)
+    if (get(r, 1) == 1)
+        fault(r, EXTENSION);
+    index = (unsigned)get(r, aircraft ? 2 : 3);
+    if (index > 5)
+        fault(r, RANGE);
+    if (r->bad)
         return p;
     if (index >= 4) {
         p.kind = FORWARD;
+        p.value = index;
         return p;
     }
     if (index == 0 || index == 1) {
         kind = index == 0 ? ABORT_USER : ABORT_PROVIDER;
-        if (get(&r, 1) == 1)
-            fault(&r, EXTENSION);
-        p.value = (unsigned)get(&r, index == 0 ? 4 : 3);
+        if (get(r, 1) == 1)
+            fault(r, EXTENSION);
+        p.value = (unsigned)get(r, index == 0 ? 4 : 3);
         if (p.value > 12)
-            fault(&r, RANGE);
+            fault(r, RANGE);
     } else {
         kind = index == 2 ? START : SEND;
-        if (index == 2 && aircraft && get(&r, 1) == 1) { /* mode, DEFAULT cpdlc */
+        if (index == 2 && aircraft && get(r, 1) == 1) { /* mode, DEFAULT cpdlc */
             p.value = 1;
-            if (get(&r, 1) == 0)
-                fault(&r, DEFAULT);
+            if (get(r, 1) == 0)
+                fault(r, DEFAULT);
         }
-        get_data(&r, &p);
+        get_data(r, &p);
     }
-    get_end(&r);
-    p.kind = r.bad ? INVALID : kind;
+    get_end(r);
+    p.kind = r->bad ? INVALID : kind;
     return p;
+}
+
+static struct pdu decoded(int aircraft, struct range in)
+{
+    struct reader r = reader_of(in, 8 * in.len);
+    return decode(aircraft, &r);
+}
+
+/* an APDU by itself: its alternative, the reason or mode, and whether it has message data */
+static uint64_t read_apdu(const struct args *a)
+{
+    static const unsigned tag[] = {0, 0, 0, 1, 2, 3};
+    struct reader r = reader_of(a->bytes, 8 * a->bytes.len);
+    struct pdu p;
+    if (a->n[0] != 1 && a->n[0] != 2)
+        return 2;
+    p = decode(a->n[0] == 1, &r);
+    if (r.bad)
+        return refused(&r);
+    if (p.kind == FORWARD)
+        return p.value << 8;
+    return tag[p.kind] << 8 | p.value << 16 | (unsigned)(p.kind == START || p.kind == SEND) << 24;
 }
 
 /* ---- records and outcomes */
@@ -494,10 +544,10 @@ static struct pdu received(enum which w, const struct rec *r, const struct args 
     if (w == D_P_ABORT_INDICATION || a->given == 0)
         return p;
     if (r->side == AIR || (w == D_START_INDICATION && a->n[0] == 0))
-        return decode(0, a->bytes);
-    p = decode(1, a->bytes);
+        return decoded(0, a->bytes);
+    p = decoded(1, a->bytes);
     if (p.kind == INVALID && w == D_ABORT_INDICATION && a->n[0] == 1) {
-        struct pdu again = decode(0, a->bytes);
+        struct pdu again = decoded(0, a->bytes);
         if (again.kind == ABORT_PROVIDER)
             return again;
     }
@@ -634,7 +684,7 @@ static uint64_t data_part(struct args *a)
 {
     static struct bits out;
     struct pdu p;
-    struct reader r = {a->bytes, 8 * a->bytes.len, 0, 0};
+    struct reader r = reader_of(a->bytes, 8 * a->bytes.len);
     unsigned i, there;
     if (a->first.len < 320)
         return 1;
@@ -643,7 +693,7 @@ static uint64_t data_part(struct args *a)
     get_data(&r, &p);
     get_end(&r);
     if (r.bad)
-        return r.bad;
+        return refused(&r);
     r.at = 1;
     there = (unsigned)get(&r, 2) << 1 | 1; /* the identifier's bit, the message's, and the check is always there */
     for (i = 0; i < a->n[0]; i++)
@@ -670,6 +720,7 @@ uint64_t model_call(enum which w, struct args *a)
     case ENVELOPE_JOB: return envelope_job(a);
     case WRITE_ENVELOPE: return write_envelope(a);
     case DATA_PART: return data_part(a);
+    case READ_APDU: return read_apdu(a);
     case READ_MESSAGE: return read_message(a);
     case WRITE_MESSAGE: return write_message(a);
     default: break;
@@ -687,7 +738,8 @@ uint64_t model_call(enum which w, struct args *a)
     if (o.apdu != MISSING)
         put_apdu(&one, &o, r.side, a);
     if (o.data) {
-        struct reader from = {a->bytes, 8 * a->bytes.len, p.data, 0};
+        struct reader from = reader_of(a->bytes, 8 * a->bytes.len);
+        from.at = p.data;
         while (from.at < p.data_to)
             put(&two, get(&from, 1), 1);
     }

@@ -14,7 +14,7 @@ enum which {
     START_REQUEST, DSC_START_REQUEST, START_RESPONSE, DSC_START_RESPONSE, MESSAGE_REQUEST, END_REQUEST, DSC_END_REQUEST, END_RESPONSE,
     DSC_END_RESPONSE, USER_ABORT, TIMER_EXPIRY, SYSTEM_ERROR, D_START_INDICATION, D_START_CONFIRMATION, D_DATA_INDICATION,
     D_END_INDICATION, D_END_CONFIRMATION, D_ABORT_INDICATION, D_P_ABORT_INDICATION, FRESH, READ_ENVELOPE, ENVELOPE_JOB,
-    WRITE_ENVELOPE, DATA_PART, READ_MESSAGE, WRITE_MESSAGE, CALLS
+    WRITE_ENVELOPE, DATA_PART, READ_APDU, READ_MESSAGE, WRITE_MESSAGE, CALLS
 };
 
 struct range {
@@ -22,8 +22,8 @@ struct range {
     size_t len;
 };
 
-/* what a call is lent and given; `n` holds its codes in the order of its parameters. An envelope, message data and the bits
-   of a message are read from `bytes`. An envelope is written of the body `msgs` into `first`, and there goes a part of
+/* what a call is lent and given; `n` holds its codes in the order of its parameters. An envelope, message data, an APDU and the
+   bits of a message are read from `bytes`. An envelope is written of the body `msgs` into `first`, and there goes a part of
    message data. A message is read into the message range `rec` and the text `first`, and written of the message range `ids`
    and the text `msgs` into `first`. */
 struct args {
@@ -48,17 +48,25 @@ void put_data(struct bits *b, const struct args *a);
 /* into bytes, padded with zeros; the number of bytes */
 size_t whole(const struct bits *b, uint8_t *bytes);
 
-/* reads the first `end` bits of a range; `bad` is the refusal of the fault that it met first, or 0 */
+/* reads the first `end` bits of a range; `bad` is the refusal of the fault that it met first, or 0, and `where` the bit at which
+   its field begins. `field` is where the field begins that is being read. */
 struct reader {
     struct range in;
-    size_t end, at;
+    size_t end, at, field, where;
     unsigned bad;
 };
+
+struct reader reader_of(struct range in, size_t end);
 
 enum { SHORT = 10, RANGE, EXTENSION, LENGTH_FORM, LIMIT, TAIL, NOT_CARRIED, DEFAULT };
 
 void fault(struct reader *r, unsigned refusal);
+/* what the call answers that met a fault */
+uint64_t refused(const struct reader *r);
+/* a field begins; a field of so many bits; so many bits more of the field; a field that is not looked at */
+void begin(struct reader *r);
 uint64_t get(struct reader *r, size_t width);
+uint64_t get_more(struct reader *r, size_t width);
 void skip(struct reader *r, size_t width);
 
 /* message.c */

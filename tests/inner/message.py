@@ -51,23 +51,34 @@ def carried(direction, number):
 # ---- bits to a message
 
 class Reader:
-    def __init__(self, bits):
-        self.bits, self.at = bits, 0
+    """Reads field by field. `refused` names the field of a refusal, for the count of what the questions meet."""
 
-    def field(self, read, *parameters):
-        value, self.at = read(self.bits, self.at, *parameters)
+    def __init__(self, bits):
+        self.bits, self.at, self.refused = bits, 0, None
+
+    def field(self, name, read, *parameters):
+        try:
+            value, self.at = read(self.bits, self.at, *parameters)
+        except Refused as why:
+            if name:
+                self.refused = name, why.number
+            raise
         return value
 
-    def whole(self, lo, hi):
-        return self.field(per.whole, lo, hi)
+    def refuse(self, name, number, at):
+        self.refused = name, number
+        raise Refused(number, at)
+
+    def whole(self, name, lo, hi):
+        return self.field(name, per.whole, lo, hi)
 
     def level(self):
-        return tuple((unit, self.whole(*UNITS[unit])) for unit in (self.whole(0, 3) for _ in range(1 + self.whole(0, 1))))
+        return tuple((unit, self.whole("level", *UNITS[unit])) for unit in (self.whole("unit", 0, 3) for _ in range(1 + self.whole("level or block", 0, 1))))
 
-    def text(self, lo, hi):
-        count = self.whole(lo, hi)
+    def text(self, kind, lo, hi):
+        count = self.whole(f"size of {kind}", lo, hi) if lo < hi else lo
         begin = self.at
-        self.field(per.contents, 7, 0, count)
+        self.field(kind, per.contents, 7, 0, count)
         return bytes(int(self.bits[begin + 7 * i:begin + 7 * i + 7], 2) for i in range(count))
 
     def argument(self, kind):
@@ -78,39 +89,65 @@ class Reader:
         if kind == "LevelLevel":
             return self.level(), self.level()
         if kind == "Time":
-            return tuple(self.whole(*r) for r in TIME)
+            return tuple(self.whole(name, *r) for name, r in zip(("hours", "minutes"), TIME))
         if kind == "Code":
-            return tuple(self.whole(0, 7) for _ in range(4))
-        if kind == "Facility" and self.whole(0, 1) == 0:
+            return tuple(self.whole("digit", 0, 7) for _ in range(4))
+        if kind == "Facility" and self.whole("facility or none", 0, 1) == 0:
             return None
-        return self.text(*SIZES[kind])
+        return self.text(kind, *SIZES[kind])
 
     def element(self, direction):
-        number = self.field(per.extensible_index, 0, len(TYPES[direction]) - 1)
+        self.field("extension bit", per.extension_bit)
+        begin = self.at
+        number = self.whole("index", 0, len(TYPES[direction]) - 1)
         kind = carried(direction, number)
         if kind is None:
-            raise Refused(NOT_CARRIED)
+            self.refuse("index", NOT_CARRIED, begin)
         return number, self.argument(kind)
 
     def message(self, direction):
         m = {}
-        has_ref, has_ack = divmod(self.field(per.bit_field, 2), 2)
-        m["id"] = self.whole(0, 63)
-        m["ref"] = self.whole(0, 63) if has_ref else None
-        m["date"] = tuple(self.whole(*r) for r in DATE)
+        has_ref, has_ack = divmod(self.field("presence bits", per.bit_field, 2), 2)
+        m["id"] = self.whole("identification", 0, 63)
+        m["ref"] = self.whole("reference", 0, 63) if has_ref else None
+        m["date"] = tuple(self.whole(name, *r) for name, r in zip(DATE_NAMES, DATE))
         m["ack"] = bool(has_ack)
-        if has_ack and self.whole(0, 1) == 1:                   # required 0, notRequired 1, DEFAULT notRequired
-            raise Refused(DEFAULT)
-        if self.field(per.bit_field, 1):                        # constrained data
-            raise Refused(NOT_CARRIED)
-        m["elements"] = [self.element(direction) for _ in range(self.whole(1, 5))]
+        begin = self.at
+        if has_ack and self.whole("acknowledgement", 0, 1) == 1:    # required 0, notRequired 1, DEFAULT notRequired
+            self.refuse("acknowledgement", DEFAULT, begin)
+        begin = self.at
+        if self.field("presence of constrained data", per.bit_field, 1):
+            self.refuse("presence of constrained data", NOT_CARRIED, begin)
+        m["elements"] = [self.element(direction) for _ in range(self.whole("count of elements", 1, 5))]
         if self.at != len(self.bits):
-            raise Refused(TAIL)
+            self.refuse("bits left over", TAIL, self.at)
         return m
+
+
+DATE_NAMES = ("year", "month", "day", "hours", "minutes", "seconds")
 
 
 def decode(direction, bits):
     return Reader(bits).message(direction)
+
+
+def fault_of(direction, bits):
+    """The field and the number of the refusal, or None."""
+    reader = Reader(bits)
+    try:
+        reader.message(direction)
+    except Refused:
+        return reader.refused
+    return None
+
+
+def expected():
+    """Each field with the refusals that it can have: SHORT at every one, RANGE where its bits hold more than its range."""
+    wide = ("year", "month", "day", "hours", "minutes", "seconds", "count of elements", "index", "level", "size of FacilityDesignation", "size of Facility")
+    exact = ("presence bits", "identification", "reference", "acknowledgement", "presence of constrained data", "extension bit", "unit", "level or block", "digit",
+             "facility or none", "size of FreeText", "FreeText", "FacilityDesignation", "Facility", "ATISCode")
+    pairs = {(name, per.SHORT) for name in wide + exact} | {(name, per.RANGE) for name in wide}
+    return pairs | {("extension bit", per.EXTENSION), ("index", NOT_CARRIED), ("presence of constrained data", NOT_CARRIED), ("acknowledgement", DEFAULT), ("bits left over", TAIL)}
 
 
 # ---- a message to bits
@@ -266,7 +303,7 @@ def unpacked(data, count):
 
 
 def read_call(direction, data, count, message_len, text_len):
-    """(number, message range, text) or (refusal,)"""
+    """(number, message range, text) or (refusal,): the refusal's number, and 256 times the place where bits are at fault"""
     if text_len < LEAST_BUFFER:
         return (ROOM,)
     if direction not in TYPES or message_len != BYTES or count > MOST_BITS or count > 8 * len(data):
@@ -274,7 +311,7 @@ def read_call(direction, data, count, message_len, text_len):
     try:
         message, text = lay(direction, decode(direction, unpacked(data, count)))
     except Refused as why:
-        return (why.number,)
+        return (why.number + 256 * why.at,)
     return 256 * len(text), message, text
 
 

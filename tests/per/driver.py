@@ -31,7 +31,7 @@ def reader(why, op, lo, hi, value, at, bits, answer=None):
         try:
             answer = "ok %d %d" % reference.READERS[op](bits, at, lo, hi, value)
         except Refused as refused:
-            answer = f"refused {refused.number}"
+            answer = str(refused)
     return Request(why, op, lo, hi, value, at, len(bits), packed(bits), b"", answer)
 
 
@@ -198,7 +198,7 @@ class Maker:
         """A place far behind the end is SHORT or full, and no sum wraps."""
         for at in (65, 1000, 2 ** 32, 2 ** 61, 2 ** 63, 2 ** 64 - 64, 2 ** 64 - 1):
             for op, lo, hi, value in FAR_READS:
-                yield reader("a place behind the end", op, lo, hi, value, at, "0" * 64, "refused 10")
+                yield reader("a place behind the end", op, lo, hi, value, at, "0" * 64, f"refused 10 at {at}")
             for op, lo, hi, value in FAR_WRITES:
                 yield writer("a place behind the end", op, lo, hi, value, at, 64, self.noise(64), "10100101")
                 yield writer("an end far behind the buffer", op, lo, hi, value, 60, at, self.noise(64), "10100101")

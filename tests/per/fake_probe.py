@@ -3,7 +3,7 @@ import sys
 
 import reference
 from driver import HEADER, hexadecimal
-from reference import COPY, SIZED, STRING, WHOLE, WRITE, Full, Refused
+from reference import COPY, EXTENSION_BIT, SIZED, STRING, WHOLE, WRITE, Full, Refused
 
 FAULT = sys.argv[1] if len(sys.argv) > 1 else ""
 
@@ -15,12 +15,21 @@ def answer(op, lo, hi, value, at, end, body, more):
     try:
         found, after = reference.READERS[op](bits[:end], at, lo, hi, value)
     except Refused as refused:
-        return f"refused {wrong_refusal(refused.number, op, bits[:end], at)}"
+        return f"refused {wrong_refusal(refused.number, op, bits[:end], at)} at {wrong_place(refused, op, at)}"
     if FAULT == "value" and op == WHOLE and found == hi:
         found += 1
     if FAULT == "next" and op == SIZED:
         after += 1
     return f"ok {found} {after}"
+
+
+def wrong_place(refused, op, at):
+    """Where reading stopped, and not where the field begins; or counted from a part of the bits."""
+    if FAULT == "stopped" and refused.number in (11, 13, 14) and op != EXTENSION_BIT:
+        return refused.at + 8
+    if FAULT == "part" and op in (SIZED, STRING):
+        return refused.at - at
+    return refused.at
 
 
 def wrong_refusal(number, op, bits, at):

@@ -1,7 +1,7 @@
 """The fields of unaligned PER as X.691 and document 01 have them, plainly, over strings of '0' and '1'.
 
 A reader takes the bits that count, a place and its parameters (lo, hi, value), and answers (value, next) or raises Refused
-with document 01's number; at one field the order is 10, 12, 13, 11, 14. A writer answers the bits that it puts, or raises Full.
+with document 01's number and the place at which the refused field begins; at one field the order is 10, 12, 13, 11, 14. A writer answers the bits that it puts, or raises Full.
 """
 SHORT, RANGE, EXTENSION, LENGTH_FORM, LIMIT = 10, 11, 12, 13, 14
 LONGEST = 16383         # what a length in its two-byte form can say
@@ -12,9 +12,12 @@ WRITE = 128
 
 
 class Refused(Exception):
-    def __init__(self, number):
-        super().__init__(number)
-        self.number = number
+    def __init__(self, number, at):
+        super().__init__(number, at)
+        self.number, self.at = number, at
+
+    def __str__(self):
+        return f"refused {self.number} at {self.at}"
 
 
 class Full(Exception):
@@ -30,21 +33,21 @@ def width_of(last):
 
 def bit_field(bits, at, width, *_):
     if at + width > len(bits):
-        raise Refused(SHORT)
+        raise Refused(SHORT, at)
     return int(bits[at:at + width] or "0", 2), at + width
 
 
 def whole(bits, at, lo, hi, *_):
     distance, after = bit_field(bits, at, width_of(hi - lo))
     if distance > hi - lo:
-        raise Refused(RANGE)
+        raise Refused(RANGE, at)
     return lo + distance, after
 
 
 def extension_bit(bits, at, *_):
     bit, after = bit_field(bits, at, 1)
     if bit:
-        raise Refused(EXTENSION)
+        raise Refused(EXTENSION, at)
     return 0, after
 
 
@@ -58,23 +61,23 @@ def length(bits, at, *_):
     if first < 0x80:
         return first, after
     if first >= 0xC0:
-        raise Refused(LENGTH_FORM)
+        raise Refused(LENGTH_FORM, at)
     both, after = bit_field(bits, at, 16)
     if both - 0x8000 < 128:
-        raise Refused(LENGTH_FORM)
+        raise Refused(LENGTH_FORM, at)
     return both - 0x8000, after
 
 
 def length_within(bits, at, lo, hi, *_):
     count, after = length(bits, at)
     if not lo <= count <= hi:
-        raise Refused(LIMIT)
+        raise Refused(LIMIT, at)
     return count, after
 
 
 def contents(bits, at, unit, _, count):
     if at + unit * count > len(bits):
-        raise Refused(SHORT)
+        raise Refused(SHORT, at)
     return count, at + unit * count
 
 

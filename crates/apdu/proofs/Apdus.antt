@@ -11,10 +11,10 @@ use lib.ListN.{length}
 use Rattle.words.proofs.Laws.{both-left, both-right}
 use Rattle.bits.specs.Bits.{bitsN}
 use Rattle.bits.proofs.Numbers.{Bits}
-use Rattle.fields.specs.Fields.{then, bitField, wholeNumber, extensibleIndex}
+use Rattle.fields.specs.Fields.{refusedAt, then, bitField, wholeNumber, extensibleIndex}
 use Rattle.fields.specs.Encodings.{indexBits, wholeBits, wholeFits}
 use Rattle.fields.specs.declared.Refusal.{Refusal}
-use Rattle.fields.specs.declared.Refusal.the-variants.{Default}
+use Rattle.fields.specs.declared.Fault.the-variants.{Default}
 use Rattle.fields.specs.declared.Field.the-variants.{Value, Refused}
 use Rattle.fields.proofs.RoundTrip.{Stands, stands-join, stands-split, bit-field, whole-number, extensible-index}
 use Rattle.fields.proofs.RoundTrip as fields
@@ -76,7 +76,7 @@ value-read : (l : List ℕ) (at m next : ℕ) → Bits l → modeValue l at ≡ 
 unfolding modeValue
 value-read l at m next b e = fields.via (ValueIs l at m next) (wholeNumber l at 0 modeLast) _ m next found e
   where
-    go : (v n : ℕ) → wholeNumber l at 0 modeLast ≡ Value v n → (t : Bool) → eqb v 0 ≡ t → cond t (Refused Default) (Value v n) ≡ Value m next → ValueIs l at m next
+    go : (v n : ℕ) → wholeNumber l at 0 modeLast ≡ Value v n → (t : Bool) → eqb v 0 ≡ t → cond t (refusedAt at Default) (Value v n) ≡ Value m next → ValueIs l at m next
     go v n f true p k = never (cc)
     go v n f false p k =
         let x : v ≡ m = cc in
@@ -84,7 +84,7 @@ value-read l at m next b e = fields.via (ValueIs l at m next) (wholeNumber l at 
         let g : wholeNumber l at 0 modeLast ≡ Value m next = rw (← x, ← y) f in
         record { other = rw (← x) p; fits = whole-number 0 modeLast (omega arith) .read-fits l at m next b g; stands = whole-number 0 modeLast (omega arith) .read-written l at m next b g }
 
-    found : (v n : ℕ) → wholeNumber l at 0 modeLast ≡ Value v n → cond (eqb v 0) (Refused Default) (Value v n) ≡ Value m next → ValueIs l at m next
+    found : (v n : ℕ) → wholeNumber l at 0 modeLast ≡ Value v n → cond (eqb v 0) (refusedAt at Default) (Value v n) ≡ Value m next → ValueIs l at m next
     found v n f k = go v n f (eqb v 0) refl k
 
 present : (l : List ℕ) (at p m next : ℕ) → Stands l at (bitsN 1 1) p → ValueIs l p m next → ModeIs Air l at m next

@@ -4,7 +4,7 @@
 use mathlib.Core.Path.{_≡_, refl, ap, sym, _∙_}
 use mathlib.Core.Bool.{Bool, true, false, cond}
 use mathlib.Core.List.{List, [], _++_}
-use Prim.Native.Nat.{ℕ, _+_, _*_, _/_, _^_, _≤_, _<_}
+use Prim.Native.Nat.{ℕ, _+_, _-_, _*_, _/_, _^_, _≤_, _<_}
 use native.Mathlib.Omega.{arith}
 use borrow.Author.Tests.{le-leb, lt-leb, le-ltb, lt-ltb, leb-false, eqb-true}
 use lib.Dec.{leb, eqb}
@@ -16,9 +16,9 @@ use Rattle.bits.specs.Put.{putBits}
 use Rattle.bits.proofs.Numbers.{Bits, bits-bitsN, length-bitsN}
 use Rattle.bits.proofs.Bytes.{Bytes, bits-append, bits-take, bits-drop, bits-to, length-bits, length-to}
 use Rattle.bits.proofs.Putting.{length-put}
-use Rattle.fields.specs.Fields.{bitField, digitsIn}
+use Rattle.fields.specs.Fields.{refusedAt, bitField, digitsIn, widthOf}
 use Rattle.fields.specs.Encodings.{bitsFit, indexBits, lengthBits, wholeBits}
-use Rattle.fields.specs.declared.Refusal.the-variants.{Tail}
+use Rattle.fields.specs.declared.Fault.the-variants.{Tail}
 use Rattle.fields.specs.declared.Field.{Field}
 use Rattle.fields.specs.declared.Field.the-variants.{Value, Refused}
 use Rattle.apdu.specs.declared.Taken.{Taken}
@@ -214,20 +214,20 @@ tail-is : (l : List ℕ) (at v next : ℕ) → Bits l → tailAt l at ≡ Value 
 unfolding tailAt
 tail-is l at v next b e = fields.via (TailIs l at next) (bitField l at (padding at)) _ v next found e
   where
-    last : (m : ℕ) → bitField l at (padding at) ≡ Value 0 m → (t : Bool) → leb (m + 1) (length l) ≡ t → cond t (Refused Tail) (Value 0 m) ≡ Value v next → TailIs l at next
+    last : (m : ℕ) → bitField l at (padding at) ≡ Value 0 m → (t : Bool) → leb (m + 1) (length l) ≡ t → cond t (refusedAt m Tail) (Value 0 m) ≡ Value v next → TailIs l at next
     last m f true p k = never (cc)
     last m f false p k =
         let x : m ≡ next = cc in
         let h = leb-false (m + 1) (length l) p in
         rw (← x) (record { stands = bit-field (padding at) .read-written l at 0 m b f; end = omega arith })
 
-    go : (w m : ℕ) → bitField l at (padding at) ≡ Value w m → (t : Bool) → eqb w 0 ≡ t → cond t (cond (leb (m + 1) (length l)) (Refused Tail) (Value 0 m)) (Refused Tail) ≡ Value v next → TailIs l at next
+    go : (w m : ℕ) → bitField l at (padding at) ≡ Value w m → (t : Bool) → eqb w 0 ≡ t → cond t (cond (leb (m + 1) (length l)) (refusedAt m Tail) (Value 0 m)) (refusedAt (m - widthOf w) Tail) ≡ Value v next → TailIs l at next
     go w m f true p k =
         let z : w ≡ 0 = eqb-true w 0 p in
         last m (rw z at f) (leb (m + 1) (length l)) refl k
     go w m f false p k = never (cc)
 
-    found : (w m : ℕ) → bitField l at (padding at) ≡ Value w m → cond (eqb w 0) (cond (leb (m + 1) (length l)) (Refused Tail) (Value 0 m)) (Refused Tail) ≡ Value v next → TailIs l at next
+    found : (w m : ℕ) → bitField l at (padding at) ≡ Value w m → cond (eqb w 0) (cond (leb (m + 1) (length l)) (refusedAt m Tail) (Value 0 m)) (refusedAt (m - widthOf w) Tail) ≡ Value v next → TailIs l at next
     found w m f k = go w m f (eqb w 0) refl k
 
 all-of : (l bs : List ℕ) (next : ℕ) → Stands l 0 bs next → length l ≤ next → l ≡ bs

@@ -5,9 +5,9 @@ use mathlib.Core.List.{List}
 use mathlib.Core.Bool.{Bool, cond}
 use lib.ListN.{length}
 use lib.Dec.{leb, eqb}
-use Rattle.fields.specs.Fields.{refusedAt, then, bitField, extensionBit, widthOf, wholeNumber, extensibleIndex, stringAt}
+use Rattle.fields.specs.Fields.{noRefusal, refusedAt, then, bitField, extensionBit, widthOf, wholeNumber, extensibleIndex, stringAt}
 use Rattle.fields.specs.declared.Refusal.{Refusal}
-use Rattle.fields.specs.declared.Refusal.the-variants.{Short, Tail, Default}
+use Rattle.fields.specs.declared.Fault.the-variants.{Tail, Default}
 use Rattle.fields.specs.declared.Field.{Field}
 use Rattle.fields.specs.declared.Field.the-variants as field
 use Rattle.apdu.specs.Sizes.{identifierLeast, identifierMost, messageMost, checkMost, userLast, providerLast, modeLast, octet, bit}
@@ -52,15 +52,15 @@ onLead (lead.Refused r) k = answer.Refused r
 -- the refusal of an answer that has one
 abbrev pub fieldRefusal : Field → Refusal
 fieldRefusal (field.Refused r) = r
-fieldRefusal (field.Value v next) = Short
+fieldRefusal (field.Value v next) = noRefusal
 
 abbrev pub takenRefusal : Taken → Refusal
 takenRefusal (taken.Refused r) = r
-takenRefusal (taken.Is d next) = Short
+takenRefusal (taken.Is d next) = noRefusal
 
 abbrev pub leadRefusal : Lead → Refusal
 leadRefusal (lead.Refused r) = r
-leadRefusal (lead.Is c m next) = Short
+leadRefusal (lead.Is c m next) = noRefusal
 
 -- ---- message data
 

@@ -15,8 +15,8 @@ use crate::parts::data_at;
 use crate::refusals::field_refusal;
 use crate::refusals::lead_refusal;
 use crate::refusals::taken_refusal;
+use fields::Fault;
 use fields::Field;
-use fields::Refusal;
 
 // The end of lent bytes: as many bits as a count can say, so all of them.
 pub(crate) const ALL: usize = 18446744073709551615;
@@ -39,11 +39,11 @@ fn tail(s: &[u8], at: usize) -> Field
     };
     if v == 0 {
         if bits::within(s.len(), ALL, next, 1) {
-            return fields::refused_at(next, Refusal::Tail);
+            return fields::refused_at(next, Fault::Tail);
         }
         return Field::Value(0, next);
     }
-    fields::refused_at(next - fields::width(v), Refusal::Tail)
+    fields::refused_at(next - fields::width(v), Fault::Tail)
 }
 
 // An APDU whose last field ends at a place.

@@ -8,8 +8,8 @@ use crate::Lead;
 use crate::Side;
 use crate::decoder::ALL;
 use crate::refusals::field_refusal;
+use fields::Fault;
 use fields::Field;
-use fields::Refusal;
 
 impl Side {
     // The last alternative of the type.
@@ -59,7 +59,7 @@ fn mode_value(s: &[u8], at: usize) -> Field
         return value;
     };
     if m == 0 {
-        return fields::refused_at(at, Refusal::Default);
+        return fields::refused_at(at, Fault::Default);
     }
     value
 }

@@ -11,7 +11,7 @@ pub(crate) fn field_refusal(f: Field) -> Refusal
 {
     match f {
         Field::Refused(r) => r,
-        Field::Value(_, _) => Refusal::Short,
+        Field::Value(_, _) => Refusal::NONE,
     }
 }
 
@@ -20,7 +20,7 @@ pub(crate) fn taken_refusal(t: Taken) -> Refusal
 {
     match t {
         Taken::Refused(r) => r,
-        Taken::Is(_, _) => Refusal::Short,
+        Taken::Is(_, _) => Refusal::NONE,
     }
 }
 
@@ -29,6 +29,6 @@ pub(crate) fn lead_refusal(l: Lead) -> Refusal
 {
     match l {
         Lead::Refused(r) => r,
-        Lead::Is(_, _, _) => Refusal::Short,
+        Lead::Is(_, _, _) => Refusal::NONE,
     }
 }

@@ -143,7 +143,11 @@ fn show_answer(r: Answer) {
         }
         Answer::Refused(e) => {
             io::write_all(1, b"refused ");
-            show_number(fields::number(e));
+            let fault = e.fault;
+            let at = e.at;
+            io::print_decimal(1, fields::number(fault));
+            io::write_all(1, b" at ");
+            show_number(at as u64);
         }
     }
 }

@@ -12,7 +12,7 @@ use Rattle.words.proofs.Laws.{both-left, both-right}
 use Rattle.bits.specs.Bits.{run}
 use Rattle.bits.proofs.Bytes.{bits-to}
 use Rattle.fields.specs.Encodings.{withinFits, wholeFits}
-use Rattle.fields.specs.Refusals.{numberOf}
+use Rattle.fields.specs.Refusals.{packed}
 use Rattle.fields.specs.declared.Refusal.{Refusal}
 use Rattle.apdu.specs.Sizes.{bufferLeast, octet, bit, identifierLeast, identifierMost, messageMost, checkMost, allBits}
 use Rattle.apdu.specs.Pdus.{lent}
@@ -46,7 +46,7 @@ pub no-part : (out s : List ℕ) (which : ℕ) → bufferLeast ≤ length out �
 unfolding partCall
 no-part out s which h g = rw (le-ltb (length out) bufferLeast h, lt-ltb 2 which g)
 
-pub not-data : (out s : List ℕ) (which n : ℕ) (t : Taken) (r : Refusal) → bufferLeast ≤ length out → which ≤ 2 → t ≡ wholeData (lent s) → t ≡ taken.Refused r → n ≡ numberOf r → sent n out ≡ partCall out which s
+pub not-data : (out s : List ℕ) (which n : ℕ) (t : Taken) (r : Refusal) → bufferLeast ≤ length out → which ≤ 2 → t ≡ wholeData (lent s) → t ≡ taken.Refused r → n ≡ packed r → sent n out ≡ partCall out which s
 unfolding partCall putChosen
 not-data out s which n t r h g p q e = rw (le-ltb (length out) bufferLeast h, le-ltb 2 which g, ← p, q, e)
 

@@ -2,3 +2,4 @@ pub mod Face
 pub mod Mail
 pub mod MessageNumbers
 pub mod Parts
+pub mod Recorded

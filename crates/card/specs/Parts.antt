@@ -1,5 +1,6 @@
 -- The parts of message data that was delivered, for the host: 0 the algorithm identifier, 1 the CPDLC message, 2 the integrity check.
--- The number that taking one out answers. A refusal is its number, and every other bit is zero. Else, from the lowest bit on:
+-- The number that taking one out answers. A refusal is its number, with its place above it where the bytes are at fault (fields' `packed`), and
+-- every other bit is zero. Else, from the lowest bit on:
 --    8 bits  0
 --    8 bits  1 where the part is there, 0 where it is not
 --   16 bits  its bits, in the buffer from the first on
@@ -10,7 +11,7 @@ use lib.Dec.{eqb, ltb}
 use lib.ListN.{length}
 use Rattle.words.specs.Limits.{room, shape}
 use Rattle.bits.specs.Bits.{run}
-use Rattle.fields.specs.Refusals.{numberOf}
+use Rattle.fields.specs.Refusals.{packed}
 use Rattle.apdu.specs.Sizes.{bufferLeast, octet, bit}
 use Rattle.apdu.specs.Pdus.{lent}
 use Rattle.apdu.specs.Reading.{wholeData}
@@ -50,7 +51,7 @@ putOut out s unit (Given x) = partDone (writeOut (runShaped s (x .at) (unit * x 
 
 unfoldable pub putChosen : List ℕ → List ℕ → ℕ → Taken → Sent
 putChosen out s which (taken.Is d next) = putOut out s (unitOf which) (chosen which d)
-putChosen out s which (taken.Refused r) = sent (numberOf r) out
+putChosen out s which (taken.Refused r) = sent (packed r) out
 
 -- ROOM, then SHAPE of the number that chooses, then the refusals of message data
 unfoldable pub partCall : List ℕ → ℕ → List ℕ → Sent

@@ -76,7 +76,7 @@ pub extern "C" fn peat_data_part(which: u64, delivered: &[u8], out: &mut [u8]) -
     }
     let parts = read_data(delivered);
     match parts {
-        Taken::Refused(r) => fields::number(r),
+        Taken::Refused(r) => fields::packed(r),
         Taken::Is(d, _) => put_out(out, delivered, unit_of(which), chosen(which, d)),
     }
 }

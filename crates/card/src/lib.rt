@@ -6,5 +6,6 @@ mod given; // given.rt: message data from three ranges, and a call with them or 
 mod mail; // mail.rt: the broker's envelopes
 mod message; // message.rt: the CPDLC message
 mod message_numbers; // message_numbers.rt: the book of message identification numbers
+mod recorded; // recorded.rt: an APDU by itself
 mod service; // service.rt: the primitives of the dialogue service
 mod user; // user.rt: the primitives of the user, and what the host reports

@@ -5,13 +5,13 @@ use mathlib.Core.List.{List}
 use Prim.Native.Nat.{ℕ, _+_}
 use Rattle.fields.specs.Fields.{refusedAt, extensibleIndex}
 use Rattle.fields.specs.declared.Field.the-variants.{Value}
-use Rattle.fields.specs.declared.Refusal.the-variants as refusal
+use Rattle.fields.specs.declared.Fault.the-variants as fault
 use Rattle.elements.specs.declared.kinds.Direction.{Direction}
 use Rattle.elements.specs.declared.kinds.Kind.the-variants as kind
 use Rattle.elements.specs.Elements.{kindOf}
 use Rattle.elements.specs.Arguments.{refusalOf}
 use Rattle.elements.specs.OneElement.{noElement, lastOf, argumentAt, elementAt}
 
-pub not-carried : (d : Direction) (l : List ℕ) (at i next : ℕ) → extensibleIndex l at (lastOf d) ≡ Value i next → kindOf d i ≡ kind.NotCarried → elementAt d l at ≡ noElement (refusalOf (refusedAt (at + 1) refusal.NotCarried))
+pub not-carried : (d : Direction) (l : List ℕ) (at i next : ℕ) → extensibleIndex l at (lastOf d) ≡ Value i next → kindOf d i ≡ kind.NotCarried → elementAt d l at ≡ noElement (refusalOf (refusedAt (at + 1) fault.NotCarried))
 unfolding elementAt argumentAt
 not-carried d l at i next p q = rw (p, q)

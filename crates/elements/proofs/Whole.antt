@@ -11,9 +11,9 @@ use borrow.Author.Tests.{leb-true, le-leb}
 use Rattle.words.proofs.Laws.{both-left, both-right}
 use Rattle.bits.specs.Bits.{bitsN}
 use Rattle.bits.proofs.Numbers.{Bits, length-bitsN}
-use Rattle.fields.specs.Fields.{bitField, widthOf, wholeNumber}
+use Rattle.fields.specs.Fields.{refusal, bitField, widthOf, wholeNumber}
 use Rattle.fields.specs.Encodings.{wholeBits, wholeFits}
-use Rattle.fields.specs.declared.Refusal.the-variants.{Range}
+use Rattle.fields.specs.declared.Fault.the-variants.{Range}
 use Rattle.fields.specs.declared.Field.{Field}
 use Rattle.fields.specs.declared.Field.the-variants as field
 use Rattle.fields.proofs.Widths.{width-holds}
@@ -55,7 +55,7 @@ whole-back : (R : Type 0) (l : List ℕ) (at lo hi v next : ℕ) → ((d : ℕ) 
 unfolding wholeNumber
 whole-back R l at lo hi v next c e =
     via R (bitField l at (widthOf (hi - lo))) _ v next (λ (d m : ℕ) (p : bitField l at (widthOf (hi - lo)) ≡ field.Value d m).
-    if-value R (leb (lo + d) hi) (field.Value (lo + d) m) Range v next (λ (t : leb (lo + d) hi ≡ true) (q : field.Value (lo + d) m ≡ field.Value v next).
+    if-value R (leb (lo + d) hi) (field.Value (lo + d) m) (refusal at Range) v next (λ (t : leb (lo + d) hi ≡ true) (q : field.Value (lo + d) m ≡ field.Value v next).
     let a : lo + d ≡ v = cc in
     let b : m ≡ next = cc in
     c d a (rw a at (leb-true (lo + d) hi t)) (rw b at p))) e

@@ -6,10 +6,9 @@ use mathlib.Core.Bool.{Bool, true, false, cond, not, _&&_}
 use lib.ListN.{length, getD, take, drop}
 use lib.Dec.{eqb, ltb}
 use Rattle.bits.specs.Bits.{bitsN, numOf}
-use Rattle.fields.specs.Fields.{then, wholeNumber, contentsAt, sizedAt}
+use Rattle.fields.specs.Fields.{noRefusal, then, wholeNumber, contentsAt, sizedAt}
 use Rattle.fields.specs.Encodings.{wholeBits, wholeFits}
 use Rattle.fields.specs.declared.Refusal.{Refusal}
-use Rattle.fields.specs.declared.Refusal.the-variants.{Short}
 use Rattle.fields.specs.declared.Field.{Field}
 use Rattle.fields.specs.declared.Field.the-variants as field
 use Rattle.elements.specs.declared.values.LevelType.{LevelType}
@@ -32,23 +31,23 @@ onto refused (field.Refused r) k = refused r
 
 -- the refusal in an answer that is one
 abbrev pub refusalOf : Field → Refusal
-refusalOf (field.Value v next) = Short
+refusalOf (field.Value v next) = noRefusal
 refusalOf (field.Refused r) = r
 
 abbrev pub typeRefusal : LevelTypeRead → Refusal
-typeRefusal (type.Got x next) = Short
+typeRefusal (type.Got x next) = noRefusal
 typeRefusal (type.Refused r) = r
 
 abbrev pub levelRefusal : LevelRead → Refusal
-levelRefusal (level.Got x next) = Short
+levelRefusal (level.Got x next) = noRefusal
 levelRefusal (level.Refused r) = r
 
 abbrev pub timeRefusal : TimeRead → Refusal
-timeRefusal (time.Got x next) = Short
+timeRefusal (time.Got x next) = noRefusal
 timeRefusal (time.Refused r) = r
 
 abbrev pub stepRefusal : Step → Refusal
-stepRefusal (step.Next next) = Short
+stepRefusal (step.Next next) = noRefusal
 stepRefusal (step.Refused r) = r
 
 -- ---- LevelType: a CHOICE of four units

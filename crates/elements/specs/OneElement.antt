@@ -8,7 +8,7 @@ use Rattle.bits.specs.Bits.{bitsN}
 use Rattle.fields.specs.Fields.{refusedAt, extensibleIndex}
 use Rattle.fields.specs.Encodings.{indexBits, wholeFits}
 use Rattle.fields.specs.declared.Refusal.{Refusal}
-use Rattle.fields.specs.declared.Refusal.the-variants as refusal
+use Rattle.fields.specs.declared.Fault.the-variants as fault
 use Rattle.fields.specs.declared.Field.{Field}
 use Rattle.elements.specs.declared.kinds.Direction.{Direction}
 use Rattle.elements.specs.declared.kinds.Direction.the-variants.{Downlink, Uplink}
@@ -95,7 +95,7 @@ codeArgument i l at = ontoStep (codeAt l at .step) (λ (next : ℕ). isElement (
 
 -- the argument of element i, by its kind; an element that is not carried is refused at its index
 unfoldable pub argumentAt : Kind → ℕ → ℕ → List ℕ → ℕ → ElementRead
-argumentAt kind.NotCarried i index l at = noElement (refusalOf (refusedAt index refusal.NotCarried))
+argumentAt kind.NotCarried i index l at = noElement (refusalOf (refusedAt index fault.NotCarried))
 argumentAt kind.None i index l at = isElement (bare i) at
 argumentAt kind.Level i index l at = levelArgument i l at
 argumentAt kind.TwoLevels i index l at = twoLevelsArgument i l at

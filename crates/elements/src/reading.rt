@@ -19,6 +19,7 @@ use crate::values::level_refusal;
 use crate::values::refusal;
 use crate::values::step_refusal;
 use crate::values::time_refusal;
+use fields::Fault;
 use fields::Field;
 use fields::Refusal;
 
@@ -130,7 +131,7 @@ fn read_argument(
     ensures { λ r. ⌜ r ≡ argumentAt kind number index (bitsTo (now (s .entry)) end) at ⌝ }
 {
     match kind {
-        Kind::NotCarried => no_element(refusal(fields::refused_at(index, Refusal::NotCarried))),
+        Kind::NotCarried => no_element(refusal(fields::refused_at(index, Fault::NotCarried))),
         Kind::None => {
             let mut element = Element::EMPTY;
             element.number = number;

@@ -132,7 +132,7 @@ pub fn refusal(f: Field) -> Refusal
     ensures { λ r. ⌜ r ≡ refusalOf f ⌝ }
 {
     match f {
-        Field::Value(_, _) => Refusal::Short,
+        Field::Value(_, _) => Refusal::NONE,
         Field::Refused(r) => r,
     }
 }
@@ -141,7 +141,7 @@ pub fn type_refusal(f: LevelTypeRead) -> Refusal
     ensures { λ r. ⌜ r ≡ typeRefusal f ⌝ }
 {
     match f {
-        LevelTypeRead::Got(_, _) => Refusal::Short,
+        LevelTypeRead::Got(_, _) => Refusal::NONE,
         LevelTypeRead::Refused(r) => r,
     }
 }
@@ -150,7 +150,7 @@ pub fn level_refusal(f: LevelRead) -> Refusal
     ensures { λ r. ⌜ r ≡ levelRefusal f ⌝ }
 {
     match f {
-        LevelRead::Got(_, _) => Refusal::Short,
+        LevelRead::Got(_, _) => Refusal::NONE,
         LevelRead::Refused(r) => r,
     }
 }
@@ -159,7 +159,7 @@ pub fn time_refusal(f: TimeRead) -> Refusal
     ensures { λ r. ⌜ r ≡ timeRefusal f ⌝ }
 {
     match f {
-        TimeRead::Got(_, _) => Refusal::Short,
+        TimeRead::Got(_, _) => Refusal::NONE,
         TimeRead::Refused(r) => r,
     }
 }
@@ -168,7 +168,7 @@ pub fn step_refusal(f: Step) -> Refusal
     ensures { λ r. ⌜ r ≡ stepRefusal f ⌝ }
 {
     match f {
-        Step::Next(_) => Refusal::Short,
+        Step::Next(_) => Refusal::NONE,
         Step::Refused(r) => r,
     }
 }

@@ -75,7 +75,7 @@ abbrev pub fieldSays : Field → Says ℕ → Bool
 fieldSays (Value v next) (value w n) = eqb v w && eqb next n
 fieldSays (Value v next) (refused r) = false
 fieldSays (Refused e) (value w n) = false
-fieldSays (Refused e) (refused r) = eqb (numberOf e) r
+fieldSays (Refused e) (refused r) = eqb (numberOf (e .fault)) r
 
 -- the bits of a value are the bytes that say it; a refusal has none
 abbrev pub written : {A : Type 0} → (A → List ℕ) → List ℕ → Says A → Bool

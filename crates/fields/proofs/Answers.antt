@@ -17,7 +17,7 @@ use Rattle.bits.proofs.Bytes.{length-to}
 use Rattle.bits.proofs.Inside.{Within}
 use Rattle.fields.specs.Fields.{refusedAt, then, bitField, extensionBit, widthOf, wholeNumber, lengthAt, lengthFrom, longLength, lengthWithin, runAt}
 use Rattle.fields.specs.declared.Refusal.{Refusal}
-use Rattle.fields.specs.declared.Refusal.the-variants.{Short, Range, Extension, LengthForm, Limit}
+use Rattle.fields.specs.declared.Fault.the-variants.{Short, Range, Extension, LengthForm, Limit}
 use Rattle.fields.specs.declared.Field.{Field}
 use Rattle.fields.specs.declared.Field.the-variants.{Value, Refused}
 
@@ -137,7 +137,7 @@ pub run-is : (l : List ℕ) (at count n v next : ℕ) → runAt l at count n ≡
 unfolding runAt
 run-is l at count n v next e = go (leb (at + count) (length l)) refl e
   where
-    go : (t : Bool) → leb (at + count) (length l) ≡ t → cond t (Value n (at + count)) (Refused Short) ≡ Value v next → RunIs l at count n v next
+    go : (t : Bool) → leb (at + count) (length l) ≡ t → cond t (Value n (at + count)) (refusedAt at Short) ≡ Value v next → RunIs l at count n v next
     go true p q = record { value = cc; place = cc; within = leb-true _ _ p }
     go false p q = let z : _≡_ {A = ℕ} 0 1 = cc in absurd (omega arith)
 
@@ -145,7 +145,7 @@ pub run-not : (l : List ℕ) (at count n : ℕ) (r : Refusal) → runAt l at cou
 unfolding runAt
 run-not l at count n r e = go (leb (at + count) (length l)) refl e
   where
-    go : (t : Bool) → leb (at + count) (length l) ≡ t → cond t (Value n (at + count)) (Refused Short) ≡ Refused r → leb (at + count) (length l) ≡ false
+    go : (t : Bool) → leb (at + count) (length l) ≡ t → cond t (Value n (at + count)) (refusedAt at Short) ≡ Refused r → leb (at + count) (length l) ≡ false
     go true p q = let z : _≡_ {A = ℕ} 0 1 = cc in absurd (omega arith)
     go false p q = p
 

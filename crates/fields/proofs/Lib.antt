@@ -3,3 +3,4 @@ pub mod Widths
 pub mod Writers
 pub mod RoundTrip
 pub mod Order
+pub mod Numbering

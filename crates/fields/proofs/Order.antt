@@ -13,7 +13,7 @@ use Rattle.bits.specs.Read.{readBits}
 use Rattle.bits.proofs.Reading.{is-short}
 use Rattle.fields.specs.Fields.{refusedAt, then, bitField, extensionBit, widthOf, wholeNumber, extensibleIndex, lengthAt, lengthWithin, stringAt, sizedAt}
 use Rattle.fields.specs.declared.Refusal.{Refusal}
-use Rattle.fields.specs.declared.Refusal.the-variants.{Short}
+use Rattle.fields.specs.declared.Fault.the-variants.{Short}
 use Rattle.fields.specs.declared.Field.the-variants.{Refused}
 use Rattle.fields.proofs.Widths.{width-most}
 

@@ -21,10 +21,10 @@ use Rattle.bits.proofs.Numbers.{Bits, length-bitsN, bits-bitsN, bitsN-split, bi
 use Rattle.bits.proofs.Bytes.{Holds, holds-split, holds-join, bits-append, bits-to, Bytes, length-part, length-to}
 use Rattle.bits.proofs.Putting.{PutIs, put-is, put-fits, put-if-yes, put-if-no, put-stands, put-same, length-put}
 use Rattle.bits.proofs.Reading.{number-is, number-lt, number-stands, number-read}
-use Rattle.fields.specs.Fields.{then, fieldOf, bitField, extensionBit, widthOf, wholeNumber, extensibleIndex, lengthAt, lengthFrom, longLength, lengthWithin, runAt, contentsAt, stringAt, sizedAt}
+use Rattle.fields.specs.Fields.{refusal, refusedAt, then, fieldOf, bitField, extensionBit, widthOf, wholeNumber, extensibleIndex, lengthAt, lengthFrom, longLength, lengthWithin, runAt, contentsAt, stringAt, sizedAt}
 use Rattle.fields.specs.Encodings.{bitsFit, extensionFits, wholeFits, wholeBits, indexBits, lengthFits, lengthBits, withinFits}
 use Rattle.fields.specs.declared.Refusal.{Refusal}
-use Rattle.fields.specs.declared.Refusal.the-variants.{Short, Range, Extension, LengthForm, Limit}
+use Rattle.fields.specs.declared.Fault.the-variants.{Short, Range, Extension, LengthForm, Limit}
 use Rattle.fields.specs.declared.Field.{Field}
 use Rattle.fields.specs.declared.Field.the-variants.{Value, Refused}
 use Rattle.fields.proofs.Answers.{run-is}
@@ -150,7 +150,7 @@ cleared : (l : List ℕ) (at v next : ℕ) → extensionBit l at ≡ Value v nex
 unfolding extensionBit
 cleared l at v next e =
     via ((v ≡ 0) × (bitField l at 1 ≡ Value 0 next)) (bitField l at 1) _ v next (λ (b m : ℕ) (p : bitField l at 1 ≡ Value b m).
-    if-value ((v ≡ 0) × (bitField l at 1 ≡ Value 0 next)) (eqb b 0) (Value 0 m) Extension v next (λ (t : eqb b 0 ≡ true) (q : Value 0 m ≡ Value v next).
+    if-value ((v ≡ 0) × (bitField l at 1 ≡ Value 0 next)) (eqb b 0) (Value 0 m) (refusal at Extension) v next (λ (t : eqb b 0 ≡ true) (q : Value 0 m ≡ Value v next).
     let z : b ≡ 0 = eqb-true b 0 t in
     (cc, p ∙ cc))) e
 
@@ -180,7 +180,7 @@ module _ (lo hi : ℕ) (small : hi < 2 ^ 64) where
   unfolding wholeNumber
   whole-back R l at v next c e =
       via R (bitField l at (widthOf (hi - lo))) _ v next (λ (d m : ℕ) (p : bitField l at (widthOf (hi - lo)) ≡ Value d m).
-      if-value R (leb (lo + d) hi) (Value (lo + d) m) Range v next (λ (t : leb (lo + d) hi ≡ true) (q : Value (lo + d) m ≡ Value v next).
+      if-value R (leb (lo + d) hi) (Value (lo + d) m) (refusal at Range) v next (λ (t : leb (lo + d) hi ≡ true) (q : Value (lo + d) m ≡ Value v next).
       let a : v ≡ lo + d = cc in
       let b : m ≡ next = cc in
       c d a (rw a (leb-true _ _ t)) (p ∙ ap (Value d) b))) e
@@ -264,19 +264,19 @@ length-back : (R : Type 0) (l : List ℕ) (at n next : ℕ) → (n < 128 → bit
 unfolding lengthAt
 length-back R l at n next short long e = via R (bitField l at 8) _ n next first e
   where
-    third : (b m v k : ℕ) → b < 192 → bitField l at 8 ≡ Value b m → bitField l at 16 ≡ Value v k → (t : Bool) → ltb v (32768 + 128) ≡ t → cond t (Refused LengthForm) (Value (v - 32768) k) ≡ Value n next → R
+    third : (b m v k : ℕ) → b < 192 → bitField l at 8 ≡ Value b m → bitField l at 16 ≡ Value v k → (t : Bool) → ltb v (32768 + 128) ≡ t → cond t (refusedAt at LengthForm) (Value (v - 32768) k) ≡ Value n next → R
     third b m v k hb p q true t e = never (cc)
     third b m v k hb p q false t e =
         let x : n ≡ v - 32768 = cc in
         let y : k ≡ next = cc in
         long b m v hb (ltb-false _ _ t) x p (q ∙ ap (Value v) y)
 
-    second : (b m : ℕ) → bitField l at 8 ≡ Value b m → (t : Bool) → leb 192 b ≡ t → cond t (Refused LengthForm) (then (bitField l at 16) (longLength at)) ≡ Value n next → R
+    second : (b m : ℕ) → bitField l at 8 ≡ Value b m → (t : Bool) → leb 192 b ≡ t → cond t (refusedAt at LengthForm) (then (bitField l at 16) (longLength at)) ≡ Value n next → R
     second b m p true t e = never (cc)
     second b m p false t e =
         via R (bitField l at 16) (longLength at) n next (λ (v k : ℕ) (q : bitField l at 16 ≡ Value v k). third b m v k (leb-false _ _ t) p q (ltb v (32768 + 128)) refl) e
 
-    sort : (b m : ℕ) → bitField l at 8 ≡ Value b m → (t : Bool) → ltb b 128 ≡ t → cond t (Value b m) (cond (leb 192 b) (Refused LengthForm) (then (bitField l at 16) (longLength at))) ≡ Value n next → R
+    sort : (b m : ℕ) → bitField l at 8 ≡ Value b m → (t : Bool) → ltb b 128 ≡ t → cond t (Value b m) (cond (leb 192 b) (refusedAt at LengthForm) (then (bitField l at 16) (longLength at))) ≡ Value n next → R
     sort b m p true t e =
         let x : b ≡ n = cc in
         let y : m ≡ next = cc in
@@ -351,7 +351,7 @@ module _ (least most : ℕ) where
   unfolding lengthWithin
   limited-back R l at n next c e =
       via R (lengthAt l at) _ n next (λ (v m : ℕ) (p : lengthAt l at ≡ Value v m).
-      if-value R (leb least v && leb v most) (Value v m) Limit n next (λ (t : leb least v && leb v most ≡ true) (q : Value v m ≡ Value n next).
+      if-value R (leb least v && leb v most) (Value v m) (refusal at Limit) n next (λ (t : leb least v && leb v most ≡ true) (q : Value v m ≡ Value n next).
       let x : v ≡ n = cc in
       c (subst (λ (k : ℕ). leb least k && leb k most ≡ true) x t) (p ∙ q))) e
 

@@ -9,16 +9,24 @@ use lib.Dec.{leb, ltb, eqb}
 use Rattle.bits.specs.Read.{readBits}
 use Rattle.bits.specs.declared.Read.{Read}
 use Rattle.bits.specs.declared.Read.the-variants as read
+use Rattle.fields.specs.declared.Fault.{Fault}
 use Rattle.fields.specs.declared.Refusal.{Refusal}
-use Rattle.fields.specs.declared.Refusal.the-variants.{Short, Range, Extension, LengthForm, Limit}
+use Rattle.fields.specs.declared.Fault.the-variants.{Short, Range, Extension, LengthForm, Limit}
 use Rattle.fields.specs.declared.Field.{Field}
 use Rattle.fields.specs.declared.Field.the-variants.{Value, Refused}
 
 -- ---- answers
 
--- The refusal of the field that begins at a place. Every refusal of a field is made here.
-abbrev pub refusedAt : ℕ → Refusal → Field
-refusedAt at r = Refused r
+-- The refusal of the field that begins at a place, counted from the first bit. Every refusal of a field is made here (document 02, E1).
+abbrev pub refusal : ℕ → Fault → Refusal
+refusal at f = record { fault = f; at = at }
+
+abbrev pub refusedAt : ℕ → Fault → Field
+refusedAt at f = Refused (refusal at f)
+
+-- what is said for the refusal of a value, which has none; nobody asks for it
+abbrev pub noRefusal : Refusal
+noRefusal = refusal 0 Short
 
 -- What follows a field goes on from its value and the place after it. A refusal is handed up unchanged, and nothing further is read.
 abbrev pub then : Field → (ℕ → ℕ → Field) → Field

@@ -5,8 +5,8 @@ ghost use Rattle.bits.specs.Bits.{bitsTo};
 ghost use Rattle.bits.specs.Put.{left, putIf};
 ghost use Rattle.fields.specs.Encodings.{lengthBits, lengthFits};
 ghost use Rattle.fields.specs.Fields.{lengthAt, lengthWithin};
+use crate::Fault;
 use crate::Field;
-use crate::Refusal;
 use crate::numbers::bit_field;
 use crate::numbers::refused_at;
 use bits::Put;
@@ -23,14 +23,14 @@ pub fn length(s: &[u8], end: usize, at: usize) -> Field
         return first;
     }
     if 192 <= b {
-        return refused_at(at, Refusal::LengthForm);
+        return refused_at(at, Fault::LengthForm);
     }
     let both = bit_field(s, end, at, 16);
     let Field::Value(v, last) = both else {
         return both;
     };
     if v < 32768 + 128 {
-        return refused_at(at, Refusal::LengthForm);
+        return refused_at(at, Fault::LengthForm);
     }
     Field::Value(v - 32768, last)
 }
@@ -44,10 +44,10 @@ pub fn length_within(s: &[u8], end: usize, at: usize, least: u64, most: u64) -> 
         return any;
     };
     if n < least {
-        return refused_at(at, Refusal::Limit);
+        return refused_at(at, Fault::Limit);
     }
     if most < n {
-        return refused_at(at, Refusal::Limit);
+        return refused_at(at, Fault::Limit);
     }
     any
 }

@@ -6,16 +6,17 @@ ghost use Rattle.bits.specs.Bits.{bitsN, bitsTo};
 ghost use Rattle.bits.specs.Put.{left, putIf};
 ghost use Rattle.fields.specs.Encodings.{indexBits, wholeBits, wholeFits};
 ghost use Rattle.fields.specs.Fields.{bitField, extensibleIndex, extensionBit, refusedAt, wholeNumber, widthOf};
+use crate::Fault;
 use crate::Field;
 use crate::Refusal;
 use bits::Put;
 use bits::Read;
 
 // The refusal of the field that begins at a place: every refusal of decoding is made here.
-pub fn refused_at(at: usize, r: Refusal) -> Field
-    ensures { λ f. ⌜ f ≡ refusedAt at r ⌝ }
+pub fn refused_at(at: usize, fault: Fault) -> Field
+    ensures { λ f. ⌜ f ≡ refusedAt at fault ⌝ }
 {
-    Field::Refused(r)
+    Field::Refused(Refusal { fault, at })
 }
 
 // A field of n bits.
@@ -23,7 +24,7 @@ pub fn bit_field(s: &[u8], end: usize, at: usize, n: usize) -> Field
     ensures { λ f. ⌜ f ≡ bitField (bitsTo (now (s .entry)) end) at n ⌝ }
 {
     let Read::Number(v, next) = bits::read_bits(s, end, at, n) else {
-        return refused_at(at, Refusal::Short);
+        return refused_at(at, Fault::Short);
     };
     Field::Value(v, next)
 }
@@ -39,7 +40,7 @@ pub fn extension_bit(s: &[u8], end: usize, at: usize) -> Field
     if b == 0 {
         return Field::Value(0, next);
     }
-    refused_at(at, Refusal::Extension)
+    refused_at(at, Fault::Extension)
 }
 
 // How many binary digits a number has.
@@ -65,10 +66,10 @@ pub fn whole(s: &[u8], end: usize, at: usize, lo: u64, hi: u64) -> Field
         return distance;
     };
     if hi < lo {
-        return refused_at(at, Refusal::Range);
+        return refused_at(at, Fault::Range);
     }
     if hi - lo < d {
-        return refused_at(at, Refusal::Range);
+        return refused_at(at, Fault::Range);
     }
     Field::Value(lo + d, next)
 }

@@ -9,8 +9,8 @@ ghost use Rattle.bits.specs.Bits.{bitsTo, run};
 ghost use Rattle.bits.specs.Put.{left, putIf};
 ghost use Rattle.fields.specs.Encodings.{lengthBits, lengthFits};
 ghost use Rattle.fields.specs.Fields.{contentsAt, runAt, sizedAt, stringAt};
+use crate::Fault;
 use crate::Field;
-use crate::Refusal;
 use crate::lengths::length_width;
 use crate::lengths::length_within;
 use crate::lengths::put_length;
@@ -26,7 +26,7 @@ pub fn contents(s: &[u8], end: usize, at: usize, unit: usize, n: usize) -> Field
         return within_end(s, end, at, 0, n);
     }
     if end / unit < n {
-        return refused_at(at, Refusal::Short);
+        return refused_at(at, Fault::Short);
     }
     within_end(s, end, at, unit * n, n)
 }
@@ -38,7 +38,7 @@ fn within_end(s: &[u8], end: usize, at: usize, count: usize, n: usize) -> Field
     if bits::within(s.len(), end, at, count) {
         return Field::Value(n as u64, at + count);
     }
-    refused_at(at, Refusal::Short)
+    refused_at(at, Fault::Short)
 }
 
 // A string with a length, of which from least to most items are carried.

@@ -14,7 +14,7 @@ use Rattle.bits.proofs.Numbers.{Bits}
 use Rattle.fields.specs.Fields.{then, refusedAt, wholeNumber}
 use Rattle.fields.specs.Encodings.{wholeBits, wholeFits}
 use Rattle.fields.specs.declared.Refusal.{Refusal}
-use Rattle.fields.specs.declared.Refusal.the-variants as refusal
+use Rattle.fields.specs.declared.Fault.the-variants as fault
 use Rattle.fields.specs.declared.Field.{Field}
 use Rattle.fields.specs.declared.Field.the-variants as field
 use Rattle.elements.specs.declared.values.Time.{Time}
@@ -109,13 +109,13 @@ unfolding acknowledgementBits acknowledgementAt
 ack-stands l at next v false bits h = let j : at ≡ next = cc in rw (← j) (stands-nothing l at true refl)
 ack-stands l at next v true bits h = go (wholeNumber l at 0 1) refl h
   where
-    required : (k m : ℕ) → wholeNumber l at 0 1 ≡ field.Value k m → (t : Bool) → eqb k 0 ≡ t → cond t (field.Value 0 m) (refusedAt at refusal.Default) ≡ field.Value v next → Stands l at true (wholeBits 0 1 0) next
+    required : (k m : ℕ) → wholeNumber l at 0 1 ≡ field.Value k m → (t : Bool) → eqb k 0 ≡ t → cond t (field.Value 0 m) (refusedAt at fault.Default) ≡ field.Value v next → Stands l at true (wholeBits 0 1 0) next
     required k m p true z q =
         let j : m ≡ next = cc in
         rw (← j) (stands-as l at m _ _ _ refl (rw (eqb-true k 0 z) at (whole-stands l at 0 1 k m bits p)))
     required k m p false z q = never (cc)
 
-    go : (f : Field) → wholeNumber l at 0 1 ≡ f → then f (λ (k m : ℕ). cond (eqb k 0) (field.Value 0 m) (refusedAt at refusal.Default)) ≡ field.Value v next → Stands l at true (wholeBits 0 1 0) next
+    go : (f : Field) → wholeNumber l at 0 1 ≡ f → then f (λ (k m : ℕ). cond (eqb k 0) (field.Value 0 m) (refusedAt at fault.Default)) ≡ field.Value v next → Stands l at true (wholeBits 0 1 0) next
     go (field.Value k m) p q = required k m p (eqb k 0) refl q
     go (field.Refused r) p q = never (cc)
 

@@ -10,7 +10,7 @@ use lib.ListN.{length}
 use borrow.Author.Tests.{eq-eqb, ne-eqb}
 use Rattle.fields.specs.Fields.{then, refusedAt, wholeNumber}
 use Rattle.fields.specs.declared.Refusal.{Refusal}
-use Rattle.fields.specs.declared.Refusal.the-variants as refusal
+use Rattle.fields.specs.declared.Fault.the-variants as fault
 use Rattle.fields.specs.declared.Field.{Field}
 use Rattle.fields.specs.declared.Field.the-variants as field
 use Rattle.fields.proofs.Answers as answers
@@ -87,7 +87,7 @@ module _ (l : List ℕ) (at : ℕ) (b : Bool) where
     unfolding acknowledgementAt
     ack-required v next q e = rw h (answers.went f _ _ v next _ p q (rw (eq-eqb v 0 e)))
 
-    pub ack-default : (v next : ℕ) (o : Field) → f ≡ field.Value v next → (v ≡ 0 → ⊥) → o ≡ refusedAt at refusal.Default → o ≡ acknowledgementAt l at b
+    pub ack-default : (v next : ℕ) (o : Field) → f ≡ field.Value v next → (v ≡ 0 → ⊥) → o ≡ refusedAt at fault.Default → o ≡ acknowledgementAt l at b
     unfolding acknowledgementAt
     ack-default v next o q e d = rw h (answers.went f _ _ v next _ p q (rw (ne-eqb v 0 e) d))
 
@@ -98,7 +98,7 @@ module _ (d : Direction) (l : List ℕ) (f : MessageRead) (p : f ≡ messageAt d
   unfolding exactly
   exactly-handed r x o q e z = rw (← p, q, z, e, q)
 
-  pub exactly-more : (n : ℕ) (t : Field) (x : Refusal) (o : MessageRead) → f .step ≡ step.Next n → leb (n + 1) (length l) ≡ true → t ≡ refusedAt n refusal.Tail → x ≡ refusalOf t → o ≡ noMessage x → o ≡ exactly d l
+  pub exactly-more : (n : ℕ) (t : Field) (x : Refusal) (o : MessageRead) → f .step ≡ step.Next n → leb (n + 1) (length l) ≡ true → t ≡ refusedAt n fault.Tail → x ≡ refusalOf t → o ≡ noMessage x → o ≡ exactly d l
   unfolding exactly
   exactly-more n t x o q e r y z = z ∙ ap noMessage (y ∙ ap refusalOf r) ∙ rw (← p, q, e)
 

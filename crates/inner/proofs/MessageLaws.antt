@@ -14,7 +14,7 @@ use Rattle.bits.proofs.Numbers.{Bits, length-bitsN}
 use Rattle.fields.specs.Fields.{refusedAt, wholeNumber, digitsIn}
 use Rattle.fields.specs.Encodings.{wholeBits, wholeFits}
 use Rattle.fields.specs.declared.Refusal.{Refusal}
-use Rattle.fields.specs.declared.Refusal.the-variants as refusal
+use Rattle.fields.specs.declared.Fault.the-variants as fault
 use Rattle.fields.specs.declared.Field.the-variants as field
 use Rattle.elements.specs.declared.kinds.Direction.{Direction}
 use Rattle.inner.specs.declared.values.Header.{Header}
@@ -209,7 +209,7 @@ module _ (d : Direction) (l : List ℕ) (at next : ℕ) (m : Message) (bits : Bi
       no-message
       h
 
-  body-found : (x : Header) (p c q : ℕ) → headerAt l at ≡ header.Got x p → wholeNumber l p 0 1 ≡ field.Value c q → (t : Bool) → eqb c 0 ≡ t → cond t (onto noMessage (wholeNumber l q 1 5) (λ (n r : ℕ). messageOf x n (laid (rowAt d l r n)))) (noMessage (refusalOf (refusedAt p refusal.NotCarried))) ≡ isMessage m next → Goal
+  body-found : (x : Header) (p c q : ℕ) → headerAt l at ≡ header.Got x p → wholeNumber l p 0 1 ≡ field.Value c q → (t : Bool) → eqb c 0 ≡ t → cond t (onto noMessage (wholeNumber l q 1 5) (λ (n r : ℕ). messageOf x n (laid (rowAt d l r n)))) (noMessage (refusalOf (refusedAt p fault.NotCarried))) ≡ isMessage m next → Goal
   body-found x p c q eh ec true z h = count-found x p q eh (stands-as l p q _ _ _ refl (rw (eqb-true c 0 z) at (whole-stands l p 0 1 c q bits ec))) h
   body-found x p c q eh ec false z h = no-message _ h
 
@@ -226,6 +226,6 @@ module _ (d : Direction) (l : List ℕ) (at next : ℕ) (m : Message) (bits : Bi
       h
 
 -- document 01, refusal 16: constrained data marked present, before the count of elements is looked at
-pub constrained : (d : Direction) (l : List ℕ) (x : Header) (at next : ℕ) → wholeNumber l at 0 1 ≡ field.Value 1 next → bodyAt d l x at ≡ noMessage (refusalOf (refusedAt at refusal.NotCarried))
+pub constrained : (d : Direction) (l : List ℕ) (x : Header) (at next : ℕ) → wholeNumber l at 0 1 ≡ field.Value 1 next → bodyAt d l x at ≡ noMessage (refusalOf (refusedAt at fault.NotCarried))
 unfolding bodyAt
 constrained d l x at next e = rw e

@@ -17,7 +17,8 @@ use Rattle.bits.specs.Put.{putBits}
 use Rattle.bits.proofs.Numbers.{Bits, length-bitsN}
 use Rattle.bits.proofs.Bytes.{bits-to, length-to}
 use Rattle.bits.proofs.Putting.{read-back, length-put}
-use Rattle.fields.specs.declared.Refusal.the-variants as refusal
+use Rattle.fields.specs.Fields.{refusal}
+use Rattle.fields.specs.declared.Fault.the-variants as fault
 use Rattle.fields.specs.Encodings.{wholeFits}
 use Rattle.elements.specs.declared.kinds.Direction.{Direction}
 use Rattle.elements.specs.declared.kinds.Kind.the-variants as kind
@@ -72,7 +73,7 @@ exactly-is : (d : Direction) (l : List ℕ) (next : ℕ) → exactly d l .step �
 unfolding exactly
 exactly-is d l next h = go (messageAt d l 0 .step) refl h
   where
-    ended : (k : ℕ) → messageAt d l 0 .step ≡ step.Next k → (b : Bool) → leb (k + 1) (length l) ≡ b → cond b (noMessage refusal.Tail) (isMessage (messageAt d l 0 .message) k) .step ≡ step.Next next → ReadIs d l (cond b (noMessage refusal.Tail) (isMessage (messageAt d l 0 .message) k) .message) next
+    ended : (k : ℕ) → messageAt d l 0 .step ≡ step.Next k → (b : Bool) → leb (k + 1) (length l) ≡ b → cond b (noMessage (refusal k fault.Tail)) (isMessage (messageAt d l 0 .message) k) .step ≡ step.Next next → ReadIs d l (cond b (noMessage (refusal k fault.Tail)) (isMessage (messageAt d l 0 .message) k) .message) next
     ended k p true q e = never (cc)
     ended k p false q e =
         let j : k ≡ next = cc in

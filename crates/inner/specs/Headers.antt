@@ -3,10 +3,10 @@ use Prim.Native.Nat.{ℕ, _+_, _*_, _%_}
 use mathlib.Core.List.{List, [], _++_}
 use mathlib.Core.Bool.{Bool, true, false, cond, _&&_}
 use lib.Dec.{eqb, leb}
-use Rattle.fields.specs.Fields.{then, refusedAt, wholeNumber}
+use Rattle.fields.specs.Fields.{noRefusal, then, refusedAt, wholeNumber}
 use Rattle.fields.specs.Encodings.{wholeBits, wholeFits}
 use Rattle.fields.specs.declared.Refusal.{Refusal}
-use Rattle.fields.specs.declared.Refusal.the-variants as refusal
+use Rattle.fields.specs.declared.Fault.the-variants as fault
 use Rattle.fields.specs.declared.Field.{Field}
 use Rattle.fields.specs.declared.Field.the-variants as field
 use Rattle.elements.specs.declared.values.Time.{Time}
@@ -22,11 +22,11 @@ use Rattle.elements.specs.Arguments.{onto, flag, timeFits, timeBits, timeAt}
 
 -- the refusal in an answer that is one
 abbrev pub dateRefusal : DateTimeRead → Refusal
-dateRefusal (date.Got x next) = refusal.Short
+dateRefusal (date.Got x next) = noRefusal
 dateRefusal (date.Refused r) = r
 
 abbrev pub headerRefusal : HeaderRead → Refusal
-headerRefusal (header.Got x next) = refusal.Short
+headerRefusal (header.Got x next) = noRefusal
 headerRefusal (header.Refused r) = r
 
 -- ---- DateTimeGroup: Year (1996..2095), Month (1..12), Day (1..31), Time, TimeSeconds (0..59). Whether the month has that day is not asked.
@@ -77,7 +77,7 @@ acknowledgementBits present = cond present (wholeBits 0 1 0) []
 unfoldable pub acknowledgementAt : List ℕ → ℕ → Bool → Field
 acknowledgementAt l at present =
     cond present
-    (then (wholeNumber l at 0 1) (λ (v next : ℕ). cond (eqb v 0) (field.Value 0 next) (refusedAt at refusal.Default)))
+    (then (wholeNumber l at 0 1) (λ (v next : ℕ). cond (eqb v 0) (field.Value 0 next) (refusedAt at fault.Default)))
     (field.Value 0 at)
 
 unfoldable pub headerFits : Header → Bool

@@ -10,7 +10,7 @@ use Rattle.bits.specs.Put.{putBits}
 use Rattle.fields.specs.Fields.{refusedAt, wholeNumber}
 use Rattle.fields.specs.Encodings.{wholeBits, wholeFits}
 use Rattle.fields.specs.declared.Refusal.{Refusal}
-use Rattle.fields.specs.declared.Refusal.the-variants as refusal
+use Rattle.fields.specs.declared.Fault.the-variants as fault
 use Rattle.elements.specs.declared.kinds.Direction.{Direction}
 use Rattle.inner.specs.declared.values.Header.{Header}
 use Rattle.inner.specs.declared.values.HeaderRead.{HeaderRead}
@@ -64,7 +64,7 @@ bodyAt d l h at =
     onto noMessage (wholeNumber l at 0 1)
     (λ (c p : ℕ). cond (eqb c 0)
     (onto noMessage (wholeNumber l p 1 5) (λ (n q : ℕ). messageOf h n (laid (rowAt d l q n))))
-    (noMessage (refusalOf (refusedAt at refusal.NotCarried))))
+    (noMessage (refusalOf (refusedAt at fault.NotCarried))))
 
 -- the message at a place; what follows it is not looked at
 unfoldable pub messageAt : Direction → List ℕ → ℕ → MessageRead
@@ -73,7 +73,7 @@ messageAt d l at = ontoHeader (headerAt l at) (bodyAt d l)
 -- a message and nothing after it: any bit that is left over is refused, at the first of them
 abbrev pub endedAt : List ℕ → Message → Step → MessageRead
 endedAt l m (step.Next next) =
-    cond (leb (next + 1) (length l)) (noMessage (refusalOf (refusedAt next refusal.Tail))) (record { step = step.Next next; message = m })
+    cond (leb (next + 1) (length l)) (noMessage (refusalOf (refusedAt next fault.Tail))) (record { step = step.Next next; message = m })
 endedAt l m (step.Refused r) = noMessage r
 
 unfoldable pub exactly : Direction → List ℕ → MessageRead

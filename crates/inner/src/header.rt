@@ -11,8 +11,8 @@ use elements::arguments::read_time;
 use elements::values::TimeRead;
 use elements::values::refusal;
 use elements::values::time_refusal;
+use fields::Fault;
 use fields::Field;
-use fields::Refusal;
 
 // The time that follows a date.
 fn read_time_of_day(s: &[u8], end: usize, year: u16, month: u8, day: u8, at: usize) -> DateTimeRead
@@ -77,7 +77,7 @@ fn read_acknowledgement(s: &[u8], end: usize, at: usize, present: bool) -> Field
         if v == 0 {
             return Field::Value(0, next);
         }
-        return fields::refused_at(at, Refusal::Default);
+        return fields::refused_at(at, Fault::Default);
     }
     Field::Value(0, at)
 }

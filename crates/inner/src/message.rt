@@ -13,6 +13,7 @@ use elements::kinds::Direction;
 use elements::values::Step;
 use elements::values::refusal;
 use elements::values::step_refusal;
+use fields::Fault;
 use fields::Field;
 use fields::Refusal;
 
@@ -53,7 +54,7 @@ fn read_body(direction: Direction, s: &[u8], end: usize, header: Header, at: usi
             },
         };
     }
-    no_message(refusal(fields::refused_at(at, Refusal::NotCarried)))
+    no_message(refusal(fields::refused_at(at, Fault::NotCarried)))
 }
 
 // The message at a place; what follows it is not looked at.
@@ -77,7 +78,7 @@ pub fn read_exactly(direction: Direction, s: &[u8], end: usize) -> MessageRead
         return no_message(step_refusal(step));
     };
     if bits::within(s.len(), end, next, 1) {
-        return no_message(refusal(fields::refused_at(next, Refusal::Tail)));
+        return no_message(refusal(fields::refused_at(next, Fault::Tail)));
     }
     all
 }

@@ -133,7 +133,7 @@ pub fn date_refusal(f: DateTimeRead) -> Refusal
     ensures { λ r. ⌜ r ≡ dateRefusal f ⌝ }
 {
     match f {
-        DateTimeRead::Got(_, _) => Refusal::Short,
+        DateTimeRead::Got(_, _) => Refusal::NONE,
         DateTimeRead::Refused(r) => r,
     }
 }
@@ -142,7 +142,7 @@ pub fn header_refusal(f: HeaderRead) -> Refusal
     ensures { λ r. ⌜ r ≡ headerRefusal f ⌝ }
 {
     match f {
-        HeaderRead::Got(_, _) => Refusal::Short,
+        HeaderRead::Got(_, _) => Refusal::NONE,
         HeaderRead::Refused(r) => r,
     }
 }

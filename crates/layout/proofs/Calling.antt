@@ -13,9 +13,10 @@ use Rattle.bits.specs.Bits.{bitsTo}
 use Rattle.bits.specs.Put.{putBits}
 use Rattle.bits.proofs.Numbers.{Bits}
 use Rattle.bits.proofs.Bytes.{bits-to, length-to}
-use Rattle.fields.specs.Refusals.{numberOf}
+use Rattle.fields.specs.Refusals.{packed}
 use Rattle.fields.specs.declared.Refusal.{Refusal}
-use Rattle.fields.specs.declared.Refusal.the-variants as refusal
+use Rattle.fields.specs.Fields.{refusal}
+use Rattle.fields.specs.declared.Fault.the-variants as fault
 use Rattle.elements.specs.declared.kinds.Direction.{Direction}
 use Rattle.elements.specs.declared.values.Step.{Step}
 use Rattle.elements.specs.declared.values.Step.the-variants as step
@@ -46,8 +47,8 @@ never z = absurd (omega arith)
 ended : (l : List ℕ) (x m : Message) (next : ℕ) (s : Step) → endedAt l x s ≡ isMessage m next → record { step = s; message = x } ≡ isMessage m next
 ended l x m next (step.Next p) e = tail (leb (p + 1) (length l)) e
   where
-    tail : (t : Bool) → cond t (noMessage refusal.Tail) (isMessage x p) ≡ isMessage m next → isMessage x p ≡ isMessage m next
-    tail true q = let g : step.Refused refusal.Tail ≡ step.Next next = ap (λ (z : MessageRead). z .step) q in never (cc)
+    tail : (t : Bool) → cond t (noMessage (refusal p fault.Tail)) (isMessage x p) ≡ isMessage m next → isMessage x p ≡ isMessage m next
+    tail true q = let g : step.Refused (refusal p fault.Tail) ≡ step.Next next = ap (λ (z : MessageRead). z .step) q in never (cc)
     tail false q = q
 ended l x m next (step.Refused r) e = let g : step.Refused r ≡ step.Next next = ap (λ (z : MessageRead). z .step) e in never (cc)
 
@@ -130,7 +131,7 @@ module _ (d : ℕ) (s : List ℕ) (n : ℕ) (m t : List ℕ) where
       unfolding toldAs
       read-shape f = read-as opened.Shape f
 
-      pub read-refused : (f : Refusal) (c : ℕ) → r .answer ≡ opened.Refused f → c ≡ numberOf f → told c m u ≡ readCall d s n m t
+      pub read-refused : (f : Refusal) (c : ℕ) → r .answer ≡ opened.Refused f → c ≡ packed f → told c m u ≡ readCall d s n m t
       unfolding toldAs
       read-refused f c g k = rw k (read-as (opened.Refused f) g)
 

@@ -1,7 +1,7 @@
 -- What the two calls on bytes are to each other: a message that was read is written as the same bits, and one that was written is read back into the
 -- same bytes; a refused call leaves every byte.
 -- Assumes nothing.
-use mathlib.Core.Path.{_≡_, refl, ap, _∙_}
+use mathlib.Core.Path.{_≡_, refl, sym, ap, _∙_}
 use mathlib.Core.Bool.{Bool, true, false, cond}
 use mathlib.Core.List.{List, _++_}
 use Prim.Native.Nat.{ℕ, _*_, _≤_, _<_}
@@ -12,9 +12,7 @@ use lib.ListN.{length, take, drop}
 use Rattle.bits.specs.Bits.{bitsTo}
 use Rattle.bits.specs.Put.{putBits}
 use Rattle.bits.proofs.Bytes.{Bytes}
-use Rattle.fields.specs.Refusals.{numberOf}
-use Rattle.fields.specs.declared.Refusal.{Refusal}
-use Rattle.fields.specs.declared.Refusal.the-variants as refusal
+use Rattle.fields.proofs.Numbering.{packed-refuses}
 use Rattle.elements.specs.declared.kinds.Direction.{Direction}
 use Rattle.inner.specs.Messages.{padded, openMessage, writeMessage}
 use Rattle.inner.specs.declared.values.Message.{Message}
@@ -31,19 +29,6 @@ use Rattle.layout.specs.declared.calls.Way.the-variants as way
 use Rattle.layout.specs.declared.stored.Laid.{Laid}
 use Rattle.layout.proofs.RoundTrip.{loaded-bytes, loaded}
 use Rattle.layout.proofs.Calling.{opened-storable}
-
--- ---- a count is no refusal
-
-refusal-low : (r : Refusal) → (0 < numberOf r) × (numberOf r < 256)
-unfolding numberOf
-refusal-low refusal.Short = (omega arith, omega arith)
-refusal-low refusal.Range = (omega arith, omega arith)
-refusal-low refusal.Extension = (omega arith, omega arith)
-refusal-low refusal.LengthForm = (omega arith, omega arith)
-refusal-low refusal.Limit = (omega arith, omega arith)
-refusal-low refusal.Tail = (omega arith, omega arith)
-refusal-low refusal.NotCarried = (omega arith, omega arith)
-refusal-low refusal.Default = (omega arith, omega arith)
 
 -- ---- what a count says of a call that read
 
@@ -63,7 +48,7 @@ module _ (d : ℕ) (s : List ℕ) (n : ℕ) (m t : List ℕ) (c : ℕ) where
       record { direction = x; named = p; answer = rw (← j) f; message = ap (λ (o : Told). o .message) e; text = ap (λ (o : Told). o .text) e }
   took-as x p opened.Room f e h = let g = ap (λ (o : Told). o .number) e in absurd (omega arith)
   took-as x p opened.Shape f e h = let g = ap (λ (o : Told). o .number) e in absurd (omega arith)
-  took-as x p (opened.Refused r) f e h = let g = ap (λ (o : Told). o .number) e in let l = refusal-low r in absurd (omega arith)
+  took-as x p (opened.Refused r) f e h = let g = ap (λ (o : Told). o .number) e in packed-refuses r c (sym g ∙ h)
 
   took-by : (w : Way) → wayOf d ≡ w → readCall d s n m t ≡ readBy s n m t w → readCall d s n m t .number ≡ 256 * c → Took d s n m t c
   unfolding readBy toldOf

@@ -1,13 +1,13 @@
 -- The calls on bytes that the card exports: reading and writing an inner message. The direction is a number, 1 downlink and 2 uplink. The answer is the
--- number of a refusal and nothing else, or a count: of characters, 256 times, or of bits, 2^24 times. Each has places of its own in the answer, so that one
--- taken for the other is 0. A refusal leaves every lent byte.
+-- number of a refusal, with its place above it where the bits are at fault, or a count: of characters, 256 times, or of bits, 2^24 times. Each count has
+-- places of its own in the answer, so that one taken for the other is 0. A refusal leaves every lent byte.
 use Prim.Native.Nat.{ℕ, _*_}
 use mathlib.Core.Bool.{cond}
 use mathlib.Core.List.{List}
 use lib.Dec.{ltb, eqb}
 use lib.ListN.{length}
 use Rattle.words.specs.Limits.{room, shape}
-use Rattle.fields.specs.Refusals.{numberOf}
+use Rattle.fields.specs.Refusals.{packed}
 use Rattle.elements.specs.declared.kinds.Direction.the-variants.{Downlink, Uplink}
 use Rattle.inner.specs.Messages.{roomLeast, Opening, openMessage, Done, writeMessage}
 use Rattle.inner.specs.declared.values.Message.{Message}
@@ -44,7 +44,7 @@ unfoldable pub toldAs : List ℕ → Message → List ℕ → Opened → Told
 toldAs m x t (opened.Characters n) = told (counted n) (messageBytes x) t
 toldAs m x t opened.Room = told room m t
 toldAs m x t opened.Shape = told shape m t
-toldAs m x t (opened.Refused r) = told (numberOf r) m t
+toldAs m x t (opened.Refused r) = told (packed r) m t
 
 unfoldable pub toldOf : List ℕ → Opening → Told
 toldOf m o = toldAs m (o .answer .message) (o .text) (o .answer .answer)

@@ -67,7 +67,7 @@ pub fn read_call(
         }
         Opened::Room => Limit::ROOM,
         Opened::Shape => Limit::SHAPE,
-        Opened::Refused(r) => fields::number(r),
+        Opened::Refused(r) => fields::packed(r),
     }
 }
 

@@ -17,7 +17,11 @@ fn field_line(f: Field) {
         }
         Field::Refused(r) => {
             io::write_all(1, b"refused ");
-            io::print_decimal(1, fields::number(r));
+            let fault = r.fault;
+            let at = r.at;
+            io::print_decimal(1, fields::number(fault));
+            io::write_all(1, b" at ");
+            io::print_decimal(1, at as u64);
         }
     }
 }

@@ -66,7 +66,7 @@ refused-at-requires-2 c κs = tt
 -- src/decoder.rt:33:1
 returns-4 : tie.Need-returns-4
 unfolding tailAt
-returns-4 c = rw (← c .before .before .before .before .before .before .before .padding .ensures) (went _ _ _ _ _ _ (c .before .before .before .before .before .before .bit-field .ensures) (c .before .before .before .before .zeros .given .1) (rw (ne-eqb _ _ (c .before .before .if1 .left)) (c .refused-at2 .ensures)))
+returns-4 c = rw (← c .before .before .before .before .before .before .before .padding .ensures) (went _ _ _ _ _ _ (c .before .before .before .before .before .before .bit-field .ensures) (c .before .before .before .before .zeros .given .1) (rw (ne-eqb _ _ (c .before .before .if1 .left), ← c .before .width .ensures) (c .refused-at2 .ensures)))
 
 pub tail-spec : {M : Type 1} → statement M
 tail-spec =

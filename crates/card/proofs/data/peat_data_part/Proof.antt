@@ -17,8 +17,8 @@ read-data-requires c κs = search needs
 enum-known-parts : tie.Need-enum-known-parts
 enum-known-parts c = search needs
 
-number-requires : tie.Need-number-requires
-number-requires c κs = search needs
+packed-requires : tie.Need-packed-requires
+packed-requires c κs = search needs
 
 enum-known-parts-2 : tie.Need-enum-known-parts-2
 enum-known-parts-2 c = search needs
@@ -33,7 +33,7 @@ put-out-requires : tie.Need-put-out-requires
 put-out-requires c κs = part-small _ _ _ _ _ _ _ (c .before .before .before .before .before .before .read-data .ensures) (c .before .before .before .before .parts2 .given .1) (c .before .unit-of .ensures) (c .chosen .ensures)
 
 returns-3 : tie.Need-returns-3
-returns-3 c = not-data _ _ _ _ _ _ (c .before .before .before .before .before .before .if1 .left) (c .before .before .before .before .before .if2 .left) (c .before .before .before .before .read-data .ensures) (c .before .before .parts .given .1) (c .number .ensures)
+returns-3 c = not-data _ _ _ _ _ _ (c .before .before .before .before .before .before .if1 .left) (c .before .before .before .before .before .if2 .left) (c .before .before .before .before .read-data .ensures) (c .before .before .parts .given .1) (c .packed .ensures)
 
 same-length : tie.Need-same-length
 same-length c = search needs
@@ -49,7 +49,7 @@ peat-data-part-spec =
     returns-2
     read-data-requires
     enum-known-parts
-    number-requires
+    packed-requires
     enum-known-parts-2
     unit-of-requires
     chosen-requires

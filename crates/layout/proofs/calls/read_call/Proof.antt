@@ -45,8 +45,8 @@ enum-told-3 c = search needs
 enum-known-answer-2 : tie.Need-enum-known-answer-2
 enum-known-answer-2 c = search needs
 
-number-requires : tie.Need-number-requires
-number-requires c κs = tt
+packed-requires : tie.Need-packed-requires
+packed-requires c κs = tt
 
 same-length : tie.Need-same-length
 same-length c = search needs
@@ -73,7 +73,7 @@ same-length-5 : tie.Need-same-length-5
 same-length-5 c = search needs
 
 returns-7 : tie.Need-returns-7
-returns-7 c = read-refused _ _ _ _ _ (c .before .before .before .before .before .before .before .before .before .before .before .before .before .if1 .left) (c .before .before .before .before .before .before .before .before .before .before .before .before .if2 .left) _ (c .before .before .before .before .before .before .before .before .before .before .before .way-of .ensures) _ (c .before .before .before .before .before .before .before .before .before .way .given .1) _ _ (c .before .before .before .before .before .before .open-message .ensures) _ _ (c .before .before .answer2 .given .1) (c .number .ensures)
+returns-7 c = read-refused _ _ _ _ _ (c .before .before .before .before .before .before .before .before .before .before .before .before .before .if1 .left) (c .before .before .before .before .before .before .before .before .before .before .before .before .if2 .left) _ (c .before .before .before .before .before .before .before .before .before .before .before .way-of .ensures) _ (c .before .before .before .before .before .before .before .before .before .way .given .1) _ _ (c .before .before .before .before .before .before .open-message .ensures) _ _ (c .before .before .answer2 .given .1) (c .packed .ensures)
 
 pub read-call-spec : {M : Type 1} → statement M
 read-call-spec =
@@ -92,7 +92,7 @@ read-call-spec =
     enum-told-2
     enum-told-3
     enum-known-answer-2
-    number-requires
+    packed-requires
     same-length
     same-length-2
     returns-4

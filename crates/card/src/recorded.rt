@@ -1,0 +1,56 @@
+// An APDU by itself, as it was recorded: what it is, or where it is at fault. No machine is asked.
+ghost use mathlib.Core.Path.{_≡_};
+ghost use Prim.Native.Nat.{_<_};
+ghost use Rattle.card.specs.Recorded.{apduAnswer, apduCall, apduNumber, apduSaid};
+use apdu::Answer;
+use apdu::Apdu;
+use apdu::Side;
+use apdu::read_apdu;
+use words::Limit;
+
+const AIRCRAFT: u64 = 1;
+
+const GROUND: u64 = 2;
+
+fn apdu_said(tag: u64, number: u64, given: u64) -> u64
+    requires { ⌜ (tag < 256) × (given < 256) ⌝ }
+    ensures { λ n. ⌜ n ≡ apduSaid tag number given ⌝ }
+{
+    256 * (tag + 256 * (number % 256 + 256 * given))
+}
+
+fn apdu_number(a: Apdu) -> u64
+    ensures { λ n. ⌜ n ≡ apduNumber a ⌝ }
+{
+    match a {
+        Apdu::AbortUser(r) => apdu_said(0, r, 0),
+        Apdu::AbortProvider(r) => apdu_said(1, r, 0),
+        Apdu::Start(m, _) => apdu_said(2, m, 1),
+        Apdu::Send(_) => apdu_said(3, 0, 1),
+        Apdu::Forward => apdu_said(4, 0, 0),
+        Apdu::ForwardResponse => apdu_said(5, 0, 0),
+    }
+}
+
+fn apdu_answer(a: Answer) -> u64
+    ensures { λ n. ⌜ n ≡ apduAnswer a ⌝ }
+{
+    match a {
+        Answer::Is(x) => apdu_number(x),
+        Answer::Refused(r) => fields::packed(r),
+    }
+}
+
+// The APDU that the lent bytes are, read as the type that a number names: its alternative, its reason or mode, and whether there is message data.
+#[no_mangle]
+pub extern "C" fn peat_read_apdu(which: u64, bytes: &[u8]) -> u64
+    ensures { λ n. ⌜ n ≡ apduCall which (now (bytes .entry)) ⌝ }
+{
+    if which == AIRCRAFT {
+        return apdu_answer(read_apdu(bytes, Side::Air));
+    }
+    if which == GROUND {
+        return apdu_answer(read_apdu(bytes, Side::Ground));
+    }
+    Limit::SHAPE
+}

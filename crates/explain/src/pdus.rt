@@ -1,0 +1,172 @@
+// The fields of an APDU, and what its reader answers.
+use crate::rows::accepted;
+use crate::rows::refused;
+use crate::rows::row;
+use apdu::Answer;
+use apdu::Apdu;
+use apdu::Data;
+use apdu::Side;
+use fields::Field;
+
+// The end of lent bytes: all of them.
+const ALL: usize = 18446744073709551615;
+
+// An index behind its extension bit.
+fn walk_index(s: &[u8], at: usize, name: &[u8], last: u64) -> Field {
+    let extension = row(b"extension bit", at, fields::extension_bit(s, ALL, at));
+    let Field::Value(_, p) = extension else {
+        return extension;
+    };
+    row(name, p, fields::whole(s, ALL, p, 0, last))
+}
+
+// A length, and the items that it counts.
+fn walk_string(
+    s: &[u8],
+    at: usize,
+    name: &[u8],
+    counted: &[u8],
+    unit: usize,
+    least: usize,
+    most: usize,
+) -> Field {
+    let length = row(
+        name,
+        at,
+        fields::length_within(s, ALL, at, least as u64, most as u64),
+    );
+    let Field::Value(n, p) = length else {
+        return length;
+    };
+    row(counted, p, fields::contents(s, ALL, p, unit, n as usize))
+}
+
+// The check, which is always there.
+fn walk_check(s: &[u8], at: usize) {
+    walk_string(
+        s,
+        at,
+        b"length of the check",
+        b"check",
+        Data::BIT,
+        0,
+        Data::CHECK_MOST,
+    );
+}
+
+// What follows the identifier.
+fn walk_message(s: &[u8], there: bool, at: usize) {
+    if there {
+        let message = walk_string(
+            s,
+            at,
+            b"length of the message",
+            b"message",
+            Data::BIT,
+            0,
+            Data::MESSAGE_MOST,
+        );
+        let Field::Value(_, p) = message else {
+            return;
+        };
+        walk_check(s, p);
+        return;
+    }
+    walk_check(s, at);
+}
+
+// Message data: the extension bit, the presence bits, and the parts that are there.
+fn walk_data(s: &[u8], at: usize) {
+    let extension = row(b"extension bit", at, fields::extension_bit(s, ALL, at));
+    let Field::Value(_, p) = extension else {
+        return;
+    };
+    let presence = row(b"presence bits", p, fields::bit_field(s, ALL, p, 2));
+    let Field::Value(v, q) = presence else {
+        return;
+    };
+    let messaged = v % 2 == 1;
+    if v < 2 {
+        walk_message(s, messaged, q);
+        return;
+    }
+    let identifier = walk_string(
+        s,
+        q,
+        b"length of the identifier",
+        b"identifier",
+        Data::OCTET,
+        Data::IDENTIFIER_LEAST,
+        Data::IDENTIFIER_MOST,
+    );
+    let Field::Value(_, r) = identifier else {
+        return;
+    };
+    walk_message(s, messaged, r);
+}
+
+// A startdown has a mode, or leaves it out.
+fn walk_start_down(s: &[u8], at: usize) {
+    let presence = row(
+        b"presence of the mode",
+        at,
+        fields::bit_field(s, ALL, at, 1),
+    );
+    let Field::Value(v, p) = presence else {
+        return;
+    };
+    if v == 0 {
+        walk_data(s, p);
+        return;
+    }
+    let mode = row(b"mode", p, fields::whole(s, ALL, p, 0, Apdu::MODE_LAST));
+    let Field::Value(m, q) = mode else {
+        return;
+    };
+    if 0 < m {
+        walk_data(s, q);
+    }
+}
+
+fn walk_start(s: &[u8], side: Side, at: usize) {
+    match side {
+        Side::Air => walk_start_down(s, at),
+        Side::Ground => walk_data(s, at),
+    }
+}
+
+fn last_of(side: Side) -> u64 {
+    match side {
+        Side::Air => 3,
+        Side::Ground => 5,
+    }
+}
+
+// Of a forward APDU the alternative alone is looked at.
+fn walk(s: &[u8], side: Side) {
+    let index = walk_index(s, 0, b"alternative", last_of(side));
+    let Field::Value(i, p) = index else {
+        return;
+    };
+    if i == 0 {
+        walk_index(s, p, b"reason of the user", Apdu::USER_LAST);
+    }
+    if i == 1 {
+        walk_index(s, p, b"reason of the provider", Apdu::PROVIDER_LAST);
+    }
+    if i == 2 {
+        walk_start(s, side, p);
+    }
+    if i == 3 {
+        walk_data(s, p);
+    }
+}
+
+pub(crate) fn explain_apdu(s: &[u8], side: Side) {
+    walk(s, side);
+    let answer = apdu::read_apdu(s, side);
+    match answer {
+        Answer::Is(_) => accepted(),
+        Answer::Refused(r) => refused(r, s),
+    }
+}

@@ -1,0 +1,4 @@
+pub mod Readers
+pub mod Apdus
+pub mod Elements
+pub mod Messages

@@ -1,0 +1,546 @@
+-- The claims over any reader, and of the readers of fields.
+-- Assumes nothing.
+use mathlib.Core.Path.{_≡_, refl, ap, sym, subst, fun-ext, _∙_}
+use mathlib.Core.Bool.{Bool, true, false, cond, _&&_}
+use mathlib.Core.List.{List, [], _∷_}
+use Prim.Native.Nat.{ℕ, zero, suc, _+_, _-_, _*_, _≤_, _<_}
+use native.Mathlib.Omega.{arith}
+use native.Mathlib.Decide.{decLt}
+use borrow.Author.Tests.{le-leb, lt-leb, leb-true, leb-false}
+use lib.Dec.{leb, ltb, eqb}
+use lib.ListN.{length, take, drop}
+use lib.Seq.{take-take, take-nil, length-take-le}
+use Rattle.bits.specs.Bits.{numOf, bitsN}
+use Rattle.bits.proofs.Numbers.{num-bitsN}
+use Rattle.bits.specs.Read.{readBits}
+use Rattle.bits.specs.declared.Read.{Read}
+use Rattle.bits.specs.declared.Read.the-variants as read
+use Rattle.bits.proofs.Reading.{number-is}
+use Rattle.fields.specs.Fields.{refusal, refusedAt, then, fieldOf, bitField, extensionBit, widthOf, wholeNumber, extensibleIndex, lengthAt, lengthFrom, longLength, lengthWithin, runAt, contentsAt, stringAt, sizedAt}
+use Rattle.fields.specs.declared.Fault.{Fault}
+use Rattle.fields.specs.declared.Fault.the-variants.{Short, Range, Extension, LengthForm, Limit, Tail}
+use Rattle.fields.specs.declared.Refusal.{Refusal}
+use Rattle.fields.specs.declared.Field.{Field}
+use Rattle.fields.specs.declared.Field.the-variants.{Value, Refused}
+use Rattle.places.specs.Claims.{Seen, went, refused, Alike, Went, Settled, Placed, Refusing, Sound, seenField}
+
+-- ---- over any reader
+
+pub never : {A : Type 0} → _≡_ {A = ℕ} 0 1 → A
+never z = absurd (omega arith)
+
+pub clash : {A : Type 0} (n : ℕ) (r : Refusal) → went n ≡ refused r → A
+clash n r e = never (cc)
+
+pub one-place : (n m : ℕ) → went n ≡ went m → n ≡ m
+one-place n m e = cc
+
+pub one-refusal : (r s : Refusal) → refused r ≡ refused s → r ≡ s
+one-refusal r s e = cc
+
+alike-less : (k n : ℕ) (l m : List ℕ) → k ≤ n → Alike n l m → Alike k l m
+alike-less k n l m h a =
+    let g = a .long in
+    record { long = omega arith; front = sym (take-take k n m h) ∙ ap (take k) (a .front) ∙ take-take k n l h }
+
+pub alike-cut : (n p : ℕ) (l : List ℕ) → n ≤ p → p ≤ length l → Alike n l (take p l)
+alike-cut n p l h w =
+    let k : length (take p l) ≡ p = length-take-le p l w in
+    record { long = omega arith; front = take-take n p l h }
+
+-- an answer that is known
+pub went-sound : {A : Type 0} (seen : A → Seen) (rd : List ℕ → A) (l : List ℕ) (at n : ℕ) → seen (rd l) ≡ went n → Went rd l at n → Sound seen rd l at
+went-sound seen rd l at n told w =
+    record {
+      next = λ (k : ℕ) (h : seen (rd l) ≡ went k). subst (λ (z : ℕ). Went rd l at z) (one-place n k (sym told ∙ h)) w;
+      place = λ (r : Refusal) (h : seen (rd l) ≡ refused r). clash n r (sym told ∙ h);
+    }
+
+pub placed-sound : {A : Type 0} (seen : A → Seen) (rd : List ℕ → A) (l : List ℕ) (at : ℕ) (r : Refusal) → seen (rd l) ≡ refused r → Placed seen rd l at r → Sound seen rd l at
+placed-sound seen rd l at r told p =
+    record {
+      next = λ (k : ℕ) (h : seen (rd l) ≡ went k). clash k r (sym h ∙ told);
+      place = λ (q : Refusal) (h : seen (rd l) ≡ refused q). subst (λ (z : Refusal). Placed seen rd l at z) (one-refusal r q (sym told ∙ h)) p;
+    }
+
+-- a reader that answers otherwise in the bits before it has moved
+pub moved : {A : Type 0} (rd : List ℕ → A) (l : List ℕ) (at n : ℕ) → Went rd l at n → (rd (take at l) ≡ rd l → ⊥) → at < n
+moved rd l at n w c =
+    let a = w .after in
+    let b = w .within in
+    elim (decLt at n) [
+      | yes g ↦ g
+      | no g ↦ absurd (c (w .same (take at l) (alike-cut n at l (omega arith) (omega arith))))
+    ]
+
+-- a value that is not looked for in the bits
+pub sound-value : {A : Type 0} (seen : A → Seen) (x : A) (l : List ℕ) (n : ℕ) → n ≤ length l → seen x ≡ went n → Sound seen (λ (m : List ℕ). x) l n
+sound-value seen x l n w e = went-sound seen (λ (m : List ℕ). x) l n n e (record { after = omega arith; within = w; same = λ (m : List ℕ) (a : Alike n l m). refl })
+
+-- one reader after another: a refusal of the first is handed up unchanged, and the second goes on where the first ended
+module _ {X A : Type 0} (seenX : X → Seen) (seenA : A → Seen) (up : Refusal → A) (f : List ℕ → X) (k : X → List ℕ → A) (l : List ℕ) (at : ℕ)
+    (said : (r : Refusal) → seenA (up r) ≡ refused r) (hands : (x : X) (r : Refusal) (m : List ℕ) → seenX x ≡ refused r → k x m ≡ up r) (s : Sound seenX f l at) where
+  both : List ℕ → A
+  both m = k (f m) m
+
+  -- the first was read: bits that begin alike lead to the second
+  module _ (n : ℕ) (e : seenX (f l) ≡ went n) where
+    first : Went f l at n
+    first = s .next n e
+
+    second : (m : List ℕ) (j : ℕ) → n ≤ j → Alike j l m → both m ≡ k (f l) m
+    unfolding both
+    second m j h q = ap (λ (x : X). k x m) (first .same m (alike-less n j l m h q))
+
+    both-went : (j : ℕ) → Went (k (f l)) l n j → Went both l at j
+    unfolding both
+    both-went j v =
+        let a = first .after in
+        let b = v .after in
+        record { after = omega arith; within = v .within; same = λ (m : List ℕ) (q : Alike j l m). second m j b q ∙ v .same m q }
+
+    both-settled : (p : ℕ) → n ≤ p → Settled (k (f l)) l p → Settled both l p
+    unfolding both
+    both-settled p h z =
+        let c = z .behind in
+        record { end = z .end; behind = c; within = z .within; same = λ (m : List ℕ) (q : Alike (z .end) l m). second m (z .end) (omega arith) q ∙ z .same m q }
+
+    both-placed : (r : Refusal) → Placed seenA (k (f l)) l n r → Placed seenA both l at r
+    both-placed r v =
+        let a = first .after in
+        let b = v .after in
+        record {
+          after = omega arith;
+          within = v .within;
+          begins = λ (t : r .fault ≡ Tail → ⊥). ap seenA (second (take (r .at) l) (r .at) b (alike-cut (r .at) (r .at) l (omega arith) (v .within))) ∙ v .begins t;
+          settled = λ (t : r .fault ≡ Short → ⊥) (u : r .fault ≡ Tail → ⊥). both-settled (r .at) b (v .settled t u);
+        }
+
+  -- the first was refused
+  module _ (r : Refusal) (e : seenX (f l) ≡ refused r) where
+    stopped : Placed seenX f l at r
+    stopped = s .place r e
+
+    stopped-as : seenA (both l) ≡ refused r
+    unfolding both
+    stopped-as = ap seenA (hands (f l) r l e) ∙ said r
+
+    stopped-settled : Settled f l (r .at) → Settled both l (r .at)
+    unfolding both
+    stopped-settled z =
+        record {
+          end = z .end;
+          behind = z .behind;
+          within = z .within;
+          same = λ (m : List ℕ) (q : Alike (z .end) l m). ap (λ (x : X). k x m) (z .same m q) ∙ hands (f l) r m e ∙ sym (hands (f l) r l e);
+        }
+
+    stopped-cut : (r .fault ≡ Tail → ⊥) → seenA (both (take (r .at) l)) ≡ refused (refusal (r .at) Short)
+    unfolding both
+    stopped-cut t = ap seenA (hands (f (take (r .at) l)) (refusal (r .at) Short) (take (r .at) l) (stopped .begins t)) ∙ said (refusal (r .at) Short)
+
+    stopped-placed : Placed seenA both l at r
+    stopped-placed =
+        record { after = stopped .after; within = stopped .within; begins = stopped-cut; settled = λ (t : r .fault ≡ Short → ⊥) (u : r .fault ≡ Tail → ⊥). stopped-settled (stopped .settled t u) }
+
+  pub refusing-bind : ((n : ℕ) → seenX (f l) ≡ went n → at ≤ n → n ≤ length l → Refusing seenA (k (f l)) l n) → Refusing seenA (λ (m : List ℕ). k (f m) m) l at
+  unfolding both
+  refusing-bind on q h = by (seenX (f l)) refl
+    where
+      by : (t : Seen) → seenX (f l) ≡ t → Placed seenA both l at q
+      by (went n) e = both-placed n e q (on n e (first n e .after) (first n e .within) q h)
+      by (refused r) e = subst (λ (z : Refusal). Placed seenA both l at z) (one-refusal r q (sym (stopped-as r e) ∙ h)) (stopped-placed r e)
+
+  pub sound-bind : ((n : ℕ) → seenX (f l) ≡ went n → at ≤ n → n ≤ length l → Sound seenA (k (f l)) l n) → Sound seenA (λ (m : List ℕ). k (f m) m) l at
+  unfolding both
+  sound-bind on = record { next = nexts; place = refusing-bind (λ (n : ℕ) (e : seenX (f l) ≡ went n) (a : at ≤ n) (b : n ≤ length l). on n e a b .place) }
+    where
+      nexts : (j : ℕ) → seenA (both l) ≡ went j → Went both l at j
+      nexts j h = by (seenX (f l)) refl
+        where
+          by : (t : Seen) → seenX (f l) ≡ t → Went both l at j
+          by (went n) e = both-went n e j (on n e (first n e .after) (first n e .within) .next j h)
+          by (refused r) e = clash j r (sym h ∙ stopped-as r e)
+
+-- a choice that what was read before has made
+pub sound-cond : {A : Type 0} (seen : A → Seen) (t : Bool) (f g : List ℕ → A) (l : List ℕ) (at : ℕ) → (t ≡ true → Sound seen f l at) → (t ≡ false → Sound seen g l at) → Sound seen (λ (m : List ℕ). cond t (f m) (g m)) l at
+sound-cond seen true f g l at a b = a refl
+sound-cond seen false f g l at a b = b refl
+
+-- ---- fields
+
+-- the same after a field, by whichever name the answer's type has for going on
+module _ {A : Type 0} (seen : A → Seen) (up : Refusal → A) (then′ : Field → (ℕ → ℕ → A) → A) (said : (r : Refusal) → seen (up r) ≡ refused r)
+    (goes : (v n : ℕ) (k : ℕ → ℕ → A) → then′ (Value v n) k ≡ k v n) (stops : (r : Refusal) (k : ℕ → ℕ → A) → then′ (Refused r) k ≡ up r) where
+  hand : (k : ℕ → ℕ → List ℕ → A) (x : Field) (r : Refusal) (m : List ℕ) → seenField x ≡ refused r → then′ x (λ (v n : ℕ). k v n m) ≡ up r
+  hand k (Value v n) r m e = clash n r e
+  hand k (Refused q) r m e = stops q _ ∙ ap up (one-refusal q r e)
+
+  pub after-field : (f : List ℕ → Field) (k : ℕ → ℕ → List ℕ → A) (l : List ℕ) (at : ℕ) → Sound seenField f l at → ((v n : ℕ) → f l ≡ Value v n → at ≤ n → n ≤ length l → Sound seen (k v n) l n)
+      → Sound seen (λ (m : List ℕ). then′ (f m) (λ (v n : ℕ). k v n m)) l at
+  after-field f k l at s on = sound-bind seenField seen up f (λ (x : Field) (m : List ℕ). then′ x (λ (v n : ℕ). k v n m)) l at said (hand k) s (go (f l) refl)
+    where
+      go : (x : Field) → f l ≡ x → (n : ℕ) → seenField x ≡ went n → at ≤ n → n ≤ length l → Sound seen (λ (m : List ℕ). then′ x (λ (v j : ℕ). k v j m)) l n
+      go (Value v j) e n q a b =
+          let i : j ≡ n = one-place j n q in
+          subst (λ (z : ℕ). Sound seen (λ (m : List ℕ). then′ (Value v j) (λ (w i : ℕ). k w i m)) l z) i (held v j (on v j e (omega arith) (omega arith)))
+        where
+          held : (v j : ℕ) → Sound seen (k v j) l j → Sound seen (λ (m : List ℕ). then′ (Value v j) (λ (w i : ℕ). k w i m)) l j
+          held v j s = subst (λ (rd : List ℕ → A). Sound seen rd l j) (fun-ext (λ (m : List ℕ). sym (goes v j (λ (w i : ℕ). k w i m)))) s
+      go (Refused r) e n q a b = clash n r (sym q)
+
+-- and where the answer is a field again
+pub then-sound : (f : List ℕ → Field) (k : ℕ → ℕ → List ℕ → Field) (l : List ℕ) (at : ℕ) → Sound seenField f l at → ((v n : ℕ) → f l ≡ Value v n → at ≤ n → n ≤ length l → Sound seenField (k v n) l n)
+    → Sound seenField (λ (m : List ℕ). then (f m) (λ (v n : ℕ). k v n m)) l at
+then-sound f k l at s on =
+    after-field seenField Refused then (λ (r : Refusal). refl) (λ (v n : ℕ) (c : ℕ → ℕ → Field). refl) (λ (r : Refusal) (c : ℕ → ℕ → Field). refl) f k l at s on
+
+-- ---- the primitive readers
+
+-- a part that ends before e is the same among the first e
+part-to : (l : List ℕ) (e at n : ℕ) → at + n ≤ e → take n (drop at (take e l)) ≡ take n (drop at l)
+part-to l e zero n h = take-take n e l (omega arith)
+part-to [] e (suc at) n h = rw (take-nil e)
+part-to (x ∷ l) zero (suc at) n h = absurd (omega arith)
+part-to (x ∷ l) (suc e) (suc at) n h = part-to l e at n (omega arith)
+
+-- the same bits say the same number
+bits-alike : (l m : List ℕ) (at w n : ℕ) → at + w ≤ n → n ≤ length l → Alike n l m → bitField m at w ≡ bitField l at w
+unfolding bitField readBits
+bits-alike l m at w n h g a =
+    let p : take w (drop at m) ≡ take w (drop at l) = sym (part-to m n at w h) ∙ ap (λ (z : List ℕ). take w (drop at z)) (a .front) ∙ part-to l n at w h in
+    let k = a .long in
+    rw (le-leb (at + w) (length m) (omega arith), le-leb (at + w) (length l) (omega arith), p)
+
+-- a field of some bits is not there in the bits before it
+bits-cut : (l : List ℕ) (at w : ℕ) → at ≤ length l → 0 < w → bitField (take at l) at w ≡ refusedAt at Short
+unfolding bitField readBits
+bits-cut l at w h pos =
+    let k : length (take at l) ≡ at = length-take-le at l h in
+    let e : leb (at + w) (length (take at l)) ≡ false = lt-leb (at + w) (length (take at l)) (omega arith) in
+    go (leb w 64) _ e
+  where
+    go : (t c : Bool) → c ≡ false → fieldOf at (cond (t && c) (read.Number (numOf (take w (drop at (take at l)))) (at + w)) read.Short) ≡ refusedAt at Short
+    go true true q = never (cc)
+    go true false q = refl
+    go false c q = refl
+
+short-cut : (l : List ℕ) (at w : ℕ) → at ≤ length l → readBits l at w ≡ read.Short → bitField (take at l) at w ≡ refusedAt at Short
+unfolding bitField readBits
+short-cut l at w h e = go (leb w 64) (leb (at + w) (length l)) refl e (leb (at + w) (length (take at l))) refl
+  where
+    k : length (take at l) ≡ at
+    k = length-take-le at l h
+
+    go : (a b : Bool) → leb (at + w) (length l) ≡ b → cond (a && b) (read.Number (numOf (take w (drop at l))) (at + w)) read.Short ≡ read.Short → (c : Bool) → leb (at + w) (length (take at l)) ≡ c
+        → fieldOf at (cond (a && c) (read.Number (numOf (take w (drop at (take at l)))) (at + w)) read.Short) ≡ refusedAt at Short
+    go false b p q c u = refl
+    go true true p q c u = never (cc)
+    go true false p q false u = refl
+    go true false p q true u =
+        let x : at + w ≤ length (take at l) = leb-true _ _ u in
+        let y : length l < at + w = leb-false _ _ p in
+        let z : length (take at l) ≡ at = k in
+        absurd (omega arith)
+
+-- what a field of w bits says
+record BitsAre (l : List ℕ) (at w v n : ℕ) : Type 0 where
+  place : n ≡ at + w
+  within : n ≤ length l
+  value : v ≡ numOf (take w (drop at l))
+
+bits-are : (l : List ℕ) (at w v n : ℕ) → bitField l at w ≡ Value v n → BitsAre l at w v n
+unfolding bitField
+bits-are l at w v n e = go (readBits l at w) refl e
+  where
+    go : (x : Read) → readBits l at w ≡ x → fieldOf at x ≡ Value v n → BitsAre l at w v n
+    go (read.Number u k) p q =
+        let i = number-is l at w u k p in
+        let a : u ≡ v = cc in
+        let b : k ≡ n = cc in
+        let c = i .place in
+        let d = i .within in
+        record { place = omega arith; within = omega arith; value = sym a ∙ i .value }
+    go read.Short p q = never (cc)
+
+-- a field of bits is refused with SHORT only, at its own place
+short-only : (l : List ℕ) (at w : ℕ) (r : Refusal) → bitField l at w ≡ Refused r → r ≡ refusal at Short
+unfolding bitField
+short-only l at w r e = go (readBits l at w) e
+  where
+    go : (x : Read) → fieldOf at x ≡ Refused r → r ≡ refusal at Short
+    go (read.Number v n) q = never (cc)
+    go read.Short q = cc
+
+pub bit-sound : (l : List ℕ) (at w : ℕ) → at ≤ length l → Sound seenField (λ (m : List ℕ). bitField m at w) l at
+unfolding bitField
+bit-sound l at w h = go (bitField l at w) refl
+  where
+    missing : (r : Refusal) → bitField l at w ≡ Refused r → Placed seenField (λ (m : List ℕ). bitField m at w) l at r
+    missing r e = by (readBits l at w) refl e
+      where
+        by : (x : Read) → readBits l at w ≡ x → fieldOf at x ≡ Refused r → Placed seenField (λ (m : List ℕ). bitField m at w) l at r
+        by (read.Number v n) p q = never (cc)
+        by read.Short p q =
+            let i : refusal at Short ≡ r = cc in
+            subst (λ (z : Refusal). Placed seenField (λ (m : List ℕ). bitField m at w) l at z) i
+            (record {
+              after = omega arith;
+              within = h;
+              begins = λ (t : Short ≡ Tail → ⊥). ap seenField (short-cut l at w h p);
+              settled = λ (t : Short ≡ Short → ⊥) (u : Short ≡ Tail → ⊥). absurd (t refl);
+            })
+
+    go : (x : Field) → bitField l at w ≡ x → Sound seenField (λ (m : List ℕ). bitField m at w) l at
+    go (Value v n) e =
+        let i = bits-are l at w v n e in
+        let p = i .place in
+        went-sound seenField (λ (m : List ℕ). bitField m at w) l at n (ap seenField e)
+        (record { after = omega arith; within = i .within; same = λ (m : List ℕ) (a : Alike n l m). bits-alike l m at w n (omega arith) (i .within) a })
+    go (Refused r) e = placed-sound seenField (λ (m : List ℕ). bitField m at w) l at r (ap seenField e) (missing r e)
+
+-- A field that is read and then judged: its fault is at its own place. In the bits before it, it is missing.
+module _ (f : List ℕ → Field) (g : ℕ → ℕ → Field) (ok : ℕ → Bool) (val : ℕ → ℕ) (why : Fault) (l : List ℕ) (at : ℕ) (h : at ≤ length l) (s : Sound seenField f l at)
+    (right : (v n : ℕ) → ok v ≡ true → g v n ≡ Value (val v) n) (wrong : (v n : ℕ) → ok v ≡ false → g v n ≡ refusedAt at why)
+    (cut : (v n : ℕ) → f l ≡ Value v n → ok v ≡ false → f (take at l) ≡ refusedAt at Short) where
+  judging : List ℕ → Field
+  judging m = then (f m) g
+
+  module _ (v n : ℕ) (e : f l ≡ Value v n) where
+    was-read : Went f l at n
+    was-read = s .next n (ap seenField e)
+
+    judged-as : (o : Field) → g v n ≡ o → judging l ≡ o
+    unfolding judging
+    judged-as o p = ap (λ (x : Field). then x g) e ∙ p
+
+    judged-same : (m : List ℕ) → Alike n l m → judging m ≡ judging l
+    unfolding judging
+    judged-same m a = ap (λ (x : Field). then x g) (was-read .same m a)
+
+    judged-cut : ok v ≡ false → judging (take at l) ≡ refusedAt at Short
+    unfolding judging
+    judged-cut p = ap (λ (x : Field). then x g) (cut v n e p)
+
+    apart : refusedAt at Short ≡ Value v n → ⊥
+    apart q = never (cc)
+
+    by : (t : Bool) → ok v ≡ t → Sound seenField judging l at
+    by true p = went-sound seenField judging l at n (ap seenField (judged-as (Value (val v) n) (right v n p))) (record { after = was-read .after; within = was-read .within; same = judged-same })
+    by false p =
+        placed-sound seenField judging l at (refusal at why) (ap seenField (judged-as (refusedAt at why) (wrong v n p)))
+        (record {
+          after = omega arith;
+          within = h;
+          begins = λ (t : why ≡ Tail → ⊥). ap seenField (judged-cut p);
+          settled = λ (t : why ≡ Short → ⊥) (u : why ≡ Tail → ⊥). record {
+            end = n;
+            behind = moved f l at n was-read (λ (c : f (take at l) ≡ f l). apart (sym (cut v n e p) ∙ c ∙ e));
+            within = was-read .within;
+            same = judged-same;
+          };
+        })
+
+  judge : (x : Field) → f l ≡ x → Sound seenField judging l at
+  unfolding judging
+  judge (Value v n) e = by v n e (ok v) refl
+  judge (Refused r) e = then-sound f (λ (v n : ℕ) (m : List ℕ). g v n) l at s (λ (v n : ℕ) (p : f l ≡ Value v n) (a : at ≤ n) (b : n ≤ length l). never (cc))
+
+  pub judged : Sound seenField (λ (m : List ℕ). then (f m) g) l at
+  unfolding judging
+  judged = judge (f l) refl
+
+pub extension-sound : (l : List ℕ) (at : ℕ) → at ≤ length l → Sound seenField (λ (m : List ℕ). extensionBit m at) l at
+unfolding extensionBit
+extension-sound l at h =
+    judged (λ (m : List ℕ). bitField m at 1) (λ (b n : ℕ). cond (eqb b 0) (Value 0 n) (refusedAt at Extension)) (λ (b : ℕ). eqb b 0) (λ (b : ℕ). 0) Extension l at h (bit-sound l at 1 h)
+    (λ (v n : ℕ) (p : eqb v 0 ≡ true). ap (λ (t : Bool). cond t (Value 0 n) (refusedAt at Extension)) p)
+    (λ (v n : ℕ) (p : eqb v 0 ≡ false). ap (λ (t : Bool). cond t (Value 0 n) (refusedAt at Extension)) p)
+    (λ (v n : ℕ) (e : bitField l at 1 ≡ Value v n) (p : eqb v 0 ≡ false). bits-cut l at 1 h (omega arith))
+
+-- an extension bit is one bit
+pub extension-place : (l : List ℕ) (at b n : ℕ) → extensionBit l at ≡ Value b n → n ≡ at + 1
+unfolding extensionBit
+extension-place l at b n e = go (bitField l at 1) refl e
+  where
+    go : (x : Field) → bitField l at 1 ≡ x → then x (λ (v k : ℕ). cond (eqb v 0) (Value 0 k) (refusedAt at Extension)) ≡ Value b n → n ≡ at + 1
+    go (Refused r) p q = never (cc)
+    go (Value v k) p q = by (eqb v 0) q
+      where
+        by : (t : Bool) → cond t (Value 0 k) (refusedAt at Extension) ≡ Value b n → n ≡ at + 1
+        by true u = let z : k ≡ n = cc in sym z ∙ bits-are l at 1 v k p .place
+        by false u = never (cc)
+
+-- no bits say 0
+no-bits : numOf [] ≡ 0
+unfolding bitsN
+no-bits = num-bitsN 0 0
+
+-- a whole number of a range that has one at least
+pub whole-sound : (l : List ℕ) (at lo hi : ℕ) → lo ≤ hi → at ≤ length l → Sound seenField (λ (m : List ℕ). wholeNumber m at lo hi) l at
+unfolding wholeNumber
+whole-sound l at lo hi ranged h =
+    judged (λ (m : List ℕ). bitField m at (widthOf (hi - lo))) (λ (d n : ℕ). cond (leb (lo + d) hi) (Value (lo + d) n) (refusedAt at Range)) (λ (d : ℕ). leb (lo + d) hi) (λ (d : ℕ). lo + d) Range l at h
+    (bit-sound l at (widthOf (hi - lo)) h)
+    (λ (v n : ℕ) (p : leb (lo + v) hi ≡ true). ap (λ (t : Bool). cond t (Value (lo + v) n) (refusedAt at Range)) p)
+    (λ (v n : ℕ) (p : leb (lo + v) hi ≡ false). ap (λ (t : Bool). cond t (Value (lo + v) n) (refusedAt at Range)) p)
+    (λ (v n : ℕ) (e : bitField l at (widthOf (hi - lo)) ≡ Value v n) (p : leb (lo + v) hi ≡ false). bits-cut l at (widthOf (hi - lo)) h (some (widthOf (hi - lo)) v n e p))
+  where
+    some : (w v n : ℕ) → bitField l at w ≡ Value v n → leb (lo + v) hi ≡ false → 0 < w
+    some zero v n e p =
+        let z : v ≡ 0 = bits-are l at zero v n e .value ∙ no-bits in
+        let y : hi < lo + v = leb-false (lo + v) hi p in
+        absurd (omega arith)
+    some (suc w) v n e p = omega arith
+
+pub index-sound : (l : List ℕ) (at last : ℕ) → at ≤ length l → Sound seenField (λ (m : List ℕ). extensibleIndex m at last) l at
+unfolding extensibleIndex
+index-sound l at last h =
+    then-sound (λ (m : List ℕ). extensionBit m at) (λ (b n : ℕ) (m : List ℕ). wholeNumber m n 0 last) l at (extension-sound l at h)
+    (λ (b n : ℕ) (e : extensionBit l at ≡ Value b n) (a : at ≤ n) (w : n ≤ length l). whole-sound l n 0 last (omega arith) w)
+
+-- a length: 8 bits, or 16 from the same place on
+module _ (l : List ℕ) (at : ℕ) (h : at ≤ length l) where
+  reads : List ℕ → Field
+  reads m = lengthAt m at
+
+  -- in the bits before it, it is missing
+  length-cut : reads (take at l) ≡ refusedAt at Short
+  unfolding reads lengthAt
+  length-cut = ap (λ (x : Field). then x (lengthFrom (take at l) at)) (bits-cut l at 8 h (omega arith))
+
+  -- it is decided by the bits up to n
+  decided : (n : ℕ) → at + 8 ≤ n → n ≤ length l → ((m : List ℕ) → Alike n l m → then (bitField l at 8) (lengthFrom m at) ≡ then (bitField l at 8) (lengthFrom l at)) → (m : List ℕ) → Alike n l m → reads m ≡ reads l
+  unfolding reads lengthAt
+  decided n a w s m q = ap (λ (x : Field). then x (lengthFrom m at)) (bits-alike l m at 8 n a w q) ∙ s m q
+
+  refuses : (why : Fault) (n : ℕ) → reads l ≡ refusedAt at why → at + 8 ≤ n → n ≤ length l → ((m : List ℕ) → Alike n l m → reads m ≡ reads l) → Sound seenField reads l at
+  refuses why n e a w s =
+      placed-sound seenField reads l at (refusal at why) (ap seenField e)
+      (record {
+        after = omega arith;
+        within = h;
+        begins = λ (t : why ≡ Tail → ⊥). ap seenField length-cut;
+        settled = λ (t : why ≡ Short → ⊥) (u : why ≡ Tail → ⊥). record { end = n; behind = omega arith; within = w; same = s };
+      })
+
+  answers : (v n : ℕ) → reads l ≡ Value v n → at + 8 ≤ n → n ≤ length l → ((m : List ℕ) → Alike n l m → reads m ≡ reads l) → Sound seenField reads l at
+  answers v n e a w s = went-sound seenField reads l at n (ap seenField e) (record { after = omega arith; within = w; same = s })
+
+  missing : reads l ≡ refusedAt at Short → Sound seenField reads l at
+  missing e =
+      placed-sound seenField reads l at (refusal at Short) (ap seenField e)
+      (record { after = omega arith; within = h; begins = λ (t : Short ≡ Tail → ⊥). ap seenField length-cut; settled = λ (t : Short ≡ Short → ⊥) (u : Short ≡ Tail → ⊥). absurd (t refl) })
+
+  module _ (b n : ℕ) (e : bitField l at 8 ≡ Value b n) where
+    eight : BitsAre l at 8 b n
+    eight = bits-are l at 8 b n e
+
+    -- the first eight bits, then what they lead to
+    leads : (m : List ℕ) → then (bitField l at 8) (lengthFrom m at) ≡ lengthFrom m at b n
+    leads m = ap (λ (x : Field). then x (lengthFrom m at)) e
+
+    told : (o : Field) → lengthFrom l at b n ≡ o → reads l ≡ o
+    unfolding reads lengthAt
+    told o p = leads l ∙ p
+
+    module _ (p : ltb b 128 ≡ false) (q : leb 192 b ≡ false) where
+      from : (m : List ℕ) → lengthFrom m at b n ≡ then (bitField m at 16) (longLength at)
+      from m = rw (p, q)
+
+      module _ (v k : ℕ) (f : bitField l at 16 ≡ Value v k) where
+        sixteen : BitsAre l at 16 v k
+        sixteen = bits-are l at 16 v k f
+
+        both-same : (m : List ℕ) → Alike k l m → reads m ≡ reads l
+        both-same m a =
+            let c = sixteen .place in
+            decided k (omega arith) (sixteen .within)
+            (λ (y : List ℕ) (u : Alike k l y). leads y ∙ from y ∙ ap (λ (x : Field). then x (longLength at)) (bits-alike l y at 16 k (omega arith) (sixteen .within) u) ∙ sym (from l) ∙ sym (leads l)) m a
+
+        said : (o : Field) → longLength at v k ≡ o → reads l ≡ o
+        said o r = told o (from l ∙ ap (λ (x : Field). then x (longLength at)) f ∙ r)
+
+        long : (t : Bool) → ltb v (32768 + 128) ≡ t → Sound seenField reads l at
+        long true r = let c = sixteen .place in refuses LengthForm k (said (refusedAt at LengthForm) (rw r)) (omega arith) (sixteen .within) both-same
+        long false r = let c = sixteen .place in answers (v - 32768) k (said (Value (v - 32768) k) (rw r)) (omega arith) (sixteen .within) both-same
+
+      sixteen-read : (x : Field) → bitField l at 16 ≡ x → Sound seenField reads l at
+      sixteen-read (Value v k) f = long v k f (ltb v (32768 + 128)) refl
+      sixteen-read (Refused r) f = missing (told (refusedAt at Short) (from l ∙ ap (λ (x : Field). then x (longLength at)) (f ∙ ap Refused (short-only l at 16 r f))))
+
+    first-same : (o : Field) → ((m : List ℕ) → lengthFrom m at b n ≡ o) → (m : List ℕ) → Alike n l m → reads m ≡ reads l
+    first-same o c m a =
+        let z = eight .place in
+        decided n (omega arith) (eight .within) (λ (y : List ℕ) (u : Alike n l y). leads y ∙ c y ∙ sym (leads l ∙ c l)) m a
+
+    large : ltb b 128 ≡ false → (t : Bool) → leb 192 b ≡ t → Sound seenField reads l at
+    large p true q =
+        let z = eight .place in
+        refuses LengthForm n (told (refusedAt at LengthForm) (rw (p, q))) (omega arith) (eight .within) (first-same (refusedAt at LengthForm) (λ (m : List ℕ). rw (p, q)))
+    large p false q = sixteen-read p q (bitField l at 16) refl
+
+    small : (t : Bool) → ltb b 128 ≡ t → Sound seenField reads l at
+    small true p =
+        let z = eight .place in
+        answers b n (told (Value b n) (rw p)) (omega arith) (eight .within) (first-same (Value b n) (λ (m : List ℕ). rw p))
+    small false p = large p (leb 192 b) refl
+
+  eight-read : (x : Field) → bitField l at 8 ≡ x → Sound seenField reads l at
+  unfolding reads lengthAt
+  eight-read (Value b n) e = small b n e (ltb b 128) refl
+  eight-read (Refused r) e = missing (none e)
+    where
+      none : bitField l at 8 ≡ Refused r → reads l ≡ refusedAt at Short
+      none e = ap (λ (x : Field). then x (lengthFrom l at)) (e ∙ ap Refused (short-only l at 8 r e))
+
+  pub length-sound : Sound seenField (λ (m : List ℕ). lengthAt m at) l at
+  unfolding reads
+  length-sound = eight-read (bitField l at 8) refl
+
+-- a length that is judged by its limits
+pub within-sound : (l : List ℕ) (at least most : ℕ) → at ≤ length l → Sound seenField (λ (m : List ℕ). lengthWithin m at least most) l at
+unfolding lengthWithin reads
+within-sound l at least most h =
+    judged (λ (m : List ℕ). lengthAt m at) (λ (n next : ℕ). cond (leb least n && leb n most) (Value n next) (refusedAt at Limit)) (λ (n : ℕ). leb least n && leb n most) (λ (n : ℕ). n) Limit l at h
+    (length-sound l at h)
+    (λ (v n : ℕ) (p : leb least v && leb v most ≡ true). ap (λ (t : Bool). cond t (Value v n) (refusedAt at Limit)) p)
+    (λ (v n : ℕ) (p : leb least v && leb v most ≡ false). ap (λ (t : Bool). cond t (Value v n) (refusedAt at Limit)) p)
+    (λ (v n : ℕ) (e : lengthAt l at ≡ Value v n) (p : leb least v && leb v most ≡ false). length-cut l at h)
+
+-- a whole number of some bits is missing in the bits before it
+pub whole-cut : (l : List ℕ) (at lo hi : ℕ) → at ≤ length l → 0 < widthOf (hi - lo) → wholeNumber (take at l) at lo hi ≡ refusedAt at Short
+unfolding wholeNumber
+whole-cut l at lo hi h pos = ap (λ (x : Field). then x (λ (d n : ℕ). cond (leb (lo + d) hi) (Value (lo + d) n) (refusedAt at Range))) (bits-cut l at (widthOf (hi - lo)) h pos)
+
+pub run-sound : (l : List ℕ) (at count n : ℕ) → at ≤ length l → Sound seenField (λ (m : List ℕ). runAt m at count n) l at
+unfolding runAt
+run-sound l at count n h = go (leb (at + count) (length l)) refl
+  where
+    go : (t : Bool) → leb (at + count) (length l) ≡ t → Sound seenField (λ (m : List ℕ). runAt m at count n) l at
+    go true p =
+        let w = leb-true _ _ p in
+        went-sound seenField (λ (m : List ℕ). runAt m at count n) l at (at + count) (ap (λ (t : Bool). seenField (cond t (Value n (at + count)) (refusedAt at Short))) p)
+        (record { after = omega arith; within = w; same = λ (m : List ℕ) (a : Alike (at + count) l m). rw (le-leb _ _ (a .long), p) })
+    go false p =
+        let w : length l < at + count = leb-false _ _ p in
+        let k : length (take at l) ≡ at = length-take-le at l h in
+        placed-sound seenField (λ (m : List ℕ). runAt m at count n) l at (refusal at Short) (ap (λ (t : Bool). seenField (cond t (Value n (at + count)) (refusedAt at Short))) p)
+        (record {
+          after = omega arith;
+          within = h;
+          begins = λ (t : Short ≡ Tail → ⊥). rw (lt-leb (at + count) (length (take at l)) (omega arith));
+          settled = λ (t : Short ≡ Short → ⊥) (u : Short ≡ Tail → ⊥). absurd (t refl);
+        })
+
+pub string-sound : (l : List ℕ) (at unit least most : ℕ) → at ≤ length l → Sound seenField (λ (m : List ℕ). stringAt m at unit least most) l at
+unfolding stringAt
+string-sound l at unit least most h =
+    then-sound (λ (m : List ℕ). lengthWithin m at least most) (λ (n from : ℕ) (m : List ℕ). contentsAt m from unit n) l at (within-sound l at least most h)
+    (λ (n from : ℕ) (e : lengthWithin l at least most ≡ Value n from) (a : at ≤ from) (b : from ≤ length l). run-sound l from (unit * n) n b)
+
+pub sized-sound : (l : List ℕ) (at unit least most : ℕ) → least ≤ most → at ≤ length l → Sound seenField (λ (m : List ℕ). sizedAt m at unit least most) l at
+unfolding sizedAt
+sized-sound l at unit least most ranged h =
+    then-sound (λ (m : List ℕ). wholeNumber m at least most) (λ (n from : ℕ) (m : List ℕ). contentsAt m from unit n) l at (whole-sound l at least most ranged h)
+    (λ (n from : ℕ) (e : wholeNumber l at least most ≡ Value n from) (a : at ≤ from) (b : from ≤ length l). run-sound l from (unit * n) n b)

@@ -32,6 +32,7 @@ static const struct row {
     ROW("  taken, though nobody gave the job", nobodys),
     ROW("first hand-outs out of order", out_of_order),
     ROW("envelopes read", read),
+    ROW("  in so many fragments", fragments),
     ROW("envelopes written", written),
     ROW("messages shown in order", shown),
     ROW("  lost with a broken dialogue", lost),

@@ -10,7 +10,7 @@
 extern struct account {
     /* the broker and the card */
     unsigned long offered, out_of_order, taken, held, repeat, known, refused_again, refused_told, taken_twice, far_ahead, nobodys, notices, broken_told;
-    unsigned long read, written;
+    unsigned long read, written, fragments;
     /* messages */
     unsigned long shown, lost, misplaced, missing, incomplete, silent, told_wrong, deck_duplicates, ground_duplicates;
     /* message numbers, see book.h */

@@ -154,11 +154,11 @@ static void deliver(struct end *e, uint64_t answer)
 {
     struct mail m = {0};
     struct letter l;
-    size_t at = 0;
+    struct arrival a = {0};
     uint8_t message[PEAT_BUFFER_LEAST];
     unsigned bits = message_told(answer, PEAT_ARRAY(message));
     mail_post(&m, fault(MIXES_KINDS) ? PEAT_ENVELOPE_TO_SEND : PEAT_ENVELOPE_DELIVERED, ++e->watch.delivered, bits, message);
-    while (mail_next(&m, &at, &l)) {
+    while (mail_next(&m, &a, &l)) {
         if (l.kind == PEAT_ENVELOPE_DELIVERED)
             show(e, l.body, l.bits);
         else

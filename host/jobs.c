@@ -168,7 +168,7 @@ void jobs_offer(struct end *e)
 {
     struct mail m = {0};
     struct letter l;
-    size_t at = 0;
+    struct arrival a = {0};
     if (!line_has_room(&e->out, 8)) /* leaves room for what must be sent later */
         return;
     notices_post(e);
@@ -176,7 +176,7 @@ void jobs_offer(struct end *e)
     hand_out(e, &m);
     if (chance(3) == 0)
         hand_out(e, &m);
-    while (mail_next(&m, &at, &l)) {
+    while (mail_next(&m, &a, &l)) {
         if (l.kind == PEAT_ENVELOPE_TO_SEND)
             take(e, &l);
         else

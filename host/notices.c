@@ -12,11 +12,11 @@ static void refusal_posted(uint64_t job, unsigned refusal)
 {
     struct mail m = {0};
     struct letter l;
-    size_t at = 0;
+    struct arrival a = {0};
     uint8_t number = (uint8_t)(fault(MIXES_REFUSALS) ? PEAT_SHAPE : refusal);
     mail_post(&m, PEAT_ENVELOPE_REFUSAL, job, 8, &number);
     account.refused_told++;
-    while (mail_next(&m, &at, &l))
+    while (mail_next(&m, &a, &l))
         must(l.kind == PEAT_ENVELOPE_REFUSAL && l.job == job && l.body[0] == PEAT_PROHIBITED ? PEAT_TAKEN : PEAT_KIND);
 }
 

@@ -5,15 +5,15 @@
  * with two output buffers. A call tells the record's machine of one event: a primitive of the user, a primitive of the
  * dialogue service, the expiry of t-start, or a system error. It answers a number that says which primitive the machine
  * invokes of the dialogue service and which of the user. The APDU for the one stands in the first buffer, the message data
- * for the other in the second. These are the machine's calls. The others have no record: they take message data apart, read
- * an APDU by itself, read and write the broker's envelope, read and write a CPDLC message, and keep a book of message
- * identification numbers.
+ * for the other in the second. These are the machine's calls. The others have no record of a dialogue: they take message
+ * data apart, read an APDU by itself, read and write the broker's envelope, put envelopes together that arrive in fragments,
+ * read and write a CPDLC message, and keep a book of message identification numbers.
  *
  * Ranges. A range is a pointer and, as the next parameter, its length in bytes.
  *   - A call reads and writes inside the ranges that it is lent, keeps no pointer, allocates nothing and has no memory of
  *     its own: calls on different records and buffers may run at the same time.
- *   - LENT RANGES MUST NOT OVERLAP: no byte of a range that is lent without const (rec, first, second, out, book, and message and
- *     text where they are read into) may be a byte of any other range of the same call. (Ranges lent as const are only
+ *   - LENT RANGES MUST NOT OVERLAP: no byte of a range that is lent without const (rec, first, second, out, mail, book, and
+ *     message and text where they are read into) may be a byte of any other range of the same call. (Ranges lent as const are only
  *     read; they may share bytes with each other.) This is the host's to keep. No call can see it, and the promises below do
  *     not hold without it.
  *   - A range of length 0 is never looked at. Its pointer may be any pointer, the null pointer too.
@@ -21,11 +21,11 @@
  * Numbers. A code is a uint64_t; a value outside its type is PEAT_SHAPE.
  *
  * Answers. Not refused: the lowest 8 bits are 0 and functions below read the rest, peat_invoked .. peat_data_bytes that of
- * the machine's calls, peat_part_given .. peat_written_bytes that of message data, an APDU and the envelope,
+ * the machine's calls, peat_part_given .. peat_mail_taken that of message data, an APDU and the envelope,
  * peat_message_characters and peat_message_bits that of the message's, peat_opened_number and peat_open_count that of the
  * book's. Refused: the number of the refusal and, where bits were at fault (PEAT_SHORT to PEAT_DEFAULT), the position of the
- * fault, which peat_position reads; all other bits 0, and NO byte of any lent range has changed. (peat_envelope_job and
- * peat_book_job answer a plain number.) The refusals are tried in the order ROOM, SHAPE, PROHIBITED, NO_MESSAGE, REPEAT; of a
+ * fault, which peat_position reads; all other bits 0, and NO byte of any lent range has changed (but peat_mail_take and
+ * peat_mail_end keep the refusal of their input in mail). (peat_envelope_job and peat_book_job answer a plain number.) The refusals are tried in the order ROOM, SHAPE, PROHIBITED, NO_MESSAGE, REPEAT; of a
  * book SHAPE, then ALL_OPEN or NOT_OPEN. A primitive of the dialogue service is refused with ROOM or SHAPE only: user data
  * that is no valid PDU is not refused but answered as the protocol says.
  *
@@ -61,6 +61,8 @@ extern "C" {
 #define PEAT_MESSAGE_MOST 2048 /* CPDLC message, bits */
 #define PEAT_CHECK_MOST 64     /* integrity check, bits */
 #define PEAT_ENVELOPE_MOST 269 /* an envelope, bytes */
+#define PEAT_MAIL_HEAD 11      /* a mail record, bytes before those of the envelope */
+#define PEAT_MAIL_BYTES (PEAT_MAIL_HEAD + PEAT_ENVELOPE_MOST) /* a mail record, exactly */
 #define PEAT_INNER_BYTES 132   /* a message range, exactly */
 #define PEAT_INNER_PLACES 5    /* the elements of a message, at most */
 #define PEAT_BOOK_BYTES 520    /* a book, exactly */
@@ -78,12 +80,12 @@ extern "C" {
 /* ---- refusals */
 
 /* The machine's calls answer 0 to 5, the readers of a message, of message data and of an APDU 1, 2 and 10 to 17, the reader of
-   an envelope 20 to 23, the two writers 1 and 2, and the book's calls 2, 7 and 8. A machine's call that meets 10 to 17 in
+   an envelope 20 to 23, that of fragments 2 and 20 to 23, the two writers 1 and 2, and the book's calls 2, 7 and 8. A machine's call that meets 10 to 17 in
    user data does as the protocol says. An envelope of kind 3 carries any of these numbers. */
 enum peat_refusal {
     PEAT_TAKEN = 0,      /* not refused */
     PEAT_ROOM = 1,       /* an output buffer is under PEAT_BUFFER_LEAST bytes */
-    PEAT_SHAPE = 2,      /* an argument breaks the sizes, its type or its codes; rec is not a record, or book not a book; a
+    PEAT_SHAPE = 2,      /* an argument breaks the sizes, its type or its codes; rec or mail is no record, or book no book; a
                             count is more than the lent bytes hold; an envelope to write that reading refuses; an element to
                             write that is not carried */
     PEAT_PROHIBITED = 3, /* a user primitive with no action in this state, or an expiry while no timer runs */
@@ -377,6 +379,10 @@ static inline size_t peat_envelope_next(uint64_t answer) { return peat_bits_of(a
 
 /* the bytes that the envelope takes of the buffer */
 static inline size_t peat_written_bytes(uint64_t answer) { return peat_bits_of(answer, PEAT_WRITTEN_BYTES_AT, PEAT_WRITTEN_BYTES_BITS); }
+
+/* Of what peat_mail_take answers: the bytes of the fragment that were taken. peat_envelope_kind, _bits and _body say which
+   envelope was finished, as of what peat_read_envelope answers; a kind of 0 says that none was. */
+static inline size_t peat_mail_taken(uint64_t answer) { return peat_bits_of(answer, PEAT_ENVELOPE_NEXT_AT, PEAT_ENVELOPE_COUNT_BITS); }
 
 /* ---- the answer of a message's call */
 
@@ -785,6 +791,72 @@ uint64_t peat_envelope_job(const uint8_t *lent, size_t lent_len);
    back. body and out must not overlap. */
 uint64_t peat_write_envelope(uint64_t kind, uint64_t job, uint64_t bits, const uint8_t *body, size_t body_len,
     uint8_t *out, size_t out_len);
+
+/* ---- envelopes as they arrive
+ *
+ * A socket hands over fragments that begin and end anywhere. A mail record of PEAT_MAIL_BYTES bytes keeps what has come of an
+ * envelope until the rest is there. The host makes it fresh, hands over each fragment, and says when the input has ended:
+ *
+ *     peat_mail_fresh(mail, sizeof mail);
+ *     while ((n = read(socket, at = bytes, sizeof bytes)) > 0)
+ *         for (; n > 0; at += peat_mail_taken(answer), n -= peat_mail_taken(answer)) {
+ *             answer = peat_mail_take(mail, sizeof mail, at, n);
+ *             if (peat_refusal(answer) != PEAT_TAKEN)
+ *                 ..                       the input is refused, from byte peat_mail_place(mail) of it on
+ *             if (peat_envelope_kind(answer) != 0)
+ *                 ..                       an envelope: its body is peat_mail_body(mail, answer), its job peat_mail_job(mail)
+ *         }
+ *     if (peat_refusal(peat_mail_end(mail, sizeof mail)) == PEAT_CUT)
+ *         ..                               the input ended inside an envelope
+ *
+ * However the input is cut into fragments, the envelopes, the refusal and the record are those of the whole: the record is
+ * determined by the bytes taken. PEAT_GROUPS, PEAT_KIND and PEAT_SIZE come with the first byte that decides them.
+ */
+
+/* bytes of a mail record. PEAT_MAIL_STATE: 0 an envelope that is not finished, or none; 1 a finished one; PEAT_CUT to
+   PEAT_SIZE the refusal. PEAT_MAIL_COUNT, two bytes: how many bytes of the envelope are held, from PEAT_MAIL_HEAD on; those
+   behind them are zero. PEAT_MAIL_PLACE, eight bytes: where the envelope that is held or refused begins, counted from the
+   first byte since the record was made fresh; 2^64 - 1 says that or more. Both numbers have their most significant byte
+   first. */
+#define PEAT_MAIL_STATE 0
+#define PEAT_MAIL_COUNT 1
+#define PEAT_MAIL_PLACE 3
+
+/* Makes a fresh record in mail. Answers PEAT_SHAPE (mail is not of PEAT_MAIL_BYTES bytes), and mail stays; else 0, and every
+   byte of mail is written. */
+uint64_t peat_mail_fresh(uint8_t *mail, size_t mail_len);
+
+/* The next fragment of the input, or what an earlier call left of it. Its length may be anything, 0 too.
+   Answers PEAT_SHAPE (mail is not of PEAT_MAIL_BYTES bytes, or these are no record: a state that is none, more bytes held
+   than PEAT_ENVELOPE_MOST, or bytes held of an unfinished envelope that are not the beginning of one), and mail stays.
+   Answers PEAT_GROUPS, PEAT_KIND or PEAT_SIZE where the input has an envelope that peat_read_envelope refuses so: mail then
+   holds the refusal and the place, no byte of the fragment is taken, and every later call answers the same refusal and
+   changes nothing, until mail is made fresh. (PEAT_CUT comes that way too, after peat_mail_end answered it.)
+   Else peat_mail_taken(answer) bytes were taken from the front of the fragment. Where peat_envelope_kind(answer) is not 0,
+   they finish an envelope: it stands in mail until the next call that takes a byte, its body of peat_envelope_bits(answer)
+   bits from byte peat_envelope_body(answer) of mail on, and the host calls again with the rest of the fragment. Where the
+   kind is 0, all bytes were taken and no envelope is finished. A call takes at most PEAT_ENVELOPE_MOST bytes, and at least
+   one of a fragment that has one. */
+uint64_t peat_mail_take(uint8_t *mail, size_t mail_len, const uint8_t *fragment, size_t fragment_len);
+
+/* The input has ended. Answers PEAT_SHAPE as peat_mail_take does; PEAT_CUT where an envelope is unfinished, and mail holds that
+   refusal from then on; the refusal that mail holds already; else 0, and mail stays. */
+uint64_t peat_mail_end(uint8_t *mail, size_t mail_len);
+
+/* How many bytes of an envelope are held, and where the envelope that is held or refused begins. */
+static inline size_t peat_mail_held(const uint8_t *mail) { return (size_t)mail[PEAT_MAIL_COUNT] << 8 | mail[PEAT_MAIL_COUNT + 1]; }
+static inline uint64_t peat_mail_place(const uint8_t *mail)
+{
+    uint64_t place = 0;
+    unsigned i;
+    for (i = 0; i < 8; i++)
+        place = place << 8 | mail[PEAT_MAIL_PLACE + i];
+    return place;
+}
+
+/* Of an envelope that was finished: its body, where it stands in mail; its job number (0: none is finished). */
+static inline const uint8_t *peat_mail_body(const uint8_t *mail, uint64_t answer) { return mail + peat_envelope_body(answer); }
+static inline uint64_t peat_mail_job(const uint8_t *mail) { return peat_envelope_job(mail + PEAT_MAIL_HEAD, peat_mail_held(mail)); }
 
 /* ---- the CPDLC message
  *

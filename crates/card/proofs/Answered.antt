@@ -26,7 +26,7 @@ pub record Says (n : ℕ) (e : Envelope) : Type 0 where
   pub body : n / 4294967296 % 65536 ≡ e .body
   pub next : n / 281474976710656 ≡ e .next
 
-parts : (e : Envelope) → e .kind < 256 → e .bits < 65536 → e .body < 65536 → e .next < 65536 → Says (said e) e
+pub parts : (e : Envelope) → e .kind < 256 → e .bits < 65536 → e .body < 65536 → e .next < 65536 → Says (said e) e
 parts e k b p n =
     record { none = omega arith; kind = omega arith; bits = omega arith; body = omega arith; next = omega arith }
 

@@ -2,3 +2,4 @@ pub mod Fresh
 pub mod Answered
 pub mod Taking
 pub mod Numbered
+pub mod Arrived

@@ -3,3 +3,4 @@ pub mod Mail
 pub mod MessageNumbers
 pub mod Parts
 pub mod Recorded
+pub mod Arriving

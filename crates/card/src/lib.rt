@@ -1,5 +1,6 @@
 // The card: what the host calls from C, with numbers and byte ranges only. A number of eight bytes answers each call: a refusal, or what
 // the call did (crate step, specs/Packed.antt, and this crate's specs).
+mod arriving; // arriving.rt: the broker's envelopes as they arrive
 mod data; // data.rt: the parts of message data
 mod fresh_record; // fresh_record.rt: a fresh record
 mod given; // given.rt: message data from three ranges, and a call with them or without

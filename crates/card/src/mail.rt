@@ -10,7 +10,7 @@ use envelope::writing::write_envelope;
 use words::Limit;
 
 // What an envelope says, in one number.
-fn packed(e: Envelope) -> u64
+pub(crate) fn packed(e: Envelope) -> u64
     ensures { λ n. ⌜ n ≡ envelopeNumber (Read.Is e) ⌝ }
 {
     let places = (e.body % 65536) as u64 + 65536 * ((e.next % 65536) as u64);

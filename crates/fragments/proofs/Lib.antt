@@ -1,0 +1,8 @@
+pub mod Ranges
+pub mod Unfinished
+pub mod Storing
+pub mod Resuming
+pub mod Calls
+pub mod Whole
+pub mod EveryCut
+pub mod Answers

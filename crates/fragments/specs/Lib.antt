@@ -1,0 +1,4 @@
+pub mod Mail
+pub mod Record
+pub mod Missing
+pub mod Cuts

@@ -38,28 +38,6 @@ copy-reads d s to at n hd hs =
     let k = length-run s at n hs in
     rw k at (read-back d to (run s at n) (bits-run s at n) (rw k hd))
 
--- by way of other bytes, from their first bit
-pub by-way : (d z t t′ s : List ℕ) (to at n : ℕ) → n ≤ 8 * length t → at + n ≤ 8 * length s → t′ ≡ putBits t 0 (run s at n) → z ≡ putBits d to (run t′ 0 n) → z ≡ putBits d to (run s at n)
-by-way d z t t′ s to at n ht hs e f =
-    f ∙ ap (putBits d to) (rw e (copy-reads t s 0 at n (omega arith) hs))
-
--- ---- a turn of the loop over chunks
-
-pub chunk-start : (d s : List ℕ) (to at n : ℕ) → putBits d (to + 0) (run s (at + 0) (n - 0)) ≡ putBits d to (run s at n)
-chunk-start d s to at n =
-    let e : n - 0 ≡ n = omega arith in
-    let f : to + 0 ≡ to = omega arith in
-    let g : at + 0 ≡ at = omega arith in
-    rw (e, f, g)
-
-pub chunk-turn : (d d′ z s : List ℕ) (to at n i k : ℕ) → i + k ≤ n → at + n ≤ 8 * length s → d′ ≡ putBits d (to + i) (run s (at + i) k) → putBits d (to + i) (run s (at + i) (n - i)) ≡ z
-    → putBits d′ (to + (i + k)) (run s (at + (i + k)) (n - (i + k))) ≡ z
-chunk-turn d d′ z s to at n i k h g e inv =
-    let a : n - i ≡ k + (n - (i + k)) = omega arith in
-    let b : at + (i + k) ≡ at + i + k = omega arith in
-    let t : to + (i + k) ≡ to + i + k = omega arith in
-    rw (e, b, t) (joined d s (to + i) (at + i) k (n - (i + k)) (omega arith) ∙ (rw a at inv))
-
 -- ---- the head, whole bytes, and the rest
 
 pub in-three : (d x y z s : List ℕ) (to at n h m : ℕ) → h + 8 * m ≤ n → at + n ≤ 8 * length s → (0 < m → 8 * ((to + h) / 8) ≡ to + h)
@@ -76,13 +54,21 @@ in-three d x y z s to at n h m f g aligned p q r =
     ∙ ap (λ (l : List ℕ). putBits l (to + h) (run s (at + h) (8 * m + (n - h - 8 * m)))) p
     ∙ joined d s to at h (8 * m + (n - h - 8 * m)) (omega arith) ∙ ap (λ (k : ℕ). putBits d to (run s at k)) e
 
+-- whole bytes, eight at a time and the rest
+pub in-eights : (d x z s : List ℕ) (base at m : ℕ) → at + 8 * m ≤ 8 * length s → x ≡ putBits d (8 * base) (run s at (64 * (m / 8))) → z ≡ putBits x (8 * (base + 8 * (m / 8))) (run s (at + 64 * (m / 8)) (8 * (m % 8)))
+    → z ≡ putBits d (8 * base) (run s at (8 * m))
+in-eights d x z s base at m h p q =
+    let a : 8 * (base + 8 * (m / 8)) ≡ 8 * base + 64 * (m / 8) = omega arith in
+    let e : 64 * (m / 8) + 8 * (m % 8) ≡ 8 * m = omega arith in
+    q ∙ rw (p, a) (joined d s (8 * base) at (64 * (m / 8)) (8 * (m % 8)) (omega arith)) ∙ ap (λ (k : ℕ). putBits d (8 * base) (run s at k)) e
+
 -- ---- a turn of the loop over bytes
 
 all-set : (vs l : List ℕ) → length l ≡ length vs → sets l 0 vs ≡ vs
 all-set vs l h = sets-eq vs l 0 (omega arith) ∙ rw (zero-add (length vs), ← h, drop-length l) (append-nil vs)
 
 -- a byte put at a byte's place is that byte set
-put-byte : (d : List ℕ) (i x : ℕ) → x < 256 → i < length d → putBits d (8 * i) (bitsN 8 x) ≡ set d i x
+pub put-byte : (d : List ℕ) (i x : ℕ) → x < 256 → i < length d → putBits d (8 * i) (bitsN 8 x) ≡ set d i x
 put-byte d i x h g =
     let q : 8 * i / 8 ≡ i = omega arith in
     let r : 8 * i % 8 ≡ 0 = omega arith in

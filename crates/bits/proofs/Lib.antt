@@ -4,4 +4,5 @@ pub mod Inside
 pub mod Reading
 pub mod Putting
 pub mod Copying
+pub mod EightBytes
 pub mod Whole

@@ -1,18 +1,17 @@
-// A run of bits copied from a place of one slice to a place of another, by bytes and shifts.
+// A run of bits copied from a place of one slice straight to a place of another, by eight bytes, bytes and shifts.
 ghost use mathlib.Core.Path.{_≡_};
 ghost use Prim.Native.Nat.{_+_, _-_, _*_, _/_, _%_, _^_, _<_, _≤_};
 ghost use lib.ListN.{length};
 ghost use Rattle.bits.specs.Bits.{run};
 ghost use Rattle.bits.specs.Put.{putBits, copyRun, left};
 use crate::Put;
+use crate::eight_bytes::eight_of_nine;
+use crate::eight_bytes::put_eight;
 use crate::extent::within;
 use crate::reader::least;
 use crate::reader::number_at;
 use crate::reader::wide;
 use crate::writer::put_number_at;
-
-// How many bytes the scratch buffer holds.
-const SCRATCH: usize = 256;
 
 // Eight bits, after the first r of two bytes.
 fn eight(a: u64, b: u64, r: usize) -> u8
@@ -37,6 +36,31 @@ fn copy_bytes(dst: &mut [u8], base: usize, src: &[u8], at: usize, m: usize)
         dst[base + i] = eight(a, b, r);
         i += 1;
     }
+}
+
+// m times eight bytes to the byte at base, each from nine bytes of the source.
+fn copy_eights(dst: &mut [u8], base: usize, src: &[u8], at: usize, m: usize)
+    requires { ⌜ (8 * m ≤ length (now dst) - base) × (8 * m ≤ length (now src) - (at / 8 + 1)) ⌝ }
+    ensures { λ r. ⌜ now (dst .exit) ≡ putBits (now (dst .entry)) (8 * base) (run (now (src .entry)) at (64 * m)) ⌝ }
+{
+    let q = at / 8;
+    let r = at % 8;
+    let mut i: usize = 0;
+    while i < m {
+        let x = eight_of_nine(src, q + 8 * i, r);
+        put_eight(dst, base + 8 * i, x);
+        i += 1;
+    }
+}
+
+// m whole bytes to the byte at base, eight at a time as long as there are eight.
+fn copy_whole(dst: &mut [u8], base: usize, src: &[u8], at: usize, m: usize)
+    requires { ⌜ (m ≤ length (now dst) - base) × (m ≤ length (now src) - (at / 8 + 1)) × (at + 8 * m ≤ 8 * length (now src)) × (at + 8 * m < 2 ^ 64) ⌝ }
+    ensures { λ r. ⌜ now (dst .exit) ≡ putBits (now (dst .entry)) (8 * base) (run (now (src .entry)) at (8 * m)) ⌝ }
+{
+    let k = m / 8;
+    copy_eights(dst, base, src, at, k);
+    copy_bytes(dst, base + 8 * k, src, at + 64 * k, m % 8);
 }
 
 // At most 64 bits, as one number.
@@ -67,34 +91,11 @@ fn copy_straight(dst: &mut [u8], to: usize, src: &[u8], at: usize, n: usize)
     let h = least(n, (8 - to % 8) % 8);
     copy_few(dst, to, src, at, h);
     let m = whole(src.len(), at + h, n - h);
-    copy_bytes(dst, (to + h) / 8, src, at + h, m);
+    copy_whole(dst, (to + h) / 8, src, at + h, m);
     copy_few(dst, to + h + 8 * m, src, at + h + 8 * m, n - h - 8 * m);
 }
 
-// The same by way of a scratch buffer.
-fn copy_chunk(dst: &mut [u8], to: usize, src: &[u8], at: usize, n: usize)
-    requires { ⌜ (to + n ≤ 8 * length (now dst)) × (to + n < 2 ^ 64) × (at + n ≤ 8 * length (now src)) × (at + n < 2 ^ 64) × (n ≤ 8 * 256) ⌝ }
-    ensures { λ r. ⌜ now (dst .exit) ≡ putBits (now (dst .entry)) to (run (now (src .entry)) at n) ⌝ }
-{
-    let mut scratch = [0u8; SCRATCH];
-    copy_straight(&mut scratch, 0, src, at, n);
-    copy_straight(dst, to, &scratch, 0, n);
-}
-
-// A run of any length, as much at a time as the scratch buffer holds.
-fn copy_chunks(dst: &mut [u8], to: usize, src: &[u8], at: usize, n: usize)
-    requires { ⌜ (to + n ≤ 8 * length (now dst)) × (to + n < 2 ^ 64) × (at + n ≤ 8 * length (now src)) × (at + n < 2 ^ 64) ⌝ }
-    ensures { λ r. ⌜ now (dst .exit) ≡ putBits (now (dst .entry)) to (run (now (src .entry)) at n) ⌝ }
-{
-    let mut i: usize = 0;
-    while i < n {
-        let k = least(n - i, 8 * SCRATCH);
-        copy_chunk(dst, to + i, src, at + i, k);
-        i += k;
-    }
-}
-
-// A run that one number holds goes without the scratch buffer: most fields of a message are that short.
+// A run that one number holds goes as that number: most fields of a message are that short.
 fn copy_run(dst: &mut [u8], to: usize, src: &[u8], at: usize, n: usize)
     requires { ⌜ (to + n ≤ 8 * length (now dst)) × (to + n < 2 ^ 64) × (at + n ≤ 8 * length (now src)) × (at + n < 2 ^ 64) ⌝ }
     ensures { λ r. ⌜ now (dst .exit) ≡ putBits (now (dst .entry)) to (run (now (src .entry)) at n) ⌝ }
@@ -102,7 +103,7 @@ fn copy_run(dst: &mut [u8], to: usize, src: &[u8], at: usize, n: usize)
     if n <= 64 {
         copy_few(dst, to, src, at, n);
     } else {
-        copy_chunks(dst, to, src, at, n);
+        copy_straight(dst, to, src, at, n);
     }
 }
 

@@ -2,6 +2,7 @@
 // Every function takes every argument. Only the first `end` bits of a slice count (all that there are, where `end` is more):
 // what does not lie within them is refused, and then no byte changes.
 mod copier;
+mod eight_bytes;
 mod extent;
 mod reader;
 mod writer;

@@ -25,14 +25,14 @@ sub-whole c = search needs
 whole-requires : tie.Need-whole-requires
 whole-requires c κs = search needs
 
-add-copy-bytes : tie.Need-add-copy-bytes
-add-copy-bytes c = search needs
+add-copy-whole : tie.Need-add-copy-whole
+add-copy-whole c = search needs
 
-add-copy-bytes-2 : tie.Need-add-copy-bytes-2
-add-copy-bytes-2 c = search needs
+add-copy-whole-2 : tie.Need-add-copy-whole-2
+add-copy-whole-2 c = search needs
 
-copy-bytes-requires : tie.Need-copy-bytes-requires
-copy-bytes-requires c κs = search needs
+copy-whole-requires : tie.Need-copy-whole-requires
+copy-whole-requires c κs = search needs
 
 add-copy-few : tie.Need-add-copy-few
 add-copy-few c = search needs
@@ -68,7 +68,7 @@ same-length : tie.Need-same-length
 same-length c = search needs
 
 returns : tie.Need-returns
-returns c = in-three _ _ _ _ _ _ _ _ (c .before .before .before .before .before .before .before .before .before .before .before .before .before .least .result) (c .before .before .before .before .before .before .before .before .whole .result) (omega arith) (omega arith) (λ h. omega arith) (c .before .before .before .before .before .before .before .before .before .before .before .copy-few .ensures) (c .before .before .before .before .before .before .copy-bytes .ensures) (c .before .before .copy-few2 .ensures)
+returns c = in-three _ _ _ _ _ _ _ _ (c .before .before .before .before .before .before .before .before .before .before .before .before .before .least .result) (c .before .before .before .before .before .before .before .before .whole .result) (omega arith) (omega arith) (λ h. omega arith) (c .before .before .before .before .before .before .before .before .before .before .before .copy-few .ensures) (c .before .before .before .before .before .before .copy-whole .ensures) (c .before .before .copy-few2 .ensures)
 
 pub copy-straight-spec : {M : Type 1} → statement M
 copy-straight-spec =
@@ -80,9 +80,9 @@ copy-straight-spec =
     add-whole
     sub-whole
     whole-requires
-    add-copy-bytes
-    add-copy-bytes-2
-    copy-bytes-requires
+    add-copy-whole
+    add-copy-whole-2
+    copy-whole-requires
     add-copy-few
     mul-copy-few
     add-copy-few-2

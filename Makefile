@@ -1,5 +1,7 @@
 # make run: the main job.  make test: the gate.  make bench: speed, scale and stack, measured (the gate does not run it).
-.PHONY: run test bench
+# make demo: the bridge with a private broker, killed a few times.  make soak: the same for a long time, with everything that
+# can happen to it (SECONDS=900).
+.PHONY: run test bench demo soak
 
 run:
 	tools/main-job
@@ -9,3 +11,9 @@ test:
 
 bench:
 	bench/run
+
+demo:
+	tools/demo
+
+soak:
+	tools/soak

@@ -1,0 +1,121 @@
+/*
+ * The bridge: between a message broker and the card, for up to 48 dialogues.
+ *
+ * It goes round in batches. Whatever came in (payloads, primitives, expiries) is given to the card, and everything that the
+ * card's answers ask for is collected. Then, in this order (`release` in bridge.c):
+ *
+ *     one commit     records, decisions, letters
+ *     primitives     to the aircraft
+ *     receipts       to the broker
+ *     letters        to the broker, and those that it confirmed leave the outbox with a later commit
+ *
+ * So nothing leaves the process that it could forget. Nothing is ever sent a second time: a restart is a failure of the
+ * carrier (docs/PAIR.md), the dialogue that was open is broken, and the jobs taken in it are reported.
+ */
+#ifndef BRIDGE_H
+#define BRIDGE_H
+
+#include <signal.h>
+
+#include "broker.h"
+#include "config.h"
+#include "jobs.h"
+#include "journal.h"
+#include "link.h"
+#include "metrics.h"
+
+/* primitives that wait to be sent, the oldest first */
+struct queue {
+    struct primitive *item;
+    size_t oldest, count, room;
+};
+
+struct dialogue {
+    unsigned number;
+    struct kept kept;
+    struct decision latest; /* the range of jobs that grows; first 0: none */
+    struct jobs held;       /* the jobs taken in this run: their fate is told when the dialogue is over */
+    int changed;            /* kept differs from the journal */
+    int decided;            /* latest differs from the journal */
+    struct queue out;
+    int closing;            /* the dialogue is over: the connection goes when `out` is empty, */
+    uint64_t close_by;      /* or at this time */
+    uint64_t expires;       /* t-start; 0: it does not run */
+    uint64_t start_at, wait; /* when to start again, and how long to wait after the next failure */
+    int consuming;
+    struct receipt receipt; /* of the last payload in this batch; tag 0: none */
+};
+
+#define WINDOW 1024 /* letters under way to the broker, at most */
+
+/* The outbox on its way to the broker. Letters have places on a connection, from 1 on. */
+struct publisher {
+    uint64_t behind;     /* letters up to this id were given on this connection */
+    uint64_t given;      /* the place of the last one */
+    uint64_t oldest;     /* the first place that is not confirmed */
+    uint64_t id[WINDOW]; /* by place; 0: confirmed */
+};
+
+struct bridge {
+    const struct config *config;
+    struct journal *journal;
+    struct broker *broker;
+    struct link *link;
+    struct page *page;
+    const volatile sig_atomic_t *stop;
+
+    struct dialogue dialogue[DIALOGUES_MOST];
+    struct publisher publisher;
+    struct metrics metrics;
+    int staged;              /* there is something to commit at once */
+    uint64_t settled_since;  /* there are confirmed letters to delete, since then; 0: there are none */
+    enum broker_state state;
+    uint64_t connect_at, connect_wait, claim_until;
+    uint64_t stop_by;        /* 0: not stopping */
+    uint64_t witness_at, witnessed, word_at;
+};
+
+/* Loads what the journal has. Dialogues that were open are broken now; that is committed. */
+void bridge_begin(struct bridge *, const struct config *, struct journal *, struct broker *, struct link *, struct page *);
+
+/* Runs until *stop is not 0, then ends the dialogues in order, empties the outbox and returns. */
+void bridge_run(struct bridge *, const volatile sig_atomic_t *stop);
+
+/* ---- calls.c: what comes in is given to the card, and what its answers ask for is collected */
+
+static inline unsigned state_of(const struct dialogue *d) { return peat_record_state(d->kept.record); }
+
+void call_start(struct bridge *, struct dialogue *);
+void call_end(struct bridge *, struct dialogue *);
+void call_abort(struct bridge *, struct dialogue *);
+void call_expiry(struct bridge *, struct dialogue *);
+void call_primitive(struct bridge *, struct dialogue *, const struct primitive *);
+void call_failure(struct bridge *, struct dialogue *, const char *why);
+void call_payload(struct bridge *, struct dialogue *, const uint8_t *payload, size_t bytes);
+
+/* ---- publisher.c */
+
+void publisher_restart(struct publisher *);
+/* 0: the connection is lost */
+int publisher_give(struct bridge *);
+void publisher_confirmed(struct bridge *, uint64_t place, int all);
+
+/* ---- points where the tests kill the process; in the bridge itself nothing happens there (points.c) */
+
+enum point {
+    AT_RECOVERY,     /* dialogues that were open are broken, but that is not committed */
+    AT_RECOVERED,    /* it is */
+    AT_COMMIT,       /* before the commit of a batch */
+    AT_COMMITTED,    /* after it */
+    AT_SENDING,      /* before each primitive */
+    AT_SENT,         /* after all of them */
+    AT_ACKNOWLEDGED, /* after the receipts */
+    AT_PUBLISHED,    /* after a letter, before its confirmation */
+    AT_CONFIRMED,    /* a letter is confirmed and not yet deleted */
+    AT_STOPPING,     /* told to stop, dialogues are ending */
+    POINTS
+};
+
+void at_point(const struct bridge *, enum point);
+
+#endif

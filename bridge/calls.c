@@ -1,0 +1,298 @@
+/*
+ * The card's calls, and what their answers ask for. Nothing here leaves the process: primitives go into the dialogue's
+ * queue, letters and decisions into the journal's open transaction, and `release` lets them out after its commit.
+ */
+#include <stdio.h>
+#include <stdlib.h>
+#include <string.h>
+
+#include "bridge.h"
+#include "clock.h"
+#include "log.h"
+#include "mail.h"
+
+/* The buffers of every call: the bridge makes one call at a time and uses what a call wrote before the next. */
+static uint8_t first[PEAT_BUFFER_LEAST], second[PEAT_BUFFER_LEAST];
+
+#define RECORD(d) (d)->kept.record, sizeof (d)->kept.record
+#define BUFFERS first, sizeof first, second, sizeof second
+#define NO_DATA NULL, 0, NULL, 0, PEAT_NONE, NULL, 0, 0 /* no identifier, no message, a check of no bits */
+
+#define CLOSE_MS 1000 /* how long a dialogue that is over waits for room on its connection */
+
+/* ---- letters */
+
+static void post(struct bridge *b, const struct dialogue *d, const char *type, const char *reason, const void *body, size_t bytes)
+{
+    struct letter l = {0, NULL, d->number, type, reason, wall_ms(), body, bytes};
+    b->journal->post(b->journal, &l);
+    b->staged = 1;
+}
+
+static void post_envelope(struct bridge *b, const struct dialogue *d, const char *type, unsigned kind, uint64_t job, unsigned bits, const uint8_t *body)
+{
+    uint8_t e[PEAT_BUFFER_LEAST];
+    uint64_t written = peat_write_envelope(kind, job, bits, body, (bits + 7u) / 8u, e, sizeof e);
+    if (peat_refusal(written) != PEAT_TAKEN)
+        log_and_exit(EXIT_JOURNAL, "envelope", type, "the card does not write it");
+    post(b, d, type, "", e, peat_written_bytes(written));
+}
+
+/* What became of the jobs taken in a dialogue that is over. Ended: all were handed to the flight deck. Broken: each may or
+   may not have been. */
+static void post_fate(struct bridge *b, const struct dialogue *d, const char *how, const char *why)
+{
+    char *jobs = jobs_text(&d->held), *body;
+    size_t room = strlen(jobs) + 160;
+    int n;
+    body = malloc(room);
+    if (body == NULL)
+        log_and_exit(EXIT_JOURNAL, "memory", how, "out of memory");
+    n = snprintf(body, room, "{\"dialogue\":%u,\"run\":%llu,\"fate\":\"%s\",\"why\":\"%s\",\"jobs\":\"%s\"}", d->number,
+        (unsigned long long)d->kept.run, how, why, jobs);
+    post(b, d, how, "", body, (size_t)n);
+    free(body);
+    free(jobs);
+}
+
+static void post_dead(struct bridge *b, const struct dialogue *d, const char *reason, const uint8_t *bytes, size_t count)
+{
+    b->metrics.dead++;
+    log_line(LOG_WARN, "dead letter", ABOUT(d), TEXT("reason", reason), NUMBER("bytes", count));
+    post(b, d, "dead", reason, bytes, count < b->config->payload_most ? count : (size_t)b->config->payload_most);
+}
+
+/* ---- decisions */
+
+static int covers(const struct decision *r, uint64_t job) { return r->first != 0 && r->first <= job && job <= r->last; }
+
+static int decided(struct bridge *b, const struct dialogue *d, uint64_t job)
+{
+    struct decision found;
+    return covers(&d->latest, job) || b->journal->find(b->journal, d->number, job, &found);
+}
+
+static void decide(struct bridge *b, struct dialogue *d, uint64_t job, unsigned outcome)
+{
+    struct decision *r = &d->latest;
+    if (r->first != 0 && r->last + 1 == job && r->outcome == outcome && r->run == d->kept.run) {
+        r->last = job;
+    } else {
+        if (d->decided)
+            b->journal->decide(b->journal, d->number, r);
+        *r = (struct decision){job, job, outcome, d->kept.run};
+    }
+    d->decided = 1;
+    b->staged = 1;
+}
+
+/* ---- what an answer asks for */
+
+static void enqueue(struct dialogue *d, uint64_t answer)
+{
+    struct queue *q = &d->out;
+    struct primitive *p;
+    if (q->oldest > 0 && q->oldest + q->count == q->room) {
+        memmove(q->item, q->item + q->oldest, q->count * sizeof *q->item);
+        q->oldest = 0;
+    }
+    q->item = grow(q->item, &q->room, q->oldest + q->count + 1, sizeof *q->item);
+    p = &q->item[q->oldest + q->count++];
+    p->kind = (uint8_t)peat_invoked(answer);
+    p->parameter = (uint8_t)peat_invoked_parameter(answer);
+    p->security = (uint8_t)peat_invoked_security(answer);
+    p->given = peat_apdu_bits(answer) > 0 ? PEAT_USER_DATA : PEAT_NO_USER_DATA;
+    p->bytes = peat_apdu_bytes(answer);
+    memcpy(p->data, first, p->bytes);
+}
+
+/* A message came down: the controllers get it in an envelope, numbered among those of this dialogue's queue. */
+static void pass_on(struct bridge *b, struct dialogue *d, uint64_t answer)
+{
+    uint8_t message[PEAT_BUFFER_LEAST];
+    uint64_t part = peat_data_part(PEAT_PART_MESSAGE, second, peat_data_bytes(answer), message, sizeof message);
+    b->metrics.delivered++;
+    post_envelope(b, d, "delivered", PEAT_ENVELOPE_DELIVERED, ++d->kept.deliveries, peat_part_bits(part), message);
+}
+
+static void keep_timer(struct bridge *b, struct dialogue *d)
+{
+    if (!peat_record_timer(d->kept.record))
+        d->expires = 0;
+    else if (d->expires == 0)
+        d->expires = now_ms() + b->config->t_start;
+}
+
+/* The dialogue is over: the jobs taken in it get their fate, and its connection goes. */
+static void over(struct bridge *b, struct dialogue *d, unsigned before, const char *how, const char *why)
+{
+    if (before == PEAT_DIALOGUE || before == PEAT_END)
+        ++*(strcmp(how, "ended") == 0 ? &b->metrics.ended : &b->metrics.broken);
+    if (d->held.ranges > 0)
+        post_fate(b, d, how, why);
+    jobs_clear(&d->held);
+    d->closing = 1;
+    d->close_by = now_ms() + CLOSE_MS;
+    d->start_at = now_ms() + d->wait;
+    d->wait = 2 * d->wait < b->config->retry_most ? 2 * d->wait : b->config->retry_most;
+    log_line(LOG_INFO, "over", ABOUT(d), NUMBER("run", d->kept.run), TEXT("fate", how), TEXT("why", why));
+}
+
+static void opened(struct bridge *b, struct dialogue *d)
+{
+    b->metrics.opened++;
+    d->wait = b->config->retry;
+    log_line(LOG_INFO, "opened", ABOUT(d), NUMBER("run", d->kept.run));
+}
+
+/* Collects what the answer of a call asks for. `before`: the state before the call; `why`: for the notice, if the dialogue is
+   over by it. Answers the refusal. */
+static unsigned act(struct bridge *b, struct dialogue *d, unsigned before, uint64_t answer, const char *why)
+{
+    int ended;
+    if (peat_refusal(answer) != PEAT_TAKEN)
+        return peat_refusal(answer);
+    b->staged = d->changed = 1;
+    keep_timer(b, d);
+    if (peat_invoked(answer) != PEAT_SILENT)
+        enqueue(d, answer);
+    if (peat_told(answer) == PEAT_MESSAGE_INDICATION)
+        pass_on(b, d, answer);
+    if (before == PEAT_START_REQ && state_of(d) == PEAT_DIALOGUE)
+        opened(b, d);
+    ended = peat_told(answer) == PEAT_END_CONFIRMATION;
+    if (before != PEAT_IDLE && state_of(d) == PEAT_IDLE)
+        over(b, d, before, ended ? "ended" : "broken", ended ? "end" : why);
+    return PEAT_TAKEN;
+}
+
+/* ---- the user of the ground end: the bridge itself starts and ends dialogues */
+
+void call_start(struct bridge *b, struct dialogue *d)
+{
+    d->kept.run++;
+    act(b, d, PEAT_IDLE, peat_start_request(RECORD(d), PEAT_CLASS_ANY, PEAT_NO_SECURITY, NO_DATA, BUFFERS), "");
+}
+
+void call_end(struct bridge *b, struct dialogue *d)
+{
+    act(b, d, state_of(d), peat_end_request(RECORD(d), NO_DATA, BUFFERS), "");
+}
+
+void call_abort(struct bridge *b, struct dialogue *d)
+{
+    act(b, d, state_of(d), peat_user_abort(RECORD(d), PEAT_COMMANDED_TERMINATION, BUFFERS), "stopped");
+}
+
+void call_expiry(struct bridge *b, struct dialogue *d)
+{
+    b->metrics.expired++;
+    act(b, d, state_of(d), peat_timer_expiry(RECORD(d), BUFFERS), "t-start");
+}
+
+/* ---- the dialogue service */
+
+/* The connection is gone, or is of no use: what waits to be sent is lost with it. */
+void call_failure(struct bridge *b, struct dialogue *d, const char *why)
+{
+    unsigned before = state_of(d);
+    d->out.oldest = d->out.count = 0;
+    d->closing = 1;
+    d->close_by = now_ms();
+    if (before != PEAT_IDLE)
+        act(b, d, before, peat_d_p_abort_indication(RECORD(d), BUFFERS), why);
+    d->out.oldest = d->out.count = 0;
+}
+
+void call_primitive(struct bridge *b, struct dialogue *d, const struct primitive *p)
+{
+    unsigned before = state_of(d);
+    b->metrics.received++;
+    if (before == PEAT_IDLE)
+        return;
+    if (act(b, d, before, primitive_arrives(p, d->kept.record, first, second), "abort") != PEAT_TAKEN)
+        call_failure(b, d, "no primitive");
+}
+
+/* ---- jobs */
+
+static void refuse(struct bridge *b, struct dialogue *d, uint64_t job, unsigned refusal)
+{
+    uint8_t number = (uint8_t)refusal;
+    b->metrics.refused[refusal]++;
+    b->metrics.overtaken += refusal == PEAT_REPEAT; /* it is not decided, so it was never sent: a later job was */
+    log_line(LOG_INFO, "refused", ABOUT(d), NUMBER("job", job), NUMBER("refusal", refusal));
+    decide(b, d, job, refusal);
+    post_envelope(b, d, "refused", PEAT_ENVELOPE_REFUSAL, job, 8, &number);
+}
+
+static void offer(struct bridge *b, struct dialogue *d, const struct envelope *e)
+{
+    uint64_t answer = peat_message_request(RECORD(d), e->job, NULL, 0, e->body, (e->bits + 7u) / 8u, e->bits, NULL, 0, 0, BUFFERS);
+    unsigned refusal = act(b, d, state_of(d), answer, "");
+    if (refusal == PEAT_TAKEN) {
+        b->metrics.taken++;
+        decide(b, d, e->job, PEAT_TAKEN);
+        jobs_add(&d->held, e->job, e->job);
+        log_line(LOG_FINE, "taken", ABOUT(d), NUMBER("job", e->job));
+    } else {
+        refuse(b, d, e->job, refusal);
+    }
+}
+
+/* why an envelope is not even offered to the card; NULL: it is */
+static const char *kept_out(const struct bridge *b, const struct dialogue *d, const struct envelope *e)
+{
+    uint64_t highest = peat_record_highest(d->kept.record);
+    uint64_t from = highest > d->kept.floor ? highest : d->kept.floor;
+    if (e->kind != PEAT_ENVELOPE_TO_SEND)
+        return "another kind";
+    if (e->job <= d->kept.floor)
+        return "floor"; /* it may have been sent before the journal was restored */
+    if (e->job > from && e->job - from > b->config->job_jump)
+        return "jump"; /* taken, it would make a REPEAT of every job below it */
+    return NULL;
+}
+
+static const char *refusal_name(unsigned refusal)
+{
+    switch (refusal) {
+    case PEAT_CUT: return "CUT";
+    case PEAT_GROUPS: return "GROUPS";
+    case PEAT_KIND: return "KIND";
+    default: return "SIZE";
+    }
+}
+
+/* One payload, all of it: each envelope is taken, refused or laid aside, and what can't be read is laid aside with the rest
+   behind it. So every payload is acknowledged, and none comes back for ever. */
+void call_payload(struct bridge *b, struct dialogue *d, const uint8_t *payload, size_t bytes)
+{
+    struct envelope e;
+    const char *reason;
+    size_t at = 0, from;
+    unsigned refusal;
+    b->metrics.payloads++;
+    if (bytes > b->config->payload_most) {
+        post_dead(b, d, "too long", payload, bytes);
+        return;
+    }
+    do {
+        from = at;
+        refusal = mail_take(payload, bytes, &at, &e);
+        if (refusal != PEAT_TAKEN) {
+            post_dead(b, d, refusal_name(refusal), payload + from, bytes - from);
+            return;
+        }
+        if (e.kind == PEAT_ENVELOPE_TO_SEND && decided(b, d, e.job)) {
+            b->metrics.repeats++;
+            log_line(LOG_FINE, "repeat", ABOUT(d), NUMBER("job", e.job));
+            continue;
+        }
+        reason = kept_out(b, d, &e);
+        if (reason != NULL)
+            post_dead(b, d, reason, payload + from, at - from);
+        else
+            offer(b, d, &e);
+    } while (at < bytes);
+}

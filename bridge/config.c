@@ -1,0 +1,192 @@
+#include "config.h"
+
+#include <stdio.h>
+#include <stdlib.h>
+#include <string.h>
+
+/* What a name may be given. */
+struct key {
+    const char *name;
+    const char *standard; /* NULL: it must be given */
+    size_t at;
+    int is_text;
+    uint64_t least, most; /* of a number; of a text: its characters */
+    int has_number;       /* a text that must have {} in it once */
+};
+
+#define PLACE(field) offsetof(struct config, field)
+#define PATH(name, field, standard) {name, standard, PLACE(field), 1, 1, CONFIG_TEXT - 1, 0}
+#define MAYBE(name, field) {name, "", PLACE(field), 1, 0, CONFIG_TEXT - 1, 0}
+#define EACH(name, field, standard, most) {name, standard, PLACE(field), 1, 3, most, 1}
+#define COUNT(name, field, standard, least, most) {name, standard, PLACE(field), 0, least, most, 0}
+
+#define SOCKET_PATH 100 /* a local socket's path has 108 bytes at most, the number among them */
+
+static const struct key keys[] = {
+    PATH("journal", journal, NULL),
+    PATH("witness", witness, NULL),
+    COUNT("dialogues", dialogues, "48", 1, DIALOGUES_MOST),
+    EACH("aircraft", link, NULL, SOCKET_PATH),
+    COUNT("t_start_ms", t_start, "360000", 1, 3600000),
+    COUNT("retry_ms", retry, "1000", 1, 600000),
+    COUNT("retry_most_ms", retry_most, "30000", 1, 600000),
+    PATH("broker", broker, NULL),
+    COUNT("port", port, "5672", 1, 65535),
+    PATH("virtual_host", host_name, "/"),
+    PATH("user", user, "peat"),
+    MAYBE("password_file", password_file),
+    MAYBE("tls_ca", tls_ca),
+    MAYBE("tls_certificate", tls_certificate),
+    MAYBE("tls_key", tls_key),
+    EACH("queue_up", queue_up, "peat.up.{}", CONFIG_TEXT - 1),
+    PATH("queue_down", queue_down, "peat.down"),
+    PATH("queue_dead", queue_dead, "peat.dead"),
+    PATH("queue_owner", queue_owner, "peat.owner"),
+    COUNT("heartbeat_s", heartbeat, "10", 1, 3600),
+    COUNT("prefetch", prefetch, "8", 1, 1000),
+    COUNT("claim_ms", claim, "60000", 1, 600000),
+    COUNT("reconnect_ms", reconnect, "200", 1, 600000),
+    COUNT("reconnect_most_ms", reconnect_most, "10000", 1, 600000),
+    COUNT("job_jump", job_jump, "1000000", 1, UINT64_MAX),
+    COUNT("payload_most", payload_most, "65536", 1, 16777216),
+    COUNT("outbox_most", outbox_most, "100000", 1, 100000000),
+    COUNT("metrics_port", metrics_port, "0", 0, 65535),
+    COUNT("stop_ms", stop, "20000", 1, 3600000),
+    COUNT("log_level", log, "1", 0, 3),
+};
+
+#define KEYS (sizeof keys / sizeof *keys)
+
+/* A value is put into its place, or what is wrong with it is said. */
+static const char *set(struct config *c, const struct key *k, const char *value)
+{
+    char *end, *place = (char *)c + k->at;
+    uint64_t n;
+    const char *braces = strstr(value, "{}");
+    if (k->is_text) {
+        if (strlen(value) < k->least)
+            return "is too short";
+        if (strlen(value) > k->most)
+            return "is too long";
+        if (k->has_number && (braces == NULL || strstr(braces + 2, "{}") != NULL))
+            return "needs {} once, where the number of the dialogue goes";
+        strcpy(place, value);
+        return NULL;
+    }
+    if (*value < '0' || *value > '9')
+        return "is not a number";
+    n = strtoull(value, &end, 10);
+    if (*end != '\0' || strlen(value) > 20)
+        return "is not a number";
+    if (n < k->least || n > k->most)
+        return "is outside its limits";
+    memcpy(place, &n, sizeof n);
+    return NULL;
+}
+
+static char *trimmed(char *s)
+{
+    size_t n;
+    s += strspn(s, " \t\r\n");
+    for (n = strlen(s); n > 0 && strchr(" \t\r\n", s[n - 1]) != NULL; n--)
+        s[n - 1] = '\0';
+    return s;
+}
+
+static size_t key_named(const char *name)
+{
+    size_t i;
+    for (i = 0; i < KEYS && strcmp(keys[i].name, name) != 0; i++) {}
+    return i;
+}
+
+/* One line: nothing, a comment, or a name and its value. */
+static const char *take_line(struct config *c, char *line, unsigned char *given)
+{
+    char *sign, *name;
+    size_t i;
+    if (strchr(line, '\n') == NULL && strlen(line) > 500)
+        return "the line is too long";
+    line[strcspn(line, "#")] = '\0';
+    name = trimmed(line);
+    if (*name == '\0')
+        return NULL;
+    sign = strchr(name, '=');
+    if (sign == NULL)
+        return "the line has no `=`";
+    *sign = '\0';
+    name = trimmed(name);
+    i = key_named(name);
+    if (i == KEYS)
+        return "there is no such name";
+    if (given[i]++)
+        return "the name is given twice";
+    return set(c, &keys[i], trimmed(sign + 1));
+}
+
+/* What single values do not show. */
+static const char *together(const struct config *c)
+{
+    int certificate = c->tls_certificate[0] != '\0', key = c->tls_key[0] != '\0', ca = c->tls_ca[0] != '\0';
+    if (strcmp(c->journal, c->witness) == 0)
+        return "journal and witness are one file";
+    if (certificate != key)
+        return "tls_certificate and tls_key come together";
+    if (certificate && !ca)
+        return "tls_certificate needs tls_ca: without it the broker is not known";
+    if (c->claim < 3000 * c->heartbeat)
+        return "claim_ms is under three heartbeats: after a network cut the bridge would give up before the broker has noticed";
+    if (c->retry > c->retry_most || c->reconnect > c->reconnect_most)
+        return "a first wait is longer than the longest";
+    return NULL;
+}
+
+static int fail(FILE *f, char *fault, size_t room, const char *path, unsigned line, const char *name, const char *why)
+{
+    if (f != NULL)
+        fclose(f);
+    if (line > 0)
+        snprintf(fault, room, "%s:%u: %s %s", path, line, name, why);
+    else
+        snprintf(fault, room, "%s: %s%s%s", path, name, *name ? " " : "", why);
+    return 0;
+}
+
+int config_read(struct config *c, const char *path, char *fault, size_t room)
+{
+    FILE *f = fopen(path, "r");
+    char line[512], name[64];
+    unsigned char given[KEYS] = {0};
+    unsigned number = 0;
+    const char *why;
+    size_t i;
+    memset(c, 0, sizeof *c);
+    if (f == NULL)
+        return fail(f, fault, room, path, 0, "", "can not be read");
+    for (i = 0; i < KEYS; i++)
+        if (keys[i].standard != NULL)
+            set(c, &keys[i], keys[i].standard);
+    while (fgets(line, sizeof line, f) != NULL) {
+        number++;
+        snprintf(name, sizeof name, "%.*s", (int)strcspn(line + strspn(line, " \t"), " \t=#\r\n"), line + strspn(line, " \t"));
+        why = take_line(c, line, given);
+        if (why != NULL)
+            return fail(f, fault, room, path, number, name, why);
+    }
+    fclose(f);
+    for (i = 0; i < KEYS; i++)
+        if (keys[i].standard == NULL && !given[i])
+            return fail(NULL, fault, room, path, 0, keys[i].name, "is not given");
+    why = together(c);
+    return why == NULL || fail(NULL, fault, room, path, 0, "", why);
+}
+
+void config_name(const char *pattern, unsigned number, char *name, size_t room)
+{
+    const char *braces = strstr(pattern, "{}");
+    int before = braces == NULL ? (int)strlen(pattern) : (int)(braces - pattern);
+    if (braces == NULL)
+        snprintf(name, room, "%s", pattern);
+    else
+        snprintf(name, room, "%.*s%02u%s", before, pattern, number, braces + 2);
+}

@@ -1,0 +1,29 @@
+#include "floor.h"
+
+#include <stdio.h>
+
+#include "witness.h"
+
+static void raise_one(struct journal *j, unsigned dialogue, uint64_t floor)
+{
+    struct kept k;
+    j->load(j, dialogue, &k);
+    if (floor > k.floor)
+        k.floor = floor;
+    j->keep(j, dialogue, &k);
+    printf("dialogue %02u: floor %llu, highest job taken %llu\n", dialogue, (unsigned long long)k.floor,
+        (unsigned long long)peat_record_highest(k.record));
+}
+
+void floor_raise(struct journal *j, const struct config *c, uint64_t floor, uint64_t dialogue)
+{
+    uint64_t seen;
+    unsigned d;
+    if (witness_ask(c->witness, j->id, j->commits(j), &seen) != WITNESS_AGREES)
+        journal_renew(j);
+    for (d = 0; d < c->dialogues; d++)
+        if (dialogue == ALL_DIALOGUES || dialogue == d)
+            raise_one(j, d, floor);
+    j->commit(j);
+    witness_write(c->witness, j->id, j->commits(j));
+}

@@ -1,0 +1,451 @@
+/*
+ * The journal in SQLite: write-ahead log, every commit synced, the file locked for this process alone.
+ *
+ * A job number has 64 bits and SQLite's integers have a sign, so jobs are stored as eight bytes, the highest first: bytes
+ * compare as the numbers do.
+ */
+#include <sqlite3.h>
+#include <stdio.h>
+#include <stdlib.h>
+#include <string.h>
+#include <unistd.h>
+
+#include "checksum.h"
+#include "clock.h"
+#include "journal.h"
+#include "log.h"
+#include "witness.h"
+
+#define VERSION 1
+#define SYNCHRONOUS "2" /* FULL: each commit is synced. NORMAL (1) forgets commits at a power cut. */
+
+enum statement { KEEP, LOAD, DECIDE, FIND, OF_RUN, POST, NEXT, SETTLE, WAITING, COUNT, BEGIN, COMMIT, STATEMENTS };
+
+static const char *const texts[STATEMENTS] = {
+    [KEEP] = "INSERT OR REPLACE INTO dialogue(dialogue, record, run, deliveries, floor, sum) VALUES(?, ?, ?, ?, ?, ?)",
+    [LOAD] = "SELECT record, run, deliveries, floor, sum FROM dialogue WHERE dialogue = ?",
+    [DECIDE] = "INSERT INTO decision(dialogue, first, last, outcome, run) VALUES(?, ?, ?, ?, ?)"
+               " ON CONFLICT(dialogue, first) DO UPDATE SET last = excluded.last",
+    [FIND] = "SELECT first, last, outcome, run FROM decision WHERE dialogue = ? AND first <= ? ORDER BY first DESC LIMIT 1",
+    [OF_RUN] = "SELECT first, last, outcome, run FROM decision WHERE dialogue = ? AND run = ? ORDER BY first",
+    [POST] = "INSERT INTO outbox(journal, dialogue, type, reason, since, body) VALUES(?, ?, ?, ?, ?, ?)",
+    [NEXT] = "SELECT id, journal, dialogue, type, reason, since, body FROM outbox WHERE id > ? ORDER BY id LIMIT 1",
+    [SETTLE] = "DELETE FROM outbox WHERE id = ?",
+    [WAITING] = "SELECT since FROM outbox ORDER BY id LIMIT 1",
+    [COUNT] = "UPDATE journal SET commits = ?",
+    [BEGIN] = "BEGIN IMMEDIATE",
+    [COMMIT] = "COMMIT",
+};
+
+static const char schema[] =
+    "CREATE TABLE journal(one INTEGER PRIMARY KEY CHECK(one = 1), version INTEGER NOT NULL, id TEXT NOT NULL,"
+    " dialogues INTEGER NOT NULL, commits INTEGER NOT NULL);"
+    "CREATE TABLE dialogue(dialogue INTEGER PRIMARY KEY, record BLOB NOT NULL, run INTEGER NOT NULL, deliveries INTEGER NOT NULL,"
+    " floor BLOB NOT NULL, sum INTEGER NOT NULL);"
+    "CREATE TABLE decision(dialogue INTEGER NOT NULL, first BLOB NOT NULL, last BLOB NOT NULL, outcome INTEGER NOT NULL,"
+    " run INTEGER NOT NULL, PRIMARY KEY(dialogue, first)) WITHOUT ROWID;"
+    "CREATE TABLE outbox(id INTEGER PRIMARY KEY AUTOINCREMENT, journal TEXT NOT NULL, dialogue INTEGER NOT NULL, type TEXT NOT NULL,"
+    " reason TEXT NOT NULL, since INTEGER NOT NULL, body BLOB NOT NULL);";
+
+struct store {
+    sqlite3 *db;
+    sqlite3_stmt *statement[STATEMENTS];
+    int open;         /* a transaction is under way */
+    uint64_t commits; /* so far */
+    uint64_t letters; /* in the outbox */
+};
+
+static struct store *store_of(struct journal *j) { return j->store; }
+
+/* ---- what may not fail */
+
+static void give_up(struct store *s, const char *what)
+{
+    log_and_exit(EXIT_JOURNAL, "journal", what, sqlite3_errmsg(s->db));
+}
+
+static void execute(struct store *s, const char *text)
+{
+    if (sqlite3_exec(s->db, text, NULL, NULL, NULL) != SQLITE_OK)
+        give_up(s, text);
+}
+
+/* Makes a step; 1: there is a row. A statement without one is ready for its next use. */
+static int step(struct store *s, enum statement which)
+{
+    int got = sqlite3_step(s->statement[which]);
+    if (got != SQLITE_ROW && got != SQLITE_DONE)
+        give_up(s, texts[which]);
+    if (got == SQLITE_DONE)
+        sqlite3_reset(s->statement[which]);
+    return got == SQLITE_ROW;
+}
+
+static sqlite3_stmt *ready(struct store *s, enum statement which)
+{
+    sqlite3_reset(s->statement[which]);
+    return s->statement[which];
+}
+
+static void begin(struct store *s)
+{
+    if (!s->open) {
+        step(s, BEGIN);
+        s->open = 1;
+    }
+}
+
+/* ---- numbers of 64 bits as bytes */
+
+static void bind_number(sqlite3_stmt *q, int at, uint64_t n)
+{
+    uint8_t b[8];
+    int i;
+    for (i = 0; i < 8; i++)
+        b[i] = (uint8_t)(n >> (56 - 8 * i));
+    sqlite3_bind_blob(q, at, b, sizeof b, SQLITE_TRANSIENT);
+}
+
+static uint64_t column_number(sqlite3_stmt *q, int at)
+{
+    const uint8_t *b = sqlite3_column_blob(q, at);
+    uint64_t n = 0;
+    int i, bytes = sqlite3_column_bytes(q, at);
+    for (i = 0; i < bytes && i < 8; i++)
+        n = n << 8 | b[i];
+    return n;
+}
+
+/* ---- dialogues */
+
+static uint32_t sum_of(unsigned dialogue, const struct kept *k)
+{
+    uint32_t sum = checksum(0, &dialogue, sizeof dialogue);
+    sum = checksum(sum, k->record, sizeof k->record);
+    sum = checksum(sum, &k->run, sizeof k->run);
+    sum = checksum(sum, &k->deliveries, sizeof k->deliveries);
+    return checksum(sum, &k->floor, sizeof k->floor);
+}
+
+static void load(struct journal *j, unsigned dialogue, struct kept *k)
+{
+    struct store *s = store_of(j);
+    sqlite3_stmt *q = ready(s, LOAD);
+    sqlite3_bind_int64(q, 1, dialogue);
+    if (!step(s, LOAD) || sqlite3_column_bytes(q, 0) != PEAT_RECORD_BYTES)
+        log_and_exit(EXIT_JOURNAL, "journal", "load", "a dialogue has no record");
+    memcpy(k->record, sqlite3_column_blob(q, 0), PEAT_RECORD_BYTES);
+    k->run = (uint64_t)sqlite3_column_int64(q, 1);
+    k->deliveries = (uint64_t)sqlite3_column_int64(q, 2);
+    k->floor = column_number(q, 3);
+    if ((uint32_t)sqlite3_column_int64(q, 4) != sum_of(dialogue, k))
+        log_and_exit(EXIT_JOURNAL, "journal", "load", "a dialogue's checksum is wrong: the journal is damaged");
+    sqlite3_reset(q);
+}
+
+static void keep(struct journal *j, unsigned dialogue, const struct kept *k)
+{
+    struct store *s = store_of(j);
+    sqlite3_stmt *q = ready(s, KEEP);
+    begin(s);
+    sqlite3_bind_int64(q, 1, dialogue);
+    sqlite3_bind_blob(q, 2, k->record, PEAT_RECORD_BYTES, SQLITE_TRANSIENT);
+    sqlite3_bind_int64(q, 3, (sqlite3_int64)k->run);
+    sqlite3_bind_int64(q, 4, (sqlite3_int64)k->deliveries);
+    bind_number(q, 5, k->floor);
+    sqlite3_bind_int64(q, 6, sum_of(dialogue, k));
+    step(s, KEEP);
+}
+
+/* ---- decisions */
+
+static void decide(struct journal *j, unsigned dialogue, const struct decision *d)
+{
+    struct store *s = store_of(j);
+    sqlite3_stmt *q = ready(s, DECIDE);
+    begin(s);
+    sqlite3_bind_int64(q, 1, dialogue);
+    bind_number(q, 2, d->first);
+    bind_number(q, 3, d->last);
+    sqlite3_bind_int64(q, 4, d->outcome);
+    sqlite3_bind_int64(q, 5, (sqlite3_int64)d->run);
+    step(s, DECIDE);
+}
+
+static struct decision decision_at(sqlite3_stmt *q)
+{
+    struct decision d;
+    d.first = column_number(q, 0);
+    d.last = column_number(q, 1);
+    d.outcome = (unsigned)sqlite3_column_int(q, 2);
+    d.run = (uint64_t)sqlite3_column_int64(q, 3);
+    return d;
+}
+
+static int find(struct journal *j, unsigned dialogue, uint64_t job, struct decision *d)
+{
+    struct store *s = store_of(j);
+    sqlite3_stmt *q = ready(s, FIND);
+    sqlite3_bind_int64(q, 1, dialogue);
+    bind_number(q, 2, job);
+    if (!step(s, FIND))
+        return 0;
+    *d = decision_at(q);
+    sqlite3_reset(q);
+    return job <= d->last;
+}
+
+static void of_run(struct journal *j, unsigned dialogue, uint64_t run, void (*each)(void *, const struct decision *), void *with)
+{
+    struct store *s = store_of(j);
+    sqlite3_stmt *q = ready(s, OF_RUN);
+    sqlite3_bind_int64(q, 1, dialogue);
+    sqlite3_bind_int64(q, 2, (sqlite3_int64)run);
+    while (step(s, OF_RUN)) {
+        struct decision d = decision_at(q);
+        each(with, &d);
+    }
+}
+
+/* ---- the outbox */
+
+static void post(struct journal *j, const struct letter *l)
+{
+    struct store *s = store_of(j);
+    sqlite3_stmt *q = ready(s, POST);
+    begin(s);
+    sqlite3_bind_text(q, 1, j->id, -1, SQLITE_TRANSIENT);
+    sqlite3_bind_int64(q, 2, l->dialogue);
+    sqlite3_bind_text(q, 3, l->type, -1, SQLITE_TRANSIENT);
+    sqlite3_bind_text(q, 4, l->reason, -1, SQLITE_TRANSIENT);
+    sqlite3_bind_int64(q, 5, (sqlite3_int64)l->since);
+    sqlite3_bind_blob64(q, 6, l->bytes > 0 ? l->body : (const uint8_t *)"", l->bytes, SQLITE_TRANSIENT);
+    step(s, POST);
+    s->letters++;
+}
+
+static int next(struct journal *j, uint64_t behind, struct letter *l)
+{
+    struct store *s = store_of(j);
+    sqlite3_stmt *q = ready(s, NEXT);
+    sqlite3_bind_int64(q, 1, (sqlite3_int64)behind);
+    if (!step(s, NEXT))
+        return 0;
+    l->id = (uint64_t)sqlite3_column_int64(q, 0);
+    l->journal = (const char *)sqlite3_column_text(q, 1);
+    l->dialogue = (unsigned)sqlite3_column_int(q, 2);
+    l->type = (const char *)sqlite3_column_text(q, 3);
+    l->reason = (const char *)sqlite3_column_text(q, 4);
+    l->since = (uint64_t)sqlite3_column_int64(q, 5);
+    l->body = sqlite3_column_blob(q, 6);
+    l->bytes = (size_t)sqlite3_column_bytes(q, 6);
+    if (l->bytes == 0)
+        l->body = (const uint8_t *)""; /* SQLite has no pointer for no bytes */
+    return 1; /* the row stays open, and with it the texts and the body */
+}
+
+static void settle(struct journal *j, uint64_t id)
+{
+    struct store *s = store_of(j);
+    sqlite3_stmt *q = ready(s, SETTLE);
+    begin(s);
+    sqlite3_bind_int64(q, 1, (sqlite3_int64)id);
+    step(s, SETTLE);
+    s->letters -= (uint64_t)sqlite3_changes(s->db);
+}
+
+static uint64_t waiting(struct journal *j, uint64_t *since)
+{
+    struct store *s = store_of(j);
+    *since = 0;
+    if (s->letters > 0 && step(s, WAITING)) {
+        *since = (uint64_t)sqlite3_column_int64(s->statement[WAITING], 0);
+        ready(s, WAITING);
+    }
+    return s->letters;
+}
+
+/* ---- commits */
+
+static void commit(struct journal *j)
+{
+    struct store *s = store_of(j);
+    if (!s->open)
+        return;
+    ready(s, NEXT); /* an open row would keep the log from being written back */
+    sqlite3_bind_int64(ready(s, COUNT), 1, (sqlite3_int64)++s->commits);
+    step(s, COUNT);
+    step(s, COMMIT);
+    s->open = 0;
+}
+
+static uint64_t commits(struct journal *j) { return store_of(j)->commits; }
+
+static void close_store(struct journal *j)
+{
+    struct store *s = store_of(j);
+    int i;
+    for (i = 0; i < STATEMENTS; i++)
+        sqlite3_finalize(s->statement[i]);
+    if (sqlite3_close(s->db) != SQLITE_OK)
+        give_up(s, "close");
+    free(s);
+    j->store = NULL;
+}
+
+/* ---- opening */
+
+/* the first column of a text's first row */
+static void ask(struct store *s, const char *text, char *answer, size_t room)
+{
+    sqlite3_stmt *q = NULL;
+    answer[0] = '\0';
+    if (sqlite3_prepare_v2(s->db, text, -1, &q, NULL) != SQLITE_OK)
+        give_up(s, text);
+    if (sqlite3_step(q) == SQLITE_ROW && sqlite3_column_text(q, 0) != NULL)
+        snprintf(answer, room, "%s", (const char *)sqlite3_column_text(q, 0));
+    sqlite3_finalize(q);
+}
+
+static void expect(struct store *s, const char *text, const char *want, const char *why)
+{
+    char answer[200];
+    ask(s, text, answer, sizeof answer);
+    if (strcmp(answer, want) != 0)
+        log_and_exit(EXIT_JOURNAL, "journal", why, answer);
+}
+
+/* What only the process that has the file alone can do. */
+static void take_alone(struct store *s, const char *text)
+{
+    if (sqlite3_exec(s->db, text, NULL, NULL, NULL) == SQLITE_OK)
+        return;
+    if (sqlite3_errcode(s->db) == SQLITE_BUSY)
+        log_and_exit(EXIT_REFUSED, "journal", "another process has this journal", sqlite3_errmsg(s->db));
+    give_up(s, text);
+}
+
+/* The file is this process's alone, logged ahead and synced at each commit, or the process ends. */
+static void make_durable(struct store *s)
+{
+    char mode[16];
+    execute(s, "PRAGMA locking_mode = EXCLUSIVE");
+    take_alone(s, "PRAGMA journal_mode = WAL");
+    ask(s, "PRAGMA journal_mode", mode, sizeof mode);
+    if (strcmp(mode, "wal") != 0)
+        log_and_exit(EXIT_JOURNAL, "journal", "this file system gives no write-ahead log", mode);
+    execute(s, "PRAGMA synchronous = " SYNCHRONOUS);
+    expect(s, "PRAGMA synchronous", SYNCHRONOUS, "commits are not synced");
+    take_alone(s, "BEGIN EXCLUSIVE; COMMIT");
+    expect(s, "PRAGMA quick_check(1)", "ok", "the journal is damaged");
+}
+
+static void make_id(char *id)
+{
+    uint64_t n = 0;
+    FILE *f = fopen("/dev/urandom", "rb");
+    if (f == NULL || fread(&n, sizeof n, 1, f) != 1)
+        log_and_exit(EXIT_JOURNAL, "journal", "init", "there is no random number");
+    fclose(f);
+    snprintf(id, JOURNAL_ID, "%016llx", (unsigned long long)n);
+}
+
+/* The tables; the records follow, in the same commit. */
+static void make_tables(struct journal *j, unsigned dialogues)
+{
+    struct store *s = store_of(j);
+    char row[160], id[JOURNAL_ID];
+    make_id(id);
+    execute(s, texts[BEGIN]);
+    s->open = 1;
+    execute(s, schema);
+    snprintf(row, sizeof row, "INSERT INTO journal VALUES(1, %d, '%s', %u, 0)", VERSION, id, dialogues);
+    execute(s, row);
+}
+
+static void make_records(struct journal *j, unsigned dialogues)
+{
+    struct kept k;
+    unsigned d;
+    for (d = 0; d < dialogues; d++) {
+        memset(&k, 0, sizeof k);
+        peat_fresh(k.record, sizeof k.record, PEAT_GROUND, PEAT_NO_SECURITY);
+        keep(j, d, &k);
+    }
+    commit(j);
+}
+
+void journal_renew(struct journal *j)
+{
+    char row[80];
+    begin(store_of(j));
+    make_id(j->id);
+    snprintf(row, sizeof row, "UPDATE journal SET id = '%s'", j->id);
+    execute(store_of(j), row);
+}
+
+static void prepare(struct store *s)
+{
+    int i;
+    for (i = 0; i < STATEMENTS; i++)
+        if (sqlite3_prepare_v3(s->db, texts[i], -1, SQLITE_PREPARE_PERSISTENT, &s->statement[i], NULL) != SQLITE_OK)
+            give_up(s, texts[i]);
+}
+
+/* What the tables say of themselves. */
+static void take_front(struct journal *j, unsigned dialogues)
+{
+    struct store *s = store_of(j);
+    char answer[40], want[16];
+    snprintf(want, sizeof want, "%d", VERSION);
+    expect(s, "SELECT version FROM journal", want, "the journal has another version");
+    snprintf(want, sizeof want, "%u", dialogues);
+    expect(s, "SELECT dialogues FROM journal", want, "the journal has another number of dialogues");
+    ask(s, "SELECT id FROM journal", j->id, sizeof j->id);
+    ask(s, "SELECT commits FROM journal", answer, sizeof answer);
+    s->commits = strtoull(answer, NULL, 10);
+    ask(s, "SELECT count(*) FROM outbox", answer, sizeof answer);
+    s->letters = strtoull(answer, NULL, 10);
+}
+
+static void refuse_unless(int there, enum journal_open how, const char *path)
+{
+    if (how == JOURNAL_RUN && !there)
+        log_and_exit(EXIT_REFUSED, "journal", path, "it is not there: `init` makes one, where no job was ever taken");
+    if (how == JOURNAL_INIT && there)
+        log_and_exit(EXIT_REFUSED, "journal", path, "it is there already: a new one would take old jobs again");
+}
+
+void journal_open_sqlite(struct journal *j, const char *path, unsigned dialogues, enum journal_open how)
+{
+    struct store *s = calloc(1, sizeof *s);
+    int flags = SQLITE_OPEN_READWRITE | (how == JOURNAL_INIT ? SQLITE_OPEN_CREATE : 0);
+    refuse_unless(access(path, F_OK) == 0, how, path);
+    memset(j, 0, sizeof *j);
+    if (s == NULL || sqlite3_open_v2(path, &s->db, flags, NULL) != SQLITE_OK)
+        log_and_exit(EXIT_JOURNAL, "journal", path, "can not be opened");
+    j->store = s;
+    sqlite3_busy_timeout(s->db, 500);
+    make_durable(s);
+    if (how == JOURNAL_INIT)
+        make_tables(j, dialogues);
+    prepare(s);
+    take_front(j, dialogues);
+    if (how == JOURNAL_INIT) {
+        make_records(j, dialogues);
+        if (!folder_sync(path))
+            log_and_exit(EXIT_JOURNAL, "journal", path, "its folder can not be synced");
+    }
+    j->load = load;
+    j->keep = keep;
+    j->decide = decide;
+    j->find = find;
+    j->of_run = of_run;
+    j->post = post;
+    j->next = next;
+    j->settle = settle;
+    j->waiting = waiting;
+    j->commit = commit;
+    j->commits = commits;
+    j->close = close_store;
+}

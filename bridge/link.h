@@ -1,0 +1,61 @@
+/*
+ * The dialogue service: one connection for each dialogue, made when the dialogue is started and closed when it is over. So
+ * nothing of an old dialogue can arrive in a new one: it would come on a connection that is gone.
+ *
+ * A connection hands over primitives in order, each whole and once, until it breaks. That it breaks is the carrier's
+ * failure of docs/PAIR.md, seen by both ends.
+ *
+ * The bridge sees this face only. link_packet.c is one implementation, over local packet sockets.
+ */
+#ifndef LINK_H
+#define LINK_H
+
+#include <stddef.h>
+#include <stdint.h>
+
+#include "peatribbon.h"
+
+/* A primitive of the dialogue service, as one end invokes it. */
+struct primitive {
+    uint8_t kind;      /* enum peat_invoked */
+    uint8_t parameter; /* routing class, result or originator */
+    uint8_t security;
+    uint8_t given;     /* enum peat_given */
+    uint8_t data[PEAT_BUFFER_LEAST];
+    size_t bytes;      /* of data */
+};
+
+enum link_answer {
+    LINK_DONE,
+    LINK_LATER, /* nothing there, or no room: try again */
+    LINK_BROKEN /* the connection is of no use any more */
+};
+
+struct link {
+    void *wires;
+    /* connects to the aircraft of a dialogue; LINK_BROKEN: there is none now */
+    enum link_answer (*open)(struct link *, unsigned dialogue);
+    enum link_answer (*send)(struct link *, unsigned dialogue, const struct primitive *);
+    enum link_answer (*receive)(struct link *, unsigned dialogue, struct primitive *);
+    void (*close)(struct link *, unsigned dialogue);
+    /* for poll; -1: not connected */
+    int (*descriptor)(struct link *, unsigned dialogue);
+};
+
+/* ---- local packet sockets: path has {} where the number of the dialogue goes */
+
+void link_open_packet(struct link *, const char *path);
+
+/* A socket of this kind, not connected, and the address of a dialogue's aircraft; -1: there is none. */
+struct sockaddr_un;
+int packet_socket(const char *path, unsigned dialogue, struct sockaddr_un *address);
+
+/* A primitive as a packet: kind, parameter, security and given in a byte each, then the user data. Both ends use these. */
+enum link_answer packet_send(int socket, const struct primitive *);
+enum link_answer packet_receive(int socket, struct primitive *);
+
+/* ---- what a primitive that arrives tells a record: the answer of the card's call */
+
+uint64_t primitive_arrives(const struct primitive *, uint8_t *record, uint8_t *first, uint8_t *second);
+
+#endif

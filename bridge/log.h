@@ -1,0 +1,45 @@
+/*
+ * The log: one line of JSON on standard error for each event. A line has the time, the level, the event's name and what
+ * the event is about. Job numbers are written as text: JSON's readers keep 53 bits of a number, and a job has 64.
+ */
+#ifndef LOG_H
+#define LOG_H
+
+#include <stdint.h>
+
+enum log_level { LOG_FINE, LOG_INFO, LOG_WARN, LOG_FAIL };
+
+struct log_field {
+    const char *name; /* NULL ends the fields */
+    const char *text; /* NULL: the number counts */
+    uint64_t number;
+};
+
+#define TEXT(name, value) {name, value, 0}
+#define NUMBER(name, value) {name, NULL, value}
+#define ABOUT(d) NUMBER("dialogue", (d)->number)
+
+/* Lines below this level are not written. At first: LOG_INFO. */
+void log_from(enum log_level least);
+
+void log_fields(enum log_level level, const char *event, const struct log_field *fields);
+
+/* log_line(LOG_INFO, "opened", ABOUT(d), NUMBER("run", 3)) */
+#define log_line(level, event, ...) log_fields(level, event, (const struct log_field[]){__VA_ARGS__, {NULL, NULL, 0}})
+
+/* how the process ends when it may not go on */
+enum exit_status {
+    EXIT_STOPPED = 0, /* it was told to stop, and did */
+    EXIT_USAGE = 2,   /* the command line or the configuration is wrong */
+    EXIT_JOURNAL = 3, /* the journal failed: nothing of the last batch has left the process */
+    EXIT_REFUSED = 4  /* it may not run on this journal or this queue */
+};
+
+/* The last line, then the end of the process: no buffer is flushed, no connection is closed in order. */
+void log_and_exit(enum exit_status status, const char *event, const char *what, const char *why)
+#ifdef __GNUC__
+    __attribute__((noreturn))
+#endif
+    ;
+
+#endif

@@ -1,0 +1,102 @@
+#include "metrics.h"
+
+#include <stdarg.h>
+#include <stdio.h>
+
+/* the upper ends of the ranges in which commits are counted, in microseconds; the last range has none */
+static const uint64_t upper[LATENCIES] = {250, 500, 1000, 2500, 5000, 10000, 25000, 100000, 500000, 2000000};
+
+void metrics_commit(struct metrics *m, uint64_t us)
+{
+    int i;
+    for (i = 0; i < LATENCIES && us > upper[i]; i++) {}
+    m->commit_in[i]++;
+    m->commits++;
+    m->commit_us += us;
+}
+
+struct text {
+    char *at;
+    size_t room, used;
+};
+
+static void line(struct text *t, const char *form, ...)
+{
+    va_list a;
+    int n;
+    va_start(a, form);
+    n = vsnprintf(t->at + t->used, t->room - t->used, form, a);
+    va_end(a);
+    if (n > 0 && (size_t)n < t->room - t->used)
+        t->used += (size_t)n;
+}
+
+static void one(struct text *t, const char *name, const char *kind, const char *help, uint64_t value)
+{
+    line(t, "# HELP peat_%s %s\n# TYPE peat_%s %s\npeat_%s %llu\n", name, help, name, kind, name, (unsigned long long)value);
+}
+
+#define COUNTER "counter"
+#define GAUGE "gauge"
+
+static void jobs(struct text *t, const struct metrics *m)
+{
+    int i;
+    one(t, "payloads_total", COUNTER, "Payloads that the broker delivered.", m->payloads);
+    one(t, "jobs_taken_total", COUNTER, "Jobs taken by the card.", m->taken);
+    one(t, "jobs_repeated_total", COUNTER, "Jobs that were decided before, acknowledged again.", m->repeats);
+    one(t, "jobs_overtaken_total", COUNTER, "Jobs refused because a later one was taken before them.", m->overtaken);
+    line(t, "# HELP peat_jobs_refused_total Jobs refused, by the number of the refusal.\n# TYPE peat_jobs_refused_total counter\n");
+    for (i = 1; i < REFUSALS; i++)
+        if (i <= 5 || m->refused[i] > 0)
+            line(t, "peat_jobs_refused_total{refusal=\"%d\"} %llu\n", i, (unsigned long long)m->refused[i]);
+    one(t, "dead_letters_total", COUNTER, "Payloads or envelopes laid aside with a reason.", m->dead);
+    one(t, "messages_delivered_total", COUNTER, "Messages that came down from aircraft.", m->delivered);
+}
+
+static void dialogues(struct text *t, const struct metrics *m)
+{
+    one(t, "dialogues_open", GAUGE, "Dialogues open now.", m->open);
+    one(t, "dialogues_opened_total", COUNTER, "Dialogues that an aircraft accepted.", m->opened);
+    one(t, "dialogues_ended_total", COUNTER, "Dialogues ended in order.", m->ended);
+    one(t, "dialogues_broken_total", COUNTER, "Dialogues broken by an abort, an expiry, the carrier or a restart.", m->broken);
+    one(t, "t_start_expired_total", COUNTER, "Starts that no aircraft answered in time.", m->expired);
+    one(t, "primitives_sent_total", COUNTER, "Primitives of the dialogue service sent.", m->sent);
+    one(t, "primitives_received_total", COUNTER, "Primitives of the dialogue service received.", m->received);
+    one(t, "primitives_unsent", GAUGE, "Primitives that wait for room on a connection.", m->unsent);
+}
+
+static void outbox(struct text *t, const struct metrics *m)
+{
+    one(t, "broker_up", GAUGE, "1 while the broker is connected and the queues are ours.", m->broker);
+    one(t, "broker_connections_total", COUNTER, "Connections made to the broker.", m->connections);
+    one(t, "broker_lost_total", COUNTER, "Connections to the broker lost.", m->lost);
+    one(t, "letters_published_total", COUNTER, "Letters given to the broker, repeats among them.", m->published);
+    one(t, "letters_confirmed_total", COUNTER, "Letters that the broker confirmed.", m->confirmed);
+    one(t, "outbox_letters", GAUGE, "Letters in the outbox.", m->letters);
+    line(t, "# HELP peat_outbox_age_seconds How long the oldest letter waits.\n# TYPE peat_outbox_age_seconds gauge\n");
+    line(t, "peat_outbox_age_seconds %.3f\n", (double)m->oldest_ms / 1000.0);
+}
+
+static void commits(struct text *t, const struct metrics *m)
+{
+    uint64_t so_far = 0;
+    int i;
+    line(t, "# HELP peat_commit_seconds How long a commit took.\n# TYPE peat_commit_seconds histogram\n");
+    for (i = 0; i < LATENCIES; i++) {
+        so_far += m->commit_in[i];
+        line(t, "peat_commit_seconds_bucket{le=\"%g\"} %llu\n", (double)upper[i] / 1e6, (unsigned long long)so_far);
+    }
+    line(t, "peat_commit_seconds_bucket{le=\"+Inf\"} %llu\n", (unsigned long long)m->commits);
+    line(t, "peat_commit_seconds_sum %.6f\npeat_commit_seconds_count %llu\n", (double)m->commit_us / 1e6, (unsigned long long)m->commits);
+}
+
+size_t metrics_text(const struct metrics *m, char *text, size_t room)
+{
+    struct text t = {text, room, 0};
+    jobs(&t, m);
+    dialogues(&t, m);
+    outbox(&t, m);
+    commits(&t, m);
+    return t.used;
+}

@@ -1,0 +1,271 @@
+/*
+ * Aircraft: up to 48, each with an air record and a flight deck that counts what it sees.
+ *
+ *     aircraft PATH DIALOGUES ACCOUNT [ABORT [DOWN]]
+ *
+ * PATH has {} where the number of the aircraft goes: a packet socket for each, on which the bridge connects. ABORT: once in
+ * so many messages the flight deck aborts. DOWN: once in so many it sends a message down. SIGUSR1: every connection is
+ * dropped, as by a carrier that fails. SIGTERM: the account is written and the program ends.
+ *
+ * The account: a line with what was counted; then for each job that a flight deck saw `NUMBER JOB TIMES`.
+ */
+#include <errno.h>
+#include <poll.h>
+#include <signal.h>
+#include <stdio.h>
+#include <stdlib.h>
+#include <string.h>
+#include <sys/socket.h>
+#include <sys/un.h>
+#include <unistd.h>
+
+#include "../clock.h"
+#include "../config.h"
+#include "../jobs.h"
+#include "../link.h"
+#include "pattern.h"
+
+struct aircraft {
+    unsigned number;
+    uint8_t record[PEAT_RECORD_BYTES];
+    int listener, socket; /* socket -1: not connected */
+    uint32_t *seen;       /* times, by job */
+    size_t room;
+    uint64_t last, down;
+};
+
+static struct aircraft fleet[DIALOGUES_MOST];
+static unsigned aircraft_count, abort_once_in, down_once_in;
+static const char *path;
+static struct { unsigned long delivered, duplicates, disorder, damaged, opened, ended, aborted, failed, refused, down; } account;
+static uint32_t *latency_us;
+static size_t latencies, latency_room;
+static volatile sig_atomic_t drop, done;
+
+static uint8_t first[PEAT_BUFFER_LEAST], second[PEAT_BUFFER_LEAST];
+
+#define RECORD(a) (a)->record, sizeof (a)->record
+#define BUFFERS first, sizeof first, second, sizeof second
+#define NO_DATA NULL, 0, NULL, 0, PEAT_NONE, NULL, 0, 0
+#define JOBS_MOST 10000000
+
+static void on_signal(int signal)
+{
+    if (signal == SIGUSR1)
+        drop = 1;
+    else
+        done = 1;
+}
+
+static int once_in(unsigned n) { return n > 0 && rand() % (int)n == 0; }
+
+/* ---- the flight deck */
+
+static uint32_t *seen_of(struct aircraft *a, uint64_t job)
+{
+    size_t before = a->room;
+    a->seen = grow(a->seen, &a->room, (size_t)job + 1, sizeof *a->seen);
+    memset(a->seen + before, 0, (a->room - before) * sizeof *a->seen);
+    return &a->seen[job];
+}
+
+static void see(struct aircraft *a, const uint8_t *data, size_t bytes)
+{
+    uint8_t message[PEAT_BUFFER_LEAST];
+    uint64_t part = peat_data_part(PEAT_PART_MESSAGE, data, bytes, message, sizeof message), given = 0, job;
+    job = peat_refusal(part) == PEAT_TAKEN ? pattern_job(message, peat_part_bytes(part), a->number, &given) : 0;
+    if (job == 0 || job > JOBS_MOST) {
+        account.damaged++;
+        return;
+    }
+    if (++*seen_of(a, job) > 1) {
+        account.duplicates++;
+        return;
+    }
+    account.delivered++;
+    account.disorder += job <= a->last;
+    a->last = job;
+    if (given != 0) {
+        latency_us = grow(latency_us, &latency_room, latencies + 1, sizeof *latency_us);
+        latency_us[latencies++] = (uint32_t)(now_us() - given);
+    }
+}
+
+/* ---- the air machine */
+
+static void lose(struct aircraft *a);
+
+static void act(struct aircraft *a, uint64_t answer)
+{
+    struct primitive p;
+    if (peat_refusal(answer) != PEAT_TAKEN) {
+        account.refused++;
+        return;
+    }
+    if (peat_invoked(answer) != PEAT_SILENT && a->socket >= 0) {
+        p.kind = (uint8_t)peat_invoked(answer);
+        p.parameter = (uint8_t)peat_invoked_parameter(answer);
+        p.security = (uint8_t)peat_invoked_security(answer);
+        p.given = peat_apdu_bits(answer) > 0 ? PEAT_USER_DATA : PEAT_NO_USER_DATA;
+        p.bytes = peat_apdu_bytes(answer);
+        memcpy(p.data, first, p.bytes);
+        if (packet_send(a->socket, &p) != LINK_DONE)
+            lose(a); /* the ground does not read: for this aircraft the carrier has failed */
+    }
+    switch (peat_told(answer)) {
+    case PEAT_START_INDICATION:
+        account.opened++;
+        act(a, peat_start_response(RECORD(a), PEAT_ACCEPTED, NO_DATA, BUFFERS));
+        break;
+    case PEAT_MESSAGE_INDICATION: see(a, second, peat_data_bytes(answer)); break;
+    case PEAT_END_INDICATION:
+        account.ended++;
+        act(a, peat_end_response(RECORD(a), PEAT_ACCEPTED, NO_DATA, BUFFERS));
+        break;
+    }
+}
+
+/* The connection is gone. */
+static void lose(struct aircraft *a)
+{
+    if (a->socket >= 0)
+        close(a->socket);
+    a->socket = -1;
+    if (peat_record_state(a->record) != PEAT_IDLE) {
+        account.failed++;
+        act(a, peat_d_p_abort_indication(RECORD(a), BUFFERS));
+    }
+}
+
+/* Now and then the flight deck answers a message with something of its own. */
+static void fly(struct aircraft *a)
+{
+    uint8_t message[9];
+    if (peat_record_state(a->record) != PEAT_DIALOGUE)
+        return;
+    if (once_in(abort_once_in)) {
+        account.aborted++;
+        act(a, peat_user_abort(RECORD(a), PEAT_COMMANDED_TERMINATION, BUFFERS));
+    } else if (once_in(down_once_in)) {
+        account.down++;
+        pattern_number(message, ++a->down);
+        message[8] = (uint8_t)a->number;
+        act(a, peat_message_request(RECORD(a), a->down, NULL, 0, message, sizeof message, 8 * sizeof message, NULL, 0, 0, BUFFERS));
+    }
+}
+
+static void hear(struct aircraft *a)
+{
+    struct primitive p;
+    int n;
+    for (n = 0; n < 64 && a->socket >= 0; n++) {
+        enum link_answer got = packet_receive(a->socket, &p);
+        if (got == LINK_LATER)
+            return;
+        if (got == LINK_BROKEN) {
+            lose(a);
+        } else if (peat_record_state(a->record) != PEAT_IDLE || p.kind == PEAT_D_START_REQUEST) {
+            act(a, primitive_arrives(&p, a->record, first, second));
+            if (p.kind == PEAT_D_DATA_REQUEST)
+                fly(a);
+        }
+    }
+}
+
+/* A new connection: what was left of an old one is gone with it. */
+static void meet(struct aircraft *a)
+{
+    int s = accept(a->listener, NULL, NULL);
+    if (s < 0)
+        return;
+    lose(a);
+    a->socket = s;
+}
+
+/* ---- beginning and end */
+
+static int board(struct aircraft *a, unsigned number)
+{
+    struct sockaddr_un address;
+    a->number = number;
+    a->socket = -1;
+    a->listener = packet_socket(path, number, &address);
+    peat_fresh(RECORD(a), PEAT_AIR, PEAT_NO_SECURITY);
+    unlink(address.sun_path);
+    return a->listener >= 0 && bind(a->listener, (const struct sockaddr *)&address, sizeof address) == 0 && listen(a->listener, 4) == 0;
+}
+
+static int by_size(const void *a, const void *b)
+{
+    uint32_t x = *(const uint32_t *)a, y = *(const uint32_t *)b;
+    return x < y ? -1 : x > y;
+}
+
+static int write_account(const char *to)
+{
+    FILE *f = fopen(to, "w");
+    unsigned n;
+    size_t job;
+    if (f == NULL)
+        return 1;
+    fprintf(f, "# delivered %lu duplicates %lu disorder %lu damaged %lu opened %lu ended %lu aborted %lu failed %lu refused %lu down %lu", account.delivered,
+        account.duplicates, account.disorder, account.damaged, account.opened, account.ended, account.aborted, account.failed, account.refused, account.down);
+    if (latencies > 0) {
+        qsort(latency_us, latencies, sizeof *latency_us, by_size);
+        fprintf(f, " p50_us %u p99_us %u most_us %u", latency_us[latencies / 2], latency_us[latencies * 99 / 100], latency_us[latencies - 1]);
+    }
+    fputc('\n', f);
+    for (n = 0; n < aircraft_count; n++)
+        for (job = 0; job < fleet[n].room; job++)
+            if (fleet[n].seen[job] > 0)
+                fprintf(f, "%u %lu %u\n", n, (unsigned long)job, fleet[n].seen[job]);
+    return fclose(f) != 0;
+}
+
+static void round_once(void)
+{
+    struct pollfd polls[2 * DIALOGUES_MOST];
+    unsigned n;
+    for (n = 0; n < aircraft_count; n++) {
+        polls[2 * n] = (struct pollfd){fleet[n].listener, POLLIN, 0};
+        polls[2 * n + 1] = (struct pollfd){fleet[n].socket, POLLIN, 0};
+    }
+    if (poll(polls, 2 * aircraft_count, 1000) < 0 && errno != EINTR)
+        done = 1;
+    for (n = 0; n < aircraft_count; n++) {
+        hear(&fleet[n]);
+        meet(&fleet[n]);
+        if (drop)
+            lose(&fleet[n]);
+    }
+    drop = 0;
+}
+
+int main(int argc, char **argv)
+{
+    struct sigaction a;
+    unsigned n;
+    if (argc < 4 || argc > 6 || strtoul(argv[2], NULL, 10) < 1 || strtoul(argv[2], NULL, 10) > DIALOGUES_MOST) {
+        fputs("usage: aircraft PATH DIALOGUES ACCOUNT [ABORT [DOWN]]\n", stderr);
+        return 2;
+    }
+    path = argv[1];
+    aircraft_count = (unsigned)strtoul(argv[2], NULL, 10);
+    abort_once_in = argc > 4 ? (unsigned)strtoul(argv[4], NULL, 10) : 0;
+    down_once_in = argc > 5 ? (unsigned)strtoul(argv[5], NULL, 10) : 0;
+    memset(&a, 0, sizeof a);
+    a.sa_handler = on_signal;
+    sigaction(SIGTERM, &a, NULL);
+    sigaction(SIGUSR1, &a, NULL);
+    srand((unsigned)getpid());
+    for (n = 0; n < aircraft_count; n++)
+        if (!board(&fleet[n], n)) {
+            fprintf(stderr, "aircraft: %s: no socket for number %u\n", path, n);
+            return 2;
+        }
+    puts("ready");
+    fflush(stdout);
+    while (!done)
+        round_once();
+    return write_account(argv[3]);
+}

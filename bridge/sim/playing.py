@@ -1,0 +1,236 @@
+"""What the tests, the demonstration and the soak with a real broker share: the programs, a private RabbitMQ, a stage with a
+journal and aircraft, and what was told and seen in the end."""
+import os
+import re
+import select
+import subprocess
+import time
+from pathlib import Path
+
+TOP = Path(__file__).resolve().parents[2]
+OUT = TOP / "target/bridge"
+X86 = str(TOP / "tools/x86")
+running = []  # processes to end
+
+
+class Missing(Exception):
+    """What is needed is not on this machine."""
+
+
+class Broken(Exception):
+    """What must work does not."""
+
+
+def call(*words, **more):
+    return subprocess.run([str(w) for w in words], capture_output=True, text=True, cwd=more.pop("cwd", TOP), **more)
+
+
+def program(name, *words, env=None, **more):
+    p = subprocess.Popen([X86, "run", str(OUT / name)] + [str(w) for w in words], cwd=TOP, env=dict(os.environ, **(env or {})), **more)
+    running.append(p)
+    return p
+
+
+def end_all():
+    for p in running:
+        if p.poll() is None:
+            p.kill()
+            p.wait()
+
+
+def until(what, seconds, every=0.05):
+    """Polls until it holds."""
+    end = time.monotonic() + seconds
+    while time.monotonic() < end:
+        if what():
+            return True
+        time.sleep(every)
+    return False
+
+
+def ends(p, seconds):
+    """The status of a process, or None where it goes on."""
+    try:
+        return p.wait(seconds)
+    except subprocess.TimeoutExpired:
+        return None
+
+
+def build():
+    """The programs, and a bridge with points at which it kills itself."""
+    said = call("tests/archive")
+    if said.returncode != 0:
+        raise Broken("the archive is not built: " + said.stdout[-300:] + said.stderr[-300:])
+    words = call("tools/libraries", "rabbitmq", "sqlite")
+    if words.returncode != 0:
+        raise Missing("there is no SQLite, or no AMQP library, for x86-64")
+    said = call("make", "-s", "-C", "bridge")
+    if said.returncode != 0:
+        raise Broken("the bridge does not link: " + said.stderr[:500])
+    objects = [str(o) for o in sorted(OUT.glob("*.o")) if o.name not in ("points.o", "broker_none.o")]
+    said = call(X86, "cc", "-std=c99", "-O2", "-Wall", "-Wextra", "-Werror", "-pedantic", "-D_POSIX_C_SOURCE=200809L", "-Iinclude", "-o", OUT / "killed",
+                "tests/bridge_broker/points.c", "tests/bridge/disk.c", *objects, "target/staticlib/libcard.a", *words.stdout.split())
+    if said.returncode != 0:
+        raise Broken("the test's bridge does not link: " + said.stderr[:500])
+
+
+def fetch_broker():
+    said = call("tools/broker", "get")
+    if said.returncode != 0:
+        raise Missing(said.stdout.strip().splitlines()[-1] if said.stdout.strip() else "RabbitMQ can not be had")
+
+
+def broker(word, folder):
+    said = call("tools/broker", word, folder)
+    if said.returncode != 0:
+        raise Broken("broker %s: %s" % (word, said.stdout[-300:]))
+
+
+class Stage:
+    """A folder with a journal, aircraft, and the broker's queues."""
+
+    def __init__(self, room, name, plain_port, dialogues, **more):
+        self.folder = Path(room) / name
+        self.folder.mkdir()
+        self.port, self.dialogues = plain_port, dialogues
+        self.decks, self.letters, self.log = self.folder / "decks", self.folder / "letters", self.folder / "log"
+        self.config = self.write("config", **more)
+        if self.command("init") != 0:
+            raise Broken(name + ": no journal is made")
+        self.position("declare", dialogues)
+        self.aircraft = None
+
+    def write(self, name, **more):
+        """A configuration; what is given replaces what a test uses otherwise."""
+        settings = dict(journal=self.folder / (name + ".journal"), witness=self.folder / (name + ".witness"), dialogues=self.dialogues,
+                        aircraft=self.folder / "a{}", broker="127.0.0.1", port=self.port, user="guest", password_file=self.folder / "password",
+                        retry_ms=20, retry_most_ms=200, reconnect_ms=20, reconnect_most_ms=300, claim_ms=15000, heartbeat_s=5, stop_ms=30000)
+        settings.update(more)
+        (self.folder / "password").write_text("guest\n")
+        path = self.folder / name
+        path.write_text("".join("%s = %s\n" % s for s in settings.items()))
+        return path
+
+    def command(self, word, config=None):
+        return call(X86, "run", OUT / "bridge", word, config or self.config).returncode
+
+    def fly(self, aborts=0, down=0):
+        self.aircraft = program("aircraft", self.folder / "a{}", self.dialogues, self.decks, aborts, down, stdout=subprocess.DEVNULL)
+        until(lambda: (self.folder / ("a%02d" % (self.dialogues - 1))).exists(), 10)
+
+    def land(self):
+        self.aircraft.terminate()
+        return ends(self.aircraft, 20) == 0
+
+    def bridge(self, point=None, config=None, forgetful=False):
+        """A bridge; one that kills itself at a point; one whose disk forgets what was not synced."""
+        env = {} if point is None else {"PEAT_POINT": str(point)}
+        env.update({"PEAT_DISK": "1"} if forgetful else {})
+        with open(self.log, "a") as log:
+            return program("killed" if env else "bridge", config or self.config, env=env, stderr=log)
+
+    def position(self, *words):
+        return call(X86, "run", OUT / "position", self.port, *words)
+
+    def put(self, dialogue, payload, times=1):
+        if self.position("put", dialogue, times, payload.hex()).returncode != 0:
+            raise Broken("a payload is not stored")
+
+    def depth(self):
+        """The payloads that wait in the queues; -1: the broker does not say."""
+        said = self.position("depth", self.dialogues).stdout.strip()
+        return int(said) if said.isdigit() else -1
+
+    def collect(self, jobs=0, rate=0):
+        """A position that gives jobs and writes down what it is told."""
+        return program("position", self.port, "run", self.dialogues, jobs, rate, self.letters, stdout=subprocess.PIPE, text=True)
+
+    def told(self):
+        """id -> dialogue, type, reason, body of each letter"""
+        rows = {}
+        if self.letters.exists():
+            for line in self.letters.read_text().splitlines():
+                parts = line.split(" ")
+                if len(parts) == 5 and parts[4].endswith("."):
+                    rows[parts[0]] = (int(parts[1]), parts[2], parts[3], bytes.fromhex(parts[4][:-1]))
+        return rows
+
+    def fates(self):
+        """(dialogue, job) -> the fates that were told: ended, broken, refused"""
+        rows = {}
+        for dialogue, kind, _, body in self.told().values():
+            for job in jobs_of(body) if kind in ("ended", "broken") else [refused_job(body)] if kind == "refused" else ():
+                rows.setdefault((dialogue, job), []).append(kind)
+        return rows
+
+    def seen(self):
+        """(dialogue, job) -> how often a flight deck saw it"""
+        rows = {}
+        for line in self.decks.read_text().splitlines()[1:]:
+            dialogue, job, times = map(int, line.split())
+            rows[dialogue, job] = times
+        return rows
+
+    def drain(self, seconds=60):
+        """Bridges, until no payload waits; each stops in order."""
+        for _ in range(6):
+            b = self.bridge()
+            until(lambda: b.poll() is not None or self.depth() == 0, seconds, 0.3)
+            time.sleep(0.3)
+            b.terminate()
+            if ends(b, 60) != 0:
+                b.kill()
+                raise Broken("the bridge does not stop in order; its last words:\n" + self.log.read_text()[-1500:])
+            if self.depth() == 0:
+                return
+        raise Broken("payloads wait for ever")
+
+    def verdict(self, jobs):
+        said = call(X86, "run", OUT / "position", "verdict", self.dialogues, jobs, self.decks, self.letters)
+        return said.returncode == 0, said.stdout.rstrip()
+
+
+def jobs_of(body):
+    """The jobs of a notice."""
+    text = re.search(rb'"jobs":"([0-9,-]*)"', body).group(1).decode()
+    for part in filter(None, text.split(",")):
+        first, _, last = part.partition("-")
+        yield from range(int(first), int(last or first) + 1)
+
+
+def refused_job(body):
+    """The job of an envelope of kind 3: groups of seven bits, the lowest first."""
+    job = 0
+    for place, group in enumerate(body[1:]):
+        job |= (group & 127) << 7 * place
+        if group < 128:
+            return job
+    raise Broken("an envelope is cut")
+
+
+def said_given(giver, seconds):
+    """The position says that it has given all its jobs."""
+    ready, _, _ = select.select([giver.stdout], [], [], seconds)
+    return bool(ready) and giver.stdout.readline().strip() == "given"
+
+
+# ---- payloads
+
+def number(n):
+    groups = []
+    while True:
+        groups.append(n & 127 | (128 if n > 127 else 0))
+        n >>= 7
+        if n == 0:
+            return bytes(groups)
+
+
+def message(dialogue, job):
+    """as pattern.h has it"""
+    head = job.to_bytes(8, "big") + bytes([dialogue]) + bytes(8)
+    return head + bytes((job * i + dialogue) & 255 for i in range(17, 17 + job * 29 % 200))
+
+
+def envelope(dialogue, job):
+    body = message(dialogue, job)
+    return number(1) + number(job) + number(8 * len(body)) + body

@@ -1,0 +1,239 @@
+#define _DEFAULT_SOURCE
+#include "memory_broker.h"
+
+#include <stdio.h>
+#include <stdlib.h>
+#include <string.h>
+#include <sys/mman.h>
+
+#include "../../bridge/clock.h"
+
+#define LATE_MS 60      /* a late payload comes after this in any case */
+#define SLOW_ROUNDS 2   /* a new connection gets nothing at first: a broker takes its time */
+#define QUIET_ROUNDS 6  /* in so many rounds a bridge has begun its dialogues and looked into its outbox */
+
+/* What the process has of it. The events' payloads stand in the shared memory. */
+struct ends {
+    struct memory *memory;
+    const struct bridge *bridge;
+    unsigned turn; /* the queue that is looked at first */
+    int ours;
+};
+
+static struct ends *ends_of(struct broker *b) { return b->ends; }
+
+struct memory *memory_make(unsigned prefetch)
+{
+    struct memory *m = mmap(NULL, sizeof *m, PROT_READ | PROT_WRITE, MAP_SHARED | MAP_ANONYMOUS, -1, 0);
+    if (m == MAP_FAILED)
+        abort();
+    m->prefetch = prefetch;
+    return m;
+}
+
+void memory_empty(struct memory *m, unsigned prefetch)
+{
+    unsigned d;
+    m->owner = m->cut = m->away = m->forgets = 0;
+    m->prefetch = prefetch;
+    m->letters = m->stale = m->deliveries = m->redeliveries = 0;
+    m->given = m->confirmed = 0;
+    for (d = 0; d < DIALOGUES_MOST; d++)
+        m->queue[d].put = m->queue[d].gone = m->queue[d].next = 0;
+}
+
+void memory_put(struct memory *m, unsigned dialogue, const uint8_t *payload, size_t bytes, int late)
+{
+    struct memory_queue *q = &m->queue[dialogue];
+    struct memory_payload *p = &q->payload[q->put];
+    if (q->put == MEMORY_PAYLOADS || bytes > MEMORY_BYTES)
+        abort();
+    p->bytes = bytes;
+    p->late = late;
+    p->tag = 0;
+    memcpy(p->byte, payload, bytes);
+    __atomic_store_n(&q->put, q->put + 1, __ATOMIC_RELEASE);
+}
+
+void memory_lost(struct memory *m)
+{
+    unsigned d;
+    if (m->forgets)
+        m->letters -= (unsigned)(m->given - m->confirmed);
+    m->owner = m->cut = 0;
+    m->given = m->confirmed = 0;
+    for (d = 0; d < DIALOGUES_MOST; d++) {
+        struct memory_queue *q = &m->queue[d];
+        m->redeliveries += q->next - q->gone;
+        q->next = q->gone;
+        q->consumed = 0;
+        q->waits_since = 0;
+    }
+}
+
+int memory_idle(const struct memory *m)
+{
+    unsigned d;
+    for (d = 0; d < DIALOGUES_MOST; d++)
+        if (m->queue[d].gone != m->queue[d].put)
+            return 0;
+    return m->owner && m->rounds > QUIET_ROUNDS && m->outbox == 0 && m->given == m->confirmed;
+}
+
+/* ---- the face */
+
+static enum broker_state memory_connect(struct broker *b)
+{
+    struct memory *m = ends_of(b)->memory;
+    b->why = m->away ? "nobody answers" : "there is another bridge";
+    if (m->away)
+        return BROKER_AWAY;
+    if (m->owner)
+        return BROKER_TAKEN;
+    m->owner = ends_of(b)->ours = 1;
+    m->connection++;
+    m->tag = 0;
+    m->rounds = 0;
+    return BROKER_OURS;
+}
+
+static int lost(struct broker *b)
+{
+    b->why = "cut";
+    return ends_of(b)->memory->cut == 1 || ends_of(b)->memory->away;
+}
+
+static int memory_consume(struct broker *b, unsigned dialogue, int on)
+{
+    ends_of(b)->memory->queue[dialogue].consumed = on;
+    return !lost(b);
+}
+
+/* Whether a late payload may come now. */
+static int may_come(struct ends *e, unsigned dialogue, struct memory_queue *q)
+{
+    if (!q->payload[q->next].late)
+        return 1;
+    if (q->waits_since == 0)
+        q->waits_since = now_ms();
+    if (state_of(&e->bridge->dialogue[dialogue]) != PEAT_IDLE && now_ms() - q->waits_since < LATE_MS)
+        return 0;
+    q->waits_since = 0;
+    return 1;
+}
+
+static int deliver(struct ends *e, unsigned dialogue, struct broker_event *event)
+{
+    struct memory *m = e->memory;
+    struct memory_queue *q = &m->queue[dialogue];
+    struct memory_payload *p = &q->payload[q->next];
+    if (!q->consumed || q->next == __atomic_load_n(&q->put, __ATOMIC_ACQUIRE) || q->next - q->gone >= m->prefetch || !may_come(e, dialogue, q))
+        return 0;
+    q->next++;
+    m->deliveries++;
+    p->tag = ++m->tag;
+    event->news = BROKER_DELIVERY;
+    event->dialogue = dialogue;
+    event->receipt = (struct receipt){m->connection, p->tag};
+    event->payload = p->byte;
+    event->bytes = p->bytes;
+    return 1;
+}
+
+static struct broker_event memory_next(struct broker *b)
+{
+    struct ends *e = ends_of(b);
+    struct broker_event event;
+    unsigned n;
+    e->memory->rounds++;
+    e->memory->outbox = e->bridge->metrics.letters;
+    memset(&event, 0, sizeof event);
+    if (lost(b)) {
+        event.news = BROKER_LOST;
+    } else if (e->memory->confirmed < e->memory->given) {
+        event.news = BROKER_CONFIRMED;
+        event.all = e->memory->given - e->memory->confirmed > 1; /* one by one, or all at once */
+        event.place = e->memory->confirmed = event.all ? e->memory->given : e->memory->confirmed + 1;
+    } else {
+        for (n = 0; n < DIALOGUES_MOST && e->memory->rounds > SLOW_ROUNDS; n++)
+            if (deliver(e, e->turn = (e->turn + 1) % DIALOGUES_MOST, &event))
+                break;
+        if (event.news == BROKER_DELIVERY && e->memory->cut == 2)
+            e->memory->cut = 1;
+    }
+    return event;
+}
+
+static int memory_acknowledge(struct broker *b, unsigned dialogue, struct receipt r)
+{
+    struct memory *m = ends_of(b)->memory;
+    struct memory_queue *q = &m->queue[dialogue];
+    if (r.connection != m->connection) {
+        m->stale++; /* the bridge kept a receipt of another connection */
+        return 1;
+    }
+    while (q->gone < q->next && q->payload[q->gone].tag <= r.tag)
+        q->gone++;
+    return !lost(b);
+}
+
+static int memory_publish(struct broker *b, const struct letter *l)
+{
+    struct memory *m = ends_of(b)->memory;
+    struct memory_letter *to = &m->letter[m->letters];
+    if (lost(b))
+        return 0;
+    if (m->letters == MEMORY_LETTERS)
+        abort();
+    snprintf(to->id, sizeof to->id, "%s-%llu", l->journal, (unsigned long long)l->id);
+    snprintf(to->type, sizeof to->type, "%s", l->type);
+    snprintf(to->reason, sizeof to->reason, "%s", l->reason);
+    to->dialogue = l->dialogue;
+    to->bytes = l->bytes < MEMORY_BODY ? l->bytes : MEMORY_BODY;
+    memcpy(to->body, l->body, to->bytes);
+    m->letters++;
+    m->given++;
+    return 1;
+}
+
+static int memory_descriptor(struct broker *b)
+{
+    (void)b;
+    return -1;
+}
+
+/* There is no descriptor to wait for, so the bridge may not sleep while something waits. */
+static int memory_buffered(struct broker *b)
+{
+    struct ends *e = ends_of(b);
+    unsigned d;
+    for (d = 0; d < DIALOGUES_MOST; d++) {
+        struct memory_queue *q = &e->memory->queue[d];
+        if (q->consumed && q->next < q->put && q->next - q->gone < e->memory->prefetch)
+            return 1;
+    }
+    return e->memory->confirmed < e->memory->given || e->memory->rounds <= QUIET_ROUNDS || lost(b);
+}
+
+static void memory_disconnect(struct broker *b)
+{
+    if (ends_of(b)->ours)
+        memory_lost(ends_of(b)->memory);
+    ends_of(b)->ours = 0;
+}
+
+void memory_open(struct broker *b, struct memory *m, const struct bridge *bridge)
+{
+    static struct ends e;
+    e = (struct ends){m, bridge, 0, 0};
+    memset(b, 0, sizeof *b);
+    b->ends = &e;
+    b->connect = memory_connect;
+    b->consume = memory_consume;
+    b->next = memory_next;
+    b->acknowledge = memory_acknowledge;
+    b->publish = memory_publish;
+    b->descriptor = memory_descriptor;
+    b->buffered = memory_buffered;
+    b->disconnect = memory_disconnect;
+}

@@ -1,0 +1,59 @@
+/*
+ * The card's calls, answered by the model of tests/card, which shares no code with the card. With it the bridge can be built
+ * for a processor that the card's archive is not for, and run there with the address sanitizer, which no emulator takes.
+ */
+#include "../card/model.h"
+#include "peatribbon.h"
+
+/* A model's range is lent for writing; what the header lends as const is only read. */
+static struct range lent(const uint8_t *at, size_t len) { return (struct range){(uint8_t *)(uintptr_t)at, len}; }
+
+#define RECORD uint8_t *rec, size_t rec_len
+#define MESSAGE_DATA const uint8_t *ids, size_t ids_len, const uint8_t *msgs, size_t msgs_len, uint64_t message, const uint8_t *checks, size_t checks_len, uint64_t check
+#define USER_DATA uint64_t given, const uint8_t *bytes, size_t bytes_len
+#define BUFFERS uint8_t *first, size_t first_len, uint8_t *second, size_t second_len
+
+/* what every machine's call is lent, and what some are */
+#define BASE .rec = {rec, rec_len}, .first = {first, first_len}, .second = {second, second_len}
+#define WITH_MESSAGE .ids = lent(ids, ids_len), .msgs = lent(msgs, msgs_len), .message = message, .checks = lent(checks, checks_len), .check = check
+#define WITH_USER_DATA .given = given, .bytes = lent(bytes, bytes_len)
+#define ASK(which, ...) \
+    do { \
+        struct args a = {__VA_ARGS__}; \
+        return model_call(which, &a); \
+    } while (0)
+
+uint64_t peat_fresh(RECORD, uint64_t side, uint64_t policy) { ASK(FRESH, .rec = {rec, rec_len}, .n = {side, policy}); }
+
+uint64_t peat_start_request(RECORD, uint64_t class_, uint64_t security, MESSAGE_DATA, BUFFERS) { ASK(START_REQUEST, BASE, WITH_MESSAGE, .n = {class_, security}); }
+uint64_t peat_start_response(RECORD, uint64_t result, MESSAGE_DATA, BUFFERS) { ASK(START_RESPONSE, BASE, WITH_MESSAGE, .n = {result}); }
+uint64_t peat_message_request(RECORD, uint64_t job, MESSAGE_DATA, BUFFERS) { ASK(MESSAGE_REQUEST, BASE, WITH_MESSAGE, .n = {job}); }
+uint64_t peat_end_request(RECORD, MESSAGE_DATA, BUFFERS) { ASK(END_REQUEST, BASE, WITH_MESSAGE); }
+uint64_t peat_end_response(RECORD, uint64_t result, MESSAGE_DATA, BUFFERS) { ASK(END_RESPONSE, BASE, WITH_MESSAGE, .n = {result}); }
+uint64_t peat_user_abort(RECORD, uint64_t reason, BUFFERS) { ASK(USER_ABORT, BASE, .n = {reason}); }
+uint64_t peat_timer_expiry(RECORD, BUFFERS) { ASK(TIMER_EXPIRY, BASE); }
+
+uint64_t peat_d_start_indication(RECORD, uint64_t peer, uint64_t security, uint64_t priority, uint64_t rate, uint64_t routing, USER_DATA, BUFFERS)
+{
+    ASK(D_START_INDICATION, BASE, WITH_USER_DATA, .n = {peer, security, priority, rate, routing});
+}
+uint64_t peat_d_start_confirmation(RECORD, uint64_t result, uint64_t source, uint64_t security, USER_DATA, BUFFERS)
+{
+    ASK(D_START_CONFIRMATION, BASE, WITH_USER_DATA, .n = {result, source, security});
+}
+uint64_t peat_d_data_indication(RECORD, USER_DATA, BUFFERS) { ASK(D_DATA_INDICATION, BASE, WITH_USER_DATA); }
+uint64_t peat_d_end_indication(RECORD, USER_DATA, BUFFERS) { ASK(D_END_INDICATION, BASE, WITH_USER_DATA); }
+uint64_t peat_d_end_confirmation(RECORD, uint64_t result, USER_DATA, BUFFERS) { ASK(D_END_CONFIRMATION, BASE, WITH_USER_DATA, .n = {result}); }
+uint64_t peat_d_abort_indication(RECORD, uint64_t originator, USER_DATA, BUFFERS) { ASK(D_ABORT_INDICATION, BASE, WITH_USER_DATA, .n = {originator}); }
+uint64_t peat_d_p_abort_indication(RECORD, BUFFERS) { ASK(D_P_ABORT_INDICATION, BASE); }
+
+uint64_t peat_data_part(uint64_t which, const uint8_t *delivered, size_t delivered_len, uint8_t *out, size_t out_len)
+{
+    ASK(DATA_PART, .n = {which}, .bytes = lent(delivered, delivered_len), .first = {out, out_len});
+}
+uint64_t peat_read_envelope(const uint8_t *bytes, size_t bytes_len) { ASK(READ_ENVELOPE, .bytes = lent(bytes, bytes_len)); }
+uint64_t peat_envelope_job(const uint8_t *bytes, size_t bytes_len) { ASK(ENVELOPE_JOB, .bytes = lent(bytes, bytes_len)); }
+uint64_t peat_write_envelope(uint64_t kind, uint64_t job, uint64_t bits, const uint8_t *body, size_t body_len, uint8_t *out, size_t out_len)
+{
+    ASK(WRITE_ENVELOPE, .n = {kind, job, bits}, .msgs = lent(body, body_len), .first = {out, out_len});
+}

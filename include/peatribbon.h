@@ -42,6 +42,8 @@
  *
  * WHAT THE HOST OWES THE CARD is in docs/HOST.md, on one page: above all, what a call left of a record is on stable storage
  * before anything of that call leaves the host, and no record that has lived is ever replaced by a fresh one.
+ *
+ * SPDX-License-Identifier: Apache-2.0
  */
 #ifndef PEATRIBBON_H
 #define PEATRIBBON_H
@@ -52,6 +54,21 @@
 #ifdef __cplusplus
 extern "C" {
 #endif
+
+/* ---- the version
+ *
+ * VERSION of the project: what the header is of, as a string and in three numbers. CHANGELOG.md says what changed.
+ */
+
+#define PEAT_VERSION "0.2.0"
+#define PEAT_VERSION_MAJOR 0
+#define PEAT_VERSION_MINOR 2
+#define PEAT_VERSION_PATCH 0
+
+/* What the archive is of: "peatribbon VERSION, rattle logic HASH", where the hash names the logic in which its card was proved.
+   Of the installed archive, libpeatribbon.a (make install, make dist); target/staticlib/libcard.a is the card alone and does
+   not have it. A host that logs it at its start knows which card it runs. */
+extern const char peat_archive_version[];
 
 /* ---- sizes */
 

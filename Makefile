@@ -1,7 +1,10 @@
 # make run: the main job.  make test: the gate.  make bench: speed, scale and stack, measured (the gate does not run it).
 # make demo: the bridge with a private broker, killed a few times.  make soak: the same for a long time, with everything that
 # can happen to it (SECONDS=900).
-.PHONY: run test bench demo soak
+# make install PREFIX=/usr/local (and DESTDIR): archive, header, pkg-config file, manual pages.  make dist: the same with docs and checksums, as a tar.
+.PHONY: run test bench demo soak install dist
+
+PREFIX = /usr/local
 
 run:
 	tools/main-job
@@ -17,3 +20,9 @@ demo:
 
 soak:
 	tools/soak
+
+install:
+	PREFIX='$(PREFIX)' DESTDIR='$(DESTDIR)' tools/release install
+
+dist:
+	tools/release dist

@@ -554,7 +554,7 @@ static inline const char *peat_name_in(const char *const *names, size_t count, u
 /* of enum peat_refusal, as document 01 has it */
 static inline const char *peat_refusal_name(unsigned refusal)
 {
-    static const char *const names[] = {"taken", "ROOM", "SHAPE", "PROHIBITED", "NO-MESSAGE", "REPEAT", "?", "?", "?", "?", "SHORT", "RANGE",
+    static const char *const names[] = {"taken", "ROOM", "SHAPE", "PROHIBITED", "NO-MESSAGE", "REPEAT", "?", "ALL-OPEN", "NOT-OPEN", "?", "SHORT", "RANGE",
         "EXTENSION", "LENGTH-FORM", "LIMIT", "TAIL", "NOT-CARRIED", "DEFAULT", "?", "?", "CUT", "GROUPS", "KIND", "SIZE"};
     return PEAT_NAMED(names, refusal);
 }

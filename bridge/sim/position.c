@@ -30,6 +30,7 @@
 #define CHANNEL 1
 #define WINDOW 2000 /* payloads that the broker may have to confirm */
 #define COPIES 3
+#define PATIENCE_MS 600000 /* a broker that was killed may take minutes to come back on a busy machine */
 
 static amqp_connection_state_t amqp;
 static int port;
@@ -69,7 +70,7 @@ static int connect_once(void)
 
 static int connect_soon(void)
 {
-    uint64_t until = now_ms() + 60000;
+    uint64_t until = now_ms() + PATIENCE_MS;
     while (!done && now_ms() < until) {
         if (connect_once())
             return 1;

@@ -408,9 +408,12 @@ void bridge_run(struct bridge *b, const volatile sig_atomic_t *stop)
     }
     b->journal->commit(b->journal);
     witness_write(b->config->witness, b->journal->id, b->journal->commits(b->journal));
-    b->broker->disconnect(b->broker);
-    for EACH (b, d)
-        b->link->close(b->link, d->number);
     log_line(LOG_INFO, "stopped", NUMBER("taken", b->metrics.taken), NUMBER("repeats", b->metrics.repeats), NUMBER("letters", b->metrics.letters));
+    b->broker->end(b->broker);
+    b->link->end(b->link);
     b->journal->close(b->journal);
+    for EACH (b, d) {
+        free(d->out.item);
+        free(d->held.range);
+    }
 }

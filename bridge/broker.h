@@ -62,6 +62,8 @@ struct broker {
     int (*descriptor)(struct broker *);
     int (*buffered)(struct broker *);
     void (*disconnect)(struct broker *);
+    /* disconnects and gives the memory back */
+    void (*end)(struct broker *);
 };
 
 struct config;

@@ -15,6 +15,7 @@
 #include <sys/time.h>
 
 #include "broker.h"
+#include "clock.h"
 #include "config.h"
 #include "log.h"
 
@@ -22,6 +23,7 @@
 #define LETTERS 1 /* the channel of letters; that of dialogue d is FIRST_QUEUE + d */
 #define FIRST_QUEUE 2
 #define PERSISTENT 2
+#define CONNECT_MS 20000 /* that the queues may take when a connection is made: the watchdog waits for a minute */
 
 static const struct timeval open_timeout = {2, 0}, answer_timeout = {5, 0}, at_once = {0, 0};
 
@@ -32,7 +34,7 @@ struct ends {
     uint64_t connection;
     amqp_envelope_t envelope; /* of the last delivery */
     int has_envelope;
-    char why[160];
+    char why[CONFIG_TEXT + 160];
 };
 
 static struct ends *ends_of(struct broker *b) { return b->ends; }
@@ -173,11 +175,16 @@ static int open_channels(struct broker *b)
     struct ends *e = ends_of(b);
     const struct config *c = e->config;
     char queue[CONFIG_TEXT + 2];
+    uint64_t until = now_ms() + CONNECT_MS;
     unsigned d;
     if (!known(b, c->queue_down) || !known(b, c->queue_dead))
         return 0;
     for (d = 0; d < c->dialogues; d++) {
         config_name(c->queue_up, d, queue, sizeof queue);
+        if (now_ms() > until) {
+            because(b, queue, "the broker is too slow");
+            return 0;
+        }
         if (!known(b, queue))
             return 0;
         amqp_channel_open(e->amqp, (amqp_channel_t)(FIRST_QUEUE + d));
@@ -380,6 +387,14 @@ static int read_password(struct ends *e)
     return 1;
 }
 
+static void rabbit_end(struct broker *b)
+{
+    rabbit_disconnect(b);
+    free(b->ends);
+    b->ends = NULL;
+    b->why = NULL;
+}
+
 int broker_open_rabbit(struct broker *b, const struct config *c)
 {
     struct ends *e = calloc(1, sizeof *e);
@@ -400,5 +415,6 @@ int broker_open_rabbit(struct broker *b, const struct config *c)
     b->descriptor = rabbit_descriptor;
     b->buffered = rabbit_buffered;
     b->disconnect = rabbit_disconnect;
+    b->end = rabbit_end;
     return 1;
 }

@@ -264,35 +264,41 @@ static const char *refusal_name(unsigned refusal)
     }
 }
 
+/* An envelope of a payload, whose bytes are given: a repeat, laid aside, or offered to the card. */
+static void sort_envelope(struct bridge *b, struct dialogue *d, const struct envelope *e, const uint8_t *bytes, size_t count)
+{
+    const char *reason;
+    if (e->kind == PEAT_ENVELOPE_TO_SEND && decided(b, d, e->job)) {
+        b->metrics.repeats++;
+        log_line(LOG_FINE, "repeat", ABOUT(d), NUMBER("job", e->job));
+        return;
+    }
+    reason = kept_out(b, d, e);
+    if (reason != NULL)
+        post_dead(b, d, reason, bytes, count);
+    else
+        offer(b, d, e);
+}
+
 /* One payload, all of it: each envelope is taken, refused or laid aside, and what can't be read is laid aside with the rest
    behind it. So every payload is acknowledged, and none comes back for ever. */
 void call_payload(struct bridge *b, struct dialogue *d, const uint8_t *payload, size_t bytes)
 {
+    struct mail m;
     struct envelope e;
-    const char *reason;
-    size_t at = 0, from;
-    unsigned refusal;
     b->metrics.payloads++;
     if (bytes > b->config->payload_most) {
         post_dead(b, d, "too long", payload, bytes);
         return;
     }
+    mail_begin(&m, payload, bytes);
     do {
-        from = at;
-        refusal = mail_take(payload, bytes, &at, &e);
+        unsigned refusal = mail_take(&m, &e);
+        size_t from = mail_place(&m);
         if (refusal != PEAT_TAKEN) {
             post_dead(b, d, refusal_name(refusal), payload + from, bytes - from);
             return;
         }
-        if (e.kind == PEAT_ENVELOPE_TO_SEND && decided(b, d, e.job)) {
-            b->metrics.repeats++;
-            log_line(LOG_FINE, "repeat", ABOUT(d), NUMBER("job", e.job));
-            continue;
-        }
-        reason = kept_out(b, d, &e);
-        if (reason != NULL)
-            post_dead(b, d, reason, payload + from, at - from);
-        else
-            offer(b, d, &e);
-    } while (at < bytes);
+        sort_envelope(b, d, &e, payload + from, m.at - from);
+    } while (mail_waits(&m));
 }

@@ -40,6 +40,8 @@ struct link {
     void (*close)(struct link *, unsigned dialogue);
     /* for poll; -1: not connected */
     int (*descriptor)(struct link *, unsigned dialogue);
+    /* closes every connection and gives the memory back */
+    void (*end)(struct link *);
 };
 
 /* ---- local packet sockets: path has {} where the number of the dialogue goes */

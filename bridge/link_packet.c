@@ -98,6 +98,15 @@ static enum link_answer wire_receive(struct link *l, unsigned dialogue, struct p
 
 static int wire_descriptor(struct link *l, unsigned dialogue) { return *socket_of(l, dialogue); }
 
+static void wires_end(struct link *l)
+{
+    unsigned d;
+    for (d = 0; d < DIALOGUES_MOST; d++)
+        wire_close(l, d);
+    free(l->wires);
+    l->wires = NULL;
+}
+
 void link_open_packet(struct link *l, const char *path)
 {
     struct wires *w = calloc(1, sizeof *w);
@@ -113,4 +122,5 @@ void link_open_packet(struct link *l, const char *path)
     l->receive = wire_receive;
     l->close = wire_close;
     l->descriptor = wire_descriptor;
+    l->end = wires_end;
 }

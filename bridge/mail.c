@@ -1,15 +1,36 @@
 #include "mail.h"
 
-#include "peatribbon.h"
-
-unsigned mail_take(const uint8_t *payload, size_t bytes, size_t *at, struct envelope *e)
+void mail_begin(struct mail *m, const uint8_t *payload, size_t bytes)
 {
-    const uint8_t *here = payload + *at;
-    uint64_t answer = peat_read_envelope(here, bytes - *at);
-    e->kind = peat_envelope_kind(answer);
-    e->job = peat_envelope_job(here, bytes - *at);
-    e->bits = peat_envelope_bits(answer);
-    e->body = here + peat_envelope_body(answer);
-    *at += peat_envelope_next(answer);
-    return peat_refusal(answer);
+    peat_mail_fresh(m->record, sizeof m->record);
+    m->payload = payload;
+    m->bytes = bytes;
+    m->at = 0;
 }
+
+/* The envelope that an answer says was finished. */
+static void open_envelope(const struct mail *m, uint64_t answer, struct envelope *e)
+{
+    e->kind = peat_envelope_kind(answer);
+    e->job = peat_mail_job(m->record);
+    e->bits = peat_envelope_bits(answer);
+    e->body = peat_mail_body(m->record, answer);
+}
+
+unsigned mail_take(struct mail *m, struct envelope *e)
+{
+    while (mail_waits(m)) {
+        uint64_t answer = peat_mail_take(m->record, sizeof m->record, m->payload + m->at, m->bytes - m->at);
+        if (peat_refusal(answer) != PEAT_TAKEN)
+            return peat_refusal(answer);
+        m->at += peat_mail_taken(answer);
+        if (peat_envelope_kind(answer) != 0) {
+            open_envelope(m, answer, e);
+            return PEAT_TAKEN;
+        }
+    }
+    peat_mail_end(m->record, sizeof m->record);
+    return PEAT_CUT;
+}
+
+size_t mail_place(const struct mail *m) { return (size_t)peat_mail_place(m->record); }

@@ -112,9 +112,10 @@ static void tell_fate(struct account *a, unsigned dialogue, int ended, const uin
 /* An envelope: a refusal, or a job that was laid aside. Other bytes that were laid aside are no job's. */
 static void tell_envelope(struct account *a, unsigned dialogue, int dead, const uint8_t *body, size_t bytes)
 {
+    struct mail m;
     struct envelope e;
-    size_t at = 0;
-    if (mail_take(body, bytes, &at, &e) != PEAT_TAKEN || e.kind != (dead ? PEAT_ENVELOPE_TO_SEND : PEAT_ENVELOPE_REFUSAL)) {
+    mail_begin(&m, body, bytes);
+    if (mail_take(&m, &e) != PEAT_TAKEN || e.kind != (dead ? PEAT_ENVELOPE_TO_SEND : PEAT_ENVELOPE_REFUSAL)) {
         a->odd += !dead;
         return;
     }

@@ -8,7 +8,7 @@ import time
 from pathlib import Path
 
 TOP = Path(__file__).resolve().parents[2]
-OUT = TOP / "target/bridge"
+OUT = TOP / "target/bridge"  # build chooses
 X86 = str(TOP / "tools/x86")
 running = []  # processes to end
 
@@ -25,8 +25,9 @@ def call(*words, **more):
     return subprocess.run([str(w) for w in words], capture_output=True, text=True, cwd=more.pop("cwd", TOP), **more)
 
 
-def program(name, *words, env=None, **more):
-    p = subprocess.Popen([X86, "run", str(OUT / name)] + [str(w) for w in words], cwd=TOP, env=dict(os.environ, **(env or {})), **more)
+def program(name, *words, env=None, at=(), **more):
+    """Starts a program; at: the words that bring it somewhere else (a network namespace)."""
+    p = subprocess.Popen([*at, X86, "run", str(OUT / name)] + [str(w) for w in words], cwd=TOP, env=dict(os.environ, **(env or {})), **more)
     running.append(p)
     return p
 
@@ -56,19 +57,22 @@ def ends(p, seconds):
         return None
 
 
-def build():
-    """The programs, and a bridge with points at which it kills itself."""
+def build(checked=False):
+    """The programs, and a bridge with points at which it kills itself. Checked: with the sanitizers that the machine has."""
+    global OUT
     said = call("tests/archive")
     if said.returncode != 0:
         raise Broken("the archive is not built: " + said.stdout[-300:] + said.stderr[-300:])
     words = call("tools/libraries", "rabbitmq", "sqlite")
     if words.returncode != 0:
         raise Missing("there is no SQLite, or no AMQP library, for x86-64")
-    said = call("make", "-s", "-C", "bridge")
+    sanitizers = call("tools/x86", "sanitizers").stdout.split() if checked else []
+    OUT = TOP / ("target/bridge_checked" if checked else "target/bridge")
+    said = call("make", "-s", "-C", "bridge", "OUT=" + str(OUT), "MORE=" + " ".join(sanitizers))
     if said.returncode != 0:
         raise Broken("the bridge does not link: " + said.stderr[:500])
     objects = [str(o) for o in sorted(OUT.glob("*.o")) if o.name not in ("points.o", "broker_none.o")]
-    said = call(X86, "cc", "-std=c99", "-O2", "-Wall", "-Wextra", "-Werror", "-pedantic", "-D_POSIX_C_SOURCE=200809L", "-Iinclude", "-o", OUT / "killed",
+    said = call(X86, "cc", "-std=c99", "-O2", "-g", "-Wall", "-Wextra", "-Werror", "-pedantic", "-D_POSIX_C_SOURCE=200809L", "-Iinclude", *sanitizers, "-o", OUT / "killed",
                 "tests/bridge_broker/points.c", "tests/bridge/disk.c", *objects, "target/staticlib/libcard.a", *words.stdout.split())
     if said.returncode != 0:
         raise Broken("the test's bridge does not link: " + said.stderr[:500])
@@ -94,22 +98,29 @@ class Stage:
         self.folder.mkdir()
         self.port, self.dialogues = plain_port, dialogues
         self.decks, self.letters, self.log = self.folder / "decks", self.folder / "letters", self.folder / "log"
-        self.config = self.write("config", **more)
+        self.more = more
+        self.config = self.write("config")
         if self.command("init") != 0:
             raise Broken(name + ": no journal is made")
         self.position("declare", dialogues)
         self.aircraft = None
+        self.at = ()  # where the bridges run
 
     def write(self, name, **more):
         """A configuration; what is given replaces what a test uses otherwise."""
         settings = dict(journal=self.folder / (name + ".journal"), witness=self.folder / (name + ".witness"), dialogues=self.dialogues,
                         aircraft=self.folder / "a{}", broker="127.0.0.1", port=self.port, user="guest", password_file=self.folder / "password",
                         retry_ms=20, retry_most_ms=200, reconnect_ms=20, reconnect_most_ms=300, claim_ms=15000, heartbeat_s=5, stop_ms=30000)
+        settings.update(self.more)
         settings.update(more)
         (self.folder / "password").write_text("guest\n")
         path = self.folder / name
         path.write_text("".join("%s = %s\n" % s for s in settings.items()))
         return path
+
+    def said(self, event):
+        """How often the bridges' log has an event."""
+        return self.log.read_text().count('"event":"%s"' % event) if self.log.exists() else 0
 
     def command(self, word, config=None):
         return call(X86, "run", OUT / "bridge", word, config or self.config).returncode
@@ -122,12 +133,13 @@ class Stage:
         self.aircraft.terminate()
         return ends(self.aircraft, 20) == 0
 
-    def bridge(self, point=None, config=None, forgetful=False):
+    def bridge(self, point=None, config=None, forgetful=False, env=None):
         """A bridge; one that kills itself at a point; one whose disk forgets what was not synced."""
-        env = {} if point is None else {"PEAT_POINT": str(point)}
+        env = dict(env or {})
+        env.update({} if point is None else {"PEAT_POINT": str(point)})
         env.update({"PEAT_DISK": "1"} if forgetful else {})
         with open(self.log, "a") as log:
-            return program("killed" if env else "bridge", config or self.config, env=env, stderr=log)
+            return program("killed" if point is not None or forgetful else "bridge", config or self.config, env=env, at=self.at, stderr=log)
 
     def position(self, *words):
         return call(X86, "run", OUT / "position", self.port, *words)

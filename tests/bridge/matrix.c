@@ -9,16 +9,19 @@
 #include <netinet/in.h>
 #include <poll.h>
 #include <signal.h>
+#include <stddef.h>
 #include <stdio.h>
 #include <stdlib.h>
 #include <string.h>
 #include <sys/socket.h>
 #include <sys/un.h>
+#include <sys/wait.h>
 #include <unistd.h>
 
 #include "../../bridge/clock.h"
 #include "../../bridge/floor.h"
 #include "../../bridge/log.h"
+#include "../../bridge/notify.h"
 #include "disk.h"
 #include "stage.h"
 
@@ -220,6 +223,23 @@ static void refusals(void)
 
 /* ---- a disk that fails */
 
+static int has_ended(pid_t pid)
+{
+    siginfo_t s;
+    s.si_pid = 0;
+    return waitid(P_PID, (id_t)pid, &s, WEXITED | WNOHANG | WNOWAIT) == 0 && s.si_pid == pid;
+}
+
+/* The status of a bridge that may not go on; -1: it does, and has delivered everything or goes on for too long. */
+static int ends_at_once(pid_t bridge)
+{
+    int i;
+    for (i = 0; i < SOON && !has_ended(bridge) && !stage_quiet(&stage); i++)
+        poll(NULL, 0, 1);
+    return stage_wait(bridge, 0);
+}
+
+/* Each of the first syncs fails: the bridge ends, and the next one finds nothing lost. */
 static void failing_disk(void)
 {
     const char *name = "failing disk";
@@ -233,7 +253,7 @@ static void failing_disk(void)
         set(4);
         stage_aircraft(&stage, 0, 0);
         give_jobs(4, 3, 0);
-        status = stage_wait(stage_bridge(&stage, bad), SOON);
+        status = ends_at_once(stage_bridge(&stage, bad));
         check(status == EXIT_JOURNAL, name, "a bridge whose commit fails goes on");
         memory_lost(memory);
         judged(stage_play(&stage, none, 0), name);
@@ -333,7 +353,7 @@ static void restored(void)
     give_jobs(2, 5, 0);
     check(stage_play(&stage, none, 0), name, "the jobs are not taken");
     copy_file(copy, stage.config.journal);
-    check(stage_wait(stage_bridge(&stage, none[0]), SOON) == EXIT_REFUSED, name, "an old copy is taken for the journal");
+    check(ends_at_once(stage_bridge(&stage, none[0])) == EXIT_REFUSED, name, "an old copy is taken for the journal");
     memory_lost(memory);
     fflush(stdout);
     pid = fork();
@@ -479,6 +499,16 @@ static size_t put_envelope(uint8_t *at, unsigned kind, uint64_t job, unsigned bi
     return peat_written_bytes(written);
 }
 
+/* a letter that was laid aside with exactly these bytes */
+static int laid_aside(const uint8_t *bytes, size_t count)
+{
+    unsigned i;
+    for (i = 0; i < memory->letters; i++)
+        if (strcmp(memory->letter[i].type, "dead") == 0 && memory->letter[i].bytes == count && memcmp(memory->letter[i].body, bytes, count) == 0)
+            return 1;
+    return 0;
+}
+
 static unsigned letters_of(const char *type, const char *reason)
 {
     unsigned i, n = 0;
@@ -491,9 +521,10 @@ static void odd_payloads(void)
 {
     const char *name = "odd payloads";
     static const struct { const char *reason; uint8_t byte[8]; size_t bytes; } bad[] = {
-        {"CUT", {0}, 0}, {"CUT", {0x01}, 1}, {"CUT", {0x01, 0x05, 0x10, 0xAA}, 4}, {"GROUPS", {0x01, 0x80, 0x00, 0x00}, 4},
+        {"CUT", {0}, 0}, {"CUT", {0x01}, 1}, {"CUT", {0x01, 0x05, 0x18, 0xAA, 0xBB}, 5}, {"GROUPS", {0x01, 0x80, 0x00, 0x00}, 4},
         {"GROUPS", {0x01, 0x00, 0x00}, 3}, {"KIND", {0x04, 0x01, 0x00}, 3}, {"SIZE", {0x01, 0x01, 0x01, 0xFF}, 4}};
     const struct plan none[1] = {{0}};
+    static const uint8_t cut[] = {0x01, 0x05, 0x10, 0xAA}; /* the second byte of a body is missing */
     uint8_t payload[MEMORY_BYTES];
     size_t i, n = 0;
     uint64_t job = 1;
@@ -506,8 +537,8 @@ static void odd_payloads(void)
     n = put_envelope(payload, PEAT_ENVELOPE_DELIVERED, 1, 8);
     n += put_envelope(payload + n, PEAT_ENVELOPE_REFUSAL, 1, 8);
     n += put_envelope(payload + n, PEAT_ENVELOPE_TO_SEND, job++, 8); /* taken, behind two that are laid aside */
-    payload[n++] = 0x01;                                             /* and a byte left over */
-    memory_put(memory, 0, payload, n, 0);
+    memcpy(payload + n, cut, sizeof cut);                            /* and one that the payload ends inside of */
+    memory_put(memory, 0, payload, n + sizeof cut, 0);
     n = put_envelope(payload, PEAT_ENVELOPE_TO_SEND, 1000000, 8);
     n += put_envelope(payload + n, PEAT_ENVELOPE_TO_SEND, UINT64_MAX, 8);
     memory_put(memory, 0, payload, n, 0);
@@ -518,8 +549,9 @@ static void odd_payloads(void)
     memory_put(memory, 0, payload, n, 0); /* once more: all are repeats */
     check(stage_play(&stage, none, 0), name, "a payload comes back for ever");
     for (i = 0; i < sizeof bad / sizeof *bad; i++)
-        check(letters_of("dead", bad[i].reason) > 0, name, bad[i].reason);
-    check(letters_of("dead", "CUT") == 4, name, "not three cut payloads and a byte left over");
+        check(letters_of("dead", bad[i].reason) > 0 && laid_aside(bad[i].byte, bad[i].bytes), name, bad[i].reason);
+    check(letters_of("dead", "CUT") == 4, name, "not three cut payloads and an envelope that is cut");
+    check(laid_aside(cut, sizeof cut), name, "what is laid aside does not begin where the envelope does");
     check(letters_of("dead", "another kind") == 2, name, "an envelope of another kind is not laid aside");
     check(letters_of("dead", "jump") == 2, name, "a job jumps");
     check(letters_of("dead", "too long") == 1, name, "a payload that is too long is looked at");
@@ -558,7 +590,110 @@ static void no_answer(void)
     memory_lost(memory);
 }
 
-/* ---- operation: the page of metrics, words to systemd */
+/* ---- operation: words to systemd, the page of metrics */
+
+/* The socket of systemd, played here: in the file system, or (with an @) a name of its own. */
+static int notify_socket(const char *at, const char *where)
+{
+    struct sockaddr_un a;
+    int s = socket(AF_UNIX, SOCK_DGRAM, 0);
+    size_t n;
+    memset(&a, 0, sizeof a);
+    a.sun_family = AF_UNIX;
+    n = (size_t)snprintf(stage.notify, sizeof stage.notify, "%s%s/words", at, where);
+    memcpy(a.sun_path, stage.notify, n);
+    if (*at == '@')
+        a.sun_path[0] = '\0';
+    check(bind(s, (struct sockaddr *)&a, (socklen_t)(offsetof(struct sockaddr_un, sun_path) + n)) == 0, "systemd", "no socket");
+    return s;
+}
+
+/* 1: a word came, and is in text; 0: none is there */
+static int next_word(int s, char *text, size_t size)
+{
+    ssize_t n = recv(s, text, size - 1, MSG_DONTWAIT);
+    text[n < 0 ? 0 : n] = '\0';
+    return n >= 0;
+}
+
+/* Waits for a word; before it none comes that may not. */
+static int word_comes(int s, const char *word, const char *too_early)
+{
+    char text[100];
+    int tries;
+    for (tries = 0; tries < PLENTY; tries++) {
+        if (!next_word(s, text, sizeof text)) {
+            poll(NULL, 0, 1);
+            continue;
+        }
+        if (strcmp(text, word) == 0)
+            return 1;
+        if (too_early != NULL && strcmp(text, too_early) == 0)
+            return 0;
+    }
+    return 0;
+}
+
+static int words_waiting(int s)
+{
+    char text[100];
+    int n = 0;
+    while (next_word(s, text, sizeof text))
+        n++;
+    return n;
+}
+
+/* The bridge is ready when the queues are its own, a bridge that hangs says nothing, and one that stops says so. */
+static void systemd(void)
+{
+    const char *name = "systemd";
+    const struct plan none = {0};
+    int words, i;
+    pid_t bridge;
+    if (!chosen(name))
+        return;
+    set(1);
+    stage_aircraft(&stage, 0, 0);
+    words = notify_socket("@", stage.folder);
+    memory->away = 1;
+    bridge = stage_bridge(&stage, none);
+    for (i = 0; i < 5; i++)
+        check(word_comes(words, "WATCHDOG=1", "READY=1"), name, "without a broker the watchdog gets no word, or the bridge is ready");
+    memory->away = 0;
+    check(word_comes(words, "READY=1", "STOPPING=1"), name, "it is not told that the bridge is ready");
+    check(word_comes(words, "WATCHDOG=1", NULL), name, "the watchdog gets no word");
+    kill(bridge, SIGSTOP);
+    poll(NULL, 0, 50);
+    words_waiting(words);
+    poll(NULL, 0, 200);
+    check(words_waiting(words) == 0, name, "somebody else speaks for a bridge that hangs");
+    kill(bridge, SIGCONT);
+    check(word_comes(words, "WATCHDOG=1", NULL), name, "a bridge that goes on says nothing");
+    kill(bridge, SIGTERM);
+    check(word_comes(words, "STOPPING=1", NULL), name, "it is not told that the bridge stops");
+    judged(stage_wait(bridge, PLENTY) == 0, name);
+    close(words);
+}
+
+/* The watchdog's period is half of what it allows; one that is for another process is none of ours. */
+static void watchdog_period(void)
+{
+    const char *name = "watchdog period";
+    char own[24];
+    if (!chosen(name))
+        return;
+    unsetenv("WATCHDOG_USEC");
+    check(notify_period() == 0, name, "there is a watchdog where none is named");
+    setenv("WATCHDOG_USEC", "60000000", 1);
+    check(notify_period() == 30000, name, "not half of a minute");
+    setenv("WATCHDOG_PID", "1", 1);
+    check(notify_period() == 0, name, "another process's watchdog is taken");
+    snprintf(own, sizeof own, "%ld", (long)getpid());
+    setenv("WATCHDOG_PID", own, 1);
+    check(notify_period() == 30000, name, "its own watchdog is not");
+    unsetenv("WATCHDOG_USEC");
+    unsetenv("WATCHDOG_PID");
+}
 
 /* a port of the loopback address that is free now */
 static unsigned free_port(void)
@@ -592,45 +727,22 @@ static void read_page(unsigned port, char *text, size_t size)
     close(s);
 }
 
-static int word_comes(int s, const char *word)
-{
-    char text[100];
-    int tries;
-    for (tries = 0; tries < PLENTY; tries++) {
-        ssize_t n = recv(s, text, sizeof text - 1, MSG_DONTWAIT);
-        if (n < 0) {
-            poll(NULL, 0, 1);
-            continue;
-        }
-        text[n] = '\0';
-        if (strcmp(text, word) == 0)
-            return 1;
-    }
-    return 0;
-}
-
 static void operation(void)
 {
     const char *name = "operation";
     static char page[32768];
     const struct plan none = {0};
-    struct sockaddr_un a;
-    int words = socket(AF_UNIX, SOCK_DGRAM, 0), tries;
+    int words, tries;
     pid_t bridge;
     if (!chosen(name))
         return;
     set(4);
     stage_aircraft(&stage, 0, 0);
-    memset(&a, 0, sizeof a);
-    a.sun_family = AF_UNIX;
-    snprintf(stage.notify, sizeof stage.notify, "%s/words", stage.folder);
-    memcpy(a.sun_path, stage.notify, sizeof stage.notify);
-    check(bind(words, (struct sockaddr *)&a, sizeof a) == 0, name, "no socket");
+    words = notify_socket("", stage.folder);
     stage.config.metrics_port = free_port();
     give_jobs(4, 5, 0);
     bridge = stage_bridge(&stage, none);
-    check(word_comes(words, "READY=1"), name, "systemd is not told that the bridge is ready");
-    check(word_comes(words, "WATCHDOG=1"), name, "the watchdog gets no word");
+    check(word_comes(words, "READY=1", NULL), name, "systemd is not told that the bridge is ready");
     for (tries = 0; tries < PLENTY && !stage_quiet(&stage); tries++)
         poll(NULL, 0, 1);
     read_page((unsigned)stage.config.metrics_port, page, sizeof page);
@@ -640,7 +752,7 @@ static void operation(void)
     check(strstr(page, "\npeat_commit_seconds_count ") != NULL, name, "the page is not whole");
     check(strstr(page, "peat_jobs_refused_total{refusal=\"5\"} 0\n") != NULL, name, "the page has no refusals by number");
     kill(bridge, SIGTERM);
-    check(word_comes(words, "STOPPING=1"), name, "systemd is not told that the bridge stops");
+    check(word_comes(words, "STOPPING=1", NULL), name, "systemd is not told that the bridge stops");
     judged(stage_wait(bridge, PLENTY) == 0, name);
     check(stage.verdict.ended == stage.verdict.jobs, name, "a dialogue was not ended in order");
     close(words);
@@ -669,6 +781,8 @@ int main(int argc, char **argv)
     broker_cut();
     odd_payloads();
     no_answer();
+    systemd();
+    watchdog_period();
     operation();
     printf("%u passed, %u failed\n", passed, failed);
     return failed != 0;

@@ -235,5 +235,5 @@ void memory_open(struct broker *b, struct memory *m, const struct bridge *bridge
     b->publish = memory_publish;
     b->descriptor = memory_descriptor;
     b->buffered = memory_buffered;
-    b->disconnect = memory_disconnect;
+    b->disconnect = b->end = memory_disconnect;
 }

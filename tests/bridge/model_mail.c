@@ -1,0 +1,42 @@
+/*
+ * The card's reader of fragments, answered by the automaton of tests/fragments, which shares no code with the card (see
+ * model_card.c). It keeps one mail at a time: whoever reads makes the record fresh first.
+ */
+#include "../fragments/model.h"
+
+static struct model model;
+
+uint64_t peat_mail_fresh(uint8_t *mail, size_t mail_len)
+{
+    (void)mail_len;
+    model_fresh(&model);
+    model_record(&model, mail);
+    return PEAT_TAKEN;
+}
+
+static uint64_t finished(size_t taken)
+{
+    return model.kind << PEAT_ENVELOPE_KIND_AT | model.bits << PEAT_ENVELOPE_BITS_AT |
+        (uint64_t)(PEAT_MAIL_HEAD + model.body) << PEAT_ENVELOPE_BODY_AT | (uint64_t)taken << PEAT_ENVELOPE_NEXT_AT;
+}
+
+uint64_t peat_mail_take(uint8_t *mail, size_t mail_len, const uint8_t *fragment, size_t fragment_len)
+{
+    enum event e = model.refusal != 0 ? REFUSED : MORE;
+    size_t n = 0;
+    (void)mail_len;
+    while (e == MORE && n < fragment_len)
+        e = model_feed(&model, fragment[n++]);
+    model_record(&model, mail);
+    if (e == REFUSED)
+        return model.refusal;
+    return e == FINISHED ? finished(n) : (uint64_t)n << PEAT_ENVELOPE_NEXT_AT;
+}
+
+uint64_t peat_mail_end(uint8_t *mail, size_t mail_len)
+{
+    (void)mail_len;
+    model_end(&model);
+    model_record(&model, mail);
+    return model.refusal;
+}

@@ -5,7 +5,7 @@
  *
  * PATH has {} where the number of the aircraft goes: a packet socket for each, on which the bridge connects. ABORT: once in
  * so many messages the flight deck aborts. DOWN: once in so many it sends a message down. SIGUSR1: every connection is
- * dropped, as by a carrier that fails. SIGTERM: the account is written and the program ends.
+ * dropped, as by a carrier that fails. SIGUSR2: the account so far is written. SIGTERM: the account is written and the program ends.
  *
  * The account: a line with what was counted; then for each job that a flight deck saw `NUMBER JOB TIMES`.
  */
@@ -40,7 +40,7 @@ static const char *path;
 static struct { unsigned long delivered, duplicates, disorder, damaged, opened, ended, aborted, failed, refused, down; } account;
 static uint32_t *latency_us;
 static size_t latencies, latency_room;
-static volatile sig_atomic_t drop, done;
+static volatile sig_atomic_t drop, asked, done;
 
 static uint8_t first[PEAT_BUFFER_LEAST], second[PEAT_BUFFER_LEAST];
 
@@ -53,6 +53,8 @@ static void on_signal(int signal)
 {
     if (signal == SIGUSR1)
         drop = 1;
+    else if (signal == SIGUSR2)
+        asked = 1;
     else
         done = 1;
 }
@@ -201,12 +203,14 @@ static int by_size(const void *a, const void *b)
     return x < y ? -1 : x > y;
 }
 
+/* The account takes its name when it is whole: a reader finds all of one, or all of the one before. */
 static int write_account(const char *to)
 {
-    FILE *f = fopen(to, "w");
+    char part[4096];
+    FILE *f;
     unsigned n;
     size_t job;
-    if (f == NULL)
+    if (snprintf(part, sizeof part, "%s.part", to) >= (int)sizeof part || (f = fopen(part, "w")) == NULL)
         return 1;
     fprintf(f, "# delivered %lu duplicates %lu disorder %lu damaged %lu opened %lu ended %lu aborted %lu failed %lu refused %lu down %lu", account.delivered,
         account.duplicates, account.disorder, account.damaged, account.opened, account.ended, account.aborted, account.failed, account.refused, account.down);
@@ -219,7 +223,7 @@ static int write_account(const char *to)
         for (job = 0; job < fleet[n].room; job++)
             if (fleet[n].seen[job] > 0)
                 fprintf(f, "%u %lu %u\n", n, (unsigned long)job, fleet[n].seen[job]);
-    return fclose(f) != 0;
+    return fclose(f) != 0 || rename(part, to) != 0;
 }
 
 static void round_once(void)
@@ -257,6 +261,7 @@ int main(int argc, char **argv)
     a.sa_handler = on_signal;
     sigaction(SIGTERM, &a, NULL);
     sigaction(SIGUSR1, &a, NULL);
+    sigaction(SIGUSR2, &a, NULL);
     srand((unsigned)getpid());
     for (n = 0; n < aircraft_count; n++)
         if (!board(&fleet[n], n)) {
@@ -265,7 +270,13 @@ int main(int argc, char **argv)
         }
     puts("ready");
     fflush(stdout);
-    while (!done)
+    while (!done) {
         round_once();
+        if (asked) {
+            asked = 0;
+            if (write_account(argv[3]) != 0)
+                return 1;
+        }
+    }
     return write_account(argv[3]);
 }

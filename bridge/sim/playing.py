@@ -3,6 +3,7 @@ journal and aircraft, and what was told and seen in the end."""
 import os
 import re
 import select
+import signal
 import subprocess
 import time
 from pathlib import Path
@@ -182,6 +183,11 @@ class Stage:
             dialogue, job, times = map(int, line.split())
             rows[dialogue, job] = times
         return rows
+
+    def saw(self, dialogue, job):
+        """Whether a flight deck has seen it by now."""
+        self.aircraft.send_signal(signal.SIGUSR2)
+        return self.decks.exists() and (dialogue, job) in self.seen()
 
     def drain(self, seconds=60):
         """Bridges, until no payload waits; each stops in order."""

@@ -97,10 +97,11 @@ static void put_text(struct clearance *c, uint8_t *place, unsigned characters, s
         c->text[c->characters++] = (uint8_t)(0x20 + drawn(d, 0x4F));
 }
 
-/* A free text has a line or two; every other may be as long as one can be, and some messages then have a few thousand bits. */
+/* A free text has a line or two; every other may be longer, and some messages then have a few thousand bits. (256 characters are the most; other programs show
+   240 of a line.) */
 static unsigned draw_length(struct draw *d)
 {
-    unsigned most = drawn(d, 2) == 0 ? 256 : 40;
+    unsigned most = drawn(d, 2) == 0 ? 200 : 40;
     return 1 + drawn(d, most);
 }
 

@@ -24,7 +24,7 @@
 
 #define ROUNDS 301
 #define ROUND_NS 100000.0
-#define ROOM 512u
+#define ROOM 4096u
 
 /* ---- the cases: what is coded */
 
@@ -43,8 +43,8 @@ struct job_case {
     void *ground, *uplink;
 };
 
-enum { TYPICAL, LARGEST, SCALE };
-static const size_t scale_bits[] = {0, 1, 7, 8, 9, 16, 32, 64, 120, 128, 256, 384, 512, 768, 1024, 1280, 1536, 1792, 2047, 2048};
+enum { TYPICAL, MIDDLE, LARGEST, SCALE };
+static const size_t scale_bits[] = {0, 1, 7, 8, 9, 16, 32, 64, 120, 128, 256, 384, 512, 768, 1024, 1280, 1536, 1792, 2047, 2048, 2049, 4096, 8192, 12288, 16382, 16383};
 #define SCALES (sizeof scale_bits / sizeof scale_bits[0])
 static struct job_case cases[SCALE + SCALES];
 
@@ -74,10 +74,9 @@ static struct plain_message typical_message(void)
     return m;
 }
 
-/* five free texts of 273 characters together: 2,048 bits exactly */
-static struct plain_message largest_message(void)
+/* five free texts */
+static struct plain_message texts(const size_t characters[5])
 {
-    static const size_t characters[5] = {55, 55, 55, 54, 54};
     struct plain_message m = dated();
     size_t i, k;
     m.referenced = 1, m.reference = 17, m.acknowledged = 1, m.count = 5;
@@ -89,6 +88,9 @@ static struct plain_message largest_message(void)
     }
     return m;
 }
+
+/* 273 characters together: 2,048 bits exactly; and the largest message: 9,097 bits */
+static const size_t middle_texts[5] = {55, 55, 55, 54, 54}, largest_texts[5] = {256, 256, 256, 256, 256};
 
 static void stop(const char *why)
 {
@@ -157,8 +159,10 @@ static void make_cases(void)
     size_t i;
     cases[TYPICAL].title = "typical", cases[TYPICAL].message = typical_message();
     make_case(&cases[TYPICAL], 0, plain_write_message(cases[TYPICAL].inner, ROOM, &cases[TYPICAL].message), 32);
-    cases[LARGEST].title = "largest", cases[LARGEST].message = largest_message();
-    make_case(&cases[LARGEST], 16, 2048, 64);
+    cases[MIDDLE].title = "2,048 bits", cases[MIDDLE].message = texts(middle_texts);
+    make_case(&cases[MIDDLE], 16, 2048, 64);
+    cases[LARGEST].title = "largest", cases[LARGEST].message = texts(largest_texts);
+    make_case(&cases[LARGEST], 16, PEAT_MESSAGE_MOST, 64);
     for (i = 0; i < SCALES; i++) {
         static char titles[SCALES][16];
         sprintf(titles[i], "%u", (unsigned)scale_bits[i]);
@@ -377,44 +381,45 @@ static size_t record_bytes(const struct job_case *c) { return (void)c, sizeof re
 #ifdef WITHOUT_ASN1C
 #define ASN1C(job, call, right, bytes)
 #else
-#define ASN1C(job, call, right, bytes) BOTH(job, "asn1c", NULL, call, right, bytes),
+#define ASN1C(job, call, right, bytes) EACH(job, "asn1c", NULL, call, right, bytes),
 #endif
-#define BOTH(job, coder, before, call, right, bytes) \
-    {job, &cases[TYPICAL], coder, before, call, right, bytes}, {job, &cases[LARGEST], coder, before, call, right, bytes}
+#define EACH(job, coder, before, call, right, bytes) \
+    {job, &cases[TYPICAL], coder, before, call, right, bytes}, {job, &cases[MIDDLE], coder, before, call, right, bytes}, \
+    {job, &cases[LARGEST], coder, before, call, right, bytes}
 
 static const struct row rows[] = {
-    BOTH("APDU written", "card, its step in it", at_ground, card_message_request, card_wrote, apdu_bytes),
+    EACH("APDU written", "card, its step in it", at_ground, card_message_request, card_wrote, apdu_bytes),
     ASN1C("APDU written", asn1c_apdu_written, wrote_apdu, apdu_bytes)
-    BOTH("APDU written", "plain C", NULL, plain_apdu_written, wrote_apdu, apdu_bytes),
-    BOTH("APDU written", "memcpy", NULL, memcpy_apdu, always, apdu_bytes),
+    EACH("APDU written", "plain C", NULL, plain_apdu_written, wrote_apdu, apdu_bytes),
+    EACH("APDU written", "memcpy", NULL, memcpy_apdu, always, apdu_bytes),
 
-    BOTH("APDU read and its data delivered", "card, its step in it", at_air, card_d_data, card_delivered, apdu_bytes),
+    EACH("APDU read and its data delivered", "card, its step in it", at_air, card_d_data, card_delivered, apdu_bytes),
     ASN1C("APDU read and its data delivered", asn1c_apdu_delivered, wrote_data, apdu_bytes)
-    BOTH("APDU read and its data delivered", "plain C", NULL, plain_apdu_delivered, wrote_data, apdu_bytes),
-    BOTH("APDU read and its data delivered", "memcpy", NULL, memcpy_apdu, always, apdu_bytes),
+    EACH("APDU read and its data delivered", "plain C", NULL, plain_apdu_delivered, wrote_data, apdu_bytes),
+    EACH("APDU read and its data delivered", "memcpy", NULL, memcpy_apdu, always, apdu_bytes),
     ASN1C("APDU read", asn1c_apdu_read, took, apdu_bytes)
-    BOTH("APDU read", "plain C", NULL, plain_apdu_read, read_data, apdu_bytes),
+    EACH("APDU read", "plain C", NULL, plain_apdu_read, read_data, apdu_bytes),
 
-    BOTH("inner message written", "card", NULL, card_inner_written, card_wrote_inner, inner_bytes),
+    EACH("inner message written", "card", NULL, card_inner_written, card_wrote_inner, inner_bytes),
     ASN1C("inner message written", asn1c_inner_written, wrote_inner, inner_bytes)
-    BOTH("inner message written", "plain C", NULL, plain_inner_written, wrote_inner, inner_bytes),
-    BOTH("inner message written", "memcpy", NULL, memcpy_inner, always, inner_bytes),
+    EACH("inner message written", "plain C", NULL, plain_inner_written, wrote_inner, inner_bytes),
+    EACH("inner message written", "memcpy", NULL, memcpy_inner, always, inner_bytes),
 
-    BOTH("inner message read", "card", NULL, card_inner_read, card_read_inner, inner_bytes),
+    EACH("inner message read", "card", NULL, card_inner_read, card_read_inner, inner_bytes),
     ASN1C("inner message read", asn1c_inner_read, took, inner_bytes)
-    BOTH("inner message read", "plain C", NULL, plain_inner_read, read_inner, inner_bytes),
-    BOTH("inner message read", "memcpy", NULL, memcpy_inner, always, inner_bytes),
+    EACH("inner message read", "plain C", NULL, plain_inner_read, read_inner, inner_bytes),
+    EACH("inner message read", "memcpy", NULL, memcpy_inner, always, inner_bytes),
 
     {"one step, a user abort", &cases[TYPICAL], "card", NULL, card_user_abort, aborted, record_bytes},
     {"one step, a user abort", &cases[TYPICAL], "plain C", NULL, model_user_abort, aborted, record_bytes},
     {"one step, a user abort", &cases[TYPICAL], "memcpy", NULL, memcpy_record, always, record_bytes},
 
-    BOTH("envelope written", "card", NULL, card_sealed, card_wrote_sealed, sealed_bytes),
-    BOTH("envelope read", "card", NULL, card_unsealed, card_read_sealed, sealed_bytes),
-    BOTH("envelope written", "plain C", NULL, plain_sealed, wrote_sealed, sealed_bytes),
-    BOTH("envelope written", "memcpy", NULL, memcpy_sealed, always, sealed_bytes),
-    BOTH("envelope read", "plain C", NULL, plain_unsealed, read_sealed, sealed_bytes),
-    BOTH("envelope read", "memcpy", NULL, memcpy_sealed, always, sealed_bytes),
+    EACH("envelope written", "card", NULL, card_sealed, card_wrote_sealed, sealed_bytes),
+    EACH("envelope read", "card", NULL, card_unsealed, card_read_sealed, sealed_bytes),
+    EACH("envelope written", "plain C", NULL, plain_sealed, wrote_sealed, sealed_bytes),
+    EACH("envelope written", "memcpy", NULL, memcpy_sealed, always, sealed_bytes),
+    EACH("envelope read", "plain C", NULL, plain_unsealed, read_sealed, sealed_bytes),
+    EACH("envelope read", "memcpy", NULL, memcpy_sealed, always, sealed_bytes),
 };
 #define ROWS (sizeof rows / sizeof rows[0])
 

@@ -4,6 +4,9 @@
 
 #include "kinds.h"
 
+/* the bits of a message, the bytes of an output buffer: the limits of the card */
+enum { MESSAGE_MOST = 16383, BUFFER_LEAST = 2112 };
+
 /* ---- bits: up to 7 wait in `hold`, its lowest bits, until there is a byte of them */
 
 struct writer {
@@ -126,7 +129,7 @@ static size_t get_length(struct reader *r, size_t least, size_t most)
 
 static void put_data(struct writer *w, const struct plain_data *d)
 {
-    if (d->octets > sizeof d->identifier || d->message_bits > 8 * sizeof d->message || d->check_bits > 8 * sizeof d->check) {
+    if (d->octets > sizeof d->identifier || d->message_bits > MESSAGE_MOST || d->check_bits > 8 * sizeof d->check) {
         w->bad = 1;
         return;
     }
@@ -173,7 +176,7 @@ int plain_read_send(const uint8_t *in, size_t bytes, struct plain_data *d)
         get_run(&r, d->identifier, 8 * d->octets);
     }
     if (d->messaged) {
-        d->message_bits = get_length(&r, 0, 8 * sizeof d->message);
+        d->message_bits = get_length(&r, 0, MESSAGE_MOST);
         get_run(&r, d->message, d->message_bits);
     }
     d->check_bits = get_length(&r, 0, 8 * sizeof d->check);
@@ -317,7 +320,7 @@ size_t plain_write_message(uint8_t *out, size_t room, const struct plain_message
     for (i = 0; i < m->count && !w.bad; i++)
         put_element(&w, &m->element[i]);
     bits = written(&w);
-    return bits > 2048 ? 0 : bits;
+    return bits > MESSAGE_MOST ? 0 : bits;
 }
 
 int plain_read_message(const uint8_t *in, size_t bits, struct plain_message *m)
@@ -377,13 +380,13 @@ static size_t get_groups(const uint8_t *in, size_t bytes, uint64_t *n)
 
 static int envelope_fits(const struct plain_envelope *e)
 {
-    return e->kind >= 1 && e->kind <= 3 && e->job != 0 && e->bits <= 2048 && (e->kind != 3 || e->bits == 8);
+    return e->kind >= 1 && e->kind <= 3 && e->job != 0 && e->bits <= MESSAGE_MOST && (e->kind != 3 || e->bits == 8);
 }
 
 size_t plain_write_envelope(uint8_t *out, size_t room, const struct plain_envelope *e)
 {
     size_t at, bytes = (e->bits + 7) / 8;
-    if (room < 320 || !envelope_fits(e))
+    if (room < BUFFER_LEAST || !envelope_fits(e))
         return 0;
     at = put_groups(out, e->kind);
     at += put_groups(out + at, e->job);

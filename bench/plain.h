@@ -14,7 +14,7 @@ struct plain_data {
     size_t octets; /* of the identifier; 0: none */
     int messaged;
     size_t message_bits, check_bits;
-    uint8_t identifier[16], message[256], check[8];
+    uint8_t identifier[16], message[2048], check[8];
 };
 
 size_t plain_write_send(uint8_t *out, size_t room, const struct plain_data *d);

@@ -35,6 +35,7 @@ static const struct row {
     ROW("  in so many fragments", fragments),
     ROW("envelopes written", written),
     ROW("messages shown in order", shown),
+    ROW("  of more than 2,048 bits", long_shown),
     ROW("  lost with a broken dialogue", lost),
     ROW("  handed over, but not shown", missing),
     ROW("  shown, but not in their place", misplaced),

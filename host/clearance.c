@@ -97,6 +97,14 @@ static void put_text(struct clearance *c, uint8_t *place, unsigned characters, s
         c->text[c->characters++] = (uint8_t)(0x20 + drawn(d, 0x4F));
 }
 
+/* A free text has a line or two; every other may be longer, and some messages then have a few thousand bits. (256 characters are the most; other programs show
+   240 of a line.) */
+static unsigned draw_length(struct draw *d)
+{
+    unsigned most = drawn(d, 2) == 0 ? 200 : 40;
+    return 1 + drawn(d, most);
+}
+
 static void put_element(struct clearance *c, uint8_t *place, unsigned direction, struct draw *d)
 {
     unsigned number = draw_element(direction, d), i;
@@ -112,7 +120,7 @@ static void put_element(struct clearance *c, uint8_t *place, unsigned direction,
         for (i = 0; i < 4; i++)
             place[PEAT_PLACE_CODE + i] = (uint8_t)drawn(d, 8);
         break;
-    case PEAT_KIND_FREE_TEXT: put_text(c, place, 1 + drawn(d, 40), d); break; /* five of them stay under PEAT_MESSAGE_MOST */
+    case PEAT_KIND_FREE_TEXT: put_text(c, place, draw_length(d), d); break;
     case PEAT_KIND_FACILITY: put_text(c, place, drawn(d, 2) ? 4 + drawn(d, 5) : 0, d); break;
     case PEAT_KIND_FACILITY_DESIGNATION: put_text(c, place, 4 + drawn(d, 5), d); break;
     case PEAT_KIND_ATIS_CODE: put_text(c, place, 1, d); break;

@@ -120,6 +120,8 @@ static void show_number(struct end *e, uint64_t clearance, unsigned number)
     }
 }
 
+#define LONG_BITS 2048 /* what a message had at most before it was given more */
+
 /* A user is shown a message. In a dialogue the messages shown are in order the first so many that the other end took. */
 static void show(struct end *e, const uint8_t *body, unsigned bits)
 {
@@ -136,7 +138,7 @@ static void show(struct end *e, const uint8_t *body, unsigned bits)
     if (times > 1)
         ++*(is_air(e) ? &account.deck_duplicates : &account.ground_duplicates);
     else if (in_place)
-        account.shown++;
+        account.shown++, account.long_shown += bits > LONG_BITS;
     else
         account.misplaced++;
 }

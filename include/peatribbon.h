@@ -73,11 +73,11 @@ extern const char peat_archive_version[];
 /* ---- sizes */
 
 #define PEAT_RECORD_BYTES 16   /* a record, exactly */
-#define PEAT_BUFFER_LEAST 320  /* each output buffer, at least; there is no upper limit */
+#define PEAT_BUFFER_LEAST 2112 /* each output buffer, at least; there is no upper limit */
 #define PEAT_IDENTIFIER_MOST 16 /* algorithm identifier, contents octets; 0 octets: no identifier */
-#define PEAT_MESSAGE_MOST 2048 /* CPDLC message, bits */
+#define PEAT_MESSAGE_MOST 16383 /* CPDLC message, bits */
 #define PEAT_CHECK_MOST 64     /* integrity check, bits */
-#define PEAT_ENVELOPE_MOST 269 /* an envelope, bytes */
+#define PEAT_ENVELOPE_MOST 2061 /* an envelope, bytes */
 #define PEAT_MAIL_HEAD 11      /* a mail record, bytes before those of the envelope */
 #define PEAT_MAIL_BYTES (PEAT_MAIL_HEAD + PEAT_ENVELOPE_MOST) /* a mail record, exactly */
 #define PEAT_INNER_BYTES 132   /* a message range, exactly */
@@ -114,7 +114,8 @@ enum peat_refusal {
     PEAT_RANGE = 11,       /* a value outside its type */
     PEAT_EXTENSION = 12,   /* an extension bit is 1 */
     PEAT_LENGTH_FORM = 13, /* a length not in its shortest form, or fragmented */
-    PEAT_LIMIT = 14,       /* well formed, outside the sizes */
+    PEAT_LIMIT = 14,       /* well formed, outside the sizes: an identifier or a check. No length of a message is: what is
+                              more than PEAT_MESSAGE_MOST bits comes in fragments, and is PEAT_LENGTH_FORM */
     PEAT_TAIL = 15,        /* a padding bit is 1, or whole bytes follow; of a message: any bit left over */
     PEAT_NOT_CARRIED = 16, /* an element whose argument kind the card does not carry, or constrained data */
     PEAT_DEFAULT = 17,     /* a field is present with its default value */
@@ -905,9 +906,10 @@ uint64_t peat_read_message(uint64_t direction, const uint8_t *bits, size_t bits_
    its length is their sum.
    Answers PEAT_ROOM (out is under PEAT_BUFFER_LEAST bytes); PEAT_SHAPE (direction is none of its codes, message is not
    PEAT_INNER_BYTES bytes, a number, digit or character is outside its type, an element is not carried, something is not
-   zero that is absent or not used, text has more or fewer characters, or the message has more than PEAT_MESSAGE_MOST bits);
-   and then out stays. Else out has the message in its first peat_message_bits(answer) bits, the bits after the last one are
-   zero up to the end of the byte, and every other byte stays; peat_read_message reads it back. */
+   zero that is absent or not used, text has more or fewer characters, or the message has more than PEAT_MESSAGE_MOST bits,
+   which no message of these kinds has: five texts of 256 characters are 9,097 at most); and then out stays. Else out has
+   the message in its first peat_message_bits(answer) bits, the bits after the last one are zero up to the end of the byte,
+   and every other byte stays; peat_read_message reads it back. */
 uint64_t peat_write_message(uint64_t direction, const uint8_t *message, size_t message_len, const uint8_t *text, size_t text_len,
     uint8_t *out, size_t out_len);
 

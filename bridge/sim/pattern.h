@@ -9,7 +9,7 @@
 #include <stdint.h>
 
 #define PATTERN_HEAD 17
-#define PATTERN_MOST 256
+#define PATTERN_MOST 2047 /* whole bytes of the longest message */
 
 static inline void pattern_number(uint8_t *at, uint64_t n)
 {
@@ -27,7 +27,8 @@ static inline uint64_t pattern_read(const uint8_t *at)
     return n;
 }
 
-static inline size_t pattern_bytes(uint64_t job) { return PATTERN_HEAD + (size_t)(job * 29 % 200); }
+/* every eighth job may have a long message */
+static inline size_t pattern_bytes(uint64_t job) { return PATTERN_HEAD + (size_t)(job * 29 % (job % 8 == 3 ? 2000 : 200)); }
 
 /* Writes a job's message; its bytes. */
 static inline size_t pattern_make(uint8_t *message, unsigned dialogue, uint64_t job, uint64_t time_us)

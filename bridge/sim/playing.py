@@ -246,7 +246,7 @@ def number(n):
 def message(dialogue, job):
     """as pattern.h has it"""
     head = job.to_bytes(8, "big") + bytes([dialogue]) + bytes(8)
-    return head + bytes((job * i + dialogue) & 255 for i in range(17, 17 + job * 29 % 200))
+    return head + bytes((job * i + dialogue) & 255 for i in range(17, 17 + job * 29 % (2000 if job % 8 == 3 else 200)))
 
 
 def envelope(dialogue, job):

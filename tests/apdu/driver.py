@@ -12,6 +12,8 @@ READ, WRITE, WRITE_DATA = 0, 1, 2
 NAMES = ("air", "ground")
 
 MESSAGES = (None, 0, 1, 7, 8, 127, 128, 129, 1000, 2047, 2048, 2049)
+LONGEST = ((None, 16382, 0), (None, 16383, 1), (None, 16384, 0), (16, 16384, 64))  # and the largest, with checks around their limit
+FULL = ROOM // 8         # words of a buffer that is just large enough
 CHECKS = tuple(range(66))
 IDENTIFIERS = (None, 0, 1, 16, 17)
 
@@ -42,7 +44,7 @@ def values():
             for reason in range(last + 1):
                 yield side, (kind, reason)
         shapes = [(i, m, c) for i in IDENTIFIERS for m in MESSAGES for c in (0, 1, 64)]
-        shapes += [(None, None, c) for c in CHECKS] + [(16, 2048, c) for c in (63, 64, 65)]
+        shapes += [(None, None, c) for c in CHECKS] + [(16, 16383, c) for c in (63, 64, 65)] + list(LONGEST)
         for octets, message, check in shapes:
             data = contents(rng, octets, message, check)
             yield side, ("send", data)
@@ -82,7 +84,7 @@ def thorough(pdu):
         return True
     sizes = tuple(None if p is None else len(p) for p in pdu[-1])
     return sizes in {(None, None, 0), (None, None, 64), (8, None, 1), (128, None, 0), (None, 0, 0), (None, 7, 1), (None, 8, 64), (None, 127, 0), (None, 128, 1),
-                     (None, 2048, 64), (128, 2048, 64), (8, 8, 1), (None, None, 65), (136, None, 0), (0, None, 0), (None, 2049, 0)}
+                     (None, 2048, 64), (128, 16383, 64), (8, 8, 1), (None, None, 65), (136, None, 0), (0, None, 0), (None, 2049, 0), (None, 16384, 0)}
 
 
 def readings(side, pdu):
@@ -117,7 +119,8 @@ def by_hand():
     yield AIR, "01010" + "0" + "00" + "00000000", (17, 4)   # mode present as cpdlc, before the faults behind it
     yield AIR, "01010" + "111", (17, 4)
     yield AIR, "011" + "1", (12, 3)                 # extension bit of the message data
-    yield AIR, "011" + "001" + "10001000" + "00000001", (14, 6)     # 88 01 as a message's length: LIMIT, before its contents are missing
+    yield AIR, "011" + "001" + "10001000" + "00000001", (10, 22)    # 88 01 as a message's length: read, and its contents are missing
+    yield AIR, "011" + "001" + "10111111" + "11111111", (10, 22)    # BF FF
     yield AIR, "011" + "001" + "10000000" + "01111111", (13, 6)     # 80 7F
     yield AIR, "011" + "001" + "11000001" + "00", (13, 6)           # a fragment
     yield AIR, "011" + "001" + "10001", (10, 6)                     # a length cut
@@ -178,12 +181,12 @@ def write(why, op, side, pdu, words, lead=5, stretch=None):
 
 def writings(side, pdu):
     why = f"{NAMES[side]} {pdu[0]}"
-    yield write(why, WRITE, side, pdu, 40)
-    yield write(why, WRITE, side, pdu, 41, lead=8)
-    yield write(why, WRITE, side, pdu, 39)
+    yield write(why, WRITE, side, pdu, FULL)
+    yield write(why, WRITE, side, pdu, FULL + 1, lead=8)
+    yield write(why, WRITE, side, pdu, FULL - 1)
     if pdu[0] == "send":
-        yield write(why, WRITE_DATA, side, pdu, 40, lead=3)
-        yield write(why, WRITE_DATA, side, pdu, 39)
+        yield write(why, WRITE_DATA, side, pdu, FULL, lead=3)
+        yield write(why, WRITE_DATA, side, pdu, FULL - 1)
 
 
 def odd_writings():
@@ -191,18 +194,18 @@ def odd_writings():
     far = (0, 1, 2 ** 63, 2 ** 64 - 1, 2 ** 64 - 9, 70000)
     for side in (AIR, GROUND):
         for number in (0, 1, 2, 7, 8, 12, 13, 255, 2 ** 32, 2 ** 64 - 1):
-            yield write("a reason", WRITE, side, ("abort-user", number), 40)
-            yield write("a reason", WRITE, side, ("abort-provider", number), 40)
-            yield write("a mode", WRITE, side, ("start", number, data), 40)
+            yield write("a reason", WRITE, side, ("abort-user", number), FULL)
+            yield write("a reason", WRITE, side, ("abort-provider", number), FULL)
+            yield write("a mode", WRITE, side, ("start", number, data), FULL)
         for kind in ("forward", "forward-response"):
-            yield write(kind, WRITE, side, (kind,), 40)
-        for words in (0, 1, 39, 40, 128):
+            yield write(kind, WRITE, side, (kind,), FULL)
+        for words in (0, 1, 40, FULL - 1, FULL, 512):
             yield write("a buffer", WRITE, side, ("send", data), words)
             yield write("a buffer and a fault", WRITE, side, ("abort-user", 13), words)
         for place in range(6):
             for value in far:
                 if place % 2 == 0 or value not in (0, 1):
-                    yield write(f"place {place} is {value}", WRITE, side, ("send", data), 40, stretch=(place, value)) if value > 1 else write("a place", WRITE, side, ("send", data), 40)
+                    yield write(f"place {place} is {value}", WRITE, side, ("send", data), FULL, stretch=(place, value)) if value > 1 else write("a place", WRITE, side, ("send", data), FULL)
 
 
 def noisy():
@@ -213,7 +216,7 @@ def noisy():
         yield read("chance", side, bytes(rng.randrange(256) for _ in range(rng.randrange(24))))
     for _ in range(3000):
         side = rng.randrange(2)
-        octets, message, check = rng.choice((None, 1, 3, 16)), rng.choice((None, 0, 5, 40)), rng.randrange(20)
+        octets, message, check = rng.choice((None, 1, 3, 16)), rng.choice((None, 0, 5, FULL)), rng.randrange(20)
         bits = list(pdu_bits(side, ("send", contents(rng, octets, message, check))))
         for _ in range(rng.randrange(1, 4)):
             k = rng.randrange(len(bits))
@@ -228,7 +231,7 @@ def requests():
         if pdu[0].startswith("abort") or pdu[-1][0] != "":
             yield from writings(side, pdu)
         else:
-            yield write("an identifier of no octets", WRITE, side, pdu, 40)
+            yield write("an identifier of no octets", WRITE, side, pdu, FULL)
     yield from odd_writings()
     yield from noisy()
 

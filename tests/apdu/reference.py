@@ -8,8 +8,8 @@ AIR, GROUND = 0, 1
 LAST = {AIR: 3, GROUND: 5}
 INDEX = {"abort-user": 0, "abort-provider": 1, "start": 2, "send": 3, "forward": 4, "forward-response": 5}
 USER, PROVIDER = 12, 7                      # last reasons
-LIMITS = {"identifier": (8, 1, 16), "message": (1, 0, 2048), "check": (1, 0, 64)}       # bits of an item, least, most
-ROOM = 320
+LIMITS = {"identifier": (8, 1, 16), "message": (1, 0, 16383), "check": (1, 0, 64)}       # bits of an item, least, most
+ROOM = 2112
 SHORT, RANGE, EXTENSION, LENGTH_FORM, LIMIT, TAIL, DEFAULT = 10, 11, 12, 13, 14, 15, 17
 
 
@@ -38,6 +38,10 @@ def length(n):
 
 
 def string(bits, unit):
+    """From 16,384 items on it comes in fragments (X.691, 11.9.3.8): here the first of 16,384, and the rest behind a length of its own."""
+    most = 16384 * unit
+    if len(bits) >= most:
+        return "11" + binary(1, 6) + bits[:most] + string(bits[most:], unit)
     return length(len(bits) // unit) + bits
 
 
@@ -194,4 +198,4 @@ def expected():
     pairs |= {("user reason", RANGE), ("user reason", SHORT)}
     for name in LIMITS:
         pairs |= {(f"length of {name}", SHORT), (f"length of {name}", LENGTH_FORM), (f"length of {name}", LIMIT), (name, SHORT)}
-    return pairs
+    return pairs - {("length of message", LIMIT)}   # a length that two bytes say is within it

@@ -182,8 +182,8 @@ static void random_record(struct args *a)
 /* a count of message bits, often one at an edge of its length's forms or of the limit */
 static size_t message_bits(void)
 {
-    static const size_t edge[] = {0, 1, 7, 8, 9, 126, 127, 128, 129, 2047, 2048, 2049};
-    return once_in(8) ? edge[below(sizeof edge / sizeof edge[0])] : once_in(8) ? below(2060) : below(140);
+    static const size_t edge[] = {0, 1, 7, 8, 9, 126, 127, 128, 129, 2047, 2048, 2049, 16382, 16383, 16384};
+    return once_in(8) ? edge[below(sizeof edge / sizeof edge[0])] : once_in(16) ? below(PEAT_MESSAGE_MOST + 20) : once_in(8) ? below(2060) : below(140);
 }
 
 static void random_data(struct args *a)
@@ -233,7 +233,7 @@ static void random_apdu(struct args *a)
 {
     static struct bits b;
     unsigned index = below(once_in(20) ? 8 : 4), aircraft = below(2);
-    uint8_t bytes[600];
+    uint8_t bytes[2600];
     size_t len;
     b.n = 0;
     put(&b, once_in(50), 1);
@@ -292,7 +292,7 @@ static void random_body(uint8_t *at, size_t bits)
 /* an envelope, now and then with a fault, and with bytes behind it or without */
 static void random_envelope(struct args *a)
 {
-    uint8_t bytes[400];
+    uint8_t bytes[2600];
     unsigned kind = once_in(15) ? below(300) : 1 + below(3);
     size_t bits = kind == 3 && !once_in(10) ? 8 : message_bits(), len = put_groups(bytes, kind);
     len += put_groups(bytes + len, some_job());
@@ -332,7 +332,7 @@ static void random_content(struct args *a)
 static void random_part(struct args *a)
 {
     static struct bits b;
-    uint8_t bytes[600];
+    uint8_t bytes[2600];
     size_t len;
     b.n = 0;
     put_random_data(&b);
@@ -415,8 +415,8 @@ static void random_call(enum which w, struct args *a)
     for (i = 1; i < 5; i++)
         lend(a, i, 0);
     for (i = 5; i < 7; i++) {
-        lend(a, i, once_in(60) ? 319 : once_in(60) ? below(320) : 320 + (once_in(4) ? below(100) : 0));
-        *(lent[i] - 320 + below(320)) = (uint8_t)any();
+        lend(a, i, once_in(60) ? PEAT_BUFFER_LEAST - 1 : once_in(60) ? below(PEAT_BUFFER_LEAST) : PEAT_BUFFER_LEAST + (once_in(4) ? below(100) : 0));
+        *(lent[i] - PEAT_BUFFER_LEAST + below(PEAT_BUFFER_LEAST)) = (uint8_t)any();
     }
     for (i = 0; i < 5; i++)
         a->n[i] = code(1);
@@ -559,7 +559,7 @@ static void set_record(struct args *a, unsigned side, unsigned state)
 
 static void edges(void)
 {
-    static const size_t lengths[] = {0, 1, 319, 320};
+    static const size_t lengths[] = {0, 1, PEAT_BUFFER_LEAST - 1, PEAT_BUFFER_LEAST};
     uint64_t said;
     int w, i, j, k;
     for (w = 0; w <= FRESH; w++) {
@@ -578,30 +578,30 @@ static void edges(void)
                 }
         for (k = 0; k < 2; k++) { /* all ranges of no bytes, the null pointer; then buffers alone */
             memset(&a, 0, sizeof a);
-            lend(&a, 5, k ? 320 : 0);
-            lend(&a, 6, k ? 320 : 0);
+            lend(&a, 5, k ? PEAT_BUFFER_LEAST : 0);
+            lend(&a, 6, k ? PEAT_BUFFER_LEAST : 0);
             a.n[0] = 1;
             nothing &= agrees((enum which)w, &a, &said) && said == (k || w == FRESH ? 2 : 1);
         }
         for (i = 0; i <= 40; i++) { /* a record of each length */
             set_record(&a, 1, PEAT_DIALOGUE);
             lend(&a, 0, (size_t)i);
-            lend(&a, 5, 320);
-            lend(&a, 6, 320);
+            lend(&a, 5, PEAT_BUFFER_LEAST);
+            lend(&a, 6, PEAT_BUFFER_LEAST);
             a.n[0] = 1;
             record &= agrees((enum which)w, &a, &said) && (i == 16 || said == 2);
         }
         for (i = 0; i < 5; i++) /* each code, of no type */
             for (j = 0; j < 64; j++) {
                 set_record(&a, 1, PEAT_DIALOGUE);
-                lend(&a, 5, 320);
-                lend(&a, 6, 320);
+                lend(&a, 5, PEAT_BUFFER_LEAST);
+                lend(&a, 6, PEAT_BUFFER_LEAST);
                 a.message = NONE;
                 a.n[0] = 1;
                 a.n[i] = (uint64_t)1 << j;
                 codes &= agrees((enum which)w, &a, &said);
             }
-        check(buffers, "buffers of 0, 1, 319 and 320 bytes");
+        check(buffers, "buffers of 0, 1, 2,111 and 2,112 bytes");
         check(nothing, "ranges of no bytes");
         check(record, "a record of another length");
         check(codes, "codes of no type");
@@ -670,20 +670,22 @@ static void damaged_envelopes(void)
                 }
             }
     check(groups, "numbers of 0 to 12 groups");
-    for (i = 0; i <= 2050; i++) { /* each bit count, with the body whole, cut, and with each padding bit */
-        static uint8_t long_one[300];
+    for (i = 0; i <= PEAT_MESSAGE_MOST + 2; i += i < 2050 || i > 16300 ? 1 : 61) { /* bit counts, with the body whole, cut, and with each padding bit */
+        static uint8_t long_one[2100];
         size_t head = 2, whole_len;
         uint64_t want;
         memset(long_one, 0, sizeof long_one);
         long_one[0] = 1 + i % 2, long_one[1] = 9;
         if (i > 127)
             long_one[head++] = (uint8_t)(0x80 | i);
-        long_one[head++] = (uint8_t)(i > 127 ? i >> 7 : i);
+        if (i > 16383)
+            long_one[head++] = (uint8_t)(0x80 | i >> 7);
+        long_one[head++] = (uint8_t)(i > 16383 ? i >> 14 : i > 127 ? i >> 7 : i);
         whole_len = head + (i + 7) / 8;
         want = (uint64_t)long_one[0] << 8 | (uint64_t)i << 16 | (uint64_t)head << 32 | (uint64_t)whole_len << 48;
-        count_of &= reads(long_one, whole_len) == (i > 2048 ? PEAT_SIZE : want);
+        count_of &= reads(long_one, whole_len) == (i > PEAT_MESSAGE_MOST ? PEAT_SIZE : want);
         if (i > 0)
-            count_of &= reads(long_one, whole_len - 1) == (i > 2048 ? PEAT_SIZE : PEAT_CUT);
+            count_of &= reads(long_one, whole_len - 1) == (i > PEAT_MESSAGE_MOST ? PEAT_SIZE : PEAT_CUT);
         for (j = i; j < 8 * (whole_len - head); j++) {
             long_one[head + j / 8] = (uint8_t)(1u << (7 - j % 8));
             count_of &= reads(long_one, whole_len) == PEAT_SIZE;
@@ -691,7 +693,7 @@ static void damaged_envelopes(void)
         long_one[0] = 3;
         count_of &= (peat_refusal(reads(long_one, whole_len)) == PEAT_SIZE) == (i != 8);
     }
-    check(count_of, "each bit count, and a bit behind it");
+    check(count_of, "bit counts, and a bit behind each");
 }
 
 /* by hand */
@@ -709,7 +711,8 @@ static void known_envelopes(void)
         READS(0x01, 0x80, 0x80, 0x80, 0x80, 0x80, 0x80, 0x80, 0x80, 0x80, 0x80) == PEAT_GROUPS &&
         READS(0x01, 0x80, 0x80, 0x80, 0x80, 0x80, 0x80, 0x80, 0x80, 0x80) == PEAT_CUT, "a tenth byte above 1 is GROUPS at once, before CUT");
     check(READS(0x03, 0x07, 0x09, 0x15, 0x00) == PEAT_SIZE && READS(0x03, 0x07, 0x07, 0x14) == PEAT_SIZE, "a refusal of other than 8 bits");
-    check(READS(0x01, 0x01, 0x81, 0x10) == PEAT_SIZE && READS(0x01, 0x01, 0x80, 0x10) == PEAT_CUT, "2,049 bits are SIZE before the body is CUT");
+    check(READS(0x01, 0x01, 0x80, 0x80, 0x01) == PEAT_SIZE && READS(0x01, 0x01, 0xFF, 0x7F) == PEAT_CUT && READS(0x01, 0x01, 0x81, 0x10) == PEAT_CUT,
+        "16,384 bits are SIZE before the body is CUT");
 }
 
 static struct args content(uint64_t kind, uint64_t job, uint64_t bits, const uint8_t *body, size_t len, size_t out)
@@ -721,7 +724,7 @@ static struct args content(uint64_t kind, uint64_t job, uint64_t bits, const uin
     if (len > 0)
         memcpy(a.msgs.at, body, len);
     lend(&a, 5, out);
-    fill(lent[5] - 400, 400);
+    fill(lent[5] - (out < 400 ? 400 : out), out < 400 ? 400 : out);
     return a;
 }
 
@@ -742,48 +745,49 @@ static int writes(uint64_t kind, uint64_t job, uint64_t bits, const uint8_t *bod
 
 static void written_envelopes(void)
 {
-    static const size_t rooms[] = {0, 1, 269, 319, 320, 321, 400};
-    static uint8_t body[300];
+    enum { LEAST = PEAT_BUFFER_LEAST };
+    static const size_t rooms[] = {0, 1, PEAT_ENVELOPE_MOST, PEAT_BUFFER_LEAST - 1, PEAT_BUFFER_LEAST, PEAT_BUFFER_LEAST + 1, 2400};
+    static uint8_t body[2100];
     uint64_t said, kind, bits;
     unsigned i, j;
     int room = 1, kinds = 1, jobs_ok = 1, counts = 1, pads = 1, holds = 1;
     for (i = 0; i < 7; i++) { /* ROOM comes before SHAPE */
-        room &= writes(1, 1, 0, NULL, 0, rooms[i], &said) && (said == PEAT_ROOM) == (rooms[i] < 320);
-        room &= writes(0, 0, 9999, NULL, 0, rooms[i], &said) && said == (rooms[i] < 320 ? PEAT_ROOM : PEAT_SHAPE);
+        room &= writes(1, 1, 0, NULL, 0, rooms[i], &said) && (said == PEAT_ROOM) == (rooms[i] < PEAT_BUFFER_LEAST);
+        room &= writes(0, 0, 99999, NULL, 0, rooms[i], &said) && said == (rooms[i] < PEAT_BUFFER_LEAST ? PEAT_ROOM : PEAT_SHAPE);
     }
     for (kind = 0; kind < 600; kind++)
-        kinds &= writes(kind, 5, 8, body, 1, 320, &said) && (said == PEAT_SHAPE) == (kind < 1 || kind > 3);
+        kinds &= writes(kind, 5, 8, body, 1, LEAST, &said) && (said == PEAT_SHAPE) == (kind < 1 || kind > 3);
     for (i = 2; i < 64; i++) /* a kind that is 1 in its low bits */
-        kinds &= writes(((uint64_t)1 << i) + 1, 5, 8, body, 1, 320, &said) && said == PEAT_SHAPE;
+        kinds &= writes(((uint64_t)1 << i) + 1, 5, 8, body, 1, LEAST, &said) && said == PEAT_SHAPE;
     for (i = 0; i < 64; i++)
         for (j = 0; j < 3; j++) {
             uint64_t job = ((uint64_t)1 << i) - 1 + j;
-            jobs_ok &= writes(1 + i % 2, job, 9, body, 2, 320, &said) && (said == PEAT_SHAPE) == (job == 0);
+            jobs_ok &= writes(1 + i % 2, job, 9, body, 2, LEAST, &said) && (said == PEAT_SHAPE) == (job == 0);
         }
-    jobs_ok &= writes(2, UINT64_MAX, 2048, body, 256, 320, &said) && peat_written_bytes(said) == PEAT_ENVELOPE_MOST;
-    for (bits = 0; bits <= 2060; bits++) {
+    jobs_ok &= writes(2, UINT64_MAX, PEAT_MESSAGE_MOST, body, 2048, LEAST, &said) && peat_written_bytes(said) == PEAT_ENVELOPE_MOST;
+    for (bits = 0; bits <= PEAT_MESSAGE_MOST + 12; bits += bits < 2060 || bits > 16300 ? 1 : 61) {
         unsigned len = (unsigned)(bits + 7) / 8;
         memset(body, 0xFF, sizeof body);
         if (bits % 8)
             body[bits / 8] = (uint8_t)(0xFF00 >> bits % 8);
         for (kind = 1; kind <= 3; kind++)
-            counts &= writes(kind, 77, bits, body, len, 320, &said) && (said == PEAT_SHAPE) == (bits > 2048 || (kind == 3 && bits != 8));
+            counts &= writes(kind, 77, bits, body, len, LEAST, &said) && (said == PEAT_SHAPE) == (bits > PEAT_MESSAGE_MOST || (kind == 3 && bits != 8));
         if (len > 0)
-            holds &= writes(1, 77, bits, body, len - 1, 320, &said) && said == PEAT_SHAPE;
-        holds &= writes(2, 77, bits, body, len + 2, 320, &said) && (said == PEAT_SHAPE) == (bits > 2048);
+            holds &= writes(1, 77, bits, body, len - 1, LEAST, &said) && said == PEAT_SHAPE;
+        holds &= writes(2, 77, bits, body, len + 2, LEAST, &said) && (said == PEAT_SHAPE) == (bits > PEAT_MESSAGE_MOST);
         for (i = (unsigned)bits; i < 8 * len; i++) {
             uint8_t was = body[i / 8];
             body[i / 8] |= (uint8_t)(1u << (7 - i % 8));
-            pads &= writes(1, 77, bits, body, len, 320, &said) && said == PEAT_SHAPE;
+            pads &= writes(1, 77, bits, body, len, LEAST, &said) && said == PEAT_SHAPE;
             body[i / 8] = was;
         }
     }
-    for (i = 11; i < 64; i++)
-        counts &= writes(1, 77, (uint64_t)1 << i, body, i == 11 ? 256 : 300, 320, &said) && (said == PEAT_SHAPE) == (i != 11);
-    check(room, "an envelope into 0, 1, 269, 319 and 320 bytes");
+    for (i = 13; i < 64; i++)
+        counts &= writes(1, 77, (uint64_t)1 << i, body, i == 13 ? 1024 : 2100, LEAST, &said) && (said == PEAT_SHAPE) == (i != 13);
+    check(room, "an envelope into 0, 1, 2,061, 2,111 and 2,112 bytes");
     check(kinds, "an envelope of each kind");
     check(jobs_ok, "an envelope of each length of a job");
-    check(counts, "an envelope of each bit count");
+    check(counts, "an envelope of each bit count, or nearly");
     check(holds, "an envelope of more bits than its bytes hold");
     check(pads, "an envelope with a padding bit");
 }
@@ -792,7 +796,7 @@ static void written_envelopes(void)
 
 static void message_edges(void)
 {
-    static const size_t lengths[] = {0, 1, 131, 132, 133, 319, 320};
+    static const size_t lengths[] = {0, 1, 131, 132, 133, PEAT_BUFFER_LEAST - 1, PEAT_BUFFER_LEAST};
     static const uint8_t data[] = {0x21, 0x54, 0xA8, 0x00}; /* no identifier, ten bits 1010010101, a check of no bits */
     uint8_t message[132], text[5 * 256];
     int i, j, k, w, parts = 1, sizes = 1, codes = 1, nothing = 1;
@@ -813,7 +817,7 @@ static void message_edges(void)
                     if (w == WRITE_MESSAGE && lengths[i] == 132)
                         memcpy(a.ids.at, message, 132);
                     lend(&a, 5, lengths[j]);
-                    sizes &= agrees((enum which)w, &a, &said) && (said == PEAT_ROOM) == (lengths[j] < 320);
+                    sizes &= agrees((enum which)w, &a, &said) && (said == PEAT_ROOM) == (lengths[j] < PEAT_BUFFER_LEAST);
                 }
         for (i = 0; i < 64; i++) {
             memset(&a, 0, sizeof a);
@@ -821,7 +825,7 @@ static void message_edges(void)
             a.n[1] = (uint64_t)1 << i;
             lend(&a, w == READ_MESSAGE ? 0 : 1, 132);
             lend(&a, 4, 64);
-            lend(&a, 5, 320);
+            lend(&a, 5, PEAT_BUFFER_LEAST);
             codes &= agrees((enum which)w, &a, &said) && (i < 2 || said == PEAT_SHAPE);
         }
         memset(&a, 0, sizeof a);
@@ -832,7 +836,7 @@ static void message_edges(void)
         a.n[0] = (uint64_t)i;
         lend(&a, 4, sizeof data);
         memcpy(a.bytes.at, data, sizeof data);
-        lend(&a, 5, 320);
+        lend(&a, 5, PEAT_BUFFER_LEAST);
         parts &= agrees(DATA_PART, &a, &said) && peat_part_given(said) == (i > 0) && peat_part_bits(said) == (i == 1 ? 10 : 0);
     }
     check(sizes, "message ranges and buffers of other lengths");
@@ -872,7 +876,10 @@ static void apdu_edges(void)
         {PEAT_AIRCRAFT_PDUS, {0x50}, 1, PEAT_DEFAULT, 4},               /* mode present as cpdlc */
         {PEAT_AIRCRAFT_PDUS, {0x60}, 1, PEAT_SHORT, 6},                 /* send: the check's length is cut */
         {PEAT_AIRCRAFT_PDUS, {0x66, 0x20}, 2, PEAT_SHORT, 6},           /* a length of 16 bits, cut after 8: its first bit */
-        {PEAT_AIRCRAFT_PDUS, {0x66, 0x20, 0x04}, 3, PEAT_LIMIT, 6},     /* a message of 2,049 bits */
+        {PEAT_AIRCRAFT_PDUS, {0x66, 0x20, 0x04}, 3, PEAT_SHORT, 22},    /* a message of 2,049 bits: read, and not there */
+        {PEAT_AIRCRAFT_PDUS, {0x66, 0xFF, 0xFC}, 3, PEAT_SHORT, 22},    /* of 16,383 */
+        {PEAT_AIRCRAFT_PDUS, {0x67, 0x04}, 2, PEAT_LENGTH_FORM, 6},     /* a fragment: C1 */
+        {PEAT_AIRCRAFT_PDUS, {0x61, 0x04}, 2, PEAT_LIMIT, 6},           /* a check of 65 bits */
         {PEAT_AIRCRAFT_PDUS, {0x66, 0x01, 0xFC}, 3, PEAT_LENGTH_FORM, 6}, /* 80 7F */
         {PEAT_AIRCRAFT_PDUS, {0x60, 0x02}, 2, PEAT_TAIL, 14},           /* the first padding bit */
         {PEAT_AIRCRAFT_PDUS, {0x60, 0x01}, 2, PEAT_TAIL, 15},           /* the second: not the beginning of the padding */
@@ -1087,23 +1094,23 @@ static void jobs(void)
     check(says(air, UINT64_MAX, text, 8) == PEAT_REPEAT, "and again");
 }
 
-/* the largest message data: an identifier of 16 octets, 2,048 bits, a check of 64 bits */
+/* the largest message data: an identifier of 16 octets, 16,383 bits, a check of 64 bits */
 static void largest(void)
 {
-    static uint8_t ids[17], text[257], checks[9];
+    static uint8_t ids[17], text[2049], checks[9];
     uint64_t n;
     fresh();
     fill(ids, sizeof ids), fill(text, sizeof text), fill(checks, sizeof checks);
-    n = sent(peat_dsc_start_request(AIR_REC, 0, 0, ids, 16, text, 256, 2048, checks, 8, 64, BUFFERS));
-    check(invokes(n, PEAT_D_START_REQUEST, 0) && peat_apdu_bits(n) == 2280 && peat_apdu_bytes(n) == 285, "the largest APDU is 285 bytes");
+    n = sent(peat_dsc_start_request(AIR_REC, 0, 0, ids, 16, text, 2048, 16383, checks, 8, 64, BUFFERS));
+    check(invokes(n, PEAT_D_START_REQUEST, 0) && peat_apdu_bits(n) == 16615 && peat_apdu_bytes(n) == 2077, "the largest APDU is 2,077 bytes");
     n = peat_d_start_indication(GROUND_REC, PEAT_AIRCRAFT, 0, 1, 1, 0, LINE, BUFFERS);
-    check(told(n, PEAT_START_INDICATION, 0, 1) && peat_data_bits(n) == 3 + 8 + 128 + 16 + 2048 + 8 + 64, "it is delivered whole");
+    check(told(n, PEAT_START_INDICATION, 0, 1) && peat_data_bits(n) == 3 + 8 + 128 + 16 + 16383 + 8 + 64 && peat_data_bits(n) == 16610, "it is delivered whole");
     fresh();
-    check(peat_start_request(AIR_REC, 0, 0, ids, 17, text, 256, 2048, checks, 8, 64, BUFFERS) == PEAT_SHAPE, "17 octets");
-    check(peat_start_request(AIR_REC, 0, 0, ids, 16, text, 257, 2049, checks, 8, 64, BUFFERS) == PEAT_SHAPE, "2,049 bits");
-    check(peat_start_request(AIR_REC, 0, 0, ids, 16, text, 255, 2048, checks, 8, 64, BUFFERS) == PEAT_SHAPE, "more bits than the lent bytes hold");
-    check(peat_start_request(AIR_REC, 0, 0, ids, 16, text, 256, 2048, checks, 9, 65, BUFFERS) == PEAT_SHAPE, "a check of 65 bits");
-    check(peat_start_request(AIR_REC, 0, 0, ids, 16, text, 256, 2048, checks, 7, 64, BUFFERS) == PEAT_SHAPE, "a check that its bytes do not hold");
+    check(peat_start_request(AIR_REC, 0, 0, ids, 17, text, 2048, 16383, checks, 8, 64, BUFFERS) == PEAT_SHAPE, "17 octets");
+    check(peat_start_request(AIR_REC, 0, 0, ids, 16, text, 2049, 16384, checks, 8, 64, BUFFERS) == PEAT_SHAPE, "16,384 bits");
+    check(peat_start_request(AIR_REC, 0, 0, ids, 16, text, 2047, 16383, checks, 8, 64, BUFFERS) == PEAT_SHAPE, "more bits than the lent bytes hold");
+    check(peat_start_request(AIR_REC, 0, 0, ids, 16, text, 2048, 16383, checks, 9, 65, BUFFERS) == PEAT_SHAPE, "a check of 65 bits");
+    check(peat_start_request(AIR_REC, 0, 0, ids, 16, text, 2048, 16383, checks, 7, 64, BUFFERS) == PEAT_SHAPE, "a check that its bytes do not hold");
 }
 
 int main(int argc, char **argv)

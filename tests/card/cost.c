@@ -15,67 +15,81 @@
 
 enum pdu { PDU_NONE, PDU_SEND, PDU_START, PDU_ABORT_USER, PDU_ABORT_PROVIDER, PDU_INVALID };
 
+/* message data: the least that there is; 16 octets, a message of 2,048 bits and 64 bits; the same with the largest message. The CPDLC
+   message itself is one element, one of 2,048 bits, or the largest, 9,097. */
+enum size { LEAST, MIDDLE, LARGEST };
+
 struct row {
     const char *title;
     enum which which;
     unsigned side, state, dsc;
     uint64_t n[5];
-    int largest; /* message data: 16 octets, 2,048 bits, 64 bits; else the least that there is */
+    enum size size;
     enum pdu pdu;
 };
 
 static const struct row rows[] = {
-    {"least data", START_REQUEST, 1, PEAT_IDLE, 0, {0}, 0, PDU_NONE},
-    {"largest data", START_REQUEST, 1, PEAT_IDLE, 0, {0}, 1, PDU_NONE},
-    {"PROHIBITED, largest data", START_REQUEST, 1, PEAT_DIALOGUE, 0, {0}, 1, PDU_NONE},
-    {"largest data", DSC_START_REQUEST, 1, PEAT_IDLE, 0, {0}, 1, PDU_NONE},
-    {"largest data", START_RESPONSE, 2, PEAT_START_IND, 0, {0}, 1, PDU_NONE},
-    {"largest data", DSC_START_RESPONSE, 2, PEAT_START_IND, 1, {0}, 1, PDU_NONE},
-    {"message of 8 bits", MESSAGE_REQUEST, 1, PEAT_DIALOGUE, 0, {9}, 0, PDU_NONE},
-    {"largest data, air", MESSAGE_REQUEST, 1, PEAT_DIALOGUE, 0, {9}, 1, PDU_NONE},
-    {"largest data, ground", MESSAGE_REQUEST, 2, PEAT_DIALOGUE, 0, {9}, 1, PDU_NONE},
-    {"REPEAT, largest data", MESSAGE_REQUEST, 1, PEAT_DIALOGUE, 0, {7}, 1, PDU_NONE},
-    {"largest data", END_REQUEST, 2, PEAT_DIALOGUE, 0, {0}, 1, PDU_NONE},
-    {"largest data", DSC_END_REQUEST, 1, PEAT_DIALOGUE, 1, {0}, 1, PDU_NONE},
-    {"largest data", END_RESPONSE, 1, PEAT_END, 0, {0}, 1, PDU_NONE},
-    {"largest data", DSC_END_RESPONSE, 2, PEAT_END, 1, {0}, 1, PDU_NONE},
-    {"", USER_ABORT, 1, PEAT_DIALOGUE, 0, {5}, 0, PDU_NONE},
-    {"", TIMER_EXPIRY, 1, PEAT_START_REQ, 0, {0}, 0, PDU_NONE},
-    {"", SYSTEM_ERROR, 1, PEAT_DIALOGUE, 0, {0}, 0, PDU_NONE},
-    {"largest data", D_START_INDICATION, 2, PEAT_IDLE, 0, {1, 0, 1, 1, 0}, 1, PDU_START},
-    {"invalid PDU", D_START_INDICATION, 2, PEAT_IDLE, 0, {1, 0, 1, 1, 0}, 1, PDU_INVALID},
-    {"largest data", D_START_CONFIRMATION, 1, PEAT_START_REQ, 0, {0}, 1, PDU_SEND},
-    {"message of 8 bits", D_DATA_INDICATION, 2, PEAT_DIALOGUE, 0, {0}, 0, PDU_SEND},
-    {"largest data, ground", D_DATA_INDICATION, 2, PEAT_DIALOGUE, 0, {0}, 1, PDU_SEND},
-    {"largest data, air", D_DATA_INDICATION, 1, PEAT_DIALOGUE, 0, {0}, 1, PDU_SEND},
-    {"invalid PDU", D_DATA_INDICATION, 1, PEAT_DIALOGUE, 0, {0}, 1, PDU_INVALID},
-    {"no user data", D_DATA_INDICATION, 1, PEAT_DIALOGUE, 0, {0}, 0, PDU_NONE},
-    {"largest data", D_END_INDICATION, 1, PEAT_DIALOGUE, 0, {0}, 1, PDU_SEND},
-    {"largest data", D_END_CONFIRMATION, 2, PEAT_END, 0, {0}, 1, PDU_SEND},
-    {"user", D_ABORT_INDICATION, 1, PEAT_DIALOGUE, 0, {0}, 0, PDU_ABORT_USER},
-    {"provider, invalid PDU, ground", D_ABORT_INDICATION, 2, PEAT_DIALOGUE, 0, {1}, 1, PDU_INVALID},
-    {"", D_P_ABORT_INDICATION, 1, PEAT_DIALOGUE, 0, {0}, 0, PDU_NONE},
-    {"", FRESH, 1, PEAT_IDLE, 0, {1, 0}, 0, PDU_NONE},
-    {"least", READ_ENVELOPE, 1, PEAT_IDLE, 0, {1, 1, 0}, 0, PDU_NONE},
-    {"largest, 269 bytes", READ_ENVELOPE, 1, PEAT_IDLE, 0, {2, UINT64_MAX, 2048}, 1, PDU_NONE},
-    {"largest, 269 bytes", ENVELOPE_JOB, 1, PEAT_IDLE, 0, {2, UINT64_MAX, 2048}, 1, PDU_NONE},
-    {"least", WRITE_ENVELOPE, 1, PEAT_IDLE, 0, {1, 1, 0}, 0, PDU_NONE},
-    {"largest, 269 bytes", WRITE_ENVELOPE, 1, PEAT_IDLE, 0, {2, UINT64_MAX, 2048}, 1, PDU_NONE},
-    {"SHAPE, job 0, largest body", WRITE_ENVELOPE, 1, PEAT_IDLE, 0, {2, 0, 2048}, 1, PDU_NONE},
-    {"message of 8 bits", DATA_PART, 1, PEAT_IDLE, 0, {1}, 0, PDU_NONE},
-    {"message, largest data", DATA_PART, 1, PEAT_IDLE, 0, {1}, 1, PDU_NONE},
-    {"a send, message of 8 bits", READ_APDU, 1, PEAT_IDLE, 0, {PEAT_GROUND_PDUS}, 0, PDU_SEND},
-    {"a send, largest data", READ_APDU, 1, PEAT_IDLE, 0, {PEAT_GROUND_PDUS}, 1, PDU_SEND},
-    {"SHORT, largest data", READ_APDU, 1, PEAT_IDLE, 0, {PEAT_GROUND_PDUS}, 1, PDU_INVALID},
-    {"one element, no argument", READ_MESSAGE, 1, PEAT_IDLE, 0, {PEAT_UPLINK}, 0, PDU_NONE},
-    {"five elements, 2,048 bits", READ_MESSAGE, 1, PEAT_IDLE, 0, {PEAT_UPLINK}, 1, PDU_NONE},
-    {"one element, no argument", WRITE_MESSAGE, 1, PEAT_IDLE, 0, {PEAT_UPLINK}, 0, PDU_NONE},
-    {"five elements, 2,048 bits", WRITE_MESSAGE, 1, PEAT_IDLE, 0, {PEAT_UPLINK}, 1, PDU_NONE},
-    {"SHAPE, day 32, largest", WRITE_MESSAGE, 1, PEAT_IDLE, 0, {PEAT_UPLINK}, 1, PDU_NONE},
+    {"least data", START_REQUEST, 1, PEAT_IDLE, 0, {0}, LEAST, PDU_NONE},
+    {"message of 2,048 bits", START_REQUEST, 1, PEAT_IDLE, 0, {0}, MIDDLE, PDU_NONE},
+    {"largest data", START_REQUEST, 1, PEAT_IDLE, 0, {0}, LARGEST, PDU_NONE},
+    {"PROHIBITED, largest data", START_REQUEST, 1, PEAT_DIALOGUE, 0, {0}, LARGEST, PDU_NONE},
+    {"largest data", DSC_START_REQUEST, 1, PEAT_IDLE, 0, {0}, LARGEST, PDU_NONE},
+    {"largest data", START_RESPONSE, 2, PEAT_START_IND, 0, {0}, LARGEST, PDU_NONE},
+    {"largest data", DSC_START_RESPONSE, 2, PEAT_START_IND, 1, {0}, LARGEST, PDU_NONE},
+    {"message of 8 bits", MESSAGE_REQUEST, 1, PEAT_DIALOGUE, 0, {9}, LEAST, PDU_NONE},
+    {"message of 2,048 bits, air", MESSAGE_REQUEST, 1, PEAT_DIALOGUE, 0, {9}, MIDDLE, PDU_NONE},
+    {"largest data, air", MESSAGE_REQUEST, 1, PEAT_DIALOGUE, 0, {9}, LARGEST, PDU_NONE},
+    {"largest data, ground", MESSAGE_REQUEST, 2, PEAT_DIALOGUE, 0, {9}, LARGEST, PDU_NONE},
+    {"REPEAT, largest data", MESSAGE_REQUEST, 1, PEAT_DIALOGUE, 0, {7}, LARGEST, PDU_NONE},
+    {"largest data", END_REQUEST, 2, PEAT_DIALOGUE, 0, {0}, LARGEST, PDU_NONE},
+    {"largest data", DSC_END_REQUEST, 1, PEAT_DIALOGUE, 1, {0}, LARGEST, PDU_NONE},
+    {"largest data", END_RESPONSE, 1, PEAT_END, 0, {0}, LARGEST, PDU_NONE},
+    {"largest data", DSC_END_RESPONSE, 2, PEAT_END, 1, {0}, LARGEST, PDU_NONE},
+    {"", USER_ABORT, 1, PEAT_DIALOGUE, 0, {5}, LEAST, PDU_NONE},
+    {"", TIMER_EXPIRY, 1, PEAT_START_REQ, 0, {0}, LEAST, PDU_NONE},
+    {"", SYSTEM_ERROR, 1, PEAT_DIALOGUE, 0, {0}, LEAST, PDU_NONE},
+    {"message of 2,048 bits", D_START_INDICATION, 2, PEAT_IDLE, 0, {1, 0, 1, 1, 0}, MIDDLE, PDU_START},
+    {"largest data", D_START_INDICATION, 2, PEAT_IDLE, 0, {1, 0, 1, 1, 0}, LARGEST, PDU_START},
+    {"invalid PDU", D_START_INDICATION, 2, PEAT_IDLE, 0, {1, 0, 1, 1, 0}, LARGEST, PDU_INVALID},
+    {"largest data", D_START_CONFIRMATION, 1, PEAT_START_REQ, 0, {0}, LARGEST, PDU_SEND},
+    {"message of 8 bits", D_DATA_INDICATION, 2, PEAT_DIALOGUE, 0, {0}, LEAST, PDU_SEND},
+    {"message of 2,048 bits, ground", D_DATA_INDICATION, 2, PEAT_DIALOGUE, 0, {0}, MIDDLE, PDU_SEND},
+    {"largest data, ground", D_DATA_INDICATION, 2, PEAT_DIALOGUE, 0, {0}, LARGEST, PDU_SEND},
+    {"largest data, air", D_DATA_INDICATION, 1, PEAT_DIALOGUE, 0, {0}, LARGEST, PDU_SEND},
+    {"invalid PDU", D_DATA_INDICATION, 1, PEAT_DIALOGUE, 0, {0}, LARGEST, PDU_INVALID},
+    {"no user data", D_DATA_INDICATION, 1, PEAT_DIALOGUE, 0, {0}, LEAST, PDU_NONE},
+    {"largest data", D_END_INDICATION, 1, PEAT_DIALOGUE, 0, {0}, LARGEST, PDU_SEND},
+    {"largest data", D_END_CONFIRMATION, 2, PEAT_END, 0, {0}, LARGEST, PDU_SEND},
+    {"user", D_ABORT_INDICATION, 1, PEAT_DIALOGUE, 0, {0}, LEAST, PDU_ABORT_USER},
+    {"provider, invalid PDU, ground", D_ABORT_INDICATION, 2, PEAT_DIALOGUE, 0, {1}, LARGEST, PDU_INVALID},
+    {"", D_P_ABORT_INDICATION, 1, PEAT_DIALOGUE, 0, {0}, LEAST, PDU_NONE},
+    {"", FRESH, 1, PEAT_IDLE, 0, {1, 0}, LEAST, PDU_NONE},
+    {"least", READ_ENVELOPE, 1, PEAT_IDLE, 0, {1, 1, 0}, LEAST, PDU_NONE},
+    {"2,048 bits, 269 bytes", READ_ENVELOPE, 1, PEAT_IDLE, 0, {2, UINT64_MAX, 2048}, MIDDLE, PDU_NONE},
+    {"largest, 2,061 bytes", READ_ENVELOPE, 1, PEAT_IDLE, 0, {2, UINT64_MAX, 16383}, LARGEST, PDU_NONE},
+    {"largest, 2,061 bytes", ENVELOPE_JOB, 1, PEAT_IDLE, 0, {2, UINT64_MAX, 16383}, LARGEST, PDU_NONE},
+    {"least", WRITE_ENVELOPE, 1, PEAT_IDLE, 0, {1, 1, 0}, LEAST, PDU_NONE},
+    {"2,048 bits, 269 bytes", WRITE_ENVELOPE, 1, PEAT_IDLE, 0, {2, UINT64_MAX, 2048}, MIDDLE, PDU_NONE},
+    {"largest, 2,061 bytes", WRITE_ENVELOPE, 1, PEAT_IDLE, 0, {2, UINT64_MAX, 16383}, LARGEST, PDU_NONE},
+    {"SHAPE, job 0, largest body", WRITE_ENVELOPE, 1, PEAT_IDLE, 0, {2, 0, 16383}, LARGEST, PDU_NONE},
+    {"message of 8 bits", DATA_PART, 1, PEAT_IDLE, 0, {1}, LEAST, PDU_NONE},
+    {"message, of 2,048 bits", DATA_PART, 1, PEAT_IDLE, 0, {1}, MIDDLE, PDU_NONE},
+    {"message, largest data", DATA_PART, 1, PEAT_IDLE, 0, {1}, LARGEST, PDU_NONE},
+    {"a send, message of 8 bits", READ_APDU, 1, PEAT_IDLE, 0, {PEAT_GROUND_PDUS}, LEAST, PDU_SEND},
+    {"a send, message of 2,048 bits", READ_APDU, 1, PEAT_IDLE, 0, {PEAT_GROUND_PDUS}, MIDDLE, PDU_SEND},
+    {"a send, largest data", READ_APDU, 1, PEAT_IDLE, 0, {PEAT_GROUND_PDUS}, LARGEST, PDU_SEND},
+    {"SHORT, largest data", READ_APDU, 1, PEAT_IDLE, 0, {PEAT_GROUND_PDUS}, LARGEST, PDU_INVALID},
+    {"one element, no argument", READ_MESSAGE, 1, PEAT_IDLE, 0, {PEAT_UPLINK}, LEAST, PDU_NONE},
+    {"five elements, 2,048 bits", READ_MESSAGE, 1, PEAT_IDLE, 0, {PEAT_UPLINK}, MIDDLE, PDU_NONE},
+    {"five texts, 9,097 bits", READ_MESSAGE, 1, PEAT_IDLE, 0, {PEAT_UPLINK}, LARGEST, PDU_NONE},
+    {"one element, no argument", WRITE_MESSAGE, 1, PEAT_IDLE, 0, {PEAT_UPLINK}, LEAST, PDU_NONE},
+    {"five elements, 2,048 bits", WRITE_MESSAGE, 1, PEAT_IDLE, 0, {PEAT_UPLINK}, MIDDLE, PDU_NONE},
+    {"five texts, 9,097 bits", WRITE_MESSAGE, 1, PEAT_IDLE, 0, {PEAT_UPLINK}, LARGEST, PDU_NONE},
+    {"SHAPE, day 32, largest", WRITE_MESSAGE, 1, PEAT_IDLE, 0, {PEAT_UPLINK}, LARGEST, PDU_NONE},
 };
 #define ROWS (sizeof rows / sizeof rows[0])
 
-static uint8_t rec[PEAT_RECORD_BYTES], ids[16], msgs[256], checks[8], bytes[PEAT_BUFFER_LEAST], first[PEAT_BUFFER_LEAST], second[PEAT_BUFFER_LEAST];
+static uint8_t rec[PEAT_RECORD_BYTES], ids[16], msgs[(PEAT_MESSAGE_MOST + 7) / 8], checks[8], bytes[PEAT_BUFFER_LEAST], first[PEAT_BUFFER_LEAST], second[PEAT_BUFFER_LEAST];
 static struct args args;
 static struct bits bits;
 
@@ -114,34 +128,49 @@ static size_t put_envelope(const struct row *r)
     return n + (size_t)(r->n[2] + 7) / 8;
 }
 
-/* A message of one element, uM0; or of uM30 (two levels, blocks), uM169 twice (free text), uM160 and uM123, with a reference
-   and an acknowledgement: of 2,048 bits. */
+/* uM30 (two levels, blocks), uM169 twice (free text), uM160 and uM123: with the header below 2,048 bits, and 265 characters */
+static unsigned put_middle(uint8_t *place)
+{
+    static const uint8_t blocks[14] = {1, 1, 0x61, 0xC6, 0, 0x1B, 0x94, 1, 0, 0x1B, 0x94, 0, 0x1B, 0x94}; /* 25,000 metres, 70,000 feet thrice */
+    place[0] = 30, memcpy(place + 3, blocks, 14);
+    place[24] = 169, place[24 + 2] = 151;
+    place[48] = 169, place[48 + 2] = 106;
+    place[72] = 160, place[72 + 2] = 8;
+    place[96] = 123, memset(place + 96 + 19, 7, 4);
+    return 151 + 106 + 8;
+}
+
+/* uM169 five times, each with 256 characters */
+static unsigned put_largest(uint8_t *place)
+{
+    unsigned i;
+    for (i = 0; i < 5; i++)
+        place[24 * i] = 169, place[24 * i + 1] = 1;
+    return 5 * 256;
+}
+
+/* a message of one element, uM0; or of five, with a reference and an acknowledgement */
 static void put_message(const struct row *r)
 {
     static uint8_t message[132], text[PEAT_BUFFER_LEAST], range[132];
-    static const uint8_t blocks[14] = {1, 1, 0x61, 0xC6, 0, 0x1B, 0x94, 1, 0, 0x1B, 0x94, 0, 0x1B, 0x94}; /* 25,000 metres, 70,000 feet thrice */
-    static const unsigned first_text = 151, second_text = 106;
+    static const unsigned want[] = {54, 2048, 9097};
     struct args made;
+    unsigned characters = 0;
     uint64_t said;
     memset(message, 0, sizeof message);
     memset(text, 'A', sizeof text);
     message[3] = 0x07, message[4] = 0xEA, message[5] = 11, message[6] = 15, message[11] = 1;
-    if (r->largest) {
-        uint8_t *place = message + 12;
+    if (r->size != LEAST) {
         message[1] = 1, message[2] = 63, message[10] = 1, message[11] = 5;
-        place[0] = 30, memcpy(place + 3, blocks, 14);
-        place[24] = 169, place[24 + 2] = first_text;
-        place[48] = 169, place[48 + 2] = second_text;
-        place[72] = 160, place[72 + 2] = 8;
-        place[96] = 123, memset(place + 96 + 19, 7, 4);
+        characters = r->size == MIDDLE ? put_middle(message + 12) : put_largest(message + 12);
     }
     memset(&made, 0, sizeof made);
     made.n[0] = PEAT_UPLINK;
     made.ids = (struct range){message, sizeof message};
-    made.msgs = (struct range){text, r->largest ? first_text + second_text + 8 : 0};
+    made.msgs = (struct range){text, characters};
     made.first = (struct range){bytes, sizeof bytes};
     said = model_call(WRITE_MESSAGE, &made);
-    if (said < 256 || (r->largest && peat_message_bits(said) != 2048)) {
+    if (said < 256 || peat_message_bits(said) != want[r->size]) {
         printf("the message has %u bits\n", peat_message_bits(said));
         exit(2);
     }
@@ -171,11 +200,12 @@ static void prepare(const struct row *r)
     args.second = (struct range){second, sizeof second};
     args.message = r->which == MESSAGE_REQUEST || r->which == D_DATA_INDICATION ? 8 : NONE;
     args.msgs = (struct range){msgs, 1};
-    if (r->largest) {
+    if (r->size != LEAST) {
+        args.message = r->size == MIDDLE ? 2048 : PEAT_MESSAGE_MOST, args.check = 64;
         args.ids = (struct range){ids, sizeof ids};
-        args.msgs = (struct range){msgs, sizeof msgs};
+        args.msgs = (struct range){msgs, (size_t)(args.message + 7) / 8};
         args.checks = (struct range){checks, sizeof checks};
-        args.message = 2048, args.check = 64;
+        msgs[sizeof msgs - 1] &= 0xFE; /* 16,383 bits leave one of padding */
     }
     if (r->pdu != PDU_NONE) {
         args.bytes = (struct range){bytes, put_pdu(r)};
@@ -184,7 +214,8 @@ static void prepare(const struct row *r)
     if (r->which == READ_ENVELOPE || r->which == ENVELOPE_JOB)
         args.bytes = (struct range){bytes, put_envelope(r)};
     if (r->which == DATA_PART) {
-        args.message = r->largest ? 2048 : 8;
+        if (r->size == LEAST)
+            args.message = 8;
         bits.n = 0;
         put_data(&bits, &args);
         args.bytes = (struct range){bytes, whole(&bits, bytes)};

@@ -98,9 +98,9 @@ uint64_t read_message(struct args *a)
     struct reader r = reader_of(a->bytes, (size_t)a->n[1]);
     size_t characters = 0;
     unsigned here, i;
-    if (a->first.len < 320)
+    if (a->first.len < BUFFER_LEAST)
         return 1;
-    if (a->n[0] < DOWN || a->n[0] > UP || a->rec.len != sizeof m || a->n[1] > 2048 || a->n[1] > 8 * (uint64_t)a->bytes.len)
+    if (a->n[0] < DOWN || a->n[0] > UP || a->rec.len != sizeof m || a->n[1] > MESSAGE_MOST || a->n[1] > 8 * (uint64_t)a->bytes.len)
         return 2;
     here = (unsigned)get(&r, 2);
     m[0] = (uint8_t)get_whole(&r, 0, 63);
@@ -208,7 +208,7 @@ uint64_t write_message(struct args *a)
     const uint8_t *m = a->ids.at;
     size_t used = 0;
     unsigned i;
-    if (a->first.len < 320)
+    if (a->first.len < BUFFER_LEAST)
         return 1;
     if (a->n[0] < DOWN || a->n[0] > UP || a->ids.len != 132)
         return 2;
@@ -234,7 +234,7 @@ uint64_t write_message(struct args *a)
             used += kept(place + 1);
         }
     }
-    if (w.wrong || used != a->msgs.len || w.bits.n > 2048)
+    if (w.wrong || used != a->msgs.len || w.bits.n > MESSAGE_MOST)
         return 2;
     whole(&w.bits, a->first.at);
     return (uint64_t)w.bits.n << 24; /* not where reading has its characters */

@@ -139,7 +139,7 @@ static void get_data(struct reader *r, struct pdu *p)
     if (identifier)
         get_string(r, 8, 1, 16);
     if (message)
-        get_string(r, 1, 0, 2048);
+        get_string(r, 1, 0, MESSAGE_MOST);
     get_string(r, 1, 0, 64);
     p->data_to = r->at;
 }
@@ -556,7 +556,7 @@ static struct pdu received(enum which w, const struct rec *r, const struct args 
 
 static int data_fits(const struct args *a)
 {
-    return a->ids.len <= 16 && (a->message == NONE || (a->message <= 2048 && a->message <= 8 * a->msgs.len)) && a->check <= 64 &&
+    return a->ids.len <= 16 && (a->message == NONE || (a->message <= MESSAGE_MOST && a->message <= 8 * a->msgs.len)) && a->check <= 64 &&
            a->check <= 8 * a->checks.len;
 }
 
@@ -628,7 +628,7 @@ static unsigned get_envelope(struct range in, struct envelope *e)
         if (i == 1 && e->number[1] == 0)
             return GROUPS;
     }
-    if (e->number[2] > 2048 || (e->number[0] == 3 && e->number[2] != 8))
+    if (e->number[2] > MESSAGE_MOST || (e->number[0] == 3 && e->number[2] != 8))
         return SIZE;
     e->body = e->at;
     e->at += (size_t)(e->number[2] + 7) / 8;
@@ -656,12 +656,12 @@ static uint64_t envelope_job(const struct args *a)
 /* "A writer answers SHAPE to a kind, job or bit count that reading refuses": what was put together is read. */
 static uint64_t write_envelope(struct args *a)
 {
-    uint8_t made[10 * 3 + 256];
+    uint8_t made[10 * 3 + (MESSAGE_MOST + 7) / 8];
     struct envelope e;
     size_t n = 0, i;
-    if (a->first.len < 320)
+    if (a->first.len < BUFFER_LEAST)
         return 1;
-    if (a->n[2] > 8 * (uint64_t)a->msgs.len || a->n[2] > 2048)
+    if (a->n[2] > 8 * (uint64_t)a->msgs.len || a->n[2] > MESSAGE_MOST)
         return 2;
     for (i = 0; i < 3; i++) {
         uint64_t left = a->n[i];
@@ -686,7 +686,7 @@ static uint64_t data_part(struct args *a)
     struct pdu p;
     struct reader r = reader_of(a->bytes, 8 * a->bytes.len);
     unsigned i, there;
-    if (a->first.len < 320)
+    if (a->first.len < BUFFER_LEAST)
         return 1;
     if (a->n[0] > 2)
         return 2;
@@ -725,7 +725,7 @@ uint64_t model_call(enum which w, struct args *a)
     case WRITE_MESSAGE: return write_message(a);
     default: break;
     }
-    if (a->first.len < 320 || a->second.len < 320)
+    if (a->first.len < BUFFER_LEAST || a->second.len < BUFFER_LEAST)
         return 1;
     if (!load(a->rec, &r) || (has_data(w) && !data_fits(a)) || (is_service(w) && w != D_P_ABORT_INDICATION && a->given > 1) || !shapely(w, a->n))
         return 2;

@@ -34,10 +34,13 @@ struct args {
 /* does to the lent ranges what the call must do, and answers what it must answer */
 uint64_t model_call(enum which which, struct args *a);
 
-/* bits, one in a byte */
+/* document 01's sizes, with those of document 02, E3: the bits of a message, the bytes of an output buffer */
+enum { MESSAGE_MOST = 16383, BUFFER_LEAST = 2112 };
+
+/* bits, one in a byte: the largest APDU has 16,615 */
 struct bits {
     size_t n;
-    uint8_t bit[16384];
+    uint8_t bit[20000];
 };
 
 void put(struct bits *b, uint64_t value, unsigned width);

@@ -61,7 +61,7 @@ class Rows:
         if there & 2:
             self.string("identifier", 8, 1, 16)
         if there & 1:
-            self.string("message", 1, 0, 2048)
+            self.string("message", 1, 0, 16383)
         self.string("check", 1, 0, 64)
 
     def apdu(self, side):
@@ -147,8 +147,8 @@ def explain_apdu(side, data):
 
 
 def explain_message(direction, count, data):
-    if count > 2048:
-        return ["not read: a message has at most 2048 bits"]
+    if count > cpdlc.MOST_BITS:
+        return ["not read: a message has at most 16383 bits"]
     if count > 8 * len(data):
         return ["not read: more bits than the bytes hold"]
     bits = cpdlc.unpacked(data, count)

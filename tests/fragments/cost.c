@@ -31,21 +31,26 @@ static const struct row {
     {"the least, 3 bytes, nothing held", 7, 0, 0, 3, 0, 0, 0},
     {"16 bytes, nothing held", 300, 96, 0, 16, 0, 0, 0},
     {"16 bytes of 4,096, behind a finished one of 16", 300, 96, 0, 4096, 1, 0, 0},
-    {"the largest, 269 bytes, nothing held", JOB_MOST, 2048, 0, 269, 0, 0, 0},
-    {"the largest, 269 bytes, behind a finished one", JOB_MOST, 2048, 0, 269, 1, 0, 0},
-    {"one byte, the first", JOB_MOST, 2048, 0, 1, 0, 0, 0},
-    {"one byte, the seventh of the header", JOB_MOST, 2048, 6, 1, 0, 0, 0},
+    {"2,048 bits, 269 bytes, nothing held", JOB_MOST, 2048, 0, 269, 0, 0, 0},
+    {"2,048 bits, 269 bytes, behind a finished one", JOB_MOST, 2048, 0, 269, 1, 0, 0},
+    {"the largest, 2,061 bytes, nothing held", JOB_MOST, PEAT_MESSAGE_MOST, 0, 2061, 0, 0, 0},
+    {"the largest, 2,061 bytes, behind a finished one", JOB_MOST, PEAT_MESSAGE_MOST, 0, 2061, 1, 0, 0},
+    {"one byte, the first", JOB_MOST, PEAT_MESSAGE_MOST, 0, 1, 0, 0, 0},
+    {"one byte, the seventh of the header", JOB_MOST, PEAT_MESSAGE_MOST, 6, 1, 0, 0, 0},
     {"one byte, of a body", 300, 96, 10, 1, 0, 0, 0},
-    {"one byte, of the largest body", JOB_MOST, 2048, 100, 1, 0, 0, 0},
-    {"the last 169 bytes of the largest", JOB_MOST, 2048, 100, 169, 0, 0, 0},
-    {"the last 263 bytes of the largest, from inside its header", JOB_MOST, 2048, 6, 263, 0, 0, 0},
+    {"one byte, of the largest body", JOB_MOST, PEAT_MESSAGE_MOST, 100, 1, 0, 0, 0},
+    {"the last 1,961 bytes of the largest", JOB_MOST, PEAT_MESSAGE_MOST, 100, 1961, 0, 0, 0},
+    {"the last 2,055 bytes of the largest, from inside its header", JOB_MOST, PEAT_MESSAGE_MOST, 6, 2055, 0, 0, 0},
     {"KIND, nothing held", 7, 0, 0, 100, 0, 1, 0},
     {"2,992 bytes of 187 envelopes, at once", 300, 96, 0, 2992, 0, 0, 2992},
     {"2,992 bytes of 187 envelopes, 100 bytes at a time", 300, 96, 0, 2992, 0, 0, 100},
     {"2,992 bytes of 187 envelopes, byte by byte", 300, 96, 0, 2992, 0, 0, 1},
-    {"2,959 bytes of 11 largest envelopes, at once", JOB_MOST, 2048, 0, 2959, 0, 0, 2959},
-    {"2,959 bytes of 11 largest envelopes, 100 bytes at a time", JOB_MOST, 2048, 0, 2959, 0, 0, 100},
-    {"2,959 bytes of 11 largest envelopes, byte by byte", JOB_MOST, 2048, 0, 2959, 0, 0, 1},
+    {"2,959 bytes of 11 envelopes of 2,048 bits, at once", JOB_MOST, 2048, 0, 2959, 0, 0, 2959},
+    {"2,959 bytes of 11 envelopes of 2,048 bits, 100 bytes at a time", JOB_MOST, 2048, 0, 2959, 0, 0, 100},
+    {"2,959 bytes of 11 envelopes of 2,048 bits, byte by byte", JOB_MOST, 2048, 0, 2959, 0, 0, 1},
+    {"6,183 bytes of 3 largest envelopes, at once", JOB_MOST, PEAT_MESSAGE_MOST, 0, 6183, 0, 0, 6183},
+    {"6,183 bytes of 3 largest envelopes, 100 bytes at a time", JOB_MOST, PEAT_MESSAGE_MOST, 0, 6183, 0, 0, 100},
+    {"6,183 bytes of 3 largest envelopes, byte by byte", JOB_MOST, PEAT_MESSAGE_MOST, 0, 6183, 0, 0, 1},
 };
 #define ROWS (sizeof rows / sizeof rows[0])
 
@@ -65,10 +70,11 @@ static void must(int right)
 /* envelopes without end, and the record as it is before the call */
 static void prepare(const struct row *r)
 {
-    static uint8_t body[256];
+    static uint8_t body[(PEAT_MESSAGE_MOST + 7) / 8];
     size_t i;
     for (i = 0; i < sizeof body; i++)
         body[i] = (uint8_t)(37 * i + 11);
+    body[sizeof body - 1] &= 0xFE; /* the bit behind the largest */
     bytes = peat_written_bytes(peat_write_envelope(PEAT_ENVELOPE_TO_SEND, r->job, r->bits, body, sizeof body, envelope, sizeof envelope));
     must(bytes > 0);
     for (i = 0; i < sizeof text; i++)

@@ -269,8 +269,9 @@ static const struct { unsigned n; uint8_t byte[14]; } shorts[] = {
     {5, {0x00, 0x01, 0x01, 0x01, 0x01}},
     {7, {0x01, 0x01, 0x00, 0x04, 0x01, 0x01, 0x01}},                                               /* an envelope, then KIND */
     {7, {0x03, 0x01, 0x08, 0x15, 0x03, 0x01, 0x07}},                                               /* a refusal of 7 bits */
-    {6, {0x01, 0x01, 0x81, 0x10, 0x01, 0x01}},                                                     /* 2,049 bits */
-    {6, {0x01, 0x01, 0xFF, 0x7F, 0x01, 0x01}},
+    {6, {0x01, 0x01, 0x81, 0x10, 0x01, 0x01}},                                                     /* 2,049 bits, which are not there */
+    {6, {0x01, 0x01, 0xFF, 0x7F, 0x01, 0x01}},                                                     /* the most */
+    {7, {0x01, 0x01, 0x80, 0x80, 0x01, 0x01, 0x01}},                                               /* one more: SIZE */
     {12, {0x80, 0x80, 0x80, 0x80, 0x80, 0x80, 0x80, 0x80, 0x80, 0x02, 0x01, 0x01}},                /* a tenth byte above 1 */
     {11, {0x80, 0x80, 0x80, 0x80, 0x80, 0x80, 0x80, 0x80, 0x80, 0x01, 0x01}},                      /* a kind of ten groups */
     {9, {0x80, 0x80, 0x80, 0x80, 0x80, 0x80, 0x80, 0x80, 0x80}},
@@ -316,7 +317,7 @@ static size_t put_number(uint8_t *at, uint64_t v)
 
 static size_t put_envelope(uint8_t *at)
 {
-    unsigned kind = 1 + below(3), bits = kind == 3 ? 8 : below(4) == 0 ? 2048 - below(16) : below(200), i;
+    unsigned kind = 1 + below(3), bits = kind == 3 ? 8 : below(12) == 0 ? PEAT_MESSAGE_MOST - below(16) : below(4) == 0 ? 2048 - below(16) : below(200), i;
     uint64_t job = any() >> below(64);
     size_t n = put_number(at, kind);
     n += put_number(at + n, job ? job : 1);
@@ -347,7 +348,7 @@ static void recordings(unsigned long strings)
     static const uint8_t whole_cut[1] = {0}, bytes_cut[1] = {0xFF};
     unsigned long k, sound = 0, refused = 0;
     for (k = 0; k < strings; k++) {
-        size_t n = recording(below(8) == 0 ? LONG : 300 + below(1500));
+        size_t n = recording(below(8) == 0 ? LONG : PEAT_ENVELOPE_MOST + below(2000));
         uint8_t cuts[64];
         struct run whole = cut_up(text, n, whole_cut, 1, 0), bytes = cut_up(text, n, bytes_cut, 1, k % 5 == 0), some, read = read_whole(text, n);
         unsigned i, rare = 1 + below(6);

@@ -16,7 +16,7 @@ from reference import Refused  # noqa: E402
 ROOM, SHAPE = 1, 2
 TAIL, NOT_CARRIED, DEFAULT = 15, 16, 17
 DOWNLINK, UPLINK = 1, 2
-MOST_BITS, LEAST_BUFFER = 2048, 320
+MOST_BITS, LEAST_BUFFER = 16383, 2112
 BITS_COUNTED = 1 << 24   # a count of bits in an answer; a count of characters is 256 times
 
 CARRIED = ("NULL", "Level", "LevelLevel", "Time", "Code", "FreeText", "Facility", "FacilityDesignation", "ATISCode")

@@ -4,7 +4,7 @@ import struct
 import subprocess
 
 import reference
-from reference import (BIT_FIELD, CONTENTS, COPY, EXTENSION_BIT, INDEX, LENGTH, LENGTH_WITHIN, SIZED, STRING, WHOLE, WRITE, Full,
+from reference import (BIT_FIELD, CONTENTS, COPY, EXTENSION_BIT, INDEX, LENGTH, LENGTH_WITHIN, MESSAGE, SIZED, STRING, WHOLE, WRITE, Full,
                        Refused)
 
 HEADER = struct.Struct(">BQQQQQHH")
@@ -58,13 +58,13 @@ RANGES = ((0, 63), (1, 5), (1, 12), (1996, 2095), (0, 7), (0, 7060), (0, 25030),
           (0, 2 ** 64 - 1), (5, 2 ** 63))
 RUNS = ((7, 3, 21), (7, 3, 20), (8, 0, 0), (1, 64, 63), (8, 2 ** 60, 64), (7, 2 ** 63, 64), (64, 2 ** 58, 0), (1, 2 ** 64 - 1, 80))
 FAR_READS = ((BIT_FIELD, 2, 0, 0), (WHOLE, 0, 63, 0), (WHOLE, 0, 2 ** 64 - 1, 0), (EXTENSION_BIT, 0, 0, 0), (INDEX, 0, 236, 0),
-             (LENGTH, 0, 0, 0), (LENGTH_WITHIN, 0, 2048, 0), (CONTENTS, 8, 0, 3), (STRING, 0, 2048, 1), (SIZED, 4, 8, 7))
+             (LENGTH, 0, 0, 0), (LENGTH_WITHIN, *MESSAGE, 0), (CONTENTS, 8, 0, 3), (STRING, *MESSAGE, 1), (SIZED, 4, 8, 7))
 FAR_WRITES = ((WRITE + BIT_FIELD, 2, 0, 1), (WRITE + WHOLE, 0, 63, 5), (WRITE + EXTENSION_BIT, 0, 0, 0), (WRITE + INDEX, 0, 236, 9),
               (WRITE + LENGTH, 0, 0, 300), (WRITE + STRING, 1, 0, 8), (WRITE + COPY, 8, 0, 8))
 NOISY_READS = ((BIT_FIELD, 2, 0, 0), (BIT_FIELD, 7, 0, 0), (WHOLE, 0, 63, 0), (WHOLE, 1, 5, 0), (WHOLE, 1996, 2095, 0),
                (WHOLE, 0, 7060, 0), (WHOLE, 0, 2, 0), (EXTENSION_BIT, 0, 0, 0), (INDEX, 0, 3, 0), (INDEX, 0, 12, 0),
-               (INDEX, 0, 236, 0), (LENGTH, 0, 0, 0), (LENGTH_WITHIN, 0, 2048, 0), (LENGTH_WITHIN, 1, 16, 0), (CONTENTS, 7, 0, 4),
-               (STRING, 0, 64, 1), (STRING, 0, 2048, 1), (STRING, 1, 16, 8), (SIZED, 1, 256, 7), (SIZED, 4, 8, 7))
+               (INDEX, 0, 236, 0), (LENGTH, 0, 0, 0), (LENGTH_WITHIN, *MESSAGE, 0), (LENGTH_WITHIN, 1, 16, 0), (CONTENTS, 7, 0, 4),
+               (STRING, 0, 64, 1), (STRING, *MESSAGE, 1), (STRING, 0, 3000, 1), (STRING, 1, 16, 8), (SIZED, 1, 256, 7), (SIZED, 4, 8, 7))
 
 
 class Maker:
@@ -100,6 +100,14 @@ class Maker:
             at = end
         if at != len(bits):
             raise AssertionError(f"{why}: the fields end at bit {at}, the vector at {len(bits)}")
+
+    def of_fragments(self, why, count, bits):
+        """What an independent coder makes of a string that is too long for one length: no reader takes it, no writer makes it."""
+        for shift in range(8):
+            before = self.noise(shift)
+            for op, lo, hi, unit in ((LENGTH, 0, 0, 0), (LENGTH_WITHIN, *MESSAGE, 0), (STRING, *MESSAGE, 1)):
+                yield reader(why, op, lo, hi, unit, shift, before + bits, f"refused 13 at {shift}")
+        yield writer(why, WRITE + LENGTH, 0, 0, count, 0, 64, self.noise(64))
 
     def read(self, why, field, bits, at, end):
         yield reader(why, field.op, field.lo, field.hi, field.unit, at, bits, f"ok {field.value} {end}")
@@ -164,7 +172,7 @@ class Maker:
 
     def length_edges(self, before):
         at = len(before)
-        for limits in ((0, 16383), (0, 2048), (0, 64), (1, 16)):
+        for limits in (MESSAGE, (0, 2048), (0, 64), (1, 16)):       # the second is a limit below what two bytes carry
             asks = ((LENGTH, 0, 0, 0), (LENGTH_WITHIN, *limits, 0), (STRING, *limits, 1), (STRING, *limits, 8))
             for count in (0, 1, 15, 16, 17, 63, 64, 65, 126, 127, 128, 129, 2047, 2048, 2049, 16382, 16383):
                 bits = before + reference.put_length(0, 0, count, "")

@@ -105,7 +105,8 @@ fields() ->
      [line("counted", "1..5", dotted(D), coded('Fields', 'Counted', D)) || N <- [1, 2, 3, 4, 5], D <- [random_list(N, 0, 63) || _ <- lists:seq(1, 30)]],
      [open_sequence() || _ <- lists:seq(1, 300)],
      [shut_sequence(M, I) || M <- [0, 1], I <- lists:seq(0, 63)],
-     [plain_sequence(P, Q) || P <- lists:seq(1, 31), Q <- [0, 1]]].
+     [plain_sequence(P, Q) || P <- lists:seq(1, 31), Q <- [0, 1]],
+     [fragments(N) || N <- [16384, 16385, 32768, 65536]]].
 
 ranges() ->
     [{0, 63}, {1, 5}, {1, 12}, {1, 31}, {1996, 2095}, {0, 23}, {0, 59}, {0, 7}, {-60, 7000}, {-30, 25000}, {30, 700}, {100, 2500},
@@ -138,6 +139,11 @@ lengths() -> [0, 1, 2, 7, 8, 9, 15, 16, 63, 64, 65, 127, 128, 129, 255, 256, 257
 bit_strings() ->
     [random_bits(N) || N <- lengths() ++ [2047, 2048, 2049, 16382, 16383]]
         ++ [<<-1:N>> || N <- lengths()] ++ [random_bits(random(300)) || _ <- lists:seq(1, 500)].
+
+%% A string of bits that is too long for one length: it comes in fragments.
+fragments(N) ->
+    Bits = random_bits(N),
+    line("fragments", "-", integer_to_list(N), coded('Fields', 'Bits', Bits)).
 
 octet_strings() ->
     [random_octets(N) || N <- lengths() ++ [2047, 2048, 16383]] ++ [random_octets(random(40)) || _ <- lists:seq(1, 500)].
@@ -203,7 +209,8 @@ aborts(Type, Alternative, Names) ->
 parts() ->
     Ids = [asn1_NOVALUE, [127], [1, 2, 300], [128, 128, 128, 128, 128, 128, 128, 128]],
     [{I, M, C} || I <- Ids, M <- [asn1_NOVALUE, <<>>, random_bits(17)], C <- [<<>>, random_bits(32)]]
-        ++ [{asn1_NOVALUE, random_bits(N), random_bits(C)} || {N, C} <- [{127, 1}, {128, 64}, {129, 63}, {1023, 8}, {2047, 31}, {2048, 64}]]
+        ++ [{asn1_NOVALUE, random_bits(N), random_bits(C)} || {N, C} <- [{127, 1}, {128, 64}, {129, 63}, {1023, 8}, {2047, 31}, {2048, 64}, {2049, 0}, {16382, 63}, {16383, 64}]]
+        ++ [{[128, 128, 128, 128, 128, 128, 128, 128], random_bits(16383), random_bits(64)}]
         ++ [{perhaps(fun() -> random_list(between(1, 5), 0, 300) end), perhaps(fun() -> random_bits(random(400)) end), random_bits(random(65))} || _ <- lists:seq(1, 40)].
 
 named(Type, {I, M, C}) -> {Type, I, M, C}.

@@ -5,6 +5,7 @@ with document 01's number and the place at which the refused field begins; at on
 """
 SHORT, RANGE, EXTENSION, LENGTH_FORM, LIMIT = 10, 11, 12, 13, 14
 LONGEST = 16383         # what a length in its two-byte form can say
+MESSAGE = (0, 16383)    # the bits of a CPDLC message
 
 # The ops of PROTOCOL.md. A writer's op is WRITE and the op of the reader of the same field.
 BIT_FIELD, WHOLE, EXTENSION_BIT, INDEX, LENGTH, LENGTH_WITHIN, CONTENTS, STRING, SIZED, COPY = range(1, 11)

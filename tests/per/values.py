@@ -1,7 +1,7 @@
 """From a line of the stored vectors (VECTORS.md) to the fields of its value, in the order of their bits."""
 import re
 
-from reference import BIT_FIELD, EXTENSION_BIT, INDEX, LENGTH, LENGTH_WITHIN, LONGEST, SIZED, STRING, WHOLE
+from reference import BIT_FIELD, EXTENSION_BIT, INDEX, LENGTH, LENGTH_WITHIN, LONGEST, MESSAGE, SIZED, STRING, WHOLE
 
 LENGTHS = (0, LONGEST)
 
@@ -84,7 +84,7 @@ def protected(value):
     if "id" in here:
         out.append(octets(v["id"], (1, 16)))
     if "msg" in here:
-        out.append(counted_bits(v["msg"], (0, 2048)))
+        out.append(counted_bits(v["msg"], MESSAGE))
     return out + [counted_bits(v["check"], (0, 64))]
 
 

@@ -21,7 +21,7 @@ use Rattle.fields.proofs.RoundTrip as fields
 use Rattle.apdu.specs.Sizes.{userLast, providerLast, modeLast}
 use Rattle.apdu.specs.Pdus.{Pdu, abortUser, abortProvider, start, send, forward, forwardResponse, lastOf, kindOf, indexOf, pduIn, forwarded}
 use Rattle.apdu.specs.Encoding.{contentBits, contentFits, modeBits, modeFits, pduBits, pduFits}
-use Rattle.apdu.specs.Reading.{onField, onData, onLead, dataAt, modeValue, modeAt, kindMode, leadingAt, tailAt, endedAt, restAt, apduAt}
+use Rattle.apdu.specs.Reading.{onField, onData, onLead, dataAt, modeValue, modeAt, kindMode, leadingAt, tailAt, endedAt, restWithin, restAt, apduWithin, apduAt}
 use Rattle.apdu.specs.Writing.{apduShaped}
 use Rattle.apdu.specs.declared.Side.{Side}
 use Rattle.apdu.specs.declared.Side.the-variants.{Air, Ground}
@@ -144,7 +144,7 @@ has Air i h = rw (le-leb 0 i (omega arith), le-leb i 3 h)
 has Ground i h = rw (le-leb 0 i (omega arith), le-leb i 5 (omega arith))
 
 pub fields-written : (side : Side) (l : List ℕ) (at m : ℕ) (v : Pdu) → pduFits side v ≡ true → Stands l at (pduBits side v) m → FieldsRead side l at m v
-unfolding pduFits pduBits apduAt leadingAt kindMode restAt pduIn
+unfolding pduFits pduBits apduWithin leadingAt kindMode restWithin pduIn
 fields-written side l at m (abortUser r) h s =
     let w = stands-split l at m (indexBits (lastOf side) 0) (indexBits userLast r) s in
     let a = extensible-index (lastOf side) (small side) .written-read l at 0 (at + length (indexBits (lastOf side) 0)) (has side 0 (omega arith)) (w .first) in
@@ -300,7 +300,7 @@ pub value-place : (p m q : ℕ) → Value 0 p ≡ Value m q → p ≡ q
 value-place p m q e = cc
 
 rest-read : (side : Side) (l : List ℕ) (at p : ℕ) (c : Kind) (m q : ℕ) (a : Apdu) → Bits l → forwarded a ≡ false → Stands l at (indexBits (lastOf side) (indexOf c)) p → kindMode side l c p ≡ Value m q → restAt l c m q ≡ answer.Is a → ApduIs side l at a
-unfolding kindMode restAt forwarded apduShaped pduBits pduIn
+unfolding kindMode restWithin forwarded apduShaped pduBits pduIn
 rest-read side l at p kind.AbortUser m q a b h s f k =
     via (ApduIs side l at a) answer.Refused (answer.Is a) (refused-not (ApduIs side l at a) a) (extensibleIndex l q userLast) _
     (λ (r n : ℕ) (g : extensibleIndex l q userLast ≡ Value r n) (e : endedAt l n (apdu.AbortUser r) ≡ answer.Is a). ended-read side l at n a (apdu.AbortUser r) (abort-stood side l at q n r 0 userLast (apdu.AbortUser r) b (omega arith) (stands-at l at p q _ (value-place p m q f) s) g refl refl) e) k
@@ -321,7 +321,7 @@ rest-read side l at p kind.ForwardResponse m q a b h s f k =
     never (cc)
 
 pub apdu-read : (side : Side) (l : List ℕ) (at : ℕ) (a : Apdu) → Bits l → forwarded a ≡ false → apduAt side l at ≡ answer.Is a → ApduIs side l at a
-unfolding apduAt
+unfolding apduWithin
 apdu-read side l at a b h e = via-lead (ApduIs side l at a) a (leadingAt side l at) (restAt l) found e
   where
     found : (c : Kind) (m n : ℕ) → leadingAt side l at ≡ lead.Is c m n → restAt l c m n ≡ answer.Is a → ApduIs side l at a

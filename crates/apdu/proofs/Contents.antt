@@ -20,7 +20,7 @@ use Rattle.fields.proofs.RoundTrip.{Stands, stands-join, stands-split, bit-fiel
 use Rattle.apdu.specs.Sizes.{identifierLeast, identifierMost, messageMost, checkMost, octet, bit}
 use Rattle.apdu.specs.Pdus.{Optional, absent, given, Content, itemsIn, partIn, contentIn}
 use Rattle.apdu.specs.Encoding.{stringBits, stringFits, optionalBits, optionalFits, presence, contentBits, contentFits}
-use Rattle.apdu.specs.Reading.{onField, spanTo, partAt, optionalAt, partsAt, dataAt}
+use Rattle.apdu.specs.Reading.{onField, spanTo, partAt, optionalAt, partsWithin, partsAt, dataWithin, dataAt}
 use Rattle.apdu.specs.Writing.{itemsShaped, partShaped, dataShaped}
 use Rattle.apdu.specs.declared.Part.{Part}
 use Rattle.apdu.specs.declared.Data.{Data}
@@ -134,7 +134,7 @@ pub record DataRead (l : List ℕ) (at next : ℕ) (c : Content) : Type 0 where
   pub content : contentIn l l l parts ≡ c
 
 pub data-written : (l : List ℕ) (at next : ℕ) (c : Content) → contentFits c ≡ true → Stands l at (contentBits c) next → DataRead l at next c
-unfolding contentFits contentBits dataAt partsAt contentIn
+unfolding contentFits contentBits dataWithin partsWithin contentIn
 data-written l at next c h s =
     let i : Optional = c .identifier in
     let m : Optional = c .message in
@@ -203,7 +203,7 @@ parts-made l at p q next n₁ n₂ n₃ i m b h x y z =
     }
 
 parts-read : (l : List ℕ) (at next : ℕ) (i m : Bool) (d : Data) → Bits l → at ≤ length l → partsAt l at i m ≡ taken.Is d next → PartsIs l at next i m d
-unfolding partsAt
+unfolding partsWithin
 parts-read l at next i m d b h e = via (PartsIs l at next i m d) taken.Refused (taken.Is d next) (refused-not (PartsIs l at next i m d) d next) (optionalAt l i at octet identifierLeast identifierMost) _ first e
   where
     third : (n₁ p n₂ q : ℕ) → optionalAt l i at octet identifierLeast identifierMost ≡ Value n₁ p → optionalAt l m p bit 0 messageMost ≡ Value n₂ q → (n₃ k : ℕ) → stringAt l q bit 0 checkMost ≡ Value n₃ k
@@ -230,7 +230,7 @@ data-made l at p q next v d h s t i =
     record { shaped = i .shaped; stands = stands-join l at p next (bitsN 1 0) _ s (stands-join l p q next _ _ u (i .stands)) }
 
 pub data-read : (l : List ℕ) (at next : ℕ) (d : Data) → Bits l → dataAt l at ≡ taken.Is d next → DataIs l at next d
-unfolding dataAt
+unfolding dataWithin
 data-read l at next d b e = via (DataIs l at next d) taken.Refused (taken.Is d next) (refused-not (DataIs l at next d) d next) (extensionBit l at) _ first e
   where
     second : (x p : ℕ) → extensionBit l at ≡ Value x p → (v q : ℕ) → bitField l p 2 ≡ Value v q → partsAt l q (leb 2 v) (eqb (v % 2) 1) ≡ taken.Is d next → DataIs l at next d

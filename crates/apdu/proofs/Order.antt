@@ -22,7 +22,7 @@ use Rattle.fields.proofs.RoundTrip.{Stands}
 use Rattle.apdu.specs.Sizes.{identifierLeast, identifierMost, messageMost, checkMost, userLast, providerLast, modeLast, octet, bit}
 use Rattle.apdu.specs.Pdus.{lastOf, kindOf, indexOf, pduIn}
 use Rattle.apdu.specs.Encoding.{pduBits}
-use Rattle.apdu.specs.Reading.{onField, onData, onLead, optionalAt, partsAt, dataAt, modeValue, modeAt, kindMode, leadingAt, tailAt, endedAt, restAt, apduAt}
+use Rattle.apdu.specs.Reading.{onField, onData, onLead, optionalAt, partsWithin, partsAt, dataWithin, dataAt, modeValue, modeAt, kindMode, leadingAt, tailAt, endedAt, restWithin, restAt, apduWithin, apduAt}
 use Rattle.apdu.specs.Writing.{apduShaped}
 use Rattle.apdu.specs.declared.Side.{Side}
 use Rattle.apdu.specs.declared.Side.the-variants.{Air, Ground}
@@ -167,14 +167,14 @@ module _ (wrong : ℕ) where
   lead-is c m n e = never (cc)
 
   parts-early : (l : List ℕ) (at : ℕ) (i m : Bool) → partsAt l at i m ≡ taken.Refused tailRefusal → ⊥
-  unfolding partsAt
+  unfolding partsWithin
   parts-early l at i m =
       early-on taken.Refused taken-one (optionalAt l i at octet identifierLeast identifierMost) _ (optional-early l i at octet identifierLeast identifierMost) (λ (n₁ p : ℕ).
       early-on taken.Refused taken-one (optionalAt l m p bit 0 messageMost) _ (optional-early l m p bit 0 messageMost) (λ (n₂ q : ℕ).
       early-on taken.Refused taken-one (stringAt l q bit 0 checkMost) _ (string-early l q bit 0 checkMost) (λ (n₃ k : ℕ). taken-is _ k)))
 
   data-early : (l : List ℕ) (at : ℕ) → dataAt l at ≡ taken.Refused tailRefusal → ⊥
-  unfolding dataAt
+  unfolding dataWithin
   data-early l at =
       early-on taken.Refused taken-one (extensionBit l at) _ (extension-bit-early l at) (λ (x p : ℕ).
       early-on taken.Refused taken-one (bitField l p 2) _ (bits-early l p 2) (λ (v q : ℕ). parts-early l q (leb 2 v) (eqb (v % 2) 1)))
@@ -218,7 +218,7 @@ module _ (wrong : ℕ) where
   only side l at n a s e = record { value = a; place = n; shaped = s .shaped; stands = s .stands; tail = ended-tail l n a e }
 
   rest-tail : (side : Side) (l : List ℕ) (at p : ℕ) (c : Kind) (m q : ℕ) → Bits l → Stands l at (indexBits (lastOf side) (indexOf c)) p → kindMode side l c p ≡ Value m q → restAt l c m q ≡ answer.Refused tailRefusal → TailOnly side l at
-  unfolding kindMode restAt apduShaped pduBits pduIn
+  unfolding kindMode restWithin apduShaped pduBits pduIn
   rest-tail side l at p kind.AbortUser m q b s f k =
       on-field (TailOnly side l at) (extensibleIndex l q userLast) _ (index-early l q userLast)
       (λ (r n : ℕ) (g : extensibleIndex l q userLast ≡ Value r n) (e : endedAt l n (apdu.AbortUser r) ≡ answer.Refused tailRefusal). only side l at n (apdu.AbortUser r) (abort-stood side l at q n r 0 userLast (apdu.AbortUser r) b (omega arith) (stands-at l at p q _ (value-place p m q f) s) g refl refl) e) k
@@ -233,7 +233,7 @@ module _ (wrong : ℕ) where
   rest-tail side l at p kind.ForwardResponse m q b s f k = never (cc)
 
   pub tail-last : (side : Side) (l : List ℕ) (at : ℕ) → Bits l → apduAt side l at ≡ answer.Refused tailRefusal → TailOnly side l at
-  unfolding apduAt
+  unfolding apduWithin
   tail-last side l at b e = on-lead (TailOnly side l at) (leadingAt side l at) (restAt l) (lead-early side l at) found e
     where
       found : (c : Kind) (m n : ℕ) → leadingAt side l at ≡ lead.Is c m n → restAt l c m n ≡ answer.Refused tailRefusal → TailOnly side l at

@@ -28,7 +28,7 @@ use Rattle.fields.proofs.RoundTrip as fields
 use Rattle.apdu.specs.Sizes.{bufferLeast, allBits, octet, bit, identifierMost, messageMost, checkMost, modeLast, userLast, providerLast}
 use Rattle.apdu.specs.Pdus.{given, Content, Pdu, start, lastOf, lent, itemsIn, partIn, contentIn, pduIn, forwarded}
 use Rattle.apdu.specs.Encoding.{stringBits, optionalBits, optionalFits, presence, contentBits, contentFits, modeBits, modeFits, pduBits, pduFits, padding, padded, bytesFor}
-use Rattle.apdu.specs.Reading.{onField, onTaken, kindMode, leadingAt, restAt, tailAt, apduAt, dataAt, wholeData}
+use Rattle.apdu.specs.Reading.{onField, onTaken, kindMode, leadingAt, restWithin, tailAt, apduWithin, apduAt, dataAt, wholeWithin, wholeData}
 use Rattle.apdu.specs.Writing.{apduShaped, done, writeOut}
 use Rattle.apdu.specs.declared.Side.{Side}
 use Rattle.apdu.specs.declared.Side.the-variants.{Air, Ground}
@@ -170,7 +170,7 @@ pub record DataWhole (l : List ℕ) (c : Content) : Type 0 where
   pub content : contentIn l l l parts ≡ c
 
 data-accepted : (c : Content) → contentFits c ≡ true → DataWhole (padded (contentBits c)) c
-unfolding wholeData
+unfolding wholeWithin
 data-accepted c h =
     let d = data-written (padded (contentBits c)) 0 (length (contentBits c)) c h (stands-front (contentBits c)) in
     record { parts = d .parts; read = rw (d .read, tail-padded (contentBits c)); content = d .content }
@@ -183,7 +183,7 @@ data-written-read c t b h g =
 
 -- what was read by itself stands there, within the sizes
 pub whole-data : (l : List ℕ) (d : Data) (next : ℕ) → Bits l → wholeData l ≡ taken.Is d next → DataIs l 0 next d
-unfolding wholeData
+unfolding wholeWithin
 whole-data l d next b h = from (dataAt l 0) refl h
   where
     ended : (e : Data) (n : ℕ) (f : Field) → onField taken.Refused f (λ (v m : ℕ). taken.Is e n) ≡ taken.Is d next → taken.Is e n ≡ taken.Is d next
@@ -288,11 +288,11 @@ read-written side s t a hs ht g h e =
 -- ---- a forward APDU: the alternative alone decides
 
 pub forward-read : (l : List ℕ) (at next : ℕ) → Stands l at (indexBits 5 4) next → apduAt Ground l at ≡ answer.Is apdu.Forward
-unfolding apduAt leadingAt kindMode restAt
+unfolding apduWithin leadingAt kindMode restWithin
 forward-read l at next s = rw (extensible-index 5 (omega arith) .written-read l at 4 next refl s)
 
 pub response-read : (l : List ℕ) (at next : ℕ) → Stands l at (indexBits 5 5) next → apduAt Ground l at ≡ answer.Is apdu.ForwardResponse
-unfolding apduAt leadingAt kindMode restAt
+unfolding apduWithin leadingAt kindMode restWithin
 response-read l at next s = rw (extensible-index 5 (omega arith) .written-read l at 5 next refl s)
 
 -- ---- the writer's refusals, and no others
@@ -332,15 +332,15 @@ start-delivered side s m d e =
     let p : 0 + length (indexBits (lastOf side) 2) + length (modeBits side m) ≡ width side + length (modeBits side m) = omega (arith, length-alternative side 2) in
     sym (rw p at h)
 
--- ---- the largest APDU is a startdown with mode dsc and every part at its limit: 2,280 bits, 285 bytes
+-- ---- the largest APDU is a startdown with mode dsc and every part at its limit: 16,615 bits, 2,077 bytes
 
 unfoldable pub full : Content
 full = record { identifier = given (replicate (octet * identifierMost) 0); message = given (replicate (bit * messageMost) 0); check = replicate (bit * checkMost) 0 }
 
-pub largest : pduMost ≡ 2280
+pub largest : pduMost ≡ 16615
 largest = refl
 
-pub largest-bytes : bytesFor pduMost ≡ 285
+pub largest-bytes : bytesFor pduMost ≡ 2077
 largest-bytes = refl
 
 pub largest-fits : pduFits Air (start modeLast full) ≡ true

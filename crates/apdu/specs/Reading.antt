@@ -1,5 +1,5 @@
 -- An APDU read from bits: its kind, its numbers and where the parts of its message data stand, or the refusal of the field where the fault
--- is met first (document 01, order for decoding).
+-- is met first (document 01, order for decoding). The most bits of a CPDLC message are a parameter, `limit`: the card reads at its own.
 use Prim.Native.Nat.{ℕ, _+_, _-_, _*_, _%_}
 use mathlib.Core.List.{List}
 use mathlib.Core.Bool.{Bool, cond}
@@ -77,17 +77,17 @@ unfoldable pub partAt : Bool → ℕ → ℕ → ℕ → Part
 partAt there unit n next = cond there (Given (spanTo unit n next)) Absent
 
 -- the fields, of which the first two are there or not
-unfoldable pub partsAt : List ℕ → ℕ → Bool → Bool → Taken
-partsAt l at i m =
+unfoldable pub partsWithin : ℕ → List ℕ → ℕ → Bool → Bool → Taken
+partsWithin limit l at i m =
     onField taken.Refused (optionalAt l i at octet identifierLeast identifierMost) (λ (octets p : ℕ).
-    onField taken.Refused (optionalAt l m p bit 0 messageMost) (λ (bits q : ℕ).
+    onField taken.Refused (optionalAt l m p bit 0 limit) (λ (bits q : ℕ).
     onField taken.Refused (stringAt l q bit 0 checkMost) (λ (n next : ℕ).
     taken.Is (record { identifier = partAt i octet octets p; message = partAt m bit bits q; check = spanTo bit n next }) next)))
 
 -- the extension bit, the presence bits as one field of two bits, the fields
-unfoldable pub dataAt : List ℕ → ℕ → Taken
-dataAt l at =
-    onField taken.Refused (extensionBit l at) (λ (e p : ℕ). onField taken.Refused (bitField l p 2) (λ (v q : ℕ). partsAt l q (leb 2 v) (eqb (v % 2) 1)))
+unfoldable pub dataWithin : ℕ → List ℕ → ℕ → Taken
+dataWithin limit l at =
+    onField taken.Refused (extensionBit l at) (λ (e p : ℕ). onField taken.Refused (bitField l p 2) (λ (v q : ℕ). partsWithin limit l q (leb 2 v) (eqb (v % 2) 1)))
 
 -- ---- the leading fields: the alternative, and the mode of a start
 
@@ -127,18 +127,35 @@ unfoldable pub endedAt : List ℕ → ℕ → Apdu → Answer
 endedAt l at a = onField answer.Refused (tailAt l at) (λ (v next : ℕ). answer.Is a)
 
 -- Of a forward APDU the alternative alone decides.
-unfoldable pub restAt : List ℕ → Kind → ℕ → ℕ → Answer
-restAt l kind.AbortUser m at = onField answer.Refused (extensibleIndex l at userLast) (λ (r next : ℕ). endedAt l next (apdu.AbortUser r))
-restAt l kind.AbortProvider m at = onField answer.Refused (extensibleIndex l at providerLast) (λ (r next : ℕ). endedAt l next (apdu.AbortProvider r))
-restAt l kind.Start m at = onData (dataAt l at) (λ (d : Data) (next : ℕ). endedAt l next (apdu.Start m d))
-restAt l kind.Send m at = onData (dataAt l at) (λ (d : Data) (next : ℕ). endedAt l next (apdu.Send d))
-restAt l kind.Forward m at = answer.Is apdu.Forward
-restAt l kind.ForwardResponse m at = answer.Is apdu.ForwardResponse
+unfoldable pub restWithin : ℕ → List ℕ → Kind → ℕ → ℕ → Answer
+restWithin limit l kind.AbortUser m at = onField answer.Refused (extensibleIndex l at userLast) (λ (r next : ℕ). endedAt l next (apdu.AbortUser r))
+restWithin limit l kind.AbortProvider m at = onField answer.Refused (extensibleIndex l at providerLast) (λ (r next : ℕ). endedAt l next (apdu.AbortProvider r))
+restWithin limit l kind.Start m at = onData (dataWithin limit l at) (λ (d : Data) (next : ℕ). endedAt l next (apdu.Start m d))
+restWithin limit l kind.Send m at = onData (dataWithin limit l at) (λ (d : Data) (next : ℕ). endedAt l next (apdu.Send d))
+restWithin limit l kind.Forward m at = answer.Is apdu.Forward
+restWithin limit l kind.ForwardResponse m at = answer.Is apdu.ForwardResponse
 
 -- the leading fields, then the rest
-unfoldable pub apduAt : Side → List ℕ → ℕ → Answer
-apduAt side l at = onLead (leadingAt side l at) (restAt l)
+unfoldable pub apduWithin : ℕ → Side → List ℕ → ℕ → Answer
+apduWithin limit side l at = onLead (leadingAt side l at) (restWithin limit l)
 
 -- message data by itself, as it is delivered: its parts, and nothing after it but the padding
-unfoldable pub wholeData : List ℕ → Taken
-wholeData l = onTaken (dataAt l 0) (λ (d : Data) (next : ℕ). onField taken.Refused (tailAt l next) (λ (v m : ℕ). taken.Is d next))
+unfoldable pub wholeWithin : ℕ → List ℕ → Taken
+wholeWithin limit l = onTaken (dataWithin limit l 0) (λ (d : Data) (next : ℕ). onField taken.Refused (tailAt l next) (λ (v m : ℕ). taken.Is d next))
+
+-- ---- at the card's limit
+
+abbrev pub partsAt : List ℕ → ℕ → Bool → Bool → Taken
+partsAt = partsWithin messageMost
+
+abbrev pub dataAt : List ℕ → ℕ → Taken
+dataAt = dataWithin messageMost
+
+abbrev pub restAt : List ℕ → Kind → ℕ → ℕ → Answer
+restAt = restWithin messageMost
+
+abbrev pub apduAt : Side → List ℕ → ℕ → Answer
+apduAt = apduWithin messageMost
+
+abbrev pub wholeData : List ℕ → Taken
+wholeData = wholeWithin messageMost

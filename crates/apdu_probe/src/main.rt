@@ -10,10 +10,8 @@ use apdu::Span;
 use apdu::Written;
 use bits::Read;
 
-// The bytes of a request before its body, the bytes of the lent buffer, and the end of a slice that means all of it.
+// The bytes of a request before its body, and the end of a slice that means all of it.
 const HEADER: usize = 65;
-
-const ROOM: usize = 1024;
 
 const ALL: usize = 18446744073709551615;
 
@@ -154,7 +152,7 @@ fn show_answer(r: Answer) {
 
 // The buffer, eight bytes at a time.
 fn show_bytes(s: &[u8], words: usize)
-    requires { ⌜ words ≤ 128 ⌝ }
+    requires { ⌜ words ≤ 512 ⌝ }
 {
     let mut i: usize = 0;
     while i < words {
@@ -165,7 +163,7 @@ fn show_bytes(s: &[u8], words: usize)
 }
 
 fn show_written(w: Written, s: &[u8], words: usize)
-    requires { ⌜ words ≤ 128 ⌝ }
+    requires { ⌜ words ≤ 512 ⌝ }
 {
     match w {
         Written::Bits(n) => {
@@ -193,7 +191,7 @@ fn fill(out: &mut [u8]) {
 
 // What is written to a buffer of so many times eight bytes, each of them A5 before.
 fn write(h: &[u8], body: &[u8], out: &mut [u8], words: usize, whole: bool)
-    requires { ⌜ words ≤ 128 ⌝ }
+    requires { ⌜ words ≤ 512 ⌝ }
 {
     fill(out);
     if whole {
@@ -212,7 +210,7 @@ fn answer(h: &[u8], body: &[u8], out: &mut [u8]) {
         return;
     }
     let words = number(h, 488, 16) as usize;
-    if 128 < words {
+    if 512 < words {
         io::write_all(1, b"bad\n");
         return;
     }

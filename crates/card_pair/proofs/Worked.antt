@@ -12,9 +12,10 @@ use Rattle.bits.specs.Put.{withBit, setBit, putBits}
 use Rattle.bits.specs.Read.{readBits}
 use Rattle.fields.specs.Encodings.{wholeBits, indexBits, lengthBits}
 use Rattle.fields.specs.Fields.{bitField, extensionBit, digitsIn, wholeNumber, extensibleIndex, lengthAt, lengthWithin, runAt, stringAt}
+use Rattle.apdu.specs.Sizes.{bufferLeast}
 use Rattle.apdu.specs.Encoding.{stringBits, optionalBits, optionalFits, contentBits, contentFits, modeBits, modeFits, pduBits, pduFits, padded}
 use Rattle.apdu.specs.Pdus.{partIn, contentIn, pduIn}
-use Rattle.apdu.specs.Reading.{optionalAt, partAt, partsAt, dataAt, modeValue, modeAt, kindMode, leadingAt, tailAt, endedAt, restAt, apduAt}
+use Rattle.apdu.specs.Reading.{optionalAt, partAt, partsWithin, dataWithin, modeValue, modeAt, kindMode, leadingAt, tailAt, endedAt, restWithin, apduWithin}
 use Rattle.apdu.specs.Writing.{itemsShaped, partShaped, dataShaped, apduShaped, writeOut}
 use Rattle.machine.specs.Calls.{answer, sent, startRequest, startResponse, messageRequest, endRequest, endResponse, userAbort, callOf, unsent, called}
 use Rattle.machine.specs.Apdus.{readable}
@@ -39,7 +40,7 @@ use Rattle.card_pair.specs.CardMachine.{Buffers, Given, Job, Asked, star
 
 -- both buffers of the least size, with bits in them
 abbrev lends : Side → ℕ → Buffers
-lends sd n = record { first = replicate 320 255; second = replicate 320 170; first-full = omega arith; second-full = omega arith }
+lends sd n = record { first = replicate bufferLeast 255; second = replicate bufferLeast 170; first-full = omega arith; second-full = omega arith }
 
 -- no message data; a message of ten bits, 01 after its first byte; one with an identifier and a check besides
 abbrev none : Given
@@ -165,7 +166,7 @@ rows =
     (view (seen closed (wire (DAbortRequest 0) (3 ∷ []) ∷ []) (bodyGiven (text 96) ∷ bodyGiven (text 97) ∷ []) (bodyGiven (text 80) ∷ []) (1 ∷ 2 ∷ [])) (seen (entered Dialogue false) [] (bodyGiven (text 80) ∷ []) (bodyGiven (text 96) ∷ []) (1 ∷ [])) true) ∷ []
 
 pub all-as-said : seenIn rows ≡ saidIn rows
-unfolding bitsN bitsOf accOf bitsTo bytesOf withBit setBit putBits readBits wholeBits indexBits lengthBits bitField extensionBit digitsIn wholeNumber extensibleIndex lengthAt lengthWithin runAt stringAt stringBits optionalBits optionalFits contentBits contentFits modeBits modeFits pduBits pduFits padded partIn contentIn pduIn optionalAt partAt partsAt dataAt modeValue modeAt kindMode leadingAt tailAt endedAt restAt apduAt itemsShaped partShaped dataShaped apduShaped writeOut answer sent startRequest startResponse messageRequest endRequest endResponse userAbort callOf unsent called readable qosFits userShapely serviceShapely shapely tell closes aborts excepts timerExpires systemError noInstruction pduFault sendFault abortFault startFits indicationFault confirmationFault firstFault handed instructed answered reached enter permitted messageRefusal refusalOf acts step firstTakes secondTakes finished concluded withRecord entering userStep userCall readsAs readsAgain abortOf orAbort readPdu meaning dataOf dataStep bareStep serviceStep serviceCall invokedNumber toldNumber packed headBytes storedBytes headFits withHighest loadAt storeAt partOf givenData freshFor freshCall run
+unfolding bitsN bitsOf accOf bitsTo bytesOf withBit setBit putBits readBits wholeBits indexBits lengthBits bitField extensionBit digitsIn wholeNumber extensibleIndex lengthAt lengthWithin runAt stringAt stringBits optionalBits optionalFits contentBits contentFits modeBits modeFits pduBits pduFits padded partIn contentIn pduIn optionalAt partAt partsWithin dataWithin modeValue modeAt kindMode leadingAt tailAt endedAt restWithin apduWithin itemsShaped partShaped dataShaped apduShaped writeOut answer sent startRequest startResponse messageRequest endRequest endResponse userAbort callOf unsent called readable qosFits userShapely serviceShapely shapely tell closes aborts excepts timerExpires systemError noInstruction pduFault sendFault abortFault startFits indicationFault confirmationFault firstFault handed instructed answered reached enter permitted messageRefusal refusalOf acts step firstTakes secondTakes finished concluded withRecord entering userStep userCall readsAs readsAgain abortOf orAbort readPdu meaning dataOf dataStep bareStep serviceStep serviceCall invokedNumber toldNumber packed headBytes storedBytes headFits withHighest loadAt storeAt partOf givenData freshFor freshCall run
 all-as-said = refl
 
 -- ---- a restart (docs/HOST.md): the host loses its power and loads the sixteen bytes that it stored. That is the step `fail`: between two calls a record
@@ -182,5 +183,5 @@ restarted =
 pub restart-takes-once :
     after restarted
     ≡ view (seen (entered Dialogue false) [] [] (bodyGiven (text 82) ∷ []) []) (seen (entered Dialogue false) [] (bodyGiven (text 82) ∷ []) [] (1 ∷ 2 ∷ 3 ∷ [])) false
-unfolding bitsN bitsOf accOf bitsTo bytesOf withBit setBit putBits readBits wholeBits indexBits lengthBits bitField extensionBit digitsIn wholeNumber extensibleIndex lengthAt lengthWithin runAt stringAt stringBits optionalBits optionalFits contentBits contentFits modeBits modeFits pduBits pduFits padded partIn contentIn pduIn optionalAt partAt partsAt dataAt modeValue modeAt kindMode leadingAt tailAt endedAt restAt apduAt itemsShaped partShaped dataShaped apduShaped writeOut answer sent startRequest startResponse messageRequest endRequest endResponse userAbort callOf unsent called readable qosFits userShapely serviceShapely shapely tell closes aborts excepts timerExpires systemError noInstruction pduFault sendFault abortFault startFits indicationFault confirmationFault firstFault handed instructed answered reached enter permitted messageRefusal refusalOf acts step firstTakes secondTakes finished concluded withRecord entering userStep userCall readsAs readsAgain abortOf orAbort readPdu meaning dataOf dataStep bareStep serviceStep serviceCall invokedNumber toldNumber packed headBytes storedBytes headFits withHighest loadAt storeAt partOf givenData freshFor freshCall run
+unfolding bitsN bitsOf accOf bitsTo bytesOf withBit setBit putBits readBits wholeBits indexBits lengthBits bitField extensionBit digitsIn wholeNumber extensibleIndex lengthAt lengthWithin runAt stringAt stringBits optionalBits optionalFits contentBits contentFits modeBits modeFits pduBits pduFits padded partIn contentIn pduIn optionalAt partAt partsWithin dataWithin modeValue modeAt kindMode leadingAt tailAt endedAt restWithin apduWithin itemsShaped partShaped dataShaped apduShaped writeOut answer sent startRequest startResponse messageRequest endRequest endResponse userAbort callOf unsent called readable qosFits userShapely serviceShapely shapely tell closes aborts excepts timerExpires systemError noInstruction pduFault sendFault abortFault startFits indicationFault confirmationFault firstFault handed instructed answered reached enter permitted messageRefusal refusalOf acts step firstTakes secondTakes finished concluded withRecord entering userStep userCall readsAs readsAgain abortOf orAbort readPdu meaning dataOf dataStep bareStep serviceStep serviceCall invokedNumber toldNumber packed headBytes storedBytes headFits withHighest loadAt storeAt partOf givenData freshFor freshCall run
 restart-takes-once = refl

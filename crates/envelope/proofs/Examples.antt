@@ -50,9 +50,9 @@ refusals =
     refuses (0x01 ∷ 0x01 ∷ 0x0A ∷ 0xA5 ∷ []) 20 ∷
     refuses (0x01 ∷ 0x01 ∷ 0x0A ∷ 0xA5 ∷ 0x41 ∷ []) 23 ∷ []
 
--- 2,049 and 16,383 bits at the limit 2,048: refused at the bit count, before the body is missed
+-- 16,383 bits whose body is missed; one bit more is refused at the bit count, before that
 abbrev overLimit : List Row
-overLimit = refuses (0x01 ∷ 0x01 ∷ 0x81 ∷ 0x10 ∷ []) 23 ∷ refuses (0x01 ∷ 0x01 ∷ 0xFF ∷ 0x7F ∷ []) 23 ∷ []
+overLimit = refuses (0x01 ∷ 0x01 ∷ 0xFF ∷ 0x7F ∷ []) 20 ∷ refuses (0x01 ∷ 0x01 ∷ 0x80 ∷ 0x80 ∷ 0x01 ∷ []) 23 ∷ []
 
 -- a body of no bits, and a refusal of 8
 abbrev bodies : List Row
@@ -108,7 +108,7 @@ pub refusals-hold : holds mostBits refusals ≡ true
 unfolding numberIn numberAt isKind sizeFits bytesFor isPadded bodyAt sizeAt jobAt kindAt envelopeAt
 refusals-hold = refl
 
-pub over-limit-holds : holds 2048 overLimit ≡ true
+pub over-limit-holds : holds mostBits overLimit ≡ true
 unfolding numberIn numberAt isKind sizeFits bytesFor isPadded bodyAt sizeAt jobAt kindAt envelopeAt
 over-limit-holds = refl
 

@@ -143,7 +143,7 @@ module _ (s : List ℕ) (by : ℕ) (h : by ≤ length s) where
 
 -- ---- a smaller limit
 
-fits-more : (l m kind bits : ℕ) → l ≤ m → sizeFits l kind bits ≡ true → sizeFits m kind bits ≡ true
+pub fits-more : (l m kind bits : ℕ) → l ≤ m → sizeFits l kind bits ≡ true → sizeFits m kind bits ≡ true
 unfolding sizeFits
 fits-more l m kind bits h e =
     let b = bits-small l kind bits e in

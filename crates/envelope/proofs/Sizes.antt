@@ -124,14 +124,10 @@ pub largest-met : (limit : ℕ) (body : List ℕ) → length body ≡ bytesFor l
 unfolding largest bytesOf number groups
 largest-met limit body e = simp length-append (omega arith)
 
--- the numbers: 269 bytes at 2,048 bits, 2,061 at 16,383; a lent output buffer takes it
-pub largest-is : largest mostBits ≡ 269
+-- the number, and a lent output buffer takes it
+pub largest-is : largest mostBits ≡ 2061
 unfolding largest number groups bytesFor
 largest-is = refl
-
-pub largest-long : largest 16383 ≡ 2061
-unfolding largest number groups bytesFor
-largest-long = refl
 
 pub largest-fits : largest mostBits ≤ leastRoom
 unfolding largest number groups bytesFor

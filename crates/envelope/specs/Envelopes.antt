@@ -30,7 +30,7 @@ writtenNumber (Bytes n) = 0
 writtenNumber Room = 1
 writtenNumber Shape = 2
 
--- "Sizes": a message has 2,048 bits at most, a lent output buffer 320 bytes at least
+-- "Sizes": the bits of a message, at most; the bytes of a lent output buffer, at least
 abbrev pub mostBits : ℕ
 mostBits = messageBits
 

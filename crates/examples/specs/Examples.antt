@@ -1,4 +1,4 @@
--- Document 01, "Examples by hand", the rows marked P: one list. A subject is a constructor of Row and a line of holds.
+-- Document 01, "Examples by hand", the rows marked P, and the two lengths of document 02, E3: one list. A subject is a constructor of Row and a line of holds.
 use Prim.Native.Nat.{ℕ, _+_, _-_, _*_, _/_}
 use mathlib.Core.Bool.{Bool, true, false, _&&_}
 use mathlib.Core.List.{List, [], _∷_, _++_}
@@ -45,6 +45,8 @@ examples =
     aLength (0x7F ∷ []) (value 127 8) ∷
     aLength (0x80 ∷ 0x80 ∷ []) (value 128 16) ∷
     aLength (0x88 ∷ 0x00 ∷ []) (value 2048 16) ∷
+    aLength (0x88 ∷ 0x01 ∷ []) (value 2049 16) ∷
+    aLength (0xBF ∷ 0xFF ∷ []) (value 16383 16) ∷
     aLength (0x80 ∷ 0x7F ∷ []) (refused 13) ∷
     aCode (7 ∷ 5 ∷ 0 ∷ 0 ∷ []) 12 (0xF4 ∷ 0x00 ∷ []) ∷
     aText designation (65 ∷ 66 ∷ 67 ∷ 68 ∷ []) 31 (0x10 ∷ 0x61 ∷ 0x43 ∷ 0x88 ∷ []) ∷

@@ -269,7 +269,7 @@ fn walk(direction: Direction, s: &[u8], end: usize) {
 // The first `count` bits, which a message may have and the bytes hold.
 pub(crate) fn explain_message(s: &[u8], count: usize, direction: Direction) {
     if Message::BITS < count {
-        io::write_all(1, b"not read: a message has at most 2048 bits\n");
+        io::write_all(1, b"not read: a message has at most 16383 bits\n");
         return;
     }
     if s.len() < count / 8 + (count % 8 + 7) / 8 {

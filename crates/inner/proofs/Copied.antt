@@ -134,32 +134,50 @@ text-none d l at = refl
 pub record Copied (d : Direction) (l : List ℕ) (at n : ℕ) (z₀ : List ℕ) (i p k : ℕ) (z : List ℕ) : Type 0 where
   pub text : sets z k (textAt d l p (n - i)) ≡ sets z₀ 0 (textAt d l at n)
   pub count : k + length (textAt d l p (n - i)) ≡ length (textAt d l at n)
-  pub place : 7 * k ≤ p
   pub size : length z ≡ length z₀
 
 pub copied-start : (d : Direction) (l : List ℕ) (at n : ℕ) (z : List ℕ) → Copied d l at n z 0 at 0 z
 copied-start d l at n z =
     let e : n - 0 ≡ n = omega arith in
-    record { text = rw e; count = rw e (omega arith); place = omega arith; size = refl }
+    record { text = rw e; count = rw e (omega arith); size = refl }
 
 module _ (d : Direction) (l : List ℕ) (at n : ℕ) (z₀ : List ℕ) (i p k : ℕ) (z : List ℕ) (inv : Copied d l at n z₀ i p k z) where
   module _ (h : i < n) (r : ElementRead) (e : r ≡ elementAt d l p) where
     one-more : n - i ≡ suc (n - (i + 1))
     one-more = omega arith
 
-    pub copied-turn : (next : ℕ) → r .step ≡ step.Next next → Bits l → (y : List ℕ) → y ≡ sets z k (charactersIn l (next - 7 * r .element .characters) (r .element .characters)) → Copied d l at n z₀ (i + 1) next (k + r .element .characters) y
-    copied-turn next q b y w =
+    -- the characters that are left are the next element's, and those behind it
+    module _ (next : ℕ) (q : r .step ≡ step.Next next) where
+      left : textAt d l p (n - i) ≡ textOf l (r .element) next ++ textAt d l next (n - (i + 1))
+      left = rw (one-more, text-suc, ← e, q)
+
+      counted : length (textOf l (r .element) next) ≡ r .element .characters
+      counted = length-characters l (next - 7 * r .element .characters) (r .element .characters)
+
+      -- they are there, and a text that takes all characters has room for them
+      pub copied-room : Bits l → length (textAt d l at n) ≤ length z₀ → (next - 7 * r .element .characters + 7 * r .element .characters ≤ length l) × (k + r .element .characters ≤ length z)
+      copied-room b h =
+          let o = element-inside d l p next r b e q in
+          let a = o .after in
+          let w = o .within in
+          let v = length-append (textOf l (r .element) next) (textAt d l next (n - (i + 1))) in
+          let u = ap length left in
+          let m = counted in
+          let f = inv .count in
+          let g = inv .size in
+          (omega arith, omega arith)
+
+    pub copied-turn : (next : ℕ) → r .step ≡ step.Next next → (y : List ℕ) → y ≡ sets z k (charactersIn l (next - 7 * r .element .characters) (r .element .characters)) → Copied d l at n z₀ (i + 1) next (k + r .element .characters) y
+    copied-turn next q y w =
         let c : ℕ = r .element .characters in
         let t : List ℕ = textOf l (r .element) next in
-        let u : textAt d l p (n - i) ≡ t ++ textAt d l next (n - (i + 1)) = rw (one-more, text-suc, ← e, q) in
-        let m : length t ≡ c = length-characters l (next - 7 * c) c in
+        let u : textAt d l p (n - i) ≡ t ++ textAt d l next (n - (i + 1)) = left next q in
+        let m : length t ≡ c = counted next q in
         let v = length-append t (textAt d l next (n - (i + 1))) in
-        let o = element-inside d l p next r b e q in
         let x : sets (sets z k t) (k + length t) (textAt d l next (n - (i + 1))) ≡ sets z₀ 0 (textAt d l at n) = sym (sets-append t (textAt d l next (n - (i + 1))) z k) ∙ rw u at (inv .text) in
         record {
           text = rw w (rw m at x);
           count = let f = inv .count in let g = ap length u in omega arith;
-          place = let f = inv .place in let g = o .after in omega arith;
           size = ap length w ∙ length-sets z k t ∙ inv .size;
         }
 
@@ -175,10 +193,6 @@ module _ (d : Direction) (l : List ℕ) (at n : ℕ) (z₀ : List ℕ) (i p k : 
       let e : n - i ≡ 0 = omega arith in
       let a : textAt d l p (n - i) ≡ [] = rw (e, text-none) in
       (let f = inv .count in let g = ap length a in omega arith, rw a at (inv .text))
-
-  -- the characters of the next element are there, and the text has room for them
-  pub copied-room : (next c : ℕ) → Inside l p next c → length l ≤ 7 * length z₀ → (next - 7 * c + 7 * c ≤ length l) × (k + c ≤ length z)
-  copied-room next c o h = (let a = o .after in let b = o .within in omega arith, let a = o .after in let b = o .within in let f = inv .place in let g = inv .size in omega arith)
 
 -- what was copied lies before the bytes that stay
 pub copied-front : (z t : List ℕ) → length t ≤ length z → sets z 0 t ≡ t ++ drop (length t) z

@@ -9,6 +9,7 @@ pub mod RowPieces
 pub mod Unfilled
 pub mod Copied
 pub mod MessageLaws
+pub mod Characters
 pub mod MessageWritten
 pub mod Openings
 pub mod AreBits

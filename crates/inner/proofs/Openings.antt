@@ -3,23 +3,20 @@
 use mathlib.Core.Path.{_≡_, refl, sym, ap, _∙_}
 use mathlib.Core.Bool.{Bool, true, false}
 use mathlib.Core.List.{List, [], _++_}
-use Prim.Native.Nat.{ℕ, zero, suc, _+_, _*_, _-_, _≤_, _<_, min}
+use Prim.Native.Nat.{ℕ, _+_, _*_, _≤_, _<_, min}
 use native.Mathlib.Omega.{arith}
-use lib.ListN.{length, drop, length-append}
+use lib.ListN.{length, drop}
 use lib.Seq.{sets}
 use lib.Dec.{leb}
 use borrow.Author.Tests.{le-leb, lt-leb, le-ltb, lt-ltb}
 use Rattle.bits.specs.Bits.{bitsTo}
 use Rattle.bits.proofs.Numbers.{Bits}
-use Rattle.bits.proofs.Bytes.{bits-to, length-to}
+use Rattle.bits.proofs.Bytes.{bits-to}
 use Rattle.bits.proofs.Inside.{same-leb}
 use Rattle.fields.specs.declared.Refusal.{Refusal}
 use Rattle.elements.specs.declared.kinds.Direction.{Direction}
-use Rattle.elements.specs.declared.values.Step.{Step}
 use Rattle.elements.specs.declared.values.Step.the-variants as step
 use Rattle.elements.specs.Arguments.{stepRefusal}
-use Rattle.elements.specs.OneElement.{elementAt, textOf}
-use Rattle.elements.proofs.Texts.{length-characters}
 use Rattle.inner.specs.declared.values.Header.{Header}
 use Rattle.inner.specs.declared.values.HeaderRead.{HeaderRead}
 use Rattle.inner.specs.declared.values.HeaderRead.the-variants as header
@@ -32,38 +29,8 @@ use Rattle.inner.specs.Messages.{ontoElements, elementsText, messageText
 use Rattle.inner.proofs.HeaderLaws.{header-stands}
 use Rattle.inner.proofs.HeaderWritten.{length-header}
 use Rattle.inner.proofs.HeaderPieces.{flag-most}
-use Rattle.inner.proofs.Copied.{element-inside, copied-front, text-suc, text-none}
-
--- ---- the characters of a message are seven bits each
-
-text-few : (d : Direction) (l : List ℕ) (n at : ℕ) → Bits l → 7 * length (textAt d l at n) ≤ length l - at
-text-few d l zero at b = omega (arith, ap length (text-none d l at))
-text-few d l (suc n) at b = go (elementAt d l at .step) refl (λ (next : ℕ). text-few d l n next b)
-  where
-    go : (s : Step) → elementAt d l at .step ≡ s → ((next : ℕ) → 7 * length (textAt d l next n) ≤ length l - next) → 7 * length (textAt d l at (suc n)) ≤ length l - at
-    go (step.Next next) q more =
-        let c : ℕ = elementAt d l at .element .characters in
-        let t : List ℕ = textOf l (elementAt d l at .element) next in
-        let u : textAt d l at (suc n) ≡ t ++ textAt d l next n = rw (text-suc, q) in
-        let v = length-append t (textAt d l next n) in
-        let w : length t ≡ c = length-characters l (next - 7 * c) c in
-        let o = element-inside d l at next (elementAt d l at) b refl q in
-        let x = more next in
-        let a = o .after in
-        let e = o .within in
-        let g = ap length u in
-        omega arith
-    go (step.Refused r) q more =
-        let u : textAt d l at (suc n) ≡ [] = rw (text-suc, q) in
-        let g = ap length u in
-        omega arith
-
-pub elements-few : (d : Direction) (l : List ℕ) (at n : ℕ) → Bits l → 7 * length (elementsText d l at n) ≤ length l
-elements-few d l at n b = go (headerAt l at)
-  where
-    go : (h : HeaderRead) → 7 * length (ontoElements h (λ (p : ℕ). textAt d l p n)) ≤ length l
-    go (header.Got x next) = omega (arith, text-few d l n (next + 4) b)
-    go (header.Refused r) = omega arith
+use Rattle.inner.proofs.Copied.{copied-front}
+use Rattle.inner.proofs.Characters.{charactersMost, exactly-few}
 
 -- ---- the elements begin after the header
 
@@ -73,6 +40,10 @@ module _ (d : Direction) (l : List ℕ) (at n : ℕ) (r : HeaderRead) (e : r ≡
       let s = header-stands l at next x b (sym e ∙ q) in
       let p = s .place in
       omega (arith, length-header x, flag-most (x .referenced) _ refl, flag-most (x .acknowledged) _ refl)
+
+  -- where all characters have room, those of the elements have
+  pub text-fits : (x : Header) (next m : ℕ) → r ≡ header.Got x next → length (elementsText d l at n) ≤ m → length (textAt d l (next + 4) n) ≤ m
+  text-fits x next m q h = rw (← e, q) at h
 
   pub text-got : (x : Header) (next k : ℕ) (z y : List ℕ) → r ≡ header.Got x next → (k ≡ length (textAt d l (next + 4) n)) × (y ≡ sets z 0 (textAt d l (next + 4) n)) → (k ≡ length (elementsText d l at n)) × (y ≡ sets z 0 (elementsText d l at n))
   text-got x next k z y q h = rw (← e, q) h
@@ -105,16 +76,18 @@ module _ (d : Direction) (s : List ℕ) (n : ℕ) (z : List ℕ) (a : MessageOpe
         unfolding openMessage
         open-refused f x i j o = rw (le-ltb (length z) roomLeast h, le-leb n bitsMost g, ← lent, q, ← e, i, o, j, i)
 
-module _ (d : Direction) (s : List ℕ) (n : ℕ) (z : List ℕ) (h : roomLeast ≤ length z) (g : n ≤ bitsMost) (w : Bool) (k : w ≡ leb (0 + n) (min n (8 * length s))) (q : w ≡ true) where
-  -- the text has room for every character of so many bits
-  pub open-space : (length (bitsTo s n) ≤ 7 * length z)
-  open-space = omega (arith, length-to s n)
+-- the characters fit the lent text: of whatever bits a message is read, by its type it has no more than so many
+module _ (d : Direction) (s : List ℕ) (n : ℕ) (z : List ℕ) (h : roomLeast ≤ length z) (r : MessageRead) (e : r ≡ exactly d (bitsTo s n)) (next : ℕ) (i : r .step ≡ step.Next next) where
+  pub open-space : length (elementsText d (bitsTo s n) 0 (r .message .count)) ≤ length z
+  unfolding messageText
+  open-space =
+      let f : length (elementsText d (bitsTo s n) 0 (r .message .count)) ≤ charactersMost = rw e (exactly-few d (bitsTo s n) next (bits-to s n) (rw e at i)) in
+      omega arith
 
+module _ (d : Direction) (s : List ℕ) (n : ℕ) (z : List ℕ) (h : roomLeast ≤ length z) (g : n ≤ bitsMost) (w : Bool) (k : w ≡ leb (0 + n) (min n (8 * length s))) (q : w ≡ true) where
   pub open-read : (r : MessageRead) → r ≡ exactly d (bitsTo s n) → (next c : ℕ) (y : List ℕ) → r .step ≡ step.Next next → (c ≡ length (elementsText d (bitsTo s n) 0 (r .message .count))) × (y ≡ sets z 0 (elementsText d (bitsTo s n) 0 (r .message .count))) → opening (record { answer = opened.Characters c; message = r .message }) y ≡ openMessage d s n z
   unfolding openMessage messageText
   open-read r e next c y i o =
       let t : List ℕ = elementsText d (bitsTo s n) 0 (r .message .count) in
-      let few = elements-few d (bitsTo s n) 0 (r .message .count) (bits-to s n) in
-      let len = length-to s n in
-      let front : y ≡ t ++ drop (length t) z = o .1 ∙ copied-front z t (omega arith) in
+      let front : y ≡ t ++ drop (length t) z = o .1 ∙ copied-front z t (open-space d s n z h r e next i) in
       rw (le-ltb (length z) roomLeast h, le-leb n bitsMost g, ← lent d s n z (notOpened opened.Room) h g w k, q, ← e, i, o .0, front)

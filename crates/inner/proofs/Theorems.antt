@@ -10,15 +10,13 @@ use native.Mathlib.Nat.{add-comm, suc-mul}
 use lib.ListN.{length, take, drop, replicate, length-append, length-take, length-replicate}
 use lib.Seq.{take-at, drop-at, take-length, take-all, take-take, take-append-seam}
 use lib.Dec.{eqb, leb, ltb}
-use borrow.Author.Tests.{eqb-true, eq-eqb, leb-true, leb-false, ltb-false, le-leb, lt-leb, le-ltb}
+use borrow.Author.Tests.{eqb-true, eq-eqb, leb-true, ltb-false, le-leb, lt-leb, le-ltb}
 use Rattle.words.proofs.Laws.{both-left, both-right}
 use Rattle.bits.specs.Bits.{bitsOf, bitsTo, run, bitsN}
 use Rattle.bits.specs.Put.{putBits}
 use Rattle.bits.proofs.Numbers.{Bits, length-bitsN}
 use Rattle.bits.proofs.Bytes.{bits-to, length-to}
 use Rattle.bits.proofs.Putting.{read-back, length-put}
-use Rattle.fields.specs.Fields.{refusal}
-use Rattle.fields.specs.declared.Fault.the-variants as fault
 use Rattle.fields.specs.Encodings.{wholeFits}
 use Rattle.elements.specs.declared.kinds.Direction.{Direction}
 use Rattle.elements.specs.declared.kinds.Kind.the-variants as kind
@@ -38,9 +36,10 @@ use Rattle.inner.specs.declared.values.MessageOpened.{MessageOpened}
 use Rattle.inner.specs.declared.values.Opened.the-variants as opened
 use Rattle.inner.specs.declared.values.Written.the-variants as written
 use Rattle.inner.specs.Places.{rowFits, rowBits}
-use Rattle.inner.specs.Messages.{noMessage, messageAt, endedAt, exactly, isMessage, messageText, messageFits, messageBits, bitsMost, roomLeast, messageShaped, padding, padded, Done, done, writeMessage, Opening, opening, notOpened, openedAs, openMessage}
+use Rattle.inner.specs.Messages.{exactly, isMessage, messageText, messageFits, messageBits, bitsMost, roomLeast, messageShaped, padding, padded, Done, done, writeMessage, Opening, opening, notOpened, openedAs, openMessage}
 use Rattle.inner.proofs.AreBits.{message-are-bits, padded-are-bits}
 use Rattle.inner.proofs.MessageLaws.{message-reads, message-text, message-stands, places-empty, fits-of}
+use Rattle.inner.proofs.Characters.{ReadIs, exactly-is}
 use Rattle.inner.proofs.MessageWritten.{header-most, row-most, length-message}
 
 -- ---- what an answer says
@@ -63,25 +62,6 @@ written-is d m t out n h = go (ltb (length out) roomLeast) refl (messageShaped d
     go true p b q e f = never (cc)
     go false p false q e f = never (cc)
     go false p true q e f = record { room = ltb-false (length out) roomLeast p; shaped = q; count = cc; bytes = f }
-
--- a message and nothing after it was read
-record ReadIs (d : Direction) (l : List ℕ) (m : Message) (next : ℕ) : Type 0 where
-  there : messageAt d l 0 ≡ isMessage m next
-  ends : length l ≤ next
-
-exactly-is : (d : Direction) (l : List ℕ) (next : ℕ) → exactly d l .step ≡ step.Next next → ReadIs d l (exactly d l .message) next
-unfolding exactly
-exactly-is d l next h = go (messageAt d l 0 .step) refl h
-  where
-    ended : (k : ℕ) → messageAt d l 0 .step ≡ step.Next k → (b : Bool) → leb (k + 1) (length l) ≡ b → cond b (noMessage (refusal k fault.Tail)) (isMessage (messageAt d l 0 .message) k) .step ≡ step.Next next → ReadIs d l (cond b (noMessage (refusal k fault.Tail)) (isMessage (messageAt d l 0 .message) k) .message) next
-    ended k p true q e = never (cc)
-    ended k p false q e =
-        let j : k ≡ next = cc in
-        record { there = rw (← j, ← p); ends = let o = leb-false (k + 1) (length l) q in omega arith }
-
-    go : (s : Step) → messageAt d l 0 .step ≡ s → endedAt l (messageAt d l 0 .message) s .step ≡ step.Next next → ReadIs d l (endedAt l (messageAt d l 0 .message) s .message) next
-    go (step.Next k) p e = ended k p (leb (k + 1) (length l)) refl e
-    go (step.Refused r) p e = never (cc)
 
 -- the message was opened
 record OpenedIs (d : Direction) (s : List ℕ) (n : ℕ) (z : List ℕ) (k : ℕ) (m : Message) : Type 0 where
@@ -249,6 +229,10 @@ module _ (d : Direction) (m : Message) (t : List ℕ) (h : messageFits d m t ≡
       let n = length-take (m .count) (m .places) in
       let five = f .five in
       omega (arith, length-message d m t, header-most m, row-most d (take (m .count) (m .places)) t (f .row))
+
+  -- so no message of its type passes the card's limit: the test for it stays in the definition, and is never met
+  pub never-too-long : messageShaped d m t ≡ true
+  never-too-long = let n = message-bounded in rw (h, le-leb (length (messageBits d m t)) bitsMost (omega arith))
 
 -- ---- these bounds are met: n times the largest element of a number i
 

@@ -44,7 +44,7 @@ fn copy_characters(s: &[u8], end: usize, at: usize, n: usize, text: &mut [u8], f
     }
 }
 
-// The characters of n elements, from the text's first byte on; how many there are.
+// The characters of n elements, from the text's first byte on, where it has room for them; how many there are.
 fn copy_text(
     direction: Direction,
     s: &[u8],
@@ -53,7 +53,7 @@ fn copy_text(
     n: usize,
     text: &mut [u8],
 ) -> usize
-    requires { ⌜ length (bitsTo (now s) end) ≤ 7 * length (now text) ⌝ }
+    requires { ⌜ length (textAt direction (bitsTo (now s) end) at n) ≤ length (now text) ⌝ }
     ensures { λ r. ⌜ (r ≡ length (textAt direction (bitsTo (now (s .entry)) end) at n)) × (now (text .exit) ≡ sets (now (text .entry)) 0 (textAt direction (bitsTo (now (s .entry)) end) at n)) ⌝ }
 {
     let mut i: usize = 0;
@@ -84,7 +84,7 @@ fn message_text(
     n: usize,
     text: &mut [u8],
 ) -> usize
-    requires { ⌜ (length (bitsTo (now s) end) ≤ 7 * length (now text)) × (at < 2 ^ 32) ⌝ }
+    requires { ⌜ (length (elementsText direction (bitsTo (now s) end) at n) ≤ length (now text)) × (at < 2 ^ 32) ⌝ }
     ensures { λ r. ⌜ (r ≡ length (elementsText direction (bitsTo (now (s .entry)) end) at n)) × (now (text .exit) ≡ sets (now (text .entry)) 0 (elementsText direction (bitsTo (now (s .entry)) end) at n)) ⌝ }
 {
     let first = read_header(s, end, at);

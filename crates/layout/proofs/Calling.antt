@@ -8,11 +8,11 @@ use native.Mathlib.Omega.{arith}
 use borrow.Author.Tests.{eq-eqb, ne-eqb, lt-ltb, le-ltb, leb-true}
 use lib.Dec.{leb, ltb}
 use lib.ListN.{length}
-use Rattle.words.proofs.Laws.{both-left, both-right}
+use Rattle.words.proofs.Laws.{both-right}
 use Rattle.bits.specs.Bits.{bitsTo}
 use Rattle.bits.specs.Put.{putBits}
 use Rattle.bits.proofs.Numbers.{Bits}
-use Rattle.bits.proofs.Bytes.{bits-to, length-to}
+use Rattle.bits.proofs.Bytes.{bits-to}
 use Rattle.fields.specs.Refusals.{packed}
 use Rattle.fields.specs.declared.Refusal.{Refusal}
 use Rattle.fields.specs.Fields.{refusal}
@@ -20,7 +20,7 @@ use Rattle.fields.specs.declared.Fault.the-variants as fault
 use Rattle.elements.specs.declared.kinds.Direction.{Direction}
 use Rattle.elements.specs.declared.values.Step.{Step}
 use Rattle.elements.specs.declared.values.Step.the-variants as step
-use Rattle.inner.specs.Messages.{noMessage, endedAt, messageAt, exactly, isMessage, messageText, messageFits, messageBits, padded, opening, Opening, notOpened, openedAs, openMessage, done, Done, writeMessage, messageShaped}
+use Rattle.inner.specs.Messages.{noMessage, endedAt, messageAt, exactly, isMessage, messageText, messageFits, messageBits, bitsMost, roomLeast, padded, opening, Opening, notOpened, openedAs, openMessage, done, Done, writeMessage, messageShaped}
 use Rattle.inner.specs.declared.values.Message.{Message}
 use Rattle.inner.specs.declared.values.MessageRead.{MessageRead}
 use Rattle.inner.specs.declared.values.MessageOpened.{MessageOpened}
@@ -29,7 +29,7 @@ use Rattle.inner.specs.declared.values.Opened.the-variants as opened
 use Rattle.inner.specs.declared.values.Written.{Written}
 use Rattle.inner.specs.declared.values.Written.the-variants as written
 use Rattle.inner.proofs.MessageLaws.{message-stands}
-use Rattle.inner.proofs.Openings.{elements-few}
+use Rattle.inner.proofs.Characters.{charactersMost, exactly-few}
 use Rattle.layout.specs.Layout.{messageBytes, bytesFit, kept, storeAt, loadAt, Kept, isMessage as loadedAs}
 use Rattle.layout.specs.Calls.{told, toldAs, toldOf, wayOf, readBy, readCall, sent, sentAs, sentOf, writeBy, writeCall}
 use Rattle.layout.specs.declared.calls.Way.{Way}
@@ -68,16 +68,15 @@ module _ (d : Direction) (s : List ℕ) (n : ℕ) (t u : List ℕ) (r : MessageO
     next : ℕ
     exact : exactly d (bitsTo s n) ≡ isMessage (r .message) next
     count : c ≡ length (messageText d (bitsTo s n) 0 (r .message))
-    few : n ≤ 2048
 
   read-is : Read
   unfolding openMessage
-  read-is = go (ltb (length t) 320) (leb n 2048 && leb n (8 * length s)) refl (exactly d (bitsTo s n) .message) (exactly d (bitsTo s n) .step) refl e
+  read-is = go (ltb (length t) roomLeast) (leb n bitsMost && leb n (8 * length s)) (exactly d (bitsTo s n) .message) (exactly d (bitsTo s n) .step) refl e
     where
-      go : (a b : Bool) → (leb n 2048 && leb n (8 * length s)) ≡ b → (y : Message) (z : Step) → exactly d (bitsTo s n) ≡ record { step = z; message = y } → opening r u ≡ cond a (opening (notOpened opened.Room) t) (cond b (openedAs t y (messageText d (bitsTo s n) 0 y) z) (opening (notOpened opened.Shape) t)) → Read
-      go true b p y z x q = let g : r .answer ≡ opened.Room = ap (λ (o : Opening). o .answer .answer) q in never (cc)
-      go false false p y z x q = let g : r .answer ≡ opened.Shape = ap (λ (o : Opening). o .answer .answer) q in never (cc)
-      go false true p y (step.Next k) x q =
+      go : (a b : Bool) (y : Message) (z : Step) → exactly d (bitsTo s n) ≡ record { step = z; message = y } → opening r u ≡ cond a (opening (notOpened opened.Room) t) (cond b (openedAs t y (messageText d (bitsTo s n) 0 y) z) (opening (notOpened opened.Shape) t)) → Read
+      go true b y z x q = let g : r .answer ≡ opened.Room = ap (λ (o : Opening). o .answer .answer) q in never (cc)
+      go false false y z x q = let g : r .answer ≡ opened.Shape = ap (λ (o : Opening). o .answer .answer) q in never (cc)
+      go false true y (step.Next k) x q =
           let i : r .message ≡ y = ap (λ (o : Opening). o .answer .message) q in
           let j : r .answer ≡ opened.Characters (length (messageText d (bitsTo s n) 0 y)) = ap (λ (o : Opening). o .answer .answer) q in
           let f : c ≡ length (messageText d (bitsTo s n) 0 y) = cc in
@@ -85,43 +84,39 @@ module _ (d : Direction) (s : List ℕ) (n : ℕ) (t u : List ℕ) (r : MessageO
             next = k;
             exact = rw i x;
             count = rw i f;
-            few = leb-true n 2048 (both-left (leb n 2048) (leb n (8 * length s)) p);
           }
-      go false true p y (step.Refused f) x q = let g : r .answer ≡ opened.Refused f = ap (λ (o : Opening). o .answer .answer) q in never (cc)
+      go false true y (step.Refused f) x q = let g : r .answer ≡ opened.Refused f = ap (λ (o : Opening). o .answer .answer) q in never (cc)
 
   pub opened-storable : Storable (r .message)
   opened-storable = read-storable d (bitsTo s n) (r .message) (read-is .next) (bits-to s n) (read-is .exact)
 
-  -- a character takes seven bits
-  pub opened-few : c ≤ 292
-  unfolding messageText
+  pub opened-few : c ≤ charactersMost
   opened-few =
-      let k = read-is .count in
-      let f = read-is .few in
-      let g = elements-few d (bitsTo s n) 0 (r .message .count) (bits-to s n) in
-      let l = length-to s n in
+      let x = read-is in
+      let k = x .count in
+      let g : length (messageText d (bitsTo s n) 0 (r .message)) ≤ charactersMost = rw (x .exact) at (exactly-few d (bitsTo s n) (x .next) (bits-to s n) (ap (λ (o : MessageRead). o .step) (x .exact))) in
       omega arith
 
 -- ---- the ways out of `read_call`
 
 module _ (d : ℕ) (s : List ℕ) (n : ℕ) (m t : List ℕ) where
-  pub read-room : length t < 320 → told 1 m t ≡ readCall d s n m t
+  pub read-room : length t < roomLeast → told 1 m t ≡ readCall d s n m t
   unfolding readCall
-  read-room h = rw (lt-ltb (length t) 320 h)
+  read-room h = rw (lt-ltb (length t) roomLeast h)
 
-  pub read-size : 320 ≤ length t → (length m ≡ 132 → ⊥) → told 2 m t ≡ readCall d s n m t
+  pub read-size : roomLeast ≤ length t → (length m ≡ 132 → ⊥) → told 2 m t ≡ readCall d s n m t
   unfolding readCall
-  read-size h g = rw (le-ltb (length t) 320 h, ne-eqb (length m) 132 g)
+  read-size h g = rw (le-ltb (length t) roomLeast h, ne-eqb (length m) 132 g)
 
-  module _ (h : 320 ≤ length t) (sized : length m ≡ 132) (w : Way) (p : w ≡ wayOf d) where
+  module _ (h : roomLeast ≤ length t) (sized : length m ≡ 132) (w : Way) (p : w ≡ wayOf d) where
     pub read-no-way : w ≡ way.NoWay → told 2 m t ≡ readCall d s n m t
     unfolding readCall readBy
-    read-no-way q = rw (le-ltb (length t) 320 h, eq-eqb (length m) 132 sized, ← p, q)
+    read-no-way q = rw (le-ltb (length t) roomLeast h, eq-eqb (length m) 132 sized, ← p, q)
 
     module _ (x : Direction) (q : w ≡ way.Is x) (r : MessageOpened) (u : List ℕ) (e : opening r u ≡ openMessage x s n t) where
       read-as : (a : Opened) → r .answer ≡ a → toldAs m (r .message) u a ≡ readCall d s n m t
       unfolding readCall readBy toldOf
-      read-as a f = rw (le-ltb (length t) 320 h, eq-eqb (length m) 132 sized, ← p, q, ← e, f)
+      read-as a f = rw (le-ltb (length t) roomLeast h, eq-eqb (length m) 132 sized, ← p, q, ← e, f)
 
       pub read-small : r .answer ≡ opened.Room → told 1 m u ≡ readCall d s n m t
       unfolding toldAs
@@ -146,34 +141,34 @@ module _ (d : ℕ) (s : List ℕ) (n : ℕ) (m t : List ℕ) where
 
 -- ---- the ways out of `write_call`
 
-pub written-few : (d : Direction) (m : Message) (t o z : List ℕ) (a : Written) (n : ℕ) → done a z ≡ writeMessage d m t o → a ≡ written.Bits n → n ≤ 2048
+pub written-few : (d : Direction) (m : Message) (t o z : List ℕ) (a : Written) (n : ℕ) → done a z ≡ writeMessage d m t o → a ≡ written.Bits n → n ≤ bitsMost
 unfolding writeMessage
-written-few d m t o z a n e h = go (ltb (length o) 320) (messageShaped d m t) refl e
+written-few d m t o z a n e h = go (ltb (length o) roomLeast) (messageShaped d m t) refl e
   where
-    go : (x y : Bool) → messageShaped d m t ≡ y → done a z ≡ cond x (done written.Room o) (cond y (done (written.Bits (length (messageBits d m t))) (putBits o 0 (padded (messageBits d m t)))) (done written.Shape o)) → n ≤ 2048
+    go : (x y : Bool) → messageShaped d m t ≡ y → done a z ≡ cond x (done written.Room o) (cond y (done (written.Bits (length (messageBits d m t))) (putBits o 0 (padded (messageBits d m t)))) (done written.Shape o)) → n ≤ bitsMost
     go true y p q = let g : a ≡ written.Room = ap (λ (w : Done). w .answer) q in never (cc)
     go false true p q =
         let g : a ≡ written.Bits (length (messageBits d m t)) = ap (λ (w : Done). w .answer) q in
         let f : n ≡ length (messageBits d m t) = cc in
-        let k = leb-true (length (messageBits d m t)) 2048 (both-right (messageFits d m t) (leb (length (messageBits d m t)) 2048) p) in
+        let k = leb-true (length (messageBits d m t)) bitsMost (both-right (messageFits d m t) (leb (length (messageBits d m t)) bitsMost) p) in
         omega arith
     go false false p q = let g : a ≡ written.Shape = ap (λ (w : Done). w .answer) q in never (cc)
 
 module _ (d : ℕ) (b t o : List ℕ) where
-  pub write-room : length o < 320 → sent 1 o ≡ writeCall d b t o
+  pub write-room : length o < roomLeast → sent 1 o ≡ writeCall d b t o
   unfolding writeCall
-  write-room h = rw (lt-ltb (length o) 320 h)
+  write-room h = rw (lt-ltb (length o) roomLeast h)
 
-  module _ (h : 320 ≤ length o) (l : Laid) (e : l ≡ loadAt b) where
+  module _ (h : roomLeast ≤ length o) (l : Laid) (e : l ≡ loadAt b) where
     pub write-unknown : l .known ≡ false → sent 2 o ≡ writeCall d b t o
     unfolding writeCall
-    write-unknown k = rw (le-ltb (length o) 320 h, ← e, k)
+    write-unknown k = rw (le-ltb (length o) roomLeast h, ← e, k)
 
     module _ (k : l .known ≡ true) (w : Way) (p : w ≡ wayOf d) where
       pub write-no-way : w ≡ way.NoWay → sent 2 o ≡ writeCall d b t o
       unfolding writeCall writeBy
-      write-no-way q = rw (le-ltb (length o) 320 h, ← e, k, ← p, q)
+      write-no-way q = rw (le-ltb (length o) roomLeast h, ← e, k, ← p, q)
 
       pub write-is : (x : Direction) → w ≡ way.Is x → (a v : Written) (z : List ℕ) → done a z ≡ writeMessage x (l .message) t o → a ≡ v → sentAs v z ≡ writeCall d b t o
       unfolding writeCall writeBy sentOf
-      write-is x q a v z f g = rw (le-ltb (length o) 320 h, ← e, k, ← p, q, ← f, g)
+      write-is x q a v z f g = rw (le-ltb (length o) roomLeast h, ← e, k, ← p, q, ← f, g)

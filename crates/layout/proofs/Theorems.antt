@@ -14,7 +14,7 @@ use Rattle.bits.specs.Put.{putBits}
 use Rattle.bits.proofs.Bytes.{Bytes}
 use Rattle.fields.proofs.Numbering.{packed-refuses}
 use Rattle.elements.specs.declared.kinds.Direction.{Direction}
-use Rattle.inner.specs.Messages.{padded, openMessage, writeMessage}
+use Rattle.inner.specs.Messages.{roomLeast, padded, openMessage, writeMessage}
 use Rattle.inner.specs.declared.values.Message.{Message}
 use Rattle.inner.specs.declared.values.MessageOpened.{MessageOpened}
 use Rattle.inner.specs.declared.values.Opened.{Opened}
@@ -57,7 +57,7 @@ module _ (d : ℕ) (s : List ℕ) (n : ℕ) (m t : List ℕ) (c : ℕ) where
 
   took : readCall d s n m t .number ≡ 256 * c → Took d s n m t c
   unfolding readCall
-  took h = go (ltb (length t) 320) (eqb (length m) 132) refl
+  took h = go (ltb (length t) roomLeast) (eqb (length m) 132) refl
     where
       go : (a b : Bool) → readCall d s n m t ≡ cond a (told 1 m t) (cond b (readBy s n m t (wayOf d)) (told 2 m t)) → Took d s n m t c
       go true b e = let g = ap (λ (o : Told). o .number) e in absurd (omega arith)
@@ -77,13 +77,13 @@ module _ (d : ℕ) (s : List ℕ) (n : ℕ) (m t : List ℕ) (c : ℕ) (h : read
       let y = opened-storable (k .direction) s n t (o .text) (o .answer) refl c (k .answer) in
       ap loadAt (k .message) ∙ loaded-bytes (o .answer .message) (y .typed) (y .fit)
 
-  pub call-read-written : (out : List ℕ) → 320 ≤ length out → writeCall d (readCall d s n m t .message) (take c (readCall d s n m t .text)) out ≡ sent (16777216 * n) (putBits out 0 (padded (bitsTo s n)))
+  pub call-read-written : (out : List ℕ) → roomLeast ≤ length out → writeCall d (readCall d s n m t .message) (take c (readCall d s n m t .text)) out ≡ sent (16777216 * n) (putBits out 0 (padded (bitsTo s n)))
   unfolding writeCall writeBy sentOf sentAs
   call-read-written out r =
       let k = took d s n m t c h in
       let o = openMessage (k .direction) s n t in
       let w = read-written (k .direction) s n t c (o .answer .message) (answered (o .answer) (opened.Characters c) (k .answer)) out r in
-      rw (le-ltb (length out) 320 r, read-message, k .named, k .text, w)
+      rw (le-ltb (length out) roomLeast r, read-message, k .named, k .text, w)
 
 -- ---- WRITE THEN READ: the message that was written is read back into the same bytes, and its characters into the text; whatever follows them stays
 
@@ -111,7 +111,7 @@ module _ (d : ℕ) (b t out : List ℕ) (n : ℕ) where
 
   gave : writeCall d b t out .number ≡ 16777216 * n → Gave d b t out n
   unfolding writeCall
-  gave h = go (ltb (length out) 320) (loadAt b .known) refl refl
+  gave h = go (ltb (length out) roomLeast) (loadAt b .known) refl refl
     where
       known : (l : Laid) → l .known ≡ true → l ≡ loadedAs (l .message)
       known l e = rw (← e)
@@ -121,14 +121,14 @@ module _ (d : ℕ) (b t out : List ℕ) (n : ℕ) where
       go false true p e = gave-by (wayOf d) refl (known (loadAt b) p) e h
       go false false p e = let g = ap (λ (o : Sent). o .number) e in absurd (omega arith)
 
-pub call-written-read : (d : ℕ) (b t out : List ℕ) (n : ℕ) → Bytes b → writeCall d b t out .number ≡ 16777216 * n → (m z : List ℕ) → length m ≡ 132 → 320 ≤ length z → readCall d (writeCall d b t out .bytes) n m z ≡ told (256 * length t) b (t ++ drop (length t) z)
+pub call-written-read : (d : ℕ) (b t out : List ℕ) (n : ℕ) → Bytes b → writeCall d b t out .number ≡ 16777216 * n → (m z : List ℕ) → length m ≡ 132 → roomLeast ≤ length z → readCall d (writeCall d b t out .bytes) n m z ≡ told (256 * length t) b (t ++ drop (length t) z)
 unfolding readCall readBy toldOf toldAs
 call-written-read d b t out n s h m z sized r =
     let k = gave d b t out n h in
     let y : Message = loadAt b .message in
     let w = written-read (k .direction) (loadAt b .message) t out z n (k .answer) r in
     let same = loaded b (loadAt b .message) s (k .known) .bytes in
-    rw (le-ltb (length z) 320 r, eq-eqb (length m) 132 sized, k .named, k .bytes, w, same)
+    rw (le-ltb (length z) roomLeast r, eq-eqb (length m) 132 sized, k .named, k .bytes, w, same)
 
 -- ---- A REFUSED CALL LEAVES EVERY BYTE: what it answers is no count
 
@@ -161,7 +161,7 @@ module _ (d : ℕ) (s : List ℕ) (n : ℕ) (m t : List ℕ) (h : (c : ℕ) → 
 
   pub call-unread : (readCall d s n m t .message ≡ m) × (readCall d s n m t .text ≡ t)
   unfolding readCall
-  call-unread = go (ltb (length t) 320) (eqb (length m) 132) refl
+  call-unread = go (ltb (length t) roomLeast) (eqb (length m) 132) refl
     where
       go : (a b : Bool) → readCall d s n m t ≡ cond a (told 1 m t) (cond b (readBy s n m t (wayOf d)) (told 2 m t)) → (readCall d s n m t .message ≡ m) × (readCall d s n m t .text ≡ t)
       go true b e = (ap (λ (o : Told). o .message) e, ap (λ (o : Told). o .text) e)
@@ -189,7 +189,7 @@ module _ (d : ℕ) (b t out : List ℕ) (h : (n : ℕ) → writeCall d b t out .
 
   pub call-unwritten : writeCall d b t out .bytes ≡ out
   unfolding writeCall
-  call-unwritten = go (ltb (length out) 320) (loadAt b .known) refl
+  call-unwritten = go (ltb (length out) roomLeast) (loadAt b .known) refl
     where
       go : (a k : Bool) → writeCall d b t out ≡ cond a (sent 1 out) (cond k (writeBy (loadAt b .message) t out (wayOf d)) (sent 2 out)) → writeCall d b t out .bytes ≡ out
       go true k e = ap (λ (o : Sent). o .bytes) e

@@ -23,7 +23,7 @@ use Rattle.places.proofs.Readers.{clash, one-place, one-refusal, sound-
 use Rattle.apdu.specs.Sizes.{identifierLeast, identifierMost, messageMost, checkMost, userLast, providerLast, modeLast, octet, bit}
 use Rattle.apdu.specs.Pdus.{lastOf, kindOf}
 use Rattle.apdu.specs.Encoding.{padding}
-use Rattle.apdu.specs.Reading.{onField, onData, onTaken, onLead, optionalAt, partAt, spanTo, partsAt, dataAt, modeValue, modeAt, kindMode, leadingAt, tailAt, endedAt, restAt, apduAt, wholeData}
+use Rattle.apdu.specs.Reading.{onField, onData, onTaken, onLead, optionalAt, partAt, spanTo, partsWithin, partsAt, dataWithin, dataAt, modeValue, modeAt, kindMode, leadingAt, tailAt, endedAt, restWithin, restAt, apduWithin, apduAt, wholeWithin, wholeData}
 use Rattle.apdu.specs.declared.Side.{Side}
 use Rattle.apdu.specs.declared.Side.the-variants.{Air, Ground}
 use Rattle.apdu.specs.declared.Kind.{Kind}
@@ -70,7 +70,7 @@ optional-sound l there at unit least most h =
     (λ (e : there ≡ false). sound-value seenField (Value 0 at) l at h refl)
 
 pub parts-sound : (l : List ℕ) (at : ℕ) (i m : Bool) → at ≤ length l → Sound seenTaken (λ (x : List ℕ). partsAt x at i m) l at
-unfolding partsAt
+unfolding partsWithin
 parts-sound l at i m h =
     taken-field (λ (x : List ℕ). optionalAt x i at octet identifierLeast identifierMost) _ l at (optional-sound l i at octet identifierLeast identifierMost h)
     (λ (octets p : ℕ) (e : optionalAt l i at octet identifierLeast identifierMost ≡ Value octets p) (a : at ≤ p) (b : p ≤ length l).
@@ -81,7 +81,7 @@ parts-sound l at i m h =
     sound-value seenTaken (taken.Is (record { identifier = partAt i octet octets p; message = partAt m bit bits q; check = spanTo bit n next }) next) l next w refl)))
 
 pub data-sound : (l : List ℕ) (at : ℕ) → at ≤ length l → Sound seenTaken (λ (x : List ℕ). dataAt x at) l at
-unfolding dataAt
+unfolding dataWithin
 data-sound l at h =
     taken-field (λ (x : List ℕ). extensionBit x at) _ l at (extension-sound l at h)
     (λ (e p : ℕ) (f : extensionBit l at ≡ Value e p) (a : at ≤ p) (b : p ≤ length l).
@@ -241,7 +241,7 @@ data-refusing l at k b h =
     go (taken.Refused r) e n q a w = clash n r (sym q)
 
 rest-refusing : (l : List ℕ) (c : Kind) (m at : ℕ) → Bits l → at ≤ length l → Refusing seenAnswer (λ (x : List ℕ). restAt x c m at) l at
-unfolding restAt
+unfolding restWithin
 rest-refusing l kind.AbortUser m at b h =
     answer-field (λ (x : List ℕ). extensibleIndex x at userLast) (λ (r n : ℕ) (x : List ℕ). endedAt x n (apdu.AbortUser r)) l at (index-sound l at userLast h)
     (λ (r n : ℕ) (e : extensibleIndex l at userLast ≡ Value r n) (a : at ≤ n) (w : n ≤ length l). ended-refusing l n (apdu.AbortUser r) b w)
@@ -255,7 +255,7 @@ rest-refusing l kind.ForwardResponse m at b h = λ (r : Refusal) (e : seenAnswer
 
 -- AN APDU THAT IS REFUSED: its place is within the bits, a field begins there, and bits behind the field do not matter
 pub apdu-refusing : (side : Side) (l : List ℕ) → Bits l → Refusing seenAnswer (λ (x : List ℕ). apduAt side x 0) l 0
-unfolding apduAt
+unfolding apduWithin
 apdu-refusing side l b =
     refusing-bind seenLead seenAnswer answer.Refused (λ (x : List ℕ). leadingAt side x 0) (λ (t : Lead) (y : List ℕ). onLead t (restAt y)) l 0 (λ (r : Refusal). refl) hands (lead-sound side l 0 (omega arith)) (go (leadingAt side l 0) refl)
   where
@@ -269,7 +269,7 @@ apdu-refusing side l b =
 
 -- and message data by itself
 pub data-refusing-whole : (l : List ℕ) → Bits l → Refusing seenTaken wholeData l 0
-unfolding wholeData
+unfolding wholeWithin
 data-refusing-whole l b =
     refusing-bind seenTaken seenTaken taken.Refused (λ (x : List ℕ). dataAt x 0) (λ (t : Taken) (y : List ℕ). onTaken t (λ (d : Data) (next : ℕ). onField taken.Refused (tailAt y next) (λ (v m : ℕ). taken.Is d next))) l 0
     (λ (r : Refusal). refl) hands (data-sound l 0 (omega arith)) (go (dataAt l 0) refl)

@@ -8,9 +8,9 @@ pub struct Limit {
 
 impl Limit {
     // The bits of a CPDLC message, at most.
-    pub const MESSAGE_BITS: usize = 2048;
+    pub const MESSAGE_BITS: usize = 16383;
     // The bytes of a lent output buffer, at least.
-    pub const BUFFER_BYTES: usize = 320;
+    pub const BUFFER_BYTES: usize = 2112;
     // Document 01's numbers of a lent output buffer that is too small, and of an argument that breaks its type or a size.
     pub const ROOM: u64 = 1;
 

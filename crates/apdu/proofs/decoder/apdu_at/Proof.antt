@@ -1,5 +1,5 @@
 use Rattle.apdu.proofs.Answers.{lead-handed, lead-went}
-use Rattle.apdu.specs.Reading.{apduAt}
+use Rattle.apdu.specs.Reading.{apduWithin}
 use Rattle.apdu.proofs.decoder.apdu_at.Statement.{statement}
 use Rattle.apdu.proofs.decoder.apdu_at.Tie as tie
 use Rattle.apdu.proofs.decoder.apdu_at.Reads as reads
@@ -26,7 +26,7 @@ lead-refusal-requires c κs = tt
 
 -- src/decoder.rt:104:9
 returns : tie.Need-returns
-unfolding apduAt
+unfolding apduWithin
 returns c = lead-handed _ _ _ _ _ (c .before .before .before .leading-at .ensures) (c .before .enum-told .given .1) (c .lead-refusal .ensures)
 
 -- src/decoder.rt:106:5
@@ -35,7 +35,7 @@ rest-at-requires c κs = tt
 
 -- src/decoder.rt:99:1
 returns-2 : tie.Need-returns-2
-unfolding apduAt
+unfolding apduWithin
 returns-2 c = lead-went _ _ _ _ _ _ _ (c .before .before .before .before .leading-at .ensures) (c .before .before .leading .given .1) (c .rest-at .ensures)
 
 pub apdu-at-spec : {M : Type 1} → statement M

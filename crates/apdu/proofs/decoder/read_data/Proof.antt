@@ -2,7 +2,7 @@
 -- Assumes nothing.
 use mathlib.Core.Path.{refl}
 use Rattle.apdu.proofs.Answers.{handed, went, taken-handed, taken-went}
-use Rattle.apdu.specs.Reading.{wholeData}
+use Rattle.apdu.specs.Reading.{wholeWithin}
 use Rattle.apdu.specs.declared.Taken.the-variants as taken
 use borrow.Author.Needs.{needs}
 use Rattle.apdu.proofs.decoder.read_data.Statement.{statement}
@@ -21,7 +21,7 @@ taken-refusal-requires : tie.Need-taken-refusal-requires
 taken-refusal-requires c κs = search needs
 
 returns : tie.Need-returns
-unfolding wholeData
+unfolding wholeWithin
 returns c = taken-handed _ _ _ _ _ (c .before .before .before .data-at .ensures) (c .before .enum-told .given .1) (c .taken-refusal .ensures)
 
 tail-requires : tie.Need-tail-requires
@@ -37,11 +37,11 @@ field-refusal-requires : tie.Need-field-refusal-requires
 field-refusal-requires c κs = search needs
 
 returns-2 : tie.Need-returns-2
-unfolding wholeData
+unfolding wholeWithin
 returns-2 c = taken-went _ _ _ _ _ _ (c .before .before .before .before .before .before .before .data-at .ensures) (c .before .before .before .before .before .parts .given .1) (handed taken.Refused _ _ _ _ _ (c .before .before .before .tail .ensures) (c .before .enum-told3 .given .1) (c .field-refusal .ensures))
 
 returns-3 : tie.Need-returns-3
-unfolding wholeData
+unfolding wholeWithin
 returns-3 c = taken-went _ _ _ _ _ _ (c .before .before .before .before .before .before .data-at .ensures) (c .before .before .before .before .parts .given .1) (went taken.Refused _ _ _ _ _ _ (c .before .before .tail .ensures) (c .enum-told2 .given .1) refl)
 
 pub read-data-spec : {M : Type 1} → statement M

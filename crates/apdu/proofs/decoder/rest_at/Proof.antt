@@ -1,5 +1,5 @@
 use Rattle.apdu.proofs.Answers.{handed, went, data-handed, data-went}
-use Rattle.apdu.specs.Reading.{restAt}
+use Rattle.apdu.specs.Reading.{restWithin}
 use Rattle.apdu.specs.declared.Answer.the-variants as answer
 use Rattle.apdu.proofs.decoder.rest_at.Statement.{statement}
 use Rattle.apdu.proofs.decoder.rest_at.Tie as tie
@@ -33,7 +33,7 @@ field-refusal-requires c κs = tt
 
 -- src/decoder.rt:68:17
 returns : tie.Need-returns
-unfolding restAt
+unfolding restWithin
 returns c = rw (c .before .before .before .before .enum-told .given .1) (handed answer.Refused _ _ _ _ _ (c .before .before .before .extensible-index .ensures) (c .before .enum-told2 .given .1) (c .field-refusal .ensures))
 
 -- src/decoder.rt:70:13
@@ -62,7 +62,7 @@ field-refusal-requires-2 c κs = tt
 
 -- src/decoder.rt:75:17
 returns-2 : tie.Need-returns-2
-unfolding restAt
+unfolding restWithin
 returns-2 c = rw (c .before .before .before .before .enum-told3 .given .1) (handed answer.Refused _ _ _ _ _ (c .before .before .before .extensible-index2 .ensures) (c .before .enum-told4 .given .1) (c .field-refusal2 .ensures))
 
 -- src/decoder.rt:77:13
@@ -91,7 +91,7 @@ taken-refusal-requires c κs = tt
 
 -- src/decoder.rt:82:17
 returns-3 : tie.Need-returns-3
-unfolding restAt
+unfolding restWithin
 returns-3 c = rw (c .before .before .before .before .enum-told5 .given .1) (data-handed _ _ _ _ _ (c .before .before .before .data-at .ensures) (c .before .enum-told6 .given .1) (c .taken-refusal .ensures))
 
 -- src/decoder.rt:84:13
@@ -120,7 +120,7 @@ taken-refusal-requires-2 c κs = tt
 
 -- src/decoder.rt:89:17
 returns-4 : tie.Need-returns-4
-unfolding restAt
+unfolding restWithin
 returns-4 c = rw (c .before .before .before .before .enum-told7 .given .1) (data-handed _ _ _ _ _ (c .before .before .before .data-at2 .ensures) (c .before .enum-told8 .given .1) (c .taken-refusal2 .ensures))
 
 -- src/decoder.rt:91:13
@@ -137,32 +137,32 @@ enum-told-10 c = c .match .keys6
 
 -- src/decoder.rt:61:1
 returns-5 : tie.Need-returns-5
-unfolding restAt
+unfolding restWithin
 returns-5 c = rw (c .before .before .before .before .before .enum-told .given .1) (went answer.Refused _ _ _ _ _ _ (c .before .before .before .before .extensible-index .ensures) (c .before .before .reason .given .1) (c .ended .ensures))
 
 -- src/decoder.rt:61:1
 returns-6 : tie.Need-returns-6
-unfolding restAt
+unfolding restWithin
 returns-6 c = rw (c .before .before .before .before .before .enum-told3 .given .1) (went answer.Refused _ _ _ _ _ _ (c .before .before .before .before .extensible-index2 .ensures) (c .before .before .reason2 .given .1) (c .ended2 .ensures))
 
 -- src/decoder.rt:61:1
 returns-7 : tie.Need-returns-7
-unfolding restAt
+unfolding restWithin
 returns-7 c = rw (c .before .before .before .before .before .enum-told5 .given .1) (data-went _ _ _ _ _ _ (c .before .before .before .before .data-at .ensures) (c .before .before .parts .given .1) (c .ended3 .ensures))
 
 -- src/decoder.rt:61:1
 returns-8 : tie.Need-returns-8
-unfolding restAt
+unfolding restWithin
 returns-8 c = rw (c .before .before .before .before .before .enum-told7 .given .1) (data-went _ _ _ _ _ _ (c .before .before .before .before .data-at2 .ensures) (c .before .before .parts2 .given .1) (c .ended4 .ensures))
 
 -- src/decoder.rt:61:1
 returns-9 : tie.Need-returns-9
-unfolding restAt
+unfolding restWithin
 returns-9 c = rw (c .enum-told9 .given .1)
 
 -- src/decoder.rt:61:1
 returns-10 : tie.Need-returns-10
-unfolding restAt
+unfolding restWithin
 returns-10 c = rw (c .enum-told10 .given .1)
 
 pub rest-at-spec : {M : Type 1} → statement M

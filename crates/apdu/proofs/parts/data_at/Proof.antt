@@ -1,5 +1,5 @@
 use Rattle.apdu.proofs.Answers.{handed, went}
-use Rattle.apdu.specs.Reading.{dataAt}
+use Rattle.apdu.specs.Reading.{dataWithin}
 use Rattle.apdu.specs.declared.Taken.the-variants as taken
 use Rattle.apdu.proofs.parts.data_at.Statement.{statement}
 use Rattle.apdu.proofs.parts.data_at.Tie as tie
@@ -28,7 +28,7 @@ field-refusal-requires c κs = tt
 
 -- src/parts.rt:86:9
 returns : tie.Need-returns
-unfolding dataAt
+unfolding dataWithin
 returns c = handed taken.Refused _ _ _ _ _ (c .before .before .before .extension-bit .ensures) (c .before .enum-told .given .1) (c .field-refusal .ensures)
 
 -- src/parts.rt:88:9
@@ -49,7 +49,7 @@ field-refusal-requires-2 c κs = tt
 
 -- src/parts.rt:90:9
 returns-2 : tie.Need-returns-2
-unfolding dataAt
+unfolding dataWithin
 returns-2 c = went taken.Refused _ _ _ _ _ _ (c .before .before .before .before .before .before .before .extension-bit .ensures) (c .before .before .before .before .before .extension .given .1) (handed taken.Refused _ _ _ _ _ (c .before .before .before .bit-field .ensures) (c .before .enum-told2 .given .1) (c .field-refusal2 .ensures))
 
 -- src/parts.rt:92:5
@@ -58,7 +58,7 @@ parts-at-requires c κs = tt
 
 -- src/parts.rt:81:1
 returns-3 : tie.Need-returns-3
-unfolding dataAt
+unfolding dataWithin
 returns-3 c = went taken.Refused _ _ _ _ _ _ (c .before .before .before .before .before .before .before .before .extension-bit .ensures) (c .before .before .before .before .before .before .extension .given .1) (went taken.Refused _ _ _ _ _ _ (c .before .before .before .before .bit-field .ensures) (c .before .before .presence .given .1) (c .parts-at .ensures))
 
 pub data-at-spec : {M : Type 1} → statement M

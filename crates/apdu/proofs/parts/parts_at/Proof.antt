@@ -1,7 +1,7 @@
 use Rattle.apdu.specs.Sizes.{octet, bit}
 use mathlib.Core.Path.{sym, _∙_}
 use Rattle.apdu.proofs.Answers.{handed, went, optional-room, string-room}
-use Rattle.apdu.specs.Reading.{partsAt}
+use Rattle.apdu.specs.Reading.{partsWithin}
 use Rattle.apdu.specs.declared.Taken.the-variants as taken
 use Rattle.apdu.proofs.parts.parts_at.Statement.{statement}
 use Rattle.apdu.proofs.parts.parts_at.Tie as tie
@@ -31,7 +31,7 @@ field-refusal-requires c κs = tt
 
 -- src/parts.rt:63:9
 returns : tie.Need-returns
-unfolding partsAt
+unfolding partsWithin
 returns c = handed taken.Refused _ _ _ _ _ (c .before .before .before .optional .ensures) (c .before .enum-told .given .1) (c .field-refusal .ensures)
 
 -- src/parts.rt:65:9
@@ -52,7 +52,7 @@ field-refusal-requires-2 c κs = tt
 
 -- src/parts.rt:67:9
 returns-2 : tie.Need-returns-2
-unfolding partsAt
+unfolding partsWithin
 returns-2 c = went taken.Refused _ _ _ _ _ _ (c .before .before .before .before .before .before .before .optional .ensures) (c .before .before .before .before .before .identifier .given .1) (handed taken.Refused _ _ _ _ _ (c .before .before .before .optional2 .ensures) (c .before .enum-told2 .given .1) (c .field-refusal2 .ensures))
 
 -- src/parts.rt:69:9
@@ -73,7 +73,7 @@ field-refusal-requires-3 c κs = tt
 
 -- src/parts.rt:71:9
 returns-3 : tie.Need-returns-3
-unfolding partsAt
+unfolding partsWithin
 returns-3 c = went taken.Refused _ _ _ _ _ _ (c .before .before .before .before .before .before .before .before .before .before .before .optional .ensures) (c .before .before .before .before .before .before .before .before .before .identifier .given .1) (went taken.Refused _ _ _ _ _ _ (c .before .before .before .before .before .before .before .optional2 .ensures) (c .before .before .before .before .before .message .given .1) (handed taken.Refused _ _ _ _ _ (c .before .before .before .string .ensures) (c .before .enum-told3 .given .1) (c .field-refusal3 .ensures)))
 
 -- src/parts.rt:74:21
@@ -90,7 +90,7 @@ span-to-requires c κs = string-room _ _ bit _ _ _ _ (sym (c .before .before .be
 
 -- src/parts.rt:51:1
 returns-4 : tie.Need-returns-4
-unfolding partsAt
+unfolding partsWithin
 returns-4 c = went taken.Refused _ _ _ _ _ _ (c .before .before .before .before .before .before .before .before .before .before .before .before .before .before .optional .ensures) (c .before .before .before .before .before .before .before .before .before .before .before .before .identifier .given .1) (went taken.Refused _ _ _ _ _ _ (c .before .before .before .before .before .before .before .before .before .before .optional2 .ensures) (c .before .before .before .before .before .before .before .before .message .given .1) (went taken.Refused _ _ _ _ _ _ (c .before .before .before .before .before .before .string .ensures) (c .before .before .before .before .check .given .1) (rw (c .before .before .part .ensures, c .before .part2 .ensures, c .span-to .ensures))))
 
 pub parts-at-spec : {M : Type 1} → statement M

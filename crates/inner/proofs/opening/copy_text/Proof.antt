@@ -40,10 +40,10 @@ sub-copy-characters : tie.Need-sub-copy-characters Inv-loop μ-loop
 sub-copy-characters c = omega (arith, element-inside _ _ _ _ _ (bits-to _ _) (c .before .before .before .before .read-element .ensures) (c .before .before .step .given .1))
 
 copy-characters-requires : tie.Need-copy-characters-requires Inv-loop μ-loop
-copy-characters-requires c κs = copied-room _ _ _ _ _ _ _ _ _ (c .before .before .before .before .before .before .before .loop .inv .1) _ _ (element-inside _ _ _ _ _ (bits-to _ _) (c .before .before .before .before .before .read-element .ensures) (c .before .before .before .step .given .1)) (c .before .before .before .before .before .before .before .before .before .before .pre)
+copy-characters-requires c κs = copied-room _ _ _ _ _ _ _ _ _ (c .before .before .before .before .before .before .before .loop .inv .1) (c .before .before .before .before .before .before .loop-test .taken) _ (c .before .before .before .before .before .read-element .ensures) _ (c .before .before .before .step .given .1) (bits-to _ _) (c .before .before .before .before .before .before .before .before .before .before .pre)
 
 add-t : tie.Need-add-t Inv-loop μ-loop
-add-t c = omega (arith, length-to (c .before .before .before .before .before .before .before .before .before .before .before .before .before .args .s .now) (c .before .before .before .before .before .before .before .before .before .before .before .before .before .args .end), element-inside _ _ _ _ _ (bits-to _ _) (c .before .before .before .before .before .before .before .before .read-element .ensures) (c .before .before .before .before .before .before .step .given .1), c .before .before .before .before .before .before .before .before .before .before .loop .inv .1 .place)
+add-t c = omega (arith, copied-room _ _ _ _ _ _ _ _ _ (c .before .before .before .before .before .before .before .before .before .before .loop .inv .1) (c .before .before .before .before .before .before .before .before .before .loop-test .taken) _ (c .before .before .before .before .before .before .before .before .read-element .ensures) _ (c .before .before .before .before .before .before .step .given .1) (bits-to _ _) (c .before .before .before .before .before .before .before .before .before .before .before .before .before .pre) .1)
 
 add-i : tie.Need-add-i Inv-loop μ-loop
 add-i c = search needs
@@ -52,7 +52,7 @@ loop-less : tie.Need-loop-less Inv-loop μ-loop
 loop-less c = search needs
 
 loop-again : tie.Need-loop-again Inv-loop μ-loop
-loop-again c = (search needs, copied-turn _ _ _ _ _ _ _ _ _ (c .before .before .before .before .before .before .before .before .before .before .loop .inv .1) (c .before .before .before .before .before .before .before .before .before .loop-test .taken) _ (c .before .before .before .before .before .before .before .before .read-element .ensures) _ (c .before .before .before .before .before .before .step .given .1) (bits-to _ _) _ (c .before .before .copy-characters .ensures))
+loop-again c = (search needs, copied-turn _ _ _ _ _ _ _ _ _ (c .before .before .before .before .before .before .before .before .before .before .loop .inv .1) (c .before .before .before .before .before .before .before .before .before .loop-test .taken) _ (c .before .before .before .before .before .before .before .before .read-element .ensures) _ (c .before .before .before .before .before .before .step .given .1) _ (c .before .before .copy-characters .ensures))
 
 same-length-2 : tie.Need-same-length-2 Inv-loop μ-loop
 same-length-2 c = c .before .loop .inv .1 .size

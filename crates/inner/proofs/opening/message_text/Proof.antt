@@ -3,7 +3,7 @@
 use native.Mathlib.Omega.{arith}
 use borrow.Author.Needs.{needs}
 use Rattle.bits.proofs.Bytes.{bits-to}
-use Rattle.inner.proofs.Openings.{header-near, text-got, text-lost}
+use Rattle.inner.proofs.Openings.{header-near, text-fits, text-got, text-lost}
 use Rattle.inner.proofs.opening.message_text.Statement.{statement}
 use Rattle.inner.proofs.opening.message_text.Tie as tie
 
@@ -23,7 +23,7 @@ add-copy-text : tie.Need-add-copy-text
 add-copy-text c = omega (arith, header-near (c .before .before .before .before .before .before .args .direction) _ _ (c .before .before .before .before .before .before .args .n) _ (c .before .before .before .read-header .ensures) _ _ (bits-to _ _) (c .before .first .given .1))
 
 copy-text-requires : tie.Need-copy-text-requires
-copy-text-requires c κs = search needs
+copy-text-requires c κs = text-fits _ _ _ _ _ (c .before .before .before .before .read-header .ensures) _ _ _ (c .before .before .first .given .1) (c .before .before .before .before .before .before .before .pre .0)
 
 same-length : tie.Need-same-length
 same-length c = search needs

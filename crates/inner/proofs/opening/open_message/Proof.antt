@@ -40,7 +40,7 @@ returns-3 : tie.Need-returns-3
 returns-3 c = open-refused _ _ _ _ _ (c .before .before .before .before .before .before .before .before .if1 .left) (c .before .before .before .before .before .before .before .if2 .left) _ (c .before .before .before .before .before .before .within .ensures) (c .before .before .before .before .before .if3 .taken) _ (c .before .before .before .before .read-exactly .ensures) _ _ (c .before .before .enum-told2 .given .1) (c .before .step-refusal .ensures) (c .not-opened3 .ensures)
 
 message-text-requires : tie.Need-message-text-requires
-message-text-requires c κs = (open-space (c .before .before .before .before .before .before .before .before .before .before .before .args .direction) _ _ (c .before .before .before .before .before .before .before .before .before .before .before .args .text .now) (c .before .before .before .before .before .before .before .before .if1 .left) (c .before .before .before .before .before .before .before .if2 .left) _ (c .before .before .before .before .before .before .within .ensures) (c .before .before .before .before .before .if3 .taken), omega arith)
+message-text-requires c κs = (open-space _ _ _ (c .before .before .before .before .before .before .before .before .before .before .before .args .text .now) (c .before .before .before .before .before .before .before .before .if1 .left) _ (c .before .before .before .before .read-exactly .ensures) _ (c .before .before .enum-told .given .1), omega arith)
 
 same-length : tie.Need-same-length
 same-length c = search needs

@@ -1,0 +1,237 @@
+-- "A length of 16,384 could come only in fragments and gets 13, so 14 is left for the integrity check and the algorithm identifier": at the card's limit no
+-- length passes it, and an APDU that is refused with LIMIT is refused for one of these two.
+-- Assumes nothing.
+use mathlib.Core.Path.{_≡_, refl, sym, ap, _∙_}
+use mathlib.Core.Bool.{Bool, true, false, cond, _&&_}
+use mathlib.Core.List.{List}
+use Prim.Native.Nat.{ℕ, _+_, _-_, _*_, _%_, _≤_, _<_}
+use native.Mathlib.Omega.{arith}
+use borrow.Author.Tests.{le-leb, ltb-true}
+use lib.Dec.{leb, ltb, eqb}
+use lib.ListN.{length}
+use Rattle.bits.specs.Read.{readBits}
+use Rattle.bits.specs.declared.Read.{Read}
+use Rattle.bits.specs.declared.Read.the-variants as read
+use Rattle.bits.proofs.Numbers.{Bits}
+use Rattle.fields.specs.Fields.{refusedAt, then, fieldOf, bitField, extensionBit, widthOf, wholeNumber, extensibleIndex, lengthAt, lengthFrom, longLength, lengthWithin, runAt, contentsAt, stringAt}
+use Rattle.fields.specs.declared.Fault.{Fault}
+use Rattle.fields.specs.declared.Fault.the-variants.{Short, Range, Extension, LengthForm, Limit, Tail, Default}
+use Rattle.fields.specs.declared.Refusal.{Refusal}
+use Rattle.fields.specs.declared.Field.{Field}
+use Rattle.fields.specs.declared.Field.the-variants.{Value, Refused}
+use Rattle.fields.proofs.RoundTrip.{length-determinant}
+use Rattle.apdu.specs.Sizes.{identifierLeast, identifierMost, messageMost, checkMost, userLast, providerLast, modeLast, octet, bit}
+use Rattle.apdu.specs.Pdus.{lastOf, kindOf}
+use Rattle.apdu.specs.Encoding.{padding}
+use Rattle.apdu.specs.Reading.{onField, onData, onTaken, onLead, optionalAt, partAt, spanTo, partsWithin, dataWithin, modeValue, modeAt, kindMode, leadingAt, tailAt, endedAt, restWithin, apduWithin, apduAt, dataAt, partsAt, wholeWithin, wholeData}
+use Rattle.apdu.specs.declared.Side.{Side}
+use Rattle.apdu.specs.declared.Side.the-variants.{Air, Ground}
+use Rattle.apdu.specs.declared.Kind.{Kind}
+use Rattle.apdu.specs.declared.Kind.the-variants as kind
+use Rattle.apdu.specs.declared.Data.{Data}
+use Rattle.apdu.specs.declared.Apdu.{Apdu}
+use Rattle.apdu.specs.declared.Apdu.the-variants as apdu
+use Rattle.apdu.specs.declared.Taken.{Taken}
+use Rattle.apdu.specs.declared.Taken.the-variants as taken
+use Rattle.apdu.specs.declared.Lead.{Lead}
+use Rattle.apdu.specs.declared.Lead.the-variants as lead
+use Rattle.apdu.specs.declared.Answer.{Answer}
+use Rattle.apdu.specs.declared.Answer.the-variants as answer
+use Rattle.apdu.proofs.Bounds.{never}
+use Rattle.limits.specs.Claims.{LeftFor, identifier, check}
+
+module _ (l : List ℕ) where
+  -- where an answer is the refusal LIMIT, it is that of an identifier or a check
+  abbrev Spares : {A : Type 0} → (Refusal → A) → A → Type 0
+  Spares up a = (r : Refusal) → a ≡ up r → r .fault ≡ Limit → LeftFor l r
+
+  -- ---- fields
+
+  value-spares : (v n : ℕ) → Spares Refused (Value v n)
+  value-spares v n r e f = never (cc)
+
+  other-spares : (at : ℕ) (x : Fault) → (x ≡ Limit → ⊥) → Spares Refused (refusedAt at x)
+  other-spares at x h r e f = absurd (h (ap (λ (y : Field). faultIn y) e ∙ f))
+    where
+      faultIn : Field → Fault
+      faultIn (Value v n) = x
+      faultIn (Refused y) = y .fault
+
+  cond-spares : (t : Bool) (x y : Field) → Spares Refused x → Spares Refused y → Spares Refused (cond t x y)
+  cond-spares true x y a b = a
+  cond-spares false x y a b = b
+
+  then-spares : (f : Field) (k : ℕ → ℕ → Field) → Spares Refused f → ((v n : ℕ) → Spares Refused (k v n)) → Spares Refused (then f k)
+  then-spares (Value v n) k a b = b v n
+  then-spares (Refused r) k a b = a
+
+  short : (at : ℕ) → Spares Refused (refusedAt at Short)
+  short at = other-spares at Short (λ (e : Short ≡ Limit). never (cc))
+
+  form : (at : ℕ) → Spares Refused (refusedAt at LengthForm)
+  form at = other-spares at LengthForm (λ (e : LengthForm ≡ Limit). never (cc))
+
+  bits-spare : (at n : ℕ) → Spares Refused (bitField l at n)
+  unfolding bitField
+  bits-spare at n = go (readBits l at n)
+    where
+      go : (r : Read) → Spares Refused (fieldOf at r)
+      go (read.Number v m) = value-spares v m
+      go read.Short = short at
+
+  extension-spares : (at : ℕ) → Spares Refused (extensionBit l at)
+  unfolding extensionBit
+  extension-spares at = then-spares (bitField l at 1) _ (bits-spare at 1) (λ (b n : ℕ). cond-spares (eqb b 0) (Value 0 n) (refusedAt at Extension) (value-spares 0 n) (other-spares at Extension (λ (e : Extension ≡ Limit). never (cc))))
+
+  whole-spares : (at lo hi : ℕ) → Spares Refused (wholeNumber l at lo hi)
+  unfolding wholeNumber
+  whole-spares at lo hi = then-spares (bitField l at (widthOf (hi - lo))) _ (bits-spare at (widthOf (hi - lo))) (λ (d n : ℕ). cond-spares (leb (lo + d) hi) (Value (lo + d) n) (refusedAt at Range) (value-spares (lo + d) n) (other-spares at Range (λ (e : Range ≡ Limit). never (cc))))
+
+  index-spares : (at last : ℕ) → Spares Refused (extensibleIndex l at last)
+  unfolding extensibleIndex
+  index-spares at last = then-spares (extensionBit l at) _ (extension-spares at) (λ (b n : ℕ). whole-spares n 0 last)
+
+  -- ---- lengths: none is refused with LIMIT, and none that is read passes the card's limit
+
+  length-spares : (at : ℕ) → Spares Refused (lengthAt l at)
+  unfolding lengthAt
+  length-spares at =
+      then-spares (bitField l at 8) (lengthFrom l at) (bits-spare at 8) (λ (b n : ℕ).
+      cond-spares (ltb b 128) (Value b n) _ (value-spares b n)
+      (cond-spares (leb 192 b) (refusedAt at LengthForm) _ (form at)
+      (then-spares (bitField l at 16) (longLength at) (bits-spare at 16) (λ (v m : ℕ). cond-spares (ltb v (32768 + 128)) (refusedAt at LengthForm) (Value (v - 32768) m) (form at) (value-spares (v - 32768) m)))))
+
+  pub message-length : (at : ℕ) → Bits l → lengthWithin l at 0 messageMost ≡ lengthAt l at
+  unfolding lengthWithin
+  message-length at b = go (lengthAt l at) refl
+    where
+      go : (f : Field) → lengthAt l at ≡ f → then f (λ (n next : ℕ). cond (leb 0 n && leb n messageMost) (Value n next) (refusedAt at Limit)) ≡ f
+      go (Value n next) p =
+          let k = ltb-true n 16384 (length-determinant .read-fits l at n next b p) in
+          rw (le-leb 0 n (omega arith), le-leb n messageMost (omega arith))
+      go (Refused r) p = refl
+
+  message-spares : Bits l → (there : Bool) (at : ℕ) → Spares Refused (optionalAt l there at bit 0 messageMost)
+  unfolding optionalAt stringAt runAt
+  message-spares b there at =
+      cond-spares there _ (Value 0 at)
+      (rw (message-length at b)
+      (then-spares (lengthAt l at) _ (length-spares at) (λ (n from : ℕ).
+      cond-spares (leb (from + bit * n) (length l)) (Value n (from + bit * n)) (refusedAt from Short) (value-spares n (from + bit * n)) (short from))))
+      (value-spares 0 at)
+
+  -- ---- what is left
+
+  identifier-left : (there : Bool) (at : ℕ) → Spares Refused (optionalAt l there at octet identifierLeast identifierMost)
+  unfolding optionalAt
+  identifier-left true at r e f = identifier at e
+  identifier-left false at r e f = never (cc)
+
+  check-left : (at : ℕ) → Spares Refused (stringAt l at bit 0 checkMost)
+  check-left at r e f = check at e
+
+  -- ---- behind a field
+
+  on-spares : {A : Type 0} (up : Refusal → A) (one : (r x : Refusal) → up r ≡ up x → r ≡ x) (f : Field) (k : ℕ → ℕ → A) → Spares Refused f → ((v n : ℕ) → Spares up (k v n)) → Spares up (onField up f k)
+  on-spares up one (Value v n) k a b x e f = b v n x e f
+  on-spares up one (Refused r) k a b x e f = a x (ap Refused (one r x e)) f
+
+  taken-one : (r x : Refusal) → taken.Refused r ≡ taken.Refused x → r ≡ x
+  taken-one r x e = cc
+
+  lead-one : (r x : Refusal) → lead.Refused r ≡ lead.Refused x → r ≡ x
+  lead-one r x e = cc
+
+  answer-one : (r x : Refusal) → answer.Refused r ≡ answer.Refused x → r ≡ x
+  answer-one r x e = cc
+
+  taken-spares : (d : Data) (n : ℕ) → Spares taken.Refused (taken.Is d n)
+  taken-spares d n r e f = never (cc)
+
+  lead-spares : (k : Kind) (m n : ℕ) → Spares lead.Refused (lead.Is k m n)
+  lead-spares k m n r e f = never (cc)
+
+  is-spares : (a : Apdu) → Spares answer.Refused (answer.Is a)
+  is-spares a r e f = never (cc)
+
+  -- ---- message data, the leading fields, the tail
+
+  parts-spare : Bits l → (at : ℕ) (i m : Bool) → Spares taken.Refused (partsAt l at i m)
+  unfolding partsWithin
+  parts-spare b at i m =
+      on-spares taken.Refused taken-one (optionalAt l i at octet identifierLeast identifierMost) _ (identifier-left i at) (λ (octets p : ℕ).
+      on-spares taken.Refused taken-one (optionalAt l m p bit 0 messageMost) _ (message-spares b m p) (λ (bits q : ℕ).
+      on-spares taken.Refused taken-one (stringAt l q bit 0 checkMost) _ (check-left q) (λ (n next : ℕ). taken-spares _ next)))
+
+  data-spares : Bits l → (at : ℕ) → Spares taken.Refused (dataAt l at)
+  unfolding dataWithin
+  data-spares b at =
+      on-spares taken.Refused taken-one (extensionBit l at) _ (extension-spares at) (λ (e p : ℕ).
+      on-spares taken.Refused taken-one (bitField l p 2) _ (bits-spare p 2) (λ (v q : ℕ). parts-spare b q (leb 2 v) (eqb (v % 2) 1)))
+
+  mode-spares : (side : Side) (at : ℕ) → Spares Refused (modeAt side l at)
+  unfolding modeAt modeValue
+  mode-spares Ground at = value-spares 0 at
+  mode-spares Air at =
+      then-spares (bitField l at 1) _ (bits-spare at 1) (λ (p n : ℕ).
+      cond-spares (eqb p 0) (Value 0 n) _ (value-spares 0 n)
+      (then-spares (wholeNumber l n 0 modeLast) _ (whole-spares n 0 modeLast) (λ (m k : ℕ). cond-spares (eqb m 0) (refusedAt n Default) (Value m k) (other-spares n Default (λ (e : Default ≡ Limit). never (cc))) (value-spares m k))))
+
+  kind-spares : (side : Side) (k : Kind) (at : ℕ) → Spares Refused (kindMode side l k at)
+  unfolding kindMode
+  kind-spares side kind.AbortUser at = value-spares 0 at
+  kind-spares side kind.AbortProvider at = value-spares 0 at
+  kind-spares side kind.Start at = mode-spares side at
+  kind-spares side kind.Send at = value-spares 0 at
+  kind-spares side kind.Forward at = value-spares 0 at
+  kind-spares side kind.ForwardResponse at = value-spares 0 at
+
+  leading-spares : (side : Side) (at : ℕ) → Spares lead.Refused (leadingAt side l at)
+  unfolding leadingAt
+  leading-spares side at =
+      on-spares lead.Refused lead-one (extensibleIndex l at (lastOf side)) _ (index-spares at (lastOf side)) (λ (i p : ℕ).
+      on-spares lead.Refused lead-one (kindMode side l (kindOf i) p) _ (kind-spares side (kindOf i) p) (λ (m q : ℕ). lead-spares (kindOf i) m q))
+
+  tail-spares : (at : ℕ) → Spares Refused (tailAt l at)
+  unfolding tailAt
+  tail-spares at =
+      then-spares (bitField l at (padding at)) _ (bits-spare at (padding at)) (λ (v next : ℕ).
+      cond-spares (eqb v 0) _ _ (cond-spares (leb (next + 1) (length l)) (refusedAt next Tail) (Value 0 next) (tail next) (value-spares 0 next)) (tail (next - widthOf v)))
+    where
+      tail : (n : ℕ) → Spares Refused (refusedAt n Tail)
+      tail n = other-spares n Tail (λ (e : Tail ≡ Limit). never (cc))
+
+  ended-spares : (at : ℕ) (a : Apdu) → Spares answer.Refused (endedAt l at a)
+  unfolding endedAt
+  ended-spares at a = on-spares answer.Refused answer-one (tailAt l at) _ (tail-spares at) (λ (v next : ℕ). is-spares a)
+
+  -- ---- an APDU, and message data by itself
+
+  on-data : (t : Taken) (k : Data → ℕ → Answer) → Spares taken.Refused t → ((d : Data) (n : ℕ) → Spares answer.Refused (k d n)) → Spares answer.Refused (onData t k)
+  on-data (taken.Is d n) k a b x e f = b d n x e f
+  on-data (taken.Refused r) k a b x e f = a x (ap taken.Refused (answer-one r x e)) f
+
+  rest-spares : Bits l → (k : Kind) (m at : ℕ) → Spares answer.Refused (restWithin messageMost l k m at)
+  unfolding restWithin
+  rest-spares b kind.AbortUser m at = on-spares answer.Refused answer-one (extensibleIndex l at userLast) _ (index-spares at userLast) (λ (r next : ℕ). ended-spares next (apdu.AbortUser r))
+  rest-spares b kind.AbortProvider m at = on-spares answer.Refused answer-one (extensibleIndex l at providerLast) _ (index-spares at providerLast) (λ (r next : ℕ). ended-spares next (apdu.AbortProvider r))
+  rest-spares b kind.Start m at = on-data (dataAt l at) _ (data-spares b at) (λ (d : Data) (next : ℕ). ended-spares next (apdu.Start m d))
+  rest-spares b kind.Send m at = on-data (dataAt l at) _ (data-spares b at) (λ (d : Data) (next : ℕ). ended-spares next (apdu.Send d))
+  rest-spares b kind.Forward m at = is-spares apdu.Forward
+  rest-spares b kind.ForwardResponse m at = is-spares apdu.ForwardResponse
+
+  pub apdu-left : Bits l → (side : Side) (at : ℕ) (r : Refusal) → apduAt side l at ≡ answer.Refused r → r .fault ≡ Limit → LeftFor l r
+  unfolding apduWithin
+  apdu-left b side at = go (leadingAt side l at) (leading-spares side at)
+    where
+      go : (x : Lead) → Spares lead.Refused x → Spares answer.Refused (onLead x (restWithin messageMost l))
+      go (lead.Is k m next) a x e f = rest-spares b k m next x e f
+      go (lead.Refused r) a x e f = a x (ap lead.Refused (answer-one r x e)) f
+
+  pub data-left : Bits l → (r : Refusal) → wholeData l ≡ taken.Refused r → r .fault ≡ Limit → LeftFor l r
+  unfolding wholeWithin
+  data-left b = go (dataAt l 0) (data-spares b 0)
+    where
+      go : (t : Taken) → Spares taken.Refused t → Spares taken.Refused (onTaken t (λ (d : Data) (next : ℕ). onField taken.Refused (tailAt l next) (λ (v m : ℕ). taken.Is d next)))
+      go (taken.Is d next) a = on-spares taken.Refused taken-one (tailAt l next) _ (tail-spares next) (λ (v m : ℕ). taken-spares d next)
+      go (taken.Refused r) a = a

@@ -1,0 +1,4 @@
+pub mod Apdus
+pub mod LeftOver
+pub mod Envelopes
+pub mod Earlier

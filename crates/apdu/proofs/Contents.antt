@@ -281,13 +281,13 @@ data-made l at p q v e next n added d h low s t i k =
     }
 
 -- the two ways behind the fields
-record Behind (l : List ℕ) (e next : ℕ) (t : Taken) (d : Data) : Type 0 where
-  place : ℕ
-  added : ℕ
-  parts : t ≡ taken.Is d place
-  rest : cond (eqb e 0) (Value 0 place) (additionsAt l place) ≡ Value added next
+pub record Behind (l : List ℕ) (e next : ℕ) (t : Taken) (d : Data) : Type 0 where
+  pub place : ℕ
+  pub added : ℕ
+  pub parts : t ≡ taken.Is d place
+  pub rest : cond (eqb e 0) (Value 0 place) (additionsAt l place) ≡ Value added next
 
-behind-read : (l : List ℕ) (e next : ℕ) (t : Taken) (d : Data) → cond (eqb e 0) t (withAdditions l t) ≡ taken.Is d next → Behind l e next t d
+pub behind-read : (l : List ℕ) (e next : ℕ) (t : Taken) (d : Data) → cond (eqb e 0) t (withAdditions l t) ≡ taken.Is d next → Behind l e next t d
 unfolding withAdditions
 behind-read l e next t d k = by (eqb e 0) refl t refl k
   where

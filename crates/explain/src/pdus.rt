@@ -55,7 +55,7 @@ fn walk_addition(s: &[u8], at: usize) -> Field {
 }
 
 // So many additions, one after the other.
-fn walk_each(s: &[u8], at: usize, count: u64) {
+fn walk_each(s: &[u8], at: usize, count: u32) {
     let mut p = at;
     let mut left = count;
     while 0 < left {
@@ -86,7 +86,7 @@ fn walk_additions(s: &[u8], at: usize) {
     let Field::Value(v, q) = there else {
         return;
     };
-    walk_each(s, q, u64::count_ones(v) as u64);
+    walk_each(s, q, u64::count_ones(v));
 }
 
 // The check, which is always there, and what was added behind it.

@@ -112,7 +112,7 @@ enum peat_refusal {
     PEAT_NOT_OPEN = 8,   /* a number to close is not open, or is no number */
     PEAT_SHORT = 10,       /* the bits end inside a field */
     PEAT_RANGE = 11,       /* a value outside its type */
-    PEAT_EXTENSION = 12,   /* an extension bit is 1 */
+    PEAT_EXTENSION = 12,   /* an alternative or a value of a later edition; more than 64 additions of one, or none of them there */
     PEAT_LENGTH_FORM = 13, /* a length not in its shortest form, or fragmented */
     PEAT_LIMIT = 14,       /* well formed, outside the sizes: an identifier or a check. No length of a message is: what is
                               more than PEAT_MESSAGE_MOST bits comes in fragments, and is PEAT_LENGTH_FORM */
@@ -300,7 +300,8 @@ static inline unsigned peat_refusal(uint64_t answer) { return peat_bits_of(answe
 /* The position in a refusal PEAT_SHORT to PEAT_DEFAULT: the bit at which the field begins that was refused, counted from 0, which
    is the highest bit of the first byte that the call was lent to read. So byte position / 8, bit position % 8 from the top.
    - A length is one field, also where 8 of its 16 bits are there; the presence bits of a SEQUENCE are one field; contents
-     begin behind their length; an extension bit, a digit and an index are fields of their own.
+     begin behind their length; an extension bit, a digit and an index are fields of their own. Of additions from a later
+     edition the count is one field of 7 bits, and the bits that say which are there are one.
    - PEAT_NOT_CARRIED: the element's index, or the presence bit of constrained data. PEAT_DEFAULT: the value's bit.
    - PEAT_TAIL: the first padding bit that is 1; where there is none, the first bit of the bytes that follow, whatever they
      hold. Of a message: the first bit left over.
@@ -331,7 +332,8 @@ static inline size_t peat_apdu_bytes(uint64_t answer) { return (peat_apdu_bits(a
 /* The message data in the second buffer, likewise. They are in unaligned PER: a bit 0; a bit, whether there is an
    identifier; a bit, whether there is a message; the identifier, as its octets counted in 8 bits and then the octets; the
    message, as its bits counted and then the bits; the check, likewise. A count of bits under 128 takes 8 bits, a greater
-   one takes 16: the bits 10 and then 14 bits. peat_data_part takes one of them out. */
+   one takes 16: the bits 10 and then 14 bits. Additions from a later edition, which the APDU may have had behind the check, are
+   left out. peat_data_part takes one of the parts out. */
 static inline unsigned peat_data_bits(uint64_t answer) { return peat_bits_of(answer, PEAT_DATA_BITS_AT, PEAT_COUNT_BITS); }
 static inline size_t peat_data_bytes(uint64_t answer) { return (peat_data_bits(answer) + 7u) / 8u; }
 

@@ -118,7 +118,8 @@ def by_hand():
     yield AIR, "0100" + "0" + "00" + "0", (10, 7)   # startdown, nothing behind the presence bits
     yield AIR, "01010" + "0" + "00" + "00000000", (17, 4)   # mode present as cpdlc, before the faults behind it
     yield AIR, "01010" + "111", (17, 4)
-    yield AIR, "011" + "1", (12, 3)                 # extension bit of the message data
+    yield AIR, "011" + "1", (10, 6)                 # extension bit of the message data: the root comes first
+    yield from added_by_hand()
     yield AIR, "011" + "001" + "10001000" + "00000001", (10, 22)    # 88 01 as a message's length: read, and its contents are missing
     yield AIR, "011" + "001" + "10111111" + "11111111", (10, 22)    # BF FF
     yield AIR, "011" + "001" + "10000000" + "01111111", (13, 6)     # 80 7F
@@ -137,10 +138,42 @@ def by_hand():
     yield GROUND, "0101", None
 
 
+def added_by_hand():
+    """Additions: behind a send with an empty check, which ends at bit 14."""
+    root, one = "011" + "1" + "00" + "00000000", "0000000"           # one: a count of one addition
+    read_as = "send - - 14:0"
+    yield AIR, root, (10, 14)                                       # no count
+    yield AIR, root + "1", (12, 14)                                 # the long form of the count, by its first bit alone
+    yield AIR, root + "1" * 200, (12, 14)
+    yield AIR, root + one + "0", (12, 21)                           # none is there
+    yield AIR, root + "0000001" + "00" + "0" * 20, (12, 21)
+    yield AIR, root + "0111111" + "1" * 20, (10, 21)                # sixty-four, cut
+    yield AIR, root + "0111111" + "0" * 70, (12, 21)
+    yield AIR, root + one + "1" + "0", (10, 22)                     # a length cut
+    yield AIR, root + one + "1" + "00000000", read_as               # no octets: stepped over
+    yield AIR, root + one + "1" + "00000001" + "11111111", read_as
+    yield AIR, root + one + "1" + "00000010" + "11111111", (10, 30)     # one octet of two
+    yield AIR, root + one + "1" + "10000000" + "01111111" + "1" * 1016, (13, 22)    # 127 in the long form
+    yield AIR, root + one + "1" + "11000001" + "1" * 60, (13, 22)   # fragments
+    yield AIR, root + one + "1" + "10111111" + "11111111" + "1" * 8 * 16383, read_as
+    yield AIR, root + one + "1" + "10111111" + "11111111" + "1" * 8 * 16382, (10, 38)
+    yield AIR, root + "0000001" + "10" + "00000001" + "01010101", read_as       # the last is absent
+    yield AIR, root + "0000001" + "01" + "00000001" + "01010101", read_as
+    yield AIR, root + "0000001" + "11" + "00000000" + "00000001" + "01010101", read_as
+    yield AIR, root + "0000001" + "11" + "00000001" + "01010101" + "11000000", (13, 39)
+    yield AIR, root + "0111111" + "1" * 64 + ("00000001" + "10110110") * 64, read_as
+    yield AIR, root + "0111111" + "0" * 63 + "1" + "00000001" + "10110110", read_as
+    yield AIR, root + one + "1" + "00000001" + "11111111" + "1", (15, 38)       # TAIL behind the additions
+    yield AIR, root + one + "1" + "00000001" + "11111111" + "00" + "0" * 8, (15, 40)
+    yield AIR, "011" + "1" + "00" + "01000001" + "1", (14, 6)       # a fault of the root comes first
+    yield AIR, "0100" + root[3:] + one + "1" + "00000001" + "11111111", "start 0 - - 15:0"
+    yield GROUND, "0011" + root[3:] + one + "1" + "00000001" + "11111111", "send - - 15:0"
+
+
 def hand_requests():
-    for side, bits, fault in by_hand():
+    for side, bits, told in by_hand():
         data = packed(bits)
-        answer = "refused %d at %d" % fault if fault else ("forward" if bits[:4] == "0100" else "forward-response")
+        answer = told if isinstance(told, str) else "refused %d at %d" % told if told else ("forward" if bits[:4] == "0100" else "forward-response")
         yield Request(f"{NAMES[side]} {bits[:40]}", HEADER.pack(READ, side, 0, 0, 0, 0, 0, 0, 0, 0, 0, 0, 0, len(data)) + data, answer)
 
 
@@ -217,11 +250,53 @@ def noisy():
     for _ in range(3000):
         side = rng.randrange(2)
         octets, message, check = rng.choice((None, 1, 3, 16)), rng.choice((None, 0, 5, FULL)), rng.randrange(20)
-        bits = list(pdu_bits(side, ("send", contents(rng, octets, message, check))))
+        additions = [rng.choice((None, rng.randbytes(rng.randrange(6)))) for _ in range(rng.choice((0, 1, 2, 9)))]
+        bits = list(pdu_bits(side, ("send", contents(rng, octets, message, check)), additions))
         for _ in range(rng.randrange(1, 4)):
             k = rng.randrange(len(bits))
             bits[k] = "10"[int(bits[k])]
         yield read("chance", side, packed("".join(bits)))
+
+
+# ---- additions from a later edition
+
+ADDED = ([b"\x5a"], [b""], [None, b"ab"], [b"ab", None, None], [b"", b"", b"\xff"], [bytes(127)], [bytes(128)], [b"x"] * 64, [None] * 63 + [b"y"], [b"z"] + [None] * 63,
+         [None, b"1", None, b"22", None, b"333", None])
+# longer than any buffer
+ADDED_LONG = ([b"\xa5" * 16383], [bytes(1000)] * 5)
+# what may stand where an addition's length stands: the long form of a short length, fragments, more octets than there are
+LENGTHS = ("10" + "0" * 14, "10" + format(127, "014b"), "11000001", "11111111", "10" + "1" * 14, "01111111")
+
+
+def added_readings(side, pdu, additions):
+    """An APDU with additions: whole, with a bit set in the padding, with a byte behind it; cut at every bit of them, each of their first bits turned, and with
+    other lengths."""
+    root, bits = pdu_bits(side, pdu), pdu_bits(side, pdu, additions)
+    why = f"{NAMES[side]} {pdu[0]} with {len(additions)} additions, {len(bits)} bits"
+    whole = packed(bits)
+    yield read(why, side, whole)
+    yield read(f"{why}, a byte behind", side, whole + b"\0")
+    if len(bits) % 8:
+        yield read(f"{why}, the last padding bit set", side, whole[:-1] + bytes([whole[-1] | 1]))
+    begin, some = len(root), 90 if len(bits) < 3000 else 24
+    for k in sorted({*range(begin, min(len(bits), begin + some)), *range(begin, len(bits), 1 + len(bits) // 20), len(bits) - 1}):
+        yield read(f"{why}, cut at bit {k}", side, packed(bits[:k]))
+    for k in {0, begin - 1, *range(begin, min(len(bits), begin + some))}:
+        yield read(f"{why}, bit {k} turned", side, packed(bits[:k] + "10"[int(bits[k])] + bits[k + 1:]))
+    first = begin + 7 + len(additions)
+    for other in LENGTHS:
+        yield read(f"{why}, a length {other}", side, packed(bits[:first] + other + bits[first + 8:]))
+
+
+def added():
+    rng = random.Random(2020)
+    for octets, message, check in ((None, None, 0), (None, 5, 3), (2, 9, 64)):
+        data = contents(rng, octets, message, check)
+        for additions in ADDED:
+            for side, pdu in ((AIR, ("send", data)), (AIR, ("start", 1, data)), (GROUND, ("start", 0, data))):
+                yield from added_readings(side, pdu, additions)
+    for additions in ADDED_LONG:
+        yield from added_readings(GROUND, ("send", contents(rng, 1, 3, 8)), additions)
 
 
 def requests():
@@ -233,6 +308,7 @@ def requests():
         else:
             yield write("an identifier of no octets", WRITE, side, pdu, FULL)
     yield from odd_writings()
+    yield from added()
     yield from noisy()
 
 

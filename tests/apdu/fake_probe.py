@@ -39,6 +39,8 @@ def written(op, side, kind, identified, messaged, number, places, words, source,
 
 def main():
     fault = sys.argv[1] if len(sys.argv) > 1 else ""
+    if fault == "count":                    # as many additions as the six bits say, and not one more
+        reference.Bits.COUNTED_FROM = 0
     data, at = sys.stdin.buffer.read(), 0
     while at + driver.HEADER.size <= len(data):
         op, side, kind, identified, messaged, number, *places, words, count = driver.HEADER.unpack_from(data, at)
@@ -56,6 +58,10 @@ def main():
                 line = f"refused {number} at {place + 8}"
             if fault == "second" and number == "10" and place >= 8:     # the second byte of a length that is cut
                 line = f"refused 10 at {place + 8}"
+            if fault == "marked" and number == "12" and place > 4:       # where none is there: the extension bit, and not the presence bits
+                line = "refused 12 at 3"
+            if fault == "root" and number == "14" and "1" in reference.unpacked(body)[3:4]:     # the extension bit before the faults of the root
+                line = "refused 12 at 3"
             if fault == "padded" and number == "15" and place % 8:      # the beginning of the padding
                 line = f"refused 15 at {place - 1}"
             print(line)

@@ -1,11 +1,12 @@
 #!/usr/bin/env escript
 %% An independent coder: the asn1 application of Erlang/OTP, unaligned PER, over the ASN.1 module of tests/per.
 %%
-%%   oracle.erl encode MODULE.asn    reads lines SIDE KIND NUMBER ID MSG CHECK, prints BITS HEX for each
+%%   oracle.erl encode MODULE.asn    reads lines SIDE KIND NUMBER ID MSG CHECK ADDITION.., prints BITS HEX for each
 %%   oracle.erl decode MODULE.asn    reads lines SIDE HEX, prints SIDE KIND NUMBER ID MSG CHECK for each, or `refused`
 %%
 %% SIDE is air or ground; a string of bits is COUNT:HEX; an identifier is the hexadecimal of its contents; `-` is an absent part, a number that
-%% the kind has not, or no bytes.
+%% the kind has not, or no bytes. An addition of a later edition is an Erlang term without spaces, o:COUNT:BYTE for octets that are alike, b:COUNT:HEX for
+%% bits, or `-`.
 -mode(compile).
 
 main([Mode, Asn]) ->
@@ -52,7 +53,20 @@ value("air", ["start", N | Parts]) -> {startdown, {'StartDownMessage', lists:nth
 value("ground", ["start", "0" | Parts]) -> {startup, data("ground", Parts)};
 value(Side, ["send", "-" | Parts]) -> {send, data(Side, Parts)}.
 
-data(Side, [Id, Msg, Check]) -> {data_type(Side), arcs(Id), optional_bits(Msg), bits(Check)}.
+data(Side, [Id, Msg, Check | Additions]) ->
+    list_to_tuple([data_type(Side), arcs(Id), optional_bits(Msg), bits(Check) | [addition(A) || A <- Additions]]).
+
+addition("-") -> asn1_NOVALUE;
+addition("o:" ++ Text) -> [N, Byte] = string:split(Text, ":"), binary:copy(<<(list_to_integer(Byte))>>, list_to_integer(N));
+addition("b:" ++ Text) ->
+    [Count, Hex] = string:split(Text, ":"),
+    N = list_to_integer(Count),
+    <<Bits:N/bits, _/bits>> = binary:copy(<<(bytes(Hex))/binary, 0>>, 1 + N div 8),
+    Bits;
+addition(Term) ->
+    {ok, Tokens, _} = erl_scan:string(Term ++ "."),
+    {ok, Value} = erl_parse:parse_term(Tokens),
+    Value.
 
 arcs("-") -> asn1_NOVALUE;
 arcs(Hex) -> list_to_tuple([B || <<B>> <= bytes(Hex), B < 128]).

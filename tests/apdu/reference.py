@@ -1,7 +1,8 @@
 """AircraftPDUs and GroundPDUs in unaligned PER, written down from the ASN.1 module (Doc 9705, 2.3.4.2), X.691 and document 01, apart from the card.
 
 Bits are strings of 0 and 1. An APDU is a tuple: ("abort-user", reason), ("abort-provider", reason), ("start", mode, data), ("send", data),
-("forward",), ("forward-response",); data is (identifier or None, message or None, check), each the bits of its contents.
+("forward",), ("forward-response",); data is (identifier or None, message or None, check), each the bits of its contents. Additions from a later edition are
+a list, the octets of each or None for one that is absent; no additions are an empty list.
 """
 
 AIR, GROUND = 0, 1
@@ -45,17 +46,24 @@ def string(bits, unit):
     return length(len(bits) // unit) + bits
 
 
-def data_bits(data):
+def additions_bits(additions):
+    """X.691, 19.7 to 19.9: one less than their count behind a bit 0, which of them are there, and each with its length in octets."""
+    assert 1 <= len(additions) <= 64
+    there = "".join("0" if a is None else "1" for a in additions)
+    return "0" + binary(len(additions) - 1, 6) + there + "".join(string(unpacked(a), 8) for a in additions if a is not None)
+
+
+def data_bits(data, additions=()):
     identifier, message, check = data
-    bits = "0" + ("0" if identifier is None else "1") + ("0" if message is None else "1")
+    bits = ("1" if additions else "0") + ("0" if identifier is None else "1") + ("0" if message is None else "1")
     if identifier is not None:
         bits += string(identifier, 8)
     if message is not None:
         bits += string(message, 1)
-    return bits + string(check, 1)
+    return bits + string(check, 1) + (additions_bits(additions) if additions else "")
 
 
-def pdu_bits(side, pdu):
+def pdu_bits(side, pdu, additions=()):
     bits = "0" + binary(INDEX[pdu[0]], LAST[side].bit_length())
     if pdu[0] == "abort-user":
         return bits + "0" + binary(pdu[1], 4)
@@ -64,8 +72,8 @@ def pdu_bits(side, pdu):
     if pdu[0] == "start":
         if side == AIR:
             bits += "0" if pdu[1] == 0 else "1" + binary(pdu[1], 1)
-        return bits + data_bits(pdu[2])
-    return bits + data_bits(pdu[1])
+        return bits + data_bits(pdu[2], additions)
+    return bits + data_bits(pdu[1], additions)
 
 
 def packed(bits):
@@ -79,8 +87,11 @@ def unpacked(data):
 # ---- reading: the fault that is met first in bit order
 
 class Bits:
+    COUNTED_FROM = 1                        # a count of additions of 0 says so many
+
     def __init__(self, bits):
         self.bits, self.at, self.begin, self.field = bits, 0, 0, ""
+        self.additions, self.mark, self.root_end = [], 0, 0
 
     def begins(self, field):
         """A field begins: what is refused before the next one begins is refused here."""
@@ -111,19 +122,22 @@ class Bits:
             self.refuse(RANGE)
         return value
 
+    def length(self, of):
+        self.begins(f"length of {of}")
+        first = self.number(8)
+        if first < 128:
+            return first
+        if first >= 192:
+            self.refuse(LENGTH_FORM)
+        count = (first - 128) * 256 + self.number(8)
+        if count < 128:
+            self.refuse(LENGTH_FORM)
+        return count
+
     def part(self, name):
         """Where its contents begin, and their count."""
         unit, least, most = LIMITS[name]
-        self.begins(f"length of {name}")
-        first = self.number(8)
-        if first < 128:
-            count = first
-        elif first >= 192:
-            self.refuse(LENGTH_FORM)
-        else:
-            count = (first - 128) * 256 + self.number(8)
-            if count < 128:
-                self.refuse(LENGTH_FORM)
+        count = self.length(name)
         if not least <= count <= most:
             self.refuse(LIMIT)
         self.begins(name)
@@ -131,13 +145,34 @@ class Bits:
         self.take(unit * count)
         return at, count
 
+    def stepped_over(self):
+        """Additions from a later edition, each stepped over by its length."""
+        self.begins("count of additions")
+        if self.number(1):
+            self.refuse(EXTENSION)          # the long form, by its first bit alone
+        count = self.number(6) + self.COUNTED_FROM
+        self.begins("presence of additions")
+        there = self.take(count)
+        if "1" not in there:
+            self.refuse(EXTENSION)
+        for mark in there:
+            octets = self.length("an addition") if mark == "1" else None
+            self.begins("an addition")
+            self.additions.append(None if octets is None else packed(self.take(8 * octets)))
+
     def data(self):
-        self.extension("message data")
+        self.begins("extension bit of message data")
+        self.mark = self.at
+        extended = self.number(1)
         self.begins("presence bits")
         there = self.number(2)
         identifier = self.part("identifier") if there & 2 else None
         message = self.part("message") if there & 1 else None
-        return identifier, message, self.part("check")
+        check = self.part("check")
+        self.root_end = self.at
+        if extended:
+            self.stepped_over()
+        return identifier, message, check
 
     def tail(self):
         """The first padding bit that is 1; where there is none, the first bit of the bytes that follow, whatever they are."""
@@ -152,7 +187,10 @@ class Bits:
 
 def read(side, data):
     """The APDU with places for its parts: ("send", (identifier, message, check)), each (at, count) or None."""
-    bits = Bits(unpacked(data))
+    return read_bits(side, Bits(unpacked(data)))
+
+
+def read_bits(side, bits):
     index = bits.index(LAST[side], "alternative")
     kind = next(k for k, i in INDEX.items() if i == index)
     if kind == "abort-user":
@@ -189,12 +227,23 @@ def shown(side, data):
     return " ".join(words)
 
 
+def stripped(side, data):
+    """An accepted APDU with the additions gone, and these."""
+    bits = Bits(unpacked(data))
+    read_bits(side, bits)
+    if not bits.additions:
+        return data, []
+    return packed(bits.bits[:bits.mark] + "0" + bits.bits[bits.mark + 1:bits.root_end]), bits.additions
+
+
 # ---- which refusals can come at which field (document 01, "The numbers a refusal carries")
 
 def expected():
     """Each pair of a field and a refusal that it can have. SHORT in whole bytes needs a field that a byte's end can cut."""
     pairs = {("extension bit of alternative", SHORT), ("alternative", RANGE), ("padding", TAIL), ("bytes behind", TAIL), ("mode", DEFAULT)}
-    pairs |= {(f"extension bit of {of}", EXTENSION) for of in ("alternative", "user reason", "provider reason", "message data")}
+    pairs |= {(f"extension bit of {of}", EXTENSION) for of in ("alternative", "user reason", "provider reason")}
+    pairs |= {("count of additions", SHORT), ("count of additions", EXTENSION), ("presence of additions", SHORT), ("presence of additions", EXTENSION)}
+    pairs |= {("length of an addition", SHORT), ("length of an addition", LENGTH_FORM), ("an addition", SHORT)}
     pairs |= {("user reason", RANGE), ("user reason", SHORT)}
     for name in LIMITS:
         pairs |= {(f"length of {name}", SHORT), (f"length of {name}", LENGTH_FORM), (f"length of {name}", LIMIT), (name, SHORT)}

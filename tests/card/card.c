@@ -216,16 +216,33 @@ static void put_items(struct bits *b, size_t n, unsigned unit)
         put(b, any(), unit);
 }
 
+/* additions from a later edition, few of them there; now and then none, or a count in its long form */
+static void put_additions(struct bits *b)
+{
+    unsigned n = once_in(8) ? 64 : 1 + below(9), i, there = 0;
+    put(b, once_in(40), 1);
+    put(b, n - 1, 6);
+    for (i = 0; i < n; i++) {
+        unsigned mark = there < 3 && below(n) < 2;
+        put(b, mark, 1);
+        there += mark;
+    }
+    for (i = 0; i < there; i++)
+        put_items(b, once_in(6) ? 0 : 1 + below(9), 8);
+}
+
 static void put_random_data(struct bits *b)
 {
-    unsigned identifier = below(2), message = !once_in(6);
-    put(b, once_in(60), 1);
+    unsigned extended = once_in(4), identifier = below(2), message = !once_in(6);
+    put(b, extended, 1);
     put(b, 2 * identifier + message, 2);
     if (identifier)
         put_items(b, once_in(15) ? 17 * below(2) : 1 + below(16), 8);
     if (message)
         put_items(b, message_bits(), 1);
     put_items(b, once_in(15) ? 63 + below(4) : below(65), 1);
+    if (extended && !once_in(20))
+        put_additions(b);
 }
 
 /* user data: an APDU of one of the two types, now and then with a fault */
@@ -885,6 +902,13 @@ static void apdu_edges(void)
         {PEAT_AIRCRAFT_PDUS, {0x60, 0x01}, 2, PEAT_TAIL, 15},           /* the second: not the beginning of the padding */
         {PEAT_AIRCRAFT_PDUS, {0x60, 0x00, 0x00}, 3, PEAT_TAIL, 16},     /* a byte of zeros behind it */
         {PEAT_AIRCRAFT_PDUS, {0x60, 0x01, 0x00}, 3, PEAT_TAIL, 15},     /* the padding before the bytes */
+        {PEAT_AIRCRAFT_PDUS, {0x70, 0x00}, 2, PEAT_SHORT, 14},          /* additions: their count is cut */
+        {PEAT_AIRCRAFT_PDUS, {0x70, 0x02}, 2, PEAT_EXTENSION, 14},      /* the long form of the count, by its first bit */
+        {PEAT_AIRCRAFT_PDUS, {0x70, 0x00, 0x00, 0x00}, 4, PEAT_EXTENSION, 21}, /* none is there */
+        {PEAT_AIRCRAFT_PDUS, {0x70, 0x00, 0x04}, 3, PEAT_SHORT, 22},    /* the length of one is cut */
+        {PEAT_AIRCRAFT_PDUS, {0x70, 0x00, 0x07, 0x00}, 4, PEAT_LENGTH_FORM, 22}, /* in fragments */
+        {PEAT_AIRCRAFT_PDUS, {0x70, 0x00, 0x04, 0x04}, 4, PEAT_SHORT, 30}, /* an octet that is not there */
+        {PEAT_AIRCRAFT_PDUS, {0x70, 0x00, 0x04, 0x01}, 4, PEAT_TAIL, 31}, /* the padding behind an addition of no octets */
     };
     uint8_t bytes[4];
     uint64_t said;
@@ -911,6 +935,8 @@ static void apdu_edges(void)
     codes &= peat_refusal(said) == PEAT_TAKEN && peat_apdu_kind(said) == PEAT_APDU_ABORT_USER && peat_apdu_number(said) == 12 && peat_apdu_has_data(said) == 0;
     said = reads_apdu(PEAT_GROUND_PDUS, (const uint8_t *)"\x4F", 1, &ok);
     codes &= peat_refusal(said) == PEAT_TAKEN && peat_apdu_kind(said) == PEAT_APDU_FORWARD;
+    said = reads_apdu(PEAT_AIRCRAFT_PDUS, (const uint8_t *)"\x70\x00\x04\x00", 4, &ok); /* send, and an addition of no octets */
+    codes &= peat_refusal(said) == PEAT_TAKEN && peat_apdu_kind(said) == PEAT_APDU_SEND && peat_apdu_has_data(said) == 1;
     check(ok, "APDUs by themselves, cut and with each bit turned, are as the model has them");
     check(positions, "the position of a refused APDU, by hand");
     check(cuts, "a position within the bits of a cut APDU");
@@ -987,6 +1013,30 @@ static void messages(uint64_t job)
     check(invokes(n, PEAT_D_DATA_REQUEST, 0) && peat_apdu_bits(n) == 4 + 93, "a message up");
     n = peat_d_data_indication(AIR_REC, LINE, BUFFERS);
     check(told(n, PEAT_MESSAGE_INDICATION, 0, 0) && peat_data_bits(n) == 93, "it is delivered too");
+}
+
+/* a later edition adds to a message, and more octets than a buffer has: what is delivered is the message without them */
+static void later_edition(void)
+{
+    static uint8_t longer[12 + 3 + 3000], plain[PEAT_BUFFER_LEAST];
+    uint8_t text[2] = {0xA5, 0x40};
+    uint64_t n;
+    fresh();
+    opens();
+    says(air, 1, text, 10);
+    check(line_len == 12 && sizeof longer > PEAT_BUFFER_LEAST, "a message of 96 bits");
+    n = peat_d_data_indication(GROUND_REC, LINE, BUFFERS);
+    check(told(n, PEAT_MESSAGE_INDICATION, 0, 0) && peat_data_bits(n) == 93, "without additions it is delivered");
+    memcpy(plain, second, sizeof plain);
+    memcpy(longer, line, 12);
+    longer[0] |= 0x10;                                             /* the extension bit of the message data */
+    longer[12] = 0x01;                                             /* one addition, and it is there */
+    longer[13] = 0x80 | 3000 >> 8, longer[14] = 3000 & 0xFF;       /* so many octets */
+    fill(longer + 15, 3000);
+    n = peat_d_data_indication(GROUND_REC, PEAT_USER_DATA, longer, sizeof longer, BUFFERS);
+    check(told(n, PEAT_MESSAGE_INDICATION, 0, 0) && peat_data_bits(n) == 93 && memcmp(second, plain, sizeof plain) == 0, "with an addition the same is delivered");
+    n = peat_d_data_indication(GROUND_REC, PEAT_USER_DATA, longer, sizeof longer - 1, BUFFERS);
+    check(invokes(n, PEAT_D_ABORT_REQUEST, PEAT_PROVIDER) && peat_told_parameter(n) == PEAT_INVALID_PDU, "an addition that is cut is no valid PDU");
 }
 
 static void ends(void)
@@ -1123,6 +1173,7 @@ int main(int argc, char **argv)
     timer();
     jobs();
     largest();
+    later_edition();
     edges();
     known_envelopes();
     damaged_envelopes();

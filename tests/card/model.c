@@ -59,7 +59,7 @@ enum kind { MISSING, INVALID, ABORT_USER, ABORT_PROVIDER, START, SEND, FORWARD }
 struct pdu {
     enum kind kind;
     unsigned value;       /* reason or mode */
-    size_t data, data_to; /* where the message data begin and end */
+    size_t data, data_to; /* where the message data begin, with their extension bit, and their root ends */
 };
 
 struct reader reader_of(struct range in, size_t end)
@@ -128,12 +128,26 @@ static void get_string(struct reader *r, unsigned unit, size_t least, size_t mos
     skip(r, unit * n);
 }
 
+/* what a later edition added: how many there may be, which of them are there, and each with its length in octets (19.7 to 19.9) */
+static void get_additions(struct reader *r)
+{
+    unsigned n;
+    uint64_t there;
+    if (get(r, 1) == 1)
+        fault(r, EXTENSION); /* the long form of the count */
+    n = 1 + (unsigned)get_more(r, 6);
+    there = get(r, n);
+    if (there == 0)
+        fault(r, EXTENSION);
+    for (; there != 0 && !r->bad; there &= there - 1)
+        skip(r, 8 * get_length(r));
+}
+
 static void get_data(struct reader *r, struct pdu *p)
 {
-    unsigned identifier, message;
+    unsigned extended, identifier, message;
     p->data = r->at;
-    if (get(r, 1) == 1)
-        fault(r, EXTENSION);
+    extended = (unsigned)get(r, 1);
     identifier = (unsigned)get(r, 1);
     message = (unsigned)get_more(r, 1);
     if (identifier)
@@ -142,6 +156,8 @@ static void get_data(struct reader *r, struct pdu *p)
         get_string(r, 1, 0, MESSAGE_MOST);
     get_string(r, 1, 0, 64);
     p->data_to = r->at;
+    if (extended)
+        get_additions(r);
 }
 
 /* zeros up to the end of a byte, and nothing behind them */
@@ -739,7 +755,8 @@ uint64_t model_call(enum which w, struct args *a)
         put_apdu(&one, &o, r.side, a);
     if (o.data) {
         struct reader from = reader_of(a->bytes, 8 * a->bytes.len);
-        from.at = p.data;
+        from.at = p.data + 1;
+        put(&two, 0, 1); /* without additions */
         while (from.at < p.data_to)
             put(&two, get(&from, 1), 1);
     }

@@ -55,14 +55,23 @@ class Rows:
 
     # ---- an APDU
 
+    def additions(self):
+        count = self.field("count of additions", per.addition_count)
+        there = self.field("presence of additions", per.additions_there, count)
+        for _ in range(bin(there).count("1")):
+            octets = self.field("length of an addition", per.length)
+            self.field("addition", per.contents, 8, 0, octets)
+
     def data(self):
-        self.extension()
+        extended = self.field("extension bit", per.bit_field, 1)
         there = self.field("presence bits", per.bit_field, 2)
         if there & 2:
             self.string("identifier", 8, 1, 16)
         if there & 1:
             self.string("message", 1, 0, 16383)
         self.string("check", 1, 0, 64)
+        if extended:
+            self.additions()
 
     def apdu(self, side):
         self.extension()

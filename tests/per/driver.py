@@ -4,7 +4,7 @@ import struct
 import subprocess
 
 import reference
-from reference import (BIT_FIELD, CONTENTS, COPY, EXTENSION_BIT, INDEX, LENGTH, LENGTH_WITHIN, MESSAGE, SIZED, STRING, WHOLE, WRITE, Full,
+from reference import (ADDITION_COUNT, ADDITIONS, ADDITIONS_THERE, BIT_FIELD, CONTENTS, COPY, EXTENSION_BIT, INDEX, LENGTH, LENGTH_WITHIN, MESSAGE, SIZED, STRING, WHOLE, WRITE, Full,
                        Refused)
 
 HEADER = struct.Struct(">BQQQQQHH")
@@ -58,13 +58,15 @@ RANGES = ((0, 63), (1, 5), (1, 12), (1996, 2095), (0, 7), (0, 7060), (0, 25030),
           (0, 2 ** 64 - 1), (5, 2 ** 63))
 RUNS = ((7, 3, 21), (7, 3, 20), (8, 0, 0), (1, 64, 63), (8, 2 ** 60, 64), (7, 2 ** 63, 64), (64, 2 ** 58, 0), (1, 2 ** 64 - 1, 80))
 FAR_READS = ((BIT_FIELD, 2, 0, 0), (WHOLE, 0, 63, 0), (WHOLE, 0, 2 ** 64 - 1, 0), (EXTENSION_BIT, 0, 0, 0), (INDEX, 0, 236, 0),
-             (LENGTH, 0, 0, 0), (LENGTH_WITHIN, *MESSAGE, 0), (CONTENTS, 8, 0, 3), (STRING, *MESSAGE, 1), (SIZED, 4, 8, 7))
+             (LENGTH, 0, 0, 0), (LENGTH_WITHIN, *MESSAGE, 0), (CONTENTS, 8, 0, 3), (STRING, *MESSAGE, 1), (SIZED, 4, 8, 7),
+             (ADDITIONS, 0, 0, 0), (ADDITION_COUNT, 0, 0, 0), (ADDITIONS_THERE, 3, 0, 0))
 FAR_WRITES = ((WRITE + BIT_FIELD, 2, 0, 1), (WRITE + WHOLE, 0, 63, 5), (WRITE + EXTENSION_BIT, 0, 0, 0), (WRITE + INDEX, 0, 236, 9),
               (WRITE + LENGTH, 0, 0, 300), (WRITE + STRING, 1, 0, 8), (WRITE + COPY, 8, 0, 8))
 NOISY_READS = ((BIT_FIELD, 2, 0, 0), (BIT_FIELD, 7, 0, 0), (WHOLE, 0, 63, 0), (WHOLE, 1, 5, 0), (WHOLE, 1996, 2095, 0),
                (WHOLE, 0, 7060, 0), (WHOLE, 0, 2, 0), (EXTENSION_BIT, 0, 0, 0), (INDEX, 0, 3, 0), (INDEX, 0, 12, 0),
                (INDEX, 0, 236, 0), (LENGTH, 0, 0, 0), (LENGTH_WITHIN, *MESSAGE, 0), (LENGTH_WITHIN, 1, 16, 0), (CONTENTS, 7, 0, 4),
-               (STRING, 0, 64, 1), (STRING, *MESSAGE, 1), (STRING, 0, 3000, 1), (STRING, 1, 16, 8), (SIZED, 1, 256, 7), (SIZED, 4, 8, 7))
+               (STRING, 0, 64, 1), (STRING, *MESSAGE, 1), (STRING, 0, 3000, 1), (STRING, 1, 16, 8), (SIZED, 1, 256, 7), (SIZED, 4, 8, 7),
+               (ADDITIONS, 0, 0, 0), (ADDITION_COUNT, 0, 0, 0), (ADDITIONS_THERE, 2, 0, 0))
 
 
 class Maker:
@@ -152,6 +154,7 @@ class Maker:
             yield from self.number_edges(before)
             yield from self.length_edges(before)
             yield from self.index_edges(before)
+            yield from self.addition_edges(before)
         yield from self.far_places()
         yield from self.refused_values()
         yield from self.copies()
@@ -201,6 +204,30 @@ class Maker:
             yield reader("no bit", INDEX, 0, last, 0, len(before), before)
         for bit in ("0", "1", ""):
             yield reader("an extension bit", EXTENSION_BIT, 0, 0, 0, len(before), before + bit)
+
+    def addition_edges(self, before):
+        """Additions: counts at both ends, one there, some and all; each cut at every bit."""
+        at = len(before)
+        for count, there in ((1, "1"), (1, "0"), (2, "01"), (2, "10"), (2, "00"), (9, "101000000"), (64, "1" * 64), (64, "0" * 63 + "1"), (64, "0" * 64)):
+            bits = before + "0" + reference.digits(count - 1, 6)
+            yield reader("a count of additions", ADDITION_COUNT, 0, 0, 0, at, bits)
+            yield reader("additions there", ADDITIONS_THERE, count, 0, 0, len(bits), bits + there)
+            yield reader("additions there, cut", ADDITIONS_THERE, count, 0, 0, len(bits), bits + there[:-1])
+            sizes = [self.random.choice((0, 1, 2, 127)) for _ in range(there.count("1"))]
+            whole = bits + there + "".join(reference.put_length(0, 0, n, "") + self.noise(8 * n) for n in sizes)
+            yield reader("additions", ADDITIONS, 0, 0, 0, at, whole + self.noise(5))
+            cuts = range(at, len(whole)) if len(whole) - at < 200 else self.random.sample(range(at, len(whole)), 40)
+            for cut in cuts:
+                yield reader("additions, cut", ADDITIONS, 0, 0, 0, at, whole[:cut])
+        one = before + "0000000" + "1"
+        for form in ("10" + reference.digits(127, 14), "11" + "0" * 6, "10" + "1" * 14):
+            yield reader("an addition's length", ADDITIONS, 0, 0, 0, at, one + form + self.noise(1100))
+        yield reader("the longest addition", ADDITIONS, 0, 0, 0, at, one + "10" + "1" * 14 + self.noise(8 * 16383))
+        yield reader("an addition of 128 octets", ADDITIONS, 0, 0, 0, at, one + reference.put_length(0, 0, 128, "") + self.noise(8 * 128))
+        for long in ("1", "1" + "0" * 40, "1" * 80):
+            for op in (ADDITIONS, ADDITION_COUNT):
+                yield reader("the long form of a count", op, 0, 0, 0, at, before + long)
+        yield reader("none of no additions", ADDITIONS_THERE, 0, 0, 0, at, before + "11")
 
     def far_places(self):
         """A place far behind the end is SHORT or full, and no sum wraps."""

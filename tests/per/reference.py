@@ -8,7 +8,7 @@ LONGEST = 16383         # what a length in its two-byte form can say
 MESSAGE = (0, 16383)    # the bits of a CPDLC message
 
 # The ops of PROTOCOL.md. A writer's op is WRITE and the op of the reader of the same field.
-BIT_FIELD, WHOLE, EXTENSION_BIT, INDEX, LENGTH, LENGTH_WITHIN, CONTENTS, STRING, SIZED, COPY = range(1, 11)
+BIT_FIELD, WHOLE, EXTENSION_BIT, INDEX, LENGTH, LENGTH_WITHIN, CONTENTS, STRING, SIZED, COPY, ADDITIONS, ADDITION_COUNT, ADDITIONS_THERE = range(1, 14)
 WRITE = 128
 
 
@@ -92,8 +92,35 @@ def sized(bits, at, lo, hi, unit):
     return contents(bits, after, unit, 0, count)
 
 
+# ---- additions from a later edition, behind the root of an extensible SEQUENCE (X.691, 19.7 to 19.9)
+
+def addition_count(bits, at, *_):
+    """11.9.3.4: a bit 0 and one less than the count in six bits; a bit 1 begins the long form, which is refused by it alone."""
+    extension_bit(bits, at)
+    less, after = bit_field(bits, at, 7)
+    return less + 1, after
+
+
+def additions_there(bits, at, count, *_):
+    there, after = bit_field(bits, at, count)
+    if not there:
+        raise Refused(EXTENSION, at)
+    return there, after
+
+
+def additions(bits, at, *_):
+    """Each that is there is stepped over by its length in octets."""
+    count, at = addition_count(bits, at)
+    there, at = additions_there(bits, at, count)
+    for _ in range(format(there, "b").count("1")):
+        octets, at = length(bits, at)
+        _, at = contents(bits, at, 8, 0, octets)
+    return 0, at
+
+
 READERS = {BIT_FIELD: bit_field, WHOLE: whole, EXTENSION_BIT: extension_bit, INDEX: extensible_index, LENGTH: length,
-           LENGTH_WITHIN: length_within, CONTENTS: contents, STRING: string, SIZED: sized}
+           LENGTH_WITHIN: length_within, CONTENTS: contents, STRING: string, SIZED: sized, ADDITIONS: additions, ADDITION_COUNT: addition_count,
+           ADDITIONS_THERE: additions_there}
 
 
 # ---- writers: the bits that are put

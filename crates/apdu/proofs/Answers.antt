@@ -1,12 +1,12 @@
 -- Laws of the readers' answers: a refusal is handed up unchanged, a value goes on; and the ways out of each reader, as the code has them.
 -- Assumes nothing.
 use mathlib.Core.Path.{_≡_, refl, ap, sym, _∙_}
-use mathlib.Core.Bool.{Bool, true, false}
+use mathlib.Core.Bool.{Bool, true, false, cond}
 use mathlib.Core.List.{List}
 use Prim.Native.Nat.{ℕ, zero, suc, _*_, _^_, _≤_}
 use native.Mathlib.Omega.{arith}
-use borrow.Author.Tests.{leb-true, ltb-true}
-use lib.Dec.{leb, ltb}
+use borrow.Author.Tests.{eq-eqb, ne-eqb, leb-true, ltb-true}
+use lib.Dec.{leb, ltb, eqb}
 use lib.Pow.{pow-mono}
 use Rattle.words.proofs.Laws.{both-left, both-right}
 use Rattle.bits.proofs.Numbers.{Bits, length-bitsN}
@@ -18,7 +18,7 @@ use Rattle.fields.proofs.Answers.{run-is}
 use Rattle.fields.proofs.RoundTrip.{bit-field}
 use Rattle.fields.proofs.Widths.{width-within}
 use Rattle.apdu.specs.Pdus.{kindOf}
-use Rattle.apdu.specs.Reading.{onField, onData, onTaken, onLead, fieldRefusal, takenRefusal, leadRefusal, optionalAt}
+use Rattle.apdu.specs.Reading.{onField, onData, onTaken, onLead, fieldRefusal, takenRefusal, leadRefusal, optionalAt, withAdditions}
 use Rattle.apdu.specs.declared.Kind.{Kind}
 use Rattle.apdu.specs.declared.Kind.the-variants as kind
 use Rattle.apdu.specs.declared.Data.{Data}
@@ -100,3 +100,11 @@ taken-handed t u r x k p q h = ap taken.Refused (h ∙ ap takenRefusal q) ∙ ap
 
 pub taken-went : (t u o : Taken) (d : Data) (n : ℕ) (k : Data → ℕ → Taken) → t ≡ u → t ≡ taken.Is d n → o ≡ k d n → o ≡ onTaken u k
 taken-went t u o d n k p q h = h ∙ ap (λ (y : Taken). onTaken y k) (sym q ∙ p)
+
+-- ---- the extension bit of message data
+
+pub none-added : (l : List ℕ) (e : ℕ) (t u : Taken) → e ≡ 0 → t ≡ u → t ≡ cond (eqb e 0) u (withAdditions l u)
+none-added l e t u h p = rw (eq-eqb e 0 h) p
+
+pub some-added : (l : List ℕ) (e : ℕ) (o t u : Taken) → (e ≡ 0 → ⊥) → t ≡ u → o ≡ withAdditions l t → o ≡ cond (eqb e 0) u (withAdditions l u)
+some-added l e o t u h p q = rw (ne-eqb e 0 h) (q ∙ ap (withAdditions l) p)

@@ -1,4 +1,4 @@
--- APDUs as bits: what is written reads back as it was, and what is read writes back to the same bits.
+-- APDUs as bits: what is written reads back as it was, and what is read says where its fields stand.
 -- Assumes nothing.
 use mathlib.Core.Path.{_≡_, refl, ap, sym, _∙_}
 use mathlib.Core.Bool.{Bool, true, false, cond}
@@ -20,7 +20,7 @@ use Rattle.fields.proofs.RoundTrip.{Stands, stands-join, stands-split, bit-fiel
 use Rattle.fields.proofs.RoundTrip as fields
 use Rattle.apdu.specs.Sizes.{userLast, providerLast, modeLast}
 use Rattle.apdu.specs.Pdus.{Pdu, abortUser, abortProvider, start, send, forward, forwardResponse, lastOf, kindOf, indexOf, pduIn, forwarded}
-use Rattle.apdu.specs.Encoding.{contentBits, contentFits, modeBits, modeFits, pduBits, pduFits}
+use Rattle.apdu.specs.Encoding.{alternative, contentBits, contentFits, modeBits, modeFits, pduBits, pduFits}
 use Rattle.apdu.specs.Reading.{onField, onData, onLead, dataAt, modeValue, modeAt, kindMode, leadingAt, tailAt, endedAt, restWithin, restAt, apduWithin, apduAt}
 use Rattle.apdu.specs.Writing.{apduShaped}
 use Rattle.apdu.specs.declared.Side.{Side}
@@ -37,7 +37,7 @@ use Rattle.apdu.specs.declared.Lead.the-variants as lead
 use Rattle.apdu.specs.declared.Answer.{Answer}
 use Rattle.apdu.specs.declared.Answer.the-variants as answer
 use Rattle.apdu.proofs.Bounds.{never}
-use Rattle.apdu.proofs.Contents.{stands-at, stands-none, via, data-written, data-read}
+use Rattle.apdu.proofs.Contents.{stands-at, stands-none, via, data-written, DataIs, data-read}
 
 -- ---- the mode of a start
 
@@ -194,12 +194,27 @@ tail-refused side l at m v r h s t =
 
 -- ---- an APDU, read and written
 
+-- message data behind the bits that lead to it
+pub record Led (l : List ℕ) (at next : ℕ) (d : Data) (bs : List ℕ) : Type 0 where
+  pub place : ℕ
+  pub lead : Stands l at bs place
+  pub held : DataIs l place next d
+
+-- the fields of an APDU stand at a place, up to where the tail begins
+abbrev pub Standing : Side → List ℕ → ℕ → ℕ → Apdu → Type 0
+Standing side l at next (apdu.AbortUser r) = Stands l at (alternative side kind.AbortUser ++ indexBits userLast r) next
+Standing side l at next (apdu.AbortProvider r) = Stands l at (alternative side kind.AbortProvider ++ indexBits providerLast r) next
+Standing side l at next (apdu.Start m d) = Led l at next d (alternative side kind.Start ++ modeBits side m)
+Standing side l at next (apdu.Send d) = Led l at next d (alternative side kind.Send)
+Standing side l at next apdu.Forward = ⊥
+Standing side l at next apdu.ForwardResponse = ⊥
+
 pub record ApduIs (side : Side) (l : List ℕ) (at : ℕ) (a : Apdu) : Type 0 where
   pub place : ℕ
   pub left : ℕ
   pub end : ℕ
   pub shaped : apduShaped side l l l a ≡ true
-  pub stands : Stands l at (pduBits side (pduIn l l l a)) place
+  pub stands : Standing side l at place a
   pub tail : tailAt l place ≡ Value left end
 
 refused-not : (R : Type 0) (a : Apdu) (r : Refusal) → answer.Refused r ≡ answer.Is a → R
@@ -268,45 +283,59 @@ lead-read side l at c m next b e = via (LeadIs side l at c m next) lead.Refused 
 -- what follows each alternative
 pub record Stood (side : Side) (l : List ℕ) (at : ℕ) (a : Apdu) (next : ℕ) : Type 0 where
   pub shaped : apduShaped side l l l a ≡ true
-  pub stands : Stands l at (pduBits side (pduIn l l l a)) next
+  pub stands : Standing side l at next a
 
 ended-read : (side : Side) (l : List ℕ) (at n : ℕ) (a b : Apdu) → Stood side l at b n → endedAt l n b ≡ answer.Is a → ApduIs side l at a
 ended-read side l at n a b u k =
     let e = ended-is l n a b k in
     rw (← e .same) (record { place = n; left = e .left; end = e .end; shaped = u .shaped; stands = u .stands; tail = e .tail })
 
-pub abort-stood : (side : Side) (l : List ℕ) (at p n r i most : ℕ) (b : Apdu) → Bits l → most < 2 ^ 64 → Stands l at (indexBits (lastOf side) i) p → extensibleIndex l p most ≡ Value r n
-    → apduShaped side l l l b ≡ wholeFits 0 most r → pduBits side (pduIn l l l b) ≡ indexBits (lastOf side) i ++ indexBits most r → Stood side l at b n
-abort-stood side l at p n r i most b h lt s f x y =
-    let t = stands-join l at p n _ _ s (extensible-index most lt .read-written l p r n h f) in
-    record { shaped = x ∙ extensible-index most lt .read-fits l p r n h f; stands = rw y t }
+record ReasonIs (l : List ℕ) (at n r most : ℕ) (bs : List ℕ) : Type 0 where
+  fits : wholeFits 0 most r ≡ true
+  stands : Stands l at (bs ++ indexBits most r) n
+
+reason-is : (l : List ℕ) (at p n r most : ℕ) (bs : List ℕ) → Bits l → most < 2 ^ 64 → Stands l at bs p → extensibleIndex l p most ≡ Value r n → ReasonIs l at n r most bs
+reason-is l at p n r most bs h lt s f =
+    record { fits = extensible-index most lt .read-fits l p r n h f; stands = stands-join l at p n bs (indexBits most r) s (extensible-index most lt .read-written l p r n h f) }
+
+pub user-stood : (side : Side) (l : List ℕ) (at p n r : ℕ) → Bits l → Stands l at (indexBits (lastOf side) 0) p → extensibleIndex l p userLast ≡ Value r n → Stood side l at (apdu.AbortUser r) n
+unfolding apduShaped
+user-stood side l at p n r b s f =
+    let i = reason-is l at p n r userLast (indexBits (lastOf side) 0) b (omega arith) s f in
+    record { shaped = i .fits; stands = i .stands }
+
+pub provider-stood : (side : Side) (l : List ℕ) (at p n r : ℕ) → Bits l → Stands l at (indexBits (lastOf side) 1) p → extensibleIndex l p providerLast ≡ Value r n → Stood side l at (apdu.AbortProvider r) n
+unfolding apduShaped
+provider-stood side l at p n r b s f =
+    let i = reason-is l at p n r providerLast (indexBits (lastOf side) 1) b (omega arith) s f in
+    record { shaped = i .fits; stands = i .stands }
 
 pub start-stood : (side : Side) (l : List ℕ) (at p q n m : ℕ) (d : Data) → Bits l → Stands l at (indexBits (lastOf side) 2) p → modeAt side l p ≡ Value m q → dataAt l q ≡ taken.Is d n → Stood side l at (apdu.Start m d) n
-unfolding apduShaped pduBits pduIn
+unfolding apduShaped
 start-stood side l at p q n m d b s f g =
     let sp = s .place in
     let sw = s .within in
     let v = mode-read side l p m q b (omega arith) f in
     let w = data-read l q n d b g in
-    record { shaped = rw (v .fits) (w .shaped); stands = stands-join l at p n _ _ s (stands-join l p q n _ _ (v .stands) (w .stands)) }
+    record { shaped = rw (v .fits) (w .shaped); stands = record { place = q; lead = stands-join l at p q _ _ s (v .stands); held = w } }
 
 pub send-stood : (side : Side) (l : List ℕ) (at p n : ℕ) (d : Data) → Bits l → Stands l at (indexBits (lastOf side) 3) p → dataAt l p ≡ taken.Is d n → Stood side l at (apdu.Send d) n
-unfolding apduShaped pduBits pduIn
+unfolding apduShaped
 send-stood side l at p n d b s g =
     let w = data-read l p n d b g in
-    record { shaped = w .shaped; stands = stands-join l at p n _ _ s (w .stands) }
+    record { shaped = w .shaped; stands = record { place = p; lead = s; held = w } }
 
 pub value-place : (p m q : ℕ) → Value 0 p ≡ Value m q → p ≡ q
 value-place p m q e = cc
 
 rest-read : (side : Side) (l : List ℕ) (at p : ℕ) (c : Kind) (m q : ℕ) (a : Apdu) → Bits l → forwarded a ≡ false → Stands l at (indexBits (lastOf side) (indexOf c)) p → kindMode side l c p ≡ Value m q → restAt l c m q ≡ answer.Is a → ApduIs side l at a
-unfolding kindMode restWithin forwarded apduShaped pduBits pduIn
+unfolding kindMode restWithin forwarded
 rest-read side l at p kind.AbortUser m q a b h s f k =
     via (ApduIs side l at a) answer.Refused (answer.Is a) (refused-not (ApduIs side l at a) a) (extensibleIndex l q userLast) _
-    (λ (r n : ℕ) (g : extensibleIndex l q userLast ≡ Value r n) (e : endedAt l n (apdu.AbortUser r) ≡ answer.Is a). ended-read side l at n a (apdu.AbortUser r) (abort-stood side l at q n r 0 userLast (apdu.AbortUser r) b (omega arith) (stands-at l at p q _ (value-place p m q f) s) g refl refl) e) k
+    (λ (r n : ℕ) (g : extensibleIndex l q userLast ≡ Value r n) (e : endedAt l n (apdu.AbortUser r) ≡ answer.Is a). ended-read side l at n a (apdu.AbortUser r) (user-stood side l at q n r b (stands-at l at p q _ (value-place p m q f) s) g) e) k
 rest-read side l at p kind.AbortProvider m q a b h s f k =
     via (ApduIs side l at a) answer.Refused (answer.Is a) (refused-not (ApduIs side l at a) a) (extensibleIndex l q providerLast) _
-    (λ (r n : ℕ) (g : extensibleIndex l q providerLast ≡ Value r n) (e : endedAt l n (apdu.AbortProvider r) ≡ answer.Is a). ended-read side l at n a (apdu.AbortProvider r) (abort-stood side l at q n r 1 providerLast (apdu.AbortProvider r) b (omega arith) (stands-at l at p q _ (value-place p m q f) s) g refl refl) e) k
+    (λ (r n : ℕ) (g : extensibleIndex l q providerLast ≡ Value r n) (e : endedAt l n (apdu.AbortProvider r) ≡ answer.Is a). ended-read side l at n a (apdu.AbortProvider r) (provider-stood side l at q n r b (stands-at l at p q _ (value-place p m q f) s) g) e) k
 rest-read side l at p kind.Start m q a b h s f k =
     via-data (ApduIs side l at a) a (dataAt l q) _ (λ (d : Data) (n : ℕ) (g : dataAt l q ≡ taken.Is d n) (e : endedAt l n (apdu.Start m d) ≡ answer.Is a). ended-read side l at n a (apdu.Start m d) (start-stood side l at p q n m d b s f g) e) k
 rest-read side l at p kind.Send m q a b h s f k =

@@ -1,30 +1,35 @@
--- Message data: what is written reads back as it was, and what is read writes back to the same bits.
+-- Message data: what is written reads back as it was, and what is read says what stands there: the root, and additions or none behind it.
 -- Assumes nothing.
-use mathlib.Core.Path.{_≡_, refl, ap, sym, _∙_}
+use mathlib.Core.Path.{_≡_, refl, ap, sym, subst, _∙_}
 use mathlib.Core.Bool.{Bool, true, false, cond, _&&_}
 use mathlib.Core.List.{List, [], _++_}
 use Prim.Native.Nat.{ℕ, zero, suc, _+_, _-_, _*_, _/_, _%_, _^_, _≤_, _<_}
 use native.Mathlib.Omega.{arith}
 use borrow.Author.Tests.{ltb-true, eqb-true}
 use lib.Dec.{leb, ltb, eqb}
-use lib.ListN.{length, take, drop}
+use lib.ListN.{length, take, drop, getD}
+use lib.Seq.{getD-take, getD-drop}
 use Rattle.words.proofs.Laws.{both-left, both-right}
 use Rattle.bits.specs.Bits.{bitsN}
-use Rattle.bits.proofs.Numbers.{Bits}
-use Rattle.fields.specs.Fields.{bitField, extensionBit, stringAt}
+use Rattle.bits.proofs.Numbers.{Bits, bitsN-suc, length-bitsN}
+use Rattle.fields.specs.Additions.{additionsAt}
+use Rattle.fields.specs.Fields.{bitField, stringAt}
 use Rattle.fields.specs.Encodings.{bitsFit, lengthBits, withinFits}
 use Rattle.fields.specs.declared.Refusal.{Refusal}
 use Rattle.fields.specs.declared.Field.{Field}
 use Rattle.fields.specs.declared.Field.the-variants.{Value, Refused}
-use Rattle.fields.proofs.RoundTrip.{Stands, stands-join, stands-split, bit-field, extension-bit, string-read, string-written}
+use Rattle.fields.proofs.RoundTrip.{Stands, stands-join, stands-split, bit-field, string-read, string-written}
 use Rattle.apdu.specs.Sizes.{identifierLeast, identifierMost, messageMost, checkMost, octet, bit}
 use Rattle.apdu.specs.Pdus.{Optional, absent, given, Content, itemsIn, partIn, contentIn}
-use Rattle.apdu.specs.Encoding.{stringBits, stringFits, optionalBits, optionalFits, presence, contentBits, contentFits}
-use Rattle.apdu.specs.Reading.{onField, spanTo, partAt, optionalAt, partsWithin, partsAt, dataWithin, dataAt}
+use Rattle.apdu.specs.Encoding.{stringBits, stringFits, optionalBits, optionalFits, presence, rootBits, contentBits, contentFits}
+use Rattle.apdu.specs.Reading.{onField, onTaken, spanTo, partAt, optionalAt, partsWithin, partsAt, withAdditions, dataWithin, dataAt}
+use Rattle.apdu.specs.Stripped.{rootEnd}
 use Rattle.apdu.specs.Writing.{itemsShaped, partShaped, dataShaped}
 use Rattle.apdu.specs.declared.Part.{Part}
 use Rattle.apdu.specs.declared.Data.{Data}
+use Rattle.apdu.specs.declared.Taken.{Taken}
 use Rattle.apdu.specs.declared.Taken.the-variants as taken
+use Rattle.apdu.proofs.Answers.{string-room}
 use Rattle.apdu.proofs.Bounds.{never, shaped-is, string-is}
 
 -- bits that stand at a place, at another name for the place after them
@@ -151,7 +156,7 @@ data-written l at next c h s =
     let s₂ = stands-split l p₁ next (bitsN 2 v) (optionalBits octet (c .identifier) ++ (optionalBits bit (c .message) ++ stringBits bit (c .check))) (s₁ .second) in
     let s₃ = stands-split l p₂ next (optionalBits octet (c .identifier)) (optionalBits bit (c .message) ++ stringBits bit (c .check)) (s₂ .second) in
     let s₄ = stands-split l p₃ next (optionalBits bit (c .message)) (stringBits bit (c .check)) (s₃ .second) in
-    let a = extension-bit .written-read l at 0 p₁ refl (s₁ .first) in
+    let a = bit-field 1 .written-read l at 0 p₁ refl (s₁ .first) in
     let b = bit-field 2 .written-read l p₁ v p₂ (presence-fits (c .identifier) (c .message)) (s₂ .first) in
     let x = optional-written l p₂ p₃ octet identifierLeast identifierMost (c .identifier) (both-left fi fm f) (s₃ .first) in
     let y = optional-written l p₃ p₄ bit 0 messageMost (c .message) (both-right fi fm f) (s₄ .first) in
@@ -177,14 +182,11 @@ two-bits (suc (suc zero)) h = refl
 two-bits (suc (suc (suc zero))) h = refl
 two-bits (suc (suc (suc (suc v)))) h = absurd (omega arith)
 
-pub record DataIs (l : List ℕ) (at next : ℕ) (d : Data) : Type 0 where
-  pub shaped : dataShaped l l l d ≡ true
-  pub stands : Stands l at (contentBits (contentIn l l l d)) next
-
 record PartsIs (l : List ℕ) (at next : ℕ) (i m : Bool) (d : Data) : Type 0 where
   shaped : dataShaped l l l d ≡ true
   stands : Stands l at (optionalBits octet (partIn l octet (d .identifier)) ++ (optionalBits bit (partIn l bit (d .message)) ++ stringBits bit (itemsIn l bit (d .check)))) next
   bits : 2 * presence (partIn l octet (d .identifier)) + presence (partIn l bit (d .message)) ≡ 2 * cond i 1 0 + cond m 1 0
+  end : rootEnd d ≡ next
 
 parts-made : (l : List ℕ) (at p q next n₁ n₂ n₃ : ℕ) (i m : Bool) → Bits l → at ≤ length l → optionalAt l i at octet identifierLeast identifierMost ≡ Value n₁ p → optionalAt l m p bit 0 messageMost ≡ Value n₂ q
     → stringAt l q bit 0 checkMost ≡ Value n₃ next → PartsIs l at next i m (record { identifier = partAt i octet n₁ p; message = partAt m bit n₂ q; check = spanTo bit n₃ next })
@@ -196,10 +198,12 @@ parts-made l at p q next n₁ n₂ n₃ i m b h x y z =
     let xw = xs .within in
     let Y = optional-read l p q bit 0 messageMost n₂ m b (omega arith) (omega arith) y in
     let Z = items-read l q next bit 0 checkMost n₃ b (omega arith) z in
+    let room = string-room l q bit 0 checkMost n₃ next z in
     record {
       shaped = rw (X .shaped, Y .shaped) (Z .shaped);
       stands = stands-join l at p next _ _ (X .stands) (stands-join l p q next _ _ (Y .stands) (Z .stands));
       bits = rw (X .bit, Y .bit);
+      end = omega arith;
     }
 
 parts-read : (l : List ℕ) (at next : ℕ) (i m : Bool) (d : Data) → Bits l → at ≤ length l → partsAt l at i m ≡ taken.Is d next → PartsIs l at next i m d
@@ -222,25 +226,99 @@ parts-read l at next i m d b h e = via (PartsIs l at next i m d) taken.Refused (
         → PartsIs l at next i m d
     first n₁ p x w = via (PartsIs l at next i m d) taken.Refused (taken.Is d next) (refused-not (PartsIs l at next i m d) d next) (optionalAt l m p bit 0 messageMost) _ (second n₁ p x) w
 
-data-made : (l : List ℕ) (at p q next v : ℕ) (d : Data) → v < 4 → Stands l at (bitsN 1 0) p → Stands l p (bitsN 2 v) q → PartsIs l q next (leb 2 v) (eqb (v % 2) 1) d → DataIs l at next d
-unfolding contentBits contentIn
-data-made l at p q next v d h s t i =
-    let e = i .bits ∙ two-bits v h in
-    let u : Stands l p (bitsN 2 (2 * presence (partIn l octet (d .identifier)) + presence (partIn l bit (d .message)))) q = rw e t in
-    record { shaped = i .shaped; stands = stands-join l at p next (bitsN 1 0) _ s (stands-join l p q next _ _ u (i .stands)) }
+-- What was read says: it is within the sizes; the extension bit, `mark`, stands first; the root stands behind it; and behind the root nothing, or additions.
+pub record DataIs (l : List ℕ) (at next : ℕ) (d : Data) : Type 0 where
+  pub shaped : dataShaped l l l d ≡ true
+  pub mark : ℕ
+  pub low : mark < 2
+  pub extension : Stands l at (bitsN 1 mark) (at + 1)
+  pub root : Stands l (at + 1) (rootBits (contentIn l l l d)) (rootEnd d)
+  pub added : ℕ
+  pub behind : cond (eqb mark 0) (Value 0 (rootEnd d)) (additionsAt l (rootEnd d)) ≡ Value added next
+
+-- a bit that stands at a place
+bit-there : (l : List ℕ) (at b next : ℕ) → b < 2 → Stands l at (bitsN 1 b) next → getD l at 0 ≡ b
+bit-there l at b next h s =
+    let z : at + 0 ≡ at = omega arith in
+    let k : take 1 (drop at l) ≡ bitsN 1 b = rw (length-bitsN 1 b) at (s .holds) in
+    let one : getD (bitsN 1 b) 0 0 ≡ b / 2 ^ 0 % 2 = ap (λ (x : List ℕ). getD x 0 0) (bitsN-suc 0 b) in
+    ap (λ (p : ℕ). getD l p 0) (sym z) ∙ sym (getD-drop at l 0 0) ∙ sym (getD-take 1 (drop at l) 0 0 (omega arith)) ∙ ap (λ (x : List ℕ). getD x 0 0) k ∙ one ∙ low
+  where
+    low : b / 2 ^ 0 % 2 ≡ b
+    low = omega arith
+
+-- the extension bit is the bit at the place
+pub data-mark : (l : List ℕ) (at next : ℕ) (d : Data) (i : DataIs l at next d) → getD l at 0 ≡ i .mark
+data-mark l at next d i = bit-there l at (i .mark) (at + 1) (i .low) (i .extension)
+
+-- without additions the encoding stands there
+pub data-plain : (l : List ℕ) (at next : ℕ) (d : Data) (i : DataIs l at next d) → i .mark ≡ 0 → Stands l at (contentBits (contentIn l l l d)) next
+unfolding contentBits
+data-plain l at next d i z =
+    let x = i .behind in
+    let y : Value 0 (rootEnd d) ≡ Value (i .added) next = rw (z) at x in
+    let e : rootEnd d ≡ next = cc in
+    let w : Stands l at (bitsN 1 0) (at + 1) = subst (λ (m : ℕ). Stands l at (bitsN 1 m) (at + 1)) z (i .extension) in
+    stands-at l at (rootEnd d) next _ e (stands-join l at (at + 1) (rootEnd d) (bitsN 1 0) (rootBits (contentIn l l l d)) w (i .root))
+
+data-made : (l : List ℕ) (at p q v e next n added : ℕ) (d : Data) → v < 4 → e < 2 → Stands l at (bitsN 1 e) p → Stands l p (bitsN 2 v) q → PartsIs l q n (leb 2 v) (eqb (v % 2) 1) d
+    → cond (eqb e 0) (Value 0 n) (additionsAt l n) ≡ Value added next → DataIs l at next d
+unfolding contentIn
+data-made l at p q v e next n added d h low s t i k =
+    let c = i .bits ∙ two-bits v h in
+    let u : Stands l p (bitsN 2 (2 * presence (partIn l octet (d .identifier)) + presence (partIn l bit (d .message)))) q = rw c t in
+    let w = stands-join l p q n _ _ u (i .stands) in
+    let f : n ≡ rootEnd d = sym (i .end) in
+    let a : p ≡ at + 1 = s .place ∙ ap (λ (x : ℕ). at + x) (length-bitsN 1 e) in
+    record {
+      shaped = i .shaped;
+      mark = e;
+      low = low;
+      extension = stands-at l at p (at + 1) (bitsN 1 e) a s;
+      root = subst (λ (x : ℕ). Stands l x (rootBits (contentIn l l l d)) (rootEnd d)) a (stands-at l p n (rootEnd d) _ f w);
+      added = added;
+      behind = subst (λ (x : ℕ). cond (eqb e 0) (Value 0 x) (additionsAt l x) ≡ Value added next) f k;
+    }
+
+-- the two ways behind the fields
+pub record Behind (l : List ℕ) (e next : ℕ) (t : Taken) (d : Data) : Type 0 where
+  pub place : ℕ
+  pub added : ℕ
+  pub parts : t ≡ taken.Is d place
+  pub rest : cond (eqb e 0) (Value 0 place) (additionsAt l place) ≡ Value added next
+
+pub behind-read : (l : List ℕ) (e next : ℕ) (t : Taken) (d : Data) → cond (eqb e 0) t (withAdditions l t) ≡ taken.Is d next → Behind l e next t d
+unfolding withAdditions
+behind-read l e next t d k = by (eqb e 0) refl t refl k
+  where
+    more : (x : Bool) → eqb e 0 ≡ x → x ≡ false → (f : Data) (n : ℕ) → t ≡ taken.Is f n → (z : Field) → additionsAt l n ≡ z → onField taken.Refused z (λ (v after : ℕ). taken.Is f after) ≡ taken.Is d next → Behind l e next t d
+    more x p q f n u (Value v after) y w =
+        let a : f ≡ d = cc in
+        let b : after ≡ next = cc in
+        record { place = n; added = v; parts = u ∙ ap (λ (g : Data). taken.Is g n) a; rest = rw (p, q) (y ∙ ap (Value v) b) }
+    more x p q f n u (Refused r) y w = never (cc)
+
+    by : (x : Bool) → eqb e 0 ≡ x → (u : Taken) → t ≡ u → cond x u (onTaken u (λ (f : Data) (n : ℕ). onField taken.Refused (additionsAt l n) (λ (v after : ℕ). taken.Is f after))) ≡ taken.Is d next → Behind l e next t d
+    by true p u q w = record { place = next; added = 0; parts = q ∙ w; rest = rw p }
+    by false p (taken.Is f n) q w = more false p refl f n q (additionsAt l n) refl w
+    by false p (taken.Refused r) q w = never (cc)
 
 pub data-read : (l : List ℕ) (at next : ℕ) (d : Data) → Bits l → dataAt l at ≡ taken.Is d next → DataIs l at next d
 unfolding dataWithin
-data-read l at next d b e = via (DataIs l at next d) taken.Refused (taken.Is d next) (refused-not (DataIs l at next d) d next) (extensionBit l at) _ first e
+data-read l at next d b e = via (DataIs l at next d) taken.Refused (taken.Is d next) (refused-not (DataIs l at next d) d next) (bitField l at 1) _ first e
   where
-    second : (x p : ℕ) → extensionBit l at ≡ Value x p → (v q : ℕ) → bitField l p 2 ≡ Value v q → partsAt l q (leb 2 v) (eqb (v % 2) 1) ≡ taken.Is d next → DataIs l at next d
+    second : (x p : ℕ) → bitField l at 1 ≡ Value x p → (v q : ℕ) → bitField l p 2 ≡ Value v q
+        → cond (eqb x 0) (partsAt l q (leb 2 v) (eqb (v % 2) 1)) (withAdditions l (partsAt l q (leb 2 v) (eqb (v % 2) 1))) ≡ taken.Is d next → DataIs l at next d
     second x p f v q g w =
-        let s = extension-bit .read-written l at x p b f in
+        let s = bit-field 1 .read-written l at x p b f in
         let t = bit-field 2 .read-written l p v q b g in
         let tp = t .place in
         let tw = t .within in
-        let lt : v < 2 ^ 2 = ltb-true v (2 ^ 2) (both-right (leb 2 64) (ltb v (2 ^ 2)) (bit-field 2 .read-fits l p v q b g)) in
-        data-made l at p q next v d (omega arith) s t (parts-read l q next (leb 2 v) (eqb (v % 2) 1) d b (omega arith) w)
+        let one : x < 2 ^ 1 = ltb-true x (2 ^ 1) (both-right (leb 1 64) (ltb x (2 ^ 1)) (bit-field 1 .read-fits l at x p b f)) in
+        let two : v < 2 ^ 2 = ltb-true v (2 ^ 2) (both-right (leb 2 64) (ltb v (2 ^ 2)) (bit-field 2 .read-fits l p v q b g)) in
+        let k = behind-read l x next (partsAt l q (leb 2 v) (eqb (v % 2) 1)) d w in
+        data-made l at p q v x next (k .place) (k .added) d (omega arith) (omega arith) s t (parts-read l q (k .place) (leb 2 v) (eqb (v % 2) 1) d b (omega arith) (k .parts)) (k .rest)
 
-    first : (x p : ℕ) → extensionBit l at ≡ Value x p → onField taken.Refused (bitField l p 2) (λ (v q : ℕ). partsAt l q (leb 2 v) (eqb (v % 2) 1)) ≡ taken.Is d next → DataIs l at next d
+    first : (x p : ℕ) → bitField l at 1 ≡ Value x p
+        → onField taken.Refused (bitField l p 2) (λ (v q : ℕ). cond (eqb x 0) (partsAt l q (leb 2 v) (eqb (v % 2) 1)) (withAdditions l (partsAt l q (leb 2 v) (eqb (v % 2) 1)))) ≡ taken.Is d next → DataIs l at next d
     first x p f w = via (DataIs l at next d) taken.Refused (taken.Is d next) (refused-not (DataIs l at next d) d next) (bitField l p 2) _ (second x p f) w

@@ -6,4 +6,7 @@ pub mod Contents
 pub mod Apdus
 pub mod Octets
 pub mod Theorems
+pub mod Former
+pub mod Spared
 pub mod Order
+pub mod Twelve

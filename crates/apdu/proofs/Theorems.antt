@@ -1,15 +1,15 @@
--- What holds of the definitions that the contracts cite: reading what was written gives the value, writing what was read gives the same bytes, what is
--- accepted is what is written, what a user is delivered are bits of the APDU, and how large an APDU is.
+-- What holds of the definitions that the contracts cite: reading what was written gives the value; writing what was read gives the same bytes, or, where
+-- it has additions from a later edition, the APDU with the additions gone, which is read as the same value; what a user is delivered; how large an APDU is.
 -- Assumes nothing.
-use mathlib.Core.Path.{_≡_, refl, ap, sym, _∙_}
+use mathlib.Core.Path.{_≡_, refl, ap, sym, subst, _∙_}
 use mathlib.Core.Bool.{Bool, true, false, cond}
-use mathlib.Core.List.{List, [], _++_}
+use mathlib.Core.List.{List, [], _++_, append-assoc}
 use Prim.Native.Nat.{ℕ, _+_, _-_, _*_, _/_, _^_, _≤_, _<_}
 use native.Mathlib.Omega.{arith}
-use borrow.Author.Tests.{le-leb, lt-leb, le-ltb, lt-ltb, leb-false, eqb-true}
+use borrow.Author.Tests.{le-leb, lt-leb, le-ltb, lt-ltb, leb-false, eqb-true, eqb-false}
 use lib.Dec.{leb, eqb}
-use lib.ListN.{length, take, drop, replicate, length-append}
-use lib.Seq.{take-at, drop-at, take-length, length-take-le}
+use lib.ListN.{length, take, drop, getD, replicate, length-append, List·getD-append}
+use lib.Seq.{take-at, drop-at, take-length, length-take-le, getD-append-add}
 use lib.Pow.{pow-pos}
 use Rattle.bits.specs.Bits.{bitsN, bitsOf}
 use Rattle.bits.specs.Put.{putBits}
@@ -27,11 +27,13 @@ use Rattle.fields.proofs.RoundTrip.{Stands, stands-join, stands-split, bit-fiel
 use Rattle.fields.proofs.RoundTrip as fields
 use Rattle.apdu.specs.Sizes.{bufferLeast, allBits, octet, bit, identifierMost, messageMost, checkMost, modeLast, userLast, providerLast}
 use Rattle.apdu.specs.Pdus.{given, Content, Pdu, start, lastOf, lent, itemsIn, partIn, contentIn, pduIn, forwarded}
-use Rattle.apdu.specs.Encoding.{stringBits, optionalBits, optionalFits, presence, contentBits, contentFits, modeBits, modeFits, pduBits, pduFits, padding, padded, bytesFor}
-use Rattle.apdu.specs.Reading.{onField, onTaken, kindMode, leadingAt, restWithin, tailAt, apduWithin, apduAt, dataAt, wholeWithin, wholeData}
+use Rattle.apdu.specs.Encoding.{stringBits, optionalBits, optionalFits, presence, alternative, rootBits, contentBits, contentFits, modeBits, modeFits, pduBits, pduFits, padding, padded, bytesFor}
+use Rattle.apdu.specs.Reading.{onField, onTaken, kindMode, leadingAt, restWithin, restAt, tailAt, apduWithin, apduAt, dataAt, wholeWithin, wholeData}
+use Rattle.apdu.specs.Stripped.{rootEnd, stripAt, strip, extended}
 use Rattle.apdu.specs.Writing.{apduShaped, done, writeOut}
 use Rattle.apdu.specs.declared.Side.{Side}
 use Rattle.apdu.specs.declared.Side.the-variants.{Air, Ground}
+use Rattle.apdu.specs.declared.Kind.the-variants as kind
 use Rattle.apdu.specs.declared.Span.{Span}
 use Rattle.apdu.specs.declared.Part.{Part}
 use Rattle.apdu.specs.declared.Part.the-variants.{Absent, Given}
@@ -41,8 +43,8 @@ use Rattle.apdu.specs.declared.Apdu.the-variants as apdu
 use Rattle.apdu.specs.declared.Answer.the-variants as answer
 use Rattle.apdu.specs.declared.Written.the-variants as written
 use Rattle.apdu.proofs.Bounds.{never, apdu-fit, content-most, pduMost, pdu-most, width, length-alternative}
-use Rattle.apdu.proofs.Contents.{DataIs, data-written, data-read}
-use Rattle.apdu.proofs.Apdus.{ApduRead, apdu-written, apdu-read}
+use Rattle.apdu.proofs.Contents.{DataIs, data-mark, data-plain, data-written, data-read}
+use Rattle.apdu.proofs.Apdus.{ApduRead, Led, Standing, apdu-written, apdu-read}
 use Rattle.apdu.proofs.Octets.{all-bits, put-bytes, front-bits}
 
 -- ---- whole bytes
@@ -230,6 +232,16 @@ tail-is l at v next b e = fields.via (TailIs l at next) (bitField l at (padding 
     found : (w m : ℕ) → bitField l at (padding at) ≡ Value w m → cond (eqb w 0) (cond (leb (m + 1) (length l)) (refusedAt m Tail) (Value 0 m)) (refusedAt (m - widthOf w) Tail) ≡ Value v next → TailIs l at next
     found w m f k = go w m f (eqb w 0) refl k
 
+-- the first bit of message data, behind other bits and padded, is 0
+first-clear : (bs : List ℕ) (c : Content) → getD (padded (bs ++ contentBits c)) (length bs) 0 ≡ 0
+unfolding padded contentBits bitsN
+first-clear bs c =
+    let n = length-append bs (bitsN 1 0 ++ rootBits c) in
+    let m = length-append (bitsN 1 0) (rootBits c) in
+    let z : length bs + 0 ≡ length bs = omega arith in
+    List·getD-append (bs ++ (bitsN 1 0 ++ rootBits c)) (bitsN (padding (length (bs ++ (bitsN 1 0 ++ rootBits c)))) 0) 0 (length bs) (omega (arith, length-bitsN 1 0))
+    ∙ ap (λ (p : ℕ). getD (bs ++ (bitsN 1 0 ++ rootBits c)) p 0) (sym z) ∙ getD-append-add bs (bitsN 1 0 ++ rootBits c) 0 0
+
 all-of : (l bs : List ℕ) (next : ℕ) → Stands l 0 bs next → length l ≤ next → l ≡ bs
 all-of l bs next s h =
     let p = s .place in
@@ -237,53 +249,160 @@ all-of l bs next s h =
     let n : length bs ≡ length l = omega arith in
     sym (take-length l) ∙ rw (← n) (s .holds)
 
--- Bits that are read as an APDU, a forward APDU apart, are the padded encoding of its value, which is within the sizes.
+ended-whole : (l bs : List ℕ) (place left end : ℕ) → Bits l → Stands l 0 bs place → tailAt l place ≡ Value left end → l ≡ padded bs
+unfolding padded
+ended-whole l bs place left end b s t =
+    let p : place ≡ length bs = omega (arith, s .place) in
+    let i = tail-is l place left end b t in
+    all-of l (bs ++ bitsN (padding place) 0) end (stands-join l 0 place end bs (bitsN (padding place) 0) s (i .stands)) (i .end) ∙ ap (λ (n : ℕ). bs ++ bitsN (padding n) 0) p
+
+-- ---- message data behind the bits that lead to it
+
+module _ (l bs : List ℕ) (next : ℕ) (d : Data) (i : Led l 0 next d bs) where
+  led-place : i .place ≡ length bs
+  led-place = omega (arith, i .lead .place)
+
+  led-root : Stands l (length bs + 1) (rootBits (contentIn l l l d)) (rootEnd d)
+  led-root = subst (λ (p : ℕ). Stands l (p + 1) (rootBits (contentIn l l l d)) (rootEnd d)) led-place (i .held .root)
+
+  -- the root's bits, as many as there are from the extension bit to the check's end
+  led-kept : take (rootEnd d - (length bs + 1)) (drop (length bs + 1) l) ≡ rootBits (contentIn l l l d)
+  led-kept =
+      let n : rootEnd d - (length bs + 1) ≡ length (rootBits (contentIn l l l d)) = omega (arith, led-root .place) in
+      ap (λ (k : ℕ). take k (drop (length bs + 1) l)) n ∙ led-root .holds
+
+  led-content : contentBits (contentIn l l l d) ≡ bitsN 1 0 ++ take (rootEnd d - (length bs + 1)) (drop (length bs + 1) l)
+  unfolding contentBits
+  led-content = ap (λ (r : List ℕ). bitsN 1 0 ++ r) (sym led-kept)
+
+  led-strip : stripAt l (length bs) d ≡ padded (bs ++ contentBits (contentIn l l l d))
+  unfolding stripAt
+  led-strip = rw (i .lead .holds, ← led-content)
+
+  led-plain : i .held .mark ≡ 0 → Stands l 0 (bs ++ contentBits (contentIn l l l d)) next
+  led-plain z = stands-join l 0 (i .place) next bs _ (i .lead) (data-plain l (i .place) next d (i .held) z)
+
+  led-mark : getD l (length bs) 0 ≡ i .held .mark
+  led-mark = ap (λ (p : ℕ). getD l p 0) (sym led-place) ∙ data-mark l (i .place) next d (i .held)
+
+  led-unmarked : eqb (getD l (length bs) 0) 1 ≡ false → i .held .mark ≡ 0
+  led-unmarked e =
+      let n = eqb-false (getD l (length bs) 0) 1 e in
+      let m = led-mark in
+      let k = i .held .low in
+      omega arith
+
+  -- with the additions gone the extension bit is 0
+  led-cleared : getD (stripAt l (length bs) d) (length bs) 0 ≡ 0
+  led-cleared = ap (λ (x : List ℕ). getD x (length bs) 0) led-strip ∙ first-clear bs (contentIn l l l d)
+
+-- Bits that are read as an APDU, a forward APDU apart: with the additions gone they are the padded encoding of its value, which is within the sizes.
 pub record Accepted (side : Side) (l : List ℕ) (a : Apdu) : Type 0 where
   pub shaped : apduShaped side l l l a ≡ true
   pub fits : pduFits side (pduIn l l l a) ≡ true
+  pub bits : strip side l a ≡ padded (pduBits side (pduIn l l l a))
+
+strip-encoding : (side : Side) (l : List ℕ) (place left end : ℕ) (a : Apdu) → Bits l → Standing side l 0 place a → tailAt l place ≡ Value left end → strip side l a ≡ padded (pduBits side (pduIn l l l a))
+unfolding strip pduBits pduIn
+strip-encoding side l place left end (apdu.AbortUser r) b s t = ended-whole l _ place left end b s t
+strip-encoding side l place left end (apdu.AbortProvider r) b s t = ended-whole l _ place left end b s t
+strip-encoding side l place left end (apdu.Start m d) b s t = led-strip l _ place d s ∙ ap padded (append-assoc (indexBits (lastOf side) 2) (modeBits side m) (contentBits (contentIn l l l d)))
+strip-encoding side l place left end (apdu.Send d) b s t = led-strip l _ place d s
+strip-encoding side l place left end apdu.Forward b s t = absurd s
+strip-encoding side l place left end apdu.ForwardResponse b s t = absurd s
+
+pub accepted-encoding : (side : Side) (l : List ℕ) (a : Apdu) → Bits l → forwarded a ≡ false → apduAt side l 0 ≡ answer.Is a → Accepted side l a
+accepted-encoding side l a b h e =
+    let i = apdu-read side l 0 a b h e in
+    record { shaped = i .shaped; fits = apdu-fit side l l l a (i .shaped); bits = strip-encoding side l (i .place) (i .left) (i .end) a b (i .stands) (i .tail) }
+
+-- WITH THE ADDITIONS GONE IT IS READ AS THE SAME VALUE
+pub stripped-read : (side : Side) (l : List ℕ) (a : Apdu) → Bits l → forwarded a ≡ false → apduAt side l 0 ≡ answer.Is a → ApduRead side (strip side l a) 0 (pduIn l l l a)
+stripped-read side l a b h e =
+    let c = accepted-encoding side l a b h e in
+    encoding-accepted side (strip side l a) (pduIn l l l a) (c .fits) (c .bits)
+
+-- ---- without additions
+
+plain-stands : (side : Side) (l : List ℕ) (place : ℕ) (a : Apdu) → Standing side l 0 place a → extended side l a ≡ false → Stands l 0 (pduBits side (pduIn l l l a)) place
+unfolding extended pduBits pduIn
+plain-stands side l place (apdu.AbortUser r) s e = s
+plain-stands side l place (apdu.AbortProvider r) s e = s
+plain-stands side l place (apdu.Start m d) s e =
+    subst (λ (x : List ℕ). Stands l 0 x place) (append-assoc (indexBits (lastOf side) 2) (modeBits side m) (contentBits (contentIn l l l d))) (led-plain l _ place d s (led-unmarked l _ place d s e))
+plain-stands side l place (apdu.Send d) s e = led-plain l _ place d s (led-unmarked l _ place d s e)
+plain-stands side l place apdu.Forward s e = absurd s
+plain-stands side l place apdu.ForwardResponse s e = absurd s
+
+-- Bits without additions that are read as an APDU are the padded encoding of its value.
+pub record Same (side : Side) (l : List ℕ) (a : Apdu) : Type 0 where
   pub bits : l ≡ padded (pduBits side (pduIn l l l a))
   pub stands : Stands l 0 (pduBits side (pduIn l l l a)) (length (pduBits side (pduIn l l l a)))
 
-pub accepted-encoding : (side : Side) (l : List ℕ) (a : Apdu) → Bits l → forwarded a ≡ false → apduAt side l 0 ≡ answer.Is a → Accepted side l a
-unfolding padded
-accepted-encoding side l a b h e =
+pub plain-encoding : (side : Side) (l : List ℕ) (a : Apdu) → Bits l → forwarded a ≡ false → extended side l a ≡ false → apduAt side l 0 ≡ answer.Is a → Same side l a
+plain-encoding side l a b h x e =
     let i = apdu-read side l 0 a b h e in
-    let s = i .stands in
-    let p : i .place ≡ length (pduBits side (pduIn l l l a)) = omega (arith, s .place) in
-    let t = tail-is l (i .place) (i .left) (i .end) b (i .tail) in
-    let u = all-of l _ (i .end) (stands-join l 0 (i .place) (i .end) (pduBits side (pduIn l l l a)) (bitsN (padding (i .place)) 0) s (t .stands)) (t .end) in
-    record {
-      shaped = i .shaped;
-      fits = apdu-fit side l l l a (i .shaped);
-      bits = u ∙ ap (λ (n : ℕ). pduBits side (pduIn l l l a) ++ bitsN (padding n) 0) p;
-      stands = record { place = omega arith; within = s .within; holds = s .holds };
-    }
+    let s = plain-stands side l (i .place) a (i .stands) x in
+    record { bits = ended-whole l _ (i .place) (i .left) (i .end) b s (i .tail); stands = record { place = omega arith; within = s .within; holds = s .holds } }
 
--- every bit of accepted bytes is lent
-accepted-all : (side : Side) (s : List ℕ) (a : Apdu) → forwarded a ≡ false → apduAt side (lent s) 0 ≡ answer.Is a → lent s ≡ bitsOf s
-accepted-all side s a h e =
+-- to take additions away changes nothing exactly where there are none
+pub plain-strip : (side : Side) (l : List ℕ) (a : Apdu) → Bits l → forwarded a ≡ false → extended side l a ≡ false → apduAt side l 0 ≡ answer.Is a → strip side l a ≡ l
+plain-strip side l a b h x e = accepted-encoding side l a b h e .bits ∙ sym (plain-encoding side l a b h x e .bits)
+
+unmarked : (x y : ℕ) → x ≡ y → y ≡ 0 → eqb x 1 ≡ false
+unmarked x y p q = rw (p, q)
+
+strip-standing : (side : Side) (l : List ℕ) (place : ℕ) (a : Apdu) → Standing side l 0 place a → strip side l a ≡ l → extended side l a ≡ false
+unfolding strip extended
+strip-standing side l place (apdu.AbortUser r) s e = refl
+strip-standing side l place (apdu.AbortProvider r) s e = refl
+strip-standing side l place (apdu.Start m d) s e = unmarked _ _ (ap (λ (x : List ℕ). getD x (length (alternative side kind.Start ++ modeBits side m)) 0) (sym e)) (led-cleared l _ place d s)
+strip-standing side l place (apdu.Send d) s e = unmarked _ _ (ap (λ (x : List ℕ). getD x (length (alternative side kind.Send)) 0) (sym e)) (led-cleared l _ place d s)
+strip-standing side l place apdu.Forward s e = refl
+strip-standing side l place apdu.ForwardResponse s e = refl
+
+pub strip-plain : (side : Side) (l : List ℕ) (a : Apdu) → Bits l → forwarded a ≡ false → apduAt side l 0 ≡ answer.Is a → strip side l a ≡ l → extended side l a ≡ false
+strip-plain side l a b h e k =
+    let i = apdu-read side l 0 a b h e in
+    strip-standing side l (i .place) a (i .stands) k
+
+-- every bit of accepted bytes without additions is lent
+accepted-all : (side : Side) (s : List ℕ) (a : Apdu) → forwarded a ≡ false → extended side (lent s) a ≡ false → apduAt side (lent s) 0 ≡ answer.Is a → lent s ≡ bitsOf s
+accepted-all side s a h x e =
     let c = accepted-encoding side (lent s) a (bits-to s allBits) h e in
     let m = pdu-most side (pduIn (lent s) (lent s) (lent s) a) (c .fits) in
     let n = length-padded (pduBits side (pduIn (lent s) (lent s) (lent s) a)) in
-    let k : length (lent s) ≡ length (padded (pduBits side (pduIn (lent s) (lent s) (lent s) a))) = ap length (c .bits) in
+    let k : length (lent s) ≡ length (padded (pduBits side (pduIn (lent s) (lent s) (lent s) a))) = ap length (plain-encoding side (lent s) a (bits-to s allBits) h x e .bits) in
     let t = length-to s allBits in
     all-bits s allBits (omega arith)
 
--- To write what was read from bytes, with the parts taken from where they stand, leaves those bytes in the buffer, and later bytes as they were.
-pub read-written : (side : Side) (s t : List ℕ) (a : Apdu) → Bytes s → Bytes t → bufferLeast ≤ length t → forwarded a ≡ false → apduAt side (lent s) 0 ≡ answer.Is a
+-- To write what was read from bytes without additions, with the parts taken from where they stand, leaves those bytes in the buffer, and later bytes as they
+-- were.
+pub read-written : (side : Side) (s t : List ℕ) (a : Apdu) → Bytes s → Bytes t → bufferLeast ≤ length t → forwarded a ≡ false → extended side (lent s) a ≡ false → apduAt side (lent s) 0 ≡ answer.Is a
     → writeOut (apduShaped side (lent s) (lent s) (lent s) a) t (pduBits side (pduIn (lent s) (lent s) (lent s) a))
     ≡ done (written.Bits (length (pduBits side (pduIn (lent s) (lent s) (lent s) a)))) (s ++ drop (length s) t)
 unfolding writeOut
-read-written side s t a hs ht g h e =
+read-written side s t a hs ht g h x e =
     let c = accepted-encoding side (lent s) a (bits-to s allBits) h e in
     let v : Pdu = pduIn (lent s) (lent s) (lent s) a in
     let m = pdu-most side (pduIn (lent s) (lent s) (lent s) a) (c .fits) in
     let n = length-padded (pduBits side (pduIn (lent s) (lent s) (lent s) a)) in
-    let q : padded (pduBits side (pduIn (lent s) (lent s) (lent s) a)) ≡ bitsOf s = sym (c .bits) ∙ accepted-all side s a h e in
+    let q : padded (pduBits side (pduIn (lent s) (lent s) (lent s) a)) ≡ bitsOf s = sym (plain-encoding side (lent s) a (bits-to s allBits) h x e .bits) ∙ accepted-all side s a h x e in
     let k : length (bitsOf s) ≡ length (padded (pduBits side (pduIn (lent s) (lent s) (lent s) a))) = ap length (sym q) in
     let z = length-bits s in
     let p : putBits t 0 (padded (pduBits side (pduIn (lent s) (lent s) (lent s) a))) ≡ s ++ drop (length s) t = ap (putBits t 0) q ∙ put-bytes t s ht hs (omega arith) in
     rw (le-ltb (length t) bufferLeast g, c .shaped, p)
+
+-- ---- with additions or without
+
+-- To write what was read leaves the APDU with the additions gone at the front of the buffer, and later bytes as they were.
+pub read-stripped : (side : Side) (s t : List ℕ) (a : Apdu) → bufferLeast ≤ length t → forwarded a ≡ false → apduAt side (lent s) 0 ≡ answer.Is a
+    → writeOut (apduShaped side (lent s) (lent s) (lent s) a) t (pduBits side (pduIn (lent s) (lent s) (lent s) a))
+    ≡ done (written.Bits (length (pduBits side (pduIn (lent s) (lent s) (lent s) a)))) (putBits t 0 (strip side (lent s) a))
+unfolding writeOut
+read-stripped side s t a g h e =
+    let c = accepted-encoding side (lent s) a (bits-to s allBits) h e in
+    rw (le-ltb (length t) bufferLeast g, c .shaped, c .bits)
 
 -- ---- a forward APDU: the alternative alone decides
 
@@ -309,23 +428,38 @@ pub writes : (s bs : List ℕ) → bufferLeast ≤ length s → writeOut true s 
 unfolding writeOut
 writes s bs h = rw (le-ltb (length s) bufferLeast h)
 
--- ---- the message data that a user is delivered are bits of the APDU
+-- ---- the message data that a user is delivered: the root's bits behind a bit 0, whatever the extension bit was
 
 pub send-delivered : (side : Side) (s : List ℕ) (d : Data) → apduAt side (lent s) 0 ≡ answer.Is (apdu.Send d)
+    → contentBits (contentIn (lent s) (lent s) (lent s) d) ≡ bitsN 1 0 ++ take (rootEnd d - (width side + 1)) (drop (width side + 1) (lent s))
+unfolding forwarded
+send-delivered side s d e =
+    let i = apdu-read side (lent s) 0 (apdu.Send d) (bits-to s allBits) refl e in
+    rw (length-alternative side 3) at (led-content (lent s) (indexBits (lastOf side) 3) (i .place) d (i .stands))
+
+pub start-delivered : (side : Side) (s : List ℕ) (m : ℕ) (d : Data) → apduAt side (lent s) 0 ≡ answer.Is (apdu.Start m d)
+    → contentBits (contentIn (lent s) (lent s) (lent s) d) ≡ bitsN 1 0 ++ take (rootEnd d - (width side + length (modeBits side m) + 1)) (drop (width side + length (modeBits side m) + 1) (lent s))
+unfolding forwarded
+start-delivered side s m d e =
+    let i = apdu-read side (lent s) 0 (apdu.Start m d) (bits-to s allBits) refl e in
+    rw (length-append, length-alternative side 2) at (led-content (lent s) (indexBits (lastOf side) 2 ++ modeBits side m) (i .place) d (i .stands))
+
+-- and so, without additions, bits of the APDU
+pub send-plain : (side : Side) (s : List ℕ) (d : Data) → extended side (lent s) (apdu.Send d) ≡ false → apduAt side (lent s) 0 ≡ answer.Is (apdu.Send d)
     → contentBits (contentIn (lent s) (lent s) (lent s) d) ≡ take (length (contentBits (contentIn (lent s) (lent s) (lent s) d))) (drop (width side) (lent s))
 unfolding pduBits pduIn forwarded
-send-delivered side s d e =
-    let c = accepted-encoding side (lent s) (apdu.Send d) (bits-to s allBits) refl e in
+send-plain side s d x e =
+    let c = plain-encoding side (lent s) (apdu.Send d) (bits-to s allBits) refl x e in
     let w = stands-split (lent s) 0 _ (indexBits (lastOf side) 3) (contentBits (contentIn (lent s) (lent s) (lent s) d)) (c .stands) in
     let h = w .second .holds in
     let p : 0 + length (indexBits (lastOf side) 3) ≡ width side = omega (arith, length-alternative side 3) in
     sym (rw p at h)
 
-pub start-delivered : (side : Side) (s : List ℕ) (m : ℕ) (d : Data) → apduAt side (lent s) 0 ≡ answer.Is (apdu.Start m d)
+pub start-plain : (side : Side) (s : List ℕ) (m : ℕ) (d : Data) → extended side (lent s) (apdu.Start m d) ≡ false → apduAt side (lent s) 0 ≡ answer.Is (apdu.Start m d)
     → contentBits (contentIn (lent s) (lent s) (lent s) d) ≡ take (length (contentBits (contentIn (lent s) (lent s) (lent s) d))) (drop (width side + length (modeBits side m)) (lent s))
 unfolding pduBits pduIn forwarded
-start-delivered side s m d e =
-    let c = accepted-encoding side (lent s) (apdu.Start m d) (bits-to s allBits) refl e in
+start-plain side s m d x e =
+    let c = plain-encoding side (lent s) (apdu.Start m d) (bits-to s allBits) refl x e in
     let w = stands-split (lent s) 0 _ (indexBits (lastOf side) 2) (modeBits side m ++ contentBits (contentIn (lent s) (lent s) (lent s) d)) (c .stands) in
     let u = stands-split (lent s) _ _ (modeBits side m) (contentBits (contentIn (lent s) (lent s) (lent s) d)) (w .second) in
     let h = u .second .holds in

@@ -34,11 +34,14 @@ abbrev pub presence : Optional → ℕ
 presence absent = 0
 presence (given l) = 1
 
+-- the root: what stands behind the extension bit
+abbrev pub rootBits : Content → List ℕ
+rootBits c =
+    bitsN 2 (2 * presence (c .identifier) + presence (c .message)) ++
+    (optionalBits octet (c .identifier) ++ (optionalBits bit (c .message) ++ stringBits bit (c .check)))
+
 unfoldable pub contentBits : Content → List ℕ
-contentBits c =
-    bitsN 1 0 ++
-    (bitsN 2 (2 * presence (c .identifier) + presence (c .message)) ++
-    (optionalBits octet (c .identifier) ++ (optionalBits bit (c .message) ++ stringBits bit (c .check))))
+contentBits c = bitsN 1 0 ++ rootBits c
 
 unfoldable pub contentFits : Content → Bool
 contentFits c =

@@ -2,4 +2,5 @@ pub mod Sizes
 pub mod Pdus
 pub mod Encoding
 pub mod Reading
+pub mod Stripped
 pub mod Writing

@@ -5,7 +5,8 @@ use mathlib.Core.List.{List}
 use mathlib.Core.Bool.{Bool, cond}
 use lib.ListN.{length}
 use lib.Dec.{leb, eqb}
-use Rattle.fields.specs.Fields.{noRefusal, refusedAt, then, bitField, extensionBit, widthOf, wholeNumber, extensibleIndex, stringAt}
+use Rattle.fields.specs.Additions.{additionsAt}
+use Rattle.fields.specs.Fields.{noRefusal, refusedAt, then, bitField, widthOf, wholeNumber, extensibleIndex, stringAt}
 use Rattle.fields.specs.declared.Refusal.{Refusal}
 use Rattle.fields.specs.declared.Fault.the-variants.{Tail, Default}
 use Rattle.fields.specs.declared.Field.{Field}
@@ -84,10 +85,16 @@ partsWithin limit l at i m =
     onField taken.Refused (stringAt l q bit 0 checkMost) (λ (n next : ℕ).
     taken.Is (record { identifier = partAt i octet octets p; message = partAt m bit bits q; check = spanTo bit n next }) next)))
 
--- the extension bit, the presence bits as one field of two bits, the fields
+-- behind the fields: where the extension bit is 1, additions from a later edition, which say nothing here (document 02, E6)
+unfoldable pub withAdditions : List ℕ → Taken → Taken
+withAdditions l t = onTaken t (λ (d : Data) (next : ℕ). onField taken.Refused (additionsAt l next) (λ (v after : ℕ). taken.Is d after))
+
+-- the extension bit e, the presence bits as one field of two bits, the fields, the additions
 unfoldable pub dataWithin : ℕ → List ℕ → ℕ → Taken
 dataWithin limit l at =
-    onField taken.Refused (extensionBit l at) (λ (e p : ℕ). onField taken.Refused (bitField l p 2) (λ (v q : ℕ). partsWithin limit l q (leb 2 v) (eqb (v % 2) 1)))
+    onField taken.Refused (bitField l at 1) (λ (e p : ℕ).
+    onField taken.Refused (bitField l p 2) (λ (v q : ℕ).
+    cond (eqb e 0) (partsWithin limit l q (leb 2 v) (eqb (v % 2) 1)) (withAdditions l (partsWithin limit l q (leb 2 v) (eqb (v % 2) 1)))))
 
 -- ---- the leading fields: the alternative, and the mode of a start
 

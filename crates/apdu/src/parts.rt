@@ -1,8 +1,8 @@
-// Message data read: the extension bit, the presence bits, then the fields that are there.
+// Message data read: the extension bit, the presence bits, the fields that are there, and what a later edition added.
 ghost use mathlib.Core.Path.{_≡_};
 ghost use Prim.Native.Nat.{_*_, _≤_};
 ghost use Rattle.apdu.specs.Pdus.{lent};
-ghost use Rattle.apdu.specs.Reading.{dataAt, optionalAt, partAt, partsAt, spanTo};
+ghost use Rattle.apdu.specs.Reading.{dataAt, optionalAt, partAt, partsAt, spanTo, withAdditions};
 use crate::Data;
 use crate::Part;
 use crate::Span;
@@ -75,16 +75,34 @@ fn parts_at(s: &[u8], at: usize, identified: bool, messaged: bool) -> Taken
     Taken::Is(data, next)
 }
 
+// Behind the fields: the additions from a later edition.
+fn with_additions(s: &[u8], parts: Taken) -> Taken
+    ensures { λ t. ⌜ t ≡ withAdditions (lent (now (s .entry))) parts ⌝ }
+{
+    let Taken::Is(d, next) = parts else {
+        return parts;
+    };
+    let added = fields::additions(s, ALL, next);
+    let Field::Value(_, after) = added else {
+        return Taken::Refused(field_refusal(added));
+    };
+    Taken::Is(d, after)
+}
+
 pub(crate) fn data_at(s: &[u8], at: usize) -> Taken
     ensures { λ t. ⌜ t ≡ dataAt (lent (now (s .entry))) at ⌝ }
 {
-    let extension = fields::extension_bit(s, ALL, at);
-    let Field::Value(_, p) = extension else {
+    let extension = fields::bit_field(s, ALL, at, 1);
+    let Field::Value(e, p) = extension else {
         return Taken::Refused(field_refusal(extension));
     };
     let presence = fields::bit_field(s, ALL, p, 2);
     let Field::Value(v, q) = presence else {
         return Taken::Refused(field_refusal(presence));
     };
-    parts_at(s, q, 2 <= v, v % 2 == 1)
+    let parts = parts_at(s, q, 2 <= v, v % 2 == 1);
+    if e == 0 {
+        return parts;
+    }
+    with_additions(s, parts)
 }

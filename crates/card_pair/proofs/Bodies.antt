@@ -7,9 +7,10 @@ use Prim.Native.Nat.{ℕ, zero, suc}
 use native.Mathlib.Omega.{arith}
 use borrow.Author.Tests.{ltb-true, lt-ltb, eqb-true, eq-eqb}
 use lib.Dec.{ltb, eqb}
-use lib.ListN.{length}
+use lib.ListN.{length, getD}
 use lib.Seq.{take-length}
 use Rattle.words.proofs.Laws.{both-left, both-right}
+use Rattle.bits.specs.Bits.{bitsN}
 use Rattle.bits.proofs.Numbers.{Bits}
 use Rattle.fields.proofs.RoundTrip.{Stands}
 use Rattle.apdu.specs.Sizes.{bit}
@@ -22,7 +23,7 @@ use Rattle.apdu.specs.declared.Data.{Data}
 use Rattle.apdu.specs.declared.Taken.{Taken}
 use Rattle.apdu.specs.declared.Taken.the-variants as taken
 use Rattle.apdu.proofs.Bounds.{data-fit}
-use Rattle.apdu.proofs.Contents.{DataRead, data-written, data-read}
+use Rattle.apdu.proofs.Contents.{DataRead, data-written, data-mark, data-plain, data-read}
 use Rattle.step.proofs.Taken.{never}
 
 -- ---- a list of bits
@@ -40,14 +41,18 @@ only-bits : (l : List ℕ) → Bits l → bitsOnly l ≡ true
 only-bits [] h = refl
 only-bits (x ∷ l) h = rw (lt-ltb x 2 (h zero), only-bits l (λ (k : ℕ). h (suc k)))
 
--- ---- bodies: bits that are read as message data from the first to the last
+-- ---- bodies: bits that are read as message data from the first to the last, without additions
 
 abbrev pub wholly : Taken → ℕ → Bool
 wholly (taken.Is d next) n = eqb next n
 wholly (taken.Refused r) n = false
 
+-- the extension bit is 0
+abbrev plain : List ℕ → Bool
+plain b = eqb (getD b 0 0) 0
+
 unfoldable pub isBody : List ℕ → Bool
-isBody b = bitsOnly b && wholly (dataAt b 0) (length b)
+isBody b = bitsOnly b && (plain b && wholly (dataAt b 0) (length b))
 
 pub record BodyIs (b : List ℕ) : Type 0 where
   pub content : Content
@@ -63,13 +68,17 @@ all-of l bs next s h =
 
 pub body-is : (b : List ℕ) → isBody b ≡ true → BodyIs b
 unfolding isBody
-body-is b e = go (dataAt b 0) refl (both-right (bitsOnly b) (wholly (dataAt b 0) (length b)) e)
+body-is b e = go (dataAt b 0) refl (both-right (plain b) (wholly (dataAt b 0) (length b)) rest)
   where
+    rest : plain b && wholly (dataAt b 0) (length b) ≡ true
+    rest = both-right (bitsOnly b) (plain b && wholly (dataAt b 0) (length b)) e
+
     go : (t : Taken) → dataAt b 0 ≡ t → wholly t (length b) ≡ true → BodyIs b
     go (taken.Is d next) q w =
-        let h = bits-only b (both-left (bitsOnly b) (wholly (dataAt b 0) (length b)) e) in
+        let h = bits-only b (both-left (bitsOnly b) (plain b && wholly (dataAt b 0) (length b)) e) in
         let i = data-read b 0 next d h q in
-        record { content = contentIn b b b d; fits = data-fit b b b d (i .shaped); bits = all-of b (contentBits (contentIn b b b d)) next (i .stands) (eqb-true next (length b) w); are-bits = h }
+        let z : i .mark ≡ 0 = sym (data-mark b 0 next d i) ∙ eqb-true (getD b 0 0) 0 (both-left (plain b) (wholly (dataAt b 0) (length b)) rest) in
+        record { content = contentIn b b b d; fits = data-fit b b b d (i .shaped); bits = all-of b (contentBits (contentIn b b b d)) next (data-plain b 0 next d i z) (eqb-true next (length b) w); are-bits = h }
     go (taken.Refused r) q w = never w
 
 -- is there a message in it
@@ -102,9 +111,13 @@ module _ (c : Content) (h : contentFits c ≡ true) where
   whole : DataRead (contentBits c) 0 (length (contentBits c)) c
   whole = data-written (contentBits c) 0 (length (contentBits c)) c h (record { place = omega arith; within = omega arith; holds = take-length (contentBits c) })
 
+  clear : plain (contentBits c) ≡ true
+  unfolding contentBits bitsN
+  clear = refl
+
   pub is-body : Bits (contentBits c) → isBody (contentBits c) ≡ true
   unfolding isBody
-  is-body b = rw (only-bits (contentBits c) b, whole .read, eq-eqb (length (contentBits c)) (length (contentBits c)) refl)
+  is-body b = rw (only-bits (contentBits c) b, clear, whole .read, eq-eqb (length (contentBits c)) (length (contentBits c)) refl)
 
   pub carries-is : carries (contentBits c) ≡ isThere (c .message)
   unfolding carries

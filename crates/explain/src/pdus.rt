@@ -41,9 +41,57 @@ fn walk_string(
     row(counted, p, fields::contents(s, ALL, p, unit, n as usize))
 }
 
-// The check, which is always there.
-fn walk_check(s: &[u8], at: usize) {
-    walk_string(
+// An addition: its length in octets, and the octets, which are not looked at.
+fn walk_addition(s: &[u8], at: usize) -> Field {
+    let length = row(b"length of an addition", at, fields::length(s, ALL, at));
+    let Field::Value(n, p) = length else {
+        return length;
+    };
+    row(
+        b"addition",
+        p,
+        fields::contents(s, ALL, p, Data::OCTET, n as usize),
+    )
+}
+
+// So many additions, one after the other.
+fn walk_each(s: &[u8], at: usize, count: u32) {
+    let mut p = at;
+    let mut left = count;
+    while 0 < left {
+        let one = walk_addition(s, p);
+        let Field::Value(_, next) = one else {
+            return;
+        };
+        p = next;
+        left -= 1;
+    }
+}
+
+// What a later edition added: how many additions it has, which of them are there, and those.
+fn walk_additions(s: &[u8], at: usize) {
+    let count = row(
+        b"count of additions",
+        at,
+        fields::addition_count(s, ALL, at),
+    );
+    let Field::Value(n, p) = count else {
+        return;
+    };
+    let there = row(
+        b"presence of additions",
+        p,
+        fields::additions_there(s, ALL, p, n as usize),
+    );
+    let Field::Value(v, q) = there else {
+        return;
+    };
+    walk_each(s, q, u64::count_ones(v));
+}
+
+// The check, which is always there, and what was added behind it.
+fn walk_check(s: &[u8], extended: bool, at: usize) {
+    let check = walk_string(
         s,
         at,
         b"length of the check",
@@ -52,10 +100,16 @@ fn walk_check(s: &[u8], at: usize) {
         0,
         Data::CHECK_MOST,
     );
+    let Field::Value(_, p) = check else {
+        return;
+    };
+    if extended {
+        walk_additions(s, p);
+    }
 }
 
 // What follows the identifier.
-fn walk_message(s: &[u8], there: bool, at: usize) {
+fn walk_message(s: &[u8], extended: bool, there: bool, at: usize) {
     if there {
         let message = walk_string(
             s,
@@ -69,25 +123,26 @@ fn walk_message(s: &[u8], there: bool, at: usize) {
         let Field::Value(_, p) = message else {
             return;
         };
-        walk_check(s, p);
+        walk_check(s, extended, p);
         return;
     }
-    walk_check(s, at);
+    walk_check(s, extended, at);
 }
 
-// Message data: the extension bit, the presence bits, and the parts that are there.
+// Message data: the extension bit, the presence bits, the parts that are there, and what was added.
 fn walk_data(s: &[u8], at: usize) {
-    let extension = row(b"extension bit", at, fields::extension_bit(s, ALL, at));
-    let Field::Value(_, p) = extension else {
+    let extension = row(b"extension bit", at, fields::bit_field(s, ALL, at, 1));
+    let Field::Value(e, p) = extension else {
         return;
     };
+    let extended = 0 < e;
     let presence = row(b"presence bits", p, fields::bit_field(s, ALL, p, 2));
     let Field::Value(v, q) = presence else {
         return;
     };
     let messaged = v % 2 == 1;
     if v < 2 {
-        walk_message(s, messaged, q);
+        walk_message(s, extended, messaged, q);
         return;
     }
     let identifier = walk_string(
@@ -102,7 +157,7 @@ fn walk_data(s: &[u8], at: usize) {
     let Field::Value(_, r) = identifier else {
         return;
     };
-    walk_message(s, messaged, r);
+    walk_message(s, extended, messaged, r);
 }
 
 // A startdown has a mode, or leaves it out.

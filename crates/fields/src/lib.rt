@@ -4,10 +4,14 @@
 ghost use mathlib.Core.Path.{_≡_};
 ghost use Rattle.fields.specs.Refusals.{numberOf, packed};
 
+mod later;
 mod lengths;
 mod numbers;
 mod strings;
 
+pub use later::addition_count;
+pub use later::additions;
+pub use later::additions_there;
 pub use lengths::length;
 pub use lengths::length_within;
 pub use lengths::put_length;

@@ -10,7 +10,7 @@ use borrow.Author.Tests.{le-leb, leb-true}
 use lib.Dec.{leb, eqb}
 use lib.ListN.{length}
 use Rattle.words.proofs.Laws.{both-right}
-use Rattle.fields.specs.Fields.{refusal, refusedAt, then, bitField, extensionBit, extensibleIndex, lengthAt, lengthWithin, runAt, contentsAt, stringAt}
+use Rattle.fields.specs.Fields.{refusal, refusedAt, then, bitField, extensibleIndex, lengthAt, lengthWithin, runAt, contentsAt, stringAt}
 use Rattle.fields.specs.declared.Refusal.{Refusal}
 use Rattle.fields.specs.declared.Fault.the-variants.{Limit}
 use Rattle.fields.specs.declared.Field.{Field}
@@ -18,7 +18,7 @@ use Rattle.fields.specs.declared.Field.the-variants.{Value, Refused}
 use Rattle.fields.proofs.Answers.{run-is}
 use Rattle.fields.proofs.RoundTrip.{via, if-value}
 use Rattle.apdu.specs.Sizes.{identifierLeast, identifierMost, checkMost, userLast, providerLast, octet, bit}
-use Rattle.apdu.specs.Reading.{onField, onData, onTaken, onLead, optionalAt, partAt, spanTo, partsWithin, dataWithin, leadingAt, tailAt, endedAt, restWithin, apduWithin, wholeWithin}
+use Rattle.apdu.specs.Reading.{onField, onData, onTaken, onLead, optionalAt, partAt, spanTo, partsWithin, withAdditions, dataWithin, leadingAt, tailAt, endedAt, restWithin, apduWithin, wholeWithin}
 use Rattle.apdu.specs.declared.Side.{Side}
 use Rattle.apdu.specs.declared.Kind.{Kind}
 use Rattle.apdu.specs.declared.Kind.the-variants as kind
@@ -35,7 +35,7 @@ use Rattle.apdu.specs.declared.Lead.the-variants as lead
 use Rattle.apdu.specs.declared.Answer.{Answer}
 use Rattle.apdu.specs.declared.Answer.the-variants as answer
 use Rattle.apdu.proofs.Bounds.{never}
-use Rattle.apdu.proofs.Contents.{via as on}
+use Rattle.apdu.proofs.Contents.{via as on, behind-read}
 use Rattle.limits.specs.Claims.{Limited, Meets, messageOf}
 
 -- ---- one reader behind another
@@ -90,10 +90,17 @@ module _ (low high : ℕ) (less : low ≤ high) (l : List ℕ) where
       taken.Is (record { identifier = partAt i octet octets p; message = partAt m bit bits q; check = spanTo bit n next }) next)))
       (λ (r : Refusal). refl) _ _ (optional-meets m p bit 0))
 
+  -- additions, or none
+  added-meets : (plain : Bool) (t u : Taken) → Meets taken.Refused t u → Meets taken.Refused (cond plain t (withAdditions l t)) (cond plain u (withAdditions l u))
+  unfolding withAdditions
+  added-meets true t u m = m
+  added-meets false t u m = handed taken.Refused taken.Refused (withAdditions l) (λ (r : Refusal). refl) t u m
+
   data-meets : (at : ℕ) → Meets taken.Refused (dataWithin low l at) (dataWithin high l at)
   unfolding dataWithin
   data-meets at =
-      behind taken.Refused (extensionBit l at) _ _ (λ (e p : ℕ). behind taken.Refused (bitField l p 2) _ _ (λ (v q : ℕ). parts-meets q (leb 2 v) (eqb (v % 2) 1)))
+      behind taken.Refused (bitField l at 1) _ _ (λ (e p : ℕ).
+      behind taken.Refused (bitField l p 2) _ _ (λ (v q : ℕ). added-meets (eqb e 0) _ _ (parts-meets q (leb 2 v) (eqb (v % 2) 1))))
 
   -- ---- an APDU
 
@@ -179,9 +186,10 @@ module _ (limit : ℕ) (l : List ℕ) where
   data-few : (at next : ℕ) (d : Data) → dataWithin limit l at ≡ taken.Is d next → Few d
   unfolding dataWithin
   data-few at next d e =
-      on (Few d) taken.Refused (taken.Is d next) (taken-not d next) (extensionBit l at) _ (λ (x p : ℕ) (e₁ : extensionBit l at ≡ Value x p).
-      on (Few d) taken.Refused (taken.Is d next) (taken-not d next) (bitField l p 2) _ (λ (v q : ℕ) (e₂ : bitField l p 2 ≡ Value v q).
-      parts-few q next (leb 2 v) (eqb (v % 2) 1) d)) e
+      on (Few d) taken.Refused (taken.Is d next) (taken-not d next) (bitField l at 1) _ (λ (x p : ℕ) (e₁ : bitField l at 1 ≡ Value x p).
+      on (Few d) taken.Refused (taken.Is d next) (taken-not d next) (bitField l p 2) _ (λ (v q : ℕ) (e₂ : bitField l p 2 ≡ Value v q) (w : cond (eqb x 0) (partsWithin limit l q (leb 2 v) (eqb (v % 2) 1)) (withAdditions l (partsWithin limit l q (leb 2 v) (eqb (v % 2) 1))) ≡ taken.Is d next).
+      let k = behind-read l x next (partsWithin limit l q (leb 2 v) (eqb (v % 2) 1)) d w in
+      parts-few q (k .place) (leb 2 v) (eqb (v % 2) 1) d (k .parts))) e
 
   -- what was ended is the APDU that was read
   ended-is : (at : ℕ) (a b : Apdu) → endedAt l at a ≡ answer.Is b → a ≡ b

@@ -4,15 +4,17 @@
 use mathlib.Core.Path.{_≡_, refl, sym, ap, _∙_}
 use mathlib.Core.Bool.{Bool, true, false, cond, _&&_}
 use mathlib.Core.List.{List}
-use Prim.Native.Nat.{ℕ, _+_, _-_, _*_, _%_, _≤_, _<_}
+use Prim.Native.Nat.{ℕ, zero, suc, _+_, _-_, _*_, _%_, _≤_, _<_}
 use native.Mathlib.Omega.{arith}
 use borrow.Author.Tests.{le-leb, ltb-true}
+use lib.Count.{ones}
 use lib.Dec.{leb, ltb, eqb}
 use lib.ListN.{length}
 use Rattle.bits.specs.Read.{readBits}
 use Rattle.bits.specs.declared.Read.{Read}
 use Rattle.bits.specs.declared.Read.the-variants as read
 use Rattle.bits.proofs.Numbers.{Bits}
+use Rattle.fields.specs.Additions.{additionCount, additionsThere, additionAt, steppedOver, additionsAt}
 use Rattle.fields.specs.Fields.{refusedAt, then, fieldOf, bitField, extensionBit, widthOf, wholeNumber, extensibleIndex, lengthAt, lengthFrom, longLength, lengthWithin, runAt, contentsAt, stringAt}
 use Rattle.fields.specs.declared.Fault.{Fault}
 use Rattle.fields.specs.declared.Fault.the-variants.{Short, Range, Extension, LengthForm, Limit, Tail, Default}
@@ -23,7 +25,7 @@ use Rattle.fields.proofs.RoundTrip.{length-determinant}
 use Rattle.apdu.specs.Sizes.{identifierLeast, identifierMost, messageMost, checkMost, userLast, providerLast, modeLast, octet, bit}
 use Rattle.apdu.specs.Pdus.{lastOf, kindOf}
 use Rattle.apdu.specs.Encoding.{padding}
-use Rattle.apdu.specs.Reading.{onField, onData, onTaken, onLead, optionalAt, partAt, spanTo, partsWithin, dataWithin, modeValue, modeAt, kindMode, leadingAt, tailAt, endedAt, restWithin, apduWithin, apduAt, dataAt, partsAt, wholeWithin, wholeData}
+use Rattle.apdu.specs.Reading.{onField, onData, onTaken, onLead, optionalAt, partAt, spanTo, partsWithin, withAdditions, dataWithin, modeValue, modeAt, kindMode, leadingAt, tailAt, endedAt, restWithin, apduWithin, apduAt, dataAt, partsAt, wholeWithin, wholeData}
 use Rattle.apdu.specs.declared.Side.{Side}
 use Rattle.apdu.specs.declared.Side.the-variants.{Air, Ground}
 use Rattle.apdu.specs.declared.Kind.{Kind}
@@ -163,11 +165,43 @@ module _ (l : List ℕ) where
       on-spares taken.Refused taken-one (optionalAt l m p bit 0 messageMost) _ (message-spares b m p) (λ (bits q : ℕ).
       on-spares taken.Refused taken-one (stringAt l q bit 0 checkMost) _ (check-left q) (λ (n next : ℕ). taken-spares _ next)))
 
+  -- additions have no limit
+  count-spares : (at : ℕ) → Spares Refused (additionCount l at)
+  unfolding additionCount
+  count-spares at = then-spares (extensionBit l at) _ (extension-spares at) (λ (b p : ℕ). then-spares (bitField l at 7) _ (bits-spare at 7) (λ (v n : ℕ). value-spares (v + 1) n))
+
+  there-spares : (at n : ℕ) → Spares Refused (additionsThere l at n)
+  unfolding additionsThere
+  there-spares at n =
+      then-spares (bitField l at n) _ (bits-spare at n) (λ (v m : ℕ).
+      cond-spares (eqb v 0) (refusedAt at Extension) (Value v m) (other-spares at Extension (λ (e : Extension ≡ Limit). never (cc))) (value-spares v m))
+
+  addition-spares : (at : ℕ) → Spares Refused (additionAt l at)
+  unfolding additionAt runAt
+  addition-spares at =
+      then-spares (lengthAt l at) _ (length-spares at) (λ (n from : ℕ). cond-spares (leb (from + 8 * n) (length l)) (Value n (from + 8 * n)) (refusedAt from Short) (value-spares n (from + 8 * n)) (short from))
+
+  stepped-spares : (k at : ℕ) → Spares Refused (steppedOver l at k)
+  unfolding steppedOver
+  stepped-spares zero at = value-spares 0 at
+  stepped-spares (suc k) at = then-spares (additionAt l at) _ (addition-spares at) (λ (n next : ℕ). stepped-spares k next)
+
+  additions-spare : (at : ℕ) → Spares Refused (additionsAt l at)
+  unfolding additionsAt
+  additions-spare at =
+      then-spares (additionCount l at) _ (count-spares at) (λ (n p : ℕ). then-spares (additionsThere l p n) _ (there-spares p n) (λ (v q : ℕ). stepped-spares (ones v) q))
+
+  added-spares : (plain : Bool) (t : Taken) → Spares taken.Refused t → Spares taken.Refused (cond plain t (withAdditions l t))
+  unfolding withAdditions
+  added-spares true t a = a
+  added-spares false (taken.Is d n) a = on-spares taken.Refused taken-one (additionsAt l n) _ (additions-spare n) (λ (v after : ℕ). taken-spares d after)
+  added-spares false (taken.Refused r) a = a
+
   data-spares : Bits l → (at : ℕ) → Spares taken.Refused (dataAt l at)
   unfolding dataWithin
   data-spares b at =
-      on-spares taken.Refused taken-one (extensionBit l at) _ (extension-spares at) (λ (e p : ℕ).
-      on-spares taken.Refused taken-one (bitField l p 2) _ (bits-spare p 2) (λ (v q : ℕ). parts-spare b q (leb 2 v) (eqb (v % 2) 1)))
+      on-spares taken.Refused taken-one (bitField l at 1) _ (bits-spare at 1) (λ (e p : ℕ).
+      on-spares taken.Refused taken-one (bitField l p 2) _ (bits-spare p 2) (λ (v q : ℕ). added-spares (eqb e 0) (partsAt l q (leb 2 v) (eqb (v % 2) 1)) (parts-spare b q (leb 2 v) (eqb (v % 2) 1))))
 
   mode-spares : (side : Side) (at : ℕ) → Spares Refused (modeAt side l at)
   unfolding modeAt modeValue

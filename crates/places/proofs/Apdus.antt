@@ -11,7 +11,8 @@ use lib.ListN.{length, take, drop}
 use lib.Pow.{pow-mono}
 use Rattle.words.proofs.Laws.{both-left, both-right}
 use Rattle.bits.proofs.Numbers.{Bits, length-bitsN}
-use Rattle.fields.specs.Fields.{refusal, refusedAt, then, bitField, extensionBit, digitsIn, widthOf, wholeNumber, extensibleIndex, stringAt}
+use Rattle.fields.specs.Additions.{additionsAt}
+use Rattle.fields.specs.Fields.{refusal, refusedAt, then, bitField, digitsIn, widthOf, wholeNumber, extensibleIndex, stringAt}
 use Rattle.fields.specs.declared.Fault.the-variants.{Short, Tail, Default}
 use Rattle.fields.specs.declared.Refusal.{Refusal}
 use Rattle.fields.specs.declared.Field.{Field}
@@ -19,11 +20,11 @@ use Rattle.fields.specs.declared.Field.the-variants.{Value, Refused}
 use Rattle.fields.proofs.RoundTrip.{bit-field}
 use Rattle.fields.proofs.Widths.{width-within}
 use Rattle.places.specs.Claims.{Seen, went, refused, Alike, Settled, Placed, Refusing, Sound, seenField}
-use Rattle.places.proofs.Readers.{clash, one-place, one-refusal, sound-value, refusing-bind, sound-cond, after-field, then-sound, bit-sound, judged, extension-sound, whole-sound, whole-cut, index-sound, string-sound}
+use Rattle.places.proofs.Readers.{clash, one-place, one-refusal, sound-value, refusing-bind, sound-bind, sound-cond, after-field, then-sound, bit-sound, judged, whole-sound, whole-cut, index-sound, string-sound, additions-sound}
 use Rattle.apdu.specs.Sizes.{identifierLeast, identifierMost, messageMost, checkMost, userLast, providerLast, modeLast, octet, bit}
 use Rattle.apdu.specs.Pdus.{lastOf, kindOf}
 use Rattle.apdu.specs.Encoding.{padding}
-use Rattle.apdu.specs.Reading.{onField, onData, onTaken, onLead, optionalAt, partAt, spanTo, partsWithin, partsAt, dataWithin, dataAt, modeValue, modeAt, kindMode, leadingAt, tailAt, endedAt, restWithin, restAt, apduWithin, apduAt, wholeWithin, wholeData}
+use Rattle.apdu.specs.Reading.{onField, onData, onTaken, onLead, optionalAt, partAt, spanTo, partsWithin, partsAt, withAdditions, dataWithin, dataAt, modeValue, modeAt, kindMode, leadingAt, tailAt, endedAt, restWithin, restAt, apduWithin, apduAt, wholeWithin, wholeData}
 use Rattle.apdu.specs.declared.Side.{Side}
 use Rattle.apdu.specs.declared.Side.the-variants.{Air, Ground}
 use Rattle.apdu.specs.declared.Kind.{Kind}
@@ -80,13 +81,39 @@ parts-sound l at i m h =
     (λ (n next : ℕ) (g : stringAt l q bit 0 checkMost ≡ Value n next) (u : q ≤ next) (w : next ≤ length l).
     sound-value seenTaken (taken.Is (record { identifier = partAt i octet octets p; message = partAt m bit bits q; check = spanTo bit n next }) next) l next w refl)))
 
+-- behind the fields, the additions
+added-sound : (l : List ℕ) (at : ℕ) (i m : Bool) → at ≤ length l → Sound seenTaken (λ (x : List ℕ). withAdditions x (partsAt x at i m)) l at
+unfolding withAdditions
+added-sound l at i m h =
+    sound-bind seenTaken seenTaken taken.Refused (λ (x : List ℕ). partsAt x at i m) (λ (t : Taken) (y : List ℕ). onTaken t (λ (d : Data) (next : ℕ). onField taken.Refused (additionsAt y next) (λ (v after : ℕ). taken.Is d after))) l at
+    (λ (r : Refusal). refl) hands (parts-sound l at i m h) (go (partsAt l at i m) refl)
+  where
+    hands : (t : Taken) (r : Refusal) (y : List ℕ) → seenTaken t ≡ refused r → onTaken t (λ (d : Data) (next : ℕ). onField taken.Refused (additionsAt y next) (λ (v after : ℕ). taken.Is d after)) ≡ taken.Refused r
+    hands (taken.Is d n) r y e = clash n r e
+    hands (taken.Refused q) r y e = ap taken.Refused (one-refusal q r e)
+
+    behind : (d : Data) (j : ℕ) → j ≤ length l → Sound seenTaken (λ (y : List ℕ). onField taken.Refused (additionsAt y j) (λ (v after : ℕ). taken.Is d after)) l j
+    behind d j w =
+        taken-field (λ (y : List ℕ). additionsAt y j) (λ (v after : ℕ) (y : List ℕ). taken.Is d after) l j (additions-sound l j w)
+        (λ (v after : ℕ) (e : additionsAt l j ≡ Value v after) (a : j ≤ after) (b : after ≤ length l). sound-value seenTaken (taken.Is d after) l after b refl)
+
+    go : (t : Taken) → partsAt l at i m ≡ t → (n : ℕ) → seenTaken t ≡ went n → at ≤ n → n ≤ length l
+        → Sound seenTaken (λ (y : List ℕ). onTaken t (λ (d : Data) (next : ℕ). onField taken.Refused (additionsAt y next) (λ (v after : ℕ). taken.Is d after))) l n
+    go (taken.Is d j) e n q a w =
+        let k : j ≡ n = one-place j n q in
+        subst (λ (z : ℕ). Sound seenTaken (λ (y : List ℕ). onField taken.Refused (additionsAt y j) (λ (v after : ℕ). taken.Is d after)) l z) k (behind d j (omega arith))
+    go (taken.Refused r) e n q a w = clash n r (sym q)
+
 pub data-sound : (l : List ℕ) (at : ℕ) → at ≤ length l → Sound seenTaken (λ (x : List ℕ). dataAt x at) l at
 unfolding dataWithin
 data-sound l at h =
-    taken-field (λ (x : List ℕ). extensionBit x at) _ l at (extension-sound l at h)
-    (λ (e p : ℕ) (f : extensionBit l at ≡ Value e p) (a : at ≤ p) (b : p ≤ length l).
+    taken-field (λ (x : List ℕ). bitField x at 1) _ l at (bit-sound l at 1 h)
+    (λ (e p : ℕ) (f : bitField l at 1 ≡ Value e p) (a : at ≤ p) (b : p ≤ length l).
     taken-field (λ (x : List ℕ). bitField x p 2) _ l p (bit-sound l p 2 b)
-    (λ (v q : ℕ) (g : bitField l p 2 ≡ Value v q) (c : p ≤ q) (d : q ≤ length l). parts-sound l q (leb 2 v) (eqb (v % 2) 1) d))
+    (λ (v q : ℕ) (g : bitField l p 2 ≡ Value v q) (c : p ≤ q) (d : q ≤ length l).
+    sound-cond seenTaken (eqb e 0) (λ (x : List ℕ). partsAt x q (leb 2 v) (eqb (v % 2) 1)) (λ (x : List ℕ). withAdditions x (partsAt x q (leb 2 v) (eqb (v % 2) 1))) l q
+    (λ (z : eqb e 0 ≡ true). parts-sound l q (leb 2 v) (eqb (v % 2) 1) d)
+    (λ (z : eqb e 0 ≡ false). added-sound l q (leb 2 v) (eqb (v % 2) 1) d)))
 
 -- ---- the leading fields
 

@@ -1,12 +1,13 @@
 -- The claims over any reader, and of the readers of fields.
 -- Assumes nothing.
 use mathlib.Core.Path.{_≡_, refl, ap, sym, subst, fun-ext, _∙_}
-use mathlib.Core.Bool.{Bool, true, false, cond, _&&_}
+use mathlib.Core.Bool.{Bool, true, false, cond, not, _&&_}
 use mathlib.Core.List.{List, [], _∷_}
 use Prim.Native.Nat.{ℕ, zero, suc, _+_, _-_, _*_, _≤_, _<_}
 use native.Mathlib.Omega.{arith}
 use native.Mathlib.Decide.{decLt}
 use borrow.Author.Tests.{le-leb, lt-leb, leb-true, leb-false}
+use lib.Count.{ones}
 use lib.Dec.{leb, ltb, eqb}
 use lib.ListN.{length, take, drop}
 use lib.Seq.{take-take, take-nil, length-take-le}
@@ -16,6 +17,7 @@ use Rattle.bits.specs.Read.{readBits}
 use Rattle.bits.specs.declared.Read.{Read}
 use Rattle.bits.specs.declared.Read.the-variants as read
 use Rattle.bits.proofs.Reading.{number-is}
+use Rattle.fields.specs.Additions.{additionCount, additionsThere, additionAt, steppedOver, additionsAt}
 use Rattle.fields.specs.Fields.{refusal, refusedAt, then, fieldOf, bitField, extensionBit, widthOf, wholeNumber, extensibleIndex, lengthAt, lengthFrom, longLength, lengthWithin, runAt, contentsAt, stringAt, sizedAt}
 use Rattle.fields.specs.declared.Fault.{Fault}
 use Rattle.fields.specs.declared.Fault.the-variants.{Short, Range, Extension, LengthForm, Limit, Tail}
@@ -544,3 +546,99 @@ unfolding sizedAt
 sized-sound l at unit least most ranged h =
     then-sound (λ (m : List ℕ). wholeNumber m at least most) (λ (n from : ℕ) (m : List ℕ). contentsAt m from unit n) l at (whole-sound l at least most ranged h)
     (λ (n from : ℕ) (e : wholeNumber l at least most ≡ Value n from) (a : at ≤ from) (b : from ≤ length l). run-sound l from (unit * n) n b)
+
+-- ---- additions from a later edition
+
+-- the count: seven bits, of which the first alone says whether it is the short form
+module _ (l : List ℕ) (at : ℕ) (h : at ≤ length l) where
+  counts : List ℕ → Field
+  counts m = additionCount m at
+
+  -- in the bits before it, it is missing
+  count-cut : counts (take at l) ≡ refusedAt at Short
+  unfolding counts additionCount extensionBit
+  count-cut = rw (bits-cut l at 1 h (omega arith))
+
+  module _ (b n : ℕ) (e : extensionBit l at ≡ Value b n) where
+    short-form : Went (λ (m : List ℕ). extensionBit m at) l at n
+    short-form = extension-sound l at h .next n (ap seenField e)
+
+    seven : (m : List ℕ) → extensionBit m at ≡ extensionBit l at → counts m ≡ then (bitField m at 7) (λ (v next : ℕ). Value (v + 1) next)
+    unfolding counts additionCount
+    seven m q = ap (λ (x : Field). then x (λ (c p : ℕ). then (bitField m at 7) (λ (v next : ℕ). Value (v + 1) next))) (q ∙ e)
+
+    counted : (x : Field) → bitField l at 7 ≡ x → Sound seenField counts l at
+    counted (Value v k) f =
+        let i = bits-are l at 7 v k f in
+        let p = i .place in
+        let q : n ≡ at + 1 = extension-place l at b n e in
+        went-sound seenField counts l at k (ap seenField (seven l refl ∙ ap (λ (x : Field). then x (λ (w next : ℕ). Value (w + 1) next)) f))
+        (record {
+          after = omega arith;
+          within = i .within;
+          same = λ (m : List ℕ) (a : Alike k l m).
+              seven m (short-form .same m (alike-less n k l m (omega arith) a)) ∙ ap (λ (x : Field). then x (λ (w next : ℕ). Value (w + 1) next)) (bits-alike l m at 7 k (omega arith) (i .within) a) ∙ sym (seven l refl);
+        })
+    counted (Refused r) f =
+        let z : r ≡ refusal at Short = short-only l at 7 r f in
+        placed-sound seenField counts l at (refusal at Short) (ap seenField (seven l refl ∙ ap (λ (x : Field). then x (λ (w next : ℕ). Value (w + 1) next)) (f ∙ ap Refused z)))
+        (record { after = omega arith; within = h; begins = λ (t : Short ≡ Tail → ⊥). ap seenField count-cut; settled = λ (t : Short ≡ Short → ⊥) (u : Short ≡ Tail → ⊥). absurd (t refl) })
+
+  form-read : (x : Field) → extensionBit l at ≡ x → Sound seenField counts l at
+  unfolding counts additionCount
+  form-read (Value b n) e = counted b n e (bitField l at 7) refl
+  form-read (Refused r) e =
+      then-sound (λ (m : List ℕ). extensionBit m at) (λ (b n : ℕ) (m : List ℕ). then (bitField m at 7) (λ (v next : ℕ). Value (v + 1) next)) l at (extension-sound l at h)
+      (λ (b n : ℕ) (p : extensionBit l at ≡ Value b n) (a : at ≤ n) (w : n ≤ length l). never (cc))
+
+  pub count-sound : Sound seenField (λ (m : List ℕ). additionCount m at) l at
+  unfolding counts
+  count-sound = form-read (extensionBit l at) refl
+
+-- a count is never none
+count-some : (l : List ℕ) (at n next : ℕ) → additionCount l at ≡ Value n next → 0 < n
+unfolding additionCount
+count-some l at n next e = first (extensionBit l at) e
+  where
+    second : (x : Field) → then x (λ (v k : ℕ). Value (v + 1) k) ≡ Value n next → 0 < n
+    second (Value v k) q = let z : v + 1 ≡ n = cc in omega arith
+    second (Refused r) q = never (cc)
+
+    first : (x : Field) → then x (λ (b p : ℕ). then (bitField l at 7) (λ (v k : ℕ). Value (v + 1) k)) ≡ Value n next → 0 < n
+    first (Value b p) q = second (bitField l at 7) q
+    first (Refused r) q = never (cc)
+
+pub there-sound : (l : List ℕ) (at n : ℕ) → 0 < n → at ≤ length l → Sound seenField (λ (m : List ℕ). additionsThere m at n) l at
+unfolding additionsThere
+there-sound l at n pos h =
+    judged (λ (m : List ℕ). bitField m at n) (λ (v next : ℕ). cond (eqb v 0) (refusedAt at Extension) (Value v next)) (λ (v : ℕ). not (eqb v 0)) (λ (v : ℕ). v) Extension l at h (bit-sound l at n h)
+    (λ (v k : ℕ) (p : not (eqb v 0) ≡ true). by true v k (eqb v 0) p)
+    (λ (v k : ℕ) (p : not (eqb v 0) ≡ false). by false v k (eqb v 0) p)
+    (λ (v k : ℕ) (e : bitField l at n ≡ Value v k) (p : not (eqb v 0) ≡ false). bits-cut l at n h pos)
+  where
+    by : (t : Bool) (v k : ℕ) (z : Bool) → not z ≡ t → cond z (refusedAt at Extension) (Value v k) ≡ cond t (Value v k) (refusedAt at Extension)
+    by true v k true p = never (cc)
+    by true v k false p = refl
+    by false v k true p = refl
+    by false v k false p = never (cc)
+
+pub addition-sound : (l : List ℕ) (at : ℕ) → at ≤ length l → Sound seenField (λ (m : List ℕ). additionAt m at) l at
+unfolding additionAt
+addition-sound l at h =
+    then-sound (λ (m : List ℕ). lengthAt m at) (λ (n from : ℕ) (m : List ℕ). contentsAt m from 8 n) l at (length-sound l at h)
+    (λ (n from : ℕ) (e : lengthAt l at ≡ Value n from) (a : at ≤ from) (b : from ≤ length l). run-sound l from (8 * n) n b)
+
+pub stepped-sound : (l : List ℕ) (k at : ℕ) → at ≤ length l → Sound seenField (λ (m : List ℕ). steppedOver m at k) l at
+unfolding steppedOver
+stepped-sound l zero at h = sound-value seenField (Value 0 at) l at h refl
+stepped-sound l (suc k) at h =
+    then-sound (λ (m : List ℕ). additionAt m at) (λ (n next : ℕ) (m : List ℕ). steppedOver m next k) l at (addition-sound l at h)
+    (λ (n next : ℕ) (e : additionAt l at ≡ Value n next) (a : at ≤ next) (b : next ≤ length l). stepped-sound l k next b)
+
+pub additions-sound : (l : List ℕ) (at : ℕ) → at ≤ length l → Sound seenField (λ (m : List ℕ). additionsAt m at) l at
+unfolding additionsAt
+additions-sound l at h =
+    then-sound (λ (m : List ℕ). additionCount m at) (λ (n p : ℕ) (m : List ℕ). then (additionsThere m p n) (λ (v q : ℕ). steppedOver m q (ones v))) l at (count-sound l at h)
+    (λ (n p : ℕ) (e : additionCount l at ≡ Value n p) (a : at ≤ p) (b : p ≤ length l).
+    then-sound (λ (m : List ℕ). additionsThere m p n) (λ (v q : ℕ) (m : List ℕ). steppedOver m q (ones v)) l p (there-sound l p n (count-some l at n p e) b)
+    (λ (v q : ℕ) (f : additionsThere l p n ≡ Value v q) (c : p ≤ q) (d : q ≤ length l). stepped-sound l (ones v) q d))

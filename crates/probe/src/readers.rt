@@ -19,6 +19,9 @@ pub(crate) fn read(q: Request, s: &[u8]) -> Answer {
         7 => Answer::Read(fields::contents(s, end, at, lo as usize, q.value as usize)),
         8 => Answer::Read(fields::string(s, end, at, unit, lo, hi)),
         9 => Answer::Read(fields::sized(s, end, at, unit, lo, hi)),
+        11 => Answer::Read(fields::additions(s, end, at)),
+        12 => Answer::Read(fields::addition_count(s, end, at)),
+        13 => Answer::Read(fields::additions_there(s, end, at, lo as usize)),
         _ => Answer::Unknown,
     }
 }

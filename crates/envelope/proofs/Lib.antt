@@ -4,8 +4,6 @@ pub mod Puts
 pub mod Sizes
 pub mod RoundTrip
 pub mod Strings
-pub mod Digits
-pub mod Lines
 pub mod Examples
 pub mod Longer
 pub mod Both

@@ -1,5 +1,4 @@
 pub mod Numbers
 pub mod Envelopes
 pub mod Strings
-pub mod Texts
 pub mod Examples

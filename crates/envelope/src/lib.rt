@@ -5,7 +5,6 @@ ghost use Rattle.envelope.specs.Envelopes.{refusalNumber, writtenNumber}
 
 pub mod groups; // groups.rt: the number at a position
 pub mod reading; // reading.rt: the envelope at a position
-pub mod reporting; // reporting.rt: the text that is printed of a string of envelopes
 pub mod writing; // writing.rt: an envelope into a lent buffer
 mod putting; // putting.rt: bytes and numbers into a buffer
 
@@ -92,12 +91,6 @@ impl Written {
             Written::Shape => Limit::SHAPE,
         }
     }
-}
-
-// What is answered for a text: the bytes that it takes of the buffer, or that the buffer is too small for any such text.
-pub enum Reported {
-    Bytes(usize),
-    Small,
 }
 
 fn wide(x: u8) -> u64

@@ -39,12 +39,12 @@ module _ (limit : ℕ) (z : Sized limit) where
   fits (whole p h) g = g .0
   fits (refused r p) g = omega arith
 
-  placed : (m : Mail) → Good limit m → placeOf m ≤ top
+  pub placed : (m : Mail) → Good limit m → placeOf m ≤ top
   placed (part p h) g = g .2
   placed (whole p h) g = g .1
   placed (refused r p) g = g
 
-  loads : (m : Mail) → Good limit m → loadAt limit (recordOf limit m) ≡ loadedBy (stateOf m) (length (heldOf m)) (placeOf m)
+  pub loads : (m : Mail) → Good limit m → loadAt limit (recordOf limit m) ≡ loadedBy (stateOf m) (length (heldOf m)) (placeOf m)
   loads m g = load-record limit m (fits m g) (z .most) (placed m g)
 
   keeps : (m x : Mail) → length (heldOf m) ≤ largest limit → length (heldOf x) ≤ largest limit → keep limit (length (heldOf m)) (recordOf limit m) x ≡ recordOf limit x
@@ -177,7 +177,7 @@ module _ (limit : ℕ) (z : Sized limit) where
       let c = bytes-front f (joinedUp fs) b in
       rw (hand-one (suc (length f)) m f g c (omega arith), hand-all (follow limit m f .mail) fs (good-follow limit z m f g c) (bytes-back f (joinedUp fs) b))
 
-  good-fresh : Good limit fresh
+  pub good-fresh : Good limit fresh
   good-fresh = (none-open limit, λ (k : ℕ). omega arith, omega arith)
 
   read-none : readAll limit 0 [] ≡ told [] fresh
@@ -247,7 +247,7 @@ module _ (limit : ℕ) (z : Sized limit) where
   end-stopped s Kind n h g = end-refused Kind (min n top) g
   end-stopped s Size n h g = end-refused Size (min n top) g
 
-  good-whole : (s : List ℕ) → AllBytes s → Good limit (wholeMail limit s)
+  pub good-whole : (s : List ℕ) → AllBytes s → Good limit (wholeMail limit s)
   good-whole s b = subst (λ (t : Told). Good limit (t .mail)) (whole-read limit z s b) (good-read limit z (suc (length s)) 0 s b (omega arith) (omega arith))
 
   pub ended-as-whole : (s : List ℕ) → AllBytes s → endAt limit (recordOf limit (wholeMail limit s)) ≡ wholeEnd limit s (walk limit s .ending)

@@ -6,3 +6,7 @@ pub mod Calls
 pub mod Whole
 pub mod EveryCut
 pub mod Answers
+pub mod Digits
+pub mod Lines
+pub mod Printed
+pub mod Examples

@@ -89,14 +89,22 @@ module _ (limit : ℕ) (m : Mail) (fits : length (heldOf m) ≤ largest limit) w
       rw (drop-at (headOf m) (heldOf m ++ zeros (largest limit - length (heldOf m))) head (length-head (stateOf m) (length (heldOf m)) (placeOf m)))
       (take-at (heldOf m) (zeros (largest limit - length (heldOf m))) (length (heldOf m)) refl)
 
-  by-head : largest limit < 65536 → placeOf m ≤ top → cond (leb (countIn (recordOf limit m)) (largest limit)) (loadedBy (getD (recordOf limit m) 0 0) (countIn (recordOf limit m)) (placeIn (recordOf limit m))) NoRecord ≡ loadedBy (stateOf m) (length (heldOf m)) (placeOf m)
+  state-record : getD (recordOf limit m) 0 0 ≡ stateOf m
   unfolding recordOf
-  by-head h p =
-      rw (count-in (stateOf m) (length (heldOf m)) (placeOf m) (padded (largest limit) (heldOf m)) (omega arith), state-in (stateOf m) (length (heldOf m)) (placeOf m) (padded (largest limit) (heldOf m)), place-in (stateOf m) (length (heldOf m)) (placeOf m) (padded (largest limit) (heldOf m)) p, le-leb (length (heldOf m)) (largest limit) fits)
+  state-record = state-in (stateOf m) (length (heldOf m)) (placeOf m) (padded (largest limit) (heldOf m))
+
+  pub count-record : largest limit < 65536 → countIn (recordOf limit m) ≡ length (heldOf m)
+  unfolding recordOf
+  count-record h = count-in (stateOf m) (length (heldOf m)) (placeOf m) (padded (largest limit) (heldOf m)) (omega arith)
+
+  pub place-record : placeOf m ≤ top → placeIn (recordOf limit m) ≡ placeOf m
+  unfolding recordOf
+  place-record p = place-in (stateOf m) (length (heldOf m)) (placeOf m) (padded (largest limit) (heldOf m)) p
 
   pub load-record : largest limit < 65536 → placeOf m ≤ top → loadAt limit (recordOf limit m) ≡ loadedBy (stateOf m) (length (heldOf m)) (placeOf m)
   unfolding loadAt
-  load-record h p = rw (eq-eqb (length (recordOf limit m)) (recordBytes limit) length-record) (by-head h p)
+  load-record h p =
+      rw (eq-eqb (length (recordOf limit m)) (recordBytes limit) length-record, count-record h, le-leb (length (heldOf m)) (largest limit) fits, state-record, place-record p)
 
 -- what a record has past q bytes of the envelope
 rest-zeros : (limit : ℕ) (m : Mail) (q : ℕ) → length (heldOf m) ≤ q → drop (head + q) (recordOf limit m) ≡ zeros (largest limit - q)

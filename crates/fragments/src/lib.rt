@@ -4,8 +4,10 @@ use envelope::Envelope;
 use envelope::Refusal;
 
 pub mod ending; // ending.rt: the input has ended
+pub mod reporting; // reporting.rt: the text that is printed of what arrives
 pub mod stored; // stored.rt: the record, fresh and loaded
 pub mod taking; // taking.rt: a fragment
+mod decimals; // decimals.rt: numbers in decimal digits
 mod missing; // missing.rt: what an unfinished envelope lacks
 mod putting; // putting.rt: bytes and zeros into the record
 
@@ -19,4 +21,17 @@ pub enum Taken {
     Refused(Refusal),
     // the range is no record
     Shape,
+}
+
+// What is answered for a text: the bytes that it takes of the buffer, or that the buffer is too small for any such text.
+pub enum Reported {
+    Bytes(usize),
+    Small,
+}
+
+impl Reported {
+    // The bytes that a buffer has at least for a header or a last line, and for each byte of a fragment. A line takes this many at most.
+    pub const LAST_ROOM: usize = 64;
+
+    pub const LINE_ROOM: usize = 29;
 }

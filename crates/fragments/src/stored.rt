@@ -1,11 +1,11 @@
 // The record: a lent range of which every byte has its meaning (specs/Record.antt).
 ghost use mathlib.Core.Path.{_≡_};
 ghost use Prim.Native.Nat.{_≤_};
-ghost use lib.ListN.{length};
+ghost use lib.ListN.{length, getD};
 ghost use lib.Seq.{sets};
 ghost use Rattle.envelope.specs.Envelopes.{mostBits};
 ghost use Rattle.fragments.specs.Mail.{head};
-ghost use Rattle.fragments.specs.Record.{after, eightOf, emptyOf, freshAt, headAt, loadAt, loadedBy, ofEight, ofTwo, recordBytes};
+ghost use Rattle.fragments.specs.Record.{after, countIn, eightOf, emptyOf, freshAt, headAt, loadAt, loadedBy, ofEight, ofTwo, placeIn, recordBytes};
 use crate::Taken;
 use crate::putting::put_bytes;
 use crate::putting::put_zeros;
@@ -76,6 +76,37 @@ fn load_by(state: u8, n: usize, place: u64) -> Loaded
     Loaded::NoRecord
 }
 
+// A byte of a range; 0 where there is none.
+fn byte_at(rec: &[u8], i: usize) -> u8
+    ensures { λ r. ⌜ r ≡ getD (now (rec .entry)) i 0 ⌝ }
+{
+    if rec.len() <= i {
+        return 0;
+    }
+    rec[i]
+}
+
+pub(crate) fn count_in(rec: &[u8]) -> usize
+    ensures { λ r. ⌜ r ≡ countIn (now (rec .entry)) ⌝ }
+{
+    of_two(byte_at(rec, 1), byte_at(rec, 2))
+}
+
+pub(crate) fn place_in(rec: &[u8]) -> u64
+    ensures { λ r. ⌜ r ≡ placeIn (now (rec .entry)) ⌝ }
+{
+    of_eight(
+        byte_at(rec, 3),
+        byte_at(rec, 4),
+        byte_at(rec, 5),
+        byte_at(rec, 6),
+        byte_at(rec, 7),
+        byte_at(rec, 8),
+        byte_at(rec, 9),
+        byte_at(rec, 10),
+    )
+}
+
 // What the bytes say.
 pub(crate) fn load(rec: &[u8]) -> Loaded
     ensures { λ r. ⌜ r ≡ loadAt mostBits (now (rec .entry)) ⌝ }
@@ -83,21 +114,11 @@ pub(crate) fn load(rec: &[u8]) -> Loaded
     if rec.len() != Loaded::SIZE {
         return Loaded::NoRecord;
     }
-    let n = of_two(rec[1], rec[2]);
+    let n = count_in(rec);
     if Loaded::LARGEST < n {
         return Loaded::NoRecord;
     }
-    let place = of_eight(
-        rec[3],
-        rec[4],
-        rec[5],
-        rec[6],
-        rec[7],
-        rec[8],
-        rec[9],
-        rec[10],
-    );
-    load_by(rec[0], n, place)
+    load_by(byte_at(rec, 0), n, place_in(rec))
 }
 
 fn eight_bytes(n: u64) -> [u8; 8]

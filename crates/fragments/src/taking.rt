@@ -76,7 +76,7 @@ pub(crate) fn is_unfinished(rec: &[u8], n: usize) -> bool
 }
 
 // Where the envelope behind n bytes begins.
-fn place_behind(place: u64, n: usize) -> u64
+pub(crate) fn place_behind(place: u64, n: usize) -> u64
     ensures { λ r. ⌜ r ≡ later place n ⌝ }
 {
     let by = n as u64;

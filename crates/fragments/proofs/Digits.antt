@@ -9,9 +9,9 @@ use lib.ListN.{length, set, length-append, length-set}
 use lib.Seq.{sets, set-comm}
 use lib.Pow.{pow-add}
 use borrow.Author.Tests.{lt-ltb, le-ltb}
 use Rattle.envelope.specs.Numbers.{Put}
-use Rattle.envelope.specs.Texts.{digits, decimal}
+use Rattle.fragments.specs.Texts.{digits, decimal}
 use Rattle.envelope.proofs.Puts.{sets-append}
 
 -- ---- the clauses
 

@@ -1,13 +1,13 @@
--- `envelope::putting::put_decimal` meets its contract. The loop keeps `Spelling`: the digits of what is left, put at the front, give the buffer that is meant.
+-- `fragments::decimals::put_decimal` meets its contract. The loop keeps `Spelling`: the digits of what is left, put at the front, give the buffer that is meant.
 -- Assumes nothing.
 use native.Mathlib.Omega.{arith}
 use borrow.Author.Needs.{needs}
 use mathlib.Core.Path.{_∙_}
 use Prim.Native.Nat.{_+_}
 use lib.ListN.{length-set}
-use Rattle.envelope.proofs.Digits.{Spelling, spelling-all, spelling-more, spelling-last}
-use Rattle.envelope.proofs.putting.put_decimal.Statement.{statement}
-use Rattle.envelope.proofs.putting.put_decimal.Tie as tie
+use Rattle.fragments.proofs.Digits.{Spelling, spelling-all, spelling-more, spelling-last}
+use Rattle.fragments.proofs.decimals.put_decimal.Statement.{statement}
+use Rattle.fragments.proofs.decimals.put_decimal.Tie as tie
 
 abbrev Inv-loop : tie.InvT-loop
 Inv-loop out₀ at n k v₀ i₀ out v i = Spelling out₀ out at n k v i

@@ -1,10 +1,10 @@
--- `envelope::putting::digit_count` meets its contract. The loop keeps `Counting`: the digits counted and those of what is left.
+-- `fragments::decimals::digit_count` meets its contract. The loop keeps `Counting`: the digits counted and those of what is left.
 -- Assumes nothing.
 use native.Mathlib.Omega.{arith}
 use borrow.Author.Needs.{needs}
-use Rattle.envelope.proofs.Digits.{Counting, counting-all, counting-more, counting-done}
-use Rattle.envelope.proofs.putting.digit_count.Statement.{statement}
-use Rattle.envelope.proofs.putting.digit_count.Tie as tie
+use Rattle.fragments.proofs.Digits.{Counting, counting-all, counting-more, counting-done}
+use Rattle.fragments.proofs.decimals.digit_count.Statement.{statement}
+use Rattle.fragments.proofs.decimals.digit_count.Tie as tie
 
 abbrev Inv-loop : tie.InvT-loop
 Inv-loop n v₀ k₀ v k = Counting n v k

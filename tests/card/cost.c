@@ -28,7 +28,7 @@ static const struct row rows[] = {
     {"least data", START_REQUEST, 1, PEAT_IDLE, 0, {0}, 0, PDU_NONE},
     {"largest data", START_REQUEST, 1, PEAT_IDLE, 0, {0}, 1, PDU_NONE},
     {"PROHIBITED, largest data", START_REQUEST, 1, PEAT_DIALOGUE, 0, {0}, 1, PDU_NONE},
-    {"largest data", DSC_START_REQUEST, 1, PEAT_IDLE, 0, {0}, 1, PDU_NONE},
+    {"mode dsc, largest data", START_REQUEST, 1, PEAT_IDLE, 0, {PEAT_DSC}, 1, PDU_NONE},
     {"largest data", START_RESPONSE, 2, PEAT_START_IND, 0, {0}, 1, PDU_NONE},
     {"largest data", DSC_START_RESPONSE, 2, PEAT_START_IND, 1, {0}, 1, PDU_NONE},
     {"message of 8 bits", MESSAGE_REQUEST, 1, PEAT_DIALOGUE, 0, {9}, 0, PDU_NONE},

@@ -546,10 +546,10 @@ static void open_dialogue(struct end *air, struct end *ground)
     uint64_t n;
     peat_fresh(RANGE(air->rec), PEAT_AIR, PEAT_NO_SECURITY);
     peat_fresh(RANGE(ground->rec), PEAT_GROUND, PEAT_NO_SECURITY);
-    n = peat_start_request(RANGE(air->rec), PEAT_CLASS_ANY, PEAT_NO_SECURITY, NULL, 0, NULL, 0, PEAT_NONE, NULL, 0, 0, END_RANGES(air));
+    n = peat_start(RANGE(air->rec), PEAT_CPDLC, PEAT_CLASS_ANY, PEAT_NO_SECURITY, PEAT_NO_DATA, END_RANGES(air));
     peat_d_start_indication(RANGE(ground->rec), PEAT_AIRCRAFT, PEAT_NO_SECURITY, PEAT_HIGH_PRIORITY, PEAT_LOW_ERROR_RATE, PEAT_CLASS_ANY,
         PEAT_USER_DATA, air->first, peat_apdu_bytes(n), END_RANGES(ground));
-    n = peat_start_response(RANGE(ground->rec), PEAT_ACCEPTED, NULL, 0, NULL, 0, PEAT_NONE, NULL, 0, 0, END_RANGES(ground));
+    n = peat_start_response(RANGE(ground->rec), PEAT_ACCEPTED, PEAT_NO_DATA, END_RANGES(ground));
     peat_d_start_confirmation(RANGE(air->rec), PEAT_ACCEPTED, PEAT_DS_USER, PEAT_NO_SECURITY, PEAT_USER_DATA, ground->first,
         peat_apdu_bytes(n), END_RANGES(air));
     if (peat_record_state(air->rec) != PEAT_DIALOGUE || peat_record_state(ground->rec) != PEAT_DIALOGUE)

@@ -16,7 +16,6 @@ static uint8_t first[PEAT_BUFFER_LEAST], second[PEAT_BUFFER_LEAST];
 
 #define RECORD(d) (d)->kept.record, sizeof (d)->kept.record
 #define BUFFERS first, sizeof first, second, sizeof second
-#define NO_DATA NULL, 0, NULL, 0, PEAT_NONE, NULL, 0, 0 /* no identifier, no message, a check of no bits */
 
 #define CLOSE_MS 1000 /* how long a dialogue that is over waits for room on its connection */
 
@@ -171,12 +170,12 @@ static unsigned act(struct bridge *b, struct dialogue *d, unsigned before, uint6
 void call_start(struct bridge *b, struct dialogue *d)
 {
     d->kept.run++;
-    act(b, d, PEAT_IDLE, peat_start_request(RECORD(d), PEAT_CLASS_ANY, PEAT_NO_SECURITY, NO_DATA, BUFFERS), "");
+    act(b, d, PEAT_IDLE, peat_start(RECORD(d), PEAT_CPDLC, PEAT_CLASS_ANY, PEAT_NO_SECURITY, PEAT_NO_DATA, BUFFERS), "");
 }
 
 void call_end(struct bridge *b, struct dialogue *d)
 {
-    act(b, d, state_of(d), peat_end_request(RECORD(d), NO_DATA, BUFFERS), "");
+    act(b, d, state_of(d), peat_end_request(RECORD(d), PEAT_NO_DATA, BUFFERS), "");
 }
 
 void call_abort(struct bridge *b, struct dialogue *d)
@@ -228,7 +227,8 @@ static void refuse(struct bridge *b, struct dialogue *d, uint64_t job, unsigned 
 
 static void offer(struct bridge *b, struct dialogue *d, const struct envelope *e)
 {
-    uint64_t answer = peat_message_request(RECORD(d), e->job, NULL, 0, e->body, (e->bits + 7u) / 8u, e->bits, NULL, 0, 0, BUFFERS);
+    const struct peat_data data = {.message = e->body, .message_len = (e->bits + 7u) / 8u, .message_bits = e->bits};
+    uint64_t answer = peat_message_request(RECORD(d), e->job, PEAT_DATA(data), BUFFERS);
     unsigned refusal = act(b, d, state_of(d), answer, "");
     if (refusal == PEAT_TAKEN) {
         b->metrics.taken++;

@@ -11,7 +11,7 @@
 
 void dialogue_start(struct dialogue *d, struct end *e)
 {
-    unsigned class_ = chance(PEAT_CLASS_H + 1);
+    unsigned class_ = chance(PEAT_CLASS_H + 1), mode;
     int i;
     if (!idle(air(d)) || !idle(ground(d)) || !quiet(d))
         return;
@@ -23,10 +23,9 @@ void dialogue_start(struct dialogue *d, struct end *e)
     }
     if (fault(FORGETS_HIGHEST))
         must((unsigned)peat_fresh(REC(e), e->user.side, PEAT_NO_SECURITY));
-    if (is_air(e) && chance(2))
-        must(end_act(e, "DSC-start request", peat_dsc_start_request(REC(e), class_, PEAT_NO_SECURITY, PEAT_NO_DATA, BUFFERS)));
-    else
-        must(end_act(e, "CPDLC-start request", peat_start_request(REC(e), class_, PEAT_NO_SECURITY, PEAT_NO_DATA, BUFFERS)));
+    mode = is_air(e) && chance(2) ? PEAT_DSC : PEAT_CPDLC;
+    must(end_act(e, mode == PEAT_DSC ? "start request, dsc" : "start request, cpdlc",
+        peat_start(REC(e), mode, class_, PEAT_NO_SECURITY, PEAT_NO_DATA, BUFFERS)));
 }
 
 static void start_response(struct end *e, unsigned dsc, unsigned result)

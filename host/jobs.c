@@ -34,13 +34,16 @@ static uint64_t request(struct end *e, uint64_t job, unsigned number, const uint
 {
     static struct clearance c; /* one call at a time */
     uint8_t check[4] = {0};
+    struct peat_data data = {.message = c.bit, .check = check, .check_len = sizeof check, .check_bits = 8 * sizeof check};
     unsigned i;
     must(clearance_read(&c, e->user.side, body, bits) ? PEAT_TAKEN : PEAT_SHAPE);
     if (is_air(e) || number != NO_NUMBER)
         clearance_set_number(&c, e->user.side, number);
     for (i = 0; i < (c.bits + 7) / 8; i++)
         check[i % 4] ^= c.bit[i];
-    return peat_message_request(REC(e), job, NULL, 0, c.bit, (c.bits + 7) / 8, c.bits - (unsigned)fault(DROPS_A_BIT), check, sizeof check, 32, BUFFERS);
+    data.message_len = (c.bits + 7) / 8;
+    data.message_bits = c.bits - (unsigned)fault(DROPS_A_BIT);
+    return peat_message_request(REC(e), job, PEAT_DATA(data), BUFFERS);
 }
 
 /* A job that was taken before comes again. The card says REPEAT, or outside a dialogue PROHIBITED, which it says of a new

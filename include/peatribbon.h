@@ -94,6 +94,27 @@ extern const char peat_archive_version[];
 #define PEAT_BUFFERS(first, second) PEAT_ARRAY(first), PEAT_ARRAY(second)
 #define PEAT_NO_DATA NULL, 0, NULL, 0, PEAT_NONE, NULL, 0, 0
 
+/* Message data, each part by its name, and PEAT_DATA, which hands a struct peat_data to a call of the user where its message
+   data belong. What is left zero is not there: no identifier, no message, a check of no bits. A message is there where its
+   pointer is not NULL, also one of no bits. So a message alone, in C:
+       struct peat_data data = {.message = bytes, .message_len = sizeof bytes, .message_bits = bits};
+       answer = peat_message_request(PEAT_ARRAY(rec), job, PEAT_DATA(data), PEAT_BUFFERS(first, second)); */
+struct peat_data {
+    const uint8_t *identifier; /* its contents octets */
+    size_t identifier_len;
+    const uint8_t *message; /* the bytes that are lent for it, and how many of their bits it has */
+    size_t message_len;
+    uint64_t message_bits;
+    const uint8_t *check; /* likewise */
+    size_t check_len;
+    uint64_t check_bits;
+};
+#define PEAT_DATA(data) \
+    (data).identifier, (data).identifier_len, (data).message, (data).message_len, peat_bits_given(&(data)), (data).check, (data).check_len, (data).check_bits
+
+/* the bits of the message as a call takes them: PEAT_NONE where there is none */
+static inline uint64_t peat_bits_given(const struct peat_data *data) { return data->message == NULL ? PEAT_NONE : data->message_bits; }
+
 /* ---- refusals */
 
 /* The machine's calls answer 0 to 5, the readers of a message, of message data and of an APDU 1, 2 and 10 to 17, the reader of
@@ -130,6 +151,9 @@ enum peat_refusal {
 enum peat_side { PEAT_AIR = 1, PEAT_GROUND = 2 };
 
 enum peat_state { PEAT_IDLE = 0, PEAT_START_REQ = 1, PEAT_START_IND = 2, PEAT_DIALOGUE = 3, PEAT_END = 4 };
+
+/* The mode of a start. An air end may start in both; a ground end has no downstream mode. */
+enum peat_mode { PEAT_CPDLC = 0, PEAT_DSC = 1 };
 
 enum peat_security { PEAT_NO_SECURITY = 0, PEAT_SECURED_EXCHANGE = 1 };
 
@@ -370,8 +394,8 @@ enum peat_apdu_kind {
 #define PEAT_APDU_DATA_AT 24
 #define PEAT_APDU_PART_BITS 8
 
-/* enum peat_apdu_kind; the reason of an abort (enum peat_user_reason, enum peat_provider_reason), the mode of a start (0 CPDLC,
-   1 DSC), else 0; and whether it has message data (1: a start or a send, 0: any other) */
+/* enum peat_apdu_kind; the reason of an abort (enum peat_user_reason, enum peat_provider_reason), the mode of a start (enum
+   peat_mode), else 0; and whether it has message data (1: a start or a send, 0: any other) */
 static inline unsigned peat_apdu_kind(uint64_t answer) { return peat_bits_of(answer, PEAT_APDU_KIND_AT, PEAT_APDU_PART_BITS); }
 static inline unsigned peat_apdu_number(uint64_t answer) { return peat_bits_of(answer, PEAT_APDU_NUMBER_AT, PEAT_APDU_PART_BITS); }
 static inline unsigned peat_apdu_has_data(uint64_t answer) { return peat_bits_of(answer, PEAT_APDU_DATA_AT, PEAT_APDU_PART_BITS); }
@@ -642,15 +666,10 @@ uint64_t peat_fresh(uint8_t *rec, size_t rec_len, uint64_t side, uint64_t policy
  * They write rec and first, and second stays.
  */
 
-/* CPDLC-start request. class_: enum peat_class. security: enum peat_security.
-   PROHIBITED unless IDLE. Invokes D-START request; the timer begins to run. */
-uint64_t peat_start_request(uint8_t *rec, size_t rec_len, uint64_t class_, uint64_t security,
-    const uint8_t *ids, size_t ids_len, const uint8_t *msgs, size_t msgs_len, uint64_t message,
-    const uint8_t *checks, size_t checks_len, uint64_t check,
-    uint8_t *first, size_t first_len, uint8_t *second, size_t second_len);
-
-/* DSC-start request, of the air user: as peat_start_request, with DSC. PROHIBITED at the ground end and unless IDLE. */
-uint64_t peat_dsc_start_request(uint8_t *rec, size_t rec_len, uint64_t class_, uint64_t security,
+/* Start request: the CPDLC-start request in mode PEAT_CPDLC, the DSC-start request in mode PEAT_DSC. mode: enum peat_mode;
+   PEAT_DSC is SHAPE at the ground end, in every state. class_: enum peat_class. security: enum peat_security.
+   PROHIBITED unless IDLE. Invokes D-START request; the timer begins to run, and in mode PEAT_DSC the record's DSC is set. */
+uint64_t peat_start(uint8_t *rec, size_t rec_len, uint64_t mode, uint64_t class_, uint64_t security,
     const uint8_t *ids, size_t ids_len, const uint8_t *msgs, size_t msgs_len, uint64_t message,
     const uint8_t *checks, size_t checks_len, uint64_t check,
     uint8_t *first, size_t first_len, uint8_t *second, size_t second_len);

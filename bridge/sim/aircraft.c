@@ -46,7 +46,6 @@ static uint8_t first[PEAT_BUFFER_LEAST], second[PEAT_BUFFER_LEAST];
 
 #define RECORD(a) (a)->record, sizeof (a)->record
 #define BUFFERS first, sizeof first, second, sizeof second
-#define NO_DATA NULL, 0, NULL, 0, PEAT_NONE, NULL, 0, 0
 #define JOBS_MOST 10000000
 
 static void on_signal(int signal)
@@ -117,12 +116,12 @@ static void act(struct aircraft *a, uint64_t answer)
     switch (peat_told(answer)) {
     case PEAT_START_INDICATION:
         account.opened++;
-        act(a, peat_start_response(RECORD(a), PEAT_ACCEPTED, NO_DATA, BUFFERS));
+        act(a, peat_start_response(RECORD(a), PEAT_ACCEPTED, PEAT_NO_DATA, BUFFERS));
         break;
     case PEAT_MESSAGE_INDICATION: see(a, second, peat_data_bytes(answer)); break;
     case PEAT_END_INDICATION:
         account.ended++;
-        act(a, peat_end_response(RECORD(a), PEAT_ACCEPTED, NO_DATA, BUFFERS));
+        act(a, peat_end_response(RECORD(a), PEAT_ACCEPTED, PEAT_NO_DATA, BUFFERS));
         break;
     }
 }
@@ -143,6 +142,7 @@ static void lose(struct aircraft *a)
 static void fly(struct aircraft *a)
 {
     uint8_t message[9];
+    const struct peat_data data = {.message = message, .message_len = sizeof message, .message_bits = 8 * sizeof message};
     if (peat_record_state(a->record) != PEAT_DIALOGUE)
         return;
     if (once_in(abort_once_in)) {
@@ -152,7 +152,7 @@ static void fly(struct aircraft *a)
         account.down++;
         pattern_number(message, ++a->down);
         message[8] = (uint8_t)a->number;
-        act(a, peat_message_request(RECORD(a), a->down, NULL, 0, message, sizeof message, 8 * sizeof message, NULL, 0, 0, BUFFERS));
+        act(a, peat_message_request(RECORD(a), a->down, PEAT_DATA(data), BUFFERS));
     }
 }
 

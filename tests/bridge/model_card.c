@@ -25,7 +25,10 @@ static struct range lent(const uint8_t *at, size_t len) { return (struct range){
 
 uint64_t peat_fresh(RECORD, uint64_t side, uint64_t policy) { ASK(FRESH, .rec = {rec, rec_len}, .n = {side, policy}); }
 
-uint64_t peat_start_request(RECORD, uint64_t class_, uint64_t security, MESSAGE_DATA, BUFFERS) { ASK(START_REQUEST, BASE, WITH_MESSAGE, .n = {class_, security}); }
+uint64_t peat_start(RECORD, uint64_t mode, uint64_t class_, uint64_t security, MESSAGE_DATA, BUFFERS)
+{
+    ASK(START_REQUEST, BASE, WITH_MESSAGE, .n = {mode, class_, security});
+}
 uint64_t peat_start_response(RECORD, uint64_t result, MESSAGE_DATA, BUFFERS) { ASK(START_RESPONSE, BASE, WITH_MESSAGE, .n = {result}); }
 uint64_t peat_message_request(RECORD, uint64_t job, MESSAGE_DATA, BUFFERS) { ASK(MESSAGE_REQUEST, BASE, WITH_MESSAGE, .n = {job}); }
 uint64_t peat_end_request(RECORD, MESSAGE_DATA, BUFFERS) { ASK(END_REQUEST, BASE, WITH_MESSAGE); }

@@ -13,8 +13,7 @@ static uint64_t card_call(enum which w, const struct args *a)
 #define OUT a->first.at, a->first.len, a->second.at, a->second.len
     const uint64_t *n = a->n;
     switch (w) {
-    case START_REQUEST: return peat_start_request(REC, n[0], n[1], DATA, OUT);
-    case DSC_START_REQUEST: return peat_dsc_start_request(REC, n[0], n[1], DATA, OUT);
+    case START_REQUEST: return peat_start(REC, n[0], n[1], n[2], DATA, OUT);
     case START_RESPONSE: return peat_start_response(REC, n[0], DATA, OUT);
     case DSC_START_RESPONSE: return peat_dsc_start_response(REC, n[0], DATA, OUT);
     case MESSAGE_REQUEST: return peat_message_request(REC, n[0], DATA, OUT);
@@ -48,7 +47,7 @@ static uint64_t card_call(enum which w, const struct args *a)
 }
 
 static const char *const names[CALLS] = {
-    "peat_start_request", "peat_dsc_start_request", "peat_start_response", "peat_dsc_start_response", "peat_message_request", "peat_end_request",
+    "peat_start", "peat_start_response", "peat_dsc_start_response", "peat_message_request", "peat_end_request",
     "peat_dsc_end_request", "peat_end_response", "peat_dsc_end_response", "peat_user_abort", "peat_timer_expiry", "peat_system_error",
     "peat_d_start_indication", "peat_d_start_confirmation", "peat_d_data_indication", "peat_d_end_indication", "peat_d_end_confirmation",
     "peat_d_abort_indication", "peat_d_p_abort_indication", "peat_fresh", "peat_read_envelope", "peat_envelope_job", "peat_write_envelope",

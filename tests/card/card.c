@@ -438,7 +438,7 @@ static void random_call(enum which w, struct args *a)
     for (i = 0; i < 5; i++)
         a->n[i] = code(1);
     switch (w) {
-    case START_REQUEST: case DSC_START_REQUEST: a->n[0] = code(8); break;
+    case START_REQUEST: a->n[1] = code(8); break;
     case MESSAGE_REQUEST: a->n[0] = once_in(3) ? below(256) : any(); break;
     case USER_ABORT: a->n[0] = once_in(4) ? NONE : code(12); break;
     case D_START_CONFIRMATION: a->n[0] = code(2); break;
@@ -470,15 +470,19 @@ static void random_call(enum which w, struct args *a)
         random_message(a);
 }
 
-/* how often a call came to each side in each state and DSC, and how often each side invoked and told each primitive */
-static unsigned long cells[2][5][2][CALLS], invoked[2][16], reported[2][16];
+/* how often a call came to each side in each state and DSC, of the start those in mode dsc apart, and how often each side invoked and
+   told each primitive */
+static unsigned long cells[2][5][2][CALLS], dsc_starts[2][5][2], invoked[2][16], reported[2][16];
 
-static void seen(enum which w, const uint8_t *rec, uint64_t said)
+static void seen(enum which w, const struct args *a, const uint8_t *rec, uint64_t said)
 {
     unsigned side = peat_record_side(rec) - 1;
     if (w >= FRESH || said == PEAT_ROOM || said == PEAT_SHAPE)
         return;
-    cells[side][peat_record_state(rec)][peat_record_dsc(rec)][w]++;
+    if (w == START_REQUEST && a->n[0] == PEAT_DSC)
+        dsc_starts[side][peat_record_state(rec)][peat_record_dsc(rec)]++;
+    else
+        cells[side][peat_record_state(rec)][peat_record_dsc(rec)][w]++;
     if (peat_refusal(said) == PEAT_TAKEN) {
         invoked[side][peat_invoked(said)]++;
         reported[side][peat_told(said)]++;
@@ -491,9 +495,11 @@ static void all_seen(void)
     unsigned long least = (unsigned long)-1;
     for (side = 0; side < 2; side++) {
         for (state = 0; state < 5; state++)
-            for (dsc = 0; dsc < 2; dsc++)
+            for (dsc = 0; dsc < 2; dsc++) {
                 for (w = 0; w < FRESH; w++)
                     least = cells[side][state][dsc][w] < least ? cells[side][state][dsc][w] : least;
+                check(side == 0 ? dsc_starts[side][state][dsc] >= 100 : dsc_starts[side][state][dsc] == 0, "mode dsc hardly reached a state, or the ground end");
+            }
         for (x = 0; x < 16; x++) {
             check((invoked[side][x] > 0) == (x <= PEAT_D_ABORT_REQUEST), "a primitive of the dialogue service that no call, or a wrong one, invokes");
             check((reported[side][x] > 0) == (x <= PEAT_PROVIDER_ABORT_INDICATION), "a user primitive that no call, or a wrong one, invokes");
@@ -548,7 +554,7 @@ static void random_calls(unsigned long calls)
         if (!agrees((enum which)w, &a, &said) && wrong[w]++ == 0)
             printf("card: %s, call %lu: answers %llx, which is not as the model has it\n", names[w], n, (unsigned long long)said);
         answered[w][kind_of_answer((enum which)w, &a, said)]++;
-        seen((enum which)w, before, said);
+        seen((enum which)w, &a, before, said);
     }
     if (calls >= 500000)
         all_seen();
@@ -623,6 +629,56 @@ static void edges(void)
         check(record, "a record of another length");
         check(codes, "codes of no type");
     }
+}
+
+/* ---- the start: every record that the bytes can say, and others, with each mode and codes that are none, and with what else is refused */
+
+/* The record of a number below 768: each side, state and flag, and sides and states that are none. 1: it is a record. */
+static int numbered_record(struct args *a, unsigned n)
+{
+    int i;
+    set_record(a, n % 4, n / 4 % 6);
+    for (i = 2; i < 7; i++)
+        a->rec.at[i] = (uint8_t)(n / 24 >> (i - 2) & 1);
+    return a->rec.at[0] != 0 && a->rec.at[0] != 3 && a->rec.at[1] != 5;
+}
+
+/* A start with that record; a number below 216 says what else it is given. Answers what it must be answered. */
+static unsigned numbered_start(struct args *a, unsigned n, unsigned v)
+{
+    static const uint64_t modes[] = {PEAT_CPDLC, PEAT_DSC, 2, 256, (uint64_t)1 << 63, NONE}, bits[] = {NONE, 8, 9};
+    int record = numbered_record(a, n), mode;
+    a->n[0] = modes[v % 6];
+    a->n[1] = PEAT_CLASS_H + v / 6 % 2;
+    a->n[2] = PEAT_SECURED_EXCHANGE + v / 12 % 2;
+    lend(a, 2, 1);
+    a->message = bits[v / 24 % 3]; /* none, one of all the lent bits, one of more */
+    lend(a, 5, PEAT_BUFFER_LEAST - (v / 72 == 1));
+    lend(a, 6, PEAT_BUFFER_LEAST - (v / 72 == 2));
+    mode = a->n[0] == PEAT_CPDLC || (a->n[0] == PEAT_DSC && a->rec.at[0] == PEAT_AIR);
+    if (v / 72 != 0)
+        return PEAT_ROOM;
+    if (!record || !mode || v / 6 % 4 != 0 || a->message == 9)
+        return PEAT_SHAPE;
+    return a->rec.at[1] == PEAT_IDLE ? PEAT_TAKEN : PEAT_PROHIBITED;
+}
+
+static void start_everywhere(void)
+{
+    unsigned long calls = 0, taken[2] = {0, 0};
+    unsigned n, v;
+    int right = 1;
+    for (n = 0; n < 768; n++)
+        for (v = 0; v < 216; v++, calls++) {
+            struct args a;
+            uint64_t said;
+            unsigned want = numbered_start(&a, n, v);
+            right &= agrees(START_REQUEST, &a, &said) && peat_refusal(said) == want;
+            if (want == PEAT_TAKEN)
+                taken[a.n[0]]++;
+        }
+    printf("%lu starts over every record: %lu taken in mode cpdlc, %lu in mode dsc\n", calls, taken[PEAT_CPDLC], taken[PEAT_DSC]);
+    check(right && taken[PEAT_DSC] > 0 && taken[PEAT_CPDLC] == 2 * taken[PEAT_DSC], "a start is as the model has it, in each mode, for every record");
 }
 
 /* ---- edges of the envelope's calls */
@@ -984,7 +1040,7 @@ static void fresh(void)
 /* the ground end opens, the air end accepts */
 static void opens(void)
 {
-    uint64_t n = sent(peat_start_request(GROUND_REC, PEAT_CLASS_C, PEAT_NO_SECURITY, BARE, BUFFERS));
+    uint64_t n = sent(peat_start(GROUND_REC, PEAT_CPDLC, PEAT_CLASS_C, PEAT_NO_SECURITY, BARE, BUFFERS));
     check(invokes(n, PEAT_D_START_REQUEST, PEAT_CLASS_C) && peat_record_timer(ground), "CPDLC-start request");
     n = peat_d_start_indication(AIR_REC, PEAT_FACILITY, PEAT_NO_SECURITY, 1, 1, PEAT_CLASS_C, LINE, BUFFERS);
     check(told(n, PEAT_START_INDICATION, PEAT_CLASS_C, 0) && states(PEAT_START_IND, PEAT_START_REQ), "CPDLC-start indication");
@@ -1066,7 +1122,7 @@ static void downstream(void)
 {
     uint64_t n;
     fresh();
-    n = sent(peat_dsc_start_request(AIR_REC, PEAT_CLASS_ANY, PEAT_NO_SECURITY, BARE, BUFFERS));
+    n = sent(peat_start(AIR_REC, PEAT_DSC, PEAT_CLASS_ANY, PEAT_NO_SECURITY, BARE, BUFFERS));
     check(invokes(n, PEAT_D_START_REQUEST, 0) && peat_record_dsc(air), "DSC-start request");
     n = peat_d_start_indication(GROUND_REC, PEAT_AIRCRAFT, PEAT_NO_SECURITY, 1, 1, 0, LINE, BUFFERS);
     check(told(n, PEAT_START_INDICATION, 0, 1) && peat_record_dsc(ground), "DSC-start indication");
@@ -1119,7 +1175,7 @@ static void timer(void)
     uint64_t n;
     fresh();
     check(peat_timer_expiry(AIR_REC, BUFFERS) == PEAT_PROHIBITED, "an expiry while no timer runs");
-    sent(peat_start_request(AIR_REC, PEAT_CLASS_A, PEAT_NO_SECURITY, BARE, BUFFERS));
+    sent(peat_start(AIR_REC, PEAT_CPDLC, PEAT_CLASS_A, PEAT_NO_SECURITY, BARE, BUFFERS));
     n = peat_d_start_indication(GROUND_REC, PEAT_AIRCRAFT, PEAT_NO_SECURITY, 1, 1, PEAT_CLASS_A, LINE, BUFFERS);
     n = sent(peat_timer_expiry(AIR_REC, BUFFERS));
     check(invokes(n, PEAT_D_ABORT_REQUEST, PEAT_PROVIDER) && peat_told(n) == PEAT_PROVIDER_ABORT_INDICATION &&
@@ -1151,16 +1207,16 @@ static void largest(void)
     uint64_t n;
     fresh();
     fill(ids, sizeof ids), fill(text, sizeof text), fill(checks, sizeof checks);
-    n = sent(peat_dsc_start_request(AIR_REC, 0, 0, ids, 16, text, 2048, 16383, checks, 8, 64, BUFFERS));
+    n = sent(peat_start(AIR_REC, PEAT_DSC, 0, 0, ids, 16, text, 2048, 16383, checks, 8, 64, BUFFERS));
     check(invokes(n, PEAT_D_START_REQUEST, 0) && peat_apdu_bits(n) == 16615 && peat_apdu_bytes(n) == 2077, "the largest APDU is 2,077 bytes");
     n = peat_d_start_indication(GROUND_REC, PEAT_AIRCRAFT, 0, 1, 1, 0, LINE, BUFFERS);
     check(told(n, PEAT_START_INDICATION, 0, 1) && peat_data_bits(n) == 3 + 8 + 128 + 16 + 16383 + 8 + 64 && peat_data_bits(n) == 16610, "it is delivered whole");
     fresh();
-    check(peat_start_request(AIR_REC, 0, 0, ids, 17, text, 2048, 16383, checks, 8, 64, BUFFERS) == PEAT_SHAPE, "17 octets");
-    check(peat_start_request(AIR_REC, 0, 0, ids, 16, text, 2049, 16384, checks, 8, 64, BUFFERS) == PEAT_SHAPE, "16,384 bits");
-    check(peat_start_request(AIR_REC, 0, 0, ids, 16, text, 2047, 16383, checks, 8, 64, BUFFERS) == PEAT_SHAPE, "more bits than the lent bytes hold");
-    check(peat_start_request(AIR_REC, 0, 0, ids, 16, text, 2048, 16383, checks, 9, 65, BUFFERS) == PEAT_SHAPE, "a check of 65 bits");
-    check(peat_start_request(AIR_REC, 0, 0, ids, 16, text, 2048, 16383, checks, 7, 64, BUFFERS) == PEAT_SHAPE, "a check that its bytes do not hold");
+    check(peat_start(AIR_REC, PEAT_CPDLC, 0, 0, ids, 17, text, 2048, 16383, checks, 8, 64, BUFFERS) == PEAT_SHAPE, "17 octets");
+    check(peat_start(AIR_REC, PEAT_CPDLC, 0, 0, ids, 16, text, 2049, 16384, checks, 8, 64, BUFFERS) == PEAT_SHAPE, "16,384 bits");
+    check(peat_start(AIR_REC, PEAT_CPDLC, 0, 0, ids, 16, text, 2047, 16383, checks, 8, 64, BUFFERS) == PEAT_SHAPE, "more bits than the lent bytes hold");
+    check(peat_start(AIR_REC, PEAT_CPDLC, 0, 0, ids, 16, text, 2048, 16383, checks, 9, 65, BUFFERS) == PEAT_SHAPE, "a check of 65 bits");
+    check(peat_start(AIR_REC, PEAT_CPDLC, 0, 0, ids, 16, text, 2048, 16383, checks, 7, 64, BUFFERS) == PEAT_SHAPE, "a check that its bytes do not hold");
 }
 
 int main(int argc, char **argv)
@@ -1175,6 +1231,7 @@ int main(int argc, char **argv)
     largest();
     later_edition();
     edges();
+    start_everywhere();
     known_envelopes();
     damaged_envelopes();
     written_envelopes();

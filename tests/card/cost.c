@@ -33,7 +33,7 @@ static const struct row rows[] = {
     {"message of 2,048 bits", START_REQUEST, 1, PEAT_IDLE, 0, {0}, MIDDLE, PDU_NONE},
     {"largest data", START_REQUEST, 1, PEAT_IDLE, 0, {0}, LARGEST, PDU_NONE},
     {"PROHIBITED, largest data", START_REQUEST, 1, PEAT_DIALOGUE, 0, {0}, LARGEST, PDU_NONE},
-    {"largest data", DSC_START_REQUEST, 1, PEAT_IDLE, 0, {0}, LARGEST, PDU_NONE},
+    {"mode dsc, largest data", START_REQUEST, 1, PEAT_IDLE, 0, {PEAT_DSC}, LARGEST, PDU_NONE},
     {"largest data", START_RESPONSE, 2, PEAT_START_IND, 0, {0}, LARGEST, PDU_NONE},
     {"largest data", DSC_START_RESPONSE, 2, PEAT_START_IND, 1, {0}, LARGEST, PDU_NONE},
     {"message of 8 bits", MESSAGE_REQUEST, 1, PEAT_DIALOGUE, 0, {9}, LEAST, PDU_NONE},

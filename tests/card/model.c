@@ -346,10 +346,10 @@ static struct out goes(const struct rec *r, unsigned state)
 
 /* ---- codes (document 01: SHAPE) */
 
-static int shapely(enum which w, const uint64_t *n)
+static int shapely(enum which w, unsigned side, const uint64_t *n)
 {
     switch (w) {
-    case START_REQUEST: case DSC_START_REQUEST: return n[0] <= 8 && n[1] <= 1;
+    case START_REQUEST: return (n[0] == 0 || (n[0] == 1 && side == AIR)) && n[1] <= 8 && n[2] <= 1; /* document 02, E7 */
     case START_RESPONSE: case DSC_START_RESPONSE: case END_RESPONSE: case DSC_END_RESPONSE: return n[0] <= 1;
     case MESSAGE_REQUEST: return n[0] >= 1;
     case USER_ABORT: return n[0] == NONE || n[0] <= 12;
@@ -362,14 +362,15 @@ static int shapely(enum which w, const uint64_t *n)
 
 static int qos_right(const uint64_t *n) { return n[2] == 1 && n[3] == 1 && n[4] <= 8; }
 
-static struct out starts(const struct rec *r, const uint64_t *n, unsigned dsc)
+/* mode, class, security */
+static struct out starts(const struct rec *r, const uint64_t *n)
 {
     struct out o = goes(r, REQ);
-    if (dsc)
+    if (n[0] == 1)
         o.rec.dsc = 1;
     o.rec.timer = o.rec.active = 1;
-    o.rec.request = (unsigned)n[1];
-    return sends(o, D_START_REQ, (unsigned)n[0], (unsigned)n[1], START, dsc);
+    o.rec.request = (unsigned)n[2];
+    return sends(o, D_START_REQ, (unsigned)n[1], (unsigned)n[2], START, (unsigned)n[0]);
 }
 
 static struct out message(const struct rec *r, const struct args *a)
@@ -400,9 +401,8 @@ static struct out air_step(enum which w, const struct rec *r, const struct args 
     unsigned s = r->state, x = (unsigned)n[0];
     struct out o;
     switch (w) {
-    case START_REQUEST: return s == IDLE ? starts(r, n, 0) : refuse(r, 3);     /* 2.3.5.3.7 */
-    case DSC_START_REQUEST: return s == IDLE ? starts(r, n, 1) : refuse(r, 3); /* 3.5.3.9 */
-    case START_RESPONSE:                                                      /* 2.3.5.3.8 */
+    case START_REQUEST: return s == IDLE ? starts(r, n) : refuse(r, 3); /* 2.3.5.3.7; 3.5.3.9 */
+    case START_RESPONSE:                                               /* 2.3.5.3.8 */
         return s == IND && !r->dsc ? sends(goes(r, x == 0 ? DLG : IDLE), D_START_RSP, x, r->policy, SEND, 0) : refuse(r, 3);
     case MESSAGE_REQUEST: /* 3.5.3.10 */
         return s == DLG || (s == END && !r->dsc) ? message(r, a) : refuse(r, 3);
@@ -481,8 +481,8 @@ static struct out ground_step(enum which w, const struct rec *r, const struct ar
     unsigned st = r->state, accepted = n[0] == 0, fits;
     struct out o;
     switch (w) {
-    case START_REQUEST: if (st == IDLE) return starts(r, n, 0); break; /* 2.3.5.5.7 */
-    case START_RESPONSE: case DSC_START_RESPONSE:                      /* 2.3.5.5.8, 2.3.5.5.9 */
+    case START_REQUEST: if (st == IDLE) return starts(r, n); break; /* 2.3.5.5.7 */
+    case START_RESPONSE: case DSC_START_RESPONSE:                   /* 2.3.5.5.8, 2.3.5.5.9 */
         if (st == IND && r->dsc == (w == DSC_START_RESPONSE))
             return sends(goes(r, accepted ? DLG : IDLE), D_START_RSP, (unsigned)n[0], r->policy, SEND, 0);
         break;
@@ -743,7 +743,7 @@ uint64_t model_call(enum which w, struct args *a)
     }
     if (a->first.len < BUFFER_LEAST || a->second.len < BUFFER_LEAST)
         return 1;
-    if (!load(a->rec, &r) || (has_data(w) && !data_fits(a)) || (is_service(w) && w != D_P_ABORT_INDICATION && a->given > 1) || !shapely(w, a->n))
+    if (!load(a->rec, &r) || (has_data(w) && !data_fits(a)) || (is_service(w) && w != D_P_ABORT_INDICATION && a->given > 1) || !shapely(w, r.side, a->n))
         return 2;
     if (is_service(w))
         p = received(w, &r, a);

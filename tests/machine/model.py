@@ -79,8 +79,8 @@ def no_instruction(r, exists=True):
     return provider_abort(r, PROTO if exists else None, PROTO)
 
 
-def shape(ev):
-    """Codes outside their types; received quality of service is any number."""
+def shape(ev, modes):
+    """Codes outside their types; received quality of service is any number. modes: those of the machine's start request (document 02, E7)."""
     name, p = ev
     two, three = (0, 1), (0, 1, 2)
 
@@ -91,8 +91,8 @@ def shape(ev):
             return 0 <= a[1] <= 7
         return True
 
-    if name in ("CPDLC-start request", "DSC-start request"):
-        return 0 <= p["class"] <= 8 and p["security"] in two
+    if name == "start request":
+        return p["mode"] in modes and 0 <= p["class"] <= 8 and p["security"] in two
     if name in ("CPDLC-start response", "DSC-start response", "CPDLC-end response", "DSC-end response"):
         return p["result"] in two
     if name == "CPDLC-message request":
@@ -124,27 +124,20 @@ def is_start(a):
 
 def air(r, ev):
     name, p = ev
-    if not shape(ev):
+    if not shape(ev, ("cpdlc", "dsc")):
         return refuse(r, 2)
     s, dsc = r.state, r.dsc
 
     # ---- the user: what has no action is prohibited (2.3.5.3.1.1)
-    if name == "CPDLC-start request":                                   # 2.3.5.3.7
+    if name == "start request":                                         # 2.3.5.3.7; 3.5.3.9
         if s != IDLE:
             return refuse(r, 3)
         n = to(r, REQ)
+        if p["mode"] == "dsc":
+            n.dsc = True
         n.timer, n.active, n.request = True, True, p["security"]
         o = Out(n)
-        o.ds, o.apdu = ("D-START request", 1, 1, p["class"], p["security"]), ("start", "cpdlc")
-        return o
-    if name == "DSC-start request":                                     # 3.5.3.9
-        if s != IDLE:
-            return refuse(r, 3)
-        n = to(r, REQ)
-        n.dsc = True
-        n.timer, n.active, n.request = True, True, p["security"]
-        o = Out(n)
-        o.ds, o.apdu = ("D-START request", 1, 1, p["class"], p["security"]), ("start", "dsc")
+        o.ds, o.apdu = ("D-START request", 1, 1, p["class"], p["security"]), ("start", p["mode"])
         return o
     if name == "CPDLC-start response":                                  # 2.3.5.3.8
         if s != IND or dsc:
@@ -290,7 +283,7 @@ def air(r, ev):
 
 def ground(r, ev):
     name, p = ev
-    if not shape(ev):
+    if not shape(ev, ("cpdlc",)):
         return refuse(r, 2)
     st = r.state
 
@@ -314,7 +307,7 @@ def ground(r, ev):
         return o
 
     # ---- the user: what has no action is prohibited (2.3.5.5.1.1)
-    if name == "CPDLC-start request" and st == IDLE:                    # 2.3.5.5.7
+    if name == "start request" and st == IDLE:                          # 2.3.5.5.7
         n = to(r, REQ)
         n.timer = n.active = True
         n.request = p["security"]
@@ -409,13 +402,17 @@ def rows(policy):
     def title(*parts):
         return ", ".join(x for x in parts if x)
 
+    def asked(mode):
+        return title("start request", mode), ("start request", {"mode": mode, "class": 2, "security": policy})
+
     for kind in ("CPDLC", "DSC"):
-        yield kind + "-start request", (kind + "-start request", {"class": 2, "security": policy})
+        yield asked(kind.lower())
         for n in (0, 1):
             yield title(kind + "-start response", results[n]), (kind + "-start response", {"result": n})
         yield kind + "-end request", (kind + "-end request", {})
         for n in (0, 1):
             yield title(kind + "-end response", results[n]), (kind + "-end response", {"result": n})
+    yield asked("no mode")
     for message, job in ((True, 8), (False, 8), (True, 7), (False, 7), (True, 0)):
         yield title("CPDLC-message request", "job %d" % job, "" if message else "no message"), (
             "CPDLC-message request", {"message": message, "job": job})
@@ -516,13 +513,13 @@ def jobs():
         go("CPDLC-message request, job 7", ("CPDLC-message request", {"message": True, "job": 7}))
 
     seven()
-    go("CPDLC-start request", ("CPDLC-start request", {"class": 0, "security": 0}))
+    go("start request, cpdlc", ("start request", {"mode": "cpdlc", "class": 0, "security": 0}))
     go("D-START confirmation, accepted, send", ("D-START confirmation", {"result": 0, "source": 0, "security": 0, "apdu": SEND}))
     seven()
     seven()
     go("D-END indication, send", ("D-END indication", {"apdu": SEND}))
     go("CPDLC-end response, accepted", ("CPDLC-end response", {"result": 0}))
-    go("CPDLC-start request", ("CPDLC-start request", {"class": 0, "security": 0}))
+    go("start request, cpdlc", ("start request", {"mode": "cpdlc", "class": 0, "security": 0}))
     go("D-START confirmation, accepted, send", ("D-START confirmation", {"result": 0, "source": 0, "security": 0, "apdu": SEND}))
     seven()
 
@@ -542,7 +539,7 @@ def sent_no(o):
 def control():
     """For each record and call 0 if not taken, else 100 for the entry sent plus the next control; for each record and primitive
     10 if quiet, 100 if it aborts, 1000 more if handed out, plus the next control."""
-    calls = [(k + "-start request", {"class": 0, "security": 0}) for k in ("CPDLC", "DSC")]
+    calls = [("start request", {"mode": k, "class": 0, "security": 0}) for k in ("cpdlc", "dsc")]
     calls += [(k + "-start response", {"result": x}) for k in ("CPDLC", "DSC") for x in (0, 1)]
     calls += [("CPDLC-message request", {"message": True, "job": 8})]
     calls += [(k + "-end request", {}) for k in ("CPDLC", "DSC")]

@@ -40,7 +40,7 @@ def rsp(name, result):
 
 
 DATA, D_END = ("D-DATA indication", {"apdu": SEND}), ("D-END indication", {"apdu": SEND})
-START_REQ, DSC_REQ = (("CPDLC-start request", {"class": 0, "security": 0}), ("DSC-start request", {"class": 0, "security": 0}))
+START_REQ, DSC_REQ = (("start request", {"mode": mode, "class": 0, "security": 0}) for mode in ("cpdlc", "dsc"))
 MESSAGE = ("CPDLC-message request", {"message": True, "job": 8})
 ABORT = ("CPDLC-user-abort request", {"given": True, "reason": 0})
 D_USER = ("D-ABORT indication", {"originator": 0, "apdu": ("abort user", 0)})

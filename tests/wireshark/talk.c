@@ -96,8 +96,7 @@ static uint64_t carried(struct end *from, uint64_t answer)
 static uint64_t start(struct end *e, int dsc)
 {
     printf("%s: %s (2)%s\n", type_of(e), e == &air ? "startdown" : "startup", dsc ? " | mode: dsc (1)" : "");
-    return carried(e, dsc ? peat_dsc_start_request(REC(e), PEAT_CLASS_ANY, PEAT_NO_SECURITY, PEAT_NO_DATA, BUFFERS(e))
-                          : peat_start_request(REC(e), PEAT_CLASS_ANY, PEAT_NO_SECURITY, PEAT_NO_DATA, BUFFERS(e)));
+    return carried(e, peat_start(REC(e), dsc ? PEAT_DSC : PEAT_CPDLC, PEAT_CLASS_ANY, PEAT_NO_SECURITY, PEAT_NO_DATA, BUFFERS(e)));
 }
 
 static void send_bare(struct end *e, uint64_t answer)

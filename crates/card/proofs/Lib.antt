@@ -3,3 +3,5 @@ pub mod Answered
 pub mod Taking
 pub mod Numbered
 pub mod Arrived
+pub mod Before
+pub mod OneStart

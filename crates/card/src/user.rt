@@ -9,10 +9,11 @@ use crate::given::plain_call;
 use machine::event::Event;
 use machine::event::UserPrimitive;
 
-// CPDLC-start request.
+// Start request, with its mode.
 #[no_mangle]
-pub extern "C" fn peat_start_request(
+pub extern "C" fn peat_start(
     rec: &mut [u8],
+    mode: u64,
     class: u64,
     security: u64,
     ids: &[u8],
@@ -23,40 +24,11 @@ pub extern "C" fn peat_start_request(
     first: &mut [u8],
     second: &mut [u8],
 ) -> u64
-    ensures { λ n. ⌜ called n (now (rec .exit)) (now (first .exit)) (now (second .exit)) ≡ dataCall (now (rec .entry)) (now (first .entry)) (now (second .entry)) (UserPrimitive.StartServiceRequest false class security) (now (ids .entry)) (now (msgs .entry)) message (now (checks .entry)) check ⌝ }
+    ensures { λ n. ⌜ called n (now (rec .exit)) (now (first .exit)) (now (second .exit)) ≡ dataCall (now (rec .entry)) (now (first .entry)) (now (second .entry)) (UserPrimitive.StartServiceRequest mode class security) (now (ids .entry)) (now (msgs .entry)) message (now (checks .entry)) check ⌝ }
 {
     data_call(
         rec,
-        UserPrimitive::StartServiceRequest(false, class, security),
-        ids,
-        msgs,
-        message,
-        checks,
-        check,
-        first,
-        second,
-    )
-}
-
-// DSC-start request.
-#[no_mangle]
-pub extern "C" fn peat_dsc_start_request(
-    rec: &mut [u8],
-    class: u64,
-    security: u64,
-    ids: &[u8],
-    msgs: &[u8],
-    message: u64,
-    checks: &[u8],
-    check: u64,
-    first: &mut [u8],
-    second: &mut [u8],
-) -> u64
-    ensures { λ n. ⌜ called n (now (rec .exit)) (now (first .exit)) (now (second .exit)) ≡ dataCall (now (rec .entry)) (now (first .entry)) (now (second .entry)) (UserPrimitive.StartServiceRequest true class security) (now (ids .entry)) (now (msgs .entry)) message (now (checks .entry)) check ⌝ }
-{
-    data_call(
-        rec,
-        UserPrimitive::StartServiceRequest(true, class, security),
+        UserPrimitive::StartServiceRequest(mode, class, security),
         ids,
         msgs,
         message,

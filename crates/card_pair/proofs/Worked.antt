@@ -19,7 +19,9 @@ use Rattle.apdu.specs.Reading.{optionalAt, partAt, partsWithin, dataWithin, mod
 use Rattle.apdu.specs.Writing.{itemsShaped, partShaped, dataShaped, apduShaped, writeOut}
 use Rattle.machine.specs.Calls.{answer, sent, startRequest, startResponse, messageRequest, endRequest, endResponse, userAbort, callOf, unsent, called}
 use Rattle.machine.specs.Apdus.{readable}
-use Rattle.machine.specs.Event.{qosFits, userShapely, serviceShapely, shapely}
+use Rattle.machine.specs.Codes.{dscMode}
+use Rattle.machine.proofs.Clauses.{cpdlcMode}
+use Rattle.machine.specs.Event.{hasMode, qosFits, userShapely, serviceShapely, shapely}
 use Rattle.machine.specs.Exceptions.{tell, closes, aborts, excepts, timerExpires, systemError, noInstruction}
 use Rattle.machine.specs.Faults.{pduFault, sendFault, abortFault, startFits, indicationFault, confirmationFault, firstFault}
 use Rattle.machine.specs.Primitives.{handed, instructed, answered, reached}
@@ -119,7 +121,7 @@ saidIn (r ∷ rs) = r .ends ∷ saidIn rs
 -- the air starts, the ground accepts and sends at once
 abbrev opening : List (Turn Asked)
 opening =
-    asks Air (start-request false 3 (text 7)) ∷ gets Ground ∷ asks Ground (start-response false 0 none) ∷ says Ground (job 1 (omega arith)) (text 80) ∷ gets Air ∷ gets Air ∷ []
+    asks Air (start-request cpdlcMode 3 (text 7)) ∷ gets Ground ∷ asks Ground (start-response false 0 none) ∷ says Ground (job 1 (omega arith)) (text 80) ∷ gets Air ∷ gets Air ∷ []
 
 -- messages both ways; job 1 again is refused, and a message request without a message; the ground asks for the end with messages on both lines
 abbrev talking : List (Turn Asked)
@@ -136,14 +138,14 @@ closing = talking ++ (asks Air (end-response false 0 none) ∷ gets Ground ∷ g
 abbrev again : List (Turn Asked)
 again =
     closing
-    ++ (asks Ground (start-request false 0 none) ∷ gets Air ∷ asks Air (start-response false 0 none) ∷ gets Ground ∷ says Air (job 3 (omega arith)) (text 70) ∷ says Air (job 4 (omega arith)) (text 71) ∷ gets Ground ∷
+    ++ (asks Ground (start-request cpdlcMode 0 none) ∷ gets Air ∷ asks Air (start-response false 0 none) ∷ gets Ground ∷ says Air (job 3 (omega arith)) (text 70) ∷ says Air (job 4 (omega arith)) (text 71) ∷ gets Ground ∷
     says Ground (job 1 (omega arith)) (text 72) ∷ says Ground (job 2 (omega arith)) (text 73) ∷ [])
 
 -- ---- DSC: the ground may not ask for the end, but sends behind a rejected one; all of it is handed out, and the second request for the end is accepted
 
 abbrev dsc : List (Turn Asked)
 dsc =
-    asks Air (start-request true 0 none) ∷ gets Ground ∷ asks Ground (start-response true 0 none) ∷ gets Air ∷ asks Ground (end-request true none) ∷ asks Air (end-request true none) ∷ gets Ground ∷
+    asks Air (start-request dscMode 0 none) ∷ gets Ground ∷ asks Ground (start-response true 0 none) ∷ gets Air ∷ asks Ground (end-request true none) ∷ asks Air (end-request true none) ∷ gets Ground ∷
     says Ground (job 5 (omega arith)) (text 80) ∷ asks Ground (end-response true 1 none) ∷ says Ground (job 6 (omega arith)) (text 81) ∷ []
 
 abbrev dscClosed : List (Turn Asked)
@@ -158,15 +160,15 @@ rows =
     row dsc (view (seen (entered End true) [] [] [] []) (seen (entered Dialogue true) (wire DDataRequest (50 ∷ 20 ∷ 160 ∷ 128 ∷ 0 ∷ []) ∷ wire (DEndResponse 1) (48 ∷ 0 ∷ []) ∷ wire DDataRequest (50 ∷ 20 ∷ 162 ∷ 128 ∷ 0 ∷ []) ∷ []) (bodyGiven (text 80) ∷ bodyGiven (text 81) ∷ []) [] (5 ∷ 6 ∷ [])) false) ∷
     row dscClosed (view (seen closed [] [] (bodyGiven (text 80) ∷ bodyGiven (text 81) ∷ []) []) (seen closed [] (bodyGiven (text 80) ∷ bodyGiven (text 81) ∷ []) [] (5 ∷ 6 ∷ [])) false) ∷
     -- t-start expires with the start undelivered; a start is turned away; a system error; the carrier fails; a user abort keeps the oldest message
-    row (asks Air (start-request false 0 none) ∷ turn Air (timer-expires 0) ∷ []) (view (seen closed (wire (DAbortRequest 1) (32 ∷ []) ∷ []) [] [] []) (seen closed [] [] [] []) true) ∷
-    row (asks Air (start-request true 0 none) ∷ turn Air (turn-away 0) ∷ []) (view (seen closed [] [] [] []) (seen closed [] [] [] []) false) ∷
+    row (asks Air (start-request cpdlcMode 0 none) ∷ turn Air (timer-expires 0) ∷ []) (view (seen closed (wire (DAbortRequest 1) (32 ∷ []) ∷ []) [] [] []) (seen closed [] [] [] []) true) ∷
+    row (asks Air (start-request dscMode 0 none) ∷ turn Air (turn-away 0) ∷ []) (view (seen closed [] [] [] []) (seen closed [] [] [] []) false) ∷
     row (opening ++ (turn Ground (error-reported 0) ∷ gets Air ∷ [])) (view (seen closed [] [] (bodyGiven (text 80) ∷ []) []) (seen closed [] (bodyGiven (text 80) ∷ []) [] (1 ∷ [])) true) ∷
     row (opening ++ (turn Ground fail ∷ [])) (view (seen closed [] [] (bodyGiven (text 80) ∷ []) []) (seen closed [] (bodyGiven (text 80) ∷ []) [] (1 ∷ [])) true) ∷
     row (opening ++ (says Air (job 1 (omega arith)) (text 96) ∷ says Air (job 2 (omega arith)) (text 97) ∷ turn Air (user-call (user-abort 3) 1) ∷ gets Ground ∷ []))
     (view (seen closed (wire (DAbortRequest 0) (3 ∷ []) ∷ []) (bodyGiven (text 96) ∷ bodyGiven (text 97) ∷ []) (bodyGiven (text 80) ∷ []) (1 ∷ 2 ∷ [])) (seen (entered Dialogue false) [] (bodyGiven (text 80) ∷ []) (bodyGiven (text 96) ∷ []) (1 ∷ [])) true) ∷ []
 
 pub all-as-said : seenIn rows ≡ saidIn rows
-unfolding bitsN bitsOf accOf bitsTo bytesOf withBit setBit putBits readBits wholeBits indexBits lengthBits bitField extensionBit digitsIn wholeNumber extensibleIndex lengthAt lengthWithin runAt stringAt stringBits optionalBits optionalFits contentBits contentFits modeBits modeFits pduBits pduFits padded partIn contentIn pduIn optionalAt partAt partsWithin dataWithin modeValue modeAt kindMode leadingAt tailAt endedAt restWithin apduWithin itemsShaped partShaped dataShaped apduShaped writeOut answer sent startRequest startResponse messageRequest endRequest endResponse userAbort callOf unsent called readable qosFits userShapely serviceShapely shapely tell closes aborts excepts timerExpires systemError noInstruction pduFault sendFault abortFault startFits indicationFault confirmationFault firstFault handed instructed answered reached enter permitted messageRefusal refusalOf acts step firstTakes secondTakes finished concluded withRecord entering userStep userCall readsAs readsAgain abortOf orAbort readPdu meaning dataOf dataStep bareStep serviceStep serviceCall invokedNumber toldNumber packed headBytes storedBytes headFits withHighest loadAt storeAt partOf givenData freshFor freshCall run
+unfolding bitsN bitsOf accOf bitsTo bytesOf withBit setBit putBits readBits wholeBits indexBits lengthBits bitField extensionBit digitsIn wholeNumber extensibleIndex lengthAt lengthWithin runAt stringAt stringBits optionalBits optionalFits contentBits contentFits modeBits modeFits pduBits pduFits padded partIn contentIn pduIn optionalAt partAt partsWithin dataWithin modeValue modeAt kindMode leadingAt tailAt endedAt restWithin apduWithin itemsShaped partShaped dataShaped apduShaped writeOut answer sent startRequest startResponse messageRequest endRequest endResponse userAbort callOf unsent called readable qosFits userShapely hasMode serviceShapely shapely tell closes aborts excepts timerExpires systemError noInstruction pduFault sendFault abortFault startFits indicationFault confirmationFault firstFault handed instructed answered reached enter permitted messageRefusal refusalOf acts step firstTakes secondTakes finished concluded withRecord entering userStep userCall readsAs readsAgain abortOf orAbort readPdu meaning dataOf dataStep bareStep serviceStep serviceCall invokedNumber toldNumber packed headBytes storedBytes headFits withHighest loadAt storeAt partOf givenData freshFor freshCall run
 all-as-said = refl
 
 -- ---- a restart (docs/HOST.md): the host loses its power and loads the sixteen bytes that it stored. That is the step `fail`: between two calls a record
@@ -176,12 +178,12 @@ all-as-said = refl
 abbrev restarted : List (Turn Asked)
 restarted =
     opening
-    ++ (says Ground (job 2 (omega arith)) (text 81) ∷ turn Ground fail ∷ asks Air (start-request false 0 none) ∷ gets Ground ∷ asks Ground (start-response false 0 none) ∷ gets Air ∷
+    ++ (says Ground (job 2 (omega arith)) (text 81) ∷ turn Ground fail ∷ asks Air (start-request cpdlcMode 0 none) ∷ gets Ground ∷ asks Ground (start-response false 0 none) ∷ gets Air ∷
     says Ground (job 1 (omega arith)) (text 80) ∷ says Ground (job 2 (omega arith)) (text 81) ∷ says Ground (job 3 (omega arith)) (text 82) ∷ gets Air ∷ [])
 
 -- the jobs of the old dialogue are refused: the ground takes 1, 2 and 3 once each, and the air is handed the message of job 3 alone
 pub restart-takes-once :
     after restarted
     ≡ view (seen (entered Dialogue false) [] [] (bodyGiven (text 82) ∷ []) []) (seen (entered Dialogue false) [] (bodyGiven (text 82) ∷ []) [] (1 ∷ 2 ∷ 3 ∷ [])) false
-unfolding bitsN bitsOf accOf bitsTo bytesOf withBit setBit putBits readBits wholeBits indexBits lengthBits bitField extensionBit digitsIn wholeNumber extensibleIndex lengthAt lengthWithin runAt stringAt stringBits optionalBits optionalFits contentBits contentFits modeBits modeFits pduBits pduFits padded partIn contentIn pduIn optionalAt partAt partsWithin dataWithin modeValue modeAt kindMode leadingAt tailAt endedAt restWithin apduWithin itemsShaped partShaped dataShaped apduShaped writeOut answer sent startRequest startResponse messageRequest endRequest endResponse userAbort callOf unsent called readable qosFits userShapely serviceShapely shapely tell closes aborts excepts timerExpires systemError noInstruction pduFault sendFault abortFault startFits indicationFault confirmationFault firstFault handed instructed answered reached enter permitted messageRefusal refusalOf acts step firstTakes secondTakes finished concluded withRecord entering userStep userCall readsAs readsAgain abortOf orAbort readPdu meaning dataOf dataStep bareStep serviceStep serviceCall invokedNumber toldNumber packed headBytes storedBytes headFits withHighest loadAt storeAt partOf givenData freshFor freshCall run
+unfolding bitsN bitsOf accOf bitsTo bytesOf withBit setBit putBits readBits wholeBits indexBits lengthBits bitField extensionBit digitsIn wholeNumber extensibleIndex lengthAt lengthWithin runAt stringAt stringBits optionalBits optionalFits contentBits contentFits modeBits modeFits pduBits pduFits padded partIn contentIn pduIn optionalAt partAt partsWithin dataWithin modeValue modeAt kindMode leadingAt tailAt endedAt restWithin apduWithin itemsShaped partShaped dataShaped apduShaped writeOut answer sent startRequest startResponse messageRequest endRequest endResponse userAbort callOf unsent called readable qosFits userShapely hasMode serviceShapely shapely tell closes aborts excepts timerExpires systemError noInstruction pduFault sendFault abortFault startFits indicationFault confirmationFault firstFault handed instructed answered reached enter permitted messageRefusal refusalOf acts step firstTakes secondTakes finished concluded withRecord entering userStep userCall readsAs readsAgain abortOf orAbort readPdu meaning dataOf dataStep bareStep serviceStep serviceCall invokedNumber toldNumber packed headBytes storedBytes headFits withHighest loadAt storeAt partOf givenData freshFor freshCall run
 restart-takes-once = refl

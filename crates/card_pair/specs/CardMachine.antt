@@ -46,10 +46,10 @@ pub record Job : Type 0 where
   pub number : ℕ
   pub low : number < 2 ^ 64
 
--- the calls, any numbers and any ranges; true: the DSC- one. A number or a byte that C has no place for is taken too, but for a job's, which the
+-- the calls, any numbers and any ranges; a start has its mode, and true is the DSC- one of the others. A number or a byte that C has no place for is taken too, but for a job's, which the
 -- record keeps in eight bytes
 pub data Asked : Type 0 where
-  start-request : Bool → ℕ → Given → Asked
+  start-request : ℕ → ℕ → Given → Asked
   start-response : Bool → ℕ → Given → Asked
   message-request : Job → Given → Asked
   end-request : Bool → Given → Asked

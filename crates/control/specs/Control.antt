@@ -60,7 +60,7 @@ other Ground = Air
 
 -- ---- the two differences between the sides
 
--- which side may start a dialogue in which mode: the ground has no DSC-start request (2.3.5.3.7, 3.5.3.9, 2.3.5.5.7)
+-- which side may start a dialogue in which mode: the ground has no downstream mode (2.3.5.3.7, 3.5.3.9, 2.3.5.5.7; document 02, E7)
 abbrev pub mayStart : Side → Bool → Bool
 mayStart Air dsc = true
 mayStart Ground dsc = not dsc

@@ -36,7 +36,7 @@ pub enum Answer {
     Rejected,
 }
 
-// What the user asks and the host reports; a flag says whether a primitive is the DSC- (true) or the CPDLC- one.
+// What the user asks and the host reports; a flag says whether a primitive is the DSC- (true) or the CPDLC- one, of a start its mode.
 pub enum Call {
     StartRequest(bool),
     StartResponse(bool, Answer),
@@ -101,7 +101,7 @@ fn other(side: Side) -> Side
     }
 }
 
-fn may_start(side: Side, dsc: bool) -> bool
+pub fn may_start(side: Side, dsc: bool) -> bool
     ensures { λ r. ⌜ r ≡ mayStart side dsc ⌝ }
 {
     match side {

@@ -5,12 +5,12 @@ use mathlib.Core.Bool.{Bool, true, false, not, cond}
 use mathlib.Core.List.{List, [], _∷_}
 use Prim.Native.Nat.{ℕ, _≤_, _<_}
 use lib.Dec.{T, ltb, leb, eqb}
-use borrow.Author.Tests.{le-leb, lt-leb, eqb-true, not-false}
-use Rattle.machine.specs.Codes.{accepted, user, undefined, userReasons, timerExpired, invalidPdu, protocolError, communicationServiceFailure, communicationServiceError, invalidQosParameter, expectedPduMissing, notPermittedPdu}
+use borrow.Author.Tests.{le-leb, le-ltb, lt-leb, eqb-true, not-false}
+use Rattle.machine.specs.Codes.{dscMode, modes, accepted, user, undefined, userReasons, timerExpired, invalidPdu, protocolError, communicationServiceFailure, communicationServiceError, invalidQosParameter, expectedPduMissing, notPermittedPdu}
 use Rattle.control.specs.Control.{isIdle, takes, goes, sends, expects, after, isStart}
 use Rattle.machine.specs.Record.{withJob, enter}
 use Rattle.machine.specs.Apdus.{modeOf, isSend, readable, abortFits}
-use Rattle.machine.specs.Event.{qosFits, userShapely, serviceShapely, shapely}
+use Rattle.machine.specs.Event.{hasMode, qosFits, userShapely, serviceShapely, shapely}
 use Rattle.machine.specs.Outcome.{isNone, refused}
 use Rattle.machine.specs.Exceptions.{tell, closes, aborts, excepts, timerExpires, systemError, noInstruction}
 use Rattle.machine.specs.Calls.{answer, sent, startRequest, startResponse, messageRequest, endRequest, endResponse, userAbort, callOf, unsent, called}
@@ -20,6 +20,7 @@ use Rattle.machine.specs.Step.{permitted, messageRefusal, refusalOf, act
 use Rattle.machine.proofs.Ways.{by-test}
 use Rattle.control.proofs.Moves.{idle-expects}
 use Rattle.control.specs.declared.Side.{Side}
+use Rattle.control.specs.declared.Side.the-variants.{Ground}
 use Rattle.control.specs.declared.Answer.the-variants.{Accepted, Rejected}
 use Rattle.control.specs.declared.Call.the-variants.{MessageRequest}
 use Rattle.control.specs.declared.Primitive.{Primitive}
@@ -45,11 +46,11 @@ use Rattle.machine.specs.declared.outcome.Outcome.{Outcome}
 
 -- ---- the order of refusals
 
-pub shape-first : (sd : Side) (r : Record) (e : Event) → shapely e ≡ false → step sd r e ≡ refused Shape r
+pub shape-first : (sd : Side) (r : Record) (e : Event) → shapely sd e ≡ false → step sd r e ≡ refused Shape r
 unfolding step refusalOf
 shape-first sd r e s = rw s
 
-pub then-prohibited : (sd : Side) (r : Record) (e : Event) → shapely e ≡ true → permitted sd r e ≡ false → step sd r e ≡ refused Prohibited r
+pub then-prohibited : (sd : Side) (r : Record) (e : Event) → shapely sd e ≡ true → permitted sd r e ≡ false → step sd r e ≡ refused Prohibited r
 unfolding step refusalOf
 then-prohibited sd r e s p = rw (s, p)
 
@@ -60,6 +61,19 @@ then-no-message sd r j s p = rw (s, p)
 pub then-repeat : (sd : Side) (r : Record) (j : ℕ) → ltb 0 j ≡ true → takes sd (r .control) MessageRequest ≡ true → j ≤ r .highest → step sd r (User (MessageServiceRequest true j)) ≡ refused Repeat r
 unfolding step refusalOf shapely userShapely permitted callOf messageRefusal unsent
 then-repeat sd r j s p h = rw (s, p, le-leb j (r .highest) h)
+
+-- the mode that is not dsc
+abbrev pub cpdlcMode : ℕ
+cpdlcMode = 0
+
+-- document 02, E7: mode dsc at the ground machine is SHAPE in every state, so before PROHIBITED; and any other code is, at both machines
+pub dsc-at-ground : (r : Record) (k s : ℕ) → step Ground r (User (StartServiceRequest dscMode k s)) ≡ refused Shape r
+unfolding shapely userShapely hasMode
+dsc-at-ground r k s = shape-first Ground r (User (StartServiceRequest dscMode k s)) refl
+
+pub no-such-mode : (sd : Side) (r : Record) (m k s : ℕ) → modes ≤ m → step sd r (User (StartServiceRequest m k s)) ≡ refused Shape r
+unfolding shapely userShapely hasMode
+no-such-mode sd r m k s h = shape-first sd r (User (StartServiceRequest m k s)) (rw (le-ltb m modes h))
 
 -- document 01, "Sizes": a job number is from 1 on. So job 0 is SHAPE, in every state and with or without a message
 pub job-zero : (sd : Side) (r : Record) (h : Bool) → step sd r (User (MessageServiceRequest h 0)) ≡ refused Shape r
@@ -72,12 +86,12 @@ unfolding step refusalOf shapely userShapely permitted callOf messageRefusal uns
 job-taken sd r j s p h = rw (s, p, lt-leb j (r .highest) h)
 
 -- a dialogue-service primitive is never refused but for SHAPE
-pub service-taken : (sd : Side) (r : Record) (p : ServicePrimitive) (a : Apdu) → shapely (Service p a) ≡ true → step sd r (Service p a) ≡ reached sd r p a
+pub service-taken : (sd : Side) (r : Record) (p : ServicePrimitive) (a : Apdu) → shapely sd (Service p a) ≡ true → step sd r (Service p a) ≡ reached sd r p a
 unfolding step refusalOf permitted messageRefusal acts
 service-taken sd r p a s = rw s
 
 -- and its first fault decides what is done
-pub fault-answered : (sd : Side) (r : Record) (p : ServicePrimitive) (a : Apdu) (f : Fault) → shapely (Service p a) ≡ true → firstFault sd r p a ≡ f → step sd r (Service p a) ≡ answered r p a f
+pub fault-answered : (sd : Side) (r : Record) (p : ServicePrimitive) (a : Apdu) (f : Fault) → shapely sd (Service p a) ≡ true → firstFault sd r p a ≡ f → step sd r (Service p a) ≡ answered r p a f
 unfolding reached
 fault-answered sd r p a f s e = service-taken sd r p a s ∙ ap (answered r p a) e
 
@@ -133,7 +147,7 @@ start-unreadable sd r x o s h e n t y = fault-answered sd r (DStartConfirmation 
 
 -- ---- a missing PDU: the APDU says expected-PDU-missing, the user is told not-permitted-PDU
 
-pub missing : (sd : Side) (r : Record) (p : ServicePrimitive) → shapely (Service p Absent) ≡ true → firstFault sd r p Absent ≡ Missing → step sd r (Service p Absent) ≡ aborts r expectedPduMissing (tell r (ProviderAbortIndication notPermittedPdu))
+pub missing : (sd : Side) (r : Record) (p : ServicePrimitive) → shapely sd (Service p Absent) ≡ true → firstFault sd r p Absent ≡ Missing → step sd r (Service p Absent) ≡ aborts r expectedPduMissing (tell r (ProviderAbortIndication notPermittedPdu))
 unfolding answered excepts
 missing sd r p s e = fault-answered sd r p Absent Missing s e
 
@@ -159,7 +173,7 @@ missing-confirmation sd r x o s h e t y = missing sd r (DStartConfirmation x o s
 
 -- ---- several faults in one D-START indication: each hides those behind it
 
-module _ (sd : Side) (r : Record) (x s : ℕ) (q : Qos) (a : Apdu) (h : shapely (Service (DStartIndication x s q) a) ≡ true) where
+module _ (sd : Side) (r : Record) (x s : ℕ) (q : Qos) (a : Apdu) (h : shapely sd (Service (DStartIndication x s q) a) ≡ true) where
   pub start-unexpected : isIdle (r .control) ≡ false → step sd r (Service (DStartIndication x s q) a) ≡ noInstruction r true
   unfolding firstFault indicationFault answered
   start-unexpected d = fault-answered sd r (DStartIndication x s q) a (NoInstruction true) h (rw d)
@@ -174,7 +188,7 @@ module _ (sd : Side) (r : Record) (x s : ℕ) (q : Qos) (a : Apdu) (h : shapely 
 
 -- ---- and in one D-START confirmation
 
-module _ (sd : Side) (r : Record) (x o s : ℕ) (a : Apdu) (h : shapely (Service (DStartConfirmation x o s) a) ≡ true) where
+module _ (sd : Side) (r : Record) (x o s : ℕ) (a : Apdu) (h : shapely sd (Service (DStartConfirmation x o s) a) ≡ true) where
   pub confirmation-unexpected : expects sd (r .control) (DStartCnf (answer x)) ≡ false → step sd r (Service (DStartConfirmation x o s) a) ≡ noInstruction r true
   unfolding firstFault confirmationFault answered
   confirmation-unexpected e = fault-answered sd r (DStartConfirmation x o s) a (NoInstruction true) h (rw e)

@@ -8,7 +8,7 @@ use borrow.Author.Tests.{leb-false, not-false}
 use Rattle.words.proofs.Laws.{both-left, both-right}
 use Rattle.control.specs.Control.{isIdle, takes, expects}
 use Rattle.machine.specs.Record.{withTimer, withUser}
-use Rattle.machine.specs.Event.{qosFits, shapely}
+use Rattle.machine.specs.Event.{isDsc, qosFits, shapely}
 use Rattle.machine.specs.Outcome.{isNone, refused}
 use Rattle.machine.specs.Exceptions.{tell, closes, aborts, excepts, timerExpires, systemError, noInstruction}
 use Rattle.machine.specs.Calls.{answer, sent, startRequest, startResponse, messageRequest, endRequest, endResponse, userAbort, callOf, unsent, called}
@@ -182,7 +182,7 @@ module _ (sd : Side) (r : Record) where
 
   called-way : (u : UserPrimitive) → takes sd (r .control) (callOf u) ≡ true → isNone (unsent (r .highest) u) ≡ true → Way sd r (called r u)
   unfolding called callOf startResponse endRequest endResponse userAbort
-  called-way (StartServiceRequest m k s) e n = is-started m k s e
+  called-way (StartServiceRequest m k s) e n = is-started (isDsc m) k s e
   called-way (StartServiceResponse m x) e n = is-called (StartResponse m (answer x)) _ _ e refl
   called-way (MessageServiceRequest h j) e n = is-message j e (above h j n)
   called-way (EndServiceRequest m) e n = is-called (EndRequest m) _ _ e refl
@@ -206,7 +206,7 @@ not-refused false p w e = absurd (subst T (sym e) tt)
 taken-way : (sd : Side) (r : Record) (e : Event) → isNone (refusalOf sd r e) ≡ true → Way sd r (acts sd r e)
 unfolding refusalOf
 taken-way sd r e n =
-    let k = not-refused (shapely e) (permitted sd r e) (messageRefusal r e) n in acts-way sd r e (k .1 .0) (k .1 .1)
+    let k = not-refused (shapely sd e) (permitted sd r e) (messageRefusal r e) n in acts-way sd r e (k .1 .0) (k .1 .1)
 
 -- every step is one of the nine ways
 pub ways : (sd : Side) (r : Record) (e : Event) → Way sd r (step sd r e)

@@ -5,9 +5,10 @@ use mathlib.Core.Bool.{Bool, true, false}
 use mathlib.Core.List.{List, [], _∷_}
 use Prim.Native.Nat.{ℕ}
 use Rattle.machine.specs.Codes.{accepted}
+use Rattle.machine.proofs.Clauses.{cpdlcMode}
 use Rattle.machine.specs.Record.{freshRecord, enter}
 use Rattle.machine.specs.Apdus.{readable}
-use Rattle.machine.specs.Event.{qosFits, userShapely, serviceShapely, shapely}
+use Rattle.machine.specs.Event.{hasMode, qosFits, userShapely, serviceShapely, shapely}
 use Rattle.machine.specs.Outcome.{refusalNumber}
 use Rattle.machine.specs.Calls.{answer, sent, startRequest, startResponse, messageRequest, endRequest, endResponse, userAbort, callOf, unsent, called}
 use Rattle.machine.specs.Faults.{pduFault, sendFault, startFits, indicationFault, confirmationFault, firstFault}
@@ -39,25 +40,25 @@ abbrev last : Side → List Event → Event → ℕ
 last sd es e = refusalNumber (step sd (run sd fresh es) e .refusal)
 
 -- job 7, then 7: REPEAT
-pub seven-twice : last Air (User (StartServiceRequest false 0 0) ∷ confirmation ∷ message 7 ∷ []) (message 7) ≡ 5
-unfolding run step refusalOf permitted messageRefusal acts shapely userShapely serviceShapely readable callOf unsent called reached startRequest messageRequest sent enter firstFault confirmationFault pduFault answered instructed answer handed
+pub seven-twice : last Air (User (StartServiceRequest cpdlcMode 0 0) ∷ confirmation ∷ message 7 ∷ []) (message 7) ≡ 5
+unfolding run step refusalOf permitted messageRefusal acts shapely userShapely hasMode serviceShapely readable callOf unsent called reached startRequest messageRequest sent enter firstFault confirmationFault pduFault answered instructed answer handed
 seven-twice = refl
 
 -- job 7 refused with 3, then 7 again in DIALOGUE: taken
 pub seven-refused : last Air [] (message 7) ≡ 3
-unfolding run step refusalOf permitted messageRefusal shapely userShapely callOf
+unfolding run step refusalOf permitted messageRefusal shapely userShapely hasMode callOf
 seven-refused = refl
 
-pub seven-again : last Air (message 7 ∷ User (StartServiceRequest false 0 0) ∷ confirmation ∷ []) (message 7) ≡ 0
-unfolding run step refusalOf permitted messageRefusal acts shapely userShapely serviceShapely readable callOf unsent called reached startRequest messageRequest sent enter firstFault confirmationFault pduFault answered instructed answer handed
+pub seven-again : last Air (message 7 ∷ User (StartServiceRequest cpdlcMode 0 0) ∷ confirmation ∷ []) (message 7) ≡ 0
+unfolding run step refusalOf permitted messageRefusal acts shapely userShapely hasMode serviceShapely readable callOf unsent called reached startRequest messageRequest sent enter firstFault confirmationFault pduFault answered instructed answer handed
 seven-again = refl
 
 -- the highest job survives the closing: after an end, 7 is refused with 5 in the next dialogue
-pub seven-later : last Air (User (StartServiceRequest false 0 0) ∷ confirmation ∷ message 7 ∷ Service DEndIndication Send ∷ User (EndServiceResponse false accepted) ∷ User (StartServiceRequest false 0 0) ∷ confirmation ∷ []) (message 7) ≡ 5
-unfolding run step refusalOf permitted messageRefusal acts shapely userShapely serviceShapely readable callOf unsent called reached startRequest messageRequest endResponse sent enter firstFault confirmationFault sendFault pduFault answered instructed answer handed
+pub seven-later : last Air (User (StartServiceRequest cpdlcMode 0 0) ∷ confirmation ∷ message 7 ∷ Service DEndIndication Send ∷ User (EndServiceResponse false accepted) ∷ User (StartServiceRequest cpdlcMode 0 0) ∷ confirmation ∷ []) (message 7) ≡ 5
+unfolding run step refusalOf permitted messageRefusal acts shapely userShapely hasMode serviceShapely readable callOf unsent called reached startRequest messageRequest endResponse sent enter firstFault confirmationFault sendFault pduFault answered instructed answer handed
 seven-later = refl
 
 -- a DSC dialogue at the ground: invited, accepted, abortFault by the air, closed by the accepted DSC-end response
 pub downstream : run Ground fresh (Service (DStartIndication 1 0 (record { priority = 1; rer = 1; routing = 0 })) (Start true) ∷ User (StartServiceResponse true 0) ∷ Service DDataIndication Send ∷ Service DEndIndication Send ∷ message 9 ∷ User (EndServiceResponse true 0) ∷ []) ≡ record { control = record { state = Idle; dsc = false }; timer = false; active = false; highest = 9; request = 0; policy = 0 }
-unfolding run step refusalOf permitted messageRefusal acts shapely userShapely serviceShapely readable qosFits callOf unsent called reached startResponse messageRequest endResponse sent enter firstFault indicationFault startFits sendFault pduFault answered instructed answer handed
+unfolding run step refusalOf permitted messageRefusal acts shapely userShapely hasMode serviceShapely readable qosFits callOf unsent called reached startResponse messageRequest endResponse sent enter firstFault indicationFault startFits sendFault pduFault answered instructed answer handed
 downstream = refl

@@ -4,6 +4,7 @@ use mathlib.Core.Bool.{Bool, true, false, not, cond}
 use lib.Dec.{eqb, leb}
 use Rattle.machine.specs.Codes.{accepted, user, undefined, highPriority, lowErrorRate}
 use Rattle.control.specs.Control.{goes}
+use Rattle.machine.specs.Event.{isDsc}
 use Rattle.machine.specs.Record.{withTimer, withUser, withJob, withRequest, enter}
 use Rattle.machine.specs.Outcome.{outcome}
 use Rattle.control.specs.declared.Answer.{Answer}
@@ -35,7 +36,7 @@ sent r k i a = outcome (enter r (goes (r .control) k)) i Untold a false
 abbrev pub qosAsked : ℕ → Qos
 qosAsked k = record { priority = highPriority; rer = lowErrorRate; routing = k }
 
--- CPDLC-start request: 2.3.5.3.7 (air), 2.3.5.5.7 (ground); DSC-start request: 3.5.3.9 (air).
+-- Start request, in the mode cpdlc: 2.3.5.3.7 (air), 2.3.5.5.7 (ground); in the mode dsc: 3.5.3.9 (air).
 -- t-start is started and the user becomes active (2.3.5.3.1 Note 2 a, c; 3.5.5.1.6 a)
 unfoldable pub startRequest : Record → Bool → ℕ → ℕ → Outcome
 startRequest r m k s = sent (withRequest (withUser (withTimer r true) true) s) (StartRequest m) (DStartRequest (qosAsked k) s) (Start m)
@@ -69,7 +70,7 @@ userAbort r given x = sent r UserAbort (DAbortRequest user) (AbortUser (reasonSe
 
 -- what it is to the control
 unfoldable pub callOf : UserPrimitive → Call
-callOf (StartServiceRequest m k s) = StartRequest m
+callOf (StartServiceRequest m k s) = StartRequest (isDsc m)
 callOf (StartServiceResponse m x) = StartResponse m (answer x)
 callOf (MessageServiceRequest h j) = MessageRequest
 callOf (EndServiceRequest m) = EndRequest m
@@ -86,7 +87,7 @@ unsent highest (EndServiceResponse m x) = None
 unsent highest (UserAbortServiceRequest g x) = None
 
 unfoldable pub called : Record → UserPrimitive → Outcome
-called r (StartServiceRequest m k s) = startRequest r m k s
+called r (StartServiceRequest m k s) = startRequest r (isDsc m) k s
 called r (StartServiceResponse m x) = startResponse r m x
 called r (MessageServiceRequest h j) = messageRequest r j
 called r (EndServiceRequest m) = endRequest r m

@@ -1,6 +1,13 @@
 -- The numbers that stand for the abstract values of parameters and results.
 use Prim.Native.Nat.{ℕ}
 
+-- Mode of a start request: cpdlc, dsc (document 02, E7; Doc 9705 2.3.4)
+abbrev pub dscMode : ℕ
+dscMode = 1
+
+abbrev pub modes : ℕ
+modes = 2
+
 -- Security Requirements (Doc 9705 2.3.6.2.3.1)
 abbrev pub noSecurity : ℕ
 noSecurity = 0

@@ -2,8 +2,10 @@
 use Prim.Native.Nat.{ℕ}
 use mathlib.Core.Bool.{Bool, true, false, not, _&&_}
 use lib.Dec.{ltb, eqb}
-use Rattle.machine.specs.Codes.{securityValues, results, startResults, rejectSources, originators, peers, highPriority, lowErrorRate, routingClasses, userReasons}
+use Rattle.machine.specs.Codes.{dscMode, modes, securityValues, results, startResults, rejectSources, originators, peers, highPriority, lowErrorRate, routingClasses, userReasons}
 use Rattle.machine.specs.Apdus.{readable}
+use Rattle.control.specs.Control.{mayStart}
+use Rattle.control.specs.declared.Side.{Side}
 use Rattle.machine.specs.declared.event.Qos.{Qos}
 use Rattle.machine.specs.declared.event.UserPrimitive.{UserPrimitive}
 use Rattle.machine.specs.declared.event.UserPrimitive.the-variants.{StartServiceRequest, StartServiceResponse, MessageServiceRequest, EndServiceRequest, EndServiceResponse, UserAbortServiceRequest}
@@ -16,14 +18,21 @@ use Rattle.machine.specs.declared.event.Event.the-variants.{User, Servic
 unfoldable pub qosFits : Qos → Bool
 qosFits q = eqb (q .priority) highPriority && (eqb (q .rer) lowErrorRate && ltb (q .routing) routingClasses)
 
+-- document 02, E7: a start request is in the mode cpdlc or dsc; "the ground machine has no downstream mode"
+abbrev pub isDsc : ℕ → Bool
+isDsc m = eqb m dscMode
+
+unfoldable pub hasMode : Side → ℕ → Bool
+hasMode sd m = ltb m modes && mayStart sd (isDsc m)
+
 -- document 01, SHAPE: "an argument breaks the sizes above, its type or its codes"; a job is 1 or more ("Sizes")
-unfoldable pub userShapely : UserPrimitive → Bool
-userShapely (StartServiceRequest m k s) = ltb k routingClasses && ltb s securityValues
-userShapely (StartServiceResponse m x) = ltb x results
-userShapely (MessageServiceRequest h j) = ltb 0 j
-userShapely (EndServiceRequest m) = true
-userShapely (EndServiceResponse m x) = ltb x results
-userShapely (UserAbortServiceRequest g x) = ltb x userReasons
+unfoldable pub userShapely : Side → UserPrimitive → Bool
+userShapely sd (StartServiceRequest m k s) = hasMode sd m && (ltb k routingClasses && ltb s securityValues)
+userShapely sd (StartServiceResponse m x) = ltb x results
+userShapely sd (MessageServiceRequest h j) = ltb 0 j
+userShapely sd (EndServiceRequest m) = true
+userShapely sd (EndServiceResponse m x) = ltb x results
+userShapely sd (UserAbortServiceRequest g x) = ltb x userReasons
 
 -- a received Quality of Service is not looked at ("received QOS values excepted")
 unfoldable pub serviceShapely : ServicePrimitive → Bool
@@ -35,8 +44,8 @@ serviceShapely (DEndConfirmation x) = ltb x results
 serviceShapely (DAbortIndication o) = ltb o originators
 serviceShapely DPAbortIndication = true
 
-unfoldable pub shapely : Event → Bool
-shapely (User u) = userShapely u
-shapely (Service p a) = serviceShapely p && readable a
-shapely TimerExpires = true
-shapely UnrecoverableSystemError = true
+unfoldable pub shapely : Side → Event → Bool
+shapely sd (User u) = userShapely sd u
+shapely sd (Service p a) = serviceShapely p && readable a
+shapely sd TimerExpires = true
+shapely sd UnrecoverableSystemError = true

@@ -30,7 +30,7 @@ messageRefusal r UnrecoverableSystemError = None
 
 -- the order of refusals: SHAPE, PROHIBITED, then NO-MESSAGE and REPEAT of a message request
 unfoldable pub refusalOf : Side → Record → Event → Refusal
-refusalOf sd r e = cond (not (shapely e)) Shape (cond (not (permitted sd r e)) Prohibited (messageRefusal r e))
+refusalOf sd r e = cond (not (shapely sd e)) Shape (cond (not (permitted sd r e)) Prohibited (messageRefusal r e))
 
 -- the clause of an event that is not refused
 unfoldable pub acts : Side → Record → Event → Outcome

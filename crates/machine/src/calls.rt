@@ -4,6 +4,7 @@ use crate::event::Apdu;
 use crate::event::Qos;
 use crate::event::ServicePrimitive;
 use crate::event::UserPrimitive;
+use crate::event::is_dsc;
 use crate::outcome::Invoked;
 use crate::outcome::Outcome;
 use crate::outcome::Refusal;
@@ -122,7 +123,7 @@ pub(crate) fn call_of(u: UserPrimitive) -> Call
     ensures { λ k. ⌜ k ≡ callOf u ⌝ }
 {
     match u {
-        UserPrimitive::StartServiceRequest(dsc, _, _) => Call::StartRequest(dsc),
+        UserPrimitive::StartServiceRequest(mode, _, _) => Call::StartRequest(is_dsc(mode)),
         UserPrimitive::StartServiceResponse(dsc, result) => Call::StartResponse(
             dsc,
             answer(result),
@@ -161,9 +162,9 @@ pub(crate) fn called(r: Record, u: UserPrimitive) -> Outcome
     ensures { λ o. ⌜ o ≡ called r u ⌝ }
 {
     match u {
-        UserPrimitive::StartServiceRequest(dsc, class, security) => start_request(
+        UserPrimitive::StartServiceRequest(mode, class, security) => start_request(
             r,
-            dsc,
+            is_dsc(mode),
             class,
             security,
         ),

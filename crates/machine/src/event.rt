@@ -1,8 +1,10 @@
 // The events: user requests and responses, dialogue-service primitives with their parameters and user data, timer expiry, system error.
 use crate::record::Configuration;
+use control::Side;
+use control::may_start;
 ghost use mathlib.Core.Path.{_≡_};
 ghost use Rattle.machine.specs.Apdus.{kindOf, modeOf, reasonOf, readable};
-ghost use Rattle.machine.specs.Event.{qosFits, userShapely, serviceShapely, shapely};
+ghost use Rattle.machine.specs.Event.{isDsc, hasMode, qosFits, userShapely, serviceShapely, shapely};
 
 // The user data of a primitive: none, not a valid PDU, or an APDU with its numbers. Message data is not held here.
 pub enum Apdu {
@@ -27,8 +29,8 @@ pub struct Qos {
 
 // The user's requests and responses. A flag before the other parameters says whether it is the DSC- (true) or the CPDLC- one.
 pub enum UserPrimitive {
-    // Class of Communication, Security Required.
-    StartServiceRequest(bool, u64, u64),
+    // Mode, Class of Communication, Security Required.
+    StartServiceRequest(u64, u64, u64),
     // Result.
     StartServiceResponse(bool, u64),
     // Does the data hold a CPDLC message; the job.
@@ -162,14 +164,37 @@ impl Qos {
     }
 }
 
+pub(crate) fn is_dsc(mode: u64) -> bool
+    ensures { λ b. ⌜ b ≡ isDsc mode ⌝ }
+{
+    mode == UserPrimitive::DSC
+}
+
+// Has a start request at this side the mode? The ground machine has no downstream mode.
+fn has_mode(side: Side, mode: u64) -> bool
+    ensures { λ b. ⌜ b ≡ hasMode side mode ⌝ }
+{
+    mode < UserPrimitive::MODES && may_start(side, is_dsc(mode))
+}
+
 impl UserPrimitive {
+    // Mode of a start request.
+    pub const CPDLC: u64 = 0;
+
+    pub const DSC: u64 = 1;
+
+    pub(crate) const MODES: u64 = 2;
+
     pub(crate) const RESULTS: u64 = 2;
 
-    pub(crate) fn shapely(self) -> bool
-        ensures { λ b. ⌜ b ≡ userShapely self ⌝ }
+    pub(crate) fn shapely(self, side: Side) -> bool
+        ensures { λ b. ⌜ b ≡ userShapely side self ⌝ }
     {
         match self {
-            UserPrimitive::StartServiceRequest(_, class, security) => {
+            UserPrimitive::StartServiceRequest(mode, class, security) => {
+                if !has_mode(side, mode) {
+                    return false;
+                }
                 class < Qos::ROUTING_CLASSES && security < Configuration::SECURITY_VALUES
             }
             UserPrimitive::StartServiceResponse(_, result) => result < UserPrimitive::RESULTS,
@@ -237,11 +262,11 @@ impl ServicePrimitive {
 
 impl Event {
     // Are its codes of their types? SHAPE is answered otherwise.
-    pub(crate) fn shapely(self) -> bool
-        ensures { λ b. ⌜ b ≡ shapely self ⌝ }
+    pub(crate) fn shapely(self, side: Side) -> bool
+        ensures { λ b. ⌜ b ≡ shapely side self ⌝ }
     {
         match self {
-            Event::User(u) => u.shapely(),
+            Event::User(u) => u.shapely(side),
             Event::Service(p, apdu) => p.shapely() && apdu.readable(),
             Event::TimerExpires => true,
             Event::UnrecoverableSystemError => true,

@@ -51,7 +51,7 @@ fn message_refusal(r: Record, e: Event) -> Refusal
 fn refusal(side: Side, r: Record, e: Event) -> Refusal
     ensures { λ x. ⌜ x ≡ refusalOf side r e ⌝ }
 {
-    if !e.shapely() {
+    if !e.shapely(side) {
         return Refusal::Shape;
     }
     if !permitted(side, r, e) {

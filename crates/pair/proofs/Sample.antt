@@ -6,10 +6,10 @@ use mathlib.Core.Bool.{Bool, true, false, cond}
 use mathlib.Core.List.{List, [], _∷_}
 use Prim.Native.Nat.{ℕ}
 use lib.Dec.{T, ltb, eqb}
-use Rattle.machine.specs.Codes.{providerReasons}
+use Rattle.machine.specs.Codes.{dscMode, providerReasons}
 use Rattle.machine.specs.Record.{enter}
 use Rattle.machine.specs.Apdus.{readable}
-use Rattle.machine.specs.Event.{qosFits, userShapely, serviceShapely, shapely}
+use Rattle.machine.specs.Event.{hasMode, qosFits, userShapely, serviceShapely, shapely}
 use Rattle.machine.specs.Exceptions.{tell, aborts, excepts, timerExpires}
 use Rattle.machine.specs.Calls.{answer, sent, startRequest, startResponse, messageRequest, endRequest, callOf, unsent, called}
 use Rattle.machine.specs.Faults.{pduFault, sendFault, startFits, indicationFault, confirmationFault, firstFault}
@@ -79,7 +79,7 @@ gets sd = record { side = sd; step = hand-over 0 }
 
 abbrev turns : List (Turn Order)
 turns =
-    asks Air (start-request true 3 (9 ∷ [])) ∷ gets Ground ∷ asks Ground (start-response true 0 []) ∷ gets Air ∷ asks Air (message-request (5 ∷ []) 1) ∷ asks Air (message-request [] 2) ∷
+    asks Air (start-request dscMode 3 (9 ∷ [])) ∷ gets Ground ∷ asks Ground (start-response true 0 []) ∷ gets Air ∷ asks Air (message-request (5 ∷ []) 1) ∷ asks Air (message-request [] 2) ∷
     asks Air (message-request (6 ∷ []) 2) ∷ gets Ground ∷ asks Air (end-request true []) ∷ []
 
 abbrev after : List (Turn Order) → Sys (stepMachine sample 1)
@@ -89,14 +89,14 @@ after ts = run (stepMachine sample 1) (fresh (stepMachine sample 1) (freshWith 1
 pub bytes-run :
     (after turns .here .rec .control ≡ entered End true) × (after turns .there .rec .control ≡ entered Dialogue true) × (after turns .here .taken ≡ (5 ∷ []) ∷ (6 ∷ []) ∷ []) × (after turns .there .given ≡ (5 ∷ []) ∷ [])
     × (after turns .here .jobs ≡ 1 ∷ 2 ∷ []) × (after turns .here .line ≡ record { primitive = DDataRequest; bytes = 2 ∷ (0 ∷ (6 ∷ [])) } ∷ (record { primitive = DEndRequest; bytes = 2 ∷ (0 ∷ []) } ∷ []))
-unfolding run step refusalOf shapely userShapely serviceShapely readable permitted callOf messageRefusal unsent acts called reached startRequest startResponse messageRequest endRequest sent answer enter qosFits firstFault indicationFault confirmationFault sendFault startFits pduFault answered instructed handed
+unfolding run step refusalOf shapely userShapely hasMode serviceShapely readable permitted callOf messageRefusal unsent acts called reached startRequest startResponse messageRequest endRequest sent answer enter qosFits firstFault indicationFault confirmationFault sendFault startFits pduFault answered instructed handed
 bytes-run = (refl, refl, refl, refl, refl, refl)
 
 -- t-start expires before the response is delivered: the ground is told by the D-ABORT, and the air discards the response
 abbrev late : List (Turn Order)
-late = asks Air (start-request true 0 []) ∷ gets Ground ∷ asks Ground (start-response true 0 []) ∷ record { side = Air; step = timer-expires 0 } ∷ gets Air ∷ []
+late = asks Air (start-request dscMode 0 []) ∷ gets Ground ∷ asks Ground (start-response true 0 []) ∷ record { side = Air; step = timer-expires 0 } ∷ gets Air ∷ []
 
 pub bytes-late :
     (after late .here .rec .control ≡ closed) × (after late .there .rec .control ≡ entered Dialogue true) × (after late .here .line ≡ record { primitive = DAbortRequest 1; bytes = 4 ∷ (0 ∷ []) } ∷ []) × (after late .there .line ≡ []) × (after late .broken ≡ true)
-unfolding run step refusalOf shapely userShapely serviceShapely readable permitted callOf messageRefusal unsent acts called reached startRequest startResponse sent answer enter qosFits firstFault indicationFault startFits pduFault answered instructed handed timerExpires excepts aborts tell
+unfolding run step refusalOf shapely userShapely hasMode serviceShapely readable permitted callOf messageRefusal unsent acts called reached startRequest startResponse sent answer enter qosFits firstFault indicationFault startFits pduFault answered instructed handed timerExpires excepts aborts tell
 bytes-late = (refl, refl, refl, refl, refl)

@@ -10,7 +10,7 @@ use Rattle.control.specs.Control.{started, ended}
 use Rattle.machine.specs.Record.{withTimer, withUser, withJob, withRequest, enter}
 use Rattle.machine.specs.Outcome.{isNone}
 use Rattle.machine.specs.Outcome as O
-use Rattle.machine.specs.Event.{userShapely, shapely}
+use Rattle.machine.specs.Event.{isDsc, hasMode, userShapely, shapely}
 use Rattle.machine.specs.Exceptions.{closes, excepts, timerExpires, systemError}
 use Rattle.machine.specs.Calls.{answer, sent, qosAsked, startRequest, startResponse, messageRequest, endRequest, endResponse, reasonSent, userAbort, unsent, called}
 use Rattle.machine.specs.Calls as U
@@ -30,7 +30,7 @@ use Rattle.pair.proofs.ControlMachine.{Held, held, Ent, Ask, ask, jobFi
 use Rattle.pair.proofs.ControlMachine as M
 use Rattle.pair.specs.Wires.{Wire}
 use Rattle.pair.proofs.StepMachine.{Codec, taken, happens, Order, start-request, start-response, message-request, end-request, end-response, user-abort, asked, dataOf, jobOf, calls}
-use Rattle.pair.proofs.Finite.{and-l, both, is-T, T-is}
+use Rattle.pair.proofs.Finite.{and-l, and-r, both, is-T, T-is}
 use Rattle.pair.proofs.Agree.{SentRel, OutRel, Follows, stays, does}
 use Rattle.pair.proofs.StepLocal.{Local, lowOf, Low, closed-is-idle}
 use Rattle.pair.proofs.StepEnds.{excepts-rel}
@@ -94,10 +94,10 @@ module _ (K : Codec) (p : ℕ) where
   unfolding acts called startRequest startResponse messageRequest endRequest endResponse userAbort sent refusalOf shapely userShapely permitted U.callOf messageRefusal unsent
   acted sd r (start-request m k b) h e false q = stays tt
   acted sd r (start-request m k b) h e true q =
-      let v = order (ltb k routingClasses && ltb p securityValues) (takes sd (r .control) (StartRequest m)) None e in
-      does (ask (StartRequest m) b 0)
-      (same-call sd r (withRequest (withUser (withTimer r true) true) p) (StartRequest m) b 0 _ h (v .1) tt refl (λ (x : T true). refl) refl
-      (written K p sd (DStartRequest (qosAsked k) p) (Start m) b _ (T-is _ q) (start-means p k m b (and-l (ltb k routingClasses) _ (v .0)))))
+      let v = order (hasMode sd m && (ltb k routingClasses && ltb p securityValues)) (takes sd (r .control) (StartRequest (isDsc m))) None e in
+      does (ask (StartRequest (isDsc m)) b 0)
+      (same-call sd r (withRequest (withUser (withTimer r true) true) p) (StartRequest (isDsc m)) b 0 _ h (v .1) tt refl (λ (x : T true). refl) refl
+      (written K p sd (DStartRequest (qosAsked k) p) (Start (isDsc m)) b _ (T-is _ q) (start-means p k (isDsc m) b (and-l (ltb k routingClasses) _ (and-r (hasMode sd m) _ (v .0))))))
   acted sd r (start-response m x b) h e false q = stays tt
   acted sd r (start-response m x b) h e true q =
       let v = order (ltb x results) (takes sd (r .control) (StartResponse m (answer x))) None e in

@@ -88,7 +88,7 @@ happens K sd o x = cond (isNone (o .refusal)) (taken K sd o [] 0 x) C.refused
 
 -- mode, class of communication; mode, result; job; mode; mode, result; is a reason given, reason
 pub data Order : Type 0 where
-  start-request : Bool → ℕ → Body → Order
+  start-request : ℕ → ℕ → Body → Order
   start-response : Bool → ℕ → Body → Order
   message-request : Body → ℕ → Order
   end-request : Bool → Body → Order

@@ -14,7 +14,7 @@ use Rattle.machine.specs.Codes.{securityValues, results, userReasons, routingCl
 use Rattle.control.specs.Control.{isIdle, takes, mayStart}
 use Rattle.machine.specs.Record.{withTimer, withUser, withJob, withRequest, enter}
 use Rattle.machine.specs.Apdus.{isSend, modeOf, isUserAbort}
-use Rattle.machine.specs.Event.{userShapely, shapely}
+use Rattle.machine.specs.Event.{isDsc, hasMode, userShapely, shapely}
 use Rattle.machine.specs.Outcome.{isNone, refused}
 use Rattle.machine.specs.Exceptions.{tell, closes, aborts, excepts, noInstruction, timerExpires, systemError}
 use Rattle.machine.specs.Calls.{answer, sent, qosAsked, startRequest, startResponse, messageRequest, endRequest, endResponse, reasonSent, userAbort, callOf, called}
@@ -250,12 +250,13 @@ module _ (sd : Side) (r : Record) (k : Coded r) where
   unfolding sent enter
   sent-fits q c i a m kq g d n = record { coded = record { request = kq .request; policy = kq .policy; highest = kq .highest }; apdu = g; body = refl; invokes = d; roomy = n; told = refl }
 
-  called-fits : (u : UserPrimitive) → userShapely u ≡ true → takes sd (r .control) (callOf u) ≡ true → JobLow (User u) → Fit sd (brings (User u)) (called r u)
+  called-fits : (u : UserPrimitive) → userShapely sd u ≡ true → takes sd (r .control) (callOf u) ≡ true → JobLow (User u) → Fit sd (brings (User u)) (called r u)
   unfolding called callOf userShapely startRequest startResponse messageRequest endRequest endResponse userAbort
   called-fits (StartServiceRequest m c s) h t j =
-      let hc = ltb-true c routingClasses (both-left (ltb c routingClasses) (ltb s securityValues) h) in
-      let hs = ltb-true s securityValues (both-right (ltb c routingClasses) (ltb s securityValues) h) in
-      sent-fits (withRequest (withUser (withTimer r true) true) s) (StartRequest m) _ _ false (record { request = hs; policy = k .policy; highest = k .highest }) (start-writable sd m (isIdle (r .control)) t) refl (refl, omega arith, omega arith)
+      let codes = both-right (hasMode sd m) (ltb c routingClasses && ltb s securityValues) h in
+      let hc = ltb-true c routingClasses (both-left (ltb c routingClasses) (ltb s securityValues) codes) in
+      let hs = ltb-true s securityValues (both-right (ltb c routingClasses) (ltb s securityValues) codes) in
+      sent-fits (withRequest (withUser (withTimer r true) true) s) (StartRequest (isDsc m)) _ _ false (record { request = hs; policy = k .policy; highest = k .highest }) (start-writable sd (isDsc m) (isIdle (r .control)) t) refl (refl, omega arith, omega arith)
   called-fits (StartServiceResponse m x) h t j =
       let hx = ltb-true x results h in
       let hp = k .policy in
@@ -269,7 +270,7 @@ module _ (sd : Side) (r : Record) (k : Coded r) where
       let hx = reason-low g x (ltb-true x userReasons h) in
       sent-fits r UserAbort _ _ false k (rw (le-leb 0 (reasonSent g x) (omega arith), le-leb (reasonSent g x) userLast hx)) refl (omega arith)
 
-  acts-fits : (e : Event) → shapely e ≡ true → permitted sd r e ≡ true → JobLow e → Fit sd (brings e) (acts sd r e)
+  acts-fits : (e : Event) → shapely sd e ≡ true → permitted sd r e ≡ true → JobLow e → Fit sd (brings e) (acts sd r e)
   unfolding acts shapely permitted timerExpires systemError
   acts-fits (User u) h t j = called-fits u h t j
   acts-fits (Service p a) h t j = reached-fits p a
@@ -283,5 +284,5 @@ module _ (sd : Side) (r : Record) (k : Coded r) where
     where
       go : (b : Bool) → isNone (refusalOf sd r e) ≡ b → isNone (cond b (acts sd r e) (refused (refusalOf sd r e) r) .refusal) ≡ true → Fit sd (brings e) (cond b (acts sd r e) (refused (refusalOf sd r e) r))
       go true q n =
-          let v = not-refused (shapely e) (permitted sd r e) (messageRefusal r e) q in acts-fits e (v .0) (v .1 .0) j
+          let v = not-refused (shapely sd e) (permitted sd r e) (messageRefusal r e) q in acts-fits e (v .0) (v .1 .0) j
       go false q n = never (sym q ∙ n)

@@ -260,7 +260,7 @@ const KINDS: u64 = 11;
 
 fn events_of(kind: u64) -> u64 {
     match kind {
-        0 => 12,
+        0 => 13,
         1 => 5,
         2 => 4,
         3 => 16,
@@ -290,11 +290,11 @@ fn event_of(policy: u64, kind: u64, n: u64) -> Event {
     }
 }
 
-// The requests and responses that have a mode, first all of CPDLC.
+// The requests and responses that have a mode, first all of CPDLC; last a start in a mode that is none.
 fn in_mode(policy: u64, n: u64) -> UserPrimitive {
     let dsc = 5 < n;
     match n % 6 {
-        0 => UserPrimitive::StartServiceRequest(dsc, 2, policy),
+        0 => UserPrimitive::StartServiceRequest(n / 6, 2, policy),
         1 => UserPrimitive::StartServiceResponse(dsc, 0),
         2 => UserPrimitive::StartServiceResponse(dsc, 1),
         3 => UserPrimitive::EndServiceRequest(dsc),
@@ -430,7 +430,12 @@ fn pdu_title(a: Apdu) {
 
 fn user_title(u: UserPrimitive) {
     match u {
-        UserPrimitive::StartServiceRequest(dsc, _, _) => service_name(dsc, b"start request"),
+        UserPrimitive::StartServiceRequest(mode, _, _) => {
+            text(b"start request");
+            noted(mode == UserPrimitive::CPDLC, b", cpdlc");
+            noted(mode == UserPrimitive::DSC, b", dsc");
+            noted(UserPrimitive::DSC < mode, b", no mode");
+        }
         UserPrimitive::StartServiceResponse(dsc, n) => {
             service_name(dsc, b"start response");
             result_name(n);
@@ -554,11 +559,11 @@ const STEPS: u64 = 10;
 // Job 7 refused with 3, then 7 in DIALOGUE, then 7 again; and 7 in the next dialogue.
 fn job_event(n: u64) -> Event {
     match n {
-        1 => Event::User(UserPrimitive::StartServiceRequest(false, 0, 0)),
+        1 => Event::User(UserPrimitive::StartServiceRequest(UserPrimitive::CPDLC, 0, 0)),
         2 => confirmation(0, 0, 0, Apdu::Send),
         5 => Event::Service(ServicePrimitive::DEndIndication, Apdu::Send),
         6 => Event::User(UserPrimitive::EndServiceResponse(false, 0)),
-        7 => Event::User(UserPrimitive::StartServiceRequest(false, 0, 0)),
+        7 => Event::User(UserPrimitive::StartServiceRequest(UserPrimitive::CPDLC, 0, 0)),
         8 => confirmation(0, 0, 0, Apdu::Send),
         _ => Event::User(UserPrimitive::MessageServiceRequest(true, 7)),
     }

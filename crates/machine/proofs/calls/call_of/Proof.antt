@@ -7,6 +7,9 @@ use Rattle.machine.proofs.calls.call_of.Tie as tie
 enum-known-u : tie.Need-enum-known-u
 enum-known-u c = c .match .keys1
 
+is-dsc-requires : tie.Need-is-dsc-requires
+is-dsc-requires c κs = tt
+
 enum-known-u-2 : tie.Need-enum-known-u-2
 enum-known-u-2 c = c .match .keys2
 
@@ -30,7 +33,7 @@ enum-told-2 c = c .match .keys6
 
 returns : tie.Need-returns
 unfolding callOf
-returns c = rw (c .before .u .given .1)
+returns c = rw (c .before .before .u .given .1, c .is-dsc .ensures)
 
 returns-2 : tie.Need-returns-2
 unfolding callOf
@@ -57,6 +60,7 @@ call-of-spec =
     tie.close
     (tie.spec
     enum-known-u
+    is-dsc-requires
     enum-known-u-2
     answer-requires
     enum-told

@@ -7,6 +7,9 @@ use Rattle.machine.proofs.calls.called.Tie as tie
 enum-known-u : tie.Need-enum-known-u
 enum-known-u c = c .match .keys1
 
+is-dsc-requires : tie.Need-is-dsc-requires
+is-dsc-requires c κs = tt
+
 start-request-requires : tie.Need-start-request-requires
 start-request-requires c κs = tt
 
@@ -42,7 +45,7 @@ user-abort-requires c κs = tt
 
 returns : tie.Need-returns
 unfolding called
-returns c = rw (c .before .before .u .given .1) (c .start-request .ensures)
+returns c = rw (c .before .before .before .u .given .1, ← c .before .is-dsc .ensures) (c .start-request .ensures)
 
 returns-2 : tie.Need-returns-2
 unfolding called
@@ -69,6 +72,7 @@ called-spec =
     tie.close
     (tie.spec
     enum-known-u
+    is-dsc-requires
     start-request-requires
     enum-known-u-2
     start-response-requires

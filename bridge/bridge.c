@@ -15,8 +15,20 @@
 #define SETTLE_MS 200     /* how long confirmed letters wait for a commit of their own */
 #define WITNESS_MS 1000
 #define LONGEST_SLEEP 500 /* so that heartbeats go out */
+#define LOOKS 6           /* for dialogues that nobody has, in the time of a lease, */
+#define LOOK_MS 500       /* and as often as this */
+#define QUEUE_MS 200      /* until a queue that another bridge consumes is tried again */
+#define GIVE_BACK_MS 10   /* until it is looked again whether a dialogue can be given back */
 
-#define EACH(b, d) ((d) = (b)->dialogue; (d) < (b)->dialogue + (b)->config->dialogues; (d)++)
+/* the first dialogue from here on that is ours */
+static struct dialogue *ours_from(struct bridge *b, struct dialogue *d)
+{
+    while (d < b->dialogue + b->config->dialogues && d->lease == 0)
+        d++;
+    return d;
+}
+
+#define EACH(b, d) ((d) = ours_from(b, (b)->dialogue); (d) < (b)->dialogue + (b)->config->dialogues; (d) = ours_from(b, (d) + 1))
 
 static int stopping(const struct bridge *b) { return b->stop_by != 0; }
 
@@ -44,6 +56,17 @@ static void broker_ours(struct bridge *b)
     publisher_restart(&b->publisher); /* what is in the outbox is given again, under the same ids */
     log_line(LOG_INFO, "broker ours", NUMBER("connection", b->metrics.connections));
     notify("READY=1");
+}
+
+/* While a call waits for the broker: the dialogues stay ours, and the watchdog hears of us. */
+static void meanwhile(void *with)
+{
+    struct bridge *b = with;
+    b->journal->renew(b->journal);
+    if (b->word_at != 0 && now_ms() >= b->word_at) {
+        notify("WATCHDOG=1");
+        b->word_at = now_ms() + notify_period();
+    }
 }
 
 /* Another bridge has the queues. The broker may not have noticed yet that an earlier connection of ours is gone, so this one
@@ -79,18 +102,26 @@ static int wanted(const struct bridge *b, const struct dialogue *d)
     return !stopping(b) && state_of(d) == PEAT_DIALOGUE && d->out.count < BACKLOG && b->metrics.letters < b->config->outbox_most;
 }
 
+/* A bridge that is gone, or hangs, has its queues until the broker has noticed. */
+static void choose_queue(struct bridge *b, struct dialogue *d, int want)
+{
+    switch (b->broker->consume(b->broker, d->number, want)) {
+    case BROKER_OURS: d->consuming = want; break;
+    case BROKER_AWAY: broker_lost(b); break;
+    case BROKER_TAKEN:
+        d->consume_at = now_ms() + QUEUE_MS;
+        log_line(LOG_INFO, "queue taken", ABOUT(d), TEXT("why", b->broker->why != NULL ? b->broker->why : ""));
+        break;
+    }
+}
+
 static void choose_queues(struct bridge *b)
 {
     struct dialogue *d;
     for EACH (b, d) {
         int want = wanted(b, d);
-        if (b->state != BROKER_OURS || want == d->consuming)
-            continue;
-        if (!b->broker->consume(b->broker, d->number, want)) {
-            broker_lost(b);
-            return;
-        }
-        d->consuming = want;
+        if (b->state == BROKER_OURS && want != d->consuming && (!want || now_ms() >= d->consume_at))
+            choose_queue(b, d, want);
     }
 }
 
@@ -105,7 +136,7 @@ static void hear_broker(struct bridge *b)
         case BROKER_CONFIRMED: publisher_confirmed(b, e.place, e.all); break;
         case BROKER_DELIVERY:
             payloads++;
-            if (stopping(b))
+            if (stopping(b) || b->dialogue[e.dialogue].lease == 0)
                 break; /* without a receipt it goes back to its queue, for the next bridge */
             call_payload(b, &b->dialogue[e.dialogue], e.payload, e.bytes);
             b->dialogue[e.dialogue].receipt = e.receipt;
@@ -144,6 +175,20 @@ static void start(struct bridge *b, struct dialogue *d)
     d->wait = 2 * d->wait < b->config->retry_most ? 2 * d->wait : b->config->retry_most;
 }
 
+/* A dialogue that is over, with all of it committed and told, is another bridge's; and so are payloads that came too late for
+   this one, before the commit that gives it away. */
+static void give_back(struct bridge *b, struct dialogue *d)
+{
+    if (d->closing || d->consuming || d->changed || d->decided || !b->journal->give_back(b->journal, d->number))
+        return;
+    if (b->state == BROKER_OURS && b->broker->hand_back(b->broker, d->number) == BROKER_AWAY)
+        broker_lost(b);
+    log_line(LOG_INFO, "gave back", ABOUT(d), NUMBER("lease", d->lease));
+    b->metrics.given_back++;
+    b->staged = 1;
+    d->lease = 0;
+}
+
 /* Told to stop: a dialogue is ended in order once its queue is left alone; one that does not end in time is aborted. */
 static void wind_down(struct bridge *b, struct dialogue *d)
 {
@@ -151,6 +196,8 @@ static void wind_down(struct bridge *b, struct dialogue *d)
         call_end(b, d);
     else if (state_of(d) == PEAT_START_REQ || (state_of(d) != PEAT_IDLE && now_ms() + b->config->stop / 4 > b->stop_by))
         call_abort(b, d);
+    else if (state_of(d) == PEAT_IDLE)
+        give_back(b, d);
 }
 
 static void tend(struct bridge *b, struct dialogue *d)
@@ -192,6 +239,8 @@ static void send_primitives(struct bridge *b)
     for EACH (b, d) {
         struct queue *q = &d->out;
         enum link_answer sent = LINK_DONE;
+        if (q->count > 0)
+            b->journal->renew(b->journal); /* a process that slept since its commit may have lost its dialogues */
         while (q->count > 0 && sent == LINK_DONE) {
             at_point(b, AT_SENDING);
             sent = b->link->send(b->link, d->number, &q->item[q->oldest]);
@@ -241,6 +290,7 @@ static void release(struct bridge *b)
     at_point(b, AT_COMMITTED);
     send_primitives(b);
     at_point(b, AT_SENT);
+    b->journal->renew(b->journal);
     acknowledge(b);
     at_point(b, AT_ACKNOWLEDGED);
     publish(b);
@@ -261,7 +311,10 @@ static int sleep_ms(struct bridge *b)
         at = earlier(at, b->connect_at);
     if (b->settled_since != 0)
         at = earlier(at, stopping(b) ? now : b->settled_since + SETTLE_MS);
+    if (stopping(b) && b->journal->shared)
+        at = earlier(at, now + GIVE_BACK_MS);
     at = earlier(at, b->word_at);
+    at = earlier(at, b->take_at);
     for EACH (b, d) {
         at = earlier(at, d->expires);
         if (d->closing)
@@ -294,8 +347,11 @@ static void take_stock(struct bridge *b)
     b->metrics.letters = b->journal->waiting(b->journal, &since);
     b->metrics.oldest_ms = since != 0 && wall_ms() > since ? wall_ms() - since : 0;
     b->metrics.broker = b->state == BROKER_OURS;
-    b->metrics.open = b->metrics.unsent = 0;
+    b->metrics.open = b->metrics.unsent = b->metrics.owned = 0;
+    memset(b->metrics.lease, 0, sizeof b->metrics.lease);
     for EACH (b, d) {
+        b->metrics.owned++;
+        b->metrics.lease[d->number] = d->lease;
         b->metrics.open += state_of(d) == PEAT_DIALOGUE;
         b->metrics.unsent += d->out.count;
     }
@@ -327,7 +383,7 @@ static int finished(struct bridge *b)
     if (now_ms() >= b->stop_by)
         return 1;
     for EACH (b, d)
-        if (state_of(d) != PEAT_IDLE || d->closing)
+        if (state_of(d) != PEAT_IDLE || d->closing || b->journal->shared) /* what is shared is given back first */
             return 0;
     return b->metrics.letters == 0 && b->settled_since == 0;
 }
@@ -341,7 +397,7 @@ static void hear_stop(struct bridge *b, const volatile sig_atomic_t *stop)
     log_line(LOG_INFO, "stopping", NUMBER("open", b->metrics.open), NUMBER("letters", b->metrics.letters));
 }
 
-/* ---- beginning and end */
+/* ---- taking dialogues */
 
 static void hold(void *with, const struct decision *r)
 {
@@ -350,22 +406,71 @@ static void hold(void *with, const struct decision *r)
         jobs_add(&d->held, r->first, r->last);
 }
 
-/* The restart is a failure of the carrier: each record that is not IDLE hears of it. */
-static void recover(struct bridge *b, struct dialogue *d)
+/* That another process had it is a failure of the carrier: a record that is not IDLE hears of it. */
+static void recover(struct bridge *b, struct dialogue *d, const char *why)
 {
     b->journal->load(b->journal, d->number, &d->kept);
     d->changed = 1;
     if (state_of(d) == PEAT_IDLE)
         return;
     b->journal->of_run(b->journal, d->number, d->kept.run, hold, d);
-    call_failure(b, d, "restart");
+    call_failure(b, d, why);
     d->closing = 0; /* the connection went with the process that had it */
 }
 
+static void begin_dialogue(struct bridge *b, const struct taken *t)
+{
+    struct dialogue *d = &b->dialogue[t->dialogue];
+    d->lease = t->lease;
+    d->latest.first = 0;
+    d->consuming = 0;
+    d->wait = b->config->retry;
+    d->start_at = now_ms();
+    jobs_clear(&d->held);
+    if (b->journal->shared)
+        log_line(LOG_INFO, "took", ABOUT(d), NUMBER("lease", d->lease), TEXT("was", t->was), TEXT("host", b->config->host));
+    b->metrics.takeovers += t->was[0] != '\0';
+    recover(b, d, t->was[0] != '\0' ? "takeover" : "restart");
+}
+
+static uint64_t next_look(const struct bridge *b)
+{
+    uint64_t part = b->config->lease / LOOKS;
+    return now_ms() + (part < LOOK_MS ? part : LOOK_MS);
+}
+
+/* Takes what it may have, and commits what that broke. */
+static void take_dialogues(struct bridge *b)
+{
+    struct taken taken[DIALOGUES_MOST];
+    unsigned n = b->journal->take(b->journal, taken), i;
+    b->take_at = b->journal->shared ? next_look(b) : 0;
+    if (n == 0)
+        return;
+    for (i = 0; i < n; i++)
+        begin_dialogue(b, &taken[i]);
+    at_point(b, AT_RECOVERY);
+    b->staged = 1; /* also where nothing was open: the journal can be written, or the bridge ends here */
+    commit(b);
+    at_point(b, AT_RECOVERED);
+}
+
+/* In a journal that others share, a bridge takes dialogues while it has a broker for them. */
+static void look_for_dialogues(struct bridge *b)
+{
+    if (b->take_at == 0 || now_ms() < b->take_at)
+        return;
+    if (b->state == BROKER_OURS && !stopping(b))
+        take_dialogues(b);
+    else
+        b->take_at = next_look(b);
+}
+
+/* ---- beginning and end */
+
 void bridge_begin(struct bridge *b, const struct config *c, struct journal *j, struct broker *broker, struct link *link, struct page *page)
 {
-    struct dialogue *d;
-    unsigned n = 0;
+    unsigned d;
     memset(b, 0, sizeof *b);
     b->config = c;
     b->journal = j;
@@ -375,19 +480,28 @@ void bridge_begin(struct bridge *b, const struct config *c, struct journal *j, s
     b->connect_wait = c->reconnect;
     b->connect_at = now_ms();
     b->word_at = notify_period() != 0 ? now_ms() : 0;
-    for EACH (b, d) {
-        d->number = n++;
-        d->wait = c->retry;
-        d->start_at = b->connect_at;
-        recover(b, d);
-    }
-    at_point(b, AT_RECOVERY);
-    b->staged = 1; /* also where nothing was open: the journal can be written, or the bridge ends here */
-    commit(b);
+    b->metrics.host = c->host;
+    broker->meanwhile = meanwhile;
+    broker->with = b;
+    for (d = 0; d < DIALOGUES_MOST; d++)
+        b->dialogue[d].number = d;
+    if (j->shared)
+        b->take_at = now_ms();
+    else
+        take_dialogues(b);
     witness_write(c->witness, j->id, j->commits(j));
     b->witnessed = j->commits(j);
-    at_point(b, AT_RECOVERED);
-    log_line(LOG_INFO, "began", TEXT("journal", j->id), NUMBER("commits", b->witnessed), NUMBER("broken", b->metrics.broken));
+    log_line(LOG_INFO, "began", TEXT("journal", j->id), TEXT("host", c->host), TEXT("as", c->standby ? "standby" : "bridge"), NUMBER("commits", b->witnessed),
+        NUMBER("broken", b->metrics.broken));
+}
+
+static void forget(struct bridge *b)
+{
+    unsigned d;
+    for (d = 0; d < DIALOGUES_MOST; d++) {
+        free(b->dialogue[d].out.item);
+        free(b->dialogue[d].held.range);
+    }
 }
 
 void bridge_run(struct bridge *b, const volatile sig_atomic_t *stop)
@@ -397,6 +511,7 @@ void bridge_run(struct bridge *b, const volatile sig_atomic_t *stop)
         wait_for_news(b);
         hear_stop(b, stop);
         keep_connected(b);
+        look_for_dialogues(b);
         choose_queues(b);
         for EACH (b, d)
             tend(b, d);
@@ -412,8 +527,5 @@ void bridge_run(struct bridge *b, const volatile sig_atomic_t *stop)
     b->broker->end(b->broker);
     b->link->end(b->link);
     b->journal->close(b->journal);
-    for EACH (b, d) {
-        free(d->out.item);
-        free(d->held.range);
-    }
+    forget(b);
 }

@@ -32,6 +32,7 @@ struct queue {
 
 struct dialogue {
     unsigned number;
+    uint64_t lease;         /* under which number this bridge has it; 0: it is not ours, and nothing else here counts */
     struct kept kept;
     struct decision latest; /* the range of jobs that grows; first 0: none */
     struct jobs held;       /* the jobs taken in this run: their fate is told when the dialogue is over */
@@ -43,6 +44,7 @@ struct dialogue {
     uint64_t expires;       /* t-start; 0: it does not run */
     uint64_t start_at, wait; /* when to start again, and how long to wait after the next failure */
     int consuming;
+    uint64_t consume_at;    /* another consumer was there: when to try again */
     struct receipt receipt; /* of the last payload in this batch; tag 0: none */
 };
 
@@ -50,10 +52,10 @@ struct dialogue {
 
 /* The outbox on its way to the broker. Letters have places on a connection, from 1 on. */
 struct publisher {
-    uint64_t behind;     /* letters up to this id were given on this connection */
-    uint64_t given;      /* the place of the last one */
-    uint64_t oldest;     /* the first place that is not confirmed */
-    uint64_t id[WINDOW]; /* by place; 0: confirmed */
+    uint64_t behind;       /* letters up to this turn were given on this connection */
+    uint64_t given;        /* the place of the last one */
+    uint64_t oldest;       /* the first place that is not confirmed */
+    uint64_t turn[WINDOW]; /* by place; 0: confirmed */
 };
 
 struct bridge {
@@ -72,10 +74,10 @@ struct bridge {
     enum broker_state state;
     uint64_t connect_at, connect_wait, claim_until;
     uint64_t stop_by;        /* 0: not stopping */
-    uint64_t witness_at, witnessed, word_at;
+    uint64_t witness_at, witnessed, word_at, take_at;
 };
 
-/* Loads what the journal has. Dialogues that were open are broken now; that is committed. */
+/* Takes the dialogues of a journal that is this process's alone. Those that were open are broken now; that is committed. */
 void bridge_begin(struct bridge *, const struct config *, struct journal *, struct broker *, struct link *, struct page *);
 
 /* Runs until *stop is not 0, then ends the dialogues in order, empties the outbox and returns. */
@@ -103,7 +105,7 @@ void publisher_confirmed(struct bridge *, uint64_t place, int all);
 /* ---- points where the tests kill the process; in the bridge itself nothing happens there (points.c) */
 
 enum point {
-    AT_RECOVERY,     /* dialogues that were open are broken, but that is not committed */
+    AT_RECOVERY,     /* dialogues that were taken and were open are broken, but that is not committed */
     AT_RECOVERED,    /* it is */
     AT_COMMIT,       /* before the commit of a batch */
     AT_COMMITTED,    /* after it */

@@ -49,10 +49,17 @@ struct broker {
     void *ends;
     const char *why; /* of the last BROKER_AWAY or BROKER_LOST, for the log */
 
-    /* connects, and claims the queues for this bridge alone */
+    /* what is to be done now and then while a call waits for the broker; NULL: nothing */
+    void (*meanwhile)(void *with);
+    void *with;
+
+    /* connects, and claims the queues for this bridge alone, unless several bridges share them */
     enum broker_state (*connect)(struct broker *);
-    /* begins or stops to consume a dialogue's queue; 0: the connection is lost */
-    int (*consume)(struct broker *, unsigned dialogue, int on);
+    /* begins or stops to consume a dialogue's queue. BROKER_TAKEN: another bridge consumes it; BROKER_AWAY: lost */
+    enum broker_state (*consume)(struct broker *, unsigned dialogue, int on);
+    /* Payloads of a dialogue that were delivered and not acknowledged go back to their queue, each in its place: the next bridge
+       gets them before those behind. BROKER_AWAY: lost, and they go back by that. */
+    enum broker_state (*hand_back)(struct broker *, unsigned dialogue);
     struct broker_event (*next)(struct broker *);
     /* Acknowledges a dialogue's payloads up to this receipt, unless it is of an earlier connection; 0: lost. */
     int (*acknowledge)(struct broker *, unsigned dialogue, struct receipt);

@@ -25,7 +25,8 @@
 #define PERSISTENT 2
 #define CONNECT_MS 20000 /* that the queues may take when a connection is made: the watchdog waits for a minute */
 
-static const struct timeval open_timeout = {2, 0}, answer_timeout = {5, 0}, at_once = {0, 0};
+static const struct timeval open_timeout = {2, 0}, at_once = {0, 0};
+#define ANSWER_MS 5000 /* that an answer of the broker may take */
 
 struct ends {
     const struct config *config;
@@ -81,10 +82,23 @@ static int good(struct broker *b, amqp_rpc_reply_t r, const char *what, int *num
     return 0;
 }
 
+/* An answer came and is no failure. Answers take their time, so what is due meanwhile is done. */
 static int worked(struct broker *b, const char *what)
 {
-    int number;
-    return good(b, amqp_get_rpc_reply(ends_of(b)->amqp), what, &number);
+    int number, fine = good(b, amqp_get_rpc_reply(ends_of(b)->amqp), what, &number);
+    if (b->meanwhile != NULL)
+        b->meanwhile(b->with);
+    return fine;
+}
+
+/* Where leases run out an answer may take half of one at most. */
+static struct timeval answer_timeout(const struct config *c)
+{
+    uint64_t ms = c->database[0] != '\0' && c->lease / 2 < ANSWER_MS ? c->lease / 2 : ANSWER_MS;
+    struct timeval t;
+    t.tv_sec = (time_t)(ms / 1000);
+    t.tv_usec = (suseconds_t)(ms % 1000 * 1000);
+    return t;
 }
 
 /* ---- connecting */
@@ -141,10 +155,11 @@ static int log_in(struct broker *b)
 {
     struct ends *e = ends_of(b);
     const struct config *c = e->config;
+    struct timeval wait = answer_timeout(c);
     amqp_rpc_reply_t r;
     int number;
-    amqp_set_handshake_timeout(e->amqp, &answer_timeout);
-    amqp_set_rpc_timeout(e->amqp, &answer_timeout);
+    amqp_set_handshake_timeout(e->amqp, &wait);
+    amqp_set_rpc_timeout(e->amqp, &wait);
     if (e->password[0] == '\0' && c->tls_certificate[0] != '\0')
         r = amqp_login(e->amqp, c->host_name, 0, FRAME_MOST, (int)c->heartbeat, AMQP_SASL_METHOD_EXTERNAL, c->user);
     else
@@ -152,11 +167,14 @@ static int log_in(struct broker *b)
     return good(b, r, "login", &number);
 }
 
-/* The queue that one connection may have: RESOURCE_LOCKED where another has it. */
+/* The queue that one connection may have: RESOURCE_LOCKED where another has it. Bridges that share a journal have their
+   dialogues, and with them their queues, by leases. */
 static enum broker_state claim(struct broker *b)
 {
     struct ends *e = ends_of(b);
     int number;
+    if (e->config->database[0] != '\0')
+        return BROKER_OURS;
     amqp_queue_declare(e->amqp, LETTERS, amqp_cstring_bytes(e->config->queue_owner), 0, 0, 1, 0, amqp_empty_table);
     if (good(b, amqp_get_rpc_reply(e->amqp), e->config->queue_owner, &number))
         return BROKER_OURS;
@@ -168,6 +186,16 @@ static int known(struct broker *b, const char *queue)
 {
     amqp_queue_declare(ends_of(b)->amqp, LETTERS, amqp_cstring_bytes(queue), 1, 0, 0, 0, amqp_empty_table);
     return worked(b, queue);
+}
+
+static int open_channel(struct broker *b, amqp_channel_t channel)
+{
+    struct ends *e = ends_of(b);
+    amqp_channel_open(e->amqp, channel);
+    if (!worked(b, "channel"))
+        return 0;
+    amqp_basic_qos(e->amqp, channel, 0, (uint16_t)e->config->prefetch, 0);
+    return worked(b, "prefetch");
 }
 
 static int open_channels(struct broker *b)
@@ -187,11 +215,7 @@ static int open_channels(struct broker *b)
         }
         if (!known(b, queue))
             return 0;
-        amqp_channel_open(e->amqp, (amqp_channel_t)(FIRST_QUEUE + d));
-        if (!worked(b, "channel"))
-            return 0;
-        amqp_basic_qos(e->amqp, (amqp_channel_t)(FIRST_QUEUE + d), 0, (uint16_t)c->prefetch, 0);
-        if (!worked(b, "prefetch"))
+        if (!open_channel(b, (amqp_channel_t)(FIRST_QUEUE + d)))
             return 0;
     }
     amqp_confirm_select(e->amqp, LETTERS);
@@ -217,17 +241,46 @@ static enum broker_state rabbit_connect(struct broker *b)
 
 /* ---- payloads */
 
-static int rabbit_consume(struct broker *b, unsigned dialogue, int on)
+/* The broker closed a channel, since another consumer has its queue: it is opened anew. */
+static enum broker_state reopen(struct broker *b, amqp_channel_t channel)
+{
+    char why[sizeof ends_of(b)->why];
+    amqp_channel_close_ok_t yes = {0};
+    snprintf(why, sizeof why, "%s", b->why);
+    if (amqp_send_method(ends_of(b)->amqp, channel, AMQP_CHANNEL_CLOSE_OK_METHOD, &yes) != AMQP_STATUS_OK || !open_channel(b, channel))
+        return BROKER_AWAY;
+    snprintf(ends_of(b)->why, sizeof ends_of(b)->why, "%s", why);
+    return BROKER_TAKEN;
+}
+
+/* A queue has one consumer: payloads that two had would overtake each other. */
+static enum broker_state rabbit_consume(struct broker *b, unsigned dialogue, int on)
 {
     struct ends *e = ends_of(b);
+    amqp_channel_t channel = (amqp_channel_t)(FIRST_QUEUE + dialogue);
+    amqp_rpc_reply_t r;
     char queue[CONFIG_TEXT + 2], tag[8];
+    int number;
     snprintf(tag, sizeof tag, "%u", dialogue);
     config_name(e->config->queue_up, dialogue, queue, sizeof queue);
     if (on)
-        amqp_basic_consume(e->amqp, (amqp_channel_t)(FIRST_QUEUE + dialogue), amqp_cstring_bytes(queue), amqp_cstring_bytes(tag), 0, 0, 1, amqp_empty_table);
+        amqp_basic_consume(e->amqp, channel, amqp_cstring_bytes(queue), amqp_cstring_bytes(tag), 0, 0, 1, amqp_empty_table);
     else
-        amqp_basic_cancel(e->amqp, (amqp_channel_t)(FIRST_QUEUE + dialogue), amqp_cstring_bytes(tag));
-    return worked(b, queue);
+        amqp_basic_cancel(e->amqp, channel, amqp_cstring_bytes(tag));
+    r = amqp_get_rpc_reply(e->amqp);
+    if (good(b, r, queue, &number))
+        return BROKER_OURS;
+    return number == AMQP_ACCESS_REFUSED && r.reply.id == AMQP_CHANNEL_CLOSE_METHOD ? reopen(b, channel) : BROKER_AWAY;
+}
+
+/* A channel that is closed returns what was not acknowledged. What is buffered of it comes still, for a dialogue that is not ours. */
+static enum broker_state rabbit_hand_back(struct broker *b, unsigned dialogue)
+{
+    amqp_channel_t channel = (amqp_channel_t)(FIRST_QUEUE + dialogue);
+    int number;
+    if (!good(b, amqp_channel_close(ends_of(b)->amqp, channel, AMQP_REPLY_SUCCESS), "channel", &number) || !open_channel(b, channel))
+        return BROKER_AWAY;
+    return BROKER_OURS;
 }
 
 static struct broker_event lost(struct broker *b, const char *what, const char *why)
@@ -409,6 +462,7 @@ int broker_open_rabbit(struct broker *b, const struct config *c)
     b->ends = e;
     b->connect = rabbit_connect;
     b->consume = rabbit_consume;
+    b->hand_back = rabbit_hand_back;
     b->next = rabbit_next;
     b->acknowledge = rabbit_acknowledge;
     b->publish = rabbit_publish;

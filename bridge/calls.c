@@ -23,7 +23,7 @@ static uint8_t first[PEAT_BUFFER_LEAST], second[PEAT_BUFFER_LEAST];
 
 static void post(struct bridge *b, const struct dialogue *d, const char *type, const char *reason, const void *body, size_t bytes)
 {
-    struct letter l = {0, NULL, d->number, type, reason, wall_ms(), body, bytes};
+    struct letter l = {0, 0, NULL, d->number, type, reason, wall_ms(), body, bytes};
     b->journal->post(b->journal, &l);
     b->staged = 1;
 }

@@ -23,9 +23,15 @@ struct key {
 #define SOCKET_PATH 100 /* a local socket's path has 108 bytes at most, the number among them */
 
 static const struct key keys[] = {
-    PATH("journal", journal, NULL),
+    MAYBE("journal", journal),
+    MAYBE("database", database),
     PATH("witness", witness, NULL),
+    MAYBE("host", host),
     COUNT("dialogues", dialogues, "48", 1, DIALOGUES_MOST),
+    COUNT("lease_ms", lease, "6000", 500, 600000),
+    COUNT("share", share, "48", 0, DIALOGUES_MOST),
+    COUNT("standby_ms", standby_wait, "2000", 0, 600000),
+    COUNT("replicas", replicas, "0", 0, 8),
     EACH("aircraft", link, NULL, SOCKET_PATH),
     COUNT("t_start_ms", t_start, "360000", 1, 3600000),
     COUNT("retry_ms", retry, "1000", 1, 600000),
@@ -128,6 +134,10 @@ static const char *take_line(struct config *c, char *line, unsigned char *given)
 static const char *together(const struct config *c)
 {
     int certificate = c->tls_certificate[0] != '\0', key = c->tls_key[0] != '\0', ca = c->tls_ca[0] != '\0';
+    if ((c->journal[0] != '\0') == (c->database[0] != '\0'))
+        return "either journal is given, a file for one host, or database, for several";
+    if (strspn(c->host, "abcdefghijklmnopqrstuvwxyzABCDEFGHIJKLMNOPQRSTUVWXYZ0123456789.-_") != strlen(c->host))
+        return "host has characters other than letters, digits, points and dashes";
     if (strcmp(c->journal, c->witness) == 0)
         return "journal and witness are one file";
     if (certificate != key)

@@ -12,9 +12,10 @@
 #define CONFIG_TEXT 200
 
 struct config {
-    /* what is kept */
-    char journal[CONFIG_TEXT], witness[CONFIG_TEXT];
-    uint64_t dialogues;
+    /* what is kept: in a file, or in a database that several hosts share */
+    char journal[CONFIG_TEXT], database[CONFIG_TEXT], witness[CONFIG_TEXT], host[CONFIG_TEXT];
+    uint64_t dialogues, lease, share, standby_wait, replicas;
+    int standby; /* this process waits for others to fail (not in the file: a word of the command line) */
     /* the aircraft: {} in the path becomes the number of the dialogue */
     char link[CONFIG_TEXT];
     uint64_t t_start, retry, retry_most; /* milliseconds */

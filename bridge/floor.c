@@ -2,6 +2,7 @@
 
 #include <stdio.h>
 
+#include "log.h"
 #include "witness.h"
 
 static void raise_one(struct journal *j, unsigned dialogue, uint64_t floor)
@@ -17,10 +18,13 @@ static void raise_one(struct journal *j, unsigned dialogue, uint64_t floor)
 
 void floor_raise(struct journal *j, const struct config *c, uint64_t floor, uint64_t dialogue)
 {
+    struct taken all[DIALOGUES_MOST];
     uint64_t seen;
     unsigned d;
+    if (j->take(j, all) != c->dialogues)
+        log_and_exit(EXIT_REFUSED, "journal", "floor", "a bridge has dialogues of this journal: stop it first");
     if (witness_ask(c->witness, j->id, j->commits(j), &seen) != WITNESS_AGREES)
-        journal_renew(j);
+        j->rename(j);
     for (d = 0; d < c->dialogues; d++)
         if (dialogue == ALL_DIALOGUES || dialogue == d)
             raise_one(j, d, floor);

@@ -6,7 +6,11 @@
  * call answers a failure: where the journal fails the process ends (EXIT_JOURNAL), and since nothing of a batch leaves the
  * bridge before its commit, nothing has left.
  *
- * The bridge sees this face only. journal_sqlite.c is one implementation.
+ * A process writes of the dialogues that it has taken, and of no others. In SQLite it takes all, since the file is its alone.
+ * In PostgreSQL several processes share the dialogues: each has a lease, whose number rises with every taking. A commit that
+ * touches a dialogue holds only where the number is still the one that this process got; else the process ends (EXIT_FENCED).
+ *
+ * The bridge sees this face only; journal_sqlite.c and journal_postgres.c are behind it.
  */
 #ifndef JOURNAL_H
 #define JOURNAL_H
@@ -33,9 +37,10 @@ struct decision {
 
 #define JOURNAL_ID 17 /* 16 hexadecimal digits */
 
-/* A letter to the broker. Its id rises; with the id that the journal had when it was posted it is never given twice. */
+/* A letter to the broker. Its id, with the id that the journal had when it was posted, is never given twice. Its turn is its
+   place among those of this process, and rises. */
 struct letter {
-    uint64_t id;
+    uint64_t turn, id;
     const char *journal;
     unsigned dialogue;
     const char *type;   /* delivered, refused, ended, broken, dead */
@@ -45,9 +50,26 @@ struct letter {
     size_t bytes;
 };
 
+#define OWNER_TEXT 100
+
+/* a dialogue that was taken: under which number, and from whom (empty: nobody had it) */
+struct taken {
+    unsigned dialogue;
+    uint64_t lease;
+    char was[OWNER_TEXT];
+};
+
 struct journal {
     char id[JOURNAL_ID]; /* made at init, and anew when a copy is restored */
+    int shared;          /* other processes have dialogues of this journal */
     void *store;
+
+    /* Takes dialogues that this process may have now; how many. Each is loaded next. */
+    unsigned (*take)(struct journal *, struct taken *);
+    /* Makes sure, where that was not heard lately, that the dialogues are still this process's. */
+    void (*renew)(struct journal *);
+    /* Gives a dialogue back with the next commit, unless letters of it wait. 1: it is none of ours from now on. */
+    int (*give_back)(struct journal *, unsigned dialogue);
 
     void (*load)(struct journal *, unsigned dialogue, struct kept *);
     void (*keep)(struct journal *, unsigned dialogue, const struct kept *);
@@ -59,29 +81,50 @@ struct journal {
     /* hands over each range of a run, in rising order */
     void (*of_run)(struct journal *, unsigned dialogue, uint64_t run, void (*each)(void *with, const struct decision *), void *with);
 
+    /* A letter without an id gets one; one that has an id comes from another journal, and keeps it. */
     void (*post)(struct journal *, const struct letter *);
-    /* 1: the first letter behind an id; its texts and body stand until the next call */
+    /* 1: the first letter behind a turn; its texts and body stand until the next call */
     int (*next)(struct journal *, uint64_t behind, struct letter *);
-    void (*settle)(struct journal *, uint64_t id);
+    void (*settle)(struct journal *, uint64_t turn);
     /* letters that wait, and since when the oldest does (wall clock, ms; 0: none) */
     uint64_t (*waiting)(struct journal *, uint64_t *since);
 
     void (*commit)(struct journal *);
-    /* the commits so far, over all runs of the bridge */
+    /* how far the journal has come: rises with the commits, over all runs of all bridges */
     uint64_t (*commits)(struct journal *);
+    /* gives back what this process has, and closes */
     void (*close)(struct journal *);
+    /* A restored copy becomes a journal of its own: it gets another id, with the next commit. Letters that it posts from then
+       on are told apart from those that were posted after the copy was made. A journal that is being moved is whole with it. */
+    void (*rename)(struct journal *);
 };
 
-/* ---- SQLite */
+/* ---- opening */
 
-enum journal_open { JOURNAL_INIT, JOURNAL_RUN };
+enum journal_open { JOURNAL_INIT, JOURNAL_RUN, JOURNAL_MOVE };
 
-/* Opens a journal for one process alone. JOURNAL_INIT makes it, with fresh records, and refuses one that is there;
-   JOURNAL_RUN refuses one that is not. */
-void journal_open_sqlite(struct journal *, const char *path, unsigned dialogues, enum journal_open how);
+struct config;
 
-/* A restored copy becomes a journal of its own: it gets another id, with the next commit. Letters that it posts from then on
-   are told apart from those that were posted after the copy was made. */
-void journal_renew(struct journal *);
+/* Opens the journal that the configuration names: a file of SQLite's, or a database of PostgreSQL's. JOURNAL_INIT makes it,
+   with fresh records, and refuses one that is there; JOURNAL_RUN refuses one that is not. JOURNAL_MOVE: a file
+   may have the mark that it was moved; a database is made on which no bridge runs until it is renamed (move.h). */
+void journal_open(struct journal *, const struct config *, enum journal_open how);
+
+void journal_open_sqlite(struct journal *, const struct config *, enum journal_open how);
+void journal_open_postgres(struct journal *, const struct config *, enum journal_open how);
+
+/* A file gets the mark that it was moved: no bridge runs on it from then on. */
+void journal_mark_moved(struct journal *);
+
+/* ---- what both stores share */
+
+/* A new id: 16 digits drawn by chance. */
+void journal_make_id(char *id);
+
+/* The sum that is stored with a dialogue: the card can not see damage of a record, so the journal must. */
+uint32_t journal_sum(unsigned dialogue, const struct kept *);
+
+/* A dialogue that never was: what `init` keeps. */
+struct kept journal_fresh(void);
 
 #endif

@@ -10,13 +10,14 @@
 #include <string.h>
 #include <unistd.h>
 
-#include "checksum.h"
 #include "clock.h"
+#include "config.h"
 #include "journal.h"
 #include "log.h"
 #include "witness.h"
 
 #define VERSION 1
+#define MOVED 1001 /* the version of a journal that was moved to a database */
 #define SYNCHRONOUS "2" /* FULL: each commit is synced. NORMAL (1) forgets commits at a power cut. */
 
 enum statement { KEEP, LOAD, DECIDE, FIND, OF_RUN, POST, NEXT, SETTLE, WAITING, COUNT, BEGIN, COMMIT, STATEMENTS };
@@ -50,6 +51,8 @@ static const char schema[] =
 struct store {
     sqlite3 *db;
     sqlite3_stmt *statement[STATEMENTS];
+    unsigned dialogues;
+    int taken;        /* by this process */
     int open;         /* a transaction is under way */
     uint64_t commits; /* so far */
     uint64_t letters; /* in the outbox */
@@ -116,16 +119,28 @@ static uint64_t column_number(sqlite3_stmt *q, int at)
     return n;
 }
 
-/* ---- dialogues */
+/* ---- the file is this process's alone, and so is every dialogue, from the first time that it asks */
 
-static uint32_t sum_of(unsigned dialogue, const struct kept *k)
+static unsigned take(struct journal *j, struct taken *to)
 {
-    uint32_t sum = checksum(0, &dialogue, sizeof dialogue);
-    sum = checksum(sum, k->record, sizeof k->record);
-    sum = checksum(sum, &k->run, sizeof k->run);
-    sum = checksum(sum, &k->deliveries, sizeof k->deliveries);
-    return checksum(sum, &k->floor, sizeof k->floor);
+    struct store *s = store_of(j);
+    unsigned d, n = s->taken ? 0 : s->dialogues;
+    for (d = 0; d < n; d++)
+        to[d] = (struct taken){d, 1, ""};
+    s->taken = 1;
+    return n;
 }
+
+static void renew(struct journal *j) { (void)j; }
+
+static int give_back(struct journal *j, unsigned dialogue)
+{
+    (void)j;
+    (void)dialogue;
+    return 0;
+}
+
+/* ---- dialogues */
 
 static void load(struct journal *j, unsigned dialogue, struct kept *k)
 {
@@ -138,7 +153,7 @@ static void load(struct journal *j, unsigned dialogue, struct kept *k)
     k->run = (uint64_t)sqlite3_column_int64(q, 1);
     k->deliveries = (uint64_t)sqlite3_column_int64(q, 2);
     k->floor = column_number(q, 3);
-    if ((uint32_t)sqlite3_column_int64(q, 4) != sum_of(dialogue, k))
+    if ((uint32_t)sqlite3_column_int64(q, 4) != journal_sum(dialogue, k))
         log_and_exit(EXIT_JOURNAL, "journal", "load", "a dialogue's checksum is wrong: the journal is damaged");
     sqlite3_reset(q);
 }
@@ -153,7 +168,7 @@ static void keep(struct journal *j, unsigned dialogue, const struct kept *k)
     sqlite3_bind_int64(q, 3, (sqlite3_int64)k->run);
     sqlite3_bind_int64(q, 4, (sqlite3_int64)k->deliveries);
     bind_number(q, 5, k->floor);
-    sqlite3_bind_int64(q, 6, sum_of(dialogue, k));
+    sqlite3_bind_int64(q, 6, journal_sum(dialogue, k));
     step(s, KEEP);
 }
 
@@ -231,7 +246,7 @@ static int next(struct journal *j, uint64_t behind, struct letter *l)
     sqlite3_bind_int64(q, 1, (sqlite3_int64)behind);
     if (!step(s, NEXT))
         return 0;
-    l->id = (uint64_t)sqlite3_column_int64(q, 0);
+    l->turn = l->id = (uint64_t)sqlite3_column_int64(q, 0);
     l->journal = (const char *)sqlite3_column_text(q, 1);
     l->dialogue = (unsigned)sqlite3_column_int(q, 2);
     l->type = (const char *)sqlite3_column_text(q, 3);
@@ -244,12 +259,12 @@ static int next(struct journal *j, uint64_t behind, struct letter *l)
     return 1; /* the row stays open, and with it the texts and the body */
 }
 
-static void settle(struct journal *j, uint64_t id)
+static void settle(struct journal *j, uint64_t turn)
 {
     struct store *s = store_of(j);
     sqlite3_stmt *q = ready(s, SETTLE);
     begin(s);
-    sqlite3_bind_int64(q, 1, (sqlite3_int64)id);
+    sqlite3_bind_int64(q, 1, (sqlite3_int64)turn);
     step(s, SETTLE);
     s->letters -= (uint64_t)sqlite3_changes(s->db);
 }
@@ -340,22 +355,12 @@ static void make_durable(struct store *s)
     expect(s, "PRAGMA quick_check(1)", "ok", "the journal is damaged");
 }
 
-static void make_id(char *id)
-{
-    uint64_t n = 0;
-    FILE *f = fopen("/dev/urandom", "rb");
-    if (f == NULL || fread(&n, sizeof n, 1, f) != 1)
-        log_and_exit(EXIT_JOURNAL, "journal", "init", "there is no random number");
-    fclose(f);
-    snprintf(id, JOURNAL_ID, "%016llx", (unsigned long long)n);
-}
-
 /* The tables; the records follow, in the same commit. */
 static void make_tables(struct journal *j, unsigned dialogues)
 {
     struct store *s = store_of(j);
     char row[160], id[JOURNAL_ID];
-    make_id(id);
+    journal_make_id(id);
     execute(s, texts[BEGIN]);
     s->open = 1;
     execute(s, schema);
@@ -365,21 +370,18 @@ static void make_tables(struct journal *j, unsigned dialogues)
 
 static void make_records(struct journal *j, unsigned dialogues)
 {
-    struct kept k;
+    struct kept k = journal_fresh();
     unsigned d;
-    for (d = 0; d < dialogues; d++) {
-        memset(&k, 0, sizeof k);
-        peat_fresh(k.record, sizeof k.record, PEAT_GROUND, PEAT_NO_SECURITY);
+    for (d = 0; d < dialogues; d++)
         keep(j, d, &k);
-    }
     commit(j);
 }
 
-void journal_renew(struct journal *j)
+static void rename_journal(struct journal *j)
 {
     char row[80];
     begin(store_of(j));
-    make_id(j->id);
+    journal_make_id(j->id);
     snprintf(row, sizeof row, "UPDATE journal SET id = '%s'", j->id);
     execute(store_of(j), row);
 }
@@ -392,13 +394,32 @@ static void prepare(struct store *s)
             give_up(s, texts[i]);
 }
 
+/* A journal that was moved is none any more, but for the command that moves it. */
+static void check_version(struct store *s, enum journal_open how)
+{
+    char answer[40];
+    int version;
+    ask(s, "SELECT version FROM journal", answer, sizeof answer);
+    version = atoi(answer);
+    if (version == MOVED && how != JOURNAL_MOVE)
+        log_and_exit(EXIT_REFUSED, "journal", "it was moved to a database", "a bridge that ran on it would take jobs again");
+    if (version != VERSION && version != MOVED)
+        log_and_exit(EXIT_JOURNAL, "journal", "the journal has another version", answer);
+}
+
+void journal_mark_moved(struct journal *j)
+{
+    char text[80];
+    snprintf(text, sizeof text, "UPDATE journal SET version = %d", MOVED);
+    execute(store_of(j), text);
+}
+
 /* What the tables say of themselves. */
-static void take_front(struct journal *j, unsigned dialogues)
+static void take_front(struct journal *j, unsigned dialogues, enum journal_open how)
 {
     struct store *s = store_of(j);
     char answer[40], want[16];
-    snprintf(want, sizeof want, "%d", VERSION);
-    expect(s, "SELECT version FROM journal", want, "the journal has another version");
+    check_version(s, how);
     snprintf(want, sizeof want, "%u", dialogues);
     expect(s, "SELECT dialogues FROM journal", want, "the journal has another number of dialogues");
     ask(s, "SELECT id FROM journal", j->id, sizeof j->id);
@@ -410,42 +431,50 @@ static void take_front(struct journal *j, unsigned dialogues)
 
 static void refuse_unless(int there, enum journal_open how, const char *path)
 {
-    if (how == JOURNAL_RUN && !there)
+    if (how != JOURNAL_INIT && !there)
         log_and_exit(EXIT_REFUSED, "journal", path, "it is not there: `init` makes one, where no job was ever taken");
     if (how == JOURNAL_INIT && there)
         log_and_exit(EXIT_REFUSED, "journal", path, "it is there already: a new one would take old jobs again");
 }
 
-void journal_open_sqlite(struct journal *j, const char *path, unsigned dialogues, enum journal_open how)
+static const struct journal face = {
+    .take = take,
+    .renew = renew,
+    .give_back = give_back,
+    .load = load,
+    .keep = keep,
+    .decide = decide,
+    .find = find,
+    .of_run = of_run,
+    .post = post,
+    .next = next,
+    .settle = settle,
+    .waiting = waiting,
+    .commit = commit,
+    .commits = commits,
+    .close = close_store,
+    .rename = rename_journal,
+};
+
+void journal_open_sqlite(struct journal *j, const struct config *c, enum journal_open how)
 {
     struct store *s = calloc(1, sizeof *s);
     int flags = SQLITE_OPEN_READWRITE | (how == JOURNAL_INIT ? SQLITE_OPEN_CREATE : 0);
-    refuse_unless(access(path, F_OK) == 0, how, path);
-    memset(j, 0, sizeof *j);
-    if (s == NULL || sqlite3_open_v2(path, &s->db, flags, NULL) != SQLITE_OK)
-        log_and_exit(EXIT_JOURNAL, "journal", path, "can not be opened");
+    refuse_unless(access(c->journal, F_OK) == 0, how, c->journal);
+    if (s == NULL || sqlite3_open_v2(c->journal, &s->db, flags, NULL) != SQLITE_OK)
+        log_and_exit(EXIT_JOURNAL, "journal", c->journal, "can not be opened");
+    *j = face;
     j->store = s;
+    s->dialogues = (unsigned)c->dialogues;
     sqlite3_busy_timeout(s->db, 500);
     make_durable(s);
     if (how == JOURNAL_INIT)
-        make_tables(j, dialogues);
+        make_tables(j, s->dialogues);
     prepare(s);
-    take_front(j, dialogues);
+    take_front(j, s->dialogues, how);
     if (how == JOURNAL_INIT) {
-        make_records(j, dialogues);
-        if (!folder_sync(path))
-            log_and_exit(EXIT_JOURNAL, "journal", path, "its folder can not be synced");
+        make_records(j, s->dialogues);
+        if (!folder_sync(c->journal))
+            log_and_exit(EXIT_JOURNAL, "journal", c->journal, "its folder can not be synced");
     }
-    j->load = load;
-    j->keep = keep;
-    j->decide = decide;
-    j->find = find;
-    j->of_run = of_run;
-    j->post = post;
-    j->next = next;
-    j->settle = settle;
-    j->waiting = waiting;
-    j->commit = commit;
-    j->commits = commits;
-    j->close = close_store;
 }

@@ -32,7 +32,8 @@ enum exit_status {
     EXIT_STOPPED = 0, /* it was told to stop, and did */
     EXIT_USAGE = 2,   /* the command line or the configuration is wrong */
     EXIT_JOURNAL = 3, /* the journal failed: nothing of the last batch has left the process */
-    EXIT_REFUSED = 4  /* it may not run on this journal or this queue */
+    EXIT_REFUSED = 4, /* it may not run on this journal or this queue */
+    EXIT_FENCED = 5   /* another bridge has taken over its dialogues: nothing of the last batch has left the process */
 };
 
 /* The last line, then the end of the process: no buffer is flushed, no connection is closed in order. */

@@ -66,6 +66,19 @@ static void dialogues(struct text *t, const struct metrics *m)
     one(t, "primitives_unsent", GAUGE, "Primitives that wait for room on a connection.", m->unsent);
 }
 
+/* Which host has which dialogue: each bridge's page names its own. */
+static void owners(struct text *t, const struct metrics *m)
+{
+    unsigned d;
+    one(t, "dialogues_owned", GAUGE, "Dialogues that this bridge has.", m->owned);
+    one(t, "dialogues_taken_over_total", COUNTER, "Dialogues taken from a bridge whose lease ran out.", m->takeovers);
+    one(t, "dialogues_given_back_total", COUNTER, "Dialogues given back in order.", m->given_back);
+    line(t, "# HELP peat_dialogue_lease The number of the lease under which a host has a dialogue.\n# TYPE peat_dialogue_lease gauge\n");
+    for (d = 0; d < DIALOGUES_MOST; d++)
+        if (m->lease[d] != 0)
+            line(t, "peat_dialogue_lease{dialogue=\"%02u\",host=\"%s\"} %llu\n", d, m->host, (unsigned long long)m->lease[d]);
+}
+
 static void outbox(struct text *t, const struct metrics *m)
 {
     one(t, "broker_up", GAUGE, "1 while the broker is connected and the queues are ours.", m->broker);
@@ -96,6 +109,7 @@ size_t metrics_text(const struct metrics *m, char *text, size_t room)
     struct text t = {text, room, 0};
     jobs(&t, m);
     dialogues(&t, m);
+    owners(&t, m);
     outbox(&t, m);
     commits(&t, m);
     return t.used;

@@ -7,6 +7,8 @@
 #include <stddef.h>
 #include <stdint.h>
 
+#include "config.h"
+
 #define REFUSALS 24 /* document 01's numbers, 0 to 23 */
 #define LATENCIES 10
 
@@ -15,8 +17,11 @@ struct metrics {
     uint64_t delivered, opened, ended, broken, expired;
     uint64_t sent, received, published, confirmed, connections, lost;
     uint64_t commits, commit_us, commit_in[LATENCIES + 1];
+    uint64_t takeovers, given_back;
     /* as they are now */
-    uint64_t open, letters, oldest_ms, broker, unsent;
+    uint64_t open, owned, letters, oldest_ms, broker, unsent;
+    const char *host;
+    uint64_t lease[DIALOGUES_MOST]; /* under which number this bridge has a dialogue; 0: it has it not */
 };
 
 /* A commit took so long. */

@@ -1,5 +1,5 @@
 /*
- * Letters go to the broker in the order of their ids. A letter stays in the outbox until the broker has confirmed it; after
+ * Letters go to the broker in the order of their turns. A letter stays in the outbox until the broker has confirmed it; after
  * a lost connection all that are there are given again, each under the id that it had.
  */
 #include <string.h>
@@ -20,8 +20,8 @@ int publisher_give(struct bridge *b)
     while (p->given + 1 - p->oldest < WINDOW && b->journal->next(b->journal, p->behind, &l)) {
         if (!b->broker->publish(b->broker, &l))
             return 0;
-        p->behind = l.id;
-        p->id[++p->given % WINDOW] = l.id;
+        p->behind = l.turn;
+        p->turn[++p->given % WINDOW] = l.turn;
         b->metrics.published++;
         at_point(b, AT_PUBLISHED);
     }
@@ -35,16 +35,16 @@ void publisher_confirmed(struct bridge *b, uint64_t place, int all)
     if (place > p->given)
         return; /* the broker confirms what it was not given: nothing to delete */
     for (; at <= place; at++) {
-        uint64_t *id = &p->id[at % WINDOW];
-        if (at < p->oldest || *id == 0)
+        uint64_t *turn = &p->turn[at % WINDOW];
+        if (at < p->oldest || *turn == 0)
             continue;
         at_point(b, AT_CONFIRMED);
-        b->journal->settle(b->journal, *id);
-        *id = 0;
+        b->journal->settle(b->journal, *turn);
+        *turn = 0;
         b->metrics.confirmed++;
         if (b->settled_since == 0)
             b->settled_since = now_ms();
     }
-    while (p->oldest <= p->given && p->id[p->oldest % WINDOW] == 0)
+    while (p->oldest <= p->given && p->turn[p->oldest % WINDOW] == 0)
         p->oldest++;
 }

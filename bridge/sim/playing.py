@@ -1,5 +1,6 @@
 """What the tests, the demonstration and the soak with a real broker share: the programs, a private RabbitMQ, a stage with a
 journal and aircraft, and what was told and seen in the end."""
+import fcntl
 import os
 import re
 import select
@@ -58,6 +59,10 @@ def ends(p, seconds):
         return None
 
 
+FLAGS = "-std=c99 -O2 -g -Wall -Wextra -Werror -pedantic -D_POSIX_C_SOURCE=200809L -Iinclude".split()
+built = dict(sanitizers=[], libraries=[])  # how the programs were built
+
+
 def build(checked=False):
     """The programs, and a bridge with points at which it kills itself. Checked: with the sanitizers that the machine has."""
     global OUT
@@ -67,16 +72,46 @@ def build(checked=False):
     words = call("tools/libraries", "rabbitmq", "sqlite")
     if words.returncode != 0:
         raise Missing("there is no SQLite, or no AMQP library, for x86-64")
-    sanitizers = call("tools/x86", "sanitizers").stdout.split() if checked else []
+    built["libraries"] = words.stdout.split() + call("tools/libraries", "postgres").stdout.split()
+    built["sanitizers"] = call("tools/x86", "sanitizers").stdout.split() if checked else []
     OUT = TOP / ("target/bridge_checked" if checked else "target/bridge")
-    said = call("make", "-s", "-C", "bridge", "OUT=" + str(OUT), "MORE=" + " ".join(sanitizers))
+    OUT.mkdir(parents=True, exist_ok=True)
+    with open(OUT / "lock", "w") as lock:  # tests run side by side
+        fcntl.flock(lock, fcntl.LOCK_EX)
+        said = call("make", "-s", "-C", "bridge", "OUT=" + str(OUT), "MORE=" + " ".join(built["sanitizers"]))
+        if said.returncode != 0:
+            raise Broken("the bridge does not link: " + said.stderr[:500])
+        link("killed", ["points"], "tests/bridge_broker/points.c", "tests/bridge/disk.c")
+
+
+def objects_but(*names):
+    """The bridge's objects, without those named, those for a library that is not there, and those in the place of one that is."""
+    database = {"journal_postgres", "postgres_lease", "postgres_tables", "pg", "letters"}
+    missing = {"broker_none"} | ({"journal_none"} if "-lpq" in built["libraries"] else database)
+    return [o for o in sorted(OUT.glob("*.o")) if o.stem not in missing.union(names)]
+
+
+def link(name, instead, *sources, flags=()):
+    """A bridge with these sources instead of some of its objects."""
+    objects, new = objects_but(*instead), OUT / ("%s.%d" % (name, os.getpid()))
+    said = call(X86, "cc", *FLAGS, *flags, *built["sanitizers"], "-o", new, *sources, *objects, "target/staticlib/libcard.a", *built["libraries"])
     if said.returncode != 0:
-        raise Broken("the bridge does not link: " + said.stderr[:500])
-    objects = [str(o) for o in sorted(OUT.glob("*.o")) if o.name not in ("points.o", "broker_none.o")]
-    said = call(X86, "cc", "-std=c99", "-O2", "-g", "-Wall", "-Wextra", "-Werror", "-pedantic", "-D_POSIX_C_SOURCE=200809L", "-Iinclude", *sanitizers, "-o", OUT / "killed",
-                "tests/bridge_broker/points.c", "tests/bridge/disk.c", *objects, "target/staticlib/libcard.a", *words.stdout.split())
-    if said.returncode != 0:
-        raise Broken("the test's bridge does not link: " + said.stderr[:500])
+        raise Broken("%s does not link: %s" % (name, said.stderr[:500]))
+    new.replace(OUT / name)  # whole at any time, also for a test that runs beside this one
+
+
+def variant(name, *edits):
+    """A bridge in which some lines are others; an edit is a source, what stands in it once, and what is to stand there."""
+    texts = {}
+    for source, line, other in edits:
+        text = texts.get(source) or (TOP / "bridge" / (source + ".c")).read_text()
+        if text.count(line) != 1:
+            raise Broken("%s: the line is not in bridge/%s.c once: %s" % (name, source, line))
+        texts[source] = text.replace(line, other)
+    made = [OUT / (name + "_" + source + ".c") for source in texts]
+    for file, text in zip(made, texts.values()):
+        file.write_text(text)
+    link(name, list(texts), *made, flags=["-Ibridge", "-w"])
 
 
 def fetch_broker():
@@ -114,6 +149,8 @@ class Stage:
                         retry_ms=20, retry_most_ms=200, reconnect_ms=20, reconnect_most_ms=300, claim_ms=15000, heartbeat_s=5, stop_ms=30000)
         settings.update(self.more)
         settings.update(more)
+        if "database" in settings:
+            del settings["journal"]
         (self.folder / "password").write_text("guest\n")
         path = self.folder / name
         path.write_text("".join("%s = %s\n" % s for s in settings.items()))

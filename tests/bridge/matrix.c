@@ -283,7 +283,7 @@ static void second_bridge(void)
     snprintf(other.config.witness, sizeof other.config.witness, "%s/another.witness", stage.folder);
     {
         struct journal j;
-        journal_open_sqlite(&j, other.config.journal, 2, JOURNAL_INIT);
+        journal_open(&j, &other.config, JOURNAL_INIT);
         j.close(&j);
     }
     two = stage_bridge(&other, none);
@@ -301,7 +301,7 @@ static void init_journal(struct config *c)
         struct journal j;
         if (freopen("/dev/null", "w", stderr) == NULL)
             _exit(99);
-        journal_open_sqlite(&j, c->journal, 2, JOURNAL_INIT);
+        journal_open(&j, c, JOURNAL_INIT);
         _exit(0);
     }
     check(stage_wait(pid, SOON) == EXIT_REFUSED, "journal", "init takes a journal that is there");
@@ -361,7 +361,7 @@ static void restored(void)
         struct journal j;
         if (freopen("/dev/null", "w", stdout) == NULL)
             _exit(99);
-        journal_open_sqlite(&j, stage.config.journal, 2, JOURNAL_RUN);
+        journal_open(&j, &stage.config, JOURNAL_RUN);
         floor_raise(&j, &stage.config, 5, ALL_DIALOGUES);
         j.close(&j);
         _exit(0);
@@ -397,7 +397,7 @@ static void large_numbers(void)
         struct journal j;
         if (freopen("/dev/null", "w", stdout) == NULL)
             _exit(99);
-        journal_open_sqlite(&j, stage.config.journal, 1, JOURNAL_RUN);
+        journal_open(&j, &stage.config, JOURNAL_RUN);
         floor_raise(&j, &stage.config, low - 1, ALL_DIALOGUES);
         j.close(&j);
         _exit(0);
@@ -764,6 +764,7 @@ int main(int argc, char **argv)
         return 2;
     room = argv[1];
     only = argc > 2 ? argv[2] : NULL;
+    plays = getenv("PEAT_FIRST_PLAY") != NULL ? (unsigned)atoi(getenv("PEAT_FIRST_PLAY")) : 0; /* a play is a schema of a database */
     memory = memory_make(8);
     setvbuf(stdout, NULL, _IOLBF, 0);
     the_matrix();

@@ -77,7 +77,7 @@ int memory_idle(const struct memory *m)
     for (d = 0; d < DIALOGUES_MOST; d++)
         if (m->queue[d].gone != m->queue[d].put)
             return 0;
-    return m->owner && m->rounds > QUIET_ROUNDS && m->outbox == 0 && m->given == m->confirmed;
+    return m->owner && m->rounds > QUIET_ROUNDS && m->missing == 0 && m->outbox == 0 && m->given == m->confirmed;
 }
 
 /* ---- the face */
@@ -103,10 +103,17 @@ static int lost(struct broker *b)
     return ends_of(b)->memory->cut == 1 || ends_of(b)->memory->away;
 }
 
-static int memory_consume(struct broker *b, unsigned dialogue, int on)
+static enum broker_state memory_consume(struct broker *b, unsigned dialogue, int on)
 {
     ends_of(b)->memory->queue[dialogue].consumed = on;
-    return !lost(b);
+    return lost(b) ? BROKER_AWAY : BROKER_OURS;
+}
+
+static enum broker_state memory_hand_back(struct broker *b, unsigned dialogue)
+{
+    struct memory_queue *q = &ends_of(b)->memory->queue[dialogue];
+    q->next = q->gone;
+    return lost(b) ? BROKER_AWAY : BROKER_OURS;
 }
 
 /* Whether a late payload may come now. */
@@ -147,6 +154,7 @@ static struct broker_event memory_next(struct broker *b)
     unsigned n;
     e->memory->rounds++;
     e->memory->outbox = e->bridge->metrics.letters;
+    e->memory->missing = e->bridge->config->dialogues - e->bridge->metrics.owned;
     memset(&event, 0, sizeof event);
     if (lost(b)) {
         event.news = BROKER_LOST;
@@ -230,6 +238,7 @@ void memory_open(struct broker *b, struct memory *m, const struct bridge *bridge
     b->ends = &e;
     b->connect = memory_connect;
     b->consume = memory_consume;
+    b->hand_back = memory_hand_back;
     b->next = memory_next;
     b->acknowledge = memory_acknowledge;
     b->publish = memory_publish;

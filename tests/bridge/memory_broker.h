@@ -48,7 +48,8 @@ struct memory {
     uint64_t tag;           /* the last one of this connection */
     uint64_t given, confirmed; /* letters of this connection */
     unsigned rounds;        /* that the bridge went since it connected, */
-    uint64_t outbox;        /* and the letters that it has */
+    uint64_t outbox;        /* the letters that it has, */
+    uint64_t missing;       /* and the dialogues that it has not */
     unsigned prefetch, letters, stale, deliveries, redeliveries;
     struct memory_queue queue[DIALOGUES_MOST];
     struct memory_letter letter[MEMORY_LETTERS];

@@ -120,7 +120,7 @@ static void run_bridge(struct stage *s)
         setenv("WATCHDOG_USEC", "40000", 1);
     }
     disk_install(plan.failing_sync);
-    journal_open_sqlite(&j, s->config.journal, (unsigned)s->config.dialogues, JOURNAL_RUN);
+    journal_open(&j, &s->config, JOURNAL_RUN);
     witness_admit(s->config.witness, j.id, j.commits(&j));
     link_open_packet(&link, s->config.link);
     memory_open(&broker, s->memory, &b);
@@ -148,7 +148,7 @@ static void make_journal(struct stage *s)
     if (pid == 0) {
         struct journal j;
         disk_install(0);
-        journal_open_sqlite(&j, s->config.journal, (unsigned)s->config.dialogues, JOURNAL_INIT);
+        journal_open(&j, &s->config, JOURNAL_INIT);
         witness_write(s->config.witness, j.id, j.commits(&j));
         j.close(&j);
         _exit(0);
@@ -157,11 +157,25 @@ static void make_journal(struct stage *s)
         abort();
 }
 
+/* The journal: a file of the folder; or, where PEAT_DATABASE names a database, the schema of it that is called as the folder. */
+static void choose_store(struct stage *s)
+{
+    struct config *c = &s->config;
+    const char *database = getenv("PEAT_DATABASE");
+    if (database == NULL)
+        snprintf(c->journal, sizeof c->journal, "%s/journal", s->folder);
+    else
+        snprintf(c->database, sizeof c->database, "%s options=-csearch_path=play%s", database, strrchr(s->folder, '/') + 1);
+    snprintf(c->host, sizeof c->host, "here");
+    c->lease = 300;
+    c->share = DIALOGUES_MOST;
+}
+
 static void configure(struct stage *s, unsigned dialogues)
 {
     struct config *c = &s->config;
     memset(c, 0, sizeof *c);
-    snprintf(c->journal, sizeof c->journal, "%s/journal", s->folder);
+    choose_store(s);
     snprintf(c->witness, sizeof c->witness, "%s/witness", s->folder);
     snprintf(c->link, sizeof c->link, "%s/a{}", s->folder);
     snprintf(c->queue_owner, sizeof c->queue_owner, "owner");

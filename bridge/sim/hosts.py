@@ -1,0 +1,177 @@
+"""Several hosts with one journal: a private PostgreSQL, a replica of it, and bridges that are started again when they end, as
+systemd does."""
+import json
+import os
+import re
+import signal
+import time
+from pathlib import Path
+
+from playing import Broken, Missing, Stage, call, ends, program
+
+FENCED, FAILED, REFUSED = 5, 3, 4
+
+
+def fetch_database():
+    said = call("tools/database", "get")
+    if said.returncode != 0:
+        raise Missing(said.stdout.strip().splitlines()[-1] if said.stdout.strip() else "PostgreSQL can not be had")
+
+
+class Database:
+    """A PostgreSQL in a folder."""
+    all = []
+
+    def __init__(self, folder, of=None):
+        self.folder = Path(folder)
+        Database.all.append(self)
+        self.do(*(["replica", self.folder, of.folder] if of else ["start", self.folder]))
+        self.port = int((self.folder / "port").read_text())
+
+    def do(self, *words):
+        said = call("tools/database", *words)
+        if said.returncode != 0:
+            raise Broken("database %s: %s" % (words[0], said.stdout[-300:] + said.stderr[-300:]))
+        return said.stdout.strip()
+
+    def say(self, text):
+        return self.do("say", self.folder, text)
+
+    def reload(self, **settings):
+        for name, value in settings.items():
+            self.say("ALTER SYSTEM SET %s = '%s'" % (name, value))
+        self.say("SELECT pg_reload_conf()")
+        time.sleep(0.2)
+
+    def leave_replica_behind(self):
+        """Nothing goes to the replica from now on: the process that sends is stopped."""
+        os.kill(int(self.say("SELECT pid FROM pg_stat_replication")), signal.SIGSTOP)
+
+    def way(self, *others):
+        """The configuration's words for it, or for whichever of several can be written."""
+        all = (self,) + others
+        return "host=%s port=%s user=peat dbname=peat target_session_attrs=read-write" % (",".join("127.0.0.1" for _ in all), ",".join(str(d.port) for d in all))
+
+
+def end_databases():
+    for d in Database.all:
+        call("tools/database", "end", d.folder)
+
+
+class Host:
+    """A bridge of a stage, with its own configuration, witness and log. `program`: another build of it."""
+
+    def __init__(self, stage, name, program="bridge", **more):
+        self.stage, self.name, self.program = stage, name, program
+        self.log = stage.folder / (name + ".log")
+        self.config = stage.write(name, host=name, **more)
+        self.process, self.standby, self.statuses = None, False, []
+        if not (stage.folder / (name + ".witness")).exists() and stage.command("join", self.config) != 0:
+            raise Broken("a host does not join")
+
+    def start(self, standby=False, env=None):
+        self.standby, self.env, self.since = standby, env, time.time()
+        with open(self.log, "a") as log:
+            self.process = program(self.program, *(["--standby"] if standby else []), self.config, stderr=log, env=env)
+        return self
+
+    def tend(self):
+        """What systemd does: a bridge whose database failed, or that was fenced, is started again."""
+        if self.process is not None and self.process.poll() is not None:
+            self.statuses.append(self.process.poll())
+            if self.statuses[-1] not in (FENCED, FAILED):
+                raise Broken("host %s ended with %d; its last words:\n%s" % (self.name, self.statuses[-1], self.log.read_text()[-800:]))
+            time.sleep(0.05)
+            self.start(self.standby, self.env)
+
+    def began(self):
+        """Its last bridge has the journal, and hears signals."""
+        return self.process is None or bool(self.events("began", self.since))
+
+    def kill(self):
+        self.process.kill()
+        self.process.wait()
+        self.process = None
+
+    def signal(self, which):
+        self.process.send_signal(which)
+
+    def stop(self, seconds=60):
+        """In order; its status."""
+        self.process.terminate()
+        status = ends(self.process, seconds)
+        if status is None:
+            self.process.kill()
+        self.process = None
+        return status
+
+    def events(self, event, since=0.0):
+        """The lines of the log with an event, from a time on (wall clock)."""
+        found = []
+        if self.log.exists():
+            for line in self.log.read_text().splitlines():
+                if '"event":"%s"' % event in line:
+                    row = json.loads(line)
+                    row["at"] = wall(row["time"])
+                    if row["at"] >= since:
+                        found.append(row)
+        return found
+
+    def opened(self, since=0.0):
+        """The dialogues that it opened since then."""
+        return {row["dialogue"] for row in self.events("opened", since)}
+
+
+def wall(text):
+    """The time of a line of the log, in seconds since 1970."""
+    day, ms = re.match(r"(.*)\.(\d+)Z$", text).groups()
+    return time.mktime(time.strptime(day, "%Y-%m-%dT%H:%M:%S")) - time.timezone + int(ms) / 1000
+
+
+def watch(hosts, what, seconds, every=0.05):
+    """Polls until it holds, and tends the hosts meanwhile."""
+    end = time.monotonic() + seconds
+    while time.monotonic() < end:
+        for h in hosts:
+            h.tend()
+        if what():
+            return True
+        time.sleep(every)
+    return False
+
+
+def rest(hosts, seconds):
+    watch(hosts, lambda: False, seconds)
+
+
+class SharedStage(Stage):
+    """A stage whose journal is in a database; each stage has a schema of its own."""
+
+    def __init__(self, room, name, port, dialogues, database, *others, **more):
+        self.schema = re.sub("[^a-z]", "_", name)
+        database.say("CREATE SCHEMA " + self.schema)
+        self.database = database
+        settings = dict(database=database.way(*others) + " options=-csearch_path=" + self.schema, lease_ms=1500, heartbeat_s=1, claim_ms=5000, standby_ms=500)
+        super().__init__(room, name, port, dialogues, **dict(settings, **more))
+
+    def owners(self, database=None):
+        """dialogue -> host"""
+        rows = (database or self.database).say("SELECT dialogue, owner FROM %s.dialogue" % self.schema).splitlines()
+        return {int(r.split("|")[0]): r.split("|")[1].split("/")[0] for r in rows}
+
+    def leases(self):
+        rows = self.database.say("SELECT dialogue, number FROM %s.dialogue" % self.schema).splitlines()
+        return {int(r.split("|")[0]): int(r.split("|")[1]) for r in rows}
+
+
+def stopped_and_woken(host, others, seconds):
+    """A host sleeps for so long and goes on; its status, or None where it does not end by itself."""
+    sleeper = host.process
+    host.process = None
+    sleeper.send_signal(signal.SIGSTOP)
+    rest(others, seconds)
+    sleeper.send_signal(signal.SIGCONT)
+    status = ends(sleeper, 20)
+    if status is None:
+        host.process = sleeper
+    return status

@@ -60,9 +60,9 @@ extern "C" {
  * VERSION of the project: what the header is of, as a string and in three numbers. CHANGELOG.md says what changed.
  */
 
-#define PEAT_VERSION "0.2.0"
+#define PEAT_VERSION "0.3.0"
 #define PEAT_VERSION_MAJOR 0
-#define PEAT_VERSION_MINOR 2
+#define PEAT_VERSION_MINOR 3
 #define PEAT_VERSION_PATCH 0
 
 /* What the archive is of: "peatribbon VERSION, rattle logic HASH", where the hash names the logic in which its card was proved.

@@ -207,10 +207,10 @@ static void card_message_request(const struct job_case *c)
 
 static void card_d_data(const struct job_case *c)
 {
-    said = peat_d_data_indication(RANGE(rec), PEAT_USER_DATA, c->apdu, (c->apdu_bits + 7) / 8, RANGE(first), RANGE(second));
+    said = peat_d_data_indication(RANGE(rec), 0, PEAT_USER_DATA, c->apdu, (c->apdu_bits + 7) / 8, RANGE(first), RANGE(second));
 }
 
-/* the record is put back before each call, 16 bytes */
+/* the record is put back before each call, 24 bytes */
 static const uint8_t open_record[PEAT_RECORD_BYTES] = {PEAT_AIR, PEAT_DIALOGUE, 0, 0, 1};
 
 static void card_user_abort(const struct job_case *c)
@@ -546,11 +546,11 @@ static void open_dialogue(struct end *air, struct end *ground)
     uint64_t n;
     peat_fresh(RANGE(air->rec), PEAT_AIR, PEAT_NO_SECURITY);
     peat_fresh(RANGE(ground->rec), PEAT_GROUND, PEAT_NO_SECURITY);
-    n = peat_start(RANGE(air->rec), PEAT_CPDLC, PEAT_CLASS_ANY, PEAT_NO_SECURITY, PEAT_NO_DATA, END_RANGES(air));
-    peat_d_start_indication(RANGE(ground->rec), PEAT_AIRCRAFT, PEAT_NO_SECURITY, PEAT_HIGH_PRIORITY, PEAT_LOW_ERROR_RATE, PEAT_CLASS_ANY,
+    n = peat_start(RANGE(air->rec), 1, PEAT_CPDLC, PEAT_CLASS_ANY, PEAT_NO_SECURITY, PEAT_NO_DATA, END_RANGES(air));
+    peat_d_start_indication(RANGE(ground->rec), 1, PEAT_AIRCRAFT, PEAT_NO_SECURITY, PEAT_HIGH_PRIORITY, PEAT_LOW_ERROR_RATE, PEAT_CLASS_ANY,
         PEAT_USER_DATA, air->first, peat_apdu_bytes(n), END_RANGES(ground));
     n = peat_start_response(RANGE(ground->rec), PEAT_ACCEPTED, PEAT_NO_DATA, END_RANGES(ground));
-    peat_d_start_confirmation(RANGE(air->rec), PEAT_ACCEPTED, PEAT_DS_USER, PEAT_NO_SECURITY, PEAT_USER_DATA, ground->first,
+    peat_d_start_confirmation(RANGE(air->rec), 1, PEAT_ACCEPTED, PEAT_DS_USER, PEAT_NO_SECURITY, PEAT_USER_DATA, ground->first,
         peat_apdu_bytes(n), END_RANGES(air));
     if (peat_record_state(air->rec) != PEAT_DIALOGUE || peat_record_state(ground->rec) != PEAT_DIALOGUE)
         stop("a dialogue does not open");
@@ -561,7 +561,7 @@ static void exchange(struct end *from, struct end *to, uint64_t job)
     const struct plain_data *d = &cases[TYPICAL].data;
     uint64_t n = peat_message_request(RANGE(from->rec), job, NULL, 0, RANGE(d->message), d->message_bits, RANGE(d->check), d->check_bits,
         END_RANGES(from));
-    n = peat_d_data_indication(RANGE(to->rec), PEAT_USER_DATA, from->first, peat_apdu_bytes(n), END_RANGES(to));
+    n = peat_d_data_indication(RANGE(to->rec), 1, PEAT_USER_DATA, from->first, peat_apdu_bytes(n), END_RANGES(to));
     if (peat_told(n) != PEAT_MESSAGE_INDICATION)
         stop("a message is not delivered");
 }

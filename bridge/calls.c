@@ -98,6 +98,7 @@ static void enqueue(struct dialogue *d, uint64_t answer)
     q->item = grow(q->item, &q->room, q->oldest + q->count + 1, sizeof *q->item);
     p = &q->item[q->oldest + q->count++];
     p->kind = (uint8_t)peat_invoked(answer);
+    p->number = peat_record_number(d->kept.record);
     p->parameter = (uint8_t)peat_invoked_parameter(answer);
     p->security = (uint8_t)peat_invoked_security(answer);
     p->given = peat_apdu_bits(answer) > 0 ? PEAT_USER_DATA : PEAT_NO_USER_DATA;
@@ -167,10 +168,18 @@ static unsigned act(struct bridge *b, struct dialogue *d, unsigned before, uint6
 
 /* ---- the user of the ground end: the bridge itself starts and ends dialogues */
 
+/* The number of the next dialogue: above the record's, and by the clock, so that it is above the aircraft's too where the journal is an
+   old copy (floor.h). */
+static uint64_t next_number(const struct dialogue *d)
+{
+    uint64_t above = peat_record_number(d->kept.record) + 1, clock = wall_ms();
+    return above > clock ? above : clock;
+}
+
 void call_start(struct bridge *b, struct dialogue *d)
 {
     d->kept.run++;
-    act(b, d, PEAT_IDLE, peat_start(RECORD(d), PEAT_CPDLC, PEAT_CLASS_ANY, PEAT_NO_SECURITY, PEAT_NO_DATA, BUFFERS), "");
+    act(b, d, PEAT_IDLE, peat_start(RECORD(d), next_number(d), PEAT_CPDLC, PEAT_CLASS_ANY, PEAT_NO_SECURITY, PEAT_NO_DATA, BUFFERS), "");
 }
 
 void call_end(struct bridge *b, struct dialogue *d)
@@ -199,17 +208,20 @@ void call_failure(struct bridge *b, struct dialogue *d, const char *why)
     d->closing = 1;
     d->close_by = now_ms();
     if (before != PEAT_IDLE)
-        act(b, d, before, peat_d_p_abort_indication(RECORD(d), BUFFERS), why);
+        act(b, d, before, peat_d_p_abort_indication(RECORD(d), peat_record_number(d->kept.record), BUFFERS), why);
     d->out.oldest = d->out.count = 0;
 }
 
 void call_primitive(struct bridge *b, struct dialogue *d, const struct primitive *p)
 {
-    unsigned before = state_of(d);
+    unsigned before = state_of(d), refusal;
     b->metrics.received++;
     if (before == PEAT_IDLE)
         return;
-    if (act(b, d, before, primitive_arrives(p, d->kept.record, first, second), "abort") != PEAT_TAKEN)
+    refusal = act(b, d, before, primitive_arrives(p, d->kept.record, first, second), "abort");
+    if (refusal == PEAT_STALE)
+        b->metrics.stale++; /* of an old dialogue: it changes nothing */
+    else if (refusal != PEAT_TAKEN)
         call_failure(b, d, "no primitive");
 }
 

@@ -124,6 +124,10 @@ void journal_make_id(char *id);
 /* The sum that is stored with a dialogue: the card can not see damage of a record, so the journal must. */
 uint32_t journal_sum(unsigned dialogue, const struct kept *);
 
+/* Takes the record of a dialogue that a store read, when the rest of it is in kept already. One of version 0.3.0 ends before the dialogue number,
+   and gets 0: no start had a number then, and the next one's is above it. Another size, or another sum than the stored one, ends the process. */
+void journal_take_record(unsigned dialogue, struct kept *, const uint8_t *record, size_t bytes, uint32_t sum);
+
 /* A dialogue that never was: what `init` keeps. */
 struct kept journal_fresh(void);
 

@@ -51,14 +51,10 @@ static void load(struct journal *j, unsigned dialogue, struct kept *k)
     if (pg_ask(s->pg, LOAD) != 1)
         log_and_exit(EXIT_JOURNAL, "journal", "load", "a dialogue has no record");
     record = pg_bytes_at(s->pg, 0, 0, &bytes);
-    if (bytes != PEAT_RECORD_BYTES)
-        log_and_exit(EXIT_JOURNAL, "journal", "load", "a dialogue has no record");
-    memcpy(k->record, record, PEAT_RECORD_BYTES);
     k->run = pg_number_at(s->pg, 0, 1);
     k->deliveries = pg_number_at(s->pg, 0, 2);
     k->floor = pg_job_at(s->pg, 0, 3);
-    if (pg_number_at(s->pg, 0, 4) != journal_sum(dialogue, k))
-        log_and_exit(EXIT_JOURNAL, "journal", "load", "a dialogue's checksum is wrong: the journal is damaged");
+    journal_take_record(dialogue, k, record, bytes, (uint32_t)pg_number_at(s->pg, 0, 4));
     s->hold[dialogue].top = load_top(s, dialogue);
     letters_forget(&s->letters, dialogue);
     load_letters(s, dialogue);

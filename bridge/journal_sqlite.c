@@ -147,14 +147,12 @@ static void load(struct journal *j, unsigned dialogue, struct kept *k)
     struct store *s = store_of(j);
     sqlite3_stmt *q = ready(s, LOAD);
     sqlite3_bind_int64(q, 1, dialogue);
-    if (!step(s, LOAD) || sqlite3_column_bytes(q, 0) != PEAT_RECORD_BYTES)
+    if (!step(s, LOAD))
         log_and_exit(EXIT_JOURNAL, "journal", "load", "a dialogue has no record");
-    memcpy(k->record, sqlite3_column_blob(q, 0), PEAT_RECORD_BYTES);
     k->run = (uint64_t)sqlite3_column_int64(q, 1);
     k->deliveries = (uint64_t)sqlite3_column_int64(q, 2);
     k->floor = column_number(q, 3);
-    if ((uint32_t)sqlite3_column_int64(q, 4) != journal_sum(dialogue, k))
-        log_and_exit(EXIT_JOURNAL, "journal", "load", "a dialogue's checksum is wrong: the journal is damaged");
+    journal_take_record(dialogue, k, sqlite3_column_blob(q, 0), (size_t)sqlite3_column_bytes(q, 0), (uint32_t)sqlite3_column_int64(q, 4));
     sqlite3_reset(q);
 }
 

@@ -1,6 +1,7 @@
 /*
  * The dialogue service: one connection for each dialogue, made when the dialogue is started and closed when it is over. So
- * nothing of an old dialogue can arrive in a new one: it would come on a connection that is gone.
+ * nothing of an old dialogue can arrive in a new one: it would come on a connection that is gone. Every primitive carries its
+ * dialogue's number all the same, and the card refuses one of another: a link that keeps its connection for longer may stand here.
  *
  * A connection hands over primitives in order, each whole and once, until it breaks. That it breaks is the carrier's
  * failure of docs/PAIR.md, seen by both ends.
@@ -21,6 +22,7 @@ struct primitive {
     uint8_t parameter; /* routing class, result or originator */
     uint8_t security;
     uint8_t given;     /* enum peat_given */
+    uint64_t number;   /* of the dialogue */
     uint8_t data[PEAT_BUFFER_LEAST];
     size_t bytes;      /* of data */
 };
@@ -52,7 +54,8 @@ void link_open_packet(struct link *, const char *path);
 struct sockaddr_un;
 int packet_socket(const char *path, unsigned dialogue, struct sockaddr_un *address);
 
-/* A primitive as a packet: kind, parameter, security and given in a byte each, then the user data. Both ends use these. */
+/* A primitive as a packet: kind, parameter, security and given in a byte each, the dialogue number in eight, the most significant
+   first, then the user data. Both ends use these. */
 enum link_answer packet_send(int socket, const struct primitive *);
 enum link_answer packet_receive(int socket, struct primitive *);
 

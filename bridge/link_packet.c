@@ -11,7 +11,8 @@
 #include "link.h"
 #include "log.h"
 
-#define PACKET_HEAD 4
+#define PACKET_CODES 4
+#define PACKET_HEAD (PACKET_CODES + 8)
 
 /* ---- packets */
 
@@ -23,6 +24,9 @@ static enum link_answer failed(void)
 enum link_answer packet_send(int socket, const struct primitive *p)
 {
     uint8_t packet[PACKET_HEAD + PEAT_BUFFER_LEAST] = {p->kind, p->parameter, p->security, p->given};
+    unsigned i;
+    for (i = 0; i < 8; i++)
+        packet[PACKET_CODES + i] = (uint8_t)(p->number >> (56 - 8 * i));
     memcpy(packet + PACKET_HEAD, p->data, p->bytes);
     return send(socket, packet, PACKET_HEAD + p->bytes, MSG_DONTWAIT | MSG_NOSIGNAL) < 0 ? failed() : LINK_DONE;
 }
@@ -40,6 +44,7 @@ enum link_answer packet_receive(int socket, struct primitive *p)
     p->parameter = packet[1];
     p->security = packet[2];
     p->given = packet[3];
+    p->number = peat_eight_bytes(packet + PACKET_CODES);
     p->bytes = (size_t)n - PACKET_HEAD;
     memcpy(p->data, packet + PACKET_HEAD, p->bytes);
     return LINK_DONE;

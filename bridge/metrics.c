@@ -63,6 +63,7 @@ static void dialogues(struct text *t, const struct metrics *m)
     one(t, "t_start_expired_total", COUNTER, "Starts that no aircraft answered in time.", m->expired);
     one(t, "primitives_sent_total", COUNTER, "Primitives of the dialogue service sent.", m->sent);
     one(t, "primitives_received_total", COUNTER, "Primitives of the dialogue service received.", m->received);
+    one(t, "primitives_stale_total", COUNTER, "Primitives of an old dialogue, which change nothing.", m->stale);
     one(t, "primitives_unsent", GAUGE, "Primitives that wait for room on a connection.", m->unsent);
 }
 

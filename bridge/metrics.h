@@ -15,7 +15,7 @@
 struct metrics {
     uint64_t payloads, taken, repeats, overtaken, refused[REFUSALS], dead;
     uint64_t delivered, opened, ended, broken, expired;
-    uint64_t sent, received, published, confirmed, connections, lost;
+    uint64_t sent, received, stale, published, confirmed, connections, lost;
     uint64_t commits, commit_us, commit_in[LATENCIES + 1];
     uint64_t takeovers, given_back;
     /* as they are now */

@@ -61,6 +61,8 @@ static const struct row {
     ROW("  timers expired", expired),
     ROW("  ends broken down", errors),
     ROW("dialogues left half closed", half_closed),
+    ROW("starts over leftovers of an old one", late_starts),
+    ROW("  primitives refused as STALE", stale),
     ROW("power failures of an end", restarts),
     ROW("  of the whole rack", rack_restarts),
     ROW("  in the middle of a write", torn),

@@ -17,6 +17,7 @@ extern struct account {
     unsigned long numbers, numbers_closed, numbers_most, all_open, number_twice, number_not_lowest, number_astray;
     /* dialogues */
     unsigned long opened, closed, aborted, failed, turned_back, expired, errors, half_closed;
+    unsigned long late_starts, stale;
     /* the power */
     unsigned long restarts, rack_restarts, torn, loaded, loaded_wrong;
     /* calls that may not be refused, and were */

@@ -228,21 +228,39 @@ static void put_frame(int air, unsigned address, const uint8_t *tpdu, unsigned h
 
 /* ---- connections */
 
-#define CONNECTIONS 64
+/* A dialogue of an end has a connection of its own, by its number: what is left of an old one arrives on the old one's. */
+#define ENDS 64
+#define CONNECTIONS 16 /* of an end, the newest */
 
-static struct connection {
+struct connection {
+    uint64_t dialogue;  /* its number */
     unsigned reference; /* 0: there was none yet */
-    uint8_t number[2]; /* the next TPDU each way */
-} connections[CONNECTIONS];
+    uint8_t number[2];  /* the next TPDU each way */
+};
+
+static struct {
+    struct connection connection[CONNECTIONS];
+    unsigned newest, reference;
+} ends[ENDS];
 
 static unsigned reference(const struct connection *c, int air) { return air ? c->reference : c->reference | 0x8000u; }
 
-/* the transport connection of a dialogue: asked for by one end, confirmed by the other */
-static void connect(struct connection *c, int air, unsigned address)
+static struct connection *connection_of(unsigned end, uint64_t dialogue)
 {
+    unsigned i;
+    for (i = 0; i < CONNECTIONS; i++)
+        if (ends[end].connection[i].reference != 0 && ends[end].connection[i].dialogue == dialogue)
+            return &ends[end].connection[i];
+    return NULL;
+}
+
+/* the transport connection of a dialogue: asked for by one end, confirmed by the other */
+static void connect(unsigned end, uint64_t dialogue, int air, unsigned address)
+{
+    struct connection *c = &ends[end].connection[ends[end].newest = (ends[end].newest + 1) % CONNECTIONS];
     unsigned mine, other;
-    c->reference = 1 + ((c->reference != 0 ? c->reference : (unsigned)(c - connections)) + CONNECTIONS) % 0x7FFE;
-    c->number[0] = c->number[1] = 0;
+    ends[end].reference = 1 + ((ends[end].reference != 0 ? ends[end].reference : end) + ENDS) % 0x7FFE;
+    *c = (struct connection){dialogue, ends[end].reference, {0, 0}};
     mine = reference(c, air), other = reference(c, !air);
     {
         uint8_t request[] = {6, 0xE0, 0, 0, (uint8_t)(mine >> 8), (uint8_t)mine, 0x40};
@@ -255,14 +273,15 @@ static void connect(struct connection *c, int air, unsigned address)
 void capture_entry(int dialogue, int from_air, const struct entry *e)
 {
     static struct bits b;
-    struct connection *c = &connections[dialogue % CONNECTIONS];
-    unsigned address = 0x400000u + (unsigned)dialogue, other, bytes;
+    struct connection *c;
+    unsigned address = 0x400000u + (unsigned)dialogue, end = (unsigned)dialogue % ENDS, other, bytes;
     uint8_t data[5];
     if (capture.file == NULL)
         return;
     if (e->primitive == PEAT_D_START_REQUEST)
-        connect(c, from_air, address);
-    if (c->reference == 0)
+        connect(end, e->number, from_air, address);
+    c = connection_of(end, e->number);
+    if (c == NULL)
         return; /* a D-ABORT whose start was lost: there is no connection to show it on */
     other = reference(c, !from_air);
     memset(&b, 0, sizeof b);

@@ -13,6 +13,7 @@
 
 struct entry {
     unsigned long serial; /* which entry of its dialogue this is, for the story */
+    uint64_t number;      /* of the dialogue: the one that its end held when it was sent */
     unsigned primitive;   /* enum peat_invoked */
     unsigned parameter;   /* routing class, result or originator */
     unsigned security;
@@ -43,6 +44,15 @@ static inline struct entry *line_take(struct line *l)
     l->oldest = (l->oldest + 1) % LINE_ENTRIES;
     l->entries--;
     return e;
+}
+
+/* how many of the youngest entries are of the dialogue of this number */
+static inline unsigned line_of_number(const struct line *l, uint64_t number)
+{
+    unsigned n = 0;
+    while (n < l->entries && l->entry[(l->oldest + l->entries - 1 - n) % LINE_ENTRIES].number == number)
+        n++;
+    return n;
 }
 
 /* the youngest entry, which is lost */

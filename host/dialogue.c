@@ -9,23 +9,18 @@
 
 /* ---- the users */
 
-void dialogue_start(struct dialogue *d, struct end *e)
+void dialogue_start(struct dialogue *d)
 {
-    unsigned class_ = chance(PEAT_CLASS_H + 1), mode;
-    int i;
-    if (!idle(air(d)) || !idle(ground(d)) || !quiet(d))
+    struct end *e = starter(d);
+    unsigned class_ = chance(PEAT_CLASS_H + 1), mode = is_air(e) && chance(2) ? PEAT_DSC : PEAT_CPDLC;
+    uint64_t next = number(e) + 1 + (chance(8) == 0 ? chance(1000) : 0);
+    if (!idle(air(d)) || !idle(ground(d)) || !line_has_room(&e->out, 1))
         return;
-    for (i = 0; i < 2; i++) {
-        d->end[i].watch.sent = d->end[i].watch.seen = 0;
-        d->end[i].watch.broke = 0;
-        d->end[i].user.replies.owed = 0;
-        book_watch_begins(&d->end[i].watch.numbers);
-    }
+    account.late_starts += !quiet(d);
     if (fault(FORGETS_HIGHEST))
         must((unsigned)peat_fresh(REC(e), e->user.side, PEAT_NO_SECURITY));
-    mode = is_air(e) && chance(2) ? PEAT_DSC : PEAT_CPDLC;
     must(end_act(e, mode == PEAT_DSC ? "start request, dsc" : "start request, cpdlc",
-        peat_start(REC(e), mode, class_, PEAT_NO_SECURITY, PEAT_NO_DATA, BUFFERS)));
+        peat_start(REC(e), next, mode, class_, PEAT_NO_SECURITY, PEAT_NO_DATA, BUFFERS)));
 }
 
 static void start_response(struct end *e, unsigned dsc, unsigned result)
@@ -88,36 +83,56 @@ static const char *arrival_name(unsigned primitive)
     return PEAT_NAMED(names, primitive);
 }
 
+/* the number that a primitive is handed over with: its own, or what one of the faults has there */
+static uint64_t number_given(const struct end *to, const struct entry *e)
+{
+    return fault(FORGETS_NUMBERS) ? number(to) + (e->primitive == PEAT_D_START_REQUEST) : e->number;
+}
+
 /* A primitive that one end invoked reaches the other. */
 static uint64_t arrives(struct end *to, const struct entry *e)
 {
     unsigned peer = is_air(to) ? PEAT_FACILITY : PEAT_AIRCRAFT;
+    uint64_t n = number_given(to, e);
     switch (e->primitive) {
     case PEAT_D_START_REQUEST:
-        return peat_d_start_indication(REC(to), peer, e->security, PEAT_HIGH_PRIORITY, PEAT_LOW_ERROR_RATE, e->parameter,
+        return peat_d_start_indication(REC(to), n, peer, e->security, PEAT_HIGH_PRIORITY, PEAT_LOW_ERROR_RATE, e->parameter,
             PEAT_USER_DATA, e->apdu, e->bytes, BUFFERS);
     case PEAT_D_START_RESPONSE:
-        return peat_d_start_confirmation(REC(to), e->parameter, PEAT_DS_USER, e->security, PEAT_USER_DATA, e->apdu, e->bytes, BUFFERS);
-    case PEAT_D_DATA_REQUEST: return peat_d_data_indication(REC(to), PEAT_USER_DATA, e->apdu, e->bytes, BUFFERS);
-    case PEAT_D_END_REQUEST: return peat_d_end_indication(REC(to), PEAT_USER_DATA, e->apdu, e->bytes, BUFFERS);
-    case PEAT_D_END_RESPONSE: return peat_d_end_confirmation(REC(to), e->parameter, PEAT_USER_DATA, e->apdu, e->bytes, BUFFERS);
-    default: return peat_d_abort_indication(REC(to), e->parameter, PEAT_USER_DATA, e->apdu, e->bytes, BUFFERS);
+        return peat_d_start_confirmation(REC(to), n, e->parameter, PEAT_DS_USER, e->security, PEAT_USER_DATA, e->apdu, e->bytes, BUFFERS);
+    case PEAT_D_DATA_REQUEST: return peat_d_data_indication(REC(to), n, PEAT_USER_DATA, e->apdu, e->bytes, BUFFERS);
+    case PEAT_D_END_REQUEST: return peat_d_end_indication(REC(to), n, PEAT_USER_DATA, e->apdu, e->bytes, BUFFERS);
+    case PEAT_D_END_RESPONSE: return peat_d_end_confirmation(REC(to), n, e->parameter, PEAT_USER_DATA, e->apdu, e->bytes, BUFFERS);
+    default: return peat_d_abort_indication(REC(to), n, e->parameter, PEAT_USER_DATA, e->apdu, e->bytes, BUFFERS);
     }
 }
 
 /* What reaches an IDLE end is discarded, but for a start. Its host sees all the same that the connection is lost: what this
-   end sent before it closed may not have arrived. */
+   end sent before it closed may not have arrived. (An abort of an older dialogue says nothing of that.) */
 static void discard(struct end *to, const struct entry *e)
 {
     story_arrives(to->peer, e, 1);
-    if (e->primitive == PEAT_D_ABORT_REQUEST)
+    if (e->primitive == PEAT_D_ABORT_REQUEST && e->number == number(to))
         end_settles(to, BROKEN);
+}
+
+/* What is left of an old dialogue changes nothing. It must be of one: a number below the record's. */
+static void stale(struct end *to, const struct entry *e)
+{
+    account.stale++;
+    story_stale(to->peer, e);
+    if (e->number >= number(to))
+        must(PEAT_STALE);
 }
 
 static void receive(struct end *to, const struct entry *e)
 {
     uint64_t answer = arrives(to, e);
     char what[64];
+    if (peat_refusal(answer) == PEAT_STALE) {
+        stale(to, e);
+        return;
+    }
     snprintf(what, sizeof what, "%s %c%lu", arrival_name(e->primitive), is_air(to) ? 'g' : 'a', e->serial);
     account.missing += e->primitive == PEAT_D_DATA_REQUEST && peat_told(answer) != PEAT_MESSAGE_INDICATION;
     must(end_act(to, what, answer));
@@ -159,13 +174,13 @@ void dialogue_expire(struct end *e)
 
 void dialogue_turn_back(struct end *e)
 {
-    if (state(e) != PEAT_START_REQ || e->out.entries == 0)
+    if (state(e) != PEAT_START_REQ || line_of_number(&e->out, number(e)) == 0)
         return;
     account.turned_back++;
-    lose_youngest(e, e->out.entries);
+    lose_youngest(e, line_of_number(&e->out, number(e))); /* it has sent nothing else in this dialogue */
     if (!fault(SILENT_TURN_BACK))
         must(end_act(e, "D-START confirmation: start turned back",
-            peat_d_start_confirmation(REC(e), PEAT_REJECTED_TRANSIENT, PEAT_DS_PROVIDER, PEAT_NO_SECURITY, PEAT_NO_USER_DATA, NULL, 0, BUFFERS)));
+            peat_d_start_confirmation(REC(e), number(e), PEAT_REJECTED_TRANSIENT, PEAT_DS_PROVIDER, PEAT_NO_SECURITY, PEAT_NO_USER_DATA, NULL, 0, BUFFERS)));
 }
 
 void dialogue_break_down(struct end *e)
@@ -183,7 +198,7 @@ static void hears_of_failure(struct end *e)
     if (idle(e))
         end_settles(e, BROKEN);
     else
-        must(end_act(e, "D-P-ABORT indication", peat_d_p_abort_indication(REC(e), BUFFERS)));
+        must(end_act(e, "D-P-ABORT indication", peat_d_p_abort_indication(REC(e), number(e), BUFFERS)));
 }
 
 void dialogue_fail(struct dialogue *d)
@@ -205,15 +220,17 @@ void dialogue_fail(struct dialogue *d)
 static int matching(struct dialogue *d)
 {
     unsigned a = state(air(d)), g = state(ground(d));
+    if (number(air(d)) != number(ground(d)))
+        return a == PEAT_IDLE && g == PEAT_IDLE; /* a start that never arrived */
     if (a == PEAT_START_REQ || g == PEAT_START_REQ)
         return a + g == PEAT_START_REQ + PEAT_START_IND;
     return a == g && a != PEAT_START_IND && peat_record_dsc(air(d)->memory.rec) == peat_record_dsc(ground(d)->memory.rec);
 }
 
-/* All that each end took in a dialogue was shown at the other, unless something broke it. */
+/* All that each end took in a dialogue was shown at the other, unless something broke it, or the other never was in it. */
 static int complete(struct dialogue *d)
 {
-    int broke = air(d)->watch.broke || ground(d)->watch.broke;
+    int broke = air(d)->watch.broke || ground(d)->watch.broke || air(d)->watch.number != ground(d)->watch.number;
     return broke || (air(d)->watch.seen == ground(d)->watch.sent && ground(d)->watch.seen == air(d)->watch.sent);
 }
 

@@ -19,15 +19,18 @@ static inline int quiet(struct dialogue *d) { return air(d)->out.entries == 0 &&
 
 /* ---- the users */
 
-/* A user starts, when both ends are IDLE and both lines are empty. */
-void dialogue_start(struct dialogue *d, struct end *e);
+/* The end that starts, always the same one of a dialogue: its number is never below the other's. */
+static inline struct end *starter(struct dialogue *d) { return &d->end[d->end[0].dialogue % 2]; }
+
+/* Its user starts, when both ends are IDLE. Entries of old dialogues may be on the lines. */
+void dialogue_start(struct dialogue *d);
 
 /* A user answers what it was asked, and now and then asks for the end or aborts. */
 void dialogue_respond(struct end *e);
 
 /* ---- the host and the carrier */
 
-/* The oldest entry of an end's line is handed over. */
+/* The oldest entry of an end's line is handed over. One of an old dialogue is refused as STALE, and gone. */
 void dialogue_hand_over(struct end *from);
 
 /* A running timer expires. */

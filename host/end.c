@@ -32,6 +32,19 @@ int end_begin(struct end *e, int dialogue, unsigned side, struct end *peer, cons
 
 static void fails_here(void *e) { power_point(e); }
 
+/* With another number a dialogue begins, in which nothing was taken, shown or broken. */
+static void watch_dialogue(struct end *e)
+{
+    struct watch *w = &e->watch;
+    if (number(e) == w->number)
+        return;
+    w->number = number(e);
+    w->sent = w->seen = 0;
+    w->broke = 0;
+    e->user.replies.owed = 0;
+    book_watch_begins(&w->numbers);
+}
+
 static void watch_taken(struct end *e, uint64_t job)
 {
     struct watch *w = &e->watch;
@@ -65,6 +78,7 @@ static void keep(struct end *e, const struct change *c)
         exit(2);
     }
     memory_apply(&e->memory, c);
+    watch_dialogue(e);
     if (c->job != 0 && c->outcome == PEAT_TAKEN) {
         watch_taken(e, c->job);
         watch_number(e, c);
@@ -81,8 +95,8 @@ void lose_youngest(struct end *e, unsigned n)
         story_lost(e, line_lose(&e->out));
 }
 
-/* The primitive goes on the line. When an end invokes D-ABORT, the carrier may lose the youngest entries that this end sent
-   before it. */
+/* The primitive goes on the line with the number that the record holds now. When an end invokes D-ABORT, the carrier may lose the
+   youngest entries that this end sent before it in that dialogue. */
 static void invoke(struct end *e, uint64_t answer)
 {
     struct entry *n;
@@ -94,10 +108,11 @@ static void invoke(struct end *e, uint64_t answer)
         if (fault(LOSES_OLDEST) && e->out.entries > 1)
             story_lost(e, line_take(&e->out));
         else if (!fault(LOSES_OLDEST))
-            lose_youngest(e, chance(e->out.entries + 1));
+            lose_youngest(e, chance(line_of_number(&e->out, number(e)) + 1));
     }
     n = line_put(&e->out);
     n->serial = ++e->watch.entries;
+    n->number = number(e);
     n->primitive = peat_invoked(answer);
     n->parameter = peat_invoked_parameter(answer);
     n->security = peat_invoked_security(answer);
@@ -129,7 +144,7 @@ static void show(struct end *e, const uint8_t *body, unsigned bits)
     const struct watch *from = &e->peer->watch;
     unsigned by = e->peer->user.side;
     uint64_t clearance = clearance_read(&c, by, body, bits) ? clearance_of(&c, by) : 0;
-    int in_place = clearance != 0 && e->watch.seen < from->sent && from->clearance[e->watch.seen] == clearance;
+    int in_place = clearance != 0 && from->number == e->watch.number && e->watch.seen < from->sent && from->clearance[e->watch.seen] == clearance;
     unsigned times = clearance == 0 ? 0 : user_shown(&e->user, clearance);
     e->watch.seen += (unsigned)in_place;
     story_shown(e, clearance);
@@ -254,7 +269,7 @@ unsigned end_act(struct end *e, const char *what, uint64_t answer)
     if (peat_refusal(answer) != PEAT_TAKEN)
         return peat_refusal(answer);
     story_call(e, what, answer);
-    if (breaks(answer))
+    if (breaks(answer) || begins(answer)) /* what an older dialogue left open is not known to have arrived */
         c.over = broken(e, BROKEN);
     keep_book(e, &c, answer);
     conclude(e, &c, answer);

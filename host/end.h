@@ -26,6 +26,7 @@ struct held {
 /* What the simulator knows of an end, and no host does: it holds the dialogue to docs/PAIR.md. */
 struct watch {
     unsigned state;              /* after its last call */
+    uint64_t number;             /* of the dialogue that what follows is of */
     unsigned sent;               /* the clearances that it took in this dialogue, in order */
     uint64_t clearance[OPEN_MOST];
     unsigned seen;               /* how many of the other end's it was shown */
@@ -56,6 +57,7 @@ extern uint8_t first[PEAT_BUFFER_LEAST], second[PEAT_BUFFER_LEAST];
 #define BUFFERS PEAT_BUFFERS(first, second)
 
 static inline unsigned side(const struct end *e) { return peat_record_side(e->memory.rec); }
+static inline uint64_t number(const struct end *e) { return peat_record_number(e->memory.rec); }
 static inline unsigned state(const struct end *e) { return peat_record_state(e->memory.rec); }
 static inline int idle(const struct end *e) { return state(e) == PEAT_IDLE; }
 static inline int is_air(const struct end *e) { return side(e) == PEAT_AIR; }

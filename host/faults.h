@@ -31,6 +31,7 @@ enum fault {
     CLOSES_ANOTHER_NUMBER, /* closes another number than the reply names */
     CLOSES_TOO_EARLY,   /* closes a number as soon as its message is sent */
     CLOSES_NONE,        /* closes no number */
+    FORGETS_NUMBERS,    /* hands over every primitive as one of the dialogue that the record holds */
     FAULTS
 };
 

@@ -71,7 +71,7 @@ static void step(void)
     else if (what < 901)
         crowd(d);
     else if (what < 985)
-        dialogue_start(d, e);
+        dialogue_start(d);
     else if (what < 992)
         dialogue_expire(e);
     else if (what < 996)

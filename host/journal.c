@@ -10,7 +10,7 @@
 
 /* ---- a change in bytes */
 
-enum { COUNT = 0, RECORD = 8, JOB = 24, OUTCOME = 32, OVER = 33, CONFIRMED = 34, BOOK = 36, NUMBER = 37, SUM = 38, CHANGE_BYTES = 42 };
+enum { COUNT = 0, RECORD = 8, JOB = RECORD + PEAT_RECORD_BYTES, OUTCOME = JOB + 8, OVER, CONFIRMED, BOOK = CONFIRMED + 2, NUMBER, SUM, CHANGE_BYTES = SUM + 4 };
 
 static void put(uint8_t *at, uint64_t n, int bytes)
 {

@@ -102,6 +102,12 @@ void story_arrives(const struct end *from, const struct entry *n, int discarded)
         words(from->peer, discarded ? "discarded, the end is IDLE" : "arrives", "%c%lu: %s", letter_of(from), n->serial, peat_invoked_name(n->primitive));
 }
 
+void story_stale(const struct end *from, const struct entry *n)
+{
+    if (!silent(from))
+        words(from->peer, "refused as STALE", "%c%lu: %s", letter_of(from), n->serial, peat_invoked_name(n->primitive));
+}
+
 void story_note(const struct end *e, const char *note)
 {
     if (!silent(e))

@@ -32,6 +32,9 @@ void story_loaded(const struct end *e);
 void story_lost(const struct end *e, const struct entry *n);
 void story_arrives(const struct end *from, const struct entry *n, int discarded);
 
+/* an entry of an old dialogue is refused at the other end */
+void story_stale(const struct end *from, const struct entry *n);
+
 /* anything else */
 void story_note(const struct end *e, const char *words);
 

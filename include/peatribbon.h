@@ -1,7 +1,7 @@
 /*
  * Peatribbon, as a C host calls it.
  *
- * One record is one end (air or ground) of one dialogue. The host keeps it in 16 bytes and lends it to each call together
+ * One record is one end (air or ground) of one dialogue. The host keeps it in 24 bytes and lends it to each call together
  * with two output buffers. A call tells the record's machine of one event: a primitive of the user, a primitive of the
  * dialogue service, the expiry of t-start, or a system error. It answers a number that says which primitive the machine
  * invokes of the dialogue service and which of the user. The APDU for the one stands in the first buffer, the message data
@@ -25,12 +25,18 @@
  * peat_message_characters and peat_message_bits that of the message's, peat_opened_number and peat_open_count that of the
  * book's. Refused: the number of the refusal and, where bits were at fault (PEAT_SHORT to PEAT_DEFAULT), the position of the
  * fault, which peat_position reads; all other bits 0, and NO byte of any lent range has changed (but peat_mail_take and
- * peat_mail_end keep the refusal of their input in mail). (peat_envelope_job and peat_book_job answer a plain number.) The refusals are tried in the order ROOM, SHAPE, PROHIBITED, NO_MESSAGE, REPEAT; of a
- * book SHAPE, then ALL_OPEN or NOT_OPEN. A primitive of the dialogue service is refused with ROOM or SHAPE only: user data
- * that is no valid PDU is not refused but answered as the protocol says.
+ * peat_mail_end keep the refusal of their input in mail). (peat_envelope_job and peat_book_job answer a plain number.) The refusals are tried in the order ROOM, SHAPE, STALE, PROHIBITED, NO_MESSAGE,
+ * REPEAT; of a book SHAPE, then ALL_OPEN or NOT_OPEN. A primitive of the dialogue service is refused with ROOM, SHAPE or STALE only:
+ * user data that is no valid PDU is not refused but answered as the protocol says.
+ *
+ * The dialogue number. A carrier may hand over a primitive of an old dialogue after a new start. So every dialogue has a number, which
+ * the record holds (peat_record_number, 0 at first): the host gives it with the start, above the last, and tells it to the carrier with
+ * every primitive that a call invokes: the number that the record holds after that call. With every primitive that arrives, the carrier
+ * tells the number that it was sent with. One of another number is PEAT_STALE and changes nothing; a D-START indication may bring a
+ * higher one, which the record then holds, whatever becomes of the start. docs/HOST.md says how the host counts.
  *
  * What a machine's call writes, if it is not refused:
- *   - rec, 16 bytes: the record after the event;
+ *   - rec, 24 bytes: the record after the event;
  *   - first, from its first byte on, peat_apdu_bytes(answer) bytes; the bits after the last bit of the APDU are zero;
  *   - second, from its first byte on, peat_data_bytes(answer) bytes; likewise.
  * Every other byte stays. A buffer with nothing to take stays whole.
@@ -60,9 +66,9 @@ extern "C" {
  * VERSION of the project: what the header is of, as a string and in three numbers. CHANGELOG.md says what changed.
  */
 
-#define PEAT_VERSION "0.3.0"
+#define PEAT_VERSION "0.4.0"
 #define PEAT_VERSION_MAJOR 0
-#define PEAT_VERSION_MINOR 3
+#define PEAT_VERSION_MINOR 4
 #define PEAT_VERSION_PATCH 0
 
 /* What the archive is of: "peatribbon VERSION, rattle logic HASH", where the hash names the logic in which its card was proved.
@@ -72,7 +78,7 @@ extern const char peat_archive_version[];
 
 /* ---- sizes */
 
-#define PEAT_RECORD_BYTES 16   /* a record, exactly */
+#define PEAT_RECORD_BYTES 24   /* a record, exactly */
 #define PEAT_BUFFER_LEAST 2112 /* each output buffer, at least; there is no upper limit */
 #define PEAT_IDENTIFIER_MOST 16 /* algorithm identifier, contents octets; 0 octets: no identifier */
 #define PEAT_MESSAGE_MOST 16383 /* CPDLC message, bits */
@@ -117,7 +123,7 @@ static inline uint64_t peat_bits_given(const struct peat_data *data) { return da
 
 /* ---- refusals */
 
-/* The machine's calls answer 0 to 5, the readers of a message, of message data and of an APDU 1, 2 and 10 to 17, the reader of
+/* The machine's calls answer 0 to 6, the readers of a message, of message data and of an APDU 1, 2 and 10 to 17, the reader of
    an envelope 20 to 23, that of fragments 2 and 20 to 23, the two writers 1 and 2, and the book's calls 2, 7 and 8. A machine's call that meets 10 to 17 in
    user data does as the protocol says. An envelope of kind 3 carries any of these numbers. */
 enum peat_refusal {
@@ -129,6 +135,8 @@ enum peat_refusal {
     PEAT_PROHIBITED = 3, /* a user primitive with no action in this state, or an expiry while no timer runs */
     PEAT_NO_MESSAGE = 4, /* a message request without a CPDLC message */
     PEAT_REPEAT = 5,     /* a message request whose job number is not above the highest that the record has taken */
+    PEAT_STALE = 6,      /* a start whose dialogue number is not above the record's, or another primitive of the dialogue service
+                            whose number is not the record's */
     PEAT_ALL_OPEN = 7,   /* all PEAT_BOOK_NUMBERS numbers of a book are open */
     PEAT_NOT_OPEN = 8,   /* a number to close is not open, or is no number */
     PEAT_SHORT = 10,       /* the bits end inside a field */
@@ -543,7 +551,7 @@ static inline int peat_put_level(uint8_t *at, unsigned unit, long level)
     return 1;
 }
 
-/* ---- the record: 16 bytes that the host may keep anywhere, copy, and read with these; it writes them through calls only */
+/* ---- the record: 24 bytes that the host may keep anywhere, copy, and read with these; it writes them through calls only */
 
 #define PEAT_RECORD_SIDE 0
 #define PEAT_RECORD_STATE 1
@@ -554,6 +562,7 @@ static inline int peat_put_level(uint8_t *at, unsigned unit, long level)
 #define PEAT_RECORD_POLICY 6
 #define PEAT_RECORD_ZERO 7
 #define PEAT_RECORD_HIGHEST 8
+#define PEAT_RECORD_NUMBER 16
 
 static inline unsigned peat_record_side(const uint8_t *rec) { return rec[PEAT_RECORD_SIDE]; }       /* enum peat_side */
 static inline unsigned peat_record_state(const uint8_t *rec) { return rec[PEAT_RECORD_STATE]; }     /* enum peat_state */
@@ -563,15 +572,21 @@ static inline unsigned peat_record_active(const uint8_t *rec) { return rec[PEAT_
 static inline unsigned peat_record_request(const uint8_t *rec) { return rec[PEAT_RECORD_REQUEST]; } /* security of its last start request */
 static inline unsigned peat_record_policy(const uint8_t *rec) { return rec[PEAT_RECORD_POLICY]; }   /* the security that policy accepts */
 
-/* the highest job taken, 0 at first */
-static inline uint64_t peat_record_highest(const uint8_t *rec)
+/* a number in eight bytes, the most significant first */
+static inline uint64_t peat_eight_bytes(const uint8_t *at)
 {
     uint64_t n = 0;
     size_t i;
-    for (i = PEAT_RECORD_HIGHEST; i < PEAT_RECORD_BYTES; i++)
-        n = n << 8 | rec[i];
+    for (i = 0; i < 8; i++)
+        n = n << 8 | at[i];
     return n;
 }
+
+/* the highest job taken, 0 at first */
+static inline uint64_t peat_record_highest(const uint8_t *rec) { return peat_eight_bytes(rec + PEAT_RECORD_HIGHEST); }
+
+/* The dialogue number, 0 at first. After a call that invokes a primitive of the dialogue service, it is the number to send with it. */
+static inline uint64_t peat_record_number(const uint8_t *rec) { return peat_eight_bytes(rec + PEAT_RECORD_NUMBER); }
 
 /* ---- names, for a log; "?" for a number that has none */
 
@@ -581,7 +596,7 @@ static inline const char *peat_name_in(const char *const *names, size_t count, u
 /* of enum peat_refusal, as document 01 has it */
 static inline const char *peat_refusal_name(unsigned refusal)
 {
-    static const char *const names[] = {"taken", "ROOM", "SHAPE", "PROHIBITED", "NO-MESSAGE", "REPEAT", "?", "ALL-OPEN", "NOT-OPEN", "?", "SHORT", "RANGE",
+    static const char *const names[] = {"taken", "ROOM", "SHAPE", "PROHIBITED", "NO-MESSAGE", "REPEAT", "STALE", "ALL-OPEN", "NOT-OPEN", "?", "SHORT", "RANGE",
         "EXTENSION", "LENGTH-FORM", "LIMIT", "TAIL", "NOT-CARRIED", "DEFAULT", "?", "?", "CUT", "GROUPS", "KIND", "SIZE"};
     return PEAT_NAMED(names, refusal);
 }
@@ -648,10 +663,10 @@ static inline const char *peat_kind_name(unsigned kind)
 
 /* ---- a fresh record */
 
-/* Makes a fresh record: IDLE, DSC false, timer stopped, user not active, highest job 0, request value "no security".
-   side: enum peat_side. policy: the enum peat_security that local policy accepts.
-   Answers 0 and writes rec, 16 bytes; or PEAT_SHAPE (rec_len is not 16, side or policy is none of its codes), and rec stays.
-   A dialogue that closes needs no fresh record; one would forget the highest job taken. */
+/* Makes a fresh record: IDLE, DSC false, timer stopped, user not active, highest job 0, dialogue
+   number 0, request value "no security". side: enum peat_side. policy: the enum peat_security that local policy accepts.
+   Answers 0 and writes rec, 24 bytes; or PEAT_SHAPE (rec_len is not 24, side or policy is none of its codes), and rec stays.
+   A dialogue that closes needs no fresh record; one would forget the highest job taken and the dialogue number. */
 uint64_t peat_fresh(uint8_t *rec, size_t rec_len, uint64_t side, uint64_t policy);
 
 /* ---- primitives of the user
@@ -666,10 +681,11 @@ uint64_t peat_fresh(uint8_t *rec, size_t rec_len, uint64_t side, uint64_t policy
  * They write rec and first, and second stays.
  */
 
-/* Start request: the CPDLC-start request in mode PEAT_CPDLC, the DSC-start request in mode PEAT_DSC. mode: enum peat_mode;
+/* Start request: the CPDLC-start request in mode PEAT_CPDLC, the DSC-start request in mode PEAT_DSC. number: the dialogue's,
+   which the record holds from then on; STALE unless it is above peat_record_number, in every state. mode: enum peat_mode;
    PEAT_DSC is SHAPE at the ground end, in every state. class_: enum peat_class. security: enum peat_security.
    PROHIBITED unless IDLE. Invokes D-START request; the timer begins to run, and in mode PEAT_DSC the record's DSC is set. */
-uint64_t peat_start(uint8_t *rec, size_t rec_len, uint64_t mode, uint64_t class_, uint64_t security,
+uint64_t peat_start(uint8_t *rec, size_t rec_len, uint64_t number, uint64_t mode, uint64_t class_, uint64_t security,
     const uint8_t *ids, size_t ids_len, const uint8_t *msgs, size_t msgs_len, uint64_t message,
     const uint8_t *checks, size_t checks_len, uint64_t check,
     uint8_t *first, size_t first_len, uint8_t *second, size_t second_len);
@@ -747,41 +763,43 @@ uint64_t peat_system_error(uint8_t *rec, size_t rec_len, uint8_t *first, size_t 
  * given: PEAT_USER_DATA, the user data being all the bytes of the range; or PEAT_NO_USER_DATA, and the range is not looked
  * at. Another number is SHAPE. User data of no bytes are user data, and no valid PDU. User data that are lent may be read
  * also where the outcome does not depend on them.
- * All refuse with PEAT_ROOM and PEAT_SHAPE (rec is not a record, a code outside its type) only. They write rec, first (an
- * abort, if one is invoked) and second (message data, if some are delivered).
+ * number: the dialogue number that the primitive carries; what the carrier itself makes carries that of the record.
+ * All refuse with PEAT_ROOM and PEAT_SHAPE (rec is not a record, a code outside its type), and then with PEAT_STALE where number is
+ * not peat_record_number. They write rec, first (an abort, if one is invoked) and second (message data, if some are delivered).
  */
 
 /* D-START indication. peer: enum peat_peer. security: enum peat_security. priority, rate, routing: the quality of service
-   as received, any numbers. */
-uint64_t peat_d_start_indication(uint8_t *rec, size_t rec_len, uint64_t peer, uint64_t security,
+   as received, any numbers. STALE unless number is above peat_record_number; the record then holds it, also where the start is
+   turned away. */
+uint64_t peat_d_start_indication(uint8_t *rec, size_t rec_len, uint64_t number, uint64_t peer, uint64_t security,
     uint64_t priority, uint64_t rate, uint64_t routing, uint64_t given, const uint8_t *bytes, size_t bytes_len,
     uint8_t *first, size_t first_len, uint8_t *second, size_t second_len);
 
 /* D-START confirmation. result: enum peat_result. source: enum peat_reject_source. security: enum peat_security. */
-uint64_t peat_d_start_confirmation(uint8_t *rec, size_t rec_len, uint64_t result, uint64_t source, uint64_t security,
+uint64_t peat_d_start_confirmation(uint8_t *rec, size_t rec_len, uint64_t number, uint64_t result, uint64_t source, uint64_t security,
     uint64_t given, const uint8_t *bytes, size_t bytes_len,
     uint8_t *first, size_t first_len, uint8_t *second, size_t second_len);
 
 /* D-DATA indication. */
-uint64_t peat_d_data_indication(uint8_t *rec, size_t rec_len, uint64_t given, const uint8_t *bytes, size_t bytes_len,
+uint64_t peat_d_data_indication(uint8_t *rec, size_t rec_len, uint64_t number, uint64_t given, const uint8_t *bytes, size_t bytes_len,
     uint8_t *first, size_t first_len, uint8_t *second, size_t second_len);
 
 /* D-END indication. */
-uint64_t peat_d_end_indication(uint8_t *rec, size_t rec_len, uint64_t given, const uint8_t *bytes, size_t bytes_len,
+uint64_t peat_d_end_indication(uint8_t *rec, size_t rec_len, uint64_t number, uint64_t given, const uint8_t *bytes, size_t bytes_len,
     uint8_t *first, size_t first_len, uint8_t *second, size_t second_len);
 
 /* D-END confirmation. result: PEAT_ACCEPTED or PEAT_REJECTED; another, PEAT_REJECTED_TRANSIENT too, is SHAPE. */
-uint64_t peat_d_end_confirmation(uint8_t *rec, size_t rec_len, uint64_t result,
+uint64_t peat_d_end_confirmation(uint8_t *rec, size_t rec_len, uint64_t number, uint64_t result,
     uint64_t given, const uint8_t *bytes, size_t bytes_len,
     uint8_t *first, size_t first_len, uint8_t *second, size_t second_len);
 
 /* D-ABORT indication. originator: enum peat_originator. */
-uint64_t peat_d_abort_indication(uint8_t *rec, size_t rec_len, uint64_t originator,
+uint64_t peat_d_abort_indication(uint8_t *rec, size_t rec_len, uint64_t number, uint64_t originator,
     uint64_t given, const uint8_t *bytes, size_t bytes_len,
     uint8_t *first, size_t first_len, uint8_t *second, size_t second_len);
 
 /* D-P-ABORT indication, which has no user data. */
-uint64_t peat_d_p_abort_indication(uint8_t *rec, size_t rec_len,
+uint64_t peat_d_p_abort_indication(uint8_t *rec, size_t rec_len, uint64_t number,
     uint8_t *first, size_t first_len, uint8_t *second, size_t second_len);
 
 /* ---- message data that were delivered */

@@ -105,6 +105,7 @@ static void act(struct aircraft *a, uint64_t answer)
     }
     if (peat_invoked(answer) != PEAT_SILENT && a->socket >= 0) {
         p.kind = (uint8_t)peat_invoked(answer);
+        p.number = peat_record_number(a->record);
         p.parameter = (uint8_t)peat_invoked_parameter(answer);
         p.security = (uint8_t)peat_invoked_security(answer);
         p.given = peat_apdu_bits(answer) > 0 ? PEAT_USER_DATA : PEAT_NO_USER_DATA;
@@ -134,7 +135,7 @@ static void lose(struct aircraft *a)
     a->socket = -1;
     if (peat_record_state(a->record) != PEAT_IDLE) {
         account.failed++;
-        act(a, peat_d_p_abort_indication(RECORD(a), BUFFERS));
+        act(a, peat_d_p_abort_indication(RECORD(a), peat_record_number(a->record), BUFFERS));
     }
 }
 

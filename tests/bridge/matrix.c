@@ -18,6 +18,7 @@
 #include <sys/wait.h>
 #include <unistd.h>
 
+#include "../../bridge/checksum.h"
 #include "../../bridge/clock.h"
 #include "../../bridge/floor.h"
 #include "../../bridge/log.h"
@@ -375,6 +376,48 @@ static void restored(void)
     check(stage.verdict.duplicates == 0, name, "a job was seen twice");
     check(account_job(&stage.account, 0, 3)->dead == 1, name, "a job under the floor was not laid aside");
     check(account_job(&stage.account, 0, 6)->seen == 1, name, "a job above the floor was not sent");
+}
+
+/* ---- a journal of version 0.3.0, whose records have no dialogue number */
+
+#define EARLIER_RECORD 16
+
+static uint32_t earlier_sum(unsigned dialogue, const struct kept *k)
+{
+    uint32_t sum = checksum(checksum(0, &dialogue, sizeof dialogue), k->record, EARLIER_RECORD);
+    return checksum(checksum(checksum(sum, &k->run, sizeof k->run), &k->deliveries, sizeof k->deliveries), &k->floor, sizeof k->floor);
+}
+
+/* How a process ends that takes so many bytes of a record with this sum. */
+static int takes_record(const struct kept *k, size_t bytes, uint32_t sum)
+{
+    pid_t pid;
+    fflush(stdout);
+    pid = fork();
+    if (pid == 0) {
+        struct kept taken = *k;
+        if (freopen("/dev/null", "w", stdout) == NULL || freopen("/dev/null", "w", stderr) == NULL)
+            _exit(99);
+        memset(taken.record, 0xAA, sizeof taken.record);
+        journal_take_record(1, &taken, k->record, bytes, sum);
+        _exit(memcmp(taken.record, k->record, EARLIER_RECORD) != 0 || peat_record_number(taken.record) != 0);
+    }
+    return stage_wait(pid, SOON);
+}
+
+static void earlier_journal(void)
+{
+    const char *name = "earlier journal";
+    struct kept k = journal_fresh();
+    if (!chosen(name))
+        return;
+    k.run = 3;
+    k.record[PEAT_RECORD_HIGHEST + 7] = 9;
+    check(takes_record(&k, EARLIER_RECORD, earlier_sum(1, &k)) == 0, name, "a record of 0.3.0 is not taken, or with another number than 0");
+    check(takes_record(&k, sizeof k.record, journal_sum(1, &k)) == 0, name, "a record is not taken");
+    check(takes_record(&k, EARLIER_RECORD, earlier_sum(1, &k) ^ 1u) == EXIT_JOURNAL, name, "a damaged record of 0.3.0 is taken");
+    check(takes_record(&k, sizeof k.record, earlier_sum(1, &k)) == EXIT_JOURNAL, name, "a record is taken under the sum of a shorter one");
+    check(takes_record(&k, EARLIER_RECORD + 1, earlier_sum(1, &k)) == EXIT_JOURNAL, name, "17 bytes are taken for a record");
 }
 
 /* ---- job numbers that have no place in SQLite's integers */
@@ -777,6 +820,7 @@ int main(int argc, char **argv)
     second_bridge();
     missing_journal();
     restored();
+    earlier_journal();
     large_numbers();
     slow_aircraft();
     broker_cut();

@@ -25,9 +25,9 @@ static struct range lent(const uint8_t *at, size_t len) { return (struct range){
 
 uint64_t peat_fresh(RECORD, uint64_t side, uint64_t policy) { ASK(FRESH, .rec = {rec, rec_len}, .n = {side, policy}); }
 
-uint64_t peat_start(RECORD, uint64_t mode, uint64_t class_, uint64_t security, MESSAGE_DATA, BUFFERS)
+uint64_t peat_start(RECORD, uint64_t number, uint64_t mode, uint64_t class_, uint64_t security, MESSAGE_DATA, BUFFERS)
 {
-    ASK(START_REQUEST, BASE, WITH_MESSAGE, .n = {mode, class_, security});
+    ASK(START_REQUEST, BASE, WITH_MESSAGE, .number = number, .n = {mode, class_, security});
 }
 uint64_t peat_start_response(RECORD, uint64_t result, MESSAGE_DATA, BUFFERS) { ASK(START_RESPONSE, BASE, WITH_MESSAGE, .n = {result}); }
 uint64_t peat_message_request(RECORD, uint64_t job, MESSAGE_DATA, BUFFERS) { ASK(MESSAGE_REQUEST, BASE, WITH_MESSAGE, .n = {job}); }
@@ -36,19 +36,19 @@ uint64_t peat_end_response(RECORD, uint64_t result, MESSAGE_DATA, BUFFERS) { ASK
 uint64_t peat_user_abort(RECORD, uint64_t reason, BUFFERS) { ASK(USER_ABORT, BASE, .n = {reason}); }
 uint64_t peat_timer_expiry(RECORD, BUFFERS) { ASK(TIMER_EXPIRY, BASE); }
 
-uint64_t peat_d_start_indication(RECORD, uint64_t peer, uint64_t security, uint64_t priority, uint64_t rate, uint64_t routing, USER_DATA, BUFFERS)
+uint64_t peat_d_start_indication(RECORD, uint64_t number, uint64_t peer, uint64_t security, uint64_t priority, uint64_t rate, uint64_t routing, USER_DATA, BUFFERS)
 {
-    ASK(D_START_INDICATION, BASE, WITH_USER_DATA, .n = {peer, security, priority, rate, routing});
+    ASK(D_START_INDICATION, BASE, .number = number, WITH_USER_DATA, .n = {peer, security, priority, rate, routing});
 }
-uint64_t peat_d_start_confirmation(RECORD, uint64_t result, uint64_t source, uint64_t security, USER_DATA, BUFFERS)
+uint64_t peat_d_start_confirmation(RECORD, uint64_t number, uint64_t result, uint64_t source, uint64_t security, USER_DATA, BUFFERS)
 {
-    ASK(D_START_CONFIRMATION, BASE, WITH_USER_DATA, .n = {result, source, security});
+    ASK(D_START_CONFIRMATION, BASE, .number = number, WITH_USER_DATA, .n = {result, source, security});
 }
-uint64_t peat_d_data_indication(RECORD, USER_DATA, BUFFERS) { ASK(D_DATA_INDICATION, BASE, WITH_USER_DATA); }
-uint64_t peat_d_end_indication(RECORD, USER_DATA, BUFFERS) { ASK(D_END_INDICATION, BASE, WITH_USER_DATA); }
-uint64_t peat_d_end_confirmation(RECORD, uint64_t result, USER_DATA, BUFFERS) { ASK(D_END_CONFIRMATION, BASE, WITH_USER_DATA, .n = {result}); }
-uint64_t peat_d_abort_indication(RECORD, uint64_t originator, USER_DATA, BUFFERS) { ASK(D_ABORT_INDICATION, BASE, WITH_USER_DATA, .n = {originator}); }
-uint64_t peat_d_p_abort_indication(RECORD, BUFFERS) { ASK(D_P_ABORT_INDICATION, BASE); }
+uint64_t peat_d_data_indication(RECORD, uint64_t number, USER_DATA, BUFFERS) { ASK(D_DATA_INDICATION, BASE, .number = number, WITH_USER_DATA); }
+uint64_t peat_d_end_indication(RECORD, uint64_t number, USER_DATA, BUFFERS) { ASK(D_END_INDICATION, BASE, .number = number, WITH_USER_DATA); }
+uint64_t peat_d_end_confirmation(RECORD, uint64_t number, uint64_t result, USER_DATA, BUFFERS) { ASK(D_END_CONFIRMATION, BASE, .number = number, WITH_USER_DATA, .n = {result}); }
+uint64_t peat_d_abort_indication(RECORD, uint64_t number, uint64_t originator, USER_DATA, BUFFERS) { ASK(D_ABORT_INDICATION, BASE, .number = number, WITH_USER_DATA, .n = {originator}); }
+uint64_t peat_d_p_abort_indication(RECORD, uint64_t number, BUFFERS) { ASK(D_P_ABORT_INDICATION, BASE, .number = number); }
 
 uint64_t peat_data_part(uint64_t which, const uint8_t *delivered, size_t delivered_len, uint8_t *out, size_t out_len)
 {

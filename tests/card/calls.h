@@ -13,7 +13,7 @@ static uint64_t card_call(enum which w, const struct args *a)
 #define OUT a->first.at, a->first.len, a->second.at, a->second.len
     const uint64_t *n = a->n;
     switch (w) {
-    case START_REQUEST: return peat_start(REC, n[0], n[1], n[2], DATA, OUT);
+    case START_REQUEST: return peat_start(REC, a->number, n[0], n[1], n[2], DATA, OUT);
     case START_RESPONSE: return peat_start_response(REC, n[0], DATA, OUT);
     case DSC_START_RESPONSE: return peat_dsc_start_response(REC, n[0], DATA, OUT);
     case MESSAGE_REQUEST: return peat_message_request(REC, n[0], DATA, OUT);
@@ -24,13 +24,13 @@ static uint64_t card_call(enum which w, const struct args *a)
     case USER_ABORT: return peat_user_abort(REC, n[0], OUT);
     case TIMER_EXPIRY: return peat_timer_expiry(REC, OUT);
     case SYSTEM_ERROR: return peat_system_error(REC, OUT);
-    case D_START_INDICATION: return peat_d_start_indication(REC, n[0], n[1], n[2], n[3], n[4], GIVEN, OUT);
-    case D_START_CONFIRMATION: return peat_d_start_confirmation(REC, n[0], n[1], n[2], GIVEN, OUT);
-    case D_DATA_INDICATION: return peat_d_data_indication(REC, GIVEN, OUT);
-    case D_END_INDICATION: return peat_d_end_indication(REC, GIVEN, OUT);
-    case D_END_CONFIRMATION: return peat_d_end_confirmation(REC, n[0], GIVEN, OUT);
-    case D_ABORT_INDICATION: return peat_d_abort_indication(REC, n[0], GIVEN, OUT);
-    case D_P_ABORT_INDICATION: return peat_d_p_abort_indication(REC, OUT);
+    case D_START_INDICATION: return peat_d_start_indication(REC, a->number, n[0], n[1], n[2], n[3], n[4], GIVEN, OUT);
+    case D_START_CONFIRMATION: return peat_d_start_confirmation(REC, a->number, n[0], n[1], n[2], GIVEN, OUT);
+    case D_DATA_INDICATION: return peat_d_data_indication(REC, a->number, GIVEN, OUT);
+    case D_END_INDICATION: return peat_d_end_indication(REC, a->number, GIVEN, OUT);
+    case D_END_CONFIRMATION: return peat_d_end_confirmation(REC, a->number, n[0], GIVEN, OUT);
+    case D_ABORT_INDICATION: return peat_d_abort_indication(REC, a->number, n[0], GIVEN, OUT);
+    case D_P_ABORT_INDICATION: return peat_d_p_abort_indication(REC, a->number, OUT);
     case READ_ENVELOPE: return peat_read_envelope(a->bytes.at, a->bytes.len);
     case ENVELOPE_JOB: return peat_envelope_job(a->bytes.at, a->bytes.len);
     case WRITE_ENVELOPE: return peat_write_envelope(n[0], n[1], n[2], a->msgs.at, a->msgs.len, a->first.at, a->first.len);

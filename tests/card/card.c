@@ -127,6 +127,7 @@ static int can_refuse(enum which w, unsigned x)
     if (w == READ_MESSAGE)
         return x == PEAT_ROOM || x == PEAT_SHAPE || (x >= PEAT_SHORT && x <= PEAT_EXTENSION) || (x >= PEAT_TAIL && x <= PEAT_DEFAULT);
     return x == PEAT_SHAPE || (x == PEAT_ROOM && w != FRESH) || (x == PEAT_PROHIBITED && w <= TIMER_EXPIRY) ||
+           (x == PEAT_STALE && (w == START_REQUEST || (w >= D_START_INDICATION && w <= D_P_ABORT_INDICATION))) ||
            ((x == PEAT_NO_MESSAGE || x == PEAT_REPEAT) && w == MESSAGE_REQUEST);
 }
 
@@ -162,21 +163,35 @@ static void random_record(struct args *a)
     static const uint8_t most[7] = {2, 4, 1, 1, 1, 1, 1};
     uint8_t *x;
     int i;
-    lend(a, 0, once_in(200) ? below(20) : 16);
+    lend(a, 0, once_in(200) ? below(28) : PEAT_RECORD_BYTES);
     x = a->rec.at;
-    if (a->rec.len != 16)
+    if (a->rec.len != PEAT_RECORD_BYTES)
         return;
     for (i = 0; i < 7; i++)
         x[i] = (uint8_t)below(most[i] + 1u);
     x[0] = (uint8_t)(1 + below(2));
     x[7] = 0;
-    fill(x + 8, 8);
+    fill(x + 8, 16);
     if (once_in(2))
         memset(x + 8, 0, 7);
+    if (once_in(2))
+        memset(x + 16, 0, 7);
     if (once_in(50))
         x[below(8)] = (uint8_t)any();
     if (once_in(200))
-        fill(x, 16);
+        fill(x, PEAT_RECORD_BYTES);
+}
+
+/* a dialogue number: mostly one that is not stale, else one beside the record's, or any */
+static uint64_t random_number(enum which w, const struct args *a)
+{
+    uint64_t held = a->rec.len == PEAT_RECORD_BYTES ? peat_record_number(a->rec.at) : 0;
+    int start = w == START_REQUEST || w == D_START_INDICATION;
+    if (once_in(12))
+        return any() >> below(64);
+    if (once_in(12))
+        return held - 1 + below(3);
+    return start ? held + 1 + (once_in(4) ? any() >> (1 + below(63)) : 0) : held;
 }
 
 /* a count of message bits, often one at an edge of its length's forms or of the limit */
@@ -429,6 +444,7 @@ static void random_call(enum which w, struct args *a)
     int i;
     memset(a, 0, sizeof *a);
     random_record(a);
+    a->number = random_number(w, a);
     for (i = 1; i < 5; i++)
         lend(a, i, 0);
     for (i = 5; i < 7; i++) {
@@ -537,8 +553,8 @@ static void print_answers(unsigned long answered[][PEAT_SIZE + 1], int from, int
 static void random_calls(unsigned long calls)
 {
     static unsigned long answered[CALLS][PEAT_SIZE + 1], wrong[CALLS];
-    static const unsigned machine[] = {1, 2, 3, 4, 5}, envelope[] = {1, 2, 20, 21, 22, 23}, message[] = {1, 2, 10, 11, 12, 13, 14, 15, 16, 17};
-    static const char *const machine_title[] = {"ROOM", "SHAPE", "PROHIBITED", "NO-MESSAGE", "REPEAT"};
+    static const unsigned machine[] = {1, 2, 6, 3, 4, 5}, envelope[] = {1, 2, 20, 21, 22, 23}, message[] = {1, 2, 10, 11, 12, 13, 14, 15, 16, 17};
+    static const char *const machine_title[] = {"ROOM", "SHAPE", "STALE", "PROHIBITED", "NO-MESSAGE", "REPEAT"};
     static const char *const envelope_title[] = {"ROOM", "SHAPE", "CUT", "GROUPS", "KIND", "SIZE"};
     static const char *const message_title[] = {"ROOM", "SHAPE", "SHORT", "RANGE", "EXTENSION", "FORM", "LIMIT", "TAIL", "CARRIED", "DEFAULT"};
     unsigned long n;
@@ -558,7 +574,7 @@ static void random_calls(unsigned long calls)
     }
     if (calls >= 500000)
         all_seen();
-    print_answers(answered, 0, FRESH, machine, machine_title, 5);
+    print_answers(answered, 0, FRESH, machine, machine_title, 6);
     print_answers(answered, READ_ENVELOPE, WRITE_ENVELOPE, envelope, envelope_title, 6);
     print_answers(answered, DATA_PART, WRITE_MESSAGE, message, message_title, 10);
     for (w = 0; w < CALLS; w++) {
@@ -574,10 +590,18 @@ static void random_calls(unsigned long calls)
 static void set_record(struct args *a, unsigned side, unsigned state)
 {
     memset(a, 0, sizeof *a);
-    lend(a, 0, 16);
-    memset(a->rec.at, 0, 16);
+    lend(a, 0, PEAT_RECORD_BYTES);
+    memset(a->rec.at, 0, PEAT_RECORD_BYTES);
     a->rec.at[0] = (uint8_t)side;
     a->rec.at[1] = (uint8_t)state;
+}
+
+/* a number that many above the record's: is it stale for the call */
+static int is_stale(enum which w, int above)
+{
+    if (w == START_REQUEST || w == D_START_INDICATION)
+        return above <= 0;
+    return w > D_START_INDICATION && w <= D_P_ABORT_INDICATION && above != 0;
 }
 
 static void edges(void)
@@ -586,7 +610,8 @@ static void edges(void)
     uint64_t said;
     int w, i, j, k;
     for (w = 0; w <= FRESH; w++) {
-        int buffers = 1, nothing = 1, record = 1, codes = 1;
+        int buffers = 1, nothing = 1, record = 1, codes = 1, numbers = 1;
+        uint64_t first = w == START_REQUEST || w == D_START_INDICATION; /* a number that is not stale for a record that holds 0 */
         struct args a;
         for (i = 0; i < 4; i++) /* both buffers, of each length; all that is read has no bytes; each side and state */
             for (j = 0; j < 4; j++)
@@ -595,6 +620,7 @@ static void edges(void)
                     lend(&a, 5, lengths[i]);
                     lend(&a, 6, lengths[j]);
                     a.n[0] = 1;
+                    a.number = first;
                     a.message = k < 10 ? NONE : 0;
                     a.given = k < 10 ? 0 : 1;
                     buffers &= agrees((enum which)w, &a, &said) && (w == FRESH || (said == 1) == (i < 3 || j < 3));
@@ -612,7 +638,8 @@ static void edges(void)
             lend(&a, 5, PEAT_BUFFER_LEAST);
             lend(&a, 6, PEAT_BUFFER_LEAST);
             a.n[0] = 1;
-            record &= agrees((enum which)w, &a, &said) && (i == 16 || said == 2);
+            a.number = first;
+            record &= agrees((enum which)w, &a, &said) && (i == PEAT_RECORD_BYTES || said == 2);
         }
         for (i = 0; i < 5; i++) /* each code, of no type */
             for (j = 0; j < 64; j++) {
@@ -621,13 +648,26 @@ static void edges(void)
                 lend(&a, 6, PEAT_BUFFER_LEAST);
                 a.message = NONE;
                 a.n[0] = 1;
+                a.number = first;
                 a.n[i] = (uint64_t)1 << j;
                 codes &= agrees((enum which)w, &a, &said);
+            }
+        for (i = -1; i <= 1; i++) /* a number below the record's, the same, and above it */
+            for (j = 0; j < 64; j++) {
+                set_record(&a, 1, PEAT_DIALOGUE);
+                a.rec.at[PEAT_RECORD_NUMBER + 7 - j / 8] = (uint8_t)(1u << j % 8);
+                a.number = ((uint64_t)1 << j) + (uint64_t)(int64_t)i;
+                lend(&a, 5, PEAT_BUFFER_LEAST);
+                lend(&a, 6, PEAT_BUFFER_LEAST);
+                a.message = NONE;
+                a.n[0] = 1;
+                numbers &= agrees((enum which)w, &a, &said) && (peat_refusal(said) == PEAT_STALE) == is_stale((enum which)w, i);
             }
         check(buffers, "buffers of 0, 1, 2,111 and 2,112 bytes");
         check(nothing, "ranges of no bytes");
         check(record, "a record of another length");
         check(codes, "codes of no type");
+        check(numbers, "a dialogue number below the record's, the same, and above it");
     }
 }
 
@@ -643,11 +683,13 @@ static int numbered_record(struct args *a, unsigned n)
     return a->rec.at[0] != 0 && a->rec.at[0] != 3 && a->rec.at[1] != 5;
 }
 
-/* A start with that record; a number below 216 says what else it is given. Answers what it must be answered. */
+/* A start with that record; a number below 432 says what else it is given, from 216 on a stale number. Answers what it must be answered. */
 static unsigned numbered_start(struct args *a, unsigned n, unsigned v)
 {
     static const uint64_t modes[] = {PEAT_CPDLC, PEAT_DSC, 2, 256, (uint64_t)1 << 63, NONE}, bits[] = {NONE, 8, 9};
-    int record = numbered_record(a, n), mode;
+    int record = numbered_record(a, n), mode, old = v >= 216;
+    a->number = !old;
+    v %= 216;
     a->n[0] = modes[v % 6];
     a->n[1] = PEAT_CLASS_H + v / 6 % 2;
     a->n[2] = PEAT_SECURED_EXCHANGE + v / 12 % 2;
@@ -660,6 +702,8 @@ static unsigned numbered_start(struct args *a, unsigned n, unsigned v)
         return PEAT_ROOM;
     if (!record || !mode || v / 6 % 4 != 0 || a->message == 9)
         return PEAT_SHAPE;
+    if (old)
+        return PEAT_STALE;
     return a->rec.at[1] == PEAT_IDLE ? PEAT_TAKEN : PEAT_PROHIBITED;
 }
 
@@ -669,7 +713,7 @@ static void start_everywhere(void)
     unsigned n, v;
     int right = 1;
     for (n = 0; n < 768; n++)
-        for (v = 0; v < 216; v++, calls++) {
+        for (v = 0; v < 432; v++, calls++) {
             struct args a;
             uint64_t said;
             unsigned want = numbered_start(&a, n, v);
@@ -1010,6 +1054,15 @@ static size_t line_len;
 #define GROUND_REC ground, sizeof ground
 #define LINE PEAT_USER_DATA, line, line_len
 
+static uint64_t number; /* of the dialogue */
+
+/* a number above what either end holds */
+static uint64_t above(void)
+{
+    uint64_t a = peat_record_number(air), g = peat_record_number(ground);
+    return 1 + (a > g ? a : g);
+}
+
 /* keeps the APDU for the other end */
 static uint64_t sent(uint64_t answer)
 {
@@ -1034,19 +1087,19 @@ static int states(unsigned a, unsigned g) { return peat_record_state(air) == a &
 static void fresh(void)
 {
     check(peat_fresh(AIR_REC, PEAT_AIR, PEAT_NO_SECURITY) == 0 && peat_fresh(GROUND_REC, PEAT_GROUND, PEAT_NO_SECURITY) == 0, "fresh records");
-    check(states(PEAT_IDLE, PEAT_IDLE) && peat_record_highest(air) == 0 && !peat_record_timer(air) && !peat_record_active(air), "a fresh record is IDLE");
+    check(states(PEAT_IDLE, PEAT_IDLE) && peat_record_highest(air) == 0 && peat_record_number(air) == 0 && !peat_record_timer(air) && !peat_record_active(air), "a fresh record is IDLE");
 }
 
 /* the ground end opens, the air end accepts */
 static void opens(void)
 {
-    uint64_t n = sent(peat_start(GROUND_REC, PEAT_CPDLC, PEAT_CLASS_C, PEAT_NO_SECURITY, BARE, BUFFERS));
+    uint64_t n = sent(peat_start(GROUND_REC, number = above(), PEAT_CPDLC, PEAT_CLASS_C, PEAT_NO_SECURITY, BARE, BUFFERS));
     check(invokes(n, PEAT_D_START_REQUEST, PEAT_CLASS_C) && peat_record_timer(ground), "CPDLC-start request");
-    n = peat_d_start_indication(AIR_REC, PEAT_FACILITY, PEAT_NO_SECURITY, 1, 1, PEAT_CLASS_C, LINE, BUFFERS);
+    n = peat_d_start_indication(AIR_REC, number, PEAT_FACILITY, PEAT_NO_SECURITY, 1, 1, PEAT_CLASS_C, LINE, BUFFERS);
     check(told(n, PEAT_START_INDICATION, PEAT_CLASS_C, 0) && states(PEAT_START_IND, PEAT_START_REQ), "CPDLC-start indication");
     n = sent(peat_start_response(AIR_REC, PEAT_ACCEPTED, BARE, BUFFERS));
     check(invokes(n, PEAT_D_START_RESPONSE, PEAT_ACCEPTED), "CPDLC-start response");
-    n = peat_d_start_confirmation(GROUND_REC, PEAT_ACCEPTED, PEAT_DS_USER, PEAT_NO_SECURITY, LINE, BUFFERS);
+    n = peat_d_start_confirmation(GROUND_REC, number, PEAT_ACCEPTED, PEAT_DS_USER, PEAT_NO_SECURITY, LINE, BUFFERS);
     check(told(n, PEAT_START_CONFIRMATION, PEAT_ACCEPTED, 0) && states(PEAT_DIALOGUE, PEAT_DIALOGUE) && !peat_record_timer(ground), "CPDLC-start confirmation");
 }
 
@@ -1062,12 +1115,12 @@ static void messages(uint64_t job)
     uint8_t text[2] = {0xA5, 0x40};
     uint64_t n = says(air, job, text, 10);
     check(invokes(n, PEAT_D_DATA_REQUEST, 0) && peat_apdu_bits(n) == 3 + 3 + 8 + 10 + 8 + 64, "a message down");
-    n = peat_d_data_indication(GROUND_REC, LINE, BUFFERS);
+    n = peat_d_data_indication(GROUND_REC, number, LINE, BUFFERS);
     /* 001 00001010 1010010101 01000000 .. */
     check(told(n, PEAT_MESSAGE_INDICATION, 0, 0) && peat_data_bits(n) == 93 && second[0] == 0x21 && second[1] == 0x54 && second[2] == 0xAA, "it is delivered");
     n = says(ground, job, text, 10);
     check(invokes(n, PEAT_D_DATA_REQUEST, 0) && peat_apdu_bits(n) == 4 + 93, "a message up");
-    n = peat_d_data_indication(AIR_REC, LINE, BUFFERS);
+    n = peat_d_data_indication(AIR_REC, number, LINE, BUFFERS);
     check(told(n, PEAT_MESSAGE_INDICATION, 0, 0) && peat_data_bits(n) == 93, "it is delivered too");
 }
 
@@ -1081,7 +1134,7 @@ static void later_edition(void)
     opens();
     says(air, 1, text, 10);
     check(line_len == 12 && sizeof longer > PEAT_BUFFER_LEAST, "a message of 96 bits");
-    n = peat_d_data_indication(GROUND_REC, LINE, BUFFERS);
+    n = peat_d_data_indication(GROUND_REC, number, LINE, BUFFERS);
     check(told(n, PEAT_MESSAGE_INDICATION, 0, 0) && peat_data_bits(n) == 93, "without additions it is delivered");
     memcpy(plain, second, sizeof plain);
     memcpy(longer, line, 12);
@@ -1089,9 +1142,9 @@ static void later_edition(void)
     longer[12] = 0x01;                                             /* one addition, and it is there */
     longer[13] = 0x80 | 3000 >> 8, longer[14] = 3000 & 0xFF;       /* so many octets */
     fill(longer + 15, 3000);
-    n = peat_d_data_indication(GROUND_REC, PEAT_USER_DATA, longer, sizeof longer, BUFFERS);
+    n = peat_d_data_indication(GROUND_REC, number, PEAT_USER_DATA, longer, sizeof longer, BUFFERS);
     check(told(n, PEAT_MESSAGE_INDICATION, 0, 0) && peat_data_bits(n) == 93 && memcmp(second, plain, sizeof plain) == 0, "with an addition the same is delivered");
-    n = peat_d_data_indication(GROUND_REC, PEAT_USER_DATA, longer, sizeof longer - 1, BUFFERS);
+    n = peat_d_data_indication(GROUND_REC, number, PEAT_USER_DATA, longer, sizeof longer - 1, BUFFERS);
     check(invokes(n, PEAT_D_ABORT_REQUEST, PEAT_PROVIDER) && peat_told_parameter(n) == PEAT_INVALID_PDU, "an addition that is cut is no valid PDU");
 }
 
@@ -1099,10 +1152,10 @@ static void ends(void)
 {
     uint64_t n = sent(peat_end_request(GROUND_REC, BARE, BUFFERS));
     check(invokes(n, PEAT_D_END_REQUEST, 0), "CPDLC-end request");
-    check(told(peat_d_end_indication(AIR_REC, LINE, BUFFERS), PEAT_END_INDICATION, 0, 0) && states(PEAT_END, PEAT_END), "CPDLC-end indication");
+    check(told(peat_d_end_indication(AIR_REC, number, LINE, BUFFERS), PEAT_END_INDICATION, 0, 0) && states(PEAT_END, PEAT_END), "CPDLC-end indication");
     n = sent(peat_end_response(AIR_REC, PEAT_ACCEPTED, BARE, BUFFERS));
     check(invokes(n, PEAT_D_END_RESPONSE, PEAT_ACCEPTED), "CPDLC-end response");
-    n = peat_d_end_confirmation(GROUND_REC, PEAT_ACCEPTED, LINE, BUFFERS);
+    n = peat_d_end_confirmation(GROUND_REC, number, PEAT_ACCEPTED, LINE, BUFFERS);
     check(told(n, PEAT_END_CONFIRMATION, PEAT_ACCEPTED, 0) && states(PEAT_IDLE, PEAT_IDLE), "CPDLC-end confirmation");
 }
 
@@ -1122,25 +1175,25 @@ static void downstream(void)
 {
     uint64_t n;
     fresh();
-    n = sent(peat_start(AIR_REC, PEAT_DSC, PEAT_CLASS_ANY, PEAT_NO_SECURITY, BARE, BUFFERS));
+    n = sent(peat_start(AIR_REC, number = above(), PEAT_DSC, PEAT_CLASS_ANY, PEAT_NO_SECURITY, BARE, BUFFERS));
     check(invokes(n, PEAT_D_START_REQUEST, 0) && peat_record_dsc(air), "DSC-start request");
-    n = peat_d_start_indication(GROUND_REC, PEAT_AIRCRAFT, PEAT_NO_SECURITY, 1, 1, 0, LINE, BUFFERS);
+    n = peat_d_start_indication(GROUND_REC, number, PEAT_AIRCRAFT, PEAT_NO_SECURITY, 1, 1, 0, LINE, BUFFERS);
     check(told(n, PEAT_START_INDICATION, 0, 1) && peat_record_dsc(ground), "DSC-start indication");
     check(peat_start_response(GROUND_REC, PEAT_ACCEPTED, BARE, BUFFERS) == PEAT_PROHIBITED, "a CPDLC-start response to a DSC-start");
     n = sent(peat_dsc_start_response(GROUND_REC, PEAT_ACCEPTED, BARE, BUFFERS));
-    n = peat_d_start_confirmation(AIR_REC, PEAT_ACCEPTED, PEAT_DS_USER, PEAT_NO_SECURITY, LINE, BUFFERS);
+    n = peat_d_start_confirmation(AIR_REC, number, PEAT_ACCEPTED, PEAT_DS_USER, PEAT_NO_SECURITY, LINE, BUFFERS);
     check(told(n, PEAT_START_CONFIRMATION, PEAT_ACCEPTED, 1) && states(PEAT_DIALOGUE, PEAT_DIALOGUE), "DSC-start confirmation");
     messages(9);
     sent(peat_dsc_end_request(AIR_REC, BARE, BUFFERS));
-    check(told(peat_d_end_indication(GROUND_REC, LINE, BUFFERS), PEAT_END_INDICATION, 0, 1) && states(PEAT_END, PEAT_END), "DSC-end indication");
+    check(told(peat_d_end_indication(GROUND_REC, number, LINE, BUFFERS), PEAT_END_INDICATION, 0, 1) && states(PEAT_END, PEAT_END), "DSC-end indication");
     sent(peat_dsc_end_response(GROUND_REC, PEAT_REJECTED, BARE, BUFFERS));
-    check(told(peat_d_end_confirmation(AIR_REC, PEAT_REJECTED, LINE, BUFFERS), PEAT_END_CONFIRMATION, PEAT_REJECTED, 1) &&
+    check(told(peat_d_end_confirmation(AIR_REC, number, PEAT_REJECTED, LINE, BUFFERS), PEAT_END_CONFIRMATION, PEAT_REJECTED, 1) &&
         states(PEAT_DIALOGUE, PEAT_DIALOGUE), "a rejected DSC-end goes back to DIALOGUE");
     sent(peat_dsc_end_request(AIR_REC, BARE, BUFFERS));
-    peat_d_end_indication(GROUND_REC, LINE, BUFFERS);
+    peat_d_end_indication(GROUND_REC, number, LINE, BUFFERS);
     sent(peat_dsc_end_response(GROUND_REC, PEAT_ACCEPTED, BARE, BUFFERS));
     check(peat_record_state(ground) == PEAT_IDLE && !peat_record_dsc(ground), "the accepted DSC-end response closes");
-    n = peat_d_end_confirmation(AIR_REC, PEAT_ACCEPTED, LINE, BUFFERS);
+    n = peat_d_end_confirmation(AIR_REC, number, PEAT_ACCEPTED, LINE, BUFFERS);
     check(told(n, PEAT_END_CONFIRMATION, PEAT_ACCEPTED, 1) && states(PEAT_IDLE, PEAT_IDLE) && !peat_record_dsc(air), "DSC-end confirmation");
 }
 
@@ -1151,22 +1204,22 @@ static void aborts(void)
     opens();
     n = sent(peat_user_abort(AIR_REC, PEAT_COMMANDED_TERMINATION, BUFFERS));
     check(invokes(n, PEAT_D_ABORT_REQUEST, PEAT_USER) && peat_apdu_bits(n) == 8 && first[0] == 0x05, "CPDLC-user-abort request: 000 00101");
-    check(told(peat_d_abort_indication(GROUND_REC, PEAT_USER, LINE, BUFFERS), PEAT_USER_ABORT_INDICATION, PEAT_COMMANDED_TERMINATION, 0) &&
+    check(told(peat_d_abort_indication(GROUND_REC, number, PEAT_USER, LINE, BUFFERS), PEAT_USER_ABORT_INDICATION, PEAT_COMMANDED_TERMINATION, 0) &&
         states(PEAT_IDLE, PEAT_IDLE), "CPDLC-user-abort indication");
     check(peat_user_abort(AIR_REC, PEAT_NONE, BUFFERS) == PEAT_PROHIBITED, "an abort in IDLE");
     opens();
     n = sent(peat_user_abort(GROUND_REC, PEAT_NONE, BUFFERS));
     check(invokes(n, PEAT_D_ABORT_REQUEST, PEAT_USER) && peat_apdu_bits(n) == 9 && first[0] == 0 && first[1] == 0, "no reason given: undefined");
-    check(told(peat_d_abort_indication(AIR_REC, PEAT_USER, LINE, BUFFERS), PEAT_USER_ABORT_INDICATION, PEAT_UNDEFINED, 0), "undefined is told");
+    check(told(peat_d_abort_indication(AIR_REC, number, PEAT_USER, LINE, BUFFERS), PEAT_USER_ABORT_INDICATION, PEAT_UNDEFINED, 0), "undefined is told");
     opens();
-    check(told(peat_d_p_abort_indication(AIR_REC, BUFFERS), PEAT_PROVIDER_ABORT_INDICATION, PEAT_COMMUNICATION_SERVICE_FAILURE, 0), "D-P-ABORT, air");
-    check(told(peat_d_p_abort_indication(GROUND_REC, BUFFERS), PEAT_PROVIDER_ABORT_INDICATION, PEAT_COMMUNICATION_SERVICE_FAILURE, 0), "D-P-ABORT, ground");
-    check(peat_d_p_abort_indication(AIR_REC, BUFFERS) == 0 && peat_system_error(AIR_REC, BUFFERS) == 0, "in IDLE neither has output");
+    check(told(peat_d_p_abort_indication(AIR_REC, number, BUFFERS), PEAT_PROVIDER_ABORT_INDICATION, PEAT_COMMUNICATION_SERVICE_FAILURE, 0), "D-P-ABORT, air");
+    check(told(peat_d_p_abort_indication(GROUND_REC, number, BUFFERS), PEAT_PROVIDER_ABORT_INDICATION, PEAT_COMMUNICATION_SERVICE_FAILURE, 0), "D-P-ABORT, ground");
+    check(peat_d_p_abort_indication(AIR_REC, number, BUFFERS) == 0 && peat_system_error(AIR_REC, BUFFERS) == 0, "in IDLE neither has output");
     opens();
-    n = peat_d_data_indication(AIR_REC, PEAT_NO_USER_DATA, NULL, 0, BUFFERS);
+    n = peat_d_data_indication(AIR_REC, number, PEAT_NO_USER_DATA, NULL, 0, BUFFERS);
     check(invokes(n, PEAT_D_ABORT_REQUEST, PEAT_PROVIDER) && peat_told(n) == PEAT_PROVIDER_ABORT_INDICATION &&
         peat_told_parameter(n) == PEAT_NOT_PERMITTED_PDU && first[0] == 0x2E, "a missing PDU at the air end: 001 0111 is sent, 8 is told");
-    n = peat_d_data_indication(GROUND_REC, PEAT_USER_DATA, NULL, 0, BUFFERS);
+    n = peat_d_data_indication(GROUND_REC, number, PEAT_USER_DATA, NULL, 0, BUFFERS);
     check(invokes(n, PEAT_D_ABORT_REQUEST, PEAT_PROVIDER) && peat_told_parameter(n) == PEAT_INVALID_PDU, "user data of no bytes is no valid PDU");
 }
 
@@ -1175,12 +1228,12 @@ static void timer(void)
     uint64_t n;
     fresh();
     check(peat_timer_expiry(AIR_REC, BUFFERS) == PEAT_PROHIBITED, "an expiry while no timer runs");
-    sent(peat_start(AIR_REC, PEAT_CPDLC, PEAT_CLASS_A, PEAT_NO_SECURITY, BARE, BUFFERS));
-    n = peat_d_start_indication(GROUND_REC, PEAT_AIRCRAFT, PEAT_NO_SECURITY, 1, 1, PEAT_CLASS_A, LINE, BUFFERS);
+    sent(peat_start(AIR_REC, number = above(), PEAT_CPDLC, PEAT_CLASS_A, PEAT_NO_SECURITY, BARE, BUFFERS));
+    n = peat_d_start_indication(GROUND_REC, number, PEAT_AIRCRAFT, PEAT_NO_SECURITY, 1, 1, PEAT_CLASS_A, LINE, BUFFERS);
     n = sent(peat_timer_expiry(AIR_REC, BUFFERS));
     check(invokes(n, PEAT_D_ABORT_REQUEST, PEAT_PROVIDER) && peat_told(n) == PEAT_PROVIDER_ABORT_INDICATION &&
         peat_told_parameter(n) == PEAT_TIMER_EXPIRED && peat_record_state(air) == PEAT_IDLE && !peat_record_timer(air), "t-start expires");
-    check(told(peat_d_abort_indication(GROUND_REC, PEAT_PROVIDER, LINE, BUFFERS), PEAT_PROVIDER_ABORT_INDICATION, PEAT_TIMER_EXPIRED, 0) &&
+    check(told(peat_d_abort_indication(GROUND_REC, number, PEAT_PROVIDER, LINE, BUFFERS), PEAT_PROVIDER_ABORT_INDICATION, PEAT_TIMER_EXPIRED, 0) &&
         states(PEAT_IDLE, PEAT_IDLE), "the other end is told timer-expired");
 }
 
@@ -1200,6 +1253,39 @@ static void jobs(void)
     check(says(air, UINT64_MAX, text, 8) == PEAT_REPEAT, "and again");
 }
 
+/* document 02, E9: what is left of an old dialogue changes nothing; a higher start leaves its number, also where it is turned away */
+static void stale(void)
+{
+    uint8_t text[1] = {0xFF}, before[PEAT_RECORD_BYTES];
+    uint64_t n, old;
+    fresh();
+    opens();
+    old = number;
+    says(ground, 1, text, 8); /* on the line when both ends abort and the ground starts anew */
+    peat_user_abort(AIR_REC, PEAT_NONE, BUFFERS);
+    peat_user_abort(GROUND_REC, PEAT_NONE, BUFFERS);
+    check(peat_start(GROUND_REC, old, PEAT_CPDLC, 0, PEAT_NO_SECURITY, BARE, BUFFERS) == PEAT_STALE, "a start with the number held");
+    check(peat_start(GROUND_REC, old - 1, PEAT_CPDLC, 0, PEAT_NO_SECURITY, BARE, BUFFERS) == PEAT_STALE, "and with one below it");
+    opens();
+    memcpy(before, air, sizeof air);
+    check(peat_d_data_indication(AIR_REC, old, LINE, BUFFERS) == PEAT_STALE && memcmp(before, air, sizeof air) == 0, "a late message");
+    check(peat_d_abort_indication(AIR_REC, old, PEAT_USER, LINE, BUFFERS) == PEAT_STALE && peat_record_state(air) == PEAT_DIALOGUE, "a late abort");
+    check(peat_d_p_abort_indication(AIR_REC, number + 1, BUFFERS) == PEAT_STALE, "one of a dialogue to come");
+    check(peat_start(AIR_REC, number, PEAT_CPDLC, 0, PEAT_NO_SECURITY, BARE, BUFFERS) == PEAT_STALE, "STALE comes before PROHIBITED");
+    check(peat_start(AIR_REC, number + 1, PEAT_CPDLC, 0, PEAT_NO_SECURITY, BARE, BUFFERS) == PEAT_PROHIBITED && peat_record_number(air) == number,
+        "a refused start leaves the number");
+    check(peat_start(AIR_REC, number, PEAT_CPDLC, 9, PEAT_NO_SECURITY, BARE, BUFFERS) == PEAT_SHAPE, "SHAPE comes before STALE");
+    n = peat_d_start_indication(AIR_REC, number + 5, PEAT_FACILITY, PEAT_NO_SECURITY, 1, 1, 0, PEAT_NO_USER_DATA, NULL, 0, BUFFERS);
+    check(invokes(n, PEAT_D_ABORT_REQUEST, PEAT_PROVIDER) && peat_record_state(air) == PEAT_IDLE && peat_record_number(air) == number + 5,
+        "a start outside IDLE is turned away, and its number stays");
+    n = peat_d_start_indication(AIR_REC, number + 6, PEAT_FACILITY, PEAT_NO_SECURITY, 0, 1, 0, PEAT_NO_USER_DATA, NULL, 0, BUFFERS);
+    check(invokes(n, PEAT_D_ABORT_REQUEST, PEAT_PROVIDER) && peat_record_number(air) == number + 6, "and one with a fault");
+    check(peat_d_start_indication(AIR_REC, number + 6, PEAT_FACILITY, PEAT_NO_SECURITY, 1, 1, 0, LINE, BUFFERS) == PEAT_STALE, "the same number again");
+    check(invokes(peat_start(AIR_REC, UINT64_MAX, PEAT_CPDLC, 0, PEAT_NO_SECURITY, BARE, BUFFERS), PEAT_D_START_REQUEST, 0), "the last number");
+    peat_user_abort(AIR_REC, PEAT_NONE, BUFFERS);
+    check(peat_start(AIR_REC, UINT64_MAX, PEAT_CPDLC, 0, PEAT_NO_SECURITY, BARE, BUFFERS) == PEAT_STALE, "after it there is no start");
+}
+
 /* the largest message data: an identifier of 16 octets, 16,383 bits, a check of 64 bits */
 static void largest(void)
 {
@@ -1207,16 +1293,16 @@ static void largest(void)
     uint64_t n;
     fresh();
     fill(ids, sizeof ids), fill(text, sizeof text), fill(checks, sizeof checks);
-    n = sent(peat_start(AIR_REC, PEAT_DSC, 0, 0, ids, 16, text, 2048, 16383, checks, 8, 64, BUFFERS));
+    n = sent(peat_start(AIR_REC, number = above(), PEAT_DSC, 0, 0, ids, 16, text, 2048, 16383, checks, 8, 64, BUFFERS));
     check(invokes(n, PEAT_D_START_REQUEST, 0) && peat_apdu_bits(n) == 16615 && peat_apdu_bytes(n) == 2077, "the largest APDU is 2,077 bytes");
-    n = peat_d_start_indication(GROUND_REC, PEAT_AIRCRAFT, 0, 1, 1, 0, LINE, BUFFERS);
+    n = peat_d_start_indication(GROUND_REC, number, PEAT_AIRCRAFT, 0, 1, 1, 0, LINE, BUFFERS);
     check(told(n, PEAT_START_INDICATION, 0, 1) && peat_data_bits(n) == 3 + 8 + 128 + 16 + 16383 + 8 + 64 && peat_data_bits(n) == 16610, "it is delivered whole");
     fresh();
-    check(peat_start(AIR_REC, PEAT_CPDLC, 0, 0, ids, 17, text, 2048, 16383, checks, 8, 64, BUFFERS) == PEAT_SHAPE, "17 octets");
-    check(peat_start(AIR_REC, PEAT_CPDLC, 0, 0, ids, 16, text, 2049, 16384, checks, 8, 64, BUFFERS) == PEAT_SHAPE, "16,384 bits");
-    check(peat_start(AIR_REC, PEAT_CPDLC, 0, 0, ids, 16, text, 2047, 16383, checks, 8, 64, BUFFERS) == PEAT_SHAPE, "more bits than the lent bytes hold");
-    check(peat_start(AIR_REC, PEAT_CPDLC, 0, 0, ids, 16, text, 2048, 16383, checks, 9, 65, BUFFERS) == PEAT_SHAPE, "a check of 65 bits");
-    check(peat_start(AIR_REC, PEAT_CPDLC, 0, 0, ids, 16, text, 2048, 16383, checks, 7, 64, BUFFERS) == PEAT_SHAPE, "a check that its bytes do not hold");
+    check(peat_start(AIR_REC, number = above(), PEAT_CPDLC, 0, 0, ids, 17, text, 2048, 16383, checks, 8, 64, BUFFERS) == PEAT_SHAPE, "17 octets");
+    check(peat_start(AIR_REC, number = above(), PEAT_CPDLC, 0, 0, ids, 16, text, 2049, 16384, checks, 8, 64, BUFFERS) == PEAT_SHAPE, "16,384 bits");
+    check(peat_start(AIR_REC, number = above(), PEAT_CPDLC, 0, 0, ids, 16, text, 2047, 16383, checks, 8, 64, BUFFERS) == PEAT_SHAPE, "more bits than the lent bytes hold");
+    check(peat_start(AIR_REC, number = above(), PEAT_CPDLC, 0, 0, ids, 16, text, 2048, 16383, checks, 9, 65, BUFFERS) == PEAT_SHAPE, "a check of 65 bits");
+    check(peat_start(AIR_REC, number = above(), PEAT_CPDLC, 0, 0, ids, 16, text, 2048, 16383, checks, 7, 64, BUFFERS) == PEAT_SHAPE, "a check that its bytes do not hold");
 }
 
 int main(int argc, char **argv)
@@ -1228,6 +1314,7 @@ int main(int argc, char **argv)
     aborts();
     timer();
     jobs();
+    stale();
     largest();
     later_edition();
     edges();

@@ -33,6 +33,7 @@ static const struct row rows[] = {
     {"message of 2,048 bits", START_REQUEST, 1, PEAT_IDLE, 0, {0}, MIDDLE, PDU_NONE},
     {"largest data", START_REQUEST, 1, PEAT_IDLE, 0, {0}, LARGEST, PDU_NONE},
     {"PROHIBITED, largest data", START_REQUEST, 1, PEAT_DIALOGUE, 0, {0}, LARGEST, PDU_NONE},
+    {"STALE, largest data", START_REQUEST, 1, PEAT_IDLE, 0, {0}, LARGEST, PDU_NONE},
     {"mode dsc, largest data", START_REQUEST, 1, PEAT_IDLE, 0, {PEAT_DSC}, LARGEST, PDU_NONE},
     {"largest data", START_RESPONSE, 2, PEAT_START_IND, 0, {0}, LARGEST, PDU_NONE},
     {"largest data", DSC_START_RESPONSE, 2, PEAT_START_IND, 1, {0}, LARGEST, PDU_NONE},
@@ -57,6 +58,7 @@ static const struct row rows[] = {
     {"largest data, ground", D_DATA_INDICATION, 2, PEAT_DIALOGUE, 0, {0}, LARGEST, PDU_SEND},
     {"largest data, air", D_DATA_INDICATION, 1, PEAT_DIALOGUE, 0, {0}, LARGEST, PDU_SEND},
     {"invalid PDU", D_DATA_INDICATION, 1, PEAT_DIALOGUE, 0, {0}, LARGEST, PDU_INVALID},
+    {"STALE, largest data", D_DATA_INDICATION, 1, PEAT_DIALOGUE, 0, {0}, LARGEST, PDU_SEND},
     {"no user data", D_DATA_INDICATION, 1, PEAT_DIALOGUE, 0, {0}, LEAST, PDU_NONE},
     {"largest data", D_END_INDICATION, 1, PEAT_DIALOGUE, 0, {0}, LARGEST, PDU_SEND},
     {"largest data", D_END_CONFIRMATION, 2, PEAT_END, 0, {0}, LARGEST, PDU_SEND},
@@ -190,6 +192,7 @@ static void prepare(const struct row *r)
     memset(rec, 0, sizeof rec);
     rec[0] = (uint8_t)r->side, rec[1] = (uint8_t)r->state, rec[2] = (uint8_t)r->dsc;
     rec[3] = r->state == PEAT_START_REQ, rec[4] = r->state != PEAT_IDLE, rec[15] = highest;
+    args.number = (r->which == START_REQUEST || r->which == D_START_INDICATION) != (strncmp(r->title, "STALE", 5) == 0); /* the record's is 0 */
     for (i = 0; i < sizeof msgs; i++)
         msgs[i] = (uint8_t)(37 * i + 11);
     memcpy(ids, msgs, sizeof ids);
@@ -275,7 +278,7 @@ int main(int argc, char **argv)
         /* a row is of the kind that it says */
         if (rows[i].which == ENVELOPE_JOB)
             return said != rows[i].n[1];
-        return (peat_refusal(said) != 0) != (strstr(rows[i].title, "PROHIBITED") || strstr(rows[i].title, "REPEAT") || strstr(rows[i].title, "SHAPE") || strstr(rows[i].title, "SHORT"));
+        return (peat_refusal(said) != 0) != (strstr(rows[i].title, "PROHIBITED") || strstr(rows[i].title, "STALE") || strstr(rows[i].title, "REPEAT") || strstr(rows[i].title, "SHAPE") || strstr(rows[i].title, "SHORT"));
     }
     for (i = 0; i < ROWS; i++)
         printf("%lu %s %s\n", (unsigned long)i, names[rows[i].which], rows[i].title);

@@ -243,7 +243,7 @@ enum { START_IND = 1, START_CNF, MESSAGE_IND, END_IND, END_CNF, USER_ABORT_IND, 
 
 struct rec {
     unsigned side, state, dsc, timer, active, request, policy;
-    uint64_t highest;
+    uint64_t highest, number;
 };
 
 struct out {
@@ -260,13 +260,15 @@ static int load(struct range b, struct rec *r)
 {
     size_t i;
     const uint8_t *x = b.at;
-    if (b.len != 16)
+    if (b.len != 24)
         return 0;
     if (x[0] < 1 || x[0] > 2 || x[1] > 4 || x[2] > 1 || x[3] > 1 || x[4] > 1 || x[5] > 1 || x[6] > 1 || x[7] != 0)
         return 0;
     r->side = x[0], r->state = x[1], r->dsc = x[2], r->timer = x[3], r->active = x[4], r->request = x[5], r->policy = x[6];
     for (r->highest = 0, i = 8; i < 16; i++)
         r->highest = r->highest << 8 | x[i];
+    for (r->number = 0, i = 16; i < 24; i++)
+        r->number = r->number << 8 | x[i];
     return 1;
 }
 
@@ -276,8 +278,10 @@ static void save(const struct rec *r, struct range b)
     uint8_t *x = b.at;
     x[0] = (uint8_t)r->side, x[1] = (uint8_t)r->state, x[2] = (uint8_t)r->dsc, x[3] = (uint8_t)r->timer;
     x[4] = (uint8_t)r->active, x[5] = (uint8_t)r->request, x[6] = (uint8_t)r->policy, x[7] = 0;
-    for (i = 0; i < 8; i++)
+    for (i = 0; i < 8; i++) {
         x[8 + i] = (uint8_t)(r->highest >> (56 - 8 * i));
+        x[16 + i] = (uint8_t)(r->number >> (56 - 8 * i));
+    }
 }
 
 static struct out stays(const struct rec *r)
@@ -594,10 +598,14 @@ static void put_apdu(struct bits *b, const struct out *o, unsigned side, const s
 static int has_data(enum which w) { return w <= DSC_END_RESPONSE; }
 static int is_service(enum which w) { return w >= D_START_INDICATION && w <= D_P_ABORT_INDICATION; }
 
+/* document 02, E9: a start has a number above the record's, another primitive of the dialogue service has the record's */
+static int is_start(enum which w) { return w == START_REQUEST || w == D_START_INDICATION; }
+static int stale(enum which w, const struct rec *r, uint64_t number) { return is_start(w) ? number <= r->number : is_service(w) && number != r->number; }
+
 static uint64_t fresh(struct args *a)
 {
-    struct rec r = {(unsigned)a->n[0], IDLE, 0, 0, 0, 0, (unsigned)a->n[1], 0};
-    if (a->rec.len != 16 || a->n[0] < 1 || a->n[0] > 2 || a->n[1] > 1)
+    struct rec r = {(unsigned)a->n[0], IDLE, 0, 0, 0, 0, (unsigned)a->n[1], 0, 0};
+    if (a->rec.len != 24 || a->n[0] < 1 || a->n[0] > 2 || a->n[1] > 1)
         return 2;
     save(&r, a->rec);
     return 0;
@@ -745,11 +753,15 @@ uint64_t model_call(enum which w, struct args *a)
         return 1;
     if (!load(a->rec, &r) || (has_data(w) && !data_fits(a)) || (is_service(w) && w != D_P_ABORT_INDICATION && a->given > 1) || !shapely(w, r.side, a->n))
         return 2;
+    if (stale(w, &r, a->number))
+        return 6;
     if (is_service(w))
         p = received(w, &r, a);
     o = r.side == AIR ? air_step(w, &r, a, &p) : ground_step(w, &r, a, &p);
     if (o.refusal)
         return o.refusal;
+    if (is_start(w)) /* also where its state or a fault turns it away */
+        o.rec.number = a->number;
     one.n = two.n = 0;
     if (o.apdu != MISSING)
         put_apdu(&one, &o, r.side, a);

@@ -29,6 +29,7 @@ struct range {
 struct args {
     struct range rec, ids, msgs, checks, bytes, first, second;
     uint64_t n[5], message, check, given;
+    uint64_t number; /* the dialogue's, of a start and of a primitive of the dialogue service */
 };
 
 /* does to the lent ranges what the call must do, and answers what it must answer */

@@ -1,6 +1,6 @@
 /*
  * The journal of the host: what was kept is loaded, a change that was torn never happened, and a bit that flipped is never
- * taken for what the card left. (Of the 128 one-bit changes of a bare record many are records too: that is counted.)
+ * taken for what the card left. (Of the 192 one-bit changes of a bare record many are records too: that is counted.)
  *
  *     journal FOLDER
  */

@@ -55,6 +55,7 @@ static struct entry entry_of(const struct end *from, uint64_t answer)
 {
     struct entry e;
     memset(&e, 0, sizeof e);
+    e.number = peat_record_number(from->rec);
     e.primitive = peat_invoked(answer);
     e.parameter = peat_invoked_parameter(answer);
     e.security = peat_invoked_security(answer);
@@ -68,14 +69,14 @@ static uint64_t arrives(struct end *to, const struct entry *e)
 {
     switch (e->primitive) {
     case PEAT_D_START_REQUEST:
-        return taken(peat_d_start_indication(REC(to), to == &air ? PEAT_FACILITY : PEAT_AIRCRAFT, e->security, PEAT_HIGH_PRIORITY,
+        return taken(peat_d_start_indication(REC(to), e->number, to == &air ? PEAT_FACILITY : PEAT_AIRCRAFT, e->security, PEAT_HIGH_PRIORITY,
             PEAT_LOW_ERROR_RATE, e->parameter, PEAT_USER_DATA, e->apdu, e->bytes, BUFFERS(to)));
     case PEAT_D_START_RESPONSE:
-        return taken(peat_d_start_confirmation(REC(to), e->parameter, PEAT_DS_USER, e->security, PEAT_USER_DATA, e->apdu, e->bytes, BUFFERS(to)));
-    case PEAT_D_DATA_REQUEST: return taken(peat_d_data_indication(REC(to), PEAT_USER_DATA, e->apdu, e->bytes, BUFFERS(to)));
-    case PEAT_D_END_REQUEST: return taken(peat_d_end_indication(REC(to), PEAT_USER_DATA, e->apdu, e->bytes, BUFFERS(to)));
-    case PEAT_D_END_RESPONSE: return taken(peat_d_end_confirmation(REC(to), e->parameter, PEAT_USER_DATA, e->apdu, e->bytes, BUFFERS(to)));
-    default: return taken(peat_d_abort_indication(REC(to), e->parameter, PEAT_USER_DATA, e->apdu, e->bytes, BUFFERS(to)));
+        return taken(peat_d_start_confirmation(REC(to), e->number, e->parameter, PEAT_DS_USER, e->security, PEAT_USER_DATA, e->apdu, e->bytes, BUFFERS(to)));
+    case PEAT_D_DATA_REQUEST: return taken(peat_d_data_indication(REC(to), e->number, PEAT_USER_DATA, e->apdu, e->bytes, BUFFERS(to)));
+    case PEAT_D_END_REQUEST: return taken(peat_d_end_indication(REC(to), e->number, PEAT_USER_DATA, e->apdu, e->bytes, BUFFERS(to)));
+    case PEAT_D_END_RESPONSE: return taken(peat_d_end_confirmation(REC(to), e->number, e->parameter, PEAT_USER_DATA, e->apdu, e->bytes, BUFFERS(to)));
+    default: return taken(peat_d_abort_indication(REC(to), e->number, e->parameter, PEAT_USER_DATA, e->apdu, e->bytes, BUFFERS(to)));
     }
 }
 
@@ -93,10 +94,17 @@ static uint64_t carried(struct end *from, uint64_t answer)
 
 /* ---- a dialogue */
 
+/* a dialogue number above what either end holds */
+static uint64_t above(void)
+{
+    uint64_t a = peat_record_number(air.rec), g = peat_record_number(ground.rec);
+    return 1 + (a > g ? a : g);
+}
+
 static uint64_t start(struct end *e, int dsc)
 {
     printf("%s: %s (2)%s\n", type_of(e), e == &air ? "startdown" : "startup", dsc ? " | mode: dsc (1)" : "");
-    return carried(e, peat_start(REC(e), dsc ? PEAT_DSC : PEAT_CPDLC, PEAT_CLASS_ANY, PEAT_NO_SECURITY, PEAT_NO_DATA, BUFFERS(e)));
+    return carried(e, peat_start(REC(e), above(), dsc ? PEAT_DSC : PEAT_CPDLC, PEAT_CLASS_ANY, PEAT_NO_SECURITY, PEAT_NO_DATA, BUFFERS(e)));
 }
 
 static void send_bare(struct end *e, uint64_t answer)

@@ -1,5 +1,5 @@
 -- The start request as it stood before document 02's E7: two exported calls, of the CPDLC-start request (false) and of the DSC-start request (true), without
--- a mode among their numbers. It stands here as the right side of proofs/OneStart, and nothing else names it. What it was made of and did not move is named
+-- a mode among their numbers. They had no dialogue number either (E9); v stands for the one that the record holds after such a start. It stands here as the right side of proofs/OneStart, and nothing else names it. What it was made of and did not move is named
 -- and not copied: takes of crate control, startRequest of machine, entering and concluded of step, givenData of card.
 -- Assumes nothing.
 use Prim.Native.Nat.{ℕ}
@@ -37,17 +37,17 @@ abbrev pub stepBefore : Side → Record → Bool → ℕ → ℕ → Outcome
 stepBefore sd x m k s = cond (isNone (refusalBefore sd x m k s)) (startRequest x m k s) (refused (refusalBefore sd x m k s) x)
 
 -- (step, userStep)
-abbrev pub userStepBefore : List ℕ → List ℕ → List ℕ → Bool → ℕ → ℕ → List ℕ → List ℕ → List ℕ → Data → Side → Record → Called
-userStepBefore r a b m k s li lm lc d sd x =
-    cond (dataShaped li lm lc d) (concluded r a b sd (stepBefore sd x m k s) li lm lc d) (called shape r a b)
+abbrev pub userStepBefore : List ℕ → List ℕ → List ℕ → ℕ → Bool → ℕ → ℕ → List ℕ → List ℕ → List ℕ → Data → Side → Record → ℕ → Called
+userStepBefore r a b v m k s li lm lc d sd x n =
+    cond (dataShaped li lm lc d) (concluded r a b sd v (stepBefore sd x m k s) li lm lc d) (called shape r a b)
 
 -- the exported calls (step, userCall; card, dataCall), of the bytes of the record and of the two buffers, of class and security, and of the message data
-abbrev pub startBefore : Bool → List ℕ → List ℕ → List ℕ → ℕ → ℕ → List ℕ → List ℕ → ℕ → List ℕ → ℕ → Called
-startBefore m r a b k s ids msgs n checks c =
-    entering r a b (userStepBefore r a b m k s (lent ids) (lent msgs) (lent checks) (givenData (length ids) n c))
+abbrev pub startBefore : Bool → List ℕ → List ℕ → List ℕ → ℕ → ℕ → ℕ → List ℕ → List ℕ → ℕ → List ℕ → ℕ → Called
+startBefore m r a b v k s ids msgs n checks c =
+    entering r a b (userStepBefore r a b v m k s (lent ids) (lent msgs) (lent checks) (givenData (length ids) n c))
 
-abbrev pub cpdlcStartBefore : List ℕ → List ℕ → List ℕ → ℕ → ℕ → List ℕ → List ℕ → ℕ → List ℕ → ℕ → Called
+abbrev pub cpdlcStartBefore : List ℕ → List ℕ → List ℕ → ℕ → ℕ → ℕ → List ℕ → List ℕ → ℕ → List ℕ → ℕ → Called
 cpdlcStartBefore = startBefore false
 
-abbrev pub dscStartBefore : List ℕ → List ℕ → List ℕ → ℕ → ℕ → List ℕ → List ℕ → ℕ → List ℕ → ℕ → Called
+abbrev pub dscStartBefore : List ℕ → List ℕ → List ℕ → ℕ → ℕ → ℕ → List ℕ → List ℕ → ℕ → List ℕ → ℕ → Called
 dscStartBefore = startBefore true

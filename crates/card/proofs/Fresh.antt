@@ -10,17 +10,17 @@ use Rattle.control.specs.declared.Side.{Side}
 use Rattle.control.specs.declared.Side.the-variants.{Air, Ground}
 use Rattle.machine.specs.declared.record.Record.{Record}
 use Rattle.step.specs.Stored.{storeAt, kept}
-use Rattle.card.specs.Face.{made, freshFor, freshCall}
+use Rattle.card.specs.Face.{made, firstNumber, freshFor, freshCall}
 
-fresh-stored : (r z : List ℕ) (sd : Side) (x : Record) (t : Bool) (n : ℕ) → kept t z ≡ storeAt r sd x → n ≡ cond t 0 2 → made n z ≡ freshFor (storeAt r sd x)
+fresh-stored : (r z : List ℕ) (sd : Side) (x : Record) (t : Bool) (n : ℕ) → kept t z ≡ storeAt r sd x firstNumber → n ≡ cond t 0 2 → made n z ≡ freshFor (storeAt r sd x firstNumber)
 unfolding freshFor
 fresh-stored r z sd x t n p q = rw (← p, q)
 
-pub fresh-air : (r z : List ℕ) (side policy : ℕ) (x : Record) (t : Bool) (n : ℕ) → x ≡ freshRecord (record { policy = policy }) → side ≡ 1 → kept t z ≡ storeAt r Air x → n ≡ cond t 0 2 → made n z ≡ freshCall r side policy
+pub fresh-air : (r z : List ℕ) (side policy : ℕ) (x : Record) (t : Bool) (n : ℕ) → x ≡ freshRecord (record { policy = policy }) → side ≡ 1 → kept t z ≡ storeAt r Air x firstNumber → n ≡ cond t 0 2 → made n z ≡ freshCall r side policy
 unfolding freshCall
 fresh-air r z side policy x t n e h p q = rw (h, ← e) (fresh-stored r z Air x t n p q)
 
-pub fresh-ground : (r z : List ℕ) (side policy : ℕ) (x : Record) (t : Bool) (n : ℕ) → x ≡ freshRecord (record { policy = policy }) → (side ≡ 1 → ⊥) → side ≡ 2 → kept t z ≡ storeAt r Ground x → n ≡ cond t 0 2 → made n z ≡ freshCall r side policy
+pub fresh-ground : (r z : List ℕ) (side policy : ℕ) (x : Record) (t : Bool) (n : ℕ) → x ≡ freshRecord (record { policy = policy }) → (side ≡ 1 → ⊥) → side ≡ 2 → kept t z ≡ storeAt r Ground x firstNumber → n ≡ cond t 0 2 → made n z ≡ freshCall r side policy
 unfolding freshCall
 fresh-ground r z side policy x t n e g h p q = rw (ne-eqb side 1 g, h, ← e) (fresh-stored r z Ground x t n p q)
 

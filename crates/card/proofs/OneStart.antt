@@ -1,10 +1,12 @@
 -- Document 02, E7: "For each mode the new call gives what the old one gave, in every state": the number, the record's bytes and both buffers, for any bytes of
--- a record and any lent bytes. "The ground machine has no downstream mode": there mode dsc answers 2 where the old call answered 3, and nothing else is otherwise.
+-- a record and any lent bytes. "The ground machine has no downstream mode": there mode dsc answers 2 where the old call answered 3, and nothing else is otherwise. Since document 02's E9 a
+-- start brings a dialogue number v. Where it is above the one that the record holds, the call does what it did; a mode that the machine has not is refused for any v.
 -- Assumes nothing.
 use mathlib.Core.Path.{_≡_, refl, ap, sym, _∙_}
 use mathlib.Core.Bool.{Bool, true, false, not, cond, _&&_}
 use mathlib.Core.List.{List}
 use Prim.Native.Nat.{ℕ, _≤_}
+use borrow.Author.Tests.{le-ltb}
 use lib.Dec.{eqb, ltb}
 use lib.ListN.{length}
 use Rattle.words.specs.Limits.{room, shape}
@@ -21,18 +23,21 @@ use Rattle.machine.specs.Outcome.{isNone, refused, refusalNumber}
 use Rattle.machine.specs.Calls.{callOf, unsent}
 use Rattle.machine.specs.Calls as clause
 use Rattle.machine.specs.Step.{permitted, messageRefusal, refusalOf, acts, step}
-use Rattle.machine.proofs.Clauses.{cpdlcMode, dsc-at-ground, no-such-mode}
+use Rattle.machine.proofs.Clauses.{cpdlcMode}
 use Rattle.machine.specs.declared.record.Record.{Record}
 use Rattle.machine.specs.declared.event.UserPrimitive.the-variants.{StartServiceRequest}
+use Rattle.machine.specs.declared.event.Event.{Event}
 use Rattle.machine.specs.declared.event.Event.the-variants.{User}
 use Rattle.machine.specs.declared.outcome.Refusal.the-variants.{None, Shape, Prohibited}
 use Rattle.machine.specs.declared.outcome.Outcome.{Outcome}
+use Rattle.numbered.specs.Numbers.{userStarts, isStart, isStale, heldAfter, numberedStep}
+use Rattle.numbered.proofs.Laws.{shape-first, then-step}
 use Rattle.step.specs.Stored.{loadAt}
 use Rattle.step.specs.Call.{Called, called, concluded, withRecord, entering, userStep, userCall}
 use Rattle.step.specs.declared.stored.Loaded.{Loaded}
 use Rattle.step.specs.declared.stored.Loaded.the-variants.{Is, NoRecord}
 use Rattle.step.proofs.Taken.{never}
-use Rattle.card.specs.Face.{givenData, dataCall}
+use Rattle.card.specs.Face.{givenData, numberedCall}
 use Rattle.card.proofs.Before.{codesBefore, stepBefore, userStepBefore, cpdlcStartBefore, dscStartBefore}
 
 -- ---- the step of either machine
@@ -58,54 +63,62 @@ ground-step x k s = go (codesBefore k s) (isIdle (x .control))
 -- ---- what stands around it: ROOM, and bytes that are no record
 
 -- the record that the bytes say, if they say one, decides
-entering-same : (r a b : List ℕ) (k l : Side → Record → Called) → ((sd : Side) (x : Record) → loadAt r ≡ Is sd x → k sd x ≡ l sd x) → entering r a b k ≡ entering r a b l
+entering-same : (r a b : List ℕ) (k l : Side → Record → ℕ → Called) → ((sd : Side) (x : Record) (n : ℕ) → loadAt r ≡ Is sd x n → k sd x n ≡ l sd x n) → entering r a b k ≡ entering r a b l
 unfolding entering withRecord
 entering-same r a b k l h =
     ap (λ (z : Called). cond (ltb (length a) bufferLeast) (called room r a b) (cond (ltb (length b) bufferLeast) (called room r a b) z)) (same (loadAt r) refl)
   where
     same : (v : Loaded) → loadAt r ≡ v → withRecord r a b v k ≡ withRecord r a b v l
-    same (Is sd x) e = h sd x e
+    same (Is sd x n) e = h sd x n e
     same NoRecord e = refl
 
 -- the bytes are those of a ground machine's record
 abbrev groundIn : Loaded → Bool
-groundIn (Is Air x) = false
-groundIn (Is Ground x) = true
+groundIn (Is Air x n) = false
+groundIn (Is Ground x n) = true
 groundIn NoRecord = false
 
 abbrev pub atGround : List ℕ → Bool
 atGround r = groundIn (loadAt r)
 
+-- the number is above the one that the record holds, if the bytes are a record
+abbrev belowIn : Loaded → ℕ → Bool
+belowIn (Is sd x n) v = ltb n v
+belowIn NoRecord v = true
+
+abbrev pub isAbove : List ℕ → ℕ → Bool
+isAbove r v = belowIn (loadAt r) v
+
 -- 2 where a call answered 3; the rest is the same
 abbrev pub shapeForProhibited : Called → Called
 shapeForProhibited x = called (cond (eqb (x .number) (refusalNumber Prohibited)) shape (x .number)) (x .kept) (x .first) (x .second)
 
-shaped-entering : (r a b : List ℕ) (k : Side → Record → Called) → shapeForProhibited (entering r a b k) ≡ entering r a b (λ (sd : Side) (x : Record). shapeForProhibited (k sd x))
+shaped-entering : (r a b : List ℕ) (k : Side → Record → ℕ → Called) → shapeForProhibited (entering r a b k) ≡ entering r a b (λ (sd : Side) (x : Record) (n : ℕ). shapeForProhibited (k sd x n))
 unfolding entering withRecord
 shaped-entering r a b k = go (ltb (length a) bufferLeast) (ltb (length b) bufferLeast) (loadAt r)
   where
-    go : (f g : Bool) (v : Loaded) → shapeForProhibited (cond f (called room r a b) (cond g (called room r a b) (withRecord r a b v k))) ≡ cond f (called room r a b) (cond g (called room r a b) (withRecord r a b v (λ (sd : Side) (x : Record). shapeForProhibited (k sd x))))
+    go : (f g : Bool) (v : Loaded) → shapeForProhibited (cond f (called room r a b) (cond g (called room r a b) (withRecord r a b v k))) ≡ cond f (called room r a b) (cond g (called room r a b) (withRecord r a b v (λ (sd : Side) (x : Record) (n : ℕ). shapeForProhibited (k sd x n))))
     go true g v = refl
     go false true v = refl
-    go false false (Is sd x) = refl
+    go false false (Is sd x n) = refl
     go false false NoRecord = refl
 
 -- ROOM, or else SHAPE, whatever the record is
 abbrev pub roomOrShape : List ℕ → List ℕ → List ℕ → Called
 roomOrShape r a b = cond (ltb (length a) bufferLeast) (called room r a b) (cond (ltb (length b) bufferLeast) (called room r a b) (called shape r a b))
 
-entering-shape : (r a b : List ℕ) → entering r a b (λ (sd : Side) (x : Record). called shape r a b) ≡ roomOrShape r a b
+entering-shape : (r a b : List ℕ) → entering r a b (λ (sd : Side) (x : Record) (n : ℕ). called shape r a b) ≡ roomOrShape r a b
 unfolding entering withRecord
 entering-shape r a b =
     ap (λ (z : Called). cond (ltb (length a) bufferLeast) (called room r a b) (cond (ltb (length b) bufferLeast) (called room r a b) z)) (either (loadAt r))
   where
-    either : (v : Loaded) → withRecord r a b v (λ (sd : Side) (x : Record). called shape r a b) ≡ called shape r a b
-    either (Is sd x) = refl
+    either : (v : Loaded) → withRecord r a b v (λ (sd : Side) (x : Record) (n : ℕ). called shape r a b) ≡ called shape r a b
+    either (Is sd x n) = refl
     either NoRecord = refl
 
--- ---- the exported call
+-- ---- the exported call. v: the dialogue number that the start brings
 
-module _ (r a b : List ℕ) (k s : ℕ) (ids msgs : List ℕ) (n : ℕ) (checks : List ℕ) (c : ℕ) where
+module _ (r a b : List ℕ) (v k s : ℕ) (ids msgs : List ℕ) (n : ℕ) (checks : List ℕ) (c : ℕ) where
   abbrev given : Data
   given = givenData (length ids) n c
 
@@ -114,61 +127,89 @@ module _ (r a b : List ℕ) (k s : ℕ) (ids msgs : List ℕ) (n : ℕ) (checks 
 
   -- what the message data and an outcome make of a call
   abbrev with-data : Side → Outcome → Called
-  with-data sd o = cond shaped (concluded r a b sd o (lent ids) (lent msgs) (lent checks) given) (called shape r a b)
+  with-data sd o = cond shaped (concluded r a b sd v o (lent ids) (lent msgs) (lent checks) given) (called shape r a b)
 
-  abbrev now-step : ℕ → Side → Record → Called
-  now-step m = userStep r a b (User (StartServiceRequest m k s)) (lent ids) (lent msgs) (lent checks) given
+  abbrev start : ℕ → Event
+  start m = User (StartServiceRequest m k s)
 
-  abbrev old-step : Bool → Side → Record → Called
-  old-step m = userStepBefore r a b m k s (lent ids) (lent msgs) (lent checks) given
+  abbrev now-step : ℕ → Side → Record → ℕ → Called
+  now-step m = userStep r a b (start m) v (lent ids) (lent msgs) (lent checks) given
+
+  abbrev old-step : Bool → Side → Record → ℕ → Called
+  old-step m = userStepBefore r a b v m k s (lent ids) (lent msgs) (lent checks) given
+
+  -- a start leaves its number
+  now-is : (m : ℕ) (sd : Side) (x : Record) (h : ℕ) → now-step m sd x h ≡ with-data sd (numberedStep sd x h (start m) v)
+  unfolding userStep heldAfter isStart userStarts
+  now-is m sd x h = refl
+
+  -- one that is not stale is the machine's
+  above-step : (m : ℕ) (sd : Side) (x : Record) (h : ℕ) → ltb h v ≡ true → numberedStep sd x h (start m) v ≡ step sd x (start m)
+  unfolding isStale isStart userStarts
+  above-step m sd x h u = then-step sd x h (start m) v (rw u)
+
+  above-at : (sd : Side) (x : Record) (h : ℕ) → isAbove r v ≡ true → loadAt r ≡ Is sd x h → ltb h v ≡ true
+  above-at sd x h u e = sym (ap (λ (z : Loaded). belowIn z v) e) ∙ u
 
   -- mode cpdlc, at both machines
-  pub cpdlc-as-before : dataCall r a b (StartServiceRequest cpdlcMode k s) ids msgs n checks c ≡ cpdlcStartBefore r a b k s ids msgs n checks c
-  unfolding userCall userStep
-  cpdlc-as-before = entering-same r a b (now-step cpdlcMode) (old-step false) (λ sd x e. ap (with-data sd) (cpdlc-step sd x k s))
+  pub cpdlc-as-before : isAbove r v ≡ true → numberedCall r a b (StartServiceRequest cpdlcMode k s) v ids msgs n checks c ≡ cpdlcStartBefore r a b v k s ids msgs n checks c
+  unfolding userCall
+  cpdlc-as-before u = entering-same r a b (now-step cpdlcMode) (old-step false) (λ sd x h e. now-is cpdlcMode sd x h ∙ ap (with-data sd) (above-step cpdlcMode sd x h (above-at sd x h u e) ∙ cpdlc-step sd x k s))
 
   -- mode dsc, but for a record of the ground machine
-  pub dsc-as-before : atGround r ≡ false → dataCall r a b (StartServiceRequest dscMode k s) ids msgs n checks c ≡ dscStartBefore r a b k s ids msgs n checks c
-  unfolding userCall userStep
-  dsc-as-before g = entering-same r a b (now-step dscMode) (old-step true) same
+  pub dsc-as-before : isAbove r v ≡ true → atGround r ≡ false → numberedCall r a b (StartServiceRequest dscMode k s) v ids msgs n checks c ≡ dscStartBefore r a b v k s ids msgs n checks c
+  unfolding userCall
+  dsc-as-before u g = entering-same r a b (now-step dscMode) (old-step true) same
     where
-      same : (sd : Side) (x : Record) → loadAt r ≡ Is sd x → now-step dscMode sd x ≡ old-step true sd x
-      same Air x e = ap (with-data Air) (dsc-step x k s)
-      same Ground x e = never (sym g ∙ ap groundIn e)
+      same : (sd : Side) (x : Record) (h : ℕ) → loadAt r ≡ Is sd x h → now-step dscMode sd x h ≡ old-step true sd x h
+      same Air x h e = now-is dscMode Air x h ∙ ap (with-data Air) (above-step dscMode Air x h (above-at Air x h u e) ∙ dsc-step x k s)
+      same Ground x h e = never (sym g ∙ ap groundIn e)
+
+  -- a mode that the machine has not is SHAPE, before STALE
+  shape-at : (m : ℕ) (sd : Side) (x : Record) (h : ℕ) → shapely sd (start m) ≡ false → now-step m sd x h ≡ with-data sd (refused Shape x)
+  shape-at m sd x h e = now-is m sd x h ∙ ap (with-data sd) (shape-first sd x h (start m) v e)
+
+  ground-shape : shapely Ground (start dscMode) ≡ false
+  unfolding shapely userShapely hasMode
+  ground-shape = refl
+
+  mode-shape : (sd : Side) (m : ℕ) → modes ≤ m → shapely sd (start m) ≡ false
+  unfolding shapely userShapely hasMode
+  mode-shape sd m l = rw (le-ltb m modes l)
 
   -- mode dsc at the ground machine
-  pub dsc-at-the-ground : atGround r ≡ true → dataCall r a b (StartServiceRequest dscMode k s) ids msgs n checks c ≡ shapeForProhibited (dscStartBefore r a b k s ids msgs n checks c)
-  unfolding userCall userStep concluded
-  dsc-at-the-ground g = entering-same r a b (now-step dscMode) (λ (sd : Side) (x : Record). shapeForProhibited (old-step true sd x)) moved ∙ sym (shaped-entering r a b (old-step true))
+  pub dsc-at-the-ground : atGround r ≡ true → numberedCall r a b (StartServiceRequest dscMode k s) v ids msgs n checks c ≡ shapeForProhibited (dscStartBefore r a b v k s ids msgs n checks c)
+  unfolding userCall concluded
+  dsc-at-the-ground g = entering-same r a b (now-step dscMode) (λ (sd : Side) (x : Record) (h : ℕ). shapeForProhibited (old-step true sd x h)) moved ∙ sym (shaped-entering r a b (old-step true))
     where
-      refuses : (d t : Bool) (x : Record) → cond d (concluded r a b Ground (refused Shape x) (lent ids) (lent msgs) (lent checks) given) (called shape r a b) ≡ shapeForProhibited (cond d (concluded r a b Ground (refused (cond t Prohibited Shape) x) (lent ids) (lent msgs) (lent checks) given) (called shape r a b))
+      refuses : (d t : Bool) (x : Record) → cond d (concluded r a b Ground v (refused Shape x) (lent ids) (lent msgs) (lent checks) given) (called shape r a b) ≡ shapeForProhibited (cond d (concluded r a b Ground v (refused (cond t Prohibited Shape) x) (lent ids) (lent msgs) (lent checks) given) (called shape r a b))
       refuses true true x = refl
       refuses true false x = refl
       refuses false t x = refl
 
-      moved : (sd : Side) (x : Record) → loadAt r ≡ Is sd x → now-step dscMode sd x ≡ shapeForProhibited (old-step true sd x)
-      moved Air x e = never (sym (ap groundIn e) ∙ g)
-      moved Ground x e =
-          ap (with-data Ground) (dsc-at-ground x k s) ∙ refuses shaped (codesBefore k s) x ∙ ap (λ (o : Outcome). shapeForProhibited (with-data Ground o)) (sym (ground-step x k s))
+      moved : (sd : Side) (x : Record) (h : ℕ) → loadAt r ≡ Is sd x h → now-step dscMode sd x h ≡ shapeForProhibited (old-step true sd x h)
+      moved Air x h e = never (sym (ap groundIn e) ∙ g)
+      moved Ground x h e =
+          shape-at dscMode Ground x h ground-shape ∙ refuses shaped (codesBefore k s) x ∙ ap (λ (o : Outcome). shapeForProhibited (with-data Ground o)) (sym (ground-step x k s))
 
   -- so it is refused there in every state, after ROOM
-  pub dsc-refused-at-the-ground : atGround r ≡ true → dataCall r a b (StartServiceRequest dscMode k s) ids msgs n checks c ≡ roomOrShape r a b
-  unfolding userCall userStep concluded
-  dsc-refused-at-the-ground g = entering-same r a b (now-step dscMode) (λ (sd : Side) (x : Record). called shape r a b) refuses ∙ entering-shape r a b
+  pub dsc-refused-at-the-ground : atGround r ≡ true → numberedCall r a b (StartServiceRequest dscMode k s) v ids msgs n checks c ≡ roomOrShape r a b
+  unfolding userCall concluded
+  dsc-refused-at-the-ground g = entering-same r a b (now-step dscMode) (λ (sd : Side) (x : Record) (h : ℕ). called shape r a b) refuses ∙ entering-shape r a b
     where
-      either : (d : Bool) (x : Record) → cond d (concluded r a b Ground (refused Shape x) (lent ids) (lent msgs) (lent checks) given) (called shape r a b) ≡ called shape r a b
+      either : (d : Bool) (x : Record) → cond d (concluded r a b Ground v (refused Shape x) (lent ids) (lent msgs) (lent checks) given) (called shape r a b) ≡ called shape r a b
       either true x = refl
       either false x = refl
 
-      refuses : (sd : Side) (x : Record) → loadAt r ≡ Is sd x → now-step dscMode sd x ≡ called shape r a b
-      refuses Air x e = never (sym (ap groundIn e) ∙ g)
-      refuses Ground x e = ap (with-data Ground) (dsc-at-ground x k s) ∙ either shaped x
+      refuses : (sd : Side) (x : Record) (h : ℕ) → loadAt r ≡ Is sd x h → now-step dscMode sd x h ≡ called shape r a b
+      refuses Air x h e = never (sym (ap groundIn e) ∙ g)
+      refuses Ground x h e = shape-at dscMode Ground x h ground-shape ∙ either shaped x
 
   -- a code that is no mode: refused for any record, of either machine, after ROOM
-  pub no-other-mode : (m : ℕ) → modes ≤ m → dataCall r a b (StartServiceRequest m k s) ids msgs n checks c ≡ roomOrShape r a b
-  unfolding userCall userStep concluded
-  no-other-mode m h = entering-same r a b (now-step m) (λ (sd : Side) (x : Record). called shape r a b) (λ sd x e. ap (with-data sd) (no-such-mode sd x m k s h) ∙ either sd shaped x) ∙ entering-shape r a b
+  pub no-other-mode : (m : ℕ) → modes ≤ m → numberedCall r a b (StartServiceRequest m k s) v ids msgs n checks c ≡ roomOrShape r a b
+  unfolding userCall concluded
+  no-other-mode m l = entering-same r a b (now-step m) (λ (sd : Side) (x : Record) (h : ℕ). called shape r a b) (λ sd x h e. shape-at m sd x h (mode-shape sd m l) ∙ either sd shaped x) ∙ entering-shape r a b
     where
-      either : (sd : Side) (d : Bool) (x : Record) → cond d (concluded r a b sd (refused Shape x) (lent ids) (lent msgs) (lent checks) given) (called shape r a b) ≡ called shape r a b
+      either : (sd : Side) (d : Bool) (x : Record) → cond d (concluded r a b sd v (refused Shape x) (lent ids) (lent msgs) (lent checks) given) (called shape r a b) ≡ called shape r a b
       either sd true x = refl
       either sd false x = refl

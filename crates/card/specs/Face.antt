@@ -19,9 +19,13 @@ use Rattle.machine.specs.declared.event.Event.the-variants.{User}
 use Rattle.step.specs.Stored.{storeAt, Kept}
 use Rattle.step.specs.Call.{Called, userCall, noData}
 
+-- what stands for the dialogue number of an event that brings none; nothing looks at it (crate numbered, isStale and heldAfter)
+abbrev pub noNumber : ℕ
+noNumber = 0
+
 -- a call without message data
 abbrev pub plainCall : List ℕ → List ℕ → List ℕ → Event → Called
-plainCall r a b e = userCall r a b e [] [] [] noData
+plainCall r a b e = userCall r a b e noNumber [] [] [] noData
 
 -- the count that says "none": no message, no reason
 abbrev pub noCount : ℕ
@@ -34,9 +38,13 @@ partOf none n = cond none part.Absent (part.Given (record { at = 0; count = n })
 unfoldable pub givenData : ℕ → ℕ → ℕ → Data
 givenData octets m k = record { identifier = partOf (eqb octets 0) octets; message = partOf (eqb m noCount) m; check = record { at = 0; count = k } }
 
--- a user primitive with message data
+-- a user primitive with message data, and the dialogue number that it brings
+abbrev pub numberedCall : List ℕ → List ℕ → List ℕ → UserPrimitive → ℕ → List ℕ → List ℕ → ℕ → List ℕ → ℕ → Called
+numberedCall r a b u v ids msgs m checks k = userCall r a b (User u) v ids msgs checks (givenData (length ids) m k)
+
+-- one that brings none: every user primitive but a start
 abbrev pub dataCall : List ℕ → List ℕ → List ℕ → UserPrimitive → List ℕ → List ℕ → ℕ → List ℕ → ℕ → Called
-dataCall r a b u ids msgs m checks k = userCall r a b (User u) ids msgs checks (givenData (length ids) m k)
+dataCall r a b u ids msgs m checks k = numberedCall r a b u noNumber ids msgs m checks k
 
 -- a message request holds a message, or not
 abbrev pub messageRequested : ℕ → ℕ → UserPrimitive
@@ -46,7 +54,10 @@ messageRequested m j = MessageServiceRequest (not (eqb m noCount)) j
 abbrev pub abortRequested : ℕ → UserPrimitive
 abortRequested x = UserAbortServiceRequest (not (eqb x noCount)) (cond (eqb x noCount) 0 x)
 
--- ---- a fresh record for a side (1 air, 2 ground), with the security value that local policy accepts
+-- ---- a fresh record for a side (1 air, 2 ground), with the security value that local policy accepts; "0 at first" (document 02, E9)
+
+abbrev pub firstNumber : ℕ
+firstNumber = 0
 
 pub record Made : Type 0 where
   pub number : ℕ
@@ -61,5 +72,5 @@ freshFor k = made (cond (k .done) 0 shape) (k .bytes)
 
 unfoldable pub freshCall : List ℕ → ℕ → ℕ → Made
 freshCall r side policy =
-    cond (eqb side 1) (freshFor (storeAt r Air (freshRecord (record { policy = policy }))))
-    (cond (eqb side 2) (freshFor (storeAt r Ground (freshRecord (record { policy = policy })))) (made shape r))
+    cond (eqb side 1) (freshFor (storeAt r Air (freshRecord (record { policy = policy })) firstNumber))
+    (cond (eqb side 2) (freshFor (storeAt r Ground (freshRecord (record { policy = policy })) firstNumber)) (made shape r))

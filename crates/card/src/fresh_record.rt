@@ -15,6 +15,8 @@ fn told_made(stored: bool) -> u64
     if stored { 0 } else { Limit::SHAPE }
 }
 
+const FIRST_NUMBER: u64 = 0;
+
 // A fresh record for a side (1 air, 2 ground), with the security value that local policy accepts.
 #[no_mangle]
 pub extern "C" fn peat_fresh(rec: &mut [u8], side: u64, policy: u64) -> u64
@@ -22,10 +24,10 @@ pub extern "C" fn peat_fresh(rec: &mut [u8], side: u64, policy: u64) -> u64
 {
     let r = Record::fresh(Configuration { policy });
     if side == 1 {
-        return told_made(store(rec, Side::Air, r));
+        return told_made(store(rec, Side::Air, r, FIRST_NUMBER));
     }
     if side == 2 {
-        return told_made(store(rec, Side::Ground, r));
+        return told_made(store(rec, Side::Ground, r, FIRST_NUMBER));
     }
     Limit::SHAPE
 }

@@ -1,7 +1,7 @@
 // What the host gives to a call. Message data come as three ranges, each from its first bit on: the identifier's octets (none: no identifier), the
 // bits of the message, of which `message` says how many (NONE: no message), and those of the check, of which `check` says how many.
 ghost use mathlib.Core.Path.{_≡_};
-ghost use Rattle.card.specs.Face.{dataCall, givenData, partOf, plainCall};
+ghost use Rattle.card.specs.Face.{dataCall, givenData, numberedCall, partOf, plainCall};
 ghost use Rattle.step.specs.Call.{called};
 use apdu::Data;
 use apdu::Part;
@@ -13,6 +13,9 @@ use step::user_call;
 
 // The count that says "none": no message, no reason.
 pub(crate) const NONE: u64 = 18446744073709551615;
+
+// What stands for the dialogue number of an event that brings none.
+const NO_NUMBER: u64 = 0;
 
 // n items from the first bit on, or none.
 fn part_of(absent: bool, n: usize) -> Part
@@ -40,7 +43,36 @@ fn given_data(octets: usize, message: u64, check: u64) -> Data
     }
 }
 
-// A user primitive with message data.
+// A user primitive with message data, and the dialogue number that it brings.
+pub(crate) fn numbered_call(
+    rec: &mut [u8],
+    u: UserPrimitive,
+    number: u64,
+    ids: &[u8],
+    msgs: &[u8],
+    message: u64,
+    checks: &[u8],
+    check: u64,
+    first: &mut [u8],
+    second: &mut [u8],
+) -> u64
+    ensures { λ n. ⌜ called n (now (rec .exit)) (now (first .exit)) (now (second .exit)) ≡ numberedCall (now (rec .entry)) (now (first .entry)) (now (second .entry)) u number (now (ids .entry)) (now (msgs .entry)) message (now (checks .entry)) check ⌝ }
+{
+    let d = given_data(ids.len(), message, check);
+    user_call(
+        rec,
+        first,
+        second,
+        Event::User(u),
+        number,
+        ids,
+        msgs,
+        checks,
+        d,
+    )
+}
+
+// One that brings none.
 pub(crate) fn data_call(
     rec: &mut [u8],
     u: UserPrimitive,
@@ -54,8 +86,18 @@ pub(crate) fn data_call(
 ) -> u64
     ensures { λ n. ⌜ called n (now (rec .exit)) (now (first .exit)) (now (second .exit)) ≡ dataCall (now (rec .entry)) (now (first .entry)) (now (second .entry)) u (now (ids .entry)) (now (msgs .entry)) message (now (checks .entry)) check ⌝ }
 {
-    let d = given_data(ids.len(), message, check);
-    user_call(rec, first, second, Event::User(u), ids, msgs, checks, d)
+    numbered_call(
+        rec,
+        u,
+        NO_NUMBER,
+        ids,
+        msgs,
+        message,
+        checks,
+        check,
+        first,
+        second,
+    )
 }
 
 // An event without message data.
@@ -63,5 +105,15 @@ pub(crate) fn plain_call(rec: &mut [u8], e: Event, first: &mut [u8], second: &mu
     ensures { λ n. ⌜ called n (now (rec .exit)) (now (first .exit)) (now (second .exit)) ≡ plainCall (now (rec .entry)) (now (first .entry)) (now (second .entry)) e ⌝ }
 {
     let empty = [0u8; 0];
-    user_call(rec, first, second, e, &empty, &empty, &empty, no_data())
+    user_call(
+        rec,
+        first,
+        second,
+        e,
+        NO_NUMBER,
+        &empty,
+        &empty,
+        &empty,
+        no_data(),
+    )
 }

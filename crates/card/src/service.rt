@@ -1,4 +1,4 @@
-// The primitives of the dialogue service, each with its user data as lent bytes or with none.
+// The primitives of the dialogue service, each with its dialogue number, and with its user data as lent bytes or with none.
 ghost use mathlib.Core.Path.{_≡_};
 ghost use mathlib.Core.List.{[]};
 ghost use Rattle.step.specs.Call.{called, serviceCall};
@@ -10,6 +10,7 @@ use step::service_call;
 #[no_mangle]
 pub extern "C" fn peat_d_start_indication(
     rec: &mut [u8],
+    number: u64,
     peer: u64,
     security: u64,
     priority: u64,
@@ -20,7 +21,7 @@ pub extern "C" fn peat_d_start_indication(
     first: &mut [u8],
     second: &mut [u8],
 ) -> u64
-    ensures { λ n. ⌜ called n (now (rec .exit)) (now (first .exit)) (now (second .exit)) ≡ serviceCall (now (rec .entry)) (now (first .entry)) (now (second .entry)) (ServicePrimitive.DStartIndication peer security (record { priority = priority; rer = rate; routing = routing })) given (now (bytes .entry)) ⌝ }
+    ensures { λ n. ⌜ called n (now (rec .exit)) (now (first .exit)) (now (second .exit)) ≡ serviceCall (now (rec .entry)) (now (first .entry)) (now (second .entry)) (ServicePrimitive.DStartIndication peer security (record { priority = priority; rer = rate; routing = routing })) number given (now (bytes .entry)) ⌝ }
 {
     let qos = Qos {
         priority,
@@ -28,13 +29,14 @@ pub extern "C" fn peat_d_start_indication(
         routing,
     };
     let p = ServicePrimitive::DStartIndication(peer, security, qos);
-    service_call(rec, first, second, p, given, bytes)
+    service_call(rec, first, second, p, number, given, bytes)
 }
 
 // D-START confirmation.
 #[no_mangle]
 pub extern "C" fn peat_d_start_confirmation(
     rec: &mut [u8],
+    number: u64,
     result: u64,
     source: u64,
     security: u64,
@@ -43,13 +45,14 @@ pub extern "C" fn peat_d_start_confirmation(
     first: &mut [u8],
     second: &mut [u8],
 ) -> u64
-    ensures { λ n. ⌜ called n (now (rec .exit)) (now (first .exit)) (now (second .exit)) ≡ serviceCall (now (rec .entry)) (now (first .entry)) (now (second .entry)) (ServicePrimitive.DStartConfirmation result source security) given (now (bytes .entry)) ⌝ }
+    ensures { λ n. ⌜ called n (now (rec .exit)) (now (first .exit)) (now (second .exit)) ≡ serviceCall (now (rec .entry)) (now (first .entry)) (now (second .entry)) (ServicePrimitive.DStartConfirmation result source security) number given (now (bytes .entry)) ⌝ }
 {
     service_call(
         rec,
         first,
         second,
         ServicePrimitive::DStartConfirmation(result, source, security),
+        number,
         given,
         bytes,
     )
@@ -59,18 +62,20 @@ pub extern "C" fn peat_d_start_confirmation(
 #[no_mangle]
 pub extern "C" fn peat_d_data_indication(
     rec: &mut [u8],
+    number: u64,
     given: u64,
     bytes: &[u8],
     first: &mut [u8],
     second: &mut [u8],
 ) -> u64
-    ensures { λ n. ⌜ called n (now (rec .exit)) (now (first .exit)) (now (second .exit)) ≡ serviceCall (now (rec .entry)) (now (first .entry)) (now (second .entry)) ServicePrimitive.DDataIndication given (now (bytes .entry)) ⌝ }
+    ensures { λ n. ⌜ called n (now (rec .exit)) (now (first .exit)) (now (second .exit)) ≡ serviceCall (now (rec .entry)) (now (first .entry)) (now (second .entry)) ServicePrimitive.DDataIndication number given (now (bytes .entry)) ⌝ }
 {
     service_call(
         rec,
         first,
         second,
         ServicePrimitive::DDataIndication,
+        number,
         given,
         bytes,
     )
@@ -80,18 +85,20 @@ pub extern "C" fn peat_d_data_indication(
 #[no_mangle]
 pub extern "C" fn peat_d_end_indication(
     rec: &mut [u8],
+    number: u64,
     given: u64,
     bytes: &[u8],
     first: &mut [u8],
     second: &mut [u8],
 ) -> u64
-    ensures { λ n. ⌜ called n (now (rec .exit)) (now (first .exit)) (now (second .exit)) ≡ serviceCall (now (rec .entry)) (now (first .entry)) (now (second .entry)) ServicePrimitive.DEndIndication given (now (bytes .entry)) ⌝ }
+    ensures { λ n. ⌜ called n (now (rec .exit)) (now (first .exit)) (now (second .exit)) ≡ serviceCall (now (rec .entry)) (now (first .entry)) (now (second .entry)) ServicePrimitive.DEndIndication number given (now (bytes .entry)) ⌝ }
 {
     service_call(
         rec,
         first,
         second,
         ServicePrimitive::DEndIndication,
+        number,
         given,
         bytes,
     )
@@ -101,19 +108,21 @@ pub extern "C" fn peat_d_end_indication(
 #[no_mangle]
 pub extern "C" fn peat_d_end_confirmation(
     rec: &mut [u8],
+    number: u64,
     result: u64,
     given: u64,
     bytes: &[u8],
     first: &mut [u8],
     second: &mut [u8],
 ) -> u64
-    ensures { λ n. ⌜ called n (now (rec .exit)) (now (first .exit)) (now (second .exit)) ≡ serviceCall (now (rec .entry)) (now (first .entry)) (now (second .entry)) (ServicePrimitive.DEndConfirmation result) given (now (bytes .entry)) ⌝ }
+    ensures { λ n. ⌜ called n (now (rec .exit)) (now (first .exit)) (now (second .exit)) ≡ serviceCall (now (rec .entry)) (now (first .entry)) (now (second .entry)) (ServicePrimitive.DEndConfirmation result) number given (now (bytes .entry)) ⌝ }
 {
     service_call(
         rec,
         first,
         second,
         ServicePrimitive::DEndConfirmation(result),
+        number,
         given,
         bytes,
     )
@@ -123,19 +132,21 @@ pub extern "C" fn peat_d_end_confirmation(
 #[no_mangle]
 pub extern "C" fn peat_d_abort_indication(
     rec: &mut [u8],
+    number: u64,
     originator: u64,
     given: u64,
     bytes: &[u8],
     first: &mut [u8],
     second: &mut [u8],
 ) -> u64
-    ensures { λ n. ⌜ called n (now (rec .exit)) (now (first .exit)) (now (second .exit)) ≡ serviceCall (now (rec .entry)) (now (first .entry)) (now (second .entry)) (ServicePrimitive.DAbortIndication originator) given (now (bytes .entry)) ⌝ }
+    ensures { λ n. ⌜ called n (now (rec .exit)) (now (first .exit)) (now (second .exit)) ≡ serviceCall (now (rec .entry)) (now (first .entry)) (now (second .entry)) (ServicePrimitive.DAbortIndication originator) number given (now (bytes .entry)) ⌝ }
 {
     service_call(
         rec,
         first,
         second,
         ServicePrimitive::DAbortIndication(originator),
+        number,
         given,
         bytes,
     )
@@ -145,10 +156,11 @@ pub extern "C" fn peat_d_abort_indication(
 #[no_mangle]
 pub extern "C" fn peat_d_p_abort_indication(
     rec: &mut [u8],
+    number: u64,
     first: &mut [u8],
     second: &mut [u8],
 ) -> u64
-    ensures { λ n. ⌜ called n (now (rec .exit)) (now (first .exit)) (now (second .exit)) ≡ serviceCall (now (rec .entry)) (now (first .entry)) (now (second .entry)) ServicePrimitive.DPAbortIndication 0 [] ⌝ }
+    ensures { λ n. ⌜ called n (now (rec .exit)) (now (first .exit)) (now (second .exit)) ≡ serviceCall (now (rec .entry)) (now (first .entry)) (now (second .entry)) ServicePrimitive.DPAbortIndication number 0 [] ⌝ }
 {
     let empty = [0u8; 0];
     service_call(
@@ -156,6 +168,7 @@ pub extern "C" fn peat_d_p_abort_indication(
         first,
         second,
         ServicePrimitive::DPAbortIndication,
+        number,
         0,
         &empty,
     )

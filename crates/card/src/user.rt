@@ -1,18 +1,20 @@
 // The primitives of the user, and what the host reports.
 ghost use mathlib.Core.Path.{_≡_};
 ghost use mathlib.Core.Bool.{true, false};
-ghost use Rattle.card.specs.Face.{abortRequested, dataCall, messageRequested, plainCall};
+ghost use Rattle.card.specs.Face.{abortRequested, dataCall, messageRequested, numberedCall, plainCall};
 ghost use Rattle.step.specs.Call.{called};
 use crate::given::NONE;
 use crate::given::data_call;
+use crate::given::numbered_call;
 use crate::given::plain_call;
 use machine::event::Event;
 use machine::event::UserPrimitive;
 
-// Start request, with its mode.
+// Start request, with its dialogue number and its mode.
 #[no_mangle]
 pub extern "C" fn peat_start(
     rec: &mut [u8],
+    number: u64,
     mode: u64,
     class: u64,
     security: u64,
@@ -24,11 +26,12 @@ pub extern "C" fn peat_start(
     first: &mut [u8],
     second: &mut [u8],
 ) -> u64
-    ensures { λ n. ⌜ called n (now (rec .exit)) (now (first .exit)) (now (second .exit)) ≡ dataCall (now (rec .entry)) (now (first .entry)) (now (second .entry)) (UserPrimitive.StartServiceRequest mode class security) (now (ids .entry)) (now (msgs .entry)) message (now (checks .entry)) check ⌝ }
+    ensures { λ n. ⌜ called n (now (rec .exit)) (now (first .exit)) (now (second .exit)) ≡ numberedCall (now (rec .entry)) (now (first .entry)) (now (second .entry)) (UserPrimitive.StartServiceRequest mode class security) number (now (ids .entry)) (now (msgs .entry)) message (now (checks .entry)) check ⌝ }
 {
-    data_call(
+    numbered_call(
         rec,
         UserPrimitive::StartServiceRequest(mode, class, security),
+        number,
         ids,
         msgs,
         message,

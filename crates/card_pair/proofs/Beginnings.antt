@@ -3,7 +3,7 @@
 use mathlib.Core.Path.{_≡_, refl, ap, sym, subst, _∙_}
 use mathlib.Core.Bool.{Bool, true, false, not, cond, _&&_}
 use mathlib.Core.List.{List}
-use Prim.Native.Nat.{ℕ, _<_}
+use Prim.Native.Nat.{ℕ, _^_, _≤_, _<_}
 use native.Mathlib.Omega.{arith}
 use borrow.Author.Tests.{eqb-true, ltb-true}
 use lib.Dec.{T, leb, ltb, eqb}
@@ -20,7 +20,7 @@ use Rattle.machine.specs.Record.{freshRecord}
 use Rattle.control.specs.Control.{waits}
 use Rattle.machine.specs.Run.{Formed}
 use Rattle.machine.specs.declared.record.Record.{Record}
-use Rattle.step.specs.Stored.{recordBytes, recordBits, jobBit, jobBits, sideCode, headFits, headOf, withHighest, loadAt, storeAt}
+use Rattle.step.specs.Stored.{recordBytes, recordBits, jobBit, jobBits, numberBit, numberBits, sideCode, headFits, headOf, withNumbers, loadAt, storeAt}
 use Rattle.step.specs.declared.stored.Loaded.{Loaded}
 use Rattle.step.specs.declared.stored.Loaded.the-variants.{Is, NoRecord}
 use Rattle.step.proofs.Taken.{never, Coded}
@@ -28,55 +28,67 @@ use Rattle.card.specs.Face.{freshFor, freshCall}
 use Rattle.pair.specs.Names.{Side, Air, Ground, StartReq, Control, is, isIdle, closed}
 use Rattle.pair.proofs.Finite.{is-T, T-is}
 use Rattle.pair.proofs.StepLocal.{Local, closed-is-idle}
+use Rattle.card_pair.specs.CardMachine.{numberIn}
 use Rattle.card_pair.specs.Promise.{Begins, Stands}
 use Rattle.card_pair.proofs.Ends.{Keeps, stored-keeps}
 
 -- ---- what is loaded is coded
 
 abbrev isRecord : Loaded → Bool
-isRecord (Is sd r) = true
+isRecord (Is sd r n) = true
 isRecord NoRecord = false
 
 abbrev recordIn : Loaded → Record → Record
-recordIn (Is sd r) q = r
+recordIn (Is sd r n) q = r
 recordIn NoRecord q = q
 
-by-test : (t : Bool) (x : Loaded) (sd : Side) (r : Record) → cond t x NoRecord ≡ Is sd r → (t ≡ true) × (x ≡ Is sd r)
-by-test true x sd r e = (refl, e)
-by-test false x sd r e = never (ap isRecord e)
+by-test : (t : Bool) (x : Loaded) (sd : Side) (r : Record) (n : ℕ) → cond t x NoRecord ≡ Is sd r n → (t ≡ true) × (x ≡ Is sd r n)
+by-test true x sd r n e = (refl, e)
+by-test false x sd r n e = never (ap isRecord e)
+
+-- the codes of a record are of their types, and eight bytes hold its number
+record Loads (r : Record) (n : ℕ) : Type 0 where
+  coded : Coded r
+  low : n < 2 ^ 64
 
 -- the tests of the first eight bytes before those of the two security values
 abbrev before : List ℕ → Bool
 before b = leb 1 (getD b 0 0) && leb (getD b 0 0) 2 && ltb (getD b 1 0) 5 && ltb (getD b 2 0) 2 && ltb (getD b 3 0) 2 && ltb (getD b 4 0) 2
 
-number-coded : (b : List ℕ) (x : Read) (sd : Side) (r : Record) → readBits (bitsTo b recordBits) jobBit jobBits ≡ x → headOf b ≡ true → withHighest b x ≡ Is sd r → Coded r
-unfolding withHighest headFits
-number-coded b (Number h next) sd r e t f =
+number-coded : (b : List ℕ) (x y : Read) (sd : Side) (r : Record) (n : ℕ) → readBits (bitsTo b recordBits) jobBit jobBits ≡ x → readBits (bitsTo b recordBits) numberBit numberBits ≡ y → headOf b ≡ true → withNumbers b x y ≡ Is sd r n → Loads r n
+unfolding withNumbers headFits
+number-coded b (Number h next) (Number m last) sd r n e g t f =
     let p = both-left (before b && ltb (getD b 5 0) securityValues && ltb (getD b 6 0) securityValues) (eqb (getD b 7 0) 0) t in
     let q = both-left (before b && ltb (getD b 5 0) securityValues) (ltb (getD b 6 0) securityValues) p in
-    subst Coded (ap (λ (z : Loaded). recordIn z r) f)
-    (record {
-      request = ltb-true (getD b 5 0) securityValues (both-right (before b) (ltb (getD b 5 0) securityValues) q);
-      policy = ltb-true (getD b 6 0) securityValues (both-right (before b && ltb (getD b 5 0) securityValues) (ltb (getD b 6 0) securityValues) p);
-      highest = number-lt (bitsTo b 128) 64 64 h next (bits-to b 128) e;
-    })
-number-coded b Short sd r e t f = never (ap isRecord f)
+    record {
+      coded = subst Coded (ap (λ (z : Loaded). recordIn z r) f)
+          (record {
+            request = ltb-true (getD b 5 0) securityValues (both-right (before b) (ltb (getD b 5 0) securityValues) q);
+            policy = ltb-true (getD b 6 0) securityValues (both-right (before b && ltb (getD b 5 0) securityValues) (ltb (getD b 6 0) securityValues) p);
+            highest = number-lt (bitsTo b recordBits) 64 64 h next (bits-to b recordBits) e;
+          });
+      low = subst (λ (k : ℕ). k < 2 ^ 64) (ap numberIn f) (number-lt (bitsTo b recordBits) 128 64 m last (bits-to b recordBits) g);
+    }
+number-coded b (Number h next) Short sd r n e g t f = never (ap isRecord f)
+number-coded b Short y sd r n e g t f = never (ap isRecord f)
 
-pub loaded-keeps : (b : List ℕ) (sd : Side) (r : Record) → loadAt b ≡ Is sd r → Keeps sd b r
+pub loaded-keeps : (b : List ℕ) (sd : Side) (r : Record) (n : ℕ) → loadAt b ≡ Is sd r n → Keeps sd b r n
 unfolding loadAt
-loaded-keeps b sd r e =
-    let x = by-test (eqb (length b) recordBytes && headOf b) (withHighest b (readBits (bitsTo b recordBits) jobBit jobBits)) sd r e in
+loaded-keeps b sd r n e =
+    let x = by-test (eqb (length b) recordBytes && headOf b) (withNumbers b (readBits (bitsTo b recordBits) jobBit jobBits) (readBits (bitsTo b recordBits) numberBit numberBits)) sd r n e in
+    let k = number-coded b (readBits (bitsTo b recordBits) jobBit jobBits) (readBits (bitsTo b recordBits) numberBit numberBits) sd r n refl refl (both-right (eqb (length b) recordBytes) (headOf b) (x .0)) (x .1) in
     record {
       load = e;
       size = eqb-true (length b) recordBytes (both-left (eqb (length b) recordBytes) (headOf b) (x .0));
-      coded = number-coded b (readBits (bitsTo b recordBits) jobBit jobBits) sd r refl (both-right (eqb (length b) recordBytes) (headOf b) (x .0)) (x .1);
+      coded = k .coded;
+      low = k .low;
     }
 
 -- ---- a record at which a run may begin is one of the pair
 
 module _ (p : ℕ) (sd : Side) (b : List ℕ) (h : Begins p sd b) where
-  pub begins-keeps : Keeps sd b (h .held)
-  begins-keeps = loaded-keeps b sd (h .held) (h .load)
+  pub begins-keeps : Keeps sd b (h .held) (h .number)
+  begins-keeps = loaded-keeps b sd (h .held) (h .number) (h .load)
 
   pub begins-idle : T (isIdle (h .held .control))
   begins-idle = subst (λ (c : Control). T (isIdle c)) (sym (h .idle)) tt
@@ -98,12 +110,12 @@ module _ (p : ℕ) (sd : Side) (b : List ℕ) (h : Begins p sd b) where
 
 -- ---- which bytes are such
 
-stored-begins : (p : ℕ) (sd : Side) (r : List ℕ) → p < securityValues → length r ≡ recordBytes → Begins p sd (storeAt r sd (freshRecord (record { policy = p })) .bytes)
+stored-begins : (p : ℕ) (sd : Side) (r : List ℕ) → p < securityValues → length r ≡ recordBytes → Begins p sd (storeAt r sd (freshRecord (record { policy = p })) 0 .bytes)
 stored-begins p sd r v h =
-    let k = stored-keeps sd r (freshRecord (record { policy = p })) h (record { request = omega arith; policy = v; highest = omega arith }) in
-    record { held = freshRecord (record { policy = p }); load = k .load; policy = refl; idle = refl; timer = refl; user = refl }
+    let k = stored-keeps sd r (freshRecord (record { policy = p })) 0 h (record { request = omega arith; policy = v; highest = omega arith }) (omega arith) in
+    record { held = freshRecord (record { policy = p }); number = 0; load = k .load; policy = refl; idle = refl; timer = refl; user = refl }
 
--- what peat_fresh made in any range of sixteen bytes
+-- what peat_fresh made in any range of a record's size
 pub fresh-begins : (p : ℕ) (sd : Side) (r : List ℕ) → p < securityValues → length r ≡ recordBytes → Begins p sd (freshCall r (sideCode sd) p .bytes)
 unfolding freshCall freshFor
 fresh-begins p Air r v h = stored-begins p Air r v h
@@ -114,12 +126,18 @@ unfolding fresh-begins stored-begins
 fresh-highest p Air r v h = refl
 fresh-highest p Ground r v h = refl
 
+pub fresh-number : (p : ℕ) (sd : Side) (r : List ℕ) (v : p < securityValues) (h : length r ≡ recordBytes) → fresh-begins p sd r v h .number ≡ 0
+unfolding fresh-begins stored-begins
+fresh-number p Air r v h = refl
+fresh-number p Ground r v h = refl
+
 -- the bytes of an end that is IDLE after a run: the record may meet the next aircraft
 pub idle-begins : (p : ℕ) (sd : Side) (b : List ℕ) (s : Stands p sd b) → T (isIdle (s .held .control)) → Begins p sd b
 idle-begins p sd b s i =
     let e = sym (closed-is-idle (s .held) (s .formed) (is-T _ i)) in
     record {
       held = s .held;
+      number = s .number;
       load = s .load;
       policy = s .policy;
       idle = e;

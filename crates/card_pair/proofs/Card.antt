@@ -15,98 +15,118 @@ use Rattle.step.specs.Stored.{recordBytes}
 use Rattle.step.proofs.Refusing.{Leaves, user-leaves}
 use Rattle.card.specs.Face.{freshCall}
 use Rattle.pair.specs.Names.{Side, Air, Ground, other}
-use Rattle.pair.specs.Carrier.{Sys, Turn, fresh, run}
+use Rattle.pair.specs.Carrier.{Turn}
+use Rattle.pair.specs.Numbered.{NSys, Numbered, mark, notBelow, nFresh, nRun}
 use Rattle.pair.specs.Wires.{Wire, sortOf, rejects}
-use Rattle.pair.proofs.StepMachine.{stepMachine}
-use Rattle.pair.proofs.Agree.{Agree, does}
-use Rattle.pair.proofs.Any.{carried, followed, taken-once}
-use Rattle.pair.proofs.Simulate.{Run}
-use Rattle.pair.proofs.Quiet.{BothQuiet, quiet-through}
-use Rattle.pair.proofs.StepAgrees.{step-holds, step-local, step-quiet}
-use Rattle.card_pair.specs.CardMachine.{Buffers, Asked, start-request, start-response, message-request, end-request, end-response, user-abort, answered, Kept, newly, controlIn, cardMachine}
+use Rattle.pair.proofs.StepMachine.{Order}
+use Rattle.pair.proofs.Agree.{does}
+use Rattle.pair.proofs.NumPair.{NQuiet, n-taken-once}
+use Rattle.pair.proofs.NumSimulate.{NAgree, NRunRel, n-followed, n-carried, n-quiet-through}
+use Rattle.pair.proofs.NumStep.{stepNumbered, numbered-holds, numbered-local, numbered-silent}
+use Rattle.card_pair.specs.CardMachine.{Buffers, Asked, start-request, start-response, message-request, end-request, end-response, user-abort, answered, Kept, newly, numberIn, controlIn, cardMachine}
 use Rattle.card_pair.specs.Promise.{Begins, Promise}
 use Rattle.card_pair.proofs.Codec.{cardCodec, true-holds}
 use Rattle.card_pair.proofs.Entries.{KeepsAt, Carries}
 use Rattle.card_pair.proofs.CardCalls.{call-rel, report-rel}
-use Rattle.card_pair.proofs.CardReceives.{receive-rel, bare-rel}
-use Rattle.card_pair.proofs.Beginnings.{begins-keeps, begins-idle, begins-local, begins-valid, fresh-begins, fresh-highest}
+use Rattle.card_pair.proofs.CardReceives.{receive-rel, made-rel}
+use Rattle.card_pair.proofs.Beginnings.{begins-keeps, begins-idle, begins-local, begins-valid, fresh-begins, fresh-highest, fresh-number}
 
 -- What the machine says of a refused call is what the call does: the record's bytes and both buffers stay. (Of a primitive, an expiry and a system
 -- error: crate step, Refusing.)
 pub answered-leaves : (p : ℕ) (w : Buffers) (r : List ℕ) (a : Asked) → Leaves r (w .first) (w .second) (answered p w r a)
-answered-leaves p w r (start-request m k g) = user-leaves r (w .first) (w .second) _ _ _ _ _
-answered-leaves p w r (start-response m x g) = user-leaves r (w .first) (w .second) _ _ _ _ _
-answered-leaves p w r (message-request j g) = user-leaves r (w .first) (w .second) _ _ _ _ _
-answered-leaves p w r (end-request m g) = user-leaves r (w .first) (w .second) _ _ _ _ _
-answered-leaves p w r (end-response m x g) = user-leaves r (w .first) (w .second) _ _ _ _ _
-answered-leaves p w r (user-abort x) = user-leaves r (w .first) (w .second) _ _ _ _ _
+answered-leaves p w r (start-request v m k g) = user-leaves r (w .first) (w .second) _ _ _ _ _ _
+answered-leaves p w r (start-response m x g) = user-leaves r (w .first) (w .second) _ _ _ _ _ _
+answered-leaves p w r (message-request j g) = user-leaves r (w .first) (w .second) _ _ _ _ _ _
+answered-leaves p w r (end-request m g) = user-leaves r (w .first) (w .second) _ _ _ _ _ _
+answered-leaves p w r (end-response m x g) = user-leaves r (w .first) (w .second) _ _ _ _ _ _
+answered-leaves p w r (user-abort x) = user-leaves r (w .first) (w .second) _ _ _ _ _ _
 
 -- p: the security value of both ends; host: the buffers that a side lends to each call, of full size and with any bytes in them
 module _ (p : ℕ) (host : Side → ℕ → Buffers) where
   -- the exported calls do at bytes what the machines' steps do at records, with the card's own codec
-  abbrev pub agrees : Agree (cardMachine p host) (stepMachine cardCodec p)
+  abbrev pub agrees : NAgree (cardMachine p host) (stepNumbered cardCodec p)
   agrees = record {
-    RR = KeepsAt;
-    EE = Carries;
-    ctl-is = λ (sd : Side) (r : Kept) (q : Record) (h : KeepsAt sd r q). ap controlIn (h .load);
-    sort-is = λ (sd : Side) (e f : Wire) (h : Carries sd e f). ap sortOf (h .primitive);
-    call-is = λ (sd : Side) (r : Kept) (q : Record) (a : Asked) (h : KeepsAt sd r q). call-rel p (r .calls) (r .bytes) (host sd (r .calls)) sd q h a;
-    receive-is = λ (sd : Side) (r : Kept) (q : Record) (e f : Wire) (h : KeepsAt sd r q) (x : Carries (other sd) e f). receive-rel (r .calls) (r .bytes) (host sd (r .calls)) sd q h e f x;
-    expiry-is = λ (sd : Side) (r : Kept) (q : Record) (h : KeepsAt sd r q). does tt (report-rel p (r .calls) (r .bytes) (host sd (r .calls)) sd q h TimerExpires tt refl refl refl);
-    error-is = λ (sd : Side) (r : Kept) (q : Record) (h : KeepsAt sd r q). does tt (report-rel p (r .calls) (r .bytes) (host sd (r .calls)) sd q h UnrecoverableSystemError tt refl refl refl);
-    away-is = λ (sd : Side) (r : Kept) (q : Record) (h : KeepsAt sd r q). bare-rel (r .calls) (r .bytes) (host sd (r .calls)) sd q h rejects;
-    p-abort-is = λ (sd : Side) (r : Kept) (q : Record) (h : KeepsAt sd r q). bare-rel (r .calls) (r .bytes) (host sd (r .calls)) sd q h DPAbortIndication;
+    agree = record {
+      RR = KeepsAt;
+      EE = Carries;
+      ctl-is = λ (sd : Side) (r : Kept) (q : Numbered Record) (h : KeepsAt sd r q). ap controlIn (h .load);
+      sort-is = λ (sd : Side) (e f : Numbered Wire) (h : Carries sd e f). ap sortOf (h .primitive);
+      call-is = λ (sd : Side) (r : Kept) (q : Numbered Record) (a : Asked) (h : KeepsAt sd r q). call-rel p (r .calls) (r .bytes) (host sd (r .calls)) sd (q .it) (q .no) h a;
+      receive-is = λ (sd : Side) (r : Kept) (q : Numbered Record) (e f : Numbered Wire) (h : KeepsAt sd r q) (x : Carries (other sd) e f). receive-rel (r .calls) (r .bytes) (host sd (r .calls)) sd (q .it) (q .no) h e f x;
+      expiry-is = λ (sd : Side) (r : Kept) (q : Numbered Record) (h : KeepsAt sd r q). does tt (report-rel p (r .calls) (r .bytes) (host sd (r .calls)) sd (q .it) (q .no) h TimerExpires tt refl refl refl);
+      error-is = λ (sd : Side) (r : Kept) (q : Numbered Record) (h : KeepsAt sd r q). does tt (report-rel p (r .calls) (r .bytes) (host sd (r .calls)) sd (q .it) (q .no) h UnrecoverableSystemError tt refl refl refl);
+      away-is = λ (sd : Side) (r : Kept) (q : Numbered Record) (h : KeepsAt sd r q). made-rel (r .calls) (r .bytes) (host sd (r .calls)) sd (q .it) (q .no) h rejects;
+      p-abort-is = λ (sd : Side) (r : Kept) (q : Numbered Record) (h : KeepsAt sd r q). made-rel (r .calls) (r .bytes) (host sd (r .calls)) sd (q .it) (q .no) h DPAbortIndication;
+    };
+    holds-is = λ (sd : Side) (r : Kept) (q : Numbered Record) (h : KeepsAt sd r q). ap numberIn (h .load);
+    carries-is = λ (sd : Side) (e f : Numbered Wire) (h : Carries sd e f). h .number;
   }
 
-  -- ---- from any two IDLE records, as the host keeps them
+  -- ---- from any two IDLE records, as the host keeps them. All starts come from one side, whose record holds a number not below the other's
 
-  module _ (r q : List ℕ) (a : Begins p Air r) (g : Begins p Ground q) where
-    abbrev pub after : List (Turn Asked) → Sys (cardMachine p host)
-    after ts = run (cardMachine p host) (fresh (cardMachine p host) (newly r) (newly q)) ts
+  module _ (from : Side) (r q : List ℕ) (a : Begins p Air r) (g : Begins p Ground q) (b : notBelow from (a .number) (g .number)) where
+    abbrev pub after : List (Turn Asked) → NSys (cardMachine p host)
+    after ts = nRun (cardMachine p host) from (nFresh (cardMachine p host) (newly r) (newly q)) ts
+
+    abbrev air-end : Numbered Record
+    air-end = mark (a .number) (a .held)
+
+    abbrev ground-end : Numbered Record
+    ground-end = mark (g .number) (g .held)
 
     valued : T (ltb p securityValues)
     valued = true-holds (ltb p securityValues) (lt-ltb p securityValues (begins-valid p Air r a))
 
-    follows : (ts : List (Turn Asked)) → Run (cardMachine p host) (stepMachine cardCodec p) agrees (after ts) (fresh (stepMachine cardCodec p) (a .held) (g .held))
-    follows ts = followed (cardMachine p host) (stepMachine cardCodec p) agrees (newly r) (newly q) (a .held) (g .held) (begins-keeps p Air r a) (begins-keeps p Ground q g) ts
+    follows : (ts : List (Turn Asked)) → NRunRel (cardMachine p host) (stepNumbered cardCodec p) agrees from (after ts) (nFresh (stepNumbered cardCodec p) air-end ground-end)
+    follows ts = n-followed (cardMachine p host) (stepNumbered cardCodec p) agrees from (newly r) (newly q) air-end ground-end (begins-keeps p Air r a) (begins-keeps p Ground q g) ts
 
-    -- THE theorem: after any steps both ends' bytes are records of their side; the ends match where nothing is on its way; what was handed out is, in
-    -- order, the first of what was taken, and all of it where nothing is on its way and nothing broke the dialogue; and each record takes its jobs in
-    -- rising order, from the highest that it had taken
+    abbrev stepped : List (Turn (Numbered Order)) → NSys (stepNumbered cardCodec p)
+    stepped us = nRun (stepNumbered cardCodec p) from (nFresh (stepNumbered cardCodec p) air-end ground-end) us
+
+    -- THE theorem: after any steps both ends' bytes are records of their side; the ends match where nothing is on its way; in each dialogue what was handed
+    -- out is, in order, the first of what was taken, and all of it where nothing is on its way and nothing broke that dialogue; and each record takes its jobs
+    -- in rising order, from the highest that it had taken
     pub cards-hold : (ts : List (Turn Asked)) → Promise p host (a .held .highest) (g .held .highest) (after ts)
     cards-hold ts =
         let f = follows ts in
-        let l = step-local cardCodec p valued (a .held) (g .held) (begins-local p Air r a) (begins-idle p Air r a) (begins-local p Ground q g) (begins-idle p Ground q g) (f .turns) in
-        let c = step-holds cardCodec p valued (a .held) (g .held) (begins-local p Air r a) (begins-idle p Air r a) (begins-local p Ground q g) (begins-idle p Ground q g) (f .turns) in
+        let l = numbered-local cardCodec p valued from (a .number) (g .number) (a .held) (g .held) (begins-local p Air r a) (begins-idle p Air r a) (begins-local p Ground q g) (begins-idle p Ground q g) b (f .turns) in
+        let c = numbered-holds cardCodec p valued from (a .number) (g .number) (a .held) (g .held) (begins-local p Air r a) (begins-idle p Air r a) (begins-local p Ground q g) (begins-idle p Ground q g) b (f .turns) in
         record {
-          air = record { held = _; load = f .rel .here .rec .load; policy = l .0 .policy; formed = l .0 .formed };
-          ground = record { held = _; load = f .rel .there .rec .load; policy = l .1 .policy; formed = l .1 .formed };
-          claims = carried (cardMachine p host) (stepMachine cardCodec p) agrees (after ts) (run (stepMachine cardCodec p) (fresh (stepMachine cardCodec p) (a .held) (g .held)) (f .turns)) (f .rel) c;
+          air = record { held = _; number = _; load = f .rel .here .rec .load; policy = l .0 .policy; formed = l .0 .formed };
+          ground = record { held = _; number = _; load = f .rel .there .rec .load; policy = l .1 .policy; formed = l .1 .formed };
+          claims = n-carried (cardMachine p host) (stepNumbered cardCodec p) agrees (after ts) (stepped (f .turns)) (f .rel) c;
         }
 
     -- so no job is taken twice by one record over its whole life
     pub cards-take-once : (ts : List (Turn Asked)) (xs ys zs : List ℕ) (j : ℕ) → (after ts .here .jobs ≡ xs ++ (j ∷ (ys ++ (j ∷ zs))) → ⊥) × (after ts .there .jobs ≡ xs ++ (j ∷ (ys ++ (j ∷ zs))) → ⊥)
-    cards-take-once ts xs ys zs j = taken-once (cardMachine p host) (after ts) (cards-hold ts .claims) xs ys zs j
+    cards-take-once ts xs ys zs j = n-taken-once (cardMachine p host) (after ts) (cards-hold ts .claims) xs ys zs j
 
-    -- and no card answers what the other card sent by a D-ABORT
-    pub cards-quiet : (ts : List (Turn Asked)) → BothQuiet (cardMachine p host) (after ts)
+    -- and no card answers what the other card sent by a D-ABORT: it discards it, refuses it as stale, or has an action for it
+    pub cards-quiet : (ts : List (Turn Asked)) → NQuiet (cardMachine p host) (after ts)
     cards-quiet ts =
         let f = follows ts in
-        quiet-through (cardMachine p host) (stepMachine cardCodec p) agrees (after ts) (run (stepMachine cardCodec p) (fresh (stepMachine cardCodec p) (a .held) (g .held)) (f .turns)) (f .rel)
-        (step-quiet cardCodec p valued (a .held) (g .held) (begins-local p Air r a) (begins-idle p Air r a) (begins-local p Ground q g) (begins-idle p Ground q g) (f .turns))
+        n-quiet-through (cardMachine p host) (stepNumbered cardCodec p) agrees (after ts) (stepped (f .turns)) (f .rel)
+        (numbered-silent cardCodec p valued from (a .number) (g .number) (a .held) (g .held) (begins-local p Air r a) (begins-idle p Air r a) (begins-local p Ground q g) (begins-idle p Ground q g) b (f .turns))
 
-  -- two records that peat_fresh made, in any two ranges of sixteen bytes
-  module _ (v : p < securityValues) (r q : List ℕ) (hr : length r ≡ recordBytes) (hq : length q ≡ recordBytes) where
+  -- two records that peat_fresh made, in any two ranges of a record's size; either side may be the one that starts
+  module _ (from : Side) (v : p < securityValues) (r q : List ℕ) (hr : length r ≡ recordBytes) (hq : length q ≡ recordBytes) where
     abbrev air-fresh : Begins p Air (freshCall r 1 p .bytes)
     air-fresh = fresh-begins p Air r v hr
 
     abbrev ground-fresh : Begins p Ground (freshCall q 2 p .bytes)
     ground-fresh = fresh-begins p Ground q v hq
 
-    abbrev pub fresh-after : List (Turn Asked) → Sys (cardMachine p host)
-    fresh-after = after (freshCall r 1 p .bytes) (freshCall q 2 p .bytes) air-fresh ground-fresh
+    pub both-zero : (from : Side) (n k : ℕ) → n ≡ 0 → k ≡ 0 → notBelow from n k
+    both-zero Air n k x y = omega arith
+    both-zero Ground n k x y = omega arith
+
+    abbrev not-below : notBelow from (air-fresh .number) (ground-fresh .number)
+    not-below = both-zero from (air-fresh .number) (ground-fresh .number) (fresh-number p Air r v hr) (fresh-number p Ground q v hq)
+
+    abbrev pub fresh-after : List (Turn Asked) → NSys (cardMachine p host)
+    fresh-after = after from (freshCall r 1 p .bytes) (freshCall q 2 p .bytes) air-fresh ground-fresh not-below
 
     pub fresh-cards-hold : (ts : List (Turn Asked)) → Promise p host 0 0 (fresh-after ts)
     fresh-cards-hold ts =
         subst (λ (i : ℕ). Promise p host i 0 (fresh-after ts)) (fresh-highest p Air r v hr)
-        (subst (λ (j : ℕ). Promise p host (air-fresh .held .highest) j (fresh-after ts)) (fresh-highest p Ground q v hq) (cards-hold (freshCall r 1 p .bytes) (freshCall q 2 p .bytes) air-fresh ground-fresh ts))
+        (subst (λ (j : ℕ). Promise p host (air-fresh .held .highest) j (fresh-after ts)) (fresh-highest p Ground q v hq) (cards-hold from (freshCall r 1 p .bytes) (freshCall q 2 p .bytes) air-fresh ground-fresh not-below ts))

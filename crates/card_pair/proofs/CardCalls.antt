@@ -3,7 +3,7 @@
 use mathlib.Core.Path.{_≡_, refl, ap, sym, subst, _∙_}
 use mathlib.Core.Bool.{Bool, true, false, not, cond, _&&_}
 use mathlib.Core.List.{List, []}
-use Prim.Native.Nat.{ℕ, suc, _+_, _*_}
+use Prim.Native.Nat.{ℕ, suc, _+_, _*_, _^_, _<_}
 use native.Mathlib.Omega.{arith}
 use borrow.Author.Tests.{le-leb}
 use lib.Dec.{T, eqb}
@@ -17,7 +17,6 @@ use Rattle.apdu.specs.declared.Data.{Data}
 use Rattle.apdu.proofs.Bounds.{data-fit}
 use Rattle.machine.specs.Outcome.{isNone}
 use Rattle.machine.specs.Apdus.{isSend}
-use Rattle.machine.specs.Step.{step}
 use Rattle.machine.specs.declared.record.Record.{Record}
 use Rattle.machine.specs.declared.event.Apdu.{Apdu}
 use Rattle.machine.specs.declared.event.UserPrimitive.{UserPrimitive}
@@ -27,20 +26,24 @@ use Rattle.machine.specs.declared.event.Event.the-variants.{User}
 use Rattle.machine.specs.declared.outcome.Invoked.{Invoked}
 use Rattle.machine.specs.declared.outcome.Invoked.the-variants.{Silent, DStartRequest, DStartResponse, DDataRequest, DEndRequest, DEndResponse, DAbortRequest}
 use Rattle.machine.specs.declared.outcome.Outcome.{Outcome}
+use Rattle.numbered.specs.Numbers.{heldAfter, numberedStep}
 use Rattle.step.specs.Stored.{loadAt}
 use Rattle.step.specs.Call.{Called, called, concluded, entering, userStep, userCall, noData}
 use Rattle.step.proofs.Calling.{with-record}
-use Rattle.step.proofs.Taken.{never, writable, brings, GoesOut, isDData, JobLow, step-fits}
+use Rattle.step.proofs.Taken.{never, writable, brings, GoesOut, isDData, JobLow, numbered-fits}
 use Rattle.card.specs.Face.{noCount, partOf, givenData, plainCall, messageRequested, abortRequested}
 use Rattle.pair.specs.Names.{Side}
 use Rattle.pair.specs.Carrier.{Body, Sent}
 use Rattle.pair.specs.Carrier as C
+use Rattle.pair.specs.Numbered.{Numbered, mark}
 use Rattle.pair.specs.Wires.{Wire}
+use Rattle.pair.proofs.NumMachine.{tag, leaves}
+use Rattle.pair.proofs.NumStep.{numberedly, stepNumbered}
 use Rattle.pair.proofs.StepMachine.{sentBy, taken, happens, Order, asked, dataOf, jobOf, calls}
 use Rattle.pair.proofs.StepMachine as S
 use Rattle.pair.proofs.Agree.{SentRel, OutRel, Follows, stays, does}
 use Rattle.card_pair.specs.Answered.{isTaken, entryOf, handedOf}
-use Rattle.card_pair.specs.CardMachine.{Buffers, Kept, Given, Asked, start-request, start-response, message-request, end-request, end-response, user-abort, answered, bodyGiven, sentOf, sentFor, left, simply}
+use Rattle.card_pair.specs.CardMachine.{Buffers, Kept, Given, Asked, start-request, start-response, message-request, end-request, end-response, user-abort, answered, bodyGiven, markedEntry, sentOf, sentFor, left, simply}
 use Rattle.card_pair.proofs.Bodies.{isGiven, carries, content-there, carries-is}
 use Rattle.card_pair.proofs.Codec.{fits, enc, cardCodec}
 use Rattle.card_pair.proofs.Ends.{Keeps, concluded-refused}
@@ -48,13 +51,13 @@ use Rattle.card_pair.proofs.Entries.{KeepsAt, Carries, sent-plain, sent
 
 -- ---- the record is loaded, the message data are looked at, the step is taken
 
-module _ (r : List ℕ) (w : Buffers) (sd : Side) (q : Record) (keeps : Keeps sd r q) where
-  pub entered : (k : Side → Record → Called) → entering r (w .first) (w .second) k ≡ k sd q
-  entered k = sym (with-record r (w .first) (w .second) k (w .first-full) (w .second-full) (loadAt r) refl sd q (k sd q) (keeps .load) refl)
+module _ (r : List ℕ) (w : Buffers) (sd : Side) (q : Record) (h : ℕ) (keeps : Keeps sd r q h) where
+  pub entered : (k : Side → Record → ℕ → Called) → entering r (w .first) (w .second) k ≡ k sd q h
+  entered k = sym (with-record r (w .first) (w .second) k (w .first-full) (w .second-full) (loadAt r) refl sd q h (k sd q h) (keeps .load) refl)
 
-  pub user-entered : (e : Event) (ids msgs checks : List ℕ) (d : Data) → userCall r (w .first) (w .second) e ids msgs checks d ≡ userStep r (w .first) (w .second) e (lent ids) (lent msgs) (lent checks) d sd q
+  pub user-entered : (e : Event) (v : ℕ) (ids msgs checks : List ℕ) (d : Data) → userCall r (w .first) (w .second) e v ids msgs checks d ≡ userStep r (w .first) (w .second) e v (lent ids) (lent msgs) (lent checks) d sd q h
   unfolding userCall
-  user-entered e ids msgs checks d = entered (userStep r (w .first) (w .second) e (lent ids) (lent msgs) (lent checks) d)
+  user-entered e v ids msgs checks d = entered (userStep r (w .first) (w .second) e v (lent ids) (lent msgs) (lent checks) d)
 
 -- message data of which nothing is there are within the sizes
 pub none-shaped : (li lm lc : List ℕ) → dataShaped li lm lc noData ≡ true
@@ -89,51 +92,58 @@ unheard (EndServiceRequest m) e = never e
 unheard (EndServiceResponse m x) e = never e
 unheard (UserAbortServiceRequest g x) e = never e
 
--- ---- a user primitive u, whose partner is the order a; s: what its answer puts on the line
+-- ---- a user primitive u that brings the dialogue number v, whose partner is the order a; s: what its answer puts on the line
 
-module _ (p n : ℕ) (r : List ℕ) (w : Buffers) (sd : Side) (q : Record) (keeps : Keeps sd r q) (u : UserPrimitive) (ids msgs checks : List ℕ) (d : Data) (a : Order) (s : Called → Sent Wire) where
+module _ (p n : ℕ) (r : List ℕ) (w : Buffers) (sd : Side) (q : Record) (h : ℕ) (keeps : Keeps sd r q h) (u : UserPrimitive) (v : ℕ) (lv : v < 2 ^ 64) (ids msgs checks : List ℕ) (d : Data) (a : Order) (s : Called → Sent (Numbered Wire)) where
   abbrev B : Body
   B = contentBits (contentIn (lent ids) (lent msgs) (lent checks) d)
 
   abbrev O : Outcome
-  O = step sd q (User u)
+  O = numberedStep sd q h (User u) v
+
+  abbrev M : ℕ
+  M = heldAfter h (User u) v
 
   abbrev E : Called
-  E = concluded r (w .first) (w .second) sd (step sd q (User u)) (lent ids) (lent msgs) (lent checks) d
+  E = concluded r (w .first) (w .second) sd (heldAfter h (User u) v) (numberedStep sd q h (User u) v) (lent ids) (lent msgs) (lent checks) d
 
-  abbrev pub Follow : C.Outcome Kept Wire → Type 0
-  Follow o = Follows (KeepsAt sd) (Carries sd) o q (λ (b : Order). calls cardCodec sd (step sd q (User (asked cardCodec p b))) (dataOf b) (jobOf b))
+  -- what the order of a user primitive does
+  abbrev pub Ordered : UserPrimitive → C.Outcome (Numbered Record) (Numbered Wire)
+  Ordered x = leaves (heldAfter h (User x) v) (calls cardCodec sd (numberedStep sd q h (User x) v) (dataOf a) (jobOf a))
+
+  abbrev pub Follow : C.Outcome Kept (Numbered Wire) → Type 0
+  Follow o = Follows (KeepsAt sd) (Carries sd) o (mark h q) (stepNumbered cardCodec p .at .call sd (mark h q))
 
   abbrev pub Sends : Type 0
-  Sends = (c : Called) (i : Invoked) (z : Apdu) (ys : List ℕ) → entryOf c .primitive ≡ i → GoesOut true sd i z → isDData i ≡ brings (User u) .message → (writable sd z ≡ true → Carries sd (entryOf c) (record { primitive = i; bytes = ys })) → SentRel (Carries sd) (s c) (sentBy i ys (dataOf a) (jobOf a))
+  Sends = (c : Called) (m : ℕ) (i : Invoked) (z : Apdu) (ys : List ℕ) → entryOf c .primitive ≡ i → GoesOut true sd i z → isDData i ≡ brings (User u) .message → (writable sd z ≡ true → Carries sd (markedEntry c) (mark m (record { primitive = i; bytes = ys }))) → SentRel (Carries sd) (s c) (tag m (sentBy i ys (dataOf a) (jobOf a)))
 
-  pub asked-rel : JobLow (User u) → (dataShaped (lent ids) (lent msgs) (lent checks) d ≡ true → asked cardCodec p a ≡ u) → dataOf a ≡ cond (brings (User u) .body) B [] → Sends → Follow (left n (userCall r (w .first) (w .second) (User u) ids msgs checks d) (s (userCall r (w .first) (w .second) (User u) ids msgs checks d)))
+  pub asked-rel : JobLow (User u) → (dataShaped (lent ids) (lent msgs) (lent checks) d ≡ true → asked cardCodec p a ≡ u) → dataOf a ≡ cond (brings (User u) .body) B [] → Sends → Follow (left n (userCall r (w .first) (w .second) (User u) v ids msgs checks d) (s (userCall r (w .first) (w .second) (User u) v ids msgs checks d)))
   unfolding userStep
   asked-rel j same ey sends =
-      subst (λ (c : Called). Follow (left n c (s c))) (sym (user-entered r w sd q keeps (User u) ids msgs checks d)) (shape (dataShaped (lent ids) (lent msgs) (lent checks) d) refl)
+      subst (λ (c : Called). Follow (left n c (s c))) (sym (user-entered r w sd q h keeps (User u) v ids msgs checks d)) (shape (dataShaped (lent ids) (lent msgs) (lent checks) d) refl)
     where
       refusal : (b : Bool) → isTaken (E .number) ≡ b → b ≡ false → Follow (cond b (C.acts (record { bytes = E .kept; calls = suc n }) (handedOf E) (s E)) C.refused)
       refusal true e f = absurd (subst T f tt)
       refusal false e f = stays tt
 
-      acts : dataShaped (lent ids) (lent msgs) (lent checks) d ≡ true → isNone (step sd q (User u) .refusal) ≡ true → OutRel (KeepsAt sd) (Carries sd) (left n E (s E)) (calls cardCodec sd (step sd q (User u)) (dataOf a) (jobOf a))
+      acts : dataShaped (lent ids) (lent msgs) (lent checks) d ≡ true → isNone (numberedStep sd q h (User u) v .refusal) ≡ true → OutRel (KeepsAt sd) (Carries sd) (left n E (s E)) (Ordered u)
       acts sh u-taken =
-          let k = step-fits sd q (keeps .coded) (User u) j u-taken in
-          let t = ended r w sd q (User u) (lent ids) (lent msgs) (lent checks) d keeps (bits-to ids allBits) (bits-to msgs allBits) (bits-to checks allBits) sh j u-taken in
-          let h = bodied r w sd q (User u) (lent ids) (lent msgs) (lent checks) d keeps (bits-to ids allBits) (bits-to msgs allBits) (bits-to checks allBits) sh in
+          let k = numbered-fits sd q (keeps .coded) h (User u) v j u-taken in
+          let t = ended r w sd q h (User u) v (lent ids) (lent msgs) (lent checks) d keeps lv (bits-to ids allBits) (bits-to msgs allBits) (bits-to checks allBits) sh j u-taken in
+          let x = bodied r w sd q h (User u) v (lent ids) (lent msgs) (lent checks) d keeps lv (bits-to ids allBits) (bits-to msgs allBits) (bits-to checks allBits) sh in
           let g : GoesOut true sd (O .invoked) (O .apdu) = subst (λ (b : Bool). GoesOut b sd (O .invoked) (O .apdu)) (by-user u) (k .apdu) in
-          let f = fits-y sd (brings (User u)) O B E t k h (dataOf a) ey (user-writable sd (O .invoked) (O .apdu) g) in
-          subst (λ (b : Bool). OutRel (KeepsAt sd) (Carries sd) (left n E (s E)) (cond (b && fits sd (O .apdu) (dataOf a)) (taken cardCodec sd O (dataOf a) (jobOf a) []) C.refused)) (sym u-taken)
-          (subst (λ (b : Bool). OutRel (KeepsAt sd) (Carries sd) (left n E (s E)) (cond b (taken cardCodec sd O (dataOf a) (jobOf a) []) C.refused)) (sym f)
-          (taken-rel sd (brings (User u)) O B E t k h (dataOf a) ey n [] (unheard u) (jobOf a) (s E)
-          (sends E (O .invoked) (O .apdu) (enc sd (O .apdu) (dataOf a)) (t .primitive) g (k .invokes) (entry-is sd (brings (User u)) O B E t k h (dataOf a) ey))))
+          let f = fits-y sd (brings (User u)) M O B E t k x (dataOf a) ey (user-writable sd (O .invoked) (O .apdu) g) in
+          subst (λ (b : Bool). OutRel (KeepsAt sd) (Carries sd) (left n E (s E)) (leaves M (cond (b && fits sd (O .apdu) (dataOf a)) (taken cardCodec sd O (dataOf a) (jobOf a) []) C.refused))) (sym u-taken)
+          (subst (λ (b : Bool). OutRel (KeepsAt sd) (Carries sd) (left n E (s E)) (leaves M (cond b (taken cardCodec sd O (dataOf a) (jobOf a) []) C.refused))) (sym f)
+          (taken-rel sd (brings (User u)) M O B E t k x (dataOf a) ey n [] (unheard u) (jobOf a) (s E)
+          (sends E M (O .invoked) (O .apdu) (enc sd (O .apdu) (dataOf a)) (t .primitive) g (k .invokes) (entry-is sd (brings (User u)) M O B E t k x (dataOf a) ey))))
 
-      refuses : dataShaped (lent ids) (lent msgs) (lent checks) d ≡ true → (b : Bool) → isNone (step sd q (User u) .refusal) ≡ b → Follow (left n E (s E))
-      refuses sh true e = does a (subst (λ (x : UserPrimitive). OutRel (KeepsAt sd) (Carries sd) (left n E (s E)) (calls cardCodec sd (step sd q (User x)) (dataOf a) (jobOf a))) (sym (same sh)) (acts sh e))
-      refuses sh false e = refusal (isTaken (E .number)) refl (concluded-refused r (w .first) (w .second) sd (step sd q (User u)) (lent ids) (lent msgs) (lent checks) d e)
+      refuses : dataShaped (lent ids) (lent msgs) (lent checks) d ≡ true → (b : Bool) → isNone (numberedStep sd q h (User u) v .refusal) ≡ b → Follow (left n E (s E))
+      refuses sh true e = does (mark v a) (subst (λ (x : UserPrimitive). OutRel (KeepsAt sd) (Carries sd) (left n E (s E)) (Ordered x)) (sym (same sh)) (acts sh e))
+      refuses sh false e = refusal (isTaken (E .number)) refl (concluded-refused r (w .first) (w .second) sd M O (lent ids) (lent msgs) (lent checks) d e)
 
       shape : (b : Bool) → dataShaped (lent ids) (lent msgs) (lent checks) d ≡ b → Follow (left n (cond b E (called 2 r (w .first) (w .second))) (s (cond b E (called 2 r (w .first) (w .second)))))
-      shape true sh = refuses sh (isNone (step sd q (User u) .refusal)) refl
+      shape true sh = refuses sh (isNone (numberedStep sd q h (User u) v .refusal)) refl
       shape false sh = stays tt
 
 -- ---- the calls
@@ -155,33 +165,37 @@ given-carries g sh =
     ∙ content-there (lent (g .ids)) (lent (g .msgs)) (lent (g .checks)) (givenData (length (g .ids)) (g .bits) (g .check))
     ∙ given-message (length (g .ids)) (g .bits) (g .check)
 
-module _ (p n : ℕ) (r : List ℕ) (w : Buffers) (sd : Side) (q : Record) (keeps : Keeps sd r q) where
+module _ (p n : ℕ) (r : List ℕ) (w : Buffers) (sd : Side) (q : Record) (h : ℕ) (keeps : Keeps sd r q h) where
   -- a call with message data that is no message request
-  simple-rel : (u : UserPrimitive) (g : Given) (a : Order) → JobLow (User u) → asked cardCodec p a ≡ u → dataOf a ≡ cond (brings (User u) .body) (bodyGiven g) [] → brings (User u) .message ≡ false
-      → Follow p n r w sd q keeps u (g .ids) (g .msgs) (g .checks) (givenData (length (g .ids)) (g .bits) (g .check)) a sentOf (simply n (userCall r (w .first) (w .second) (User u) (g .ids) (g .msgs) (g .checks) (givenData (length (g .ids)) (g .bits) (g .check))))
-  simple-rel u g a j same ey m =
-      asked-rel p n r w sd q keeps u (g .ids) (g .msgs) (g .checks) (givenData (length (g .ids)) (g .bits) (g .check)) a sentOf j (λ sh. same) ey
-      (λ c i z ys e h d f. sent-plain sd true z (entryOf c) ys (dataOf a) (jobOf a) i e h (d ∙ m) f)
+  simple-rel : (u : UserPrimitive) (v : ℕ) (lv : v < 2 ^ 64) (g : Given) (a : Order) → JobLow (User u) → asked cardCodec p a ≡ u → dataOf a ≡ cond (brings (User u) .body) (bodyGiven g) [] → brings (User u) .message ≡ false
+      → Follow p n r w sd q h keeps u v lv (g .ids) (g .msgs) (g .checks) (givenData (length (g .ids)) (g .bits) (g .check)) a sentOf (simply n (userCall r (w .first) (w .second) (User u) v (g .ids) (g .msgs) (g .checks) (givenData (length (g .ids)) (g .bits) (g .check))))
+  simple-rel u v lv g a j same ey x =
+      asked-rel p n r w sd q h keeps u v lv (g .ids) (g .msgs) (g .checks) (givenData (length (g .ids)) (g .bits) (g .check)) a sentOf j (λ sh. same) ey
+      (λ c m i z ys e k d f. sent-plain sd true z (markedEntry c) m ys (dataOf a) (jobOf a) i e k (d ∙ x) f)
 
-  pub call-rel : (a : Asked) → Follows (KeepsAt sd) (Carries sd) (left n (answered p w r a) (sentFor a (answered p w r a))) q (λ (b : Order). calls cardCodec sd (step sd q (User (asked cardCodec p b))) (dataOf b) (jobOf b))
-  call-rel (start-request m k g) = simple-rel (StartServiceRequest m k p) g (S.start-request m k (bodyGiven g)) tt refl refl refl
-  call-rel (start-response m x g) = simple-rel (StartServiceResponse m x) g (S.start-response m x (bodyGiven g)) tt refl refl refl
+  -- a call that brings no number
+  none-low : 0 < 2 ^ 64
+  none-low = omega arith
+
+  pub call-rel : (a : Asked) → Follows (KeepsAt sd) (Carries sd) (left n (answered p w r a) (sentFor a (answered p w r a))) (mark h q) (stepNumbered cardCodec p .at .call sd (mark h q))
+  call-rel (start-request v m k g) = simple-rel (StartServiceRequest m k p) (v .number) (v .low) g (S.start-request m k (bodyGiven g)) tt refl refl refl
+  call-rel (start-response m x g) = simple-rel (StartServiceResponse m x) 0 none-low g (S.start-response m x (bodyGiven g)) tt refl refl refl
   call-rel (message-request j g) =
-      asked-rel p n r w sd q keeps (messageRequested (g .bits) (j .number)) (g .ids) (g .msgs) (g .checks) (givenData (length (g .ids)) (g .bits) (g .check)) (S.message-request (bodyGiven g) (j .number))
-      (λ (c : Called). C.message (entryOf c) (bodyGiven g) (j .number)) (j .low)
-      (λ sh. ap (λ (h : Bool). MessageServiceRequest h (j .number)) (given-carries g sh)) refl
-      (λ c i z ys e h d f. sent-message sd true z (entryOf c) ys (bodyGiven g) (j .number) i h d f)
-  call-rel (end-request m g) = simple-rel (EndServiceRequest m) g (S.end-request m (bodyGiven g)) tt refl refl refl
-  call-rel (end-response m x g) = simple-rel (EndServiceResponse m x) g (S.end-response m x (bodyGiven g)) tt refl refl refl
+      asked-rel p n r w sd q h keeps (messageRequested (g .bits) (j .number)) 0 none-low (g .ids) (g .msgs) (g .checks) (givenData (length (g .ids)) (g .bits) (g .check)) (S.message-request (bodyGiven g) (j .number))
+      (λ (c : Called). C.message (markedEntry c) (bodyGiven g) (j .number)) (j .low)
+      (λ sh. ap (λ (b : Bool). MessageServiceRequest b (j .number)) (given-carries g sh)) refl
+      (λ c m i z ys e k d f. sent-message sd true z (markedEntry c) m ys (bodyGiven g) (j .number) i k d f)
+  call-rel (end-request m g) = simple-rel (EndServiceRequest m) 0 none-low g (S.end-request m (bodyGiven g)) tt refl refl refl
+  call-rel (end-response m x g) = simple-rel (EndServiceResponse m x) 0 none-low g (S.end-response m x (bodyGiven g)) tt refl refl refl
   call-rel (user-abort x) =
-      asked-rel p n r w sd q keeps (abortRequested x) [] [] [] noData (S.user-abort (not (eqb x noCount)) (cond (eqb x noCount) 0 x)) sentOf tt (λ sh. refl) refl
-      (λ c i z ys e h d f. sent-plain sd true z (entryOf c) ys [] 0 i e h d f)
+      asked-rel p n r w sd q h keeps (abortRequested x) 0 none-low [] [] [] noData (S.user-abort (not (eqb x noCount)) (cond (eqb x noCount) 0 x)) sentOf tt (λ sh. refl) refl
+      (λ c m i z ys e k d f. sent-plain sd true z (markedEntry c) m ys [] 0 i e k d f)
 
   -- ---- an expiry, a system error
 
-  pub report-rel : (e : Event) → JobLow e → brings e .body ≡ false → brings e .message ≡ false → isSend (brings e .apdu) ≡ false → OutRel (KeepsAt sd) (Carries sd) (simply n (plainCall r (w .first) (w .second) e)) (happens cardCodec sd (step sd q e) [])
+  pub report-rel : (e : Event) → JobLow e → brings e .body ≡ false → brings e .message ≡ false → isSend (brings e .apdu) ≡ false → OutRel (KeepsAt sd) (Carries sd) (simply n (plainCall r (w .first) (w .second) e)) (numberedly sd (mark h q) e 0 (λ (o : Outcome). happens cardCodec sd o []))
   unfolding userStep
   report-rel e j hb hm f =
-      subst (λ (c : Called). OutRel (KeepsAt sd) (Carries sd) (simply n c) (happens cardCodec sd (step sd q e) [])) (sym (user-entered r w sd q keeps e [] [] [] noData))
-      (subst (λ (t : Bool). OutRel (KeepsAt sd) (Carries sd) (simply n (cond t (concluded r (w .first) (w .second) sd (step sd q e) (lent []) (lent []) (lent []) noData) (called 2 r (w .first) (w .second)))) (happens cardCodec sd (step sd q e) [])) (sym (none-shaped (lent []) (lent []) (lent [])))
-      (happens-rel r w sd q e (lent []) (lent []) (lent []) noData keeps (bits-to [] allBits) (bits-to [] allBits) (bits-to [] allBits) (none-shaped (lent []) (lent []) (lent [])) n [] j hb hm (λ g. never (sym f ∙ g))))
+      subst (λ (c : Called). OutRel (KeepsAt sd) (Carries sd) (simply n c) (numberedly sd (mark h q) e 0 (λ (o : Outcome). happens cardCodec sd o []))) (sym (user-entered r w sd q h keeps e 0 [] [] [] noData))
+      (subst (λ (t : Bool). OutRel (KeepsAt sd) (Carries sd) (simply n (cond t (concluded r (w .first) (w .second) sd (heldAfter h e 0) (numberedStep sd q h e 0) (lent []) (lent []) (lent []) noData) (called 2 r (w .first) (w .second)))) (numberedly sd (mark h q) e 0 (λ (o : Outcome). happens cardCodec sd o []))) (sym (none-shaped (lent []) (lent []) (lent [])))
+      (happens-rel r w sd q h e 0 (lent []) (lent []) (lent []) noData keeps none-low (bits-to [] allBits) (bits-to [] allBits) (bits-to [] allBits) (none-shaped (lent []) (lent []) (lent [])) n [] j hb hm (λ g. never (sym f ∙ g))))

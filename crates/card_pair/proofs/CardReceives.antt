@@ -1,9 +1,9 @@
 -- An entry that is handed over does at the record's bytes what it does at the record: its bytes are read as the side that sent them wrote them.
 -- Assumes nothing.
-use mathlib.Core.Path.{_≡_, refl, sym, subst}
+use mathlib.Core.Path.{_≡_, refl, ap, sym, subst}
 use mathlib.Core.Bool.{Bool, true, false, cond}
 use mathlib.Core.List.{List, []}
-use Prim.Native.Nat.{ℕ}
+use Prim.Native.Nat.{ℕ, _^_, _<_}
 use lib.Dec.{eqb}
 use Rattle.words.proofs.Laws.{both-right}
 use Rattle.bits.proofs.Numbers.{Bits}
@@ -22,7 +22,6 @@ use Rattle.apdu.specs.Pdus.{forwarded}
 use Rattle.apdu.proofs.Theorems.{accepted-encoding}
 use Rattle.machine.specs.Codes.{provider}
 use Rattle.machine.specs.Apdus.{isSend}
-use Rattle.machine.specs.Step.{step}
 use Rattle.machine.specs.declared.record.Record.{Record}
 use Rattle.machine.specs.declared.event.Apdu.{Apdu}
 use Rattle.machine.specs.declared.event.Apdu.the-variants.{Absent}
@@ -30,14 +29,17 @@ use Rattle.machine.specs.declared.event.ServicePrimitive.{ServicePrimitive}
 use Rattle.machine.specs.declared.event.Event.the-variants.{Service}
 use Rattle.machine.specs.declared.outcome.Invoked.{Invoked}
 use Rattle.machine.specs.declared.outcome.Invoked.the-variants.{Silent, DStartRequest, DStartResponse, DDataRequest, DEndRequest, DEndResponse, DAbortRequest}
-use Rattle.step.specs.Call.{Called, pduSide, noData, readsAs, readsAgain, orAbort, readPdu, meaning, dataOf, dataStep, bareStep, serviceStep, serviceCall, concluded}
+use Rattle.machine.specs.declared.outcome.Outcome.{Outcome}
+use Rattle.step.specs.Call.{Called, pduSide, noData, readsAs, readsAgain, orAbort, readPdu, meaning, dataOf, eventStep, dataStep, bareStep, serviceStep, serviceCall}
 use Rattle.step.proofs.Taken.{never}
 use Rattle.pair.specs.Names.{Side, Air, Ground, other}
 use Rattle.pair.specs.Carrier.{Body}
+use Rattle.pair.specs.Numbered.{Numbered, mark}
 use Rattle.pair.specs.Wires.{Wire, arrives}
+use Rattle.pair.proofs.NumStep.{numberedly}
 use Rattle.pair.proofs.StepMachine.{apduOf, bodyOf, happens}
 use Rattle.pair.proofs.Agree.{OutRel}
-use Rattle.card_pair.specs.CardMachine.{Buffers, simply}
+use Rattle.card_pair.specs.CardMachine.{Buffers, numberIn, heldBy, simply}
 use Rattle.card_pair.proofs.Codec.{readOf, cardCodec}
 use Rattle.card_pair.proofs.Ends.{Keeps}
 use Rattle.card_pair.proofs.Entries.{isRead, KeepsAt, Carries, happens-rel}
@@ -101,44 +103,48 @@ data-shaped side l b (answer.Is is.ForwardResponse) e = none-shaped l l l
 
 -- ---- calls
 
-module _ (n : ℕ) (r : List ℕ) (w : Buffers) (sd : Side) (q : Record) (keeps : Keeps sd r q) where
-  -- the call c does what the primitive p with the APDU a and the message data x does at the record
-  abbrev Does : Called → ServicePrimitive → Apdu → Body → Type 0
-  Does c p a x = OutRel (KeepsAt sd) (Carries sd) (simply n c) (happens cardCodec sd (step sd q (Service p a)) x)
+module _ (n : ℕ) (r : List ℕ) (w : Buffers) (sd : Side) (q : Record) (h : ℕ) (keeps : Keeps sd r q h) where
+  -- the call c does what the primitive p with the dialogue number v, the APDU a and the message data x does at the record
+  abbrev Does : Called → ServicePrimitive → ℕ → Apdu → Body → Type 0
+  Does c p v a x = OutRel (KeepsAt sd) (Carries sd) (simply n c) (numberedly sd (mark h q) (Service p a) v (λ (o : Outcome). happens cardCodec sd o x))
 
   -- the call when the user data in the bits l is read as x
-  abbrev Read-as : Invoked → List ℕ → Answer → Called
-  Read-as i l x = concluded r (w .first) (w .second) sd (step sd q (Service (arrives sd i) (meaning x))) l l l (dataOf x)
+  abbrev Read-as : Invoked → ℕ → List ℕ → Answer → Called
+  Read-as i v l x = eventStep r (w .first) (w .second) (Service (arrives sd i) (meaning x)) v l l l (dataOf x) sd q h
 
-  reading : (i : Invoked) (l : List ℕ) (x : Answer) → Bits l → dataShaped l l l (dataOf x) ≡ true → Does (Read-as i l x) (arrives sd i) (apduOf (readOf l x)) (bodyOf (readOf l x))
-  reading i l x b sh =
-      subst (λ (a : Apdu). Does (Read-as i l x) (arrives sd i) a (bodyOf (readOf l x))) (apdu-same l x)
-      (happens-rel r w sd q (Service (arrives sd i) (meaning x)) l l l (dataOf x) keeps b b b sh n (bodyOf (readOf l x)) tt refl refl (body-same l x))
+  reading : (i : Invoked) (v : ℕ) (l : List ℕ) (x : Answer) → v < 2 ^ 64 → Bits l → dataShaped l l l (dataOf x) ≡ true → Does (Read-as i v l x) (arrives sd i) v (apduOf (readOf l x)) (bodyOf (readOf l x))
+  reading i v l x lv b sh =
+      subst (λ (a : Apdu). Does (Read-as i v l x) (arrives sd i) v a (bodyOf (readOf l x))) (apdu-same l x)
+      (happens-rel r w sd q h (Service (arrives sd i) (meaning x)) v l l l (dataOf x) keeps lv b b b sh n (bodyOf (readOf l x)) tt refl refl (body-same l x))
 
   -- as the other side wrote it
   abbrev heard : List ℕ → Answer
   heard l = apduAt (pduSide (other sd)) l 0
 
-  abbrev Does-as : Called → Invoked → List ℕ → Type 0
-  Does-as c i l = Does c (arrives sd i) (apduOf (readOf l (heard l))) (bodyOf (readOf l (heard l)))
+  abbrev Does-as : Called → Invoked → ℕ → List ℕ → Type 0
+  Does-as c i v l = Does c (arrives sd i) v (apduOf (readOf l (heard l))) (bodyOf (readOf l (heard l)))
 
-  received : (i : Invoked) (s : List ℕ) → isRead (heard (lent s)) ≡ true → Does-as (serviceCall r (w .first) (w .second) (arrives sd i) 1 s) i (lent s)
+  received : (i : Invoked) (v : ℕ) (s : List ℕ) → v < 2 ^ 64 → isRead (heard (lent s)) ≡ true → Does-as (serviceCall r (w .first) (w .second) (arrives sd i) v 1 s) i v (lent s)
   unfolding serviceCall serviceStep dataStep
-  received i s e =
-      subst (λ (c : Called). Does-as c i (lent s)) (sym (entered r w sd q keeps (serviceStep r (w .first) (w .second) (arrives sd i) 1 (lent s))))
-      (subst (λ (x : Answer). Does-as (Read-as i (lent s) x) i (lent s)) (sym (reads-once sd i (lent s) e))
-      (reading i (lent s) (heard (lent s)) (bits-to s allBits) (data-shaped (pduSide (other sd)) (lent s) (bits-to s allBits) (heard (lent s)) refl)))
+  received i v s lv e =
+      subst (λ (c : Called). Does-as c i v (lent s)) (sym (entered r w sd q h keeps (serviceStep r (w .first) (w .second) (arrives sd i) v 1 (lent s))))
+      (subst (λ (x : Answer). Does-as (Read-as i v (lent s) x) i v (lent s)) (sym (reads-once sd i (lent s) e))
+      (reading i v (lent s) (heard (lent s)) lv (bits-to s allBits) (data-shaped (pduSide (other sd)) (lent s) (bits-to s allBits) (heard (lent s)) refl)))
 
-  pub receive-rel : (e f : Wire) → Carries (other sd) e f
-      → OutRel (KeepsAt sd) (Carries sd) (simply n (serviceCall r (w .first) (w .second) (arrives sd (e .primitive)) 1 (e .bytes))) (happens cardCodec sd (step sd q (Service (arrives sd (f .primitive)) (apduOf (cardCodec .dec (other sd) (f .bytes))))) (bodyOf (cardCodec .dec (other sd) (f .bytes))))
-  receive-rel e f h =
-      subst (λ (l : List ℕ). Does-as (serviceCall r (w .first) (w .second) (arrives sd (e .primitive)) 1 (e .bytes)) (f .primitive) l) (h .bits)
-      (subst (λ (i : Invoked). Does-as (serviceCall r (w .first) (w .second) (arrives sd (e .primitive)) 1 (e .bytes)) i (lent (e .bytes))) (h .primitive)
-      (received (e .primitive) (e .bytes) (subst (λ (l : List ℕ). isRead (heard l) ≡ true) (sym (h .bits)) (h .read))))
+  pub receive-rel : (e f : Numbered Wire) → Carries (other sd) e f → OutRel (KeepsAt sd) (Carries sd) (simply n (serviceCall r (w .first) (w .second) (arrives sd (e .it .primitive)) (e .no) 1 (e .it .bytes))) (numberedly sd (mark h q) (Service (arrives sd (f .it .primitive)) (apduOf (cardCodec .dec (other sd) (f .it .bytes)))) (f .no) (λ (o : Outcome). happens cardCodec sd o (bodyOf (cardCodec .dec (other sd) (f .it .bytes)))))
+  receive-rel e f x =
+      subst (λ (l : List ℕ). Does-as (serviceCall r (w .first) (w .second) (arrives sd (e .it .primitive)) (e .no) 1 (e .it .bytes)) (f .it .primitive) (f .no) l) (x .bits)
+      (subst (λ (v : ℕ). Does-as (serviceCall r (w .first) (w .second) (arrives sd (e .it .primitive)) (e .no) 1 (e .it .bytes)) (f .it .primitive) v (lent (e .it .bytes))) (x .number)
+      (subst (λ (i : Invoked). Does-as (serviceCall r (w .first) (w .second) (arrives sd (e .it .primitive)) (e .no) 1 (e .it .bytes)) i (e .no) (lent (e .it .bytes))) (x .primitive)
+      (received (e .it .primitive) (e .no) (e .it .bytes) (subst (λ (v : ℕ). v < 2 ^ 64) (sym (x .number)) (x .low)) (subst (λ (l : List ℕ). isRead (heard l) ≡ true) (sym (x .bits)) (x .read)))))
 
   -- without user data
-  pub bare-rel : (p : ServicePrimitive) → OutRel (KeepsAt sd) (Carries sd) (simply n (serviceCall r (w .first) (w .second) p 0 [])) (happens cardCodec sd (step sd q (Service p Absent)) [])
+  bare-rel : (p : ServicePrimitive) (v : ℕ) → v < 2 ^ 64 → Does (serviceCall r (w .first) (w .second) p v 0 []) p v Absent []
   unfolding serviceCall serviceStep bareStep
-  bare-rel p =
-      subst (λ (c : Called). Does c p Absent []) (sym (entered r w sd q keeps (serviceStep r (w .first) (w .second) p 0 (lent []))))
-      (happens-rel r w sd q (Service p Absent) (lent []) (lent []) (lent []) noData keeps (bits-to [] allBits) (bits-to [] allBits) (bits-to [] allBits) (none-shaped (lent []) (lent []) (lent [])) n [] tt refl refl (λ g. never g))
+  bare-rel p v lv =
+      subst (λ (c : Called). Does c p v Absent []) (sym (entered r w sd q h keeps (serviceStep r (w .first) (w .second) p v 0 (lent []))))
+      (happens-rel r w sd q h (Service p Absent) v (lent []) (lent []) (lent []) noData keeps lv (bits-to [] allBits) (bits-to [] allBits) (bits-to [] allBits) (none-shaped (lent []) (lent []) (lent [])) n [] tt refl refl (λ g. never g))
+
+  -- what the carrier makes, with the number that the end holds
+  pub made-rel : (p : ServicePrimitive) → OutRel (KeepsAt sd) (Carries sd) (simply n (serviceCall r (w .first) (w .second) p (heldBy r) 0 [])) (numberedly sd (mark h q) (Service p Absent) h (λ (o : Outcome). happens cardCodec sd o []))
+  made-rel p = subst (λ (v : ℕ). Does (serviceCall r (w .first) (w .second) p v 0 []) p h Absent []) (sym (ap numberIn (keeps .load))) (bare-rel p h (keeps .low))

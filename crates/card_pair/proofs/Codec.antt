@@ -29,7 +29,8 @@ use Rattle.step.specs.Stored.{flag}
 use Rattle.step.specs.Call.{pduSide}
 use Rattle.step.proofs.Taken.{never}
 use Rattle.pair.specs.Names.{Side}
-use Rattle.pair.specs.Carrier.{Body, isNil}
+use Rattle.pair.specs.Carrier.{Body}
+use Rattle.pair.proofs.OneDialogue.{isNil}
 use Rattle.pair.proofs.StepMachine.{Read, got, fault, Codec}
 use Rattle.apdu.proofs.Theorems.{mode-are-bits, index-are-bits}
 use Rattle.card_pair.proofs.Bodies.{isBody, body-is, carries}

@@ -4,7 +4,7 @@
 use mathlib.Core.Path.{_≡_, refl, ap, sym, subst, _∙_}
 use mathlib.Core.Bool.{Bool, true, false, not, cond, _&&_, _||_}
 use mathlib.Core.List.{List, [], _∷_}
-use Prim.Native.Nat.{ℕ, _+_, _*_, _%_, _≤_, _<_}
+use Prim.Native.Nat.{ℕ, _+_, _*_, _^_, _%_, _≤_, _<_}
 use native.Mathlib.Omega.{arith}
 use borrow.Author.Tests.{eq-eqb, lt-ltb}
 use lib.ListN.{length, take}
@@ -31,7 +31,7 @@ use Rattle.machine.specs.declared.record.Record.{Record}
 use Rattle.machine.specs.declared.event.Apdu.{Apdu}
 use Rattle.machine.specs.declared.event.Apdu.the-variants.{Absent, NotValid, Start, Send, AbortUser, AbortProvider, Forward}
 use Rattle.machine.specs.declared.outcome.Refusal.{Refusal}
-use Rattle.machine.specs.declared.outcome.Refusal.the-variants.{None, Shape, Prohibited, NoMessage, Repeat}
+use Rattle.machine.specs.declared.outcome.Refusal.the-variants.{None, Shape, Stale, Prohibited, NoMessage, Repeat}
 use Rattle.machine.specs.declared.outcome.Invoked.{Invoked}
 use Rattle.machine.specs.declared.outcome.Invoked.the-variants.{Silent, DStartRequest, DStartResponse, DDataRequest, DEndRequest, DEndResponse, DAbortRequest}
 use Rattle.machine.specs.declared.outcome.Told.{Told}
@@ -148,24 +148,25 @@ told-back (ProviderAbortIndication x) = rw (code-unpacked 7 x 0 (omega arith))
 
 -- ---- the record
 
--- the bytes b are those of the record r at side sd
-pub record Keeps (sd : Side) (b : List ℕ) (r : Record) : Type 0 where
-  pub load : loadAt b ≡ Is sd r
+-- the bytes b are those of the record r at side sd, which holds the dialogue number n
+pub record Keeps (sd : Side) (b : List ℕ) (r : Record) (n : ℕ) : Type 0 where
+  pub load : loadAt b ≡ Is sd r n
   pub size : length b ≡ recordBytes
   pub coded : Coded r
+  pub low : n < 2 ^ 64
 
-pub stored-keeps : (sd : Side) (r : List ℕ) (x : Record) → length r ≡ recordBytes → Coded x → Keeps sd (storeAt r sd x .bytes) x
+pub stored-keeps : (sd : Side) (r : List ℕ) (x : Record) (n : ℕ) → length r ≡ recordBytes → Coded x → n < 2 ^ 64 → Keeps sd (storeAt r sd x n .bytes) x n
 unfolding storeAt
-stored-keeps sd r x h k =
+stored-keeps sd r x n h k l =
     rw (eq-eqb (length r) recordBytes h, lt-ltb (x .request) securityValues (k .request), lt-ltb (x .policy) securityValues (k .policy))
-    (record { load = loaded-stored sd x (k .request) (k .policy) (k .highest); size = length-stored sd x (k .request) (k .policy) (k .highest); coded = k })
+    (record { load = loaded-stored sd x n (k .request) (k .policy) (k .highest) l; size = length-stored sd x n (k .request) (k .policy) (k .highest) l; coded = k; low = l })
 
 -- ---- all of it
 
--- b: the message data that the APDU was made with, and that are delivered
-pub record Ended (sd : Side) (v : Brings) (o : Outcome) (b : Body) (c : Called) : Type 0 where
+-- b: the message data that the APDU was made with, and that are delivered; m: the dialogue number that the record holds now
+pub record Ended (sd : Side) (v : Brings) (m : ℕ) (o : Outcome) (b : Body) (c : Called) : Type 0 where
   pub taken : isTaken (c .number) ≡ true
-  pub keeps : Keeps sd (c .kept) (o .next)
+  pub keeps : Keeps sd (c .kept) (o .next) m
   pub primitive : entryOf c .primitive ≡ o .invoked
   pub bits : lent (entryOf c .bytes) ≡ lent (enc sd (o .apdu) b)
   pub handed : (x : Body) → (isSend (v .apdu) ≡ true → b ≡ x) → handedOf c ≡ cond (o .delivers) (handedBy (o .told) x) []
@@ -209,7 +210,7 @@ module _ (i t s g : ℕ) (hi : i < primitives) (ht : t < primitives) (hs : s < c
   given-part = given-unpacked i t s g hi ht hg
 
 -- from what the two buffers took
-module _ (r a b : List ℕ) (sd : Side) (v : Brings) (o : Outcome) (y : Body) (one two : Done) (size : length r ≡ recordBytes) (k : Fit sd v o) (w : Wrote (apduBits sd (o .apdu) y) one) (z : Wrote (cond (o .delivers) y []) two) where
+module _ (r a b : List ℕ) (sd : Side) (v : Brings) (m : ℕ) (o : Outcome) (y : Body) (one two : Done) (size : length r ≡ recordBytes) (low : m < 2 ^ 64) (k : Fit sd v o) (w : Wrote (apduBits sd (o .apdu) y) one) (z : Wrote (cond (o .delivers) y []) two) where
   abbrev N : ℕ
   N = packed (invokedNumber (o .invoked)) (toldNumber (o .told)) (length (apduBits sd (o .apdu) y)) (length (cond (o .delivers) y []))
 
@@ -219,60 +220,61 @@ module _ (r a b : List ℕ) (sd : Side) (v : Brings) (o : Outcome) (y : Body) (o
   ht : toldNumber (o .told) < primitives
   ht = told-low (o .told)
 
-  number-is : finished r a b sd o one two .number ≡ N
+  number-is : finished r a b sd m o one two .number ≡ N
   unfolding finished
   number-is = rw (w .count, z .count)
 
-  number-taken : isTaken (finished r a b sd o one two .number) ≡ true
+  number-taken : isTaken (finished r a b sd m o one two .number) ≡ true
   number-taken = ap isTaken number-is ∙ is-taken _ _ _ _ hi ht (w .small) (z .small)
 
-  number-sent : sentBits (finished r a b sd o one two .number) ≡ length (apduBits sd (o .apdu) y)
+  number-sent : sentBits (finished r a b sd m o one two .number) ≡ length (apduBits sd (o .apdu) y)
   number-sent = ap sentBits number-is ∙ sent-part _ _ _ _ hi ht (w .small) (z .small)
 
-  number-given : givenBits (finished r a b sd o one two .number) ≡ length (cond (o .delivers) y [])
+  number-given : givenBits (finished r a b sd m o one two .number) ≡ length (cond (o .delivers) y [])
   number-given = ap givenBits number-is ∙ given-part _ _ _ _ hi ht (w .small) (z .small)
 
-  number-invoked : invokedOf (invokedPart (finished r a b sd o one two .number)) ≡ o .invoked
+  number-invoked : invokedOf (invokedPart (finished r a b sd m o one two .number)) ≡ o .invoked
   number-invoked = ap (λ (n : ℕ). invokedOf (invokedPart n)) number-is ∙ ap invokedOf (invoked-part _ _ _ _ hi ht (w .small) (z .small)) ∙ invoked-back (o .invoked) (k .roomy)
 
-  number-told : isMessage (toldPart (finished r a b sd o one two .number)) ≡ not (quiet (o .told))
+  number-told : isMessage (toldPart (finished r a b sd m o one two .number)) ≡ not (quiet (o .told))
   number-told = ap (λ (n : ℕ). isMessage (toldPart n)) number-is ∙ ap isMessage (told-part _ _ _ _ hi ht (w .small) (z .small)) ∙ told-back (o .told)
 
   -- the message data in the second buffer
-  data-is : dataIn (finished r a b sd o one two) ≡ cond (o .delivers) y []
+  data-is : dataIn (finished r a b sd m o one two) ≡ cond (o .delivers) y []
   unfolding finished
   data-is = ap (λ (n : ℕ). take n (lent (take (bytesFor n) (two .bytes)))) number-given ∙ ap (take (length (cond (o .delivers) y []))) (z .bytes) ∙ take-padded (cond (o .delivers) y [])
 
-  finished-is : Ended sd v o y (finished r a b sd o one two)
+  finished-is : Ended sd v m o y (finished r a b sd m o one two)
   unfolding finished
   finished-is =
       record {
         taken = number-taken;
-        keeps = stored-keeps sd r (o .next) size (k .coded);
+        keeps = stored-keeps sd r (o .next) m size (k .coded) low;
         primitive = number-invoked;
         bits = ap (λ (n : ℕ). lent (take (bytesFor n) (one .bytes))) number-sent ∙ w .bytes ∙ sym (w .zeroed);
         handed = λ (x : Body) (f : isSend (v .apdu) ≡ true → y ≡ x).
-            ap (λ (t : Bool). cond t (dataIn (finished r a b sd o one two) ∷ []) []) number-told
-            ∙ handed-told (o .told) (o .delivers) (isSend (v .apdu)) y x (dataIn (finished r a b sd o one two)) (k .told) (λ (e : o .delivers ≡ true). data-is ∙ ap (λ (t : Bool). cond t y []) e) f;
+            ap (λ (t : Bool). cond t (dataIn (finished r a b sd m o one two) ∷ []) []) number-told
+            ∙ handed-told (o .told) (o .delivers) (isSend (v .apdu)) y x (dataIn (finished r a b sd m o one two)) (k .told) (λ (e : o .delivers ≡ true). data-is ∙ ap (λ (t : Bool). cond t y []) e) f;
       }
 
 -- a step that was taken
-pub concluded-is : (r a b : List ℕ) (sd : Side) (v : Brings) (o : Outcome) (li lm lc : List ℕ) (d : Data) → bufferLeast ≤ length a → bufferLeast ≤ length b → length r ≡ recordBytes → Bits li → Bits lm → Bits lc → dataShaped li lm lc d ≡ true → isNone (o .refusal) ≡ true → Fit sd v o
-    → Ended sd v o (contentBits (contentIn li lm lc d)) (concluded r a b sd o li lm lc d)
+pub concluded-is : (r a b : List ℕ) (sd : Side) (v : Brings) (m : ℕ) (o : Outcome) (li lm lc : List ℕ) (d : Data) → bufferLeast ≤ length a → bufferLeast ≤ length b → length r ≡ recordBytes → m < 2 ^ 64 → Bits li → Bits lm → Bits lc → dataShaped li lm lc d ≡ true → isNone (o .refusal) ≡ true → Fit sd v o
+    → Ended sd v m o (contentBits (contentIn li lm lc d)) (concluded r a b sd m o li lm lc d)
 unfolding concluded
-concluded-is r a b sd v o li lm lc d ha hb size hi hm hc sh n k =
-    rw n (finished-is r a b sd v o (contentBits (contentIn li lm lc d)) (firstTakes sd li lm lc d (o .apdu) a) (secondTakes li lm lc d (o .delivers) b) size k
+concluded-is r a b sd v m o li lm lc d ha hb size low hi hm hc sh n k =
+    rw n (finished-is r a b sd v m o (contentBits (contentIn li lm lc d)) (firstTakes sd li lm lc d (o .apdu) a) (secondTakes li lm lc d (o .delivers) b) size low k
     (goes-is sd li lm lc d hi hm hc sh (v .user) (o .invoked) (o .apdu) a (k .apdu) ha)
     (second-is sd li lm lc d hi hm hc sh (o .delivers) b hb))
 
 refusal-told : (w : Refusal) → isNone w ≡ false → isTaken (refusalNumber w) ≡ false
 refusal-told None e = never (sym e)
 refusal-told Shape e = refl
+refusal-told Stale e = refl
 refusal-told Prohibited e = refl
 refusal-told NoMessage e = refl
 refusal-told Repeat e = refl
 
 -- one that was refused
-pub concluded-refused : (r a b : List ℕ) (sd : Side) (o : Outcome) (li lm lc : List ℕ) (d : Data) → isNone (o .refusal) ≡ false → isTaken (concluded r a b sd o li lm lc d .number) ≡ false
+pub concluded-refused : (r a b : List ℕ) (sd : Side) (m : ℕ) (o : Outcome) (li lm lc : List ℕ) (d : Data) → isNone (o .refusal) ≡ false → isTaken (concluded r a b sd m o li lm lc d .number) ≡ false
 unfolding concluded
-concluded-refused r a b sd o li lm lc d n = rw n (refusal-told (o .refusal) n)
+concluded-refused r a b sd m o li lm lc d n = rw n (refusal-told (o .refusal) n)

@@ -17,7 +17,7 @@ use Rattle.apdu.specs.Encoding.{stringBits, optionalBits, optionalFits, content
 use Rattle.apdu.specs.Pdus.{partIn, contentIn, pduIn}
 use Rattle.apdu.specs.Reading.{optionalAt, partAt, partsWithin, dataWithin, modeValue, modeAt, kindMode, leadingAt, tailAt, endedAt, restWithin, apduWithin}
 use Rattle.apdu.specs.Writing.{itemsShaped, partShaped, dataShaped, apduShaped, writeOut}
-use Rattle.machine.specs.Calls.{answer, sent, startRequest, startResponse, messageRequest, endRequest, endResponse, userAbort, callOf, unsent, called}
+use Rattle.machine.specs.Calls.{answer, sent, qosAsked, startRequest, startResponse, messageRequest, endRequest, endResponse, userAbort, callOf, unsent, called}
 use Rattle.machine.specs.Apdus.{readable}
 use Rattle.machine.specs.Codes.{dscMode}
 use Rattle.machine.proofs.Clauses.{cpdlcMode}
@@ -26,17 +26,19 @@ use Rattle.machine.specs.Exceptions.{tell, closes, aborts, excepts, timerExpire
 use Rattle.machine.specs.Faults.{pduFault, sendFault, abortFault, startFits, indicationFault, confirmationFault, firstFault}
 use Rattle.machine.specs.Primitives.{handed, instructed, answered, reached}
 use Rattle.machine.specs.Record.{enter}
-use Rattle.machine.specs.Step.{permitted, messageRefusal, refusalOf, acts, step}
+use Rattle.machine.specs.Step.{permitted, messageRefusal, acts}
+use Rattle.numbered.specs.Numbers.{userStarts, serviceStarts, isStart, isService, isStale, heldAfter, refusalOf, numberedStep}
 use Rattle.step.specs.Call.{firstTakes, secondTakes, finished, concluded, withRecord, entering, userStep, userCall, readsAs, readsAgain, abortOf, orAbort, readPdu, meaning, dataOf, dataStep, bareStep, serviceStep, serviceCall}
 use Rattle.step.specs.Packed.{invokedNumber, toldNumber, packed}
-use Rattle.step.specs.Stored.{recordBytes, headBytes, storedBytes, headFits, withHighest, loadAt, storeAt}
+use Rattle.step.specs.Stored.{recordBytes, headBytes, storedBytes, headFits, withNumbers, loadAt, storeAt}
 use Rattle.card.specs.Face.{noCount, partOf, givenData, freshFor, freshCall}
 use Rattle.machine.specs.declared.outcome.Invoked.{Invoked}
-use Rattle.machine.specs.declared.outcome.Invoked.the-variants.{DDataRequest, DEndResponse, DAbortRequest}
-use Rattle.pair.specs.Names.{Side, Air, Ground, Dialogue, End, Control, entered, closed}
-use Rattle.pair.specs.Carrier.{Body, Party, Step, user-call, hand-over, timer-expires, error-reported, turn-away, fail, Turn, fresh, run}
+use Rattle.machine.specs.declared.outcome.Invoked.the-variants.{DStartRequest, DDataRequest, DEndResponse, DAbortRequest}
+use Rattle.pair.specs.Names.{Side, Air, Ground, StartReq, Dialogue, End, Control, entered, closed}
+use Rattle.pair.specs.Carrier.{Body, Step, user-call, hand-over, timer-expires, error-reported, turn-away, fail, Turn}
+use Rattle.pair.specs.Numbered.{NParty, Numbered, mark, nFresh, nRun}
 use Rattle.pair.specs.Wires.{Wire}
-use Rattle.card_pair.specs.CardMachine.{Buffers, Given, Job, Asked, start-request, start-response, message-request, end-request, end-response, user-abort, bodyGiven, newly, controlIn, cardMachine}
+use Rattle.card_pair.specs.CardMachine.{Buffers, Given, Word, Asked, start-request, start-response, message-request, end-request, end-response, user-abort, bodyGiven, newly, controlIn, heldBy, cardMachine}
 
 -- ---- the words of a run
 
@@ -54,8 +56,15 @@ text x = record { ids = []; msgs = x ∷ 64 ∷ []; bits = 10; checks = []; chec
 abbrev signed : ℕ → Given
 signed x = record { ids = 42 ∷ 3 ∷ []; msgs = x ∷ []; bits = 7; checks = 165 ∷ []; check = 8 }
 
-abbrev job : (n : ℕ) → n < 2 ^ 64 → Job
+abbrev job : (n : ℕ) → n < 2 ^ 64 → Word
 job n h = record { number = n; low = h }
+
+-- the first start of a run, and the next
+abbrev one : Word
+one = record { number = 1; low = omega arith }
+
+abbrev two : Word
+two = record { number = 2; low = omega arith }
 
 abbrev turn : Side → Step Asked → Turn Asked
 turn sd c = record { side = sd; step = c }
@@ -63,16 +72,17 @@ turn sd c = record { side = sd; step = c }
 abbrev asks : Side → Asked → Turn Asked
 asks sd a = turn sd (user-call a 0)
 
-abbrev says : Side → Job → Given → Turn Asked
+abbrev says : Side → Word → Given → Turn Asked
 says sd j g = asks sd (message-request j g)
 
 abbrev gets : Side → Turn Asked
 gets sd = turn sd (hand-over 0)
 
--- an end: state and DSC, its line, the messages taken and handed out in this dialogue, the jobs it ever took
+-- an end: the number that it holds, state and DSC, its line, the messages taken and handed out in a dialogue, the jobs it ever took
 record Seen : Type 0 where
+  no : ℕ
   ctl : Control
-  line : List Wire
+  line : List (Numbered Wire)
   took : List Body
   gave : List Body
   jobs : List ℕ
@@ -82,35 +92,36 @@ record View : Type 0 where
   ground : Seen
   broken : Bool
 
-abbrev seen : Control → List Wire → List Body → List Body → List ℕ → Seen
-seen c l t g j = record { ctl = c; line = l; took = t; gave = g; jobs = j }
+abbrev seen : ℕ → Control → List (Numbered Wire) → List Body → List Body → List ℕ → Seen
+seen n c l t g j = record { no = n; ctl = c; line = l; took = t; gave = g; jobs = j }
 
-abbrev ofParty : Party (cardMachine 1 lends) → Seen
-ofParty x = seen (controlIn (loadAt (x .rec .bytes))) (x .line) (x .taken) (x .given) (x .jobs)
+abbrev ofParty : ℕ → NParty (cardMachine 1 lends) → Seen
+ofParty d x = seen (heldBy (x .rec .bytes)) (controlIn (loadAt (x .rec .bytes))) (x .line) (x .taken d) (x .given d) (x .jobs)
 
--- from two fresh records that the card made, with "secured exchange" at both ends
-abbrev after : List (Turn Asked) → View
-after ts =
-    let s = run (cardMachine 1 lends) (fresh (cardMachine 1 lends) (newly (freshCall (replicate recordBytes 0) 1 1 .bytes)) (newly (freshCall (replicate recordBytes 0) 2 1 .bytes))) ts in
-    record { air = ofParty (s .here); ground = ofParty (s .there); broken = s .broken }
+-- from two fresh records that the card made, with "secured exchange" at both ends; the air starts. d: the dialogue whose messages are seen
+abbrev after : ℕ → List (Turn Asked) → View
+after d ts =
+    let s = nRun (cardMachine 1 lends) Air (nFresh (cardMachine 1 lends) (newly (freshCall (replicate recordBytes 0) 1 1 .bytes)) (newly (freshCall (replicate recordBytes 0) 2 1 .bytes))) ts in
+    record { air = ofParty d (s .here); ground = ofParty d (s .there); broken = s .broken d }
 
 abbrev view : Seen → Seen → Bool → View
 view a g b = record { air = a; ground = g; broken = b }
 
-abbrev wire : Invoked → List ℕ → Wire
-wire i l = record { primitive = i; bytes = l }
+abbrev wire : ℕ → Invoked → List ℕ → Numbered Wire
+wire n i l = mark n (record { primitive = i; bytes = l })
 
--- a run and what is seen after it
+-- a run and what is seen of a dialogue after it
 record Row : Type 0 where
+  dialogue : ℕ
   turns : List (Turn Asked)
   ends : View
 
-abbrev row : List (Turn Asked) → View → Row
-row ts v = record { turns = ts; ends = v }
+abbrev row : ℕ → List (Turn Asked) → View → Row
+row d ts v = record { dialogue = d; turns = ts; ends = v }
 
 abbrev seenIn : List Row → List View
 seenIn [] = []
-seenIn (r ∷ rs) = after (r .turns) ∷ seenIn rs
+seenIn (r ∷ rs) = after (r .dialogue) (r .turns) ∷ seenIn rs
 
 abbrev saidIn : List Row → List View
 saidIn [] = []
@@ -121,7 +132,7 @@ saidIn (r ∷ rs) = r .ends ∷ saidIn rs
 -- the air starts, the ground accepts and sends at once
 abbrev opening : List (Turn Asked)
 opening =
-    asks Air (start-request cpdlcMode 3 (text 7)) ∷ gets Ground ∷ asks Ground (start-response false 0 none) ∷ says Ground (job 1 (omega arith)) (text 80) ∷ gets Air ∷ gets Air ∷ []
+    asks Air (start-request one cpdlcMode 3 (text 7)) ∷ gets Ground ∷ asks Ground (start-response false 0 none) ∷ says Ground (job 1 (omega arith)) (text 80) ∷ gets Air ∷ gets Air ∷ []
 
 -- messages both ways; job 1 again is refused, and a message request without a message; the ground asks for the end with messages on both lines
 abbrev talking : List (Turn Asked)
@@ -134,18 +145,29 @@ talking =
 abbrev closing : List (Turn Asked)
 closing = talking ++ (asks Air (end-response false 0 none) ∷ gets Ground ∷ gets Ground ∷ gets Ground ∷ [])
 
--- the ground starts the next one; the jobs go on: the air's job 3 and the ground's job 1 stay taken
+-- the air starts the next one, after a start with the number that it holds, which is refused; the jobs go on: the air's job 3 and the ground's job 1 stay taken
 abbrev again : List (Turn Asked)
 again =
     closing
-    ++ (asks Ground (start-request cpdlcMode 0 none) ∷ gets Air ∷ asks Air (start-response false 0 none) ∷ gets Ground ∷ says Air (job 3 (omega arith)) (text 70) ∷ says Air (job 4 (omega arith)) (text 71) ∷ gets Ground ∷
-    says Ground (job 1 (omega arith)) (text 72) ∷ says Ground (job 2 (omega arith)) (text 73) ∷ [])
+    ++ (asks Air (start-request one cpdlcMode 0 none) ∷ asks Air (start-request two cpdlcMode 0 none) ∷ gets Ground ∷ asks Ground (start-response false 0 none) ∷ gets Air ∷
+    says Air (job 3 (omega arith)) (text 70) ∷ says Air (job 4 (omega arith)) (text 71) ∷ gets Ground ∷ says Ground (job 1 (omega arith)) (text 72) ∷ says Ground (job 2 (omega arith)) (text 73) ∷ [])
+
+-- ---- leftovers: a message of the ground is on its way when the air aborts; the ground hears that, and the air starts anew
+
+abbrev leftover : List (Turn Asked)
+leftover =
+    opening
+    ++ (says Ground (job 2 (omega arith)) (text 81) ∷ asks Air (user-abort 3) ∷ gets Ground ∷ asks Air (start-request two cpdlcMode 0 none) ∷ [])
+
+-- the old message reaches the air in its new dialogue: stale, it changes nothing and is gone. The new one goes on
+abbrev late : List (Turn Asked)
+late = leftover ++ (gets Air ∷ gets Ground ∷ asks Ground (start-response false 0 none) ∷ gets Air ∷ says Ground (job 3 (omega arith)) (text 82) ∷ gets Air ∷ [])
 
 -- ---- DSC: the ground may not ask for the end, but sends behind a rejected one; all of it is handed out, and the second request for the end is accepted
 
 abbrev dsc : List (Turn Asked)
 dsc =
-    asks Air (start-request dscMode 0 none) ∷ gets Ground ∷ asks Ground (start-response true 0 none) ∷ gets Air ∷ asks Ground (end-request true none) ∷ asks Air (end-request true none) ∷ gets Ground ∷
+    asks Air (start-request one dscMode 0 none) ∷ gets Ground ∷ asks Ground (start-response true 0 none) ∷ gets Air ∷ asks Ground (end-request true none) ∷ asks Air (end-request true none) ∷ gets Ground ∷
     says Ground (job 5 (omega arith)) (text 80) ∷ asks Ground (end-response true 1 none) ∷ says Ground (job 6 (omega arith)) (text 81) ∷ []
 
 abbrev dscClosed : List (Turn Asked)
@@ -153,37 +175,40 @@ dscClosed = dsc ++ (gets Air ∷ gets Air ∷ gets Air ∷ asks Air (end-request
 
 abbrev rows : List Row
 rows =
-    row opening (view (seen (entered Dialogue false) [] [] (bodyGiven (text 80) ∷ []) []) (seen (entered Dialogue false) [] (bodyGiven (text 80) ∷ []) [] (1 ∷ [])) false) ∷
-    row talking (view (seen (entered End false) (wire DDataRequest (108 ∷ 8 ∷ 168 ∷ 12 ∷ 29 ∷ 136 ∷ 69 ∷ 40 ∷ []) ∷ wire DDataRequest (100 ∷ 41 ∷ 141 ∷ 0 ∷ []) ∷ []) (bodyGiven (text 96) ∷ bodyGiven (signed 98) ∷ bodyGiven (text 99) ∷ []) (bodyGiven (text 80) ∷ []) (1 ∷ 2 ∷ 3 ∷ [])) (seen (entered End false) [] (bodyGiven (text 80) ∷ []) (bodyGiven (text 96) ∷ []) (1 ∷ [])) false) ∷
-    row closing (view (seen closed [] (bodyGiven (text 96) ∷ bodyGiven (signed 98) ∷ bodyGiven (text 99) ∷ []) (bodyGiven (text 80) ∷ []) (1 ∷ 2 ∷ 3 ∷ [])) (seen closed [] (bodyGiven (text 80) ∷ []) (bodyGiven (text 96) ∷ bodyGiven (signed 98) ∷ bodyGiven (text 99) ∷ []) (1 ∷ [])) false) ∷
-    row again (view (seen (entered Dialogue false) [] (bodyGiven (text 71) ∷ []) [] (1 ∷ 2 ∷ 3 ∷ 4 ∷ [])) (seen (entered Dialogue false) (wire DDataRequest (50 ∷ 20 ∷ 146 ∷ 128 ∷ 0 ∷ []) ∷ []) (bodyGiven (text 73) ∷ []) (bodyGiven (text 71) ∷ []) (1 ∷ 2 ∷ [])) false) ∷
-    row dsc (view (seen (entered End true) [] [] [] []) (seen (entered Dialogue true) (wire DDataRequest (50 ∷ 20 ∷ 160 ∷ 128 ∷ 0 ∷ []) ∷ wire (DEndResponse 1) (48 ∷ 0 ∷ []) ∷ wire DDataRequest (50 ∷ 20 ∷ 162 ∷ 128 ∷ 0 ∷ []) ∷ []) (bodyGiven (text 80) ∷ bodyGiven (text 81) ∷ []) [] (5 ∷ 6 ∷ [])) false) ∷
-    row dscClosed (view (seen closed [] [] (bodyGiven (text 80) ∷ bodyGiven (text 81) ∷ []) []) (seen closed [] (bodyGiven (text 80) ∷ bodyGiven (text 81) ∷ []) [] (5 ∷ 6 ∷ [])) false) ∷
+    row 1 opening (view (seen 1 (entered Dialogue false) [] [] (bodyGiven (text 80) ∷ []) []) (seen 1 (entered Dialogue false) [] (bodyGiven (text 80) ∷ []) [] (1 ∷ [])) false) ∷
+    row 1 talking (view (seen 1 (entered End false) (wire 1 DDataRequest (108 ∷ 8 ∷ 168 ∷ 12 ∷ 29 ∷ 136 ∷ 69 ∷ 40 ∷ []) ∷ wire 1 DDataRequest (100 ∷ 41 ∷ 141 ∷ 0 ∷ []) ∷ []) (bodyGiven (text 96) ∷ bodyGiven (signed 98) ∷ bodyGiven (text 99) ∷ []) (bodyGiven (text 80) ∷ []) (1 ∷ 2 ∷ 3 ∷ [])) (seen 1 (entered End false) [] (bodyGiven (text 80) ∷ []) (bodyGiven (text 96) ∷ []) (1 ∷ [])) false) ∷
+    row 1 closing (view (seen 1 closed [] (bodyGiven (text 96) ∷ bodyGiven (signed 98) ∷ bodyGiven (text 99) ∷ []) (bodyGiven (text 80) ∷ []) (1 ∷ 2 ∷ 3 ∷ [])) (seen 1 closed [] (bodyGiven (text 80) ∷ []) (bodyGiven (text 96) ∷ bodyGiven (signed 98) ∷ bodyGiven (text 99) ∷ []) (1 ∷ [])) false) ∷
+    row 2 again (view (seen 2 (entered Dialogue false) [] (bodyGiven (text 71) ∷ []) [] (1 ∷ 2 ∷ 3 ∷ 4 ∷ [])) (seen 2 (entered Dialogue false) (wire 2 DDataRequest (50 ∷ 20 ∷ 146 ∷ 128 ∷ 0 ∷ []) ∷ []) (bodyGiven (text 73) ∷ []) (bodyGiven (text 71) ∷ []) (1 ∷ 2 ∷ [])) false) ∷
+    -- the leftover stands on the ground's line when the new start goes out; afterwards its dialogue is as broken as it was, and the new one is whole
+    row 1 (leftover ++ (gets Air ∷ [])) (view (seen 2 (entered StartReq false) (wire 2 (DStartRequest (qosAsked 0) 1) (64 ∷ 0 ∷ []) ∷ []) [] (bodyGiven (text 80) ∷ []) []) (seen 1 closed [] (bodyGiven (text 80) ∷ bodyGiven (text 81) ∷ []) [] (1 ∷ 2 ∷ [])) true) ∷
+    row 2 late (view (seen 2 (entered Dialogue false) [] [] (bodyGiven (text 82) ∷ []) []) (seen 2 (entered Dialogue false) [] (bodyGiven (text 82) ∷ []) [] (1 ∷ 2 ∷ 3 ∷ [])) false) ∷
+    row 1 dsc (view (seen 1 (entered End true) [] [] [] []) (seen 1 (entered Dialogue true) (wire 1 DDataRequest (50 ∷ 20 ∷ 160 ∷ 128 ∷ 0 ∷ []) ∷ wire 1 (DEndResponse 1) (48 ∷ 0 ∷ []) ∷ wire 1 DDataRequest (50 ∷ 20 ∷ 162 ∷ 128 ∷ 0 ∷ []) ∷ []) (bodyGiven (text 80) ∷ bodyGiven (text 81) ∷ []) [] (5 ∷ 6 ∷ [])) false) ∷
+    row 1 dscClosed (view (seen 1 closed [] [] (bodyGiven (text 80) ∷ bodyGiven (text 81) ∷ []) []) (seen 1 closed [] (bodyGiven (text 80) ∷ bodyGiven (text 81) ∷ []) [] (5 ∷ 6 ∷ [])) false) ∷
     -- t-start expires with the start undelivered; a start is turned away; a system error; the carrier fails; a user abort keeps the oldest message
-    row (asks Air (start-request cpdlcMode 0 none) ∷ turn Air (timer-expires 0) ∷ []) (view (seen closed (wire (DAbortRequest 1) (32 ∷ []) ∷ []) [] [] []) (seen closed [] [] [] []) true) ∷
-    row (asks Air (start-request dscMode 0 none) ∷ turn Air (turn-away 0) ∷ []) (view (seen closed [] [] [] []) (seen closed [] [] [] []) false) ∷
-    row (opening ++ (turn Ground (error-reported 0) ∷ gets Air ∷ [])) (view (seen closed [] [] (bodyGiven (text 80) ∷ []) []) (seen closed [] (bodyGiven (text 80) ∷ []) [] (1 ∷ [])) true) ∷
-    row (opening ++ (turn Ground fail ∷ [])) (view (seen closed [] [] (bodyGiven (text 80) ∷ []) []) (seen closed [] (bodyGiven (text 80) ∷ []) [] (1 ∷ [])) true) ∷
-    row (opening ++ (says Air (job 1 (omega arith)) (text 96) ∷ says Air (job 2 (omega arith)) (text 97) ∷ turn Air (user-call (user-abort 3) 1) ∷ gets Ground ∷ []))
-    (view (seen closed (wire (DAbortRequest 0) (3 ∷ []) ∷ []) (bodyGiven (text 96) ∷ bodyGiven (text 97) ∷ []) (bodyGiven (text 80) ∷ []) (1 ∷ 2 ∷ [])) (seen (entered Dialogue false) [] (bodyGiven (text 80) ∷ []) (bodyGiven (text 96) ∷ []) (1 ∷ [])) true) ∷ []
+    row 1 (asks Air (start-request one cpdlcMode 0 none) ∷ turn Air (timer-expires 0) ∷ []) (view (seen 1 closed (wire 1 (DAbortRequest 1) (32 ∷ []) ∷ []) [] [] []) (seen 0 closed [] [] [] []) true) ∷
+    row 1 (asks Air (start-request one dscMode 0 none) ∷ turn Air (turn-away 0) ∷ []) (view (seen 1 closed [] [] [] []) (seen 0 closed [] [] [] []) false) ∷
+    row 1 (opening ++ (turn Ground (error-reported 0) ∷ gets Air ∷ [])) (view (seen 1 closed [] [] (bodyGiven (text 80) ∷ []) []) (seen 1 closed [] (bodyGiven (text 80) ∷ []) [] (1 ∷ [])) true) ∷
+    row 1 (opening ++ (turn Ground fail ∷ [])) (view (seen 1 closed [] [] (bodyGiven (text 80) ∷ []) []) (seen 1 closed [] (bodyGiven (text 80) ∷ []) [] (1 ∷ [])) true) ∷
+    row 1 (opening ++ (says Air (job 1 (omega arith)) (text 96) ∷ says Air (job 2 (omega arith)) (text 97) ∷ turn Air (user-call (user-abort 3) 1) ∷ gets Ground ∷ []))
+    (view (seen 1 closed (wire 1 (DAbortRequest 0) (3 ∷ []) ∷ []) (bodyGiven (text 96) ∷ bodyGiven (text 97) ∷ []) (bodyGiven (text 80) ∷ []) (1 ∷ 2 ∷ [])) (seen 1 (entered Dialogue false) [] (bodyGiven (text 80) ∷ []) (bodyGiven (text 96) ∷ []) (1 ∷ [])) true) ∷ []
 
 pub all-as-said : seenIn rows ≡ saidIn rows
-unfolding bitsN bitsOf accOf bitsTo bytesOf withBit setBit putBits readBits wholeBits indexBits lengthBits bitField extensionBit digitsIn wholeNumber extensibleIndex lengthAt lengthWithin runAt stringAt stringBits optionalBits optionalFits contentBits contentFits modeBits modeFits pduBits pduFits padded partIn contentIn pduIn optionalAt partAt partsWithin dataWithin modeValue modeAt kindMode leadingAt tailAt endedAt restWithin apduWithin itemsShaped partShaped dataShaped apduShaped writeOut answer sent startRequest startResponse messageRequest endRequest endResponse userAbort callOf unsent called readable qosFits userShapely hasMode serviceShapely shapely tell closes aborts excepts timerExpires systemError noInstruction pduFault sendFault abortFault startFits indicationFault confirmationFault firstFault handed instructed answered reached enter permitted messageRefusal refusalOf acts step firstTakes secondTakes finished concluded withRecord entering userStep userCall readsAs readsAgain abortOf orAbort readPdu meaning dataOf dataStep bareStep serviceStep serviceCall invokedNumber toldNumber packed headBytes storedBytes headFits withHighest loadAt storeAt partOf givenData freshFor freshCall run
+unfolding bitsN bitsOf accOf bitsTo bytesOf withBit setBit putBits readBits wholeBits indexBits lengthBits bitField extensionBit digitsIn wholeNumber extensibleIndex lengthAt lengthWithin runAt stringAt stringBits optionalBits optionalFits contentBits contentFits modeBits modeFits pduBits pduFits padded partIn contentIn pduIn optionalAt partAt partsWithin dataWithin modeValue modeAt kindMode leadingAt tailAt endedAt restWithin apduWithin itemsShaped partShaped dataShaped apduShaped writeOut answer sent startRequest startResponse messageRequest endRequest endResponse userAbort callOf unsent called readable qosFits userShapely hasMode serviceShapely shapely tell closes aborts excepts timerExpires systemError noInstruction pduFault sendFault abortFault startFits indicationFault confirmationFault firstFault handed instructed answered reached enter permitted messageRefusal userStarts serviceStarts isStart isService isStale heldAfter refusalOf acts numberedStep firstTakes secondTakes finished concluded withRecord entering userStep userCall readsAs readsAgain abortOf orAbort readPdu meaning dataOf dataStep bareStep serviceStep serviceCall invokedNumber toldNumber packed headBytes storedBytes headFits withNumbers loadAt storeAt partOf givenData freshFor freshCall nRun
 all-as-said = refl
 
--- ---- a restart (docs/HOST.md): the host loses its power and loads the sixteen bytes that it stored. That is the step `fail`: between two calls a record
+-- ---- a restart (docs/HOST.md): the host loses its power and loads the bytes that it stored. That is the step `fail`: between two calls a record
 -- is its bytes and nothing else, the carrier is gone with the host, and both ends get D-P-ABORT
 
 -- job 2 is taken, and its message is on the line when the power fails; then a new dialogue, in which jobs 1 and 2 come again, and 3 for the first time
 abbrev restarted : List (Turn Asked)
 restarted =
     opening
-    ++ (says Ground (job 2 (omega arith)) (text 81) ∷ turn Ground fail ∷ asks Air (start-request cpdlcMode 0 none) ∷ gets Ground ∷ asks Ground (start-response false 0 none) ∷ gets Air ∷
+    ++ (says Ground (job 2 (omega arith)) (text 81) ∷ turn Ground fail ∷ asks Air (start-request two cpdlcMode 0 none) ∷ gets Ground ∷ asks Ground (start-response false 0 none) ∷ gets Air ∷
     says Ground (job 1 (omega arith)) (text 80) ∷ says Ground (job 2 (omega arith)) (text 81) ∷ says Ground (job 3 (omega arith)) (text 82) ∷ gets Air ∷ [])
 
 -- the jobs of the old dialogue are refused: the ground takes 1, 2 and 3 once each, and the air is handed the message of job 3 alone
 pub restart-takes-once :
-    after restarted
-    ≡ view (seen (entered Dialogue false) [] [] (bodyGiven (text 82) ∷ []) []) (seen (entered Dialogue false) [] (bodyGiven (text 82) ∷ []) [] (1 ∷ 2 ∷ 3 ∷ [])) false
-unfolding bitsN bitsOf accOf bitsTo bytesOf withBit setBit putBits readBits wholeBits indexBits lengthBits bitField extensionBit digitsIn wholeNumber extensibleIndex lengthAt lengthWithin runAt stringAt stringBits optionalBits optionalFits contentBits contentFits modeBits modeFits pduBits pduFits padded partIn contentIn pduIn optionalAt partAt partsWithin dataWithin modeValue modeAt kindMode leadingAt tailAt endedAt restWithin apduWithin itemsShaped partShaped dataShaped apduShaped writeOut answer sent startRequest startResponse messageRequest endRequest endResponse userAbort callOf unsent called readable qosFits userShapely hasMode serviceShapely shapely tell closes aborts excepts timerExpires systemError noInstruction pduFault sendFault abortFault startFits indicationFault confirmationFault firstFault handed instructed answered reached enter permitted messageRefusal refusalOf acts step firstTakes secondTakes finished concluded withRecord entering userStep userCall readsAs readsAgain abortOf orAbort readPdu meaning dataOf dataStep bareStep serviceStep serviceCall invokedNumber toldNumber packed headBytes storedBytes headFits withHighest loadAt storeAt partOf givenData freshFor freshCall run
+    after 2 restarted
+    ≡ view (seen 2 (entered Dialogue false) [] [] (bodyGiven (text 82) ∷ []) []) (seen 2 (entered Dialogue false) [] (bodyGiven (text 82) ∷ []) [] (1 ∷ 2 ∷ 3 ∷ [])) false
+unfolding bitsN bitsOf accOf bitsTo bytesOf withBit setBit putBits readBits wholeBits indexBits lengthBits bitField extensionBit digitsIn wholeNumber extensibleIndex lengthAt lengthWithin runAt stringAt stringBits optionalBits optionalFits contentBits contentFits modeBits modeFits pduBits pduFits padded partIn contentIn pduIn optionalAt partAt partsWithin dataWithin modeValue modeAt kindMode leadingAt tailAt endedAt restWithin apduWithin itemsShaped partShaped dataShaped apduShaped writeOut answer sent startRequest startResponse messageRequest endRequest endResponse userAbort callOf unsent called readable qosFits userShapely hasMode serviceShapely shapely tell closes aborts excepts timerExpires systemError noInstruction pduFault sendFault abortFault startFits indicationFault confirmationFault firstFault handed instructed answered reached enter permitted messageRefusal userStarts serviceStarts isStart isService isStale heldAfter refusalOf acts numberedStep firstTakes secondTakes finished concluded withRecord entering userStep userCall readsAs readsAgain abortOf orAbort readPdu meaning dataOf dataStep bareStep serviceStep serviceCall invokedNumber toldNumber packed headBytes storedBytes headFits withNumbers loadAt storeAt partOf givenData freshFor freshCall nRun
 restart-takes-once = refl

@@ -1,5 +1,6 @@
--- The exported calls at the two ends of the carrier. A record is its bytes, as the host keeps them; an entry of a line is a primitive's numbers and
--- the bytes of its user data; a user call is an exported call with its arguments. What a call sends and hands out is taken out of its answer.
+-- The exported calls at the two ends of the carrier. A record is its bytes, as the host keeps them; an entry of a line is a primitive's numbers, the bytes of its
+-- user data and its dialogue number; a user call is an exported call with its arguments. What a call sends and hands out is taken out of its answer, and the
+-- dialogue number of what it sends out of the record's bytes.
 use Prim.Native.Nat.{ℕ, suc, _^_, _≤_, _<_}
 use mathlib.Core.Bool.{Bool, cond}
 use mathlib.Core.List.{List, []}
@@ -18,9 +19,10 @@ use Rattle.step.specs.Stored.{loadAt}
 use Rattle.step.specs.Call.{Called, serviceCall}
 use Rattle.step.specs.declared.stored.Loaded.{Loaded}
 use Rattle.step.specs.declared.stored.Loaded.the-variants.{Is, NoRecord}
-use Rattle.card.specs.Face.{givenData, dataCall, plainCall, messageRequested, abortRequested}
+use Rattle.card.specs.Face.{givenData, numberedCall, dataCall, plainCall, messageRequested, abortRequested}
 use Rattle.pair.specs.Names.{Side, Control, closed}
-use Rattle.pair.specs.Carrier.{Body, Sent, nothing, puts, message, Outcome, refused, acts, Machine}
+use Rattle.pair.specs.Carrier.{Body, Sent, nothing, puts, message, Outcome, refused, acts}
+use Rattle.pair.specs.Numbered.{NMachine, Numbered, mark}
 use Rattle.pair.specs.Wires.{Wire, sortOf, arrives, rejects}
 use Rattle.card_pair.specs.Answered.{isTaken, entryOf, handedOf}
 
@@ -41,17 +43,17 @@ pub record Given : Type 0 where
   pub checks : List ℕ
   pub check : ℕ
 
--- a number of eight bytes
-pub record Job : Type 0 where
+-- a number of eight bytes: a job, a dialogue number
+pub record Word : Type 0 where
   pub number : ℕ
   pub low : number < 2 ^ 64
 
--- the calls, any numbers and any ranges; a start has its mode, and true is the DSC- one of the others. A number or a byte that C has no place for is taken too, but for a job's, which the
--- record keeps in eight bytes
+-- the calls, any numbers and any ranges; a start has its dialogue number and its mode, and true is the DSC- one of the others. A number or a byte that C has no
+-- place for is taken too, but for a job and a dialogue number, which the record keeps in eight bytes each
 pub data Asked : Type 0 where
-  start-request : ℕ → ℕ → Given → Asked
+  start-request : Word → ℕ → ℕ → Given → Asked
   start-response : Bool → ℕ → Given → Asked
-  message-request : Job → Given → Asked
+  message-request : Word → Given → Asked
   end-request : Bool → Given → Asked
   end-response : Bool → ℕ → Given → Asked
   user-abort : ℕ → Asked
@@ -64,10 +66,18 @@ pub record Kept : Type 0 where
 abbrev pub newly : List ℕ → Kept
 newly b = record { bytes = b; calls = 0 }
 
--- ---- calls, with a record's bytes and two buffers; every start asks for the security value p
+-- the dialogue number that the bytes of a record hold, as the header's reader takes it out of them
+abbrev pub numberIn : Loaded → ℕ
+numberIn (Is sd r n) = n
+numberIn NoRecord = 0
+
+abbrev pub heldBy : List ℕ → ℕ
+heldBy b = numberIn (loadAt b)
+
+-- ---- calls, with a record's bytes and two buffers; every start asks for the security value p and brings its dialogue number. The other user calls bring none
 
 abbrev pub answered : ℕ → Buffers → List ℕ → Asked → Called
-answered p w r (start-request m k g) = dataCall r (w .first) (w .second) (StartServiceRequest m k p) (g .ids) (g .msgs) (g .bits) (g .checks) (g .check)
+answered p w r (start-request v m k g) = numberedCall r (w .first) (w .second) (StartServiceRequest m k p) (v .number) (g .ids) (g .msgs) (g .bits) (g .checks) (g .check)
 answered p w r (start-response m x g) = dataCall r (w .first) (w .second) (StartServiceResponse m x) (g .ids) (g .msgs) (g .bits) (g .checks) (g .check)
 answered p w r (message-request j g) = dataCall r (w .first) (w .second) (messageRequested (g .bits) (j .number)) (g .ids) (g .msgs) (g .bits) (g .checks) (g .check)
 answered p w r (end-request m g) = dataCall r (w .first) (w .second) (EndServiceRequest m) (g .ids) (g .msgs) (g .bits) (g .checks) (g .check)
@@ -78,8 +88,12 @@ answered p w r (user-abort x) = plainCall r (w .first) (w .second) (User (abortR
 abbrev pub bodyGiven : Given → Body
 bodyGiven g = contentBits (contentIn (lent (g .ids)) (lent (g .msgs)) (lent (g .checks)) (givenData (length (g .ids)) (g .bits) (g .check)))
 
+-- "those sent carry the number held after the event"
+abbrev pub markedEntry : Called → Numbered Wire
+markedEntry c = mark (heldBy (c .kept)) (entryOf c)
+
 -- nothing, or the primitive that the call invoked
-abbrev pub putOn : Wire → Invoked → Sent Wire
+abbrev pub putOn : Numbered Wire → Invoked → Sent (Numbered Wire)
 putOn e Silent = nothing
 putOn e (DStartRequest q s) = puts e
 putOn e (DStartResponse x s) = puts e
@@ -88,54 +102,59 @@ putOn e DEndRequest = puts e
 putOn e (DEndResponse x) = puts e
 putOn e (DAbortRequest o) = puts e
 
-abbrev pub sentOf : Called → Sent Wire
-sentOf c = putOn (entryOf c) (entryOf c .primitive)
+abbrev pub sentOf : Called → Sent (Numbered Wire)
+sentOf c = putOn (markedEntry c) (entryOf c .primitive)
 
 -- a message request that is not refused took its message and its job
-abbrev pub sentFor : Asked → Called → Sent Wire
-sentFor (start-request m k g) c = sentOf c
+abbrev pub sentFor : Asked → Called → Sent (Numbered Wire)
+sentFor (start-request v m k g) c = sentOf c
 sentFor (start-response m x g) c = sentOf c
-sentFor (message-request j g) c = message (entryOf c) (bodyGiven g) (j .number)
+sentFor (message-request j g) c = message (markedEntry c) (bodyGiven g) (j .number)
 sentFor (end-request m g) c = sentOf c
 sentFor (end-response m x g) c = sentOf c
 sentFor (user-abort x) c = sentOf c
 
 -- what a call leaves of an end whose calls so far were n. A refused one leaves everything (crate step, proofs/Refusing)
-abbrev pub left : ℕ → Called → Sent Wire → Outcome Kept Wire
+abbrev pub left : ℕ → Called → Sent (Numbered Wire) → Outcome Kept (Numbered Wire)
 left n c s = cond (isTaken (c .number)) (acts (record { bytes = c .kept; calls = suc n }) (handedOf c) s) refused
 
 -- a call that takes no message
-abbrev pub simply : ℕ → Called → Outcome Kept Wire
+abbrev pub simply : ℕ → Called → Outcome Kept (Numbered Wire)
 simply n c = left n c (sentOf c)
 
 -- ---- the machine; p: the security value of both ends; host: the buffers that a side lends to its next call after so many
 
 abbrev pub controlIn : Loaded → Control
-controlIn (Is sd r) = r .control
+controlIn (Is sd r n) = r .control
 controlIn NoRecord = closed
 
 module _ (p : ℕ) (host : Side → ℕ → Buffers) where
-  -- an exported call of a dialogue-service primitive, an expiry or a system error
-  abbrev pub arriving : Side → Kept → ServicePrimitive → ℕ → List ℕ → Outcome Kept Wire
-  arriving sd r a given bytes = simply (r .calls) (serviceCall (r .bytes) (host sd (r .calls) .first) (host sd (r .calls) .second) a given bytes)
+  -- an exported call of a dialogue-service primitive with the dialogue number v, an expiry or a system error
+  abbrev pub arriving : Side → Kept → ServicePrimitive → ℕ → ℕ → List ℕ → Outcome Kept (Numbered Wire)
+  arriving sd r a v given bytes = simply (r .calls) (serviceCall (r .bytes) (host sd (r .calls) .first) (host sd (r .calls) .second) a v given bytes)
 
-  abbrev pub reported : Side → Kept → Event → Outcome Kept Wire
+  abbrev pub reported : Side → Kept → Event → Outcome Kept (Numbered Wire)
   reported sd r e = simply (r .calls) (plainCall (r .bytes) (host sd (r .calls) .first) (host sd (r .calls) .second) e)
 
-  abbrev pub asking : Side → Kept → Asked → Outcome Kept Wire
+  abbrev pub asking : Side → Kept → Asked → Outcome Kept (Numbered Wire)
   asking sd r a = left (r .calls) (answered p (host sd (r .calls)) (r .bytes) a) (sentFor a (answered p (host sd (r .calls)) (r .bytes) a))
 
-  abbrev pub cardMachine : Machine
+  -- what the carrier itself makes carries the number held by the end that gets it
+  abbrev pub cardMachine : NMachine
   cardMachine = record {
-    R = Kept;
-    E = Wire;
-    A = Asked;
-    ctl = λ (r : Kept). controlIn (loadAt (r .bytes));
-    sort = λ (w : Wire). sortOf (w .primitive);
-    call = asking;
-    receive = λ (sd : Side) (r : Kept) (w : Wire). arriving sd r (arrives sd (w .primitive)) 1 (w .bytes);
-    expiry = λ (sd : Side) (r : Kept). reported sd r TimerExpires;
-    error = λ (sd : Side) (r : Kept). reported sd r UnrecoverableSystemError;
-    away = λ (sd : Side) (r : Kept). arriving sd r rejects 0 [];
-    pAbort = λ (sd : Side) (r : Kept). arriving sd r DPAbortIndication 0 [];
+    at = record {
+      R = Kept;
+      E = Numbered Wire;
+      A = Asked;
+      ctl = λ (r : Kept). controlIn (loadAt (r .bytes));
+      sort = λ (w : Numbered Wire). sortOf (w .it .primitive);
+      call = asking;
+      receive = λ (sd : Side) (r : Kept) (w : Numbered Wire). arriving sd r (arrives sd (w .it .primitive)) (w .no) 1 (w .it .bytes);
+      expiry = λ (sd : Side) (r : Kept). reported sd r TimerExpires;
+      error = λ (sd : Side) (r : Kept). reported sd r UnrecoverableSystemError;
+      away = λ (sd : Side) (r : Kept). arriving sd r rejects (heldBy (r .bytes)) 0 [];
+      pAbort = λ (sd : Side) (r : Kept). arriving sd r DPAbortIndication (heldBy (r .bytes)) 0 [];
+    };
+    holds = λ (r : Kept). heldBy (r .bytes);
+    carries = λ (w : Numbered Wire). w .no;
   }

@@ -8,15 +8,15 @@ use Rattle.machine.specs.declared.record.Record.{Record}
 use Rattle.step.specs.Stored.{loadAt}
 use Rattle.step.specs.declared.stored.Loaded.the-variants.{Is}
 use Rattle.pair.specs.Names.{Side, Air, Ground, closed}
-use Rattle.pair.specs.Carrier.{Sys}
-use Rattle.pair.specs.Claims.{Claims}
+use Rattle.pair.specs.Numbered.{NSys, NClaims}
 use Rattle.card_pair.specs.CardMachine.{Buffers, cardMachine}
 
 -- document 01: an end at the beginning is "IDLE with DSC false, timer stopped and user not active". b are the bytes of such a record, of side sd, whose policy
--- accepts p. Its highest job is any, and so is the value of its last start request
+-- accepts p. Its highest job is any, and so are its dialogue number and the value of its last start request
 pub record Begins (p : ℕ) (sd : Side) (b : List ℕ) : Type 0 where
   pub held : Record
-  pub load : loadAt b ≡ Is sd held
+  pub number : ℕ
+  pub load : loadAt b ≡ Is sd held number
   pub policy : held .policy ≡ p
   pub idle : held .control ≡ closed
   pub timer : held .timer ≡ false
@@ -26,12 +26,13 @@ pub record Begins (p : ℕ) (sd : Side) (b : List ℕ) : Type 0 where
 -- DSC false. So bytes that are no record can't count as an IDLE end
 pub record Stands (p : ℕ) (sd : Side) (b : List ℕ) : Type 0 where
   pub held : Record
-  pub load : loadAt b ≡ Is sd held
+  pub number : ℕ
+  pub load : loadAt b ≡ Is sd held number
   pub policy : held .policy ≡ p
   pub formed : Formed held
 
--- demand 3 of two cards; i, j: the highest jobs of the air's and the ground's record at the beginning
-pub record Promise (p : ℕ) (host : Side → ℕ → Buffers) (i j : ℕ) (s : Sys (cardMachine p host)) : Type 0 where
+-- demand 3 of two cards, as document 02's E9 words it; i, j: the highest jobs of the air's and the ground's record at the beginning
+pub record Promise (p : ℕ) (host : Side → ℕ → Buffers) (i j : ℕ) (s : NSys (cardMachine p host)) : Type 0 where
   pub air : Stands p Air (s .here .rec .bytes)
   pub ground : Stands p Ground (s .there .rec .bytes)
-  pub claims : Claims (cardMachine p host) i j s
+  pub claims : NClaims (cardMachine p host) i j s

@@ -5,7 +5,7 @@ use Rattle.machine.specs.declared.event.Apdu.{Apdu}
 use Rattle.machine.specs.declared.event.Apdu.the-variants.{Absent}
 use Rattle.machine.specs.declared.record.Record.{Record}
 use Rattle.machine.specs.declared.outcome.Refusal.{Refusal}
-use Rattle.machine.specs.declared.outcome.Refusal.the-variants.{None, Shape, Prohibited, NoMessage, Repeat}
+use Rattle.machine.specs.declared.outcome.Refusal.the-variants.{None, Shape, Stale, Prohibited, NoMessage, Repeat}
 use Rattle.machine.specs.declared.outcome.Invoked.{Invoked}
 use Rattle.machine.specs.declared.outcome.Invoked.the-variants.{Silent}
 use Rattle.machine.specs.declared.outcome.Told.{Told}
@@ -16,6 +16,7 @@ use Rattle.machine.specs.declared.outcome.Outcome.{Outcome}
 abbrev pub refusalNumber : Refusal → ℕ
 refusalNumber None = 0
 refusalNumber Shape = 2
+refusalNumber Stale = 6
 refusalNumber Prohibited = 3
 refusalNumber NoMessage = 4
 refusalNumber Repeat = 5
@@ -23,6 +24,7 @@ refusalNumber Repeat = 5
 abbrev pub isNone : Refusal → Bool
 isNone None = true
 isNone Shape = false
+isNone Stale = false
 isNone Prohibited = false
 isNone NoMessage = false
 isNone Repeat = false

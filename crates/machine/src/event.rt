@@ -262,7 +262,7 @@ impl ServicePrimitive {
 
 impl Event {
     // Are its codes of their types? SHAPE is answered otherwise.
-    pub(crate) fn shapely(self, side: Side) -> bool
+    pub fn shapely(self, side: Side) -> bool
         ensures { λ b. ⌜ b ≡ shapely side self ⌝ }
     {
         match self {

@@ -8,6 +8,7 @@ ghost use Rattle.machine.specs.Outcome.{refusalNumber, isNone, refused, 
 pub enum Refusal {
     None,
     Shape,
+    Stale,
     Prohibited,
     NoMessage,
     Repeat,
@@ -63,6 +64,7 @@ impl Refusal {
         match self {
             Refusal::None => 0,
             Refusal::Shape => 2,
+            Refusal::Stale => 6,
             Refusal::Prohibited => 3,
             Refusal::NoMessage => 4,
             Refusal::Repeat => 5,
@@ -75,6 +77,7 @@ impl Refusal {
         match self {
             Refusal::None => true,
             Refusal::Shape => false,
+            Refusal::Stale => false,
             Refusal::Prohibited => false,
             Refusal::NoMessage => false,
             Refusal::Repeat => false,
@@ -84,7 +87,7 @@ impl Refusal {
 
 impl Outcome {
     // A refused call: the record as it was, and nothing else.
-    pub(crate) fn refused(why: Refusal, r: Record) -> Outcome
+    pub fn refused(why: Refusal, r: Record) -> Outcome
         ensures { λ o. ⌜ o ≡ refused why r ⌝ }
     {
         Outcome {

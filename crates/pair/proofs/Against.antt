@@ -9,8 +9,9 @@ use Prim.Native.Nat.{ℕ}
 use borrow.Author.Tests.{eq-eqb}
 use lib.Dec.{T, eqb}
 use Rattle.pair.specs.Names.{Side, Air, Ground, Accepted, Call, StartRequest, StartResponse, MessageRequest, EndRequest, EndResponse, UserAbort}
-use Rattle.pair.specs.Carrier.{Body, Machine, Sys, Step, user-call, hand-over, turn-away, fail, Turn, isNil, turned}
-use Rattle.pair.specs.Claims.{matching, Prefix, rising, Claims}
+use Rattle.pair.specs.Carrier.{Body, Machine, Step, user-call, hand-over, turn-away, fail, Turn}
+use Rattle.pair.proofs.OneDialogue.{Sys, isNil, turned, Claims}
+use Rattle.pair.specs.Claims.{matching, Prefix, rising}
 use Rattle.pair.proofs.ControlMachine.{Ask, ask, control, bothIdle}
 use Rattle.pair.proofs.Finite.{and-l, and-r, both, no-T, is-T, T-is}
 

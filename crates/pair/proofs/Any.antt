@@ -6,8 +6,9 @@ use mathlib.Core.List.{List, [], _∷_, _++_}
 use Prim.Native.Nat.{ℕ}
 use lib.Dec.{T}
 use Rattle.pair.specs.Names.{Air, Ground, closed}
-use Rattle.pair.specs.Carrier.{Machine, Sys, Turn, fresh, run}
-use Rattle.pair.specs.Claims.{rising, Claims}
+use Rattle.pair.specs.Carrier.{Machine, Turn}
+use Rattle.pair.proofs.OneDialogue.{Sys, fresh, run, Claims}
+use Rattle.pair.specs.Claims.{rising}
 use Rattle.pair.proofs.ControlMachine.{held, control}
 use Rattle.pair.proofs.Agree.{Agree}
 use Rattle.pair.proofs.Lines.{LL}

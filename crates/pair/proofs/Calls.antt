@@ -6,7 +6,8 @@ use mathlib.Core.List.{List, [], _∷_, _++_, append-nil, append-assoc}
 use Prim.Native.Nat.{ℕ}
 use lib.Dec.{T}
 use Rattle.pair.specs.Names.{Side, Control, Call, isIdle, other, takes, goes, sends}
-use Rattle.pair.specs.Carrier.{Body, puts, message, Outcome, refused, acts, Sort, begins, breaks, plain, begins?, Sys, isNil, cut, put, took, left, did, ready, starts, called}
+use Rattle.pair.specs.Carrier.{Body, puts, message, Outcome, refused, acts, Sort, begins, breaks, plain, begins?, starts}
+use Rattle.pair.proofs.OneDialogue.{Sys, isNil, cut, put, took, left, did, ready, called}
 use Rattle.pair.proofs.ControlMachine.{Held, held, Ent, ent, Ask, sortOf, handed, mayCall, sentBy, callOf, control}
 use Rattle.pair.proofs.Finite.{and-l, and-r, or-l, no-T, T-is}
 use Rattle.pair.proofs.Drain.{isStart, starting, calm, cuts, mild, says, recv, front, fine, sound, front-snoc, drain-fine, sound-left, sound-right, breaks?}

@@ -6,7 +6,8 @@ use mathlib.Core.Bool.{Bool, true, cond, _&&_}
 use mathlib.Core.List.{List, [], _∷_}
 use lib.Dec.{ltb}
 use Rattle.pair.specs.Names.{Side, Control, Primitive, DStart, DStartCnf, DTurnedAway, DData, DEnd, DEndCnf, DAbort, DPAbort, Call, TimerExpiry, SystemError, closed, takes, goes, sends, isData, Did, quiet, aborts, meets, hands}
-use Rattle.pair.specs.Carrier.{Body, Sent, nothing, puts, message, Outcome, refused, acts, Sort, begins, breaks, plain, Machine, Sys, fresh}
+use Rattle.pair.specs.Carrier.{Body, Sent, nothing, puts, message, Outcome, refused, acts, Sort, begins, breaks, plain, Machine}
+use Rattle.pair.proofs.OneDialogue.{Sys, fresh}
 
 pub record Held : Type 0 where
   pub ctl : Control

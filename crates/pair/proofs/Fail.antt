@@ -5,7 +5,8 @@ use mathlib.Core.Bool.{Bool, true, false, not, cond, _&&_}
 use mathlib.Core.List.{List, [], append-nil}
 use lib.Dec.{T}
 use Rattle.pair.specs.Names.{Side, isIdle, closed, other, quiet, aborts}
-use Rattle.pair.specs.Carrier.{Body, Party, Sys, swap, did, emptied, toldLost, failed}
+use Rattle.pair.specs.Carrier.{Body}
+use Rattle.pair.proofs.OneDialogue.{Party, Sys, swap, did, emptied, toldLost, failed}
 use Rattle.pair.specs.Claims.{Prefix}
 use Rattle.pair.proofs.ControlMachine.{met, control}
 use Rattle.pair.proofs.Finite.{ok, T-is}

@@ -7,7 +7,8 @@ use Prim.Native.Nat.{ℕ}
 use lib.Dec.{T}
 use Rattle.control.specs.Control as M
 use Rattle.pair.specs.Names.{Side, Control, Primitive, isIdle, closed, other, expects, after, Did, quiet, aborts, meets}
-use Rattle.pair.specs.Carrier.{Body, Sys, isNil, did, off, handedOver}
+use Rattle.pair.specs.Carrier.{Body}
+use Rattle.pair.proofs.OneDialogue.{Sys, isNil, did, off, handedOver}
 use Rattle.pair.proofs.ControlMachine.{Ent, met, receives, control}
 use Rattle.control.proofs.Finite.{imp}
 use Rattle.pair.proofs.Finite.{Dr, ok, dead, bad, and-l, and-r, is-T, T-is, imp-e}

@@ -5,7 +5,8 @@ use mathlib.Core.Bool.{Bool, true, false, not, cond, _&&_, _||_}
 use mathlib.Core.List.{List, [], _∷_, _++_}
 use lib.Dec.{T}
 use Rattle.pair.specs.Names.{Side, Control, isIdle, other}
-use Rattle.pair.specs.Carrier.{Body, Sys, isNil}
+use Rattle.pair.specs.Carrier.{Body}
+use Rattle.pair.proofs.OneDialogue.{Sys, isNil}
 use Rattle.pair.specs.Claims.{Prefix}
 use Rattle.pair.proofs.ControlMachine.{Ent, control}
 use Rattle.pair.proofs.Finite.{is-T}

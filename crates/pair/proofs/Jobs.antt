@@ -7,7 +7,8 @@ use Prim.Native.Nat.{ℕ, _<_}
 use native.Mathlib.Omega.{arith}
 use lib.Dec.{T, ltb, ltb→lt}
 use Rattle.pair.specs.Names.{Side, Air, Ground, DTurnedAway, DPAbort, TimerExpiry, SystemError, other, takes, goes, sends, isData, Did, quiet, aborts, meets, hands}
-use Rattle.pair.specs.Carrier.{Body, nothing, puts, message, Outcome, refused, acts, Sort, begins, breaks, plain, Sys, Step, user-call, hand-over, timer-expires, error-reported, turn-away, fail, Turn, idle, swap, put, took, left, did, ready, starts, called, discards, off, handedOver, mayTurnAway, recalled, turnedAway, emptied, toldLost, failed, stepped, turned, run}
+use Rattle.pair.specs.Carrier.{Body, nothing, puts, message, Outcome, refused, acts, Sort, begins, breaks, plain, Step, user-call, hand-over, timer-expires, error-reported, turn-away, fail, Turn, idle, starts, discards}
+use Rattle.pair.proofs.OneDialogue.{Sys, swap, put, took, left, did, ready, called, off, handedOver, mayTurnAway, recalled, turnedAway, emptied, toldLost, failed, stepped, turned, run}
 use Rattle.pair.specs.Claims.{rising}
 use Rattle.pair.proofs.ControlMachine.{Held, held, Ent, ent, Ask, ask, sortOf, callOf, met, handed, receives, control, bothIdle}
 use Rattle.pair.proofs.Finite.{and-l, and-r, both, T-is}

@@ -1,3 +1,4 @@
+pub mod OneDialogue
 pub mod ControlMachine
 pub mod StepMachine
 pub mod Finite
@@ -27,3 +28,15 @@ pub mod StepCalls
 pub mod StepReceives
 pub mod StepAgrees
 pub mod Sample
+pub mod NumMachine
+pub mod NumLines
+pub mod NumBase
+pub mod NumView
+pub mod NumOrder
+pub mod NumSteps
+pub mod NumJobs
+pub mod NumPair
+pub mod NumSimulate
+pub mod NumAgree
+pub mod NumWorked
+pub mod NumStep

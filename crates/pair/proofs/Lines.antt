@@ -4,7 +4,8 @@ use mathlib.Core.Path.{_≡_, refl}
 use mathlib.Core.List.{List, [], _∷_, _++_}
 use Prim.Native.Nat.{ℕ, zero, suc}
 use lib.ListN.{take, drop, take-append-drop}
-use Rattle.pair.specs.Carrier.{Machine, isNil, cut}
+use Rattle.pair.specs.Carrier.{Machine}
+use Rattle.pair.proofs.OneDialogue.{isNil, cut}
 
 -- k is what is left of the line l when e is put behind it and the youngest entries are lost
 pub record Left {X : Type 0} (l : List X) (e : X) (k : List X) : Type 0 where

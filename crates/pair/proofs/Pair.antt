@@ -6,8 +6,9 @@ use mathlib.Core.List.{List, [], _∷_, _++_, append-nil}
 use Prim.Native.Nat.{ℕ}
 use lib.Dec.{T}
 use Rattle.pair.specs.Names.{Side, Air, Ground, Control, expects}
-use Rattle.pair.specs.Carrier.{Body, Sys, Turn, run}
-use Rattle.pair.specs.Claims.{matching, Claims}
+use Rattle.pair.specs.Carrier.{Body, Turn}
+use Rattle.pair.proofs.OneDialogue.{Sys, run, Claims}
+use Rattle.pair.specs.Claims.{matching}
 use Rattle.pair.proofs.ControlMachine.{Ent, Ask, control, bothIdle}
 use Rattle.pair.proofs.Finite.{ok, and-l}
 use Rattle.pair.proofs.Drain.{deaf, recv, fine, front, drain-fine, sound-left, sound-right, sound, strong}

@@ -6,7 +6,8 @@ use mathlib.Core.List.{List, [], _∷_}
 use Prim.Native.Nat.{ℕ}
 use lib.Dec.{T}
 use Rattle.pair.specs.Names.{Side, Air, Ground, Control, Did, isIdle, closed, other, expects, hands}
-use Rattle.pair.specs.Carrier.{nothing, puts, message, Outcome, refused, acts, Sort, begins?, Machine, Sys, Turn, fresh, run, discards}
+use Rattle.pair.specs.Carrier.{nothing, puts, message, Outcome, refused, acts, Sort, begins?, Machine, Turn, discards}
+use Rattle.pair.proofs.OneDialogue.{Sys, fresh, run}
 use Rattle.pair.proofs.ControlMachine.{Held, held, Ent, Ask, handed, met, control, bothIdle}
 use Rattle.pair.proofs.Drain.{deaf}
 use Rattle.pair.proofs.HandOver.{meets-is}

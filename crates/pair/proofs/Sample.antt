@@ -19,7 +19,8 @@ use Rattle.machine.specs.declared.event.Apdu.{Apdu}
 use Rattle.machine.specs.declared.event.Apdu.the-variants.{Absent, NotValid, Start, Send, AbortUser, AbortProvider, Forward}
 use Rattle.machine.specs.declared.outcome.Invoked.the-variants.{DDataRequest, DEndRequest, DAbortRequest}
 use Rattle.pair.specs.Names.{Side, Air, Ground, Dialogue, End, entered, closed}
-use Rattle.pair.specs.Carrier.{Body, Sys, user-call, hand-over, timer-expires, Turn, fresh, run}
+use Rattle.pair.specs.Carrier.{Body, user-call, hand-over, timer-expires, Turn}
+use Rattle.pair.proofs.OneDialogue.{Sys, fresh, run}
 use Rattle.pair.proofs.StepMachine.{Read, got, fault, Codec, Order, start-request, start-response, message-request, end-request, stepMachine, freshWith}
 
 abbrev fits : Side → Apdu → Body → Bool

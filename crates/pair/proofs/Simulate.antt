@@ -6,7 +6,8 @@ use mathlib.Core.List.{List, [], _∷_, _++_, append-nil}
 use Prim.Native.Nat.{ℕ}
 use lib.Dec.{T}
 use Rattle.pair.specs.Names.{Side, Air, Ground, StartReq, Control, is, isIdle, other}
-use Rattle.pair.specs.Carrier.{Body, Sent, nothing, puts, message, Outcome, refused, acts, Sort, begins, breaks, plain, begins?, Machine, Party, Sys, Step, user-call, hand-over, timer-expires, error-reported, turn-away, fail, Turn, isNil, idle, isStart, swap, put, took, sent, left, did, ready, starts, called, discards, off, handedOver, hasStart, withoutStart, mayTurnAway, recalled, turnedAway, emptied, toldLost, failed, stepped, turned, run}
+use Rattle.pair.specs.Carrier.{Body, Sent, nothing, puts, message, Outcome, refused, acts, Sort, begins, breaks, plain, begins?, Machine, Step, user-call, hand-over, timer-expires, error-reported, turn-away, fail, Turn, idle, isStart, starts, discards}
+use Rattle.pair.proofs.OneDialogue.{Party, Sys, isNil, swap, put, took, sent, left, did, ready, called, off, handedOver, hasStart, withoutStart, mayTurnAway, recalled, turnedAway, emptied, toldLost, failed, stepped, turned, run}
 use Rattle.pair.proofs.Lines.{LL, ll-snoc, ll-cut, ll-nil}
 use Rattle.pair.proofs.Agree.{SentRel, OutRel, Still, Follows, stays, does, Agree}
 

@@ -14,9 +14,9 @@ use Rattle.machine.specs.declared.event.ServicePrimitive.the-variants.{DPAbortI
 use Rattle.machine.specs.declared.event.Event.{Event}
 use Rattle.machine.specs.declared.event.Event.the-variants.{User, Service, TimerExpires, UnrecoverableSystemError}
 use Rattle.pair.specs.Names.{Side, Control, isIdle, closed, TimerExpiry, SystemError, DTurnedAway, DPAbort, other, Call}
-use Rattle.pair.specs.Carrier.{Body, Sys, Turn, fresh, run}
+use Rattle.pair.specs.Carrier.{Body, Turn}
+use Rattle.pair.proofs.OneDialogue.{Sys, fresh, run, Claims}
 use Rattle.pair.specs.Carrier as C
-use Rattle.pair.specs.Claims.{Claims}
 use Rattle.pair.proofs.ControlMachine.{Held, held, Ent, ent, ask, callOf, receives, control}
 use Rattle.pair.specs.Wires.{Wire, arrives, rejects}
 use Rattle.pair.proofs.StepMachine.{Codec, apduOf, bodyOf, happens, Order, asked, dataOf, jobOf, calls, stepMachine}

@@ -6,7 +6,8 @@ use mathlib.Core.List.{List, [], _∷_}
 use Prim.Native.Nat.{ℕ}
 use lib.Dec.{T}
 use Rattle.pair.specs.Names.{Side, Air, Ground, TimerExpiry, SystemError, other}
-use Rattle.pair.specs.Carrier.{Sys, Step, user-call, hand-over, timer-expires, error-reported, turn-away, fail, Turn, swap, stepped, turned, run}
+use Rattle.pair.specs.Carrier.{Step, user-call, hand-over, timer-expires, error-reported, turn-away, fail, Turn}
+use Rattle.pair.proofs.OneDialogue.{Sys, swap, stepped, turned, run}
 use Rattle.pair.proofs.ControlMachine.{Ask, ask, control, bothIdle}
 use Rattle.pair.proofs.Drain.{front}
 use Rattle.pair.proofs.Tests.{flip-at}

@@ -6,7 +6,8 @@ use mathlib.Core.List.{List, [], _∷_, _++_, append-nil}
 use Prim.Native.Nat.{ℕ}
 use lib.Dec.{T}
 use Rattle.pair.specs.Names.{Side, StartReq, Control, DTurnedAway, is, closed, other, expects, Did}
-use Rattle.pair.specs.Carrier.{Body, Sys, did, withLine, hasStart, withoutStart, mayTurnAway, recalled, turnedAway}
+use Rattle.pair.specs.Carrier.{Body}
+use Rattle.pair.proofs.OneDialogue.{Sys, did, withLine, hasStart, withoutStart, mayTurnAway, recalled, turnedAway}
 use Rattle.pair.proofs.ControlMachine.{Ent, ent, handed, met, receives, control}
 use Rattle.pair.proofs.Finite.{Dr, ok, and-l, and-r, no-T, T-is}
 use Rattle.pair.proofs.Drain.{isStart, recv, later, drain, front, isClosed, fine, sound, drain-fine, sound-right, later-start}

@@ -7,7 +7,8 @@ use mathlib.Core.Bool.{Bool, true, false}
 use mathlib.Core.List.{List, [], _∷_, _++_}
 use Prim.Native.Nat.{ℕ}
 use Rattle.pair.specs.Names.{Side, Air, Ground, StartReq, StartInd, Dialogue, End, Control, Accepted, Rejected, Primitive, DStart, DStartCnf, DData, DEndCnf, DAbort, Call, StartRequest, StartResponse, MessageRequest, EndRequest, EndResponse, UserAbort, entered, closed}
-use Rattle.pair.specs.Carrier.{Body, Party, Step, user-call, hand-over, timer-expires, error-reported, turn-away, fail, Turn, fresh, run}
+use Rattle.pair.specs.Carrier.{Body, Step, user-call, hand-over, timer-expires, error-reported, turn-away, fail, Turn}
+use Rattle.pair.proofs.OneDialogue.{Party, fresh, run}
 use Rattle.pair.proofs.ControlMachine.{Ent, Ask, ask, new, control}
 
 -- ---- the words of a run

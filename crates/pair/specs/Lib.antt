@@ -2,3 +2,4 @@ pub mod Names
 pub mod Carrier
 pub mod Claims
 pub mod Wires
+pub mod Numbered

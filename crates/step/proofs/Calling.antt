@@ -12,7 +12,6 @@ use Rattle.apdu.specs.Writing.{done, dataShaped}
 use Rattle.apdu.specs.declared.Data.{Data}
 use Rattle.apdu.specs.declared.Written.{Written}
 use Rattle.machine.specs.Outcome.{refusalNumber, isNone}
-use Rattle.machine.specs.Step.{step}
 use Rattle.control.specs.declared.Side.{Side}
 use Rattle.machine.specs.declared.record.Record.{Record}
 use Rattle.machine.specs.declared.event.Apdu.{Apdu}
@@ -26,9 +25,10 @@ use Rattle.machine.specs.declared.outcome.Invoked.the-variants.{Silent, DStartR
 use Rattle.machine.specs.declared.outcome.Told.{Told}
 use Rattle.machine.specs.declared.outcome.Told.the-variants.{Untold, StartIndication, StartConfirmation, MessageIndication, EndIndication, EndConfirmation, UserAbortIndication, ProviderAbortIndication}
 use Rattle.machine.specs.declared.outcome.Outcome.{Outcome}
+use Rattle.numbered.specs.Numbers.{heldAfter, numberedStep}
 use Rattle.step.specs.Stored.{loadAt, storeAt, kept}
 use Rattle.step.specs.Packed.{primitives, packed, invokedNumber, toldNumber}
-use Rattle.step.specs.Call.{Called, called, bitsOfWritten, firstTakes, secondTakes, finished, concluded, withRecord, entering, userStep, meaning, dataOf, readPdu, noData, dataStep, bareStep, serviceStep}
+use Rattle.step.specs.Call.{Called, called, bitsOfWritten, firstTakes, secondTakes, finished, concluded, eventStep, withRecord, entering, userStep, meaning, dataOf, readPdu, noData, dataStep, bareStep, serviceStep}
 use Rattle.step.specs.declared.stored.Loaded.{Loaded}
 use Rattle.step.specs.declared.stored.Loaded.the-variants.{Is, NoRecord}
 
@@ -57,21 +57,21 @@ told-low (ProviderAbortIndication x) = omega arith
 
 -- ---- after the step
 
-module _ (r a b : List ℕ) (sd : Side) (o : Outcome) (li lm lc : List ℕ) (d : Data) (t : Bool) (p : t ≡ isNone (o .refusal)) where
-  pub is-refused : (n : ℕ) → t ≡ false → n ≡ refusalNumber (o .refusal) → called n r a b ≡ concluded r a b sd o li lm lc d
+module _ (r a b : List ℕ) (sd : Side) (held : ℕ) (o : Outcome) (li lm lc : List ℕ) (d : Data) (t : Bool) (p : t ≡ isNone (o .refusal)) where
+  pub is-refused : (n : ℕ) → t ≡ false → n ≡ refusalNumber (o .refusal) → called n r a b ≡ concluded r a b sd held o li lm lc d
   unfolding concluded
   is-refused n q e = rw (← p, q, e)
 
   pub is-taken : t ≡ true → (w v : Written) (a′ b′ : List ℕ) → done w a′ ≡ firstTakes sd li lm lc d (o .apdu) a → done v b′ ≡ secondTakes li lm lc d (o .delivers) b
-      → (x : Bool) (r′ : List ℕ) → kept x r′ ≡ storeAt r sd (o .next)
+      → (x : Bool) (r′ : List ℕ) → kept x r′ ≡ storeAt r sd (o .next) held
       → (i u m n k : ℕ) → i ≡ invokedNumber (o .invoked) → u ≡ toldNumber (o .told) → m ≡ bitsOfWritten w → n ≡ bitsOfWritten v → k ≡ packed i u m n
-      → called k r′ a′ b′ ≡ concluded r a b sd o li lm lc d
+      → called k r′ a′ b′ ≡ concluded r a b sd held o li lm lc d
   unfolding concluded finished
   is-taken q w v a′ b′ e f x r′ g i u m n k ei eu em en ek = rw (← p, q, ← e, ← f, ← g, ek, ei, eu, em, en)
 
 -- ---- before the step
 
-module _ (r a b : List ℕ) (k : Side → Record → Called) where
+module _ (r a b : List ℕ) (k : Side → Record → ℕ → Called) where
   pub no-room-first : length a < bufferLeast → called 1 r a b ≡ entering r a b k
   unfolding entering
   no-room-first h = rw (lt-ltb (length a) bufferLeast h)
@@ -89,39 +89,42 @@ module _ (r a b : List ℕ) (k : Side → Record → Called) where
     unfolding withRecord
     no-record q = rw (enters, q)
 
-    pub with-record : (sd : Side) (x : Record) (o : Called) → l ≡ Is sd x → o ≡ k sd x → o ≡ entering r a b k
+    pub with-record : (sd : Side) (x : Record) (n : ℕ) (o : Called) → l ≡ Is sd x n → o ≡ k sd x n → o ≡ entering r a b k
     unfolding withRecord
-    with-record sd x o q e = e ∙ rw (enters, q)
+    with-record sd x n o q e = e ∙ rw (enters, q)
 
-module _ (r a b : List ℕ) (e : Event) (li lm lc : List ℕ) (d : Data) (sd : Side) (x : Record) (t : Bool) (p : t ≡ dataShaped li lm lc d) where
-  pub no-shape : t ≡ false → called 2 r a b ≡ userStep r a b e li lm lc d sd x
+-- an event with its dialogue number
+pub event-steps : (r a b : List ℕ) (e : Event) (v : ℕ) (li lm lc : List ℕ) (d : Data) (sd : Side) (x : Record) (n : ℕ) (o : Outcome) (m : ℕ) (z : Called) → o ≡ numberedStep sd x n e v → m ≡ heldAfter n e v → z ≡ concluded r a b sd m o li lm lc d → z ≡ eventStep r a b e v li lm lc d sd x n
+event-steps r a b e v li lm lc d sd x n o m z f g h = h ∙ rw (f, g)
+
+module _ (r a b : List ℕ) (e : Event) (v : ℕ) (li lm lc : List ℕ) (d : Data) (sd : Side) (x : Record) (n : ℕ) (t : Bool) (p : t ≡ dataShaped li lm lc d) where
+  pub no-shape : t ≡ false → called 2 r a b ≡ userStep r a b e v li lm lc d sd x n
   unfolding userStep
   no-shape q = rw (← p, q)
 
-  pub steps : (o : Outcome) (z : Called) → t ≡ true → o ≡ step sd x e → z ≡ concluded r a b sd o li lm lc d → z ≡ userStep r a b e li lm lc d sd x
+  pub steps : (z : Called) → t ≡ true → z ≡ eventStep r a b e v li lm lc d sd x n → z ≡ userStep r a b e v li lm lc d sd x n
   unfolding userStep
-  steps o z q f g = g ∙ rw (← p, q, f)
+  steps z q g = g ∙ rw (← p, q)
 
 -- ---- a dialogue-service primitive
 
-module _ (r a b : List ℕ) (p : ServicePrimitive) (l : List ℕ) (sd : Side) (x : Record) where
-  pub data-steps : (f : Answer) (m : Apdu) (o : Outcome) (d : Data) (z : Called) → f ≡ readPdu sd p l → m ≡ meaning f → o ≡ step sd x (Service p m) → d ≡ dataOf f
-      → z ≡ concluded r a b sd o l l l d → z ≡ dataStep r a b p l sd x
+module _ (r a b : List ℕ) (p : ServicePrimitive) (v : ℕ) (l : List ℕ) (sd : Side) (x : Record) (n : ℕ) where
+  pub data-steps : (f : Answer) (m : Apdu) (d : Data) (z : Called) → f ≡ readPdu sd p l → m ≡ meaning f → d ≡ dataOf f → z ≡ eventStep r a b (Service p m) v l l l d sd x n → z ≡ dataStep r a b p v l sd x n
   unfolding dataStep
-  data-steps f m o d z pf pm po pd e = e ∙ rw (po, pd, pm, pf)
+  data-steps f m d z pf pm pd e = e ∙ rw (pd, pm, pf)
 
-  pub bare-steps : (o : Outcome) (d : Data) (z : Called) → o ≡ step sd x (Service p Absent) → d ≡ noData → z ≡ concluded r a b sd o l l l d → z ≡ bareStep r a b p l sd x
+  pub bare-steps : (d : Data) (z : Called) → d ≡ noData → z ≡ eventStep r a b (Service p Absent) v l l l d sd x n → z ≡ bareStep r a b p v l sd x n
   unfolding bareStep
-  bare-steps o d z po pd e = e ∙ rw (po, pd)
+  bare-steps d z pd e = e ∙ rw pd
 
-  pub given-odd : (g : ℕ) → 1 < g → called 2 r a b ≡ serviceStep r a b p g l sd x
+  pub given-odd : (g : ℕ) → 1 < g → called 2 r a b ≡ serviceStep r a b p v g l sd x n
   unfolding serviceStep
   given-odd g h = rw (lt-ltb 1 g h)
 
-  pub given-data : (g : ℕ) (z : Called) → g ≡ 1 → z ≡ dataStep r a b p l sd x → z ≡ serviceStep r a b p g l sd x
+  pub given-data : (g : ℕ) (z : Called) → g ≡ 1 → z ≡ dataStep r a b p v l sd x n → z ≡ serviceStep r a b p v g l sd x n
   unfolding serviceStep
   given-data g z h e = e ∙ rw h
 
-  pub given-none : (g : ℕ) (z : Called) → g ≤ 1 → (g ≡ 1 → ⊥) → z ≡ bareStep r a b p l sd x → z ≡ serviceStep r a b p g l sd x
+  pub given-none : (g : ℕ) (z : Called) → g ≤ 1 → (g ≡ 1 → ⊥) → z ≡ bareStep r a b p v l sd x n → z ≡ serviceStep r a b p v g l sd x n
   unfolding serviceStep
-  given-none g z h n e = e ∙ rw (le-ltb 1 g h, ne-eqb g 1 n)
+  given-none g z h w e = e ∙ rw (le-ltb 1 g h, ne-eqb g 1 w)

@@ -27,28 +27,28 @@ abbrev pub Leaves : List ℕ → List ℕ → List ℕ → Called → Type 0
 Leaves r a b c = (c .number % 256 ≡ 0 → ⊥) → (c .kept ≡ r) × (c .first ≡ a) × (c .second ≡ b)
 
 module _ (r a b : List ℕ) where
-  concluded-leaves : (sd : Side) (o : Outcome) (li lm lc : List ℕ) (d : Data) → Leaves r a b (concluded r a b sd o li lm lc d)
+  concluded-leaves : (sd : Side) (n : ℕ) (o : Outcome) (li lm lc : List ℕ) (d : Data) → Leaves r a b (concluded r a b sd n o li lm lc d)
   unfolding concluded finished
-  concluded-leaves sd o li lm lc d = by-test (Leaves r a b) (isNone (o .refusal)) _ _ (λ e n. absurd (n (refusal-unpacked _ _ _ _))) (λ e n. (refl, refl, refl))
+  concluded-leaves sd n o li lm lc d = by-test (Leaves r a b) (isNone (o .refusal)) _ _ (λ e n. absurd (n (refusal-unpacked _ _ _ _))) (λ e n. (refl, refl, refl))
 
-  with-leaves : (l : Loaded) (k : Side → Record → Called) → ((sd : Side) (x : Record) → Leaves r a b (k sd x)) → Leaves r a b (withRecord r a b l k)
+  with-leaves : (l : Loaded) (k : Side → Record → ℕ → Called) → ((sd : Side) (x : Record) (n : ℕ) → Leaves r a b (k sd x n)) → Leaves r a b (withRecord r a b l k)
   unfolding withRecord
-  with-leaves (Is sd x) k h = h sd x
+  with-leaves (Is sd x n) k h = h sd x n
   with-leaves NoRecord k h = λ n. (refl, refl, refl)
 
-  entering-leaves : (k : Side → Record → Called) → ((sd : Side) (x : Record) → Leaves r a b (k sd x)) → Leaves r a b (entering r a b k)
+  entering-leaves : (k : Side → Record → ℕ → Called) → ((sd : Side) (x : Record) (n : ℕ) → Leaves r a b (k sd x n)) → Leaves r a b (entering r a b k)
   unfolding entering
   entering-leaves k h =
       by-test (Leaves r a b) (ltb (length a) bufferLeast) _ _ (λ e n. (refl, refl, refl))
       (λ e. by-test (Leaves r a b) (ltb (length b) bufferLeast) _ _ (λ f n. (refl, refl, refl)) (λ f. with-leaves (loadAt r) k h))
 
-  pub user-leaves : (e : Event) (ids msgs checks : List ℕ) (d : Data) → Leaves r a b (userCall r a b e ids msgs checks d)
+  pub user-leaves : (e : Event) (v : ℕ) (ids msgs checks : List ℕ) (d : Data) → Leaves r a b (userCall r a b e v ids msgs checks d)
   unfolding userCall userStep
-  user-leaves e ids msgs checks d =
-      entering-leaves (userStep r a b e (lent ids) (lent msgs) (lent checks) d) (λ sd x. by-test (Leaves r a b) (dataShaped (lent ids) (lent msgs) (lent checks) d) _ _ (λ h. concluded-leaves sd _ _ _ _ d) (λ h n. (refl, refl, refl)))
+  user-leaves e v ids msgs checks d =
+      entering-leaves (userStep r a b e v (lent ids) (lent msgs) (lent checks) d) (λ sd x n. by-test (Leaves r a b) (dataShaped (lent ids) (lent msgs) (lent checks) d) _ _ (λ h. concluded-leaves sd _ _ _ _ _ d) (λ h w. (refl, refl, refl)))
 
-  pub service-leaves : (p : ServicePrimitive) (given : ℕ) (bytes : List ℕ) → Leaves r a b (serviceCall r a b p given bytes)
+  pub service-leaves : (p : ServicePrimitive) (v given : ℕ) (bytes : List ℕ) → Leaves r a b (serviceCall r a b p v given bytes)
   unfolding serviceCall serviceStep dataStep bareStep
-  service-leaves p given bytes =
-      entering-leaves (serviceStep r a b p given (lent bytes)) (λ sd x. by-test (Leaves r a b) (ltb 1 given) _ _ (λ h n. (refl, refl, refl))
-      (λ h. by-test (Leaves r a b) (eqb given 1) _ _ (λ g. concluded-leaves sd _ _ _ _ _) (λ g. concluded-leaves sd _ _ _ _ _)))
+  service-leaves p v given bytes =
+      entering-leaves (serviceStep r a b p v given (lent bytes)) (λ sd x n. by-test (Leaves r a b) (ltb 1 given) _ _ (λ h w. (refl, refl, refl))
+      (λ h. by-test (Leaves r a b) (eqb given 1) _ _ (λ g. concluded-leaves sd _ _ _ _ _ _) (λ g. concluded-leaves sd _ _ _ _ _ _)))

@@ -43,7 +43,10 @@ use Rattle.machine.specs.declared.outcome.Invoked.{Invoked}
 use Rattle.machine.specs.declared.outcome.Invoked.the-variants.{Silent, DStartRequest, DStartResponse, DDataRequest, DEndRequest, DEndResponse, DAbortRequest}
 use Rattle.machine.specs.declared.outcome.Told.{Told}
 use Rattle.machine.specs.declared.outcome.Told.the-variants.{Untold, StartIndication, StartConfirmation, MessageIndication, EndIndication, EndConfirmation, UserAbortIndication, ProviderAbortIndication}
+use Rattle.machine.specs.declared.outcome.Refusal.the-variants.{Stale}
 use Rattle.machine.specs.declared.outcome.Outcome.{Outcome}
+use Rattle.numbered.specs.Numbers.{isStale, numberedStep}
+use Rattle.numbered.proofs.Laws.{numbered-is}
 use Rattle.step.specs.Packed.{codes}
 use Rattle.step.specs.Stored.{flag}
 use Rattle.step.specs.Call.{pduSide}
@@ -286,3 +289,11 @@ module _ (sd : Side) (r : Record) (k : Coded r) where
       go true q n =
           let v = not-refused (shapely sd e) (permitted sd r e) (messageRefusal r e) q in acts-fits e (v .0) (v .1 .0) j
       go false q n = never (sym q ∙ n)
+
+  -- with a dialogue number
+  pub numbered-fits : (n : ℕ) (e : Event) (v : ℕ) → JobLow e → isNone (numberedStep sd r n e v .refusal) ≡ true → Fit sd (brings e) (numberedStep sd r n e v)
+  numbered-fits n e v j = subst (λ (o : Outcome). isNone (o .refusal) ≡ true → Fit sd (brings e) o) (sym (numbered-is sd r n e v)) (go (shapely sd e && isStale n e v))
+    where
+      go : (t : Bool) → isNone (cond t (refused Stale r) (step sd r e) .refusal) ≡ true → Fit sd (brings e) (cond t (refused Stale r) (step sd r e))
+      go true x = never x
+      go false x = step-fits e j x

@@ -25,7 +25,6 @@ use Rattle.apdu.specs.declared.Written.{Written}
 use Rattle.apdu.specs.declared.Written.the-variants as written
 use Rattle.machine.specs.Codes.{aircraft, facility, provider}
 use Rattle.machine.specs.Outcome.{refusalNumber, isNone}
-use Rattle.machine.specs.Step.{step}
 use Rattle.control.specs.declared.Side.{Side}
 use Rattle.control.specs.declared.Side.the-variants.{Air, Ground}
 use Rattle.machine.specs.declared.record.Record.{Record}
@@ -36,6 +35,7 @@ use Rattle.machine.specs.declared.event.ServicePrimitive.the-variants.{DStartIn
 use Rattle.machine.specs.declared.event.Event.{Event}
 use Rattle.machine.specs.declared.event.Event.the-variants.{Service}
 use Rattle.machine.specs.declared.outcome.Outcome.{Outcome}
+use Rattle.numbered.specs.Numbers.{heldAfter, numberedStep}
 use Rattle.step.specs.Stored.{flag, loadAt, storeAt, Kept}
 use Rattle.step.specs.Packed.{packed, invokedNumber, toldNumber}
 use Rattle.step.specs.declared.stored.Loaded.{Loaded}
@@ -85,37 +85,41 @@ firstTakes sd li lm lc d Forward s = nothingTo s
 unfoldable pub secondTakes : List ℕ → List ℕ → List ℕ → Data → Bool → List ℕ → Done
 secondTakes li lm lc d delivers s = cond delivers (writeOut (dataShaped li lm lc d) s (contentBits (contentIn li lm lc d))) (nothingTo s)
 
--- a step that was taken: the buffers, the record and the number
-unfoldable pub finished : List ℕ → List ℕ → List ℕ → Side → Outcome → Done → Done → Called
-finished r a b sd o one two =
+-- a step that was taken: the buffers, the record with the dialogue number n that it holds afterwards, and the answer's number
+unfoldable pub finished : List ℕ → List ℕ → List ℕ → Side → ℕ → Outcome → Done → Done → Called
+finished r a b sd n o one two =
     called (packed (invokedNumber (o .invoked)) (toldNumber (o .told)) (bitsOfWritten (one .answer)) (bitsOfWritten (two .answer)))
-    (storeAt r sd (o .next) .bytes) (one .bytes) (two .bytes)
+    (storeAt r sd (o .next) n .bytes) (one .bytes) (two .bytes)
 
 -- the outcome of a step, with the message data that the host gave or that the APDU holds
-unfoldable pub concluded : List ℕ → List ℕ → List ℕ → Side → Outcome → List ℕ → List ℕ → List ℕ → Data → Called
-concluded r a b sd o li lm lc d =
+unfoldable pub concluded : List ℕ → List ℕ → List ℕ → Side → ℕ → Outcome → List ℕ → List ℕ → List ℕ → Data → Called
+concluded r a b sd n o li lm lc d =
     cond (isNone (o .refusal))
-    (finished r a b sd o (firstTakes sd li lm lc d (o .apdu) a) (secondTakes li lm lc d (o .delivers) b))
+    (finished r a b sd n o (firstTakes sd li lm lc d (o .apdu) a) (secondTakes li lm lc d (o .delivers) b))
     (called (refusalNumber (o .refusal)) r a b)
 
 -- ---- refusals before the step
 
 -- ROOM, then bytes that are no record
-unfoldable pub withRecord : List ℕ → List ℕ → List ℕ → Loaded → (Side → Record → Called) → Called
-withRecord r a b (Is sd x) k = k sd x
+unfoldable pub withRecord : List ℕ → List ℕ → List ℕ → Loaded → (Side → Record → ℕ → Called) → Called
+withRecord r a b (Is sd x n) k = k sd x n
 withRecord r a b NoRecord k = called shape r a b
 
-unfoldable pub entering : List ℕ → List ℕ → List ℕ → (Side → Record → Called) → Called
+unfoldable pub entering : List ℕ → List ℕ → List ℕ → (Side → Record → ℕ → Called) → Called
 entering r a b k = cond (ltb (length a) bufferLeast) (called room r a b) (cond (ltb (length b) bufferLeast) (called room r a b) (withRecord r a b (loadAt r) k))
+
+-- an event that brings the dialogue number v, at a record that holds n
+abbrev pub eventStep : List ℕ → List ℕ → List ℕ → Event → ℕ → List ℕ → List ℕ → List ℕ → Data → Side → Record → ℕ → Called
+eventStep r a b e v li lm lc d sd x n = concluded r a b sd (heldAfter n e v) (numberedStep sd x n e v) li lm lc d
 
 -- ---- a user primitive, an expiry or a system error; the message data stand in the lent bytes ids, msgs and checks
 
-unfoldable pub userStep : List ℕ → List ℕ → List ℕ → Event → List ℕ → List ℕ → List ℕ → Data → Side → Record → Called
-userStep r a b e li lm lc d sd x =
-    cond (dataShaped li lm lc d) (concluded r a b sd (step sd x e) li lm lc d) (called shape r a b)
+unfoldable pub userStep : List ℕ → List ℕ → List ℕ → Event → ℕ → List ℕ → List ℕ → List ℕ → Data → Side → Record → ℕ → Called
+userStep r a b e v li lm lc d sd x n =
+    cond (dataShaped li lm lc d) (eventStep r a b e v li lm lc d sd x n) (called shape r a b)
 
-unfoldable pub userCall : List ℕ → List ℕ → List ℕ → Event → List ℕ → List ℕ → List ℕ → Data → Called
-userCall r a b e ids msgs checks d = entering r a b (userStep r a b e (lent ids) (lent msgs) (lent checks) d)
+unfoldable pub userCall : List ℕ → List ℕ → List ℕ → Event → ℕ → List ℕ → List ℕ → List ℕ → Data → Called
+userCall r a b e v ids msgs checks d = entering r a b (userStep r a b e v (lent ids) (lent msgs) (lent checks) d)
 
 -- no message data
 abbrev pub noData : Data
@@ -187,16 +191,16 @@ dataOf (answer.Is is.Forward) = noData
 dataOf (answer.Is is.ForwardResponse) = noData
 
 -- with user data, or without
-unfoldable pub dataStep : List ℕ → List ℕ → List ℕ → ServicePrimitive → List ℕ → Side → Record → Called
-dataStep r a b p l sd x = concluded r a b sd (step sd x (Service p (meaning (readPdu sd p l)))) l l l (dataOf (readPdu sd p l))
+unfoldable pub dataStep : List ℕ → List ℕ → List ℕ → ServicePrimitive → ℕ → List ℕ → Side → Record → ℕ → Called
+dataStep r a b p v l sd x n = eventStep r a b (Service p (meaning (readPdu sd p l))) v l l l (dataOf (readPdu sd p l)) sd x n
 
-unfoldable pub bareStep : List ℕ → List ℕ → List ℕ → ServicePrimitive → List ℕ → Side → Record → Called
-bareStep r a b p l sd x = concluded r a b sd (step sd x (Service p Absent)) l l l noData
+unfoldable pub bareStep : List ℕ → List ℕ → List ℕ → ServicePrimitive → ℕ → List ℕ → Side → Record → ℕ → Called
+bareStep r a b p v l sd x n = eventStep r a b (Service p Absent) v l l l noData sd x n
 
 -- given: 0 no user data, 1 user data; another number is SHAPE
-unfoldable pub serviceStep : List ℕ → List ℕ → List ℕ → ServicePrimitive → ℕ → List ℕ → Side → Record → Called
-serviceStep r a b p given l sd x =
-    cond (ltb 1 given) (called shape r a b) (cond (eqb given 1) (dataStep r a b p l sd x) (bareStep r a b p l sd x))
+unfoldable pub serviceStep : List ℕ → List ℕ → List ℕ → ServicePrimitive → ℕ → ℕ → List ℕ → Side → Record → ℕ → Called
+serviceStep r a b p v given l sd x n =
+    cond (ltb 1 given) (called shape r a b) (cond (eqb given 1) (dataStep r a b p v l sd x n) (bareStep r a b p v l sd x n))
 
-unfoldable pub serviceCall : List ℕ → List ℕ → List ℕ → ServicePrimitive → ℕ → List ℕ → Called
-serviceCall r a b p given bytes = entering r a b (serviceStep r a b p given (lent bytes))
+unfoldable pub serviceCall : List ℕ → List ℕ → List ℕ → ServicePrimitive → ℕ → ℕ → List ℕ → Called
+serviceCall r a b p v given bytes = entering r a b (serviceStep r a b p v given (lent bytes))

@@ -1,4 +1,5 @@
--- A record as the host keeps it: eight bytes of one code each, then the highest job taken, most significant byte first. A range of zeros is no record.
+-- A record as the host keeps it: eight bytes of one code each, then the highest job taken and the dialogue number (document 02, E9), eight bytes
+-- each, most significant byte first. A range of zeros is no record.
 use Prim.Native.Nat.{ℕ, zero, suc, _+_, _*_}
 use mathlib.Core.Bool.{Bool, true, false, cond, _&&_}
 use mathlib.Core.List.{List, [], _∷_, _++_}
@@ -58,8 +59,15 @@ jobByte = 8
 abbrev pub jobBytes : ℕ
 jobBytes = 8
 
+-- the dialogue number, likewise
+abbrev pub numberByte : ℕ
+numberByte = jobByte + jobBytes
+
+abbrev pub numberBytes : ℕ
+numberBytes = 8
+
 abbrev pub recordBytes : ℕ
-recordBytes = jobByte + jobBytes
+recordBytes = numberByte + numberBytes
 
 -- the same in bits
 abbrev pub jobBit : ℕ
@@ -67,6 +75,12 @@ jobBit = 8 * jobByte
 
 abbrev pub jobBits : ℕ
 jobBits = 8 * jobBytes
+
+abbrev pub numberBit : ℕ
+numberBit = 8 * numberByte
+
+abbrev pub numberBits : ℕ
+numberBits = 8 * numberBytes
 
 abbrev pub recordBits : ℕ
 recordBits = 8 * recordBytes
@@ -98,9 +112,9 @@ unfoldable pub headBytes : Side → Record → List ℕ
 headBytes sd r =
     sideCode sd ∷ number (r .control .state) ∷ flag (r .control .dsc) ∷ flag (r .timer) ∷ flag (r .active) ∷ r .request ∷ r .policy ∷ 0 ∷ []
 
--- the bytes of a record
-unfoldable pub storedBytes : Side → Record → List ℕ
-storedBytes sd r = headBytes sd r ++ bytesOf jobBytes (bitsN jobBits (r .highest))
+-- the bytes of a record that holds the dialogue number n
+unfoldable pub storedBytes : Side → Record → ℕ → List ℕ
+storedBytes sd r n = headBytes sd r ++ bytesOf (jobBytes + numberBytes) (bitsN jobBits (r .highest) ++ bitsN numberBits n)
 
 -- whether the bytes in front of the job are those of a record
 unfoldable pub headFits : ℕ → ℕ → ℕ → ℕ → ℕ → ℕ → ℕ → ℕ → Bool
@@ -113,9 +127,9 @@ codeAt b i = getD b i 0
 abbrev pub headOf : List ℕ → Bool
 headOf b = headFits (codeAt b sideByte) (codeAt b stateByte) (codeAt b dscByte) (codeAt b timerByte) (codeAt b activeByte) (codeAt b requestByte) (codeAt b policyByte) (codeAt b spareByte)
 
--- the record whose highest job was read
-unfoldable pub withHighest : List ℕ → Read → Loaded
-withHighest b (Number h next) =
+-- the record whose highest job and dialogue number were read
+unfoldable pub withNumbers : List ℕ → Read → Read → Loaded
+withNumbers b (Number h next) (Number n last) =
     Is (sideOf (codeAt b sideByte)) (record {
       control = entered (stateOf (codeAt b stateByte)) (eqb (codeAt b dscByte) 1);
       timer = eqb (codeAt b timerByte) 1;
@@ -123,12 +137,13 @@ withHighest b (Number h next) =
       highest = h;
       request = codeAt b requestByte;
       policy = codeAt b policyByte;
-    })
-withHighest b Short = NoRecord
+    }) n
+withNumbers b (Number h next) Short = NoRecord
+withNumbers b Short x = NoRecord
 
 -- what a range of bytes says
 unfoldable pub loadAt : List ℕ → Loaded
-loadAt b = cond (eqb (length b) recordBytes && headOf b) (withHighest b (readBits (bitsTo b recordBits) jobBit jobBits)) NoRecord
+loadAt b = cond (eqb (length b) recordBytes && headOf b) (withNumbers b (readBits (bitsTo b recordBits) jobBit jobBits) (readBits (bitsTo b recordBits) numberBit numberBits)) NoRecord
 
 -- what storing leaves: whether the record was stored, and the bytes
 pub record Kept : Type 0 where
@@ -139,6 +154,6 @@ abbrev pub kept : Bool → List ℕ → Kept
 kept d b = record { done = d; bytes = b }
 
 -- into a range of its size, if the record's codes are of their types
-unfoldable pub storeAt : List ℕ → Side → Record → Kept
-storeAt b sd r =
-    cond (eqb (length b) recordBytes && ltb (r .request) securityValues && ltb (r .policy) securityValues) (kept true (storedBytes sd r)) (kept false b)
+unfoldable pub storeAt : List ℕ → Side → Record → ℕ → Kept
+storeAt b sd r n =
+    cond (eqb (length b) recordBytes && ltb (r .request) securityValues && ltb (r .policy) securityValues) (kept true (storedBytes sd r n)) (kept false b)

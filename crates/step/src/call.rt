@@ -2,7 +2,7 @@
 ghost use mathlib.Core.Path.{_≡_};
 ghost use Rattle.apdu.specs.Pdus.{lent};
 ghost use Rattle.apdu.specs.Writing.{done};
-ghost use Rattle.step.specs.Call.{bareStep, bitsOfWritten, called, concluded, dataStep, firstTakes, pduSide, secondTakes, serviceCall, userCall};
+ghost use Rattle.step.specs.Call.{bareStep, bitsOfWritten, called, concluded, dataStep, eventStep, firstTakes, pduSide, secondTakes, serviceCall, userCall};
 use crate::arrived::data_of;
 use crate::arrived::meaning;
 use crate::arrived::no_data;
@@ -24,6 +24,7 @@ use machine::event::Event;
 use machine::event::ServicePrimitive;
 use machine::outcome::Outcome;
 use machine::record::Record;
+use numbered::held_after;
 use words::Limit;
 
 fn pdu_side(s: Side) -> PduSide
@@ -97,19 +98,20 @@ fn write_second(
     Written::Bits(0)
 }
 
-// The outcome of a step: refused, and nothing changes; or the buffers are written and the record is kept.
+// The outcome of a step: refused, and nothing changes; or the buffers are written and the record is kept, with the dialogue number that it holds now.
 fn conclude(
     rec: &mut [u8],
     first: &mut [u8],
     second: &mut [u8],
     side: Side,
+    number: u64,
     o: Outcome,
     ids: &[u8],
     msgs: &[u8],
     checks: &[u8],
     d: Data,
 ) -> u64
-    ensures { λ n. ⌜ called n (now (rec .exit)) (now (first .exit)) (now (second .exit)) ≡ concluded (now (rec .entry)) (now (first .entry)) (now (second .entry)) side o (lent (now (ids .entry))) (lent (now (msgs .entry))) (lent (now (checks .entry))) d ⌝ }
+    ensures { λ n. ⌜ called n (now (rec .exit)) (now (first .exit)) (now (second .exit)) ≡ concluded (now (rec .entry)) (now (first .entry)) (now (second .entry)) side number o (lent (now (ids .entry))) (lent (now (msgs .entry))) (lent (now (checks .entry))) d ⌝ }
 {
     let why = o.refusal;
     if why.is_none() {
@@ -117,7 +119,7 @@ fn conclude(
         let sent = write_first(first, side, a, d, ids, msgs, checks);
         let given = write_second(second, o.delivers, d, ids, msgs, checks);
         let next = o.next;
-        store(rec, side, next);
+        store(rec, side, next, number);
         let i = o.invoked;
         let t = o.told;
         return packed(
@@ -130,18 +132,41 @@ fn conclude(
     why.number()
 }
 
-// A user primitive, an expiry or a system error, with the message data that the host gives.
+// An event that brings a dialogue number, at a record that holds one.
+fn event_step(
+    rec: &mut [u8],
+    first: &mut [u8],
+    second: &mut [u8],
+    e: Event,
+    brought: u64,
+    ids: &[u8],
+    msgs: &[u8],
+    checks: &[u8],
+    d: Data,
+    side: Side,
+    r: Record,
+    held: u64,
+) -> u64
+    ensures { λ n. ⌜ called n (now (rec .exit)) (now (first .exit)) (now (second .exit)) ≡ eventStep (now (rec .entry)) (now (first .entry)) (now (second .entry)) e brought (lent (now (ids .entry))) (lent (now (msgs .entry))) (lent (now (checks .entry))) d side r held ⌝ }
+{
+    let o = numbered::step(side, r, held, e, brought);
+    let number = held_after(held, e, brought);
+    conclude(rec, first, second, side, number, o, ids, msgs, checks, d)
+}
+
+// A user primitive, an expiry or a system error, with the message data that the host gives. A start brings a dialogue number; the others bring none.
 pub fn user_call(
     rec: &mut [u8],
     first: &mut [u8],
     second: &mut [u8],
     e: Event,
+    brought: u64,
     ids: &[u8],
     msgs: &[u8],
     checks: &[u8],
     d: Data,
 ) -> u64
-    ensures { λ n. ⌜ called n (now (rec .exit)) (now (first .exit)) (now (second .exit)) ≡ userCall (now (rec .entry)) (now (first .entry)) (now (second .entry)) e (now (ids .entry)) (now (msgs .entry)) (now (checks .entry)) d ⌝ }
+    ensures { λ n. ⌜ called n (now (rec .exit)) (now (first .exit)) (now (second .exit)) ≡ userCall (now (rec .entry)) (now (first .entry)) (now (second .entry)) e brought (now (ids .entry)) (now (msgs .entry)) (now (checks .entry)) d ⌝ }
 {
     if first.len() < Pdu::BUFFER {
         return Limit::ROOM;
@@ -149,14 +174,26 @@ pub fn user_call(
     if second.len() < Pdu::BUFFER {
         return Limit::ROOM;
     }
-    let Loaded::Is(side, r) = load(rec) else {
+    let Loaded::Is(side, r, held) = load(rec) else {
         return Limit::SHAPE;
     };
     if apdu::data_shaped(d, ids, msgs, checks) {
-        let o = machine::step(side, r, e);
-        return conclude(rec, first, second, side, o, ids, msgs, checks, d);
+        return event_step(
+            rec,
+            first,
+            second,
+            e,
+            brought,
+            ids,
+            msgs,
+            checks,
+            d,
+            side,
+            r,
+            held,
+        );
     }
-    2
+    Limit::SHAPE
 }
 
 // A primitive with user data: what it is read as decides the step, and its message data are what is delivered.
@@ -165,25 +202,30 @@ fn data_step(
     first: &mut [u8],
     second: &mut [u8],
     p: ServicePrimitive,
+    brought: u64,
     bytes: &[u8],
     side: Side,
     r: Record,
+    held: u64,
 ) -> u64
-    ensures { λ n. ⌜ called n (now (rec .exit)) (now (first .exit)) (now (second .exit)) ≡ dataStep (now (rec .entry)) (now (first .entry)) (now (second .entry)) p (lent (now (bytes .entry))) side r ⌝ }
+    ensures { λ n. ⌜ called n (now (rec .exit)) (now (first .exit)) (now (second .exit)) ≡ dataStep (now (rec .entry)) (now (first .entry)) (now (second .entry)) p brought (lent (now (bytes .entry))) side r held ⌝ }
 {
     let pdu = read_pdu(side, p, bytes);
     let e = Event::Service(p, meaning(pdu));
-    let o = machine::step(side, r, e);
-    conclude(
+    let d = data_of(pdu);
+    event_step(
         rec,
         first,
         second,
+        e,
+        brought,
+        bytes,
+        bytes,
+        bytes,
+        d,
         side,
-        o,
-        bytes,
-        bytes,
-        bytes,
-        data_of(pdu),
+        r,
+        held,
     )
 }
 
@@ -193,27 +235,43 @@ fn bare_step(
     first: &mut [u8],
     second: &mut [u8],
     p: ServicePrimitive,
+    brought: u64,
     bytes: &[u8],
     side: Side,
     r: Record,
+    held: u64,
 ) -> u64
-    ensures { λ n. ⌜ called n (now (rec .exit)) (now (first .exit)) (now (second .exit)) ≡ bareStep (now (rec .entry)) (now (first .entry)) (now (second .entry)) p (lent (now (bytes .entry))) side r ⌝ }
+    ensures { λ n. ⌜ called n (now (rec .exit)) (now (first .exit)) (now (second .exit)) ≡ bareStep (now (rec .entry)) (now (first .entry)) (now (second .entry)) p brought (lent (now (bytes .entry))) side r held ⌝ }
 {
     let e = Event::Service(p, Apdu::Absent);
-    let o = machine::step(side, r, e);
-    conclude(rec, first, second, side, o, bytes, bytes, bytes, no_data())
+    let d = no_data();
+    event_step(
+        rec,
+        first,
+        second,
+        e,
+        brought,
+        bytes,
+        bytes,
+        bytes,
+        d,
+        side,
+        r,
+        held,
+    )
 }
 
-// A dialogue-service primitive, with user data (given 1) or without (0).
+// A dialogue-service primitive with its dialogue number, with user data (given 1) or without (0).
 pub fn service_call(
     rec: &mut [u8],
     first: &mut [u8],
     second: &mut [u8],
     p: ServicePrimitive,
+    brought: u64,
     given: u64,
     bytes: &[u8],
 ) -> u64
-    ensures { λ n. ⌜ called n (now (rec .exit)) (now (first .exit)) (now (second .exit)) ≡ serviceCall (now (rec .entry)) (now (first .entry)) (now (second .entry)) p given (now (bytes .entry)) ⌝ }
+    ensures { λ n. ⌜ called n (now (rec .exit)) (now (first .exit)) (now (second .exit)) ≡ serviceCall (now (rec .entry)) (now (first .entry)) (now (second .entry)) p brought given (now (bytes .entry)) ⌝ }
 {
     if first.len() < Pdu::BUFFER {
         return Limit::ROOM;
@@ -221,14 +279,14 @@ pub fn service_call(
     if second.len() < Pdu::BUFFER {
         return Limit::ROOM;
     }
-    let Loaded::Is(side, r) = load(rec) else {
+    let Loaded::Is(side, r, held) = load(rec) else {
         return Limit::SHAPE;
     };
     if 1 < given {
         return Limit::SHAPE;
     }
     if given == 1 {
-        return data_step(rec, first, second, p, bytes, side, r);
+        return data_step(rec, first, second, p, brought, bytes, side, r, held);
     }
-    bare_step(rec, first, second, p, bytes, side, r)
+    bare_step(rec, first, second, p, brought, bytes, side, r, held)
 }

@@ -11,24 +11,30 @@ use control::number;
 use machine::record::Configuration;
 use machine::record::Record;
 
-// What a range of bytes says: a side and its record, or nothing.
+// What a range of bytes says: a side, its record and the dialogue number that it holds, or nothing.
 pub enum Loaded {
-    Is(Side, Record),
+    Is(Side, Record, u64),
     NoRecord,
 }
 
 impl Loaded {
-    // The bytes of a record: those of one code each, then those of the highest job.
+    // The bytes of a record: those of one code each, then those of the highest job and of the dialogue number.
     const HEAD: usize = 8;
 
     const JOB: usize = 8;
 
-    pub const SIZE: usize = Loaded::HEAD + Loaded::JOB;
+    const NUMBER: usize = 8;
+
+    pub const SIZE: usize = Loaded::HEAD + Loaded::JOB + Loaded::NUMBER;
 
     // The same in bits.
     const JOB_AT: usize = 8 * Loaded::HEAD;
 
     const JOB_BITS: usize = 8 * Loaded::JOB;
+
+    const NUMBER_AT: usize = Loaded::JOB_AT + Loaded::JOB_BITS;
+
+    const NUMBER_BITS: usize = 8 * Loaded::NUMBER;
 
     const BITS: usize = 8 * Loaded::SIZE;
 }
@@ -121,6 +127,14 @@ pub(crate) fn load(b: &[u8]) -> Loaded
         ) else {
             return Loaded::NoRecord;
         };
+        let Read::Number(held, _) = bits::read_bits(
+            b,
+            Loaded::BITS,
+            Loaded::NUMBER_AT,
+            Loaded::NUMBER_BITS,
+        ) else {
+            return Loaded::NoRecord;
+        };
         let state = state_of(b[1]);
         let dsc = b[2] == 1;
         return Loaded::Is(
@@ -133,6 +147,7 @@ pub(crate) fn load(b: &[u8]) -> Loaded
                 request: b[5] as u64,
                 policy: b[6] as u64,
             },
+            held,
         );
     }
     Loaded::NoRecord
@@ -157,9 +172,9 @@ fn head_bytes(side: Side, r: Record) -> [u8; 8]
     ]
 }
 
-// The bytes of a record, into a range of their size. Nothing is written elsewhere, nor a record with codes outside their types.
-pub fn store(b: &mut [u8], side: Side, r: Record) -> bool
-    ensures { λ x. ⌜ kept x (now (b .exit)) ≡ storeAt (now (b .entry)) side r ⌝ }
+// The bytes of a record with its dialogue number, into a range of their size. Nothing is written elsewhere, nor a record with codes outside their types.
+pub fn store(b: &mut [u8], side: Side, r: Record, held: u64) -> bool
+    ensures { λ x. ⌜ kept x (now (b .exit)) ≡ storeAt (now (b .entry)) side r held ⌝ }
 {
     if b.len() != Loaded::SIZE {
         return false;
@@ -173,5 +188,12 @@ pub fn store(b: &mut [u8], side: Side, r: Record) -> bool
     let head = head_bytes(side, r);
     bits::copy_bits(b, Loaded::BITS, 0, &head, Loaded::JOB_AT, 0, Loaded::JOB_AT);
     bits::put_bits(b, Loaded::BITS, Loaded::JOB_AT, Loaded::JOB_BITS, r.highest);
+    bits::put_bits(
+        b,
+        Loaded::BITS,
+        Loaded::NUMBER_AT,
+        Loaded::NUMBER_BITS,
+        held,
+    );
     true
 }

@@ -1,36 +1,45 @@
--- `step::call::data_step` meets its contract.
--- Assumes nothing.
 use Rattle.step.proofs.Calling.{data-steps}
 use borrow.Author.Needs.{needs}
 use Rattle.step.proofs.call.data_step.Statement.{statement}
 use Rattle.step.proofs.call.data_step.Tie as tie
+use Rattle.step.proofs.call.data_step.Reads as reads
+use Rattle.step.proofs.call.data_step.Lts as lts
+use Rattle.step.proofs.arrived.data_of.Reads as data-of-reads
+use Rattle.step.proofs.arrived.meaning.Reads as meaning-reads
+use Rattle.step.proofs.arrived.read_pdu.Reads as read-pdu-reads
+use Rattle.step.proofs.call.event_step.Reads as event-step-reads
 
+-- src/call.rt:213:9
 read-pdu-requires : tie.Need-read-pdu-requires
 read-pdu-requires c κs = search needs
 
+-- src/call.rt:214:31
 meaning-requires : tie.Need-meaning-requires
 meaning-requires c κs = search needs
 
-step-requires : tie.Need-step-requires
-step-requires c κs = search needs
-
+-- src/call.rt:215:9
 data-of-requires : tie.Need-data-of-requires
 data-of-requires c κs = search needs
 
-conclude-requires : tie.Need-conclude-requires
-conclude-requires c κs = search needs
+-- src/call.rt:216:5
+event-step-requires : tie.Need-event-step-requires
+event-step-requires c κs = search needs
 
+-- src/call.rt:200:1
 same-length : tie.Need-same-length
 same-length c = search needs
 
+-- src/call.rt:200:1
 same-length-2 : tie.Need-same-length-2
 same-length-2 c = search needs
 
+-- src/call.rt:200:1
 same-length-3 : tie.Need-same-length-3
 same-length-3 c = search needs
 
+-- src/call.rt:200:1
 returns : tie.Need-returns
-returns c = data-steps _ _ _ _ _ _ _ _ _ _ _ _ (c .before .before .before .before .before .before .before .before .before .before .before .before .before .read-pdu .ensures) (c .before .before .before .before .before .before .before .before .before .before .before .before .meaning .ensures) (c .before .before .before .before .before .before .before .before .before .before .before .step .ensures) (c .before .before .before .before .before .before .before .data-of .ensures) (c .before .before .before .before .before .before .conclude .ensures)
+returns c = data-steps _ _ _ _ _ _ _ _ _ _ _ _ _ (c .before .before .before .before .before .before .before .before .before .before .before .before .read-pdu .ensures) (c .before .before .before .before .before .before .before .before .before .before .before .meaning .ensures) (c .before .before .before .before .before .before .before .before .before .before .data-of .ensures) (c .before .before .before .before .before .before .event-step .ensures)
 
 pub data-step-spec : {M : Type 1} → statement M
 data-step-spec =
@@ -38,9 +47,8 @@ data-step-spec =
     (tie.spec
     read-pdu-requires
     meaning-requires
-    step-requires
     data-of-requires
-    conclude-requires
+    event-step-requires
     same-length
     same-length-2
     same-length-3

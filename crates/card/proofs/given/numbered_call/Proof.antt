@@ -1,9 +1,9 @@
--- `card::given::data_call` meets its contract.
+-- `card::given::numbered_call` meets its contract.
 -- Assumes nothing.
 use mathlib.Core.Path.{_∙_}
 use borrow.Author.Needs.{needs}
-use Rattle.card.proofs.given.data_call.Statement.{statement}
-use Rattle.card.proofs.given.data_call.Tie as tie
+use Rattle.card.proofs.given.numbered_call.Statement.{statement}
+use Rattle.card.proofs.given.numbered_call.Tie as tie
 
 given-data-requires : tie.Need-given-data-requires
 given-data-requires c κs = search needs
@@ -23,8 +23,8 @@ same-length-3 c = search needs
 returns : tie.Need-returns
 returns c = c .before .before .before .before .before .before .user-call .ensures ∙ rw (c .before .before .before .before .before .before .before .before .before .before .given-data .ensures)
 
-pub data-call-spec : {M : Type 1} → statement M
-data-call-spec =
+pub numbered-call-spec : {M : Type 1} → statement M
+numbered-call-spec =
     tie.close
     (tie.spec
     given-data-requires

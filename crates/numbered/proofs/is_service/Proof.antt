@@ -1,0 +1,46 @@
+-- `numbered::is_service` meets its contract.
+-- Assumes nothing.
+use Rattle.numbered.specs.Numbers.{isService}
+use Rattle.numbered.proofs.is_service.Statement.{statement}
+use Rattle.numbered.proofs.is_service.Tie as tie
+
+enum-told : tie.Need-enum-told
+enum-told c = c .match .keys1
+
+enum-told-2 : tie.Need-enum-told-2
+enum-told-2 c = c .match .keys2
+
+enum-told-3 : tie.Need-enum-told-3
+enum-told-3 c = c .match .keys3
+
+enum-told-4 : tie.Need-enum-told-4
+enum-told-4 c = c .match .keys4
+
+returns : tie.Need-returns
+unfolding isService
+returns c = rw (c .enum-told .given .1)
+
+returns-2 : tie.Need-returns-2
+unfolding isService
+returns-2 c = rw (c .enum-told2 .given .1)
+
+returns-3 : tie.Need-returns-3
+unfolding isService
+returns-3 c = rw (c .enum-told3 .given .1)
+
+returns-4 : tie.Need-returns-4
+unfolding isService
+returns-4 c = rw (c .enum-told4 .given .1)
+
+pub is-service-spec : {M : Type 1} → statement M
+is-service-spec =
+    tie.close
+    (tie.spec
+    enum-told
+    enum-told-2
+    enum-told-3
+    enum-told-4
+    returns
+    returns-2
+    returns-3
+    returns-4)

@@ -1,0 +1,46 @@
+-- `numbered::step` meets its contract.
+-- Assumes nothing.
+use mathlib.Core.Path.{sym, _∙_}
+use Rattle.numbered.specs.Numbers.{refusalOf, numberedStep}
+use Rattle.numbered.proofs.Laws.{then-step}
+use Rattle.numbered.proofs.step.Statement.{statement}
+use Rattle.numbered.proofs.step.Tie as tie
+
+shapely-requires : tie.Need-shapely-requires
+shapely-requires c κs = tt
+
+refused-requires : tie.Need-refused-requires
+refused-requires c κs = tt
+
+returns : tie.Need-returns
+unfolding numberedStep refusalOf
+returns c = rw (← c .before .before .shapely .ensures, c .before .if1 .taken) (c .refused .ensures)
+
+is-stale-requires : tie.Need-is-stale-requires
+is-stale-requires c κs = tt
+
+refused-requires-2 : tie.Need-refused-requires-2
+refused-requires-2 c κs = tt
+
+returns-2 : tie.Need-returns-2
+unfolding numberedStep refusalOf
+returns-2 c = rw (← c .before .before .before .before .shapely .ensures, c .before .before .before .if1 .left, ← c .before .before .is-stale .ensures, c .before .if2 .taken) (c .refused2 .ensures)
+
+step-requires : tie.Need-step-requires
+step-requires c κs = tt
+
+returns-3 : tie.Need-returns-3
+returns-3 c = c .step .ensures ∙ sym (then-step _ _ _ _ _ (sym (c .before .before .is-stale .ensures) ∙ c .before .if2 .left))
+
+pub step-spec : {M : Type 1} → statement M
+step-spec =
+    tie.close
+    (tie.spec
+    shapely-requires
+    refused-requires
+    returns
+    is-stale-requires
+    refused-requires-2
+    returns-2
+    step-requires
+    returns-3)

@@ -189,7 +189,7 @@ static void record(unsigned side, unsigned state)
 {
     memset(rec, 0, sizeof rec);
     rec[PEAT_RECORD_SIDE] = (uint8_t)side, rec[PEAT_RECORD_STATE] = (uint8_t)state;
-    rec[PEAT_RECORD_ACTIVE] = state != PEAT_IDLE;
+    rec[PEAT_RECORD_ACTIVE] = state != PEAT_IDLE, rec[PEAT_RECORD_VERSION] = 1;
 }
 
 /* ---- the card: one step each, with the APDU's coding in it */
@@ -210,8 +210,8 @@ static void card_d_data(const struct job_case *c)
     said = peat_d_data_indication(RANGE(rec), 0, PEAT_USER_DATA, c->apdu, (c->apdu_bits + 7) / 8, RANGE(first), RANGE(second));
 }
 
-/* the record is put back before each call, 24 bytes */
-static const uint8_t open_record[PEAT_RECORD_BYTES] = {PEAT_AIR, PEAT_DIALOGUE, 0, 0, 1};
+/* the record is put back before each call, 25 bytes */
+static const uint8_t open_record[PEAT_RECORD_BYTES] = {PEAT_AIR, PEAT_DIALOGUE, 0, 0, 1, 0, 0, PEAT_FORWARDS_NOT, 1};
 
 static void card_user_abort(const struct job_case *c)
 {
@@ -544,14 +544,14 @@ static struct end ends[DIALOGUES][2];
 static void open_dialogue(struct end *air, struct end *ground)
 {
     uint64_t n;
-    peat_fresh(RANGE(air->rec), PEAT_AIR, PEAT_NO_SECURITY);
-    peat_fresh(RANGE(ground->rec), PEAT_GROUND, PEAT_NO_SECURITY);
+    peat_fresh(RANGE(air->rec), PEAT_AIR, PEAT_NO_SECURITY, PEAT_FORWARDS_NOT, 1);
+    peat_fresh(RANGE(ground->rec), PEAT_GROUND, PEAT_NO_SECURITY, PEAT_FORWARDS_NOT, 1);
     n = peat_start(RANGE(air->rec), 1, PEAT_CPDLC, PEAT_CLASS_ANY, PEAT_NO_SECURITY, PEAT_NO_DATA, END_RANGES(air));
     peat_d_start_indication(RANGE(ground->rec), 1, PEAT_AIRCRAFT, PEAT_NO_SECURITY, PEAT_HIGH_PRIORITY, PEAT_LOW_ERROR_RATE, PEAT_CLASS_ANY,
-        PEAT_USER_DATA, air->first, peat_apdu_bytes(n), END_RANGES(ground));
+        PEAT_NO_VERSION, PEAT_USER_DATA, air->first, peat_apdu_bytes(n), END_RANGES(ground));
     n = peat_start_response(RANGE(ground->rec), PEAT_ACCEPTED, PEAT_NO_DATA, END_RANGES(ground));
-    peat_d_start_confirmation(RANGE(air->rec), 1, PEAT_ACCEPTED, PEAT_DS_USER, PEAT_NO_SECURITY, PEAT_USER_DATA, ground->first,
-        peat_apdu_bytes(n), END_RANGES(air));
+    peat_d_start_confirmation(RANGE(air->rec), 1, PEAT_ACCEPTED, PEAT_DS_USER, PEAT_NO_SECURITY, PEAT_NO_VERSION, PEAT_USER_DATA,
+        ground->first, peat_apdu_bytes(n), END_RANGES(air));
     if (peat_record_state(air->rec) != PEAT_DIALOGUE || peat_record_state(ground->rec) != PEAT_DIALOGUE)
         stop("a dialogue does not open");
 }

@@ -29,33 +29,47 @@ void journal_make_id(char *id)
     snprintf(id, JOURNAL_ID, "%016llx", (unsigned long long)n);
 }
 
-#define RECORD_WITHOUT_NUMBER 16 /* the bytes of a record up to version 0.3.0: those in front of the dialogue number */
+/* Places of an earlier record. Up to version 0.3.0 it ended where the number begins; up to 0.4.0 it had no version. Its seven first bytes and a
+   zero stood as they do now. */
+enum { EARLIER_HIGHEST = 8, EARLIER_NUMBER = 16, EARLIER_RECORD = 24 };
 
-static uint32_t sum_with(unsigned dialogue, const struct kept *k, size_t record_bytes)
+#define OWN_VERSION 1 /* of the bridge's records: it forwards nothing, so nobody compares it */
+
+static uint32_t sum_with(unsigned dialogue, const struct kept *k, const uint8_t *record, size_t bytes)
 {
     uint32_t sum = checksum(0, &dialogue, sizeof dialogue);
-    sum = checksum(sum, k->record, record_bytes);
+    sum = checksum(sum, record, bytes);
     sum = checksum(sum, &k->run, sizeof k->run);
     sum = checksum(sum, &k->deliveries, sizeof k->deliveries);
     return checksum(sum, &k->floor, sizeof k->floor);
 }
 
-uint32_t journal_sum(unsigned dialogue, const struct kept *k) { return sum_with(dialogue, k, sizeof k->record); }
+uint32_t journal_sum(unsigned dialogue, const struct kept *k) { return sum_with(dialogue, k, k->record, sizeof k->record); }
+
+static void take_earlier(uint8_t *record, const uint8_t *earlier, size_t bytes)
+{
+    memset(record, 0, PEAT_RECORD_BYTES);
+    memcpy(record, earlier, EARLIER_HIGHEST);
+    record[PEAT_RECORD_VERSION] = OWN_VERSION;
+    memcpy(record + PEAT_RECORD_HIGHEST, earlier + EARLIER_HIGHEST, bytes - EARLIER_HIGHEST); /* and the number, if there is one */
+}
 
 void journal_take_record(unsigned dialogue, struct kept *k, const uint8_t *record, size_t bytes, uint32_t sum)
 {
-    if (bytes != sizeof k->record && bytes != RECORD_WITHOUT_NUMBER)
+    if (bytes != sizeof k->record && bytes != EARLIER_NUMBER && bytes != EARLIER_RECORD)
         log_and_exit(EXIT_JOURNAL, "journal", "load", "a dialogue has no record");
-    memset(k->record, 0, sizeof k->record);
-    memcpy(k->record, record, bytes);
-    if (sum != sum_with(dialogue, k, bytes))
+    if (sum != sum_with(dialogue, k, record, bytes))
         log_and_exit(EXIT_JOURNAL, "journal", "load", "a dialogue's checksum is wrong: the journal is damaged");
+    if (bytes == sizeof k->record)
+        memcpy(k->record, record, bytes);
+    else
+        take_earlier(k->record, record, bytes);
 }
 
 struct kept journal_fresh(void)
 {
     struct kept k;
     memset(&k, 0, sizeof k);
-    peat_fresh(k.record, sizeof k.record, PEAT_GROUND, PEAT_NO_SECURITY);
+    peat_fresh(k.record, sizeof k.record, PEAT_GROUND, PEAT_NO_SECURITY, PEAT_FORWARDS_NOT, OWN_VERSION);
     return k;
 }

@@ -125,7 +125,8 @@ void journal_make_id(char *id);
 uint32_t journal_sum(unsigned dialogue, const struct kept *);
 
 /* Takes the record of a dialogue that a store read, when the rest of it is in kept already. One of version 0.3.0 ends before the dialogue number,
-   and gets 0: no start had a number then, and the next one's is above it. Another size, or another sum than the stored one, ends the process. */
+   and gets 0: no start had a number then, and the next one's is above it. It and one of 0.4.0 have no version, and get the bridge's; neither forwards.
+   Another size, or another sum than the stored one, ends the process. */
 void journal_take_record(unsigned dialogue, struct kept *, const uint8_t *record, size_t bytes, uint32_t sum);
 
 /* A dialogue that never was: what `init` keeps. */

@@ -12,9 +12,10 @@ uint64_t primitive_arrives(const struct primitive *p, uint8_t *record, uint8_t *
     unsigned peer = peat_record_side(record) == PEAT_AIR ? PEAT_FACILITY : PEAT_AIRCRAFT;
     switch (p->kind) {
     case PEAT_D_START_REQUEST:
-        return peat_d_start_indication(RECORD, p->number, peer, p->security, PEAT_HIGH_PRIORITY, PEAT_LOW_ERROR_RATE, p->parameter, DATA, BUFFERS);
+        return peat_d_start_indication(
+            RECORD, p->number, peer, p->security, PEAT_HIGH_PRIORITY, PEAT_LOW_ERROR_RATE, p->parameter, PEAT_NO_VERSION, DATA, BUFFERS);
     case PEAT_D_START_RESPONSE:
-        return peat_d_start_confirmation(RECORD, p->number, p->parameter, PEAT_DS_USER, p->security, DATA, BUFFERS);
+        return peat_d_start_confirmation(RECORD, p->number, p->parameter, PEAT_DS_USER, p->security, PEAT_NO_VERSION, DATA, BUFFERS);
     case PEAT_D_DATA_REQUEST: return peat_d_data_indication(RECORD, p->number, DATA, BUFFERS);
     case PEAT_D_END_REQUEST: return peat_d_end_indication(RECORD, p->number, DATA, BUFFERS);
     case PEAT_D_END_RESPONSE: return peat_d_end_confirmation(RECORD, p->number, p->parameter, DATA, BUFFERS);

@@ -63,6 +63,18 @@ static const struct row {
     ROW("dialogues left half closed", half_closed),
     ROW("starts over leftovers of an old one", late_starts),
     ROW("  primitives refused as STALE", stale),
+    ROW("forwards to the other centre taken", forwards),
+    ROW("  handed out again, and left", forward_again),
+    ROW("  answered with success", forward_success),
+    ROW("  answered as not supported", forward_not_supported),
+    ROW("  answered as of another version", forward_not_equal),
+    ROW("  broken, and told so", forward_broken),
+    ROW("  broken, and never arrived", forward_lost),
+    ROW("forwards shown to a controller", forward_shown),
+    ROW("  a second time", forward_twice),
+    ROW("  but not in order, or not as sent", forward_astray),
+    ROW("forwards with a wrong answer", forward_wrong),
+    ROW("  with none, and not broken", forward_silent),
     ROW("power failures of an end", restarts),
     ROW("  of the whole rack", rack_restarts),
     ROW("  in the middle of a write", torn),
@@ -85,8 +97,8 @@ struct kind {
 static struct kind shown_twice(void)
 {
     struct kind k = {"one clearance shown more than once", "shown_twice", "jobs handed out again", 0, 0};
-    k.tried = account.repeat + account.known + account.refused_again;
-    k.did = account.deck_duplicates + account.ground_duplicates + account.taken_twice;
+    k.tried = account.repeat + account.known + account.refused_again + account.forward_again;
+    k.did = account.deck_duplicates + account.ground_duplicates + account.taken_twice + account.forward_twice;
     return k;
 }
 
@@ -100,10 +112,10 @@ static struct kind half_closed(void)
 
 static struct kind wrong_records(void)
 {
-    struct kind k = {"wrong message records", "wrong_records", "messages lost, jobs out of order or far ahead, numbers given, writes torn, records loaded", 0, 0};
-    k.tried = account.lost + account.out_of_order + account.far_ahead + account.numbers + account.torn + account.loaded;
+    struct kind k = {"wrong message records", "wrong_records", "messages lost, jobs out of order or far ahead, numbers given, forwards broken, writes torn, records loaded", 0, 0};
+    k.tried = account.lost + account.out_of_order + account.far_ahead + account.numbers + account.forward_broken + account.torn + account.loaded;
     k.did = account.misplaced + account.missing + account.incomplete + account.silent + account.told_wrong + account.loaded_wrong + account.nobodys + account.refused +
-            account.number_twice + account.number_not_lowest + account.number_astray;
+            account.number_twice + account.number_not_lowest + account.number_astray + account.forward_astray + account.forward_wrong + account.forward_silent;
     return k;
 }
 

@@ -18,6 +18,9 @@ extern struct account {
     /* dialogues */
     unsigned long opened, closed, aborted, failed, turned_back, expired, errors, half_closed;
     unsigned long late_starts, stale;
+    /* forwards between centres, see forward.h */
+    unsigned long forwards, forward_again, forward_success, forward_not_supported, forward_not_equal, forward_broken, forward_lost, forward_shown;
+    unsigned long forward_twice, forward_astray, forward_wrong, forward_silent;
     /* the power */
     unsigned long restarts, rack_restarts, torn, loaded, loaded_wrong;
     /* calls that may not be refused, and were */

@@ -17,6 +17,7 @@ struct entry {
     unsigned primitive;   /* enum peat_invoked */
     unsigned parameter;   /* routing class, result or originator */
     unsigned security;
+    unsigned version; /* of a D-START that a forward is in, or PEAT_NO_VERSION */
     unsigned bits; /* of the APDU */
     size_t bytes;
     uint8_t apdu[PEAT_BUFFER_LEAST];

@@ -18,7 +18,7 @@ void dialogue_start(struct dialogue *d)
         return;
     account.late_starts += !quiet(d);
     if (fault(FORGETS_HIGHEST))
-        must((unsigned)peat_fresh(REC(e), e->user.side, PEAT_NO_SECURITY));
+        must(end_fresh(e));
     must(end_act(e, mode == PEAT_DSC ? "start request, dsc" : "start request, cpdlc",
         peat_start(REC(e), next, mode, class_, PEAT_NO_SECURITY, PEAT_NO_DATA, BUFFERS)));
 }
@@ -92,14 +92,15 @@ static uint64_t number_given(const struct end *to, const struct entry *e)
 /* A primitive that one end invoked reaches the other. */
 static uint64_t arrives(struct end *to, const struct entry *e)
 {
-    unsigned peer = is_air(to) ? PEAT_FACILITY : PEAT_AIRCRAFT;
+    unsigned peer = to->peer->setting.side == PEAT_AIR ? PEAT_AIRCRAFT : PEAT_FACILITY, version = fault(DROPS_VERSIONS) ? PEAT_NO_VERSION : e->version;
     uint64_t n = number_given(to, e);
     switch (e->primitive) {
     case PEAT_D_START_REQUEST:
-        return peat_d_start_indication(REC(to), n, peer, e->security, PEAT_HIGH_PRIORITY, PEAT_LOW_ERROR_RATE, e->parameter,
+        return peat_d_start_indication(REC(to), n, peer, e->security, PEAT_HIGH_PRIORITY, PEAT_LOW_ERROR_RATE, e->parameter, version,
             PEAT_USER_DATA, e->apdu, e->bytes, BUFFERS);
     case PEAT_D_START_RESPONSE:
-        return peat_d_start_confirmation(REC(to), n, e->parameter, PEAT_DS_USER, e->security, PEAT_USER_DATA, e->apdu, e->bytes, BUFFERS);
+        return peat_d_start_confirmation(
+            REC(to), n, e->parameter, PEAT_DS_USER, e->security, version, PEAT_USER_DATA, e->apdu, e->bytes, BUFFERS);
     case PEAT_D_DATA_REQUEST: return peat_d_data_indication(REC(to), n, PEAT_USER_DATA, e->apdu, e->bytes, BUFFERS);
     case PEAT_D_END_REQUEST: return peat_d_end_indication(REC(to), n, PEAT_USER_DATA, e->apdu, e->bytes, BUFFERS);
     case PEAT_D_END_RESPONSE: return peat_d_end_confirmation(REC(to), n, e->parameter, PEAT_USER_DATA, e->apdu, e->bytes, BUFFERS);
@@ -133,7 +134,7 @@ static void receive(struct end *to, const struct entry *e)
         stale(to, e);
         return;
     }
-    snprintf(what, sizeof what, "%s %c%lu", arrival_name(e->primitive), is_air(to) ? 'g' : 'a', e->serial);
+    snprintf(what, sizeof what, "%s %c%lu", arrival_name(e->primitive), to->peer->setting.name[0], e->serial);
     account.missing += e->primitive == PEAT_D_DATA_REQUEST && peat_told(answer) != PEAT_MESSAGE_INDICATION;
     must(end_act(to, what, answer));
 }
@@ -142,7 +143,8 @@ static void receive(struct end *to, const struct entry *e)
 static int loses(const struct entry *e)
 {
     return (fault(LOSES_ABORTS) && e->primitive == PEAT_D_ABORT_REQUEST) ||
-           (fault(LOSES_MESSAGES) && e->primitive == PEAT_D_DATA_REQUEST && chance(500) == 0);
+           (fault(LOSES_MESSAGES) && e->primitive == PEAT_D_DATA_REQUEST && chance(500) == 0) ||
+           (fault(LOSES_ANSWERS) && e->primitive == PEAT_D_START_RESPONSE && e->parameter == PEAT_REJECTED && chance(20) == 0);
 }
 
 void dialogue_hand_over(struct end *from)
@@ -154,7 +156,8 @@ void dialogue_hand_over(struct end *from)
     e = fault(TURNS_LINES) ? line_lose(&from->out) : line_take(&from->out);
     if (loses(e))
         return;
-    capture_entry(from->dialogue, is_air(from), e);
+    if (!of_link(from))
+        capture_entry(from->dialogue, is_air(from), e);
     if (idle(to) && e->primitive != PEAT_D_START_REQUEST) {
         discard(to, e);
         return;
@@ -174,13 +177,14 @@ void dialogue_expire(struct end *e)
 
 void dialogue_turn_back(struct end *e)
 {
-    if (state(e) != PEAT_START_REQ || line_of_number(&e->out, number(e)) == 0)
+    if ((state(e) != PEAT_START_REQ && state(e) != PEAT_FORWARD) || line_of_number(&e->out, number(e)) == 0)
         return;
     account.turned_back++;
     lose_youngest(e, line_of_number(&e->out, number(e))); /* it has sent nothing else in this dialogue */
     if (!fault(SILENT_TURN_BACK))
         must(end_act(e, "D-START confirmation: start turned back",
-            peat_d_start_confirmation(REC(e), number(e), PEAT_REJECTED_TRANSIENT, PEAT_DS_PROVIDER, PEAT_NO_SECURITY, PEAT_NO_USER_DATA, NULL, 0, BUFFERS)));
+            peat_d_start_confirmation(REC(e), number(e), PEAT_REJECTED_TRANSIENT, PEAT_DS_PROVIDER, PEAT_NO_SECURITY, PEAT_NO_VERSION,
+                PEAT_NO_USER_DATA, NULL, 0, BUFFERS)));
 }
 
 void dialogue_break_down(struct end *e)
@@ -277,6 +281,7 @@ void dialogue_audit(const struct end *e)
         case ENDED: account.told_wrong += shown == 0; break; /* it was told that the message arrived */
         case BROKEN: account.lost += shown == 0; break;
         case NOTHING_TOLD: account.silent += shown == 0 && broker_job(&e->broker, job)->acknowledged && !under_way(e, job); break;
+        default: account.told_wrong++; break; /* an answer, which only a forward gets */
         }
     }
 }

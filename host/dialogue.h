@@ -1,6 +1,7 @@
 /*
  * A dialogue: an air end and a ground end, joined by the carrier, and what may happen to them. The steps are those of the
- * pair statement (docs/PAIR.md), and a restart of an end, which is one of them: the carrier fails.
+ * pair statement (docs/PAIR.md), and a restart of an end, which is one of them: the carrier fails. A link between two centres is
+ * such a pair too, of two ground ends, with a start of its own (forward.h).
  */
 #ifndef DIALOGUE_H
 #define DIALOGUE_H
@@ -8,11 +9,14 @@
 #include "end.h"
 
 struct dialogue {
-    struct end end[2]; /* the air end, the ground end */
+    struct end end[2]; /* the air end, the ground end; of a link the one that forwards, the one that gets it */
 };
 
 static inline struct end *air(struct dialogue *d) { return &d->end[0]; }
 static inline struct end *ground(struct dialogue *d) { return &d->end[1]; }
+
+/* the end whose power is that of this centre's rack: the ground end, and of a link (forward.h) either */
+static inline struct end *in_rack(struct dialogue *d) { return of_link(&d->end[0]) ? &d->end[d->end[0].dialogue % 2] : ground(d); }
 
 /* both lines are empty */
 static inline int quiet(struct dialogue *d) { return air(d)->out.entries == 0 && ground(d)->out.entries == 0; }
@@ -47,7 +51,8 @@ void dialogue_fail(struct dialogue *d);
 
 /* ---- what must hold */
 
-/* With both lines empty the ends match, nothing is missing, and a dialogue that is over has released its connection. */
+/* With both lines empty the ends match (of a link: both are IDLE), nothing is missing, and a dialogue that is over has released its
+   connection. */
 void dialogue_examine(struct dialogue *d);
 
 /* Lets the lines run empty. */

@@ -6,25 +6,29 @@
 #include "account.h"
 #include "chance.h"
 #include "faults.h"
+#include "forward.h"
 #include "mail.h"
 #include "power.h"
 #include "story.h"
 
 uint8_t first[PEAT_BUFFER_LEAST], second[PEAT_BUFFER_LEAST];
 
-int end_begin(struct end *e, int dialogue, unsigned side, struct end *peer, const char *folder)
+unsigned end_fresh(struct end *e) { return (unsigned)peat_fresh(REC(e), e->setting.side, PEAT_NO_SECURITY, e->setting.forwarding, e->setting.version); }
+
+int end_begin(struct end *e, int dialogue, const struct setting *as, struct end *peer, const char *folder)
 {
     char name[32];
     e->dialogue = dialogue;
+    e->setting = *as;
     e->peer = peer;
-    e->user.side = side;
+    e->user.side = as->side;
     e->user.next = (uint64_t)dialogue + 1;
     e->user.apart = DIALOGUES;
-    if (peat_fresh(REC(e), side, PEAT_NO_SECURITY) != PEAT_TAKEN || peat_book_empty(PEAT_ARRAY(e->memory.book)) != PEAT_TAKEN)
+    if (end_fresh(e) != PEAT_TAKEN || peat_book_empty(PEAT_ARRAY(e->memory.book)) != PEAT_TAKEN)
         return -1;
     e->memory.wanted = 1;
     e->watch.kept = e->memory;
-    snprintf(name, sizeof name, "%s-%02d", peat_side_name(side), dialogue);
+    snprintf(name, sizeof name, "%s-%02d", as->name, dialogue);
     return journal_begin(&e->journal, folder, name, &e->memory);
 }
 
@@ -79,7 +83,9 @@ static void keep(struct end *e, const struct change *c)
     }
     memory_apply(&e->memory, c);
     watch_dialogue(e);
-    if (c->job != 0 && c->outcome == PEAT_TAKEN) {
+    if (c->job != 0 && c->outcome == PEAT_TAKEN && of_link(e)) {
+        forward_taken(e, c->job);
+    } else if (c->job != 0 && c->outcome == PEAT_TAKEN) {
         watch_taken(e, c->job);
         watch_number(e, c);
     }
@@ -116,6 +122,7 @@ static void invoke(struct end *e, uint64_t answer)
     n->primitive = peat_invoked(answer);
     n->parameter = peat_invoked_parameter(answer);
     n->security = peat_invoked_security(answer);
+    n->version = peat_version(answer);
     n->bits = peat_apdu_bits(answer);
     n->bytes = peat_apdu_bytes(answer);
     memcpy(n->apdu, first, n->bytes);
@@ -188,6 +195,7 @@ static void tell(struct end *e, uint64_t answer)
     unsigned accepted = peat_told_parameter(answer) == PEAT_ACCEPTED;
     switch (peat_told(answer)) {
     case PEAT_MESSAGE_INDICATION: deliver(e, answer); break;
+    case PEAT_FORWARD_INDICATION: forward_shown(e, answer); break;
     case PEAT_START_CONFIRMATION:
         account.opened += accepted;
         e->user.talking = (int)accepted;
@@ -201,11 +209,19 @@ static void tell(struct end *e, uint64_t answer)
     }
 }
 
+/* The answer to a forward says that its user has it: it goes when the user was shown the message, and not before. */
 static void release(struct end *e, uint64_t answer)
 {
-    invoke(e, answer);
+    int shown_first = peat_told(answer) == PEAT_FORWARD_INDICATION && !fault(ANSWERS_BEFORE_SHOWING);
+    if (shown_first)
+        tell(e, answer);
+    else
+        invoke(e, answer);
     power_point(e);
-    tell(e, answer);
+    if (shown_first)
+        invoke(e, answer);
+    else
+        tell(e, answer);
 }
 
 /* ---- what a call changed is kept, and then what it wrote leaves */
@@ -257,6 +273,9 @@ static void keep_book(const struct end *e, struct change *c, uint64_t answer)
         c->book = NUMBER_CLOSED;
 }
 
+/* what a forward was answered */
+static enum fate answered(uint64_t answer) { return (enum fate)(ANSWERED + peat_told_parameter(answer)); }
+
 /* the fate of the jobs of a dialogue that broke */
 static enum fate broken(const struct end *e, enum fate fate)
 {
@@ -271,6 +290,8 @@ unsigned end_act(struct end *e, const char *what, uint64_t answer)
     story_call(e, what, answer);
     if (breaks(answer) || begins(answer)) /* what an older dialogue left open is not known to have arrived */
         c.over = broken(e, BROKEN);
+    if (peat_told(answer) == PEAT_FORWARD_CONFIRMATION)
+        c.over = broken(e, answered(answer));
     keep_book(e, &c, answer);
     conclude(e, &c, answer);
     return PEAT_TAKEN;
@@ -284,6 +305,14 @@ void end_takes(struct end *e, uint64_t job, unsigned number, uint64_t answer)
     c.number = number;
     if (!is_air(e) && number != NO_NUMBER && !fault(NUMBERS_ITSELF) && !fault(CLOSES_TOO_EARLY))
         c.book = NUMBER_OPENED;
+    conclude(e, &c, answer);
+}
+
+void end_forwards(struct end *e, uint64_t job, uint64_t answer)
+{
+    struct change c = no_change(&e->memory);
+    story_took(e, job, answer);
+    c.job = job;
     conclude(e, &c, answer);
 }
 
@@ -320,7 +349,6 @@ static int as_kept(const struct memory *m, const struct memory *k)
 
 void end_loads(struct end *e)
 {
-    unsigned was = e->user.side;
     enum loaded loaded;
     memset(&e->memory, 0xA5, sizeof e->memory); /* nothing of what it had in memory is left */
     memset(e->held, 0, sizeof e->held);
@@ -333,7 +361,7 @@ void end_loads(struct end *e)
     account.torn += loaded == LOADED_TORN;
     account.loaded_wrong += !as_kept(&e->memory, &e->watch.kept);
     if (fault(FRESH_AT_RESTART))
-        must((unsigned)peat_fresh(REC(e), was, PEAT_NO_SECURITY));
+        must(end_fresh(e));
     e->watch.state = state(e);
     story_loaded(e);
 }

@@ -23,6 +23,12 @@ struct held {
     uint8_t body[CLEARANCE_BYTES];
 };
 
+/* what an end is made as, and stays: its name in the journal's and in the story */
+struct setting {
+    const char *name;
+    unsigned side, forwarding, version;
+};
+
 /* What the simulator knows of an end, and no host does: it holds the dialogue to docs/PAIR.md. */
 struct watch {
     unsigned state;              /* after its last call */
@@ -32,13 +38,15 @@ struct watch {
     unsigned seen;               /* how many of the other end's it was shown */
     struct book_watch numbers;   /* of a ground end: those of its messages that are open */
     int broke;                   /* it invoked D-ABORT in this dialogue, or the carrier failed */
+    uint64_t forward;            /* of an end that gets forwards: the last that its user was shown */
     struct memory kept;          /* what the journal has to give back */
     unsigned long entries;       /* that it put on its line */
     uint64_t delivered;          /* messages that its broker was given */
 };
 
 struct end {
-    int dialogue;
+    int dialogue; /* or link (forward.h), from DIALOGUES on */
+    struct setting setting;
     struct end *peer;
     struct memory memory;           /* lost with the power, and loaded from the journal */
     struct held held[HELD_MOST];    /* lost with the power */
@@ -62,14 +70,23 @@ static inline unsigned state(const struct end *e) { return peat_record_state(e->
 static inline int idle(const struct end *e) { return state(e) == PEAT_IDLE; }
 static inline int is_air(const struct end *e) { return side(e) == PEAT_AIR; }
 
+/* it is one of a link between two centres */
+static inline int of_link(const struct end *e) { return e->dialogue >= DIALOGUES; }
+
 /* makes the record of an end, once, and begins its journal; -1 where that does not go */
-int end_begin(struct end *e, int dialogue, unsigned side, struct end *peer, const char *folder);
+int end_begin(struct end *e, int dialogue, const struct setting *as, struct end *peer, const char *folder);
+
+/* Makes the record of an end fresh, which a host does once, and the wrong ones again. The answer of the card. */
+unsigned end_fresh(struct end *e);
 
 /* Does what the answer of a call says; `what` names the call. The refusal, or PEAT_TAKEN. */
 unsigned end_act(struct end *e, const char *what, uint64_t answer);
 
 /* likewise of a message request, which took a job, with the number that was set in the message */
 void end_takes(struct end *e, uint64_t job, unsigned number, uint64_t answer);
+
+/* likewise of a forward request */
+void end_forwards(struct end *e, uint64_t job, uint64_t answer);
 
 /* A job was refused for good: that is kept, and its user will be told. */
 void end_refuses(struct end *e, uint64_t job, unsigned refusal);

@@ -32,6 +32,10 @@ enum fault {
     CLOSES_TOO_EARLY,   /* closes a number as soon as its message is sent */
     CLOSES_NONE,        /* closes no number */
     FORGETS_NUMBERS,    /* hands over every primitive as one of the dialogue that the record holds */
+    LOSES_ANSWERS,      /* its carrier loses a D-START response that says "rejected", as the answer to every forward does */
+    DROPS_VERSIONS,     /* does not hand over the version of a D-START */
+    FORWARDS_AGAIN,     /* forwards what it has forwarded, when the job comes again */
+    ANSWERS_BEFORE_SHOWING, /* lets the answer to a forward go before its user has the message */
     FAULTS
 };
 

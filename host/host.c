@@ -1,14 +1,15 @@
 /*
- * A simulator of hosts of the card: 48 dialogues, each with an air end and a ground end, joined by a carrier in memory.
+ * A simulator of hosts of the card: 48 dialogues, each with an air end and a ground end, joined by a carrier in memory; and
+ * another centre, to which 8 links lead, each of two ground ends.
  *
  *     host --help
  *
  * Users open and close dialogues at random. At each end a broker hands out jobs, each with a CPDLC message for the other
  * end, in no strict order and each until it hears that it was acknowledged. A controller's message has a number from the book
- * of its dialogue, and the flight deck's messages are the replies that close it. Timers expire, ends break down, the carrier
- * fails and the power goes, all at random from the seed. The run ends when every line has run empty; then the account and
- * its verdict are printed. Status 0, PASS: no clearance was shown twice, no dialogue was left half closed, and every
- * message record is right.
+ * of its dialogue, and the flight deck's messages are the replies that close it. Meanwhile controllers forward messages to the
+ * other centre, and it to them. Timers expire, ends break down, the carrier fails and the power goes, all at random from the
+ * seed. The run ends when every line has run empty; then the account and its verdict are printed. Status 0, PASS: no clearance
+ * was shown twice, no dialogue was left half closed, and every message record is right.
  *
  * It is no host to put into a rack: its carrier, its broker and its power are in memory. What a host has to do around the
  * card, and in which order, it does as docs/HOST.md asks. One idea a file:
@@ -21,6 +22,7 @@
  *   restart   the power fails and is back: the carrier has failed
  *   dialogue  two ends and their carrier: what may happen, and what must hold
  *   book      the numbers of controllers' messages: open until the reply
+ *   forward   two centres and their carrier: forwards, their answers, what must hold
  *   broker, user, clearance, carrier, mail   the world around the ends
  *   account   what is counted, and the verdict
  *   story, capture, faults, options, chance, power   for the one who watches
@@ -35,13 +37,16 @@
 #include "chance.h"
 #include "dialogue.h"
 #include "faults.h"
+#include "forward.h"
 #include "jobs.h"
 #include "notices.h"
 #include "options.h"
 #include "restart.h"
 #include "story.h"
 
-static struct dialogue dialogues[DIALOGUES];
+#define PAIRS (DIALOGUES + LINKS)
+
+static struct dialogue dialogues[PAIRS]; /* and behind them the links */
 
 #define CROWD 500 /* offers at most, in which a dialogue has all numbers open */
 
@@ -56,12 +61,18 @@ static void crowd(struct dialogue *d)
     }
 }
 
-/* One thing happens in one dialogue. */
+#define FORWARD_STEPS 6 /* one step in so many is of a link */
+
+/* One thing happens in one dialogue, or on one link. */
 static void step(void)
 {
     struct dialogue *d = &dialogues[chance(DIALOGUES)];
     struct end *e = &d->end[chance(2)];
     unsigned what = chance(1000);
+    if (chance(FORWARD_STEPS) == 0) {
+        forward_step(&dialogues[DIALOGUES + chance(LINKS)]);
+        return;
+    }
     if (what < 450)
         dialogue_hand_over(e);
     else if (what < 750)
@@ -85,10 +96,14 @@ static void step(void)
 
 static int begin(const char *folder)
 {
+    static const struct setting aircraft = {"air", PEAT_AIR, PEAT_FORWARDS_NOT, 1}, centre = {"ground", PEAT_GROUND, PEAT_FORWARDS_NOT, 1};
     int i;
     for (i = 0; i < DIALOGUES; i++)
-        if (end_begin(air(&dialogues[i]), i, PEAT_AIR, ground(&dialogues[i]), folder) != 0 ||
-            end_begin(ground(&dialogues[i]), i, PEAT_GROUND, air(&dialogues[i]), folder) != 0)
+        if (end_begin(air(&dialogues[i]), i, &aircraft, ground(&dialogues[i]), folder) != 0 ||
+            end_begin(ground(&dialogues[i]), i, &centre, air(&dialogues[i]), folder) != 0)
+            return -1;
+    for (; i < PAIRS; i++)
+        if (forward_begin(&dialogues[i], i, folder) != 0)
             return -1;
     return 0;
 }
@@ -97,20 +112,22 @@ static int begin(const char *folder)
 static void finish(void)
 {
     int i, j;
-    for (i = 0; i < DIALOGUES; i++)
+    for (i = 0; i < PAIRS; i++)
         dialogue_drain(&dialogues[i]);
-    for (i = 0; i < DIALOGUES; i++)
+    for (i = 0; i < PAIRS; i++)
         for (j = 0; j < 2; j++)
             notices_post(&dialogues[i].end[j]);
     for (i = 0; i < DIALOGUES; i++)
         for (j = 0; j < 2; j++)
             dialogue_audit(&dialogues[i].end[j]);
+    for (i = DIALOGUES; i < PAIRS; i++)
+        forward_audit(&dialogues[i].end[0]);
 }
 
 static void end_journals(void)
 {
     int i;
-    for (i = 0; i < 2 * DIALOGUES; i++)
+    for (i = 0; i < 2 * PAIRS; i++)
         journal_end(&dialogues[i / 2].end[i % 2].journal);
 }
 
@@ -130,7 +147,7 @@ static int fail(const char *words, const char *name)
 
 int main(int argc, char **argv)
 {
-    struct options o = options_read(argc, argv, DIALOGUES);
+    struct options o = options_read(argc, argv, PAIRS);
     char made[200] = "";
     if (o.state == NULL && make_folder(made, sizeof made) != 0)
         return fail("no folder for the journals can be made", made);
@@ -140,7 +157,7 @@ int main(int argc, char **argv)
     if (begin(o.state != NULL ? o.state : made) != 0)
         return fail("no journal can be begun here", o.state != NULL ? o.state : made);
     for (story_step = 0; story_step < o.steps; story_step++)
-        restart_around(dialogues, DIALOGUES, step);
+        restart_around(dialogues, PAIRS, step);
     finish();
     end_journals();
     if (o.state == NULL)

@@ -12,8 +12,8 @@
 #define OUTBOX_MOST (OPEN_MOST + 1) /* a job is only taken when the outbox is empty */
 #define REFUSED_KEPT 256            /* how far back the refused jobs are known one by one */
 
-/* what became of a job, as its user is told */
-enum fate { NOTHING_TOLD, REFUSED, ENDED, BROKEN };
+/* what became of a job, as its user is told; a forward is answered by one of the last three, in the order of enum peat_forward_result, or broken */
+enum fate { NOTHING_TOLD, REFUSED, ENDED, BROKEN, ANSWERED, ANSWERED_NOT_SUPPORTED, ANSWERED_NOT_EQUAL };
 
 /* a word for whoever gave the job, until the broker has confirmed it */
 struct notice {

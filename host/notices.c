@@ -3,6 +3,7 @@
 #include "account.h"
 #include "end.h"
 #include "faults.h"
+#include "forward.h"
 #include "mail.h"
 #include "power.h"
 #include "story.h"
@@ -29,8 +30,10 @@ void notices_post(struct end *e)
         power_point(e);
         if (n->fate == REFUSED)
             refusal_posted(n->job, n->refusal);
-        account.notices += (unsigned long)news;
-        account.broken_told += news && n->fate == BROKEN;
+        account.notices += news && !of_link(e);
+        account.broken_told += news && n->fate == BROKEN && !of_link(e);
+        if (news && of_link(e))
+            forward_told(e, n);
         account.told_wrong += !user_told_fate(&e->user, &e->broker, n);
         story_told(e, n);
     }

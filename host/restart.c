@@ -6,20 +6,21 @@
 #include "power.h"
 #include "story.h"
 
-#define STEPS_A_FAILURE 150 /* one step in so many has a failure of the power */
+/* one step in so many has a failure of the power; more of them where a fault shows only if it fails at one point */
+#define STEPS_A_FAILURE (fault(ANSWERS_BEFORE_SHOWING) ? 10u : 150u)
 #define POINTS 6            /* that a step may pass */
-#define RACK 16             /* one failure at the ground in so many takes the whole rack */
+#define RACK 16             /* one failure at this centre in so many takes the whole rack */
 
 /* ---- going down */
 
 static void goes_down(struct dialogue *all, int count, struct end *e)
 {
-    int i, rack = e->user.side == PEAT_GROUND && chance(RACK) == 0;
+    int i, rack = e == in_rack(&all[e->dialogue]) && chance(RACK) == 0;
     account.restarts++;
     account.rack_restarts += (unsigned long)rack;
     e->down = 1;
     for (i = 0; rack && i < count; i++)
-        ground(&all[i])->down = 1;
+        in_rack(&all[i])->down = 1;
 }
 
 /* ---- coming up */

@@ -1,5 +1,5 @@
 /*
- * The power of an end fails, or that of the whole rack with its 48 ground ends, and is back. To the card this is a step
+ * The power of an end fails, or that of the whole rack with its 48 ground ends and an end of each link, and is back. To the card this is a step
  * that it knows: the carrier fails. The host loads every record, breaks the connection, and each end that is not IDLE gets
  * D-P-ABORT; so what docs/PAIR.md promises holds over restarts.
  */

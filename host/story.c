@@ -10,13 +10,12 @@ unsigned long story_step;
 
 static int silent(const struct end *e) { return e->dialogue != story_of; }
 
-static const char *side_of(const struct end *e) { return peat_side_name(e->user.side); }
-static char letter_of(const struct end *e) { return e->user.side == PEAT_AIR ? 'a' : 'g'; }
+static char letter_of(const struct end *e) { return e->setting.name[0]; }
 
 /* step, end, what, states, effect */
 static void line(const struct end *e, const char *what, const char *states, const char *effect)
 {
-    printf("%6lu  %-6s  %-42s  %-20s  %s\n", story_step, side_of(e), what, states, effect);
+    printf("%6lu  %-6s  %-42s  %-20s  %s\n", story_step, e->setting.name, what, states, effect);
 }
 
 static void words(const struct end *e, const char *what, const char *format, ...)
@@ -53,7 +52,7 @@ void story_took(const struct end *e, uint64_t job, uint64_t answer)
     char what[64];
     if (silent(e))
         return;
-    snprintf(what, sizeof what, "job %llu: clearance %llu", (unsigned long long)job,
+    snprintf(what, sizeof what, of_link(e) ? "job %llu: forward %llu" : "job %llu: clearance %llu", (unsigned long long)job,
         broker_knows(&e->broker, job) ? (unsigned long long)broker_job(&e->broker, job)->clearance : 0);
     said(e, what, answer);
 }
@@ -76,9 +75,15 @@ void story_shown(const struct end *e, uint64_t clearance)
     words(e, "the user is shown", "clearance %llu: %s", (unsigned long long)clearance, elements);
 }
 
+void story_forward(const struct end *e, uint64_t n)
+{
+    if (!silent(e))
+        words(e, "the user is shown", "forward %llu", (unsigned long long)n);
+}
+
 void story_told(const struct end *e, const struct notice *n)
 {
-    static const char *const fates[] = {"?", "refused", "ended", "broken"};
+    static const char *const fates[] = {"?", "refused", "ended", "broken", "success", "service-not-supported", "version-not-equal"};
     if (!silent(e))
         words(e, "the user is told", "job %llu: %s%s%s", (unsigned long long)n->job, fates[n->fate], n->fate == REFUSED ? ", " : "",
             n->fate == REFUSED ? peat_refusal_name(n->refusal) : "");

@@ -25,6 +25,7 @@ void story_took(const struct end *e, uint64_t job, uint64_t answer);
 
 void story_again(const struct end *e, uint64_t job, unsigned refusal);
 void story_shown(const struct end *e, uint64_t clearance);
+void story_forward(const struct end *e, uint64_t n);
 void story_told(const struct end *e, const struct notice *n);
 void story_loaded(const struct end *e);
 

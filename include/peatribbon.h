@@ -1,12 +1,12 @@
 /*
  * Peatribbon, as a C host calls it.
  *
- * One record is one end (air or ground) of one dialogue. The host keeps it in 24 bytes and lends it to each call together
+ * One record is one end (air or ground) of one dialogue. The host keeps it in PEAT_RECORD_BYTES bytes and lends it to each call together
  * with two output buffers. A call tells the record's machine of one event: a primitive of the user, a primitive of the
  * dialogue service, the expiry of t-start, or a system error. It answers a number that says which primitive the machine
  * invokes of the dialogue service and which of the user. The APDU for the one stands in the first buffer, the message data
  * for the other in the second. These are the machine's calls. The others have no record of a dialogue: they take message
- * data apart, read an APDU by itself, read and write the broker's envelope, put envelopes together that arrive in fragments,
+ * data and forward messages apart, read an APDU by itself, read and write the broker's envelope, put envelopes together that arrive in fragments,
  * read and write a CPDLC message, and keep a book of message identification numbers.
  *
  * Ranges. A range is a pointer and, as the next parameter, its length in bytes.
@@ -21,7 +21,7 @@
  * Numbers. A code is a uint64_t; a value outside its type is PEAT_SHAPE.
  *
  * Answers. Not refused: the lowest 8 bits are 0 and functions below read the rest, peat_invoked .. peat_data_bytes that of
- * the machine's calls, peat_part_given .. peat_mail_taken that of message data, an APDU and the envelope,
+ * the machine's calls, peat_part_given .. peat_mail_taken that of message data, a forward message, an APDU and the envelope,
  * peat_message_characters and peat_message_bits that of the message's, peat_opened_number and peat_open_count that of the
  * book's. Refused: the number of the refusal and, where bits were at fault (PEAT_SHORT to PEAT_DEFAULT), the position of the
  * fault, which peat_position reads; all other bits 0, and NO byte of any lent range has changed (but peat_mail_take and
@@ -36,7 +36,7 @@
  * higher one, which the record then holds, whatever becomes of the start. docs/HOST.md says how the host counts.
  *
  * What a machine's call writes, if it is not refused:
- *   - rec, 24 bytes: the record after the event;
+ *   - rec, all its bytes: the record after the event;
  *   - first, from its first byte on, peat_apdu_bytes(answer) bytes; the bits after the last bit of the APDU are zero;
  *   - second, from its first byte on, peat_data_bytes(answer) bytes; likewise.
  * Every other byte stays. A buffer with nothing to take stays whole.
@@ -44,7 +44,12 @@
  * The archive is for x86-64 Linux, needs no library, and takes less than 4 KiB of stack in a call.
  *
  * The host keeps the clock: it starts t-start when a record's timer (peat_record_timer) begins to run, stops it when it no
- * longer runs, and reports the expiry. The host also keeps versions and the names of the peers.
+ * longer runs, and reports the expiry. The host also keeps the names of the peers.
+ *
+ * Forwarding. A ground end may send a message to a ground end of another centre (peat_forward_request). It opens no dialogue: the other
+ * end answers in the event of its D-START indication, and stays IDLE. Each record has a version, and says whether it supports
+ * forwarding (peat_fresh); the version goes with the D-START that a forward is in and with an answer that says that it differs
+ * (peat_version of the answer), and the host carries it. The D-STARTs of a dialogue have none.
  *
  * WHAT THE HOST OWES THE CARD is in docs/HOST.md, on one page: above all, what a call left of a record is on stable storage
  * before anything of that call leaves the host, and no record that has lived is ever replaced by a fresh one.
@@ -66,9 +71,9 @@ extern "C" {
  * VERSION of the project: what the header is of, as a string and in three numbers. CHANGELOG.md says what changed.
  */
 
-#define PEAT_VERSION "0.4.0"
+#define PEAT_VERSION "0.5.0"
 #define PEAT_VERSION_MAJOR 0
-#define PEAT_VERSION_MINOR 4
+#define PEAT_VERSION_MINOR 5
 #define PEAT_VERSION_PATCH 0
 
 /* What the archive is of: "peatribbon VERSION, rattle logic HASH", where the hash names the logic in which its card was proved.
@@ -78,11 +83,13 @@ extern const char peat_archive_version[];
 
 /* ---- sizes */
 
-#define PEAT_RECORD_BYTES 24   /* a record, exactly */
+#define PEAT_RECORD_BYTES 25   /* a record, exactly */
 #define PEAT_BUFFER_LEAST 2112 /* each output buffer, at least; there is no upper limit */
 #define PEAT_IDENTIFIER_MOST 16 /* algorithm identifier, contents octets; 0 octets: no identifier */
 #define PEAT_MESSAGE_MOST 16383 /* CPDLC message, bits */
 #define PEAT_CHECK_MOST 64     /* integrity check, bits */
+#define PEAT_FLIGHT_LEAST 2    /* aircraft flight identification of a forward message, characters */
+#define PEAT_FLIGHT_MOST 8
 #define PEAT_ENVELOPE_MOST 2061 /* an envelope, bytes */
 #define PEAT_MAIL_HEAD 11      /* a mail record, bytes before those of the envelope */
 #define PEAT_MAIL_BYTES (PEAT_MAIL_HEAD + PEAT_ENVELOPE_MOST) /* a mail record, exactly */
@@ -123,7 +130,7 @@ static inline uint64_t peat_bits_given(const struct peat_data *data) { return da
 
 /* ---- refusals */
 
-/* The machine's calls answer 0 to 6, the readers of a message, of message data and of an APDU 1, 2 and 10 to 17, the reader of
+/* The machine's calls answer 0 to 6, the readers of a message, of message data, of a forward message and of an APDU 1, 2 and 10 to 17, the reader of
    an envelope 20 to 23, that of fragments 2 and 20 to 23, the two writers 1 and 2, and the book's calls 2, 7 and 8. A machine's call that meets 10 to 17 in
    user data does as the protocol says. An envelope of kind 3 carries any of these numbers. */
 enum peat_refusal {
@@ -158,7 +165,7 @@ enum peat_refusal {
 
 enum peat_side { PEAT_AIR = 1, PEAT_GROUND = 2 };
 
-enum peat_state { PEAT_IDLE = 0, PEAT_START_REQ = 1, PEAT_START_IND = 2, PEAT_DIALOGUE = 3, PEAT_END = 4 };
+enum peat_state { PEAT_IDLE = 0, PEAT_START_REQ = 1, PEAT_START_IND = 2, PEAT_DIALOGUE = 3, PEAT_END = 4, PEAT_FORWARD = 5 };
 
 /* The mode of a start. An air end may start in both; a ground end has no downstream mode. */
 enum peat_mode { PEAT_CPDLC = 0, PEAT_DSC = 1 };
@@ -173,6 +180,18 @@ enum peat_result { PEAT_ACCEPTED = 0, PEAT_REJECTED = 1, PEAT_REJECTED_TRANSIENT
 enum peat_reject_source { PEAT_DS_USER = 0, PEAT_DS_PROVIDER = 1 };
 
 enum peat_originator { PEAT_USER = 0, PEAT_PROVIDER = 1 };
+
+/* DS user version number of a D-START: 1 to 255, or none */
+enum peat_version { PEAT_NO_VERSION = 0, PEAT_VERSION_HIGHEST = 255 };
+
+/* whether a centre supports forwarding */
+enum peat_forwarding { PEAT_FORWARDS_NOT = 0, PEAT_FORWARDS = 1 };
+
+/* ATCForwardResponse: the result of a forward */
+enum peat_forward_result { PEAT_FORWARD_SUCCESS = 0, PEAT_SERVICE_NOT_SUPPORTED = 1, PEAT_VERSION_NOT_EQUAL = 2 };
+
+/* what the bits of a forward message are */
+enum peat_forward_direction { PEAT_FORWARD_UPLINK = 0, PEAT_FORWARD_DOWNLINK = 1 };
 
 /* What the calling peer ID of a D-START indication is: a facility designation or an aircraft address. */
 enum peat_peer { PEAT_FACILITY = 0, PEAT_AIRCRAFT = 1 };
@@ -286,15 +305,15 @@ enum peat_envelope {
 /* the primitive of the dialogue service that the host invokes, with the APDU of the first buffer as its user data */
 enum peat_invoked {
     PEAT_SILENT = 0,
-    PEAT_D_START_REQUEST = 1,  /* parameter: routing class; security. Priority and error rate: PEAT_HIGH_PRIORITY, PEAT_LOW_ERROR_RATE */
-    PEAT_D_START_RESPONSE = 2, /* parameter: result; security */
+    PEAT_D_START_REQUEST = 1,  /* parameter: routing class; security; version. Priority and error rate: PEAT_HIGH_PRIORITY, PEAT_LOW_ERROR_RATE */
+    PEAT_D_START_RESPONSE = 2, /* parameter: result; security; version */
     PEAT_D_DATA_REQUEST = 3,
     PEAT_D_END_REQUEST = 4,
     PEAT_D_END_RESPONSE = 5,   /* parameter: result */
     PEAT_D_ABORT_REQUEST = 6   /* parameter: originator */
 };
 
-/* the primitive that the host gives to the user, with the message data of the second buffer (1 to 5) */
+/* the primitive that the host gives to the user, with the message data (1 to 5) or the forward message (8) of the second buffer */
 enum peat_told {
     PEAT_UNTOLD = 0,
     PEAT_START_INDICATION = 1,         /* parameter: class of communication; DSC or not */
@@ -303,7 +322,9 @@ enum peat_told {
     PEAT_END_INDICATION = 4,           /* DSC or not */
     PEAT_END_CONFIRMATION = 5,         /* parameter: result; DSC or not */
     PEAT_USER_ABORT_INDICATION = 6,    /* parameter: enum peat_user_reason */
-    PEAT_PROVIDER_ABORT_INDICATION = 7 /* parameter: enum peat_provider_reason */
+    PEAT_PROVIDER_ABORT_INDICATION = 7, /* parameter: enum peat_provider_reason */
+    PEAT_FORWARD_INDICATION = 8,
+    PEAT_FORWARD_CONFIRMATION = 9      /* parameter: enum peat_forward_result; version */
 };
 
 /* bits of an answer: the place of the lowest, and how many */
@@ -320,6 +341,8 @@ enum peat_told {
 #define PEAT_APDU_BITS_AT 26
 #define PEAT_DATA_BITS_AT 41
 #define PEAT_COUNT_BITS 15
+#define PEAT_VERSION_AT 56
+#define PEAT_VERSION_BITS 8
 
 static inline unsigned peat_bits_of(uint64_t answer, unsigned at, unsigned bits)
 {
@@ -357,6 +380,10 @@ static inline unsigned peat_told(uint64_t answer) { return peat_bits_of(answer, 
 static inline unsigned peat_told_parameter(uint64_t answer) { return peat_bits_of(answer, PEAT_TOLD_PARAMETER_AT, PEAT_CODE_BITS); }
 static inline unsigned peat_told_dsc(uint64_t answer) { return peat_bits_of(answer, PEAT_TOLD_DSC_AT, PEAT_FLAG_BITS); }
 
+/* The version: of the D-START request or response that carries a forward message or its response, or that a forward
+   confirmation tells; PEAT_NO_VERSION where there is none. The D-STARTs of a dialogue carry none. */
+static inline unsigned peat_version(uint64_t answer) { return peat_bits_of(answer, PEAT_VERSION_AT, PEAT_VERSION_BITS); }
+
 /* the APDU in the first buffer: its bits before the padding, and the bytes that it takes */
 static inline unsigned peat_apdu_bits(uint64_t answer) { return peat_bits_of(answer, PEAT_APDU_BITS_AT, PEAT_COUNT_BITS); }
 static inline size_t peat_apdu_bytes(uint64_t answer) { return (peat_apdu_bits(answer) + 7u) / 8u; }
@@ -365,7 +392,8 @@ static inline size_t peat_apdu_bytes(uint64_t answer) { return (peat_apdu_bits(a
    identifier; a bit, whether there is a message; the identifier, as its octets counted in 8 bits and then the octets; the
    message, as its bits counted and then the bits; the check, likewise. A count of bits under 128 takes 8 bits, a greater
    one takes 16: the bits 10 and then 14 bits. Additions from a later edition, which the APDU may have had behind the check, are
-   left out. peat_data_part takes one of the parts out. */
+   left out. peat_data_part takes one of the parts out. With PEAT_FORWARD_INDICATION the second buffer has a forward message
+   instead: an ATCForwardMessage in its own encoding from its first bit on, which peat_forward_part takes apart. */
 static inline unsigned peat_data_bits(uint64_t answer) { return peat_bits_of(answer, PEAT_DATA_BITS_AT, PEAT_COUNT_BITS); }
 static inline size_t peat_data_bytes(uint64_t answer) { return (peat_data_bits(answer) + 7u) / 8u; }
 
@@ -382,6 +410,36 @@ enum peat_part { PEAT_PART_IDENTIFIER = 0, PEAT_PART_MESSAGE = 1, PEAT_PART_CHEC
 static inline unsigned peat_part_given(uint64_t answer) { return peat_bits_of(answer, PEAT_PART_GIVEN_AT, PEAT_PART_GIVEN_BITS); }
 static inline unsigned peat_part_bits(uint64_t answer) { return peat_bits_of(answer, PEAT_PART_BITS_AT, PEAT_PART_BITS_BITS); }
 static inline size_t peat_part_bytes(uint64_t answer) { return (peat_part_bits(answer) + 7u) / 8u; }
+
+/* a part of a forward message, for peat_forward_part */
+enum peat_forward_part {
+    PEAT_FORWARD_YEAR = 0,       /* 1996 to 2095 */
+    PEAT_FORWARD_MONTH = 1,      /* 1 to 12 */
+    PEAT_FORWARD_DAY = 2,        /* 1 to 31 */
+    PEAT_FORWARD_HOURS = 3,      /* 0 to 23 */
+    PEAT_FORWARD_MINUTES = 4,    /* 0 to 59 */
+    PEAT_FORWARD_SECONDS = 5,    /* 0 to 59 */
+    PEAT_FORWARD_CHARACTERS = 6, /* of the flight identification, PEAT_FLIGHT_LEAST to PEAT_FLIGHT_MOST */
+    PEAT_FORWARD_FLIGHT = 7,     /* they as one number, as peat_flight gives it */
+    PEAT_FORWARD_ADDRESS = 8,    /* the aircraft's address, 24 bits */
+    PEAT_FORWARD_DIRECTION = 9,  /* enum peat_forward_direction */
+    PEAT_FORWARD_MESSAGE = 10    /* the message's bits, into the buffer */
+};
+
+/* the part; of the message's bits, their count, and the bytes that they take of the buffer */
+static inline uint64_t peat_forward_value(uint64_t answer) { return answer >> PEAT_REFUSAL_BITS; }
+static inline size_t peat_forward_bytes(uint64_t answer) { return (size_t)((peat_forward_value(answer) + 7u) / 8u); }
+
+/* A flight identification as one number: its characters, seven bits each, the first on top. And character i of `characters`. */
+static inline uint64_t peat_flight(const char *characters, size_t count)
+{
+    uint64_t n = 0;
+    size_t i;
+    for (i = 0; i < count; i++)
+        n = n << 7 | ((uint64_t)(unsigned char)characters[i] & 127u);
+    return n;
+}
+static inline char peat_flight_character(uint64_t flight, size_t count, size_t i) { return (char)(flight >> 7 * (count - 1 - i) & 127u); }
 
 /* the type that an APDU is of: AircraftPDUs are what an air end sends, GroundPDUs what a ground end sends */
 enum peat_apdu_type { PEAT_AIRCRAFT_PDUS = 1, PEAT_GROUND_PDUS = 2 };
@@ -403,7 +461,8 @@ enum peat_apdu_kind {
 #define PEAT_APDU_PART_BITS 8
 
 /* enum peat_apdu_kind; the reason of an abort (enum peat_user_reason, enum peat_provider_reason), the mode of a start (enum
-   peat_mode), else 0; and whether it has message data (1: a start or a send, 0: any other) */
+   peat_mode), the result of a forward response (enum peat_forward_result), else 0; and whether it has message data (1: a start or
+   a send, 0: any other) */
 static inline unsigned peat_apdu_kind(uint64_t answer) { return peat_bits_of(answer, PEAT_APDU_KIND_AT, PEAT_APDU_PART_BITS); }
 static inline unsigned peat_apdu_number(uint64_t answer) { return peat_bits_of(answer, PEAT_APDU_NUMBER_AT, PEAT_APDU_PART_BITS); }
 static inline unsigned peat_apdu_has_data(uint64_t answer) { return peat_bits_of(answer, PEAT_APDU_DATA_AT, PEAT_APDU_PART_BITS); }
@@ -551,7 +610,7 @@ static inline int peat_put_level(uint8_t *at, unsigned unit, long level)
     return 1;
 }
 
-/* ---- the record: 24 bytes that the host may keep anywhere, copy, and read with these; it writes them through calls only */
+/* ---- the record: 25 bytes that the host may keep anywhere, copy, and read with these; it writes them through calls only */
 
 #define PEAT_RECORD_SIDE 0
 #define PEAT_RECORD_STATE 1
@@ -560,9 +619,10 @@ static inline int peat_put_level(uint8_t *at, unsigned unit, long level)
 #define PEAT_RECORD_ACTIVE 4
 #define PEAT_RECORD_REQUEST 5
 #define PEAT_RECORD_POLICY 6
-#define PEAT_RECORD_ZERO 7
-#define PEAT_RECORD_HIGHEST 8
-#define PEAT_RECORD_NUMBER 16
+#define PEAT_RECORD_FORWARDS 7
+#define PEAT_RECORD_VERSION 8
+#define PEAT_RECORD_HIGHEST 9
+#define PEAT_RECORD_NUMBER 17
 
 static inline unsigned peat_record_side(const uint8_t *rec) { return rec[PEAT_RECORD_SIDE]; }       /* enum peat_side */
 static inline unsigned peat_record_state(const uint8_t *rec) { return rec[PEAT_RECORD_STATE]; }     /* enum peat_state */
@@ -571,6 +631,8 @@ static inline unsigned peat_record_timer(const uint8_t *rec) { return rec[PEAT_R
 static inline unsigned peat_record_active(const uint8_t *rec) { return rec[PEAT_RECORD_ACTIVE]; }   /* 1: the user is active */
 static inline unsigned peat_record_request(const uint8_t *rec) { return rec[PEAT_RECORD_REQUEST]; } /* security of its last start request */
 static inline unsigned peat_record_policy(const uint8_t *rec) { return rec[PEAT_RECORD_POLICY]; }   /* the security that policy accepts */
+static inline unsigned peat_record_forwards(const uint8_t *rec) { return rec[PEAT_RECORD_FORWARDS]; } /* enum peat_forwarding */
+static inline unsigned peat_record_version(const uint8_t *rec) { return rec[PEAT_RECORD_VERSION]; }   /* the own version, 1 to 255 */
 
 /* a number in eight bytes, the most significant first */
 static inline uint64_t peat_eight_bytes(const uint8_t *at)
@@ -609,7 +671,7 @@ static inline const char *peat_side_name(unsigned side)
 
 static inline const char *peat_state_name(unsigned state)
 {
-    static const char *const names[] = {"IDLE", "START-REQ", "START-IND", "DIALOGUE", "END"};
+    static const char *const names[] = {"IDLE", "START-REQ", "START-IND", "DIALOGUE", "END", "FORWARD"};
     return PEAT_NAMED(names, state);
 }
 
@@ -625,9 +687,11 @@ static inline const char *peat_invoked_name(unsigned invoked)
 static inline const char *peat_told_name(unsigned told, unsigned dsc)
 {
     static const char *const names[] = {"nothing", "CPDLC-start indication", "CPDLC-start confirmation", "CPDLC-message indication",
-        "CPDLC-end indication", "CPDLC-end confirmation", "CPDLC-user-abort indication", "CPDLC-provider-abort indication"};
+        "CPDLC-end indication", "CPDLC-end confirmation", "CPDLC-user-abort indication", "CPDLC-provider-abort indication",
+        "CPDLC-forward indication", "CPDLC-forward confirmation"};
     static const char *const dsc_names[] = {"nothing", "DSC-start indication", "DSC-start confirmation", "CPDLC-message indication",
-        "DSC-end indication", "DSC-end confirmation", "CPDLC-user-abort indication", "CPDLC-provider-abort indication"};
+        "DSC-end indication", "DSC-end confirmation", "CPDLC-user-abort indication", "CPDLC-provider-abort indication",
+        "CPDLC-forward indication", "CPDLC-forward confirmation"};
     return dsc ? PEAT_NAMED(dsc_names, told) : PEAT_NAMED(names, told);
 }
 
@@ -635,6 +699,13 @@ static inline const char *peat_told_name(unsigned told, unsigned dsc)
 static inline const char *peat_result_name(unsigned result)
 {
     static const char *const names[] = {"accepted", "rejected", "rejected (transient)"};
+    return PEAT_NAMED(names, result);
+}
+
+/* of enum peat_forward_result */
+static inline const char *peat_forward_result_name(unsigned result)
+{
+    static const char *const names[] = {"success", "service-not-supported", "version-not-equal"};
     return PEAT_NAMED(names, result);
 }
 
@@ -665,9 +736,12 @@ static inline const char *peat_kind_name(unsigned kind)
 
 /* Makes a fresh record: IDLE, DSC false, timer stopped, user not active, highest job 0, dialogue
    number 0, request value "no security". side: enum peat_side. policy: the enum peat_security that local policy accepts.
-   Answers 0 and writes rec, 24 bytes; or PEAT_SHAPE (rec_len is not 24, side or policy is none of its codes), and rec stays.
+   forwards: enum peat_forwarding. version: the own version, 1 to PEAT_VERSION_HIGHEST, which a forward compares. The last three
+   stay for the life of the record.
+   Answers 0 and writes rec, PEAT_RECORD_BYTES; or PEAT_SHAPE (rec_len is not that, or one of the four is none of its codes),
+   and rec stays.
    A dialogue that closes needs no fresh record; one would forget the highest job taken and the dialogue number. */
-uint64_t peat_fresh(uint8_t *rec, size_t rec_len, uint64_t side, uint64_t policy);
+uint64_t peat_fresh(uint8_t *rec, size_t rec_len, uint64_t side, uint64_t policy, uint64_t forwards, uint64_t version);
 
 /* ---- primitives of the user
  *
@@ -748,6 +822,24 @@ uint64_t peat_dsc_end_response(uint8_t *rec, size_t rec_len, uint64_t result,
 uint64_t peat_user_abort(uint8_t *rec, size_t rec_len, uint64_t reason,
     uint8_t *first, size_t first_len, uint8_t *second, size_t second_len);
 
+/* CPDLC-forward request, of the ground user: a CPDLC message of an aircraft to another centre. number: the dialogue's, as of
+   peat_start: the record holds it from then on; STALE unless it is above peat_record_number, in every state. class_: enum
+   peat_class. security: enum peat_security. year to seconds: when the message was composed (enum peat_forward_part has the
+   ranges). characters, flight: the aircraft's flight identification, PEAT_FLIGHT_LEAST to PEAT_FLIGHT_MOST characters, and they
+   as one number (peat_flight). address: 24 bits. direction: enum peat_forward_direction, what the message's bits are: the first
+   `message` bits of msgs, 0 to PEAT_MESSAGE_MOST. They are not looked into. Values outside these are SHAPE.
+   PROHIBITED at the air end and unless IDLE. Invokes D-START request with the record's version; the timer begins to run, and
+   every call of the user but peat_user_abort is PROHIBITED until PEAT_FORWARD_CONFIRMATION, an abort or the expiry. A forward has
+   no job number: one that is asked for twice is sent twice. Whether the record supports forwarding does not matter here.
+   The receiving centre answers in the event of its D-START indication: it invokes D-START response with result PEAT_REJECTED,
+   which is no failure, and stays IDLE. If it supports forwarding and the versions are equal, its user is told
+   PEAT_FORWARD_INDICATION in that event: both buffers are filled. */
+uint64_t peat_forward_request(uint8_t *rec, size_t rec_len, uint64_t number, uint64_t class_, uint64_t security,
+    uint64_t year, uint64_t month, uint64_t day, uint64_t hours, uint64_t minutes, uint64_t seconds,
+    uint64_t characters, uint64_t flight, uint64_t address, uint64_t direction,
+    const uint8_t *msgs, size_t msgs_len, uint64_t message,
+    uint8_t *first, size_t first_len, uint8_t *second, size_t second_len);
+
 /* ---- what the host reports; both calls write rec and first, and second stays */
 
 /* t-start expires. PROHIBITED while no timer runs. Invokes D-ABORT request with originator PEAT_PROVIDER, reason
@@ -765,19 +857,23 @@ uint64_t peat_system_error(uint8_t *rec, size_t rec_len, uint8_t *first, size_t 
  * also where the outcome does not depend on them.
  * number: the dialogue number that the primitive carries; what the carrier itself makes carries that of the record.
  * All refuse with PEAT_ROOM and PEAT_SHAPE (rec is not a record, a code outside its type), and then with PEAT_STALE where number is
- * not peat_record_number. They write rec, first (an abort, if one is invoked) and second (message data, if some are delivered).
+ * not peat_record_number. They write rec, first (an abort or a forward response, if one is invoked) and second (message data or a
+ * forward message, if some are delivered).
  */
 
 /* D-START indication. peer: enum peat_peer. security: enum peat_security. priority, rate, routing: the quality of service
-   as received, any numbers. STALE unless number is above peat_record_number; the record then holds it, also where the start is
-   turned away. */
+   as received, any numbers. version: the DS user version number, or PEAT_NO_VERSION where none came. STALE unless number is above
+   peat_record_number; the record then holds it, also where the start is turned away.
+   A FORWARD BELONGS TO AN IDLE RECORD: at a record that is busy with an aircraft, any D-START indication breaks that dialogue. So a
+   centre keeps records of their own for the forwards that it gets. */
 uint64_t peat_d_start_indication(uint8_t *rec, size_t rec_len, uint64_t number, uint64_t peer, uint64_t security,
-    uint64_t priority, uint64_t rate, uint64_t routing, uint64_t given, const uint8_t *bytes, size_t bytes_len,
+    uint64_t priority, uint64_t rate, uint64_t routing, uint64_t version, uint64_t given, const uint8_t *bytes, size_t bytes_len,
     uint8_t *first, size_t first_len, uint8_t *second, size_t second_len);
 
-/* D-START confirmation. result: enum peat_result. source: enum peat_reject_source. security: enum peat_security. */
+/* D-START confirmation. result: enum peat_result. source: enum peat_reject_source. security: enum peat_security.
+   version: as above. */
 uint64_t peat_d_start_confirmation(uint8_t *rec, size_t rec_len, uint64_t number, uint64_t result, uint64_t source, uint64_t security,
-    uint64_t given, const uint8_t *bytes, size_t bytes_len,
+    uint64_t version, uint64_t given, const uint8_t *bytes, size_t bytes_len,
     uint8_t *first, size_t first_len, uint8_t *second, size_t second_len);
 
 /* D-DATA indication. */
@@ -813,12 +909,21 @@ uint64_t peat_d_p_abort_indication(uint8_t *rec, size_t rec_len, uint64_t number
    bits after the last one are zero up to the end of the byte, and every other byte stays; if not, out stays. */
 uint64_t peat_data_part(uint64_t which, const uint8_t *delivered, size_t delivered_len, uint8_t *out, size_t out_len);
 
+/* One part of a forward message as it was delivered. which: enum peat_forward_part. delivered: the forward message, all bytes of the
+   range, as a call that told PEAT_FORWARD_INDICATION left them in its second buffer (peat_data_bytes of them).
+   Answers PEAT_ROOM (out is under PEAT_BUFFER_LEAST bytes); PEAT_SHAPE (which is none of its codes); or where the bytes are no
+   forward message the fault met first, PEAT_SHORT, PEAT_RANGE, PEAT_LENGTH_FORM or PEAT_TAIL, with its position (never for what a
+   call left there); and then out stays.
+   Else peat_forward_value reads the part. Of PEAT_FORWARD_MESSAGE that is the count of its bits: out has them in its first so many
+   bits, those after the last one are zero up to the end of the byte, and every other byte stays. For any other part out stays. */
+uint64_t peat_forward_part(uint64_t which, const uint8_t *delivered, size_t delivered_len, uint8_t *out, size_t out_len);
+
 /* ---- an APDU by itself, as it was recorded: for whoever looks for a fault. No machine is asked whether it is permitted. */
 
 /* Reads the lent bytes as one APDU. which: enum peat_apdu_type. bytes: all of the range.
    Answers PEAT_SHAPE (which is none of its codes); or the fault met first, PEAT_SHORT to PEAT_TAIL or PEAT_DEFAULT, with its
-   position. Else peat_apdu_kind, peat_apdu_number and peat_apdu_has_data read the answer. Of a forward APDU the alternative
-   alone is looked at. Writes nothing. */
+   position. Else peat_apdu_kind, peat_apdu_number and peat_apdu_has_data read the answer. A forward APDU is read to its end; its
+   message is not looked into. Writes nothing. */
 uint64_t peat_read_apdu(uint64_t which, const uint8_t *bytes, size_t bytes_len);
 
 /* ---- the broker's envelope

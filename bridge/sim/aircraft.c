@@ -193,7 +193,7 @@ static int board(struct aircraft *a, unsigned number)
     a->number = number;
     a->socket = -1;
     a->listener = packet_socket(path, number, &address);
-    peat_fresh(RECORD(a), PEAT_AIR, PEAT_NO_SECURITY);
+    peat_fresh(RECORD(a), PEAT_AIR, PEAT_NO_SECURITY, PEAT_FORWARDS_NOT, 1);
     unlink(address.sun_path);
     return a->listener >= 0 && bind(a->listener, (const struct sockaddr *)&address, sizeof address) == 0 && listen(a->listener, 4) == 0;
 }

@@ -4,7 +4,7 @@ import struct
 import subprocess
 
 import reference
-from reference import AIR, GROUND, LIMITS, ROOM, packed, pdu_bits, data_bits
+from reference import AIR, GROUND, LIMITS, NUMBERS, ROOM, packed, pdu_bits, data_bits
 
 HEADER = struct.Struct(">BBBBBQQQQQQQHH")
 INPUT = 65536           # the bytes that the probe takes in one run
@@ -36,6 +36,26 @@ def contents(rng, octets, message, check):
     return identifier(rng, octets), None if message is None else noise(rng, message), noise(rng, check)
 
 
+FIRST = (1996, 1, 1, 0, 0, 0)
+LAST = (2095, 12, 31, 23, 59, 59)
+
+
+def flight(rng, count):
+    return "".join(chr(rng.randrange(128)) for _ in range(count))
+
+
+def forwards(rng):
+    """Each number at its ends, each count of characters, each size of the message."""
+    for i in range(6):
+        for value in (FIRST[i], LAST[i]):
+            yield FIRST[:i] + (value,) + LAST[i + 1:] + (flight(rng, 2), rng.getrandbits(24), 0, noise(rng, 3))
+    for count in range(2, 9):
+        yield LAST + (flight(rng, count), (1 << 24) - 1, 1, noise(rng, 8))
+    for message in MESSAGES + (16382, 16383, 16384):
+        if message is not None:
+            yield FIRST + (flight(rng, 8), rng.getrandbits(24), message % 2, noise(rng, message))
+
+
 def values():
     """APDUs of every kind, with and without each optional part, at and past each size. The same on every run."""
     rng = random.Random(9705)
@@ -45,6 +65,11 @@ def values():
                 yield side, (kind, reason)
         shapes = [(i, m, c) for i in IDENTIFIERS for m in MESSAGES for c in (0, 1, 64)]
         shapes += [(None, None, c) for c in CHECKS] + [(16, 16383, c) for c in (63, 64, 65)] + list(LONGEST)
+        if side == GROUND:
+            for result in range(3):
+                yield side, ("forward-response", result)
+            for forward in forwards(rng):
+                yield side, ("forward", forward)
         for octets, message, check in shapes:
             data = contents(rng, octets, message, check)
             yield side, ("send", data)
@@ -62,6 +87,11 @@ def bits_text(bits):
 def text(side, pdu):
     if pdu[0].startswith("abort"):
         return f"{NAMES[side]} {pdu[0]} {pdu[1]} - - -"
+    if pdu[0] == "forward-response":
+        return f"{NAMES[side]} {pdu[0]} {pdu[1]} - - -"
+    if pdu[0] == "forward":
+        *numbers, characters, address, direction, message = pdu[1]
+        return f"{NAMES[side]} forward {','.join(str(n) for n in numbers + [address, direction])} {characters.encode('ascii').hex()} {bits_text(message)} -"
     number = pdu[1] if pdu[0] == "start" else "-"
     i, m, c = pdu[-1]
     return f"{NAMES[side]} {pdu[0]} {number} {'-' if i is None else packed(i).hex() or '-'} {bits_text(m)} {bits_text(c)}"
@@ -69,7 +99,7 @@ def text(side, pdu):
 
 def coded(pdu):
     """Whether the independent coder's text tells the value: no octets are told as an absent identifier is."""
-    return pdu[0].startswith("abort") or pdu[-1][0] != ""
+    return pdu[0].startswith(("abort", "forward")) or pdu[-1][0] != ""
 
 
 # ---- reading
@@ -80,7 +110,7 @@ def read(why, side, data):
 
 def thorough(pdu):
     """Whether an APDU is cut at every bit: aborts, and message data at the ends of each size with the other parts small."""
-    if pdu[0].startswith("abort"):
+    if pdu[0].startswith(("abort", "forward")):
         return True
     sizes = tuple(None if p is None else len(p) for p in pdu[-1])
     return sizes in {(None, None, 0), (None, None, 64), (8, None, 1), (128, None, 0), (None, 0, 0), (None, 7, 1), (None, 8, 64), (None, 127, 0), (None, 128, 1),
@@ -102,7 +132,7 @@ def readings(side, pdu):
     cuts = range(len(bits)) if len(bits) < 400 else list(range(300)) + list(range(300, len(bits), 97)) + list(range(len(bits) - 90, len(bits)))
     for k in cuts:
         yield read(f"{why}, cut at bit {k}", side, packed(bits[:k]))
-    for k in range(min(len(bits), 60)):
+    for k in range(min(len(bits), 160 if pdu[0] == "forward" else 60)):
         yield read(f"{why}, bit {k} turned", side, packed(bits[:k] + "10"[int(bits[k])] + bits[k + 1:]))
 
 
@@ -134,8 +164,20 @@ def by_hand():
     yield AIR, "011" + "000" + "00000000" + "01" + "0" * 8, (15, 15)
     yield AIR, "0" * 8 * 60000, (15, 8)                             # very long
     yield AIR, "1" * 8 * 60000, (12, 0)
-    yield GROUND, "0100" + "1" * 12, None           # a forward APDU: the alternative alone decides
-    yield GROUND, "0101", None
+    head = "0100" + "0000000" + "0000" + "00000" + "00000" + "000000" + "000000"         # a forward of the first second of 1996
+    yield GROUND, "0100" + "1" * 12, (11, 4)        # year 2123
+    yield GROUND, "0100" + "0000000" + "1100" + "0" * 9, (11, 11)   # month 13
+    yield GROUND, head + "111" + "0" * 16, (11, 37)                 # nine characters
+    yield GROUND, head + "000" + "1" * 5, (10, 40)                  # the characters cut: one field
+    behind = head + "000" + "1" * 14 + "0" * 24 + "0"
+    yield GROUND, behind + "10001000" + "00000001", (10, 95)        # a message of 2,049 bits: read, and its contents are missing
+    yield GROUND, behind + "10111111" + "11111111", (10, 95)        # of 16,383
+    yield GROUND, behind + "10000000" + "01111111", (13, 79)        # 80 7F
+    yield GROUND, behind + "11000001" + "0" * 40, (13, 79)          # a fragment
+    yield GROUND, behind + "00000000" + "1", (15, 87)               # a padding bit
+    yield GROUND, "0101" + "1" + "000", (12, 4)     # a forward response: its extension bit
+    yield GROUND, "0101" + "011" + "0", (11, 5)     # result 3
+    yield GROUND, "0101" + "010" + "1", (15, 7)
 
 
 def added_by_hand():
@@ -173,7 +215,7 @@ def added_by_hand():
 def hand_requests():
     for side, bits, told in by_hand():
         data = packed(bits)
-        answer = told if isinstance(told, str) else "refused %d at %d" % told if told else ("forward" if bits[:4] == "0100" else "forward-response")
+        answer = told if isinstance(told, str) else "refused %d at %d" % told
         yield Request(f"{NAMES[side]} {bits[:40]}", HEADER.pack(READ, side, 0, 0, 0, 0, 0, 0, 0, 0, 0, 0, 0, len(data)) + data, answer)
 
 
@@ -200,10 +242,10 @@ def write(why, op, side, pdu, words, lead=5, stretch=None):
     buffer = b"\xa5" * (8 * words)
     held = all(part is None or LIMITS[name][1] <= places[2 * i + 1] <= LIMITS[name][2] and places[2 * i] + LIMITS[name][0] * places[2 * i + 1] <= 8 * len(source)
                for i, (name, part) in enumerate(zip(LIMITS, data)))
-    typed = (0 <= number <= (12, 7, 1 if side == AIR else 0, 0, -1, -1)[kind] or kind == 3) if op == WRITE else True
+    typed = (0 <= number <= (12, 7, 1 if side == AIR else 0, 0, -1, -1 if side == AIR else 2)[kind] or kind == 3) if op == WRITE else True
     if 8 * words < ROOM:
         answer = f"room {buffer.hex()}"
-    elif not (held if op == WRITE_DATA else kind < 4 and typed and (kind < 2 or held)):
+    elif not (held if op == WRITE_DATA else typed and (kind not in (2, 3) or held)):
         answer = f"shape {buffer.hex()}"
     else:
         bits = data_bits(data) if op == WRITE_DATA else pdu_bits(side, pdu)
@@ -212,8 +254,56 @@ def write(why, op, side, pdu, words, lead=5, stretch=None):
     return Request(f"write {why}", header + source, answer)
 
 
+def write_forward(why, side, numbers, flight_number, address, direction, message, words, lead=5, count=None):
+    """A forward message, whose numbers stand in the places of the other parts; its bits stand behind some others, `count` of them are asked for."""
+    source = packed("1" * lead + message)
+    count = len(message) if count is None else count
+    buffer = b"\xa5" * (8 * words)
+    typed = all(low <= v <= high for v, (_, low, high) in zip(numbers, NUMBERS)) and flight_number >> 7 * numbers[6] == 0 and address < 1 << 24 and direction < 2
+    if 8 * words < ROOM:
+        answer = f"room {buffer.hex()}"
+    elif side == AIR or not typed or count > LIMITS["message"][2] or lead + count > 8 * len(source):
+        answer = f"shape {buffer.hex()}"
+    else:
+        characters = "".join(chr(flight_number >> 7 * k & 127) for k in reversed(range(numbers[6])))
+        bits = pdu_bits(side, ("forward", tuple(numbers[:6]) + (characters, address, direction, message)))
+        answer = f"bits {len(bits)} {after(buffer, bits).hex()}"
+    first = int.from_bytes(struct.pack(">HBBBBBB", *numbers), "big")
+    header = HEADER.pack(WRITE, side, 4, 0, 0, flight_number, first, address, lead, count, direction, 0, words, len(source))
+    return Request(f"write {why}", header + source, answer)
+
+
+def forward_writings(side, forward):
+    *numbers, characters, address, direction, message = forward
+    given = numbers + [len(characters)], reference.flight_number(characters), address, direction, message
+    why = f"{NAMES[side]} forward"
+    yield write_forward(why, side, *given, FULL)
+    yield write_forward(why, side, *given, FULL + 1, lead=8)
+    yield write_forward(why, side, *given, FULL - 1)
+    yield write_forward("aircraft's " + why, AIR, *given, FULL)
+
+
+def odd_forwards():
+    right = [2026, 11, 15, 12, 30, 59, 6]
+    for i, (_, low, high) in enumerate(NUMBERS):
+        for value in (low - 1, high + 1, 255):
+            if 0 <= value:
+                yield write_forward(f"number {i} is {value}", GROUND, right[:i] + [value] + right[i + 1:], 1, 5, 0, "101", FULL)
+    for flight_number in ((1 << 42) - 1, 1 << 42, (1 << 64) - 1):
+        yield write_forward("a flight identification", GROUND, right, flight_number, 5, 0, "101", FULL)
+    for address in ((1 << 24) - 1, 1 << 24, (1 << 64) - 1):
+        yield write_forward("an address", GROUND, right, 77, address, 1, "101", FULL)
+    for direction in (2, 255, (1 << 64) - 1):
+        yield write_forward("a direction", GROUND, right, 77, 5, direction, "101", FULL)
+    for count in (12, 100, 2048, 16383, 16384, 1 << 63, (1 << 64) - 1):
+        yield write_forward("a count", GROUND, right, 77, 5, 1, "101", FULL, count=count)
+
+
 def writings(side, pdu):
     why = f"{NAMES[side]} {pdu[0]}"
+    if pdu[0] == "forward":
+        yield from forward_writings(side, pdu[1])
+        return
     yield write(why, WRITE, side, pdu, FULL)
     yield write(why, WRITE, side, pdu, FULL + 1, lead=8)
     yield write(why, WRITE, side, pdu, FULL - 1)
@@ -230,8 +320,7 @@ def odd_writings():
             yield write("a reason", WRITE, side, ("abort-user", number), FULL)
             yield write("a reason", WRITE, side, ("abort-provider", number), FULL)
             yield write("a mode", WRITE, side, ("start", number, data), FULL)
-        for kind in ("forward", "forward-response"):
-            yield write(kind, WRITE, side, (kind,), FULL)
+            yield write("a result", WRITE, side, ("forward-response", number), FULL)
         for words in (0, 1, 40, FULL - 1, FULL, 512):
             yield write("a buffer", WRITE, side, ("send", data), words)
             yield write("a buffer and a fault", WRITE, side, ("abort-user", 13), words)
@@ -256,6 +345,13 @@ def noisy():
             k = rng.randrange(len(bits))
             bits[k] = "10"[int(bits[k])]
         yield read("chance", side, packed("".join(bits)))
+    short = list(forwards(rng))[:24]
+    for _ in range(3000):
+        bits = list(pdu_bits(GROUND, ("forward", rng.choice(short))))
+        for _ in range(rng.randrange(1, 4)):
+            k = rng.randrange(len(bits))
+            bits[k] = "10"[int(bits[k])]
+        yield read("chance", GROUND, packed("".join(bits)))
 
 
 # ---- additions from a later edition
@@ -303,11 +399,12 @@ def requests():
     yield from hand_requests()
     for side, pdu in values():
         yield from readings(side, pdu)
-        if pdu[0].startswith("abort") or pdu[-1][0] != "":
+        if coded(pdu):
             yield from writings(side, pdu)
         else:
             yield write("an identifier of no octets", WRITE, side, pdu, FULL)
     yield from odd_writings()
+    yield from odd_forwards()
     yield from added()
     yield from noisy()
 

@@ -6,7 +6,26 @@ import reference
 from reference import LIMITS, ROOM
 
 
+def forward(side, flight_number, places, words, source, fault):
+    numbers = list(places[0].to_bytes(8, "big"))
+    numbers = [256 * numbers[0] + numbers[1]] + numbers[2:]
+    address, at, count, direction = places[1:5]
+    buffer = b"\xa5" * (8 * words)
+    if len(buffer) < ROOM:
+        return f"room {buffer.hex()}"
+    bits = reference.unpacked(source)
+    ranged = all(low <= v <= high for v, (_, low, high) in zip(numbers, reference.NUMBERS)) and address < 2 ** 24 and direction < 2
+    if side == reference.AIR or not ranged or flight_number >= 2 ** (7 * numbers[6]) or count > LIMITS["message"][2] - (fault == "limit") or at + count > len(bits):
+        return f"shape {buffer.hex()}"
+    characters = "".join(chr(flight_number >> 7 * k & 127) for k in reversed(range(numbers[6])))
+    out = reference.pdu_bits(side, ("forward", tuple(numbers[:6]) + (characters, address, direction, bits[at:at + count])))
+    front = reference.packed(out)
+    return f"bits {len(out)} {(front + buffer[len(front):]).hex()}"
+
+
 def written(op, side, kind, identified, messaged, number, places, words, source, fault):
+    if op == driver.WRITE and kind == 4:
+        return forward(side, number, places, words, source, fault)
     buffer = b"\xa5" * (8 * words)
     if len(buffer) < ROOM:
         return f"room {buffer.hex()}"
@@ -14,7 +33,7 @@ def written(op, side, kind, identified, messaged, number, places, words, source,
     names = [n for n, there in zip(LIMITS, (identified, messaged, True)) if there]
     parts = {}
     for i, name in enumerate(LIMITS):
-        if name not in names or (op == driver.WRITE and kind < 2):
+        if name not in names or (op == driver.WRITE and kind not in (2, 3)):
             parts[name] = None
             continue
         unit, least, most = LIMITS[name]
@@ -26,11 +45,11 @@ def written(op, side, kind, identified, messaged, number, places, words, source,
     if op == driver.WRITE_DATA:
         out = reference.data_bits(data)
     else:
-        last = (12, 7, 1 if side == reference.AIR else 0, 2 ** 64, -1, -1)[kind]
-        if kind > 3 or number > last:
+        last = (12, 7, 1 if side == reference.AIR else 0, 2 ** 64, -1, -1 if side == reference.AIR else 2)[kind]
+        if number > last:
             return f"shape {buffer.hex()}"
         name = next(k for k, i in reference.INDEX.items() if i == kind)
-        out = reference.pdu_bits(side, (name, number) if kind < 2 else (name, number, data) if kind == 2 else (name, data))
+        out = reference.pdu_bits(side, (name, number) if kind not in (2, 3) else (name, number, data) if kind == 2 else (name, data))
     front = reference.packed(out)
     if fault == "padding" and len(out) % 8:
         front = front[:-1] + bytes([front[-1] | 1])
@@ -62,6 +81,8 @@ def main():
                 line = "refused 12 at 3"
             if fault == "root" and number == "14" and "1" in reference.unpacked(body)[3:4]:     # the extension bit before the faults of the root
                 line = "refused 12 at 3"
+            if fault == "alone" and number and side == reference.GROUND and body and body[0] >> 4 == reference.INDEX["forward"]:   # a forward by its alternative
+                line = "forward"
             if fault == "padded" and number == "15" and place % 8:      # the beginning of the padding
                 line = f"refused 15 at {place - 1}"
             print(line)

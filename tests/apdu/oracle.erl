@@ -5,8 +5,9 @@
 %%   oracle.erl decode MODULE.asn    reads lines SIDE HEX, prints SIDE KIND NUMBER ID MSG CHECK for each, or `refused`
 %%
 %% SIDE is air or ground; a string of bits is COUNT:HEX; an identifier is the hexadecimal of its contents; `-` is an absent part, a number that
-%% the kind has not, or no bytes. An addition of a later edition is an Erlang term without spaces, o:COUNT:BYTE for octets that are alike, b:COUNT:HEX for
-%% bits, or `-`.
+%% the kind has not, or no bytes. Of a forward the numbers stand in NUMBER (year to seconds, address, direction), the characters of the flight
+%% identification in ID, and the message's bits in MSG. An addition of a later edition is an Erlang term without spaces, o:COUNT:BYTE for octets that are
+%% alike, b:COUNT:HEX for bits, or `-`.
 -mode(compile).
 
 main([Mode, Asn]) ->
@@ -51,6 +52,13 @@ value(_, ["abort-user", N | _]) -> {abortUser, lists:nth(1 + list_to_integer(N),
 value(_, ["abort-provider", N | _]) -> {abortProvider, lists:nth(1 + list_to_integer(N), provider_reasons())};
 value("air", ["start", N | Parts]) -> {startdown, {'StartDownMessage', lists:nth(1 + list_to_integer(N), modes()), data("air", Parts)}};
 value("ground", ["start", "0" | Parts]) -> {startup, data("ground", Parts)};
+value(_, ["forward-response", N | _]) -> {forwardresponse, lists:nth(1 + list_to_integer(N), results())};
+value(_, ["forward", Numbers, Flight, Msg | _]) ->
+    [Y, Mo, D, H, Mi, S, Address, Direction] = [list_to_integer(N) || N <- string:lexemes(Numbers, ",")],
+    Alternative = case Direction of 0 -> upElementIDs; 1 -> downElementIDs end,
+    {forward, {'ATCForwardMessage',
+        {'ForwardHeader', {'DateTimeGroup', {'Date', Y, Mo, D}, {'Timehhmmss', {'Time', H, Mi}, S}}, binary_to_list(bytes(Flight)), <<Address:24>>},
+        {Alternative, bits(Msg)}}};
 value(Side, ["send", "-" | Parts]) -> {send, data(Side, Parts)}.
 
 data(Side, [Id, Msg, Check | Additions]) ->
@@ -85,8 +93,11 @@ text(Side, {abortProvider, Name}) -> words([Side, "abort-provider", index(Name, 
 text(Side, {startdown, {_, Mode, Data}}) -> words([Side, "start", index(Mode, modes()) | data_text(Data)]);
 text(Side, {startup, Data}) -> words([Side, "start", "0" | data_text(Data)]);
 text(Side, {send, Data}) -> words([Side, "send", "-" | data_text(Data)]);
-text(Side, {forward, _}) -> words([Side, "forward", "-", "-", "-", "-"]);
-text(Side, {forwardresponse, _}) -> words([Side, "forward-response", "-", "-", "-", "-"]);
+text(Side, {forwardresponse, Name}) -> words([Side, "forward-response", index(Name, results()), "-", "-", "-"]);
+text(Side, {forward, {_, {_, {_, {_, Y, Mo, D}, {_, {_, H, Mi}, S}}, Flight, <<Address:24>>}, {Alternative, Bits}}}) ->
+    Direction = case Alternative of upElementIDs -> 0; downElementIDs -> 1 end,
+    Numbers = lists:join(",", [integer_to_list(N) || N <- [Y, Mo, D, H, Mi, S, Address, Direction]]),
+    words([Side, "forward", Numbers, hex(list_to_binary(Flight)), bits_text(Bits), "-"]);
 text(_, _) -> "refused".                            % an alternative of a later version
 
 data_text({_, Id, Msg, Check}) ->
@@ -102,6 +113,7 @@ words(Words) -> lists:join(" ", Words).
 index(Name, Names) -> case lists:member(Name, Names) of true -> integer_to_list(length(lists:takewhile(fun(X) -> X =/= Name end, Names))); false -> "-" end.
 
 modes() -> [cpdlc, dsc].
+results() -> ['success', 'service-not-supported', 'version-not-equal'].
 user_reasons() ->
     ['undefined', 'no-message-identification-numbers-available', 'duplicate-message-identification-numbers', 'no-longer-next-data-authority',
      'current-data-authority-abort', 'commanded-termination', 'invalid-response', 'time-out-of-synchronisation', 'unknown-integrity-check',

@@ -1,16 +1,19 @@
 """AircraftPDUs and GroundPDUs in unaligned PER, written down from the ASN.1 module (Doc 9705, 2.3.4.2), X.691 and document 01, apart from the card.
 
 Bits are strings of 0 and 1. An APDU is a tuple: ("abort-user", reason), ("abort-provider", reason), ("start", mode, data), ("send", data),
-("forward",), ("forward-response",); data is (identifier or None, message or None, check), each the bits of its contents. Additions from a later edition are
-a list, the octets of each or None for one that is absent; no additions are an empty list.
+("forward", forward), ("forward-response", result); data is (identifier or None, message or None, check), each the bits of its contents; forward is
+(year, month, day, hours, minutes, seconds, characters of the flight identification, address, direction, the message's bits). Additions from a later edition
+are a list, the octets of each or None for one that is absent; no additions are an empty list.
 """
 
 AIR, GROUND = 0, 1
 LAST = {AIR: 3, GROUND: 5}
 INDEX = {"abort-user": 0, "abort-provider": 1, "start": 2, "send": 3, "forward": 4, "forward-response": 5}
-USER, PROVIDER = 12, 7                      # last reasons
+USER, PROVIDER, RESULT = 12, 7, 2           # last reasons, last result of a forward
 LIMITS = {"identifier": (8, 1, 16), "message": (1, 0, 16383), "check": (1, 0, 64)}       # bits of an item, least, most
 ROOM = 2112
+# what stands first in a forward message, and the count of the flight identification's characters: least and last value
+NUMBERS = (("year", 1996, 2095), ("month", 1, 12), ("day", 1, 31), ("hours", 0, 23), ("minutes", 0, 59), ("seconds", 0, 59), ("count of characters", 2, 8))
 SHORT, RANGE, EXTENSION, LENGTH_FORM, LIMIT, TAIL, DEFAULT = 10, 11, 12, 13, 14, 15, 17
 
 
@@ -63,6 +66,17 @@ def data_bits(data, additions=()):
     return bits + string(check, 1) + (additions_bits(additions) if additions else "")
 
 
+def flight_number(characters):
+    """The characters as one number, seven bits each, the first on top."""
+    return int("".join(binary(ord(c), 7) for c in characters) or "0", 2)
+
+
+def forward_bits(forward):
+    *numbers, characters, address, direction, message = forward
+    bits = "".join(binary(v - low, (high - low).bit_length()) for v, (_, low, high) in zip(numbers + [len(characters)], NUMBERS))
+    return bits + "".join(binary(ord(c), 7) for c in characters) + binary(address, 24) + binary(direction, 1) + string(message, 1)
+
+
 def pdu_bits(side, pdu, additions=()):
     bits = "0" + binary(INDEX[pdu[0]], LAST[side].bit_length())
     if pdu[0] == "abort-user":
@@ -73,6 +87,10 @@ def pdu_bits(side, pdu, additions=()):
         if side == AIR:
             bits += "0" if pdu[1] == 0 else "1" + binary(pdu[1], 1)
         return bits + data_bits(pdu[2], additions)
+    if pdu[0] == "forward":
+        return bits + forward_bits(pdu[1])
+    if pdu[0] == "forward-response":
+        return bits + "0" + binary(pdu[1], 2)
     return bits + data_bits(pdu[1], additions)
 
 
@@ -174,6 +192,21 @@ class Bits:
             self.stepped_over()
         return identifier, message, check
 
+    def between(self, name, low, high):
+        self.begins(name)
+        value = self.number((high - low).bit_length())
+        if value > high - low:
+            self.refuse(RANGE)
+        return low + value
+
+    def forward(self):
+        """Its numbers: year to seconds, the count of characters, they as one number, address, direction; and the message's place."""
+        numbers = [self.between(*n) for n in NUMBERS]
+        for name, width in (("characters", 7 * numbers[-1]), ("address", 24), ("direction", 1)):
+            self.begins(name)
+            numbers.append(self.number(width))
+        return tuple(numbers), self.part("message")
+
     def tail(self):
         """The first padding bit that is 1; where there is none, the first bit of the bytes that follow, whatever they are."""
         while self.at % 8:
@@ -209,8 +242,10 @@ def read_bits(side, bits):
         pdu = (kind, mode, bits.data())
     elif kind == "send":
         pdu = (kind, bits.data())
+    elif kind == "forward":
+        pdu = (kind,) + bits.forward()
     else:
-        return (kind,)
+        pdu = (kind, bits.index(RESULT, "result"))
     bits.tail()
     return pdu
 
@@ -222,6 +257,8 @@ def shown(side, data):
     except Refused as refused:
         return str(refused)
     words = [pdu[0]]
+    if pdu[0] == "forward":
+        return " ".join(words + [str(n) for n in pdu[1]] + ["%d:%d" % pdu[2]])
     for x in pdu[1:]:
         words += [str(x)] if isinstance(x, int) else ["-" if p is None else "%d:%d" % p for p in x]
     return " ".join(words)
@@ -241,10 +278,12 @@ def stripped(side, data):
 def expected():
     """Each pair of a field and a refusal that it can have. SHORT in whole bytes needs a field that a byte's end can cut."""
     pairs = {("extension bit of alternative", SHORT), ("alternative", RANGE), ("padding", TAIL), ("bytes behind", TAIL), ("mode", DEFAULT)}
-    pairs |= {(f"extension bit of {of}", EXTENSION) for of in ("alternative", "user reason", "provider reason")}
+    pairs |= {(f"extension bit of {of}", EXTENSION) for of in ("alternative", "user reason", "provider reason", "result")}
     pairs |= {("count of additions", SHORT), ("count of additions", EXTENSION), ("presence of additions", SHORT), ("presence of additions", EXTENSION)}
     pairs |= {("length of an addition", SHORT), ("length of an addition", LENGTH_FORM), ("an addition", SHORT)}
-    pairs |= {("user reason", RANGE), ("user reason", SHORT)}
+    pairs |= {("user reason", RANGE), ("user reason", SHORT), ("result", RANGE)}
+    pairs |= {(name, SHORT) for name in ("year", "day", "hours", "seconds", "characters", "address", "direction")}
+    pairs |= {(name, RANGE) for name in ("year", "month", "day", "hours", "minutes", "seconds", "count of characters")}
     for name in LIMITS:
         pairs |= {(f"length of {name}", SHORT), (f"length of {name}", LENGTH_FORM), (f"length of {name}", LIMIT), (name, SHORT)}
     return pairs - {("length of message", LIMIT)}   # a length that two bytes say is within it

@@ -378,18 +378,18 @@ static void restored(void)
     check(account_job(&stage.account, 0, 6)->seen == 1, name, "a job above the floor was not sent");
 }
 
-/* ---- a journal of version 0.3.0, whose records have no dialogue number */
+/* ---- journals of version 0.3.0, whose records have no dialogue number, and of 0.4.0, whose records have no version */
 
-#define EARLIER_RECORD 16
+enum { WITHOUT_NUMBER = 16, WITHOUT_VERSION = 24 };
 
-static uint32_t earlier_sum(unsigned dialogue, const struct kept *k)
+static uint32_t sum_of(unsigned dialogue, const struct kept *k, const uint8_t *record, size_t bytes)
 {
-    uint32_t sum = checksum(checksum(0, &dialogue, sizeof dialogue), k->record, EARLIER_RECORD);
+    uint32_t sum = checksum(checksum(0, &dialogue, sizeof dialogue), record, bytes);
     return checksum(checksum(checksum(sum, &k->run, sizeof k->run), &k->deliveries, sizeof k->deliveries), &k->floor, sizeof k->floor);
 }
 
-/* How a process ends that takes so many bytes of a record with this sum. */
-static int takes_record(const struct kept *k, size_t bytes, uint32_t sum)
+/* How a process ends that takes so many bytes as a record with this sum, and must find in it what k has, with this number. */
+static int takes_record(const struct kept *k, const uint8_t *record, size_t bytes, uint32_t sum, uint64_t number)
 {
     pid_t pid;
     fflush(stdout);
@@ -399,8 +399,8 @@ static int takes_record(const struct kept *k, size_t bytes, uint32_t sum)
         if (freopen("/dev/null", "w", stdout) == NULL || freopen("/dev/null", "w", stderr) == NULL)
             _exit(99);
         memset(taken.record, 0xAA, sizeof taken.record);
-        journal_take_record(1, &taken, k->record, bytes, sum);
-        _exit(memcmp(taken.record, k->record, EARLIER_RECORD) != 0 || peat_record_number(taken.record) != 0);
+        journal_take_record(1, &taken, record, bytes, sum);
+        _exit(memcmp(taken.record, k->record, PEAT_RECORD_NUMBER) != 0 || peat_record_number(taken.record) != number);
     }
     return stage_wait(pid, SOON);
 }
@@ -409,15 +409,25 @@ static void earlier_journal(void)
 {
     const char *name = "earlier journal";
     struct kept k = journal_fresh();
+    uint8_t old[WITHOUT_VERSION + 1] = {0}; /* the record as it stood */
+    uint32_t shorter, short_sum;
     if (!chosen(name))
         return;
     k.run = 3;
+    k.record[PEAT_RECORD_STATE] = PEAT_DIALOGUE;
+    k.record[PEAT_RECORD_ACTIVE] = 1;
     k.record[PEAT_RECORD_HIGHEST + 7] = 9;
-    check(takes_record(&k, EARLIER_RECORD, earlier_sum(1, &k)) == 0, name, "a record of 0.3.0 is not taken, or with another number than 0");
-    check(takes_record(&k, sizeof k.record, journal_sum(1, &k)) == 0, name, "a record is not taken");
-    check(takes_record(&k, EARLIER_RECORD, earlier_sum(1, &k) ^ 1u) == EXIT_JOURNAL, name, "a damaged record of 0.3.0 is taken");
-    check(takes_record(&k, sizeof k.record, earlier_sum(1, &k)) == EXIT_JOURNAL, name, "a record is taken under the sum of a shorter one");
-    check(takes_record(&k, EARLIER_RECORD + 1, earlier_sum(1, &k)) == EXIT_JOURNAL, name, "17 bytes are taken for a record");
+    k.record[PEAT_RECORD_NUMBER + 7] = 5;
+    memcpy(old, k.record, PEAT_RECORD_FORWARDS);
+    memcpy(old + 8, k.record + PEAT_RECORD_HIGHEST, 16);
+    shorter = sum_of(1, &k, old, WITHOUT_NUMBER), short_sum = sum_of(1, &k, old, WITHOUT_VERSION);
+    check(takes_record(&k, old, WITHOUT_NUMBER, shorter, 0) == 0, name, "a record of 0.3.0 is not taken, or with another number than 0");
+    check(takes_record(&k, old, WITHOUT_VERSION, short_sum, 5) == 0, name, "a record of 0.4.0 is not taken, or with another number or version");
+    check(takes_record(&k, k.record, sizeof k.record, journal_sum(1, &k), 5) == 0, name, "a record is not taken");
+    check(takes_record(&k, old, WITHOUT_NUMBER, shorter ^ 1u, 0) == EXIT_JOURNAL, name, "a damaged record of 0.3.0 is taken");
+    check(takes_record(&k, old, WITHOUT_VERSION, short_sum ^ 1u, 5) == EXIT_JOURNAL, name, "a damaged record of 0.4.0 is taken");
+    check(takes_record(&k, k.record, sizeof k.record, shorter, 5) == EXIT_JOURNAL, name, "a record is taken under the sum of a shorter one");
+    check(takes_record(&k, old, WITHOUT_NUMBER + 1, shorter, 0) == EXIT_JOURNAL, name, "17 bytes are taken for a record");
 }
 
 /* ---- job numbers that have no place in SQLite's integers */

@@ -23,7 +23,10 @@ static struct range lent(const uint8_t *at, size_t len) { return (struct range){
         return model_call(which, &a); \
     } while (0)
 
-uint64_t peat_fresh(RECORD, uint64_t side, uint64_t policy) { ASK(FRESH, .rec = {rec, rec_len}, .n = {side, policy}); }
+uint64_t peat_fresh(RECORD, uint64_t side, uint64_t policy, uint64_t forwards, uint64_t version)
+{
+    ASK(FRESH, .rec = {rec, rec_len}, .n = {side, policy, forwards, version});
+}
 
 uint64_t peat_start(RECORD, uint64_t number, uint64_t mode, uint64_t class_, uint64_t security, MESSAGE_DATA, BUFFERS)
 {
@@ -34,15 +37,24 @@ uint64_t peat_message_request(RECORD, uint64_t job, MESSAGE_DATA, BUFFERS) { ASK
 uint64_t peat_end_request(RECORD, MESSAGE_DATA, BUFFERS) { ASK(END_REQUEST, BASE, WITH_MESSAGE); }
 uint64_t peat_end_response(RECORD, uint64_t result, MESSAGE_DATA, BUFFERS) { ASK(END_RESPONSE, BASE, WITH_MESSAGE, .n = {result}); }
 uint64_t peat_user_abort(RECORD, uint64_t reason, BUFFERS) { ASK(USER_ABORT, BASE, .n = {reason}); }
+uint64_t peat_forward_request(RECORD, uint64_t number, uint64_t class_, uint64_t security, uint64_t year, uint64_t month, uint64_t day,
+    uint64_t hours, uint64_t minutes, uint64_t seconds, uint64_t characters, uint64_t flight, uint64_t address, uint64_t direction,
+    const uint8_t *msgs, size_t msgs_len, uint64_t message, BUFFERS)
+{
+    ASK(FORWARD_REQUEST, BASE, .number = number, .msgs = lent(msgs, msgs_len), .message = message,
+        .n = {class_, security, year, month, day, hours, minutes, seconds, characters, flight, address, direction});
+}
 uint64_t peat_timer_expiry(RECORD, BUFFERS) { ASK(TIMER_EXPIRY, BASE); }
 
-uint64_t peat_d_start_indication(RECORD, uint64_t number, uint64_t peer, uint64_t security, uint64_t priority, uint64_t rate, uint64_t routing, USER_DATA, BUFFERS)
+uint64_t peat_d_start_indication(RECORD, uint64_t number, uint64_t peer, uint64_t security, uint64_t priority, uint64_t rate, uint64_t routing,
+    uint64_t version, USER_DATA, BUFFERS)
 {
-    ASK(D_START_INDICATION, BASE, .number = number, WITH_USER_DATA, .n = {peer, security, priority, rate, routing});
+    ASK(D_START_INDICATION, BASE, .number = number, WITH_USER_DATA, .n = {peer, security, priority, rate, routing, version});
 }
-uint64_t peat_d_start_confirmation(RECORD, uint64_t number, uint64_t result, uint64_t source, uint64_t security, USER_DATA, BUFFERS)
+uint64_t peat_d_start_confirmation(
+    RECORD, uint64_t number, uint64_t result, uint64_t source, uint64_t security, uint64_t version, USER_DATA, BUFFERS)
 {
-    ASK(D_START_CONFIRMATION, BASE, .number = number, WITH_USER_DATA, .n = {result, source, security});
+    ASK(D_START_CONFIRMATION, BASE, .number = number, WITH_USER_DATA, .n = {result, source, security, version});
 }
 uint64_t peat_d_data_indication(RECORD, uint64_t number, USER_DATA, BUFFERS) { ASK(D_DATA_INDICATION, BASE, .number = number, WITH_USER_DATA); }
 uint64_t peat_d_end_indication(RECORD, uint64_t number, USER_DATA, BUFFERS) { ASK(D_END_INDICATION, BASE, .number = number, WITH_USER_DATA); }
@@ -53,6 +65,10 @@ uint64_t peat_d_p_abort_indication(RECORD, uint64_t number, BUFFERS) { ASK(D_P_A
 uint64_t peat_data_part(uint64_t which, const uint8_t *delivered, size_t delivered_len, uint8_t *out, size_t out_len)
 {
     ASK(DATA_PART, .n = {which}, .bytes = lent(delivered, delivered_len), .first = {out, out_len});
+}
+uint64_t peat_forward_part(uint64_t which, const uint8_t *delivered, size_t delivered_len, uint8_t *out, size_t out_len)
+{
+    ASK(FORWARD_PART, .n = {which}, .bytes = lent(delivered, delivered_len), .first = {out, out_len});
 }
 uint64_t peat_read_envelope(const uint8_t *bytes, size_t bytes_len) { ASK(READ_ENVELOPE, .bytes = lent(bytes, bytes_len)); }
 uint64_t peat_envelope_job(const uint8_t *bytes, size_t bytes_len) { ASK(ENVELOPE_JOB, .bytes = lent(bytes, bytes_len)); }

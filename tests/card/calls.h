@@ -22,10 +22,13 @@ static uint64_t card_call(enum which w, const struct args *a)
     case END_RESPONSE: return peat_end_response(REC, n[0], DATA, OUT);
     case DSC_END_RESPONSE: return peat_dsc_end_response(REC, n[0], DATA, OUT);
     case USER_ABORT: return peat_user_abort(REC, n[0], OUT);
+    case FORWARD_REQUEST:
+        return peat_forward_request(REC, a->number, n[0], n[1], n[2], n[3], n[4], n[5], n[6], n[7], n[8], n[9], n[10], n[11], a->msgs.at,
+            a->msgs.len, a->message, OUT);
     case TIMER_EXPIRY: return peat_timer_expiry(REC, OUT);
     case SYSTEM_ERROR: return peat_system_error(REC, OUT);
-    case D_START_INDICATION: return peat_d_start_indication(REC, a->number, n[0], n[1], n[2], n[3], n[4], GIVEN, OUT);
-    case D_START_CONFIRMATION: return peat_d_start_confirmation(REC, a->number, n[0], n[1], n[2], GIVEN, OUT);
+    case D_START_INDICATION: return peat_d_start_indication(REC, a->number, n[0], n[1], n[2], n[3], n[4], n[5], GIVEN, OUT);
+    case D_START_CONFIRMATION: return peat_d_start_confirmation(REC, a->number, n[0], n[1], n[2], n[3], GIVEN, OUT);
     case D_DATA_INDICATION: return peat_d_data_indication(REC, a->number, GIVEN, OUT);
     case D_END_INDICATION: return peat_d_end_indication(REC, a->number, GIVEN, OUT);
     case D_END_CONFIRMATION: return peat_d_end_confirmation(REC, a->number, n[0], GIVEN, OUT);
@@ -35,10 +38,11 @@ static uint64_t card_call(enum which w, const struct args *a)
     case ENVELOPE_JOB: return peat_envelope_job(a->bytes.at, a->bytes.len);
     case WRITE_ENVELOPE: return peat_write_envelope(n[0], n[1], n[2], a->msgs.at, a->msgs.len, a->first.at, a->first.len);
     case DATA_PART: return peat_data_part(n[0], a->bytes.at, a->bytes.len, a->first.at, a->first.len);
+    case FORWARD_PART: return peat_forward_part(n[0], a->bytes.at, a->bytes.len, a->first.at, a->first.len);
     case READ_APDU: return peat_read_apdu(n[0], a->bytes.at, a->bytes.len);
     case READ_MESSAGE: return peat_read_message(n[0], a->bytes.at, a->bytes.len, n[1], a->rec.at, a->rec.len, a->first.at, a->first.len);
     case WRITE_MESSAGE: return peat_write_message(n[0], a->ids.at, a->ids.len, a->msgs.at, a->msgs.len, a->first.at, a->first.len);
-    default: return peat_fresh(REC, n[0], n[1]);
+    default: return peat_fresh(REC, n[0], n[1], n[2], n[3]);
     }
 #undef REC
 #undef DATA
@@ -48,9 +52,9 @@ static uint64_t card_call(enum which w, const struct args *a)
 
 static const char *const names[CALLS] = {
     "peat_start", "peat_start_response", "peat_dsc_start_response", "peat_message_request", "peat_end_request",
-    "peat_dsc_end_request", "peat_end_response", "peat_dsc_end_response", "peat_user_abort", "peat_timer_expiry", "peat_system_error",
-    "peat_d_start_indication", "peat_d_start_confirmation", "peat_d_data_indication", "peat_d_end_indication", "peat_d_end_confirmation",
-    "peat_d_abort_indication", "peat_d_p_abort_indication", "peat_fresh", "peat_read_envelope", "peat_envelope_job", "peat_write_envelope",
-    "peat_data_part", "peat_read_apdu", "peat_read_message", "peat_write_message"};
+    "peat_dsc_end_request", "peat_end_response", "peat_dsc_end_response", "peat_user_abort", "peat_forward_request",
+    "peat_timer_expiry", "peat_system_error", "peat_d_start_indication", "peat_d_start_confirmation", "peat_d_data_indication", "peat_d_end_indication",
+    "peat_d_end_confirmation", "peat_d_abort_indication", "peat_d_p_abort_indication", "peat_fresh", "peat_read_envelope", "peat_envelope_job",
+    "peat_write_envelope", "peat_data_part", "peat_forward_part", "peat_read_apdu", "peat_read_message", "peat_write_message"};
 
 #endif

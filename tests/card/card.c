@@ -122,19 +122,21 @@ static int can_refuse(enum which w, unsigned x)
         return x == PEAT_ROOM || x == PEAT_SHAPE;
     if (w == DATA_PART)
         return x == PEAT_ROOM || x == PEAT_SHAPE || x == PEAT_SHORT || (x >= PEAT_EXTENSION && x <= PEAT_TAIL);
+    if (w == FORWARD_PART)
+        return x == PEAT_ROOM || x == PEAT_SHAPE || x == PEAT_SHORT || x == PEAT_RANGE || x == PEAT_LENGTH_FORM || x == PEAT_TAIL;
     if (w == READ_APDU)
         return x == PEAT_SHAPE || (x >= PEAT_SHORT && x <= PEAT_TAIL) || x == PEAT_DEFAULT;
     if (w == READ_MESSAGE)
         return x == PEAT_ROOM || x == PEAT_SHAPE || (x >= PEAT_SHORT && x <= PEAT_EXTENSION) || (x >= PEAT_TAIL && x <= PEAT_DEFAULT);
     return x == PEAT_SHAPE || (x == PEAT_ROOM && w != FRESH) || (x == PEAT_PROHIBITED && w <= TIMER_EXPIRY) ||
-           (x == PEAT_STALE && (w == START_REQUEST || (w >= D_START_INDICATION && w <= D_P_ABORT_INDICATION))) ||
+           (x == PEAT_STALE && (w == START_REQUEST || w == FORWARD_REQUEST || (w >= D_START_INDICATION && w <= D_P_ABORT_INDICATION))) ||
            ((x == PEAT_NO_MESSAGE || x == PEAT_REPEAT) && w == MESSAGE_REQUEST);
 }
 
 /* the position in a refusal: of a call that reads bits, at most the bits that it was lent; of any other, and of ROOM and SHAPE, 0 */
 static int position_fits(enum which w, const struct args *a, uint64_t said)
 {
-    size_t bits = w == READ_MESSAGE ? (size_t)a->n[1] : w == DATA_PART || w == READ_APDU ? 8 * a->bytes.len : 0;
+    size_t bits = w == READ_MESSAGE ? (size_t)a->n[1] : w == DATA_PART || w == FORWARD_PART || w == READ_APDU ? 8 * a->bytes.len : 0;
     return peat_position(said) <= (peat_refusal(said) < PEAT_SHORT ? 0 : bits);
 }
 
@@ -160,24 +162,24 @@ static uint64_t code(unsigned most)
 
 static void random_record(struct args *a)
 {
-    static const uint8_t most[7] = {2, 4, 1, 1, 1, 1, 1};
+    static const uint8_t most[8] = {2, 5, 1, 1, 1, 1, 1, 1};
     uint8_t *x;
     int i;
     lend(a, 0, once_in(200) ? below(28) : PEAT_RECORD_BYTES);
     x = a->rec.at;
     if (a->rec.len != PEAT_RECORD_BYTES)
         return;
-    for (i = 0; i < 7; i++)
+    for (i = 0; i < 8; i++)
         x[i] = (uint8_t)below(most[i] + 1u);
     x[0] = (uint8_t)(1 + below(2));
-    x[7] = 0;
-    fill(x + 8, 16);
+    x[8] = (uint8_t)(once_in(60) ? 0 : once_in(3) ? 1 + below(255) : 1 + below(2));
+    fill(x + 9, 16);
     if (once_in(2))
-        memset(x + 8, 0, 7);
+        memset(x + 9, 0, 7);
     if (once_in(2))
-        memset(x + 16, 0, 7);
+        memset(x + 17, 0, 7);
     if (once_in(50))
-        x[below(8)] = (uint8_t)any();
+        x[below(9)] = (uint8_t)any();
     if (once_in(200))
         fill(x, PEAT_RECORD_BYTES);
 }
@@ -186,7 +188,7 @@ static void random_record(struct args *a)
 static uint64_t random_number(enum which w, const struct args *a)
 {
     uint64_t held = a->rec.len == PEAT_RECORD_BYTES ? peat_record_number(a->rec.at) : 0;
-    int start = w == START_REQUEST || w == D_START_INDICATION;
+    int start = w == START_REQUEST || w == FORWARD_REQUEST || w == D_START_INDICATION;
     if (once_in(12))
         return any() >> below(64);
     if (once_in(12))
@@ -260,17 +262,43 @@ static void put_random_data(struct bits *b)
         put_additions(b);
 }
 
-/* user data: an APDU of one of the two types, now and then with a fault */
-static void random_apdu(struct args *a)
+/* a version, mostly that of the record or none */
+static uint64_t random_version(const struct args *a)
+{
+    uint64_t own = a->rec.len == PEAT_RECORD_BYTES ? peat_record_version(a->rec.at) : 1;
+    return once_in(40) ? any() : once_in(40) ? 255 + below(2) : once_in(4) ? PEAT_NO_VERSION : once_in(4) ? 1 + below(3) : own;
+}
+
+/* an ATCForwardMessage, now and then with a number outside its type */
+static void put_random_forward(struct bits *b)
+{
+    static const unsigned width[] = {7, 4, 5, 5, 6, 6, 3}, values[] = {100, 12, 31, 24, 60, 60, 7};
+    unsigned i, n = 0;
+    for (i = 0; i < 7; i++) {
+        n = once_in(40) ? below(1u << width[i]) : below(values[i]);
+        put(b, n, width[i]);
+    }
+    for (i = 0; i < n + 2; i++)
+        put(b, any(), 7);
+    put(b, any(), 24);
+    put(b, any(), 1);
+    put_items(b, message_bits(), 1);
+}
+
+/* user data: an APDU of an alternative, of one of the two types, now and then with a fault */
+static void random_pdu(struct args *a, unsigned index, unsigned aircraft)
 {
     static struct bits b;
-    unsigned index = below(once_in(20) ? 8 : 4), aircraft = below(2);
     uint8_t bytes[2600];
     size_t len;
     b.n = 0;
     put(&b, once_in(50), 1);
     put(&b, index, aircraft ? 2 : 3);
-    if (index == 0)
+    if (!aircraft && index == 4)
+        put_random_forward(&b);
+    else if (!aircraft && index == 5)
+        put(&b, once_in(20) ? below(8) : below(3), 3);
+    else if (index == 0)
         put(&b, once_in(20) ? below(32) : below(13), 5);
     else if (index == 1)
         put(&b, once_in(20) ? below(16) : below(8), 4);
@@ -292,6 +320,30 @@ static void random_apdu(struct args *a)
     if (len > 0)
         memcpy(a->bytes.at, bytes, len);
     a->given = once_in(12) ? 0 : once_in(100) ? any() : 1;
+}
+
+static void random_apdu(struct args *a)
+{
+    unsigned index = below(once_in(20) ? 8 : 4), aircraft = below(2);
+    random_pdu(a, !aircraft && once_in(8) ? 4 + below(2) : index, aircraft);
+}
+
+/* a forward that reaches an IDLE ground record, or the answer to one that is in FORWARD, mostly as it should be */
+static void random_centre(enum which w, struct args *a)
+{
+    uint8_t *x = a->rec.at;
+    if (a->rec.len != PEAT_RECORD_BYTES || x[0] > PEAT_GROUND)
+        return;
+    x[0] = PEAT_GROUND;
+    x[1] = w == D_START_INDICATION ? PEAT_IDLE : PEAT_FORWARD;
+    if (w == D_START_INDICATION) {
+        a->n[0] = PEAT_FACILITY, a->n[1] = once_in(8) ? below(2) : x[PEAT_RECORD_POLICY];
+        random_pdu(a, PEAT_APDU_FORWARD, 0);
+    } else {
+        a->n[0] = once_in(8) ? below(3) : PEAT_REJECTED, a->n[1] = once_in(8) ? below(2) : PEAT_DS_USER;
+        a->n[2] = once_in(8) ? below(2) : x[PEAT_RECORD_REQUEST];
+        random_pdu(a, once_in(8) ? below(6) : PEAT_APDU_FORWARD_RESPONSE, 0);
+    }
 }
 
 /* ---- random envelopes */
@@ -381,6 +433,44 @@ static void random_part(struct args *a)
     a->n[0] = code(2);
 }
 
+/* a forward message by itself, now and then with a fault */
+static void random_forward(struct args *a)
+{
+    static struct bits b;
+    uint8_t bytes[2600];
+    size_t len;
+    b.n = 0;
+    put_random_forward(&b);
+    len = whole(&b, bytes);
+    if (once_in(15))
+        bytes[below(once_in(2) ? (unsigned)len : 14)] ^= (uint8_t)(1u << below(8));
+    if (once_in(30))
+        bytes[len++] = (uint8_t)(any() & any());
+    if (once_in(20))
+        len = below((unsigned)len + 1);
+    lend(a, 4, len);
+    if (len > 0)
+        memcpy(a->bytes.at, bytes, len);
+    a->n[0] = code(PEAT_FORWARD_MESSAGE);
+}
+
+/* the numbers of a forward request and its message, now and then outside their types */
+static void random_heading(struct args *a)
+{
+    static const unsigned low[] = {1996, 1, 1, 0, 0, 0, PEAT_FLIGHT_LEAST}, high[] = {2095, 12, 31, 23, 59, 59, PEAT_FLIGHT_MOST};
+    size_t bits = message_bits();
+    unsigned i;
+    a->n[0] = code(PEAT_CLASS_H);
+    for (i = 0; i < 7; i++)
+        a->n[2 + i] = once_in(150) ? any() >> below(64) : once_in(150) ? high[i] + 1 : once_in(150) ? low[i] - (uint64_t)1 : low[i] + below(high[i] - low[i] + 1);
+    a->n[9] = any() >> (once_in(40) || a->n[8] < 1 || a->n[8] > PEAT_FLIGHT_MOST ? below(64) : 64 - 7 * a->n[8]);
+    a->n[10] = once_in(60) ? any() >> below(64) : any() >> 40;
+    a->n[11] = code(1);
+    a->message = once_in(100) ? any() : once_in(100) ? NONE : bits;
+    lend(a, 2, once_in(40) ? bits / 8 : bits / 8 + 1);
+    fill(lent[2] - 24, 24);
+}
+
 /* a message range and a text, now and then with a fault */
 static void random_message(struct args *a)
 {
@@ -457,25 +547,31 @@ static void random_call(enum which w, struct args *a)
     case START_REQUEST: a->n[1] = code(8); break;
     case MESSAGE_REQUEST: a->n[0] = once_in(3) ? below(256) : any(); break;
     case USER_ABORT: a->n[0] = once_in(4) ? NONE : code(12); break;
-    case D_START_CONFIRMATION: a->n[0] = code(2); break;
+    case D_START_CONFIRMATION: a->n[0] = code(2), a->n[3] = random_version(a); break;
     case D_START_INDICATION:
+        a->n[5] = random_version(a);
         a->n[2] = once_in(12) ? any() : 1;
         a->n[3] = once_in(12) ? below(3) : 1;
         a->n[4] = once_in(12) ? any() : below(10);
         break;
-    case FRESH: a->n[0] = once_in(8) ? any() : below(4); break;
+    case FRESH: a->n[0] = once_in(8) ? any() : below(4), a->n[3] = once_in(4) ? any() : below(258); break;
+    case FORWARD_REQUEST: random_heading(a); break;
     default: break;
     }
     if (w <= DSC_END_RESPONSE)
         random_data(a);
     if (w >= D_START_INDICATION && w <= D_ABORT_INDICATION)
         random_apdu(a);
+    if ((w == D_START_INDICATION || w == D_START_CONFIRMATION) && once_in(3))
+        random_centre(w, a);
     if (w == READ_ENVELOPE || w == ENVELOPE_JOB)
         random_envelope(a);
     if (w == WRITE_ENVELOPE)
         random_content(a);
     if (w == DATA_PART)
         random_part(a);
+    if (w == FORWARD_PART)
+        random_forward(a);
     if (w == READ_APDU) {
         random_apdu(a);
         a->n[0] = once_in(40) ? any() : once_in(40) ? below(4) : 1 + below(2);
@@ -488,7 +584,7 @@ static void random_call(enum which w, struct args *a)
 
 /* how often a call came to each side in each state and DSC, of the start those in mode dsc apart, and how often each side invoked and
    told each primitive */
-static unsigned long cells[2][5][2][CALLS], dsc_starts[2][5][2], invoked[2][16], reported[2][16];
+static unsigned long cells[2][6][2][CALLS], dsc_starts[2][6][2], invoked[2][16], reported[2][16], both_buffers;
 
 static void seen(enum which w, const struct args *a, const uint8_t *rec, uint64_t said)
 {
@@ -502,6 +598,9 @@ static void seen(enum which w, const struct args *a, const uint8_t *rec, uint64_
     if (peat_refusal(said) == PEAT_TAKEN) {
         invoked[side][peat_invoked(said)]++;
         reported[side][peat_told(said)]++;
+        both_buffers += peat_apdu_bits(said) > 0 && peat_data_bits(said) > 0;
+        if (peat_apdu_bits(said) > 0 && peat_data_bits(said) > 0)
+            check(peat_told(said) == PEAT_FORWARD_INDICATION && peat_invoked(said) == PEAT_D_START_RESPONSE, "an event that fills both buffers");
     }
 }
 
@@ -510,7 +609,7 @@ static void all_seen(void)
     unsigned side, state, dsc, w, x;
     unsigned long least = (unsigned long)-1;
     for (side = 0; side < 2; side++) {
-        for (state = 0; state < 5; state++)
+        for (state = 0; state < 6; state++)
             for (dsc = 0; dsc < 2; dsc++) {
                 for (w = 0; w < FRESH; w++)
                     least = cells[side][state][dsc][w] < least ? cells[side][state][dsc][w] : least;
@@ -518,9 +617,12 @@ static void all_seen(void)
             }
         for (x = 0; x < 16; x++) {
             check((invoked[side][x] > 0) == (x <= PEAT_D_ABORT_REQUEST), "a primitive of the dialogue service that no call, or a wrong one, invokes");
-            check((reported[side][x] > 0) == (x <= PEAT_PROVIDER_ABORT_INDICATION), "a user primitive that no call, or a wrong one, invokes");
+            /* at an air record in FORWARD, which no run reaches, the confirmation is told too */
+            check((reported[side][x] > 0) == (x <= PEAT_FORWARD_CONFIRMATION && !(side == 0 && x == PEAT_FORWARD_INDICATION)),
+                "a user primitive that no call, or a wrong one, invokes");
         }
     }
+    check(both_buffers >= 100, "hardly an event filled both buffers");
     printf("each call reached each side in each state and DSC %lu times or more\n", least);
     check(least >= 100, "a call hardly reached a state");
 }
@@ -594,12 +696,24 @@ static void set_record(struct args *a, unsigned side, unsigned state)
     memset(a->rec.at, 0, PEAT_RECORD_BYTES);
     a->rec.at[0] = (uint8_t)side;
     a->rec.at[1] = (uint8_t)state;
+    a->rec.at[PEAT_RECORD_VERSION] = 1;
+}
+
+/* the numbers of a call that are right, or would be in another state */
+static void set_codes(struct args *a, enum which w)
+{
+    static const uint64_t heading[] = {PEAT_CLASS_A, PEAT_NO_SECURITY, 2026, 11, 15, 12, 30, 59, 2, 77, 5, PEAT_FORWARD_DOWNLINK};
+    a->n[0] = 1;
+    if (w == FORWARD_REQUEST)
+        memcpy(a->n, heading, sizeof heading);
+    if (w == FRESH)
+        a->n[3] = 1;
 }
 
 /* a number that many above the record's: is it stale for the call */
 static int is_stale(enum which w, int above)
 {
-    if (w == START_REQUEST || w == D_START_INDICATION)
+    if (w == START_REQUEST || w == FORWARD_REQUEST || w == D_START_INDICATION)
         return above <= 0;
     return w > D_START_INDICATION && w <= D_P_ABORT_INDICATION && above != 0;
 }
@@ -611,18 +725,18 @@ static void edges(void)
     int w, i, j, k;
     for (w = 0; w <= FRESH; w++) {
         int buffers = 1, nothing = 1, record = 1, codes = 1, numbers = 1;
-        uint64_t first = w == START_REQUEST || w == D_START_INDICATION; /* a number that is not stale for a record that holds 0 */
+        uint64_t first = is_stale((enum which)w, 0); /* a number that is not stale for a record that holds 0 */
         struct args a;
         for (i = 0; i < 4; i++) /* both buffers, of each length; all that is read has no bytes; each side and state */
             for (j = 0; j < 4; j++)
-                for (k = 0; k < 20; k++) {
-                    set_record(&a, 1 + (unsigned)k % 2, (unsigned)k / 2 % 5);
+                for (k = 0; k < 24; k++) {
+                    set_record(&a, 1 + (unsigned)k % 2, (unsigned)k / 2 % 6);
                     lend(&a, 5, lengths[i]);
                     lend(&a, 6, lengths[j]);
-                    a.n[0] = 1;
+                    set_codes(&a, (enum which)w);
                     a.number = first;
-                    a.message = k < 10 ? NONE : 0;
-                    a.given = k < 10 ? 0 : 1;
+                    a.message = k < 12 ? NONE : 0;
+                    a.given = k < 12 ? 0 : 1;
                     buffers &= agrees((enum which)w, &a, &said) && (w == FRESH || (said == 1) == (i < 3 || j < 3));
                 }
         for (k = 0; k < 2; k++) { /* all ranges of no bytes, the null pointer; then buffers alone */
@@ -637,17 +751,17 @@ static void edges(void)
             lend(&a, 0, (size_t)i);
             lend(&a, 5, PEAT_BUFFER_LEAST);
             lend(&a, 6, PEAT_BUFFER_LEAST);
-            a.n[0] = 1;
+            set_codes(&a, (enum which)w);
             a.number = first;
             record &= agrees((enum which)w, &a, &said) && (i == PEAT_RECORD_BYTES || said == 2);
         }
-        for (i = 0; i < 5; i++) /* each code, of no type */
+        for (i = 0; i < 12; i++) /* each code, of no type */
             for (j = 0; j < 64; j++) {
-                set_record(&a, 1, PEAT_DIALOGUE);
+                set_record(&a, 1 + (unsigned)(w == FORWARD_REQUEST), w == FORWARD_REQUEST ? PEAT_IDLE : PEAT_DIALOGUE);
                 lend(&a, 5, PEAT_BUFFER_LEAST);
                 lend(&a, 6, PEAT_BUFFER_LEAST);
-                a.message = NONE;
-                a.n[0] = 1;
+                a.message = w == FORWARD_REQUEST ? 0 : NONE;
+                set_codes(&a, (enum which)w);
                 a.number = first;
                 a.n[i] = (uint64_t)1 << j;
                 codes &= agrees((enum which)w, &a, &said);
@@ -659,8 +773,8 @@ static void edges(void)
                 a.number = ((uint64_t)1 << j) + (uint64_t)(int64_t)i;
                 lend(&a, 5, PEAT_BUFFER_LEAST);
                 lend(&a, 6, PEAT_BUFFER_LEAST);
-                a.message = NONE;
-                a.n[0] = 1;
+                a.message = w == FORWARD_REQUEST ? 0 : NONE;
+                set_codes(&a, (enum which)w);
                 numbers &= agrees((enum which)w, &a, &said) && (peat_refusal(said) == PEAT_STALE) == is_stale((enum which)w, i);
             }
         check(buffers, "buffers of 0, 1, 2,111 and 2,112 bytes");
@@ -673,14 +787,14 @@ static void edges(void)
 
 /* ---- the start: every record that the bytes can say, and others, with each mode and codes that are none, and with what else is refused */
 
-/* The record of a number below 768: each side, state and flag, and sides and states that are none. 1: it is a record. */
+/* The record of a number below 896: each side, state and flag, and sides and states that are none. 1: it is a record. */
 static int numbered_record(struct args *a, unsigned n)
 {
     int i;
-    set_record(a, n % 4, n / 4 % 6);
+    set_record(a, n % 4, n / 4 % 7);
     for (i = 2; i < 7; i++)
-        a->rec.at[i] = (uint8_t)(n / 24 >> (i - 2) & 1);
-    return a->rec.at[0] != 0 && a->rec.at[0] != 3 && a->rec.at[1] != 5;
+        a->rec.at[i] = (uint8_t)(n / 28 >> (i - 2) & 1);
+    return a->rec.at[0] != 0 && a->rec.at[0] != 3 && a->rec.at[1] != 6;
 }
 
 /* A start with that record; a number below 432 says what else it is given, from 216 on a stale number. Answers what it must be answered. */
@@ -712,7 +826,7 @@ static void start_everywhere(void)
     unsigned long calls = 0, taken[2] = {0, 0};
     unsigned n, v;
     int right = 1;
-    for (n = 0; n < 768; n++)
+    for (n = 0; n < 896; n++)
         for (v = 0; v < 432; v++, calls++) {
             struct args a;
             uint64_t said;
@@ -943,7 +1057,7 @@ static void message_edges(void)
             lend(&a, w == READ_MESSAGE ? 0 : 1, 132);
             lend(&a, 4, 64);
             lend(&a, 5, PEAT_BUFFER_LEAST);
-            codes &= agrees((enum which)w, &a, &said) && (i < 2 || said == PEAT_SHAPE);
+            codes &= agrees((enum which)w, &a, &said) && (i < (w == FORWARD_PART ? 4 : 2) || said == PEAT_SHAPE);
         }
         memset(&a, 0, sizeof a);
         nothing &= agrees((enum which)w, &a, &said) && said == PEAT_ROOM;
@@ -963,6 +1077,10 @@ static void message_edges(void)
 }
 
 /* ---- edges of an APDU by itself: every type code, bytes of no length, every cut, every bit turned, and positions by hand */
+
+/* The forward of 15 November 2026, 12:30:59, flight BAW123, address 400123, downlink, twelve bits F40, as GroundPDUs:
+   0 100, 0011110 1010 01110, 01100 011110 111011, 100 and seven bits for each character, 24 bits, 1, 00001100, the bits. */
+static const uint8_t by_hand[] = {0x43, 0xD4, 0xE6, 0x3D, 0xDC, 0x85, 0x06, 0xBB, 0x16, 0x4C, 0xD0, 0x00, 0x48, 0xE1, 0x9E, 0x80};
 
 static uint64_t reads_apdu(uint64_t type, const uint8_t *bytes, size_t len, int *ok)
 {
@@ -1002,6 +1120,13 @@ static void apdu_edges(void)
         {PEAT_AIRCRAFT_PDUS, {0x60, 0x01}, 2, PEAT_TAIL, 15},           /* the second: not the beginning of the padding */
         {PEAT_AIRCRAFT_PDUS, {0x60, 0x00, 0x00}, 3, PEAT_TAIL, 16},     /* a byte of zeros behind it */
         {PEAT_AIRCRAFT_PDUS, {0x60, 0x01, 0x00}, 3, PEAT_TAIL, 15},     /* the padding before the bytes */
+        {PEAT_GROUND_PDUS, {0x4F, 0x00}, 2, PEAT_RANGE, 4},             /* forward: year 2116 */
+        {PEAT_GROUND_PDUS, {0x40, 0x18}, 2, PEAT_RANGE, 11},            /* month 13 */
+        {PEAT_GROUND_PDUS, {0x40, 0x01, 0xF0}, 3, PEAT_RANGE, 15},      /* day 32 */
+        {PEAT_GROUND_PDUS, {0x40, 0x00, 0x00}, 3, PEAT_SHORT, 20},      /* hours cut */
+        {PEAT_GROUND_PDUS, {0x58}, 1, PEAT_EXTENSION, 4},               /* of a forward response */
+        {PEAT_GROUND_PDUS, {0x56}, 1, PEAT_RANGE, 5},                   /* result 3 */
+        {PEAT_GROUND_PDUS, {0x51}, 1, PEAT_TAIL, 7},
         {PEAT_AIRCRAFT_PDUS, {0x70, 0x00}, 2, PEAT_SHORT, 14},          /* additions: their count is cut */
         {PEAT_AIRCRAFT_PDUS, {0x70, 0x02}, 2, PEAT_EXTENSION, 14},      /* the long form of the count, by its first bit */
         {PEAT_AIRCRAFT_PDUS, {0x70, 0x00, 0x00, 0x00}, 4, PEAT_EXTENSION, 21}, /* none is there */
@@ -1033,8 +1158,13 @@ static void apdu_edges(void)
     codes &= peat_refusal(said) == PEAT_TAKEN && peat_position(said) == 0 && peat_apdu_kind(said) == PEAT_APDU_START && peat_apdu_number(said) == 1 && peat_apdu_has_data(said) == 1;
     said = reads_apdu(PEAT_GROUND_PDUS, (const uint8_t *)"\x06\x00", 2, &ok); /* abort by the user: 0000 0 1100 */
     codes &= peat_refusal(said) == PEAT_TAKEN && peat_apdu_kind(said) == PEAT_APDU_ABORT_USER && peat_apdu_number(said) == 12 && peat_apdu_has_data(said) == 0;
-    said = reads_apdu(PEAT_GROUND_PDUS, (const uint8_t *)"\x4F", 1, &ok);
-    codes &= peat_refusal(said) == PEAT_TAKEN && peat_apdu_kind(said) == PEAT_APDU_FORWARD;
+    said = reads_apdu(PEAT_GROUND_PDUS, by_hand, sizeof by_hand, &ok);
+    codes &= peat_refusal(said) == PEAT_TAKEN && peat_apdu_kind(said) == PEAT_APDU_FORWARD && peat_apdu_number(said) == 0 && peat_apdu_has_data(said) == 0;
+    for (i = 0; i < sizeof by_hand; i++)
+        cuts &= peat_position(reads_apdu(PEAT_GROUND_PDUS, by_hand, i, &ok)) <= 8 * i;
+    said = reads_apdu(PEAT_GROUND_PDUS, (const uint8_t *)"\x54", 1, &ok);
+    codes &= peat_refusal(said) == PEAT_TAKEN && peat_apdu_kind(said) == PEAT_APDU_FORWARD_RESPONSE && peat_apdu_number(said) == PEAT_VERSION_NOT_EQUAL &&
+             peat_apdu_has_data(said) == 0;
     said = reads_apdu(PEAT_AIRCRAFT_PDUS, (const uint8_t *)"\x70\x00\x04\x00", 4, &ok); /* send, and an addition of no octets */
     codes &= peat_refusal(said) == PEAT_TAKEN && peat_apdu_kind(said) == PEAT_APDU_SEND && peat_apdu_has_data(said) == 1;
     check(ok, "APDUs by themselves, cut and with each bit turned, are as the model has them");
@@ -1086,7 +1216,8 @@ static int states(unsigned a, unsigned g) { return peat_record_state(air) == a &
 
 static void fresh(void)
 {
-    check(peat_fresh(AIR_REC, PEAT_AIR, PEAT_NO_SECURITY) == 0 && peat_fresh(GROUND_REC, PEAT_GROUND, PEAT_NO_SECURITY) == 0, "fresh records");
+    check(peat_fresh(AIR_REC, PEAT_AIR, PEAT_NO_SECURITY, PEAT_FORWARDS_NOT, 1) == 0 &&
+        peat_fresh(GROUND_REC, PEAT_GROUND, PEAT_NO_SECURITY, PEAT_FORWARDS_NOT, 1) == 0, "fresh records");
     check(states(PEAT_IDLE, PEAT_IDLE) && peat_record_highest(air) == 0 && peat_record_number(air) == 0 && !peat_record_timer(air) && !peat_record_active(air), "a fresh record is IDLE");
 }
 
@@ -1095,11 +1226,11 @@ static void opens(void)
 {
     uint64_t n = sent(peat_start(GROUND_REC, number = above(), PEAT_CPDLC, PEAT_CLASS_C, PEAT_NO_SECURITY, BARE, BUFFERS));
     check(invokes(n, PEAT_D_START_REQUEST, PEAT_CLASS_C) && peat_record_timer(ground), "CPDLC-start request");
-    n = peat_d_start_indication(AIR_REC, number, PEAT_FACILITY, PEAT_NO_SECURITY, 1, 1, PEAT_CLASS_C, LINE, BUFFERS);
+    n = peat_d_start_indication(AIR_REC, number, PEAT_FACILITY, PEAT_NO_SECURITY, 1, 1, PEAT_CLASS_C, PEAT_NO_VERSION, LINE, BUFFERS);
     check(told(n, PEAT_START_INDICATION, PEAT_CLASS_C, 0) && states(PEAT_START_IND, PEAT_START_REQ), "CPDLC-start indication");
     n = sent(peat_start_response(AIR_REC, PEAT_ACCEPTED, BARE, BUFFERS));
     check(invokes(n, PEAT_D_START_RESPONSE, PEAT_ACCEPTED), "CPDLC-start response");
-    n = peat_d_start_confirmation(GROUND_REC, number, PEAT_ACCEPTED, PEAT_DS_USER, PEAT_NO_SECURITY, LINE, BUFFERS);
+    n = peat_d_start_confirmation(GROUND_REC, number, PEAT_ACCEPTED, PEAT_DS_USER, PEAT_NO_SECURITY, PEAT_NO_VERSION, LINE, BUFFERS);
     check(told(n, PEAT_START_CONFIRMATION, PEAT_ACCEPTED, 0) && states(PEAT_DIALOGUE, PEAT_DIALOGUE) && !peat_record_timer(ground), "CPDLC-start confirmation");
 }
 
@@ -1177,11 +1308,11 @@ static void downstream(void)
     fresh();
     n = sent(peat_start(AIR_REC, number = above(), PEAT_DSC, PEAT_CLASS_ANY, PEAT_NO_SECURITY, BARE, BUFFERS));
     check(invokes(n, PEAT_D_START_REQUEST, 0) && peat_record_dsc(air), "DSC-start request");
-    n = peat_d_start_indication(GROUND_REC, number, PEAT_AIRCRAFT, PEAT_NO_SECURITY, 1, 1, 0, LINE, BUFFERS);
+    n = peat_d_start_indication(GROUND_REC, number, PEAT_AIRCRAFT, PEAT_NO_SECURITY, 1, 1, 0, PEAT_NO_VERSION, LINE, BUFFERS);
     check(told(n, PEAT_START_INDICATION, 0, 1) && peat_record_dsc(ground), "DSC-start indication");
     check(peat_start_response(GROUND_REC, PEAT_ACCEPTED, BARE, BUFFERS) == PEAT_PROHIBITED, "a CPDLC-start response to a DSC-start");
     n = sent(peat_dsc_start_response(GROUND_REC, PEAT_ACCEPTED, BARE, BUFFERS));
-    n = peat_d_start_confirmation(AIR_REC, number, PEAT_ACCEPTED, PEAT_DS_USER, PEAT_NO_SECURITY, LINE, BUFFERS);
+    n = peat_d_start_confirmation(AIR_REC, number, PEAT_ACCEPTED, PEAT_DS_USER, PEAT_NO_SECURITY, PEAT_NO_VERSION, LINE, BUFFERS);
     check(told(n, PEAT_START_CONFIRMATION, PEAT_ACCEPTED, 1) && states(PEAT_DIALOGUE, PEAT_DIALOGUE), "DSC-start confirmation");
     messages(9);
     sent(peat_dsc_end_request(AIR_REC, BARE, BUFFERS));
@@ -1229,7 +1360,7 @@ static void timer(void)
     fresh();
     check(peat_timer_expiry(AIR_REC, BUFFERS) == PEAT_PROHIBITED, "an expiry while no timer runs");
     sent(peat_start(AIR_REC, number = above(), PEAT_CPDLC, PEAT_CLASS_A, PEAT_NO_SECURITY, BARE, BUFFERS));
-    n = peat_d_start_indication(GROUND_REC, number, PEAT_AIRCRAFT, PEAT_NO_SECURITY, 1, 1, PEAT_CLASS_A, LINE, BUFFERS);
+    n = peat_d_start_indication(GROUND_REC, number, PEAT_AIRCRAFT, PEAT_NO_SECURITY, 1, 1, PEAT_CLASS_A, PEAT_NO_VERSION, LINE, BUFFERS);
     n = sent(peat_timer_expiry(AIR_REC, BUFFERS));
     check(invokes(n, PEAT_D_ABORT_REQUEST, PEAT_PROVIDER) && peat_told(n) == PEAT_PROVIDER_ABORT_INDICATION &&
         peat_told_parameter(n) == PEAT_TIMER_EXPIRED && peat_record_state(air) == PEAT_IDLE && !peat_record_timer(air), "t-start expires");
@@ -1275,15 +1406,230 @@ static void stale(void)
     check(peat_start(AIR_REC, number + 1, PEAT_CPDLC, 0, PEAT_NO_SECURITY, BARE, BUFFERS) == PEAT_PROHIBITED && peat_record_number(air) == number,
         "a refused start leaves the number");
     check(peat_start(AIR_REC, number, PEAT_CPDLC, 9, PEAT_NO_SECURITY, BARE, BUFFERS) == PEAT_SHAPE, "SHAPE comes before STALE");
-    n = peat_d_start_indication(AIR_REC, number + 5, PEAT_FACILITY, PEAT_NO_SECURITY, 1, 1, 0, PEAT_NO_USER_DATA, NULL, 0, BUFFERS);
+    n = peat_d_start_indication(AIR_REC, number + 5, PEAT_FACILITY, PEAT_NO_SECURITY, 1, 1, 0, PEAT_NO_VERSION, PEAT_NO_USER_DATA, NULL, 0, BUFFERS);
     check(invokes(n, PEAT_D_ABORT_REQUEST, PEAT_PROVIDER) && peat_record_state(air) == PEAT_IDLE && peat_record_number(air) == number + 5,
         "a start outside IDLE is turned away, and its number stays");
-    n = peat_d_start_indication(AIR_REC, number + 6, PEAT_FACILITY, PEAT_NO_SECURITY, 0, 1, 0, PEAT_NO_USER_DATA, NULL, 0, BUFFERS);
+    n = peat_d_start_indication(AIR_REC, number + 6, PEAT_FACILITY, PEAT_NO_SECURITY, 0, 1, 0, PEAT_NO_VERSION, PEAT_NO_USER_DATA, NULL, 0, BUFFERS);
     check(invokes(n, PEAT_D_ABORT_REQUEST, PEAT_PROVIDER) && peat_record_number(air) == number + 6, "and one with a fault");
-    check(peat_d_start_indication(AIR_REC, number + 6, PEAT_FACILITY, PEAT_NO_SECURITY, 1, 1, 0, LINE, BUFFERS) == PEAT_STALE, "the same number again");
+    check(peat_d_start_indication(AIR_REC, number + 6, PEAT_FACILITY, PEAT_NO_SECURITY, 1, 1, 0, PEAT_NO_VERSION, LINE, BUFFERS) == PEAT_STALE, "the same number again");
     check(invokes(peat_start(AIR_REC, UINT64_MAX, PEAT_CPDLC, 0, PEAT_NO_SECURITY, BARE, BUFFERS), PEAT_D_START_REQUEST, 0), "the last number");
     peat_user_abort(AIR_REC, PEAT_NONE, BUFFERS);
     check(peat_start(AIR_REC, UINT64_MAX, PEAT_CPDLC, 0, PEAT_NO_SECURITY, BARE, BUFFERS) == PEAT_STALE, "after it there is no start");
+}
+
+/* ---- two centres: one forwards, the other answers in the same event */
+
+static uint8_t other[PEAT_RECORD_BYTES]; /* the receiving centre */
+#define OTHER_REC other, sizeof other
+#define HEADING 2026, 11, 15, 12, 30, 59, 6, peat_flight("BAW123", 6), 0x400123, PEAT_FORWARD_DOWNLINK
+static const uint8_t forwarded[] = {0xF4, 0x00}; /* twelve bits */
+
+static void centres(unsigned forwarding, unsigned version, unsigned other_version)
+{
+    check(peat_fresh(GROUND_REC, PEAT_GROUND, PEAT_NO_SECURITY, PEAT_FORWARDS_NOT, version) == 0 &&
+        peat_fresh(OTHER_REC, PEAT_GROUND, PEAT_NO_SECURITY, forwarding, other_version) == 0, "fresh records of two centres");
+    check(peat_record_forwards(other) == forwarding && peat_record_version(other) == other_version && peat_record_version(ground) == version,
+        "a record says its version and whether forwarding is supported");
+}
+
+/* The sending centre asks: what it sends is as by hand. A centre without forwarding may send. */
+static uint64_t asks(uint64_t held)
+{
+    uint64_t n = sent(peat_forward_request(GROUND_REC, held, PEAT_CLASS_B, PEAT_NO_SECURITY, HEADING, PEAT_ARRAY(forwarded), 12, BUFFERS));
+    check(invokes(n, PEAT_D_START_REQUEST, PEAT_CLASS_B) && peat_told(n) == PEAT_UNTOLD && peat_version(n) == peat_record_version(ground) &&
+        peat_apdu_bits(n) == 127 && line_len == sizeof by_hand && memcmp(line, by_hand, sizeof by_hand) == 0, "CPDLC-forward request");
+    check(peat_record_state(ground) == PEAT_FORWARD && peat_record_timer(ground) && peat_record_active(ground) && peat_record_number(ground) == held,
+        "FORWARD: t-start runs, the user is active, the number is held");
+    return n;
+}
+
+/* What the receiving centre answers to it, which stands in `line` then; and what the sending one is told. */
+static uint64_t answers(uint64_t held, unsigned version)
+{
+    uint64_t n = sent(peat_d_start_indication(OTHER_REC, held, PEAT_FACILITY, PEAT_NO_SECURITY, 1, 1, PEAT_CLASS_B, version, LINE, BUFFERS));
+    check(invokes(n, PEAT_D_START_RESPONSE, PEAT_REJECTED) && peat_record_state(other) == PEAT_IDLE && !peat_record_active(other) &&
+        !peat_record_timer(other) && peat_record_number(other) == held, "the receiving centre answers at once and stays IDLE");
+    return n;
+}
+
+static uint64_t hears(uint64_t held, unsigned version)
+{
+    uint64_t n = peat_d_start_confirmation(GROUND_REC, held, PEAT_REJECTED, PEAT_DS_USER, PEAT_NO_SECURITY, version, LINE, BUFFERS);
+    check(peat_record_state(ground) == PEAT_IDLE && !peat_record_timer(ground) && !peat_record_active(ground) && peat_invoked(n) == PEAT_SILENT,
+        "the sending centre is IDLE again");
+    return n;
+}
+
+static void takes_apart(size_t bytes)
+{
+    static const uint64_t want[] = {2026, 11, 15, 12, 30, 59, 6, UINT64_C(0x2141AEC5933), 0x400123, PEAT_FORWARD_DOWNLINK, 12};
+    static uint8_t out[PEAT_BUFFER_LEAST], delivered[64];
+    unsigned i;
+    int right = 1;
+    check(bytes == 16 && second[0] == 0x3D, "an ATCForwardMessage from its first bit on, of 123 bits");
+    memcpy(delivered, second, bytes);
+    for (i = 0; i <= PEAT_FORWARD_MESSAGE; i++) {
+        uint64_t n = peat_forward_part(i, delivered, bytes, PEAT_ARRAY(out));
+        right &= peat_refusal(n) == PEAT_TAKEN && peat_forward_value(n) == want[i];
+    }
+    check(right && peat_forward_bytes(12 << 8) == 2 && out[0] == 0xF4 && out[1] == 0, "each part of a forward message");
+    check(peat_flight_character(want[7], 6, 0) == 'B' && peat_flight_character(want[7], 6, 5) == '3', "the characters of the flight identification");
+    check(peat_refusal(peat_forward_part(PEAT_FORWARD_YEAR, delivered, bytes - 1, PEAT_ARRAY(out))) == PEAT_SHORT &&
+        peat_forward_part(PEAT_FORWARD_MESSAGE + 1, delivered, bytes, PEAT_ARRAY(out)) == PEAT_SHAPE &&
+        peat_forward_part(PEAT_FORWARD_MESSAGE + 1, delivered, bytes, out, sizeof out - 1) == PEAT_ROOM, "a forward message that is cut, a wrong part, a short buffer");
+}
+
+static void forward_answered(void)
+{
+    uint64_t n;
+    centres(PEAT_FORWARDS, 3, 3); /* 2.3.5.5.2.3 a */
+    asks(1);
+    n = answers(1, 3);
+    check(peat_told(n) == PEAT_FORWARD_INDICATION && peat_apdu_bits(n) == 7 && first[0] == 0x50 && peat_version(n) == PEAT_NO_VERSION &&
+        peat_data_bits(n) == 123, "success: both buffers in one event");
+    takes_apart(peat_data_bytes(n));
+    n = hears(1, PEAT_NO_VERSION);
+    check(peat_told(n) == PEAT_FORWARD_CONFIRMATION && peat_told_parameter(n) == PEAT_FORWARD_SUCCESS && peat_version(n) == PEAT_NO_VERSION &&
+        peat_data_bits(n) == 0, "CPDLC-forward confirmation: success");
+    centres(PEAT_FORWARDS, 3, 4); /* 2.3.5.5.2.3 b */
+    asks(1);
+    n = answers(1, 3);
+    check(peat_told(n) == PEAT_UNTOLD && first[0] == 0x54 && peat_version(n) == 4 && peat_data_bits(n) == 0, "version-not-equal");
+    n = hears(1, peat_version(n));
+    check(peat_told(n) == PEAT_FORWARD_CONFIRMATION && peat_told_parameter(n) == PEAT_VERSION_NOT_EQUAL && peat_version(n) == 4, "and the version is told");
+    asks(2);
+    n = answers(2, PEAT_NO_VERSION);
+    check(first[0] == 0x54 && peat_version(n) == 4, "a version that is not given is not equal");
+    check(peat_told_parameter(hears(2, 4)) == PEAT_VERSION_NOT_EQUAL, "it is told too");
+    centres(PEAT_FORWARDS_NOT, 3, 4); /* 2.3.5.5.2.4 comes before the version */
+    asks(1);
+    n = answers(1, 3);
+    check(peat_told(n) == PEAT_UNTOLD && first[0] == 0x52 && peat_version(n) == PEAT_NO_VERSION, "service-not-supported");
+    n = hears(1, PEAT_NO_VERSION);
+    check(peat_told_parameter(n) == PEAT_SERVICE_NOT_SUPPORTED && peat_version(n) == PEAT_NO_VERSION, "and it is told");
+}
+
+static uint64_t forwards_with(uint8_t *rec, uint64_t held, uint64_t class_)
+{
+    return peat_forward_request(rec, PEAT_RECORD_BYTES, held, class_, PEAT_NO_SECURITY, HEADING, PEAT_ARRAY(forwarded), 12, BUFFERS);
+}
+
+static void forward_refused(void)
+{
+    uint64_t n;
+    fresh();
+    centres(PEAT_FORWARDS, 3, 3);
+    check(forwards_with(air, 1, 0) == PEAT_PROHIBITED, "a forward request at the air end");
+    check(forwards_with(ground, 0, 0) == PEAT_STALE && forwards_with(ground, 0, 9) == PEAT_SHAPE && forwards_with(air, 0, 0) == PEAT_STALE,
+        "SHAPE, STALE, PROHIBITED in this order");
+    asks(1);
+    check(forwards_with(ground, 1, 0) == PEAT_STALE && forwards_with(ground, 2, 0) == PEAT_PROHIBITED, "in FORWARD there is no forward");
+    check(peat_start(GROUND_REC, 2, PEAT_CPDLC, 0, PEAT_NO_SECURITY, BARE, BUFFERS) == PEAT_PROHIBITED &&
+        peat_message_request(GROUND_REC, 9, NULL, 0, NULL, 0, 0, NULL, 0, 0, BUFFERS) == PEAT_PROHIBITED &&
+        peat_end_request(GROUND_REC, BARE, BUFFERS) == PEAT_PROHIBITED && peat_start_response(GROUND_REC, PEAT_ACCEPTED, BARE, BUFFERS) == PEAT_PROHIBITED &&
+        peat_dsc_start_response(GROUND_REC, PEAT_ACCEPTED, BARE, BUFFERS) == PEAT_PROHIBITED &&
+        peat_dsc_end_response(GROUND_REC, PEAT_ACCEPTED, BARE, BUFFERS) == PEAT_PROHIBITED, "in FORWARD every call of the user but the abort is PROHIBITED");
+    n = peat_timer_expiry(GROUND_REC, BUFFERS);
+    check(invokes(n, PEAT_D_ABORT_REQUEST, PEAT_PROVIDER) && peat_told_parameter(n) == PEAT_TIMER_EXPIRED && peat_record_state(ground) == PEAT_IDLE,
+        "t-start expires in FORWARD");
+    asks(2);
+    n = peat_user_abort(GROUND_REC, PEAT_NONE, BUFFERS);
+    check(invokes(n, PEAT_D_ABORT_REQUEST, PEAT_USER) && peat_record_state(ground) == PEAT_IDLE && !peat_record_timer(ground), "an abort in FORWARD");
+    asks(3);
+    n = peat_d_start_confirmation(
+        GROUND_REC, 3, PEAT_REJECTED_TRANSIENT, PEAT_DS_PROVIDER, PEAT_NO_SECURITY, PEAT_NO_VERSION, PEAT_NO_USER_DATA, NULL, 0, BUFFERS);
+    check(told(n, PEAT_PROVIDER_ABORT_INDICATION, PEAT_COMMUNICATION_SERVICE_ERROR, 0), "a forward that is turned away");
+    asks(4);
+    n = peat_d_start_confirmation(GROUND_REC, 4, PEAT_ACCEPTED, PEAT_DS_USER, PEAT_NO_SECURITY, PEAT_NO_VERSION, PEAT_USER_DATA, (const uint8_t *)"\x50", 1, BUFFERS);
+    check(invokes(n, PEAT_D_ABORT_REQUEST, PEAT_PROVIDER) && peat_told_parameter(n) == PEAT_PROTOCOL_ERROR, "accepted in FORWARD is a protocol error");
+}
+
+/* What a receiving centre meets that is no forward, or not for it. */
+static void forward_misused(void)
+{
+    uint64_t n;
+    centres(PEAT_FORWARDS, 3, 3);
+    asks(1);
+    n = peat_d_start_indication(OTHER_REC, 1, PEAT_AIRCRAFT, PEAT_NO_SECURITY, 1, 1, 0, 3, LINE, BUFFERS);
+    check(invokes(n, PEAT_D_ABORT_REQUEST, PEAT_PROVIDER) && peat_told(n) == PEAT_UNTOLD, "an aircraft does not forward");
+    n = peat_d_start_indication(OTHER_REC, 2, PEAT_FACILITY, PEAT_SECURED_EXCHANGE, 1, 1, 0, 3, LINE, BUFFERS);
+    check(invokes(n, PEAT_D_ABORT_REQUEST, PEAT_PROVIDER) && peat_told(n) == PEAT_UNTOLD && first[0] == 0x15, "security that policy does not accept");
+    n = peat_d_start_indication(OTHER_REC, 3, PEAT_FACILITY, PEAT_NO_SECURITY, 1, 1, 9, 3, LINE, BUFFERS);
+    check(invokes(n, PEAT_D_ABORT_REQUEST, PEAT_PROVIDER) && first[0] == 0x16, "a wrong routing class");
+    line[8] ^= 0xFF; /* damaged, and still a forward */
+    n = peat_d_start_indication(OTHER_REC, 4, PEAT_FACILITY, PEAT_NO_SECURITY, 1, 1, 0, 3, LINE, BUFFERS);
+    check(invokes(n, PEAT_D_START_RESPONSE, PEAT_REJECTED), "its characters are not looked at");
+    n = peat_d_start_indication(OTHER_REC, 5, PEAT_FACILITY, PEAT_NO_SECURITY, 1, 1, 0, 3, PEAT_USER_DATA, by_hand, sizeof by_hand - 1, BUFFERS);
+    check(invokes(n, PEAT_D_ABORT_REQUEST, PEAT_PROVIDER) && first[0] == 0x12, "a forward that is cut is no valid PDU");
+    fresh(); /* at the air end, a whole one is not permitted, and a damaged one is no valid PDU */
+    n = peat_d_start_indication(AIR_REC, 1, PEAT_FACILITY, PEAT_NO_SECURITY, 1, 1, 0, 3, PEAT_USER_DATA, by_hand, sizeof by_hand, BUFFERS);
+    check(invokes(n, PEAT_D_ABORT_REQUEST, PEAT_PROVIDER) && first[0] == 0x26, "a forward at the air end: protocol-error");
+    n = peat_d_start_indication(AIR_REC, 2, PEAT_FACILITY, PEAT_NO_SECURITY, 1, 1, 0, 3, PEAT_USER_DATA, by_hand, 2, BUFFERS);
+    check(invokes(n, PEAT_D_ABORT_REQUEST, PEAT_PROVIDER) && first[0] == 0x24, "a damaged one: invalid-PDU");
+    opens(); /* at a record that is busy with an aircraft it breaks that dialogue */
+    n = peat_d_start_indication(GROUND_REC, number + 1, PEAT_FACILITY, PEAT_NO_SECURITY, 1, 1, 0, 1, PEAT_USER_DATA, by_hand, sizeof by_hand, BUFFERS);
+    check(invokes(n, PEAT_D_ABORT_REQUEST, PEAT_PROVIDER) && peat_told_parameter(n) == PEAT_PROTOCOL_ERROR && peat_record_state(ground) == PEAT_IDLE,
+        "a forward to a record in DIALOGUE");
+}
+
+/* every record that the bytes can say, and others: whether it forwards, and what it answers to a forward and to a confirmation */
+static void forward_everywhere(void)
+{
+    static const uint8_t versions[] = {0, 1, 255};
+    unsigned long calls = 0, taken = 0;
+    unsigned n, v, w;
+    int right = 1;
+    for (n = 0; n < 896; n++)
+        for (v = 0; v < 9; v++)
+            for (w = 0; w < 12; w++, calls++) {
+                static const uint8_t response[] = {0x50, 0x52, 0x54};
+                struct args a;
+                uint64_t said;
+                int record = numbered_record(&a, n);
+                enum which call = w == 0 ? FORWARD_REQUEST : w < 4 ? D_START_INDICATION : D_START_CONFIRMATION;
+                a.rec.at[PEAT_RECORD_FORWARDS] = (uint8_t)(v % 3);
+                a.rec.at[PEAT_RECORD_VERSION] = versions[v / 3];
+                record &= v % 3 < 2 && v / 3 > 0;
+                set_codes(&a, call);
+                lend(&a, 5, PEAT_BUFFER_LEAST);
+                lend(&a, 6, PEAT_BUFFER_LEAST);
+                a.number = call != D_START_CONFIRMATION;
+                a.given = 1;
+                lend(&a, 4, call == D_START_INDICATION ? sizeof by_hand : 1);
+                memcpy(a.bytes.at, call == D_START_INDICATION ? by_hand : &response[w % 3], a.bytes.len);
+                if (call == D_START_INDICATION) { /* of a facility, with a version: none, and two */
+                    a.n[0] = PEAT_FACILITY, a.n[1] = a.rec.at[PEAT_RECORD_POLICY], a.n[2] = a.n[3] = 1, a.n[4] = 0;
+                    a.n[5] = w == 1 ? PEAT_NO_VERSION : versions[w - 1];
+                } else if (call == D_START_CONFIRMATION) { /* rejected and accepted, with the security that was asked for and another */
+                    a.n[0] = w < 10 ? PEAT_REJECTED : PEAT_ACCEPTED, a.n[1] = PEAT_DS_USER, a.n[2] = a.rec.at[PEAT_RECORD_REQUEST] ^ (w == 9), a.n[3] = versions[w % 3];
+                }
+                right &= agrees(call, &a, &said) && (peat_refusal(said) == PEAT_SHAPE) == !record;
+                taken += peat_told(said) == PEAT_FORWARD_INDICATION || peat_told(said) == PEAT_FORWARD_CONFIRMATION;
+            }
+    printf("%lu forward calls over every record: %lu tell a user of a forward\n", calls, taken);
+    check(right && taken > 100, "a forward is as the model has it, for every record");
+}
+
+/* the largest forward: eight characters and 16,383 bits */
+static void largest_forward(void)
+{
+    static uint8_t text[2049], out[PEAT_BUFFER_LEAST], delivered[PEAT_BUFFER_LEAST];
+    uint64_t n, flight = peat_flight("ABCDEFGH", 8);
+    centres(PEAT_FORWARDS, 255, 255);
+    fill(text, sizeof text);
+    n = sent(peat_forward_request(GROUND_REC, 1, 0, 0, 2095, 12, 31, 23, 59, 59, 8, flight, 0xFFFFFF, 1, text, 2048, 16383, BUFFERS));
+    check(invokes(n, PEAT_D_START_REQUEST, 0) && peat_apdu_bits(n) == 4 + 33 + 3 + 56 + 24 + 1 + 16 + 16383 && peat_apdu_bits(n) == 16520, "the largest forward");
+    n = sent(peat_d_start_indication(OTHER_REC, 1, PEAT_FACILITY, 0, 1, 1, 0, 255, LINE, BUFFERS));
+    check(peat_told(n) == PEAT_FORWARD_INDICATION && peat_data_bits(n) == 16516, "it is delivered whole");
+    memcpy(delivered, second, peat_data_bytes(n));
+    n = peat_forward_part(PEAT_FORWARD_MESSAGE, delivered, peat_data_bytes(n), PEAT_ARRAY(out));
+    check(peat_forward_value(n) == 16383 && peat_forward_bytes(n) == 2048 && memcmp(out, text, 2047) == 0, "and taken apart");
+    centres(PEAT_FORWARDS, 255, 255);
+    check(peat_forward_request(GROUND_REC, 1, 0, 0, 2095, 12, 31, 23, 59, 59, 8, flight, 0, 1, text, 2049, 16384, BUFFERS) == PEAT_SHAPE, "16,384 bits");
+    check(peat_forward_request(GROUND_REC, 1, 0, 0, 2095, 12, 31, 23, 59, 59, 8, flight, 0, 1, text, 2047, 16383, BUFFERS) == PEAT_SHAPE,
+        "more bits than the lent bytes hold");
+    check(peat_forward_request(GROUND_REC, 1, 0, 0, 2095, 12, 31, 23, 59, 59, 7, flight, 0, 1, text, 1, 8, BUFFERS) == PEAT_SHAPE, "eight characters counted as seven");
+    check(peat_forward_request(GROUND_REC, 1, 0, 0, 2095, 12, 31, 23, 59, 59, 8, flight, 0, 1, text, 1, PEAT_NONE, BUFFERS) == PEAT_SHAPE, "no message");
 }
 
 /* the largest message data: an identifier of 16 octets, 16,383 bits, a check of 64 bits */
@@ -1295,7 +1641,7 @@ static void largest(void)
     fill(ids, sizeof ids), fill(text, sizeof text), fill(checks, sizeof checks);
     n = sent(peat_start(AIR_REC, number = above(), PEAT_DSC, 0, 0, ids, 16, text, 2048, 16383, checks, 8, 64, BUFFERS));
     check(invokes(n, PEAT_D_START_REQUEST, 0) && peat_apdu_bits(n) == 16615 && peat_apdu_bytes(n) == 2077, "the largest APDU is 2,077 bytes");
-    n = peat_d_start_indication(GROUND_REC, number, PEAT_AIRCRAFT, 0, 1, 1, 0, LINE, BUFFERS);
+    n = peat_d_start_indication(GROUND_REC, number, PEAT_AIRCRAFT, 0, 1, 1, 0, PEAT_NO_VERSION, LINE, BUFFERS);
     check(told(n, PEAT_START_INDICATION, 0, 1) && peat_data_bits(n) == 3 + 8 + 128 + 16 + 16383 + 8 + 64 && peat_data_bits(n) == 16610, "it is delivered whole");
     fresh();
     check(peat_start(AIR_REC, number = above(), PEAT_CPDLC, 0, 0, ids, 17, text, 2048, 16383, checks, 8, 64, BUFFERS) == PEAT_SHAPE, "17 octets");
@@ -1317,7 +1663,12 @@ int main(int argc, char **argv)
     stale();
     largest();
     later_edition();
+    forward_answered();
+    forward_refused();
+    forward_misused();
+    largest_forward();
     edges();
+    forward_everywhere();
     start_everywhere();
     known_envelopes();
     damaged_envelopes();

@@ -13,7 +13,7 @@
 
 #include "calls.h"
 
-enum pdu { PDU_NONE, PDU_SEND, PDU_START, PDU_ABORT_USER, PDU_ABORT_PROVIDER, PDU_INVALID };
+enum pdu { PDU_NONE, PDU_SEND, PDU_START, PDU_ABORT_USER, PDU_ABORT_PROVIDER, PDU_INVALID, PDU_FORWARD, PDU_RESPONSE };
 
 /* message data: the least that there is; 16 octets, a message of 2,048 bits and 64 bits; the same with the largest message. The CPDLC
    message itself is one element, one of 2,048 bits, or the largest, 9,097. */
@@ -23,10 +23,13 @@ struct row {
     const char *title;
     enum which which;
     unsigned side, state, dsc;
-    uint64_t n[5];
+    uint64_t n[12];
     enum size size;
     enum pdu pdu;
 };
+
+/* a forward request: class, security, date and time, eight characters, address, downlink */
+#define HEADING {0, 0, 2026, 11, 15, 12, 30, 59, 8, 77, 5, PEAT_FORWARD_DOWNLINK}
 
 static const struct row rows[] = {
     {"least data", START_REQUEST, 1, PEAT_IDLE, 0, {0}, LEAST, PDU_NONE},
@@ -47,12 +50,21 @@ static const struct row rows[] = {
     {"largest data", END_RESPONSE, 1, PEAT_END, 0, {0}, LARGEST, PDU_NONE},
     {"largest data", DSC_END_RESPONSE, 2, PEAT_END, 1, {0}, LARGEST, PDU_NONE},
     {"", USER_ABORT, 1, PEAT_DIALOGUE, 0, {5}, LEAST, PDU_NONE},
+    {"message of 8 bits", FORWARD_REQUEST, 2, PEAT_IDLE, 0, HEADING, LEAST, PDU_NONE},
+    {"message of 2,048 bits", FORWARD_REQUEST, 2, PEAT_IDLE, 0, HEADING, MIDDLE, PDU_NONE},
+    {"largest message", FORWARD_REQUEST, 2, PEAT_IDLE, 0, HEADING, LARGEST, PDU_NONE},
+    {"PROHIBITED, largest message", FORWARD_REQUEST, 2, PEAT_FORWARD, 0, HEADING, LARGEST, PDU_NONE},
     {"", TIMER_EXPIRY, 1, PEAT_START_REQ, 0, {0}, LEAST, PDU_NONE},
     {"", SYSTEM_ERROR, 1, PEAT_DIALOGUE, 0, {0}, LEAST, PDU_NONE},
     {"message of 2,048 bits", D_START_INDICATION, 2, PEAT_IDLE, 0, {1, 0, 1, 1, 0}, MIDDLE, PDU_START},
     {"largest data", D_START_INDICATION, 2, PEAT_IDLE, 0, {1, 0, 1, 1, 0}, LARGEST, PDU_START},
     {"invalid PDU", D_START_INDICATION, 2, PEAT_IDLE, 0, {1, 0, 1, 1, 0}, LARGEST, PDU_INVALID},
+    {"a forward, message of 8 bits", D_START_INDICATION, 2, PEAT_IDLE, 0, {PEAT_FACILITY, 0, 1, 1, 0, 1}, LEAST, PDU_FORWARD},
+    {"a forward, message of 2,048 bits", D_START_INDICATION, 2, PEAT_IDLE, 0, {PEAT_FACILITY, 0, 1, 1, 0, 1}, MIDDLE, PDU_FORWARD},
+    {"a forward, largest message", D_START_INDICATION, 2, PEAT_IDLE, 0, {PEAT_FACILITY, 0, 1, 1, 0, 1}, LARGEST, PDU_FORWARD},
+    {"a forward of another version", D_START_INDICATION, 2, PEAT_IDLE, 0, {PEAT_FACILITY, 0, 1, 1, 0, 2}, LARGEST, PDU_FORWARD},
     {"largest data", D_START_CONFIRMATION, 1, PEAT_START_REQ, 0, {0}, LARGEST, PDU_SEND},
+    {"the answer to a forward", D_START_CONFIRMATION, 2, PEAT_FORWARD, 0, {PEAT_REJECTED}, LEAST, PDU_RESPONSE},
     {"message of 8 bits", D_DATA_INDICATION, 2, PEAT_DIALOGUE, 0, {0}, LEAST, PDU_SEND},
     {"message of 2,048 bits, ground", D_DATA_INDICATION, 2, PEAT_DIALOGUE, 0, {0}, MIDDLE, PDU_SEND},
     {"largest data, ground", D_DATA_INDICATION, 2, PEAT_DIALOGUE, 0, {0}, LARGEST, PDU_SEND},
@@ -65,7 +77,7 @@ static const struct row rows[] = {
     {"user", D_ABORT_INDICATION, 1, PEAT_DIALOGUE, 0, {0}, LEAST, PDU_ABORT_USER},
     {"provider, invalid PDU, ground", D_ABORT_INDICATION, 2, PEAT_DIALOGUE, 0, {1}, LARGEST, PDU_INVALID},
     {"", D_P_ABORT_INDICATION, 1, PEAT_DIALOGUE, 0, {0}, LEAST, PDU_NONE},
-    {"", FRESH, 1, PEAT_IDLE, 0, {1, 0}, LEAST, PDU_NONE},
+    {"", FRESH, 1, PEAT_IDLE, 0, {1, 0, 0, 1}, LEAST, PDU_NONE},
     {"least", READ_ENVELOPE, 1, PEAT_IDLE, 0, {1, 1, 0}, LEAST, PDU_NONE},
     {"2,048 bits, 269 bytes", READ_ENVELOPE, 1, PEAT_IDLE, 0, {2, UINT64_MAX, 2048}, MIDDLE, PDU_NONE},
     {"largest, 2,061 bytes", READ_ENVELOPE, 1, PEAT_IDLE, 0, {2, UINT64_MAX, 16383}, LARGEST, PDU_NONE},
@@ -77,6 +89,11 @@ static const struct row rows[] = {
     {"message of 8 bits", DATA_PART, 1, PEAT_IDLE, 0, {1}, LEAST, PDU_NONE},
     {"message, of 2,048 bits", DATA_PART, 1, PEAT_IDLE, 0, {1}, MIDDLE, PDU_NONE},
     {"message, largest data", DATA_PART, 1, PEAT_IDLE, 0, {1}, LARGEST, PDU_NONE},
+    {"the year, message of 8 bits", FORWARD_PART, 1, PEAT_IDLE, 0, {PEAT_FORWARD_YEAR}, LEAST, PDU_NONE},
+    {"message of 8 bits", FORWARD_PART, 1, PEAT_IDLE, 0, {PEAT_FORWARD_MESSAGE}, LEAST, PDU_NONE},
+    {"message of 2,048 bits", FORWARD_PART, 1, PEAT_IDLE, 0, {PEAT_FORWARD_MESSAGE}, MIDDLE, PDU_NONE},
+    {"largest message", FORWARD_PART, 1, PEAT_IDLE, 0, {PEAT_FORWARD_MESSAGE}, LARGEST, PDU_NONE},
+    {"a forward, largest message", READ_APDU, 1, PEAT_IDLE, 0, {PEAT_GROUND_PDUS}, LARGEST, PDU_FORWARD},
     {"a send, message of 8 bits", READ_APDU, 1, PEAT_IDLE, 0, {PEAT_GROUND_PDUS}, LEAST, PDU_SEND},
     {"a send, message of 2,048 bits", READ_APDU, 1, PEAT_IDLE, 0, {PEAT_GROUND_PDUS}, MIDDLE, PDU_SEND},
     {"a send, largest data", READ_APDU, 1, PEAT_IDLE, 0, {PEAT_GROUND_PDUS}, LARGEST, PDU_SEND},
@@ -95,11 +112,23 @@ static uint8_t rec[PEAT_RECORD_BYTES], ids[16], msgs[(PEAT_MESSAGE_MOST + 7) / 8
 static struct args args;
 static struct bits bits;
 
-/* a GroundPDU for the air end, an AircraftPDU for the ground end */
+/* an ATCForwardMessage: date and time, eight characters, address, downlink, and the message's bits */
+static void put_forward(void)
+{
+    put(&bits, UINT64_C(30) << 26 | 10 << 22 | 14 << 17 | 12 << 12 | 30 << 6 | 59, 33);
+    put(&bits, 6, 3);
+    put(&bits, 77, 56);
+    put(&bits, 5, 24);
+    put(&bits, 1, 1);
+    put_length(&bits, (size_t)args.message);
+    put_range(&bits, msgs, (size_t)args.message);
+}
+
+/* a GroundPDU for the air end and of another centre, an AircraftPDU for the ground end */
 static size_t put_pdu(const struct row *r)
 {
-    unsigned lead = r->side == PEAT_AIR ? 4 : 3;
-    static const unsigned index[] = {0, 3, 2, 0, 1, 3};
+    unsigned lead = r->side == PEAT_AIR || r->pdu >= PDU_FORWARD ? 4 : 3;
+    static const unsigned index[] = {0, 3, 2, 0, 1, 3, 4, 5};
     size_t n;
     bits.n = 0;
     put(&bits, index[r->pdu], lead);
@@ -107,6 +136,10 @@ static size_t put_pdu(const struct row *r)
         put(&bits, 5, 5);
     else if (r->pdu == PDU_ABORT_PROVIDER)
         put(&bits, 2, 4);
+    else if (r->pdu == PDU_RESPONSE)
+        put(&bits, PEAT_FORWARD_SUCCESS, 3);
+    else if (r->pdu == PDU_FORWARD)
+        put_forward();
     else {
         if (r->pdu == PDU_START && lead == 3)
             put(&bits, 3, 2);
@@ -191,8 +224,9 @@ static void prepare(const struct row *r)
     memset(&args, 0, sizeof args);
     memset(rec, 0, sizeof rec);
     rec[0] = (uint8_t)r->side, rec[1] = (uint8_t)r->state, rec[2] = (uint8_t)r->dsc;
-    rec[3] = r->state == PEAT_START_REQ, rec[4] = r->state != PEAT_IDLE, rec[15] = highest;
-    args.number = (r->which == START_REQUEST || r->which == D_START_INDICATION) != (strncmp(r->title, "STALE", 5) == 0); /* the record's is 0 */
+    rec[3] = r->state == PEAT_START_REQ || r->state == PEAT_FORWARD, rec[4] = r->state != PEAT_IDLE;
+    rec[PEAT_RECORD_FORWARDS] = PEAT_FORWARDS, rec[PEAT_RECORD_VERSION] = 1, rec[PEAT_RECORD_HIGHEST + 7] = highest;
+    args.number = (r->which == START_REQUEST || r->which == FORWARD_REQUEST || r->which == D_START_INDICATION) != (strncmp(r->title, "STALE", 5) == 0); /* the record's is 0 */
     for (i = 0; i < sizeof msgs; i++)
         msgs[i] = (uint8_t)(37 * i + 11);
     memcpy(ids, msgs, sizeof ids);
@@ -201,7 +235,7 @@ static void prepare(const struct row *r)
     args.rec = (struct range){rec, sizeof rec};
     args.first = (struct range){first, sizeof first};
     args.second = (struct range){second, sizeof second};
-    args.message = r->which == MESSAGE_REQUEST || r->which == D_DATA_INDICATION ? 8 : NONE;
+    args.message = r->which == MESSAGE_REQUEST || r->which == D_DATA_INDICATION || r->which == FORWARD_REQUEST || r->which == FORWARD_PART || r->pdu == PDU_FORWARD ? 8 : NONE;
     args.msgs = (struct range){msgs, 1};
     if (r->size != LEAST) {
         args.message = r->size == MIDDLE ? 2048 : PEAT_MESSAGE_MOST, args.check = 64;
@@ -221,6 +255,11 @@ static void prepare(const struct row *r)
             args.message = 8;
         bits.n = 0;
         put_data(&bits, &args);
+        args.bytes = (struct range){bytes, whole(&bits, bytes)};
+    }
+    if (r->which == FORWARD_PART) {
+        bits.n = 0;
+        put_forward();
         args.bytes = (struct range){bytes, whole(&bits, bytes)};
     }
     if (r->which == READ_MESSAGE || r->which == WRITE_MESSAGE)

@@ -54,12 +54,12 @@ size_t whole(const struct bits *b, uint8_t *bytes)
 
 /* ---- APDUs (Doc 9705, 2.3.4) */
 
-enum kind { MISSING, INVALID, ABORT_USER, ABORT_PROVIDER, START, SEND, FORWARD };
+enum kind { MISSING, INVALID, ABORT_USER, ABORT_PROVIDER, START, SEND, FORWARD, RESPONSE };
 
 struct pdu {
     enum kind kind;
-    unsigned value;       /* reason or mode */
-    size_t data, data_to; /* where the message data begin, with their extension bit, and their root ends */
+    unsigned value;       /* reason, mode or result */
+    size_t data, data_to; /* where the message data begin, with their extension bit, and their root ends; of a forward, its message's */
 };
 
 struct reader reader_of(struct range in, size_t end)
@@ -160,6 +160,39 @@ static void get_data(struct reader *r, struct pdu *p)
         get_additions(r);
 }
 
+/* ATCForwardMessage: each of its numbers by the order of enum peat_forward_part, and where its bits stand. Of the flight
+   identification the count is a field, and the characters behind it are one. */
+struct forwarded {
+    uint64_t part[10];
+    size_t bits, count;
+};
+
+static uint64_t get_between(struct reader *r, uint64_t low, uint64_t high)
+{
+    unsigned width = 0;
+    uint64_t v;
+    while ((high - low) >> width)
+        width++;
+    v = get(r, width);
+    if (v > high - low)
+        fault(r, RANGE);
+    return low + v;
+}
+
+static void get_forward(struct reader *r, struct forwarded *f)
+{
+    static const uint64_t low[] = {1996, 1, 1, 0, 0, 0, 2}, high[] = {2095, 12, 31, 23, 59, 59, 8};
+    unsigned i;
+    for (i = 0; i < 7; i++)
+        f->part[i] = get_between(r, low[i], high[i]);
+    f->part[7] = get(r, r->bad ? 0 : 7 * (size_t)f->part[6]);
+    f->part[8] = get(r, 24);
+    f->part[9] = get(r, 1);
+    f->count = get_length(r); /* what two bytes say is within MESSAGE_MOST */
+    f->bits = r->at;
+    skip(r, f->count);
+}
+
 /* zeros up to the end of a byte, and nothing behind them */
 static void get_end(struct reader *r)
 {
@@ -183,12 +216,20 @@ static struct pdu decode(int aircraft, struct reader *r)
         fault(r, RANGE);
     if (r->bad)
         return p;
-    if (index >= 4) {
-        p.kind = FORWARD;
-        p.value = index;
-        return p;
-    }
-    if (index == 0 || index == 1) {
+    if (index == 4) {
+        struct forwarded f;
+        kind = FORWARD;
+        p.data = r->at;
+        get_forward(r, &f);
+        p.data_to = r->at;
+    } else if (index == 5) {
+        kind = RESPONSE;
+        if (get(r, 1) == 1)
+            fault(r, EXTENSION);
+        p.value = (unsigned)get(r, 2);
+        if (p.value > 2)
+            fault(r, RANGE);
+    } else if (index == 0 || index == 1) {
         kind = index == 0 ? ABORT_USER : ABORT_PROVIDER;
         if (get(r, 1) == 1)
             fault(r, EXTENSION);
@@ -215,10 +256,10 @@ static struct pdu decoded(int aircraft, struct range in)
     return decode(aircraft, &r);
 }
 
-/* an APDU by itself: its alternative, the reason or mode, and whether it has message data */
+/* an APDU by itself: its alternative, the reason, mode or result, and whether it has message data */
 static uint64_t read_apdu(const struct args *a)
 {
-    static const unsigned tag[] = {0, 0, 0, 1, 2, 3};
+    static const unsigned tag[] = {0, 0, 0, 1, 2, 3, 4, 5};
     struct reader r = reader_of(a->bytes, 8 * a->bytes.len);
     struct pdu p;
     if (a->n[0] != 1 && a->n[0] != 2)
@@ -226,23 +267,21 @@ static uint64_t read_apdu(const struct args *a)
     p = decode(a->n[0] == 1, &r);
     if (r.bad)
         return refused(&r);
-    if (p.kind == FORWARD)
-        return p.value << 8;
     return tag[p.kind] << 8 | p.value << 16 | (unsigned)(p.kind == START || p.kind == SEND) << 24;
 }
 
 /* ---- records and outcomes */
 
 enum { AIR = 1, GROUND = 2 };
-enum { IDLE, REQ, IND, DLG, END };
+enum { IDLE, REQ, IND, DLG, END, FWD };
 enum { TIMER, UNDEFINED, BAD_PDU, PROTOCOL, SERVICE_ERROR, SERVICE_FAILURE, QOS, EXPECTED_MISSING, NOT_PERMITTED };
 enum { D_START_REQ = 1, D_START_RSP, D_DATA_REQ, D_END_REQ, D_END_RSP, D_ABORT_REQ };
-enum { START_IND = 1, START_CNF, MESSAGE_IND, END_IND, END_CNF, USER_ABORT_IND, PROVIDER_ABORT_IND };
+enum { START_IND = 1, START_CNF, MESSAGE_IND, END_IND, END_CNF, USER_ABORT_IND, PROVIDER_ABORT_IND, FORWARD_IND, FORWARD_CNF };
 #define NOBODY 99u
 #define NOTHING 99u
 
 struct rec {
-    unsigned side, state, dsc, timer, active, request, policy;
+    unsigned side, state, dsc, timer, active, request, policy, forwards, version;
     uint64_t highest, number;
 };
 
@@ -253,21 +292,23 @@ struct out {
     enum kind apdu;
     unsigned apdu_value;
     unsigned user, user_parameter, user_dsc; /* user primitive */
-    int data;                                /* message data delivered */
+    int data;                                /* message data, or a forward message, delivered */
+    unsigned version;                        /* of a forward's D-START, or told with its confirmation */
 };
 
 static int load(struct range b, struct rec *r)
 {
     size_t i;
     const uint8_t *x = b.at;
-    if (b.len != 24)
+    if (b.len != RECORD_BYTES)
         return 0;
-    if (x[0] < 1 || x[0] > 2 || x[1] > 4 || x[2] > 1 || x[3] > 1 || x[4] > 1 || x[5] > 1 || x[6] > 1 || x[7] != 0)
+    if (x[0] < 1 || x[0] > 2 || x[1] > 5 || x[2] > 1 || x[3] > 1 || x[4] > 1 || x[5] > 1 || x[6] > 1 || x[7] > 1 || x[8] < 1)
         return 0;
     r->side = x[0], r->state = x[1], r->dsc = x[2], r->timer = x[3], r->active = x[4], r->request = x[5], r->policy = x[6];
-    for (r->highest = 0, i = 8; i < 16; i++)
+    r->forwards = x[7], r->version = x[8];
+    for (r->highest = 0, i = 9; i < 17; i++)
         r->highest = r->highest << 8 | x[i];
-    for (r->number = 0, i = 16; i < 24; i++)
+    for (r->number = 0, i = 17; i < 25; i++)
         r->number = r->number << 8 | x[i];
     return 1;
 }
@@ -277,10 +318,11 @@ static void save(const struct rec *r, struct range b)
     size_t i;
     uint8_t *x = b.at;
     x[0] = (uint8_t)r->side, x[1] = (uint8_t)r->state, x[2] = (uint8_t)r->dsc, x[3] = (uint8_t)r->timer;
-    x[4] = (uint8_t)r->active, x[5] = (uint8_t)r->request, x[6] = (uint8_t)r->policy, x[7] = 0;
+    x[4] = (uint8_t)r->active, x[5] = (uint8_t)r->request, x[6] = (uint8_t)r->policy, x[7] = (uint8_t)r->forwards;
+    x[8] = (uint8_t)r->version;
     for (i = 0; i < 8; i++) {
-        x[8 + i] = (uint8_t)(r->highest >> (56 - 8 * i));
-        x[16 + i] = (uint8_t)(r->number >> (56 - 8 * i));
+        x[9 + i] = (uint8_t)(r->highest >> (56 - 8 * i));
+        x[17 + i] = (uint8_t)(r->number >> (56 - 8 * i));
     }
 }
 
@@ -357,8 +399,9 @@ static int shapely(enum which w, unsigned side, const uint64_t *n)
     case START_RESPONSE: case DSC_START_RESPONSE: case END_RESPONSE: case DSC_END_RESPONSE: return n[0] <= 1;
     case MESSAGE_REQUEST: return n[0] >= 1;
     case USER_ABORT: return n[0] == NONE || n[0] <= 12;
-    case D_START_INDICATION: return n[0] <= 1 && n[1] <= 1;
-    case D_START_CONFIRMATION: return n[0] <= 2 && n[1] <= 1 && n[2] <= 1;
+    case FORWARD_REQUEST: return n[0] <= 8 && n[1] <= 1;
+    case D_START_INDICATION: return n[0] <= 1 && n[1] <= 1 && n[5] <= 255;
+    case D_START_CONFIRMATION: return n[0] <= 2 && n[1] <= 1 && n[2] <= 1 && n[3] <= 255;
     case D_END_CONFIRMATION: case D_ABORT_INDICATION: return n[0] <= 1;
     default: return 1;
     }
@@ -399,6 +442,8 @@ static struct out air_bad(const struct rec *r, enum kind k, int open_invalid, in
     return breaks(r, open_wrong ? PROTOCOL : NOTHING, PROTOCOL); /* 3.5.4.4 */
 }
 
+static struct out forward_confirmed(const struct rec *r, const uint64_t *n, const struct pdu *p);
+
 static struct out air_step(enum which w, const struct rec *r, const struct args *a, const struct pdu *p)
 {
     const uint64_t *n = a->n;
@@ -433,6 +478,8 @@ static struct out air_step(enum which w, const struct rec *r, const struct args 
         o.rec.active = 1;
         return tells(o, START_IND, (unsigned)n[4], 0);
     case D_START_CONFIRMATION: /* 2.3.5.3.3 */
+        if (s == FWD) /* which no run reaches: as at the ground (docs/DECISIONS.md, "Forwarding") */
+            return forward_confirmed(r, n, p);
         if (s != REQ)
             return no_instruction(r, 1);
         if (x == 2 || n[1] == 1)
@@ -479,14 +526,54 @@ static struct out ground_bad(const struct rec *r, enum kind k, int open_invalid,
     return breaks(r, open_wrong ? PROTOCOL : NOTHING, PROTOCOL); /* 2.3.5.6.4.1, 2.3.5.6.4.3 */
 }
 
+/* 2.3.5.5.13.1: FORWARD, t-start runs, the user is active; 3.5.5.1.6 d */
+static struct out forwards(const struct rec *r, const uint64_t *n)
+{
+    struct out o = goes(r, FWD);
+    o.rec.timer = o.rec.active = 1;
+    o.rec.request = (unsigned)n[1];
+    o.version = r->version;
+    return sends(o, D_START_REQ, (unsigned)n[0], (unsigned)n[1], FORWARD, 0);
+}
+
+/* 2.3.5.5.2.4 where the service is not supported; else 2.3.5.5.2.3, by the version. The answer goes out in a D-START response
+   "rejected (permanent)", and the user does not become active. */
+static struct out answers_forward(const struct rec *r, const uint64_t *n)
+{
+    struct out o = closes(r);
+    if (!r->forwards)
+        return sends(o, D_START_RSP, 1, (unsigned)n[1], RESPONSE, 1);
+    if (n[5] != r->version) {
+        o.version = r->version;
+        return sends(o, D_START_RSP, 1, (unsigned)n[1], RESPONSE, 2);
+    }
+    return tells(sends(o, D_START_RSP, 1, (unsigned)n[1], RESPONSE, 0), FORWARD_IND, 0, 0);
+}
+
+/* 2.3.5.5.3.3: only "rejected (permanent)" by the DS user brings the response */
+static struct out forward_confirmed(const struct rec *r, const uint64_t *n, const struct pdu *p)
+{
+    struct out o;
+    if (n[0] == 2 || n[1] == 1)
+        return breaks(r, NOTHING, SERVICE_ERROR); /* 2.3.5.6.5 */
+    if (n[2] != r->request)
+        return breaks(r, n[0] == 0 ? SERVICE_FAILURE : NOTHING, SERVICE_FAILURE);
+    if (p->kind != RESPONSE || n[0] == 0)
+        return ground_bad(r, p->kind, n[0] == 0, 1);
+    o = closes(r);
+    o.user = FORWARD_CNF, o.user_parameter = p->value, o.version = (unsigned)n[3];
+    return o;
+}
+
 static struct out ground_step(enum which w, const struct rec *r, const struct args *a, const struct pdu *p)
 {
     const uint64_t *n = a->n;
     unsigned st = r->state, accepted = n[0] == 0, fits;
     struct out o;
     switch (w) {
-    case START_REQUEST: if (st == IDLE) return starts(r, n); break; /* 2.3.5.5.7 */
-    case START_RESPONSE: case DSC_START_RESPONSE:                   /* 2.3.5.5.8, 2.3.5.5.9 */
+    case START_REQUEST: if (st == IDLE) return starts(r, n); break;     /* 2.3.5.5.7 */
+    case FORWARD_REQUEST: if (st == IDLE) return forwards(r, n); break; /* 2.3.5.5.13 */
+    case START_RESPONSE: case DSC_START_RESPONSE:                       /* 2.3.5.5.8, 2.3.5.5.9 */
         if (st == IND && r->dsc == (w == DSC_START_RESPONSE))
             return sends(goes(r, accepted ? DLG : IDLE), D_START_RSP, (unsigned)n[0], r->policy, SEND, 0);
         break;
@@ -509,14 +596,18 @@ static struct out ground_step(enum which w, const struct rec *r, const struct ar
             return breaks(r, QOS, NOBODY); /* 2.3.5.6.6 */
         if (n[1] != r->policy)
             return breaks(r, SERVICE_FAILURE, SERVICE_FAILURE); /* 2.3.5.6.8 */
-        if (p->kind != START || n[0] != 1) /* a facility forwards only, which is not ordered yet */
+        if (p->kind != (n[0] == 1 ? START : FORWARD)) /* an aircraft starts, a facility forwards */
             return ground_bad(r, p->kind, 1, 1);
+        if (n[0] == 0)
+            return answers_forward(r, n);
         o = goes(r, IND);
         o.rec.active = 1;
         if (p->value == 1)
             o.rec.dsc = 1;
         return tells(o, START_IND, (unsigned)n[4], p->value);
     case D_START_CONFIRMATION: /* 2.3.5.5.3 */
+        if (st == FWD)
+            return forward_confirmed(r, n, p);
         if (st != REQ || r->dsc)
             return no_instruction(r, 1);
         if (n[0] == 2 || n[1] == 1)
@@ -557,13 +648,14 @@ static struct out ground_step(enum which w, const struct rec *r, const struct ar
 /* ---- the call */
 
 /* Whose PDUs the user data are: the air end reads GroundPDUs, the ground end AircraftPDUs, but those of a facility that
-   starts are GroundPDUs (2.3.5.5.2.3), and a provider's abort may be (2.3.5.5.15.2). */
+   starts and the confirmation in FORWARD are GroundPDUs (2.3.5.5.2.3, 2.3.5.5.3.3), and a provider's abort may be
+   (2.3.5.5.15.2). */
 static struct pdu received(enum which w, const struct rec *r, const struct args *a)
 {
     struct pdu p = {MISSING, 0, 0, 0};
     if (w == D_P_ABORT_INDICATION || a->given == 0)
         return p;
-    if (r->side == AIR || (w == D_START_INDICATION && a->n[0] == 0))
+    if (r->side == AIR || (w == D_START_INDICATION && a->n[0] == 0) || (w == D_START_CONFIRMATION && r->state == FWD))
         return decoded(0, a->bytes);
     p = decoded(1, a->bytes);
     if (p.kind == INVALID && w == D_ABORT_INDICATION && a->n[0] == 1) {
@@ -580,14 +672,43 @@ static int data_fits(const struct args *a)
            a->check <= 8 * a->checks.len;
 }
 
+/* the types of a forward request's numbers, and its bits */
+static int forward_fits(const struct args *a)
+{
+    static const uint64_t low[] = {1996, 1, 1, 0, 0, 0, 2, 0, 0, 0}, high[] = {2095, 12, 31, 23, 59, 59, 8, 0, (1u << 24) - 1, 1};
+    unsigned i;
+    for (i = 0; i < 10; i++)
+        if (i != 7 && (a->n[2 + i] < low[i] || a->n[2 + i] > high[i]))
+            return 0;
+    return a->n[9] >> 7 * a->n[8] == 0 && a->message <= MESSAGE_MOST && a->message <= 8 * a->msgs.len;
+}
+
+static void put_forward(struct bits *b, const struct args *a)
+{
+    static const uint64_t low[] = {1996, 1, 1, 0, 0, 0, 2};
+    static const unsigned width[] = {7, 4, 5, 5, 6, 6, 3};
+    unsigned i;
+    for (i = 0; i < 7; i++)
+        put(b, a->n[2 + i] - low[i], width[i]);
+    put(b, a->n[9], (unsigned)(7 * a->n[8]));
+    put(b, a->n[10], 24);
+    put(b, a->n[11], 1);
+    put_length(b, a->message);
+    put_range(b, a->msgs.at, a->message);
+}
+
 static void put_apdu(struct bits *b, const struct out *o, unsigned side, const struct args *a)
 {
-    static const unsigned index[] = {[ABORT_USER] = 0, [ABORT_PROVIDER] = 1, [START] = 2, [SEND] = 3};
+    static const unsigned index[] = {[ABORT_USER] = 0, [ABORT_PROVIDER] = 1, [START] = 2, [SEND] = 3, [FORWARD] = 4, [RESPONSE] = 5};
     put(b, index[o->apdu], side == AIR ? 3 : 4); /* the extension bit, and the alternative in 2 or 3 bits */
     if (o->apdu == ABORT_USER)
         put(b, o->apdu_value, 5);
     else if (o->apdu == ABORT_PROVIDER)
         put(b, o->apdu_value, 4);
+    else if (o->apdu == RESPONSE)
+        put(b, o->apdu_value, 3);
+    else if (o->apdu == FORWARD)
+        put_forward(b, a);
     else {
         if (o->apdu == START && side == AIR)
             put(b, o->apdu_value ? 3 : 0, o->apdu_value ? 2 : 1);
@@ -598,14 +719,15 @@ static void put_apdu(struct bits *b, const struct out *o, unsigned side, const s
 static int has_data(enum which w) { return w <= DSC_END_RESPONSE; }
 static int is_service(enum which w) { return w >= D_START_INDICATION && w <= D_P_ABORT_INDICATION; }
 
-/* document 02, E9: a start has a number above the record's, another primitive of the dialogue service has the record's */
-static int is_start(enum which w) { return w == START_REQUEST || w == D_START_INDICATION; }
+/* document 02, E9: a start has a number above the record's, "a forward request is a start here too"; another primitive of the dialogue
+   service has the record's */
+static int is_start(enum which w) { return w == START_REQUEST || w == FORWARD_REQUEST || w == D_START_INDICATION; }
 static int stale(enum which w, const struct rec *r, uint64_t number) { return is_start(w) ? number <= r->number : is_service(w) && number != r->number; }
 
 static uint64_t fresh(struct args *a)
 {
-    struct rec r = {(unsigned)a->n[0], IDLE, 0, 0, 0, 0, (unsigned)a->n[1], 0, 0};
-    if (a->rec.len != 24 || a->n[0] < 1 || a->n[0] > 2 || a->n[1] > 1)
+    struct rec r = {(unsigned)a->n[0], IDLE, 0, 0, 0, 0, (unsigned)a->n[1], (unsigned)a->n[2], (unsigned)a->n[3], 0, 0};
+    if (a->rec.len != RECORD_BYTES || a->n[0] < 1 || a->n[0] > 2 || a->n[1] > 1 || a->n[2] > 1 || a->n[3] < 1 || a->n[3] > 255)
         return 2;
     save(&r, a->rec);
     return 0;
@@ -732,6 +854,29 @@ static uint64_t data_part(struct args *a)
     return 1 << 8 | (uint64_t)out.n << 16;
 }
 
+/* ---- a part of a forward message */
+
+static uint64_t forward_part(struct args *a)
+{
+    static struct bits out;
+    struct forwarded f;
+    struct reader r = reader_of(a->bytes, 8 * a->bytes.len);
+    if (a->first.len < BUFFER_LEAST)
+        return 1;
+    if (a->n[0] > 10)
+        return 2;
+    get_forward(&r, &f);
+    get_end(&r);
+    if (r.bad)
+        return refused(&r);
+    if (a->n[0] < 10)
+        return f.part[a->n[0]] << 8;
+    for (out.n = 0, r.at = f.bits; out.n < f.count;)
+        put(&out, get(&r, 1), 1);
+    whole(&out, a->first.at);
+    return (uint64_t)f.count << 8;
+}
+
 uint64_t model_call(enum which w, struct args *a)
 {
     static struct bits one, two;
@@ -747,11 +892,13 @@ uint64_t model_call(enum which w, struct args *a)
     case READ_APDU: return read_apdu(a);
     case READ_MESSAGE: return read_message(a);
     case WRITE_MESSAGE: return write_message(a);
+    case FORWARD_PART: return forward_part(a);
     default: break;
     }
     if (a->first.len < BUFFER_LEAST || a->second.len < BUFFER_LEAST)
         return 1;
-    if (!load(a->rec, &r) || (has_data(w) && !data_fits(a)) || (is_service(w) && w != D_P_ABORT_INDICATION && a->given > 1) || !shapely(w, r.side, a->n))
+    if (!load(a->rec, &r) || (has_data(w) && !data_fits(a)) || (w == FORWARD_REQUEST && !forward_fits(a)) ||
+        (is_service(w) && w != D_P_ABORT_INDICATION && a->given > 1) || !shapely(w, r.side, a->n))
         return 2;
     if (stale(w, &r, a->number))
         return 6;
@@ -767,8 +914,9 @@ uint64_t model_call(enum which w, struct args *a)
         put_apdu(&one, &o, r.side, a);
     if (o.data) {
         struct reader from = reader_of(a->bytes, 8 * a->bytes.len);
-        from.at = p.data + 1;
-        put(&two, 0, 1); /* without additions */
+        from.at = p.data;
+        if (p.kind != FORWARD)
+            from.at++, put(&two, 0, 1); /* without additions */
         while (from.at < p.data_to)
             put(&two, get(&from, 1), 1);
     }
@@ -776,5 +924,5 @@ uint64_t model_call(enum which w, struct args *a)
     whole(&two, a->second.at);
     save(&o.rec, a->rec);
     return (uint64_t)o.ds << 8 | (uint64_t)o.ds_parameter << 12 | (uint64_t)o.ds_security << 16 | (uint64_t)o.user << 17 |
-           (uint64_t)o.user_parameter << 21 | (uint64_t)o.user_dsc << 25 | (uint64_t)one.n << 26 | (uint64_t)two.n << 41;
+           (uint64_t)o.user_parameter << 21 | (uint64_t)o.user_dsc << 25 | (uint64_t)one.n << 26 | (uint64_t)two.n << 41 | (uint64_t)o.version << 56;
 }

@@ -12,9 +12,9 @@
 
 enum which {
     START_REQUEST, START_RESPONSE, DSC_START_RESPONSE, MESSAGE_REQUEST, END_REQUEST, DSC_END_REQUEST, END_RESPONSE,
-    DSC_END_RESPONSE, USER_ABORT, TIMER_EXPIRY, SYSTEM_ERROR, D_START_INDICATION, D_START_CONFIRMATION, D_DATA_INDICATION,
-    D_END_INDICATION, D_END_CONFIRMATION, D_ABORT_INDICATION, D_P_ABORT_INDICATION, FRESH, READ_ENVELOPE, ENVELOPE_JOB,
-    WRITE_ENVELOPE, DATA_PART, READ_APDU, READ_MESSAGE, WRITE_MESSAGE, CALLS
+    DSC_END_RESPONSE, USER_ABORT, FORWARD_REQUEST, TIMER_EXPIRY, SYSTEM_ERROR, D_START_INDICATION, D_START_CONFIRMATION,
+    D_DATA_INDICATION, D_END_INDICATION, D_END_CONFIRMATION, D_ABORT_INDICATION, D_P_ABORT_INDICATION, FRESH, READ_ENVELOPE,
+    ENVELOPE_JOB, WRITE_ENVELOPE, DATA_PART, FORWARD_PART, READ_APDU, READ_MESSAGE, WRITE_MESSAGE, CALLS
 };
 
 struct range {
@@ -22,21 +22,21 @@ struct range {
     size_t len;
 };
 
-/* what a call is lent and given; `n` holds its codes in the order of its parameters. An envelope, message data, an APDU and the
-   bits of a message are read from `bytes`. An envelope is written of the body `msgs` into `first`, and there goes a part of
-   message data. A message is read into the message range `rec` and the text `first`, and written of the message range `ids`
-   and the text `msgs` into `first`. */
+/* what a call is lent and given; `n` holds its codes in the order of its parameters. An envelope, message data, a forward
+   message, an APDU and the bits of a message are read from `bytes`. An envelope is written of the body `msgs` into `first`, and
+   there go a part of message data and one of a forward message. A message is read into the message range `rec` and the text
+   `first`, and written of the message range `ids` and the text `msgs` into `first`. */
 struct args {
     struct range rec, ids, msgs, checks, bytes, first, second;
-    uint64_t n[5], message, check, given;
+    uint64_t n[12], message, check, given;
     uint64_t number; /* the dialogue's, of a start and of a primitive of the dialogue service */
 };
 
 /* does to the lent ranges what the call must do, and answers what it must answer */
 uint64_t model_call(enum which which, struct args *a);
 
-/* document 01's sizes, with those of document 02, E3: the bits of a message, the bytes of an output buffer */
-enum { MESSAGE_MOST = 16383, BUFFER_LEAST = 2112 };
+/* document 01's sizes, with those of document 02, E3: the bits of a message, the bytes of an output buffer; a record's bytes */
+enum { MESSAGE_MOST = 16383, BUFFER_LEAST = 2112, RECORD_BYTES = 25 };
 
 /* bits, one in a byte: the largest APDU has 16,615 */
 struct bits {

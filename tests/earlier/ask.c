@@ -16,7 +16,7 @@
 
 #define ROOM 8192u
 #define FILLED 0xC3
-#define EARLIER_RECORD 16 /* a record's bytes before it had a dialogue number (document 02, E9), which stands behind them */
+#define EARLIER_RECORD 16 /* a record's bytes before it had a version and a dialogue number (document 02, E8 and E9) */
 
 static uint8_t bytes[ROOM], first[ROOM], second[ROOM];
 static size_t count;
@@ -66,9 +66,10 @@ static void ask_deliver(uint64_t side)
 {
     uint8_t rec[PEAT_RECORD_BYTES] = {0};
     uint64_t n;
-    rec[0] = (uint8_t)side, rec[1] = PEAT_DIALOGUE, rec[4] = 1;
+    rec[0] = (uint8_t)side, rec[1] = PEAT_DIALOGUE, rec[4] = 1, rec[PEAT_RECORD_VERSION] = 1;
     n = peat_d_data_indication(PEAT_ARRAY(rec), peat_record_number(rec), PEAT_USER_DATA, bytes, count, first, ROOM, second, ROOM);
     printf("%llu", (unsigned long long)n);
+    memmove(rec + PEAT_RECORD_VERSION, rec + PEAT_RECORD_HIGHEST, 8); /* as the earlier one stood: a zero, and the highest job */
     show(rec, EARLIER_RECORD);
     show_left(first, peat_apdu_bytes(n));
     show_left(second, peat_data_bytes(n));

@@ -84,6 +84,16 @@ class Rows:
                 self.data()
         elif index < 4:
             self.data()
+        elif index == 4:
+            for name, low, high in pdus.NUMBERS:
+                count = self.whole(name, low, high)
+            self.field("characters", per.contents, 7, 0, count)
+            self.field("address", per.contents, 1, 0, 24)
+            self.whole("direction", 0, 1)
+            self.string("message", 1, 0, 16383)
+        else:
+            self.extension()
+            self.whole("result of the forward", 0, 2)
 
     # ---- a message
 

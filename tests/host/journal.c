@@ -1,6 +1,6 @@
 /*
  * The journal of the host: what was kept is loaded, a change that was torn never happened, and a bit that flipped is never
- * taken for what the card left. (Of the 192 one-bit changes of a bare record many are records too: that is counted.)
+ * taken for what the card left. (Of the 200 one-bit changes of a bare record many are records too: that is counted.)
  *
  *     journal FOLDER
  */
@@ -57,11 +57,11 @@ static int same(const struct memory *a, const struct memory *b)
 static int still_records(void)
 {
     static uint8_t first[PEAT_BUFFER_LEAST], second[PEAT_BUFFER_LEAST];
-    uint8_t dialogue[PEAT_RECORD_BYTES] = {PEAT_GROUND, PEAT_DIALOGUE, 0, 0, 1, 0, 0, 0, 0, 0, 0, 0, 0, 0, 1, 44};
+    uint8_t dialogue[PEAT_RECORD_BYTES] = {PEAT_GROUND, PEAT_DIALOGUE, 0, 0, 1, 0, 0, 0, 1, 0, 0, 0, 0, 0, 0, 1, 44};
     int i, n = 0;
     check(peat_refusal(peat_system_error(PEAT_ARRAY(dialogue), PEAT_BUFFERS(first, second))) == PEAT_TAKEN, "the record is none");
     for (i = 0; i < 8 * PEAT_RECORD_BYTES; i++) {
-        uint8_t rec[PEAT_RECORD_BYTES] = {PEAT_GROUND, PEAT_DIALOGUE, 0, 0, 1, 0, 0, 0, 0, 0, 0, 0, 0, 0, 1, 44};
+        uint8_t rec[PEAT_RECORD_BYTES] = {PEAT_GROUND, PEAT_DIALOGUE, 0, 0, 1, 0, 0, 0, 1, 0, 0, 0, 0, 0, 0, 1, 44};
         rec[i / 8] ^= (uint8_t)(0x80 >> i % 8);
         n += peat_refusal(peat_system_error(PEAT_ARRAY(rec), PEAT_BUFFERS(first, second))) == PEAT_TAKEN;
     }

@@ -11,20 +11,22 @@ from its own pages, and share nothing but the words for records and outcomes.
 import sys
 from copy import copy
 
-IDLE, REQ, IND, DLG, END = "IDLE", "START-REQ", "START-IND", "DIALOGUE", "END"
-STATES = [IDLE, REQ, IND, DLG, END]
+IDLE, REQ, IND, DLG, END, FWD = "IDLE", "START-REQ", "START-IND", "DIALOGUE", "END", "FORWARD"
+STATES = [IDLE, REQ, IND, DLG, END, FWD]
+SUCCESS, NOT_SUPPORTED, NOT_EQUAL = range(3)
 TIMER, UNDEF, INVALID, PROTO, SVC_ERR, SVC_FAIL, QOS, MISSING = range(8)
 NOT_PERMITTED = 8
 MISSING_PDU, BAD_PDU = "missing", "invalid"
 
 
 class Rec:
-    def __init__(self, state=IDLE, dsc=False, timer=False, active=False, highest=0, request=0, policy=0):
+    def __init__(self, state=IDLE, dsc=False, timer=False, active=False, highest=0, request=0, policy=0, forwards=False, version=1):
         self.state, self.dsc, self.timer, self.active = state, dsc, timer, active
         self.highest, self.request, self.policy = highest, request, policy
+        self.forwards, self.version = forwards, version     # of the forward service; given once
 
     def key(self):
-        return (self.state, self.dsc, self.timer, self.active, self.highest, self.request, self.policy)
+        return (self.state, self.dsc, self.timer, self.active, self.highest, self.request, self.policy, self.forwards, self.version)
 
 
 class Out:
@@ -89,10 +91,14 @@ def shape(ev, modes):
             return 0 <= a[1] <= 12
         if isinstance(a, tuple) and a[0] == "abort provider":
             return 0 <= a[1] <= 7
+        if isinstance(a, tuple) and a[0] == "forward response":
+            return 0 <= a[1] <= 2
         return True
 
     if name == "start request":
         return p["mode"] in modes and 0 <= p["class"] <= 8 and p["security"] in two
+    if name == "CPDLC-forward request":
+        return 0 <= p["class"] <= 8 and p["security"] in two
     if name in ("CPDLC-start response", "DSC-start response", "CPDLC-end response", "DSC-end response"):
         return p["result"] in two
     if name == "CPDLC-message request":
@@ -100,9 +106,9 @@ def shape(ev, modes):
     if name == "CPDLC-user-abort request":
         return 0 <= p["reason"] <= 12
     if name == "D-START indication":
-        return p["peer"] in two and p["security"] in two and apdu_ok(p["apdu"])
+        return p["peer"] in two and p["security"] in two and 0 <= p["version"] <= 255 and apdu_ok(p["apdu"])
     if name == "D-START confirmation":
-        return p["result"] in three and p["source"] in two and p["security"] in two and apdu_ok(p["apdu"])
+        return p["result"] in three and p["source"] in two and p["security"] in two and 0 <= p["version"] <= 255 and apdu_ok(p["apdu"])
     if name in ("D-DATA indication", "D-END indication"):
         return apdu_ok(p["apdu"])
     if name == "D-END confirmation":
@@ -118,6 +124,24 @@ def qos_right(p):
 
 def is_start(a):
     return isinstance(a, tuple) and a[0] == "start"
+
+
+def forward_confirmed(r, p):
+    """2.3.5.5.3.3: "rejected (permanent)" by the DS user brings the response; for "accepted" there is no action."""
+    a, accepted = p["apdu"], p["result"] == 0
+    if p["result"] == 2 or p["source"] == 1:
+        return provider_abort(r, None, SVC_ERR)                         # 2.3.5.6.5
+    if p["security"] != r.request:                                      # 2.3.5.6.8
+        return provider_abort(r, SVC_FAIL if accepted else None, SVC_FAIL)
+    if a == MISSING_PDU:                                                # 2.3.5.6.7
+        return provider_abort(r, MISSING, NOT_PERMITTED)
+    if a == BAD_PDU:                                                    # 2.3.5.6.3
+        return provider_abort(r, INVALID if accepted else None, INVALID)
+    if accepted or not (isinstance(a, tuple) and a[0] == "forward response"):
+        return provider_abort(r, PROTO, PROTO)                          # 2.3.5.6.4.1
+    o = Out(idle(r))
+    o.user = ("CPDLC-forward confirmation", a[1], p["version"])
+    return o
 
 
 # ---------------------------------------------------------------- air
@@ -175,7 +199,7 @@ def air(r, ev):
         o = Out(idle(r))
         o.ds, o.apdu = ("D-ABORT request", 0), ("abort user", p["reason"] if p["given"] else 0)
         return o
-    if name in ("DSC-start response", "CPDLC-end request", "DSC-end response"):
+    if name in ("DSC-start response", "CPDLC-end request", "DSC-end response", "CPDLC-forward request"):
         return refuse(r, 3)                                             # primitives of the ground user
     if name == "timer expires":                                         # 3.5.4.1
         return provider_abort(r, TIMER, TIMER) if r.timer else refuse(r, 3)
@@ -204,6 +228,8 @@ def air(r, ev):
         o = Out(n)
         o.user, o.data = ("CPDLC-start indication", p["class"]), True
         return o
+    if name == "D-START confirmation" and s == FWD:                     # which no run reaches: as at the ground (docs/DECISIONS.md, "Forwarding")
+        return forward_confirmed(r, p)
     if name == "D-START confirmation":                                  # 2.3.5.3.3
         if s != REQ:
             return no_instruction(r)
@@ -312,6 +338,11 @@ def ground(r, ev):
         n.timer = n.active = True
         n.request = p["security"]
         return user_taken(n, ("D-START request", 1, 1, p["class"], p["security"]), ("start", "cpdlc"))
+    if name == "CPDLC-forward request" and st == IDLE:                  # 2.3.5.5.13.1; active: 3.5.5.1.6 d
+        n = to(r, FWD)
+        n.timer = n.active = True
+        n.request = p["security"]
+        return user_taken(n, ("D-START request", 1, 1, p["class"], p["security"], r.version), ("forward",))
     if name == "CPDLC-start response" and st == IND and not r.dsc:      # 2.3.5.5.8
         return user_taken(to(r, DLG) if p["result"] == 0 else idle(r), ("D-START response", p["result"], r.policy), ("send",))
     if name == "DSC-start response" and st == IND and r.dsc:            # 2.3.5.5.9
@@ -344,15 +375,25 @@ def ground(r, ev):
             return provider_abort(r, QOS, None)                         # 2.3.5.6.6
         if p["security"] != r.policy:
             return provider_abort(r, SVC_FAIL, SVC_FAIL)                # 2.3.5.6.8
-        # what a facility sends is GroundPDUs, of which only forwarding, not ordered yet, has an action
-        fault = bad_pdu(a, p["peer"] == 1 and is_start(a))
+        # what a facility sends is GroundPDUs, of which only a forward has an action
+        fault = bad_pdu(a, is_start(a) if p["peer"] == 1 else a == ("forward",))
         if fault:
             return fault
+        if p["peer"] == 0 and not r.forwards:                           # 2.3.5.5.2.4
+            return user_taken(idle(r), ("D-START response", 1, p["security"], 0), ("forward response", NOT_SUPPORTED))
+        if p["peer"] == 0 and p["version"] != r.version:                # 2.3.5.5.2.3 b
+            return user_taken(idle(r), ("D-START response", 1, p["security"], r.version), ("forward response", NOT_EQUAL))
+        if p["peer"] == 0:                                              # 2.3.5.5.2.3 a; the user does not become active
+            o = user_taken(idle(r), ("D-START response", 1, p["security"], 0), ("forward response", SUCCESS))
+            o.user = ("CPDLC-forward indication",)
+            return o
         n = to(r, IND)
         n.active = True
         if a[1] == "dsc":
             n.dsc = True
         return user_told(n, (("DSC" if a[1] == "dsc" else "CPDLC") + "-start indication", p["class"]))
+    if name == "D-START confirmation" and st == FWD:                    # 2.3.5.5.3.3
+        return forward_confirmed(r, p)
     if name == "D-START confirmation" and st == REQ and not r.dsc:      # 2.3.5.5.3
         if p["result"] == 2 or p["source"] == 1:
             return provider_abort(r, None, SVC_ERR)                     # 2.3.5.6.5
@@ -389,13 +430,16 @@ STEP = {"air": air, "ground": ground}
 
 # ---------------------------------------------------------------- the table
 
-SEND, START, START_DSC, FORWARD = ("send",), ("start", "cpdlc"), ("start", "dsc"), ("forward",)
+SEND, START, START_DSC, FORWARD, RESPONSE = ("send",), ("start", "cpdlc"), ("start", "dsc"), ("forward",), ("forward response", 2)
+
+
+OWN = 3     # the version of the records of the table
 
 
 def rows(policy):
     """(title, event) in the order in which the program prints them, at records that accept the security value `policy`."""
     results = {0: "accepted", 1: "rejected", 2: "rejected (transient)"}
-    pdus = {SEND: "send", START: "start cpdlc", START_DSC: "start dsc", FORWARD: "forward", ("abort user", 5): "abort user 5",
+    pdus = {SEND: "send", START: "start cpdlc", START_DSC: "start dsc", FORWARD: "forward", RESPONSE: "forward response 2", ("abort user", 5): "abort user 5",
             ("abort provider", 1): "abort provider 1", BAD_PDU: "invalid", MISSING_PDU: "missing"}
     wrong = 1 - policy
 
@@ -420,15 +464,17 @@ def rows(policy):
         yield title("CPDLC-user-abort request", "reason 5" if given else ""), ("CPDLC-user-abort request", {"given": given, "reason": 5})
     yield "timer expires", ("timer expires", {})
     yield "system error", ("system error", {})
+    yield "CPDLC-forward request", ("CPDLC-forward request", {"class": 2, "security": policy})
 
-    def start(peer, security, priority, rate, klass, apdu):
+    def start(peer, security, priority, rate, klass, apdu, version=0):
         return title("D-START indication", pdus[apdu], "from an aircraft" if peer else "from a facility", "security" if security != policy else "",
-                     "priority" if priority != 1 else "", "residual error rate" if rate != 1 else "", "routing class" if klass > 8 else ""), (
-            "D-START indication", {"peer": peer, "security": security, "priority": priority, "rate": rate, "class": klass, "apdu": apdu})
+                     "priority" if priority != 1 else "", "residual error rate" if rate != 1 else "", "routing class" if klass > 8 else "", "version %d" % version if version else ""), (
+            "D-START indication", {"peer": peer, "security": security, "priority": priority, "rate": rate, "class": klass, "version": version, "apdu": apdu})
 
-    def started(n, source, security, apdu):
-        return title("D-START confirmation", results[n], pdus[apdu], "DS provider" if source else "", "security" if security != policy else ""), (
-            "D-START confirmation", {"result": n, "source": source, "security": security, "apdu": apdu})
+    def started(n, source, security, apdu, version=0):
+        return title("D-START confirmation", results[n], pdus[apdu], "DS provider" if source else "", "security" if security != policy else "",
+                     "version %d" % version if version else ""), (
+            "D-START confirmation", {"result": n, "source": source, "security": security, "version": version, "apdu": apdu})
 
     for peer in (0, 1):
         for apdu in pdus:
@@ -438,12 +484,16 @@ def rows(policy):
         yield start(peer, wrong, 7, 1, 2, MISSING_PDU)
         yield start(peer, policy, 1, 7, 2, START)
         yield start(peer, policy, 1, 1, 9, START)
+    for peer in (0, 1):
+        for version in (OWN, OWN + 1):
+            yield start(peer, policy, 1, 1, 2, FORWARD, version)
     for n in (0, 1, 2):
         for apdu in pdus:
             yield started(n, 0, policy, apdu)
     for n in (0, 1, 2):
         for source in (0, 1):
             yield started(n, source, wrong, MISSING_PDU)
+    yield started(1, 0, policy, RESPONSE, OWN + 1)
     for name in ("D-DATA indication", "D-END indication"):
         for apdu in pdus:
             yield title(name, pdus[apdu]), (name, {"apdu": apdu})
@@ -479,22 +529,23 @@ def cell(o):
     return text
 
 
-def made(state, dsc, active, reverse=False, policy=0):
+def made(state, dsc, active, reverse=False, policy=0, forwards=False):
     """The records of the table: timer and user as a run has them, or the user not active; or both the wrong way round, as no run
     has them. Highest job 7; the last request had the security value that local policy accepts."""
-    timer, user = state == REQ, active and state != IDLE
-    return Rec(state, dsc, timer != reverse, user != reverse, 7, policy, policy)
+    timer, user = state in (REQ, FWD), active and state != IDLE
+    return Rec(state, dsc, timer != reverse, user != reverse, 7, policy, policy, forwards, OWN)
 
 
 def table():
     for side in ("air", "ground"):
-        for active, reverse, policy in ((True, False, 0), (False, False, 0), (True, True, 0), (True, False, 1)):
+        for active, reverse, policy, forwards in ((True, False, 0, False), (False, False, 0, False), (True, True, 0, False), (True, False, 1, True), (True, False, 0, True)):
             view = side + ("" if active else ", user not active") + (", timer and user reversed" if reverse else "") + (", secured" if policy else "")
+            view += ", forwarding" if forwards else ""
             for title, ev in rows(policy):
                 print("%s: %s" % (view, title))
                 for state in STATES:
                     for dsc in (False, True):
-                        r = made(state, dsc, active, reverse, policy)
+                        r = made(state, dsc, active, reverse, policy, forwards)
                         print("  %s: %s" % (where(r), cell(STEP[side](r, ev))))
 
 
@@ -514,13 +565,13 @@ def jobs():
 
     seven()
     go("start request, cpdlc", ("start request", {"mode": "cpdlc", "class": 0, "security": 0}))
-    go("D-START confirmation, accepted, send", ("D-START confirmation", {"result": 0, "source": 0, "security": 0, "apdu": SEND}))
+    go("D-START confirmation, accepted, send", ("D-START confirmation", {"result": 0, "source": 0, "security": 0, "version": 0, "apdu": SEND}))
     seven()
     seven()
     go("D-END indication, send", ("D-END indication", {"apdu": SEND}))
     go("CPDLC-end response, accepted", ("CPDLC-end response", {"result": 0}))
     go("start request, cpdlc", ("start request", {"mode": "cpdlc", "class": 0, "security": 0}))
-    go("D-START confirmation, accepted, send", ("D-START confirmation", {"result": 0, "source": 0, "security": 0, "apdu": SEND}))
+    go("D-START confirmation, accepted, send", ("D-START confirmation", {"result": 0, "source": 0, "security": 0, "version": 0, "apdu": SEND}))
     seven()
 
 
@@ -547,14 +598,14 @@ def control():
     calls += [("CPDLC-user-abort request", {"given": True, "reason": 0}), ("timer expires", {}), ("system error", {})]
     for side in ("air", "ground"):
         own = 0 if side == "air" else 1
-        good = {"peer": own, "security": 0, "priority": 1, "rate": 1, "class": 0}
+        good = {"peer": own, "security": 0, "priority": 1, "rate": 1, "class": 0, "version": 0}
         entries = [("D-START indication", dict(good, apdu=a)) for a in (START, START_DSC)]
-        entries += [("D-START confirmation", {"result": x, "source": 0, "security": 0, "apdu": SEND}) for x in (0, 1, 2)]
+        entries += [("D-START confirmation", {"result": x, "source": 0, "security": 0, "version": 0, "apdu": SEND}) for x in (0, 1, 2)]
         entries += [("D-DATA indication", {"apdu": SEND}), ("D-END indication", {"apdu": SEND})]
         entries += [("D-END confirmation", {"result": x, "apdu": SEND}) for x in (0, 1)]
         entries += [("D-ABORT indication", {"originator": 0, "apdu": ("abort user", 0)}), ("D-P-ABORT indication", {})]
         got = {"calls": [], "entries": []}
-        for state in STATES:
+        for state in STATES[:5]:                    # FORWARD is in no dialogue
             for dsc in (False, True):
                 for ev in calls:
                     o = STEP[side](made(state, dsc, True), ev)

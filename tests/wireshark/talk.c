@@ -5,6 +5,7 @@
  *     talk FILE PAD messages COUNT     COUNT messages by turns, in dialogues
  *     talk FILE PAD flipped COUNT      the same, one bit of each message flipped in the capture (not in what is printed)
  *     talk FILE PAD kinds              every kind of APDU, every abort reason
+ *     talk FILE PAD forwards COUNT     COUNT forwards between two centres, each with its answer
  *     talk - 0 clearances              of each line "air N" or "ground N" of standard input: that clearance
  *
  * A line is the words that must be shown, or `message` with the message range and the text in hexadecimal.
@@ -35,8 +36,8 @@ static void fresh(void)
 {
     air.side = PEAT_AIR;
     ground.side = PEAT_GROUND;
-    peat_fresh(REC(&air), PEAT_AIR, PEAT_NO_SECURITY);
-    peat_fresh(REC(&ground), PEAT_GROUND, PEAT_NO_SECURITY);
+    peat_fresh(REC(&air), PEAT_AIR, PEAT_NO_SECURITY, PEAT_FORWARDS_NOT, 1);
+    peat_fresh(REC(&ground), PEAT_GROUND, PEAT_NO_SECURITY, PEAT_FORWARDS_NOT, 1);
 }
 
 /* What may not be refused ends the program. */
@@ -70,9 +71,10 @@ static uint64_t arrives(struct end *to, const struct entry *e)
     switch (e->primitive) {
     case PEAT_D_START_REQUEST:
         return taken(peat_d_start_indication(REC(to), e->number, to == &air ? PEAT_FACILITY : PEAT_AIRCRAFT, e->security, PEAT_HIGH_PRIORITY,
-            PEAT_LOW_ERROR_RATE, e->parameter, PEAT_USER_DATA, e->apdu, e->bytes, BUFFERS(to)));
+            PEAT_LOW_ERROR_RATE, e->parameter, PEAT_NO_VERSION, PEAT_USER_DATA, e->apdu, e->bytes, BUFFERS(to)));
     case PEAT_D_START_RESPONSE:
-        return taken(peat_d_start_confirmation(REC(to), e->number, e->parameter, PEAT_DS_USER, e->security, PEAT_USER_DATA, e->apdu, e->bytes, BUFFERS(to)));
+        return taken(peat_d_start_confirmation(
+            REC(to), e->number, e->parameter, PEAT_DS_USER, e->security, PEAT_NO_VERSION, PEAT_USER_DATA, e->apdu, e->bytes, BUFFERS(to)));
     case PEAT_D_DATA_REQUEST: return taken(peat_d_data_indication(REC(to), e->number, PEAT_USER_DATA, e->apdu, e->bytes, BUFFERS(to)));
     case PEAT_D_END_REQUEST: return taken(peat_d_end_indication(REC(to), e->number, PEAT_USER_DATA, e->apdu, e->bytes, BUFFERS(to)));
     case PEAT_D_END_RESPONSE: return taken(peat_d_end_confirmation(REC(to), e->number, e->parameter, PEAT_USER_DATA, e->apdu, e->bytes, BUFFERS(to)));
@@ -269,6 +271,58 @@ static void kinds(void)
     provider_aborts(&ground);
 }
 
+/* ---- forwards between two centres */
+
+static struct end centre; /* the other one */
+
+static char drawn_character(void) { return (char)('0' + chance(43) % 36 + (chance(2) ? 0 : 7)); }
+
+/* The receiving centre is not known to the dissector as one: what both centres send goes into the capture as a ground end's, the answer on a
+   connection that an aircraft began. */
+static void answer_of(uint64_t answer)
+{
+    static const char *const results[] = {"success", "service-not-supported", "version-not-equal"};
+    struct entry e = entry_of(&centre, taken(answer));
+    unsigned result = (unsigned)(e.apdu[0] >> 1 & 3);
+    start(&air, 0);
+    printf("ProtectedGroundPDUs: forwardresponse (5) | forwardresponse: %s (%u)\n", results[result], result);
+    capture_entry(0, 0, &e);
+}
+
+static void forward(unsigned long n)
+{
+    static struct clearance c;
+    char flight[PEAT_FLIGHT_MOST];
+    unsigned side = n % 2 ? PEAT_AIR : PEAT_GROUND, address = chance(1u << 24), i;
+    size_t characters = PEAT_FLIGHT_LEAST + chance(7);
+    unsigned when[] = {1996 + chance(100), 1 + chance(12), 1 + chance(31), chance(24), chance(60), chance(60)};
+    struct entry e;
+    for (i = 0; i < characters; i++)
+        flight[i] = drawn_character();
+    clearance_compose(&c, side, n);
+    fresh();
+    centre.side = PEAT_GROUND;
+    peat_fresh(REC(&centre), PEAT_GROUND, PEAT_NO_SECURITY, n % 3 ? PEAT_FORWARDS : PEAT_FORWARDS_NOT, n % 3 == 1 ? 1 : 2);
+    printf("ProtectedGroundPDUs: forward (4)");
+    for (i = 0; i < 6; i++)
+        printf(" | %s: %u", (const char *const[]){"year", "month", "day", "hours", "minutes", "seconds"}[i], when[i]);
+    printf(" | aircraftID: %.*s | aircraftAddress: %06x | forwardMessage: %s (%u) | bits: %u", (int)characters, flight, address,
+        side == PEAT_AIR ? "downElementIDs" : "upElementIDs", side == PEAT_AIR, c.bits);
+    putchar('\n');
+    e = entry_of(&ground, taken(peat_forward_request(REC(&ground), 1, PEAT_CLASS_ANY, PEAT_NO_SECURITY, when[0], when[1], when[2], when[3], when[4], when[5],
+        characters, peat_flight(flight, characters), address, side == PEAT_AIR, c.bit, (c.bits + 7) / 8, c.bits, BUFFERS(&ground))));
+    captured(&ground, &e);
+    answer_of(peat_d_start_indication(REC(&centre), 1, PEAT_FACILITY, PEAT_NO_SECURITY, PEAT_HIGH_PRIORITY, PEAT_LOW_ERROR_RATE, e.parameter, 1,
+        PEAT_USER_DATA, e.apdu, e.bytes, BUFFERS(&centre)));
+}
+
+static void forwards(unsigned long count)
+{
+    unsigned long n;
+    for (n = 1; n <= count; n++)
+        forward(n);
+}
+
 int main(int argc, char **argv)
 {
     int written;
@@ -283,6 +337,8 @@ int main(int argc, char **argv)
         kinds();
     else if (strcmp(argv[3], "clearances") == 0)
         clearances();
+    else if (strcmp(argv[3], "forwards") == 0 && argc > 4)
+        forwards(strtoul(argv[4], NULL, 10));
     else if (argc > 4)
         messages(strtoul(argv[4], NULL, 10));
     return written && capture_end() != 0 ? 2 : 0;

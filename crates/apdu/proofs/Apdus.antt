@@ -1,7 +1,7 @@
 -- APDUs as bits: what is written reads back as it was, and what is read says where its fields stand.
 -- Assumes nothing.
 use mathlib.Core.Path.{_≡_, refl, ap, sym, _∙_}
-use mathlib.Core.Bool.{Bool, true, false, cond}
+use mathlib.Core.Bool.{Bool, true, false, cond, _&&_}
 use mathlib.Core.List.{List, [], _++_}
 use Prim.Native.Nat.{ℕ, zero, suc, _+_, _^_, _≤_, _<_}
 use native.Mathlib.Omega.{arith}
@@ -18,16 +18,20 @@ use Rattle.fields.specs.declared.Fault.the-variants.{Default}
 use Rattle.fields.specs.declared.Field.the-variants.{Value, Refused}
 use Rattle.fields.proofs.RoundTrip.{Stands, stands-join, stands-split, bit-field, whole-number, extensible-index}
 use Rattle.fields.proofs.RoundTrip as fields
-use Rattle.apdu.specs.Sizes.{userLast, providerLast, modeLast}
-use Rattle.apdu.specs.Pdus.{Pdu, abortUser, abortProvider, start, send, forward, forwardResponse, lastOf, kindOf, indexOf, pduIn, forwarded}
-use Rattle.apdu.specs.Encoding.{alternative, contentBits, contentFits, modeBits, modeFits, pduBits, pduFits}
-use Rattle.apdu.specs.Reading.{onField, onData, onLead, dataAt, modeValue, modeAt, kindMode, leadingAt, tailAt, endedAt, restWithin, restAt, apduWithin, apduAt}
-use Rattle.apdu.specs.Writing.{apduShaped}
+use Rattle.apdu.specs.Sizes.{userLast, providerLast, modeLast, bit}
+use Rattle.apdu.specs.Headings.{responseLast}
+use Rattle.apdu.specs.Pdus.{Pdu, abortUser, abortProvider, start, send, forward, forwardResponse, lastOf, kindOf, indexOf, forwards, itemsIn, pduIn}
+use Rattle.apdu.specs.Encoding.{alternative, contentBits, contentFits, forwardBits, forwardFits, modeBits, modeFits, pduBits, pduFits}
+use Rattle.apdu.specs.Reading.{onField, onData, onForward, onLead, dataAt, forwardAt, modeValue, modeAt, kindMode, leadingAt, tailAt, endedAt, restWithin, restAt, apduWithin, apduAt}
+use Rattle.apdu.specs.Writing.{forwardShaped, apduShaped}
 use Rattle.apdu.specs.declared.Side.{Side}
 use Rattle.apdu.specs.declared.Side.the-variants.{Air, Ground}
 use Rattle.apdu.specs.declared.Kind.{Kind}
 use Rattle.apdu.specs.declared.Kind.the-variants as kind
 use Rattle.apdu.specs.declared.Data.{Data}
+use Rattle.apdu.specs.declared.Forward.{Forward}
+use Rattle.apdu.specs.declared.Forwarded.{Forwarded}
+use Rattle.apdu.specs.declared.Forwarded.the-variants as forwarded
 use Rattle.apdu.specs.declared.Apdu.{Apdu}
 use Rattle.apdu.specs.declared.Apdu.the-variants as apdu
 use Rattle.apdu.specs.declared.Taken.{Taken}
@@ -38,6 +42,7 @@ use Rattle.apdu.specs.declared.Answer.{Answer}
 use Rattle.apdu.specs.declared.Answer.the-variants as answer
 use Rattle.apdu.proofs.Bounds.{never}
 use Rattle.apdu.proofs.Contents.{stands-at, stands-none, via, data-written, DataIs, data-read}
+use Rattle.apdu.proofs.Forwards.{forward-written, forward-read}
 
 -- ---- the mode of a start
 
@@ -143,6 +148,10 @@ has : (side : Side) (i : ℕ) → i ≤ 3 → wholeFits 0 (lastOf side) i ≡ tr
 has Air i h = rw (le-leb 0 i (omega arith), le-leb i 3 h)
 has Ground i h = rw (le-leb 0 i (omega arith), le-leb i 5 (omega arith))
 
+has-forward : (side : Side) (i : ℕ) → forwards side ≡ true → i ≤ 5 → wholeFits 0 (lastOf side) i ≡ true
+has-forward Air i e h = never (cc)
+has-forward Ground i e h = rw (le-leb 0 i (omega arith), le-leb i 5 h)
+
 pub fields-written : (side : Side) (l : List ℕ) (at m : ℕ) (v : Pdu) → pduFits side v ≡ true → Stands l at (pduBits side v) m → FieldsRead side l at m v
 unfolding pduFits pduBits apduWithin leadingAt kindMode restWithin pduIn
 fields-written side l at m (abortUser r) h s =
@@ -170,8 +179,17 @@ fields-written side l at m (send c) h s =
     let a = extensible-index (lastOf side) (small side) .written-read l at 3 p (has side 3 (omega arith)) (w .first) in
     let d = data-written l p m c h (w .second) in
     record { value = apdu.Send (d .parts); read = rw (a, d .read); same = ap send (d .content) }
-fields-written side l at m forward h s = never (cc)
-fields-written side l at m forwardResponse h s = never (cc)
+fields-written side l at m (forward x y) h s =
+    let p : ℕ = at + length (indexBits (lastOf side) 4) in
+    let w = stands-split l at m (indexBits (lastOf side) 4) (forwardBits x y) s in
+    let a = extensible-index (lastOf side) (small side) .written-read l at 4 p (has-forward side 4 (both-left (forwards side) (forwardFits x y) h) (omega arith)) (w .first) in
+    let f = forward-written l p m x y (both-right (forwards side) (forwardFits x y) h) (w .second) in
+    record { value = apdu.Forward (f .value); read = rw (a, f .read); same = rw (f .heading, f .message) }
+fields-written side l at m (forwardResponse r) h s =
+    let w = stands-split l at m (indexBits (lastOf side) 5) (indexBits responseLast r) s in
+    let a = extensible-index (lastOf side) (small side) .written-read l at 5 (at + length (indexBits (lastOf side) 5)) (has-forward side 5 (both-left (forwards side) (wholeFits 0 responseLast r) h) (omega arith)) (w .first) in
+    let b = extensible-index responseLast (omega arith) .written-read l (at + length (indexBits (lastOf side) 5)) r m (both-right (forwards side) (wholeFits 0 responseLast r) h) (w .second) in
+    record { value = apdu.ForwardResponse r; read = rw (a, b); same = refl }
 
 ended-well : (l : List ℕ) (at v next : ℕ) (a : Apdu) → tailAt l at ≡ Value v next → endedAt l at a ≡ answer.Is a
 unfolding endedAt
@@ -206,8 +224,8 @@ Standing side l at next (apdu.AbortUser r) = Stands l at (alternative side kind.
 Standing side l at next (apdu.AbortProvider r) = Stands l at (alternative side kind.AbortProvider ++ indexBits providerLast r) next
 Standing side l at next (apdu.Start m d) = Led l at next d (alternative side kind.Start ++ modeBits side m)
 Standing side l at next (apdu.Send d) = Led l at next d (alternative side kind.Send)
-Standing side l at next apdu.Forward = ⊥
-Standing side l at next apdu.ForwardResponse = ⊥
+Standing side l at next (apdu.Forward f) = Stands l at (alternative side kind.Forward ++ forwardBits (f .heading) (itemsIn l bit (f .message))) next
+Standing side l at next (apdu.ForwardResponse x) = Stands l at (alternative side kind.ForwardResponse ++ indexBits responseLast x) next
 
 pub record ApduIs (side : Side) (l : List ℕ) (at : ℕ) (a : Apdu) : Type 0 where
   pub place : ℕ
@@ -244,6 +262,7 @@ ended-is l at a b e = via (Ended l at a b) answer.Refused (answer.Is a) (refused
 -- the alternative that was read
 pub record LeadIs (side : Side) (l : List ℕ) (at : ℕ) (c : Kind) (m next : ℕ) : Type 0 where
   pub place : ℕ
+  pub most : indexOf c ≤ lastOf side
   pub stands : Stands l at (indexBits (lastOf side) (indexOf c)) place
   pub mode : kindMode side l c place ≡ Value m next
 
@@ -275,7 +294,7 @@ lead-read side l at c m next b e = via (LeadIs side l at c m next) lead.Refused 
         let h : i ≤ lastOf side = leb-true i (lastOf side) (both-right (leb 0 i) (leb i (lastOf side)) (extensible-index (lastOf side) (small side) .read-fits l at i p b f)) in
         let j : i ≡ indexOf c = sym (index-kind i (last-most side i h)) ∙ ap indexOf x in
         let s : Stands l at (indexBits (lastOf side) i) p = extensible-index (lastOf side) (small side) .read-written l at i p b f in
-        record { place = p; stands = rw (← j) s; mode = rw (← x, ← y, ← z) g }
+        record { place = p; most = rw (← j) h; stands = rw (← j) s; mode = rw (← x, ← y, ← z) g }
 
     first : (i p : ℕ) → extensibleIndex l at (lastOf side) ≡ Value i p → onField lead.Refused (kindMode side l (kindOf i) p) (λ (v q : ℕ). lead.Is (kindOf i) v q) ≡ lead.Is c m next → LeadIs side l at c m next
     first i p f k = via (LeadIs side l at c m next) lead.Refused (lead.Is c m next) (lead-not (LeadIs side l at c m next) c m next) (kindMode side l (kindOf i) p) _ (second i p f) k
@@ -328,8 +347,29 @@ send-stood side l at p n d b s g =
 pub value-place : (p m q : ℕ) → Value 0 p ≡ Value m q → p ≡ q
 value-place p m q e = cc
 
-rest-read : (side : Side) (l : List ℕ) (at p : ℕ) (c : Kind) (m q : ℕ) (a : Apdu) → Bits l → forwarded a ≡ false → Stands l at (indexBits (lastOf side) (indexOf c)) p → kindMode side l c p ≡ Value m q → restAt l c m q ≡ answer.Is a → ApduIs side l at a
-unfolding kindMode restWithin forwarded
+-- what is read as one of the last two alternatives is GroundPDUs
+pub ground-only : (side : Side) (i : ℕ) → i ≤ lastOf side → 3 < i → forwards side ≡ true
+ground-only Air i h g = absurd (omega arith)
+ground-only Ground i h g = refl
+
+via-forward : (R : Type 0) (a : Apdu) (x : Forwarded) (k : Forward → ℕ → Answer) → ((f : Forward) (n : ℕ) → x ≡ forwarded.Is f n → k f n ≡ answer.Is a → R) → onForward answer.Refused x k ≡ answer.Is a → R
+via-forward R a (forwarded.Is f n) k g e = g f n refl e
+via-forward R a (forwarded.Refused r) k g e = refused-not R a r e
+
+pub forward-stood : (side : Side) (l : List ℕ) (at p n : ℕ) (f : Forward) → Bits l → forwards side ≡ true → Stands l at (indexBits (lastOf side) 4) p → forwardAt l p ≡ forwarded.Is f n → Stood side l at (apdu.Forward f) n
+unfolding apduShaped
+forward-stood side l at p n f b y s g =
+    let w = forward-read l p f n b g in
+    record { shaped = rw y (w .shaped); stands = stands-join l at p n _ _ s (w .stands) }
+
+pub response-stood : (side : Side) (l : List ℕ) (at p n r : ℕ) → Bits l → forwards side ≡ true → Stands l at (indexBits (lastOf side) 5) p → extensibleIndex l p responseLast ≡ Value r n → Stood side l at (apdu.ForwardResponse r) n
+unfolding apduShaped
+response-stood side l at p n r b y s g =
+    let i = reason-is l at p n r responseLast (indexBits (lastOf side) 5) b (omega arith) s g in
+    record { shaped = rw y (i .fits); stands = i .stands }
+
+rest-read : (side : Side) (l : List ℕ) (at p : ℕ) (c : Kind) (m q : ℕ) (a : Apdu) → Bits l → (indexOf c ≤ lastOf side) → Stands l at (indexBits (lastOf side) (indexOf c)) p → kindMode side l c p ≡ Value m q → restAt l c m q ≡ answer.Is a → ApduIs side l at a
+unfolding kindMode restWithin
 rest-read side l at p kind.AbortUser m q a b h s f k =
     via (ApduIs side l at a) answer.Refused (answer.Is a) (refused-not (ApduIs side l at a) a) (extensibleIndex l q userLast) _
     (λ (r n : ℕ) (g : extensibleIndex l q userLast ≡ Value r n) (e : endedAt l n (apdu.AbortUser r) ≡ answer.Is a). ended-read side l at n a (apdu.AbortUser r) (user-stood side l at q n r b (stands-at l at p q _ (value-place p m q f) s) g) e) k
@@ -341,19 +381,17 @@ rest-read side l at p kind.Start m q a b h s f k =
 rest-read side l at p kind.Send m q a b h s f k =
     via-data (ApduIs side l at a) a (dataAt l q) _ (λ (d : Data) (n : ℕ) (g : dataAt l q ≡ taken.Is d n) (e : endedAt l n (apdu.Send d) ≡ answer.Is a). ended-read side l at n a (apdu.Send d) (send-stood side l at q n d b (stands-at l at p q _ (value-place p m q f) s) g) e) k
 rest-read side l at p kind.Forward m q a b h s f k =
-    let x : apdu.Forward ≡ a = cc in
-    let y : true ≡ false = rw (← x) at h in
-    never (cc)
+    via-forward (ApduIs side l at a) a (forwardAt l q) _ (λ (x : Forward) (n : ℕ) (g : forwardAt l q ≡ forwarded.Is x n) (e : endedAt l n (apdu.Forward x) ≡ answer.Is a).
+    ended-read side l at n a (apdu.Forward x) (forward-stood side l at q n x b (ground-only side 4 h (omega arith)) (stands-at l at p q _ (value-place p m q f) s) g) e) k
 rest-read side l at p kind.ForwardResponse m q a b h s f k =
-    let x : apdu.ForwardResponse ≡ a = cc in
-    let y : true ≡ false = rw (← x) at h in
-    never (cc)
+    via (ApduIs side l at a) answer.Refused (answer.Is a) (refused-not (ApduIs side l at a) a) (extensibleIndex l q responseLast) _
+    (λ (r n : ℕ) (g : extensibleIndex l q responseLast ≡ Value r n) (e : endedAt l n (apdu.ForwardResponse r) ≡ answer.Is a). ended-read side l at n a (apdu.ForwardResponse r) (response-stood side l at q n r b (ground-only side 5 h (omega arith)) (stands-at l at p q _ (value-place p m q f) s) g) e) k
 
-pub apdu-read : (side : Side) (l : List ℕ) (at : ℕ) (a : Apdu) → Bits l → forwarded a ≡ false → apduAt side l at ≡ answer.Is a → ApduIs side l at a
+pub apdu-read : (side : Side) (l : List ℕ) (at : ℕ) (a : Apdu) → Bits l → apduAt side l at ≡ answer.Is a → ApduIs side l at a
 unfolding apduWithin
-apdu-read side l at a b h e = via-lead (ApduIs side l at a) a (leadingAt side l at) (restAt l) found e
+apdu-read side l at a b e = via-lead (ApduIs side l at a) a (leadingAt side l at) (restAt l) found e
   where
     found : (c : Kind) (m n : ℕ) → leadingAt side l at ≡ lead.Is c m n → restAt l c m n ≡ answer.Is a → ApduIs side l at a
     found c m n f k =
         let i = lead-read side l at c m n b f in
-        rest-read side l at (i .place) c m n a b h (i .stands) (i .mode) k
+        rest-read side l at (i .place) c m n a b (i .most) (i .stands) (i .mode) k

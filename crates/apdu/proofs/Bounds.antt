@@ -15,20 +15,24 @@ use Rattle.bits.specs.Bits.{bitsN}
 use Rattle.bits.proofs.Numbers.{length-bitsN}
 use Rattle.bits.proofs.Bytes.{length-part}
 use Rattle.fields.specs.Fields.{digitsIn, widthOf}
-use Rattle.fields.specs.Encodings.{indexBits, lengthBits, wholeBits, withinFits}
+use Rattle.fields.specs.Encodings.{indexBits, lengthBits, wholeBits, wholeFits, withinFits}
 use Rattle.fields.proofs.Writers.{length-index, length-whole, width-short, width-long}
 use Rattle.apdu.specs.Sizes.{identifierLeast, identifierMost, messageMost, checkMost, userLast, providerLast, modeLast, octet, bit}
-use Rattle.apdu.specs.Pdus.{Optional, absent, given, Content, Pdu, abortUser, abortProvider, start, send, forward, forwardResponse, lastOf, itemsIn, partIn, contentIn, pduIn}
-use Rattle.apdu.specs.Encoding.{stringBits, stringFits, optionalBits, optionalFits, contentBits, contentFits, modeBits, modeFits, pduBits, pduFits}
-use Rattle.apdu.specs.Writing.{itemsShaped, partShaped, dataShaped, apduShaped}
+use Rattle.apdu.specs.Headings.{responseLast, headingBits, headingFits}
+use Rattle.apdu.specs.Pdus.{Optional, absent, given, Content, Pdu, abortUser, abortProvider, start, send, forward, forwardResponse, lastOf, forwards, itemsIn, partIn, contentIn, pduIn}
+use Rattle.apdu.specs.Encoding.{stringBits, stringFits, optionalBits, optionalFits, contentBits, contentFits, forwardBits, forwardFits, modeBits, modeFits, pduBits, pduFits}
+use Rattle.apdu.specs.Writing.{itemsShaped, partShaped, dataShaped, forwardShaped, apduShaped}
 use Rattle.apdu.specs.declared.Side.{Side}
 use Rattle.apdu.specs.declared.Side.the-variants.{Air, Ground}
 use Rattle.apdu.specs.declared.Span.{Span}
 use Rattle.apdu.specs.declared.Part.{Part}
 use Rattle.apdu.specs.declared.Part.the-variants.{Absent, Given}
 use Rattle.apdu.specs.declared.Data.{Data}
+use Rattle.apdu.specs.declared.Heading.{Heading}
+use Rattle.apdu.specs.declared.Forward.{Forward}
 use Rattle.apdu.specs.declared.Apdu.{Apdu}
 use Rattle.apdu.specs.declared.Apdu.the-variants as apdu
+use Rattle.apdu.proofs.Heads.{headingMost, heading-most}
 
 -- zero is not one
 pub never : {A : Type 0} → _≡_ {A = ℕ} 0 1 → A
@@ -109,14 +113,22 @@ data-fit li lm lc d h =
     rw (part-fit li octet identifierLeast identifierMost (d .identifier) (omega arith) (s .identifier), part-fit lm bit 0 messageMost (d .message) (omega arith) (s .message))
     (items-fit lc bit 0 checkMost (d .check) (omega arith) (is-shaped lc bit 0 checkMost (d .check) (s .check)))
 
+-- a forward message
+
+pub forward-fit : (lm : List ℕ) (f : Forward) → forwardShaped lm f ≡ true → forwardFits (f .heading) (itemsIn lm bit (f .message)) ≡ true
+unfolding forwardShaped forwardFits
+forward-fit lm f e =
+    rw (both-left (headingFits (f .heading)) (itemsShaped lm bit 0 messageMost (f .message)) e)
+    (items-fit lm bit 0 messageMost (f .message) (omega arith) (is-shaped lm bit 0 messageMost (f .message) (both-right (headingFits (f .heading)) (itemsShaped lm bit 0 messageMost (f .message)) e)))
+
 pub apdu-fit : (side : Side) (li lm lc : List ℕ) (a : Apdu) → apduShaped side li lm lc a ≡ true → pduFits side (pduIn li lm lc a) ≡ true
 unfolding apduShaped pduFits pduIn
 apdu-fit side li lm lc (apdu.AbortUser r) h = h
 apdu-fit side li lm lc (apdu.AbortProvider r) h = h
 apdu-fit side li lm lc (apdu.Start m d) h = rw (both-left (modeFits side m) (dataShaped li lm lc d) h) (data-fit li lm lc d (both-right (modeFits side m) (dataShaped li lm lc d) h))
 apdu-fit side li lm lc (apdu.Send d) h = data-fit li lm lc d h
-apdu-fit side li lm lc apdu.Forward h = h
-apdu-fit side li lm lc apdu.ForwardResponse h = h
+apdu-fit side li lm lc (apdu.Forward f) h = rw (both-left (forwards side) (forwardShaped lm f) h) (forward-fit lm f (both-right (forwards side) (forwardShaped lm f) h))
+apdu-fit side li lm lc (apdu.ForwardResponse x) h = h
 
 -- ---- sizes
 
@@ -171,6 +183,17 @@ content-most c h =
     let zw = width-short checkMost (omega arith) in
     simp (length-append, length-bitsN) (omega arith)
 
+abbrev pub forwardMost : ℕ
+forwardMost = headingMost + (16 + bit * messageMost)
+
+pub forward-most : (h : Heading) (m : List ℕ) → forwardFits h m ≡ true → length (forwardBits h m) ≤ forwardMost
+unfolding forwardFits forwardBits
+forward-most h m e =
+    let x = heading-most h (both-left (headingFits h) (stringFits bit 0 messageMost m) e) in
+    let y = string-most bit 0 messageMost m (both-right (headingFits h) (stringFits bit 0 messageMost m) e) in
+    let w = width-long messageMost (omega arith) in
+    rw (length-append) (omega arith)
+
 -- the largest APDU: a startdown with mode dsc
 abbrev pub pduMost : ℕ
 pduMost = 5 + contentMost
@@ -216,5 +239,7 @@ pdu-most side (start m c) h =
 pdu-most side (send c) h =
     let k = content-most c h in
     rw (length-append, length-alternative) (omega (arith, width-most side))
-pdu-most side forward h = omega arith
-pdu-most side forwardResponse h = omega arith
+pdu-most side (forward x m) h =
+    let k = forward-most x m (both-right (forwards side) (forwardFits x m) h) in
+    rw (length-append, length-alternative) (omega (arith, width-most side))
+pdu-most side (forwardResponse x) h = rw (length-append, length-alternative) (omega (arith, width-most side, reason-most responseLast x (omega arith)))

@@ -60,7 +60,7 @@ record OptionalRead (l : List ℕ) (at next unit least most : ℕ) (o : Optional
   read : optionalAt l (isThere o) at unit least most ≡ Value n next
   part : partIn l unit (partAt (isThere o) unit n next) ≡ o
 
-string-back : (l : List ℕ) (at next unit least most : ℕ) (items : List ℕ) → stringFits unit least most items ≡ true → Stands l at (stringBits unit items) next
+pub string-back : (l : List ℕ) (at next unit least most : ℕ) (items : List ℕ) → stringFits unit least most items ≡ true → Stands l at (stringBits unit items) next
     → (stringAt l at unit least most ≡ Value (length items / unit) next) × (itemsIn l unit (spanTo unit (length items / unit) next) ≡ items)
 unfolding stringBits
 string-back l at next unit least most items h s =
@@ -86,11 +86,11 @@ record OptionalIs (l : List ℕ) (at next unit least most : ℕ) (there : Bool) 
   stands : Stands l at (optionalBits unit (partIn l unit p)) next
   bit : presence (partIn l unit p) ≡ cond there 1 0
 
-record ItemsIs (l : List ℕ) (at next unit least most n : ℕ) : Type 0 where
-  shaped : itemsShaped l unit least most (spanTo unit n next) ≡ true
-  stands : Stands l at (stringBits unit (itemsIn l unit (spanTo unit n next))) next
+pub record ItemsIs (l : List ℕ) (at next unit least most n : ℕ) : Type 0 where
+  pub shaped : itemsShaped l unit least most (spanTo unit n next) ≡ true
+  pub stands : Stands l at (stringBits unit (itemsIn l unit (spanTo unit n next))) next
 
-items-read : (l : List ℕ) (at next unit least most n : ℕ) → Bits l → 0 < unit → stringAt l at unit least most ≡ Value n next → ItemsIs l at next unit least most n
+pub items-read : (l : List ℕ) (at next unit least most n : ℕ) → Bits l → 0 < unit → stringAt l at unit least most ≡ Value n next → ItemsIs l at next unit least most n
 items-read l at next unit least most n b pos e =
     let i = string-read l at unit least most n next b e in
     let p = i .from in

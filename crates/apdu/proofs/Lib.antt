@@ -1,8 +1,11 @@
 pub mod Answers
 pub mod Shapes
+pub mod Heads
 pub mod Bounds
 pub mod Writers
+pub mod ForwardWriters
 pub mod Contents
+pub mod Forwards
 pub mod Apdus
 pub mod Octets
 pub mod Theorems

@@ -3,7 +3,7 @@
 use mathlib.Core.Path.{_≡_, refl, ap, _∙_}
 use mathlib.Core.Bool.{Bool, true, false, cond}
 use mathlib.Core.List.{List}
-use Prim.Native.Nat.{ℕ, _+_, _%_}
+use Prim.Native.Nat.{ℕ, _+_, _%_, _≤_}
 use native.Mathlib.Omega.{arith}
 use lib.Count.{ones}
 use lib.Dec.{leb, eqb}
@@ -17,13 +17,17 @@ use Rattle.fields.specs.declared.Field.{Field}
 use Rattle.fields.specs.declared.Field.the-variants.{Value, Refused}
 use Rattle.fields.proofs.RoundTrip.{Stands}
 use Rattle.apdu.specs.Sizes.{userLast, providerLast}
+use Rattle.apdu.specs.Headings.{responseLast}
 use Rattle.apdu.specs.Pdus.{lastOf, kindOf, indexOf}
-use Rattle.apdu.specs.Reading.{onField, onTaken, onData, onLead, partsAt, withAdditions, dataWithin, dataAt, kindMode, leadingAt, tailAt, endedAt, restWithin, restAt, apduWithin, apduAt}
+use Rattle.apdu.specs.Reading.{onField, onTaken, onData, onForward, onLead, partsAt, withAdditions, dataWithin, dataAt, forwardAt, kindMode, leadingAt, tailAt, endedAt, restWithin, restAt, apduWithin, apduAt}
 use Rattle.apdu.specs.Writing.{apduShaped}
 use Rattle.apdu.specs.declared.Side.{Side}
 use Rattle.apdu.specs.declared.Kind.{Kind}
 use Rattle.apdu.specs.declared.Kind.the-variants as kind
 use Rattle.apdu.specs.declared.Data.{Data}
+use Rattle.apdu.specs.declared.Forward.{Forward}
+use Rattle.apdu.specs.declared.Forwarded.{Forwarded}
+use Rattle.apdu.specs.declared.Forwarded.the-variants as forwarded
 use Rattle.apdu.specs.declared.Apdu.{Apdu}
 use Rattle.apdu.specs.declared.Apdu.the-variants as apdu
 use Rattle.apdu.specs.declared.Taken.{Taken}
@@ -33,9 +37,9 @@ use Rattle.apdu.specs.declared.Lead.the-variants as lead
 use Rattle.apdu.specs.declared.Answer.{Answer}
 use Rattle.apdu.specs.declared.Answer.the-variants as answer
 use Rattle.apdu.proofs.Bounds.{never}
-use Rattle.apdu.proofs.Spared.{Not, Spared, spared-value, spared-fault, spared-then, spared-cond, spared-on, bits-spared, whole-spared, kind-mode-spared, parts-spared, stepped-spared, taken-one, taken-is}
+use Rattle.apdu.proofs.Spared.{Not, Spared, spared-value, spared-fault, spared-then, spared-cond, spared-on, bits-spared, whole-spared, kind-mode-spared, parts-spared, forward-spared, stepped-spared, taken-one, taken-is}
 use Rattle.apdu.proofs.Contents.{stands-at}
-use Rattle.apdu.proofs.Apdus.{Standing, Stood, user-stood, provider-stood, start-stood, send-stood, lead-read, value-place}
+use Rattle.apdu.proofs.Apdus.{Standing, Stood, user-stood, provider-stood, start-stood, send-stood, forward-stood, response-stood, ground-only, lead-read, value-place}
 
 -- TAIL is none of the faults of a field
 tail-not : (wrong : ℕ) → Not (refusal wrong Tail)
@@ -147,6 +151,10 @@ module _ (wrong : ℕ) where
   on-lead R (lead.Is c m n) k h g e = g c m n refl e
   on-lead R (lead.Refused r) k h g e = absurd (h (ap lead.Refused (answer-one r e)))
 
+  on-forward : (R : Type 0) (x : Forwarded) (k : Forward → ℕ → Answer) → (x ≡ forwarded.Refused tailRefusal → ⊥) → ((f : Forward) (n : ℕ) → x ≡ forwarded.Is f n → k f n ≡ answer.Refused tailRefusal → R) → onForward answer.Refused x k ≡ answer.Refused tailRefusal → R
+  on-forward R (forwarded.Is f n) k h g e = g f n refl e
+  on-forward R (forwarded.Refused r) k h g e = absurd (h (ap forwarded.Refused (answer-one r e)))
+
   ended-tail : (l : List ℕ) (at : ℕ) (a : Apdu) → endedAt l at a ≡ answer.Refused tailRefusal → tailAt l at ≡ Refused tailRefusal
   unfolding endedAt
   ended-tail l at a e = go (tailAt l at) refl e
@@ -158,20 +166,24 @@ module _ (wrong : ℕ) where
   only : (side : Side) (l : List ℕ) (at n : ℕ) (a : Apdu) → Stood side l at a n → endedAt l n a ≡ answer.Refused tailRefusal → TailOnly side l at
   only side l at n a s e = record { value = a; place = n; shaped = s .shaped; stands = s .stands; tail = ended-tail l n a e }
 
-  rest-tail : (side : Side) (l : List ℕ) (at p : ℕ) (c : Kind) (m q : ℕ) → Bits l → Stands l at (indexBits (lastOf side) (indexOf c)) p → kindMode side l c p ≡ Value m q → restAt l c m q ≡ answer.Refused tailRefusal → TailOnly side l at
+  rest-tail : (side : Side) (l : List ℕ) (at p : ℕ) (c : Kind) (m q : ℕ) → Bits l → indexOf c ≤ lastOf side → Stands l at (indexBits (lastOf side) (indexOf c)) p → kindMode side l c p ≡ Value m q → restAt l c m q ≡ answer.Refused tailRefusal → TailOnly side l at
   unfolding kindMode restWithin
-  rest-tail side l at p kind.AbortUser m q b s f k =
+  rest-tail side l at p kind.AbortUser m q b u s f k =
       on-field (TailOnly side l at) (extensibleIndex l q userLast) _ (index-early l q userLast)
       (λ (r n : ℕ) (g : extensibleIndex l q userLast ≡ Value r n) (e : endedAt l n (apdu.AbortUser r) ≡ answer.Refused tailRefusal). only side l at n (apdu.AbortUser r) (user-stood side l at q n r b (stands-at l at p q _ (value-place p m q f) s) g) e) k
-  rest-tail side l at p kind.AbortProvider m q b s f k =
+  rest-tail side l at p kind.AbortProvider m q b u s f k =
       on-field (TailOnly side l at) (extensibleIndex l q providerLast) _ (index-early l q providerLast)
       (λ (r n : ℕ) (g : extensibleIndex l q providerLast ≡ Value r n) (e : endedAt l n (apdu.AbortProvider r) ≡ answer.Refused tailRefusal). only side l at n (apdu.AbortProvider r) (provider-stood side l at q n r b (stands-at l at p q _ (value-place p m q f) s) g) e) k
-  rest-tail side l at p kind.Start m q b s f k =
+  rest-tail side l at p kind.Start m q b u s f k =
       on-data (TailOnly side l at) (dataAt l q) _ (data-early l q) (λ (d : Data) (n : ℕ) (g : dataAt l q ≡ taken.Is d n) (e : endedAt l n (apdu.Start m d) ≡ answer.Refused tailRefusal). only side l at n (apdu.Start m d) (start-stood side l at p q n m d b s f g) e) k
-  rest-tail side l at p kind.Send m q b s f k =
+  rest-tail side l at p kind.Send m q b u s f k =
       on-data (TailOnly side l at) (dataAt l q) _ (data-early l q) (λ (d : Data) (n : ℕ) (g : dataAt l q ≡ taken.Is d n) (e : endedAt l n (apdu.Send d) ≡ answer.Refused tailRefusal). only side l at n (apdu.Send d) (send-stood side l at q n d b (stands-at l at p q _ (value-place p m q f) s) g) e) k
-  rest-tail side l at p kind.Forward m q b s f k = never (cc)
-  rest-tail side l at p kind.ForwardResponse m q b s f k = never (cc)
+  rest-tail side l at p kind.Forward m q b u s f k =
+      on-forward (TailOnly side l at) (forwardAt l q) _ (forward-spared tailRefusal not-tail l q) (λ (x : Forward) (n : ℕ) (g : forwardAt l q ≡ forwarded.Is x n) (e : endedAt l n (apdu.Forward x) ≡ answer.Refused tailRefusal).
+      only side l at n (apdu.Forward x) (forward-stood side l at q n x b (ground-only side 4 u (omega arith)) (stands-at l at p q _ (value-place p m q f) s) g) e) k
+  rest-tail side l at p kind.ForwardResponse m q b u s f k =
+      on-field (TailOnly side l at) (extensibleIndex l q responseLast) _ (index-early l q responseLast)
+      (λ (r n : ℕ) (g : extensibleIndex l q responseLast ≡ Value r n) (e : endedAt l n (apdu.ForwardResponse r) ≡ answer.Refused tailRefusal). only side l at n (apdu.ForwardResponse r) (response-stood side l at q n r b (ground-only side 5 u (omega arith)) (stands-at l at p q _ (value-place p m q f) s) g) e) k
 
   pub tail-last : (side : Side) (l : List ℕ) (at : ℕ) → Bits l → apduAt side l at ≡ answer.Refused tailRefusal → TailOnly side l at
   unfolding apduWithin
@@ -180,4 +192,4 @@ module _ (wrong : ℕ) where
       found : (c : Kind) (m n : ℕ) → leadingAt side l at ≡ lead.Is c m n → restAt l c m n ≡ answer.Refused tailRefusal → TailOnly side l at
       found c m n f k =
           let i = lead-read side l at c m n b f in
-          rest-tail side l at (i .place) c m n b (i .stands) (i .mode) k
+          rest-tail side l at (i .place) c m n b (i .most) (i .stands) (i .mode) k

@@ -18,13 +18,23 @@ use Rattle.fields.specs.declared.Fault.the-variants.{Short, Range, LengthForm, 
 use Rattle.fields.specs.declared.Field.{Field}
 use Rattle.fields.specs.declared.Field.the-variants.{Value, Refused}
 use Rattle.apdu.specs.Sizes.{identifierLeast, identifierMost, messageMost, checkMost, modeLast, octet, bit}
-use Rattle.apdu.specs.Reading.{onField, optionalAt, partsWithin, partsAt, modeValue, modeAt, kindMode}
+use Rattle.apdu.specs.Headings.{triple, dateFrom, dateTo, timeFrom, timeTo, charactersLeast, charactersMost, character, addressBits, directionLast}
+use Rattle.apdu.specs.Reading.{onField, onTriple, onHeading, optionalAt, spanTo, partsWithin, partsAt, tripleAt, headingAt, forwardWithin, forwardAt, modeValue, modeAt, kindMode}
 use Rattle.apdu.specs.declared.Side.{Side}
 use Rattle.apdu.specs.declared.Side.the-variants.{Air, Ground}
 use Rattle.apdu.specs.declared.Kind.{Kind}
 use Rattle.apdu.specs.declared.Kind.the-variants as kind
 use Rattle.apdu.specs.declared.Data.{Data}
 use Rattle.apdu.specs.declared.Taken.the-variants as taken
+use Rattle.apdu.specs.declared.Triple.{Triple}
+use Rattle.apdu.specs.declared.Heading.{Heading}
+use Rattle.apdu.specs.declared.Forward.{Forward}
+use Rattle.apdu.specs.declared.Triples.{Triples}
+use Rattle.apdu.specs.declared.Triples.the-variants as triples
+use Rattle.apdu.specs.declared.Headed.{Headed}
+use Rattle.apdu.specs.declared.Headed.the-variants as headed
+use Rattle.apdu.specs.declared.Forwarded.{Forwarded}
+use Rattle.apdu.specs.declared.Forwarded.the-variants as forwarded
 use Rattle.apdu.proofs.Bounds.{never}
 
 -- the fault in an answer that is a refusal
@@ -144,3 +154,55 @@ module _ (bad : Refusal) (not : Not bad) where
       spared-on taken.Refused (taken-one bad) (optionalAt l i at octet identifierLeast identifierMost) _ (optional-spared l i at octet identifierLeast identifierMost) (λ (n₁ p : ℕ).
       spared-on taken.Refused (taken-one bad) (optionalAt l m p bit 0 messageMost) _ (optional-spared l m p bit 0 messageMost) (λ (n₂ q : ℕ).
       spared-on taken.Refused (taken-one bad) (stringAt l q bit 0 checkMost) _ (string-spared l q bit 0 checkMost) (λ (n₃ k : ℕ). taken-is bad _ k)))
+
+  -- ---- a forward message
+
+  triples-one : (r : Refusal) → triples.Refused r ≡ triples.Refused bad → r ≡ bad
+  triples-one r e = cc
+
+  headed-one : (r : Refusal) → headed.Refused r ≡ headed.Refused bad → r ≡ bad
+  headed-one r e = cc
+
+  forwarded-one : (r : Refusal) → forwarded.Refused r ≡ forwarded.Refused bad → r ≡ bad
+  forwarded-one r e = cc
+
+  triples-is : (v : Triple) (n : ℕ) → triples.Is v n ≡ triples.Refused bad → ⊥
+  triples-is v n e = never (cc)
+
+  headed-is : (h : Heading) (n : ℕ) → headed.Is h n ≡ headed.Refused bad → ⊥
+  headed-is h n e = never (cc)
+
+  forwarded-is : (f : Forward) (n : ℕ) → forwarded.Is f n ≡ forwarded.Refused bad → ⊥
+  forwarded-is f n e = never (cc)
+
+  triple-spared : (l : List ℕ) (at : ℕ) (lo hi : Triple) → tripleAt l at lo hi ≡ triples.Refused bad → ⊥
+  unfolding tripleAt
+  triple-spared l at lo hi =
+      spared-on triples.Refused triples-one (wholeNumber l at (lo .first) (hi .first)) _ (whole-spared l at (lo .first) (hi .first)) (λ (x p : ℕ).
+      spared-on triples.Refused triples-one (wholeNumber l p (lo .second) (hi .second)) _ (whole-spared l p (lo .second) (hi .second)) (λ (y q : ℕ).
+      spared-on triples.Refused triples-one (wholeNumber l q (lo .third) (hi .third)) _ (whole-spared l q (lo .third) (hi .third)) (λ (z n : ℕ). triples-is (triple x y z) n)))
+
+  on-triple : (t : Triples) (k : Triple → ℕ → Headed) → (t ≡ triples.Refused bad → ⊥) → ((v : Triple) (n : ℕ) → k v n ≡ headed.Refused bad → ⊥) → onTriple t k ≡ headed.Refused bad → ⊥
+  on-triple (triples.Is v n) k h g e = g v n e
+  on-triple (triples.Refused r) k h g e = h (ap triples.Refused (headed-one r e))
+
+  heading-spared : (l : List ℕ) (at : ℕ) → headingAt l at ≡ headed.Refused bad → ⊥
+  unfolding headingAt
+  heading-spared l at =
+      on-triple (tripleAt l at dateFrom dateTo) _ (triple-spared l at dateFrom dateTo) (λ (d : Triple) (p : ℕ).
+      on-triple (tripleAt l p timeFrom timeTo) _ (triple-spared l p timeFrom timeTo) (λ (t : Triple) (q : ℕ).
+      spared-on headed.Refused headed-one (wholeNumber l q charactersLeast charactersMost) _ (whole-spared l q charactersLeast charactersMost) (λ (n a : ℕ).
+      spared-on headed.Refused headed-one (bitField l a (character * n)) _ (bits-spared l a (character * n)) (λ (x b : ℕ).
+      spared-on headed.Refused headed-one (bitField l b addressBits) _ (bits-spared l b addressBits) (λ (y c : ℕ).
+      spared-on headed.Refused headed-one (wholeNumber l c 0 directionLast) _ (whole-spared l c 0 directionLast) (λ (z m : ℕ).
+      headed-is (record { date = d; time = t; characters = n; flight = x; address = y; direction = z }) m))))))
+
+  on-heading : (t : Headed) (k : Heading → ℕ → Forwarded) → (t ≡ headed.Refused bad → ⊥) → ((v : Heading) (n : ℕ) → k v n ≡ forwarded.Refused bad → ⊥) → onHeading t k ≡ forwarded.Refused bad → ⊥
+  on-heading (headed.Is v n) k h g e = g v n e
+  on-heading (headed.Refused r) k h g e = h (ap headed.Refused (forwarded-one r e))
+
+  pub forward-spared : (l : List ℕ) (at : ℕ) → forwardAt l at ≡ forwarded.Refused bad → ⊥
+  unfolding forwardWithin
+  forward-spared l at =
+      on-heading (headingAt l at) _ (heading-spared l at) (λ (h : Heading) (p : ℕ).
+      spared-on forwarded.Refused forwarded-one (stringAt l p bit 0 messageMost) _ (string-spared l p bit 0 messageMost) (λ (n m : ℕ). forwarded-is (record { heading = h; message = spanTo bit n m }) m))

@@ -26,9 +26,10 @@ use Rattle.apdu.specs.declared.Taken.the-variants as taken
 use Rattle.fields.proofs.RoundTrip.{Stands, stands-join, stands-split, bit-field, whole-number, extensible-index, length-determinant}
 use Rattle.fields.proofs.RoundTrip as fields
 use Rattle.apdu.specs.Sizes.{bufferLeast, allBits, octet, bit, identifierMost, messageMost, checkMost, modeLast, userLast, providerLast}
-use Rattle.apdu.specs.Pdus.{given, Content, Pdu, start, lastOf, lent, itemsIn, partIn, contentIn, pduIn, forwarded}
-use Rattle.apdu.specs.Encoding.{stringBits, optionalBits, optionalFits, presence, alternative, rootBits, contentBits, contentFits, modeBits, modeFits, pduBits, pduFits, padding, padded, bytesFor}
-use Rattle.apdu.specs.Reading.{onField, onTaken, kindMode, leadingAt, restWithin, restAt, tailAt, apduWithin, apduAt, dataAt, wholeWithin, wholeData}
+use Rattle.apdu.specs.Headings.{responseLast}
+use Rattle.apdu.specs.Pdus.{given, Content, Pdu, start, lastOf, lent, itemsIn, partIn, contentIn, pduIn}
+use Rattle.apdu.specs.Encoding.{stringBits, optionalBits, optionalFits, presence, alternative, rootBits, contentBits, contentFits, forwardBits, forwardFits, modeBits, modeFits, pduBits, pduFits, padding, padded, bytesFor}
+use Rattle.apdu.specs.Reading.{onField, onTaken, tailAt, apduAt, dataAt, wholeWithin, wholeData, wholeForwardWithin, wholeForward}
 use Rattle.apdu.specs.Stripped.{rootEnd, stripAt, strip, extended}
 use Rattle.apdu.specs.Writing.{apduShaped, done, writeOut}
 use Rattle.apdu.specs.declared.Side.{Side}
@@ -38,12 +39,16 @@ use Rattle.apdu.specs.declared.Span.{Span}
 use Rattle.apdu.specs.declared.Part.{Part}
 use Rattle.apdu.specs.declared.Part.the-variants.{Absent, Given}
 use Rattle.apdu.specs.declared.Data.{Data}
+use Rattle.apdu.specs.declared.Heading.{Heading}
+use Rattle.apdu.specs.declared.Forward.{Forward}
+use Rattle.apdu.specs.declared.Forwarded.the-variants as forwarded
 use Rattle.apdu.specs.declared.Apdu.{Apdu}
 use Rattle.apdu.specs.declared.Apdu.the-variants as apdu
 use Rattle.apdu.specs.declared.Answer.the-variants as answer
 use Rattle.apdu.specs.declared.Written.the-variants as written
-use Rattle.apdu.proofs.Bounds.{never, apdu-fit, content-most, pduMost, pdu-most, width, length-alternative}
+use Rattle.apdu.proofs.Bounds.{never, apdu-fit, content-most, forward-most, pduMost, pdu-most, width, length-alternative}
 use Rattle.apdu.proofs.Contents.{DataIs, data-mark, data-plain, data-written, data-read}
+use Rattle.apdu.proofs.Forwards.{forward-are-bits, forward-written}
 use Rattle.apdu.proofs.Apdus.{ApduRead, Led, Standing, apdu-written, apdu-read}
 use Rattle.apdu.proofs.Octets.{all-bits, put-bytes, front-bits}
 
@@ -141,8 +146,8 @@ pdu-are-bits side li lm lc (apdu.AbortUser r) i m c = bits-append (indexBits (la
 pdu-are-bits side li lm lc (apdu.AbortProvider r) i m c = bits-append (indexBits (lastOf side) 1) (indexBits providerLast r) (index-are-bits side 1) (extensible-index providerLast (omega arith) .are-bits r)
 pdu-are-bits side li lm lc (apdu.Start v d) i m c = bits-append (indexBits (lastOf side) 2) _ (index-are-bits side 2) (bits-append (modeBits side v) (contentBits (contentIn li lm lc d)) (mode-are-bits side v) (content-are-bits li lm lc d i m c))
 pdu-are-bits side li lm lc (apdu.Send d) i m c = bits-append (indexBits (lastOf side) 3) (contentBits (contentIn li lm lc d)) (index-are-bits side 3) (content-are-bits li lm lc d i m c)
-pdu-are-bits side li lm lc apdu.Forward i m c = no-bits
-pdu-are-bits side li lm lc apdu.ForwardResponse i m c = no-bits
+pdu-are-bits side li lm lc (apdu.Forward f) i m c = bits-append (indexBits (lastOf side) 4) (forwardBits (f .heading) (itemsIn lm bit (f .message))) (index-are-bits side 4) (forward-are-bits (f .heading) (itemsIn lm bit (f .message)) (string-are-bits lm bit (f .message) m))
+pdu-are-bits side li lm lc (apdu.ForwardResponse x) i m c = bits-append (indexBits (lastOf side) 5) (indexBits responseLast x) (index-are-bits side 5) (extensible-index responseLast (omega arith) .are-bits x)
 
 -- ---- reading what was written gives the value
 
@@ -296,7 +301,7 @@ module _ (l bs : List ℕ) (next : ℕ) (d : Data) (i : Led l 0 next d bs) where
   led-cleared : getD (stripAt l (length bs) d) (length bs) 0 ≡ 0
   led-cleared = ap (λ (x : List ℕ). getD x (length bs) 0) led-strip ∙ first-clear bs (contentIn l l l d)
 
--- Bits that are read as an APDU, a forward APDU apart: with the additions gone they are the padded encoding of its value, which is within the sizes.
+-- Bits that are read as an APDU: with the additions gone they are the padded encoding of its value, which is within the sizes.
 pub record Accepted (side : Side) (l : List ℕ) (a : Apdu) : Type 0 where
   pub shaped : apduShaped side l l l a ≡ true
   pub fits : pduFits side (pduIn l l l a) ≡ true
@@ -308,18 +313,18 @@ strip-encoding side l place left end (apdu.AbortUser r) b s t = ended-whole l _ 
 strip-encoding side l place left end (apdu.AbortProvider r) b s t = ended-whole l _ place left end b s t
 strip-encoding side l place left end (apdu.Start m d) b s t = led-strip l _ place d s ∙ ap padded (append-assoc (indexBits (lastOf side) 2) (modeBits side m) (contentBits (contentIn l l l d)))
 strip-encoding side l place left end (apdu.Send d) b s t = led-strip l _ place d s
-strip-encoding side l place left end apdu.Forward b s t = absurd s
-strip-encoding side l place left end apdu.ForwardResponse b s t = absurd s
+strip-encoding side l place left end (apdu.Forward f) b s t = ended-whole l _ place left end b s t
+strip-encoding side l place left end (apdu.ForwardResponse x) b s t = ended-whole l _ place left end b s t
 
-pub accepted-encoding : (side : Side) (l : List ℕ) (a : Apdu) → Bits l → forwarded a ≡ false → apduAt side l 0 ≡ answer.Is a → Accepted side l a
-accepted-encoding side l a b h e =
-    let i = apdu-read side l 0 a b h e in
+pub accepted-encoding : (side : Side) (l : List ℕ) (a : Apdu) → Bits l → apduAt side l 0 ≡ answer.Is a → Accepted side l a
+accepted-encoding side l a b e =
+    let i = apdu-read side l 0 a b e in
     record { shaped = i .shaped; fits = apdu-fit side l l l a (i .shaped); bits = strip-encoding side l (i .place) (i .left) (i .end) a b (i .stands) (i .tail) }
 
 -- WITH THE ADDITIONS GONE IT IS READ AS THE SAME VALUE
-pub stripped-read : (side : Side) (l : List ℕ) (a : Apdu) → Bits l → forwarded a ≡ false → apduAt side l 0 ≡ answer.Is a → ApduRead side (strip side l a) 0 (pduIn l l l a)
-stripped-read side l a b h e =
-    let c = accepted-encoding side l a b h e in
+pub stripped-read : (side : Side) (l : List ℕ) (a : Apdu) → Bits l → apduAt side l 0 ≡ answer.Is a → ApduRead side (strip side l a) 0 (pduIn l l l a)
+stripped-read side l a b e =
+    let c = accepted-encoding side l a b e in
     encoding-accepted side (strip side l a) (pduIn l l l a) (c .fits) (c .bits)
 
 -- ---- without additions
@@ -331,23 +336,23 @@ plain-stands side l place (apdu.AbortProvider r) s e = s
 plain-stands side l place (apdu.Start m d) s e =
     subst (λ (x : List ℕ). Stands l 0 x place) (append-assoc (indexBits (lastOf side) 2) (modeBits side m) (contentBits (contentIn l l l d))) (led-plain l _ place d s (led-unmarked l _ place d s e))
 plain-stands side l place (apdu.Send d) s e = led-plain l _ place d s (led-unmarked l _ place d s e)
-plain-stands side l place apdu.Forward s e = absurd s
-plain-stands side l place apdu.ForwardResponse s e = absurd s
+plain-stands side l place (apdu.Forward f) s e = s
+plain-stands side l place (apdu.ForwardResponse x) s e = s
 
 -- Bits without additions that are read as an APDU are the padded encoding of its value.
 pub record Same (side : Side) (l : List ℕ) (a : Apdu) : Type 0 where
   pub bits : l ≡ padded (pduBits side (pduIn l l l a))
   pub stands : Stands l 0 (pduBits side (pduIn l l l a)) (length (pduBits side (pduIn l l l a)))
 
-pub plain-encoding : (side : Side) (l : List ℕ) (a : Apdu) → Bits l → forwarded a ≡ false → extended side l a ≡ false → apduAt side l 0 ≡ answer.Is a → Same side l a
-plain-encoding side l a b h x e =
-    let i = apdu-read side l 0 a b h e in
+pub plain-encoding : (side : Side) (l : List ℕ) (a : Apdu) → Bits l → extended side l a ≡ false → apduAt side l 0 ≡ answer.Is a → Same side l a
+plain-encoding side l a b x e =
+    let i = apdu-read side l 0 a b e in
     let s = plain-stands side l (i .place) a (i .stands) x in
     record { bits = ended-whole l _ (i .place) (i .left) (i .end) b s (i .tail); stands = record { place = omega arith; within = s .within; holds = s .holds } }
 
 -- to take additions away changes nothing exactly where there are none
-pub plain-strip : (side : Side) (l : List ℕ) (a : Apdu) → Bits l → forwarded a ≡ false → extended side l a ≡ false → apduAt side l 0 ≡ answer.Is a → strip side l a ≡ l
-plain-strip side l a b h x e = accepted-encoding side l a b h e .bits ∙ sym (plain-encoding side l a b h x e .bits)
+pub plain-strip : (side : Side) (l : List ℕ) (a : Apdu) → Bits l → extended side l a ≡ false → apduAt side l 0 ≡ answer.Is a → strip side l a ≡ l
+plain-strip side l a b x e = accepted-encoding side l a b e .bits ∙ sym (plain-encoding side l a b x e .bits)
 
 unmarked : (x y : ℕ) → x ≡ y → y ≡ 0 → eqb x 1 ≡ false
 unmarked x y p q = rw (p, q)
@@ -358,36 +363,36 @@ strip-standing side l place (apdu.AbortUser r) s e = refl
 strip-standing side l place (apdu.AbortProvider r) s e = refl
 strip-standing side l place (apdu.Start m d) s e = unmarked _ _ (ap (λ (x : List ℕ). getD x (length (alternative side kind.Start ++ modeBits side m)) 0) (sym e)) (led-cleared l _ place d s)
 strip-standing side l place (apdu.Send d) s e = unmarked _ _ (ap (λ (x : List ℕ). getD x (length (alternative side kind.Send)) 0) (sym e)) (led-cleared l _ place d s)
-strip-standing side l place apdu.Forward s e = refl
-strip-standing side l place apdu.ForwardResponse s e = refl
+strip-standing side l place (apdu.Forward f) s e = refl
+strip-standing side l place (apdu.ForwardResponse x) s e = refl
 
-pub strip-plain : (side : Side) (l : List ℕ) (a : Apdu) → Bits l → forwarded a ≡ false → apduAt side l 0 ≡ answer.Is a → strip side l a ≡ l → extended side l a ≡ false
-strip-plain side l a b h e k =
-    let i = apdu-read side l 0 a b h e in
+pub strip-plain : (side : Side) (l : List ℕ) (a : Apdu) → Bits l → apduAt side l 0 ≡ answer.Is a → strip side l a ≡ l → extended side l a ≡ false
+strip-plain side l a b e k =
+    let i = apdu-read side l 0 a b e in
     strip-standing side l (i .place) a (i .stands) k
 
 -- every bit of accepted bytes without additions is lent
-accepted-all : (side : Side) (s : List ℕ) (a : Apdu) → forwarded a ≡ false → extended side (lent s) a ≡ false → apduAt side (lent s) 0 ≡ answer.Is a → lent s ≡ bitsOf s
-accepted-all side s a h x e =
-    let c = accepted-encoding side (lent s) a (bits-to s allBits) h e in
+accepted-all : (side : Side) (s : List ℕ) (a : Apdu) → extended side (lent s) a ≡ false → apduAt side (lent s) 0 ≡ answer.Is a → lent s ≡ bitsOf s
+accepted-all side s a x e =
+    let c = accepted-encoding side (lent s) a (bits-to s allBits) e in
     let m = pdu-most side (pduIn (lent s) (lent s) (lent s) a) (c .fits) in
     let n = length-padded (pduBits side (pduIn (lent s) (lent s) (lent s) a)) in
-    let k : length (lent s) ≡ length (padded (pduBits side (pduIn (lent s) (lent s) (lent s) a))) = ap length (plain-encoding side (lent s) a (bits-to s allBits) h x e .bits) in
+    let k : length (lent s) ≡ length (padded (pduBits side (pduIn (lent s) (lent s) (lent s) a))) = ap length (plain-encoding side (lent s) a (bits-to s allBits) x e .bits) in
     let t = length-to s allBits in
     all-bits s allBits (omega arith)
 
 -- To write what was read from bytes without additions, with the parts taken from where they stand, leaves those bytes in the buffer, and later bytes as they
 -- were.
-pub read-written : (side : Side) (s t : List ℕ) (a : Apdu) → Bytes s → Bytes t → bufferLeast ≤ length t → forwarded a ≡ false → extended side (lent s) a ≡ false → apduAt side (lent s) 0 ≡ answer.Is a
+pub read-written : (side : Side) (s t : List ℕ) (a : Apdu) → Bytes s → Bytes t → bufferLeast ≤ length t → extended side (lent s) a ≡ false → apduAt side (lent s) 0 ≡ answer.Is a
     → writeOut (apduShaped side (lent s) (lent s) (lent s) a) t (pduBits side (pduIn (lent s) (lent s) (lent s) a))
     ≡ done (written.Bits (length (pduBits side (pduIn (lent s) (lent s) (lent s) a)))) (s ++ drop (length s) t)
 unfolding writeOut
-read-written side s t a hs ht g h x e =
-    let c = accepted-encoding side (lent s) a (bits-to s allBits) h e in
+read-written side s t a hs ht g x e =
+    let c = accepted-encoding side (lent s) a (bits-to s allBits) e in
     let v : Pdu = pduIn (lent s) (lent s) (lent s) a in
     let m = pdu-most side (pduIn (lent s) (lent s) (lent s) a) (c .fits) in
     let n = length-padded (pduBits side (pduIn (lent s) (lent s) (lent s) a)) in
-    let q : padded (pduBits side (pduIn (lent s) (lent s) (lent s) a)) ≡ bitsOf s = sym (plain-encoding side (lent s) a (bits-to s allBits) h x e .bits) ∙ accepted-all side s a h x e in
+    let q : padded (pduBits side (pduIn (lent s) (lent s) (lent s) a)) ≡ bitsOf s = sym (plain-encoding side (lent s) a (bits-to s allBits) x e .bits) ∙ accepted-all side s a x e in
     let k : length (bitsOf s) ≡ length (padded (pduBits side (pduIn (lent s) (lent s) (lent s) a))) = ap length (sym q) in
     let z = length-bits s in
     let p : putBits t 0 (padded (pduBits side (pduIn (lent s) (lent s) (lent s) a))) ≡ s ++ drop (length s) t = ap (putBits t 0) q ∙ put-bytes t s ht hs (omega arith) in
@@ -396,23 +401,13 @@ read-written side s t a hs ht g h x e =
 -- ---- with additions or without
 
 -- To write what was read leaves the APDU with the additions gone at the front of the buffer, and later bytes as they were.
-pub read-stripped : (side : Side) (s t : List ℕ) (a : Apdu) → bufferLeast ≤ length t → forwarded a ≡ false → apduAt side (lent s) 0 ≡ answer.Is a
+pub read-stripped : (side : Side) (s t : List ℕ) (a : Apdu) → bufferLeast ≤ length t → apduAt side (lent s) 0 ≡ answer.Is a
     → writeOut (apduShaped side (lent s) (lent s) (lent s) a) t (pduBits side (pduIn (lent s) (lent s) (lent s) a))
     ≡ done (written.Bits (length (pduBits side (pduIn (lent s) (lent s) (lent s) a)))) (putBits t 0 (strip side (lent s) a))
 unfolding writeOut
-read-stripped side s t a g h e =
-    let c = accepted-encoding side (lent s) a (bits-to s allBits) h e in
+read-stripped side s t a g e =
+    let c = accepted-encoding side (lent s) a (bits-to s allBits) e in
     rw (le-ltb (length t) bufferLeast g, c .shaped, c .bits)
-
--- ---- a forward APDU: the alternative alone decides
-
-pub forward-read : (l : List ℕ) (at next : ℕ) → Stands l at (indexBits 5 4) next → apduAt Ground l at ≡ answer.Is apdu.Forward
-unfolding apduWithin leadingAt kindMode restWithin
-forward-read l at next s = rw (extensible-index 5 (omega arith) .written-read l at 4 next refl s)
-
-pub response-read : (l : List ℕ) (at next : ℕ) → Stands l at (indexBits 5 5) next → apduAt Ground l at ≡ answer.Is apdu.ForwardResponse
-unfolding apduWithin leadingAt kindMode restWithin
-response-read l at next s = rw (extensible-index 5 (omega arith) .written-read l at 5 next refl s)
 
 -- ---- the writer's refusals, and no others
 
@@ -432,24 +427,22 @@ writes s bs h = rw (le-ltb (length s) bufferLeast h)
 
 pub send-delivered : (side : Side) (s : List ℕ) (d : Data) → apduAt side (lent s) 0 ≡ answer.Is (apdu.Send d)
     → contentBits (contentIn (lent s) (lent s) (lent s) d) ≡ bitsN 1 0 ++ take (rootEnd d - (width side + 1)) (drop (width side + 1) (lent s))
-unfolding forwarded
 send-delivered side s d e =
-    let i = apdu-read side (lent s) 0 (apdu.Send d) (bits-to s allBits) refl e in
+    let i = apdu-read side (lent s) 0 (apdu.Send d) (bits-to s allBits) e in
     rw (length-alternative side 3) at (led-content (lent s) (indexBits (lastOf side) 3) (i .place) d (i .stands))
 
 pub start-delivered : (side : Side) (s : List ℕ) (m : ℕ) (d : Data) → apduAt side (lent s) 0 ≡ answer.Is (apdu.Start m d)
     → contentBits (contentIn (lent s) (lent s) (lent s) d) ≡ bitsN 1 0 ++ take (rootEnd d - (width side + length (modeBits side m) + 1)) (drop (width side + length (modeBits side m) + 1) (lent s))
-unfolding forwarded
 start-delivered side s m d e =
-    let i = apdu-read side (lent s) 0 (apdu.Start m d) (bits-to s allBits) refl e in
+    let i = apdu-read side (lent s) 0 (apdu.Start m d) (bits-to s allBits) e in
     rw (length-append, length-alternative side 2) at (led-content (lent s) (indexBits (lastOf side) 2 ++ modeBits side m) (i .place) d (i .stands))
 
 -- and so, without additions, bits of the APDU
 pub send-plain : (side : Side) (s : List ℕ) (d : Data) → extended side (lent s) (apdu.Send d) ≡ false → apduAt side (lent s) 0 ≡ answer.Is (apdu.Send d)
     → contentBits (contentIn (lent s) (lent s) (lent s) d) ≡ take (length (contentBits (contentIn (lent s) (lent s) (lent s) d))) (drop (width side) (lent s))
-unfolding pduBits pduIn forwarded
+unfolding pduBits pduIn
 send-plain side s d x e =
-    let c = plain-encoding side (lent s) (apdu.Send d) (bits-to s allBits) refl x e in
+    let c = plain-encoding side (lent s) (apdu.Send d) (bits-to s allBits) x e in
     let w = stands-split (lent s) 0 _ (indexBits (lastOf side) 3) (contentBits (contentIn (lent s) (lent s) (lent s) d)) (c .stands) in
     let h = w .second .holds in
     let p : 0 + length (indexBits (lastOf side) 3) ≡ width side = omega (arith, length-alternative side 3) in
@@ -457,14 +450,44 @@ send-plain side s d x e =
 
 pub start-plain : (side : Side) (s : List ℕ) (m : ℕ) (d : Data) → extended side (lent s) (apdu.Start m d) ≡ false → apduAt side (lent s) 0 ≡ answer.Is (apdu.Start m d)
     → contentBits (contentIn (lent s) (lent s) (lent s) d) ≡ take (length (contentBits (contentIn (lent s) (lent s) (lent s) d))) (drop (width side + length (modeBits side m)) (lent s))
-unfolding pduBits pduIn forwarded
+unfolding pduBits pduIn
 start-plain side s m d x e =
-    let c = plain-encoding side (lent s) (apdu.Start m d) (bits-to s allBits) refl x e in
+    let c = plain-encoding side (lent s) (apdu.Start m d) (bits-to s allBits) x e in
     let w = stands-split (lent s) 0 _ (indexBits (lastOf side) 2) (modeBits side m ++ contentBits (contentIn (lent s) (lent s) (lent s) d)) (c .stands) in
     let u = stands-split (lent s) _ _ (modeBits side m) (contentBits (contentIn (lent s) (lent s) (lent s) d)) (w .second) in
     let h = u .second .holds in
     let p : 0 + length (indexBits (lastOf side) 2) + length (modeBits side m) ≡ width side + length (modeBits side m) = omega (arith, length-alternative side 2) in
     sym (rw p at h)
+
+pub forward-delivered : (s : List ℕ) (f : Forward) → apduAt Ground (lent s) 0 ≡ answer.Is (apdu.Forward f)
+    → forwardBits (f .heading) (itemsIn (lent s) bit (f .message)) ≡ take (length (forwardBits (f .heading) (itemsIn (lent s) bit (f .message)))) (drop (width Ground) (lent s))
+unfolding pduBits pduIn extended
+forward-delivered s f e =
+    let c = plain-encoding Ground (lent s) (apdu.Forward f) (bits-to s allBits) refl e in
+    let w = stands-split (lent s) 0 _ (indexBits (lastOf Ground) 4) (forwardBits (f .heading) (itemsIn (lent s) bit (f .message))) (c .stands) in
+    let h = w .second .holds in
+    let p : 0 + length (indexBits (lastOf Ground) 4) ≡ width Ground = omega (arith, length-alternative Ground 4) in
+    sym (rw p at h)
+
+-- ---- a forward message by itself, as it is delivered
+
+pub record ForwardWhole (l : List ℕ) (h : Heading) (m : List ℕ) : Type 0 where
+  pub value : Forward
+  pub read : wholeForward l ≡ forwarded.Is value (length (forwardBits h m))
+  pub heading : value .heading ≡ h
+  pub message : itemsIn l bit (value .message) ≡ m
+
+forward-accepted : (h : Heading) (m : List ℕ) → forwardFits h m ≡ true → ForwardWhole (padded (forwardBits h m)) h m
+unfolding wholeForwardWithin
+forward-accepted h m e =
+    let f = forward-written (padded (forwardBits h m)) 0 (length (forwardBits h m)) h m e (stands-front (forwardBits h m)) in
+    record { value = f .value; read = rw (f .read, tail-padded (forwardBits h m)); heading = f .heading; message = f .message }
+
+pub forward-written-read : (h : Heading) (m t : List ℕ) → Bits (forwardBits h m) → forwardFits h m ≡ true → bufferLeast ≤ length t
+    → ForwardWhole (lent (take (bytesFor (length (forwardBits h m))) (putBits t 0 (padded (forwardBits h m))))) h m
+forward-written-read h m t b e g =
+    let k = forward-most h m e in
+    rw (front t (forwardBits h m) b (omega arith) g .bits) (forward-accepted h m e)
 
 -- ---- the largest APDU is a startdown with mode dsc and every part at its limit: 16,615 bits, 2,077 bytes
 

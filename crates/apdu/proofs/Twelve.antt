@@ -16,13 +16,17 @@ use Rattle.fields.specs.declared.Fault.the-variants.{Short, Range, Extension, L
 use Rattle.fields.specs.declared.Field.{Field}
 use Rattle.fields.specs.declared.Field.the-variants.{Value, Refused}
 use Rattle.apdu.specs.Sizes.{userLast, providerLast}
+use Rattle.apdu.specs.Headings.{responseLast}
 use Rattle.apdu.specs.Pdus.{lastOf, kindOf}
 use Rattle.apdu.specs.Encoding.{padding}
-use Rattle.apdu.specs.Reading.{onField, onTaken, onData, onLead, partsAt, withAdditions, dataWithin, dataAt, kindMode, leadingAt, tailAt, endedAt, restWithin, restAt, apduWithin, apduAt}
+use Rattle.apdu.specs.Reading.{onField, onTaken, onData, onForward, onLead, partsAt, withAdditions, dataWithin, dataAt, forwardAt, kindMode, leadingAt, tailAt, endedAt, restWithin, restAt, apduWithin, apduAt}
 use Rattle.apdu.specs.declared.Side.{Side}
 use Rattle.apdu.specs.declared.Kind.{Kind}
 use Rattle.apdu.specs.declared.Kind.the-variants as kind
 use Rattle.apdu.specs.declared.Data.{Data}
+use Rattle.apdu.specs.declared.Forward.{Forward}
+use Rattle.apdu.specs.declared.Forwarded.{Forwarded}
+use Rattle.apdu.specs.declared.Forwarded.the-variants as forwarded
 use Rattle.apdu.specs.declared.Apdu.{Apdu}
 use Rattle.apdu.specs.declared.Apdu.the-variants as apdu
 use Rattle.apdu.specs.declared.Taken.{Taken}
@@ -32,7 +36,7 @@ use Rattle.apdu.specs.declared.Lead.the-variants as lead
 use Rattle.apdu.specs.declared.Answer.{Answer}
 use Rattle.apdu.specs.declared.Answer.the-variants as answer
 use Rattle.apdu.proofs.Bounds.{never}
-use Rattle.apdu.proofs.Spared.{Not, Spared, spared-value, spared-fault, spared-then, spared-cond, bits-spared, whole-spared, kind-mode-spared, parts-spared, stepped-spared, taken-one}
+use Rattle.apdu.proofs.Spared.{Not, Spared, spared-value, spared-fault, spared-then, spared-cond, bits-spared, whole-spared, kind-mode-spared, parts-spared, forward-spared, stepped-spared, taken-one}
 
 -- message data whose extension bit is 1, and whose root ends at a place
 pub record Root (side : Side) (l : List ℕ) (at : ℕ) : Type 0 where
@@ -190,14 +194,19 @@ module _ (side : Side) (l : List ℕ) (r : Refusal) (x : r .fault ≡ Extension)
     on-reason last k (Refused q) f e = of-enumerated c m at led (index-twelve at last (f ∙ ap Refused (answer-one r q e)))
     on-reason last k (Value v n) f e = absurd (ended-twelve n (k v) e)
 
+  -- a forward message has no extension bit
+  on-forward : (at : ℕ) (t : Forwarded) → forwardAt l at ≡ t → onForward answer.Refused t (λ (f : Forward) (next : ℕ). endedAt l next (apdu.Forward f)) ≡ answer.Refused r → Twelve side l r
+  on-forward at (forwarded.Refused q) g e = absurd (forward-spared r not-twelve l at (g ∙ ap forwarded.Refused (answer-one r q e)))
+  on-forward at (forwarded.Is f n) g e = absurd (ended-twelve n (apdu.Forward f) e)
+
   rest-twelve : (c : Kind) (m at : ℕ) → leadingAt side l 0 ≡ lead.Is c m at → restAt l c m at ≡ answer.Refused r → Twelve side l r
   unfolding restWithin
   rest-twelve kind.AbortUser m at g e = on-reason kind.AbortUser m at g userLast apdu.AbortUser (extensibleIndex l at userLast) refl e
   rest-twelve kind.AbortProvider m at g e = on-reason kind.AbortProvider m at g providerLast apdu.AbortProvider (extensibleIndex l at providerLast) refl e
   rest-twelve kind.Start m at g e = on-data kind.Start m at g (λ (d : Data) (next : ℕ). apdu.Start m d) (dataAt l at) refl e
   rest-twelve kind.Send m at g e = on-data kind.Send m at g (λ (d : Data) (next : ℕ). apdu.Send d) (dataAt l at) refl e
-  rest-twelve kind.Forward m at g e = never (cc)
-  rest-twelve kind.ForwardResponse m at g e = never (cc)
+  rest-twelve kind.Forward m at g e = on-forward at (forwardAt l at) refl e
+  rest-twelve kind.ForwardResponse m at g e = on-reason kind.ForwardResponse m at g responseLast apdu.ForwardResponse (extensibleIndex l at responseLast) refl e
 
   -- ---- the leading fields
 

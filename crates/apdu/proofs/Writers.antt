@@ -20,19 +20,21 @@ use Rattle.bits.proofs.Putting.{put-fits, put-if-yes, put-then, length-put}
 use Rattle.fields.specs.Encodings.{indexBits, lengthBits, lengthFits, wholeBits, wholeFits}
 use Rattle.fields.proofs.Writers.{as-number, in-range}
 use Rattle.apdu.specs.Sizes.{bufferLeast, messageMost, userLast, providerLast, modeLast, allBits, lengthMost, octet, bit}
-use Rattle.apdu.specs.Pdus.{lastOf, lent, itemsIn, partIn, contentIn, pduIn}
-use Rattle.apdu.specs.Encoding.{stringBits, optionalBits, presence, contentBits, modeBits, modeFits, pduBits, padding, padded}
-use Rattle.apdu.specs.Writing.{itemsShaped, partShaped, dataShaped, apduShaped, runShaped, there, placeOf, done, writeOut}
+use Rattle.apdu.specs.Headings.{responseLast}
+use Rattle.apdu.specs.Pdus.{lastOf, forwards, lent, itemsIn, partIn, contentIn, pduIn}
+use Rattle.apdu.specs.Encoding.{stringBits, optionalBits, presence, contentBits, forwardBits, modeBits, modeFits, pduBits, padding, padded}
+use Rattle.apdu.specs.Writing.{itemsShaped, partShaped, dataShaped, forwardShaped, apduShaped, runShaped, there, placeOf, done, writeOut}
 use Rattle.apdu.specs.declared.Side.{Side}
 use Rattle.apdu.specs.declared.Side.the-variants.{Air, Ground}
 use Rattle.apdu.specs.declared.Span.{Span}
 use Rattle.apdu.specs.declared.Part.{Part}
 use Rattle.apdu.specs.declared.Part.the-variants.{Absent, Given}
 use Rattle.apdu.specs.declared.Data.{Data}
+use Rattle.apdu.specs.declared.Forward.{Forward}
 use Rattle.apdu.specs.declared.Apdu.{Apdu}
 use Rattle.apdu.specs.declared.Apdu.the-variants as apdu
 use Rattle.apdu.specs.declared.Written.the-variants as written
-use Rattle.apdu.proofs.Bounds.{counted, Shaped, is-shaped, shaped-is, string-is, data-fit, apdu-fit, content-most, pdu-most}
+use Rattle.apdu.proofs.Bounds.{never, counted, Shaped, is-shaped, shaped-is, string-is, data-fit, forward-fit, apdu-fit, content-most, forward-most, pdu-most}
 
 -- ---- one run after the other
 
@@ -112,7 +114,7 @@ unfolding partIn
 presence-there l unit Absent = refl
 presence-there l unit (Given x) = refl
 
-check-bits : (l : List ℕ) (unit : ℕ) (x : Span) → optionalBits unit (partIn l unit (Given x)) ≡ stringBits unit (itemsIn l unit x)
+pub check-bits : (l : List ℕ) (unit : ℕ) (x : Span) → optionalBits unit (partIn l unit (Given x)) ≡ stringBits unit (itemsIn l unit x)
 unfolding optionalBits partIn
 check-bits l unit x = refl
 
@@ -170,14 +172,20 @@ mode-present s z o at p m r side q e f h w i k =
 pub index-run : (s : List ℕ) (o : Left) (at last i : ℕ) → i ≤ last → o ≡ putIf (wholeFits 0 last i) s allBits at (indexBits last i) → o ≡ putRun s allBits at (indexBits last i)
 index-run s o at last i h p = p ∙ put-if-yes _ s allBits at (indexBits last i) (in-range 0 last i (omega arith) h)
 
-index-on : (s z : List ℕ) (p i : ℕ) (r : Put) (side : Side) (ys : List ℕ) → i ≤ 3 → length (indexBits (lastOf side) i ++ ys) ≤ length (bitsTo s allBits)
+-- an alternative that both types have
+both-have : (side : Side) (i : ℕ) → i ≤ 3 → i ≤ lastOf side
+both-have Air i h = h
+both-have Ground i h = omega arith
+
+-- one that GroundPDUs alone has
+ground-has : (side : Side) (i : ℕ) → forwards side ≡ true → i ≤ 5 → i ≤ lastOf side
+ground-has Air i y h = never (cc)
+ground-has Ground i y h = h
+
+index-on : (s z : List ℕ) (p i : ℕ) (r : Put) (side : Side) (ys : List ℕ) → i ≤ lastOf side → length (indexBits (lastOf side) i ++ ys) ≤ length (bitsTo s allBits)
     → left r z ≡ putIf (wholeFits 0 (lastOf side) i) s allBits 0 (indexBits (lastOf side) i) → p ≡ placeOf r → On s z allBits 0 p (indexBits (lastOf side) i) ys
 index-on s z p i r side ys k room w q =
-    put-on s z allBits 0 p (indexBits (lastOf side) i) ys r (omega arith) (index-run s (left r z) 0 (lastOf side) i (least side) w) q
-  where
-    least : (side : Side) → i ≤ lastOf side
-    least Air = omega arith
-    least Ground = omega arith
+    put-on s z allBits 0 p (indexBits (lastOf side) i) ys r (omega arith) (index-run s (left r z) 0 (lastOf side) i k w) q
 
 -- what is written first leaves room for what follows
 front : (s z : List ℕ) (e at p : ℕ) (xs ys zs : List ℕ) → On s z e at p xs (ys ++ zs) → p + length ys ≤ length (bitsTo z e)
@@ -189,7 +197,7 @@ front s z e at p xs ys zs o =
 module _ (side : Side) (li lm lc s z : List ℕ) (a : Apdu) (p : ℕ) (r : Put) (h : apduShaped side li lm lc a ≡ true)
     (room : length (pduBits side (pduIn li lm lc a)) ≤ length (bitsTo s allBits)) (hp : p ≡ placeOf r) where
   -- an abort: the alternative i, then a reason up to `most`
-  abort-put : (i most v : ℕ) (o : Left) → i ≤ 3 → pduBits side (pduIn li lm lc a) ≡ indexBits (lastOf side) i ++ indexBits most v → wholeFits 0 most v ≡ true
+  abort-put : (i most v : ℕ) (o : Left) → i ≤ lastOf side → pduBits side (pduIn li lm lc a) ≡ indexBits (lastOf side) i ++ indexBits most v → wholeFits 0 most v ≡ true
       → left r z ≡ putIf (wholeFits 0 (lastOf side) i) s allBits 0 (indexBits (lastOf side) i) → o ≡ putIf (wholeFits 0 most v) z allBits p (indexBits most v)
       → o ≡ putRun s allBits 0 (pduBits side (pduIn li lm lc a))
   abort-put i most v o k e f w g =
@@ -199,17 +207,17 @@ module _ (side : Side) (li lm lc s z : List ℕ) (a : Apdu) (p : ℕ) (r : Put) 
   pub user-put : (v : ℕ) (o : Left) → a ≡ apdu.AbortUser v → left r z ≡ putIf (wholeFits 0 (lastOf side) 0) s allBits 0 (indexBits (lastOf side) 0)
       → o ≡ putIf (wholeFits 0 userLast v) z allBits p (indexBits userLast v) → o ≡ putRun s allBits 0 (pduBits side (pduIn li lm lc a))
   unfolding pduBits pduIn apduShaped
-  user-put v o q w k = abort-put 0 userLast v o (omega arith) (rw q) (rw q at h) w k
+  user-put v o q w k = abort-put 0 userLast v o (both-have side 0 (omega arith)) (rw q) (rw q at h) w k
 
   pub provider-put : (v : ℕ) (o : Left) → a ≡ apdu.AbortProvider v → left r z ≡ putIf (wholeFits 0 (lastOf side) 1) s allBits 0 (indexBits (lastOf side) 1)
       → o ≡ putIf (wholeFits 0 providerLast v) z allBits p (indexBits providerLast v) → o ≡ putRun s allBits 0 (pduBits side (pduIn li lm lc a))
   unfolding pduBits pduIn apduShaped
-  provider-put v o q w k = abort-put 1 providerLast v o (omega arith) (rw q) (rw q at h) w k
+  provider-put v o q w k = abort-put 1 providerLast v o (both-have side 1 (omega arith)) (rw q) (rw q at h) w k
 
   module _ (d : Data) (q : a ≡ apdu.Send d) (w : left r z ≡ putIf (wholeFits 0 (lastOf side) 3) s allBits 0 (indexBits (lastOf side) 3)) where
     sent : On s z allBits 0 p (indexBits (lastOf side) 3) (contentBits (contentIn li lm lc d))
     unfolding pduBits pduIn
-    sent = index-on s z p 3 r side (contentBits (contentIn li lm lc d)) (omega arith) (rw q at room) w hp
+    sent = index-on s z p 3 r side (contentBits (contentIn li lm lc d)) (both-have side 3 (omega arith)) (rw q at room) w hp
 
     pub send-asks : (dataShaped li lm lc d ≡ true) × (p + length (contentBits (contentIn li lm lc d)) ≤ length (bitsTo z allBits))
     unfolding apduShaped
@@ -222,7 +230,7 @@ module _ (side : Side) (li lm lc s z : List ℕ) (a : Apdu) (p : ℕ) (r : Put) 
   module _ (m : ℕ) (d : Data) (q : a ≡ apdu.Start m d) (w : left r z ≡ putIf (wholeFits 0 (lastOf side) 2) s allBits 0 (indexBits (lastOf side) 2)) where
     started : On s z allBits 0 p (indexBits (lastOf side) 2) (modeBits side m ++ contentBits (contentIn li lm lc d))
     unfolding pduBits pduIn
-    started = index-on s z p 2 r side (modeBits side m ++ contentBits (contentIn li lm lc d)) (omega arith) (rw q at room) w hp
+    started = index-on s z p 2 r side (modeBits side m ++ contentBits (contentIn li lm lc d)) (both-have side 2 (omega arith)) (rw q at room) w hp
 
     both : modeFits side m && dataShaped li lm lc d ≡ true
     unfolding apduShaped
@@ -242,17 +250,31 @@ module _ (side : Side) (li lm lc s z : List ℕ) (a : Apdu) (p : ℕ) (r : Put) 
       unfolding pduBits pduIn
       start-put o k = k ∙ moded .whole ∙ started .whole ∙ rw q
 
--- a forward APDU has no shape
-shapeless : (t : Bool) (x y : Left) → t ≡ true → t ≡ false → x ≡ y
-shapeless t x y p q = let z : _≡_ {A = ℕ} 0 1 = cc in absurd (omega arith)
+  response-is : (v : ℕ) → a ≡ apdu.ForwardResponse v → forwards side && wholeFits 0 responseLast v ≡ true
+  unfolding apduShaped
+  response-is v q = rw q at h
 
-pub no-forward : (side : Side) (li lm lc : List ℕ) (a : Apdu) (x y : Left) → apduShaped side li lm lc a ≡ true → a ≡ apdu.Forward → x ≡ y
-unfolding apduShaped
-no-forward side li lm lc a x y h q = shapeless (apduShaped side li lm lc a) x y h (rw q)
+  pub response-put : (v : ℕ) (o : Left) → a ≡ apdu.ForwardResponse v → left r z ≡ putIf (wholeFits 0 (lastOf side) 5) s allBits 0 (indexBits (lastOf side) 5)
+      → o ≡ putIf (wholeFits 0 responseLast v) z allBits p (indexBits responseLast v) → o ≡ putRun s allBits 0 (pduBits side (pduIn li lm lc a))
+  unfolding pduBits pduIn
+  response-put v o q w k =
+      abort-put 5 responseLast v o (ground-has side 5 (both-left (forwards side) (wholeFits 0 responseLast v) (response-is v q)) (omega arith)) (rw q) (both-right (forwards side) (wholeFits 0 responseLast v) (response-is v q)) w k
 
-pub no-response : (side : Side) (li lm lc : List ℕ) (a : Apdu) (x y : Left) → apduShaped side li lm lc a ≡ true → a ≡ apdu.ForwardResponse → x ≡ y
-unfolding apduShaped
-no-response side li lm lc a x y h q = shapeless (apduShaped side li lm lc a) x y h (rw q)
+  module _ (f : Forward) (q : a ≡ apdu.Forward f) (w : left r z ≡ putIf (wholeFits 0 (lastOf side) 4) s allBits 0 (indexBits (lastOf side) 4)) where
+    forward-is : forwards side && forwardShaped lm f ≡ true
+    unfolding apduShaped
+    forward-is = rw q at h
+
+    passed : On s z allBits 0 p (indexBits (lastOf side) 4) (forwardBits (f .heading) (itemsIn lm bit (f .message)))
+    unfolding pduBits pduIn
+    passed = index-on s z p 4 r side (forwardBits (f .heading) (itemsIn lm bit (f .message))) (ground-has side 4 (both-left (forwards side) (forwardShaped lm f) forward-is) (omega arith)) (rw q at room) w hp
+
+    pub forward-asks : (forwardShaped lm f ≡ true) × (p + length (forwardBits (f .heading) (itemsIn lm bit (f .message))) ≤ length (bitsTo z allBits))
+    forward-asks = (both-right (forwards side) (forwardShaped lm f) forward-is, passed .room)
+
+    pub forward-put : (o : Left) → o ≡ putRun z allBits p (forwardBits (f .heading) (itemsIn lm bit (f .message))) → o ≡ putRun s allBits 0 (pduBits side (pduIn li lm lc a))
+    unfolding pduBits pduIn
+    forward-put o k = k ∙ passed .whole ∙ rw q
 
 -- ---- the padding, and the answer
 
@@ -299,6 +321,13 @@ module _ (li lm lc : List ℕ) (d : Data) (h : dataShaped li lm lc d ≡ true) w
 
   pub data-room : (s : List ℕ) → bufferLeast ≤ length s → 0 + length (contentBits (contentIn li lm lc d)) ≤ length (bitsTo s allBits)
   data-room s b = room-for s _ b (omega (arith, data-pads))
+
+module _ (lm : List ℕ) (f : Forward) (h : forwardShaped lm f ≡ true) where
+  pub forward-pads : length (forwardBits (f .heading) (itemsIn lm bit (f .message))) + 7 ≤ 8 * bufferLeast
+  forward-pads = omega (arith, forward-most (f .heading) (itemsIn lm bit (f .message)) (forward-fit lm f h))
+
+  pub forward-room : (s : List ℕ) → bufferLeast ≤ length s → 0 + length (forwardBits (f .heading) (itemsIn lm bit (f .message))) ≤ length (bitsTo s allBits)
+  forward-room s b = room-for s _ b (omega (arith, forward-pads))
 
 -- a run that lent bytes hold is copied as its bits are put
 pub record RunHeld (s : List ℕ) (at n : ℕ) : Type 0 where

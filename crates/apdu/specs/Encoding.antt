@@ -7,10 +7,12 @@ use lib.Dec.{eqb}
 use Rattle.bits.specs.Bits.{bitsN}
 use Rattle.fields.specs.Encodings.{indexBits, lengthBits, wholeBits, wholeFits, withinFits}
 use Rattle.apdu.specs.Sizes.{identifierLeast, identifierMost, messageMost, checkMost, userLast, providerLast, modeLast, octet, bit}
-use Rattle.apdu.specs.Pdus.{Optional, absent, given, Content, Pdu, abortUser, abortProvider, start, send, forward, forwardResponse, lastOf, indexOf}
+use Rattle.apdu.specs.Headings.{responseLast, headingBits, headingFits}
+use Rattle.apdu.specs.Pdus.{Optional, absent, given, Content, Pdu, abortUser, abortProvider, start, send, forward, forwardResponse, lastOf, indexOf, forwards}
 use Rattle.apdu.specs.declared.Side.{Side}
 use Rattle.apdu.specs.declared.Side.the-variants.{Air, Ground}
 use Rattle.apdu.specs.declared.Kind.{Kind}
+use Rattle.apdu.specs.declared.Heading.{Heading}
 use Rattle.apdu.specs.declared.Kind.the-variants as kind
 
 -- ---- message data (X.691, clause 19): the extension bit, the presence bits of the two optional fields, the fields
@@ -48,6 +50,14 @@ contentFits c =
     optionalFits octet identifierLeast identifierMost (c .identifier) && optionalFits bit 0 messageMost (c .message) &&
     stringFits bit 0 checkMost (c .check)
 
+-- ---- ATCForwardMessage: what stands before the message, then the message's bits, after their count
+
+unfoldable pub forwardBits : Heading → List ℕ → List ℕ
+forwardBits h m = headingBits h ++ stringBits bit m
+
+unfoldable pub forwardFits : Heading → List ℕ → Bool
+forwardFits h m = headingFits h && stringFits bit 0 messageMost m
+
 -- ---- APDUs (X.691, clause 23): the extension bit and the index of the alternative, then what the alternative holds
 
 -- StartDownMessage begins with the presence bit of mode; the default, cpdlc, is left out (X.691, 19.5). startup has no mode: it is cpdlc.
@@ -67,17 +77,16 @@ pduBits side (abortUser r) = alternative side kind.AbortUser ++ indexBits userLa
 pduBits side (abortProvider r) = alternative side kind.AbortProvider ++ indexBits providerLast r
 pduBits side (start m c) = alternative side kind.Start ++ (modeBits side m ++ contentBits c)
 pduBits side (send c) = alternative side kind.Send ++ contentBits c
-pduBits side forward = []
-pduBits side forwardResponse = []
+pduBits side (forward h m) = alternative side kind.Forward ++ forwardBits h m
+pduBits side (forwardResponse x) = alternative side kind.ForwardResponse ++ indexBits responseLast x
 
--- the forward APDUs are not written until forwarding is ordered
 unfoldable pub pduFits : Side → Pdu → Bool
 pduFits side (abortUser r) = wholeFits 0 userLast r
 pduFits side (abortProvider r) = wholeFits 0 providerLast r
 pduFits side (start m c) = modeFits side m && contentFits c
 pduFits side (send c) = contentFits c
-pduFits side forward = false
-pduFits side forwardResponse = false
+pduFits side (forward h m) = forwards side && forwardFits h m
+pduFits side (forwardResponse x) = forwards side && wholeFits 0 responseLast x
 
 -- ---- whole bytes (X.691, 11.1): zero bits after the encoding, up to a whole byte
 

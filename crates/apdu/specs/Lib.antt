@@ -1,4 +1,5 @@
 pub mod Sizes
+pub mod Headings
 pub mod Pdus
 pub mod Encoding
 pub mod Reading

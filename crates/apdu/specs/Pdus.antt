@@ -13,6 +13,8 @@ use Rattle.apdu.specs.declared.Span.{Span}
 use Rattle.apdu.specs.declared.Part.{Part}
 use Rattle.apdu.specs.declared.Part.the-variants.{Absent, Given}
 use Rattle.apdu.specs.declared.Data.{Data}
+use Rattle.apdu.specs.declared.Heading.{Heading}
+use Rattle.apdu.specs.declared.Forward.{Forward}
 use Rattle.apdu.specs.declared.Apdu.{Apdu}
 use Rattle.apdu.specs.declared.Apdu.the-variants as apdu
 
@@ -30,15 +32,15 @@ pub record Content : Type 0 where
   pub message : Optional
   pub check : List ℕ
 
--- One type for both directions. A start is startup (Ground), whose mode is cpdlc, or startdown (Air) with its mode. The contents of the forward
--- APDUs are not looked at.
+-- One type for both directions. A start is startup (Ground), whose mode is cpdlc, or startdown (Air) with its mode. A forward is ATCForwardMessage: what
+-- stands before the message, and the message's bits, which are not looked into (2.3.4.1.3, Note 2); its response is ATCForwardResponse.
 pub data Pdu : Type 0 where
   abortUser : ℕ → Pdu
   abortProvider : ℕ → Pdu
   start : ℕ → Content → Pdu
   send : Content → Pdu
-  forward : Pdu
-  forwardResponse : Pdu
+  forward : Heading → List ℕ → Pdu
+  forwardResponse : ℕ → Pdu
 
 -- ---- alternatives
 
@@ -63,6 +65,11 @@ indexOf kind.Start = 2
 indexOf kind.Send = 3
 indexOf kind.Forward = 4
 indexOf kind.ForwardResponse = 5
+
+-- GroundPDUs alone has the two forward alternatives
+abbrev pub forwards : Side → Bool
+forwards Air = false
+forwards Ground = true
 
 -- ---- what places stand for
 
@@ -92,14 +99,5 @@ pduIn li lm lc (apdu.AbortUser r) = abortUser r
 pduIn li lm lc (apdu.AbortProvider r) = abortProvider r
 pduIn li lm lc (apdu.Start m d) = start m (contentIn li lm lc d)
 pduIn li lm lc (apdu.Send d) = send (contentIn li lm lc d)
-pduIn li lm lc apdu.Forward = forward
-pduIn li lm lc apdu.ForwardResponse = forwardResponse
-
--- a forward APDU: recognised, and not looked into
-unfoldable pub forwarded : Apdu → Bool
-forwarded (apdu.AbortUser r) = false
-forwarded (apdu.AbortProvider r) = false
-forwarded (apdu.Start m d) = false
-forwarded (apdu.Send d) = false
-forwarded apdu.Forward = true
-forwarded apdu.ForwardResponse = true
+pduIn li lm lc (apdu.Forward f) = forward (f .heading) (itemsIn lm bit (f .message))
+pduIn li lm lc (apdu.ForwardResponse x) = forwardResponse x

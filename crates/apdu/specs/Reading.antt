@@ -12,6 +12,7 @@ use Rattle.fields.specs.declared.Fault.the-variants.{Tail, Default}
 use Rattle.fields.specs.declared.Field.{Field}
 use Rattle.fields.specs.declared.Field.the-variants as field
 use Rattle.apdu.specs.Sizes.{identifierLeast, identifierMost, messageMost, checkMost, userLast, providerLast, modeLast, octet, bit}
+use Rattle.apdu.specs.Headings.{triple, dateFrom, dateTo, timeFrom, timeTo, charactersLeast, charactersMost, character, addressBits, directionLast, responseLast}
 use Rattle.apdu.specs.Pdus.{lastOf, kindOf}
 use Rattle.apdu.specs.Encoding.{padding}
 use Rattle.apdu.specs.declared.Side.{Side}
@@ -22,6 +23,15 @@ use Rattle.apdu.specs.declared.Span.{Span}
 use Rattle.apdu.specs.declared.Part.{Part}
 use Rattle.apdu.specs.declared.Part.the-variants.{Absent, Given}
 use Rattle.apdu.specs.declared.Data.{Data}
+use Rattle.apdu.specs.declared.Triple.{Triple}
+use Rattle.apdu.specs.declared.Heading.{Heading}
+use Rattle.apdu.specs.declared.Forward.{Forward}
+use Rattle.apdu.specs.declared.Triples.{Triples}
+use Rattle.apdu.specs.declared.Triples.the-variants as triples
+use Rattle.apdu.specs.declared.Headed.{Headed}
+use Rattle.apdu.specs.declared.Headed.the-variants as headed
+use Rattle.apdu.specs.declared.Forwarded.{Forwarded}
+use Rattle.apdu.specs.declared.Forwarded.the-variants as forwarded
 use Rattle.apdu.specs.declared.Apdu.{Apdu}
 use Rattle.apdu.specs.declared.Apdu.the-variants as apdu
 use Rattle.apdu.specs.declared.Taken.{Taken}
@@ -50,6 +60,18 @@ abbrev pub onLead : Lead → (Kind → ℕ → ℕ → Answer) → Answer
 onLead (lead.Is c m next) k = k c m next
 onLead (lead.Refused r) k = answer.Refused r
 
+abbrev pub onTriple : Triples → (Triple → ℕ → Headed) → Headed
+onTriple (triples.Is v next) k = k v next
+onTriple (triples.Refused r) k = headed.Refused r
+
+abbrev pub onHeading : Headed → (Heading → ℕ → Forwarded) → Forwarded
+onHeading (headed.Is h next) k = k h next
+onHeading (headed.Refused r) k = forwarded.Refused r
+
+abbrev pub onForward : {A : Type 0} → (Refusal → A) → Forwarded → (Forward → ℕ → A) → A
+onForward up (forwarded.Is f next) k = k f next
+onForward up (forwarded.Refused r) k = up r
+
 -- the refusal of an answer that has one
 abbrev pub fieldRefusal : Field → Refusal
 fieldRefusal (field.Refused r) = r
@@ -62,6 +84,18 @@ takenRefusal (taken.Is d next) = noRefusal
 abbrev pub leadRefusal : Lead → Refusal
 leadRefusal (lead.Refused r) = r
 leadRefusal (lead.Is c m next) = noRefusal
+
+abbrev pub tripleRefusal : Triples → Refusal
+tripleRefusal (triples.Refused r) = r
+tripleRefusal (triples.Is v next) = noRefusal
+
+abbrev pub headingRefusal : Headed → Refusal
+headingRefusal (headed.Refused r) = r
+headingRefusal (headed.Is h next) = noRefusal
+
+abbrev pub forwardRefusal : Forwarded → Refusal
+forwardRefusal (forwarded.Refused r) = r
+forwardRefusal (forwarded.Is f next) = noRefusal
 
 -- ---- message data
 
@@ -95,6 +129,31 @@ dataWithin limit l at =
     onField taken.Refused (bitField l at 1) (λ (e p : ℕ).
     onField taken.Refused (bitField l p 2) (λ (v q : ℕ).
     cond (eqb e 0) (partsWithin limit l q (leb 2 v) (eqb (v % 2) 1)) (withAdditions l (partsWithin limit l q (leb 2 v) (eqb (v % 2) 1)))))
+
+-- ---- ATCForwardMessage
+
+-- three whole numbers in a row
+unfoldable pub tripleAt : List ℕ → ℕ → Triple → Triple → Triples
+tripleAt l at lo hi =
+    onField triples.Refused (wholeNumber l at (lo .first) (hi .first)) (λ (x p : ℕ).
+    onField triples.Refused (wholeNumber l p (lo .second) (hi .second)) (λ (y q : ℕ).
+    onField triples.Refused (wholeNumber l q (lo .third) (hi .third)) (λ (z next : ℕ). triples.Is (triple x y z) next)))
+
+-- what stands before the message; the characters after their count are one field
+unfoldable pub headingAt : List ℕ → ℕ → Headed
+headingAt l at =
+    onTriple (tripleAt l at dateFrom dateTo) (λ (date : Triple) (p : ℕ).
+    onTriple (tripleAt l p timeFrom timeTo) (λ (time : Triple) (q : ℕ).
+    onField headed.Refused (wholeNumber l q charactersLeast charactersMost) (λ (n a : ℕ).
+    onField headed.Refused (bitField l a (character * n)) (λ (x b : ℕ).
+    onField headed.Refused (bitField l b addressBits) (λ (y c : ℕ).
+    onField headed.Refused (wholeNumber l c 0 directionLast) (λ (z next : ℕ).
+    headed.Is (record { date = date; time = time; characters = n; flight = x; address = y; direction = z }) next))))))
+
+unfoldable pub forwardWithin : ℕ → List ℕ → ℕ → Forwarded
+forwardWithin limit l at =
+    onHeading (headingAt l at) (λ (h : Heading) (p : ℕ).
+    onField forwarded.Refused (stringAt l p bit 0 limit) (λ (n next : ℕ). forwarded.Is (record { heading = h; message = spanTo bit n next }) next))
 
 -- ---- the leading fields: the alternative, and the mode of a start
 
@@ -133,14 +192,13 @@ tailAt l at =
 unfoldable pub endedAt : List ℕ → ℕ → Apdu → Answer
 endedAt l at a = onField answer.Refused (tailAt l at) (λ (v next : ℕ). answer.Is a)
 
--- Of a forward APDU the alternative alone decides.
 unfoldable pub restWithin : ℕ → List ℕ → Kind → ℕ → ℕ → Answer
 restWithin limit l kind.AbortUser m at = onField answer.Refused (extensibleIndex l at userLast) (λ (r next : ℕ). endedAt l next (apdu.AbortUser r))
 restWithin limit l kind.AbortProvider m at = onField answer.Refused (extensibleIndex l at providerLast) (λ (r next : ℕ). endedAt l next (apdu.AbortProvider r))
 restWithin limit l kind.Start m at = onData (dataWithin limit l at) (λ (d : Data) (next : ℕ). endedAt l next (apdu.Start m d))
 restWithin limit l kind.Send m at = onData (dataWithin limit l at) (λ (d : Data) (next : ℕ). endedAt l next (apdu.Send d))
-restWithin limit l kind.Forward m at = answer.Is apdu.Forward
-restWithin limit l kind.ForwardResponse m at = answer.Is apdu.ForwardResponse
+restWithin limit l kind.Forward m at = onForward answer.Refused (forwardWithin limit l at) (λ (f : Forward) (next : ℕ). endedAt l next (apdu.Forward f))
+restWithin limit l kind.ForwardResponse m at = onField answer.Refused (extensibleIndex l at responseLast) (λ (r next : ℕ). endedAt l next (apdu.ForwardResponse r))
 
 -- the leading fields, then the rest
 unfoldable pub apduWithin : ℕ → Side → List ℕ → ℕ → Answer
@@ -150,6 +208,10 @@ apduWithin limit side l at = onLead (leadingAt side l at) (restWithin limit l)
 unfoldable pub wholeWithin : ℕ → List ℕ → Taken
 wholeWithin limit l = onTaken (dataWithin limit l 0) (λ (d : Data) (next : ℕ). onField taken.Refused (tailAt l next) (λ (v m : ℕ). taken.Is d next))
 
+-- ATCForwardMessage by itself, as it is delivered
+unfoldable pub wholeForwardWithin : ℕ → List ℕ → Forwarded
+wholeForwardWithin limit l = onForward forwarded.Refused (forwardWithin limit l 0) (λ (f : Forward) (next : ℕ). onField forwarded.Refused (tailAt l next) (λ (v m : ℕ). forwarded.Is f next))
+
 -- ---- at the card's limit
 
 abbrev pub partsAt : List ℕ → ℕ → Bool → Bool → Taken
@@ -157,6 +219,9 @@ partsAt = partsWithin messageMost
 
 abbrev pub dataAt : List ℕ → ℕ → Taken
 dataAt = dataWithin messageMost
+
+abbrev pub forwardAt : List ℕ → ℕ → Forwarded
+forwardAt = forwardWithin messageMost
 
 abbrev pub restAt : List ℕ → Kind → ℕ → ℕ → Answer
 restAt = restWithin messageMost
@@ -166,3 +231,6 @@ apduAt = apduWithin messageMost
 
 abbrev pub wholeData : List ℕ → Taken
 wholeData = wholeWithin messageMost
+
+abbrev pub wholeForward : List ℕ → Forwarded
+wholeForward = wholeForwardWithin messageMost

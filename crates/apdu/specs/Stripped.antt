@@ -27,8 +27,8 @@ strip side l (apdu.AbortUser r) = l
 strip side l (apdu.AbortProvider r) = l
 strip side l (apdu.Start m d) = stripAt l (length (alternative side kind.Start ++ modeBits side m)) d
 strip side l (apdu.Send d) = stripAt l (length (alternative side kind.Send)) d
-strip side l apdu.Forward = l
-strip side l apdu.ForwardResponse = l
+strip side l (apdu.Forward f) = l
+strip side l (apdu.ForwardResponse x) = l
 
 -- whether they have additions: the extension bit of the message data is 1
 unfoldable pub extended : Side → List ℕ → Apdu → Bool
@@ -36,5 +36,5 @@ extended side l (apdu.AbortUser r) = false
 extended side l (apdu.AbortProvider r) = false
 extended side l (apdu.Start m d) = eqb (getD l (length (alternative side kind.Start ++ modeBits side m)) 0) 1
 extended side l (apdu.Send d) = eqb (getD l (length (alternative side kind.Send)) 0) 1
-extended side l apdu.Forward = false
-extended side l apdu.ForwardResponse = false
+extended side l (apdu.Forward f) = false
+extended side l (apdu.ForwardResponse x) = false

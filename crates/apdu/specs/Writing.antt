@@ -9,13 +9,15 @@ use Rattle.bits.specs.declared.Put.{Put}
 use Rattle.bits.specs.declared.Put.the-variants.{Next, Full}
 use Rattle.fields.specs.Encodings.{wholeFits, withinFits}
 use Rattle.apdu.specs.Sizes.{identifierLeast, identifierMost, messageMost, checkMost, bufferLeast, userLast, providerLast, octet, bit}
-use Rattle.apdu.specs.Pdus.{lent}
+use Rattle.apdu.specs.Headings.{responseLast, headingFits}
+use Rattle.apdu.specs.Pdus.{lent, forwards}
 use Rattle.apdu.specs.Encoding.{padded, modeFits}
 use Rattle.apdu.specs.declared.Side.{Side}
 use Rattle.apdu.specs.declared.Span.{Span}
 use Rattle.apdu.specs.declared.Part.{Part}
 use Rattle.apdu.specs.declared.Part.the-variants.{Absent, Given}
 use Rattle.apdu.specs.declared.Data.{Data}
+use Rattle.apdu.specs.declared.Forward.{Forward}
 use Rattle.apdu.specs.declared.Apdu.{Apdu}
 use Rattle.apdu.specs.declared.Apdu.the-variants as apdu
 use Rattle.apdu.specs.declared.Written.{Written}
@@ -36,14 +38,17 @@ dataShaped li lm lc d =
     partShaped li octet identifierLeast identifierMost (d .identifier) && partShaped lm bit 0 messageMost (d .message) &&
     itemsShaped lc bit 0 checkMost (d .check)
 
--- a forward APDU is not written
+-- a forward message: what stands before the message's bits keeps its types, and lm holds those bits
+unfoldable pub forwardShaped : List ℕ → Forward → Bool
+forwardShaped lm f = headingFits (f .heading) && itemsShaped lm bit 0 messageMost (f .message)
+
 unfoldable pub apduShaped : Side → List ℕ → List ℕ → List ℕ → Apdu → Bool
 apduShaped side li lm lc (apdu.AbortUser r) = wholeFits 0 userLast r
 apduShaped side li lm lc (apdu.AbortProvider r) = wholeFits 0 providerLast r
 apduShaped side li lm lc (apdu.Start m d) = modeFits side m && dataShaped li lm lc d
 apduShaped side li lm lc (apdu.Send d) = dataShaped li lm lc d
-apduShaped side li lm lc apdu.Forward = false
-apduShaped side li lm lc apdu.ForwardResponse = false
+apduShaped side li lm lc (apdu.Forward f) = forwards side && forwardShaped lm f
+apduShaped side li lm lc (apdu.ForwardResponse x) = forwards side && wholeFits 0 responseLast x
 
 -- n bits at a place of lent bytes, at most those of a message
 unfoldable pub runShaped : List ℕ → ℕ → ℕ → Bool

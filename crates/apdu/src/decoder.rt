@@ -3,13 +3,16 @@ ghost use mathlib.Core.Path.{_≡_};
 ghost use Prim.Native.Nat.{_-_, _%_};
 ghost use Rattle.apdu.specs.Pdus.{lent};
 ghost use Rattle.apdu.specs.Encoding.{padding as paddingOf};
-ghost use Rattle.apdu.specs.Reading.{apduAt, endedAt, restAt, tailAt, wholeData};
+ghost use Rattle.apdu.specs.Reading.{apduAt, endedAt, restAt, tailAt, wholeData, wholeForward};
 use crate::Answer;
 use crate::Apdu;
+use crate::Forwarded;
 use crate::Kind;
 use crate::Lead;
 use crate::Side;
 use crate::Taken;
+use crate::headings::forward_at;
+use crate::headings::forward_refusal;
 use crate::leading::leading_at;
 use crate::parts::data_at;
 use crate::refusals::field_refusal;
@@ -57,7 +60,7 @@ fn ended(s: &[u8], at: usize, a: Apdu) -> Answer
     Answer::Is(a)
 }
 
-// What follows the leading fields. Of a forward APDU nothing more is looked at.
+// What follows the leading fields.
 fn rest_at(s: &[u8], kind: Kind, mode: u64, at: usize) -> Answer
     ensures { λ r. ⌜ r ≡ restAt (lent (now (s .entry))) kind mode at ⌝ }
 {
@@ -90,8 +93,20 @@ fn rest_at(s: &[u8], kind: Kind, mode: u64, at: usize) -> Answer
             };
             ended(s, next, Apdu::Send(d))
         }
-        Kind::Forward => Answer::Is(Apdu::Forward),
-        Kind::ForwardResponse => Answer::Is(Apdu::ForwardResponse),
+        Kind::Forward => {
+            let message = forward_at(s, at);
+            let Forwarded::Is(f, next) = message else {
+                return Answer::Refused(forward_refusal(message));
+            };
+            ended(s, next, Apdu::Forward(f))
+        }
+        Kind::ForwardResponse => {
+            let result = fields::extensible_index(s, ALL, at, Apdu::RESPONSE_LAST);
+            let Field::Value(r, next) = result else {
+                return Answer::Refused(field_refusal(result));
+            };
+            ended(s, next, Apdu::ForwardResponse(r))
+        }
     }
 }
 
@@ -119,4 +134,19 @@ pub fn read_data(s: &[u8]) -> Taken
         return Taken::Refused(field_refusal(rest));
     };
     Taken::Is(d, next)
+}
+
+// ATCForwardMessage by itself, as it is delivered to a user.
+pub fn read_forward(s: &[u8]) -> Forwarded
+    ensures { λ f. ⌜ f ≡ wholeForward (lent (now (s .entry))) ⌝ }
+{
+    let message = forward_at(s, 0);
+    let Forwarded::Is(f, next) = message else {
+        return Forwarded::Refused(forward_refusal(message));
+    };
+    let rest = tail(s, next);
+    let Field::Value(_, _) = rest else {
+        return Forwarded::Refused(field_refusal(rest));
+    };
+    Forwarded::Is(f, next)
 }

@@ -19,13 +19,14 @@ use crate::Side;
 use crate::Written;
 use crate::decoder::ALL;
 use crate::decoder::padding;
+use crate::heading_writer::put_forward_at;
 use crate::leading::index_of;
 use crate::shape::apdu_shaped;
 use crate::shape::data_shaped;
 use bits::Put;
 
 // The place after what was written.
-fn place(p: Put) -> usize
+pub(crate) fn place(p: Put) -> usize
     ensures { λ r. ⌜ r ≡ placeOf p ⌝ }
 {
     match p {
@@ -45,7 +46,7 @@ fn presence(p: Part) -> u64
 }
 
 // A part: nothing, or its count and its items.
-fn put_part(buf: &mut [u8], at: usize, unit: usize, src: &[u8], part: Part) -> Put
+pub(crate) fn put_part(buf: &mut [u8], at: usize, unit: usize, src: &[u8], part: Part) -> Put
     requires { ⌜ (0 < unit) × (partShaped (lent (now src)) unit 0 lengthMost part ≡ true) ⌝ }
     ensures { λ r. ⌜ left r (now (buf .exit)) ≡ putRun (now (buf .entry)) allBits at (optionalBits unit (partIn (lent (now (src .entry))) unit part)) ⌝ }
 {
@@ -120,8 +121,14 @@ fn put_pdu(buf: &mut [u8], side: Side, a: Apdu, ids: &[u8], msgs: &[u8], checks:
             let p = place(put_alternative(buf, side, Kind::Send));
             put_content(buf, p, d, ids, msgs, checks)
         }
-        Apdu::Forward => Put::Full,
-        Apdu::ForwardResponse => Put::Full,
+        Apdu::Forward(f) => {
+            let p = place(put_alternative(buf, side, Kind::Forward));
+            put_forward_at(buf, p, f, msgs)
+        }
+        Apdu::ForwardResponse(x) => {
+            let p = place(put_alternative(buf, side, Kind::ForwardResponse));
+            fields::put_extensible_index(buf, ALL, p, Apdu::RESPONSE_LAST, x)
+        }
     }
 }
 

@@ -7,6 +7,9 @@ ghost use Rattle.apdu.specs.Reading.{apduAt};
 
 mod decoder;
 mod encoder;
+mod heading_shape;
+mod heading_writer;
+mod headings;
 mod leading;
 mod parts;
 mod refusals;
@@ -14,10 +17,13 @@ mod shape;
 
 use decoder::apdu_at;
 pub use decoder::read_data;
+pub use decoder::read_forward;
 pub use encoder::put_apdu;
 pub use encoder::put_data;
 pub use encoder::put_run;
 use fields::Refusal;
+pub use heading_shape::forward_shaped;
+pub use heading_writer::put_forward;
 pub use shape::apdu_shaped;
 pub use shape::data_shaped;
 use words::Limit;
@@ -72,14 +78,79 @@ impl Data {
     pub const BIT: usize = 1;
 }
 
-// An APDU: an abort's reason, a start's mode (0 cpdlc, 1 dsc), and message data.
+// Three whole numbers: a date is year, month, day; a time is hours, minutes, seconds.
+pub struct Triple {
+    pub first: u64,
+    pub second: u64,
+    pub third: u64,
+}
+
+// What stands before the message's bits in a forward message (ATCForwardMessage).
+pub struct Heading {
+    pub date: Triple,
+    pub time: Triple,
+    // The aircraft's flight identification: the count of its characters, and they as one number, seven bits each, the first on top.
+    pub characters: u64,
+    pub flight: u64,
+    // The aircraft's address, 24 bits.
+    pub address: u64,
+    // What the message's bits are: 0 ATCUplinkMessageData, 1 ATCDownlinkMessageData.
+    pub direction: u64,
+}
+
+impl Heading {
+    pub const DATE_FROM: Triple = Triple {
+        first: 1996,
+        second: 1,
+        third: 1,
+    };
+
+    pub const DATE_TO: Triple = Triple {
+        first: 2095,
+        second: 12,
+        third: 31,
+    };
+
+    pub const TIME_FROM: Triple = Triple {
+        first: 0,
+        second: 0,
+        third: 0,
+    };
+
+    pub const TIME_TO: Triple = Triple {
+        first: 23,
+        second: 59,
+        third: 59,
+    };
+
+    pub const CHARACTERS_LEAST: u64 = 2;
+
+    pub const CHARACTERS_MOST: u64 = 8;
+    // Bits of a character, and of an address; how many addresses there are.
+    pub const CHARACTER: usize = 7;
+
+    pub const ADDRESS_BITS: usize = 24;
+
+    pub const ADDRESSES: u64 = 16777216;
+
+    pub const DIRECTION_LAST: u64 = 1;
+}
+
+// A forward message: its heading, and where the message's bits stand.
+pub struct Forward {
+    pub heading: Heading,
+    pub message: Span,
+}
+
+// An APDU: an abort's reason, a start's mode (0 cpdlc, 1 dsc), message data, a forward message, and what a forward met (0 success, 1 service not
+// supported, 2 version not equal).
 pub enum Apdu {
     AbortUser(u64),
     AbortProvider(u64),
     Start(u64, Data),
     Send(Data),
-    Forward,
-    ForwardResponse,
+    Forward(Forward),
+    ForwardResponse(u64),
 }
 
 impl Apdu {
@@ -88,6 +159,8 @@ impl Apdu {
     pub const PROVIDER_LAST: u64 = 7;
 
     pub const MODE_LAST: u64 = 1;
+
+    pub const RESPONSE_LAST: u64 = 2;
     // Bytes that a lent output buffer has at least.
     pub const BUFFER: usize = Limit::BUFFER_BYTES;
 }
@@ -95,6 +168,22 @@ impl Apdu {
 // What reading message data finds: its parts and the place after it.
 pub enum Taken {
     Is(Data, usize),
+    Refused(Refusal),
+}
+
+// What reading three whole numbers finds, what stands before a forward message's bits, a forward message: it, and the place after it.
+pub enum Triples {
+    Is(Triple, usize),
+    Refused(Refusal),
+}
+
+pub enum Headed {
+    Is(Heading, usize),
+    Refused(Refusal),
+}
+
+pub enum Forwarded {
+    Is(Forward, usize),
     Refused(Refusal),
 }
 

@@ -22,7 +22,7 @@ fn optional(s: &[u8], there: bool, at: usize, unit: usize, least: u64, most: u64
 }
 
 // n items that end at a place.
-fn span_to(unit: usize, n: u64, next: usize) -> Span
+pub(crate) fn span_to(unit: usize, n: u64, next: usize) -> Span
     requires { ⌜ unit * n ≤ next ⌝ }
     ensures { λ x. ⌜ x ≡ spanTo unit n next ⌝ }
 {

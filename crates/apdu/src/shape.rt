@@ -2,7 +2,7 @@
 ghost use mathlib.Core.Path.{_≡_};
 ghost use Prim.Native.Nat.{_*_, _^_, _<_};
 ghost use Rattle.fields.specs.Encodings.{wholeFits};
-ghost use Rattle.apdu.specs.Pdus.{lent};
+ghost use Rattle.apdu.specs.Pdus.{forwards, lent};
 ghost use Rattle.apdu.specs.Encoding.{modeFits};
 ghost use Rattle.apdu.specs.Writing.{apduShaped, dataShaped, itemsShaped, partShaped};
 use crate::Apdu;
@@ -11,9 +11,10 @@ use crate::Part;
 use crate::Side;
 use crate::Span;
 use crate::decoder::ALL;
+use crate::heading_shape::forward_shaped;
 
 // From least to most items, and the bytes hold them.
-fn items_shaped(src: &[u8], unit: usize, least: usize, most: usize, x: Span) -> bool
+pub(crate) fn items_shaped(src: &[u8], unit: usize, least: usize, most: usize, x: Span) -> bool
     requires { ⌜ (unit * most < 2 ^ 32) × (most < 16384) ⌝ }
     ensures { λ r. ⌜ r ≡ itemsShaped (lent (now (src .entry))) unit least most x ⌝ }
 {
@@ -68,6 +69,16 @@ fn mode_shaped(side: Side, m: u64) -> bool
     }
 }
 
+// GroundPDUs alone has the two forward alternatives.
+fn side_forwards(side: Side) -> bool
+    ensures { λ r. ⌜ r ≡ forwards side ⌝ }
+{
+    match side {
+        Side::Air => false,
+        Side::Ground => true,
+    }
+}
+
 pub fn apdu_shaped(side: Side, a: Apdu, ids: &[u8], msgs: &[u8], checks: &[u8]) -> bool
     ensures { λ r. ⌜ r ≡ apduShaped side (lent (now (ids .entry))) (lent (now (msgs .entry))) (lent (now (checks .entry))) a ⌝ }
 {
@@ -81,7 +92,17 @@ pub fn apdu_shaped(side: Side, a: Apdu, ids: &[u8], msgs: &[u8], checks: &[u8]) 
             false
         }
         Apdu::Send(d) => data_shaped(d, ids, msgs, checks),
-        Apdu::Forward => false,
-        Apdu::ForwardResponse => false,
+        Apdu::Forward(f) => {
+            if side_forwards(side) {
+                return forward_shaped(f, msgs);
+            }
+            false
+        }
+        Apdu::ForwardResponse(x) => {
+            if side_forwards(side) {
+                return x <= Apdu::RESPONSE_LAST;
+            }
+            false
+        }
     }
 }

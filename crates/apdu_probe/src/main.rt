@@ -4,9 +4,12 @@ ghost use Prim.Native.Nat.{_^_, _<_, _≤_};
 use apdu::Answer;
 use apdu::Apdu;
 use apdu::Data;
+use apdu::Forward;
+use apdu::Heading;
 use apdu::Part;
 use apdu::Side;
 use apdu::Span;
+use apdu::Triple;
 use apdu::Written;
 use bits::Read;
 
@@ -60,16 +63,45 @@ fn asked_data(h: &[u8]) -> Data {
     }
 }
 
+fn triple(first: u64, second: u64, third: u64) -> Triple {
+    Triple {
+        first,
+        second,
+        third,
+    }
+}
+
+// A forward message: its numbers stand where the other parts' places and counts stand.
+fn asked_forward(h: &[u8]) -> Forward {
+    let date = triple(number(h, 104, 16), number(h, 120, 8), number(h, 128, 8));
+    let time = triple(number(h, 136, 8), number(h, 144, 8), number(h, 152, 8));
+    let characters = number(h, 160, 8);
+    let flight = number(h, 40, 64);
+    let address = number(h, 168, 64);
+    let direction = number(h, 360, 64);
+    let message = span(h, 232);
+    let heading = Heading {
+        date,
+        time,
+        characters,
+        flight,
+        address,
+        direction,
+    };
+    Forward { heading, message }
+}
+
 fn asked(h: &[u8]) -> Apdu {
     let n = number(h, 40, 64);
     let d = asked_data(h);
+    let f = asked_forward(h);
     match number(h, 16, 8) {
         0 => Apdu::AbortUser(n),
         1 => Apdu::AbortProvider(n),
         2 => Apdu::Start(n, d),
         3 => Apdu::Send(d),
-        4 => Apdu::Forward,
-        _ => Apdu::ForwardResponse,
+        4 => Apdu::Forward(f),
+        _ => Apdu::ForwardResponse(n),
     }
 }
 
@@ -106,6 +138,29 @@ fn show_number(n: u64) {
     io::write_all(1, b"\n");
 }
 
+fn show_triple(t: Triple) {
+    io::write_all(1, b" ");
+    io::print_decimal(1, t.first);
+    io::write_all(1, b" ");
+    io::print_decimal(1, t.second);
+    io::write_all(1, b" ");
+    io::print_decimal(1, t.third);
+}
+
+fn show_forward(f: Forward) {
+    let h = f.heading;
+    let date = h.date;
+    let time = h.time;
+    let message = f.message;
+    show_triple(date);
+    show_triple(time);
+    show_triple(triple(h.characters, h.flight, h.address));
+    io::write_all(1, b" ");
+    io::print_decimal(1, h.direction);
+    show_span(message);
+    io::write_all(1, b"\n");
+}
+
 fn show(a: Apdu) {
     match a {
         Apdu::AbortUser(r) => {
@@ -125,11 +180,13 @@ fn show(a: Apdu) {
             io::write_all(1, b"send");
             show_data(d);
         }
-        Apdu::Forward => {
-            io::write_all(1, b"forward\n");
+        Apdu::Forward(f) => {
+            io::write_all(1, b"forward");
+            show_forward(f);
         }
-        Apdu::ForwardResponse => {
-            io::write_all(1, b"forward-response\n");
+        Apdu::ForwardResponse(r) => {
+            io::write_all(1, b"forward-response ");
+            show_number(r);
         }
     }
 }

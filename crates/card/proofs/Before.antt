@@ -21,7 +21,7 @@ use Rattle.machine.specs.declared.record.Record.{Record}
 use Rattle.machine.specs.declared.outcome.Refusal.{Refusal}
 use Rattle.machine.specs.declared.outcome.Refusal.the-variants.{None, Shape, Prohibited}
 use Rattle.machine.specs.declared.outcome.Outcome.{Outcome}
-use Rattle.step.specs.Call.{Called, called, concluded, entering}
+use Rattle.step.specs.Call.{Called, called, carriesData, concluded, entering}
 use Rattle.card.specs.Face.{givenData}
 
 -- the codes, class and security, the same at both sides (machine, userShapely)
@@ -39,7 +39,7 @@ stepBefore sd x m k s = cond (isNone (refusalBefore sd x m k s)) (startRequest x
 -- (step, userStep)
 abbrev pub userStepBefore : List ℕ → List ℕ → List ℕ → ℕ → Bool → ℕ → ℕ → List ℕ → List ℕ → List ℕ → Data → Side → Record → ℕ → Called
 userStepBefore r a b v m k s li lm lc d sd x n =
-    cond (dataShaped li lm lc d) (concluded r a b sd v (stepBefore sd x m k s) li lm lc d) (called shape r a b)
+    cond (dataShaped li lm lc d) (concluded r a b sd v (stepBefore sd x m k s) li lm lc (carriesData d)) (called shape r a b)
 
 -- the exported calls (step, userCall; card, dataCall), of the bytes of the record and of the two buffers, of class and security, and of the message data
 abbrev pub startBefore : Bool → List ℕ → List ℕ → List ℕ → ℕ → ℕ → ℕ → List ℕ → List ℕ → ℕ → List ℕ → ℕ → Called

@@ -5,3 +5,4 @@ pub mod Numbered
 pub mod Arrived
 pub mod Before
 pub mod OneStart
+pub mod Passing

@@ -33,7 +33,7 @@ use Rattle.machine.specs.declared.outcome.Outcome.{Outcome}
 use Rattle.numbered.specs.Numbers.{userStarts, isStart, isStale, heldAfter, numberedStep}
 use Rattle.numbered.proofs.Laws.{shape-first, then-step}
 use Rattle.step.specs.Stored.{loadAt}
-use Rattle.step.specs.Call.{Called, called, concluded, withRecord, entering, userStep, userCall}
+use Rattle.step.specs.Call.{Called, called, carriesData, concluded, withRecord, entering, userStep, userCall}
 use Rattle.step.specs.declared.stored.Loaded.{Loaded}
 use Rattle.step.specs.declared.stored.Loaded.the-variants.{Is, NoRecord}
 use Rattle.step.proofs.Taken.{never}
@@ -127,7 +127,7 @@ module _ (r a b : List ℕ) (v k s : ℕ) (ids msgs : List ℕ) (n : ℕ) (check
 
   -- what the message data and an outcome make of a call
   abbrev with-data : Side → Outcome → Called
-  with-data sd o = cond shaped (concluded r a b sd v o (lent ids) (lent msgs) (lent checks) given) (called shape r a b)
+  with-data sd o = cond shaped (concluded r a b sd v o (lent ids) (lent msgs) (lent checks) (carriesData given)) (called shape r a b)
 
   abbrev start : ℕ → Event
   start m = User (StartServiceRequest m k s)
@@ -182,7 +182,7 @@ module _ (r a b : List ℕ) (v k s : ℕ) (ids msgs : List ℕ) (n : ℕ) (check
   unfolding userCall concluded
   dsc-at-the-ground g = entering-same r a b (now-step dscMode) (λ (sd : Side) (x : Record) (h : ℕ). shapeForProhibited (old-step true sd x h)) moved ∙ sym (shaped-entering r a b (old-step true))
     where
-      refuses : (d t : Bool) (x : Record) → cond d (concluded r a b Ground v (refused Shape x) (lent ids) (lent msgs) (lent checks) given) (called shape r a b) ≡ shapeForProhibited (cond d (concluded r a b Ground v (refused (cond t Prohibited Shape) x) (lent ids) (lent msgs) (lent checks) given) (called shape r a b))
+      refuses : (d t : Bool) (x : Record) → cond d (concluded r a b Ground v (refused Shape x) (lent ids) (lent msgs) (lent checks) (carriesData given)) (called shape r a b) ≡ shapeForProhibited (cond d (concluded r a b Ground v (refused (cond t Prohibited Shape) x) (lent ids) (lent msgs) (lent checks) (carriesData given)) (called shape r a b))
       refuses true true x = refl
       refuses true false x = refl
       refuses false t x = refl
@@ -197,7 +197,7 @@ module _ (r a b : List ℕ) (v k s : ℕ) (ids msgs : List ℕ) (n : ℕ) (check
   unfolding userCall concluded
   dsc-refused-at-the-ground g = entering-same r a b (now-step dscMode) (λ (sd : Side) (x : Record) (h : ℕ). called shape r a b) refuses ∙ entering-shape r a b
     where
-      either : (d : Bool) (x : Record) → cond d (concluded r a b Ground v (refused Shape x) (lent ids) (lent msgs) (lent checks) given) (called shape r a b) ≡ called shape r a b
+      either : (d : Bool) (x : Record) → cond d (concluded r a b Ground v (refused Shape x) (lent ids) (lent msgs) (lent checks) (carriesData given)) (called shape r a b) ≡ called shape r a b
       either true x = refl
       either false x = refl
 
@@ -210,6 +210,6 @@ module _ (r a b : List ℕ) (v k s : ℕ) (ids msgs : List ℕ) (n : ℕ) (check
   unfolding userCall concluded
   no-other-mode m l = entering-same r a b (now-step m) (λ (sd : Side) (x : Record) (h : ℕ). called shape r a b) (λ sd x h e. shape-at m sd x h (mode-shape sd m l) ∙ either sd shaped x) ∙ entering-shape r a b
     where
-      either : (sd : Side) (d : Bool) (x : Record) → cond d (concluded r a b sd v (refused Shape x) (lent ids) (lent msgs) (lent checks) given) (called shape r a b) ≡ called shape r a b
+      either : (sd : Side) (d : Bool) (x : Record) → cond d (concluded r a b sd v (refused Shape x) (lent ids) (lent msgs) (lent checks) (carriesData given)) (called shape r a b) ≡ called shape r a b
       either sd true x = refl
       either sd false x = refl

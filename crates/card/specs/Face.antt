@@ -2,7 +2,7 @@
 use Prim.Native.Nat.{ℕ}
 use mathlib.Core.Bool.{Bool, true, false, not, cond}
 use mathlib.Core.List.{List, []}
-use lib.Dec.{eqb}
+use lib.Dec.{ltb, eqb}
 use lib.ListN.{length}
 use Rattle.words.specs.Limits.{shape}
 use Rattle.apdu.specs.declared.Span.{Span}
@@ -54,7 +54,7 @@ messageRequested m j = MessageServiceRequest (not (eqb m noCount)) j
 abbrev pub abortRequested : ℕ → UserPrimitive
 abortRequested x = UserAbortServiceRequest (not (eqb x noCount)) (cond (eqb x noCount) 0 x)
 
--- ---- a fresh record for a side (1 air, 2 ground), with the security value that local policy accepts; "0 at first" (document 02, E9)
+-- ---- a fresh record for a side (1 air, 2 ground), with what it is made with; its number is "0 at first" (document 02, E9)
 
 abbrev pub firstNumber : ℕ
 firstNumber = 0
@@ -66,11 +66,16 @@ pub record Made : Type 0 where
 abbrev pub made : ℕ → List ℕ → Made
 made n r = record { number = n; bytes = r }
 
--- 0 where the record was stored; SHAPE where the range is not of its size, or the value is none
+-- 0 where the record was stored; SHAPE where the range is not of its size, or a value is none of its type
 unfoldable pub freshFor : Kept → Made
 freshFor k = made (cond (k .done) 0 shape) (k .bytes)
 
-unfoldable pub freshCall : List ℕ → ℕ → ℕ → Made
-freshCall r side policy =
-    cond (eqb side 1) (freshFor (storeAt r Air (freshRecord (record { policy = policy })) firstNumber))
-    (cond (eqb side 2) (freshFor (storeAt r Ground (freshRecord (record { policy = policy })) firstNumber)) (made shape r))
+-- the security value that local policy accepts, whether forwarding is supported (0, 1), the own version
+abbrev pub configured : ℕ → ℕ → ℕ → Configuration
+configured policy forwards version = record { policy = policy; forwards = eqb forwards 1; version = version }
+
+unfoldable pub freshCall : List ℕ → ℕ → ℕ → ℕ → ℕ → Made
+freshCall r side policy forwards version =
+    cond (ltb 1 forwards) (made shape r)
+    (cond (eqb side 1) (freshFor (storeAt r Air (freshRecord (configured policy forwards version)) firstNumber))
+    (cond (eqb side 2) (freshFor (storeAt r Ground (freshRecord (configured policy forwards version)) firstNumber)) (made shape r)))

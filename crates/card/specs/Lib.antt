@@ -4,3 +4,4 @@ pub mod MessageNumbers
 pub mod Parts
 pub mod Recorded
 pub mod Arriving
+pub mod Forwarding

@@ -3,7 +3,7 @@
 -- other bit is zero. Else, from the lowest bit on:
 --    8 bits  0
 --    8 bits  the alternative, by its tag
---    8 bits  the reason of an abort, the mode of a start, else 0
+--    8 bits  the reason of an abort, the mode of a start, the result of a forward response, else 0
 --    8 bits  1 where there is message data, else 0
 use Prim.Native.Nat.{ℕ, _+_, _*_, _%_}
 use mathlib.Core.Bool.{cond}
@@ -27,8 +27,8 @@ apduNumber (apdu.AbortUser r) = apduSaid 0 r 0
 apduNumber (apdu.AbortProvider r) = apduSaid 1 r 0
 apduNumber (apdu.Start m d) = apduSaid 2 m 1
 apduNumber (apdu.Send d) = apduSaid 3 0 1
-apduNumber apdu.Forward = apduSaid 4 0 0
-apduNumber apdu.ForwardResponse = apduSaid 5 0 0
+apduNumber (apdu.Forward f) = apduSaid 4 0 0
+apduNumber (apdu.ForwardResponse x) = apduSaid 5 x 0
 
 unfoldable pub apduAnswer : Answer → ℕ
 apduAnswer (answer.Is a) = apduNumber a

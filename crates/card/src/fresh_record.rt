@@ -17,12 +17,26 @@ fn told_made(stored: bool) -> u64
 
 const FIRST_NUMBER: u64 = 0;
 
-// A fresh record for a side (1 air, 2 ground), with the security value that local policy accepts.
+// A fresh record for a side (1 air, 2 ground), with the security value that local policy accepts, whether forwarding is supported (0, 1), and the own
+// version (1 to 255).
 #[no_mangle]
-pub extern "C" fn peat_fresh(rec: &mut [u8], side: u64, policy: u64) -> u64
-    ensures { λ n. ⌜ made n (now (rec .exit)) ≡ freshCall (now (rec .entry)) side policy ⌝ }
+pub extern "C" fn peat_fresh(
+    rec: &mut [u8],
+    side: u64,
+    policy: u64,
+    forwards: u64,
+    version: u64,
+) -> u64
+    ensures { λ n. ⌜ made n (now (rec .exit)) ≡ freshCall (now (rec .entry)) side policy forwards version ⌝ }
 {
-    let r = Record::fresh(Configuration { policy });
+    if 1 < forwards {
+        return Limit::SHAPE;
+    }
+    let r = Record::fresh(Configuration {
+        policy,
+        forwards: forwards == 1,
+        version,
+    });
     if side == 1 {
         return told_made(store(rec, Side::Air, r, FIRST_NUMBER));
     }

@@ -2,6 +2,7 @@
 // the call did (crate step, specs/Packed.antt, and this crate's specs).
 mod arriving; // arriving.rt: the broker's envelopes as they arrive
 mod data; // data.rt: the parts of message data
+mod forwards; // forwards.rt: the forward service
 mod fresh_record; // fresh_record.rt: a fresh record
 mod given; // given.rt: message data from three ranges, and a call with them or without
 mod mail; // mail.rt: the broker's envelopes

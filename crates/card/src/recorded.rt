@@ -27,8 +27,8 @@ fn apdu_number(a: Apdu) -> u64
         Apdu::AbortProvider(r) => apdu_said(1, r, 0),
         Apdu::Start(m, _) => apdu_said(2, m, 1),
         Apdu::Send(_) => apdu_said(3, 0, 1),
-        Apdu::Forward => apdu_said(4, 0, 0),
-        Apdu::ForwardResponse => apdu_said(5, 0, 0),
+        Apdu::Forward(_) => apdu_said(4, 0, 0),
+        Apdu::ForwardResponse(x) => apdu_said(5, x, 0),
     }
 }
 

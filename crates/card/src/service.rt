@@ -6,7 +6,7 @@ use machine::event::Qos;
 use machine::event::ServicePrimitive;
 use step::service_call;
 
-// D-START indication: its calling peer, security, and quality of service as received.
+// D-START indication: its calling peer, security, quality of service as received, and version (0: none).
 #[no_mangle]
 pub extern "C" fn peat_d_start_indication(
     rec: &mut [u8],
@@ -16,23 +16,24 @@ pub extern "C" fn peat_d_start_indication(
     priority: u64,
     rate: u64,
     routing: u64,
+    version: u64,
     given: u64,
     bytes: &[u8],
     first: &mut [u8],
     second: &mut [u8],
 ) -> u64
-    ensures { λ n. ⌜ called n (now (rec .exit)) (now (first .exit)) (now (second .exit)) ≡ serviceCall (now (rec .entry)) (now (first .entry)) (now (second .entry)) (ServicePrimitive.DStartIndication peer security (record { priority = priority; rer = rate; routing = routing })) number given (now (bytes .entry)) ⌝ }
+    ensures { λ n. ⌜ called n (now (rec .exit)) (now (first .exit)) (now (second .exit)) ≡ serviceCall (now (rec .entry)) (now (first .entry)) (now (second .entry)) (ServicePrimitive.DStartIndication peer security (record { priority = priority; rer = rate; routing = routing }) version) number given (now (bytes .entry)) ⌝ }
 {
     let qos = Qos {
         priority,
         rer: rate,
         routing,
     };
-    let p = ServicePrimitive::DStartIndication(peer, security, qos);
+    let p = ServicePrimitive::DStartIndication(peer, security, qos, version);
     service_call(rec, first, second, p, number, given, bytes)
 }
 
-// D-START confirmation.
+// D-START confirmation, with a version (0: none).
 #[no_mangle]
 pub extern "C" fn peat_d_start_confirmation(
     rec: &mut [u8],
@@ -40,18 +41,19 @@ pub extern "C" fn peat_d_start_confirmation(
     result: u64,
     source: u64,
     security: u64,
+    version: u64,
     given: u64,
     bytes: &[u8],
     first: &mut [u8],
     second: &mut [u8],
 ) -> u64
-    ensures { λ n. ⌜ called n (now (rec .exit)) (now (first .exit)) (now (second .exit)) ≡ serviceCall (now (rec .entry)) (now (first .entry)) (now (second .entry)) (ServicePrimitive.DStartConfirmation result source security) number given (now (bytes .entry)) ⌝ }
+    ensures { λ n. ⌜ called n (now (rec .exit)) (now (first .exit)) (now (second .exit)) ≡ serviceCall (now (rec .entry)) (now (first .entry)) (now (second .entry)) (ServicePrimitive.DStartConfirmation result source security version) number given (now (bytes .entry)) ⌝ }
 {
     service_call(
         rec,
         first,
         second,
-        ServicePrimitive::DStartConfirmation(result, source, security),
+        ServicePrimitive::DStartConfirmation(result, source, security, version),
         number,
         given,
         bytes,

@@ -5,7 +5,7 @@ use mathlib.Core.Bool.{Bool, true, false, not, cond, _&&_}
 use mathlib.Core.List.{List}
 use Prim.Native.Nat.{ℕ, _^_, _≤_, _<_}
 use native.Mathlib.Omega.{arith}
-use borrow.Author.Tests.{eqb-true, ltb-true}
+use borrow.Author.Tests.{eqb-true, ltb-true, leb-true, le-ltb}
 use lib.Dec.{T, leb, ltb, eqb}
 use lib.ListN.{length, getD}
 use Rattle.words.proofs.Laws.{both-left, both-right}
@@ -15,16 +15,17 @@ use Rattle.bits.specs.declared.Read.{Read}
 use Rattle.bits.specs.declared.Read.the-variants.{Number, Short}
 use Rattle.bits.proofs.Bytes.{bits-to}
 use Rattle.bits.proofs.Reading.{number-lt}
-use Rattle.machine.specs.Codes.{securityValues}
+use Rattle.machine.specs.Codes.{securityValues, versions}
 use Rattle.machine.specs.Record.{freshRecord}
-use Rattle.control.specs.Control.{waits}
+use Rattle.machine.specs.declared.record.Configuration.{Configuration}
+use Rattle.control.specs.Control.{waits, awaitsResponse}
 use Rattle.machine.specs.Run.{Formed}
 use Rattle.machine.specs.declared.record.Record.{Record}
-use Rattle.step.specs.Stored.{recordBytes, recordBits, jobBit, jobBits, numberBit, numberBits, sideCode, headFits, headOf, withNumbers, loadAt, storeAt}
+use Rattle.step.specs.Stored.{recordBytes, recordBits, jobBit, jobBits, numberBit, numberBits, sideCode, versionFits, headFits, headOf, withNumbers, loadAt, storeAt}
 use Rattle.step.specs.declared.stored.Loaded.{Loaded}
 use Rattle.step.specs.declared.stored.Loaded.the-variants.{Is, NoRecord}
 use Rattle.step.proofs.Taken.{never, Coded}
-use Rattle.card.specs.Face.{freshFor, freshCall}
+use Rattle.card.specs.Face.{firstNumber, configured, freshFor, freshCall}
 use Rattle.pair.specs.Names.{Side, Air, Ground, StartReq, Control, is, isIdle, closed}
 use Rattle.pair.proofs.Finite.{is-T, T-is}
 use Rattle.pair.proofs.StepLocal.{Local, closed-is-idle}
@@ -51,30 +52,34 @@ record Loads (r : Record) (n : ℕ) : Type 0 where
   coded : Coded r
   low : n < 2 ^ 64
 
--- the tests of the first eight bytes before those of the two security values
+-- the tests of the first bytes before those of the two security values
 abbrev before : List ℕ → Bool
-before b = leb 1 (getD b 0 0) && leb (getD b 0 0) 2 && ltb (getD b 1 0) 5 && ltb (getD b 2 0) 2 && ltb (getD b 3 0) 2 && ltb (getD b 4 0) 2
+before b = leb 1 (getD b 0 0) && leb (getD b 0 0) 2 && ltb (getD b 1 0) 6 && ltb (getD b 2 0) 2 && ltb (getD b 3 0) 2 && ltb (getD b 4 0) 2
 
 number-coded : (b : List ℕ) (x y : Read) (sd : Side) (r : Record) (n : ℕ) → readBits (bitsTo b recordBits) jobBit jobBits ≡ x → readBits (bitsTo b recordBits) numberBit numberBits ≡ y → headOf b ≡ true → withNumbers b x y ≡ Is sd r n → Loads r n
 unfolding withNumbers headFits
 number-coded b (Number h next) (Number m last) sd r n e g t f =
-    let p = both-left (before b && ltb (getD b 5 0) securityValues && ltb (getD b 6 0) securityValues) (eqb (getD b 7 0) 0) t in
+    let k = both-left (before b && ltb (getD b 5 0) securityValues && ltb (getD b 6 0) securityValues && ltb (getD b 7 0) 2) (versionFits (getD b 8 0)) t in
+    let v = both-right (before b && ltb (getD b 5 0) securityValues && ltb (getD b 6 0) securityValues && ltb (getD b 7 0) 2) (versionFits (getD b 8 0)) t in
+    let p = both-left (before b && ltb (getD b 5 0) securityValues && ltb (getD b 6 0) securityValues) (ltb (getD b 7 0) 2) k in
     let q = both-left (before b && ltb (getD b 5 0) securityValues) (ltb (getD b 6 0) securityValues) p in
     record {
       coded = subst Coded (ap (λ (z : Loaded). recordIn z r) f)
           (record {
             request = ltb-true (getD b 5 0) securityValues (both-right (before b) (ltb (getD b 5 0) securityValues) q);
             policy = ltb-true (getD b 6 0) securityValues (both-right (before b && ltb (getD b 5 0) securityValues) (ltb (getD b 6 0) securityValues) p);
-            highest = number-lt (bitsTo b recordBits) 64 64 h next (bits-to b recordBits) e;
+            least = leb-true 1 (getD b 8 0) (both-left (leb 1 (getD b 8 0)) (ltb (getD b 8 0) versions) v);
+            most = ltb-true (getD b 8 0) versions (both-right (leb 1 (getD b 8 0)) (ltb (getD b 8 0) versions) v);
+            highest = number-lt (bitsTo b recordBits) jobBit jobBits h next (bits-to b recordBits) e;
           });
-      low = subst (λ (k : ℕ). k < 2 ^ 64) (ap numberIn f) (number-lt (bitsTo b recordBits) 128 64 m last (bits-to b recordBits) g);
+      low = subst (λ (k : ℕ). k < 2 ^ 64) (ap numberIn f) (number-lt (bitsTo b recordBits) numberBit numberBits m last (bits-to b recordBits) g);
     }
 number-coded b (Number h next) Short sd r n e g t f = never (ap isRecord f)
 number-coded b Short y sd r n e g t f = never (ap isRecord f)
 
-pub loaded-keeps : (b : List ℕ) (sd : Side) (r : Record) (n : ℕ) → loadAt b ≡ Is sd r n → Keeps sd b r n
+pub loaded-keeps : (b : List ℕ) (sd : Side) (r : Record) (n : ℕ) → loadAt b ≡ Is sd r n → awaitsResponse (r .control) ≡ false → Keeps sd b r n
 unfolding loadAt
-loaded-keeps b sd r n e =
+loaded-keeps b sd r n e w =
     let x = by-test (eqb (length b) recordBytes && headOf b) (withNumbers b (readBits (bitsTo b recordBits) jobBit jobBits) (readBits (bitsTo b recordBits) numberBit numberBits)) sd r n e in
     let k = number-coded b (readBits (bitsTo b recordBits) jobBit jobBits) (readBits (bitsTo b recordBits) numberBit numberBits) sd r n refl refl (both-right (eqb (length b) recordBytes) (headOf b) (x .0)) (x .1) in
     record {
@@ -82,13 +87,14 @@ loaded-keeps b sd r n e =
       size = eqb-true (length b) recordBytes (both-left (eqb (length b) recordBytes) (headOf b) (x .0));
       coded = k .coded;
       low = k .low;
+      dialogue = w;
     }
 
 -- ---- a record at which a run may begin is one of the pair
 
 module _ (p : ℕ) (sd : Side) (b : List ℕ) (h : Begins p sd b) where
   pub begins-keeps : Keeps sd b (h .held) (h .number)
-  begins-keeps = loaded-keeps b sd (h .held) (h .number) (h .load)
+  begins-keeps = loaded-keeps b sd (h .held) (h .number) (h .load) (ap awaitsResponse (h .idle))
 
   pub begins-idle : T (isIdle (h .held .control))
   begins-idle = subst (λ (c : Control). T (isIdle c)) (sym (h .idle)) tt
@@ -103,6 +109,7 @@ module _ (p : ℕ) (sd : Side) (b : List ℕ) (h : Begins p sd b) where
         };
         policy = h .policy;
         request = λ (x : T (is (h .held .control .state) StartReq)). absurd (subst (λ (c : Control). T (is (c .state) StartReq)) (h .idle) x);
+        dialogue = ap awaitsResponse (h .idle);
       }
 
   pub begins-valid : p < securityValues
@@ -110,26 +117,31 @@ module _ (p : ℕ) (sd : Side) (b : List ℕ) (h : Begins p sd b) where
 
 -- ---- which bytes are such
 
-stored-begins : (p : ℕ) (sd : Side) (r : List ℕ) → p < securityValues → length r ≡ recordBytes → Begins p sd (storeAt r sd (freshRecord (record { policy = p })) 0 .bytes)
-stored-begins p sd r v h =
-    let k = stored-keeps sd r (freshRecord (record { policy = p })) 0 h (record { request = omega arith; policy = v; highest = omega arith }) (omega arith) in
-    record { held = freshRecord (record { policy = p }); number = 0; load = k .load; policy = refl; idle = refl; timer = refl; user = refl }
+stored-load : (g : Configuration) (sd : Side) (r : List ℕ) → g .policy < securityValues → 1 ≤ g .version → g .version < versions → length r ≡ recordBytes → loadAt (storeAt r sd (freshRecord g) firstNumber .bytes) ≡ Is sd (freshRecord g) firstNumber
+stored-load g sd r v l m h = stored-keeps sd r (freshRecord g) firstNumber h (record { request = omega arith; policy = v; least = l; most = m; highest = omega arith }) (omega arith) refl .load
 
--- what peat_fresh made in any range of a record's size
-pub fresh-begins : (p : ℕ) (sd : Side) (r : List ℕ) → p < securityValues → length r ≡ recordBytes → Begins p sd (freshCall r (sideCode sd) p .bytes)
+-- what peat_fresh made in any range of a record's size; f: whether forwarding is supported; n: the own version
+pub fresh-begins : (p f n : ℕ) (sd : Side) (r : List ℕ) → p < securityValues → f ≤ 1 → 1 ≤ n → n < versions → length r ≡ recordBytes → Begins p sd (freshCall r (sideCode sd) p f n .bytes)
 unfolding freshCall freshFor
-fresh-begins p Air r v h = stored-begins p Air r v h
-fresh-begins p Ground r v h = stored-begins p Ground r v h
+fresh-begins p f n Air r v w l m h =
+    record { held = freshRecord (configured p f n); number = firstNumber; load = rw (le-ltb 1 f w) (stored-load (configured p f n) Air r v l m h); policy = refl; idle = refl; timer = refl; user = refl }
+fresh-begins p f n Ground r v w l m h =
+    record { held = freshRecord (configured p f n); number = firstNumber; load = rw (le-ltb 1 f w) (stored-load (configured p f n) Ground r v l m h); policy = refl; idle = refl; timer = refl; user = refl }
 
-pub fresh-highest : (p : ℕ) (sd : Side) (r : List ℕ) (v : p < securityValues) (h : length r ≡ recordBytes) → fresh-begins p sd r v h .held .highest ≡ 0
-unfolding fresh-begins stored-begins
-fresh-highest p Air r v h = refl
-fresh-highest p Ground r v h = refl
+pub fresh-highest : (p f n : ℕ) (sd : Side) (r : List ℕ) (v : p < securityValues) (w : f ≤ 1) (l : 1 ≤ n) (m : n < versions) (h : length r ≡ recordBytes) → fresh-begins p f n sd r v w l m h .held .highest ≡ 0
+unfolding fresh-begins
+fresh-highest p f n Air r v w l m h = refl
+fresh-highest p f n Ground r v w l m h = refl
 
-pub fresh-number : (p : ℕ) (sd : Side) (r : List ℕ) (v : p < securityValues) (h : length r ≡ recordBytes) → fresh-begins p sd r v h .number ≡ 0
-unfolding fresh-begins stored-begins
-fresh-number p Air r v h = refl
-fresh-number p Ground r v h = refl
+pub fresh-number : (p f n : ℕ) (sd : Side) (r : List ℕ) (v : p < securityValues) (w : f ≤ 1) (l : 1 ≤ n) (m : n < versions) (h : length r ≡ recordBytes) → fresh-begins p f n sd r v w l m h .number ≡ 0
+unfolding fresh-begins
+fresh-number p f n Air r v w l m h = refl
+fresh-number p f n Ground r v w l m h = refl
+
+pub fresh-version : (p f n : ℕ) (sd : Side) (r : List ℕ) (v : p < securityValues) (w : f ≤ 1) (l : 1 ≤ n) (m : n < versions) (h : length r ≡ recordBytes) → fresh-begins p f n sd r v w l m h .held .version ≡ n
+unfolding fresh-begins
+fresh-version p f n Air r v w l m h = refl
+fresh-version p f n Ground r v w l m h = refl
 
 -- the bytes of an end that is IDLE after a run: the record may meet the next aircraft
 pub idle-begins : (p : ℕ) (sd : Side) (b : List ℕ) (s : Stands p sd b) → T (isIdle (s .held .control)) → Begins p sd b

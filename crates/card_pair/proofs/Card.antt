@@ -2,12 +2,12 @@
 -- Assumes nothing.
 use mathlib.Core.Path.{_≡_, refl, ap, subst}
 use mathlib.Core.List.{List, [], _∷_, _++_}
-use Prim.Native.Nat.{ℕ, _<_}
+use Prim.Native.Nat.{ℕ, _≤_, _<_}
 use native.Mathlib.Omega.{arith}
 use borrow.Author.Tests.{lt-ltb}
 use lib.Dec.{T, ltb}
 use lib.ListN.{length}
-use Rattle.machine.specs.Codes.{securityValues}
+use Rattle.machine.specs.Codes.{securityValues, versions}
 use Rattle.machine.specs.declared.record.Record.{Record}
 use Rattle.machine.specs.declared.event.Event.the-variants.{TimerExpires, UnrecoverableSystemError}
 use Rattle.machine.specs.declared.event.ServicePrimitive.the-variants.{DPAbortIndication}
@@ -55,8 +55,8 @@ module _ (p : ℕ) (host : Side → ℕ → Buffers) where
       receive-is = λ (sd : Side) (r : Kept) (q : Numbered Record) (e f : Numbered Wire) (h : KeepsAt sd r q) (x : Carries (other sd) e f). receive-rel (r .calls) (r .bytes) (host sd (r .calls)) sd (q .it) (q .no) h e f x;
       expiry-is = λ (sd : Side) (r : Kept) (q : Numbered Record) (h : KeepsAt sd r q). does tt (report-rel p (r .calls) (r .bytes) (host sd (r .calls)) sd (q .it) (q .no) h TimerExpires tt refl refl refl);
       error-is = λ (sd : Side) (r : Kept) (q : Numbered Record) (h : KeepsAt sd r q). does tt (report-rel p (r .calls) (r .bytes) (host sd (r .calls)) sd (q .it) (q .no) h UnrecoverableSystemError tt refl refl refl);
-      away-is = λ (sd : Side) (r : Kept) (q : Numbered Record) (h : KeepsAt sd r q). made-rel (r .calls) (r .bytes) (host sd (r .calls)) sd (q .it) (q .no) h rejects;
-      p-abort-is = λ (sd : Side) (r : Kept) (q : Numbered Record) (h : KeepsAt sd r q). made-rel (r .calls) (r .bytes) (host sd (r .calls)) sd (q .it) (q .no) h DPAbortIndication;
+      away-is = λ (sd : Side) (r : Kept) (q : Numbered Record) (h : KeepsAt sd r q). made-rel (r .calls) (r .bytes) (host sd (r .calls)) sd (q .it) (q .no) h rejects tt;
+      p-abort-is = λ (sd : Side) (r : Kept) (q : Numbered Record) (h : KeepsAt sd r q). made-rel (r .calls) (r .bytes) (host sd (r .calls)) sd (q .it) (q .no) h DPAbortIndication tt;
     };
     holds-is = λ (sd : Side) (r : Kept) (q : Numbered Record) (h : KeepsAt sd r q). ap numberIn (h .load);
     carries-is = λ (sd : Side) (e f : Numbered Wire) (h : Carries sd e f). h .number;
@@ -108,25 +108,26 @@ module _ (p : ℕ) (host : Side → ℕ → Buffers) where
         n-quiet-through (cardMachine p host) (stepNumbered cardCodec p) agrees (after ts) (stepped (f .turns)) (f .rel)
         (numbered-silent cardCodec p valued from (a .number) (g .number) (a .held) (g .held) (begins-local p Air r a) (begins-idle p Air r a) (begins-local p Ground q g) (begins-idle p Ground q g) b (f .turns))
 
-  -- two records that peat_fresh made, in any two ranges of a record's size; either side may be the one that starts
-  module _ (from : Side) (v : p < securityValues) (r q : List ℕ) (hr : length r ≡ recordBytes) (hq : length q ≡ recordBytes) where
-    abbrev air-fresh : Begins p Air (freshCall r 1 p .bytes)
-    air-fresh = fresh-begins p Air r v hr
+  -- two records that peat_fresh made, in any two ranges of a record's size, each with its own word about forwarding (e, f) and its own version (m, n); either side may be
+  -- the one that starts
+  module _ (from : Side) (v : p < securityValues) (e m f n : ℕ) (we : e ≤ 1) (lm : 1 ≤ m) (hm : m < versions) (wf : f ≤ 1) (ln : 1 ≤ n) (hn : n < versions) (r q : List ℕ) (hr : length r ≡ recordBytes) (hq : length q ≡ recordBytes) where
+    abbrev air-fresh : Begins p Air (freshCall r 1 p e m .bytes)
+    air-fresh = fresh-begins p e m Air r v we lm hm hr
 
-    abbrev ground-fresh : Begins p Ground (freshCall q 2 p .bytes)
-    ground-fresh = fresh-begins p Ground q v hq
+    abbrev ground-fresh : Begins p Ground (freshCall q 2 p f n .bytes)
+    ground-fresh = fresh-begins p f n Ground q v wf ln hn hq
 
     pub both-zero : (from : Side) (n k : ℕ) → n ≡ 0 → k ≡ 0 → notBelow from n k
     both-zero Air n k x y = omega arith
     both-zero Ground n k x y = omega arith
 
     abbrev not-below : notBelow from (air-fresh .number) (ground-fresh .number)
-    not-below = both-zero from (air-fresh .number) (ground-fresh .number) (fresh-number p Air r v hr) (fresh-number p Ground q v hq)
+    not-below = both-zero from (air-fresh .number) (ground-fresh .number) (fresh-number p e m Air r v we lm hm hr) (fresh-number p f n Ground q v wf ln hn hq)
 
     abbrev pub fresh-after : List (Turn Asked) → NSys (cardMachine p host)
-    fresh-after = after from (freshCall r 1 p .bytes) (freshCall q 2 p .bytes) air-fresh ground-fresh not-below
+    fresh-after = after from (freshCall r 1 p e m .bytes) (freshCall q 2 p f n .bytes) air-fresh ground-fresh not-below
 
     pub fresh-cards-hold : (ts : List (Turn Asked)) → Promise p host 0 0 (fresh-after ts)
     fresh-cards-hold ts =
-        subst (λ (i : ℕ). Promise p host i 0 (fresh-after ts)) (fresh-highest p Air r v hr)
-        (subst (λ (j : ℕ). Promise p host (air-fresh .held .highest) j (fresh-after ts)) (fresh-highest p Ground q v hq) (cards-hold from (freshCall r 1 p .bytes) (freshCall q 2 p .bytes) air-fresh ground-fresh not-below ts))
+        subst (λ (i : ℕ). Promise p host i 0 (fresh-after ts)) (fresh-highest p e m Air r v we lm hm hr)
+        (subst (λ (j : ℕ). Promise p host (air-fresh .held .highest) j (fresh-after ts)) (fresh-highest p f n Ground q v wf ln hn hq) (cards-hold from (freshCall r 1 p e m .bytes) (freshCall q 2 p f n .bytes) air-fresh ground-fresh not-below ts))

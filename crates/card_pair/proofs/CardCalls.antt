@@ -24,11 +24,11 @@ use Rattle.machine.specs.declared.event.UserPrimitive.the-variants.{StartServic
 use Rattle.machine.specs.declared.event.Event.{Event}
 use Rattle.machine.specs.declared.event.Event.the-variants.{User}
 use Rattle.machine.specs.declared.outcome.Invoked.{Invoked}
-use Rattle.machine.specs.declared.outcome.Invoked.the-variants.{Silent, DStartRequest, DStartResponse, DDataRequest, DEndRequest, DEndResponse, DAbortRequest}
+use Rattle.machine.specs.declared.outcome.Invoked.the-variants.{Silent, DStartRequest, DStartResponse, DDataRequest, DEndRequest, DEndResponse, DAbortRequest, DStartForwardRequest, DStartForwardResponse}
 use Rattle.machine.specs.declared.outcome.Outcome.{Outcome}
 use Rattle.numbered.specs.Numbers.{heldAfter, numberedStep}
 use Rattle.step.specs.Stored.{loadAt}
-use Rattle.step.specs.Call.{Called, called, concluded, entering, userStep, userCall, noData}
+use Rattle.step.specs.Call.{Called, called, concluded, entering, userStep, userCall, noData, carriesData}
 use Rattle.step.proofs.Calling.{with-record}
 use Rattle.step.proofs.Taken.{never, writable, brings, GoesOut, isDData, JobLow, numbered-fits}
 use Rattle.card.specs.Face.{noCount, partOf, givenData, plainCall, messageRequested, abortRequested}
@@ -73,6 +73,8 @@ user-writable sd DDataRequest a g = g
 user-writable sd DEndRequest a g = g
 user-writable sd (DEndResponse x) a g = g
 user-writable sd (DAbortRequest o) a g = g
+user-writable sd (DStartForwardRequest q s v) a g = absurd g
+user-writable sd (DStartForwardResponse s v) a g = absurd g
 
 -- every user primitive is one to `brings`
 by-user : (u : UserPrimitive) → brings (User u) .user ≡ true
@@ -105,7 +107,7 @@ module _ (p n : ℕ) (r : List ℕ) (w : Buffers) (sd : Side) (q : Record) (h : 
   M = heldAfter h (User u) v
 
   abbrev E : Called
-  E = concluded r (w .first) (w .second) sd (heldAfter h (User u) v) (numberedStep sd q h (User u) v) (lent ids) (lent msgs) (lent checks) d
+  E = concluded r (w .first) (w .second) sd (heldAfter h (User u) v) (numberedStep sd q h (User u) v) (lent ids) (lent msgs) (lent checks) (carriesData d)
 
   -- what the order of a user primitive does
   abbrev pub Ordered : UserPrimitive → C.Outcome (Numbered Record) (Numbered Wire)
@@ -117,7 +119,7 @@ module _ (p n : ℕ) (r : List ℕ) (w : Buffers) (sd : Side) (q : Record) (h : 
   abbrev pub Sends : Type 0
   Sends = (c : Called) (m : ℕ) (i : Invoked) (z : Apdu) (ys : List ℕ) → entryOf c .primitive ≡ i → GoesOut true sd i z → isDData i ≡ brings (User u) .message → (writable sd z ≡ true → Carries sd (markedEntry c) (mark m (record { primitive = i; bytes = ys }))) → SentRel (Carries sd) (s c) (tag m (sentBy i ys (dataOf a) (jobOf a)))
 
-  pub asked-rel : JobLow (User u) → (dataShaped (lent ids) (lent msgs) (lent checks) d ≡ true → asked cardCodec p a ≡ u) → dataOf a ≡ cond (brings (User u) .body) B [] → Sends → Follow (left n (userCall r (w .first) (w .second) (User u) v ids msgs checks d) (s (userCall r (w .first) (w .second) (User u) v ids msgs checks d)))
+  pub asked-rel : JobLow sd (User u) → (dataShaped (lent ids) (lent msgs) (lent checks) d ≡ true → asked cardCodec p a ≡ u) → dataOf a ≡ cond (brings (User u) .body) B [] → Sends → Follow (left n (userCall r (w .first) (w .second) (User u) v ids msgs checks d) (s (userCall r (w .first) (w .second) (User u) v ids msgs checks d)))
   unfolding userStep
   asked-rel j same ey sends =
       subst (λ (c : Called). Follow (left n c (s c))) (sym (user-entered r w sd q h keeps (User u) v ids msgs checks d)) (shape (dataShaped (lent ids) (lent msgs) (lent checks) d) refl)
@@ -128,9 +130,9 @@ module _ (p n : ℕ) (r : List ℕ) (w : Buffers) (sd : Side) (q : Record) (h : 
 
       acts : dataShaped (lent ids) (lent msgs) (lent checks) d ≡ true → isNone (numberedStep sd q h (User u) v .refusal) ≡ true → OutRel (KeepsAt sd) (Carries sd) (left n E (s E)) (Ordered u)
       acts sh u-taken =
-          let k = numbered-fits sd q (keeps .coded) h (User u) v j u-taken in
-          let t = ended r w sd q h (User u) v (lent ids) (lent msgs) (lent checks) d keeps lv (bits-to ids allBits) (bits-to msgs allBits) (bits-to checks allBits) sh j u-taken in
-          let x = bodied r w sd q h (User u) v (lent ids) (lent msgs) (lent checks) d keeps lv (bits-to ids allBits) (bits-to msgs allBits) (bits-to checks allBits) sh in
+          let k = numbered-fits sd q (keeps .coded) (keeps .dialogue) h (User u) v j u-taken in
+          let t = ended r w sd q h (User u) v (lent ids) (lent msgs) (lent checks) (carriesData d) keeps lv (bits-to ids allBits) (bits-to msgs allBits) (bits-to checks allBits) sh j u-taken in
+          let x = bodied r w sd q h (User u) v (lent ids) (lent msgs) (lent checks) (carriesData d) keeps lv (bits-to ids allBits) (bits-to msgs allBits) (bits-to checks allBits) sh in
           let g : GoesOut true sd (O .invoked) (O .apdu) = subst (λ (b : Bool). GoesOut b sd (O .invoked) (O .apdu)) (by-user u) (k .apdu) in
           let f = fits-y sd (brings (User u)) M O B E t k x (dataOf a) ey (user-writable sd (O .invoked) (O .apdu) g) in
           subst (λ (b : Bool). OutRel (KeepsAt sd) (Carries sd) (left n E (s E)) (leaves M (cond (b && fits sd (O .apdu) (dataOf a)) (taken cardCodec sd O (dataOf a) (jobOf a) []) C.refused))) (sym u-taken)
@@ -140,7 +142,7 @@ module _ (p n : ℕ) (r : List ℕ) (w : Buffers) (sd : Side) (q : Record) (h : 
 
       refuses : dataShaped (lent ids) (lent msgs) (lent checks) d ≡ true → (b : Bool) → isNone (numberedStep sd q h (User u) v .refusal) ≡ b → Follow (left n E (s E))
       refuses sh true e = does (mark v a) (subst (λ (x : UserPrimitive). OutRel (KeepsAt sd) (Carries sd) (left n E (s E)) (Ordered x)) (sym (same sh)) (acts sh e))
-      refuses sh false e = refusal (isTaken (E .number)) refl (concluded-refused r (w .first) (w .second) sd M O (lent ids) (lent msgs) (lent checks) d e)
+      refuses sh false e = refusal (isTaken (E .number)) refl (concluded-refused r (w .first) (w .second) sd M O (lent ids) (lent msgs) (lent checks) (carriesData d) e)
 
       shape : (b : Bool) → dataShaped (lent ids) (lent msgs) (lent checks) d ≡ b → Follow (left n (cond b E (called 2 r (w .first) (w .second))) (s (cond b E (called 2 r (w .first) (w .second)))))
       shape true sh = refuses sh (isNone (numberedStep sd q h (User u) v .refusal)) refl
@@ -167,7 +169,7 @@ given-carries g sh =
 
 module _ (p n : ℕ) (r : List ℕ) (w : Buffers) (sd : Side) (q : Record) (h : ℕ) (keeps : Keeps sd r q h) where
   -- a call with message data that is no message request
-  simple-rel : (u : UserPrimitive) (v : ℕ) (lv : v < 2 ^ 64) (g : Given) (a : Order) → JobLow (User u) → asked cardCodec p a ≡ u → dataOf a ≡ cond (brings (User u) .body) (bodyGiven g) [] → brings (User u) .message ≡ false
+  simple-rel : (u : UserPrimitive) (v : ℕ) (lv : v < 2 ^ 64) (g : Given) (a : Order) → JobLow sd (User u) → asked cardCodec p a ≡ u → dataOf a ≡ cond (brings (User u) .body) (bodyGiven g) [] → brings (User u) .message ≡ false
       → Follow p n r w sd q h keeps u v lv (g .ids) (g .msgs) (g .checks) (givenData (length (g .ids)) (g .bits) (g .check)) a sentOf (simply n (userCall r (w .first) (w .second) (User u) v (g .ids) (g .msgs) (g .checks) (givenData (length (g .ids)) (g .bits) (g .check))))
   simple-rel u v lv g a j same ey x =
       asked-rel p n r w sd q h keeps u v lv (g .ids) (g .msgs) (g .checks) (givenData (length (g .ids)) (g .bits) (g .check)) a sentOf j (λ sh. same) ey
@@ -193,9 +195,9 @@ module _ (p n : ℕ) (r : List ℕ) (w : Buffers) (sd : Side) (q : Record) (h : 
 
   -- ---- an expiry, a system error
 
-  pub report-rel : (e : Event) → JobLow e → brings e .body ≡ false → brings e .message ≡ false → isSend (brings e .apdu) ≡ false → OutRel (KeepsAt sd) (Carries sd) (simply n (plainCall r (w .first) (w .second) e)) (numberedly sd (mark h q) e 0 (λ (o : Outcome). happens cardCodec sd o []))
+  pub report-rel : (e : Event) → JobLow sd e → brings e .body ≡ false → brings e .message ≡ false → isSend (brings e .apdu) ≡ false → OutRel (KeepsAt sd) (Carries sd) (simply n (plainCall r (w .first) (w .second) e)) (numberedly sd (mark h q) e 0 (λ (o : Outcome). happens cardCodec sd o []))
   unfolding userStep
   report-rel e j hb hm f =
       subst (λ (c : Called). OutRel (KeepsAt sd) (Carries sd) (simply n c) (numberedly sd (mark h q) e 0 (λ (o : Outcome). happens cardCodec sd o []))) (sym (user-entered r w sd q h keeps e 0 [] [] [] noData))
-      (subst (λ (t : Bool). OutRel (KeepsAt sd) (Carries sd) (simply n (cond t (concluded r (w .first) (w .second) sd (heldAfter h e 0) (numberedStep sd q h e 0) (lent []) (lent []) (lent []) noData) (called 2 r (w .first) (w .second)))) (numberedly sd (mark h q) e 0 (λ (o : Outcome). happens cardCodec sd o []))) (sym (none-shaped (lent []) (lent []) (lent [])))
-      (happens-rel r w sd q h e 0 (lent []) (lent []) (lent []) noData keeps none-low (bits-to [] allBits) (bits-to [] allBits) (bits-to [] allBits) (none-shaped (lent []) (lent []) (lent [])) n [] j hb hm (λ g. never (sym f ∙ g))))
+      (subst (λ (t : Bool). OutRel (KeepsAt sd) (Carries sd) (simply n (cond t (concluded r (w .first) (w .second) sd (heldAfter h e 0) (numberedStep sd q h e 0) (lent []) (lent []) (lent []) (carriesData noData)) (called 2 r (w .first) (w .second)))) (numberedly sd (mark h q) e 0 (λ (o : Outcome). happens cardCodec sd o []))) (sym (none-shaped (lent []) (lent []) (lent [])))
+      (happens-rel r w sd q h e 0 (lent []) (lent []) (lent []) (carriesData noData) keeps none-low (bits-to [] allBits) (bits-to [] allBits) (bits-to [] allBits) (none-shaped (lent []) (lent []) (lent [])) n [] j hb hm (λ g. never (sym f ∙ g))))

@@ -18,7 +18,6 @@ use Rattle.apdu.specs.declared.Side.the-variants as pdu
 use Rattle.apdu.specs.declared.Apdu.the-variants as is
 use Rattle.apdu.specs.declared.Answer.{Answer}
 use Rattle.apdu.specs.declared.Answer.the-variants as answer
-use Rattle.apdu.specs.Pdus.{forwarded}
 use Rattle.apdu.proofs.Theorems.{accepted-encoding}
 use Rattle.machine.specs.Codes.{provider}
 use Rattle.machine.specs.Apdus.{isSend}
@@ -28,11 +27,11 @@ use Rattle.machine.specs.declared.event.Apdu.the-variants.{Absent}
 use Rattle.machine.specs.declared.event.ServicePrimitive.{ServicePrimitive}
 use Rattle.machine.specs.declared.event.Event.the-variants.{Service}
 use Rattle.machine.specs.declared.outcome.Invoked.{Invoked}
-use Rattle.machine.specs.declared.outcome.Invoked.the-variants.{Silent, DStartRequest, DStartResponse, DDataRequest, DEndRequest, DEndResponse, DAbortRequest}
+use Rattle.machine.specs.declared.outcome.Invoked.the-variants.{Silent, DStartRequest, DStartResponse, DDataRequest, DEndRequest, DEndResponse, DAbortRequest, DStartForwardRequest, DStartForwardResponse}
 use Rattle.machine.specs.declared.outcome.Outcome.{Outcome}
-use Rattle.step.specs.Call.{Called, pduSide, noData, readsAs, readsAgain, orAbort, readPdu, meaning, dataOf, eventStep, dataStep, bareStep, serviceStep, serviceCall}
-use Rattle.step.proofs.Taken.{never}
-use Rattle.pair.specs.Names.{Side, Air, Ground, other}
+use Rattle.step.specs.Call.{Called, pduSide, noData, carriesData, carriedBy, readsAs, readsAgain, orAbort, readPdu, meaning, dataOf, eventStep, dataStep, bareStep, serviceStep, serviceCall}
+use Rattle.step.proofs.Taken.{never, JobLow, isDialogue}
+use Rattle.pair.specs.Names.{Side, Air, Ground, Control, awaitsResponse, other}
 use Rattle.pair.specs.Carrier.{Body}
 use Rattle.pair.specs.Numbered.{Numbered, mark}
 use Rattle.pair.specs.Wires.{Wire, arrives}
@@ -57,16 +56,31 @@ again : (b : Bool) (x y : Answer) → isRead x ≡ true → cond b (orAbort x y)
 again true x y e = or-first x y e
 again false x y e = refl
 
-pub reads-once : (sd : Side) (i : Invoked) (l : List ℕ) → isRead (apduAt (pduSide (other sd)) l 0) ≡ true → readPdu sd (arrives sd i) l ≡ apduAt (pduSide (other sd)) l 0
+pub reads-once : (sd : Side) (c : Control) (i : Invoked) (l : List ℕ) → awaitsResponse c ≡ false → isDialogue i ≡ true → isRead (apduAt (pduSide (other sd)) l 0) ≡ true → readPdu sd c (arrives sd i) l ≡ apduAt (pduSide (other sd)) l 0
 unfolding readPdu readsAs readsAgain
-reads-once Air i l e = refl
-reads-once Ground Silent l e = refl
-reads-once Ground (DStartRequest q s) l e = refl
-reads-once Ground (DStartResponse x s) l e = refl
-reads-once Ground DDataRequest l e = refl
-reads-once Ground DEndRequest l e = refl
-reads-once Ground (DEndResponse x) l e = refl
-reads-once Ground (DAbortRequest o) l e = again (eqb o provider) (apduAt pdu.Air l 0) (apduAt pdu.Ground l 0) e
+reads-once Air c i l w d e = refl
+reads-once Ground c Silent l w d e = refl
+reads-once Ground c (DStartRequest q s) l w d e = refl
+reads-once Ground c (DStartResponse x s) l w d e = ap (λ (b : Bool). apduAt (cond b pdu.Ground pdu.Air) l 0) w
+reads-once Ground c DDataRequest l w d e = refl
+reads-once Ground c DEndRequest l w d e = refl
+reads-once Ground c (DEndResponse x) l w d e = refl
+reads-once Ground c (DAbortRequest o) l w d e = again (eqb o provider) (apduAt pdu.Air l 0) (apduAt pdu.Ground l 0) e
+reads-once Ground c (DStartForwardRequest q s v) l w d e = never d
+reads-once Ground c (DStartForwardResponse s v) l w d e = never d
+
+-- what the other end of a dialogue sends is no start of a centre
+arrives-low : (sd : Side) (i : Invoked) (a : Apdu) → isDialogue i ≡ true → JobLow sd (Service (arrives sd i) a)
+arrives-low sd Silent a d = tt
+arrives-low Air (DStartRequest q s) a d = refl
+arrives-low Ground (DStartRequest q s) a d = refl
+arrives-low sd (DStartResponse x s) a d = tt
+arrives-low sd DDataRequest a d = tt
+arrives-low sd DEndRequest a d = tt
+arrives-low sd (DEndResponse x) a d = tt
+arrives-low sd (DAbortRequest o) a d = tt
+arrives-low sd (DStartForwardRequest q s v) a d = never d
+arrives-low sd (DStartForwardResponse s v) a d = tt
 
 -- ---- the APDU and its message data
 
@@ -77,8 +91,8 @@ apdu-same l (answer.Is (is.AbortUser r)) = refl
 apdu-same l (answer.Is (is.AbortProvider r)) = refl
 apdu-same l (answer.Is (is.Start m d)) = refl
 apdu-same l (answer.Is (is.Send d)) = refl
-apdu-same l (answer.Is is.Forward) = refl
-apdu-same l (answer.Is is.ForwardResponse) = refl
+apdu-same l (answer.Is (is.Forward f)) = refl
+apdu-same l (answer.Is (is.ForwardResponse y)) = refl
 
 body-same : (l : List ℕ) (x : Answer) → isSend (meaning x) ≡ true → contentBits (contentIn l l l (dataOf x)) ≡ bodyOf (readOf l x)
 unfolding meaning dataOf pduIn
@@ -87,19 +101,19 @@ body-same l (answer.Is (is.AbortUser r)) e = never e
 body-same l (answer.Is (is.AbortProvider r)) e = never e
 body-same l (answer.Is (is.Start m d)) e = never e
 body-same l (answer.Is (is.Send d)) e = refl
-body-same l (answer.Is is.Forward) e = never e
-body-same l (answer.Is is.ForwardResponse) e = never e
+body-same l (answer.Is (is.Forward f)) e = never e
+body-same l (answer.Is (is.ForwardResponse y)) e = never e
 
 -- message data that were read are within the sizes
 data-shaped : (side : PduSide) (l : List ℕ) → Bits l → (x : Answer) → apduAt side l 0 ≡ x → dataShaped l l l (dataOf x) ≡ true
-unfolding dataOf apduShaped forwarded
+unfolding dataOf apduShaped
 data-shaped side l b (answer.Refused r) e = none-shaped l l l
 data-shaped side l b (answer.Is (is.AbortUser r)) e = none-shaped l l l
 data-shaped side l b (answer.Is (is.AbortProvider r)) e = none-shaped l l l
-data-shaped side l b (answer.Is (is.Start m d)) e = both-right (modeFits side m) (dataShaped l l l d) (accepted-encoding side l (is.Start m d) b refl e .shaped)
-data-shaped side l b (answer.Is (is.Send d)) e = accepted-encoding side l (is.Send d) b refl e .shaped
-data-shaped side l b (answer.Is is.Forward) e = none-shaped l l l
-data-shaped side l b (answer.Is is.ForwardResponse) e = none-shaped l l l
+data-shaped side l b (answer.Is (is.Start m d)) e = both-right (modeFits side m) (dataShaped l l l d) (accepted-encoding side l (is.Start m d) b e .shaped)
+data-shaped side l b (answer.Is (is.Send d)) e = accepted-encoding side l (is.Send d) b e .shaped
+data-shaped side l b (answer.Is (is.Forward f)) e = none-shaped l l l
+data-shaped side l b (answer.Is (is.ForwardResponse y)) e = none-shaped l l l
 
 -- ---- calls
 
@@ -110,12 +124,12 @@ module _ (n : ℕ) (r : List ℕ) (w : Buffers) (sd : Side) (q : Record) (h : �
 
   -- the call when the user data in the bits l is read as x
   abbrev Read-as : Invoked → ℕ → List ℕ → Answer → Called
-  Read-as i v l x = eventStep r (w .first) (w .second) (Service (arrives sd i) (meaning x)) v l l l (dataOf x) sd q h
+  Read-as i v l x = eventStep r (w .first) (w .second) (Service (arrives sd i) (meaning x)) v l l l (carriedBy x) sd q h
 
-  reading : (i : Invoked) (v : ℕ) (l : List ℕ) (x : Answer) → v < 2 ^ 64 → Bits l → dataShaped l l l (dataOf x) ≡ true → Does (Read-as i v l x) (arrives sd i) v (apduOf (readOf l x)) (bodyOf (readOf l x))
-  reading i v l x lv b sh =
+  reading : (i : Invoked) (v : ℕ) (l : List ℕ) (x : Answer) → isDialogue i ≡ true → v < 2 ^ 64 → Bits l → dataShaped l l l (dataOf x) ≡ true → Does (Read-as i v l x) (arrives sd i) v (apduOf (readOf l x)) (bodyOf (readOf l x))
+  reading i v l x z lv b sh =
       subst (λ (a : Apdu). Does (Read-as i v l x) (arrives sd i) v a (bodyOf (readOf l x))) (apdu-same l x)
-      (happens-rel r w sd q h (Service (arrives sd i) (meaning x)) v l l l (dataOf x) keeps lv b b b sh n (bodyOf (readOf l x)) tt refl refl (body-same l x))
+      (happens-rel r w sd q h (Service (arrives sd i) (meaning x)) v l l l (carriedBy x) keeps lv b b b sh n (bodyOf (readOf l x)) (arrives-low sd i (meaning x) z) refl refl (body-same l x))
 
   -- as the other side wrote it
   abbrev heard : List ℕ → Answer
@@ -124,27 +138,27 @@ module _ (n : ℕ) (r : List ℕ) (w : Buffers) (sd : Side) (q : Record) (h : �
   abbrev Does-as : Called → Invoked → ℕ → List ℕ → Type 0
   Does-as c i v l = Does c (arrives sd i) v (apduOf (readOf l (heard l))) (bodyOf (readOf l (heard l)))
 
-  received : (i : Invoked) (v : ℕ) (s : List ℕ) → v < 2 ^ 64 → isRead (heard (lent s)) ≡ true → Does-as (serviceCall r (w .first) (w .second) (arrives sd i) v 1 s) i v (lent s)
+  received : (i : Invoked) (v : ℕ) (s : List ℕ) → isDialogue i ≡ true → v < 2 ^ 64 → isRead (heard (lent s)) ≡ true → Does-as (serviceCall r (w .first) (w .second) (arrives sd i) v 1 s) i v (lent s)
   unfolding serviceCall serviceStep dataStep
-  received i v s lv e =
+  received i v s z lv e =
       subst (λ (c : Called). Does-as c i v (lent s)) (sym (entered r w sd q h keeps (serviceStep r (w .first) (w .second) (arrives sd i) v 1 (lent s))))
-      (subst (λ (x : Answer). Does-as (Read-as i v (lent s) x) i v (lent s)) (sym (reads-once sd i (lent s) e))
-      (reading i v (lent s) (heard (lent s)) lv (bits-to s allBits) (data-shaped (pduSide (other sd)) (lent s) (bits-to s allBits) (heard (lent s)) refl)))
+      (subst (λ (x : Answer). Does-as (Read-as i v (lent s) x) i v (lent s)) (sym (reads-once sd (q .control) i (lent s) (keeps .dialogue) z e))
+      (reading i v (lent s) (heard (lent s)) z lv (bits-to s allBits) (data-shaped (pduSide (other sd)) (lent s) (bits-to s allBits) (heard (lent s)) refl)))
 
   pub receive-rel : (e f : Numbered Wire) → Carries (other sd) e f → OutRel (KeepsAt sd) (Carries sd) (simply n (serviceCall r (w .first) (w .second) (arrives sd (e .it .primitive)) (e .no) 1 (e .it .bytes))) (numberedly sd (mark h q) (Service (arrives sd (f .it .primitive)) (apduOf (cardCodec .dec (other sd) (f .it .bytes)))) (f .no) (λ (o : Outcome). happens cardCodec sd o (bodyOf (cardCodec .dec (other sd) (f .it .bytes)))))
   receive-rel e f x =
       subst (λ (l : List ℕ). Does-as (serviceCall r (w .first) (w .second) (arrives sd (e .it .primitive)) (e .no) 1 (e .it .bytes)) (f .it .primitive) (f .no) l) (x .bits)
       (subst (λ (v : ℕ). Does-as (serviceCall r (w .first) (w .second) (arrives sd (e .it .primitive)) (e .no) 1 (e .it .bytes)) (f .it .primitive) v (lent (e .it .bytes))) (x .number)
       (subst (λ (i : Invoked). Does-as (serviceCall r (w .first) (w .second) (arrives sd (e .it .primitive)) (e .no) 1 (e .it .bytes)) i (e .no) (lent (e .it .bytes))) (x .primitive)
-      (received (e .it .primitive) (e .no) (e .it .bytes) (subst (λ (v : ℕ). v < 2 ^ 64) (sym (x .number)) (x .low)) (subst (λ (l : List ℕ). isRead (heard l) ≡ true) (sym (x .bits)) (x .read)))))
+      (received (e .it .primitive) (e .no) (e .it .bytes) (subst (λ (i : Invoked). isDialogue i ≡ true) (sym (x .primitive)) (x .dialogue)) (subst (λ (v : ℕ). v < 2 ^ 64) (sym (x .number)) (x .low)) (subst (λ (l : List ℕ). isRead (heard l) ≡ true) (sym (x .bits)) (x .read)))))
 
   -- without user data
-  bare-rel : (p : ServicePrimitive) (v : ℕ) → v < 2 ^ 64 → Does (serviceCall r (w .first) (w .second) p v 0 []) p v Absent []
+  bare-rel : (p : ServicePrimitive) (v : ℕ) → JobLow sd (Service p Absent) → v < 2 ^ 64 → Does (serviceCall r (w .first) (w .second) p v 0 []) p v Absent []
   unfolding serviceCall serviceStep bareStep
-  bare-rel p v lv =
+  bare-rel p v j lv =
       subst (λ (c : Called). Does c p v Absent []) (sym (entered r w sd q h keeps (serviceStep r (w .first) (w .second) p v 0 (lent []))))
-      (happens-rel r w sd q h (Service p Absent) v (lent []) (lent []) (lent []) noData keeps lv (bits-to [] allBits) (bits-to [] allBits) (bits-to [] allBits) (none-shaped (lent []) (lent []) (lent [])) n [] tt refl refl (λ g. never g))
+      (happens-rel r w sd q h (Service p Absent) v (lent []) (lent []) (lent []) (carriesData noData) keeps lv (bits-to [] allBits) (bits-to [] allBits) (bits-to [] allBits) (none-shaped (lent []) (lent []) (lent [])) n [] j refl refl (λ g. never g))
 
   -- what the carrier makes, with the number that the end holds
-  pub made-rel : (p : ServicePrimitive) → OutRel (KeepsAt sd) (Carries sd) (simply n (serviceCall r (w .first) (w .second) p (heldBy r) 0 [])) (numberedly sd (mark h q) (Service p Absent) h (λ (o : Outcome). happens cardCodec sd o []))
-  made-rel p = subst (λ (v : ℕ). Does (serviceCall r (w .first) (w .second) p v 0 []) p h Absent []) (sym (ap numberIn (keeps .load))) (bare-rel p h (keeps .low))
+  pub made-rel : (p : ServicePrimitive) → JobLow sd (Service p Absent) → OutRel (KeepsAt sd) (Carries sd) (simply n (serviceCall r (w .first) (w .second) p (heldBy r) 0 [])) (numberedly sd (mark h q) (Service p Absent) h (λ (o : Outcome). happens cardCodec sd o []))
+  made-rel p j = subst (λ (v : ℕ). Does (serviceCall r (w .first) (w .second) p v 0 []) p h Absent []) (sym (ap numberIn (keeps .load))) (bare-rel p h j (keeps .low))

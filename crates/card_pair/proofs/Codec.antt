@@ -24,7 +24,7 @@ use Rattle.apdu.specs.declared.Answer.the-variants as answer
 use Rattle.apdu.proofs.Theorems.{written-read}
 use Rattle.machine.specs.Codes.{providerReasons}
 use Rattle.machine.specs.declared.event.Apdu.{Apdu}
-use Rattle.machine.specs.declared.event.Apdu.the-variants.{Absent, NotValid, Start, Send, AbortUser, AbortProvider, Forward}
+use Rattle.machine.specs.declared.event.Apdu.the-variants.{Absent, NotValid, Start, Send, AbortUser, AbortProvider, Forward, ForwardResponse}
 use Rattle.step.specs.Stored.{flag}
 use Rattle.step.specs.Call.{pduSide}
 use Rattle.step.proofs.Taken.{never}
@@ -45,6 +45,7 @@ fits sd Send b = isBody b
 fits sd (AbortUser x) b = wholeFits 0 userLast x && isNil b
 fits sd (AbortProvider x) b = wholeFits 0 providerLast x && isNil b
 fits sd Forward b = false
+fits sd (ForwardResponse x) b = false
 
 -- the bits of an APDU with the body b
 unfoldable pub apduBits : Side → Apdu → Body → List ℕ
@@ -55,6 +56,7 @@ apduBits sd Send b = alternative (pduSide sd) kind.Send ++ b
 apduBits sd (AbortUser x) b = pduBits (pduSide sd) (abortUser x)
 apduBits sd (AbortProvider x) b = pduBits (pduSide sd) (abortProvider x)
 apduBits sd Forward b = []
+apduBits sd (ForwardResponse x) b = []
 
 -- the bytes that a writer leaves at the front of a buffer of zeros
 abbrev pub zeros : List ℕ
@@ -73,8 +75,8 @@ valueRead (abortUser r) = got (AbortUser r) []
 valueRead (abortProvider r) = got (AbortProvider r) []
 valueRead (start m c) = got (Start (eqb m 1)) (contentBits c)
 valueRead (send c) = got Send (contentBits c)
-valueRead forward = got Forward []
-valueRead forwardResponse = got Forward []
+valueRead (forward h m) = got Forward []
+valueRead (forwardResponse x) = got (ForwardResponse x) []
 
 abbrev pub readOf : List ℕ → Answer → Read
 readOf l (answer.Is a) = valueRead (pduIn l l l a)
@@ -149,6 +151,7 @@ back sd (AbortProvider x) b t =
     let e = holds (wholeFits 0 providerLast x && isNil b) t in
     subst (λ (y : Body). dec sd (enc sd (AbortProvider x) y) ≡ got (AbortProvider x) y) (sym (nil-is b (both-right (wholeFits 0 providerLast x) (isNil b) e))) (provider-back sd x (both-left (wholeFits 0 providerLast x) (isNil b) e))
 back sd Forward b t = absurd t
+back sd (ForwardResponse x) b t = absurd t
 
 pub reasons-fit : (sd : Side) (x : ℕ) → T (ltb x providerReasons) → T (fits sd (AbortProvider x) [])
 reasons-fit sd x t =

@@ -6,7 +6,8 @@ use mathlib.Core.Bool.{Bool, true, false, not, cond, _&&_, _||_}
 use mathlib.Core.List.{List, [], _∷_}
 use Prim.Native.Nat.{ℕ, _+_, _*_, _^_, _%_, _≤_, _<_}
 use native.Mathlib.Omega.{arith}
-use borrow.Author.Tests.{eq-eqb, lt-ltb}
+use lib.Dec.{T}
+use borrow.Author.Tests.{eq-eqb, le-leb, lt-ltb}
 use lib.ListN.{length, take}
 use lib.Seq.{take-at}
 use Rattle.bits.specs.Bits.{bitsN, bitsOf, bitsTo}
@@ -18,28 +19,28 @@ use Rattle.apdu.specs.Sizes.{bufferLeast, userLast, providerLast}
 use Rattle.apdu.specs.Pdus.{lastOf, lent, contentIn, pduIn}
 use Rattle.apdu.specs.Encoding.{contentBits, modeBits, pduBits, padded, bytesFor, padding}
 use Rattle.apdu.specs.Writing.{Done, writeOut, dataShaped, apduShaped}
-use Rattle.apdu.specs.declared.Data.{Data}
+use Rattle.control.specs.Control.{awaitsResponse}
 use Rattle.apdu.specs.declared.Apdu.{Apdu as Pdu}
 use Rattle.apdu.specs.declared.Apdu.the-variants as is
 use Rattle.apdu.proofs.Bounds.{data-fit, apdu-fit, content-most, pdu-most}
 use Rattle.apdu.proofs.Theorems.{front, writes}
-use Rattle.machine.specs.Codes.{securityValues}
+use Rattle.machine.specs.Codes.{securityValues, versions}
 use Rattle.machine.specs.Outcome.{isNone, refusalNumber}
 use Rattle.machine.specs.declared.event.Qos.{Qos}
 use Rattle.machine.specs.Apdus.{isSend}
 use Rattle.machine.specs.declared.record.Record.{Record}
 use Rattle.machine.specs.declared.event.Apdu.{Apdu}
-use Rattle.machine.specs.declared.event.Apdu.the-variants.{Absent, NotValid, Start, Send, AbortUser, AbortProvider, Forward}
+use Rattle.machine.specs.declared.event.Apdu.the-variants.{Absent, NotValid, Start, Send, AbortUser, AbortProvider, Forward, ForwardResponse}
 use Rattle.machine.specs.declared.outcome.Refusal.{Refusal}
 use Rattle.machine.specs.declared.outcome.Refusal.the-variants.{None, Shape, Stale, Prohibited, NoMessage, Repeat}
 use Rattle.machine.specs.declared.outcome.Invoked.{Invoked}
-use Rattle.machine.specs.declared.outcome.Invoked.the-variants.{Silent, DStartRequest, DStartResponse, DDataRequest, DEndRequest, DEndResponse, DAbortRequest}
+use Rattle.machine.specs.declared.outcome.Invoked.the-variants.{Silent, DStartRequest, DStartResponse, DDataRequest, DEndRequest, DEndResponse, DAbortRequest, DStartForwardRequest, DStartForwardResponse}
 use Rattle.machine.specs.declared.outcome.Told.{Told}
-use Rattle.machine.specs.declared.outcome.Told.the-variants.{Untold, StartIndication, StartConfirmation, MessageIndication, EndIndication, EndConfirmation, UserAbortIndication, ProviderAbortIndication}
+use Rattle.machine.specs.declared.outcome.Told.the-variants.{Untold, StartIndication, StartConfirmation, MessageIndication, EndIndication, EndConfirmation, UserAbortIndication, ProviderAbortIndication, ForwardIndication, ForwardConfirmation}
 use Rattle.machine.specs.declared.outcome.Outcome.{Outcome}
 use Rattle.step.specs.Stored.{recordBytes, flag, loadAt, storeAt}
-use Rattle.step.specs.Packed.{refusals, primitives, counts, packed, invokedNumber, toldNumber}
-use Rattle.step.specs.Call.{Called, pduSide, bitsOfWritten, nothingTo, pduTo, firstTakes, secondTakes, finished, concluded}
+use Rattle.step.specs.Packed.{refusals, primitives, counts, packed, invokedNumber, toldNumber, versionNumber}
+use Rattle.step.specs.Call.{Carried, Called, passes, pduSide, bitsOfWritten, nothingTo, pduTo, firstTakes, secondTakes, finished, concluded}
 use Rattle.step.specs.declared.stored.Loaded.the-variants.{Is}
 use Rattle.step.proofs.Storing.{length-stored, loaded-stored}
 use Rattle.step.proofs.Calling.{invoked-low, told-low}
@@ -77,13 +78,14 @@ apdu-are-bits sd Send b h = bits-append (indexBits (lastOf (pduSide sd)) 3) b (i
 apdu-are-bits sd (AbortUser x) b h = bits-append (indexBits (lastOf (pduSide sd)) 0) (indexBits userLast x) (index-are-bits (pduSide sd) 0) (extensible-index userLast (omega arith) .are-bits x)
 apdu-are-bits sd (AbortProvider x) b h = bits-append (indexBits (lastOf (pduSide sd)) 1) (indexBits providerLast x) (index-are-bits (pduSide sd) 1) (extensible-index providerLast (omega arith) .are-bits x)
 apdu-are-bits sd Forward b h = λ (k : ℕ). omega arith
+apdu-are-bits sd (ForwardResponse x) b h = λ (k : ℕ). omega arith
 
-module _ (sd : Side) (li lm lc : List ℕ) (d : Data) (hi : Bits li) (hm : Bits lm) (hc : Bits lc) (sh : dataShaped li lm lc d ≡ true) where
+module _ (sd : Side) (li lm lc : List ℕ) (d : Carried) (hi : Bits li) (hm : Bits lm) (hc : Bits lc) (sh : dataShaped li lm lc (d .content) ≡ true) where
   abbrev pub body : Body
-  body = contentBits (contentIn li lm lc d)
+  body = contentBits (contentIn li lm lc (d .content))
 
   pub body-bits : Bits body
-  body-bits = content-are-bits li lm lc d hi hm hc
+  body-bits = content-are-bits li lm lc (d .content) hi hm hc
 
   pdu-is : (a : Pdu) (s : List ℕ) → apduShaped (pduSide sd) li lm lc a ≡ true → Bits (pduBits (pduSide sd) (pduIn li lm lc a)) → bufferLeast ≤ length s → Wrote (pduBits (pduSide sd) (pduIn li lm lc a)) (pduTo (pduSide sd) li lm lc a s)
   pdu-is a s e b g =
@@ -95,11 +97,12 @@ module _ (sd : Side) (li lm lc : List ℕ) (d : Data) (hi : Bits li) (hm : Bits 
   unfolding firstTakes apduBits pduBits pduIn apduShaped
   first-is Absent s e g = never e
   first-is NotValid s e g = never e
-  first-is (Start m) s e g = pdu-is (is.Start (flag m) d) s (rw (e, sh)) (apdu-are-bits sd (Start m) body body-bits) g
-  first-is Send s e g = pdu-is (is.Send d) s sh (apdu-are-bits sd Send body body-bits) g
+  first-is (Start m) s e g = pdu-is (is.Start (flag m) (d .content)) s (rw (e, sh)) (apdu-are-bits sd (Start m) body body-bits) g
+  first-is Send s e g = pdu-is (is.Send (d .content)) s sh (apdu-are-bits sd Send body body-bits) g
   first-is (AbortUser x) s e g = pdu-is (is.AbortUser x) s e (apdu-are-bits sd (AbortUser x) body body-bits) g
   first-is (AbortProvider x) s e g = pdu-is (is.AbortProvider x) s e (apdu-are-bits sd (AbortProvider x) body body-bits) g
   first-is Forward s e g = never e
+  first-is (ForwardResponse x) s e g = never e
 
   absent-is : (a : Apdu) (s : List ℕ) → a ≡ Absent → Wrote (apduBits sd a body) (firstTakes sd li lm lc d a s)
   unfolding firstTakes apduBits
@@ -113,14 +116,17 @@ module _ (sd : Side) (li lm lc : List ℕ) (d : Data) (hi : Bits li) (hm : Bits 
   goes-is u DEndRequest a s h g = first-is a s h g
   goes-is u (DEndResponse x) a s h g = first-is a s h g
   goes-is u (DAbortRequest o) a s h g = first-is a s h g
+  goes-is u (DStartForwardRequest q x v) a s h g = absurd h
+  goes-is u (DStartForwardResponse x v) a s h g = absurd h
 
   -- the second takes message data that are delivered
-  second-is : (delivers : Bool) (s : List ℕ) → bufferLeast ≤ length s → Wrote (cond delivers body []) (secondTakes li lm lc d delivers s)
+  second-is : (passed delivers : Bool) (s : List ℕ) → passed ≡ false → bufferLeast ≤ length s → Wrote (cond delivers body []) (secondTakes li lm lc d passed delivers s)
   unfolding secondTakes
-  second-is true s g =
-      let m = content-most (contentIn li lm lc d) (data-fit li lm lc d sh) in
-      write-is (dataShaped li lm lc d) s body sh body-bits (omega arith) g
-  second-is false s g = nothing-is s
+  second-is true delivers s e g = absurd (subst T e tt)
+  second-is false true s e g =
+      let m = content-most (contentIn li lm lc (d .content)) (data-fit li lm lc (d .content) sh) in
+      write-is (dataShaped li lm lc (d .content)) s body sh body-bits (omega arith) g
+  second-is false false s e g = nothing-is s
 
 -- ---- the number's parts
 
@@ -134,6 +140,8 @@ invoked-back DDataRequest h = refl
 invoked-back DEndRequest h = refl
 invoked-back (DEndResponse x) h = rw (code-unpacked 5 x 0 (omega arith), parameter-unpacked 5 x 0 (omega arith) h)
 invoked-back (DAbortRequest o) h = rw (code-unpacked 6 o 0 (omega arith), parameter-unpacked 6 o 0 (omega arith) h)
+invoked-back (DStartForwardRequest q s v) h = absurd h
+invoked-back (DStartForwardResponse s v) h = absurd h
 
 told-back : (t : Told) → isMessage (toldNumber t) ≡ not (quiet t)
 unfolding toldNumber
@@ -145,6 +153,8 @@ told-back (EndIndication m) = rw (code-unpacked 4 0 (flag m) (omega arith))
 told-back (EndConfirmation m x) = rw (code-unpacked 5 x (flag m) (omega arith))
 told-back (UserAbortIndication x) = rw (code-unpacked 6 x 0 (omega arith))
 told-back (ProviderAbortIndication x) = rw (code-unpacked 7 x 0 (omega arith))
+told-back ForwardIndication = refl
+told-back (ForwardConfirmation x v) = rw (code-unpacked 9 x 0 (omega arith))
 
 -- ---- the record
 
@@ -154,12 +164,14 @@ pub record Keeps (sd : Side) (b : List ℕ) (r : Record) (n : ℕ) : Type 0 wher
   pub size : length b ≡ recordBytes
   pub coded : Coded r
   pub low : n < 2 ^ 64
+  -- no forward is under way
+  pub dialogue : awaitsResponse (r .control) ≡ false
 
-pub stored-keeps : (sd : Side) (r : List ℕ) (x : Record) (n : ℕ) → length r ≡ recordBytes → Coded x → n < 2 ^ 64 → Keeps sd (storeAt r sd x n .bytes) x n
+pub stored-keeps : (sd : Side) (r : List ℕ) (x : Record) (n : ℕ) → length r ≡ recordBytes → Coded x → n < 2 ^ 64 → awaitsResponse (x .control) ≡ false → Keeps sd (storeAt r sd x n .bytes) x n
 unfolding storeAt
-stored-keeps sd r x n h k l =
-    rw (eq-eqb (length r) recordBytes h, lt-ltb (x .request) securityValues (k .request), lt-ltb (x .policy) securityValues (k .policy))
-    (record { load = loaded-stored sd x n (k .request) (k .policy) (k .highest) l; size = length-stored sd x n (k .request) (k .policy) (k .highest) l; coded = k; low = l })
+stored-keeps sd r x n h k l w =
+    rw (eq-eqb (length r) recordBytes h, lt-ltb (x .request) securityValues (k .request), lt-ltb (x .policy) securityValues (k .policy), le-leb 1 (x .version) (k .least), lt-ltb (x .version) versions (k .most))
+    (record { load = loaded-stored sd x n k l; size = length-stored sd x n k l; coded = k; low = l; dialogue = w })
 
 -- ---- all of it
 
@@ -192,27 +204,31 @@ handed-told (UserAbortIndication k) true s b x z h e f = refl
 handed-told (UserAbortIndication k) false s b x z h e f = refl
 handed-told (ProviderAbortIndication k) true s b x z h e f = refl
 handed-told (ProviderAbortIndication k) false s b x z h e f = refl
+handed-told ForwardIndication true s b x z h e f = refl
+handed-told ForwardIndication false s b x z h e f = refl
+handed-told (ForwardConfirmation k v) true s b x z h e f = refl
+handed-told (ForwardConfirmation k v) false s b x z h e f = refl
 
-module _ (i t s g : ℕ) (hi : i < primitives) (ht : t < primitives) (hs : s < counts) (hg : g < counts) where
-  pub is-taken : isTaken (packed i t s g) ≡ true
-  is-taken = eq-eqb (packed i t s g % refusals) 0 (refusal-unpacked i t s g)
+module _ (i t s g v : ℕ) (hi : i < primitives) (ht : t < primitives) (hs : s < counts) (hg : g < counts) where
+  pub is-taken : isTaken (packed i t s g v) ≡ true
+  is-taken = eq-eqb (packed i t s g v % refusals) 0 (refusal-unpacked i t s g v)
 
-  pub invoked-part : invokedPart (packed i t s g) ≡ i
-  invoked-part = invoked-unpacked i t s g hi
+  pub invoked-part : invokedPart (packed i t s g v) ≡ i
+  invoked-part = invoked-unpacked i t s g v hi
 
-  pub told-part : toldPart (packed i t s g) ≡ t
-  told-part = told-unpacked i t s g hi ht
+  pub told-part : toldPart (packed i t s g v) ≡ t
+  told-part = told-unpacked i t s g v hi ht
 
-  pub sent-part : sentBits (packed i t s g) ≡ s
-  sent-part = sent-unpacked i t s g hi ht hs
+  pub sent-part : sentBits (packed i t s g v) ≡ s
+  sent-part = sent-unpacked i t s g v hi ht hs
 
-  pub given-part : givenBits (packed i t s g) ≡ g
-  given-part = given-unpacked i t s g hi ht hg
+  pub given-part : givenBits (packed i t s g v) ≡ g
+  given-part = given-unpacked i t s g v hi ht hg
 
 -- from what the two buffers took
 module _ (r a b : List ℕ) (sd : Side) (v : Brings) (m : ℕ) (o : Outcome) (y : Body) (one two : Done) (size : length r ≡ recordBytes) (low : m < 2 ^ 64) (k : Fit sd v o) (w : Wrote (apduBits sd (o .apdu) y) one) (z : Wrote (cond (o .delivers) y []) two) where
   abbrev N : ℕ
-  N = packed (invokedNumber (o .invoked)) (toldNumber (o .told)) (length (apduBits sd (o .apdu) y)) (length (cond (o .delivers) y []))
+  N = packed (invokedNumber (o .invoked)) (toldNumber (o .told)) (length (apduBits sd (o .apdu) y)) (length (cond (o .delivers) y [])) (versionNumber (o .invoked) (o .told))
 
   hi : invokedNumber (o .invoked) < primitives
   hi = invoked-low (o .invoked)
@@ -225,19 +241,19 @@ module _ (r a b : List ℕ) (sd : Side) (v : Brings) (m : ℕ) (o : Outcome) (y 
   number-is = rw (w .count, z .count)
 
   number-taken : isTaken (finished r a b sd m o one two .number) ≡ true
-  number-taken = ap isTaken number-is ∙ is-taken _ _ _ _ hi ht (w .small) (z .small)
+  number-taken = ap isTaken number-is ∙ is-taken _ _ _ _ _ hi ht (w .small) (z .small)
 
   number-sent : sentBits (finished r a b sd m o one two .number) ≡ length (apduBits sd (o .apdu) y)
-  number-sent = ap sentBits number-is ∙ sent-part _ _ _ _ hi ht (w .small) (z .small)
+  number-sent = ap sentBits number-is ∙ sent-part _ _ _ _ _ hi ht (w .small) (z .small)
 
   number-given : givenBits (finished r a b sd m o one two .number) ≡ length (cond (o .delivers) y [])
-  number-given = ap givenBits number-is ∙ given-part _ _ _ _ hi ht (w .small) (z .small)
+  number-given = ap givenBits number-is ∙ given-part _ _ _ _ _ hi ht (w .small) (z .small)
 
   number-invoked : invokedOf (invokedPart (finished r a b sd m o one two .number)) ≡ o .invoked
-  number-invoked = ap (λ (n : ℕ). invokedOf (invokedPart n)) number-is ∙ ap invokedOf (invoked-part _ _ _ _ hi ht (w .small) (z .small)) ∙ invoked-back (o .invoked) (k .roomy)
+  number-invoked = ap (λ (n : ℕ). invokedOf (invokedPart n)) number-is ∙ ap invokedOf (invoked-part _ _ _ _ _ hi ht (w .small) (z .small)) ∙ invoked-back (o .invoked) (k .roomy)
 
   number-told : isMessage (toldPart (finished r a b sd m o one two .number)) ≡ not (quiet (o .told))
-  number-told = ap (λ (n : ℕ). isMessage (toldPart n)) number-is ∙ ap isMessage (told-part _ _ _ _ hi ht (w .small) (z .small)) ∙ told-back (o .told)
+  number-told = ap (λ (n : ℕ). isMessage (toldPart n)) number-is ∙ ap isMessage (told-part _ _ _ _ _ hi ht (w .small) (z .small)) ∙ told-back (o .told)
 
   -- the message data in the second buffer
   data-is : dataIn (finished r a b sd m o one two) ≡ cond (o .delivers) y []
@@ -249,7 +265,7 @@ module _ (r a b : List ℕ) (sd : Side) (v : Brings) (m : ℕ) (o : Outcome) (y 
   finished-is =
       record {
         taken = number-taken;
-        keeps = stored-keeps sd r (o .next) m size (k .coded) low;
+        keeps = stored-keeps sd r (o .next) m size (k .coded) low (k .dialogue);
         primitive = number-invoked;
         bits = ap (λ (n : ℕ). lent (take (bytesFor n) (one .bytes))) number-sent ∙ w .bytes ∙ sym (w .zeroed);
         handed = λ (x : Body) (f : isSend (v .apdu) ≡ true → y ≡ x).
@@ -258,13 +274,13 @@ module _ (r a b : List ℕ) (sd : Side) (v : Brings) (m : ℕ) (o : Outcome) (y 
       }
 
 -- a step that was taken
-pub concluded-is : (r a b : List ℕ) (sd : Side) (v : Brings) (m : ℕ) (o : Outcome) (li lm lc : List ℕ) (d : Data) → bufferLeast ≤ length a → bufferLeast ≤ length b → length r ≡ recordBytes → m < 2 ^ 64 → Bits li → Bits lm → Bits lc → dataShaped li lm lc d ≡ true → isNone (o .refusal) ≡ true → Fit sd v o
-    → Ended sd v m o (contentBits (contentIn li lm lc d)) (concluded r a b sd m o li lm lc d)
+pub concluded-is : (r a b : List ℕ) (sd : Side) (v : Brings) (m : ℕ) (o : Outcome) (li lm lc : List ℕ) (d : Carried) → bufferLeast ≤ length a → bufferLeast ≤ length b → length r ≡ recordBytes → m < 2 ^ 64 → Bits li → Bits lm → Bits lc → dataShaped li lm lc (d .content) ≡ true → isNone (o .refusal) ≡ true → Fit sd v o
+    → Ended sd v m o (contentBits (contentIn li lm lc (d .content))) (concluded r a b sd m o li lm lc d)
 unfolding concluded
 concluded-is r a b sd v m o li lm lc d ha hb size low hi hm hc sh n k =
-    rw n (finished-is r a b sd v m o (contentBits (contentIn li lm lc d)) (firstTakes sd li lm lc d (o .apdu) a) (secondTakes li lm lc d (o .delivers) b) size low k
+    rw n (finished-is r a b sd v m o (contentBits (contentIn li lm lc (d .content))) (firstTakes sd li lm lc d (o .apdu) a) (secondTakes li lm lc d (passes (o .told)) (o .delivers) b) size low k
     (goes-is sd li lm lc d hi hm hc sh (v .user) (o .invoked) (o .apdu) a (k .apdu) ha)
-    (second-is sd li lm lc d hi hm hc sh (o .delivers) b hb))
+    (second-is sd li lm lc d hi hm hc sh (passes (o .told)) (o .delivers) b (k .plain) hb))
 
 refusal-told : (w : Refusal) → isNone w ≡ false → isTaken (refusalNumber w) ≡ false
 refusal-told None e = never (sym e)
@@ -275,6 +291,6 @@ refusal-told NoMessage e = refl
 refusal-told Repeat e = refl
 
 -- one that was refused
-pub concluded-refused : (r a b : List ℕ) (sd : Side) (m : ℕ) (o : Outcome) (li lm lc : List ℕ) (d : Data) → isNone (o .refusal) ≡ false → isTaken (concluded r a b sd m o li lm lc d .number) ≡ false
+pub concluded-refused : (r a b : List ℕ) (sd : Side) (m : ℕ) (o : Outcome) (li lm lc : List ℕ) (d : Carried) → isNone (o .refusal) ≡ false → isTaken (concluded r a b sd m o li lm lc d .number) ≡ false
 unfolding concluded
 concluded-refused r a b sd m o li lm lc d n = rw n (refusal-told (o .refusal) n)

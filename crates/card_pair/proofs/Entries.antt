@@ -10,7 +10,6 @@ use Rattle.apdu.specs.Pdus.{lent, contentIn}
 use Rattle.apdu.specs.Encoding.{contentBits}
 use Rattle.apdu.specs.Reading.{apduAt}
 use Rattle.apdu.specs.Writing.{dataShaped}
-use Rattle.apdu.specs.declared.Data.{Data}
 use Rattle.apdu.specs.declared.Answer.{Answer}
 use Rattle.apdu.specs.declared.Answer.the-variants as answer
 use Rattle.apdu.proofs.Bounds.{data-fit}
@@ -18,14 +17,14 @@ use Rattle.machine.specs.Outcome.{isNone}
 use Rattle.machine.specs.Apdus.{isSend}
 use Rattle.machine.specs.declared.record.Record.{Record}
 use Rattle.machine.specs.declared.event.Apdu.{Apdu}
-use Rattle.machine.specs.declared.event.Apdu.the-variants.{Absent, NotValid, Start, Send, AbortUser, AbortProvider, Forward}
+use Rattle.machine.specs.declared.event.Apdu.the-variants.{Absent, NotValid, Start, Send, AbortUser, AbortProvider, Forward, ForwardResponse}
 use Rattle.machine.specs.declared.event.Event.{Event}
 use Rattle.machine.specs.declared.outcome.Invoked.{Invoked}
-use Rattle.machine.specs.declared.outcome.Invoked.the-variants.{Silent, DStartRequest, DStartResponse, DDataRequest, DEndRequest, DEndResponse, DAbortRequest}
+use Rattle.machine.specs.declared.outcome.Invoked.the-variants.{Silent, DStartRequest, DStartResponse, DDataRequest, DEndRequest, DEndResponse, DAbortRequest, DStartForwardRequest, DStartForwardResponse}
 use Rattle.machine.specs.declared.outcome.Outcome.{Outcome}
 use Rattle.numbered.specs.Numbers.{isStart, heldAfter, numberedStep}
-use Rattle.step.specs.Call.{Called, pduSide, concluded}
-use Rattle.step.proofs.Taken.{never, writable, withBody, Brings, brings, GoesOut, isDData, Fit, JobLow, numbered-fits}
+use Rattle.step.specs.Call.{Carried, Called, pduSide, concluded}
+use Rattle.step.proofs.Taken.{never, writable, withBody, Brings, brings, GoesOut, isDData, Fit, JobLow, isDialogue, roomy-dialogue, numbered-fits}
 use Rattle.pair.specs.Names.{Side}
 use Rattle.pair.specs.Carrier.{Body, Sent, message}
 use Rattle.pair.specs.Carrier as C
@@ -54,6 +53,7 @@ pub record Carries (sd : Side) (e f : Numbered Wire) : Type 0 where
   pub primitive : e .it .primitive ≡ f .it .primitive
   pub bits : lent (e .it .bytes) ≡ lent (f .it .bytes)
   pub read : isRead (apduAt (pduSide sd) (lent (f .it .bytes)) 0) ≡ true
+  pub dialogue : isDialogue (f .it .primitive) ≡ true
 
 abbrev isFault : Read → Bool
 isFault fault = true
@@ -85,6 +85,7 @@ fits-is sd Send b e h = h
 fits-is sd (AbortUser x) b e h = rw e
 fits-is sd (AbortProvider x) b e h = rw e
 fits-is sd Forward b e h = never e
+fits-is sd (ForwardResponse x) b e h = never e
 
 -- an APDU without message data is written without
 bits-same : (sd : Side) (a : Apdu) (b : Body) → apduBits sd a (cond (withBody a) b []) ≡ apduBits sd a b
@@ -96,6 +97,7 @@ bits-same sd Send b = refl
 bits-same sd (AbortUser x) b = refl
 bits-same sd (AbortProvider x) b = refl
 bits-same sd Forward b = refl
+bits-same sd (ForwardResponse x) b = refl
 
 -- ---- what is sent
 
@@ -111,6 +113,8 @@ module _ (sd : Side) (u : Bool) (a : Apdu) (w : Numbered Wire) (m : ℕ) (ys : L
   plain DEndRequest g n f = f g
   plain (DEndResponse x) g n f = f g
   plain (DAbortRequest o) g n f = f g
+  plain (DStartForwardRequest q s v) g n f = absurd g
+  plain (DStartForwardResponse s v) g n f = absurd g
 
   pub sent-plain : (i : Invoked) → w .it .primitive ≡ i → GoesOut u sd i a → isDData i ≡ false → Entered i → SentRel (Carries sd) (putOn w (w .it .primitive)) (tag m (sentBy i ys y j))
   sent-plain i e g n f = subst (λ (z : Invoked). SentRel (Carries sd) (putOn w z) (tag m (sentBy i ys y j))) (sym e) (plain i g n f)
@@ -124,6 +128,8 @@ module _ (sd : Side) (u : Bool) (a : Apdu) (w : Numbered Wire) (m : ℕ) (ys : L
   sent-message DEndRequest g n f = never n
   sent-message (DEndResponse x) g n f = never n
   sent-message (DAbortRequest o) g n f = never n
+  sent-message (DStartForwardRequest q s v) g n f = never n
+  sent-message (DStartForwardResponse s v) g n f = never n
 
 -- ---- a call that was taken
 
@@ -145,6 +151,7 @@ module _ (sd : Side) (v : Brings) (m : ℕ) (o : Outcome) (b : Body) (c : Called
         primitive = t .primitive;
         bits = t .bits ∙ ap lent (sym enc-y);
         read = read-from (lent (enc sd (o .apdu) y)) (apduAt (pduSide sd) (lent (enc sd (o .apdu) y)) 0) (o .apdu) y (back sd (o .apdu) y (true-holds (fits sd (o .apdu) y) (fits-y e)));
+        dialogue = roomy-dialogue (o .invoked) (k .roomy);
       }
 
   pub taken-rel : (n : ℕ) (x : Body) → (isSend (v .apdu) ≡ true → b ≡ x) → (j : ℕ) (s : Sent (Numbered Wire)) → SentRel (Carries sd) s (tag m (sentBy (o .invoked) (enc sd (o .apdu) y) y j)) → OutRel (KeepsAt sd) (Carries sd) (left n c s) (leaves m (taken cardCodec sd o y j x))
@@ -154,7 +161,7 @@ module _ (sd : Side) (v : Brings) (m : ℕ) (o : Outcome) (b : Body) (c : Called
 
 -- ---- an event at a record that is no user primitive. h: the dialogue number that the record holds; v: the one that the event brings
 
-module _ (r : List ℕ) (w : Buffers) (sd : Side) (q : Record) (h : ℕ) (e : Event) (v : ℕ) (li lm lc : List ℕ) (d : Data) (keeps : Keeps sd r q h) (lv : v < 2 ^ 64) (hi : Bits li) (hm : Bits lm) (hc : Bits lc) (sh : dataShaped li lm lc d ≡ true) where
+module _ (r : List ℕ) (w : Buffers) (sd : Side) (q : Record) (h : ℕ) (e : Event) (v : ℕ) (li lm lc : List ℕ) (d : Carried) (keeps : Keeps sd r q h) (lv : v < 2 ^ 64) (hi : Bits li) (hm : Bits lm) (hc : Bits lc) (sh : dataShaped li lm lc (d .content) ≡ true) where
   abbrev pub O : Outcome
   O = numberedStep sd q h e v
 
@@ -164,25 +171,25 @@ module _ (r : List ℕ) (w : Buffers) (sd : Side) (q : Record) (h : ℕ) (e : Ev
   abbrev pub K : Called
   K = concluded r (w .first) (w .second) sd (heldAfter h e v) (numberedStep sd q h e v) li lm lc d
 
-  pub bodied : isBody (contentBits (contentIn li lm lc d)) ≡ true
-  bodied = is-body (contentIn li lm lc d) (data-fit li lm lc d sh) (content-are-bits li lm lc d hi hm hc)
+  pub bodied : isBody (contentBits (contentIn li lm lc (d .content))) ≡ true
+  bodied = is-body (contentIn li lm lc (d .content)) (data-fit li lm lc (d .content) sh) (content-are-bits li lm lc (d .content) hi hm hc)
 
-  pub ended : JobLow e → isNone (numberedStep sd q h e v .refusal) ≡ true → Ended sd (brings e) (heldAfter h e v) (numberedStep sd q h e v) (contentBits (contentIn li lm lc d)) (concluded r (w .first) (w .second) sd (heldAfter h e v) (numberedStep sd q h e v) li lm lc d)
-  ended j n = concluded-is r (w .first) (w .second) sd (brings e) M O li lm lc d (w .first-full) (w .second-full) (keeps .size) (held-low h e v (keeps .low) lv) hi hm hc sh n (numbered-fits sd q (keeps .coded) h e v j n)
+  pub ended : JobLow sd e → isNone (numberedStep sd q h e v .refusal) ≡ true → Ended sd (brings e) (heldAfter h e v) (numberedStep sd q h e v) (contentBits (contentIn li lm lc (d .content))) (concluded r (w .first) (w .second) sd (heldAfter h e v) (numberedStep sd q h e v) li lm lc d)
+  ended j n = concluded-is r (w .first) (w .second) sd (brings e) M O li lm lc d (w .first-full) (w .second-full) (keeps .size) (held-low h e v (keeps .low) lv) hi hm hc sh n (numbered-fits sd q (keeps .coded) (keeps .dialogue) h e v j n)
 
-  pub happens-rel : (calls : ℕ) (x : Body) → JobLow e → brings e .body ≡ false → brings e .message ≡ false → (isSend (brings e .apdu) ≡ true → contentBits (contentIn li lm lc d) ≡ x)
+  pub happens-rel : (calls : ℕ) (x : Body) → JobLow sd e → brings e .body ≡ false → brings e .message ≡ false → (isSend (brings e .apdu) ≡ true → contentBits (contentIn li lm lc (d .content)) ≡ x)
       → OutRel (KeepsAt sd) (Carries sd) (simply calls (concluded r (w .first) (w .second) sd (heldAfter h e v) (numberedStep sd q h e v) li lm lc d)) (leaves (heldAfter h e v) (happens cardCodec sd (numberedStep sd q h e v) x))
   happens-rel calls x j hb hm f = go (isNone (numberedStep sd q h e v .refusal)) refl
     where
       go : (n : Bool) → isNone (numberedStep sd q h e v .refusal) ≡ n → OutRel (KeepsAt sd) (Carries sd) (simply calls K) (leaves M (happens cardCodec sd O x))
       go true n =
-          let k = numbered-fits sd q (keeps .coded) h e v j n in
+          let k = numbered-fits sd q (keeps .coded) (keeps .dialogue) h e v j n in
           let t = ended j n in
-          let ey : [] ≡ cond (brings e .body) (contentBits (contentIn li lm lc d)) [] = rw hb in
+          let ey : [] ≡ cond (brings e .body) (contentBits (contentIn li lm lc (d .content))) [] = rw hb in
           subst (λ (z : Bool). OutRel (KeepsAt sd) (Carries sd) (simply calls K) (leaves M (cond z (taken cardCodec sd O [] 0 x) C.refused))) (sym n)
-          (taken-rel sd (brings e) M O (contentBits (contentIn li lm lc d)) K t k bodied [] ey calls x f 0 (sentOf K)
+          (taken-rel sd (brings e) M O (contentBits (contentIn li lm lc (d .content))) K t k bodied [] ey calls x f 0 (sentOf K)
           (sent-plain sd (brings e .user) (O .apdu) (markedEntry K) M (enc sd (O .apdu) []) [] 0 (O .invoked) (t .primitive) (k .apdu) (k .invokes ∙ hm)
-          (entry-is sd (brings e) M O (contentBits (contentIn li lm lc d)) K t k bodied [] ey)))
+          (entry-is sd (brings e) M O (contentBits (contentIn li lm lc (d .content))) K t k bodied [] ey)))
       go false n =
           subst (λ (z : Bool). OutRel (KeepsAt sd) (Carries sd) (simply calls K) (leaves M (cond z (taken cardCodec sd O [] 0 x) C.refused))) (sym n)
           (subst (λ (z : Bool). OutRel (KeepsAt sd) (Carries sd) (cond z (C.acts (record { bytes = K .kept; calls = suc calls }) (handedOf K) (sentOf K)) C.refused) C.refused) (sym (concluded-refused r (w .first) (w .second) sd M O li lm lc d n)) tt)

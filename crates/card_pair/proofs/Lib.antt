@@ -6,4 +6,7 @@ pub mod CardCalls
 pub mod CardReceives
 pub mod Beginnings
 pub mod Card
+pub mod CentreCards
+pub mod Centres
 pub mod Worked
+pub mod CentreWorked

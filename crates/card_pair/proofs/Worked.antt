@@ -101,7 +101,7 @@ ofParty d x = seen (heldBy (x .rec .bytes)) (controlIn (loadAt (x .rec .bytes)))
 -- from two fresh records that the card made, with "secured exchange" at both ends; the air starts. d: the dialogue whose messages are seen
 abbrev after : ℕ → List (Turn Asked) → View
 after d ts =
-    let s = nRun (cardMachine 1 lends) Air (nFresh (cardMachine 1 lends) (newly (freshCall (replicate recordBytes 0) 1 1 .bytes)) (newly (freshCall (replicate recordBytes 0) 2 1 .bytes))) ts in
+    let s = nRun (cardMachine 1 lends) Air (nFresh (cardMachine 1 lends) (newly (freshCall (replicate recordBytes 0) 1 1 0 1 .bytes)) (newly (freshCall (replicate recordBytes 0) 2 1 1 1 .bytes))) ts in
     record { air = ofParty d (s .here); ground = ofParty d (s .there); broken = s .broken d }
 
 abbrev view : Seen → Seen → Bool → View

@@ -14,7 +14,7 @@ use Rattle.machine.specs.declared.event.Event.the-variants.{User, TimerExpires,
 use Rattle.machine.specs.declared.event.ServicePrimitive.{ServicePrimitive}
 use Rattle.machine.specs.declared.event.ServicePrimitive.the-variants.{DPAbortIndication}
 use Rattle.machine.specs.declared.outcome.Invoked.{Invoked}
-use Rattle.machine.specs.declared.outcome.Invoked.the-variants.{Silent, DStartRequest, DStartResponse, DDataRequest, DEndRequest, DEndResponse, DAbortRequest}
+use Rattle.machine.specs.declared.outcome.Invoked.the-variants.{Silent, DStartRequest, DStartResponse, DDataRequest, DEndRequest, DEndResponse, DAbortRequest, DStartForwardRequest, DStartForwardResponse}
 use Rattle.step.specs.Stored.{loadAt}
 use Rattle.step.specs.Call.{Called, serviceCall}
 use Rattle.step.specs.declared.stored.Loaded.{Loaded}
@@ -101,6 +101,8 @@ putOn e DDataRequest = puts e
 putOn e DEndRequest = puts e
 putOn e (DEndResponse x) = puts e
 putOn e (DAbortRequest o) = puts e
+putOn e (DStartForwardRequest q s v) = puts e
+putOn e (DStartForwardResponse s v) = puts e
 
 abbrev pub sentOf : Called → Sent (Numbered Wire)
 sentOf c = putOn (markedEntry c) (entryOf c .primitive)

@@ -1,3 +1,4 @@
 pub mod Answered
 pub mod CardMachine
+pub mod CentreMachine
 pub mod Promise

@@ -22,7 +22,7 @@ pub record Begins (p : ℕ) (sd : Side) (b : List ℕ) : Type 0 where
   pub timer : held .timer ≡ false
   pub user : held .active ≡ false
 
--- b are the bytes of a record of side sd whose policy accepts p, in which t-start runs exactly in START-REQ, the user is active exactly outside IDLE, and IDLE has
+-- b are the bytes of a record of side sd whose policy accepts p, in which t-start runs exactly in START-REQ and FORWARD, the user is active exactly outside IDLE, and IDLE has
 -- DSC false. So bytes that are no record can't count as an IDLE end
 pub record Stands (p : ℕ) (sd : Side) (b : List ℕ) : Type 0 where
   pub held : Record
@@ -36,3 +36,8 @@ pub record Promise (p : ℕ) (host : Side → ℕ → Buffers) (i j : ℕ) (s : 
   pub air : Stands p Air (s .here .rec .bytes)
   pub ground : Stands p Ground (s .there .rec .bytes)
   pub claims : NClaims (cardMachine p host) i j s
+
+-- b are the bytes of a ground record at which a run may begin, whose own version is v
+pub record Rests (p v : ℕ) (b : List ℕ) : Type 0 where
+  pub begins : Begins p Ground b
+  pub version : begins .held .version ≡ v

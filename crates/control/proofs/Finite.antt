@@ -7,7 +7,7 @@ use Rattle.control.specs.Control.{entered}
 use Rattle.control.specs.declared.Side.{Side}
 use Rattle.control.specs.declared.Side.the-variants.{Air, Ground}
 use Rattle.control.specs.declared.State.{State}
-use Rattle.control.specs.declared.State.the-variants.{Idle, StartReq, StartInd, Dialogue, End}
+use Rattle.control.specs.declared.State.the-variants.{Idle, StartReq, StartInd, Dialogue, End, Forward}
 use Rattle.control.specs.declared.Control.{Control}
 use Rattle.control.specs.declared.Answer.{Answer}
 use Rattle.control.specs.declared.Answer.the-variants.{Accepted, Rejected}
@@ -51,7 +51,7 @@ at-side f t Air = and-l (f Air) _ t
 at-side f t Ground = and-r (f Air) _ t
 
 unfoldable pub allState : (State → Bool) → Bool
-allState f = f Idle && (f StartReq && (f StartInd && (f Dialogue && f End)))
+allState f = f Idle && (f StartReq && (f StartInd && (f Dialogue && (f End && f Forward))))
 
 pub at-state : (f : State → Bool) → T (allState f) → (x : State) → T (f x)
 unfolding allState
@@ -59,7 +59,8 @@ at-state f t Idle = and-l (f Idle) _ t
 at-state f t StartReq = and-l (f StartReq) _ (and-r (f Idle) _ t)
 at-state f t StartInd = and-l (f StartInd) _ (and-r (f StartReq) _ (and-r (f Idle) _ t))
 at-state f t Dialogue = and-l (f Dialogue) _ (and-r (f StartInd) _ (and-r (f StartReq) _ (and-r (f Idle) _ t)))
-at-state f t End = and-r (f Dialogue) _ (and-r (f StartInd) _ (and-r (f StartReq) _ (and-r (f Idle) _ t)))
+at-state f t End = and-l (f End) _ (and-r (f Dialogue) _ (and-r (f StartInd) _ (and-r (f StartReq) _ (and-r (f Idle) _ t))))
+at-state f t Forward = and-r (f End) _ (and-r (f Dialogue) _ (and-r (f StartInd) _ (and-r (f StartReq) _ (and-r (f Idle) _ t))))
 
 unfoldable pub allAnswer : (Answer → Bool) → Bool
 allAnswer f = f Accepted && f Rejected

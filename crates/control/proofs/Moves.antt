@@ -3,13 +3,14 @@
 use mathlib.Core.Path.{_≡_, refl, subst, sym, _∙_}
 use mathlib.Core.Bool.{Bool, true, false, not, _&&_}
 use lib.Dec.{T}
-use Rattle.control.specs.Control.{same, isIdle, waits, entered, takes, goes, expects, after, isStart}
+use Rattle.control.specs.Control.{same, isIdle, waits, entered, takes, goes, takesForward, awaitsResponse, expects, after, isStart}
 use Rattle.control.proofs.Finite.{imp, imp-e, allBool, allSide, at-side, allState, allAnswer, allControl, at-control, allResponse, allCall, at-call, allPrimitive, at-primitive}
 use Rattle.control.specs.declared.Side.{Side}
 use Rattle.control.specs.declared.Side.the-variants.{Air, Ground}
 use Rattle.control.specs.declared.State.the-variants.{End}
 use Rattle.control.specs.declared.Control.{Control}
 use Rattle.control.specs.declared.Answer.{Answer}
+use Rattle.control.specs.declared.Answer.the-variants.{Accepted, Rejected}
 use Rattle.control.specs.declared.Call.{Call}
 use Rattle.control.specs.declared.Call.the-variants.{StartRequest, StartResponse, MessageRequest, EndRequest, EndResponse, UserAbort, TimerExpiry, SystemError}
 use Rattle.control.specs.declared.Primitive.{Primitive}
@@ -174,6 +175,47 @@ busy-takes-passed = tt
 pub busy-takes : (sd : Side) (c : Control) (k : Call) → takes sd c k ≡ true → busy k ≡ true → isIdle c ≡ false
 busy-takes sd c k e b =
     not-T (isIdle c) (imp-e (busy k) (not (isIdle c)) (T-is (imp-e (takes sd c k) (imp (busy k) (not (isIdle c))) (at-every-call idleTakes busy-takes-passed sd c k) e)) b)
+
+-- ---- a forward: the request leaves IDLE alone, and neither IDLE nor a start of a dialogue awaits its response
+
+pub forward-idle : (sd : Side) (c : Control) → takesForward sd c ≡ true → isIdle c ≡ true
+forward-idle Air c e = absurd (subst T (sym e) tt)
+forward-idle Ground c e = e
+
+abbrev idleAwaits : Control → Bool
+idleAwaits c = imp (isIdle c) (not (awaitsResponse c))
+
+idle-awaits-passed : T (allControl idleAwaits)
+unfolding imp allBool allState allControl
+idle-awaits-passed = tt
+
+pub idle-awaits : (c : Control) → isIdle c ≡ true → awaitsResponse c ≡ false
+idle-awaits c e = not-T (awaitsResponse c) (imp-e (isIdle c) (not (awaitsResponse c)) (at-control idleAwaits idle-awaits-passed c) e)
+
+-- what goes on in a dialogue leads to no forward
+pub goes-awaits : (c : Control) (k : Call) → awaitsResponse c ≡ false → awaitsResponse (goes c k) ≡ false
+goes-awaits c (StartRequest m) e = refl
+goes-awaits c (StartResponse m Accepted) e = refl
+goes-awaits c (StartResponse m Rejected) e = refl
+goes-awaits c MessageRequest e = e
+goes-awaits c (EndRequest m) e = refl
+goes-awaits c (EndResponse m Accepted) e = refl
+goes-awaits c (EndResponse m Rejected) e = refl
+goes-awaits c UserAbort e = refl
+goes-awaits c TimerExpiry e = refl
+goes-awaits c SystemError e = refl
+
+pub after-awaits : (c : Control) (p : Primitive) → awaitsResponse c ≡ false → awaitsResponse (after c p) ≡ false
+after-awaits c (DStart m) e = refl
+after-awaits c (DStartCnf Accepted) e = refl
+after-awaits c (DStartCnf Rejected) e = refl
+after-awaits c DTurnedAway e = refl
+after-awaits c DData e = e
+after-awaits c DEnd e = refl
+after-awaits c (DEndCnf Accepted) e = refl
+after-awaits c (DEndCnf Rejected) e = refl
+after-awaits c DAbort e = refl
+after-awaits c DPAbort e = refl
 
 -- ---- a message request in END: taken where the other side asked for the end (3.5.3.10, 2.3.5.5.10)
 

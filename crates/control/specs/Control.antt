@@ -7,7 +7,7 @@ use lib.Dec.{eqb}
 use Rattle.control.specs.declared.Side.{Side}
 use Rattle.control.specs.declared.Side.the-variants.{Air, Ground}
 use Rattle.control.specs.declared.State.{State}
-use Rattle.control.specs.declared.State.the-variants.{Idle, StartReq, StartInd, Dialogue, End}
+use Rattle.control.specs.declared.State.the-variants.{Idle, StartReq, StartInd, Dialogue, End, Forward}
 use Rattle.control.specs.declared.Control.{Control}
 use Rattle.control.specs.declared.Answer.{Answer}
 use Rattle.control.specs.declared.Answer.the-variants.{Accepted, Rejected}
@@ -24,6 +24,7 @@ number StartReq = 1
 number StartInd = 2
 number Dialogue = 3
 number End = 4
+number Forward = 5
 
 abbrev pub is : State → State → Bool
 is s t = eqb (number s) (number t)
@@ -41,7 +42,7 @@ isIdle c = is (c .state) Idle
 
 -- a state that waits for a confirmation of its start: t-start runs there
 abbrev pub waits : State → Bool
-waits s = is s StartReq
+waits s = is s StartReq || is s Forward
 
 abbrev pub entered : State → Bool → Control
 entered s d = record { state = s; dsc = d }
@@ -73,7 +74,7 @@ ender Ground dsc = not dsc
 -- ---- a call
 
 -- Is there an action for it in this state with this DSC. An expiry and a system error are said as the pair needs them, of records that a run reaches: there t-start
--- runs in START-REQ and nowhere else, and a system error in IDLE does nothing. What is refused is `permitted` (Step).
+-- runs in START-REQ and FORWARD and nowhere else, and a system error in IDLE does nothing. What is refused is `permitted` (Step).
 abbrev pub takes : Side → Control → Call → Bool
 takes sd c (StartRequest m) = is (c .state) Idle && mayStart sd m
 takes sd c (StartResponse m a) = within c StartInd m && mayStart (other sd) m
@@ -81,7 +82,7 @@ takes sd c MessageRequest = is (c .state) Dialogue || (is (c .state) End && not 
 takes sd c (EndRequest m) = within c Dialogue m && ender sd m
 takes sd c (EndResponse m a) = within c End m && not (ender sd m)
 takes sd c UserAbort = not (is (c .state) Idle)
-takes sd c TimerExpiry = is (c .state) StartReq
+takes sd c TimerExpiry = waits (c .state)
 takes sd c SystemError = not (is (c .state) Idle)
 
 abbrev pub started : Answer → Bool → Control
@@ -113,6 +114,21 @@ sends (EndResponse m a) = DEndCnf a
 sends UserAbort = DAbort
 sends TimerExpiry = DAbort
 sends SystemError = DAbort
+
+-- ---- the forward service (2.3.3.8), the ground's alone: from IDLE to FORWARD, and back. It is no dialogue, so it is none of the calls and primitives here.
+
+-- a forward request is taken (2.3.5.5.13.1)
+abbrev pub takesForward : Side → Control → Bool
+takesForward Air c = false
+takesForward Ground c = isIdle c
+
+-- and leads here
+abbrev pub forwarding : Control → Control
+forwarding c = entered Forward (c .dsc)
+
+-- the response to it is expected (2.3.5.5.3.3)
+abbrev pub awaitsResponse : Control → Bool
+awaitsResponse c = is (c .state) Forward
 
 -- ---- a primitive
 

@@ -1,7 +1,7 @@
 // The finite control of both machines, once over the side: state and DSC, and what a call or a primitive does to them.
 // It decides every next state and every entry on the line; security, reasons, message data and jobs ride beside it.
 ghost use mathlib.Core.Path.{_≡_};
-ghost use Rattle.control.specs.Control.{number, is, same, within, other, mayStart, ender, marked, started, ended, takes, goes, expects, after};
+ghost use Rattle.control.specs.Control.{number, is, same, within, other, mayStart, ender, marked, started, ended, takes, goes, takesForward, forwarding, awaitsResponse, waits, expects, after};
 
 // The side that a machine stands at.
 pub enum Side {
@@ -9,13 +9,14 @@ pub enum Side {
     Ground,
 }
 
-// Doc 9880 3.5.5.1.5; FORWARD is not ordered yet.
+// Doc 9880 3.5.5.1.5. FORWARD is the ground machine's alone.
 pub enum State {
     Idle,
     StartReq,
     StartInd,
     Dialogue,
     End,
+    Forward,
 }
 
 pub struct Control {
@@ -70,6 +71,7 @@ pub fn number(s: State) -> u64
         State::StartInd => 2,
         State::Dialogue => 3,
         State::End => 4,
+        State::Forward => 5,
     }
 }
 
@@ -150,6 +152,42 @@ fn ended(a: Answer, dsc: bool) -> Control
     }
 }
 
+// Where t-start runs.
+fn waits(s: State) -> bool
+    ensures { λ r. ⌜ r ≡ waits s ⌝ }
+{
+    is(s, State::StartReq) || is(s, State::Forward)
+}
+
+// Is a forward request taken? The air machine has none.
+pub fn takes_forward(side: Side, c: Control) -> bool
+    ensures { λ r. ⌜ r ≡ takesForward side c ⌝ }
+{
+    let s = c.state;
+    match side {
+        Side::Air => false,
+        Side::Ground => is(s, State::Idle),
+    }
+}
+
+// Where a forward request leads.
+pub fn forwarding(c: Control) -> Control
+    ensures { λ r. ⌜ r ≡ forwarding c ⌝ }
+{
+    Control {
+        state: State::Forward,
+        dsc: c.dsc,
+    }
+}
+
+// Is the response to a forward request awaited?
+pub fn awaits_response(c: Control) -> bool
+    ensures { λ r. ⌜ r ≡ awaitsResponse c ⌝ }
+{
+    let s = c.state;
+    is(s, State::Forward)
+}
+
 pub fn takes(side: Side, c: Control, call: Call) -> bool
     ensures { λ r. ⌜ r ≡ takes side c call ⌝ }
 {
@@ -162,7 +200,7 @@ pub fn takes(side: Side, c: Control, call: Call) -> bool
         Call::EndRequest(dsc) => within(c, State::Dialogue, dsc) && ender(side, dsc),
         Call::EndResponse(dsc, _) => within(c, State::End, dsc) && !ender(side, dsc),
         Call::UserAbort => !is(s, State::Idle),
-        Call::TimerExpiry => is(s, State::StartReq),
+        Call::TimerExpiry => waits(s),
         Call::SystemError => !is(s, State::Idle),
     }
 }

@@ -1,4 +1,5 @@
 // The fields of an APDU, and what its reader answers.
+use crate::forwards::walk_forward;
 use crate::rows::accepted;
 use crate::rows::refused;
 use crate::rows::row;
@@ -197,7 +198,6 @@ fn last_of(side: Side) -> u64 {
     }
 }
 
-// Of a forward APDU the alternative alone is looked at.
 fn walk(s: &[u8], side: Side) {
     let index = walk_index(s, 0, b"alternative", last_of(side));
     let Field::Value(i, p) = index else {
@@ -214,6 +214,12 @@ fn walk(s: &[u8], side: Side) {
     }
     if i == 3 {
         walk_data(s, p);
+    }
+    if i == 4 {
+        walk_forward(s, p);
+    }
+    if i == 5 {
+        walk_index(s, p, b"result of the forward", Apdu::RESPONSE_LAST);
     }
 }
 

@@ -18,7 +18,8 @@ use Rattle.fields.specs.declared.Field.the-variants.{Value, Refused}
 use Rattle.fields.proofs.Answers.{run-is}
 use Rattle.fields.proofs.RoundTrip.{via, if-value}
 use Rattle.apdu.specs.Sizes.{identifierLeast, identifierMost, checkMost, userLast, providerLast, octet, bit}
-use Rattle.apdu.specs.Reading.{onField, onData, onTaken, onLead, optionalAt, partAt, spanTo, partsWithin, withAdditions, dataWithin, leadingAt, tailAt, endedAt, restWithin, apduWithin, wholeWithin}
+use Rattle.apdu.specs.Headings.{responseLast}
+use Rattle.apdu.specs.Reading.{onField, onData, onTaken, onHeading, onForward, onLead, optionalAt, partAt, spanTo, partsWithin, withAdditions, dataWithin, headingAt, forwardWithin, leadingAt, tailAt, endedAt, restWithin, apduWithin, wholeWithin, wholeForwardWithin}
 use Rattle.apdu.specs.declared.Side.{Side}
 use Rattle.apdu.specs.declared.Kind.{Kind}
 use Rattle.apdu.specs.declared.Kind.the-variants as kind
@@ -26,6 +27,12 @@ use Rattle.apdu.specs.declared.Span.{Span}
 use Rattle.apdu.specs.declared.Part.{Part}
 use Rattle.apdu.specs.declared.Part.the-variants.{Absent, Given}
 use Rattle.apdu.specs.declared.Data.{Data}
+use Rattle.apdu.specs.declared.Heading.{Heading}
+use Rattle.apdu.specs.declared.Forward.{Forward}
+use Rattle.apdu.specs.declared.Headed.{Headed}
+use Rattle.apdu.specs.declared.Headed.the-variants as headed
+use Rattle.apdu.specs.declared.Forwarded.{Forwarded}
+use Rattle.apdu.specs.declared.Forwarded.the-variants as forwarded
 use Rattle.apdu.specs.declared.Apdu.{Apdu}
 use Rattle.apdu.specs.declared.Apdu.the-variants as apdu
 use Rattle.apdu.specs.declared.Taken.{Taken}
@@ -102,6 +109,19 @@ module _ (low high : ℕ) (less : low ≤ high) (l : List ℕ) where
       behind taken.Refused (bitField l at 1) _ _ (λ (e p : ℕ).
       behind taken.Refused (bitField l p 2) _ _ (λ (v q : ℕ). added-meets (eqb e 0) _ _ (parts-meets q (leb 2 v) (eqb (v % 2) 1))))
 
+  -- ---- a forward message
+
+  forward-meets : (at : ℕ) → Meets forwarded.Refused (forwardWithin low l at) (forwardWithin high l at)
+  unfolding forwardWithin
+  forward-meets at = go (headingAt l at)
+    where
+      go : (x : Headed)
+          → Meets forwarded.Refused (onHeading x (λ (h : Heading) (p : ℕ). onField forwarded.Refused (stringAt l p bit 0 low) (λ (n next : ℕ). forwarded.Is (record { heading = h; message = spanTo bit n next }) next)))
+          (onHeading x (λ (h : Heading) (p : ℕ). onField forwarded.Refused (stringAt l p bit 0 high) (λ (n next : ℕ). forwarded.Is (record { heading = h; message = spanTo bit n next }) next)))
+      go (headed.Is h p) =
+          handed Refused forwarded.Refused (λ (f : Field). onField forwarded.Refused f (λ (n next : ℕ). forwarded.Is (record { heading = h; message = spanTo bit n next }) next)) (λ (r : Refusal). refl) _ _ (string-meets p bit 0)
+      go (headed.Refused r) = inl refl
+
   -- ---- an APDU
 
   rest-meets : (k : Kind) (m at : ℕ) → Meets answer.Refused (restWithin low l k m at) (restWithin high l k m at)
@@ -110,7 +130,7 @@ module _ (low high : ℕ) (less : low ≤ high) (l : List ℕ) where
   rest-meets kind.AbortProvider m at = inl refl
   rest-meets kind.Start m at = handed taken.Refused answer.Refused (λ (t : Taken). onData t (λ (d : Data) (next : ℕ). endedAt l next (apdu.Start m d))) (λ (r : Refusal). refl) _ _ (data-meets at)
   rest-meets kind.Send m at = handed taken.Refused answer.Refused (λ (t : Taken). onData t (λ (d : Data) (next : ℕ). endedAt l next (apdu.Send d))) (λ (r : Refusal). refl) _ _ (data-meets at)
-  rest-meets kind.Forward m at = inl refl
+  rest-meets kind.Forward m at = handed forwarded.Refused answer.Refused (λ (t : Forwarded). onForward answer.Refused t (λ (f : Forward) (next : ℕ). endedAt l next (apdu.Forward f))) (λ (r : Refusal). refl) _ _ (forward-meets at)
   rest-meets kind.ForwardResponse m at = inl refl
 
   -- A CARD WITH A LOWER LIMIT answers to an APDU what one with a higher limit answers, or LIMIT
@@ -126,6 +146,12 @@ module _ (low high : ℕ) (less : low ≤ high) (l : List ℕ) where
   pub whole-meets : Meets taken.Refused (wholeWithin low l) (wholeWithin high l)
   unfolding wholeWithin
   whole-meets = handed taken.Refused taken.Refused (λ (t : Taken). onTaken t (λ (d : Data) (next : ℕ). onField taken.Refused (tailAt l next) (λ (v m : ℕ). taken.Is d next))) (λ (r : Refusal). refl) _ _ (data-meets 0)
+
+  -- and to a forward message by itself
+  pub forward-whole-meets : Meets forwarded.Refused (wholeForwardWithin low l) (wholeForwardWithin high l)
+  unfolding wholeForwardWithin
+  forward-whole-meets =
+      handed forwarded.Refused forwarded.Refused (λ (t : Forwarded). onForward forwarded.Refused t (λ (f : Forward) (next : ℕ). onField forwarded.Refused (tailAt l next) (λ (v m : ℕ). forwarded.Is f next))) (λ (r : Refusal). refl) _ _ (forward-meets 0)
 
   -- what it accepts, the other accepts as the same: so what both accept is the same
   pub apdu-kept : (side : Side) (at : ℕ) (a : Apdu) → apduWithin low side l at ≡ answer.Is a → apduWithin high side l at ≡ answer.Is a
@@ -206,6 +232,39 @@ module _ (limit : ℕ) (l : List ℕ) where
       go (taken.Is d next) p q x g = let k = ended-is next (made d) a q in data-few at next d p x (sym (same d) ∙ (ap messageOf k ∙ g))
       go (taken.Refused r) p q x g = answer-not a r q
 
+  forward-few : (at next : ℕ) (f : Forward) → forwardWithin limit l at ≡ forwarded.Is f next → f .message .count ≤ limit
+  unfolding forwardWithin
+  forward-few at next f e = go (headingAt l at) e
+    where
+      countIn : Forwarded → ℕ
+      countIn (forwarded.Is y n) = y .message .count
+      countIn (forwarded.Refused r) = 0
+
+      not-is : (r : Refusal) → forwarded.Refused r ≡ forwarded.Is f next → f .message .count ≤ limit
+      not-is r k = never (cc)
+
+      go : (x : Headed) → onHeading x (λ (h : Heading) (p : ℕ). onField forwarded.Refused (stringAt l p bit 0 limit) (λ (n m : ℕ). forwarded.Is (record { heading = h; message = spanTo bit n m }) m)) ≡ forwarded.Is f next → f .message .count ≤ limit
+      go (headed.Is h p) q =
+          on (f .message .count ≤ limit) forwarded.Refused (forwarded.Is f next) not-is (stringAt l p bit 0 limit) _ (λ (n m : ℕ) (s : stringAt l p bit 0 limit ≡ Value n m) (w : forwarded.Is (record { heading = h; message = spanTo bit n m }) m ≡ forwarded.Is f next).
+          let v : n ≡ f .message .count = ap (λ (t : Forwarded). countIn t) w in
+          let c = string-few p bit 0 n m s in
+          omega arith) q
+      go (headed.Refused r) q = not-is r q
+
+  behind-forward : (at : ℕ) (a : Apdu) → onForward answer.Refused (forwardWithin limit l at) (λ (f : Forward) (next : ℕ). endedAt l next (apdu.Forward f)) ≡ answer.Is a → Fewer a
+  behind-forward at a e = go (forwardWithin limit l at) refl e
+    where
+      countIn : Part → ℕ
+      countIn Absent = 0
+      countIn (Given y) = y .count
+
+      go : (t : Forwarded) → forwardWithin limit l at ≡ t → onForward answer.Refused t (λ (f : Forward) (next : ℕ). endedAt l next (apdu.Forward f)) ≡ answer.Is a → (x : Span) → messageOf a ≡ Given x → x .count ≤ limit
+      go (forwarded.Is f next) p q x g =
+          let k : f .message .count ≡ x .count = ap (λ (y : Part). countIn y) (ap messageOf (ended-is next (apdu.Forward f) a q) ∙ g) in
+          let c = forward-few at next f p in
+          omega arith
+      go (forwarded.Refused r) p q x g = answer-not a r q
+
   abort-none : (f : Field) (made : ℕ → Apdu) → ((r : ℕ) → messageOf (made r) ≡ Absent) → (a : Apdu) → onField answer.Refused f (λ (r next : ℕ). endedAt l next (made r)) ≡ answer.Is a → Fewer a
   abort-none (Value r next) made none a e x g = let k = ended-is next (made r) a e in let z : Absent ≡ Given x = sym (none r) ∙ (ap messageOf k ∙ g) in never (cc)
   abort-none (Refused r) made none a e x g = answer-not a r e
@@ -216,8 +275,8 @@ module _ (limit : ℕ) (l : List ℕ) where
   rest-few kind.AbortProvider m at a e x g = abort-none (extensibleIndex l at providerLast) apdu.AbortProvider (λ (r : ℕ). refl) a e x g
   rest-few kind.Start m at a e x g = behind-data at (apdu.Start m) (λ (d : Data). refl) a e x g
   rest-few kind.Send m at a e x g = behind-data at apdu.Send (λ (d : Data). refl) a e x g
-  rest-few kind.Forward m at a e x g = let k : apdu.Forward ≡ a = cc in let z : Absent ≡ Given x = ap messageOf k ∙ g in never (cc)
-  rest-few kind.ForwardResponse m at a e x g = let k : apdu.ForwardResponse ≡ a = cc in let z : Absent ≡ Given x = ap messageOf k ∙ g in never (cc)
+  rest-few kind.Forward m at a e x g = behind-forward at a e x g
+  rest-few kind.ForwardResponse m at a e x g = abort-none (extensibleIndex l at responseLast) apdu.ForwardResponse (λ (r : ℕ). refl) a e x g
 
   pub apdu-few : (side : Side) (at : ℕ) (a : Apdu) (x : Span) → apduWithin limit side l at ≡ answer.Is a → messageOf a ≡ Given x → x .count ≤ limit
   unfolding apduWithin

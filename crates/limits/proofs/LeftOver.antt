@@ -23,14 +23,24 @@ use Rattle.fields.specs.declared.Field.{Field}
 use Rattle.fields.specs.declared.Field.the-variants.{Value, Refused}
 use Rattle.fields.proofs.RoundTrip.{length-determinant}
 use Rattle.apdu.specs.Sizes.{identifierLeast, identifierMost, messageMost, checkMost, userLast, providerLast, modeLast, octet, bit}
+use Rattle.apdu.specs.Headings.{triple, dateFrom, dateTo, timeFrom, timeTo, charactersLeast, charactersMost, character, addressBits, directionLast, responseLast}
 use Rattle.apdu.specs.Pdus.{lastOf, kindOf}
 use Rattle.apdu.specs.Encoding.{padding}
-use Rattle.apdu.specs.Reading.{onField, onData, onTaken, onLead, optionalAt, partAt, spanTo, partsWithin, withAdditions, dataWithin, modeValue, modeAt, kindMode, leadingAt, tailAt, endedAt, restWithin, apduWithin, apduAt, dataAt, partsAt, wholeWithin, wholeData}
+use Rattle.apdu.specs.Reading.{onField, onData, onTaken, onTriple, onHeading, onForward, onLead, optionalAt, partAt, spanTo, partsWithin, withAdditions, dataWithin, tripleAt, headingAt, forwardWithin, forwardAt, modeValue, modeAt, kindMode, leadingAt, tailAt, endedAt, restWithin, apduWithin, apduAt, dataAt, partsAt, wholeWithin, wholeData, wholeForwardWithin, wholeForward}
 use Rattle.apdu.specs.declared.Side.{Side}
 use Rattle.apdu.specs.declared.Side.the-variants.{Air, Ground}
 use Rattle.apdu.specs.declared.Kind.{Kind}
 use Rattle.apdu.specs.declared.Kind.the-variants as kind
 use Rattle.apdu.specs.declared.Data.{Data}
+use Rattle.apdu.specs.declared.Triple.{Triple}
+use Rattle.apdu.specs.declared.Heading.{Heading}
+use Rattle.apdu.specs.declared.Forward.{Forward}
+use Rattle.apdu.specs.declared.Triples.{Triples}
+use Rattle.apdu.specs.declared.Triples.the-variants as triples
+use Rattle.apdu.specs.declared.Headed.{Headed}
+use Rattle.apdu.specs.declared.Headed.the-variants as headed
+use Rattle.apdu.specs.declared.Forwarded.{Forwarded}
+use Rattle.apdu.specs.declared.Forwarded.the-variants as forwarded
 use Rattle.apdu.specs.declared.Apdu.{Apdu}
 use Rattle.apdu.specs.declared.Apdu.the-variants as apdu
 use Rattle.apdu.specs.declared.Taken.{Taken}
@@ -113,14 +123,16 @@ module _ (l : List ℕ) where
           rw (le-leb 0 n (omega arith), le-leb n messageMost (omega arith))
       go (Refused r) p = refl
 
-  message-spares : Bits l → (there : Bool) (at : ℕ) → Spares Refused (optionalAt l there at bit 0 messageMost)
-  unfolding optionalAt stringAt runAt
-  message-spares b there at =
-      cond-spares there _ (Value 0 at)
-      (rw (message-length at b)
+  string-spares : Bits l → (at : ℕ) → Spares Refused (stringAt l at bit 0 messageMost)
+  unfolding stringAt runAt
+  string-spares b at =
+      rw (message-length at b)
       (then-spares (lengthAt l at) _ (length-spares at) (λ (n from : ℕ).
-      cond-spares (leb (from + bit * n) (length l)) (Value n (from + bit * n)) (refusedAt from Short) (value-spares n (from + bit * n)) (short from))))
-      (value-spares 0 at)
+      cond-spares (leb (from + bit * n) (length l)) (Value n (from + bit * n)) (refusedAt from Short) (value-spares n (from + bit * n)) (short from)))
+
+  message-spares : Bits l → (there : Bool) (at : ℕ) → Spares Refused (optionalAt l there at bit 0 messageMost)
+  unfolding optionalAt
+  message-spares b there at = cond-spares there _ (Value 0 at) (string-spares b at) (value-spares 0 at)
 
   -- ---- what is left
 
@@ -156,7 +168,7 @@ module _ (l : List ℕ) where
   is-spares : (a : Apdu) → Spares answer.Refused (answer.Is a)
   is-spares a r e f = never (cc)
 
-  -- ---- message data, the leading fields, the tail
+  -- ---- message data
 
   parts-spare : Bits l → (at : ℕ) (i m : Bool) → Spares taken.Refused (partsAt l at i m)
   unfolding partsWithin
@@ -203,6 +215,60 @@ module _ (l : List ℕ) where
       on-spares taken.Refused taken-one (bitField l at 1) _ (bits-spare at 1) (λ (e p : ℕ).
       on-spares taken.Refused taken-one (bitField l p 2) _ (bits-spare p 2) (λ (v q : ℕ). added-spares (eqb e 0) (partsAt l q (leb 2 v) (eqb (v % 2) 1)) (parts-spare b q (leb 2 v) (eqb (v % 2) 1))))
 
+  -- ---- a forward message
+
+  triples-one : (r x : Refusal) → triples.Refused r ≡ triples.Refused x → r ≡ x
+  triples-one r x e = cc
+
+  headed-one : (r x : Refusal) → headed.Refused r ≡ headed.Refused x → r ≡ x
+  headed-one r x e = cc
+
+  forwarded-one : (r x : Refusal) → forwarded.Refused r ≡ forwarded.Refused x → r ≡ x
+  forwarded-one r x e = cc
+
+  triples-spare : (v : Triple) (n : ℕ) → Spares triples.Refused (triples.Is v n)
+  triples-spare v n r e f = never (cc)
+
+  headed-spares : (h : Heading) (n : ℕ) → Spares headed.Refused (headed.Is h n)
+  headed-spares h n r e f = never (cc)
+
+  forwarded-spares : (y : Forward) (n : ℕ) → Spares forwarded.Refused (forwarded.Is y n)
+  forwarded-spares y n r e f = never (cc)
+
+  triple-spares : (at : ℕ) (lo hi : Triple) → Spares triples.Refused (tripleAt l at lo hi)
+  unfolding tripleAt
+  triple-spares at lo hi =
+      on-spares triples.Refused triples-one (wholeNumber l at (lo .first) (hi .first)) _ (whole-spares at (lo .first) (hi .first)) (λ (x p : ℕ).
+      on-spares triples.Refused triples-one (wholeNumber l p (lo .second) (hi .second)) _ (whole-spares p (lo .second) (hi .second)) (λ (y q : ℕ).
+      on-spares triples.Refused triples-one (wholeNumber l q (lo .third) (hi .third)) _ (whole-spares q (lo .third) (hi .third)) (λ (z n : ℕ). triples-spare (triple x y z) n)))
+
+  on-triple : (t : Triples) (k : Triple → ℕ → Headed) → Spares triples.Refused t → ((v : Triple) (n : ℕ) → Spares headed.Refused (k v n)) → Spares headed.Refused (onTriple t k)
+  on-triple (triples.Is v n) k a b x e f = b v n x e f
+  on-triple (triples.Refused r) k a b x e f = a x (ap triples.Refused (headed-one r x e)) f
+
+  heading-spares : (at : ℕ) → Spares headed.Refused (headingAt l at)
+  unfolding headingAt
+  heading-spares at =
+      on-triple (tripleAt l at dateFrom dateTo) _ (triple-spares at dateFrom dateTo) (λ (d : Triple) (p : ℕ).
+      on-triple (tripleAt l p timeFrom timeTo) _ (triple-spares p timeFrom timeTo) (λ (t : Triple) (q : ℕ).
+      on-spares headed.Refused headed-one (wholeNumber l q charactersLeast charactersMost) _ (whole-spares q charactersLeast charactersMost) (λ (n a : ℕ).
+      on-spares headed.Refused headed-one (bitField l a (character * n)) _ (bits-spare a (character * n)) (λ (x b : ℕ).
+      on-spares headed.Refused headed-one (bitField l b addressBits) _ (bits-spare b addressBits) (λ (y c : ℕ).
+      on-spares headed.Refused headed-one (wholeNumber l c 0 directionLast) _ (whole-spares c 0 directionLast) (λ (z m : ℕ).
+      headed-spares (record { date = d; time = t; characters = n; flight = x; address = y; direction = z }) m))))))
+
+  on-heading : (t : Headed) (k : Heading → ℕ → Forwarded) → Spares headed.Refused t → ((h : Heading) (n : ℕ) → Spares forwarded.Refused (k h n)) → Spares forwarded.Refused (onHeading t k)
+  on-heading (headed.Is h n) k a b x e f = b h n x e f
+  on-heading (headed.Refused r) k a b x e f = a x (ap headed.Refused (forwarded-one r x e)) f
+
+  forward-spares : Bits l → (at : ℕ) → Spares forwarded.Refused (forwardAt l at)
+  unfolding forwardWithin
+  forward-spares b at =
+      on-heading (headingAt l at) _ (heading-spares at) (λ (h : Heading) (p : ℕ).
+      on-spares forwarded.Refused forwarded-one (stringAt l p bit 0 messageMost) _ (string-spares b p) (λ (n m : ℕ). forwarded-spares (record { heading = h; message = spanTo bit n m }) m))
+
+  -- ---- the leading fields, the tail
+
   mode-spares : (side : Side) (at : ℕ) → Spares Refused (modeAt side l at)
   unfolding modeAt modeValue
   mode-spares Ground at = value-spares 0 at
@@ -245,14 +311,18 @@ module _ (l : List ℕ) where
   on-data (taken.Is d n) k a b x e f = b d n x e f
   on-data (taken.Refused r) k a b x e f = a x (ap taken.Refused (answer-one r x e)) f
 
+  on-forward : {A : Type 0} (up : Refusal → A) (one : (r x : Refusal) → up r ≡ up x → r ≡ x) (t : Forwarded) (k : Forward → ℕ → A) → Spares forwarded.Refused t → ((y : Forward) (n : ℕ) → Spares up (k y n)) → Spares up (onForward up t k)
+  on-forward up one (forwarded.Is y n) k a b x e f = b y n x e f
+  on-forward up one (forwarded.Refused r) k a b x e f = a x (ap forwarded.Refused (one r x e)) f
+
   rest-spares : Bits l → (k : Kind) (m at : ℕ) → Spares answer.Refused (restWithin messageMost l k m at)
   unfolding restWithin
   rest-spares b kind.AbortUser m at = on-spares answer.Refused answer-one (extensibleIndex l at userLast) _ (index-spares at userLast) (λ (r next : ℕ). ended-spares next (apdu.AbortUser r))
   rest-spares b kind.AbortProvider m at = on-spares answer.Refused answer-one (extensibleIndex l at providerLast) _ (index-spares at providerLast) (λ (r next : ℕ). ended-spares next (apdu.AbortProvider r))
   rest-spares b kind.Start m at = on-data (dataAt l at) _ (data-spares b at) (λ (d : Data) (next : ℕ). ended-spares next (apdu.Start m d))
   rest-spares b kind.Send m at = on-data (dataAt l at) _ (data-spares b at) (λ (d : Data) (next : ℕ). ended-spares next (apdu.Send d))
-  rest-spares b kind.Forward m at = is-spares apdu.Forward
-  rest-spares b kind.ForwardResponse m at = is-spares apdu.ForwardResponse
+  rest-spares b kind.Forward m at = on-forward answer.Refused answer-one (forwardAt l at) _ (forward-spares b at) (λ (y : Forward) (next : ℕ). ended-spares next (apdu.Forward y))
+  rest-spares b kind.ForwardResponse m at = on-spares answer.Refused answer-one (extensibleIndex l at responseLast) _ (index-spares at responseLast) (λ (r next : ℕ). ended-spares next (apdu.ForwardResponse r))
 
   pub apdu-left : Bits l → (side : Side) (at : ℕ) (r : Refusal) → apduAt side l at ≡ answer.Refused r → r .fault ≡ Limit → LeftFor l r
   unfolding apduWithin
@@ -269,3 +339,9 @@ module _ (l : List ℕ) where
       go : (t : Taken) → Spares taken.Refused t → Spares taken.Refused (onTaken t (λ (d : Data) (next : ℕ). onField taken.Refused (tailAt l next) (λ (v m : ℕ). taken.Is d next)))
       go (taken.Is d next) a = on-spares taken.Refused taken-one (tailAt l next) _ (tail-spares next) (λ (v m : ℕ). taken-spares d next)
       go (taken.Refused r) a = a
+
+  pub forward-left : Bits l → (r : Refusal) → wholeForward l ≡ forwarded.Refused r → r .fault ≡ Limit → LeftFor l r
+  unfolding wholeForwardWithin
+  forward-left b =
+      on-forward forwarded.Refused forwarded-one (forwardAt l 0) _ (forward-spares b 0) (λ (y : Forward) (next : ℕ).
+      on-spares forwarded.Refused forwarded-one (tailAt l next) _ (tail-spares next) (λ (v m : ℕ). forwarded-spares y next))

@@ -27,14 +27,14 @@ pub record Limited {A : Type 0} (refused : Refusal → A) (a : A) : Type 0 where
 abbrev pub Meets : {A : Type 0} → (Refusal → A) → A → A → Type 0
 Meets refused low high = (low ≡ high) ⊎ Limited refused low
 
--- the CPDLC message of an APDU, if it has one
+-- the CPDLC message of an APDU, if it has one; that of a forward is what is forwarded
 abbrev pub messageOf : Apdu → Part
 messageOf (apdu.AbortUser r) = Absent
 messageOf (apdu.AbortProvider r) = Absent
 messageOf (apdu.Start m d) = d .message
 messageOf (apdu.Send d) = d .message
-messageOf apdu.Forward = Absent
-messageOf apdu.ForwardResponse = Absent
+messageOf (apdu.Forward f) = Given (f .message)
+messageOf (apdu.ForwardResponse x) = Absent
 
 -- "14 is left for the integrity check and the algorithm identifier": the refusal is that of a field which is one of them
 pub data LeftFor (l : List ℕ) (r : Refusal) : Type 0 where

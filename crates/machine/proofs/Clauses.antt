@@ -7,18 +7,18 @@ use Prim.Native.Nat.{ℕ, _≤_, _<_}
 use lib.Dec.{T, ltb, leb, eqb}
 use borrow.Author.Tests.{le-leb, le-ltb, lt-leb, eqb-true, not-false}
 use Rattle.machine.specs.Codes.{dscMode, modes, accepted, user, undefined, userReasons, timerExpired, invalidPdu, protocolError, communicationServiceFailure, communicationServiceError, invalidQosParameter, expectedPduMissing, notPermittedPdu}
-use Rattle.control.specs.Control.{isIdle, takes, goes, sends, expects, after, isStart}
+use Rattle.control.specs.Control.{isIdle, takes, goes, sends, awaitsResponse, expects, after, isStart}
 use Rattle.machine.specs.Record.{withJob, enter}
 use Rattle.machine.specs.Apdus.{modeOf, isSend, readable, abortFits}
 use Rattle.machine.specs.Event.{hasMode, qosFits, userShapely, serviceShapely, shapely}
 use Rattle.machine.specs.Outcome.{isNone, refused}
 use Rattle.machine.specs.Exceptions.{tell, closes, aborts, excepts, timerExpires, systemError, noInstruction}
 use Rattle.machine.specs.Calls.{answer, sent, startRequest, startResponse, messageRequest, endRequest, endResponse, userAbort, callOf, unsent, called}
-use Rattle.machine.specs.Faults.{turnedAway, startFits, pduFault, sendFault, abortFault, indicationFault, confirmationFault, firstFault}
+use Rattle.machine.specs.Faults.{turnedAway, fromCentre, startFits, pduFault, sendFault, abortFault, indicationFault, confirmationFault, firstFault}
 use Rattle.machine.specs.Primitives.{handed, instructed, answered, reached}
 use Rattle.machine.specs.Step.{permitted, messageRefusal, refusalOf, acts, step}
 use Rattle.machine.proofs.Ways.{by-test}
-use Rattle.control.proofs.Moves.{idle-expects}
+use Rattle.control.proofs.Moves.{idle-expects, idle-awaits}
 use Rattle.control.specs.declared.Side.{Side}
 use Rattle.control.specs.declared.Side.the-variants.{Ground}
 use Rattle.control.specs.declared.Answer.the-variants.{Accepted, Rejected}
@@ -39,9 +39,9 @@ use Rattle.machine.specs.declared.faults.Fault.{Fault}
 use Rattle.machine.specs.declared.faults.Fault.the-variants.{NoFault, NoInstruction, Quality, TurnedAway, Security, Missing, Invalid, NotPermitted}
 use Rattle.machine.specs.declared.outcome.Refusal.the-variants.{None, Shape, Prohibited, NoMessage, Repeat}
 use Rattle.machine.specs.declared.outcome.Invoked.{Invoked}
-use Rattle.machine.specs.declared.outcome.Invoked.the-variants.{Silent, DStartRequest, DStartResponse, DDataRequest, DEndRequest, DEndResponse, DAbortRequest}
+use Rattle.machine.specs.declared.outcome.Invoked.the-variants.{Silent, DStartRequest, DStartResponse, DDataRequest, DEndRequest, DEndResponse, DAbortRequest, DStartForwardRequest, DStartForwardResponse}
 use Rattle.machine.specs.declared.outcome.Told.{Told}
-use Rattle.machine.specs.declared.outcome.Told.the-variants.{Untold, StartIndication, StartConfirmation, MessageIndication, EndIndication, EndConfirmation, UserAbortIndication, ProviderAbortIndication}
+use Rattle.machine.specs.declared.outcome.Told.the-variants.{Untold, StartIndication, StartConfirmation, MessageIndication, EndIndication, EndConfirmation, UserAbortIndication, ProviderAbortIndication, ForwardIndication, ForwardConfirmation}
 use Rattle.machine.specs.declared.outcome.Outcome.{Outcome}
 
 -- ---- the order of refusals
@@ -106,7 +106,7 @@ called-goes r (EndServiceRequest m) = refl
 called-goes r (EndServiceResponse m x) = refl
 called-goes r (UserAbortServiceRequest g x) = refl
 
--- what an invoked primitive puts on the line
+-- what an invoked primitive puts on the line, of those that the control has
 abbrev pub line : Invoked → Apdu → List Primitive
 line Silent a = []
 line (DStartRequest q s) a = DStart (modeOf a) ∷ []
@@ -115,6 +115,8 @@ line DDataRequest a = DData ∷ []
 line DEndRequest a = DEnd ∷ []
 line (DEndResponse x) a = DEndCnf (answer x) ∷ []
 line (DAbortRequest o) a = DAbort ∷ []
+line (DStartForwardRequest q s v) a = []
+line (DStartForwardResponse s v) a = []
 
 -- the control decides what a call puts on the line
 pub called-sends : (r : Record) (u : UserPrimitive) → line (called r u .invoked) (called r u .apdu) ≡ sends (callOf u) ∷ []
@@ -141,9 +143,9 @@ pub end-unreadable-silent : (sd : Side) (r : Record) → expects sd (r .control)
 unfolding closes
 end-unreadable-silent sd r e = rw (end-unreadable sd r e)
 
-pub start-unreadable : (sd : Side) (r : Record) (x o s : ℕ) → serviceShapely (DStartConfirmation x o s) ≡ true → expects sd (r .control) (DStartCnf Rejected) ≡ true → eqb x accepted ≡ false → turnedAway x o ≡ false → eqb s (r .request) ≡ true → step sd r (Service (DStartConfirmation x o s) NotValid) ≡ closes r (tell r (ProviderAbortIndication invalidPdu))
+pub start-unreadable : (sd : Side) (r : Record) (x o s v : ℕ) → serviceShapely (DStartConfirmation x o s v) ≡ true → expects sd (r .control) (DStartCnf Rejected) ≡ true → eqb x accepted ≡ false → turnedAway x o ≡ false → eqb s (r .request) ≡ true → step sd r (Service (DStartConfirmation x o s v) NotValid) ≡ closes r (tell r (ProviderAbortIndication invalidPdu))
 unfolding shapely readable firstFault confirmationFault pduFault answered excepts answer
-start-unreadable sd r x o s h e n t y = fault-answered sd r (DStartConfirmation x o s) NotValid (Invalid false) (rw h) (rw (n, e, t, y))
+start-unreadable sd r x o s v h e n t y = fault-answered sd r (DStartConfirmation x o s v) NotValid (Invalid false) (rw h) (rw (n, e, t, y))
 
 -- ---- a missing PDU: the APDU says expected-PDU-missing, the user is told not-permitted-PDU
 
@@ -163,44 +165,44 @@ pub missing-end-confirmation : (sd : Side) (r : Record) (x : ℕ) → ltb x 2 �
 unfolding shapely serviceShapely readable firstFault sendFault pduFault
 missing-end-confirmation sd r x s e = missing sd r (DEndConfirmation x) (rw s) (rw e)
 
-pub missing-start : (sd : Side) (r : Record) (x s : ℕ) (q : Qos) → serviceShapely (DStartIndication x s q) ≡ true → isIdle (r .control) ≡ true → qosFits q ≡ true → eqb s (r .policy) ≡ true → step sd r (Service (DStartIndication x s q) Absent) ≡ aborts r expectedPduMissing (tell r (ProviderAbortIndication notPermittedPdu))
+pub missing-start : (sd : Side) (r : Record) (x s v : ℕ) (q : Qos) → serviceShapely (DStartIndication x s q v) ≡ true → isIdle (r .control) ≡ true → qosFits q ≡ true → eqb s (r .policy) ≡ true → step sd r (Service (DStartIndication x s q v) Absent) ≡ aborts r expectedPduMissing (tell r (ProviderAbortIndication notPermittedPdu))
 unfolding shapely readable firstFault indicationFault pduFault
-missing-start sd r x s q h d g y = missing sd r (DStartIndication x s q) (rw h) (rw (d, g, y))
+missing-start sd r x s v q h d g y = missing sd r (DStartIndication x s q v) (rw h) (rw (d, g, y))
 
-pub missing-confirmation : (sd : Side) (r : Record) (x o s : ℕ) → serviceShapely (DStartConfirmation x o s) ≡ true → expects sd (r .control) (DStartCnf (answer x)) ≡ true → turnedAway x o ≡ false → eqb s (r .request) ≡ true → step sd r (Service (DStartConfirmation x o s) Absent) ≡ aborts r expectedPduMissing (tell r (ProviderAbortIndication notPermittedPdu))
+pub missing-confirmation : (sd : Side) (r : Record) (x o s v : ℕ) → serviceShapely (DStartConfirmation x o s v) ≡ true → expects sd (r .control) (DStartCnf (answer x)) ≡ true → turnedAway x o ≡ false → eqb s (r .request) ≡ true → step sd r (Service (DStartConfirmation x o s v) Absent) ≡ aborts r expectedPduMissing (tell r (ProviderAbortIndication notPermittedPdu))
 unfolding shapely readable firstFault confirmationFault pduFault
-missing-confirmation sd r x o s h e t y = missing sd r (DStartConfirmation x o s) (rw h) (rw (e, t, y))
+missing-confirmation sd r x o s v h e t y = missing sd r (DStartConfirmation x o s v) (rw h) (rw (e, t, y))
 
 -- ---- several faults in one D-START indication: each hides those behind it
 
-module _ (sd : Side) (r : Record) (x s : ℕ) (q : Qos) (a : Apdu) (h : shapely sd (Service (DStartIndication x s q) a) ≡ true) where
-  pub start-unexpected : isIdle (r .control) ≡ false → step sd r (Service (DStartIndication x s q) a) ≡ noInstruction r true
+module _ (sd : Side) (r : Record) (x s v : ℕ) (q : Qos) (a : Apdu) (h : shapely sd (Service (DStartIndication x s q v) a) ≡ true) where
+  pub start-unexpected : isIdle (r .control) ≡ false → step sd r (Service (DStartIndication x s q v) a) ≡ noInstruction r true
   unfolding firstFault indicationFault answered
-  start-unexpected d = fault-answered sd r (DStartIndication x s q) a (NoInstruction true) h (rw d)
+  start-unexpected d = fault-answered sd r (DStartIndication x s q v) a (NoInstruction true) h (rw d)
 
-  pub then-quality : isIdle (r .control) ≡ true → qosFits q ≡ false → step sd r (Service (DStartIndication x s q) a) ≡ aborts r invalidQosParameter Untold
+  pub then-quality : isIdle (r .control) ≡ true → qosFits q ≡ false → step sd r (Service (DStartIndication x s q v) a) ≡ aborts r invalidQosParameter Untold
   unfolding firstFault indicationFault answered
-  then-quality d g = fault-answered sd r (DStartIndication x s q) a Quality h (rw (d, g))
+  then-quality d g = fault-answered sd r (DStartIndication x s q v) a Quality h (rw (d, g))
 
-  pub then-security : isIdle (r .control) ≡ true → qosFits q ≡ true → eqb s (r .policy) ≡ false → step sd r (Service (DStartIndication x s q) a) ≡ aborts r communicationServiceFailure (tell r (ProviderAbortIndication communicationServiceFailure))
+  pub then-security : isIdle (r .control) ≡ true → qosFits q ≡ true → eqb s (r .policy) ≡ false → step sd r (Service (DStartIndication x s q v) a) ≡ aborts r communicationServiceFailure (tell r (ProviderAbortIndication communicationServiceFailure))
   unfolding firstFault indicationFault answered excepts
-  then-security d g y = fault-answered sd r (DStartIndication x s q) a (Security true) h (rw (d, g, y))
+  then-security d g y = fault-answered sd r (DStartIndication x s q v) a (Security true) h (rw (d, g, y))
 
 -- ---- and in one D-START confirmation
 
-module _ (sd : Side) (r : Record) (x o s : ℕ) (a : Apdu) (h : shapely sd (Service (DStartConfirmation x o s) a) ≡ true) where
-  pub confirmation-unexpected : expects sd (r .control) (DStartCnf (answer x)) ≡ false → step sd r (Service (DStartConfirmation x o s) a) ≡ noInstruction r true
+module _ (sd : Side) (r : Record) (x o s v : ℕ) (a : Apdu) (h : shapely sd (Service (DStartConfirmation x o s v) a) ≡ true) where
+  pub confirmation-unexpected : expects sd (r .control) (DStartCnf (answer x)) ≡ false → awaitsResponse (r .control) ≡ false → step sd r (Service (DStartConfirmation x o s v) a) ≡ noInstruction r true
   unfolding firstFault confirmationFault answered
-  confirmation-unexpected e = fault-answered sd r (DStartConfirmation x o s) a (NoInstruction true) h (rw e)
+  confirmation-unexpected e w = fault-answered sd r (DStartConfirmation x o s v) a (NoInstruction true) h (rw (e, w))
 
-  pub then-turned-away : expects sd (r .control) (DStartCnf (answer x)) ≡ true → turnedAway x o ≡ true → step sd r (Service (DStartConfirmation x o s) a) ≡ closes r (tell r (ProviderAbortIndication communicationServiceError))
+  pub then-turned-away : expects sd (r .control) (DStartCnf (answer x)) ≡ true → turnedAway x o ≡ true → step sd r (Service (DStartConfirmation x o s v) a) ≡ closes r (tell r (ProviderAbortIndication communicationServiceError))
   unfolding firstFault confirmationFault answered
-  then-turned-away e t = fault-answered sd r (DStartConfirmation x o s) a TurnedAway h (rw (e, t))
+  then-turned-away e t = fault-answered sd r (DStartConfirmation x o s v) a TurnedAway h (rw (e, t))
 
   -- the dialogue is open at an accepted confirmation only
-  pub then-insecure : expects sd (r .control) (DStartCnf (answer x)) ≡ true → turnedAway x o ≡ false → eqb s (r .request) ≡ false → step sd r (Service (DStartConfirmation x o s) a) ≡ excepts r (eqb x accepted) communicationServiceFailure communicationServiceFailure
+  pub then-insecure : expects sd (r .control) (DStartCnf (answer x)) ≡ true → turnedAway x o ≡ false → eqb s (r .request) ≡ false → step sd r (Service (DStartConfirmation x o s v) a) ≡ excepts r (eqb x accepted) communicationServiceFailure communicationServiceFailure
   unfolding firstFault confirmationFault answered
-  then-insecure e t y = fault-answered sd r (DStartConfirmation x o s) a (Security (eqb x accepted)) h (rw (e, t, y))
+  then-insecure e t y = fault-answered sd r (DStartConfirmation x o s v) a (Security (eqb x accepted)) h (rw (e, t, y))
 
 -- ---- no dialogue exists after a D-ABORT or D-P-ABORT indication: none is sent back
 
@@ -235,8 +237,8 @@ p-abort-told sd r a w i = fault-answered sd r DPAbortIndication a NoFault w (rw 
 -- ---- in IDLE a primitive with no instruction, an abort indication and a system error leave no output
 
 abbrev pub startsHere : ServicePrimitive → Bool
-startsHere (DStartIndication x s q) = true
-startsHere (DStartConfirmation x o s) = false
+startsHere (DStartIndication x s q v) = true
+startsHere (DStartConfirmation x o s v) = false
 startsHere DDataIndication = false
 startsHere DEndIndication = false
 startsHere (DEndConfirmation x) = false
@@ -257,8 +259,8 @@ abort-idle sd r p fits d n = rw (idle-expects sd (r .control) p d n)
 
 pub reached-idle : (sd : Side) (r : Record) (p : ServicePrimitive) (a : Apdu) → isIdle (r .control) ≡ true → startsHere p ≡ false → reached sd r p a ≡ closes r Untold
 unfolding reached firstFault confirmationFault answered
-reached-idle sd r (DStartIndication x s q) a d n = absurd (subst T n tt)
-reached-idle sd r (DStartConfirmation x o s) a d n = rw (idle-expects sd (r .control) (DStartCnf (answer x)) d refl) (none-idle r true d)
+reached-idle sd r (DStartIndication x s q v) a d n = absurd (subst T n tt)
+reached-idle sd r (DStartConfirmation x o s v) a d n = rw (idle-expects sd (r .control) (DStartCnf (answer x)) d refl, idle-awaits (r .control) d) (none-idle r true d)
 reached-idle sd r DDataIndication a d n = rw (send-idle sd r DData true a d refl) (none-idle r true d)
 reached-idle sd r DEndIndication a d n = rw (send-idle sd r DEnd true a d refl) (none-idle r true d)
 reached-idle sd r (DEndConfirmation x) a d n = rw (send-idle sd r (DEndCnf (answer x)) (not (eqb x accepted)) a d refl) (none-idle r true d)
@@ -269,7 +271,7 @@ pub error-idle : (sd : Side) (r : Record) → isIdle (r .control) ≡ true → s
 unfolding step refusalOf shapely permitted messageRefusal acts systemError
 error-idle sd r d = rw d
 
--- ---- a start is offered to the user with the security value that local policy accepts only
+-- ---- a start or a forward is offered to the user with the security value that local policy accepts only
 
 abbrev invites : Told → Bool
 invites Untold = false
@@ -280,6 +282,8 @@ invites (EndIndication m) = false
 invites (EndConfirmation m x) = false
 invites (UserAbortIndication x) = false
 invites (ProviderAbortIndication x) = false
+invites ForwardIndication = true
+invites (ForwardConfirmation x v) = false
 
 -- what an outcome that invites nobody would have to show
 abbrev Secure : Bool → Outcome → Type 0
@@ -294,17 +298,17 @@ none-secure : (r : Record) (b x : Bool) → Secure b (noInstruction r x)
 unfolding noInstruction closes
 none-secure r b x = by-test (Secure b) (isIdle (r .control)) _ _ (λ d e. absurd (subst T (sym e) tt)) (λ d. except-secure r b x _ _)
 
-pub start-secure : (sd : Side) (r : Record) (x s : ℕ) (q : Qos) (a : Apdu) → invites (step sd r (Service (DStartIndication x s q) a) .told) ≡ true → eqb s (r .policy) ≡ true
+pub start-secure : (sd : Side) (r : Record) (x s v : ℕ) (q : Qos) (a : Apdu) → invites (step sd r (Service (DStartIndication x s q v) a) .told) ≡ true → eqb s (r .policy) ≡ true
 unfolding step acts reached firstFault indicationFault answered aborts
-start-secure sd r x s q a =
-    by-test (Secure (eqb s (r .policy))) (isNone (refusalOf sd r (Service (DStartIndication x s q) a))) _ _
+start-secure sd r x s v q a =
+    by-test (Secure (eqb s (r .policy))) (isNone (refusalOf sd r (Service (DStartIndication x s q v) a))) _ _
     (λ n. by-test Offers (not (isIdle (r .control))) _ _ (λ d. none-secure r _ true)
     (λ d. by-test Offers (not (qosFits q)) _ _ (λ g e. absurd (subst T (sym e) tt))
     (λ g. by-test Offers (not (eqb s (r .policy))) _ _ (λ y. except-secure r _ true _ _) (λ y e. not-false _ y))))
     (λ n e. absurd (subst T (sym e) tt))
   where
     Offers : Fault → Type 0
-    Offers f = Secure (eqb s (r .policy)) (answered r (DStartIndication x s q) a f)
+    Offers f = Secure (eqb s (r .policy)) (answered r (DStartIndication x s q v) a f)
 
 -- ---- a message request stays in its state (3.5.3.10, 2.3.5.5.10)
 
@@ -342,12 +346,12 @@ pub no-instruction-outside : (r : Record) (x : Bool) → isIdle (r .control) ≡
 unfolding noInstruction
 no-instruction-outside r x i = rw i
 
--- ---- a forward APDU counts as not permitted
+-- ---- a forward APDU is not permitted where a send is asked for, nor in a start that is not of a centre
 
 pub forward-read : (i u : Bool) (g : Fault) → pduFault (isSend Forward) i u Forward g ≡ NotPermitted u
 unfolding pduFault
 forward-read i u g = refl
 
-pub forward-start : (sd : Side) (r : Record) (x s : ℕ) (q : Qos) → serviceShapely (DStartIndication x s q) ≡ true → isIdle (r .control) ≡ true → qosFits q ≡ true → eqb s (r .policy) ≡ true → step sd r (Service (DStartIndication x s q) Forward) ≡ aborts r protocolError (tell r (ProviderAbortIndication protocolError))
+pub forward-start : (sd : Side) (r : Record) (x s v : ℕ) (q : Qos) → fromCentre sd x ≡ false → serviceShapely (DStartIndication x s q v) ≡ true → isIdle (r .control) ≡ true → qosFits q ≡ true → eqb s (r .policy) ≡ true → step sd r (Service (DStartIndication x s q v) Forward) ≡ aborts r protocolError (tell r (ProviderAbortIndication protocolError))
 unfolding shapely readable firstFault indicationFault startFits pduFault answered excepts
-forward-start sd r x s q h d g y = fault-answered sd r (DStartIndication x s q) Forward (NotPermitted true) (rw h) (rw (d, g, y))
+forward-start sd r x s v q w h d g y = fault-answered sd r (DStartIndication x s q v) Forward (NotPermitted true) (rw h) (rw (d, g, y, w))

@@ -3,3 +3,4 @@ pub mod Runs
 pub mod Laws
 pub mod Clauses
 pub mod Worked
+pub mod ForwardClauses

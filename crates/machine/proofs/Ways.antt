@@ -1,19 +1,21 @@
--- Every step is one of nine ways; each law is shown of the ways.
+-- Every step is one of twelve ways; each law is shown of the ways.
 -- Assumes nothing.
 use mathlib.Core.Path.{_≡_, refl, ap, sym, subst, _∙_}
 use mathlib.Core.Bool.{Bool, true, false, not, cond, _&&_, _||_}
 use Prim.Native.Nat.{ℕ, _<_}
 use lib.Dec.{T, ltb, leb, eqb}
-use borrow.Author.Tests.{leb-false, not-false}
+use borrow.Author.Tests.{leb-false, eqb-true, not-false}
 use Rattle.words.proofs.Laws.{both-left, both-right}
-use Rattle.control.specs.Control.{isIdle, takes, expects}
+use Rattle.control.specs.Control.{isIdle, takes, takesForward, awaitsResponse, expects}
 use Rattle.machine.specs.Record.{withTimer, withUser}
 use Rattle.machine.specs.Event.{isDsc, qosFits, shapely}
 use Rattle.machine.specs.Outcome.{isNone, refused}
 use Rattle.machine.specs.Exceptions.{tell, closes, aborts, excepts, timerExpires, systemError, noInstruction}
 use Rattle.machine.specs.Calls.{answer, sent, startRequest, startResponse, messageRequest, endRequest, endResponse, userAbort, callOf, unsent, called}
-use Rattle.machine.specs.Apdus.{modeOf, isMissing, isInvalid, isStartPdu, isSend}
-use Rattle.machine.specs.Faults.{pduFault, sendFault, peerFits, readsStarts, startFits, indicationFault, confirmationFault, firstFault}
+use Rattle.machine.specs.Apdus.{kindOf, modeOf, reasonOf, isMissing, isInvalid, isStartPdu, isSend, isForward, isResponse}
+use Rattle.machine.specs.Faults.{turnedAway, pduFault, sendFault, peerFits, fromCentre, startFits, indicationFault, responseFault, confirmationFault, firstFault}
+use Rattle.machine.specs.Codes.{accepted, success, serviceNotSupported, versionNotEqual, noVersion}
+use Rattle.machine.specs.Forwards.{forwardRequest, responds, forwardArrives, forwardConfirmed}
 use Rattle.machine.specs.Primitives.{handed, abortTold, instructed, answered, reached}
 use Rattle.control.proofs.Moves.{busy}
 use Rattle.machine.specs.Step.{permitted, messageRefusal, refusalOf, acts, step}
@@ -25,19 +27,20 @@ use Rattle.control.specs.declared.Primitive.{Primitive}
 use Rattle.control.specs.declared.Primitive.the-variants.{DStart, DStartCnf, DTurnedAway, DData, DEnd, DEndCnf, DAbort, DPAbort}
 use Rattle.machine.specs.declared.record.Record.{Record}
 use Rattle.machine.specs.declared.event.Apdu.{Apdu}
+use Rattle.machine.specs.declared.event.Qos.{Qos}
 use Rattle.machine.specs.declared.event.UserPrimitive.{UserPrimitive}
 use Rattle.machine.specs.declared.event.UserPrimitive.the-variants.{StartServiceRequest, StartServiceResponse, MessageServiceRequest, EndServiceRequest, EndServiceResponse, UserAbortServiceRequest}
 use Rattle.machine.specs.declared.event.ServicePrimitive.{ServicePrimitive}
 use Rattle.machine.specs.declared.event.ServicePrimitive.the-variants.{DStartIndication, DStartConfirmation, DDataIndication, DEndIndication, DEndConfirmation, DAbortIndication, DPAbortIndication}
 use Rattle.machine.specs.declared.event.Event.{Event}
-use Rattle.machine.specs.declared.event.Event.the-variants.{User, Service, TimerExpires, UnrecoverableSystemError}
+use Rattle.machine.specs.declared.event.Event.the-variants.{User, Forward, Service, TimerExpires, UnrecoverableSystemError}
 use Rattle.machine.specs.declared.faults.Fault.{Fault}
 use Rattle.machine.specs.declared.faults.Fault.the-variants.{NoFault, NoInstruction, Quality, TurnedAway, Security, Missing, Invalid, NotPermitted}
 use Rattle.machine.specs.declared.outcome.Refusal.{Refusal}
 use Rattle.machine.specs.declared.outcome.Refusal.the-variants.{None, Shape, Prohibited, NoMessage, Repeat}
 use Rattle.machine.specs.declared.outcome.Invoked.{Invoked}
 use Rattle.machine.specs.declared.outcome.Told.{Told}
-use Rattle.machine.specs.declared.outcome.Told.the-variants.{Untold, StartIndication, StartConfirmation, MessageIndication, EndIndication, EndConfirmation, UserAbortIndication, ProviderAbortIndication}
+use Rattle.machine.specs.declared.outcome.Told.the-variants.{Untold, StartIndication, StartConfirmation, MessageIndication, EndIndication, EndConfirmation, UserAbortIndication, ProviderAbortIndication, ForwardIndication, ForwardConfirmation}
 use Rattle.machine.specs.declared.outcome.Outcome.{Outcome}
 
 -- a primitive inside a dialogue: data, an end or its confirmation
@@ -60,6 +63,8 @@ isAbort (EndIndication m) = false
 isAbort (EndConfirmation m x) = false
 isAbort (UserAbortIndication x) = true
 isAbort (ProviderAbortIndication x) = true
+isAbort ForwardIndication = false
+isAbort (ForwardConfirmation x v) = false
 
 -- who is not active is not told
 abbrev pub ToActive : Record → Told → Type 0
@@ -74,6 +79,9 @@ pub data Way (sd : Side) (r : Record) : Outcome → Type 0 where
   is-called : (k : Call) (i : Invoked) (a : Apdu) → takes sd (r .control) k ≡ true → busy k ≡ true → Way sd r (sent r k i a)
   is-invited : (m : Bool) (x : ℕ) → expects sd (r .control) (DStart m) ≡ true → Way sd r (handed (withUser r true) (DStart m) (StartIndication m x))
   is-confirmed : (a : Answer) (m : Bool) (x : ℕ) → expects sd (r .control) (DStartCnf a) ≡ true → Way sd r (handed (withTimer r false) (DStartCnf a) (StartConfirmation m x))
+  is-forwarding : (k s : ℕ) → takesForward sd (r .control) ≡ true → Way sd r (forwardRequest r k s)
+  is-responding : (x s v : ℕ) (t : Told) → isIdle (r .control) ≡ true → isAbort t ≡ false → Way sd r (responds r x s v t)
+  is-forwarded : (x v : ℕ) → awaitsResponse (r .control) ≡ true → Way sd r (forwardConfirmed r x v)
   is-read : (p : Primitive) (t : Told) → expects sd (r .control) p ≡ true → within p ≡ true → isAbort t ≡ false → Way sd r (handed r p t)
 
 -- ---- a choice, by its test
@@ -107,6 +115,23 @@ pdu-fits fits i u a g e =
     not-false fits (passed (not fits) (NotPermitted u) g refl (valid .1) .0)
 
 -- ---- the parts
+
+pub record StartIs (sd : Side) (r : Record) (x s : ℕ) (a : Apdu) : Type 0 where
+  pub idle : isIdle (r .control) ≡ true
+  pub secure : eqb s (r .policy) ≡ true
+  pub fits : startFits sd r x a ≡ true
+
+-- a start that fits and is a forward is one of a centre, at the ground
+pub forward-ground : (sd : Side) (r : Record) (x : ℕ) (a : Apdu) → startFits sd r x a ≡ true → isForward a ≡ true → fromCentre sd x ≡ true
+unfolding startFits
+forward-ground sd r x a e y = go (fromCentre sd x) e
+  where
+    other : isStartPdu a ≡ false
+    other = rw (eqb-true (kindOf a) 6 y)
+
+    go : (b : Bool) → cond b (isForward a) (isStartPdu a && expects sd (r .control) (DStart (modeOf a))) ≡ true → b ≡ true
+    go true k = refl
+    go false k = absurd (subst T (sym (both-left (isStartPdu a) _ k) ∙ other) tt)
 
 module _ (sd : Side) (r : Record) where
   tell-active : (t : Told) → ToActive r (tell r t)
@@ -144,21 +169,73 @@ module _ (sd : Side) (r : Record) where
   send-there p live a e =
       pdu-fits (isSend a) live live a NoFault (passed (not (expects sd (r .control) p)) (NoInstruction true) _ refl e .1)
 
-  -- a start that fits is one that the control expects
-  fits-expected : (x : ℕ) (a : Apdu) → startFits sd r x a ≡ true → expects sd (r .control) (DStart (modeOf a)) ≡ true
+  -- a start that fits and is no forward is one that the control expects
+  fits-expected : (x : ℕ) (a : Apdu) → startFits sd r x a ≡ true → isForward a ≡ false → expects sd (r .control) (DStart (modeOf a)) ≡ true
   unfolding startFits
-  fits-expected x a e = both-right (readsStarts sd x) _ (both-right (isStartPdu a) _ e)
+  fits-expected x a e n = go (fromCentre sd x) e
+    where
+      go : (b : Bool) → cond b (isForward a) (isStartPdu a && expects sd (r .control) (DStart (modeOf a))) ≡ true → expects sd (r .control) (DStart (modeOf a)) ≡ true
+      go true y = absurd (subst T (sym y ∙ n) tt)
+      go false y = both-right (isStartPdu a) _ y
 
-  -- a primitive without a fault is one that the control expects
-  instructed-way : (p : ServicePrimitive) (a : Apdu) → firstFault sd r p a ≡ NoFault → Way sd r (instructed r p a)
-  unfolding instructed firstFault indicationFault confirmationFault
-  instructed-way (DStartIndication x s q) a e =
+  arrives-way : (s v : ℕ) → isIdle (r .control) ≡ true → Way sd r (forwardArrives r s v)
+  unfolding forwardArrives
+  arrives-way s v i =
+      by-test (Way sd r) (not (r .forwards)) _ _ (λ e. is-responding serviceNotSupported s noVersion Untold i refl)
+      (λ e. by-test (Way sd r) (eqb v (r .version)) _ _ (λ y. is-responding success s noVersion ForwardIndication i refl) (λ y. is-responding versionNotEqual s (r .version) Untold i refl))
+
+  -- in FORWARD only a response has no fault
+  response-there : (x o s : ℕ) (a : Apdu) → responseFault r x o s a ≡ NoFault → isResponse a ≡ true
+  unfolding responseFault
+  response-there x o s a e =
+      let away = passed (turnedAway x o) TurnedAway _ refl e in
+      let secure = passed (not (eqb s (r .request))) (Security (eqb x accepted)) _ refl (away .1) in
+      rejected (eqb x accepted) (secure .1)
+    where
+      rejected : (b : Bool) → cond b (pduFault false true true a NoFault) (pduFault (isResponse a) false true a NoFault) ≡ NoFault → isResponse a ≡ true
+      rejected true k = absurd (subst T (sym (pdu-fits false true true a NoFault k)) tt)
+      rejected false k = pdu-fits (isResponse a) false true a NoFault k
+
+  -- a send is no response
+  send-other : (a : Apdu) → isSend a ≡ true → isResponse a ≡ false
+  send-other a e = rw (eqb-true (kindOf a) 3 e)
+
+  -- a confirmation without a fault: of a start that the control expects, or of a forward
+  confirmed-way : (x o s v : ℕ) (a : Apdu) (t : Bool) → expects sd (r .control) (DStartCnf (answer x)) ≡ t
+      → cond (not t) (cond (awaitsResponse (r .control)) (responseFault r x o s a) (NoInstruction true)) (cond (turnedAway x o) TurnedAway (cond (not (eqb s (r .request))) (Security (eqb x accepted)) (pduFault (isSend a) (eqb x accepted) true a NoFault))) ≡ NoFault
+      → Way sd r (cond (isResponse a) (forwardConfirmed r (reasonOf a) v) (handed (withTimer r false) (DStartCnf (answer x)) (StartConfirmation (r .control .dsc) x)))
+  confirmed-way x o s v a true p e =
+      let away = passed (turnedAway x o) TurnedAway _ refl e in
+      let secure = passed (not (eqb s (r .request))) (Security (eqb x accepted)) _ refl (away .1) in
+      let n = send-other a (pdu-fits (isSend a) (eqb x accepted) true a NoFault (secure .1)) in
+      rw n (is-confirmed (answer x) (r .control .dsc) x p)
+  confirmed-way x o s v a false p e = awaited (awaitsResponse (r .control)) refl e
+    where
+      awaited : (b : Bool) → awaitsResponse (r .control) ≡ b → cond b (responseFault r x o s a) (NoInstruction true) ≡ NoFault
+          → Way sd r (cond (isResponse a) (forwardConfirmed r (reasonOf a) v) (handed (withTimer r false) (DStartCnf (answer x)) (StartConfirmation (r .control .dsc) x)))
+      awaited true q k = rw (response-there x o s a k) (is-forwarded (reasonOf a) v q)
+      awaited false q k = absurd (subst T (ap isFault k) tt)
+
+  -- a D-START indication without a fault
+  pub start-there : (x s : ℕ) (q : Qos) (a : Apdu) → indicationFault sd r x s q a ≡ NoFault → StartIs sd r x s a
+  unfolding indicationFault
+  start-there x s q a e =
       let idle = passed (not (isIdle (r .control))) (NoInstruction true) _ refl e in
       let quality = passed (not (qosFits q)) Quality _ refl (idle .1) in
       let secure = passed (not (eqb s (r .policy))) (Security true) _ refl (quality .1) in
-      is-invited (modeOf a) (q .routing) (fits-expected x a (pdu-fits (startFits sd r x a) true true a (cond (peerFits sd x) NoFault (NoInstruction true)) (secure .1)))
-  instructed-way (DStartConfirmation x o s) a e =
-      is-confirmed (answer x) (r .control .dsc) x (not-false _ (passed (not (expects sd (r .control) (DStartCnf (answer x)))) (NoInstruction true) _ refl e .0))
+      record {
+        idle = not-false (isIdle (r .control)) (idle .0);
+        secure = not-false (eqb s (r .policy)) (secure .0);
+        fits = pdu-fits (startFits sd r x a) true true a (cond (peerFits sd x) NoFault (NoInstruction true)) (secure .1);
+      }
+
+  -- a primitive without a fault is one that the control expects
+  instructed-way : (p : ServicePrimitive) (a : Apdu) → firstFault sd r p a ≡ NoFault → Way sd r (instructed r p a)
+  unfolding instructed firstFault confirmationFault
+  instructed-way (DStartIndication x s q v) a e =
+      let i = start-there x s q a e in
+      by-test (Way sd r) (isForward a) _ _ (λ y. arrives-way s v (i .idle)) (λ n. is-invited (modeOf a) (q .routing) (fits-expected x a (i .fits) n))
+  instructed-way (DStartConfirmation x o s v) a e = confirmed-way x o s v a (expects sd (r .control) (DStartCnf (answer x))) refl e
   instructed-way DDataIndication a e = is-read DData MessageIndication (send-expected DData true a e) refl refl
   instructed-way DEndIndication a e = is-read DEnd _ (send-expected DEnd true a e) refl refl
   instructed-way (DEndConfirmation x) a e = is-read (DEndCnf (answer x)) _ (send-expected (DEndCnf (answer x)) _ a e) refl refl
@@ -192,6 +269,7 @@ module _ (sd : Side) (r : Record) where
   acts-way : (e : Event) → permitted sd r e ≡ true → isNone (messageRefusal r e) ≡ true → Way sd r (acts sd r e)
   unfolding acts permitted messageRefusal timerExpires systemError
   acts-way (User u) p n = called-way u p n
+  acts-way (Forward k s) p n = is-forwarding k s p
   acts-way (Service s a) p n = reached-way s a
   acts-way TimerExpires p n = except-way true _ _
   acts-way UnrecoverableSystemError p n =
@@ -208,7 +286,7 @@ unfolding refusalOf
 taken-way sd r e n =
     let k = not-refused (shapely sd e) (permitted sd r e) (messageRefusal r e) n in acts-way sd r e (k .1 .0) (k .1 .1)
 
--- every step is one of the nine ways
+-- every step is one of the twelve ways
 pub ways : (sd : Side) (r : Record) (e : Event) → Way sd r (step sd r e)
 unfolding step
 ways sd r e =

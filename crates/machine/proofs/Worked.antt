@@ -11,7 +11,7 @@ use Rattle.machine.specs.Apdus.{readable}
 use Rattle.machine.specs.Event.{hasMode, qosFits, userShapely, serviceShapely, shapely}
 use Rattle.machine.specs.Outcome.{refusalNumber}
 use Rattle.machine.specs.Calls.{answer, sent, startRequest, startResponse, messageRequest, endRequest, endResponse, userAbort, callOf, unsent, called}
-use Rattle.machine.specs.Faults.{pduFault, sendFault, startFits, indicationFault, confirmationFault, firstFault}
+use Rattle.machine.specs.Faults.{pduFault, sendFault, startFits, indicationFault, responseFault, confirmationFault, firstFault}
 use Rattle.machine.specs.Primitives.{handed, instructed, answered, reached}
 use Rattle.machine.specs.Step.{permitted, messageRefusal, refusalOf, acts, step}
 use Rattle.machine.proofs.Runs.{run}
@@ -19,18 +19,25 @@ use Rattle.control.specs.declared.Side.{Side}
 use Rattle.control.specs.declared.Side.the-variants.{Air, Ground}
 use Rattle.control.specs.declared.State.the-variants.{Idle, Dialogue}
 use Rattle.machine.specs.declared.record.Record.{Record}
-use Rattle.machine.specs.declared.event.Apdu.the-variants.{Start, Send}
+use Rattle.machine.specs.declared.event.Apdu.the-variants.{Start, Send, Forward, ForwardResponse}
 use Rattle.machine.specs.declared.event.UserPrimitive.the-variants.{StartServiceRequest, StartServiceResponse, MessageServiceRequest, EndServiceRequest, EndServiceResponse}
 use Rattle.machine.specs.declared.event.ServicePrimitive.the-variants.{DStartIndication, DStartConfirmation, DEndIndication, DEndConfirmation, DDataIndication}
 use Rattle.machine.specs.declared.event.Event.{Event}
 use Rattle.machine.specs.declared.event.Event.the-variants.{User, Service}
+use Rattle.machine.specs.declared.event.Event.the-variants.{Forward as ForwardRequested}
+use Rattle.machine.specs.declared.event.Qos.{Qos}
+use Rattle.machine.specs.declared.outcome.Refusal.the-variants.{None}
+use Rattle.machine.specs.declared.outcome.Invoked.the-variants.{DStartForwardResponse}
+use Rattle.machine.specs.declared.outcome.Told.the-variants.{ForwardIndication}
+use Rattle.machine.specs.Exceptions.{closes}
+use Rattle.machine.specs.Forwards.{forwardRequest, responds, forwardArrives, forwardConfirmed}
 
 -- a record with local policy "no security"
 abbrev fresh : Record
-fresh = freshRecord (record { policy = 0 })
+fresh = freshRecord (record { policy = 0; forwards = true; version = 1 })
 
 abbrev confirmation : Event
-confirmation = Service (DStartConfirmation 0 0 0) Send
+confirmation = Service (DStartConfirmation 0 0 0 0) Send
 
 abbrev message : ℕ → Event
 message j = User (MessageServiceRequest true j)
@@ -59,6 +66,21 @@ unfolding run step refusalOf permitted messageRefusal acts shapely userShapely h
 seven-later = refl
 
 -- a DSC dialogue at the ground: invited, accepted, abortFault by the air, closed by the accepted DSC-end response
-pub downstream : run Ground fresh (Service (DStartIndication 1 0 (record { priority = 1; rer = 1; routing = 0 })) (Start true) ∷ User (StartServiceResponse true 0) ∷ Service DDataIndication Send ∷ Service DEndIndication Send ∷ message 9 ∷ User (EndServiceResponse true 0) ∷ []) ≡ record { control = record { state = Idle; dsc = false }; timer = false; active = false; highest = 9; request = 0; policy = 0 }
+pub downstream : run Ground fresh (Service (DStartIndication 1 0 (record { priority = 1; rer = 1; routing = 0 }) 0) (Start true) ∷ User (StartServiceResponse true 0) ∷ Service DDataIndication Send ∷ Service DEndIndication Send ∷ message 9 ∷ User (EndServiceResponse true 0) ∷ []) ≡ record { control = record { state = Idle; dsc = false }; timer = false; active = false; highest = 9; request = 0; policy = 0; forwards = true; version = 1 }
 unfolding run step refusalOf permitted messageRefusal acts shapely userShapely hasMode serviceShapely readable qosFits callOf unsent called reached startResponse messageRequest endResponse sent enter firstFault indicationFault startFits sendFault pduFault answered instructed answer handed
 downstream = refl
+
+-- ---- a forward between two centres of version 1: the request, what the other centre does with it, the response
+
+abbrev quality : Qos
+quality = record { priority = 1; rer = 1; routing = 0 }
+
+-- the receiver answers in the same event, tells its user, and stays as it was
+pub forward-answered : step Ground fresh (Service (DStartIndication 0 0 quality 1) Forward) ≡ record { refusal = None; next = fresh; invoked = DStartForwardResponse 0 0; told = ForwardIndication; apdu = ForwardResponse 0; delivers = false }
+unfolding step refusalOf permitted messageRefusal acts shapely serviceShapely readable qosFits reached firstFault indicationFault startFits pduFault answered instructed forwardArrives responds enter
+forward-answered = refl
+
+-- and the sender is IDLE again
+pub forward-over : run Ground fresh (ForwardRequested 3 0 ∷ Service (DStartConfirmation 1 0 0 0) (ForwardResponse 0) ∷ []) ≡ fresh
+unfolding run step refusalOf permitted messageRefusal acts shapely serviceShapely readable answer reached firstFault confirmationFault responseFault pduFault answered instructed forwardRequest forwardConfirmed closes enter
+forward-over = refl

@@ -3,9 +3,9 @@
 use Prim.Native.Nat.{ℕ}
 use mathlib.Core.Bool.{Bool, true, false, cond}
 use lib.Dec.{ltb, eqb}
-use Rattle.machine.specs.Codes.{user, provider, userReasons, providerReasons}
+use Rattle.machine.specs.Codes.{user, provider, userReasons, providerReasons, forwardResults}
 use Rattle.machine.specs.declared.event.Apdu.{Apdu}
-use Rattle.machine.specs.declared.event.Apdu.the-variants.{Absent, NotValid, Start, Send, AbortUser, AbortProvider, Forward}
+use Rattle.machine.specs.declared.event.Apdu.the-variants.{Absent, NotValid, Start, Send, AbortUser, AbortProvider, Forward, ForwardResponse}
 
 abbrev pub kindOf : Apdu → ℕ
 kindOf Absent = 0
@@ -15,6 +15,7 @@ kindOf Send = 3
 kindOf (AbortUser x) = 4
 kindOf (AbortProvider x) = 5
 kindOf Forward = 6
+kindOf (ForwardResponse x) = 7
 
 -- the mode of a start (true: dsc); a startup's is cpdlc
 abbrev pub modeOf : Apdu → Bool
@@ -25,8 +26,9 @@ modeOf Send = false
 modeOf (AbortUser x) = false
 modeOf (AbortProvider x) = false
 modeOf Forward = false
+modeOf (ForwardResponse x) = false
 
--- the reason of an abort
+-- the reason of an abort, the result of a forward
 abbrev pub reasonOf : Apdu → ℕ
 reasonOf Absent = 0
 reasonOf NotValid = 0
@@ -35,6 +37,7 @@ reasonOf Send = 0
 reasonOf (AbortUser x) = x
 reasonOf (AbortProvider x) = x
 reasonOf Forward = 0
+reasonOf (ForwardResponse x) = x
 
 -- ---- the kinds
 
@@ -60,11 +63,18 @@ isUserAbort a = eqb (kindOf a) 4
 abbrev pub isProviderAbort : Apdu → Bool
 isProviderAbort a = eqb (kindOf a) 5
 
+-- GroundPDUs [ATCForwardMessage], GroundPDUs [ATCForwardResponse]
+abbrev pub isForward : Apdu → Bool
+isForward a = eqb (kindOf a) 6
+
+abbrev pub isResponse : Apdu → Bool
+isResponse a = eqb (kindOf a) 7
+
 -- ---- what is asked of several kinds
 
--- an APDU as a decoder gives it: its reason is a value of the ENUMERATED (Doc 9705 2.3.4)
+-- an APDU as a decoder gives it: its reason or result is a value of the ENUMERATED (Doc 9705 2.3.4)
 unfoldable pub readable : Apdu → Bool
-readable a = cond (isUserAbort a) (ltb (reasonOf a) userReasons) (cond (isProviderAbort a) (ltb (reasonOf a) providerReasons) true)
+readable a = cond (isUserAbort a) (ltb (reasonOf a) userReasons) (cond (isProviderAbort a) (ltb (reasonOf a) providerReasons) (cond (isResponse a) (ltb (reasonOf a) forwardResults) true))
 
 -- does the APDU fit the originator of a D-ABORT (3.5.3.14, 2.3.5.5.15)
 abbrev pub abortFits : ℕ → Apdu → Bool

@@ -20,6 +20,9 @@ securityValues = 2
 abbrev pub accepted : ℕ
 accepted = 0
 
+abbrev pub permanent : ℕ
+permanent = 1
+
 abbrev pub transient : ℕ
 transient = 2
 
@@ -104,3 +107,23 @@ expectedPduMissing = 7
 -- told to the user only; no value of CPDLCProviderAbortReason
 abbrev pub notPermittedPdu : ℕ
 notPermittedPdu = 8
+
+-- ATCForwardResponse (2.3.4), the Result of a CPDLC-forward confirmation
+abbrev pub success : ℕ
+success = 0
+
+abbrev pub serviceNotSupported : ℕ
+serviceNotSupported = 1
+
+abbrev pub versionNotEqual : ℕ
+versionNotEqual = 2
+
+abbrev pub forwardResults : ℕ
+forwardResults = 3
+
+-- DS User Version Number: 1 to 255 (2.3.3.8.5.1); 0: none
+abbrev pub noVersion : ℕ
+noVersion = 0
+
+abbrev pub versions : ℕ
+versions = 256

@@ -2,7 +2,7 @@
 use Prim.Native.Nat.{ℕ}
 use mathlib.Core.Bool.{Bool, true, false, not, _&&_}
 use lib.Dec.{ltb, eqb}
-use Rattle.machine.specs.Codes.{dscMode, modes, securityValues, results, startResults, rejectSources, originators, peers, highPriority, lowErrorRate, routingClasses, userReasons}
+use Rattle.machine.specs.Codes.{dscMode, modes, securityValues, results, startResults, rejectSources, originators, peers, highPriority, lowErrorRate, routingClasses, userReasons, versions}
 use Rattle.machine.specs.Apdus.{readable}
 use Rattle.control.specs.Control.{mayStart}
 use Rattle.control.specs.declared.Side.{Side}
@@ -12,7 +12,7 @@ use Rattle.machine.specs.declared.event.UserPrimitive.the-variants.{Star
 use Rattle.machine.specs.declared.event.ServicePrimitive.{ServicePrimitive}
 use Rattle.machine.specs.declared.event.ServicePrimitive.the-variants.{DStartIndication, DStartConfirmation, DDataIndication, DEndIndication, DEndConfirmation, DAbortIndication, DPAbortIndication}
 use Rattle.machine.specs.declared.event.Event.{Event}
-use Rattle.machine.specs.declared.event.Event.the-variants.{User, Service, TimerExpires, UnrecoverableSystemError}
+use Rattle.machine.specs.declared.event.Event.the-variants.{User, Forward, Service, TimerExpires, UnrecoverableSystemError}
 
 -- Doc 9880 3.5.4.6 (air), Doc 9705 2.3.5.6.6 (ground); the values: Doc 9705 2.3.6.2.2
 unfoldable pub qosFits : Qos → Bool
@@ -36,8 +36,8 @@ userShapely sd (UserAbortServiceRequest g x) = ltb x userReasons
 
 -- a received Quality of Service is not looked at ("received QOS values excepted")
 unfoldable pub serviceShapely : ServicePrimitive → Bool
-serviceShapely (DStartIndication x s q) = ltb x peers && ltb s securityValues
-serviceShapely (DStartConfirmation x o s) = ltb x startResults && (ltb o rejectSources && ltb s securityValues)
+serviceShapely (DStartIndication x s q v) = ltb x peers && (ltb s securityValues && ltb v versions)
+serviceShapely (DStartConfirmation x o s v) = ltb x startResults && (ltb o rejectSources && (ltb s securityValues && ltb v versions))
 serviceShapely DDataIndication = true
 serviceShapely DEndIndication = true
 serviceShapely (DEndConfirmation x) = ltb x results
@@ -46,6 +46,7 @@ serviceShapely DPAbortIndication = true
 
 unfoldable pub shapely : Side → Event → Bool
 shapely sd (User u) = userShapely sd u
+shapely sd (Forward k s) = ltb k routingClasses && ltb s securityValues
 shapely sd (Service p a) = serviceShapely p && readable a
 shapely sd TimerExpires = true
 shapely sd UnrecoverableSystemError = true

@@ -4,8 +4,8 @@ use Prim.Native.Nat.{ℕ}
 use mathlib.Core.Bool.{Bool, true, false, not, cond, _&&_, _||_}
 use lib.Dec.{eqb}
 use Rattle.machine.specs.Codes.{accepted, transient, dsProvider, facility, aircraft}
-use Rattle.control.specs.Control.{isIdle, expects}
-use Rattle.machine.specs.Apdus.{modeOf, isMissing, isInvalid, isStartPdu, isSend, abortFits}
+use Rattle.control.specs.Control.{isIdle, awaitsResponse, expects}
+use Rattle.machine.specs.Apdus.{modeOf, isMissing, isInvalid, isStartPdu, isSend, isForward, isResponse, abortFits}
 use Rattle.machine.specs.Event.{qosFits}
 use Rattle.machine.specs.Calls.{answer}
 use Rattle.control.specs.declared.Side.{Side}
@@ -35,19 +35,20 @@ sendFault sd r p live a = cond (not (expects sd (r .control) p)) (NoInstruction 
 unfoldable pub abortFault : Side → Record → Primitive → Bool → Fault
 abortFault sd r p fits = cond (not (expects sd (r .control) p)) (NoInstruction false) (cond (not fits) (NoInstruction false) NoFault)
 
--- the Calling Peer ID that a start is to have: a facility designation (2.3.5.3.2.1), an aircraft address (2.3.5.5.2.1, 2.3.5.5.2.2)
+-- the Calling Peer ID that a start is to have: a facility designation at the air (2.3.5.3.2.1); at the ground an aircraft address (2.3.5.5.2.1, 2.3.5.5.2.2),
+-- or a facility designation for a forward (2.3.5.5.2.3)
 abbrev pub peerFits : Side → ℕ → Bool
 peerFits Air x = eqb x facility
-peerFits Ground x = eqb x aircraft
+peerFits Ground x = true
 
--- what a facility sends to the ground machine is GroundPDUs (2.3.5.5.2.3), and no start of it is permitted there
-abbrev pub readsStarts : Side → ℕ → Bool
-readsStarts Air x = true
-readsStarts Ground x = eqb x aircraft
+-- what a facility sends to the ground machine is a forward (2.3.5.5.2.3, 2.3.5.5.2.4)
+abbrev pub fromCentre : Side → ℕ → Bool
+fromCentre Air x = false
+fromCentre Ground x = eqb x facility
 
--- a PDU for which action is described (3.5.4.4.1): a start of a mode that the other side may start
+-- a PDU for which action is described (3.5.4.4.1): a start of a mode that the other side may start; of a centre, a forward message
 unfoldable pub startFits : Side → Record → ℕ → Apdu → Bool
-startFits sd r x a = isStartPdu a && (readsStarts sd x && expects sd (r .control) (DStart (modeOf a)))
+startFits sd r x a = cond (fromCentre sd x) (isForward a) (isStartPdu a && expects sd (r .control) (DStart (modeOf a)))
 
 -- 3.5.4.5, 2.3.5.6.5: Result "rejected (transient)" or Reject Source "DS provider"
 abbrev pub turnedAway : ℕ → ℕ → Bool
@@ -64,11 +65,18 @@ indicationFault sd r x s q a =
     (cond (not (eqb s (r .policy))) (Security true)
     (pduFault (startFits sd r x a) true true a (cond (peerFits sd x) NoFault (NoInstruction true)))))
 
+-- In FORWARD the confirmation is "rejected (permanent)" with a forward response (2.3.5.5.3.3); with "accepted" no PDU is permitted
+unfoldable pub responseFault : Record → ℕ → ℕ → ℕ → Apdu → Fault
+responseFault r x o s a =
+    cond (turnedAway x o) TurnedAway
+    (cond (not (eqb s (r .request))) (Security (eqb x accepted))
+    (cond (eqb x accepted) (pduFault false true true a NoFault) (pduFault (isResponse a) false true a NoFault)))
+
 -- "unexpected state, result or reject source, security, missing, invalid, not permitted". After a rejection the dialogue is not open for a
 -- security fault, and for a PDU that is not valid the peer is gone (3.5.4.3.2, 2.3.5.6.3.2)
 unfoldable pub confirmationFault : Side → Record → ℕ → ℕ → ℕ → Apdu → Fault
 confirmationFault sd r x o s a =
-    cond (not (expects sd (r .control) (DStartCnf (answer x)))) (NoInstruction true)
+    cond (not (expects sd (r .control) (DStartCnf (answer x)))) (cond (awaitsResponse (r .control)) (responseFault r x o s a) (NoInstruction true))
     (cond (turnedAway x o) TurnedAway
     (cond (not (eqb s (r .request))) (Security (eqb x accepted))
     (pduFault (isSend a) (eqb x accepted) true a NoFault)))
@@ -76,8 +84,8 @@ confirmationFault sd r x o s a =
 -- ---- all of them; after a D-END confirmation "accepted" the peer is gone (3.5.4.3.2, 3.5.4.4.2, 2.3.5.6.3.2, 2.3.5.6.4.3)
 
 unfoldable pub firstFault : Side → Record → ServicePrimitive → Apdu → Fault
-firstFault sd r (DStartIndication x s q) a = indicationFault sd r x s q a
-firstFault sd r (DStartConfirmation x o s) a = confirmationFault sd r x o s a
+firstFault sd r (DStartIndication x s q v) a = indicationFault sd r x s q a
+firstFault sd r (DStartConfirmation x o s v) a = confirmationFault sd r x o s a
 firstFault sd r DDataIndication a = sendFault sd r DData true a
 firstFault sd r DEndIndication a = sendFault sd r DEnd true a
 firstFault sd r (DEndConfirmation x) a = sendFault sd r (DEndCnf (answer x)) (not (eqb x accepted)) a

@@ -5,6 +5,7 @@ pub mod Event
 pub mod Outcome
 pub mod Exceptions
 pub mod Calls
+pub mod Forwards
 pub mod Faults
 pub mod Primitives
 pub mod Step

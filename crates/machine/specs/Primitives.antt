@@ -4,10 +4,11 @@ use mathlib.Core.Bool.{Bool, true, false, cond}
 use Rattle.machine.specs.Codes.{invalidPdu, protocolError, communicationServiceError, communicationServiceFailure, invalidQosParameter, expectedPduMissing, notPermittedPdu}
 use Rattle.control.specs.Control.{after}
 use Rattle.machine.specs.Record.{withTimer, withUser, enter}
-use Rattle.machine.specs.Apdus.{modeOf, reasonOf, isUserAbort}
+use Rattle.machine.specs.Apdus.{modeOf, reasonOf, isUserAbort, isForward, isResponse}
 use Rattle.machine.specs.Outcome.{outcome}
 use Rattle.machine.specs.Exceptions.{tell, closes, aborts, excepts, noInstruction}
 use Rattle.machine.specs.Calls.{answer}
+use Rattle.machine.specs.Forwards.{forwardArrives, forwardConfirmed}
 use Rattle.machine.specs.Faults.{firstFault}
 use Rattle.control.specs.declared.Side.{Side}
 use Rattle.control.specs.declared.Primitive.{Primitive}
@@ -34,13 +35,15 @@ handed r p t = outcome (enter r (after (r .control) p)) Silent t Absent true
 abbrev pub abortTold : Apdu → Told
 abortTold a = cond (isUserAbort a) (UserAbortIndication (reasonOf a)) (ProviderAbortIndication (reasonOf a))
 
--- D-START indication: 2.3.5.3.2 (air), 2.3.5.5.2 (ground); the user becomes active (2.3.5.3.1 Note 2 b, 3.5.5.1.6 b, c)
+-- D-START indication: 2.3.5.3.2 (air), 2.3.5.5.2 (ground); the user becomes active (2.3.5.3.1 Note 2 b, 3.5.5.1.6 b, c), unless it is a forward
 -- D-START confirmation: 2.3.5.3.3, 2.3.5.5.3; t-start is stopped
 -- D-DATA indication: 2.3.5.3.4, 2.3.5.5.4   D-END indication: 2.3.5.3.5, 2.3.5.5.5   D-END confirmation: 2.3.5.3.6, 2.3.5.5.6
 -- D-ABORT indication: 3.5.3.14, 2.3.5.5.15   D-P-ABORT indication: 3.5.3.15, 2.3.5.5.16
 unfoldable pub instructed : Record → ServicePrimitive → Apdu → Outcome
-instructed r (DStartIndication x s q) a = handed (withUser r true) (DStart (modeOf a)) (StartIndication (modeOf a) (q .routing))
-instructed r (DStartConfirmation x o s) a = handed (withTimer r false) (DStartCnf (answer x)) (StartConfirmation (r .control .dsc) x)
+instructed r (DStartIndication x s q v) a =
+    cond (isForward a) (forwardArrives r s v) (handed (withUser r true) (DStart (modeOf a)) (StartIndication (modeOf a) (q .routing)))
+instructed r (DStartConfirmation x o s v) a =
+    cond (isResponse a) (forwardConfirmed r (reasonOf a) v) (handed (withTimer r false) (DStartCnf (answer x)) (StartConfirmation (r .control .dsc) x))
 instructed r DDataIndication a = handed r DData MessageIndication
 instructed r DEndIndication a = handed r DEnd (EndIndication (r .control .dsc))
 instructed r (DEndConfirmation x) a = handed r (DEndCnf (answer x)) (EndConfirmation (r .control .dsc) x)

@@ -1,15 +1,16 @@
 -- The step of either machine: the refusals in document 01's order, else the clause of the event.
 use mathlib.Core.Bool.{Bool, true, false, not, cond}
-use Rattle.control.specs.Control.{takes}
+use Rattle.control.specs.Control.{takes, takesForward}
 use Rattle.machine.specs.Event.{shapely}
 use Rattle.machine.specs.Outcome.{isNone, refused}
 use Rattle.machine.specs.Exceptions.{timerExpires, systemError}
 use Rattle.machine.specs.Calls.{callOf, unsent, called}
+use Rattle.machine.specs.Forwards.{forwardRequest}
 use Rattle.machine.specs.Primitives.{reached}
 use Rattle.control.specs.declared.Side.{Side}
 use Rattle.machine.specs.declared.record.Record.{Record}
 use Rattle.machine.specs.declared.event.Event.{Event}
-use Rattle.machine.specs.declared.event.Event.the-variants.{User, Service, TimerExpires, UnrecoverableSystemError}
+use Rattle.machine.specs.declared.event.Event.the-variants.{User, Forward, Service, TimerExpires, UnrecoverableSystemError}
 use Rattle.machine.specs.declared.outcome.Refusal.{Refusal}
 use Rattle.machine.specs.declared.outcome.Refusal.the-variants.{None, Shape, Prohibited}
 use Rattle.machine.specs.declared.outcome.Outcome.{Outcome}
@@ -18,12 +19,14 @@ use Rattle.machine.specs.declared.outcome.Outcome.{Outcome}
 -- a dialogue-service primitive and a system error are never prohibited
 unfoldable pub permitted : Side → Record → Event → Bool
 permitted sd r (User u) = takes sd (r .control) (callOf u)
+permitted sd r (Forward k s) = takesForward sd (r .control)
 permitted sd r (Service p a) = true
 permitted sd r TimerExpires = r .timer
 permitted sd r UnrecoverableSystemError = true
 
 unfoldable pub messageRefusal : Record → Event → Refusal
 messageRefusal r (User u) = unsent (r .highest) u
+messageRefusal r (Forward k s) = None
 messageRefusal r (Service p a) = None
 messageRefusal r TimerExpires = None
 messageRefusal r UnrecoverableSystemError = None
@@ -35,6 +38,7 @@ refusalOf sd r e = cond (not (shapely sd e)) Shape (cond (not (permitted sd r e)
 -- the clause of an event that is not refused
 unfoldable pub acts : Side → Record → Event → Outcome
 acts sd r (User u) = called r u
+acts sd r (Forward k s) = forwardRequest r k s
 acts sd r (Service p a) = reached sd r p a
 acts sd r TimerExpires = timerExpires r
 acts sd r UnrecoverableSystemError = systemError r

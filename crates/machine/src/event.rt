@@ -15,8 +15,10 @@ pub enum Apdu {
     Send,
     AbortUser(u64),
     AbortProvider(u64),
-    // ATCForwardMessage, ATCForwardResponse.
+    // ATCForwardMessage.
     Forward,
+    // ATCForwardResponse, with its result.
+    ForwardResponse(u64),
 }
 
 pub struct Qos {
@@ -42,12 +44,12 @@ pub enum UserPrimitive {
     UserAbortServiceRequest(bool, u64),
 }
 
-// The dialogue service's indications and confirmations, but for their user data. Peer identifiers and version numbers stay with the host.
+// The dialogue service's indications and confirmations, but for their user data. Peer identifiers stay with the host.
 pub enum ServicePrimitive {
-    // What the Calling Peer ID is, security, quality of service.
-    DStartIndication(u64, u64, Qos),
-    // Result, reject source, security.
-    DStartConfirmation(u64, u64, u64),
+    // What the Calling Peer ID is, security, quality of service, version (0: none).
+    DStartIndication(u64, u64, Qos, u64),
+    // Result, reject source, security, version (0: none).
+    DStartConfirmation(u64, u64, u64, u64),
     DDataIndication,
     DEndIndication,
     // Result.
@@ -59,6 +61,8 @@ pub enum ServicePrimitive {
 
 pub enum Event {
     User(UserPrimitive),
+    // CPDLC-forward request, which begins no dialogue: Class of Communication, Security Required.
+    Forward(u64, u64),
     // A primitive of the dialogue service, with its user data.
     Service(ServicePrimitive, Apdu),
     TimerExpires,
@@ -79,10 +83,16 @@ impl Apdu {
 
     pub(crate) const ABORT_PROVIDER: u64 = 5;
 
+    pub(crate) const FORWARD: u64 = 6;
+
+    pub(crate) const FORWARD_RESPONSE: u64 = 7;
+
     // The values of the two types of reason.
     pub(crate) const USER_REASONS: u64 = 13;
 
     pub(crate) const PROVIDER_REASONS: u64 = 8;
+    // The values of ATCForwardResponse.
+    pub(crate) const FORWARD_RESULTS: u64 = 3;
 
     // Which kind it is.
     pub(crate) fn kind(self) -> u64
@@ -96,6 +106,7 @@ impl Apdu {
             Apdu::AbortUser(_) => 4,
             Apdu::AbortProvider(_) => 5,
             Apdu::Forward => 6,
+            Apdu::ForwardResponse(_) => 7,
         }
     }
 
@@ -111,10 +122,11 @@ impl Apdu {
             Apdu::AbortUser(_) => false,
             Apdu::AbortProvider(_) => false,
             Apdu::Forward => false,
+            Apdu::ForwardResponse(_) => false,
         }
     }
 
-    // The reason of an abort.
+    // The reason of an abort, the result of a forward.
     pub(crate) fn reason(self) -> u64
         ensures { λ x. ⌜ x ≡ reasonOf self ⌝ }
     {
@@ -126,10 +138,11 @@ impl Apdu {
             Apdu::AbortUser(reason) => reason,
             Apdu::AbortProvider(reason) => reason,
             Apdu::Forward => 0,
+            Apdu::ForwardResponse(result) => result,
         }
     }
 
-    // Is its reason of its type?
+    // Is its reason or its result of its type?
     pub(crate) fn readable(self) -> bool
         ensures { λ b. ⌜ b ≡ readable self ⌝ }
     {
@@ -139,6 +152,9 @@ impl Apdu {
         }
         if kind == Apdu::ABORT_PROVIDER {
             return self.reason() < Apdu::PROVIDER_REASONS;
+        }
+        if kind == Apdu::FORWARD_RESPONSE {
+            return self.reason() < Apdu::FORWARD_RESULTS;
         }
         true
     }
@@ -233,21 +249,32 @@ impl ServicePrimitive {
 
     pub(crate) const ORIGINATORS: u64 = 2;
 
+    pub(crate) const VERSIONS: u64 = 256;
+
     pub(crate) fn shapely(self) -> bool
         ensures { λ b. ⌜ b ≡ serviceShapely self ⌝ }
     {
         match self {
-            ServicePrimitive::DStartIndication(peer, security, _) => {
-                peer < ServicePrimitive::PEERS && security < Configuration::SECURITY_VALUES
+            ServicePrimitive::DStartIndication(peer, security, _, version) => {
+                if ServicePrimitive::PEERS <= peer {
+                    return false;
+                }
+                if Configuration::SECURITY_VALUES <= security {
+                    return false;
+                }
+                version < ServicePrimitive::VERSIONS
             }
-            ServicePrimitive::DStartConfirmation(result, source, security) => {
+            ServicePrimitive::DStartConfirmation(result, source, security, version) => {
                 if ServicePrimitive::START_RESULTS <= result {
                     return false;
                 }
                 if ServicePrimitive::SOURCES <= source {
                     return false;
                 }
-                security < Configuration::SECURITY_VALUES
+                if Configuration::SECURITY_VALUES <= security {
+                    return false;
+                }
+                version < ServicePrimitive::VERSIONS
             }
             ServicePrimitive::DDataIndication => true,
             ServicePrimitive::DEndIndication => true,
@@ -267,6 +294,9 @@ impl Event {
     {
         match self {
             Event::User(u) => u.shapely(side),
+            Event::Forward(class, security) => {
+                class < Qos::ROUTING_CLASSES && security < Configuration::SECURITY_VALUES
+            }
             Event::Service(p, apdu) => p.shapely() && apdu.readable(),
             Event::TimerExpires => true,
             Event::UnrecoverableSystemError => true,

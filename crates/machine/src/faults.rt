@@ -8,11 +8,12 @@ use crate::record::Record;
 use control::Primitive;
 use control::Side;
 use control::State;
+use control::awaits_response;
 use control::expects;
 use control::is;
 ghost use mathlib.Core.Path.{_≡_};
 ghost use Rattle.machine.specs.Apdus.{abortFits};
-ghost use Rattle.machine.specs.Faults.{pduFault, sendFault, abortFault, peerFits, readsStarts, startFits, turnedAway, indicationFault, confirmationFault, firstFault};
+ghost use Rattle.machine.specs.Faults.{pduFault, sendFault, abortFault, peerFits, fromCentre, startFits, turnedAway, indicationFault, responseFault, confirmationFault, firstFault};
 
 // A flag says whether the dialogue is open still, so that a D-ABORT is sent.
 pub enum Fault {
@@ -73,23 +74,24 @@ fn abort_fault(side: Side, r: Record, p: Primitive, fits: bool) -> Fault
     Fault::NoFault
 }
 
-// The Calling Peer ID of a start is a facility designation at the air machine, an aircraft address at the ground machine.
+// The Calling Peer ID of a start is a facility designation at the air machine; at the ground machine an aircraft address, or a facility designation for a
+// forward.
 fn peer_fits(side: Side, peer: u64) -> bool
     ensures { λ b. ⌜ b ≡ peerFits side peer ⌝ }
 {
     match side {
         Side::Air => peer == ServicePrimitive::FACILITY,
-        Side::Ground => peer == ServicePrimitive::AIRCRAFT,
+        Side::Ground => true,
     }
 }
 
-// What a facility sends to the ground machine is GroundPDUs, and no start of it is permitted there.
-fn reads_starts(side: Side, peer: u64) -> bool
-    ensures { λ b. ⌜ b ≡ readsStarts side peer ⌝ }
+// What a facility sends to the ground machine is a forward.
+fn from_centre(side: Side, peer: u64) -> bool
+    ensures { λ b. ⌜ b ≡ fromCentre side peer ⌝ }
 {
     match side {
-        Side::Air => true,
-        Side::Ground => peer == ServicePrimitive::AIRCRAFT,
+        Side::Air => false,
+        Side::Ground => peer == ServicePrimitive::FACILITY,
     }
 }
 
@@ -97,10 +99,10 @@ fn start_fits(side: Side, r: Record, peer: u64, apdu: Apdu) -> bool
     ensures { λ b. ⌜ b ≡ startFits side r peer apdu ⌝ }
 {
     let c = r.control;
-    if apdu.kind() != Apdu::START {
-        return false;
+    if from_centre(side, peer) {
+        return apdu.kind() == Apdu::FORWARD;
     }
-    if !reads_starts(side, peer) {
+    if apdu.kind() != Apdu::START {
         return false;
     }
     expects(side, c, Primitive::DStart(apdu.mode()))
@@ -134,6 +136,24 @@ fn indication_fault(side: Side, r: Record, peer: u64, security: u64, qos: Qos, a
     pdu_fault(fits, true, true, apdu, Fault::NoInstruction(true))
 }
 
+// The response to a forward: "rejected (permanent)"; for "accepted" no action is described.
+fn response_fault(r: Record, result: u64, source: u64, security: u64, apdu: Apdu) -> Fault
+    ensures { λ f. ⌜ f ≡ responseFault r result source security apdu ⌝ }
+{
+    let open = result == ACCEPTED;
+    if turned_away(result, source) {
+        return Fault::TurnedAway;
+    }
+    if security != r.request {
+        return Fault::Security(open);
+    }
+    if open {
+        return pdu_fault(false, true, true, apdu, Fault::NoFault);
+    }
+    let response = apdu.kind() == Apdu::FORWARD_RESPONSE;
+    pdu_fault(response, false, true, apdu, Fault::NoFault)
+}
+
 fn confirmation_fault(
     side: Side,
     r: Record,
@@ -147,6 +167,9 @@ fn confirmation_fault(
     let c = r.control;
     let open = result == ACCEPTED;
     if !expects(side, c, Primitive::DStartCnf(answer(result))) {
+        if awaits_response(c) {
+            return response_fault(r, result, source, security, apdu);
+        }
         return Fault::NoInstruction(true);
     }
     if turned_away(result, source) {
@@ -177,7 +200,7 @@ pub(crate) fn first_fault(side: Side, r: Record, p: ServicePrimitive, apdu: Apdu
     ensures { λ f. ⌜ f ≡ firstFault side r p apdu ⌝ }
 {
     match p {
-        ServicePrimitive::DStartIndication(peer, security, qos) => indication_fault(
+        ServicePrimitive::DStartIndication(peer, security, qos, _) => indication_fault(
             side,
             r,
             peer,
@@ -185,7 +208,7 @@ pub(crate) fn first_fault(side: Side, r: Record, p: ServicePrimitive, apdu: Apdu
             qos,
             apdu,
         ),
-        ServicePrimitive::DStartConfirmation(result, source, security) => confirmation_fault(
+        ServicePrimitive::DStartConfirmation(result, source, security, _) => confirmation_fault(
             side,
             r,
             result,

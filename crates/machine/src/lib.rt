@@ -4,6 +4,7 @@ mod calls;
 pub mod event;
 mod exceptions;
 mod faults;
+mod forwards;
 pub mod outcome;
 mod primitives;
 pub mod record;
@@ -13,9 +14,11 @@ use calls::called;
 use calls::unsent;
 use control::Side;
 use control::takes;
+use control::takes_forward;
 use event::Event;
 use exceptions::system_error;
 use exceptions::timer_expires;
+use forwards::forward_request;
 use outcome::Outcome;
 use outcome::Refusal;
 use primitives::reached;
@@ -30,6 +33,7 @@ fn permitted(side: Side, r: Record, e: Event) -> bool
     let c = r.control;
     match e {
         Event::User(u) => takes(side, c, call_of(u)),
+        Event::Forward(_, _) => takes_forward(side, c),
         Event::Service(_, _) => true,
         Event::TimerExpires => r.timer,
         Event::UnrecoverableSystemError => true,
@@ -41,6 +45,7 @@ fn message_refusal(r: Record, e: Event) -> Refusal
 {
     match e {
         Event::User(u) => unsent(r.highest, u),
+        Event::Forward(_, _) => Refusal::None,
         Event::Service(_, _) => Refusal::None,
         Event::TimerExpires => Refusal::None,
         Event::UnrecoverableSystemError => Refusal::None,
@@ -66,6 +71,7 @@ fn acts(side: Side, r: Record, e: Event) -> Outcome
 {
     match e {
         Event::User(u) => called(r, u),
+        Event::Forward(class, security) => forward_request(r, class, security),
         Event::Service(p, apdu) => reached(side, r, p, apdu),
         Event::TimerExpires => timer_expires(r),
         Event::UnrecoverableSystemError => system_error(r),

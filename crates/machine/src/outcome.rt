@@ -27,6 +27,10 @@ pub enum Invoked {
     DEndResponse(u64),
     // Originator.
     DAbortRequest(u64),
+    // The D-START of a forward: Quality of Service, Security Requirements, version.
+    DStartForwardRequest(Qos, u64, u64),
+    // Its response, "rejected (permanent)": Security Requirements, version (0: none).
+    DStartForwardResponse(u64, u64),
 }
 
 // The user primitive that is invoked; a flag says whether it is the DSC- (true) or the CPDLC- one.
@@ -43,6 +47,9 @@ pub enum Told {
     // Reason.
     UserAbortIndication(u64),
     ProviderAbortIndication(u64),
+    ForwardIndication,
+    // Result, version (0: none).
+    ForwardConfirmation(u64, u64),
 }
 
 pub struct Outcome {

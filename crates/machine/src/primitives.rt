@@ -17,6 +17,8 @@ use crate::exceptions::no_instruction;
 use crate::exceptions::tell;
 use crate::faults::Fault;
 use crate::faults::first_fault;
+use crate::forwards::forward_arrives;
+use crate::forwards::forward_confirmed;
 use crate::outcome::Invoked;
 use crate::outcome::Outcome;
 use crate::outcome::Told;
@@ -74,7 +76,10 @@ fn instructed(r: Record, p: ServicePrimitive, apdu: Apdu) -> Outcome
     let c = r.control;
     let dsc = c.dsc;
     match p {
-        ServicePrimitive::DStartIndication(_, _, qos) => {
+        ServicePrimitive::DStartIndication(_, security, qos, version) => {
+            if apdu.kind() == Apdu::FORWARD {
+                return forward_arrives(r, security, version);
+            }
             let mode = apdu.mode();
             handed(
                 invited(r),
@@ -82,11 +87,16 @@ fn instructed(r: Record, p: ServicePrimitive, apdu: Apdu) -> Outcome
                 Told::StartIndication(mode, qos.routing),
             )
         }
-        ServicePrimitive::DStartConfirmation(result, _, _) => handed(
-            confirmed(r),
-            Primitive::DStartCnf(answer(result)),
-            Told::StartConfirmation(dsc, result),
-        ),
+        ServicePrimitive::DStartConfirmation(result, _, _, version) => {
+            if apdu.kind() == Apdu::FORWARD_RESPONSE {
+                return forward_confirmed(r, apdu.reason(), version);
+            }
+            handed(
+                confirmed(r),
+                Primitive::DStartCnf(answer(result)),
+                Told::StartConfirmation(dsc, result),
+            )
+        }
         ServicePrimitive::DDataIndication => handed(r, Primitive::DData, Told::MessageIndication),
         ServicePrimitive::DEndIndication => handed(r, Primitive::DEnd, Told::EndIndication(dsc)),
         ServicePrimitive::DEndConfirmation(result) => handed(

@@ -9,6 +9,10 @@ ghost use Rattle.machine.specs.Record.{freshRecord, enter};
 pub struct Configuration {
     // The security value that local policy accepts.
     pub policy: u64,
+    // Whether the forward service is supported at the receiving end (Doc 9705 2.3.3.8.2).
+    pub forwards: bool,
+    // The own version number, 1 to 255 (Doc 9705 2.3.3.8.5.1).
+    pub version: u64,
 }
 
 pub struct Record {
@@ -21,13 +25,17 @@ pub struct Record {
     pub highest: u64,
     // The security value of the last start request.
     pub request: u64,
-    // The security value that local policy accepts.
+    // As it was made with: the security value that local policy accepts, whether forwarding is supported, the own version.
     pub policy: u64,
+    pub forwards: bool,
+    pub version: u64,
 }
 
 impl Configuration {
     // "no security" and "secured exchange" (Doc 9705 2.3.6.2.3.1).
     pub const SECURITY_VALUES: u64 = 2;
+    // A version number is below this.
+    pub const VERSIONS: u64 = 256;
 }
 
 impl Record {
@@ -44,6 +52,8 @@ impl Record {
             highest: 0,
             request: Record::NO_SECURITY,
             policy: g.policy,
+            forwards: g.forwards,
+            version: g.version,
         }
     }
 
@@ -60,6 +70,8 @@ impl Record {
                 highest: self.highest,
                 request: self.request,
                 policy: self.policy,
+                forwards: self.forwards,
+                version: self.version,
             };
         }
         Record {
@@ -69,6 +81,8 @@ impl Record {
             highest: self.highest,
             request: self.request,
             policy: self.policy,
+            forwards: self.forwards,
+            version: self.version,
         }
     }
 }

@@ -13,7 +13,7 @@ use Rattle.machine.specs.declared.event.UserPrimitive.the-variants.{StartServic
 use Rattle.machine.specs.declared.event.ServicePrimitive.{ServicePrimitive}
 use Rattle.machine.specs.declared.event.ServicePrimitive.the-variants.{DStartIndication, DStartConfirmation, DDataIndication, DEndIndication, DEndConfirmation, DAbortIndication, DPAbortIndication}
 use Rattle.machine.specs.declared.event.Event.{Event}
-use Rattle.machine.specs.declared.event.Event.the-variants.{User, Service, TimerExpires, UnrecoverableSystemError}
+use Rattle.machine.specs.declared.event.Event.the-variants.{User, Forward, Service, TimerExpires, UnrecoverableSystemError}
 use Rattle.machine.specs.declared.outcome.Refusal.{Refusal}
 use Rattle.machine.specs.declared.outcome.Refusal.the-variants.{Shape, Stale, Prohibited}
 use Rattle.machine.specs.declared.outcome.Outcome.{Outcome}
@@ -29,22 +29,25 @@ userStarts (UserAbortServiceRequest g x) = false
 
 -- "a D-START indication"
 unfoldable pub serviceStarts : ServicePrimitive → Bool
-serviceStarts (DStartIndication x s q) = true
-serviceStarts (DStartConfirmation x o s) = false
+serviceStarts (DStartIndication x s q v) = true
+serviceStarts (DStartConfirmation x o s v) = false
 serviceStarts DDataIndication = false
 serviceStarts DEndIndication = false
 serviceStarts (DEndConfirmation x) = false
 serviceStarts (DAbortIndication o) = false
 serviceStarts DPAbortIndication = false
 
+-- "a forward request is a start here too"
 unfoldable pub isStart : Event → Bool
 isStart (User u) = userStarts u
+isStart (Forward k s) = true
 isStart (Service p a) = serviceStarts p
 isStart TimerExpires = false
 isStart UnrecoverableSystemError = false
 
 unfoldable pub isService : Event → Bool
 isService (User u) = false
+isService (Forward k s) = false
 isService (Service p a) = true
 isService TimerExpires = false
 isService UnrecoverableSystemError = false

@@ -26,8 +26,8 @@ fn service_starts(p: ServicePrimitive) -> bool
     ensures { λ b. ⌜ b ≡ serviceStarts p ⌝ }
 {
     match p {
-        ServicePrimitive::DStartIndication(_, _, _) => true,
-        ServicePrimitive::DStartConfirmation(_, _, _) => false,
+        ServicePrimitive::DStartIndication(_, _, _, _) => true,
+        ServicePrimitive::DStartConfirmation(_, _, _, _) => false,
         ServicePrimitive::DDataIndication => false,
         ServicePrimitive::DEndIndication => false,
         ServicePrimitive::DEndConfirmation(_) => false,
@@ -36,12 +36,13 @@ fn service_starts(p: ServicePrimitive) -> bool
     }
 }
 
-// Is it a user start or a D-START indication?
+// Is it a user start, of a dialogue or a forward, or a D-START indication?
 fn is_start(e: Event) -> bool
     ensures { λ b. ⌜ b ≡ isStart e ⌝ }
 {
     match e {
         Event::User(u) => user_starts(u),
+        Event::Forward(_, _) => true,
         Event::Service(p, _) => service_starts(p),
         Event::TimerExpires => false,
         Event::UnrecoverableSystemError => false,
@@ -53,6 +54,7 @@ fn is_service(e: Event) -> bool
 {
     match e {
         Event::User(_) => false,
+        Event::Forward(_, _) => false,
         Event::Service(_, _) => true,
         Event::TimerExpires => false,
         Event::UnrecoverableSystemError => false,

@@ -40,3 +40,4 @@ pub mod NumSimulate
 pub mod NumAgree
 pub mod NumWorked
 pub mod NumStep
+pub mod TwoCentres

@@ -18,7 +18,7 @@ use Rattle.machine.specs.declared.event.Event.{Event}
 use Rattle.machine.specs.declared.event.Event.the-variants.{User, Service, TimerExpires, UnrecoverableSystemError}
 use Rattle.machine.specs.declared.event.ServicePrimitive.the-variants.{DPAbortIndication}
 use Rattle.machine.specs.declared.outcome.Invoked.{Invoked}
-use Rattle.machine.specs.declared.outcome.Invoked.the-variants.{Silent, DStartRequest, DStartResponse, DDataRequest, DEndRequest, DEndResponse, DAbortRequest}
+use Rattle.machine.specs.declared.outcome.Invoked.the-variants.{Silent, DStartRequest, DStartResponse, DDataRequest, DEndRequest, DEndResponse, DAbortRequest, DStartForwardRequest, DStartForwardResponse}
 use Rattle.machine.specs.declared.outcome.Refusal.the-variants.{Shape, Stale}
 use Rattle.machine.specs.declared.outcome.Outcome as O
 use Rattle.numbered.specs.Numbers.{userStarts, serviceStarts, isStart, isService, isStale, heldAfter, numberedStep}
@@ -121,6 +121,8 @@ module _ (K : Codec) (p : ℕ) where
       go DEndRequest = late sd r (ev DEndRequest) (w .no) f (eqb (w .no) (r .no)) (leaves (r .no) (f (step sd (r .it) (ev DEndRequest)))) refl refl refl (λ (e : _). refl)
       go (DEndResponse x) = late sd r (ev (DEndResponse x)) (w .no) f (eqb (w .no) (r .no)) (leaves (r .no) (f (step sd (r .it) (ev (DEndResponse x))))) refl refl refl (λ (e : _). refl)
       go (DAbortRequest x) = late sd r (ev (DAbortRequest x)) (w .no) f (eqb (w .no) (r .no)) (leaves (r .no) (f (step sd (r .it) (ev (DAbortRequest x))))) refl refl refl (λ (e : _). refl)
+      go (DStartForwardRequest q s v) = late sd r (ev (DStartForwardRequest q s v)) (w .no) f (ltb (r .no) (w .no)) (leaves (w .no) (f (step sd (r .it) (ev (DStartForwardRequest q s v))))) refl refl refl (λ (e : _). refl)
+      go (DStartForwardResponse s v) = late sd r (ev (DStartForwardResponse s v)) (w .no) f (eqb (w .no) (r .no)) (leaves (r .no) (f (step sd (r .it) (ev (DStartForwardResponse s v))))) refl refl refl (λ (e : _). refl)
 
   -- ---- a call
 

@@ -16,7 +16,7 @@ use Rattle.machine.specs.Faults.{pduFault, sendFault, startFits, indicationFaul
 use Rattle.machine.specs.Primitives.{handed, instructed, answered, reached}
 use Rattle.machine.specs.Step.{permitted, messageRefusal, refusalOf, acts, step}
 use Rattle.machine.specs.declared.event.Apdu.{Apdu}
-use Rattle.machine.specs.declared.event.Apdu.the-variants.{Absent, NotValid, Start, Send, AbortUser, AbortProvider, Forward}
+use Rattle.machine.specs.declared.event.Apdu.the-variants.{Absent, NotValid, Start, Send, AbortUser, AbortProvider, Forward, ForwardResponse}
 use Rattle.machine.specs.declared.outcome.Invoked.the-variants.{DDataRequest, DEndRequest, DAbortRequest}
 use Rattle.pair.specs.Names.{Side, Air, Ground, Dialogue, End, entered, closed}
 use Rattle.pair.specs.Carrier.{Body, user-call, hand-over, timer-expires, Turn}
@@ -31,6 +31,7 @@ fits sd Send b = true
 fits sd (AbortUser x) b = true
 fits sd (AbortProvider x) b = true
 fits sd Forward b = false
+fits sd (ForwardResponse x) b = false
 
 abbrev enc : Side → Apdu → Body → List ℕ
 enc sd Absent b = []
@@ -40,6 +41,7 @@ enc sd Send b = 2 ∷ (0 ∷ b)
 enc sd (AbortUser x) b = 3 ∷ (x ∷ b)
 enc sd (AbortProvider x) b = 4 ∷ (x ∷ b)
 enc sd Forward b = []
+enc sd (ForwardResponse x) b = []
 
 abbrev dec : Side → List ℕ → Read
 dec sd [] = fault
@@ -59,6 +61,7 @@ back sd Send b t = refl
 back sd (AbortUser x) b t = refl
 back sd (AbortProvider x) b t = refl
 back sd Forward b t = absurd t
+back sd (ForwardResponse x) b t = absurd t
 
 abbrev carries : Body → Bool
 carries [] = false

@@ -23,6 +23,7 @@ use Rattle.machine.specs.declared.outcome.Refusal.{Refusal}
 use Rattle.machine.specs.declared.outcome.Refusal.the-variants.{None, Shape, Prohibited, NoMessage, Repeat}
 use Rattle.machine.specs.declared.outcome.Invoked.the-variants.{DStartRequest, DStartResponse, DDataRequest, DEndRequest, DEndResponse, DAbortRequest}
 use Rattle.machine.specs.declared.outcome.Told.the-variants.{Untold}
+use Rattle.control.proofs.Moves.{goes-awaits}
 use Rattle.pair.specs.Names.{Side, Control, Call, StartRequest, StartResponse, MessageRequest, EndRequest, EndResponse, UserAbort, TimerExpiry, SystemError, is, isIdle, takes, goes, StartReq, Answer, Accepted, Rejected}
 use Rattle.pair.specs.Carrier.{Body, Sent}
 use Rattle.pair.specs.Carrier as C
@@ -74,7 +75,7 @@ module _ (K : Codec) (p : ℕ) where
   same-call sd r z u b j w h t f g n e s =
       subst (λ (o : C.Outcome Held Ent). OutRel (Low p) (Means K p sd) (C.acts (enter z (goes (r .control) u)) [] w) o)
       (sym (made sd (lowOf r) (ask u b j) (both (takes sd (r .control) u) (jobFine u (r .highest) j) t f)))
-      (record { low = ap (held (goes (r .control) u)) e; policy = g ∙ h .policy; request = n }, refl, s)
+      (record { low = ap (held (goes (r .control) u)) e; policy = g ∙ h .policy; request = n; dialogue = goes-awaits (r .control) u (h .dialogue) }, refl, s)
 
   -- an answer does not lead to START-REQ
   pub started-not : (a : Answer) (d : Bool) → T (is (started a d .state) StartReq) → ⊥
@@ -158,5 +159,5 @@ module _ (K : Codec) (p : ℕ) where
   error-rel sd r h = go (isIdle (r .control)) refl
     where
       go : (i : Bool) → isIdle (r .control) ≡ i → Reported sd r (happens K sd (cond i (closes r Untold) (excepts r true undefinedError undefinedError)) []) SystemError
-      go true e = stays (record { low = ap (λ (c : Control). held c (r .highest)) (closed-is-idle r (h .formed) e); policy = h .policy; request = λ (x : T false). absurd x }, refl)
+      go true e = stays (record { low = ap (λ (c : Control). held c (r .highest)) (closed-is-idle r (h .formed) e); policy = h .policy; request = λ (x : T false). absurd x; dialogue = refl }, refl)
       go false e = taken-report sd r SystemError _ (both (takes sd (r .control) SystemError) true (subst (λ (b : Bool). T (not b)) (sym e) tt) tt) (excepts-rel K p sd r undefinedError undefinedError [] h tt)

@@ -1,5 +1,5 @@
--- What holds of one end's record on every run: it is formed, by crate machine's laws (t-start runs exactly in START-REQ, the user is
--- active exactly outside IDLE, IDLE has DSC false), and the security values are the pair's.
+-- What holds of one end's record on every run: it is formed, by crate machine's laws (t-start runs exactly in START-REQ and FORWARD, the user is
+-- active exactly outside IDLE, IDLE has DSC false), the security values are the pair's, and no forward is under way.
 -- Assumes nothing.
 use mathlib.Core.Path.{_≡_, refl, ap, sym, subst}
 use mathlib.Core.Bool.{Bool, true, false, cond, _&&_}
@@ -14,7 +14,7 @@ use Rattle.machine.specs.Step.{step}
 use Rattle.machine.specs.declared.record.Record.{Record}
 use Rattle.machine.specs.declared.event.Event.{Event}
 use Rattle.machine.specs.declared.outcome.Outcome.{Outcome}
-use Rattle.pair.specs.Names.{Side, State, Idle, StartReq, StartInd, Dialogue, End, is, isIdle, entered, closed}
+use Rattle.pair.specs.Names.{Side, State, Idle, StartReq, StartInd, Dialogue, End, Forward, is, isIdle, awaitsResponse, entered, closed}
 use Rattle.pair.specs.Carrier.{Body, nothing, puts, message}
 use Rattle.pair.specs.Carrier as C
 use Rattle.pair.proofs.ControlMachine.{Held, held, Ent}
@@ -26,6 +26,7 @@ pub record Local (p : ℕ) (r : Record) : Type 0 where
   pub formed : Formed r
   pub policy : r .policy ≡ p
   pub request : T (is (r .control .state) StartReq) → r .request ≡ p
+  pub dialogue : awaitsResponse (r .control) ≡ false
 
 abbrev pub lowOf : Record → Held
 lowOf r = held (r .control) (r .highest)
@@ -40,10 +41,11 @@ pub record Low (p : ℕ) (r : Record) (q : Held) : Type 0 where
   pub low : lowOf r ≡ q
   pub policy : r .policy ≡ p
   pub request : T (is (r .control .state) StartReq) → r .request ≡ p
+  pub dialogue : awaitsResponse (r .control) ≡ false
 
 pub closed-low : (p : ℕ) (r : Record) → Local p r → Low p (enter r closed) (held closed (r .highest))
 unfolding enter
-closed-low p r h = record { low = refl; policy = h .policy; request = λ (x : T false). absurd x }
+closed-low p r h = record { low = refl; policy = h .policy; request = λ (x : T false). absurd x; dialogue = refl }
 
 -- in IDLE closing changes nothing of the control
 closed-only : (s : State) (d : Bool) → is s Idle ≡ true → d ≡ false → closed ≡ entered s d
@@ -52,6 +54,7 @@ closed-only StartReq d i e = absurd (subst T (sym i) tt)
 closed-only StartInd d i e = absurd (subst T (sym i) tt)
 closed-only Dialogue d i e = absurd (subst T (sym i) tt)
 closed-only End d i e = absurd (subst T (sym i) tt)
+closed-only Forward d i e = absurd (subst T (sym i) tt)
 
 pub closed-is-idle : (r : Record) → Formed r → isIdle (r .control) ≡ true → closed ≡ r .control
 closed-is-idle r h i = closed-only (r .control .state) (r .control .dsc) i (h .idle i)
@@ -77,7 +80,7 @@ calls-formed K sd r e b j h = go (isNone (step sd r e .refusal) && K .fits sd (s
     go false = tt
 
 low-same : (p : ℕ) (r : Record) (q : Held) → Formed r → Low p r q → Same p r q
-low-same p r q f h = record { low = h .low; local = record { formed = f; policy = h .policy; request = h .request } }
+low-same p r q f h = record { low = h .low; local = record { formed = f; policy = h .policy; request = h .request; dialogue = h .dialogue } }
 
 pub same-out : (p : ℕ) (EE : Wire → Ent → Type 0) (o : C.Outcome Record Wire) (z : C.Outcome Held Ent) → FormedOut o → OutRel (Low p) EE o z → OutRel (Same p) EE o z
 same-out p EE C.refused C.refused f x = x

@@ -3,7 +3,7 @@
 -- Assumes nothing.
 use Prim.Native.Nat.{ℕ}
 use mathlib.Core.Path.{_≡_}
-use mathlib.Core.Bool.{Bool, cond, _&&_}
+use mathlib.Core.Bool.{Bool, true, cond, _&&_}
 use mathlib.Core.List.{List, [], _∷_}
 use lib.Dec.{T, ltb}
 use Rattle.machine.specs.Codes.{providerReasons}
@@ -19,9 +19,9 @@ use Rattle.machine.specs.declared.event.ServicePrimitive.{ServicePrimitive}
 use Rattle.machine.specs.declared.event.ServicePrimitive.the-variants.{DPAbortIndication}
 use Rattle.machine.specs.declared.event.Event.the-variants.{User, Service, TimerExpires, UnrecoverableSystemError}
 use Rattle.machine.specs.declared.outcome.Invoked.{Invoked}
-use Rattle.machine.specs.declared.outcome.Invoked.the-variants.{Silent, DStartRequest, DStartResponse, DDataRequest, DEndRequest, DEndResponse, DAbortRequest}
+use Rattle.machine.specs.declared.outcome.Invoked.the-variants.{Silent, DStartRequest, DStartResponse, DDataRequest, DEndRequest, DEndResponse, DAbortRequest, DStartForwardRequest, DStartForwardResponse}
 use Rattle.machine.specs.declared.outcome.Told.{Told}
-use Rattle.machine.specs.declared.outcome.Told.the-variants.{Untold, StartIndication, StartConfirmation, MessageIndication, EndIndication, EndConfirmation, UserAbortIndication, ProviderAbortIndication}
+use Rattle.machine.specs.declared.outcome.Told.the-variants.{Untold, StartIndication, StartConfirmation, MessageIndication, EndIndication, EndConfirmation, UserAbortIndication, ProviderAbortIndication, ForwardIndication, ForwardConfirmation}
 use Rattle.machine.specs.declared.outcome.Outcome.{Outcome}
 use Rattle.pair.specs.Names.{Side, other}
 use Rattle.pair.specs.Carrier.{Body, Sent, nothing, puts, message, Machine}
@@ -67,6 +67,8 @@ handedBy (EndIndication m) b = []
 handedBy (EndConfirmation m x) b = []
 handedBy (UserAbortIndication x) b = []
 handedBy (ProviderAbortIndication x) b = []
+handedBy ForwardIndication b = []
+handedBy (ForwardConfirmation x v) b = []
 
 abbrev pub sentBy : Invoked → List ℕ → Body → ℕ → Sent Wire
 sentBy Silent w b j = nothing
@@ -76,6 +78,8 @@ sentBy DDataRequest w b j = message (record { primitive = DDataRequest; bytes = 
 sentBy DEndRequest w b j = puts (record { primitive = DEndRequest; bytes = w })
 sentBy (DEndResponse x) w b j = puts (record { primitive = DEndResponse x; bytes = w })
 sentBy (DAbortRequest o) w b j = puts (record { primitive = DAbortRequest o; bytes = w })
+sentBy (DStartForwardRequest q s v) w b j = puts (record { primitive = DStartForwardRequest q s v; bytes = w })
+sentBy (DStartForwardResponse s v) w b j = puts (record { primitive = DStartForwardResponse s v; bytes = w })
 
 -- b, j: the data and the job that the user gave; x: the data that were received
 abbrev pub taken : Codec → Side → Outcome → Body → ℕ → Body → C.Outcome Record Wire
@@ -143,4 +147,4 @@ stepMachine K p = record {
 
 -- a fresh record whose policy accepts p
 abbrev pub freshWith : ℕ → Record
-freshWith p = freshRecord (record { policy = p })
+freshWith p = freshRecord (record { policy = p; forwards = true; version = 1 })

@@ -11,9 +11,9 @@ use Rattle.machine.specs.Codes.{user, provider, results, userReasons, providerR
 use Rattle.machine.specs.Event.{qosFits}
 use Rattle.machine.specs.Calls.{answer, qosAsked}
 use Rattle.machine.specs.declared.event.Apdu.{Apdu}
-use Rattle.machine.specs.declared.event.Apdu.the-variants.{Absent, NotValid, Start, Send, AbortUser, AbortProvider, Forward}
+use Rattle.machine.specs.declared.event.Apdu.the-variants.{Absent, NotValid, Start, Send, AbortUser, AbortProvider, Forward, ForwardResponse}
 use Rattle.machine.specs.declared.outcome.Invoked.{Invoked}
-use Rattle.machine.specs.declared.outcome.Invoked.the-variants.{Silent, DStartRequest, DStartResponse, DDataRequest, DEndRequest, DEndResponse, DAbortRequest}
+use Rattle.machine.specs.declared.outcome.Invoked.the-variants.{Silent, DStartRequest, DStartResponse, DDataRequest, DEndRequest, DEndResponse, DAbortRequest, DStartForwardRequest, DStartForwardResponse}
 use Rattle.pair.specs.Names.{Side, Primitive, DStart, DStartCnf, DData, DEnd, DEndCnf, DAbort}
 use Rattle.pair.specs.Carrier.{Body}
 use Rattle.pair.proofs.ControlMachine.{Ent, ent}
@@ -43,6 +43,7 @@ startOf Send b = odd
 startOf (AbortUser x) b = odd
 startOf (AbortProvider x) b = odd
 startOf Forward b = odd
+startOf (ForwardResponse x) b = odd
 
 abbrev pub sendOf : Primitive → Apdu → Body → Meaning
 sendOf k Absent b = odd
@@ -52,6 +53,7 @@ sendOf k Send b = known (ent k b)
 sendOf k (AbortUser x) b = odd
 sendOf k (AbortProvider x) b = odd
 sendOf k Forward b = odd
+sendOf k (ForwardResponse x) b = odd
 
 -- the reason fits the originator
 abbrev pub abortOf : ℕ → Apdu → Meaning
@@ -62,6 +64,7 @@ abortOf o Send = odd
 abortOf o (AbortUser x) = cond (eqb o user && ltb x userReasons) (known (ent DAbort [])) odd
 abortOf o (AbortProvider x) = cond (eqb o provider && ltb x providerReasons) (known (ent DAbort [])) odd
 abortOf o Forward = odd
+abortOf o (ForwardResponse x) = odd
 
 -- p: the security value of both ends
 abbrev pub meant : ℕ → Invoked → Apdu → Body → Meaning
@@ -72,6 +75,8 @@ meant p DDataRequest a b = sendOf DData a b
 meant p DEndRequest a b = sendOf DEnd a b
 meant p (DEndResponse x) a b = cond (ltb x results) (sendOf (DEndCnf (answer x)) a b) odd
 meant p (DAbortRequest o) a b = abortOf o a
+meant p (DStartForwardRequest q s v) a b = odd
+meant p (DStartForwardResponse s v) a b = odd
 
 abbrev pub meaning : ℕ → Invoked → Read → Meaning
 meaning p i (got a b) = meant p i a b
@@ -102,6 +107,7 @@ start-sort Send b f e = never f e
 start-sort (AbortUser x) b f e = never f e
 start-sort (AbortProvider x) b f e = never f e
 start-sort Forward b f e = never f e
+start-sort (ForwardResponse x) b f e = never f e
 
 send-sort : (k : Primitive) (a : Apdu) (b : Body) (f : Ent) → sendOf k a b ≡ known f → M.sortOf k ≡ M.sortOf (f .kind)
 send-sort k Absent b f e = never f e
@@ -111,6 +117,7 @@ send-sort k Send b f e = ap (λ (x : Meaning). M.sortOf (entOf x .kind)) e
 send-sort k (AbortUser x) b f e = never f e
 send-sort k (AbortProvider x) b f e = never f e
 send-sort k Forward b f e = never f e
+send-sort k (ForwardResponse x) b f e = never f e
 
 pub abort-is : (o : ℕ) (a : Apdu) (f : Ent) → abortOf o a ≡ known f → ent DAbort [] ≡ f
 abort-is o Absent f e = never f e
@@ -120,6 +127,7 @@ abort-is o Send f e = never f e
 abort-is o (AbortUser x) f e = ap entOf (known-if (eqb o user && ltb x userReasons) (known (ent DAbort [])) f e .1)
 abort-is o (AbortProvider x) f e = ap entOf (known-if (eqb o provider && ltb x providerReasons) (known (ent DAbort [])) f e .1)
 abort-is o Forward f e = never f e
+abort-is o (ForwardResponse x) f e = never f e
 
 meant-sort : (p : ℕ) (i : Invoked) (a : Apdu) (b : Body) (f : Ent) → meant p i a b ≡ known f → sortOf i ≡ M.sortOf (f .kind)
 meant-sort p Silent a b f e = never f e
@@ -129,6 +137,8 @@ meant-sort p DDataRequest a b f e = send-sort DData a b f e
 meant-sort p DEndRequest a b f e = send-sort DEnd a b f e
 meant-sort p (DEndResponse x) a b f e = send-sort (DEndCnf (answer x)) a b f (known-if (ltb x results) (sendOf (DEndCnf (answer x)) a b) f e .1)
 meant-sort p (DAbortRequest o) a b f e = ap (λ (x : Ent). M.sortOf (x .kind)) (abort-is o a f e)
+meant-sort p (DStartForwardRequest q s v) a b f e = never f e
+meant-sort p (DStartForwardResponse s v) a b f e = never f e
 
 pub meaning-sort : (p : ℕ) (i : Invoked) (x : Read) (f : Ent) → meaning p i x ≡ known f → sortOf i ≡ M.sortOf (f .kind)
 meaning-sort p i (got a b) f e = meant-sort p i a b f e

@@ -8,8 +8,9 @@ use Prim.Native.Nat.{ℕ, zero, suc}
 use native.Mathlib.Omega.{arith}
 use lib.Dec.{T, ltb, eqb, eqb→eq, ltb→lt}
 use borrow.Author.Tests.{eq-eqb}
-use Rattle.machine.specs.Codes.{accepted, user, provider, results, startResults, originators, userReasons, providerReasons, securityValues, protocolError, communicationServiceError, communicationServiceFailure}
+use Rattle.machine.specs.Codes.{accepted, noSecurity, noVersion, transient, dsProvider, user, provider, results, startResults, originators, userReasons, providerReasons, securityValues, protocolError, communicationServiceError, communicationServiceFailure}
 use Rattle.control.specs.Control.{started, ended}
+use Rattle.control.proofs.Moves.{after-awaits}
 use Rattle.machine.proofs.Clauses.{no-instruction-outside}
 use Rattle.machine.specs.Record.{withTimer, withUser, enter}
 use Rattle.machine.specs.Outcome.{isNone}
@@ -18,12 +19,12 @@ use Rattle.machine.specs.Apdus.{readable, abortFits}
 use Rattle.machine.specs.Event.{qosFits, serviceShapely, shapely}
 use Rattle.machine.specs.Exceptions.{tell, closes, excepts, noInstruction}
 use Rattle.machine.specs.Calls.{answer}
-use Rattle.machine.specs.Faults.{pduFault, sendFault, abortFault, startFits, turnedAway, indicationFault, confirmationFault, firstFault}
+use Rattle.machine.specs.Faults.{pduFault, sendFault, abortFault, startFits, turnedAway, indicationFault, responseFault, confirmationFault, firstFault}
 use Rattle.machine.specs.Primitives.{handed, abortTold, instructed, answered, reached}
 use Rattle.machine.specs.Step.{permitted, messageRefusal, refusalOf, acts, step}
 use Rattle.machine.specs.declared.record.Record.{Record}
 use Rattle.machine.specs.declared.event.Apdu.{Apdu}
-use Rattle.machine.specs.declared.event.Apdu.the-variants.{Absent, NotValid, Start, Send, AbortUser, AbortProvider, Forward}
+use Rattle.machine.specs.declared.event.Apdu.the-variants.{Absent, NotValid, Start, Send, AbortUser, AbortProvider, Forward, ForwardResponse}
 use Rattle.machine.specs.declared.event.Qos.{Qos}
 use Rattle.machine.specs.declared.event.ServicePrimitive.{ServicePrimitive}
 use Rattle.machine.specs.declared.event.ServicePrimitive.the-variants.{DStartIndication, DStartConfirmation, DDataIndication, DEndIndication, DEndConfirmation, DAbortIndication, DPAbortIndication}
@@ -33,7 +34,7 @@ use Rattle.machine.specs.declared.faults.Fault.{Fault}
 use Rattle.machine.specs.declared.faults.Fault.the-variants.{NoFault, NoInstruction, Quality, TurnedAway, Security, NotPermitted}
 use Rattle.machine.specs.declared.outcome.Refusal.the-variants.{None, Shape}
 use Rattle.machine.specs.declared.outcome.Invoked.{Invoked}
-use Rattle.machine.specs.declared.outcome.Invoked.the-variants.{Silent, DStartRequest, DStartResponse, DDataRequest, DEndRequest, DEndResponse, DAbortRequest}
+use Rattle.machine.specs.declared.outcome.Invoked.the-variants.{Silent, DStartRequest, DStartResponse, DDataRequest, DEndRequest, DEndResponse, DAbortRequest, DStartForwardRequest, DStartForwardResponse}
 use Rattle.machine.specs.declared.outcome.Told.{Told}
 use Rattle.machine.specs.declared.outcome.Told.the-variants.{Untold, StartIndication, StartConfirmation, MessageIndication, EndIndication, EndConfirmation, ProviderAbortIndication}
 use Rattle.machine.specs.declared.outcome.Outcome.{Outcome}
@@ -66,7 +67,7 @@ module _ (K : Codec) (p : ℕ) where
   unfolding handed enter
   handed-rel sd r z k t b h v c j m n e =
       subst (λ (x : Control). Out K p sd (C.acts (enter z (after x k)) (handedBy t b) nothing) (C.acts (held (after (r .control) k) (r .highest)) (M.handed (isData k) b) nothing)) (sym c)
-      (record { low = ap (held (after (r .control) k)) j; policy = m ∙ h .policy; request = n }, e, tt)
+      (record { low = ap (held (after (r .control) k)) j; policy = m ∙ h .policy; request = n; dialogue = after-awaits (r .control) k (h .dialogue) }, e, tt)
 
   -- the control meets k, which is no start
   abbrev Meets : Side → Record → Primitive → Body → Outcome → Type 0
@@ -124,35 +125,36 @@ module _ (K : Codec) (p : ℕ) where
   confirmed-none false true g q d = refl
   confirmed-none false false g q d = absurd (subst T (sym d) tt)
 
-  confirmed-acts : (sd : Side) (r : Record) (x s : ℕ) (b : Body) → Local p r → s ≡ p → turnedAway x dsUser ≡ false → Meets sd r (DStartCnf (answer x)) b (reached sd r (DStartConfirmation x dsUser s) Send)
+  confirmed-acts : (sd : Side) (r : Record) (x s : ℕ) (b : Body) → Local p r → s ≡ p → turnedAway x dsUser ≡ false → Meets sd r (DStartCnf (answer x)) b (reached sd r (DStartConfirmation x dsUser s noVersion) Send)
   unfolding reached firstFault confirmationFault pduFault answered instructed
   confirmed-acts sd r x s b h e w =
       let k = DStartCnf (answer x) in
       let f = cond (turnedAway x dsUser) TurnedAway (cond (not (eqb s (r .request))) (Security (eqb x accepted)) NoFault) in
-      expected-rel sd r k b (DStartConfirmation x dsUser s) Send f h
+      subst (λ (z : Bool). Meets sd r k b (answered r (DStartConfirmation x dsUser s noVersion) Send (cond (not (expects sd (r .control) k)) (cond z (responseFault r x dsUser s Send) (NoInstruction true)) f))) (sym (h .dialogue))
+      (expected-rel sd r k b (DStartConfirmation x dsUser s noVersion) Send f h
       (λ (v : T (expects sd (r .control) k)).
-      subst (λ (z : Fault). Out K p sd (happens K sd (answered r (DStartConfirmation x dsUser s) Send z) b) (C.acts (held (after (r .control) k) (r .highest)) [] nothing))
+      subst (λ (z : Fault). Out K p sd (happens K sd (answered r (DStartConfirmation x dsUser s noVersion) Send z) b) (C.acts (held (after (r .control) k) (r .highest)) [] nothing))
       (sym (confirmed-none (turnedAway x dsUser) (eqb s (r .request)) (Security (eqb x accepted)) w (eq-eqb s (r .request) (e ∙ sym (h .request (and-l (is (r .control .state) StartReq) (mayStart sd (r .control .dsc)) v))))))
-      (handed-rel sd r (withTimer r false) k (StartConfirmation (r .control .dsc) x) b h v refl refl refl (λ (y : T (is (started (answer x) (r .control .dsc) .state) StartReq)). absurd (started-not K p (answer x) (r .control .dsc) y)) refl))
+      (handed-rel sd r (withTimer r false) k (StartConfirmation (r .control .dsc) x) b h v refl refl refl (λ (y : T (is (started (answer x) (r .control .dsc) .state) StartReq)). absurd (started-not K p (answer x) (r .control .dsc) y)) refl)))
 
   -- an event with the codes of its types is not refused
   step-fits : (sd : Side) (r : Record) (e : Event) → isNone (refusalOf sd r e) ≡ true → step sd r e ≡ acts sd r e
   unfolding step
   step-fits sd r e t = ap (λ (b : Bool). cond b (acts sd r e) (O.refused (refusalOf sd r e) r)) t
 
-  confirmed-fits : (sd : Side) (r : Record) (x s : ℕ) → ltb x startResults ≡ true → ltb s securityValues ≡ true → isNone (refusalOf sd r (Service (DStartConfirmation x dsUser s) Send)) ≡ true
+  confirmed-fits : (sd : Side) (r : Record) (x s : ℕ) → ltb x startResults ≡ true → ltb s securityValues ≡ true → isNone (refusalOf sd r (Service (DStartConfirmation x dsUser s noVersion) Send)) ≡ true
   unfolding refusalOf shapely serviceShapely readable permitted messageRefusal
-  confirmed-fits sd r x s t v = ap (λ (b : Bool). isNone (cond (not ((b && (true && ltb s securityValues)) && true)) Shape None)) t ∙ ap (λ (b : Bool). isNone (cond (not (b && true)) Shape None)) v
+  confirmed-fits sd r x s t v = ap (λ (b : Bool). isNone (cond (not ((b && (true && (ltb s securityValues && true))) && true)) Shape None)) t ∙ ap (λ (b : Bool). isNone (cond (not ((b && true) && true)) Shape None)) v
 
-  confirmed-rel : (sd : Side) (r : Record) (x s : ℕ) (b : Body) → Local p r → T (ltb x results) → s ≡ p → ltb p securityValues ≡ true → Out K p sd (happens K sd (step sd r (Service (DStartConfirmation x dsUser s) Send)) b) (receives sd (lowOf r) (ent (DStartCnf (answer x)) b))
+  confirmed-rel : (sd : Side) (r : Record) (x s : ℕ) (b : Body) → Local p r → T (ltb x results) → s ≡ p → ltb p securityValues ≡ true → Out K p sd (happens K sd (step sd r (Service (DStartConfirmation x dsUser s noVersion) Send)) b) (receives sd (lowOf r) (ent (DStartCnf (answer x)) b))
   unfolding acts
   confirmed-rel sd r x s b h t e v =
-      two (λ (y : ℕ). Out K p sd (happens K sd (step sd r (Service (DStartConfirmation y dsUser s) Send)) b) (receives sd (lowOf r) (ent (DStartCnf (answer y)) b))) (go 0 refl refl) (go 1 refl refl) x t
+      two (λ (y : ℕ). Out K p sd (happens K sd (step sd r (Service (DStartConfirmation y dsUser s noVersion) Send)) b) (receives sd (lowOf r) (ent (DStartCnf (answer y)) b))) (go 0 refl refl) (go 1 refl refl) x t
     where
-      go : (y : ℕ) → ltb y startResults ≡ true → turnedAway y dsUser ≡ false → Out K p sd (happens K sd (step sd r (Service (DStartConfirmation y dsUser s) Send)) b) (receives sd (lowOf r) (ent (DStartCnf (answer y)) b))
+      go : (y : ℕ) → ltb y startResults ≡ true → turnedAway y dsUser ≡ false → Out K p sd (happens K sd (step sd r (Service (DStartConfirmation y dsUser s noVersion) Send)) b) (receives sd (lowOf r) (ent (DStartCnf (answer y)) b))
       go y f w =
           subst (λ (z : Outcome). Out K p sd (happens K sd z b) (receives sd (lowOf r) (ent (DStartCnf (answer y)) b)))
-          (sym (step-fits sd r (Service (DStartConfirmation y dsUser s) Send) (confirmed-fits sd r y s f (ap (λ (a : ℕ). ltb a securityValues) e ∙ v))))
+          (sym (step-fits sd r (Service (DStartConfirmation y dsUser s noVersion) Send) (confirmed-fits sd r y s f (ap (λ (a : ℕ). ltb a securityValues) e ∙ v))))
           (confirmed-acts sd r y s b h e w)
 
   -- ---- the carrier turns a start away
@@ -160,8 +162,9 @@ module _ (K : Codec) (p : ℕ) where
   pub away-rel : (sd : Side) (r : Record) → Local p r → Out K p sd (happens K sd (step sd r (Service rejects Absent)) []) (receives sd (lowOf r) (ent DTurnedAway []))
   unfolding step refusalOf shapely serviceShapely readable permitted messageRefusal acts reached firstFault confirmationFault answered answer
   away-rel sd r h =
-      expected-rel sd r DTurnedAway [] rejects Absent TurnedAway h
-      (λ (v : T (expects sd (r .control) DTurnedAway)). closes-rel K p sd r (tell r (ProviderAbortIndication communicationServiceError)) [] h)
+      subst (λ (z : Bool). Meets sd r DTurnedAway [] (answered r rejects Absent (cond (not (expects sd (r .control) DTurnedAway)) (cond z (responseFault r transient dsProvider noSecurity Absent) (NoInstruction true)) TurnedAway))) (sym (h .dialogue))
+      (expected-rel sd r DTurnedAway [] rejects Absent TurnedAway h
+      (λ (v : T (expects sd (r .control) DTurnedAway)). closes-rel K p sd r (tell r (ProviderAbortIndication communicationServiceError)) [] h))
 
   -- ---- D-ABORT, D-P-ABORT: outside IDLE they close; in IDLE there is no output
 
@@ -202,7 +205,7 @@ module _ (K : Codec) (p : ℕ) where
   -- ---- D-START indication
 
   abbrev indication : Side → Qos → ℕ → ServicePrimitive
-  indication sd q s = DStartIndication (callerOf sd) s q
+  indication sd q s = DStartIndication (callerOf sd) s q noVersion
 
   -- i: IDLE; y: the other side may start in this mode
   offered-rel : (sd : Side) (r : Record) (q : Qos) (s : ℕ) (m i y : Bool) (b : Body) → Local p r → isIdle (r .control) ≡ i → (T (i && y) → T (expects sd (r .control) (DStart m)))
@@ -233,8 +236,8 @@ module _ (K : Codec) (p : ℕ) where
 
   start-fits : (sd : Side) (r : Record) (q : Qos) (s : ℕ) (m : Bool) → ltb s securityValues ≡ true → isNone (refusalOf sd r (Service (indication sd q s) (Start m))) ≡ true
   unfolding refusalOf shapely serviceShapely readable permitted messageRefusal
-  start-fits Air r q s m v = ap (λ (b : Bool). isNone (cond (not (b && true)) Shape None)) v
-  start-fits Ground r q s m v = ap (λ (b : Bool). isNone (cond (not (b && true)) Shape None)) v
+  start-fits Air r q s m v = ap (λ (b : Bool). isNone (cond (not ((b && true) && true)) Shape None)) v
+  start-fits Ground r q s m v = ap (λ (b : Bool). isNone (cond (not ((b && true) && true)) Shape None)) v
 
   start-rel : (sd : Side) (r : Record) (q : Qos) (s : ℕ) (m : Bool) (b : Body) → Local p r → qosFits q ≡ true → s ≡ p → ltb p securityValues ≡ true → Out K p sd (happens K sd (step sd r (Service (indication sd q s) (Start m))) b) (receives sd (lowOf r) (ent (DStart m) b))
   unfolding acts
@@ -260,6 +263,7 @@ module _ (K : Codec) (p : ℕ) where
   send-core sd r i k (AbortUser y) b f x e = never f e
   send-core sd r i k (AbortProvider y) b f x e = never f e
   send-core sd r i k Forward b f x e = never f e
+  send-core sd r i k (ForwardResponse y) b f x e = never f e
 
   start-core : (sd : Side) (r : Record) (q : Qos) (s : ℕ) (a : Apdu) (b : Body) (f : Ent) → Local p r → qosFits q ≡ true → s ≡ p → ltb p securityValues ≡ true → startOf a b ≡ known f → Received sd r (DStartRequest q s) a b f
   start-core sd r q s Absent b f h t e v k = never f k
@@ -269,6 +273,7 @@ module _ (K : Codec) (p : ℕ) where
   start-core sd r q s (AbortUser y) b f h t e v k = never f k
   start-core sd r q s (AbortProvider y) b f h t e v k = never f k
   start-core sd r q s Forward b f h t e v k = never f k
+  start-core sd r q s (ForwardResponse y) b f h t e v k = never f k
 
   abort-core : (sd : Side) (r : Record) (o : ℕ) (a : Apdu) (b : Body) (f : Ent) → Local p r → abortOf o a ≡ known f → Received sd r (DAbortRequest o) a b f
   unfolding readable
@@ -287,6 +292,7 @@ module _ (K : Codec) (p : ℕ) where
       at-known sd r (DAbortRequest o) (AbortProvider x) b (ent DAbort []) f (v .1)
       (abort-rel sd r o (AbortProvider x) b h (ap (λ (z : ℕ). ltb z originators && ltb x providerReasons) (eqb→eq o provider (T-is _ e)) ∙ is-T (ltb x providerReasons) (and-r (eqb o provider) (ltb x providerReasons) (v .0))) (ap (λ (z : ℕ). abortFits z (AbortProvider x)) (eqb→eq o provider (T-is _ e))))
   abort-core sd r o Forward b f h k = never f k
+  abort-core sd r o (ForwardResponse x) b f h k = never f k
 
   core : (sd : Side) (r : Record) (i : Invoked) (a : Apdu) (b : Body) (f : Ent) → Local p r → ltb p securityValues ≡ true → meant p i a b ≡ known f → Received sd r i a b f
   core sd r Silent a b f h v k = never f k
@@ -302,6 +308,8 @@ module _ (K : Codec) (p : ℕ) where
       let w = known-if (ltb x results) (sendOf (DEndCnf (answer x)) a b) f k in
       send-core sd r (DEndResponse x) (DEndCnf (answer x)) a b f (ended-rel sd r x b h (w .0)) (w .1)
   core sd r (DAbortRequest o) a b f h v k = abort-core sd r o a b f h k
+  core sd r (DStartForwardRequest q s w) a b f h v k = never f k
+  core sd r (DStartForwardResponse s w) a b f h v k = never f k
 
   pub receive-rel : (sd : Side) (r : Record) (i : Invoked) (x : Read) (f : Ent) → Local p r → ltb p securityValues ≡ true → meaning p i x ≡ known f → Out K p sd (happens K sd (step sd r (Service (arrives sd i) (apduOf x))) (bodyOf x)) (receives sd (lowOf r) f)
   receive-rel sd r i (got a b) f h v k = core sd r i a b f h v k

@@ -2,7 +2,7 @@
 pub use Rattle.control.specs.declared.Side.{Side}
 pub use Rattle.control.specs.declared.Side.the-variants.{Air, Ground}
 pub use Rattle.control.specs.declared.State.{State}
-pub use Rattle.control.specs.declared.State.the-variants.{Idle, StartReq, StartInd, Dialogue, End}
+pub use Rattle.control.specs.declared.State.the-variants.{Idle, StartReq, StartInd, Dialogue, End, Forward}
 pub use Rattle.control.specs.declared.Control.{Control}
 pub use Rattle.control.specs.declared.Answer.{Answer}
 pub use Rattle.control.specs.declared.Answer.the-variants.{Accepted, Rejected}
@@ -10,4 +10,4 @@ pub use Rattle.control.specs.declared.Call.{Call}
 pub use Rattle.control.specs.declared.Call.the-variants.{StartRequest, StartResponse, MessageRequest, EndRequest, EndResponse, UserAbort, TimerExpiry, SystemError}
 pub use Rattle.control.specs.declared.Primitive.{Primitive}
 pub use Rattle.control.specs.declared.Primitive.the-variants.{DStart, DStartCnf, DTurnedAway, DData, DEnd, DEndCnf, DAbort, DPAbort}
-pub use Rattle.control.specs.Control.{same, is, isIdle, entered, closed, other, mayStart, takes, goes, sends, expects, after, isData, Did, quiet, aborts, meets, hands}
+pub use Rattle.control.specs.Control.{same, is, isIdle, waits, awaitsResponse, entered, closed, other, mayStart, takes, goes, sends, expects, after, isData, Did, quiet, aborts, meets, hands}

@@ -1,11 +1,11 @@
 -- What travels on a line when an end is a card: a primitive with its parameters, and bytes.
 use Prim.Native.Nat.{ℕ}
 use mathlib.Core.List.{List}
-use Rattle.machine.specs.Codes.{noSecurity, transient, dsProvider, facility, aircraft}
+use Rattle.machine.specs.Codes.{noSecurity, noVersion, permanent, transient, dsProvider, facility, aircraft}
 use Rattle.machine.specs.declared.event.ServicePrimitive.{ServicePrimitive}
 use Rattle.machine.specs.declared.event.ServicePrimitive.the-variants.{DStartIndication, DStartConfirmation, DDataIndication, DEndIndication, DEndConfirmation, DAbortIndication, DPAbortIndication}
 use Rattle.machine.specs.declared.outcome.Invoked.{Invoked}
-use Rattle.machine.specs.declared.outcome.Invoked.the-variants.{Silent, DStartRequest, DStartResponse, DDataRequest, DEndRequest, DEndResponse, DAbortRequest}
+use Rattle.machine.specs.declared.outcome.Invoked.the-variants.{Silent, DStartRequest, DStartResponse, DDataRequest, DEndRequest, DEndResponse, DAbortRequest, DStartForwardRequest, DStartForwardResponse}
 use Rattle.pair.specs.Names.{Side, Air, Ground}
 use Rattle.pair.specs.Carrier.{Sort, begins, breaks, plain}
 
@@ -22,6 +22,8 @@ sortOf DDataRequest = plain
 sortOf DEndRequest = plain
 sortOf (DEndResponse x) = plain
 sortOf (DAbortRequest o) = breaks
+sortOf (DStartForwardRequest q s v) = begins
+sortOf (DStartForwardResponse s v) = plain
 
 -- who calls the end at side sd: a facility calls the air, an aircraft the ground
 abbrev pub callerOf : Side → ℕ
@@ -32,16 +34,19 @@ callerOf Ground = aircraft
 abbrev pub dsUser : ℕ
 dsUser = 0
 
--- what a primitive is at the other end, whose side is sd (nothing silent is on a line)
+-- what a primitive is at the other end, whose side is sd (nothing silent is on a line). A forward comes from a facility, and is answered by "rejected
+-- (permanent)"; the D-START of a dialogue carries no version here
 abbrev pub arrives : Side → Invoked → ServicePrimitive
 arrives sd Silent = DPAbortIndication
-arrives sd (DStartRequest q s) = DStartIndication (callerOf sd) s q
-arrives sd (DStartResponse x s) = DStartConfirmation x dsUser s
+arrives sd (DStartRequest q s) = DStartIndication (callerOf sd) s q noVersion
+arrives sd (DStartResponse x s) = DStartConfirmation x dsUser s noVersion
 arrives sd DDataRequest = DDataIndication
 arrives sd DEndRequest = DEndIndication
 arrives sd (DEndResponse x) = DEndConfirmation x
 arrives sd (DAbortRequest o) = DAbortIndication o
+arrives sd (DStartForwardRequest q s v) = DStartIndication facility s q v
+arrives sd (DStartForwardResponse s v) = DStartConfirmation permanent dsUser s v
 
 -- the confirmation that the carrier makes when it turns a start away: rejected (transient), DS provider
 abbrev pub rejects : ServicePrimitive
-rejects = DStartConfirmation transient dsProvider noSecurity
+rejects = DStartConfirmation transient dsProvider noSecurity noVersion

@@ -3,7 +3,7 @@
 use mathlib.Core.Path.{_≡_, refl, ap, sym, subst, _∙_}
 use mathlib.Core.Bool.{Bool, true, false, cond, not}
 use mathlib.Core.List.{List}
-use Prim.Native.Nat.{ℕ, zero, suc, _+_, _-_, _%_, _^_, _≤_, _<_}
+use Prim.Native.Nat.{ℕ, zero, suc, _+_, _-_, _*_, _%_, _^_, _≤_, _<_}
 use native.Mathlib.Omega.{arith}
 use borrow.Author.Tests.{leb-true, leb-false, ltb-true}
 use lib.Dec.{leb, ltb, eqb}
@@ -22,14 +22,24 @@ use Rattle.fields.proofs.Widths.{width-within}
 use Rattle.places.specs.Claims.{Seen, went, refused, Alike, Settled, Placed, Refusing, Sound, seenField}
 use Rattle.places.proofs.Readers.{clash, one-place, one-refusal, sound-value, refusing-bind, sound-bind, sound-cond, after-field, then-sound, bit-sound, judged, whole-sound, whole-cut, index-sound, string-sound, additions-sound}
 use Rattle.apdu.specs.Sizes.{identifierLeast, identifierMost, messageMost, checkMost, userLast, providerLast, modeLast, octet, bit}
+use Rattle.apdu.specs.Headings.{triple, dateFrom, dateTo, timeFrom, timeTo, charactersLeast, charactersMost, character, addressBits, directionLast, responseLast}
 use Rattle.apdu.specs.Pdus.{lastOf, kindOf}
 use Rattle.apdu.specs.Encoding.{padding}
-use Rattle.apdu.specs.Reading.{onField, onData, onTaken, onLead, optionalAt, partAt, spanTo, partsWithin, partsAt, withAdditions, dataWithin, dataAt, modeValue, modeAt, kindMode, leadingAt, tailAt, endedAt, restWithin, restAt, apduWithin, apduAt, wholeWithin, wholeData}
+use Rattle.apdu.specs.Reading.{onField, onData, onTaken, onTriple, onHeading, onForward, onLead, optionalAt, partAt, spanTo, partsWithin, partsAt, withAdditions, dataWithin, dataAt, tripleAt, headingAt, forwardWithin, forwardAt, modeValue, modeAt, kindMode, leadingAt, tailAt, endedAt, restWithin, restAt, apduWithin, apduAt, wholeWithin, wholeData, wholeForwardWithin, wholeForward}
 use Rattle.apdu.specs.declared.Side.{Side}
 use Rattle.apdu.specs.declared.Side.the-variants.{Air, Ground}
 use Rattle.apdu.specs.declared.Kind.{Kind}
 use Rattle.apdu.specs.declared.Kind.the-variants as kind
 use Rattle.apdu.specs.declared.Data.{Data}
+use Rattle.apdu.specs.declared.Triple.{Triple}
+use Rattle.apdu.specs.declared.Heading.{Heading}
+use Rattle.apdu.specs.declared.Forward.{Forward}
+use Rattle.apdu.specs.declared.Triples.{Triples}
+use Rattle.apdu.specs.declared.Triples.the-variants as triples
+use Rattle.apdu.specs.declared.Headed.{Headed}
+use Rattle.apdu.specs.declared.Headed.the-variants as headed
+use Rattle.apdu.specs.declared.Forwarded.{Forwarded}
+use Rattle.apdu.specs.declared.Forwarded.the-variants as forwarded
 use Rattle.apdu.specs.declared.Apdu.{Apdu}
 use Rattle.apdu.specs.declared.Apdu.the-variants as apdu
 use Rattle.apdu.specs.declared.Taken.{Taken}
@@ -234,26 +244,30 @@ answer-field f k l at s on =
     go (Value v j) e n q a b = let i : j ≡ n = one-place j n q in subst (λ (z : ℕ). Refusing seenAnswer (k v j) l z) i (on v j e (omega arith) (omega arith))
     go (Refused r) e n q a b = clash n r (sym q)
 
-ended-refusing : (l : List ℕ) (at : ℕ) (a : Apdu) → Bits l → at ≤ length l → Refusing seenAnswer (λ (x : List ℕ). endedAt x at a) l at
-unfolding endedAt
-ended-refusing l at a b h r e = up (tailAt l at) refl e
+-- what was read, and behind it the tail alone
+behind-refusing : {A : Type 0} (seen : A → Seen) (up : Refusal → A) → ((r : Refusal) → seen (up r) ≡ refused r) → (made : A) (place : ℕ) → seen made ≡ went place → (l : List ℕ) (at : ℕ) → Bits l → at ≤ length l → Refusing seen (λ (x : List ℕ). onField up (tailAt x at) (λ (v n : ℕ). made)) l at
+behind-refusing {A} seen up says made place is l at b h r e = go (tailAt l at) refl e
   where
-    up : (x : Field) → tailAt l at ≡ x → seenAnswer (onField answer.Refused x (λ (v n : ℕ). answer.Is a)) ≡ refused r → Placed seenAnswer (λ (y : List ℕ). onField answer.Refused (tailAt y at) (λ (v n : ℕ). answer.Is a)) l at r
-    up (Value v n) f q = clash 0 r q
-    up (Refused z) f q =
-        let p = tail-refusing l at b h r (ap seenField f ∙ q) in
+    lift : (x : Field) (z : Refusal) → seenField x ≡ refused z → seen (onField up x (λ (v n : ℕ). made)) ≡ refused z
+    lift (Value v n) z c = clash n z c
+    lift (Refused y) z c = says y ∙ c
+
+    go : (x : Field) → tailAt l at ≡ x → seen (onField up x (λ (v n : ℕ). made)) ≡ refused r → Placed seen (λ (y : List ℕ). onField up (tailAt y at) (λ (v n : ℕ). made)) l at r
+    go (Value v n) f q = clash place r (sym is ∙ q)
+    go (Refused z) f q =
+        let p = tail-refusing l at b h r (ap seenField f ∙ (sym (says z) ∙ q)) in
         record {
           after = p .after;
           within = p .within;
           begins = λ (t : r .fault ≡ Tail → ⊥). lift (tailAt (take (r .at) l) at) (refusal (r .at) Short) (p .begins t);
           settled = λ (t : r .fault ≡ Short → ⊥) (u : r .fault ≡ Tail → ⊥).
               let c = p .settled t u in
-              record { end = c .end; behind = c .behind; within = c .within; same = λ (m : List ℕ) (k : Alike (c .end) l m). ap (λ (x : Field). onField answer.Refused x (λ (v n : ℕ). answer.Is a)) (c .same m k) };
+              record { end = c .end; behind = c .behind; within = c .within; same = λ (m : List ℕ) (k : Alike (c .end) l m). ap (λ (x : Field). onField up x (λ (v n : ℕ). made)) (c .same m k) };
         }
-      where
-        lift : (x : Field) (z : Refusal) → seenField x ≡ refused z → seenAnswer (onField answer.Refused x (λ (v n : ℕ). answer.Is a)) ≡ refused z
-        lift (Value v n) z c = clash n z c
-        lift (Refused y) z c = c
+
+ended-refusing : (l : List ℕ) (at : ℕ) (a : Apdu) → Bits l → at ≤ length l → Refusing seenAnswer (λ (x : List ℕ). endedAt x at a) l at
+unfolding endedAt
+ended-refusing l at a b h = behind-refusing seenAnswer answer.Refused (λ (r : Refusal). refl) (answer.Is a) 0 refl l at b h
 
 data-refusing : (l : List ℕ) (at : ℕ) (k : Data → Apdu) → Bits l → at ≤ length l → Refusing seenAnswer (λ (x : List ℕ). onData (dataAt x at) (λ (d : Data) (next : ℕ). endedAt x next (k d))) l at
 data-refusing l at k b h =
@@ -267,6 +281,107 @@ data-refusing l at k b h =
     go (taken.Is d j) e n q a w = let i : j ≡ n = one-place j n q in subst (λ (z : ℕ). Refusing seenAnswer (λ (y : List ℕ). endedAt y j (k d)) l z) i (ended-refusing l j (k d) b (omega arith))
     go (taken.Refused r) e n q a w = clash n r (sym q)
 
+-- ---- a forward message
+
+abbrev pub seenTriple : Triples → Seen
+seenTriple (triples.Is v n) = went n
+seenTriple (triples.Refused r) = refused r
+
+abbrev pub seenHeading : Headed → Seen
+seenHeading (headed.Is h n) = went n
+seenHeading (headed.Refused r) = refused r
+
+abbrev pub seenForward : Forwarded → Seen
+seenForward (forwarded.Is f n) = went n
+seenForward (forwarded.Refused r) = refused r
+
+triple-field : (f : List ℕ → Field) (k : ℕ → ℕ → List ℕ → Triples) (l : List ℕ) (at : ℕ) → Sound seenField f l at → ((v n : ℕ) → f l ≡ Value v n → at ≤ n → n ≤ length l → Sound seenTriple (k v n) l n)
+    → Sound seenTriple (λ (m : List ℕ). onField triples.Refused (f m) (λ (v n : ℕ). k v n m)) l at
+triple-field f k l at s on =
+    after-field seenTriple triples.Refused (onField triples.Refused) (λ (r : Refusal). refl) (λ (v n : ℕ) (c : ℕ → ℕ → Triples). refl) (λ (r : Refusal) (c : ℕ → ℕ → Triples). refl) f k l at s on
+
+heading-field : (f : List ℕ → Field) (k : ℕ → ℕ → List ℕ → Headed) (l : List ℕ) (at : ℕ) → Sound seenField f l at → ((v n : ℕ) → f l ≡ Value v n → at ≤ n → n ≤ length l → Sound seenHeading (k v n) l n)
+    → Sound seenHeading (λ (m : List ℕ). onField headed.Refused (f m) (λ (v n : ℕ). k v n m)) l at
+heading-field f k l at s on =
+    after-field seenHeading headed.Refused (onField headed.Refused) (λ (r : Refusal). refl) (λ (v n : ℕ) (c : ℕ → ℕ → Headed). refl) (λ (r : Refusal) (c : ℕ → ℕ → Headed). refl) f k l at s on
+
+forward-field : (f : List ℕ → Field) (k : ℕ → ℕ → List ℕ → Forwarded) (l : List ℕ) (at : ℕ) → Sound seenField f l at → ((v n : ℕ) → f l ≡ Value v n → at ≤ n → n ≤ length l → Sound seenForward (k v n) l n)
+    → Sound seenForward (λ (m : List ℕ). onField forwarded.Refused (f m) (λ (v n : ℕ). k v n m)) l at
+forward-field f k l at s on =
+    after-field seenForward forwarded.Refused (onField forwarded.Refused) (λ (r : Refusal). refl) (λ (v n : ℕ) (c : ℕ → ℕ → Forwarded). refl) (λ (r : Refusal) (c : ℕ → ℕ → Forwarded). refl) f k l at s on
+
+triple-sound : (l : List ℕ) (at : ℕ) (lo hi : Triple) → lo .first ≤ hi .first → lo .second ≤ hi .second → lo .third ≤ hi .third → at ≤ length l → Sound seenTriple (λ (x : List ℕ). tripleAt x at lo hi) l at
+unfolding tripleAt
+triple-sound l at lo hi h₁ h₂ h₃ h =
+    triple-field (λ (x : List ℕ). wholeNumber x at (lo .first) (hi .first)) _ l at (whole-sound l at (lo .first) (hi .first) h₁ h)
+    (λ (a p : ℕ) (e : wholeNumber l at (lo .first) (hi .first) ≡ Value a p) (u : at ≤ p) (w : p ≤ length l).
+    triple-field (λ (x : List ℕ). wholeNumber x p (lo .second) (hi .second)) _ l p (whole-sound l p (lo .second) (hi .second) h₂ w)
+    (λ (b q : ℕ) (f : wholeNumber l p (lo .second) (hi .second) ≡ Value b q) (u₂ : p ≤ q) (w₂ : q ≤ length l).
+    triple-field (λ (x : List ℕ). wholeNumber x q (lo .third) (hi .third)) _ l q (whole-sound l q (lo .third) (hi .third) h₃ w₂)
+    (λ (c n : ℕ) (g : wholeNumber l q (lo .third) (hi .third) ≡ Value c n) (u₃ : q ≤ n) (w₃ : n ≤ length l). sound-value seenTriple (triples.Is (triple a b c) n) l n w₃ refl)))
+
+-- after three numbers, and after a heading
+after-triple : (f : List ℕ → Triples) (k : Triple → ℕ → List ℕ → Headed) (l : List ℕ) (at : ℕ) → Sound seenTriple f l at → ((v : Triple) (n : ℕ) → f l ≡ triples.Is v n → at ≤ n → n ≤ length l → Sound seenHeading (k v n) l n)
+    → Sound seenHeading (λ (m : List ℕ). onTriple (f m) (λ (v : Triple) (n : ℕ). k v n m)) l at
+after-triple f k l at s on = sound-bind seenTriple seenHeading headed.Refused f (λ (x : Triples) (m : List ℕ). onTriple x (λ (v : Triple) (n : ℕ). k v n m)) l at (λ (r : Refusal). refl) hands s (go (f l) refl)
+  where
+    hands : (x : Triples) (r : Refusal) (m : List ℕ) → seenTriple x ≡ refused r → onTriple x (λ (v : Triple) (n : ℕ). k v n m) ≡ headed.Refused r
+    hands (triples.Is v n) r m e = clash n r e
+    hands (triples.Refused q) r m e = ap headed.Refused (one-refusal q r e)
+
+    go : (x : Triples) → f l ≡ x → (n : ℕ) → seenTriple x ≡ went n → at ≤ n → n ≤ length l → Sound seenHeading (λ (m : List ℕ). onTriple x (λ (v : Triple) (j : ℕ). k v j m)) l n
+    go (triples.Is v j) e n q a b = let i : j ≡ n = one-place j n q in subst (λ (z : ℕ). Sound seenHeading (k v j) l z) i (on v j e (omega arith) (omega arith))
+    go (triples.Refused r) e n q a b = clash n r (sym q)
+
+after-heading : (f : List ℕ → Headed) (k : Heading → ℕ → List ℕ → Forwarded) (l : List ℕ) (at : ℕ) → Sound seenHeading f l at → ((v : Heading) (n : ℕ) → f l ≡ headed.Is v n → at ≤ n → n ≤ length l → Sound seenForward (k v n) l n)
+    → Sound seenForward (λ (m : List ℕ). onHeading (f m) (λ (v : Heading) (n : ℕ). k v n m)) l at
+after-heading f k l at s on = sound-bind seenHeading seenForward forwarded.Refused f (λ (x : Headed) (m : List ℕ). onHeading x (λ (v : Heading) (n : ℕ). k v n m)) l at (λ (r : Refusal). refl) hands s (go (f l) refl)
+  where
+    hands : (x : Headed) (r : Refusal) (m : List ℕ) → seenHeading x ≡ refused r → onHeading x (λ (v : Heading) (n : ℕ). k v n m) ≡ forwarded.Refused r
+    hands (headed.Is v n) r m e = clash n r e
+    hands (headed.Refused q) r m e = ap forwarded.Refused (one-refusal q r e)
+
+    go : (x : Headed) → f l ≡ x → (n : ℕ) → seenHeading x ≡ went n → at ≤ n → n ≤ length l → Sound seenForward (λ (m : List ℕ). onHeading x (λ (v : Heading) (j : ℕ). k v j m)) l n
+    go (headed.Is v j) e n q a b = let i : j ≡ n = one-place j n q in subst (λ (z : ℕ). Sound seenForward (k v j) l z) i (on v j e (omega arith) (omega arith))
+    go (headed.Refused r) e n q a b = clash n r (sym q)
+
+heading-sound : (l : List ℕ) (at : ℕ) → at ≤ length l → Sound seenHeading (λ (x : List ℕ). headingAt x at) l at
+unfolding headingAt
+heading-sound l at h =
+    after-triple (λ (x : List ℕ). tripleAt x at dateFrom dateTo) _ l at (triple-sound l at dateFrom dateTo (omega arith) (omega arith) (omega arith) h)
+    (λ (d : Triple) (p : ℕ) (e₁ : tripleAt l at dateFrom dateTo ≡ triples.Is d p) (u₁ : at ≤ p) (w₁ : p ≤ length l).
+    after-triple (λ (x : List ℕ). tripleAt x p timeFrom timeTo) _ l p (triple-sound l p timeFrom timeTo (omega arith) (omega arith) (omega arith) w₁)
+    (λ (t : Triple) (q : ℕ) (e₂ : tripleAt l p timeFrom timeTo ≡ triples.Is t q) (u₂ : p ≤ q) (w₂ : q ≤ length l).
+    heading-field (λ (x : List ℕ). wholeNumber x q charactersLeast charactersMost) _ l q (whole-sound l q charactersLeast charactersMost (omega arith) w₂)
+    (λ (n a : ℕ) (e₃ : wholeNumber l q charactersLeast charactersMost ≡ Value n a) (u₃ : q ≤ a) (w₃ : a ≤ length l).
+    heading-field (λ (x : List ℕ). bitField x a (character * n)) _ l a (bit-sound l a (character * n) w₃)
+    (λ (f b : ℕ) (e₄ : bitField l a (character * n) ≡ Value f b) (u₄ : a ≤ b) (w₄ : b ≤ length l).
+    heading-field (λ (x : List ℕ). bitField x b addressBits) _ l b (bit-sound l b addressBits w₄)
+    (λ (y c : ℕ) (e₅ : bitField l b addressBits ≡ Value y c) (u₅ : b ≤ c) (w₅ : c ≤ length l).
+    heading-field (λ (x : List ℕ). wholeNumber x c 0 directionLast) _ l c (whole-sound l c 0 directionLast (omega arith) w₅)
+    (λ (z m : ℕ) (e₆ : wholeNumber l c 0 directionLast ≡ Value z m) (u₆ : c ≤ m) (w₆ : m ≤ length l).
+    sound-value seenHeading (headed.Is (record { date = d; time = t; characters = n; flight = f; address = y; direction = z }) m) l m w₆ refl))))))
+
+pub forward-sound : (l : List ℕ) (at : ℕ) → at ≤ length l → Sound seenForward (λ (x : List ℕ). forwardAt x at) l at
+unfolding forwardWithin
+forward-sound l at h =
+    after-heading (λ (x : List ℕ). headingAt x at) _ l at (heading-sound l at h)
+    (λ (v : Heading) (p : ℕ) (e : headingAt l at ≡ headed.Is v p) (u : at ≤ p) (w : p ≤ length l).
+    forward-field (λ (x : List ℕ). stringAt x p bit 0 messageMost) _ l p (string-sound l p bit 0 messageMost w)
+    (λ (n m : ℕ) (f : stringAt l p bit 0 messageMost ≡ Value n m) (u₂ : p ≤ m) (w₂ : m ≤ length l). sound-value seenForward (forwarded.Is (record { heading = v; message = spanTo bit n m }) m) l m w₂ refl))
+
+forward-refusing : (l : List ℕ) (at : ℕ) → Bits l → at ≤ length l → Refusing seenAnswer (λ (x : List ℕ). onForward answer.Refused (forwardAt x at) (λ (f : Forward) (next : ℕ). endedAt x next (apdu.Forward f))) l at
+forward-refusing l at b h =
+    refusing-bind seenForward seenAnswer answer.Refused (λ (x : List ℕ). forwardAt x at) (λ (t : Forwarded) (y : List ℕ). onForward answer.Refused t (λ (f : Forward) (next : ℕ). endedAt y next (apdu.Forward f))) l at (λ (r : Refusal). refl) hands (forward-sound l at h) (go (forwardAt l at) refl)
+  where
+    hands : (t : Forwarded) (r : Refusal) (y : List ℕ) → seenForward t ≡ refused r → onForward answer.Refused t (λ (f : Forward) (next : ℕ). endedAt y next (apdu.Forward f)) ≡ answer.Refused r
+    hands (forwarded.Is f n) r y e = clash n r e
+    hands (forwarded.Refused q) r y e = ap answer.Refused (one-refusal q r e)
+
+    go : (t : Forwarded) → forwardAt l at ≡ t → (n : ℕ) → seenForward t ≡ went n → at ≤ n → n ≤ length l → Refusing seenAnswer (λ (y : List ℕ). onForward answer.Refused t (λ (f : Forward) (next : ℕ). endedAt y next (apdu.Forward f))) l n
+    go (forwarded.Is f j) e n q a w = let i : j ≡ n = one-place j n q in subst (λ (z : ℕ). Refusing seenAnswer (λ (y : List ℕ). endedAt y j (apdu.Forward f)) l z) i (ended-refusing l j (apdu.Forward f) b (omega arith))
+    go (forwarded.Refused r) e n q a w = clash n r (sym q)
+
 rest-refusing : (l : List ℕ) (c : Kind) (m at : ℕ) → Bits l → at ≤ length l → Refusing seenAnswer (λ (x : List ℕ). restAt x c m at) l at
 unfolding restWithin
 rest-refusing l kind.AbortUser m at b h =
@@ -277,8 +392,10 @@ rest-refusing l kind.AbortProvider m at b h =
     (λ (r n : ℕ) (e : extensibleIndex l at providerLast ≡ Value r n) (a : at ≤ n) (w : n ≤ length l). ended-refusing l n (apdu.AbortProvider r) b w)
 rest-refusing l kind.Start m at b h = data-refusing l at (apdu.Start m) b h
 rest-refusing l kind.Send m at b h = data-refusing l at apdu.Send b h
-rest-refusing l kind.Forward m at b h = λ (r : Refusal) (e : seenAnswer (answer.Is apdu.Forward) ≡ refused r). clash 0 r e
-rest-refusing l kind.ForwardResponse m at b h = λ (r : Refusal) (e : seenAnswer (answer.Is apdu.ForwardResponse) ≡ refused r). clash 0 r e
+rest-refusing l kind.Forward m at b h = forward-refusing l at b h
+rest-refusing l kind.ForwardResponse m at b h =
+    answer-field (λ (x : List ℕ). extensibleIndex x at responseLast) (λ (r n : ℕ) (x : List ℕ). endedAt x n (apdu.ForwardResponse r)) l at (index-sound l at responseLast h)
+    (λ (r n : ℕ) (e : extensibleIndex l at responseLast ≡ Value r n) (a : at ≤ n) (w : n ≤ length l). ended-refusing l n (apdu.ForwardResponse r) b w)
 
 -- AN APDU THAT IS REFUSED: its place is within the bits, a field begins there, and bits behind the field do not matter
 pub apdu-refusing : (side : Side) (l : List ℕ) → Bits l → Refusing seenAnswer (λ (x : List ℕ). apduAt side x 0) l 0
@@ -305,26 +422,23 @@ data-refusing-whole l b =
     hands (taken.Is d n) r y e = clash n r e
     hands (taken.Refused q) r y e = ap taken.Refused (one-refusal q r e)
 
-    ends : (d : Data) (j : ℕ) → j ≤ length l → Refusing seenTaken (λ (y : List ℕ). onField taken.Refused (tailAt y j) (λ (v m : ℕ). taken.Is d j)) l j
-    ends d j w r e = up (tailAt l j) refl e
-      where
-        lift : (x : Field) (z : Refusal) → seenField x ≡ refused z → seenTaken (onField taken.Refused x (λ (v m : ℕ). taken.Is d j)) ≡ refused z
-        lift (Value v n) z c = clash n z c
-        lift (Refused y) z c = c
-
-        up : (x : Field) → tailAt l j ≡ x → seenTaken (onField taken.Refused x (λ (v m : ℕ). taken.Is d j)) ≡ refused r → Placed seenTaken (λ (y : List ℕ). onField taken.Refused (tailAt y j) (λ (v m : ℕ). taken.Is d j)) l j r
-        up (Value v n) f q = clash j r q
-        up (Refused z) f q =
-            let p = tail-refusing l j b w r (ap seenField f ∙ q) in
-            record {
-              after = p .after;
-              within = p .within;
-              begins = λ (t : r .fault ≡ Tail → ⊥). lift (tailAt (take (r .at) l) j) (refusal (r .at) Short) (p .begins t);
-              settled = λ (t : r .fault ≡ Short → ⊥) (u : r .fault ≡ Tail → ⊥).
-                  let c = p .settled t u in
-                  record { end = c .end; behind = c .behind; within = c .within; same = λ (m : List ℕ) (k : Alike (c .end) l m). ap (λ (x : Field). onField taken.Refused x (λ (v i : ℕ). taken.Is d j)) (c .same m k) };
-            }
-
     go : (t : Taken) → dataAt l 0 ≡ t → (n : ℕ) → seenTaken t ≡ went n → 0 ≤ n → n ≤ length l → Refusing seenTaken (λ (y : List ℕ). onTaken t (λ (d : Data) (next : ℕ). onField taken.Refused (tailAt y next) (λ (v m : ℕ). taken.Is d next))) l n
-    go (taken.Is d j) e n q a w = let i : j ≡ n = one-place j n q in subst (λ (z : ℕ). Refusing seenTaken (λ (y : List ℕ). onField taken.Refused (tailAt y j) (λ (v m : ℕ). taken.Is d j)) l z) i (ends d j (omega arith))
+    go (taken.Is d j) e n q a w = let i : j ≡ n = one-place j n q in subst (λ (z : ℕ). Refusing seenTaken (λ (y : List ℕ). onField taken.Refused (tailAt y j) (λ (v m : ℕ). taken.Is d j)) l z) i (behind-refusing seenTaken taken.Refused (λ (r : Refusal). refl) (taken.Is d j) j refl l j b (omega arith))
     go (taken.Refused r) e n q a w = clash n r (sym q)
+
+-- and a forward message by itself
+pub forward-refusing-whole : (l : List ℕ) → Bits l → Refusing seenForward wholeForward l 0
+unfolding wholeForwardWithin
+forward-refusing-whole l b =
+    refusing-bind seenForward seenForward forwarded.Refused (λ (x : List ℕ). forwardAt x 0) (λ (t : Forwarded) (y : List ℕ). onForward forwarded.Refused t (λ (f : Forward) (next : ℕ). onField forwarded.Refused (tailAt y next) (λ (v m : ℕ). forwarded.Is f next))) l 0
+    (λ (r : Refusal). refl) hands (forward-sound l 0 (omega arith)) (go (forwardAt l 0) refl)
+  where
+    hands : (t : Forwarded) (r : Refusal) (y : List ℕ) → seenForward t ≡ refused r → onForward forwarded.Refused t (λ (f : Forward) (next : ℕ). onField forwarded.Refused (tailAt y next) (λ (v m : ℕ). forwarded.Is f next)) ≡ forwarded.Refused r
+    hands (forwarded.Is f n) r y e = clash n r e
+    hands (forwarded.Refused q) r y e = ap forwarded.Refused (one-refusal q r e)
+
+    go : (t : Forwarded) → forwardAt l 0 ≡ t → (n : ℕ) → seenForward t ≡ went n → 0 ≤ n → n ≤ length l → Refusing seenForward (λ (y : List ℕ). onForward forwarded.Refused t (λ (f : Forward) (next : ℕ). onField forwarded.Refused (tailAt y next) (λ (v m : ℕ). forwarded.Is f next))) l n
+    go (forwarded.Is f j) e n q a w =
+        let i : j ≡ n = one-place j n q in
+        subst (λ (z : ℕ). Refusing seenForward (λ (y : List ℕ). onField forwarded.Refused (tailAt y j) (λ (v m : ℕ). forwarded.Is f j)) l z) i (behind-refusing seenForward forwarded.Refused (λ (r : Refusal). refl) (forwarded.Is f j) j refl l j b (omega arith))
+    go (forwarded.Refused r) e n q a w = clash n r (sym q)

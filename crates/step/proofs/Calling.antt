@@ -8,8 +8,9 @@ use native.Mathlib.Omega.{arith}
 use borrow.Author.Tests.{lt-ltb, le-ltb, eq-eqb, ne-eqb}
 use lib.ListN.{length}
 use Rattle.apdu.specs.Sizes.{bufferLeast}
-use Rattle.apdu.specs.Writing.{done, dataShaped}
+use Rattle.apdu.specs.Writing.{done, dataShaped, forwardShaped}
 use Rattle.apdu.specs.declared.Data.{Data}
+use Rattle.apdu.specs.declared.Forward.{Forward as Forwarded}
 use Rattle.apdu.specs.declared.Written.{Written}
 use Rattle.machine.specs.Outcome.{refusalNumber, isNone}
 use Rattle.control.specs.declared.Side.{Side}
@@ -19,16 +20,17 @@ use Rattle.machine.specs.declared.event.Apdu.the-variants.{Absent}
 use Rattle.machine.specs.declared.event.ServicePrimitive.{ServicePrimitive}
 use Rattle.machine.specs.declared.event.Event.{Event}
 use Rattle.machine.specs.declared.event.Event.the-variants.{Service}
+use Rattle.machine.specs.declared.event.Event.the-variants.{Forward as ForwardRequested}
 use Rattle.apdu.specs.declared.Answer.{Answer}
 use Rattle.machine.specs.declared.outcome.Invoked.{Invoked}
-use Rattle.machine.specs.declared.outcome.Invoked.the-variants.{Silent, DStartRequest, DStartResponse, DDataRequest, DEndRequest, DEndResponse, DAbortRequest}
+use Rattle.machine.specs.declared.outcome.Invoked.the-variants.{Silent, DStartRequest, DStartResponse, DDataRequest, DEndRequest, DEndResponse, DAbortRequest, DStartForwardRequest, DStartForwardResponse}
 use Rattle.machine.specs.declared.outcome.Told.{Told}
-use Rattle.machine.specs.declared.outcome.Told.the-variants.{Untold, StartIndication, StartConfirmation, MessageIndication, EndIndication, EndConfirmation, UserAbortIndication, ProviderAbortIndication}
+use Rattle.machine.specs.declared.outcome.Told.the-variants.{Untold, StartIndication, StartConfirmation, MessageIndication, EndIndication, EndConfirmation, UserAbortIndication, ProviderAbortIndication, ForwardIndication, ForwardConfirmation}
 use Rattle.machine.specs.declared.outcome.Outcome.{Outcome}
 use Rattle.numbered.specs.Numbers.{heldAfter, numberedStep}
 use Rattle.step.specs.Stored.{loadAt, storeAt, kept}
-use Rattle.step.specs.Packed.{primitives, packed, invokedNumber, toldNumber}
-use Rattle.step.specs.Call.{Called, called, bitsOfWritten, firstTakes, secondTakes, finished, concluded, eventStep, withRecord, entering, userStep, meaning, dataOf, readPdu, noData, dataStep, bareStep, serviceStep}
+use Rattle.step.specs.Packed.{primitives, packed, invokedNumber, toldNumber, versionNumber}
+use Rattle.step.specs.Call.{Carried, Called, called, carriesData, carriesForward, carriedBy, bitsOfWritten, firstTakes, passes, secondTakes, finished, concluded, eventStep, withRecord, entering, userStep, forwardStep, meaning, readPdu, noData, dataStep, bareStep, serviceStep, noForward, carries, dataOf, forwardOf}
 use Rattle.step.specs.declared.stored.Loaded.{Loaded}
 use Rattle.step.specs.declared.stored.Loaded.the-variants.{Is, NoRecord}
 
@@ -43,6 +45,8 @@ invoked-low DDataRequest = omega arith
 invoked-low DEndRequest = omega arith
 invoked-low (DEndResponse x) = omega arith
 invoked-low (DAbortRequest o) = omega arith
+invoked-low (DStartForwardRequest q s v) = omega arith
+invoked-low (DStartForwardResponse s v) = omega arith
 
 pub told-low : (t : Told) → toldNumber t < primitives
 unfolding toldNumber
@@ -54,20 +58,22 @@ told-low (EndIndication m) = omega arith
 told-low (EndConfirmation m x) = omega arith
 told-low (UserAbortIndication x) = omega arith
 told-low (ProviderAbortIndication x) = omega arith
+told-low ForwardIndication = omega arith
+told-low (ForwardConfirmation x v) = omega arith
 
 -- ---- after the step
 
-module _ (r a b : List ℕ) (sd : Side) (held : ℕ) (o : Outcome) (li lm lc : List ℕ) (d : Data) (t : Bool) (p : t ≡ isNone (o .refusal)) where
+module _ (r a b : List ℕ) (sd : Side) (held : ℕ) (o : Outcome) (li lm lc : List ℕ) (d : Carried) (t : Bool) (p : t ≡ isNone (o .refusal)) where
   pub is-refused : (n : ℕ) → t ≡ false → n ≡ refusalNumber (o .refusal) → called n r a b ≡ concluded r a b sd held o li lm lc d
   unfolding concluded
   is-refused n q e = rw (← p, q, e)
 
-  pub is-taken : t ≡ true → (w v : Written) (a′ b′ : List ℕ) → done w a′ ≡ firstTakes sd li lm lc d (o .apdu) a → done v b′ ≡ secondTakes li lm lc d (o .delivers) b
+  pub is-taken : t ≡ true → (w v : Written) (a′ b′ : List ℕ) → done w a′ ≡ firstTakes sd li lm lc d (o .apdu) a → (y : Bool) → y ≡ passes (o .told) → done v b′ ≡ secondTakes li lm lc d y (o .delivers) b
       → (x : Bool) (r′ : List ℕ) → kept x r′ ≡ storeAt r sd (o .next) held
-      → (i u m n k : ℕ) → i ≡ invokedNumber (o .invoked) → u ≡ toldNumber (o .told) → m ≡ bitsOfWritten w → n ≡ bitsOfWritten v → k ≡ packed i u m n
+      → (i u m n j k : ℕ) → i ≡ invokedNumber (o .invoked) → u ≡ toldNumber (o .told) → m ≡ bitsOfWritten w → n ≡ bitsOfWritten v → j ≡ versionNumber (o .invoked) (o .told) → k ≡ packed i u m n j
       → called k r′ a′ b′ ≡ concluded r a b sd held o li lm lc d
   unfolding concluded finished
-  is-taken q w v a′ b′ e f x r′ g i u m n k ei eu em en ek = rw (← p, q, ← e, ← f, ← g, ek, ei, eu, em, en)
+  is-taken q w v a′ b′ e y ey f x r′ g i u m n j k ei eu em en ej ek = rw (← p, q, ← e, ← ey, ← f, ← g, ek, ei, eu, em, en, ej)
 
 -- ---- before the step
 
@@ -94,28 +100,37 @@ module _ (r a b : List ℕ) (k : Side → Record → ℕ → Called) where
     with-record sd x n o q e = e ∙ rw (enters, q)
 
 -- an event with its dialogue number
-pub event-steps : (r a b : List ℕ) (e : Event) (v : ℕ) (li lm lc : List ℕ) (d : Data) (sd : Side) (x : Record) (n : ℕ) (o : Outcome) (m : ℕ) (z : Called) → o ≡ numberedStep sd x n e v → m ≡ heldAfter n e v → z ≡ concluded r a b sd m o li lm lc d → z ≡ eventStep r a b e v li lm lc d sd x n
+pub event-steps : (r a b : List ℕ) (e : Event) (v : ℕ) (li lm lc : List ℕ) (d : Carried) (sd : Side) (x : Record) (n : ℕ) (o : Outcome) (m : ℕ) (z : Called) → o ≡ numberedStep sd x n e v → m ≡ heldAfter n e v → z ≡ concluded r a b sd m o li lm lc d → z ≡ eventStep r a b e v li lm lc d sd x n
 event-steps r a b e v li lm lc d sd x n o m z f g h = h ∙ rw (f, g)
+
+module _ (r a b : List ℕ) (k s v : ℕ) (lm : List ℕ) (f : Forwarded) (sd : Side) (x : Record) (n : ℕ) (t : Bool) (p : t ≡ forwardShaped lm f) where
+  pub no-forward-shape : t ≡ false → called 2 r a b ≡ forwardStep r a b k s v lm f sd x n
+  unfolding forwardStep
+  no-forward-shape q = rw (← p, q)
+
+  pub forward-steps : (d : Data) (z : Called) → t ≡ true → d ≡ noData → z ≡ eventStep r a b (ForwardRequested k s) v lm lm lm (carries d f) sd x n → z ≡ forwardStep r a b k s v lm f sd x n
+  unfolding forwardStep
+  forward-steps d z q h e = e ∙ rw (← p, q, h)
 
 module _ (r a b : List ℕ) (e : Event) (v : ℕ) (li lm lc : List ℕ) (d : Data) (sd : Side) (x : Record) (n : ℕ) (t : Bool) (p : t ≡ dataShaped li lm lc d) where
   pub no-shape : t ≡ false → called 2 r a b ≡ userStep r a b e v li lm lc d sd x n
   unfolding userStep
   no-shape q = rw (← p, q)
 
-  pub steps : (z : Called) → t ≡ true → z ≡ eventStep r a b e v li lm lc d sd x n → z ≡ userStep r a b e v li lm lc d sd x n
+  pub steps : (y : Forwarded) (z : Called) → t ≡ true → y ≡ noForward → z ≡ eventStep r a b e v li lm lc (carries d y) sd x n → z ≡ userStep r a b e v li lm lc d sd x n
   unfolding userStep
-  steps z q g = g ∙ rw (← p, q)
+  steps y z q h g = g ∙ rw (← p, q, h)
 
 -- ---- a dialogue-service primitive
 
 module _ (r a b : List ℕ) (p : ServicePrimitive) (v : ℕ) (l : List ℕ) (sd : Side) (x : Record) (n : ℕ) where
-  pub data-steps : (f : Answer) (m : Apdu) (d : Data) (z : Called) → f ≡ readPdu sd p l → m ≡ meaning f → d ≡ dataOf f → z ≡ eventStep r a b (Service p m) v l l l d sd x n → z ≡ dataStep r a b p v l sd x n
+  pub data-steps : (f : Answer) (m : Apdu) (d : Data) (w : Forwarded) (z : Called) → f ≡ readPdu sd (x .control) p l → m ≡ meaning f → d ≡ dataOf f → w ≡ forwardOf f → z ≡ eventStep r a b (Service p m) v l l l (carries d w) sd x n → z ≡ dataStep r a b p v l sd x n
   unfolding dataStep
-  data-steps f m d z pf pm pd e = e ∙ rw (pd, pm, pf)
+  data-steps f m d w z pf pm pd pw e = e ∙ rw (pd, pw, pm, pf)
 
-  pub bare-steps : (d : Data) (z : Called) → d ≡ noData → z ≡ eventStep r a b (Service p Absent) v l l l d sd x n → z ≡ bareStep r a b p v l sd x n
+  pub bare-steps : (y : Data) (w : Forwarded) (z : Called) → y ≡ noData → w ≡ noForward → z ≡ eventStep r a b (Service p Absent) v l l l (carries y w) sd x n → z ≡ bareStep r a b p v l sd x n
   unfolding bareStep
-  bare-steps d z pd e = e ∙ rw pd
+  bare-steps y w z py pw e = e ∙ rw (py, pw)
 
   pub given-odd : (g : ℕ) → 1 < g → called 2 r a b ≡ serviceStep r a b p v g l sd x n
   unfolding serviceStep

@@ -7,8 +7,9 @@ use lib.Dec.{ltb, eqb}
 use lib.ListN.{length}
 use Rattle.apdu.specs.Sizes.{bufferLeast}
 use Rattle.apdu.specs.Pdus.{lent}
-use Rattle.apdu.specs.Writing.{dataShaped}
+use Rattle.apdu.specs.Writing.{dataShaped, forwardShaped}
 use Rattle.apdu.specs.declared.Data.{Data}
+use Rattle.apdu.specs.declared.Forward.{Forward}
 use Rattle.machine.specs.Outcome.{isNone}
 use Rattle.machine.proofs.Ways.{by-test}
 use Rattle.control.specs.declared.Side.{Side}
@@ -16,7 +17,7 @@ use Rattle.machine.specs.declared.record.Record.{Record}
 use Rattle.machine.specs.declared.event.Event.{Event}
 use Rattle.machine.specs.declared.outcome.Outcome.{Outcome}
 use Rattle.step.specs.Stored.{loadAt}
-use Rattle.step.specs.Call.{Called, finished, concluded, withRecord, entering, userStep, userCall, dataStep, bareStep, serviceStep, serviceCall}
+use Rattle.step.specs.Call.{Carried, Called, carriesData, carriesForward, finished, concluded, withRecord, entering, userStep, userCall, forwardStep, forwardCall, dataStep, bareStep, serviceStep, serviceCall}
 use Rattle.machine.specs.declared.event.ServicePrimitive.{ServicePrimitive}
 use Rattle.step.specs.declared.stored.Loaded.{Loaded}
 use Rattle.step.specs.declared.stored.Loaded.the-variants.{Is, NoRecord}
@@ -27,9 +28,9 @@ abbrev pub Leaves : List ℕ → List ℕ → List ℕ → Called → Type 0
 Leaves r a b c = (c .number % 256 ≡ 0 → ⊥) → (c .kept ≡ r) × (c .first ≡ a) × (c .second ≡ b)
 
 module _ (r a b : List ℕ) where
-  concluded-leaves : (sd : Side) (n : ℕ) (o : Outcome) (li lm lc : List ℕ) (d : Data) → Leaves r a b (concluded r a b sd n o li lm lc d)
+  concluded-leaves : (sd : Side) (n : ℕ) (o : Outcome) (li lm lc : List ℕ) (d : Carried) → Leaves r a b (concluded r a b sd n o li lm lc d)
   unfolding concluded finished
-  concluded-leaves sd n o li lm lc d = by-test (Leaves r a b) (isNone (o .refusal)) _ _ (λ e n. absurd (n (refusal-unpacked _ _ _ _))) (λ e n. (refl, refl, refl))
+  concluded-leaves sd n o li lm lc d = by-test (Leaves r a b) (isNone (o .refusal)) _ _ (λ e n. absurd (n (refusal-unpacked _ _ _ _ _))) (λ e n. (refl, refl, refl))
 
   with-leaves : (l : Loaded) (k : Side → Record → ℕ → Called) → ((sd : Side) (x : Record) (n : ℕ) → Leaves r a b (k sd x n)) → Leaves r a b (withRecord r a b l k)
   unfolding withRecord
@@ -45,7 +46,12 @@ module _ (r a b : List ℕ) where
   pub user-leaves : (e : Event) (v : ℕ) (ids msgs checks : List ℕ) (d : Data) → Leaves r a b (userCall r a b e v ids msgs checks d)
   unfolding userCall userStep
   user-leaves e v ids msgs checks d =
-      entering-leaves (userStep r a b e v (lent ids) (lent msgs) (lent checks) d) (λ sd x n. by-test (Leaves r a b) (dataShaped (lent ids) (lent msgs) (lent checks) d) _ _ (λ h. concluded-leaves sd _ _ _ _ _ d) (λ h w. (refl, refl, refl)))
+      entering-leaves (userStep r a b e v (lent ids) (lent msgs) (lent checks) d) (λ sd x n. by-test (Leaves r a b) (dataShaped (lent ids) (lent msgs) (lent checks) d) _ _ (λ h. concluded-leaves sd _ _ _ _ _ (carriesData d)) (λ h w. (refl, refl, refl)))
+
+  pub forward-leaves : (k s v : ℕ) (msgs : List ℕ) (f : Forward) → Leaves r a b (forwardCall r a b k s v msgs f)
+  unfolding forwardCall forwardStep
+  forward-leaves k s v msgs f =
+      entering-leaves (forwardStep r a b k s v (lent msgs) f) (λ sd x n. by-test (Leaves r a b) (forwardShaped (lent msgs) f) _ _ (λ h. concluded-leaves sd _ _ _ _ _ (carriesForward f)) (λ h w. (refl, refl, refl)))
 
   pub service-leaves : (p : ServicePrimitive) (v given : ℕ) (bytes : List ℕ) → Leaves r a b (serviceCall r a b p v given bytes)
   unfolding serviceCall serviceStep dataStep bareStep

@@ -1,4 +1,5 @@
--- After a step that was taken no writer refuses the APDU and no store the record, and the primitive's parameters have room in the number.
+-- After a step of a dialogue that was taken no writer refuses the APDU and no store the record, and the primitive's parameters have room in the number. Of the
+-- forward service nothing is said here.
 -- Assumes nothing.
 use mathlib.Core.Path.{_≡_, refl, sym, subst, _∙_}
 use mathlib.Core.Bool.{Bool, true, false, not, cond, _&&_, _||_}
@@ -11,17 +12,19 @@ use Rattle.fields.specs.Encodings.{wholeFits}
 use Rattle.apdu.specs.Sizes.{userLast, providerLast}
 use Rattle.apdu.specs.Encoding.{modeFits}
 use Rattle.machine.specs.Codes.{securityValues, results, userReasons, routingClasses}
-use Rattle.control.specs.Control.{isIdle, takes, mayStart}
+use Rattle.control.specs.Control.{isIdle, takes, awaitsResponse, mayStart}
+use Rattle.control.proofs.Moves.{goes-awaits, after-awaits}
 use Rattle.machine.specs.Record.{withTimer, withUser, withJob, withRequest, enter}
-use Rattle.machine.specs.Apdus.{isSend, modeOf, isUserAbort}
+use Rattle.machine.specs.Apdus.{isSend, isForward, isResponse, modeOf, reasonOf, isUserAbort}
 use Rattle.machine.specs.Event.{isDsc, hasMode, userShapely, shapely}
 use Rattle.machine.specs.Outcome.{isNone, refused}
 use Rattle.machine.specs.Exceptions.{tell, closes, aborts, excepts, noInstruction, timerExpires, systemError}
 use Rattle.machine.specs.Calls.{answer, sent, qosAsked, startRequest, startResponse, messageRequest, endRequest, endResponse, reasonSent, userAbort, callOf, called}
-use Rattle.machine.specs.Faults.{firstFault}
+use Rattle.machine.specs.Faults.{fromCentre, indicationFault, firstFault}
+use Rattle.machine.specs.Forwards.{forwardConfirmed}
 use Rattle.machine.specs.Primitives.{handed, abortTold, instructed, answered, reached}
 use Rattle.machine.specs.Step.{permitted, messageRefusal, refusalOf, acts, step}
-use Rattle.machine.proofs.Ways.{by-test, not-refused, send-there}
+use Rattle.machine.proofs.Ways.{by-test, not-refused, send-there, start-there, forward-ground}
 use Rattle.control.specs.declared.Side.{Side}
 use Rattle.control.specs.declared.Side.the-variants.{Air, Ground}
 use Rattle.control.specs.declared.Call.{Call}
@@ -30,36 +33,32 @@ use Rattle.control.specs.declared.Primitive.{Primitive}
 use Rattle.control.specs.declared.Primitive.the-variants.{DStart, DStartCnf, DData, DEnd, DEndCnf}
 use Rattle.machine.specs.declared.record.Record.{Record}
 use Rattle.machine.specs.declared.event.Apdu.{Apdu}
-use Rattle.machine.specs.declared.event.Apdu.the-variants.{Absent, NotValid, Start, Send, AbortUser, AbortProvider, Forward}
+use Rattle.machine.specs.declared.event.Apdu.the-variants.{Absent, NotValid, Start, Send, AbortUser, AbortProvider, Forward, ForwardResponse}
 use Rattle.machine.specs.declared.event.UserPrimitive.{UserPrimitive}
 use Rattle.machine.specs.declared.event.UserPrimitive.the-variants.{StartServiceRequest, StartServiceResponse, MessageServiceRequest, EndServiceRequest, EndServiceResponse, UserAbortServiceRequest}
 use Rattle.machine.specs.declared.event.ServicePrimitive.{ServicePrimitive}
 use Rattle.machine.specs.declared.event.ServicePrimitive.the-variants.{DStartIndication, DStartConfirmation, DDataIndication, DEndIndication, DEndConfirmation, DAbortIndication, DPAbortIndication}
 use Rattle.machine.specs.declared.event.Event.{Event}
 use Rattle.machine.specs.declared.event.Event.the-variants.{User, Service, TimerExpires, UnrecoverableSystemError}
+use Rattle.machine.specs.declared.event.Event.the-variants.{Forward as ForwardRequested}
 use Rattle.machine.specs.declared.faults.Fault.{Fault}
 use Rattle.machine.specs.declared.faults.Fault.the-variants.{NoFault, NoInstruction, Quality, TurnedAway, Security, Missing, Invalid, NotPermitted}
 use Rattle.machine.specs.declared.outcome.Invoked.{Invoked}
-use Rattle.machine.specs.declared.outcome.Invoked.the-variants.{Silent, DStartRequest, DStartResponse, DDataRequest, DEndRequest, DEndResponse, DAbortRequest}
+use Rattle.machine.specs.declared.outcome.Invoked.the-variants.{Silent, DStartRequest, DStartResponse, DDataRequest, DEndRequest, DEndResponse, DAbortRequest, DStartForwardRequest, DStartForwardResponse}
 use Rattle.machine.specs.declared.outcome.Told.{Told}
-use Rattle.machine.specs.declared.outcome.Told.the-variants.{Untold, StartIndication, StartConfirmation, MessageIndication, EndIndication, EndConfirmation, UserAbortIndication, ProviderAbortIndication}
+use Rattle.machine.specs.declared.outcome.Told.the-variants.{Untold, StartIndication, StartConfirmation, MessageIndication, EndIndication, EndConfirmation, UserAbortIndication, ProviderAbortIndication, ForwardIndication, ForwardConfirmation}
 use Rattle.machine.specs.declared.outcome.Refusal.the-variants.{Stale}
 use Rattle.machine.specs.declared.outcome.Outcome.{Outcome}
 use Rattle.numbered.specs.Numbers.{isStale, numberedStep}
 use Rattle.numbered.proofs.Laws.{numbered-is}
 use Rattle.step.specs.Packed.{codes}
 use Rattle.step.specs.Stored.{flag}
-use Rattle.step.specs.Call.{pduSide}
+use Rattle.step.specs.Call.{pduSide, passes}
+pub use Rattle.step.proofs.Storing.{Coded}
 
 -- ---- what is shown
 
--- the codes of a record are of their types
-pub record Coded (r : Record) : Type 0 where
-  pub request : r .request < securityValues
-  pub policy : r .policy < securityValues
-  pub highest : r .highest < 2 ^ 64
-
--- an APDU that the side's writer takes, with message data that are within the sizes
+-- an APDU of a dialogue that the side's writer takes, with message data that are within the sizes
 abbrev pub writable : Side → Apdu → Bool
 writable sd Absent = false
 writable sd NotValid = false
@@ -68,6 +67,7 @@ writable sd Send = true
 writable sd (AbortUser x) = wholeFits 0 userLast x
 writable sd (AbortProvider x) = wholeFits 0 providerLast x
 writable sd Forward = false
+writable sd (ForwardResponse x) = false
 
 -- message data travel in it
 abbrev pub withBody : Apdu → Bool
@@ -78,6 +78,7 @@ withBody Send = true
 withBody (AbortUser x) = false
 withBody (AbortProvider x) = false
 withBody Forward = false
+withBody (ForwardResponse x) = false
 
 -- what an event brings: is it a user primitive, do message data come with it, is it a message request; the APDU of a primitive
 pub record Brings : Type 0 where
@@ -99,6 +100,7 @@ brings (User (MessageServiceRequest h j)) = asks true true
 brings (User (EndServiceRequest m)) = asks true false
 brings (User (EndServiceResponse m x)) = asks true false
 brings (User (UserAbortServiceRequest g x)) = asks false false
+brings (ForwardRequested k s) = asks false false
 brings (Service p a) = hears a
 brings TimerExpires = hears Absent
 brings UnrecoverableSystemError = hears Absent
@@ -112,6 +114,8 @@ GoesOut u sd DDataRequest a = writable sd a ≡ true
 GoesOut u sd DEndRequest a = writable sd a ≡ true
 GoesOut u sd (DEndResponse x) a = writable sd a ≡ true
 GoesOut u sd (DAbortRequest o) a = writable sd a ≡ true
+GoesOut u sd (DStartForwardRequest q s v) a = ⊥
+GoesOut u sd (DStartForwardResponse s v) a = ⊥
 
 abbrev pub isDData : Invoked → Bool
 isDData Silent = false
@@ -121,6 +125,8 @@ isDData DDataRequest = true
 isDData DEndRequest = false
 isDData (DEndResponse x) = false
 isDData (DAbortRequest o) = false
+isDData (DStartForwardRequest q s v) = false
+isDData (DStartForwardResponse s v) = false
 
 -- its parameter has room in four bits and its security value in one, and the quality of service that is not in the number is the right one
 abbrev pub Roomy : Invoked → Type 0
@@ -131,6 +137,8 @@ Roomy DDataRequest = Unit {0}
 Roomy DEndRequest = Unit {0}
 Roomy (DEndResponse x) = x < codes
 Roomy (DAbortRequest o) = o < codes
+Roomy (DStartForwardRequest q s v) = ⊥
+Roomy (DStartForwardResponse s v) = ⊥
 
 -- no message indication
 abbrev pub quiet : Told → Bool
@@ -142,6 +150,8 @@ quiet (EndIndication m) = true
 quiet (EndConfirmation m x) = true
 quiet (UserAbortIndication x) = true
 quiet (ProviderAbortIndication x) = true
+quiet ForwardIndication = true
+quiet (ForwardConfirmation x v) = true
 
 pub record Fit (sd : Side) (v : Brings) (o : Outcome) : Type 0 where
   pub coded : Coded (o .next)
@@ -153,86 +163,134 @@ pub record Fit (sd : Side) (v : Brings) (o : Outcome) : Type 0 where
   pub roomy : Roomy (o .invoked)
   -- a message indication is told with the data of the send that was sendFault
   pub told : (quiet (o .told) || (o .delivers && isSend (v .apdu))) ≡ true
+  -- no forward is under way, and none is passed on
+  pub dialogue : awaitsResponse (o .next .control) ≡ false
+  pub plain : passes (o .told) ≡ false
 
--- the job of a message request is a number of eight bytes
-abbrev pub JobLow : Event → Type 0
-JobLow (User (StartServiceRequest m k s)) = Unit {0}
-JobLow (User (StartServiceResponse m x)) = Unit {0}
-JobLow (User (MessageServiceRequest h j)) = j < 2 ^ 64
-JobLow (User (EndServiceRequest m)) = Unit {0}
-JobLow (User (EndServiceResponse m x)) = Unit {0}
-JobLow (User (UserAbortServiceRequest g x)) = Unit {0}
-JobLow (Service p a) = Unit {0}
-JobLow TimerExpires = Unit {0}
-JobLow UnrecoverableSystemError = Unit {0}
+-- an event of a dialogue: the job of a message request is a number of eight bytes; no forward is asked for, and no start comes from a centre
+abbrev pub JobLow : Side → Event → Type 0
+JobLow sd (User (StartServiceRequest m k s)) = Unit {0}
+JobLow sd (User (StartServiceResponse m x)) = Unit {0}
+JobLow sd (User (MessageServiceRequest h j)) = j < 2 ^ 64
+JobLow sd (User (EndServiceRequest m)) = Unit {0}
+JobLow sd (User (EndServiceResponse m x)) = Unit {0}
+JobLow sd (User (UserAbortServiceRequest g x)) = Unit {0}
+JobLow sd (ForwardRequested k s) = ⊥
+JobLow sd (Service (DStartIndication x s q v) a) = fromCentre sd x ≡ false
+JobLow sd (Service (DStartConfirmation x o s v) a) = Unit {0}
+JobLow sd (Service DDataIndication a) = Unit {0}
+JobLow sd (Service DEndIndication a) = Unit {0}
+JobLow sd (Service (DEndConfirmation x) a) = Unit {0}
+JobLow sd (Service (DAbortIndication o) a) = Unit {0}
+JobLow sd (Service DPAbortIndication a) = Unit {0}
+JobLow sd TimerExpires = Unit {0}
+JobLow sd UnrecoverableSystemError = Unit {0}
+
+-- a primitive of a dialogue
+abbrev pub isDialogue : Invoked → Bool
+isDialogue Silent = true
+isDialogue (DStartRequest q s) = true
+isDialogue (DStartResponse x s) = true
+isDialogue DDataRequest = true
+isDialogue DEndRequest = true
+isDialogue (DEndResponse x) = true
+isDialogue (DAbortRequest o) = true
+isDialogue (DStartForwardRequest q s v) = false
+isDialogue (DStartForwardResponse s v) = false
+
+pub roomy-dialogue : (i : Invoked) → Roomy i → isDialogue i ≡ true
+roomy-dialogue Silent h = refl
+roomy-dialogue (DStartRequest q s) h = refl
+roomy-dialogue (DStartResponse x s) h = refl
+roomy-dialogue DDataRequest h = refl
+roomy-dialogue DEndRequest h = refl
+roomy-dialogue (DEndResponse x) h = refl
+roomy-dialogue (DAbortRequest o) h = refl
+roomy-dialogue (DStartForwardRequest q s v) h = absurd h
+roomy-dialogue (DStartForwardResponse s v) h = absurd h
 
 -- ---- a primitive, an expiry, a system error
 
 pub never : {A : Type 0} → false ≡ true → A
 never e = absurd (subst T (sym e) tt)
 
-module _ (sd : Side) (r : Record) (k : Coded r) (a : Apdu) where
-  closed-fits : (t : Told) → quiet t ≡ true → Fit sd (hears a) (closes r t)
+module _ (sd : Side) (r : Record) (k : Coded r) (w : awaitsResponse (r .control) ≡ false) (a : Apdu) where
+  closed-fits : (t : Told) → quiet t ≡ true → passes t ≡ false → Fit sd (hears a) (closes r t)
   unfolding closes enter
-  closed-fits t q = record { coded = record { request = k .request; policy = k .policy; highest = k .highest }; apdu = (refl, refl); body = refl; invokes = refl; roomy = tt; told = rw q }
+  closed-fits t q z = record { coded = record { request = k .request; policy = k .policy; least = k .least; most = k .most; highest = k .highest }; apdu = (refl, refl); body = refl; invokes = refl; roomy = tt; told = rw q; dialogue = refl; plain = z }
 
-  aborted-fits : (p : ℕ) (t : Told) → wholeFits 0 providerLast p ≡ true → quiet t ≡ true → Fit sd (hears a) (aborts r p t)
+  aborted-fits : (p : ℕ) (t : Told) → wholeFits 0 providerLast p ≡ true → quiet t ≡ true → passes t ≡ false → Fit sd (hears a) (aborts r p t)
   unfolding aborts enter
-  aborted-fits p t h q = record { coded = record { request = k .request; policy = k .policy; highest = k .highest }; apdu = h; body = refl; invokes = refl; roomy = omega arith; told = rw q }
+  aborted-fits p t h q z = record { coded = record { request = k .request; policy = k .policy; least = k .least; most = k .most; highest = k .highest }; apdu = h; body = refl; invokes = refl; roomy = omega arith; told = rw q; dialogue = refl; plain = z }
 
   tell-quiet : (t : Told) → quiet t ≡ true → quiet (tell r t) ≡ true
   unfolding tell
   tell-quiet t q = by-test (λ (x : Told). quiet x ≡ true) (r .active) t Untold (λ e. q) (λ e. refl)
 
+  tell-plain : (t : Told) → passes t ≡ false → passes (tell r t) ≡ false
+  unfolding tell
+  tell-plain t q = by-test (λ (x : Told). passes x ≡ false) (r .active) t Untold (λ e. q) (λ e. refl)
+
   except-fits : (o : Bool) (p s : ℕ) → wholeFits 0 providerLast p ≡ true → Fit sd (hears a) (excepts r o p s)
   unfolding excepts
-  except-fits true p s h = aborted-fits p _ h (tell-quiet (ProviderAbortIndication s) refl)
-  except-fits false p s h = closed-fits _ (tell-quiet (ProviderAbortIndication s) refl)
+  except-fits true p s h = aborted-fits p _ h (tell-quiet (ProviderAbortIndication s) refl) (tell-plain (ProviderAbortIndication s) refl)
+  except-fits false p s h = closed-fits _ (tell-quiet (ProviderAbortIndication s) refl) (tell-plain (ProviderAbortIndication s) refl)
 
   none-fits : (x : Bool) → Fit sd (hears a) (noInstruction r x)
   unfolding noInstruction
-  none-fits x = by-test (Fit sd (hears a)) (isIdle (r .control)) _ _ (λ e. closed-fits Untold refl) (λ e. except-fits x _ _ refl)
+  none-fits x = by-test (Fit sd (hears a)) (isIdle (r .control)) _ _ (λ e. closed-fits Untold refl refl) (λ e. except-fits x _ _ refl)
 
-  handed-fits : (p : Primitive) (t : Told) → (quiet t || isSend a) ≡ true → Fit sd (hears a) (handed r p t)
+  handed-fits : (p : Primitive) (t : Told) → (quiet t || isSend a) ≡ true → passes t ≡ false → Fit sd (hears a) (handed r p t)
   unfolding handed enter
-  handed-fits p t q = record { coded = record { request = k .request; policy = k .policy; highest = k .highest }; apdu = (refl, refl); body = refl; invokes = refl; roomy = tt; told = q }
+  handed-fits p t q z = record { coded = record { request = k .request; policy = k .policy; least = k .least; most = k .most; highest = k .highest }; apdu = (refl, refl); body = refl; invokes = refl; roomy = tt; told = q; dialogue = after-awaits (r .control) p w; plain = z }
 
   either-way : (b : Bool) → (b || true) ≡ true
   either-way true = refl
   either-way false = refl
 
 same-coded : (r : Record) (on : Bool) → Coded r → Coded (withUser r on) × Coded (withTimer r on)
-same-coded r on k = (record { request = k .request; policy = k .policy; highest = k .highest }, record { request = k .request; policy = k .policy; highest = k .highest })
+same-coded r on k = (record { request = k .request; policy = k .policy; least = k .least; most = k .most; highest = k .highest }, record { request = k .request; policy = k .policy; least = k .least; most = k .most; highest = k .highest })
 
 abort-quiet : (a : Apdu) → quiet (abortTold a) ≡ true
 abort-quiet a = by-test (λ (t : Told). quiet t ≡ true) (isUserAbort a) _ _ (λ e. refl) (λ e. refl)
 
-module _ (sd : Side) (r : Record) (k : Coded r) where
+abort-plain : (a : Apdu) → passes (abortTold a) ≡ false
+abort-plain a = by-test (λ (t : Told). passes t ≡ false) (isUserAbort a) _ _ (λ e. refl) (λ e. refl)
+
+module _ (sd : Side) (r : Record) (k : Coded r) (w : awaitsResponse (r .control) ≡ false) where
   answered-fits : (p : ServicePrimitive) (a : Apdu) (f : Fault) → (f ≡ NoFault → Fit sd (hears a) (instructed r p a)) → Fit sd (hears a) (answered r p a f)
   unfolding answered
   answered-fits p a NoFault i = i refl
-  answered-fits p a (NoInstruction live) i = none-fits sd r k a live
-  answered-fits p a Quality i = aborted-fits sd r k a _ Untold refl refl
-  answered-fits p a TurnedAway i = closed-fits sd r k a _ (tell-quiet sd r k a _ refl)
-  answered-fits p a (Security live) i = except-fits sd r k a live _ _ refl
-  answered-fits p a Missing i = except-fits sd r k a true _ _ refl
-  answered-fits p a (Invalid live) i = except-fits sd r k a live _ _ refl
-  answered-fits p a (NotPermitted live) i = except-fits sd r k a live _ _ refl
+  answered-fits p a (NoInstruction live) i = none-fits sd r k w a live
+  answered-fits p a Quality i = aborted-fits sd r k w a _ Untold refl refl refl
+  answered-fits p a TurnedAway i = closed-fits sd r k w a _ (tell-quiet sd r k w a _ refl) (tell-plain sd r k w a _ refl)
+  answered-fits p a (Security live) i = except-fits sd r k w a live _ _ refl
+  answered-fits p a Missing i = except-fits sd r k w a true _ _ refl
+  answered-fits p a (Invalid live) i = except-fits sd r k w a live _ _ refl
+  answered-fits p a (NotPermitted live) i = except-fits sd r k w a live _ _ refl
+
+  confirmed-fits : (a : Apdu) (x v : ℕ) → Fit sd (hears a) (forwardConfirmed r x v)
+  unfolding forwardConfirmed
+  confirmed-fits a x v = closed-fits sd (withTimer r false) (same-coded r false k .1) w a (ForwardConfirmation x v) refl refl
 
   -- without a fault, what a D-DATA indication tells is with a send
-  instructed-fits : (p : ServicePrimitive) (a : Apdu) → firstFault sd r p a ≡ NoFault → Fit sd (hears a) (instructed r p a)
+  instructed-fits : (p : ServicePrimitive) (a : Apdu) → JobLow sd (Service p a) → firstFault sd r p a ≡ NoFault → Fit sd (hears a) (instructed r p a)
   unfolding instructed firstFault
-  instructed-fits (DStartIndication x s q) a e = handed-fits sd (withUser r true) (same-coded r true k .0) a (DStart (modeOf a)) _ refl
-  instructed-fits (DStartConfirmation x o s) a e = handed-fits sd (withTimer r false) (same-coded r false k .1) a (DStartCnf (answer x)) _ refl
-  instructed-fits DDataIndication a e = handed-fits sd r k a DData MessageIndication (send-there sd r DData true a e)
-  instructed-fits DEndIndication a e = handed-fits sd r k a DEnd _ refl
-  instructed-fits (DEndConfirmation x) a e = handed-fits sd r k a (DEndCnf (answer x)) _ refl
-  instructed-fits (DAbortIndication o) a e = closed-fits sd r k a _ (tell-quiet sd r k a (abortTold a) (abort-quiet a))
-  instructed-fits DPAbortIndication a e = closed-fits sd r k a _ (tell-quiet sd r k a _ refl)
+  instructed-fits (DStartIndication x s q v) a b e =
+      let i = start-there sd r x s q a e in
+      by-test (Fit sd (hears a)) (isForward a) _ _ (λ y. never (sym b ∙ forward-ground sd r x a (i .fits) y))
+      (λ n. handed-fits sd (withUser r true) (same-coded r true k .0) w a (DStart (modeOf a)) _ refl refl)
+  instructed-fits (DStartConfirmation x o s v) a b e =
+      by-test (Fit sd (hears a)) (isResponse a) _ _ (λ y. confirmed-fits a (reasonOf a) v) (λ n. handed-fits sd (withTimer r false) (same-coded r false k .1) w a (DStartCnf (answer x)) _ refl refl)
+  instructed-fits DDataIndication a b e = handed-fits sd r k w a DData MessageIndication (send-there sd r DData true a e) refl
+  instructed-fits DEndIndication a b e = handed-fits sd r k w a DEnd _ refl refl
+  instructed-fits (DEndConfirmation x) a b e = handed-fits sd r k w a (DEndCnf (answer x)) _ refl refl
+  instructed-fits (DAbortIndication o) a b e = closed-fits sd r k w a _ (tell-quiet sd r k w a (abortTold a) (abort-quiet a)) (tell-plain sd r k w a (abortTold a) (abort-plain a))
+  instructed-fits DPAbortIndication a b e = closed-fits sd r k w a _ (tell-quiet sd r k w a _ refl) (tell-plain sd r k w a _ refl)
 
-  reached-fits : (p : ServicePrimitive) (a : Apdu) → Fit sd (hears a) (reached sd r p a)
+  reached-fits : (p : ServicePrimitive) (a : Apdu) → JobLow sd (Service p a) → Fit sd (hears a) (reached sd r p a)
   unfolding reached
-  reached-fits p a = answered-fits p a (firstFault sd r p a) (instructed-fits p a)
+  reached-fits p a b = answered-fits p a (firstFault sd r p a) (instructed-fits p a b)
 
   -- ---- a user primitive
 
@@ -249,39 +307,40 @@ module _ (sd : Side) (r : Record) (k : Coded r) where
   reason-low true x h = omega arith
   reason-low false x h = omega arith
 
-  sent-fits : (q : Record) (c : Call) (i : Invoked) (a : Apdu) (m : Bool) → Coded q → GoesOut true sd i a → isDData i ≡ m → Roomy i → Fit sd (asks (withBody a) m) (sent q c i a)
+  sent-fits : (q : Record) (c : Call) (i : Invoked) (a : Apdu) (m : Bool) → Coded q → awaitsResponse (q .control) ≡ false → GoesOut true sd i a → isDData i ≡ m → Roomy i → Fit sd (asks (withBody a) m) (sent q c i a)
   unfolding sent enter
-  sent-fits q c i a m kq g d n = record { coded = record { request = kq .request; policy = kq .policy; highest = kq .highest }; apdu = g; body = refl; invokes = d; roomy = n; told = refl }
+  sent-fits q c i a m kq z g d n = record { coded = record { request = kq .request; policy = kq .policy; least = kq .least; most = kq .most; highest = kq .highest }; apdu = g; body = refl; invokes = d; roomy = n; told = refl; dialogue = goes-awaits (q .control) c z; plain = refl }
 
-  called-fits : (u : UserPrimitive) → userShapely sd u ≡ true → takes sd (r .control) (callOf u) ≡ true → JobLow (User u) → Fit sd (brings (User u)) (called r u)
+  called-fits : (u : UserPrimitive) → userShapely sd u ≡ true → takes sd (r .control) (callOf u) ≡ true → JobLow sd (User u) → Fit sd (brings (User u)) (called r u)
   unfolding called callOf userShapely startRequest startResponse messageRequest endRequest endResponse userAbort
   called-fits (StartServiceRequest m c s) h t j =
       let codes = both-right (hasMode sd m) (ltb c routingClasses && ltb s securityValues) h in
       let hc = ltb-true c routingClasses (both-left (ltb c routingClasses) (ltb s securityValues) codes) in
       let hs = ltb-true s securityValues (both-right (ltb c routingClasses) (ltb s securityValues) codes) in
-      sent-fits (withRequest (withUser (withTimer r true) true) s) (StartRequest (isDsc m)) _ _ false (record { request = hs; policy = k .policy; highest = k .highest }) (start-writable sd (isDsc m) (isIdle (r .control)) t) refl (refl, omega arith, omega arith)
+      sent-fits (withRequest (withUser (withTimer r true) true) s) (StartRequest (isDsc m)) _ _ false (record { request = hs; policy = k .policy; least = k .least; most = k .most; highest = k .highest }) w (start-writable sd (isDsc m) (isIdle (r .control)) t) refl (refl, omega arith, omega arith)
   called-fits (StartServiceResponse m x) h t j =
       let hx = ltb-true x results h in
       let hp = k .policy in
-      sent-fits r (StartResponse m (answer x)) _ _ false k refl refl (omega arith, omega arith)
-  called-fits (MessageServiceRequest b n) h t j = sent-fits (withJob r n) MessageRequest _ _ true (record { request = k .request; policy = k .policy; highest = j }) refl refl tt
-  called-fits (EndServiceRequest m) h t j = sent-fits r (EndRequest m) _ _ false k refl refl tt
+      sent-fits r (StartResponse m (answer x)) _ _ false k w refl refl (omega arith, omega arith)
+  called-fits (MessageServiceRequest b n) h t j = sent-fits (withJob r n) MessageRequest _ _ true (record { request = k .request; policy = k .policy; least = k .least; most = k .most; highest = j }) w refl refl tt
+  called-fits (EndServiceRequest m) h t j = sent-fits r (EndRequest m) _ _ false k w refl refl tt
   called-fits (EndServiceResponse m x) h t j =
       let hx = ltb-true x results h in
-      sent-fits r (EndResponse m (answer x)) _ _ false k refl refl (omega arith)
+      sent-fits r (EndResponse m (answer x)) _ _ false k w refl refl (omega arith)
   called-fits (UserAbortServiceRequest g x) h t j =
       let hx = reason-low g x (ltb-true x userReasons h) in
-      sent-fits r UserAbort _ _ false k (rw (le-leb 0 (reasonSent g x) (omega arith), le-leb (reasonSent g x) userLast hx)) refl (omega arith)
+      sent-fits r UserAbort _ _ false k w (rw (le-leb 0 (reasonSent g x) (omega arith), le-leb (reasonSent g x) userLast hx)) refl (omega arith)
 
-  acts-fits : (e : Event) → shapely sd e ≡ true → permitted sd r e ≡ true → JobLow e → Fit sd (brings e) (acts sd r e)
+  acts-fits : (e : Event) → shapely sd e ≡ true → permitted sd r e ≡ true → JobLow sd e → Fit sd (brings e) (acts sd r e)
   unfolding acts shapely permitted timerExpires systemError
   acts-fits (User u) h t j = called-fits u h t j
-  acts-fits (Service p a) h t j = reached-fits p a
-  acts-fits TimerExpires h t j = except-fits sd r k Absent true _ _ refl
-  acts-fits UnrecoverableSystemError h t j = by-test (Fit sd (hears Absent)) (isIdle (r .control)) _ _ (λ e. closed-fits sd r k Absent Untold refl) (λ e. except-fits sd r k Absent true _ _ refl)
+  acts-fits (ForwardRequested c s) h t j = absurd j
+  acts-fits (Service p a) h t j = reached-fits p a j
+  acts-fits TimerExpires h t j = except-fits sd r k w Absent true _ _ refl
+  acts-fits UnrecoverableSystemError h t j = by-test (Fit sd (hears Absent)) (isIdle (r .control)) _ _ (λ e. closed-fits sd r k w Absent Untold refl refl) (λ e. except-fits sd r k w Absent true _ _ refl)
 
   -- whatever is taken
-  pub step-fits : (e : Event) → JobLow e → isNone (step sd r e .refusal) ≡ true → Fit sd (brings e) (step sd r e)
+  pub step-fits : (e : Event) → JobLow sd e → isNone (step sd r e .refusal) ≡ true → Fit sd (brings e) (step sd r e)
   unfolding step refusalOf
   step-fits e j n = go (isNone (refusalOf sd r e)) refl n
     where
@@ -291,7 +350,7 @@ module _ (sd : Side) (r : Record) (k : Coded r) where
       go false q n = never (sym q ∙ n)
 
   -- with a dialogue number
-  pub numbered-fits : (n : ℕ) (e : Event) (v : ℕ) → JobLow e → isNone (numberedStep sd r n e v .refusal) ≡ true → Fit sd (brings e) (numberedStep sd r n e v)
+  pub numbered-fits : (n : ℕ) (e : Event) (v : ℕ) → JobLow sd e → isNone (numberedStep sd r n e v .refusal) ≡ true → Fit sd (brings e) (numberedStep sd r n e v)
   numbered-fits n e v j = subst (λ (o : Outcome). isNone (o .refusal) ≡ true → Fit sd (brings e) o) (sym (numbered-is sd r n e v)) (go (shapely sd e && isStale n e v))
     where
       go : (t : Bool) → isNone (cond t (refused Stale r) (step sd r e) .refusal) ≡ true → Fit sd (brings e) (cond t (refused Stale r) (step sd r e))

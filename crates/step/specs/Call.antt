@@ -6,17 +6,19 @@ use mathlib.Core.List.{List, []}
 use lib.Dec.{ltb, leb, eqb}
 use lib.ListN.{length}
 use Rattle.words.specs.Limits.{room, shape}
-use Rattle.apdu.specs.Sizes.{bufferLeast}
-use Rattle.apdu.specs.Pdus.{lent, contentIn, pduIn}
-use Rattle.apdu.specs.Encoding.{pduBits, contentBits}
+use Rattle.apdu.specs.Sizes.{bufferLeast, bit}
+use Rattle.apdu.specs.Headings.{triple}
+use Rattle.apdu.specs.Pdus.{lent, itemsIn, contentIn, pduIn}
+use Rattle.apdu.specs.Encoding.{pduBits, contentBits, forwardBits}
 use Rattle.apdu.specs.Reading.{apduAt}
-use Rattle.apdu.specs.Writing.{Done, done, writeOut, dataShaped, apduShaped}
+use Rattle.apdu.specs.Writing.{Done, done, writeOut, dataShaped, forwardShaped, apduShaped}
 use Rattle.apdu.specs.declared.Side.the-variants as pdu
 use Rattle.apdu.specs.declared.Side.{Side as PduSide}
 use Rattle.apdu.specs.declared.Span.{Span}
 use Rattle.apdu.specs.declared.Part.{Part}
 use Rattle.apdu.specs.declared.Part.the-variants as part
 use Rattle.apdu.specs.declared.Data.{Data}
+use Rattle.apdu.specs.declared.Forward.{Forward as Forwarded}
 use Rattle.apdu.specs.declared.Apdu.{Apdu as Pdu}
 use Rattle.apdu.specs.declared.Apdu.the-variants as is
 use Rattle.apdu.specs.declared.Answer.{Answer}
@@ -29,15 +31,20 @@ use Rattle.control.specs.declared.Side.{Side}
 use Rattle.control.specs.declared.Side.the-variants.{Air, Ground}
 use Rattle.machine.specs.declared.record.Record.{Record}
 use Rattle.machine.specs.declared.event.Apdu.{Apdu}
-use Rattle.machine.specs.declared.event.Apdu.the-variants.{Absent, NotValid, Start, Send, AbortUser, AbortProvider, Forward}
+use Rattle.machine.specs.declared.event.Apdu.the-variants.{Absent, NotValid, Start, Send, AbortUser, AbortProvider, Forward, ForwardResponse}
 use Rattle.machine.specs.declared.event.ServicePrimitive.{ServicePrimitive}
 use Rattle.machine.specs.declared.event.ServicePrimitive.the-variants.{DStartIndication, DStartConfirmation, DDataIndication, DEndIndication, DEndConfirmation, DAbortIndication, DPAbortIndication}
 use Rattle.machine.specs.declared.event.Event.{Event}
 use Rattle.machine.specs.declared.event.Event.the-variants.{Service}
+use Rattle.machine.specs.declared.event.Event.the-variants.{Forward as ForwardRequested}
+use Rattle.machine.specs.declared.outcome.Told.{Told}
+use Rattle.machine.specs.declared.outcome.Told.the-variants.{Untold, StartIndication, StartConfirmation, MessageIndication, EndIndication, EndConfirmation, UserAbortIndication, ProviderAbortIndication, ForwardIndication, ForwardConfirmation}
+use Rattle.control.specs.Control.{awaitsResponse}
+use Rattle.control.specs.declared.Control.{Control}
 use Rattle.machine.specs.declared.outcome.Outcome.{Outcome}
 use Rattle.numbered.specs.Numbers.{heldAfter, numberedStep}
 use Rattle.step.specs.Stored.{flag, loadAt, storeAt, Kept}
-use Rattle.step.specs.Packed.{packed, invokedNumber, toldNumber}
+use Rattle.step.specs.Packed.{packed, invokedNumber, toldNumber, versionNumber}
 use Rattle.step.specs.declared.stored.Loaded.{Loaded}
 use Rattle.step.specs.declared.stored.Loaded.the-variants.{Is, NoRecord}
 
@@ -50,6 +57,33 @@ pub record Called : Type 0 where
 
 abbrev pub called : ℕ → List ℕ → List ℕ → List ℕ → Called
 called n r a b = record { number = n; kept = r; first = a; second = b }
+
+-- ---- what a call or an APDU carries: message data, or a forward message; what is not there is empty
+
+-- no message data
+abbrev pub noData : Data
+noData = record { identifier = part.Absent; message = part.Absent; check = record { at = 0; count = 0 } }
+
+-- no forward message: one that can't be written
+abbrev pub noForward : Forwarded
+noForward =
+    record {
+      heading = record { date = triple 0 0 0; time = triple 0 0 0; characters = 0; flight = 0; address = 0; direction = 0 };
+      message = record { at = 0; count = 0 };
+    }
+
+pub record Carried : Type 0 where
+  pub content : Data
+  pub forward : Forwarded
+
+abbrev pub carries : Data → Forwarded → Carried
+carries d f = record { content = d; forward = f }
+
+abbrev pub carriesData : Data → Carried
+carriesData d = carries d noForward
+
+abbrev pub carriesForward : Forwarded → Carried
+carriesForward f = carries noData f
 
 -- ---- what is written
 
@@ -72,30 +106,50 @@ abbrev pub pduTo : PduSide → List ℕ → List ℕ → List ℕ → Pdu → Li
 pduTo side li lm lc a s = writeOut (apduShaped side li lm lc a) s (pduBits side (pduIn li lm lc a))
 
 -- the first buffer takes the outcome's APDU
-unfoldable pub firstTakes : Side → List ℕ → List ℕ → List ℕ → Data → Apdu → List ℕ → Done
+unfoldable pub firstTakes : Side → List ℕ → List ℕ → List ℕ → Carried → Apdu → List ℕ → Done
 firstTakes sd li lm lc d Absent s = nothingTo s
 firstTakes sd li lm lc d NotValid s = nothingTo s
-firstTakes sd li lm lc d (Start m) s = pduTo (pduSide sd) li lm lc (is.Start (flag m) d) s
-firstTakes sd li lm lc d Send s = pduTo (pduSide sd) li lm lc (is.Send d) s
+firstTakes sd li lm lc d (Start m) s = pduTo (pduSide sd) li lm lc (is.Start (flag m) (d .content)) s
+firstTakes sd li lm lc d Send s = pduTo (pduSide sd) li lm lc (is.Send (d .content)) s
 firstTakes sd li lm lc d (AbortUser x) s = pduTo (pduSide sd) li lm lc (is.AbortUser x) s
 firstTakes sd li lm lc d (AbortProvider x) s = pduTo (pduSide sd) li lm lc (is.AbortProvider x) s
-firstTakes sd li lm lc d Forward s = nothingTo s
+firstTakes sd li lm lc d Forward s = pduTo (pduSide sd) li lm lc (is.Forward (d .forward)) s
+firstTakes sd li lm lc d (ForwardResponse x) s = pduTo (pduSide sd) li lm lc (is.ForwardResponse x) s
 
--- the second buffer takes the message data that is delivered
-unfoldable pub secondTakes : List ℕ → List ℕ → List ℕ → Data → Bool → List ℕ → Done
-secondTakes li lm lc d delivers s = cond delivers (writeOut (dataShaped li lm lc d) s (contentBits (contentIn li lm lc d))) (nothingTo s)
+-- a forward indication hands the forward message on (Doc 9705, 2.3.5.5.2.3 a)
+abbrev pub passes : Told → Bool
+passes Untold = false
+passes (StartIndication m k) = false
+passes (StartConfirmation m x) = false
+passes MessageIndication = false
+passes (EndIndication m) = false
+passes (EndConfirmation m x) = false
+passes (UserAbortIndication x) = false
+passes (ProviderAbortIndication x) = false
+passes ForwardIndication = true
+passes (ForwardConfirmation x v) = false
+
+-- a forward message, whose bits stand in lm
+abbrev pub forwardTo : List ℕ → Forwarded → List ℕ → Done
+forwardTo lm f s = writeOut (forwardShaped lm f) s (forwardBits (f .heading) (itemsIn lm bit (f .message)))
+
+-- the second buffer takes the forward message that is passed on, or the message data that is delivered
+unfoldable pub secondTakes : List ℕ → List ℕ → List ℕ → Carried → Bool → Bool → List ℕ → Done
+secondTakes li lm lc d passed delivers s =
+    cond passed (forwardTo lm (d .forward) s)
+    (cond delivers (writeOut (dataShaped li lm lc (d .content)) s (contentBits (contentIn li lm lc (d .content)))) (nothingTo s))
 
 -- a step that was taken: the buffers, the record with the dialogue number n that it holds afterwards, and the answer's number
 unfoldable pub finished : List ℕ → List ℕ → List ℕ → Side → ℕ → Outcome → Done → Done → Called
 finished r a b sd n o one two =
-    called (packed (invokedNumber (o .invoked)) (toldNumber (o .told)) (bitsOfWritten (one .answer)) (bitsOfWritten (two .answer)))
+    called (packed (invokedNumber (o .invoked)) (toldNumber (o .told)) (bitsOfWritten (one .answer)) (bitsOfWritten (two .answer)) (versionNumber (o .invoked) (o .told)))
     (storeAt r sd (o .next) n .bytes) (one .bytes) (two .bytes)
 
--- the outcome of a step, with the message data that the host gave or that the APDU holds
-unfoldable pub concluded : List ℕ → List ℕ → List ℕ → Side → ℕ → Outcome → List ℕ → List ℕ → List ℕ → Data → Called
+-- the outcome of a step, with what the host gave or the APDU carries
+unfoldable pub concluded : List ℕ → List ℕ → List ℕ → Side → ℕ → Outcome → List ℕ → List ℕ → List ℕ → Carried → Called
 concluded r a b sd n o li lm lc d =
     cond (isNone (o .refusal))
-    (finished r a b sd n o (firstTakes sd li lm lc d (o .apdu) a) (secondTakes li lm lc d (o .delivers) b))
+    (finished r a b sd n o (firstTakes sd li lm lc d (o .apdu) a) (secondTakes li lm lc d (passes (o .told)) (o .delivers) b))
     (called (refusalNumber (o .refusal)) r a b)
 
 -- ---- refusals before the step
@@ -109,44 +163,52 @@ unfoldable pub entering : List ℕ → List ℕ → List ℕ → (Side → Recor
 entering r a b k = cond (ltb (length a) bufferLeast) (called room r a b) (cond (ltb (length b) bufferLeast) (called room r a b) (withRecord r a b (loadAt r) k))
 
 -- an event that brings the dialogue number v, at a record that holds n
-abbrev pub eventStep : List ℕ → List ℕ → List ℕ → Event → ℕ → List ℕ → List ℕ → List ℕ → Data → Side → Record → ℕ → Called
+abbrev pub eventStep : List ℕ → List ℕ → List ℕ → Event → ℕ → List ℕ → List ℕ → List ℕ → Carried → Side → Record → ℕ → Called
 eventStep r a b e v li lm lc d sd x n = concluded r a b sd (heldAfter n e v) (numberedStep sd x n e v) li lm lc d
 
 -- ---- a user primitive, an expiry or a system error; the message data stand in the lent bytes ids, msgs and checks
 
 unfoldable pub userStep : List ℕ → List ℕ → List ℕ → Event → ℕ → List ℕ → List ℕ → List ℕ → Data → Side → Record → ℕ → Called
 userStep r a b e v li lm lc d sd x n =
-    cond (dataShaped li lm lc d) (eventStep r a b e v li lm lc d sd x n) (called shape r a b)
+    cond (dataShaped li lm lc d) (eventStep r a b e v li lm lc (carriesData d) sd x n) (called shape r a b)
 
 unfoldable pub userCall : List ℕ → List ℕ → List ℕ → Event → ℕ → List ℕ → List ℕ → List ℕ → Data → Called
 userCall r a b e v ids msgs checks d = entering r a b (userStep r a b e v (lent ids) (lent msgs) (lent checks) d)
 
--- no message data
-abbrev pub noData : Data
-noData = record { identifier = part.Absent; message = part.Absent; check = record { at = 0; count = 0 } }
+-- ---- a forward request with Class of Communication k and Security Required s, of the dialogue number v; the message's bits stand in the lent bytes msgs
+
+unfoldable pub forwardStep : List ℕ → List ℕ → List ℕ → ℕ → ℕ → ℕ → List ℕ → Forwarded → Side → Record → ℕ → Called
+forwardStep r a b k s v lm f sd x n =
+    cond (forwardShaped lm f) (eventStep r a b (ForwardRequested k s) v lm lm lm (carriesForward f) sd x n) (called shape r a b)
+
+unfoldable pub forwardCall : List ℕ → List ℕ → List ℕ → ℕ → ℕ → ℕ → List ℕ → Forwarded → Called
+forwardCall r a b k s v msgs f = entering r a b (forwardStep r a b k s v (lent msgs) f)
 
 -- ---- a dialogue-service primitive; its user data stands in lent bytes, or there is none
 
 -- The type that the user data is read as. The air end reads GroundPDUs, the ground end AircraftPDUs; but what a facility sends in a D-START
--- indication to the ground end is GroundPDUs (Doc 9705, 2.3.5.5.2.3).
+-- indication to the ground end, and the confirmation in FORWARD, are GroundPDUs (Doc 9705, 2.3.5.5.2.3, 2.3.5.5.3.3).
 abbrev pub peerReads : ℕ → PduSide
 peerReads x = cond (eqb x facility) pdu.Ground pdu.Air
 
-unfoldable pub readsAs : Side → ServicePrimitive → PduSide
-readsAs Air p = pdu.Ground
-readsAs Ground (DStartIndication x s q) = peerReads x
-readsAs Ground (DStartConfirmation x o s) = pdu.Air
-readsAs Ground DDataIndication = pdu.Air
-readsAs Ground DEndIndication = pdu.Air
-readsAs Ground (DEndConfirmation x) = pdu.Air
-readsAs Ground (DAbortIndication o) = pdu.Air
-readsAs Ground DPAbortIndication = pdu.Air
+abbrev pub confirmationReads : Control → PduSide
+confirmationReads c = cond (awaitsResponse c) pdu.Ground pdu.Air
+
+unfoldable pub readsAs : Side → Control → ServicePrimitive → PduSide
+readsAs Air c p = pdu.Ground
+readsAs Ground c (DStartIndication x s q v) = peerReads x
+readsAs Ground c (DStartConfirmation x o s v) = confirmationReads c
+readsAs Ground c DDataIndication = pdu.Air
+readsAs Ground c DEndIndication = pdu.Air
+readsAs Ground c (DEndConfirmation x) = pdu.Air
+readsAs Ground c (DAbortIndication o) = pdu.Air
+readsAs Ground c DPAbortIndication = pdu.Air
 
 -- a D-ABORT of a provider at the ground end may hold the abort of a ground provider (Doc 9705, 2.3.5.5.15.2)
 unfoldable pub readsAgain : Side → ServicePrimitive → Bool
 readsAgain Air p = false
-readsAgain Ground (DStartIndication x s q) = false
-readsAgain Ground (DStartConfirmation x o s) = false
+readsAgain Ground (DStartIndication x s q v) = false
+readsAgain Ground (DStartConfirmation x o s v) = false
 readsAgain Ground DDataIndication = false
 readsAgain Ground DEndIndication = false
 readsAgain Ground (DEndConfirmation x) = false
@@ -159,16 +221,16 @@ abortOf first (is.AbortUser r) = first
 abortOf first (is.AbortProvider r) = answer.Is (is.AbortProvider r)
 abortOf first (is.Start m d) = first
 abortOf first (is.Send d) = first
-abortOf first is.Forward = first
-abortOf first is.ForwardResponse = first
+abortOf first (is.Forward f) = first
+abortOf first (is.ForwardResponse x) = first
 
 unfoldable pub orAbort : Answer → Answer → Answer
 orAbort (answer.Is a) second = answer.Is a
 orAbort (answer.Refused x) (answer.Is a) = abortOf (answer.Refused x) a
 orAbort (answer.Refused x) (answer.Refused y) = answer.Refused x
 
-unfoldable pub readPdu : Side → ServicePrimitive → List ℕ → Answer
-readPdu sd p l = cond (readsAgain sd p) (orAbort (apduAt (readsAs sd p) l 0) (apduAt pdu.Ground l 0)) (apduAt (readsAs sd p) l 0)
+unfoldable pub readPdu : Side → Control → ServicePrimitive → List ℕ → Answer
+readPdu sd c p l = cond (readsAgain sd p) (orAbort (apduAt (readsAs sd c p) l 0) (apduAt pdu.Ground l 0)) (apduAt (readsAs sd c p) l 0)
 
 -- refusals 10 to 17 mean "no valid PDU"
 unfoldable pub meaning : Answer → Apdu
@@ -177,8 +239,8 @@ meaning (answer.Is (is.AbortUser r)) = AbortUser r
 meaning (answer.Is (is.AbortProvider r)) = AbortProvider r
 meaning (answer.Is (is.Start m d)) = Start (eqb m 1)
 meaning (answer.Is (is.Send d)) = Send
-meaning (answer.Is is.Forward) = Forward
-meaning (answer.Is is.ForwardResponse) = Forward
+meaning (answer.Is (is.Forward f)) = Forward
+meaning (answer.Is (is.ForwardResponse x)) = ForwardResponse x
 
 -- where its message data stand
 unfoldable pub dataOf : Answer → Data
@@ -187,15 +249,28 @@ dataOf (answer.Is (is.AbortUser r)) = noData
 dataOf (answer.Is (is.AbortProvider r)) = noData
 dataOf (answer.Is (is.Start m d)) = d
 dataOf (answer.Is (is.Send d)) = d
-dataOf (answer.Is is.Forward) = noData
-dataOf (answer.Is is.ForwardResponse) = noData
+dataOf (answer.Is (is.Forward f)) = noData
+dataOf (answer.Is (is.ForwardResponse x)) = noData
+
+-- its forward message
+unfoldable pub forwardOf : Answer → Forwarded
+forwardOf (answer.Refused r) = noForward
+forwardOf (answer.Is (is.AbortUser r)) = noForward
+forwardOf (answer.Is (is.AbortProvider r)) = noForward
+forwardOf (answer.Is (is.Start m d)) = noForward
+forwardOf (answer.Is (is.Send d)) = noForward
+forwardOf (answer.Is (is.Forward f)) = f
+forwardOf (answer.Is (is.ForwardResponse x)) = noForward
+
+abbrev pub carriedBy : Answer → Carried
+carriedBy a = carries (dataOf a) (forwardOf a)
 
 -- with user data, or without
 unfoldable pub dataStep : List ℕ → List ℕ → List ℕ → ServicePrimitive → ℕ → List ℕ → Side → Record → ℕ → Called
-dataStep r a b p v l sd x n = eventStep r a b (Service p (meaning (readPdu sd p l))) v l l l (dataOf (readPdu sd p l)) sd x n
+dataStep r a b p v l sd x n = eventStep r a b (Service p (meaning (readPdu sd (x .control) p l))) v l l l (carriedBy (readPdu sd (x .control) p l)) sd x n
 
 unfoldable pub bareStep : List ℕ → List ℕ → List ℕ → ServicePrimitive → ℕ → List ℕ → Side → Record → ℕ → Called
-bareStep r a b p v l sd x n = eventStep r a b (Service p Absent) v l l l noData sd x n
+bareStep r a b p v l sd x n = eventStep r a b (Service p Absent) v l l l (carriesData noData) sd x n
 
 -- given: 0 no user data, 1 user data; another number is SHAPE
 unfoldable pub serviceStep : List ℕ → List ℕ → List ℕ → ServicePrimitive → ℕ → ℕ → List ℕ → Side → Record → ℕ → Called

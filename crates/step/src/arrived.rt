@@ -1,14 +1,17 @@
 // The user data of a dialogue-service primitive as it arrives: what it is read as, and what it is to the machine.
 ghost use mathlib.Core.Path.{_≡_};
 ghost use Rattle.apdu.specs.Pdus.{lent};
-ghost use Rattle.step.specs.Call.{abortOf, dataOf, meaning, noData, orAbort, peerReads, readPdu, readsAgain, readsAs};
+ghost use Rattle.step.specs.Call.{abortOf, confirmationReads, dataOf, forwardOf, meaning, orAbort, peerReads, readPdu, readsAgain, readsAs};
+use crate::carried::no_data;
+use crate::carried::no_forward;
 use apdu::Answer;
 use apdu::Apdu as Pdu;
 use apdu::Data;
-use apdu::Part;
+use apdu::Forward;
 use apdu::Side as PduSide;
-use apdu::Span;
+use control::Control;
 use control::Side;
+use control::awaits_response;
 use machine::event::Apdu;
 use machine::event::ServicePrimitive;
 
@@ -23,12 +26,23 @@ fn of_peer(peer: u64) -> PduSide
     }
 }
 
-fn ground_reads(p: ServicePrimitive) -> PduSide
-    ensures { λ s. ⌜ s ≡ readsAs Side.Ground p ⌝ }
+// The type that a confirmation is read as.
+fn of_confirmation(c: Control) -> PduSide
+    ensures { λ s. ⌜ s ≡ confirmationReads c ⌝ }
+{
+    if awaits_response(c) {
+        PduSide::Ground
+    } else {
+        PduSide::Air
+    }
+}
+
+fn ground_reads(c: Control, p: ServicePrimitive) -> PduSide
+    ensures { λ s. ⌜ s ≡ readsAs Side.Ground c p ⌝ }
 {
     match p {
-        ServicePrimitive::DStartIndication(x, _, _) => of_peer(x),
-        ServicePrimitive::DStartConfirmation(_, _, _) => PduSide::Air,
+        ServicePrimitive::DStartIndication(x, _, _, _) => of_peer(x),
+        ServicePrimitive::DStartConfirmation(_, _, _, _) => of_confirmation(c),
         ServicePrimitive::DDataIndication => PduSide::Air,
         ServicePrimitive::DEndIndication => PduSide::Air,
         ServicePrimitive::DEndConfirmation(_) => PduSide::Air,
@@ -37,12 +51,12 @@ fn ground_reads(p: ServicePrimitive) -> PduSide
     }
 }
 
-fn reads_as(side: Side, p: ServicePrimitive) -> PduSide
-    ensures { λ s. ⌜ s ≡ readsAs side p ⌝ }
+fn reads_as(side: Side, c: Control, p: ServicePrimitive) -> PduSide
+    ensures { λ s. ⌜ s ≡ readsAs side c p ⌝ }
 {
     match side {
         Side::Air => PduSide::Ground,
-        Side::Ground => ground_reads(p),
+        Side::Ground => ground_reads(c, p),
     }
 }
 
@@ -50,8 +64,8 @@ fn ground_reads_again(p: ServicePrimitive) -> bool
     ensures { λ b. ⌜ b ≡ readsAgain Side.Ground p ⌝ }
 {
     match p {
-        ServicePrimitive::DStartIndication(_, _, _) => false,
-        ServicePrimitive::DStartConfirmation(_, _, _) => false,
+        ServicePrimitive::DStartIndication(_, _, _, _) => false,
+        ServicePrimitive::DStartConfirmation(_, _, _, _) => false,
         ServicePrimitive::DDataIndication => false,
         ServicePrimitive::DEndIndication => false,
         ServicePrimitive::DEndConfirmation(_) => false,
@@ -78,8 +92,8 @@ fn abort_of(first: Answer, second: Pdu) -> Answer
         Pdu::AbortProvider(r) => Answer::Is(Pdu::AbortProvider(r)),
         Pdu::Start(_, _) => first,
         Pdu::Send(_) => first,
-        Pdu::Forward => first,
-        Pdu::ForwardResponse => first,
+        Pdu::Forward(_) => first,
+        Pdu::ForwardResponse(_) => first,
     }
 }
 
@@ -96,10 +110,10 @@ fn or_abort(first: Answer, second: Answer) -> Answer
 }
 
 // What the user data is, of which the types that may be there are tried.
-pub(crate) fn read_pdu(side: Side, p: ServicePrimitive, bytes: &[u8]) -> Answer
-    ensures { λ a. ⌜ a ≡ readPdu side p (lent (now (bytes .entry))) ⌝ }
+pub(crate) fn read_pdu(side: Side, c: Control, p: ServicePrimitive, bytes: &[u8]) -> Answer
+    ensures { λ a. ⌜ a ≡ readPdu side c p (lent (now (bytes .entry))) ⌝ }
 {
-    let first = apdu::read_apdu(bytes, reads_as(side, p));
+    let first = apdu::read_apdu(bytes, reads_as(side, c, p));
     if reads_again(side, p) {
         return or_abort(first, apdu::read_apdu(bytes, PduSide::Ground));
     }
@@ -114,8 +128,8 @@ fn meaning_of(a: Pdu) -> Apdu
         Pdu::AbortProvider(r) => Apdu::AbortProvider(r),
         Pdu::Start(m, _) => Apdu::Start(m == 1),
         Pdu::Send(_) => Apdu::Send,
-        Pdu::Forward => Apdu::Forward,
-        Pdu::ForwardResponse => Apdu::Forward,
+        Pdu::Forward(_) => Apdu::Forward,
+        Pdu::ForwardResponse(x) => Apdu::ForwardResponse(x),
     }
 }
 
@@ -129,16 +143,6 @@ pub(crate) fn meaning(a: Answer) -> Apdu
     }
 }
 
-pub fn no_data() -> Data
-    ensures { λ d. ⌜ d ≡ noData ⌝ }
-{
-    Data {
-        identifier: Part::Absent,
-        message: Part::Absent,
-        check: Span { at: 0, count: 0 },
-    }
-}
-
 fn data_of_pdu(a: Pdu) -> Data
     ensures { λ d. ⌜ d ≡ dataOf (Answer.Is a) ⌝ }
 {
@@ -147,8 +151,8 @@ fn data_of_pdu(a: Pdu) -> Data
         Pdu::AbortProvider(_) => no_data(),
         Pdu::Start(_, d) => d,
         Pdu::Send(d) => d,
-        Pdu::Forward => no_data(),
-        Pdu::ForwardResponse => no_data(),
+        Pdu::Forward(_) => no_data(),
+        Pdu::ForwardResponse(_) => no_data(),
     }
 }
 
@@ -159,5 +163,28 @@ pub(crate) fn data_of(a: Answer) -> Data
     match a {
         Answer::Is(p) => data_of_pdu(p),
         Answer::Refused(_) => no_data(),
+    }
+}
+
+fn forward_of_pdu(a: Pdu) -> Forward
+    ensures { λ f. ⌜ f ≡ forwardOf (Answer.Is a) ⌝ }
+{
+    match a {
+        Pdu::AbortUser(_) => no_forward(),
+        Pdu::AbortProvider(_) => no_forward(),
+        Pdu::Start(_, _) => no_forward(),
+        Pdu::Send(_) => no_forward(),
+        Pdu::Forward(f) => f,
+        Pdu::ForwardResponse(_) => no_forward(),
+    }
+}
+
+// Its forward message.
+pub(crate) fn forward_of(a: Answer) -> Forward
+    ensures { λ f. ⌜ f ≡ forwardOf a ⌝ }
+{
+    match a {
+        Answer::Is(p) => forward_of_pdu(p),
+        Answer::Refused(_) => no_forward(),
     }
 }

@@ -2,20 +2,25 @@
 ghost use mathlib.Core.Path.{_≡_};
 ghost use Rattle.apdu.specs.Pdus.{lent};
 ghost use Rattle.apdu.specs.Writing.{done};
-ghost use Rattle.step.specs.Call.{bareStep, bitsOfWritten, called, concluded, dataStep, eventStep, firstTakes, pduSide, secondTakes, serviceCall, userCall};
+ghost use Rattle.step.specs.Call.{bareStep, bitsOfWritten, called, carries, concluded, dataStep, eventStep, firstTakes, forwardCall, pduSide, secondTakes, serviceCall, userCall};
 use crate::arrived::data_of;
+use crate::arrived::forward_of;
 use crate::arrived::meaning;
-use crate::arrived::no_data;
 use crate::arrived::read_pdu;
+use crate::carried::no_data;
+use crate::carried::no_forward;
+use crate::carried::passes;
 use crate::packing::invoked_number;
+use crate::packing::mode;
 use crate::packing::packed;
 use crate::packing::told_number;
+use crate::packing::version_number;
 use crate::stored::Loaded;
-use crate::stored::flag_code;
 use crate::stored::load;
 use crate::stored::store;
 use apdu::Apdu as Pdu;
 use apdu::Data;
+use apdu::Forward;
 use apdu::Side as PduSide;
 use apdu::Written;
 use control::Side;
@@ -51,49 +56,51 @@ fn write_first(
     first: &mut [u8],
     side: Side,
     a: Apdu,
-    d: Data,
+    content: Data,
+    forward: Forward,
     ids: &[u8],
     msgs: &[u8],
     checks: &[u8],
 ) -> Written
-    ensures { λ w. ⌜ done w (now (first .exit)) ≡ firstTakes side (lent (now (ids .entry))) (lent (now (msgs .entry))) (lent (now (checks .entry))) d a (now (first .entry)) ⌝ }
+    ensures { λ w. ⌜ done w (now (first .exit)) ≡ firstTakes side (lent (now (ids .entry))) (lent (now (msgs .entry))) (lent (now (checks .entry))) (carries content forward) a (now (first .entry)) ⌝ }
 {
     let pdu = pdu_side(side);
     match a {
         Apdu::Absent => Written::Bits(0),
         Apdu::NotValid => Written::Bits(0),
         Apdu::Start(m) => {
-            apdu::put_apdu(
-                first,
-                pdu,
-                Pdu::Start(flag_code(m) as u64, d),
-                ids,
-                msgs,
-                checks,
-            )
+            apdu::put_apdu(first, pdu, Pdu::Start(mode(m), content), ids, msgs, checks)
         }
-        Apdu::Send => apdu::put_apdu(first, pdu, Pdu::Send(d), ids, msgs, checks),
+        Apdu::Send => apdu::put_apdu(first, pdu, Pdu::Send(content), ids, msgs, checks),
         Apdu::AbortUser(x) => apdu::put_apdu(first, pdu, Pdu::AbortUser(x), ids, msgs, checks),
         Apdu::AbortProvider(x) => {
             apdu::put_apdu(first, pdu, Pdu::AbortProvider(x), ids, msgs, checks)
         }
-        Apdu::Forward => Written::Bits(0),
+        Apdu::Forward => apdu::put_apdu(first, pdu, Pdu::Forward(forward), ids, msgs, checks),
+        Apdu::ForwardResponse(x) => {
+            apdu::put_apdu(first, pdu, Pdu::ForwardResponse(x), ids, msgs, checks)
+        }
     }
 }
 
-// The second buffer takes the message data that is delivered.
+// The second buffer takes the forward message that is passed on, or the message data that is delivered.
 fn write_second(
     second: &mut [u8],
+    passed: bool,
     delivers: bool,
-    d: Data,
+    content: Data,
+    forward: Forward,
     ids: &[u8],
     msgs: &[u8],
     checks: &[u8],
 ) -> Written
-    ensures { λ w. ⌜ done w (now (second .exit)) ≡ secondTakes (lent (now (ids .entry))) (lent (now (msgs .entry))) (lent (now (checks .entry))) d delivers (now (second .entry)) ⌝ }
+    ensures { λ w. ⌜ done w (now (second .exit)) ≡ secondTakes (lent (now (ids .entry))) (lent (now (msgs .entry))) (lent (now (checks .entry))) (carries content forward) passed delivers (now (second .entry)) ⌝ }
 {
+    if passed {
+        return apdu::put_forward(second, forward, msgs);
+    }
     if delivers {
-        return apdu::put_data(second, d, ids, msgs, checks);
+        return apdu::put_data(second, content, ids, msgs, checks);
     }
     Written::Bits(0)
 }
@@ -109,24 +116,35 @@ fn conclude(
     ids: &[u8],
     msgs: &[u8],
     checks: &[u8],
-    d: Data,
+    content: Data,
+    forward: Forward,
 ) -> u64
-    ensures { λ n. ⌜ called n (now (rec .exit)) (now (first .exit)) (now (second .exit)) ≡ concluded (now (rec .entry)) (now (first .entry)) (now (second .entry)) side number o (lent (now (ids .entry))) (lent (now (msgs .entry))) (lent (now (checks .entry))) d ⌝ }
+    ensures { λ n. ⌜ called n (now (rec .exit)) (now (first .exit)) (now (second .exit)) ≡ concluded (now (rec .entry)) (now (first .entry)) (now (second .entry)) side number o (lent (now (ids .entry))) (lent (now (msgs .entry))) (lent (now (checks .entry))) (carries content forward) ⌝ }
 {
     let why = o.refusal;
     if why.is_none() {
         let a = o.apdu;
-        let sent = write_first(first, side, a, d, ids, msgs, checks);
-        let given = write_second(second, o.delivers, d, ids, msgs, checks);
-        let next = o.next;
-        store(rec, side, next, number);
+        let sent = write_first(first, side, a, content, forward, ids, msgs, checks);
         let i = o.invoked;
         let t = o.told;
+        let given = write_second(
+            second,
+            passes(t),
+            o.delivers,
+            content,
+            forward,
+            ids,
+            msgs,
+            checks,
+        );
+        let next = o.next;
+        store(rec, side, next, number);
         return packed(
             invoked_number(i),
             told_number(t),
             bits_of(sent),
             bits_of(given),
+            version_number(i, t),
         );
     }
     why.number()
@@ -142,16 +160,29 @@ fn event_step(
     ids: &[u8],
     msgs: &[u8],
     checks: &[u8],
-    d: Data,
+    content: Data,
+    forward: Forward,
     side: Side,
     r: Record,
     held: u64,
 ) -> u64
-    ensures { λ n. ⌜ called n (now (rec .exit)) (now (first .exit)) (now (second .exit)) ≡ eventStep (now (rec .entry)) (now (first .entry)) (now (second .entry)) e brought (lent (now (ids .entry))) (lent (now (msgs .entry))) (lent (now (checks .entry))) d side r held ⌝ }
+    ensures { λ n. ⌜ called n (now (rec .exit)) (now (first .exit)) (now (second .exit)) ≡ eventStep (now (rec .entry)) (now (first .entry)) (now (second .entry)) e brought (lent (now (ids .entry))) (lent (now (msgs .entry))) (lent (now (checks .entry))) (carries content forward) side r held ⌝ }
 {
     let o = numbered::step(side, r, held, e, brought);
     let number = held_after(held, e, brought);
-    conclude(rec, first, second, side, number, o, ids, msgs, checks, d)
+    conclude(
+        rec,
+        first,
+        second,
+        side,
+        number,
+        o,
+        ids,
+        msgs,
+        checks,
+        content,
+        forward,
+    )
 }
 
 // A user primitive, an expiry or a system error, with the message data that the host gives. A start brings a dialogue number; the others bring none.
@@ -188,6 +219,50 @@ pub fn user_call(
             msgs,
             checks,
             d,
+            no_forward(),
+            side,
+            r,
+            held,
+        );
+    }
+    Limit::SHAPE
+}
+
+// A forward request with its dialogue number, and the forward message that the host gives.
+pub fn forward_call(
+    rec: &mut [u8],
+    first: &mut [u8],
+    second: &mut [u8],
+    class: u64,
+    security: u64,
+    brought: u64,
+    msgs: &[u8],
+    f: Forward,
+) -> u64
+    ensures { λ n. ⌜ called n (now (rec .exit)) (now (first .exit)) (now (second .exit)) ≡ forwardCall (now (rec .entry)) (now (first .entry)) (now (second .entry)) class security brought (now (msgs .entry)) f ⌝ }
+{
+    if first.len() < Pdu::BUFFER {
+        return Limit::ROOM;
+    }
+    if second.len() < Pdu::BUFFER {
+        return Limit::ROOM;
+    }
+    let Loaded::Is(side, r, held) = load(rec) else {
+        return Limit::SHAPE;
+    };
+    if apdu::forward_shaped(f, msgs) {
+        let e = Event::Forward(class, security);
+        return event_step(
+            rec,
+            first,
+            second,
+            e,
+            brought,
+            msgs,
+            msgs,
+            msgs,
+            no_data(),
+            f,
             side,
             r,
             held,
@@ -210,9 +285,11 @@ fn data_step(
 ) -> u64
     ensures { λ n. ⌜ called n (now (rec .exit)) (now (first .exit)) (now (second .exit)) ≡ dataStep (now (rec .entry)) (now (first .entry)) (now (second .entry)) p brought (lent (now (bytes .entry))) side r held ⌝ }
 {
-    let pdu = read_pdu(side, p, bytes);
+    let c = r.control;
+    let pdu = read_pdu(side, c, p, bytes);
     let e = Event::Service(p, meaning(pdu));
-    let d = data_of(pdu);
+    let content = data_of(pdu);
+    let forward = forward_of(pdu);
     event_step(
         rec,
         first,
@@ -222,7 +299,8 @@ fn data_step(
         bytes,
         bytes,
         bytes,
-        d,
+        content,
+        forward,
         side,
         r,
         held,
@@ -244,7 +322,8 @@ fn bare_step(
     ensures { λ n. ⌜ called n (now (rec .exit)) (now (first .exit)) (now (second .exit)) ≡ bareStep (now (rec .entry)) (now (first .entry)) (now (second .entry)) p brought (lent (now (bytes .entry))) side r held ⌝ }
 {
     let e = Event::Service(p, Apdu::Absent);
-    let d = no_data();
+    let content = no_data();
+    let forward = no_forward();
     event_step(
         rec,
         first,
@@ -254,7 +333,8 @@ fn bare_step(
         bytes,
         bytes,
         bytes,
-        d,
+        content,
+        forward,
         side,
         r,
         held,

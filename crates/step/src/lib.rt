@@ -2,10 +2,12 @@
 // Read the record, read the APDU, take the machine's step, write the APDU and the message data, keep the record.
 mod arrived;
 mod call;
+mod carried;
 mod packing;
 mod stored;
 
-pub use arrived::no_data;
+pub use call::forward_call;
 pub use call::service_call;
 pub use call::user_call;
+pub use carried::no_data;
 pub use stored::store;

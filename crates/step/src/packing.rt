@@ -1,7 +1,7 @@
 // The number that a call answers.
 ghost use mathlib.Core.Path.{_≡_};
 ghost use Prim.Native.Nat.{_+_, _*_, _<_};
-ghost use Rattle.step.specs.Packed.{codes, invokedNumber, packed, primitives, three, toldNumber};
+ghost use Rattle.step.specs.Packed.{codes, invokedNumber, invokedVersion, packed, primitives, three, toldNumber, toldVersion, versionNumber};
 ghost use Rattle.step.specs.Stored.{flag};
 use crate::stored::flag_code;
 use machine::outcome::Invoked;
@@ -18,6 +18,10 @@ impl Parts {
     const PRIMITIVES: u64 = 512;
 
     const COUNTS: u64 = 32768;
+
+    const VERSIONS: u64 = 256;
+    // Result "rejected (permanent)".
+    const PERMANENT: u64 = 1;
 }
 
 // A primitive, its parameter, and its security value or its mode.
@@ -28,7 +32,7 @@ fn three(code: u64, x: u64, y: u64) -> u64
     code + Parts::CODES * (x % Parts::CODES + Parts::CODES * (y % 2))
 }
 
-fn mode(dsc: bool) -> u64
+pub(crate) fn mode(dsc: bool) -> u64
     ensures { λ r. ⌜ r ≡ flag dsc ⌝ }
 {
     flag_code(dsc) as u64
@@ -45,6 +49,8 @@ pub(crate) fn invoked_number(i: Invoked) -> u64
         Invoked::DEndRequest => three(4, 0, 0),
         Invoked::DEndResponse(x) => three(5, x, 0),
         Invoked::DAbortRequest(o) => three(6, o, 0),
+        Invoked::DStartForwardRequest(q, s, _) => three(1, q.routing, s),
+        Invoked::DStartForwardResponse(s, _) => three(2, Parts::PERMANENT, s),
     }
 }
 
@@ -60,14 +66,61 @@ pub(crate) fn told_number(t: Told) -> u64
         Told::EndConfirmation(m, x) => three(5, x, mode(m)),
         Told::UserAbortIndication(x) => three(6, x, 0),
         Told::ProviderAbortIndication(x) => three(7, x, 0),
+        Told::ForwardIndication => three(8, 0, 0),
+        Told::ForwardConfirmation(x, _) => three(9, x, 0),
     }
 }
 
-// A call that was taken.
-pub(crate) fn packed(invoked: u64, told: u64, sent: usize, given: usize) -> u64
-    requires { ⌜ (invoked < primitives) × (told < primitives) ⌝ }
-    ensures { λ r. ⌜ r ≡ packed invoked told sent given ⌝ }
+fn invoked_version(i: Invoked) -> u64
+    ensures { λ r. ⌜ r ≡ invokedVersion i ⌝ }
 {
-    let bits = sent as u64 % Parts::COUNTS + Parts::COUNTS * (given as u64 % Parts::COUNTS);
+    match i {
+        Invoked::Silent => 0,
+        Invoked::DStartRequest(_, _) => 0,
+        Invoked::DStartResponse(_, _) => 0,
+        Invoked::DDataRequest => 0,
+        Invoked::DEndRequest => 0,
+        Invoked::DEndResponse(_) => 0,
+        Invoked::DAbortRequest(_) => 0,
+        Invoked::DStartForwardRequest(_, _, v) => v,
+        Invoked::DStartForwardResponse(_, v) => v,
+    }
+}
+
+fn told_version(t: Told) -> u64
+    ensures { λ r. ⌜ r ≡ toldVersion t ⌝ }
+{
+    match t {
+        Told::Untold => 0,
+        Told::StartIndication(_, _) => 0,
+        Told::StartConfirmation(_, _) => 0,
+        Told::MessageIndication => 0,
+        Told::EndIndication(_) => 0,
+        Told::EndConfirmation(_, _) => 0,
+        Told::UserAbortIndication(_) => 0,
+        Told::ProviderAbortIndication(_) => 0,
+        Told::ForwardIndication => 0,
+        Told::ForwardConfirmation(_, v) => v,
+    }
+}
+
+// The version that is sent, or the one that is told.
+pub(crate) fn version_number(i: Invoked, t: Told) -> u64
+    ensures { λ r. ⌜ r ≡ versionNumber i t ⌝ }
+{
+    let sent = invoked_version(i);
+    if sent == 0 {
+        return told_version(t);
+    }
+    sent
+}
+
+// A call that was taken.
+pub(crate) fn packed(invoked: u64, told: u64, sent: usize, given: usize, version: u64) -> u64
+    requires { ⌜ (invoked < primitives) × (told < primitives) ⌝ }
+    ensures { λ r. ⌜ r ≡ packed invoked told sent given version ⌝ }
+{
+    let second = given as u64 % Parts::COUNTS + Parts::COUNTS * (version % Parts::VERSIONS);
+    let bits = sent as u64 % Parts::COUNTS + Parts::COUNTS * second;
     Parts::REFUSALS * (invoked + Parts::PRIMITIVES * (told + Parts::PRIMITIVES * bits))
 }

@@ -1,7 +1,7 @@
 // A record as the host keeps it: a lent range of a fixed size, of which every byte has its meaning.
 ghost use mathlib.Core.Path.{_≡_};
 ghost use Prim.Native.Nat.{_<_};
-ghost use Rattle.machine.specs.Codes.{securityValues};
+ghost use Rattle.machine.specs.Codes.{securityValues, versions};
 ghost use Rattle.step.specs.Stored.{flag, headBytes, headFits, kept, loadAt, sideCode, sideOf, stateOf, storeAt};
 use bits::Read;
 use control::Control;
@@ -19,7 +19,7 @@ pub enum Loaded {
 
 impl Loaded {
     // The bytes of a record: those of one code each, then those of the highest job and of the dialogue number.
-    const HEAD: usize = 8;
+    const HEAD: usize = 9;
 
     const JOB: usize = 8;
 
@@ -62,7 +62,8 @@ fn state_of(x: u8) -> State
         1 => State::StartReq,
         2 => State::StartInd,
         3 => State::Dialogue,
-        _ => State::End,
+        4 => State::End,
+        _ => State::Forward,
     }
 }
 
@@ -80,9 +81,10 @@ fn head_fits(
     active: u8,
     request: u8,
     policy: u8,
-    none: u8,
+    forwards: u8,
+    version: u8,
 ) -> bool
-    ensures { λ r. ⌜ r ≡ headFits side state dsc timer active request policy none ⌝ }
+    ensures { λ r. ⌜ r ≡ headFits side state dsc timer active request policy forwards version ⌝ }
 {
     if side < 1 {
         return false;
@@ -90,7 +92,7 @@ fn head_fits(
     if 2 < side {
         return false;
     }
-    if 5 <= state {
+    if 6 <= state {
         return false;
     }
     if 2 <= dsc {
@@ -108,7 +110,13 @@ fn head_fits(
     if 2 <= policy {
         return false;
     }
-    none == 0
+    if 2 <= forwards {
+        return false;
+    }
+    if version < 1 {
+        return false;
+    }
+    true
 }
 
 // What the bytes say.
@@ -118,7 +126,7 @@ pub(crate) fn load(b: &[u8]) -> Loaded
     if b.len() != Loaded::SIZE {
         return Loaded::NoRecord;
     }
-    if head_fits(b[0], b[1], b[2], b[3], b[4], b[5], b[6], b[7]) {
+    if head_fits(b[0], b[1], b[2], b[3], b[4], b[5], b[6], b[7], b[8]) {
         let Read::Number(highest, _) = bits::read_bits(
             b,
             Loaded::BITS,
@@ -146,6 +154,8 @@ pub(crate) fn load(b: &[u8]) -> Loaded
                 highest,
                 request: b[5] as u64,
                 policy: b[6] as u64,
+                forwards: b[7] == 1,
+                version: b[8] as u64,
             },
             held,
         );
@@ -154,8 +164,8 @@ pub(crate) fn load(b: &[u8]) -> Loaded
 }
 
 // The bytes of a record in front of the job.
-fn head_bytes(side: Side, r: Record) -> [u8; 8]
-    requires { ⌜ (r .request < securityValues) × (r .policy < securityValues) ⌝ }
+fn head_bytes(side: Side, r: Record) -> [u8; 9]
+    requires { ⌜ (r .request < securityValues) × ((r .policy < securityValues) × (r .version < versions)) ⌝ }
     ensures { λ b. ⌜ b ≡ headBytes side r ⌝ }
 {
     let c = r.control;
@@ -168,7 +178,8 @@ fn head_bytes(side: Side, r: Record) -> [u8; 8]
         flag_code(r.active),
         r.request as u8,
         r.policy as u8,
-        0,
+        flag_code(r.forwards),
+        r.version as u8,
     ]
 }
 
@@ -183,6 +194,12 @@ pub fn store(b: &mut [u8], side: Side, r: Record, held: u64) -> bool
         return false;
     }
     if Configuration::SECURITY_VALUES <= r.policy {
+        return false;
+    }
+    if r.version < 1 {
+        return false;
+    }
+    if Configuration::VERSIONS <= r.version {
         return false;
     }
     let head = head_bytes(side, r);

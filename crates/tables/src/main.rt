@@ -33,6 +33,7 @@ fn place(s: State, dsc: bool) {
         State::StartInd => text(b"START-IND"),
         State::Dialogue => text(b"DIALOGUE"),
         State::End => text(b"END"),
+        State::Forward => text(b"FORWARD"),
     }
     if dsc {
         text(b" +");
@@ -84,6 +85,10 @@ fn pdu_name(a: Apdu) {
             number(n);
         }
         Apdu::Forward => text(b"forward"),
+        Apdu::ForwardResponse(n) => {
+            text(b"forward response");
+            number(n);
+        }
     }
 }
 
@@ -103,6 +108,22 @@ fn show_invoked(i: Invoked) -> bool {
             text(b"; D-START response");
             number(n);
             number(security);
+            true
+        }
+        Invoked::DStartForwardRequest(q, security, version) => {
+            text(b"; D-START request");
+            number(q.priority);
+            number(q.rer);
+            number(q.routing);
+            number(security);
+            number(version);
+            true
+        }
+        Invoked::DStartForwardResponse(security, version) => {
+            text(b"; D-START response");
+            number(1);
+            number(security);
+            number(version);
             true
         }
         Invoked::DDataRequest => {
@@ -157,6 +178,12 @@ fn show_told(t: Told) {
             text(b"; CPDLC-provider-abort indication");
             number(n);
         }
+        Told::ForwardIndication => text(b"; CPDLC-forward indication"),
+        Told::ForwardConfirmation(n, version) => {
+            text(b"; CPDLC-forward confirmation");
+            number(n);
+            number(version);
+        }
     }
 }
 
@@ -187,36 +214,49 @@ fn show_outcome(o: Outcome) {
 // ---- the records
 
 // What a table is printed for: a side; whether the user is active outside IDLE; or records that no run reaches, with timer and
-// user the wrong way round; and the security value that local policy accepts, which the last request had too.
+// user the wrong way round; the security value that local policy accepts, which the last request had too; and whether forwarding
+// is supported.
 struct View {
     side: Side,
     active: bool,
     reversed: bool,
     policy: u64,
+    forwards: bool,
 }
 
-const VIEWS: u64 = 8;
+const VIEWS: u64 = 10;
 
 fn side_of(n: u64) -> Side {
-    if n < 4 {
+    if n < 5 {
         return Side::Air;
     }
     Side::Ground
 }
 
-// Of each side: the usual records; a user who is not active; timer and user reversed; "secured exchange".
+fn secured(kind: u64) -> u64 {
+    if kind == 3 {
+        return 1;
+    }
+    0
+}
+
+// Of each side: the usual records; a user who is not active; timer and user reversed; "secured exchange" and forwarding; forwarding.
 fn view_of(n: u64) -> View {
     let side = side_of(n);
-    let kind = n % 4;
+    let kind = n % 5;
     View {
         side,
         active: kind != 1,
         reversed: kind == 2,
-        policy: kind / 3,
+        policy: secured(kind),
+        forwards: 2 < kind,
     }
 }
 
-const PLACES: u64 = 10;
+const PLACES: u64 = 12;
+
+// The version of the records.
+const OWN: u64 = 3;
 
 fn state_of(n: u64) -> State {
     match n / 2 {
@@ -224,7 +264,8 @@ fn state_of(n: u64) -> State {
         1 => State::StartReq,
         2 => State::StartInd,
         3 => State::Dialogue,
-        _ => State::End,
+        4 => State::End,
+        _ => State::Forward,
     }
 }
 
@@ -236,10 +277,15 @@ fn unlike(a: bool, b: bool) -> bool {
     if a { !b } else { b }
 }
 
+// START-REQ and FORWARD.
+fn waits(state: u64) -> bool {
+    state == 1 || state == 5
+}
+
 // The record of a state and DSC, with highest job 7.
 fn record_of(v: View, n: u64) -> Record {
     let state = state_of(n);
-    let timer = unlike(n / 2 == 1, v.reversed);
+    let timer = unlike(waits(n / 2), v.reversed);
     let active = unlike(both(v.active, 1 < n), v.reversed);
     Record {
         control: Control {
@@ -251,6 +297,8 @@ fn record_of(v: View, n: u64) -> Record {
         highest: 7,
         request: v.policy,
         policy: v.policy,
+        forwards: v.forwards,
+        version: OWN,
     }
 }
 
@@ -262,14 +310,14 @@ fn events_of(kind: u64) -> u64 {
     match kind {
         0 => 13,
         1 => 5,
-        2 => 4,
-        3 => 16,
-        4 => 8,
-        5 => 24,
-        6 => 6,
-        7 => 16,
-        8 => 16,
-        9 => 16,
+        2 => 5,
+        3 => 18,
+        4 => 12,
+        5 => 27,
+        6 => 7,
+        7 => 18,
+        8 => 18,
+        9 => 18,
         _ => 1,
     }
 }
@@ -278,14 +326,14 @@ fn event_of(policy: u64, kind: u64, n: u64) -> Event {
     match kind {
         0 => Event::User(in_mode(policy, n)),
         1 => Event::User(message(n)),
-        2 => report(n),
+        2 => report(policy, n),
         3 => start(policy, n),
         4 => faulty_start(policy, n),
         5 => started(policy, n),
         6 => faulty_started(policy, n),
         7 => data_or_end(n),
-        8 => Event::Service(ServicePrimitive::DEndConfirmation(n / 8), pdu(n % 8)),
-        9 => Event::Service(ServicePrimitive::DAbortIndication(n / 8), pdu(n % 8)),
+        8 => Event::Service(ServicePrimitive::DEndConfirmation(n / PDUS), pdu(n % PDUS)),
+        9 => Event::Service(ServicePrimitive::DAbortIndication(n / PDUS), pdu(n % PDUS)),
         _ => Event::Service(ServicePrimitive::DPAbortIndication, Apdu::Absent),
     }
 }
@@ -313,25 +361,29 @@ fn message(n: u64) -> UserPrimitive {
     }
 }
 
-fn report(n: u64) -> Event {
+fn report(policy: u64, n: u64) -> Event {
     match n {
         0 => Event::User(UserPrimitive::UserAbortServiceRequest(true, 5)),
         1 => Event::User(UserPrimitive::UserAbortServiceRequest(false, 5)),
         2 => Event::TimerExpires,
-        _ => Event::UnrecoverableSystemError,
+        3 => Event::UnrecoverableSystemError,
+        _ => Event::Forward(2, policy),
     }
 }
 
-// Eight user data: one of each PDU, none valid, none at all.
+// Nine user data: one of each PDU, none valid, none at all.
+const PDUS: u64 = 9;
+
 fn pdu(n: u64) -> Apdu {
     match n {
         0 => Apdu::Send,
         1 => Apdu::Start(false),
         2 => Apdu::Start(true),
         3 => Apdu::Forward,
-        4 => Apdu::AbortUser(5),
-        5 => Apdu::AbortProvider(1),
-        6 => Apdu::NotValid,
+        4 => Apdu::ForwardResponse(2),
+        5 => Apdu::AbortUser(5),
+        6 => Apdu::AbortProvider(1),
+        7 => Apdu::NotValid,
         _ => Apdu::Absent,
     }
 }
@@ -343,16 +395,16 @@ fn other(policy: u64) -> u64 {
     0
 }
 
-fn indication(peer: u64, security: u64, qos: Qos, apdu: Apdu) -> Event {
+fn indication(peer: u64, security: u64, qos: Qos, version: u64, apdu: Apdu) -> Event {
     Event::Service(
-        ServicePrimitive::DStartIndication(peer, security, qos),
+        ServicePrimitive::DStartIndication(peer, security, qos, version),
         apdu,
     )
 }
 
-fn confirmation(result: u64, source: u64, security: u64, apdu: Apdu) -> Event {
+fn confirmation(result: u64, source: u64, security: u64, version: u64, apdu: Apdu) -> Event {
     Event::Service(
-        ServicePrimitive::DStartConfirmation(result, source, security),
+        ServicePrimitive::DStartConfirmation(result, source, security, version),
         apdu,
     )
 }
@@ -367,34 +419,47 @@ fn quality(priority: u64, rer: u64, routing: u64) -> Qos {
 
 // A start from a facility, then from an aircraft, with each PDU.
 fn start(policy: u64, n: u64) -> Event {
-    indication(n / 8, policy, quality(1, 1, 2), pdu(n % 8))
+    indication(n / PDUS, policy, quality(1, 1, 2), 0, pdu(n % PDUS))
 }
 
-// Its other faults, one behind another.
+// Its other faults, one behind another; then a forward with the own version, and with another.
 fn faulty_start(policy: u64, n: u64) -> Event {
+    if 7 < n {
+        return indication(
+            (n - 8) / 2,
+            policy,
+            quality(1, 1, 2),
+            OWN + n % 2,
+            Apdu::Forward,
+        );
+    }
     let peer = n / 4;
     match n % 4 {
-        0 => indication(peer, other(policy), quality(1, 1, 2), Apdu::Absent),
-        1 => indication(peer, other(policy), quality(7, 1, 2), Apdu::Absent),
-        2 => indication(peer, policy, quality(1, 7, 2), Apdu::Start(false)),
-        _ => indication(peer, policy, quality(1, 1, 9), Apdu::Start(false)),
+        0 => indication(peer, other(policy), quality(1, 1, 2), 0, Apdu::Absent),
+        1 => indication(peer, other(policy), quality(7, 1, 2), 0, Apdu::Absent),
+        2 => indication(peer, policy, quality(1, 7, 2), 0, Apdu::Start(false)),
+        _ => indication(peer, policy, quality(1, 1, 9), 0, Apdu::Start(false)),
     }
 }
 
 // A confirmation of each result, with each PDU.
 fn started(policy: u64, n: u64) -> Event {
-    confirmation(n / 8, 0, policy, pdu(n % 8))
+    confirmation(n / PDUS, 0, policy, 0, pdu(n % PDUS))
 }
 
+// Its other faults; then a forward response with a version.
 fn faulty_started(policy: u64, n: u64) -> Event {
-    confirmation(n / 2, n % 2, other(policy), Apdu::Absent)
+    if n == 6 {
+        return confirmation(1, 0, policy, OWN + 1, Apdu::ForwardResponse(2));
+    }
+    confirmation(n / 2, n % 2, other(policy), 0, Apdu::Absent)
 }
 
 fn data_or_end(n: u64) -> Event {
-    if n < 8 {
+    if n < PDUS {
         return Event::Service(ServicePrimitive::DDataIndication, pdu(n));
     }
-    Event::Service(ServicePrimitive::DEndIndication, pdu(n % 8))
+    Event::Service(ServicePrimitive::DEndIndication, pdu(n % PDUS))
 }
 
 // ---- titles
@@ -408,6 +473,7 @@ fn view_title(v: View) {
     noted(!v.active, b", user not active");
     noted(v.reversed, b", timer and user reversed");
     noted(v.policy == 1, b", secured");
+    noted(v.forwards, b", forwarding");
     text(b": ");
 }
 
@@ -466,19 +532,28 @@ fn start_title(policy: u64, peer: u64, security: u64, qos: Qos) {
     noted(8 < qos.routing, b", routing class");
 }
 
+fn version_title(version: u64) {
+    if version != 0 {
+        text(b", version");
+        number(version);
+    }
+}
+
 fn service_title(policy: u64, p: ServicePrimitive, a: Apdu) {
     match p {
-        ServicePrimitive::DStartIndication(peer, security, qos) => {
+        ServicePrimitive::DStartIndication(peer, security, qos, version) => {
             text(b"D-START indication");
             pdu_title(a);
             start_title(policy, peer, security, qos);
+            version_title(version);
         }
-        ServicePrimitive::DStartConfirmation(n, source, security) => {
+        ServicePrimitive::DStartConfirmation(n, source, security, version) => {
             text(b"D-START confirmation");
             result_name(n);
             pdu_title(a);
             noted(source == 1, b", DS provider");
             noted(security != policy, b", security");
+            version_title(version);
         }
         ServicePrimitive::DDataIndication => {
             text(b"D-DATA indication");
@@ -506,6 +581,7 @@ fn service_title(policy: u64, p: ServicePrimitive, a: Apdu) {
 fn event_title(policy: u64, e: Event) {
     match e {
         Event::User(u) => user_title(u),
+        Event::Forward(_, _) => text(b"CPDLC-forward request"),
         Event::Service(p, a) => service_title(policy, p, a),
         Event::TimerExpires => text(b"timer expires"),
         Event::UnrecoverableSystemError => text(b"system error"),
@@ -560,11 +636,11 @@ const STEPS: u64 = 10;
 fn job_event(n: u64) -> Event {
     match n {
         1 => Event::User(UserPrimitive::StartServiceRequest(UserPrimitive::CPDLC, 0, 0)),
-        2 => confirmation(0, 0, 0, Apdu::Send),
+        2 => confirmation(0, 0, 0, 0, Apdu::Send),
         5 => Event::Service(ServicePrimitive::DEndIndication, Apdu::Send),
         6 => Event::User(UserPrimitive::EndServiceResponse(false, 0)),
         7 => Event::User(UserPrimitive::StartServiceRequest(UserPrimitive::CPDLC, 0, 0)),
-        8 => confirmation(0, 0, 0, Apdu::Send),
+        8 => confirmation(0, 0, 0, 0, Apdu::Send),
         _ => Event::User(UserPrimitive::MessageServiceRequest(true, 7)),
     }
 }
@@ -572,7 +648,11 @@ fn job_event(n: u64) -> Event {
 // One event after another, from a fresh record.
 fn jobs() {
     text(b"jobs at the air machine\n");
-    let mut r = Record::fresh(Configuration { policy: 0 });
+    let mut r = Record::fresh(Configuration {
+        policy: 0,
+        forwards: false,
+        version: 1,
+    });
     let mut n: u64 = 0;
     while n < STEPS {
         let e = job_event(n);

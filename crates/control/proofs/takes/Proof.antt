@@ -63,14 +63,14 @@ is-requires-4 c κs = tt
 enum-told-3 : tie.Need-enum-told-3
 enum-told-3 c = c .match .keys7
 
-is-requires-5 : tie.Need-is-requires-5
-is-requires-5 c κs = tt
+waits-requires : tie.Need-waits-requires
+waits-requires c κs = tt
 
 enum-told-4 : tie.Need-enum-told-4
 enum-told-4 c = c .match .keys8
 
-is-requires-6 : tie.Need-is-requires-6
-is-requires-6 c κs = tt
+is-requires-5 : tie.Need-is-requires-5
+is-requires-5 c κs = tt
 
 returns : tie.Need-returns
 returns c = rw (c .before .before .before .before .call .given .1, ← c .before .before .is .ensures, c .before .if1 .taken) (c .may-start .ensures)
@@ -109,10 +109,10 @@ returns-12 : tie.Need-returns-12
 returns-12 c = rw (c .before .enum-told2 .given .1, ← c .is4 .ensures)
 
 returns-13 : tie.Need-returns-13
-returns-13 c = rw (c .before .enum-told3 .given .1) (c .is5 .ensures)
+returns-13 c = rw (c .before .enum-told3 .given .1) (c .waits .ensures)
 
 returns-14 : tie.Need-returns-14
-returns-14 c = rw (c .before .enum-told4 .given .1, ← c .is6 .ensures)
+returns-14 c = rw (c .before .enum-told4 .given .1, ← c .is5 .ensures)
 
 pub takes-spec : {M : Type 1} → statement M
 takes-spec =
@@ -138,9 +138,9 @@ takes-spec =
     enum-told-2
     is-requires-4
     enum-told-3
-    is-requires-5
+    waits-requires
     enum-told-4
-    is-requires-6
+    is-requires-5
     returns
     returns-2
     returns-3

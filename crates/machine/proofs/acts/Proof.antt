@@ -13,17 +13,23 @@ called-requires c κs = tt
 enum-known-e-2 : tie.Need-enum-known-e-2
 enum-known-e-2 c = c .match .keys2
 
+forward-request-requires : tie.Need-forward-request-requires
+forward-request-requires c κs = tt
+
+enum-known-e-3 : tie.Need-enum-known-e-3
+enum-known-e-3 c = c .match .keys3
+
 reached-requires : tie.Need-reached-requires
 reached-requires c κs = tt
 
 enum-told : tie.Need-enum-told
-enum-told c = c .match .keys3
+enum-told c = c .match .keys4
 
 timer-expires-requires : tie.Need-timer-expires-requires
 timer-expires-requires c κs = tt
 
 enum-told-2 : tie.Need-enum-told-2
-enum-told-2 c = c .match .keys4
+enum-told-2 c = c .match .keys5
 
 system-error-requires : tie.Need-system-error-requires
 system-error-requires c κs = tt
@@ -34,15 +40,19 @@ returns c = rw (c .before .before .e .given .1) (c .called .ensures)
 
 returns-2 : tie.Need-returns-2
 unfolding acts
-returns-2 c = rw (c .before .before .e2 .given .1) (c .reached .ensures)
+returns-2 c = rw (c .before .before .e2 .given .1) (c .forward-request .ensures)
 
 returns-3 : tie.Need-returns-3
 unfolding acts
-returns-3 c = rw (c .before .enum-told .given .1) (c .timer-expires .ensures)
+returns-3 c = rw (c .before .before .e3 .given .1) (c .reached .ensures)
 
 returns-4 : tie.Need-returns-4
 unfolding acts
-returns-4 c = rw (c .before .enum-told2 .given .1) (c .system-error .ensures)
+returns-4 c = rw (c .before .enum-told .given .1) (c .timer-expires .ensures)
+
+returns-5 : tie.Need-returns-5
+unfolding acts
+returns-5 c = rw (c .before .enum-told2 .given .1) (c .system-error .ensures)
 
 pub acts-spec : {M : Type 1} → statement M
 acts-spec =
@@ -51,6 +61,8 @@ acts-spec =
     enum-known-e
     called-requires
     enum-known-e-2
+    forward-request-requires
+    enum-known-e-3
     reached-requires
     enum-told
     timer-expires-requires
@@ -59,4 +71,5 @@ acts-spec =
     returns
     returns-2
     returns-3
-    returns-4)
+    returns-4
+    returns-5)

@@ -19,6 +19,9 @@ enum-told-2 c = c .match .keys3
 enum-told-3 : tie.Need-enum-told-3
 enum-told-3 c = c .match .keys4
 
+enum-told-4 : tie.Need-enum-told-4
+enum-told-4 c = c .match .keys5
+
 returns : tie.Need-returns
 unfolding messageRefusal
 returns c = rw (c .before .before .e .given .1) (c .unsent .ensures)
@@ -35,6 +38,10 @@ returns-4 : tie.Need-returns-4
 unfolding messageRefusal
 returns-4 c = rw (c .enum-told3 .given .1)
 
+returns-5 : tie.Need-returns-5
+unfolding messageRefusal
+returns-5 c = rw (c .enum-told4 .given .1)
+
 pub message-refusal-spec : {M : Type 1} → statement M
 message-refusal-spec =
     tie.close
@@ -44,7 +51,9 @@ message-refusal-spec =
     enum-told
     enum-told-2
     enum-told-3
+    enum-told-4
     returns
     returns-2
     returns-3
-    returns-4)
+    returns-4
+    returns-5)

@@ -16,6 +16,9 @@ enum-told-3 c = c .match .keys3
 enum-told-4 : tie.Need-enum-told-4
 enum-told-4 c = c .match .keys4
 
+enum-told-5 : tie.Need-enum-told-5
+enum-told-5 c = c .match .keys5
+
 returns : tie.Need-returns
 unfolding isService
 returns c = rw (c .enum-told .given .1)
@@ -32,6 +35,10 @@ returns-4 : tie.Need-returns-4
 unfolding isService
 returns-4 c = rw (c .enum-told4 .given .1)
 
+returns-5 : tie.Need-returns-5
+unfolding isService
+returns-5 c = rw (c .enum-told5 .given .1)
+
 pub is-service-spec : {M : Type 1} → statement M
 is-service-spec =
     tie.close
@@ -40,7 +47,9 @@ is-service-spec =
     enum-told-2
     enum-told-3
     enum-told-4
+    enum-told-5
     returns
     returns-2
     returns-3
-    returns-4)
+    returns-4
+    returns-5)

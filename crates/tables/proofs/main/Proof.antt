@@ -6,10 +6,10 @@ use Rattle.tables.proofs.main.Statement.{statement}
 use Rattle.tables.proofs.main.Tie as tie
 
 abbrev Inv-loop : tie.InvT-loop
-Inv-loop n₀ n = n ≤ 8
+Inv-loop n₀ n = n ≤ 10
 
 abbrev μ-loop : tie.MeasureT-loop
-μ-loop n₀ n = 8 - n
+μ-loop n₀ n = 10 - n
 
 loop-holds : tie.Need-loop-holds Inv-loop μ-loop
 loop-holds c = search needs

@@ -6,10 +6,10 @@ use Rattle.tables.proofs.row.Statement.{statement}
 use Rattle.tables.proofs.row.Tie as tie
 
 abbrev Inv-loop : tie.InvT-loop
-Inv-loop v e n₀ n = n ≤ 10
+Inv-loop v e n₀ n = n ≤ 12
 
 abbrev μ-loop : tie.MeasureT-loop
-μ-loop v e n₀ n = 10 - n
+μ-loop v e n₀ n = 12 - n
 
 view-title-requires : tie.Need-view-title-requires Inv-loop μ-loop
 view-title-requires c κs = search needs

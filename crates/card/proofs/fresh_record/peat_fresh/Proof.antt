@@ -1,9 +1,12 @@
 -- `card::fresh_record::peat_fresh` meets its contract.
 -- Assumes nothing.
-use Rattle.card.proofs.Fresh.{fresh-air, fresh-ground, fresh-odd}
+use Rattle.card.proofs.Fresh.{fresh-air, fresh-ground, fresh-odd, fresh-unsaid}
 use borrow.Author.Needs.{needs}
 use Rattle.card.proofs.fresh_record.peat_fresh.Statement.{statement}
 use Rattle.card.proofs.fresh_record.peat_fresh.Tie as tie
+
+returns : tie.Need-returns
+returns c = fresh-unsaid _ _ _ _ _ (c .if1 .taken)
 
 fresh-requires : tie.Need-fresh-requires
 fresh-requires c κs = search needs
@@ -17,8 +20,8 @@ told-made-requires c κs = search needs
 same-length : tie.Need-same-length
 same-length c = search needs
 
-returns : tie.Need-returns
-returns c = fresh-air _ _ _ _ _ _ _ (c .before .before .before .before .before .before .fresh .ensures) (c .before .before .before .before .before .if1 .taken) (c .before .before .before .store .ensures) (c .told-made .ensures)
+returns-2 : tie.Need-returns-2
+returns-2 c = fresh-air _ _ _ _ _ _ _ _ _ (c .before .before .before .before .before .before .before .if1 .left) (c .before .before .before .before .before .before .fresh .ensures) (c .before .before .before .before .before .if2 .taken) (c .before .before .before .store .ensures) (c .told-made .ensures)
 
 store-requires-2 : tie.Need-store-requires-2
 store-requires-2 c κs = search needs
@@ -29,23 +32,24 @@ told-made-requires-2 c κs = search needs
 same-length-2 : tie.Need-same-length-2
 same-length-2 c = search needs
 
-returns-2 : tie.Need-returns-2
-returns-2 c = fresh-ground _ _ _ _ _ _ _ (c .before .before .before .before .before .before .before .fresh .ensures) (c .before .before .before .before .before .before .if1 .left) (c .before .before .before .before .before .if2 .taken) (c .before .before .before .store2 .ensures) (c .told-made2 .ensures)
-
 returns-3 : tie.Need-returns-3
-returns-3 c = fresh-odd _ _ _ (c .before .if1 .left) (c .if2 .left)
+returns-3 c = fresh-ground _ _ _ _ _ _ _ _ _ (c .before .before .before .before .before .before .before .before .if1 .left) (c .before .before .before .before .before .before .before .fresh .ensures) (c .before .before .before .before .before .before .if2 .left) (c .before .before .before .before .before .if3 .taken) (c .before .before .before .store2 .ensures) (c .told-made2 .ensures)
+
+returns-4 : tie.Need-returns-4
+returns-4 c = fresh-odd _ _ _ _ _ (c .before .before .before .if1 .left) (c .before .if2 .left) (c .if3 .left)
 
 pub peat-fresh-spec : {M : Type 1} → statement M
 peat-fresh-spec =
     tie.close
     (tie.spec
+    returns
     fresh-requires
     store-requires
     told-made-requires
     same-length
-    returns
+    returns-2
     store-requires-2
     told-made-requires-2
     same-length-2
-    returns-2
-    returns-3)
+    returns-3
+    returns-4)

@@ -36,8 +36,8 @@ enum-told-2 c = search needs
 apdu-said-requires-5 : tie.Need-apdu-said-requires-5
 apdu-said-requires-5 c κs = search needs
 
-enum-told-3 : tie.Need-enum-told-3
-enum-told-3 c = search needs
+enum-known-a-4 : tie.Need-enum-known-a-4
+enum-known-a-4 c = search needs
 
 apdu-said-requires-6 : tie.Need-apdu-said-requires-6
 apdu-said-requires-6 c κs = search needs
@@ -64,7 +64,7 @@ returns-5 c = c .apdu-said5 .ensures ∙ rw (c .before .enum-told2 .given .1)
 
 returns-6 : tie.Need-returns-6
 unfolding apduNumber
-returns-6 c = c .apdu-said6 .ensures ∙ rw (c .before .enum-told3 .given .1)
+returns-6 c = c .apdu-said6 .ensures ∙ rw (c .before .before .a4 .given .1)
 
 pub apdu-number-spec : {M : Type 1} → statement M
 apdu-number-spec =
@@ -80,7 +80,7 @@ apdu-number-spec =
     apdu-said-requires-4
     enum-told-2
     apdu-said-requires-5
-    enum-told-3
+    enum-known-a-4
     apdu-said-requires-6
     returns
     returns-2

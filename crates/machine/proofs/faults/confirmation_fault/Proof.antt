@@ -11,20 +11,30 @@ answer-requires c κs = tt
 expects-requires : tie.Need-expects-requires
 expects-requires c κs = tt
 
+awaits-response-requires : tie.Need-awaits-response-requires
+awaits-response-requires c κs = tt
+
+response-fault-requires : tie.Need-response-fault-requires
+response-fault-requires c κs = tt
+
 returns : tie.Need-returns
 unfolding confirmationFault
-returns c = rw (← c .before .expects .ensures, c .if1 .taken)
+returns c = rw (← c .before .before .before .before .expects .ensures, c .before .before .before .if1 .taken, ← c .before .before .awaits-response .ensures, c .before .if2 .taken) (c .response-fault .ensures)
+
+returns-2 : tie.Need-returns-2
+unfolding confirmationFault
+returns-2 c = rw (← c .before .before .before .expects .ensures, c .before .before .if1 .taken, ← c .before .awaits-response .ensures, c .if2 .left)
 
 turned-away-requires : tie.Need-turned-away-requires
 turned-away-requires c κs = tt
 
-returns-2 : tie.Need-returns-2
-unfolding confirmationFault
-returns-2 c = rw (← c .before .before .before .expects .ensures, c .before .before .if1 .left, ← c .before .turned-away .ensures, c .if2 .taken)
-
 returns-3 : tie.Need-returns-3
 unfolding confirmationFault
-returns-3 c = rw (← c .before .before .before .before .before .expects .ensures, c .before .before .before .before .if1 .left, ← c .before .before .before .turned-away .ensures, c .before .before .if2 .left, ne-eqb _ _ (c .if3 .taken))
+returns-3 c = rw (← c .before .before .before .expects .ensures, c .before .before .if1 .left, ← c .before .turned-away .ensures, c .if3 .taken)
+
+returns-4 : tie.Need-returns-4
+unfolding confirmationFault
+returns-4 c = rw (← c .before .before .before .before .before .expects .ensures, c .before .before .before .before .if1 .left, ← c .before .before .before .turned-away .ensures, c .before .before .if3 .left, ne-eqb _ _ (c .if4 .taken))
 
 kind-requires : tie.Need-kind-requires
 kind-requires c κs = tt
@@ -32,9 +42,9 @@ kind-requires c κs = tt
 pdu-fault-requires : tie.Need-pdu-fault-requires
 pdu-fault-requires c κs = tt
 
-returns-4 : tie.Need-returns-4
+returns-5 : tie.Need-returns-5
 unfolding confirmationFault
-returns-4 c = rw (← c .before .before .before .before .before .before .before .expects .ensures, c .before .before .before .before .before .before .if1 .left, ← c .before .before .before .before .before .turned-away .ensures, c .before .before .before .before .if2 .left, eq-eqb _ _ (c .before .before .if3 .left), ← c .before .kind .ensures) (c .pdu-fault .ensures)
+returns-5 c = rw (← c .before .before .before .before .before .before .before .expects .ensures, c .before .before .before .before .before .before .if1 .left, ← c .before .before .before .before .before .turned-away .ensures, c .before .before .before .before .if3 .left, eq-eqb _ _ (c .before .before .if4 .left), ← c .before .kind .ensures) (c .pdu-fault .ensures)
 
 pub confirmation-fault-spec : {M : Type 1} → statement M
 confirmation-fault-spec =
@@ -42,10 +52,13 @@ confirmation-fault-spec =
     (tie.spec
     answer-requires
     expects-requires
+    awaits-response-requires
+    response-fault-requires
     returns
-    turned-away-requires
     returns-2
+    turned-away-requires
     returns-3
+    returns-4
     kind-requires
     pdu-fault-requires
-    returns-4)
+    returns-5)

@@ -1,11 +1,22 @@
 -- `machine::primitives::instructed` meets its contract.
 -- Assumes nothing.
 use Rattle.machine.specs.Primitives.{instructed}
+use borrow.Author.Tests.{eq-eqb, ne-eqb}
 use Rattle.machine.proofs.primitives.instructed.Statement.{statement}
 use Rattle.machine.proofs.primitives.instructed.Tie as tie
 
 enum-known-p : tie.Need-enum-known-p
 enum-known-p c = c .match .keys1
+
+kind-requires : tie.Need-kind-requires
+kind-requires c κs = tt
+
+forward-arrives-requires : tie.Need-forward-arrives-requires
+forward-arrives-requires c κs = tt
+
+returns : tie.Need-returns
+unfolding instructed
+returns c = rw (c .before .before .before .before .p .given .1, ← c .before .before .kind .ensures, eq-eqb _ _ (c .before .if1 .taken)) (c .forward-arrives .ensures)
 
 mode-requires : tie.Need-mode-requires
 mode-requires c κs = tt
@@ -18,6 +29,19 @@ handed-requires c κs = tt
 
 enum-known-p-2 : tie.Need-enum-known-p-2
 enum-known-p-2 c = c .match .keys2
+
+kind-requires-2 : tie.Need-kind-requires-2
+kind-requires-2 c κs = tt
+
+reason-requires : tie.Need-reason-requires
+reason-requires c κs = tt
+
+forward-confirmed-requires : tie.Need-forward-confirmed-requires
+forward-confirmed-requires c κs = tt
+
+returns-2 : tie.Need-returns-2
+unfolding instructed
+returns-2 c = rw (c .before .before .before .before .before .p2 .given .1, ← c .before .before .before .kind2 .ensures, eq-eqb _ _ (c .before .before .if2 .taken), ← c .before .reason .ensures) (c .forward-confirmed .ensures)
 
 confirmed-requires : tie.Need-confirmed-requires
 confirmed-requires c κs = tt
@@ -70,43 +94,50 @@ tell-requires-2 c κs = tt
 closes-requires-2 : tie.Need-closes-requires-2
 closes-requires-2 c κs = tt
 
-returns : tie.Need-returns
-unfolding instructed
-returns c = rw (c .before .before .before .before .p .given .1, ← c .before .before .mode .ensures, ← c .before .invited .ensures) (c .handed .ensures)
-
-returns-2 : tie.Need-returns-2
-unfolding instructed
-returns-2 c = rw (c .before .before .before .before .p2 .given .1, ← c .before .before .confirmed .ensures, ← c .before .answer .ensures) (c .handed2 .ensures)
-
 returns-3 : tie.Need-returns-3
 unfolding instructed
-returns-3 c = rw (c .before .enum-told .given .1) (c .handed3 .ensures)
+returns-3 c = rw (c .before .before .before .before .before .before .p .given .1, ← c .before .before .before .before .kind .ensures, ne-eqb _ _ (c .before .before .before .if1 .left), ← c .before .before .mode .ensures, ← c .before .invited .ensures) (c .handed .ensures)
 
 returns-4 : tie.Need-returns-4
 unfolding instructed
-returns-4 c = rw (c .before .enum-told2 .given .1) (c .handed4 .ensures)
+returns-4 c = rw (c .before .before .before .before .before .before .p2 .given .1, ← c .before .before .before .before .kind2 .ensures, ne-eqb _ _ (c .before .before .before .if2 .left), ← c .before .before .confirmed .ensures, ← c .before .answer .ensures) (c .handed2 .ensures)
 
 returns-5 : tie.Need-returns-5
 unfolding instructed
-returns-5 c = rw (c .before .before .before .p3 .given .1, ← c .before .answer2 .ensures) (c .handed5 .ensures)
+returns-5 c = rw (c .before .enum-told .given .1) (c .handed3 .ensures)
 
 returns-6 : tie.Need-returns-6
 unfolding instructed
-returns-6 c = rw (c .before .before .before .enum-told3 .given .1, ← c .before .before .abort-told .ensures, ← c .before .tell .ensures) (c .closes .ensures)
+returns-6 c = rw (c .before .enum-told2 .given .1) (c .handed4 .ensures)
 
 returns-7 : tie.Need-returns-7
 unfolding instructed
-returns-7 c = rw (c .before .before .enum-told4 .given .1, ← c .before .tell2 .ensures) (c .closes2 .ensures)
+returns-7 c = rw (c .before .before .before .p3 .given .1, ← c .before .answer2 .ensures) (c .handed5 .ensures)
+
+returns-8 : tie.Need-returns-8
+unfolding instructed
+returns-8 c = rw (c .before .before .before .enum-told3 .given .1, ← c .before .before .abort-told .ensures, ← c .before .tell .ensures) (c .closes .ensures)
+
+returns-9 : tie.Need-returns-9
+unfolding instructed
+returns-9 c = rw (c .before .before .enum-told4 .given .1, ← c .before .tell2 .ensures) (c .closes2 .ensures)
 
 pub instructed-spec : {M : Type 1} → statement M
 instructed-spec =
     tie.close
     (tie.spec
     enum-known-p
+    kind-requires
+    forward-arrives-requires
+    returns
     mode-requires
     invited-requires
     handed-requires
     enum-known-p-2
+    kind-requires-2
+    reason-requires
+    forward-confirmed-requires
+    returns-2
     confirmed-requires
     answer-requires
     handed-requires-2
@@ -124,10 +155,10 @@ instructed-spec =
     enum-told-4
     tell-requires-2
     closes-requires-2
-    returns
-    returns-2
     returns-3
     returns-4
     returns-5
     returns-6
-    returns-7)
+    returns-7
+    returns-8
+    returns-9)

@@ -15,6 +15,9 @@ of-peer-requires c κs = search needs
 enum-told : tie.Need-enum-told
 enum-told c = search needs
 
+of-confirmation-requires : tie.Need-of-confirmation-requires
+of-confirmation-requires c κs = search needs
+
 enum-told-2 : tie.Need-enum-told-2
 enum-told-2 c = search needs
 
@@ -36,7 +39,7 @@ returns c = c .of-peer .ensures ∙ rw (c .before .before .p .given .1)
 
 returns-2 : tie.Need-returns-2
 unfolding readsAs
-returns-2 c = rw (c .enum-told .given .1)
+returns-2 c = c .of-confirmation .ensures ∙ rw (c .before .enum-told .given .1)
 
 returns-3 : tie.Need-returns-3
 unfolding readsAs
@@ -65,6 +68,7 @@ ground-reads-spec =
     enum-known-p
     of-peer-requires
     enum-told
+    of-confirmation-requires
     enum-told-2
     enum-told-3
     enum-told-4

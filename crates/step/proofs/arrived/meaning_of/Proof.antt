@@ -21,8 +21,8 @@ enum-told c = search needs
 enum-told-2 : tie.Need-enum-told-2
 enum-told-2 c = search needs
 
-enum-told-3 : tie.Need-enum-told-3
-enum-told-3 c = search needs
+enum-known-a-4 : tie.Need-enum-known-a-4
+enum-known-a-4 c = search needs
 
 returns : tie.Need-returns
 unfolding meaning
@@ -46,7 +46,7 @@ returns-5 c = rw (c .enum-told2 .given .1)
 
 returns-6 : tie.Need-returns-6
 unfolding meaning
-returns-6 c = rw (c .enum-told3 .given .1)
+returns-6 c = rw (c .before .a4 .given .1)
 
 pub meaning-of-spec : {M : Type 1} → statement M
 meaning-of-spec =
@@ -57,7 +57,7 @@ meaning-of-spec =
     enum-known-a-3
     enum-told
     enum-told-2
-    enum-told-3
+    enum-known-a-4
     returns
     returns-2
     returns-3

@@ -10,68 +10,78 @@ use Rattle.machine.proofs.outcome.Refusal.number.Reads as number-reads
 use Rattle.step.proofs.call.bits_of.Reads as bits-of-reads
 use Rattle.step.proofs.call.write_first.Reads as write-first-reads
 use Rattle.step.proofs.call.write_second.Reads as write-second-reads
+use Rattle.step.proofs.carried.passes.Reads as passes-reads
 use Rattle.step.proofs.packing.invoked_number.Reads as invoked-number-reads
 use Rattle.step.proofs.packing.packed.Reads as packed-reads
 use Rattle.step.proofs.packing.told_number.Reads as told-number-reads
+use Rattle.step.proofs.packing.version_number.Reads as version-number-reads
 use Rattle.step.proofs.stored.store.Reads as store-reads
 
--- src/call.rt:117:8
+-- src/call.rt:125:8
 is-none-requires : tie.Need-is-none-requires
 is-none-requires c κs = search needs
 
--- src/call.rt:119:13
+-- src/call.rt:127:13
 write-first-requires : tie.Need-write-first-requires
 write-first-requires c κs = search needs
 
--- src/call.rt:120:13
+-- src/call.rt:132:13
+passes-requires : tie.Need-passes-requires
+passes-requires c κs = search needs
+
+-- src/call.rt:130:13
 write-second-requires : tie.Need-write-second-requires
 write-second-requires c κs = search needs
 
--- src/call.rt:122:9
+-- src/call.rt:141:9
 store-requires : tie.Need-store-requires
 store-requires c κs = search needs
 
--- src/call.rt:126:13
+-- src/call.rt:143:13
 invoked-number-requires : tie.Need-invoked-number-requires
 invoked-number-requires c κs = search needs
 
--- src/call.rt:127:13
+-- src/call.rt:144:13
 told-number-requires : tie.Need-told-number-requires
 told-number-requires c κs = search needs
 
--- src/call.rt:128:13
+-- src/call.rt:145:13
 bits-of-requires : tie.Need-bits-of-requires
 bits-of-requires c κs = search needs
 
--- src/call.rt:129:13
+-- src/call.rt:146:13
 bits-of-requires-2 : tie.Need-bits-of-requires-2
 bits-of-requires-2 c κs = search needs
 
--- src/call.rt:125:9
-packed-requires : tie.Need-packed-requires
-packed-requires c κs = omega (arith, c .before .before .before .invoked-number .ensures, c .before .before .told-number .ensures, invoked-low (c .before .before .before .before .before .before .before .before .before .before .before .before .before .before .before .before .before .before .before .before .before .before .before .before .before .args .o .invoked), told-low (c .before .before .before .before .before .before .before .before .before .before .before .before .before .before .before .before .before .before .before .before .before .before .before .before .before .args .o .told))
+-- src/call.rt:147:13
+version-number-requires : tie.Need-version-number-requires
+version-number-requires c κs = search needs
 
--- src/call.rt:125:9
+-- src/call.rt:142:9
+packed-requires : tie.Need-packed-requires
+packed-requires c κs = omega (arith, c .before .before .before .before .invoked-number .ensures, c .before .before .before .told-number .ensures, invoked-low (c .before .before .before .before .before .before .before .before .before .before .before .before .before .before .before .before .before .before .before .before .before .before .before .before .before .before .before .args .o .invoked), told-low (c .before .before .before .before .before .before .before .before .before .before .before .before .before .before .before .before .before .before .before .before .before .before .before .before .before .before .before .args .o .told))
+
+-- src/call.rt:142:9
 same-length : tie.Need-same-length
 same-length c = search needs
 
--- src/call.rt:125:9
+-- src/call.rt:142:9
 same-length-2 : tie.Need-same-length-2
 same-length-2 c = search needs
 
--- src/call.rt:125:9
+-- src/call.rt:142:9
 same-length-3 : tie.Need-same-length-3
 same-length-3 c = search needs
 
--- src/call.rt:125:9
+-- src/call.rt:142:9
 returns : tie.Need-returns
-returns c = is-taken _ _ _ _ _ _ _ _ _ _ _ (c .before .before .before .before .before .before .before .before .before .before .before .before .before .before .before .before .before .before .before .is-none .ensures) (c .before .before .before .before .before .before .before .before .before .before .before .before .before .before .before .before .before .before .if1 .taken) _ _ _ _ (c .before .before .before .before .before .before .before .before .before .before .before .before .before .before .before .before .write-first .ensures) (c .before .before .before .before .before .before .before .before .before .before .before .before .write-second .ensures) _ _ (c .before .before .before .before .before .before .before .store .ensures) _ _ _ _ _ (c .before .before .before .before .invoked-number .ensures) (c .before .before .before .told-number .ensures) (c .before .before .bits-of .ensures) (c .before .bits-of2 .ensures) (c .packed .ensures)
+returns c = is-taken _ _ _ _ _ _ _ _ _ _ _ (c .before .before .before .before .before .before .before .before .before .before .before .before .before .before .before .before .before .before .before .before .before .is-none .ensures) (c .before .before .before .before .before .before .before .before .before .before .before .before .before .before .before .before .before .before .before .before .if1 .taken) _ _ _ _ (c .before .before .before .before .before .before .before .before .before .before .before .before .before .before .before .before .before .before .write-first .ensures) _ (c .before .before .before .before .before .before .before .before .before .before .before .before .before .before .passes .ensures) (c .before .before .before .before .before .before .before .before .before .before .before .before .before .write-second .ensures) _ _ (c .before .before .before .before .before .before .before .before .store .ensures) _ _ _ _ _ _ (c .before .before .before .before .before .invoked-number .ensures) (c .before .before .before .before .told-number .ensures) (c .before .before .before .bits-of .ensures) (c .before .before .bits-of2 .ensures) (c .before .version-number .ensures) (c .packed .ensures)
 
--- src/call.rt:132:5
+-- src/call.rt:150:5
 number-requires : tie.Need-number-requires
 number-requires c κs = search needs
 
--- src/call.rt:102:1
+-- src/call.rt:109:1
 returns-2 : tie.Need-returns-2
 returns-2 c = is-refused _ _ _ _ _ _ _ _ _ _ _ (c .before .before .is-none .ensures) _ (c .before .if1 .left) (c .number .ensures)
 
@@ -81,12 +91,14 @@ conclude-spec =
     (tie.spec
     is-none-requires
     write-first-requires
+    passes-requires
     write-second-requires
     store-requires
     invoked-number-requires
     told-number-requires
     bits-of-requires
     bits-of-requires-2
+    version-number-requires
     packed-requires
     same-length
     same-length-2

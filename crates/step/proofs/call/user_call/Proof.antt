@@ -7,69 +7,74 @@ use Rattle.step.proofs.call.user_call.Reads as reads
 use Rattle.step.proofs.call.user_call.Lts as lts
 use Rattle.apdu.proofs.data_shaped.Reads as data-shaped-reads
 use Rattle.step.proofs.call.event_step.Reads as event-step-reads
+use Rattle.step.proofs.carried.no_forward.Reads as no-forward-reads
 use Rattle.step.proofs.stored.load.Reads as load-reads
 
--- src/call.rt:172:9
+-- src/call.rt:203:9
 returns : tie.Need-returns
 unfolding userCall
 returns c = no-room-first _ _ _ _ (c .if1 .taken)
 
--- src/call.rt:175:9
+-- src/call.rt:206:9
 returns-2 : tie.Need-returns-2
 unfolding userCall
 returns-2 c = no-room-second _ _ _ _ (c .before .if1 .left) (c .if2 .taken)
 
--- src/call.rt:177:37
+-- src/call.rt:208:37
 load-requires : tie.Need-load-requires
 load-requires c κs = search needs
 
--- src/call.rt:177:20
+-- src/call.rt:208:20
 enum-known-side : tie.Need-enum-known-side
 enum-known-side c = search needs
 
--- src/call.rt:178:9
+-- src/call.rt:209:9
 enum-told : tie.Need-enum-told
 enum-told c = search needs
 
--- src/call.rt:178:9
+-- src/call.rt:209:9
 same-length : tie.Need-same-length
 same-length c = search needs
 
--- src/call.rt:178:9
+-- src/call.rt:209:9
 returns-3 : tie.Need-returns-3
 unfolding userCall
 returns-3 c = no-record _ _ _ _ (c .before .before .before .before .before .if1 .left) (c .before .before .before .before .if2 .left) _ (c .before .before .load .ensures) (c .enum-told .given .1)
 
--- src/call.rt:180:8
+-- src/call.rt:211:8
 data-shaped-requires : tie.Need-data-shaped-requires
 data-shaped-requires c κs = search needs
 
--- src/call.rt:181:9
+-- src/call.rt:222:13
+no-forward-requires : tie.Need-no-forward-requires
+no-forward-requires c κs = search needs
+
+-- src/call.rt:212:9
 event-step-requires : tie.Need-event-step-requires
 event-step-requires c κs = search needs
 
--- src/call.rt:181:9
+-- src/call.rt:212:9
 same-length-2 : tie.Need-same-length-2
 same-length-2 c = search needs
 
--- src/call.rt:181:9
+-- src/call.rt:212:9
 same-length-3 : tie.Need-same-length-3
 same-length-3 c = search needs
 
--- src/call.rt:181:9
+-- src/call.rt:212:9
 same-length-4 : tie.Need-same-length-4
 same-length-4 c = search needs
 
--- src/call.rt:181:9
+-- src/call.rt:212:9
 returns-4 : tie.Need-returns-4
 unfolding userCall
-returns-4 c = with-record _ _ _ _ (c .before .before .before .before .before .before .before .before .before .before .before .before .before .before .before .before .before .before .if1 .left) (c .before .before .before .before .before .before .before .before .before .before .before .before .before .before .before .before .before .if2 .left) _ (c .before .before .before .before .before .before .before .before .before .before .before .before .before .before .before .load .ensures) _ _ _ _ (c .before .before .before .before .before .before .before .before .before .before .before .before .before .side .given .1) (steps _ _ _ _ _ _ _ _ _ _ _ _ _ (c .before .before .before .before .before .before .before .before .before .before .before .data-shaped .ensures) _ (c .before .before .before .before .before .before .before .before .before .before .if3 .taken) (c .before .before .before .before .before .before .event-step .ensures))
+returns-4 c = with-record _ _ _ _ (c .before .before .before .before .before .before .before .before .before .before .before .before .before .before .before .before .before .before .before .if1 .left) (c .before .before .before .before .before .before .before .before .before .before .before .before .before .before .before .before .before .before .if2 .left) _ (c .before .before .before .before .before .before .before .before .before .before .before .before .before .before .before .before .load .ensures) _ _ _ _ (c .before .before .before .before .before .before .before .before .before .before .before .before .before .before .side .given .1) (steps _ _ _ _ _ _ _ _ _ _ _ _ _ (c .before .before .before .before .before .before .before .before .before .before .before .before .data-shaped .ensures) _ _ (c .before .before .before .before .before .before .before .before .before .before .before .if3 .taken) (c .before .before .before .before .before .before .before .no-forward .ensures) (c .before .before .before .before .before .before .event-step .ensures))
 
--- src/call.rt:158:1
+-- src/call.rt:189:1
 same-length-5 : tie.Need-same-length-5
 same-length-5 c = search needs
 
--- src/call.rt:158:1
+-- src/call.rt:189:1
 returns-5 : tie.Need-returns-5
 unfolding userCall
 returns-5 c = with-record _ _ _ _ (c .before .before .before .before .before .before .before .before .if1 .left) (c .before .before .before .before .before .before .before .if2 .left) _ (c .before .before .before .before .before .load .ensures) _ _ _ _ (c .before .before .before .side .given .1) (no-shape _ _ _ _ _ _ _ _ _ _ _ _ _ (c .before .data-shaped .ensures) (c .if3 .left))
@@ -86,6 +91,7 @@ user-call-spec =
     same-length
     returns-3
     data-shaped-requires
+    no-forward-requires
     event-step-requires
     same-length-2
     same-length-3

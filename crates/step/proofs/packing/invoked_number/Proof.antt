@@ -48,6 +48,18 @@ enum-known-i-4 c = search needs
 three-requires-7 : tie.Need-three-requires-7
 three-requires-7 c κs = search needs
 
+enum-known-i-5 : tie.Need-enum-known-i-5
+enum-known-i-5 c = search needs
+
+three-requires-8 : tie.Need-three-requires-8
+three-requires-8 c κs = search needs
+
+enum-known-i-6 : tie.Need-enum-known-i-6
+enum-known-i-6 c = search needs
+
+three-requires-9 : tie.Need-three-requires-9
+three-requires-9 c κs = search needs
+
 returns : tie.Need-returns
 unfolding invokedNumber
 returns c = c .three .ensures ∙ rw (c .before .enum-told .given .1)
@@ -76,6 +88,14 @@ returns-7 : tie.Need-returns-7
 unfolding invokedNumber
 returns-7 c = c .three7 .ensures ∙ rw (c .before .before .i4 .given .1)
 
+returns-8 : tie.Need-returns-8
+unfolding invokedNumber
+returns-8 c = c .three8 .ensures ∙ rw (c .before .before .i5 .given .1)
+
+returns-9 : tie.Need-returns-9
+unfolding invokedNumber
+returns-9 c = c .three9 .ensures ∙ rw (c .before .before .i6 .given .1)
+
 pub invoked-number-spec : {M : Type 1} → statement M
 invoked-number-spec =
     tie.close
@@ -94,10 +114,16 @@ invoked-number-spec =
     three-requires-6
     enum-known-i-4
     three-requires-7
+    enum-known-i-5
+    three-requires-8
+    enum-known-i-6
+    three-requires-9
     returns
     returns-2
     returns-3
     returns-4
     returns-5
     returns-6
-    returns-7)
+    returns-7
+    returns-8
+    returns-9)

@@ -5,6 +5,12 @@ use borrow.Author.Needs.{needs}
 use Rattle.step.proofs.packing.packed.Statement.{statement}
 use Rattle.step.proofs.packing.packed.Tie as tie
 
+mul-second : tie.Need-mul-second
+mul-second c = search needs
+
+add-second : tie.Need-add-second
+add-second c = search needs
+
 mul-bits : tie.Need-mul-bits
 mul-bits c = search needs
 
@@ -34,6 +40,8 @@ pub packed-spec : {M : Type 1} → statement M
 packed-spec =
     tie.close
     (tie.spec
+    mul-second
+    add-second
     mul-bits
     add-bits
     mul-result

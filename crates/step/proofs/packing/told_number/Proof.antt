@@ -66,6 +66,18 @@ enum-known-t-6 c = search needs
 three-requires-8 : tie.Need-three-requires-8
 three-requires-8 c κs = search needs
 
+enum-told-3 : tie.Need-enum-told-3
+enum-told-3 c = search needs
+
+three-requires-9 : tie.Need-three-requires-9
+three-requires-9 c κs = search needs
+
+enum-known-t-7 : tie.Need-enum-known-t-7
+enum-known-t-7 c = search needs
+
+three-requires-10 : tie.Need-three-requires-10
+three-requires-10 c κs = search needs
+
 returns : tie.Need-returns
 unfolding toldNumber
 returns c = c .three .ensures ∙ rw (c .before .enum-told .given .1)
@@ -98,6 +110,14 @@ returns-8 : tie.Need-returns-8
 unfolding toldNumber
 returns-8 c = c .three8 .ensures ∙ rw (c .before .before .t6 .given .1)
 
+returns-9 : tie.Need-returns-9
+unfolding toldNumber
+returns-9 c = c .three9 .ensures ∙ rw (c .before .enum-told3 .given .1)
+
+returns-10 : tie.Need-returns-10
+unfolding toldNumber
+returns-10 c = c .three10 .ensures ∙ rw (c .before .before .t7 .given .1)
+
 pub told-number-spec : {M : Type 1} → statement M
 told-number-spec =
     tie.close
@@ -122,6 +142,10 @@ told-number-spec =
     three-requires-7
     enum-known-t-6
     three-requires-8
+    enum-told-3
+    three-requires-9
+    enum-known-t-7
+    three-requires-10
     returns
     returns-2
     returns-3
@@ -129,4 +153,6 @@ told-number-spec =
     returns-5
     returns-6
     returns-7
-    returns-8)
+    returns-8
+    returns-9
+    returns-10)

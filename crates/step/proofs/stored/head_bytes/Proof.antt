@@ -31,9 +31,15 @@ cast-t11 c = search needs
 cast-t12 : tie.Need-cast-t12
 cast-t12 c = search needs
 
+flag-code-requires-4 : tie.Need-flag-code-requires-4
+flag-code-requires-4 c κs = search needs
+
+cast-t14 : tie.Need-cast-t14
+cast-t14 c = search needs
+
 returns : tie.Need-returns
 unfolding headBytes
-returns c = rw (c .before .before .before .before .before .before .side-code .ensures, c .before .before .before .before .before .number .ensures, c .before .before .before .before .flag-code .ensures, c .before .before .before .flag-code2 .ensures, c .before .before .flag-code3 .ensures)
+returns c = rw (c .before .before .before .before .before .before .before .before .side-code .ensures, c .before .before .before .before .before .before .before .number .ensures, c .before .before .before .before .before .before .flag-code .ensures, c .before .before .before .before .before .flag-code2 .ensures, c .before .before .before .before .flag-code3 .ensures, c .before .flag-code4 .ensures)
 
 pub head-bytes-spec : {M : Type 1} → statement M
 head-bytes-spec =
@@ -47,4 +53,6 @@ head-bytes-spec =
     flag-code-requires-3
     cast-t11
     cast-t12
+    flag-code-requires-4
+    cast-t14
     returns)

@@ -1,6 +1,7 @@
 -- `step::stored::head_fits` meets its contract.
 -- Assumes nothing.
-use borrow.Author.Tests.{le-leb, lt-leb, le-ltb, lt-ltb, eq-eqb, ne-eqb}
+use native.Mathlib.Omega.{arith}
+use borrow.Author.Tests.{le-leb, lt-leb, le-ltb, lt-ltb}
 use Rattle.step.specs.Stored.{headFits}
 use Rattle.step.proofs.stored.head_fits.Statement.{statement}
 use Rattle.step.proofs.stored.head_fits.Tie as tie
@@ -39,7 +40,15 @@ returns-8 c = rw (le-leb _ _ (c .before .before .before .before .before .before 
 
 returns-9 : tie.Need-returns-9
 unfolding headFits
-returns-9 c = rw (le-leb _ _ (c .before .before .before .before .before .before .before .if1 .left), le-leb _ _ (c .before .before .before .before .before .before .if2 .left), lt-ltb _ _ (c .before .before .before .before .before .if3 .left), lt-ltb _ _ (c .before .before .before .before .if4 .left), lt-ltb _ _ (c .before .before .before .if5 .left), lt-ltb _ _ (c .before .before .if6 .left), lt-ltb _ _ (c .before .if7 .left), lt-ltb _ _ (c .if8 .left))
+returns-9 c = rw (le-leb _ _ (c .before .before .before .before .before .before .before .before .if1 .left), le-leb _ _ (c .before .before .before .before .before .before .before .if2 .left), lt-ltb _ _ (c .before .before .before .before .before .before .if3 .left), lt-ltb _ _ (c .before .before .before .before .before .if4 .left), lt-ltb _ _ (c .before .before .before .before .if5 .left), lt-ltb _ _ (c .before .before .before .if6 .left), lt-ltb _ _ (c .before .before .if7 .left), lt-ltb _ _ (c .before .if8 .left), le-ltb _ _ (c .if9 .taken))
+
+returns-10 : tie.Need-returns-10
+unfolding headFits
+returns-10 c = rw (le-leb _ _ (c .before .before .before .before .before .before .before .before .before .if1 .left), le-leb _ _ (c .before .before .before .before .before .before .before .before .if2 .left), lt-ltb _ _ (c .before .before .before .before .before .before .before .if3 .left), lt-ltb _ _ (c .before .before .before .before .before .before .if4 .left), lt-ltb _ _ (c .before .before .before .before .before .if5 .left), lt-ltb _ _ (c .before .before .before .before .if6 .left), lt-ltb _ _ (c .before .before .before .if7 .left), lt-ltb _ _ (c .before .before .if8 .left), lt-ltb _ _ (c .before .if9 .left), lt-leb _ _ (c .if10 .taken))
+
+returns-11 : tie.Need-returns-11
+unfolding headFits
+returns-11 c = rw (le-leb _ _ (c .before .before .before .before .before .before .before .before .before .if1 .left), le-leb _ _ (c .before .before .before .before .before .before .before .before .if2 .left), lt-ltb _ _ (c .before .before .before .before .before .before .before .if3 .left), lt-ltb _ _ (c .before .before .before .before .before .before .if4 .left), lt-ltb _ _ (c .before .before .before .before .before .if5 .left), lt-ltb _ _ (c .before .before .before .before .if6 .left), lt-ltb _ _ (c .before .before .before .if7 .left), lt-ltb _ _ (c .before .before .if8 .left), lt-ltb _ _ (c .before .if9 .left), le-leb _ _ (c .if10 .left), lt-ltb (c .before .before .before .before .before .before .before .before .before .before .args .version) 256 (omega arith))
 
 pub head-fits-spec : {M : Type 1} → statement M
 head-fits-spec =
@@ -53,4 +62,6 @@ head-fits-spec =
     returns-6
     returns-7
     returns-8
-    returns-9)
+    returns-9
+    returns-10
+    returns-11)

@@ -22,9 +22,16 @@ returns-2 : tie.Need-returns-2
 unfolding readable
 returns-2 c = rw (← c .before .before .before .kind .ensures, ne-eqb _ _ (c .before .before .if1 .left), eq-eqb _ _ (c .before .if2 .taken), ← c .reason2 .ensures)
 
+reason-requires-3 : tie.Need-reason-requires-3
+reason-requires-3 c κs = tt
+
 returns-3 : tie.Need-returns-3
 unfolding readable
-returns-3 c = rw (← c .before .before .kind .ensures, ne-eqb _ _ (c .before .if1 .left), ne-eqb _ _ (c .if2 .left))
+returns-3 c = rw (← c .before .before .before .before .kind .ensures, ne-eqb _ _ (c .before .before .before .if1 .left), ne-eqb _ _ (c .before .before .if2 .left), eq-eqb _ _ (c .before .if3 .taken), ← c .reason3 .ensures)
+
+returns-4 : tie.Need-returns-4
+unfolding readable
+returns-4 c = rw (← c .before .before .before .kind .ensures, ne-eqb _ _ (c .before .before .if1 .left), ne-eqb _ _ (c .before .if2 .left), ne-eqb _ _ (c .if3 .left))
 
 pub readable-spec : {M : Type 1} → statement M
 readable-spec =
@@ -35,4 +42,6 @@ readable-spec =
     returns
     reason-requires-2
     returns-2
-    returns-3)
+    reason-requires-3
+    returns-3
+    returns-4)

@@ -1,7 +1,7 @@
--- `machine::faults::reads_starts` meets its contract.
+-- `machine::faults::from_centre` meets its contract.
 -- Assumes nothing.
-use Rattle.machine.proofs.faults.reads_starts.Statement.{statement}
-use Rattle.machine.proofs.faults.reads_starts.Tie as tie
+use Rattle.machine.proofs.faults.from_centre.Statement.{statement}
+use Rattle.machine.proofs.faults.from_centre.Tie as tie
 
 enum-told : tie.Need-enum-told
 enum-told c = c .match .keys1
@@ -15,8 +15,8 @@ returns c = rw (c .enum-told .given .1)
 returns-2 : tie.Need-returns-2
 returns-2 c = rw (c .enum-told2 .given .1)
 
-pub reads-starts-spec : {M : Type 1} → statement M
-reads-starts-spec =
+pub from-centre-spec : {M : Type 1} → statement M
+from-centre-spec =
     tie.close
     (tie.spec
     enum-told

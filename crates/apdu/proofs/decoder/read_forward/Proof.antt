@@ -1,0 +1,76 @@
+use Rattle.apdu.proofs.Answers.{handed, went}
+use mathlib.Core.Path.{refl}
+use Rattle.apdu.specs.Reading.{wholeForwardWithin}
+use Rattle.apdu.specs.declared.Forwarded.the-variants as forwarded
+use Rattle.apdu.proofs.Forwards.{forward-handed, forward-went}
+use borrow.Author.Needs.{needs}
+use Rattle.apdu.proofs.decoder.read_forward.Statement.{statement}
+use Rattle.apdu.proofs.decoder.read_forward.Tie as tie
+use Rattle.apdu.proofs.decoder.read_forward.Reads as reads
+use Rattle.apdu.proofs.decoder.read_forward.Lts as lts
+use Rattle.apdu.proofs.decoder.tail.Reads as tail-reads
+use Rattle.apdu.proofs.headings.forward_at.Reads as forward-at-reads
+use Rattle.apdu.proofs.headings.forward_refusal.Reads as forward-refusal-reads
+use Rattle.apdu.proofs.refusals.field_refusal.Reads as field-refusal-reads
+
+-- src/decoder.rt:143:9
+forward-at-requires : tie.Need-forward-at-requires
+forward-at-requires c κs = search needs
+
+-- src/decoder.rt:144:23
+enum-known-message : tie.Need-enum-known-message
+enum-known-message c = search needs
+
+-- src/decoder.rt:145:35
+enum-told : tie.Need-enum-told
+enum-told c = search needs
+
+-- src/decoder.rt:145:35
+forward-refusal-requires : tie.Need-forward-refusal-requires
+forward-refusal-requires c κs = search needs
+
+-- src/decoder.rt:145:9
+returns : tie.Need-returns
+unfolding wholeForwardWithin
+returns c = forward-handed forwarded.Refused _ _ _ _ _ (c .before .before .before .forward-at .ensures) (c .before .enum-told .given .1) (c .forward-refusal .ensures)
+
+-- src/decoder.rt:147:9
+tail-requires : tie.Need-tail-requires
+tail-requires c κs = search needs
+
+enum-told-2 : tie.Need-enum-told-2
+enum-told-2 c = search needs
+
+-- src/decoder.rt:149:35
+enum-told-3 : tie.Need-enum-told-3
+enum-told-3 c = search needs
+
+-- src/decoder.rt:149:35
+field-refusal-requires : tie.Need-field-refusal-requires
+field-refusal-requires c κs = search needs
+
+-- src/decoder.rt:149:9
+returns-2 : tie.Need-returns-2
+unfolding wholeForwardWithin
+returns-2 c = forward-went forwarded.Refused _ _ _ _ _ _ (c .before .before .before .before .before .before .before .forward-at .ensures) (c .before .before .before .before .before .message .given .1) (handed forwarded.Refused _ _ _ _ _ (c .before .before .before .tail .ensures) (c .before .enum-told3 .given .1) (c .field-refusal .ensures))
+
+-- src/decoder.rt:140:1
+returns-3 : tie.Need-returns-3
+unfolding wholeForwardWithin
+returns-3 c = forward-went forwarded.Refused _ _ _ _ _ _ (c .before .before .before .before .before .before .forward-at .ensures) (c .before .before .before .before .message .given .1) (went forwarded.Refused _ _ _ _ _ _ (c .before .before .tail .ensures) (c .enum-told2 .given .1) refl)
+
+pub read-forward-spec : {M : Type 1} → statement M
+read-forward-spec =
+    tie.close
+    (tie.spec
+    forward-at-requires
+    enum-known-message
+    enum-told
+    forward-refusal-requires
+    returns
+    tail-requires
+    enum-told-2
+    enum-told-3
+    field-refusal-requires
+    returns-2
+    returns-3)

@@ -1,0 +1,65 @@
+use native.Mathlib.Omega.{arith}
+use Rattle.apdu.proofs.ForwardWriters.{aircraft-put, characters-most}
+use borrow.Author.Needs.{needs}
+use Rattle.apdu.proofs.heading_writer.put_aircraft.Statement.{statement}
+use Rattle.apdu.proofs.heading_writer.put_aircraft.Tie as tie
+use Rattle.apdu.proofs.heading_writer.put_aircraft.Reads as reads
+use Rattle.apdu.proofs.heading_writer.put_aircraft.Lts as lts
+use Rattle.apdu.proofs.encoder.place.Reads as place-reads
+use Rattle.bits.proofs.put_bits.Reads as put-bits-reads
+use Rattle.fields.proofs.put_whole.Reads as put-whole-reads
+
+-- src/heading_writer.rt:42:19
+put-whole-requires : tie.Need-put-whole-requires
+put-whole-requires c κs = search needs
+
+-- src/heading_writer.rt:42:9
+place-requires : tie.Need-place-requires
+place-requires c κs = search needs
+
+-- src/heading_writer.rt:54:9
+mul-put-bits : tie.Need-mul-put-bits
+mul-put-bits c = omega (arith, characters-most (c .before .before .before .before .before .before .before .args .h) (c .before .before .before .before .before .before .before .pre .0))
+
+-- src/heading_writer.rt:50:19
+put-bits-requires : tie.Need-put-bits-requires
+put-bits-requires c κs = search needs
+
+-- src/heading_writer.rt:50:9
+place-requires-2 : tie.Need-place-requires-2
+place-requires-2 c κs = search needs
+
+-- src/heading_writer.rt:57:19
+put-bits-requires-2 : tie.Need-put-bits-requires-2
+put-bits-requires-2 c κs = search needs
+
+-- src/heading_writer.rt:57:9
+place-requires-3 : tie.Need-place-requires-3
+place-requires-3 c κs = search needs
+
+-- src/heading_writer.rt:64:5
+put-whole-requires-2 : tie.Need-put-whole-requires-2
+put-whole-requires-2 c κs = search needs
+
+-- src/heading_writer.rt:37:1
+same-length : tie.Need-same-length
+same-length c = search needs
+
+-- src/heading_writer.rt:37:1
+returns : tie.Need-returns
+returns c = aircraft-put _ _ _ _ _ _ _ _ _ _ _ _ _ (c .before .before .before .before .before .before .before .before .before .before .before .before .before .before .before .before .before .before .before .before .pre .0) (c .before .before .before .before .before .before .before .before .before .before .before .before .before .before .before .before .before .before .before .before .pre .1) (c .before .before .before .before .before .before .before .before .before .before .before .before .before .before .before .before .before .put-whole .ensures) (c .before .before .before .before .before .before .before .before .before .before .before .before .before .before .place .ensures) (c .before .before .before .before .before .before .before .before .before .before .before .before .put-bits .ensures) (c .before .before .before .before .before .before .before .before .before .place2 .ensures) (c .before .before .before .before .before .before .before .put-bits2 .ensures) (c .before .before .before .before .place3 .ensures) (c .before .before .put-whole2 .ensures)
+
+pub put-aircraft-spec : {M : Type 1} → statement M
+put-aircraft-spec =
+    tie.close
+    (tie.spec
+    put-whole-requires
+    place-requires
+    mul-put-bits
+    put-bits-requires
+    place-requires-2
+    put-bits-requires-2
+    place-requires-3
+    put-whole-requires-2
+    same-length
+    returns)

@@ -1,0 +1,49 @@
+use Rattle.apdu.proofs.ForwardWriters.{date-asks, time-asks, aircraft-asks, heading-put}
+use borrow.Author.Needs.{needs}
+use Rattle.apdu.proofs.heading_writer.put_heading.Statement.{statement}
+use Rattle.apdu.proofs.heading_writer.put_heading.Tie as tie
+use Rattle.apdu.proofs.heading_writer.put_heading.Reads as reads
+use Rattle.apdu.proofs.heading_writer.put_heading.Lts as lts
+use Rattle.apdu.proofs.encoder.place.Reads as place-reads
+use Rattle.apdu.proofs.heading_writer.put_aircraft.Reads as put-aircraft-reads
+use Rattle.apdu.proofs.heading_writer.put_triple.Reads as put-triple-reads
+
+-- src/heading_writer.rt:74:19
+put-triple-requires : tie.Need-put-triple-requires
+put-triple-requires c κs = date-asks _ _ _ (c .before .before .before .before .pre .0) (c .before .before .before .before .pre .1)
+
+-- src/heading_writer.rt:74:9
+place-requires : tie.Need-place-requires
+place-requires c κs = search needs
+
+-- src/heading_writer.rt:75:19
+put-triple-requires-2 : tie.Need-put-triple-requires-2
+put-triple-requires-2 c κs = time-asks _ _ _ (c .before .before .before .before .before .before .before .before .before .pre .0) (c .before .before .before .before .before .before .before .before .before .pre .1) _ _ _ (c .before .before .before .before .put-triple .ensures) (c .before .place .ensures)
+
+-- src/heading_writer.rt:75:9
+place-requires-2 : tie.Need-place-requires-2
+place-requires-2 c κs = search needs
+
+-- src/heading_writer.rt:76:5
+put-aircraft-requires : tie.Need-put-aircraft-requires
+put-aircraft-requires c κs = aircraft-asks _ _ _ (c .before .before .before .before .before .before .before .before .before .before .before .before .before .before .pre .0) (c .before .before .before .before .before .before .before .before .before .before .before .before .before .before .pre .1) _ _ _ (c .before .before .before .before .before .before .before .before .before .put-triple .ensures) (c .before .before .before .before .before .before .place .ensures) _ _ _ (c .before .before .before .before .put-triple2 .ensures) (c .before .place2 .ensures)
+
+-- src/heading_writer.rt:68:1
+same-length : tie.Need-same-length
+same-length c = search needs
+
+-- src/heading_writer.rt:68:1
+returns : tie.Need-returns
+returns c = heading-put _ _ _ (c .before .before .before .before .before .before .before .before .before .before .before .before .before .before .before .before .before .pre .0) (c .before .before .before .before .before .before .before .before .before .before .before .before .before .before .before .before .before .pre .1) _ _ _ (c .before .before .before .before .before .before .before .before .before .before .before .before .put-triple .ensures) (c .before .before .before .before .before .before .before .before .before .place .ensures) _ _ _ (c .before .before .before .before .before .before .before .put-triple2 .ensures) (c .before .before .before .before .place2 .ensures) _ (c .before .before .put-aircraft .ensures)
+
+pub put-heading-spec : {M : Type 1} → statement M
+put-heading-spec =
+    tie.close
+    (tie.spec
+    put-triple-requires
+    place-requires
+    put-triple-requires-2
+    place-requires-2
+    put-aircraft-requires
+    same-length
+    returns)

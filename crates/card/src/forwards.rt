@@ -1,0 +1,137 @@
+// The forward service: the request of the sending centre, and the parts of the message that a receiving centre was delivered.
+ghost use mathlib.Core.Path.{_≡_};
+ghost use Rattle.apdu.specs.Headings.{triple};
+ghost use Rattle.card.specs.Forwarding.{forwardPart, forwardPartCall, headingPart, messageAnswer, told};
+ghost use Rattle.card.specs.Mail.{sent};
+ghost use Rattle.step.specs.Call.{called, forwardCall};
+use apdu::Apdu;
+use apdu::Forward;
+use apdu::Forwarded;
+use apdu::Heading;
+use apdu::Span;
+use apdu::Triple;
+use apdu::Written;
+use apdu::put_run;
+use apdu::read_forward;
+use step::forward_call;
+use words::Limit;
+
+// CPDLC-forward request, which brings a dialogue number as a start does. The flight identification is the count of its characters, and they as one number, seven bits each, the first on top; the
+// direction says what the message's bits are (0 uplink, 1 downlink); they stand in msgs from the first on, and `message` says how many.
+#[no_mangle]
+pub extern "C" fn peat_forward_request(
+    rec: &mut [u8],
+    number: u64,
+    class: u64,
+    security: u64,
+    year: u64,
+    month: u64,
+    day: u64,
+    hours: u64,
+    minutes: u64,
+    seconds: u64,
+    characters: u64,
+    flight: u64,
+    address: u64,
+    direction: u64,
+    msgs: &[u8],
+    message: u64,
+    first: &mut [u8],
+    second: &mut [u8],
+) -> u64
+    ensures { λ n. ⌜ called n (now (rec .exit)) (now (first .exit)) (now (second .exit)) ≡ forwardCall (now (rec .entry)) (now (first .entry)) (now (second .entry)) class security number (now (msgs .entry)) (record { heading = record { date = triple year month day; time = triple hours minutes seconds; characters = characters; flight = flight; address = address; direction = direction }; message = record { at = 0; count = message } }) ⌝ }
+{
+    let heading = Heading {
+        date: Triple {
+            first: year,
+            second: month,
+            third: day,
+        },
+        time: Triple {
+            first: hours,
+            second: minutes,
+            third: seconds,
+        },
+        characters,
+        flight,
+        address,
+        direction,
+    };
+    let bits = Span {
+        at: 0,
+        count: message as usize,
+    };
+    let f = Forward {
+        heading,
+        message: bits,
+    };
+    forward_call(rec, first, second, class, security, number, msgs, f)
+}
+
+const MESSAGE: u64 = 10;
+
+// The parts in front of the message's bits, by number.
+fn heading_part(which: u64, h: Heading) -> u64
+    ensures { λ n. ⌜ n ≡ headingPart which h ⌝ }
+{
+    let date = h.date;
+    let time = h.time;
+    match which {
+        0 => date.first,
+        1 => date.second,
+        2 => date.third,
+        3 => time.first,
+        4 => time.second,
+        5 => time.third,
+        6 => h.characters,
+        7 => h.flight,
+        8 => h.address,
+        _ => h.direction,
+    }
+}
+
+fn told(n: u64) -> u64
+    ensures { λ r. ⌜ r ≡ told n ⌝ }
+{
+    256 * (n % 72057594037927936)
+}
+
+fn message_answer(w: Written) -> u64
+    ensures { λ n. ⌜ n ≡ messageAnswer w ⌝ }
+{
+    match w {
+        Written::Bits(n) => told(n as u64),
+        Written::Room => Limit::ROOM,
+        Written::Shape => Limit::SHAPE,
+    }
+}
+
+// A part of a forward message that stands in lent bytes.
+fn forward_part(out: &mut [u8], s: &[u8], which: u64, f: Forward) -> u64
+    ensures { λ n. ⌜ sent n (now (out .exit)) ≡ forwardPart (now (out .entry)) (now (s .entry)) which f ⌝ }
+{
+    let heading = f.heading;
+    let message = f.message;
+    if which == MESSAGE {
+        return message_answer(put_run(out, s, message.at, message.count));
+    }
+    told(heading_part(which, heading))
+}
+
+// One part of a forward message as it was delivered.
+#[no_mangle]
+pub extern "C" fn peat_forward_part(which: u64, delivered: &[u8], out: &mut [u8]) -> u64
+    ensures { λ n. ⌜ sent n (now (out .exit)) ≡ forwardPartCall (now (out .entry)) which (now (delivered .entry)) ⌝ }
+{
+    if out.len() < Apdu::BUFFER {
+        return Limit::ROOM;
+    }
+    if MESSAGE < which {
+        return Limit::SHAPE;
+    }
+    let whole = read_forward(delivered);
+    match whole {
+        Forwarded::Refused(r) => fields::packed(r),
+        Forwarded::Is(f, _) => forward_part(out, delivered, which, f),
+    }
+}

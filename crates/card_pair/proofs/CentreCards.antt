@@ -1,0 +1,819 @@
+-- Two ground cards: the exported calls are a machine whose records rest (IDLE) or are away (FORWARD), as crate pair asks of it (TwoCentres).
+-- Assumes nothing.
+use mathlib.Core.Path.{_≡_, refl, ap, sym, subst, _∙_}
+use mathlib.Core.Bool.{Bool, true, false, not, cond}
+use mathlib.Core.List.{List, []}
+use Prim.Native.Nat.{ℕ, _^_, _≤_, _<_}
+use native.Mathlib.Omega.{arith}
+use borrow.Author.Tests.{eq-eqb, ne-eqb, le-leb, lt-ltb, le-ltb, ltb-true}
+use lib.Dec.{T, eqb, ltb}
+use lib.ListN.{length, take}
+use Rattle.bits.specs.Put.{putBits}
+use Rattle.apdu.specs.Pdus.{forward, forwardResponse, lent, pduIn}
+use Rattle.apdu.specs.Encoding.{pduBits, padded, bytesFor}
+use Rattle.apdu.specs.Reading.{apduAt}
+use Rattle.apdu.specs.Writing.{done, dataShaped, forwardShaped, apduShaped}
+use Rattle.apdu.specs.declared.Side.the-variants as pdu
+use Rattle.apdu.specs.declared.Data.{Data}
+use Rattle.apdu.specs.declared.Heading.{Heading}
+use Rattle.apdu.specs.declared.Forward.{Forward as Forwarded}
+use Rattle.apdu.specs.declared.Apdu.{Apdu as Pdus}
+use Rattle.apdu.specs.declared.Apdu.the-variants as is
+use Rattle.apdu.specs.declared.Answer.the-variants as answer
+use Rattle.apdu.specs.declared.Written.the-variants as written
+use Rattle.apdu.proofs.Bounds.{never as apart, apdu-fit, pdu-most}
+use Rattle.apdu.proofs.Theorems.{writes, put-read}
+use Rattle.machine.specs.Codes.{securityValues, routingClasses, versions, forwardResults, facility, permanent, success, serviceNotSupported, noVersion, user, userReasons, undefinedError, communicationServiceError, communicationServiceFailure}
+use Rattle.machine.specs.Record.{withTimer, enter}
+use Rattle.machine.specs.Event.{qosFits, userShapely, serviceShapely, shapely}
+use Rattle.machine.specs.Apdus.{readable}
+use Rattle.machine.specs.Outcome.{isNone}
+use Rattle.machine.specs.Outcome as N
+use Rattle.machine.specs.Exceptions.{tell, closes, aborts, excepts, systemError}
+use Rattle.machine.specs.Calls.{answer as answerOf, qosAsked, sent, userAbort, callOf}
+use Rattle.machine.specs.Forwards.{forwardRequest, responds, forwardConfirmed}
+use Rattle.machine.specs.Faults.{abortFault, responseFault, confirmationFault, firstFault}
+use Rattle.machine.specs.Primitives.{instructed, answered as answeredBy, reached}
+use Rattle.machine.specs.Step.{permitted, messageRefusal, acts as clause, step}
+use Rattle.machine.specs.Step as S
+use Rattle.machine.proofs.Clauses.{service-taken, user-aborts, expiry, error-idle}
+use Rattle.machine.proofs.ForwardClauses.{isUserAbort, only-abort, supported, not-supported, confirmed}
+use Rattle.machine.specs.declared.record.Record.{Record}
+use Rattle.machine.specs.declared.event.Qos.{Qos}
+use Rattle.machine.specs.declared.event.Apdu.{Apdu}
+use Rattle.machine.specs.declared.event.Apdu.the-variants.{Absent, Forward, ForwardResponse}
+use Rattle.machine.specs.declared.event.UserPrimitive.{UserPrimitive}
+use Rattle.machine.specs.declared.event.UserPrimitive.the-variants.{StartServiceRequest, StartServiceResponse, MessageServiceRequest, EndServiceRequest, EndServiceResponse, UserAbortServiceRequest}
+use Rattle.machine.specs.declared.event.ServicePrimitive.{ServicePrimitive}
+use Rattle.machine.specs.declared.event.ServicePrimitive.the-variants.{DStartIndication, DStartConfirmation, DPAbortIndication}
+use Rattle.machine.specs.declared.event.Event.{Event}
+use Rattle.machine.specs.declared.event.Event.the-variants.{User, Service, TimerExpires, UnrecoverableSystemError}
+use Rattle.machine.specs.declared.event.Event.the-variants.{Forward as ForwardRequested}
+use Rattle.machine.specs.declared.outcome.Refusal.the-variants.{Shape, Stale, Prohibited}
+use Rattle.machine.specs.declared.outcome.Invoked.{Invoked}
+use Rattle.machine.specs.declared.outcome.Invoked.the-variants.{Silent, DStartRequest, DStartResponse, DDataRequest, DEndRequest, DEndResponse, DAbortRequest, DStartForwardRequest, DStartForwardResponse}
+use Rattle.machine.specs.declared.outcome.Told.{Told}
+use Rattle.machine.specs.declared.outcome.Told.the-variants.{Untold, ProviderAbortIndication, ForwardIndication, ForwardConfirmation}
+use Rattle.machine.specs.declared.outcome.Outcome as O
+use Rattle.numbered.specs.Numbers.{userStarts, serviceStarts, isStart as isStartEvent, isService, isStale, heldAfter, refusalOf, numberedStep}
+use Rattle.numbered.proofs.Laws.{shape-first, then-step}
+use Rattle.step.specs.Stored.{recordBytes, loadAt, storeAt}
+use Rattle.step.specs.Packed.{three, invokedNumber, toldNumber, versionNumber}
+use Rattle.step.specs.Call.{Carried, Called, called as calledWith, carriesData, carriesForward, carriedBy, noData, bitsOfWritten, pduTo, firstTakes, passes, secondTakes, finished, concluded, entering, eventStep, userStep, userCall, forwardStep, forwardCall, readsAs, readsAgain, readPdu, meaning, dataStep, bareStep, serviceStep, serviceCall}
+use Rattle.step.specs.declared.stored.Loaded.{Loaded}
+use Rattle.step.specs.declared.stored.Loaded.the-variants.{Is}
+use Rattle.step.proofs.Storing.{length-stored, loaded-stored}
+use Rattle.step.proofs.Calling.{with-record, invoked-low, told-low}
+use Rattle.step.proofs.Unpacked.{refusal-unpacked, invoked-unpacked, sent-unpacked, version-unpacked, code-unpacked, parameter-unpacked, last-unpacked}
+use Rattle.step.proofs.Taken.{Coded}
+use Rattle.card.specs.Face.{noCount, givenData, messageRequested, abortRequested}
+use Rattle.pair.specs.Names.{Side, Ground, Control, isIdle, waits, entered, closed, takes}
+use Rattle.pair.specs.Names.{Forward as FORWARD}
+use Rattle.pair.specs.Carrier.{Sent, nothing, Outcome, refused, acts, begins, plain, begins?, isStart, starts}
+use Rattle.pair.specs.Numbered.{Numbered}
+use Rattle.pair.specs.Wires.{Wire, sortOf, arrives, rejects}
+use Rattle.pair.proofs.TwoCentres.{Begun, Back, Starts, Returns, Comes, Quiet, Answers, Refuses, Centre}
+use Rattle.card_pair.specs.Answered.{isTaken, invokedPart, invokedOf, entryOf, handedOf}
+use Rattle.card_pair.specs.CardMachine.{Word, Asked, start-request, start-response, message-request, end-request, end-response, user-abort, numberIn, controlIn, heldBy, putOn}
+use Rattle.card_pair.specs.CentreMachine.{Passed, CentreAsked, forward-request, other-call, Desk, versionPart, betweenCentres, centreEntry, after, does, lent-first, lent-second, hears, reports, forwards, centreAsks, centreMachine}
+use Rattle.card_pair.specs.Promise.{Rests}
+use Rattle.card_pair.proofs.Ends.{Keeps, concluded-refused}
+use Rattle.card_pair.proofs.Beginnings.{begins-keeps, begins-valid}
+use Rattle.card_pair.proofs.CardCalls.{none-shaped}
+
+-- ---- a call that is taken, or not
+
+taken-does : (P : Outcome Desk (Numbered Wire) → Type 0) (d : Desk) (c : Called) → isTaken (c .number) ≡ true → P (acts (after d c) (handedOf c) (putOn (centreEntry c) (centreEntry c .it .primitive))) → P (does d c)
+taken-does P d c e x = subst (λ (b : Bool). P (cond b (acts (after d c) (handedOf c) (putOn (centreEntry c) (centreEntry c .it .primitive))) refused)) (sym e) x
+
+refused-does : (P : Outcome Desk (Numbered Wire) → Type 0) (d : Desk) (c : Called) → isTaken (c .number) ≡ false → P refused → P (does d c)
+refused-does P d c e x = subst (λ (b : Bool). P (cond b (acts (after d c) (handedOf c) (putOn (centreEntry c) (centreEntry c .it .primitive))) refused)) (sym e) x
+
+-- what is put on the line is no start where its primitive begins nothing
+put-calm : (p : ℕ) (e : Numbered Wire) → begins? (sortOf (e .it .primitive)) ≡ false → starts (centreMachine p .at) (putOn e (e .it .primitive)) ≡ false
+put-calm p e b = go (e .it .primitive)
+  where
+    go : (i : Invoked) → starts (centreMachine p .at) (putOn e i) ≡ false
+    go Silent = refl
+    go (DStartRequest q s) = b
+    go (DStartResponse x s) = b
+    go DDataRequest = b
+    go DEndRequest = b
+    go (DEndResponse x) = b
+    go (DAbortRequest o) = b
+    go (DStartForwardRequest q s v) = b
+    go (DStartForwardResponse s v) = b
+
+-- ---- outcomes that end in IDLE and begin nothing
+
+record Shut (q : Record) (o : O.Outcome) : Type 0 where
+  taken : isNone (o .refusal) ≡ true
+  control : o .next .control ≡ closed
+  timer : o .next .timer ≡ false
+  user : o .next .active ≡ false
+  policy : o .next .policy ≡ q .policy
+  version : o .next .version ≡ q .version
+  coded : Coded (o .next)
+  calm : (v : ℕ) → begins? (sortOf (betweenCentres v (invokedOf (invokedNumber (o .invoked))))) ≡ false
+
+closes-shut : (q : Record) (t : Told) → Coded q → Shut q (closes q t)
+unfolding closes enter invokedNumber
+closes-shut q t k =
+    record { taken = refl; control = refl; timer = refl; user = refl; policy = refl; version = refl; coded = record { request = k .request; policy = k .policy; least = k .least; most = k .most; highest = k .highest }; calm = λ (v : ℕ). refl }
+
+aborts-shut : (q : Record) (x : ℕ) (t : Told) → Coded q → Shut q (aborts q x t)
+unfolding aborts enter invokedNumber
+aborts-shut q x t k =
+    record { taken = refl; control = refl; timer = refl; user = refl; policy = refl; version = refl; coded = record { request = k .request; policy = k .policy; least = k .least; most = k .most; highest = k .highest }; calm = λ (v : ℕ). refl }
+
+abort-shut : (q : Record) (g : Bool) (x : ℕ) → Coded q → Shut q (userAbort q g x)
+unfolding userAbort sent enter invokedNumber
+abort-shut q g x k =
+    record { taken = refl; control = refl; timer = refl; user = refl; policy = refl; version = refl; coded = record { request = k .request; policy = k .policy; least = k .least; most = k .most; highest = k .highest }; calm = λ (v : ℕ). refl }
+
+-- ---- a record at its bytes
+
+-- the bytes are those of a ground record that accepts p and has the version ver
+pub record At (p ver : ℕ) (d : Desk) : Type 0 where
+  pub held : Record
+  pub number : ℕ
+  pub load : loadAt (d .kept .bytes) ≡ Is Ground held number
+  pub size : length (d .kept .bytes) ≡ recordBytes
+  pub coded : Coded held
+  pub low : number < 2 ^ 64
+  pub policy : held .policy ≡ p
+  pub version : held .version ≡ ver
+
+module _ (p ver : ℕ) (d : Desk) (at : At p ver d) where
+  abbrev q : Record
+  q = at .held
+
+  abbrev n : ℕ
+  n = at .number
+
+  at-record : (k : Side → Record → ℕ → Called) → entering (d .kept .bytes) (lent-first d) (lent-second d) k ≡ k Ground q n
+  at-record k =
+      sym (with-record (d .kept .bytes) (lent-first d) (lent-second d) k (d .lends (d .kept .calls) .first-full) (d .lends (d .kept .calls) .second-full) (loadAt (d .kept .bytes)) refl Ground q n (k Ground q n) (at .load) refl)
+
+  held-is : heldBy (d .kept .bytes) ≡ n
+  held-is = ap numberIn (at .load)
+
+  abbrev Ended : ℕ → O.Outcome → List ℕ → List ℕ → List ℕ → Carried → Called
+  Ended m o li lm lc x = concluded (d .kept .bytes) (lent-first d) (lent-second d) Ground m o li lm lc x
+
+  stored-loads : (x : Record) (m : ℕ) → Coded x → m < 2 ^ 64 → (loadAt (storeAt (d .kept .bytes) Ground x m .bytes) ≡ Is Ground x m) × (length (storeAt (d .kept .bytes) Ground x m .bytes) ≡ recordBytes)
+  unfolding storeAt
+  stored-loads x m k l =
+      rw (eq-eqb (length (d .kept .bytes)) recordBytes (at .size), lt-ltb (x .request) securityValues (k .request), lt-ltb (x .policy) securityValues (k .policy), le-leb 1 (x .version) (k .least), lt-ltb (x .version) versions (k .most))
+      (loaded-stored Ground x m k l, length-stored Ground x m k l)
+
+  module _ (m : ℕ) (o : O.Outcome) (li lm lc : List ℕ) (x : Carried) (t : isNone (o .refusal) ≡ true) where
+    number-taken : isTaken (Ended m o li lm lc x .number) ≡ true
+    unfolding concluded finished
+    number-taken = rw t (eq-eqb _ 0 (refusal-unpacked _ _ _ _ _))
+
+    kept-is : Ended m o li lm lc x .kept ≡ storeAt (d .kept .bytes) Ground (o .next) m .bytes
+    unfolding concluded finished
+    kept-is = rw t
+
+    invoked-is : invokedPart (Ended m o li lm lc x .number) ≡ invokedNumber (o .invoked)
+    unfolding concluded finished
+    invoked-is = rw t (invoked-unpacked _ _ _ _ _ (invoked-low (o .invoked)))
+
+    loads-next : Coded (o .next) → m < 2 ^ 64 → loadAt (Ended m o li lm lc x .kept) ≡ Is Ground (o .next) m
+    loads-next k l = ap loadAt kept-is ∙ stored-loads (o .next) m k l .0
+
+    -- the version, and the bytes that were written
+    version-is : versionNumber (o .invoked) (o .told) < versions → versionPart (Ended m o li lm lc x .number) ≡ versionNumber (o .invoked) (o .told)
+    unfolding concluded finished
+    version-is h = rw t (version-unpacked _ _ _ _ _ (invoked-low (o .invoked)) (told-low (o .told)) h)
+
+    bytes-are : (a : Pdus) → apduShaped pdu.Ground li lm lc a ≡ true → firstTakes Ground li lm lc x (o .apdu) (lent-first d) ≡ pduTo pdu.Ground li lm lc a (lent-first d)
+        → entryOf (Ended m o li lm lc x) .bytes ≡ take (bytesFor (length (pduBits pdu.Ground (pduIn li lm lc a)))) (putBits (lent-first d) 0 (padded (pduBits pdu.Ground (pduIn li lm lc a))))
+    unfolding concluded finished
+    bytes-are a sh e =
+        let w = pdu-most pdu.Ground (pduIn li lm lc a) (apdu-fit pdu.Ground li lm lc a sh) in
+        let z : pduTo pdu.Ground li lm lc a (lent-first d) ≡ done (written.Bits (length (pduBits pdu.Ground (pduIn li lm lc a)))) (putBits (lent-first d) 0 (padded (pduBits pdu.Ground (pduIn li lm lc a)))) = rw sh (writes (lent-first d) (pduBits pdu.Ground (pduIn li lm lc a)) (d .lends (d .kept .calls) .first-full)) in
+        rw (t, e, z, sent-unpacked (invokedNumber (o .invoked)) (toldNumber (o .told)) (length (pduBits pdu.Ground (pduIn li lm lc a))) (bitsOfWritten (secondTakes li lm lc x (passes (o .told)) (o .delivers) (lent-second d) .answer)) (versionNumber (o .invoked) (o .told)) (invoked-low (o .invoked)) (told-low (o .told)) (omega arith))
+
+  -- ---- back to rest
+
+  module _ (o : O.Outcome) (li lm lc : List ℕ) (x : Carried) (s : Shut q o) where
+    shut-back : (z : Sent (Numbered Wire)) → starts (centreMachine p .at) z ≡ false → Back (centreMachine p) (λ (e : Desk). Rests p ver (e .kept .bytes)) d (after d (Ended n o li lm lc x)) z
+    shut-back z b =
+        let l = loads-next n o li lm lc x (s .taken) (s .coded) (at .low) in
+        record {
+          rest = record { begins = record { held = o .next; number = n; load = l; policy = s .policy ∙ at .policy; idle = s .control; timer = s .timer; user = s .user }; version = s .version ∙ at .version };
+          calm = b;
+          holds = ap numberIn l ∙ sym held-is;
+        }
+
+    shut-calm : starts (centreMachine p .at) (putOn (centreEntry (Ended n o li lm lc x)) (centreEntry (Ended n o li lm lc x) .it .primitive)) ≡ false
+    shut-calm =
+        put-calm p (centreEntry (Ended n o li lm lc x))
+        (ap (λ (i : ℕ). begins? (sortOf (betweenCentres (versionPart (Ended n o li lm lc x .number)) (invokedOf i)))) (invoked-is n o li lm lc x (s .taken)) ∙ s .calm (versionPart (Ended n o li lm lc x .number)))
+
+    shut-comes : Comes (centreMachine p) (λ (e : Desk). Rests p ver (e .kept .bytes)) d (does d (Ended n o li lm lc x))
+    shut-comes = taken-does (Comes (centreMachine p) (λ (e : Desk). Rests p ver (e .kept .bytes)) d) d (Ended n o li lm lc x) (number-taken n o li lm lc x (s .taken)) (shut-back _ shut-calm)
+
+  -- if it is taken
+  shut-returns : (o : O.Outcome) (li lm lc : List ℕ) (x : Carried) → (isNone (o .refusal) ≡ true → Shut q o) → Returns (centreMachine p) (λ (e : Desk). Rests p ver (e .kept .bytes)) d (does d (Ended n o li lm lc x))
+  shut-returns o li lm lc x f = go (isNone (o .refusal)) refl
+    where
+      go : (b : Bool) → isNone (o .refusal) ≡ b → Returns (centreMachine p) (λ (e : Desk). Rests p ver (e .kept .bytes)) d (does d (Ended n o li lm lc x))
+      go true e =
+          let s = f e in
+          taken-does (Returns (centreMachine p) (λ (z : Desk). Rests p ver (z .kept .bytes)) d) d (Ended n o li lm lc x) (number-taken n o li lm lc x e) (shut-back o li lm lc x s _ (shut-calm o li lm lc x s))
+      go false e = refused-does (Returns (centreMachine p) (λ (z : Desk). Rests p ver (z .kept .bytes)) d) d (Ended n o li lm lc x) (concluded-refused _ _ _ Ground n o li lm lc x e) tt
+
+  -- a call that the machine refuses
+  refused-call : (P : Outcome Desk (Numbered Wire) → Type 0) (m : ℕ) (o : O.Outcome) (li lm lc : List ℕ) (x : Carried) → isNone (o .refusal) ≡ false → P refused → P (does d (Ended m o li lm lc x))
+  refused-call P m o li lm lc x e z = refused-does P d (Ended m o li lm lc x) (concluded-refused _ _ _ Ground m o li lm lc x e) z
+
+  -- ---- the calls, as far as the step
+
+  heard-data : (a : ServicePrimitive) (v : ℕ) (s : List ℕ) → hears d a v 1 s ≡ eventStep (d .kept .bytes) (lent-first d) (lent-second d) (Service a (meaning (readPdu Ground (q .control) a (lent s)))) v (lent s) (lent s) (lent s) (carriedBy (readPdu Ground (q .control) a (lent s))) Ground q n
+  unfolding serviceCall serviceStep dataStep
+  heard-data a v s = at-record (serviceStep (d .kept .bytes) (lent-first d) (lent-second d) a v 1 (lent s))
+
+  heard-bare : (a : ServicePrimitive) (v : ℕ) → hears d a v 0 [] ≡ eventStep (d .kept .bytes) (lent-first d) (lent-second d) (Service a Absent) v (lent []) (lent []) (lent []) (carriesData noData) Ground q n
+  unfolding serviceCall serviceStep bareStep
+  heard-bare a v = at-record (serviceStep (d .kept .bytes) (lent-first d) (lent-second d) a v 0 (lent []))
+
+  reported : (e : Event) → reports d e ≡ eventStep (d .kept .bytes) (lent-first d) (lent-second d) e 0 (lent []) (lent []) (lent []) (carriesData noData) Ground q n
+  unfolding userCall userStep
+  reported e = at-record (userStep (d .kept .bytes) (lent-first d) (lent-second d) e 0 (lent []) (lent []) (lent []) noData) ∙ rw (none-shaped (lent []) (lent []) (lent []))
+
+  -- a primitive with the number that the record holds
+  own-number : (a : ServicePrimitive) (x : Apdu) → shapely Ground (Service a x) ≡ true → serviceStarts a ≡ false → numberedStep Ground q n (Service a x) n ≡ reached Ground q a x
+  unfolding isStale isStartEvent isService
+  own-number a x sh st = then-step Ground q n (Service a x) n (rw (st, eq-eqb n n refl)) ∙ service-taken Ground q a x sh
+
+  -- not stale, so the machine's step
+  no-number : (e : Event) → isStale n e 0 ≡ false → numberedStep Ground q n e 0 ≡ step Ground q e
+  no-number e h = then-step Ground q n e 0 h
+
+  -- ---- refused
+
+  unpermitted : (e : Event) (v : ℕ) → permitted Ground q e ≡ false → isNone (numberedStep Ground q n e v .refusal) ≡ false
+  unfolding numberedStep refusalOf
+  unpermitted e v h = rw h (go (shapely Ground e) (isStale n e v) (clause Ground q e))
+    where
+      go : (s l : Bool) (a : O.Outcome) → isNone (cond (isNone (cond (not s) Shape (cond l Stale Prohibited))) a (N.refused (cond (not s) Shape (cond l Stale Prohibited)) q) .refusal) ≡ false
+      go true true a = refl
+      go true false a = refl
+      go false l a = refl
+
+  stale-refused : (e : Event) (v : ℕ) → isStale n e v ≡ true → isNone (numberedStep Ground q n e v .refusal) ≡ false
+  unfolding numberedStep refusalOf
+  stale-refused e v h = rw h (go (shapely Ground e) (clause Ground q e))
+    where
+      go : (s : Bool) (a : O.Outcome) → isNone (cond (isNone (cond (not s) Shape Stale)) a (N.refused (cond (not s) Shape Stale) q) .refusal) ≡ false
+      go true a = refl
+      go false a = refl
+
+  unshaped : (e : Event) (v : ℕ) → shapely Ground e ≡ false → isNone (numberedStep Ground q n e v .refusal) ≡ false
+  unshaped e v h = ap (λ (o : O.Outcome). isNone (o .refusal)) (shape-first Ground q n e v h)
+
+  -- a user call that the machine does not permit
+  user-refused : (P : Outcome Desk (Numbered Wire) → Type 0) (u : UserPrimitive) (v : ℕ) (ids msgs checks : List ℕ) (x : Data) → takes Ground (q .control) (callOf u) ≡ false → P refused → P (does d (userCall (d .kept .bytes) (lent-first d) (lent-second d) (User u) v ids msgs checks x))
+  unfolding userCall userStep permitted
+  user-refused P u v ids msgs checks x h z =
+      subst (λ (c : Called). P (does d c)) (sym (at-record (userStep (d .kept .bytes) (lent-first d) (lent-second d) (User u) v (lent ids) (lent msgs) (lent checks) x))) (go (dataShaped (lent ids) (lent msgs) (lent checks) x))
+    where
+      go : (b : Bool) → P (does d (cond b (eventStep (d .kept .bytes) (lent-first d) (lent-second d) (User u) v (lent ids) (lent msgs) (lent checks) (carriesData x) Ground q n) (calledWith 2 (d .kept .bytes) (lent-first d) (lent-second d))))
+      go true = refused-call P (heldAfter n (User u) v) (numberedStep Ground q n (User u) v) (lent ids) (lent msgs) (lent checks) (carriesData x) (unpermitted (User u) v h) z
+      go false = z
+
+  -- a forward request with a number that is not above, or with a class that there is none
+  forward-stale : (k v : ℕ) → ltb n v ≡ false → isNone (numberedStep Ground q n (ForwardRequested k p) v .refusal) ≡ false
+  unfolding isStale isStartEvent
+  forward-stale k v lt = stale-refused (ForwardRequested k p) v (ap not lt)
+
+  forward-unshaped : (k v : ℕ) → ltb k routingClasses ≡ false → isNone (numberedStep Ground q n (ForwardRequested k p) v .refusal) ≡ false
+  unfolding shapely
+  forward-unshaped k v e = unshaped (ForwardRequested k p) v (rw e)
+
+  -- an entry of another number
+  heard-stale : (a : ServicePrimitive) (v : ℕ) (s : List ℕ) → ((b : Apdu) → isStale n (Service a b) v ≡ true) → Refuses (centreMachine p) (does d (hears d a v 1 s))
+  heard-stale a v s f =
+      subst (λ (c : Called). Refuses (centreMachine p) (does d c)) (sym (heard-data a v s))
+      (refused-call (Refuses (centreMachine p)) (heldAfter n (Service a (meaning (readPdu Ground (q .control) a (lent s)))) v) (numberedStep Ground q n (Service a (meaning (readPdu Ground (q .control) a (lent s)))) v) (lent s) (lent s) (lent s) (carriedBy (readPdu Ground (q .control) a (lent s)))
+      (stale-refused (Service a (meaning (readPdu Ground (q .control) a (lent s)))) v (f (meaning (readPdu Ground (q .control) a (lent s))))) tt)
+
+  start-stale : (x s : ℕ) (k : Qos) (w v : ℕ) → v ≤ n → (b : Apdu) → isStale n (Service (DStartIndication x s k w) b) v ≡ true
+  unfolding isStale isStartEvent serviceStarts
+  start-stale x s k w v h b = rw (le-ltb n v h)
+
+  other-stale : (x o s w v : ℕ) → (v ≡ n → ⊥) → (b : Apdu) → isStale n (Service (DStartConfirmation x o s w) b) v ≡ true
+  unfolding isStale isStartEvent serviceStarts isService
+  other-stale x o s w v h b = rw (ne-eqb v n h)
+
+-- ---- a centre that rests, one that is away, and their entries
+
+-- awaits the response to its forward
+pub record Away (p ver : ℕ) (d : Desk) : Type 0 where
+  pub at : At p ver d
+  pub control : at .held .control ≡ entered FORWARD false
+  pub request : at .held .request ≡ p
+
+-- a forward with its message, or its response
+pub data Good (p ver : ℕ) (w : Numbered Wire) : Type 0 where
+  a-forward : (k : ℕ) → ltb k routingClasses ≡ true → w .it .primitive ≡ DStartForwardRequest (qosAsked k) p ver → (f : Forwarded) → apduAt pdu.Ground (lent (w .it .bytes)) 0 ≡ answer.Is (is.Forward f) → w .no < 2 ^ 64 → Good p ver w
+  a-response : (x : ℕ) → ltb x forwardResults ≡ true → w .it .primitive ≡ DStartForwardResponse p noVersion → apduAt pdu.Ground (lent (w .it .bytes)) 0 ≡ answer.Is (is.ForwardResponse x) → Good p ver w
+
+abbrev pub Rest : ℕ → ℕ → Desk → Type 0
+Rest p ver d = Rests p ver (d .kept .bytes)
+
+clash : {A : Type 0} → true ≡ false → A
+clash e = absurd (subst T e tt)
+
+-- ---- what is read back
+
+record IsForward (a : Pdus) : Type 0 where
+  message : Forwarded
+  same : a ≡ is.Forward message
+
+forward-value : (l : List ℕ) (a : Pdus) (h : Heading) (m : List ℕ) → pduIn l l l a ≡ forward h m → IsForward a
+unfolding pduIn
+forward-value l (is.AbortUser r) h m e = apart (cc)
+forward-value l (is.AbortProvider r) h m e = apart (cc)
+forward-value l (is.Start x d) h m e = apart (cc)
+forward-value l (is.Send d) h m e = apart (cc)
+forward-value l (is.Forward f) h m e = record { message = f; same = refl }
+forward-value l (is.ForwardResponse x) h m e = apart (cc)
+
+response-value : (l : List ℕ) (a : Pdus) (x : ℕ) → pduIn l l l a ≡ forwardResponse x → a ≡ is.ForwardResponse x
+unfolding pduIn
+response-value l (is.AbortUser r) x e = apart (cc)
+response-value l (is.AbortProvider r) x e = apart (cc)
+response-value l (is.Start y d) x e = apart (cc)
+response-value l (is.Send d) x e = apart (cc)
+response-value l (is.Forward f) x e = apart (cc)
+response-value l (is.ForwardResponse y) x e = let z : y ≡ x = cc in ap is.ForwardResponse z
+
+-- ---- the codes of the two primitives
+
+request-back : (k s : ℕ) → k < 16 → s < 2 → invokedOf (three 1 k s) ≡ DStartRequest (qosAsked k) s
+request-back k s h g = rw (code-unpacked 1 k s (omega arith), parameter-unpacked 1 k s (omega arith) h, last-unpacked 1 k s (omega arith) g)
+
+response-back : (s : ℕ) → s < 2 → invokedOf (three 2 permanent s) ≡ DStartResponse permanent s
+response-back s g = rw (code-unpacked 2 permanent s (omega arith), parameter-unpacked 2 permanent s (omega arith) (omega arith), last-unpacked 2 permanent s (omega arith) g)
+
+own-version : (v : ℕ) → 1 ≤ v → cond (eqb v 0) 0 v ≡ v
+own-version v h = rw (ne-eqb v 0 (λ (e : v ≡ 0). omega arith))
+
+idle-takes : (u : UserPrimitive) → userStarts u ≡ false → takes Ground closed (callOf u) ≡ false
+unfolding userStarts callOf
+idle-takes (StartServiceRequest m k s) e = clash e
+idle-takes (StartServiceResponse m x) e = refl
+idle-takes (MessageServiceRequest h j) e = refl
+idle-takes (EndServiceRequest m) e = refl
+idle-takes (EndServiceResponse m x) e = refl
+idle-takes (UserAbortServiceRequest g x) e = refl
+
+-- ---- at rest
+
+module _ (p ver : ℕ) (d : Desk) (h : Rests p ver (d .kept .bytes)) where
+  keeps : Keeps Ground (d .kept .bytes) (h .begins .held) (h .begins .number)
+  keeps = begins-keeps p Ground (d .kept .bytes) (h .begins)
+
+  abbrev at-rest : At p ver d
+  at-rest = record { held = h .begins .held; number = h .begins .number; load = h .begins .load; size = keeps .size; coded = keeps .coded; low = keeps .low; policy = h .begins .policy; version = h .version }
+
+  abbrev x : Record
+  x = h .begins .held
+
+  abbrev y : ℕ
+  y = h .begins .number
+
+  valid : p < securityValues
+  valid = begins-valid p Ground (d .kept .bytes) (h .begins)
+
+  idle : isIdle (h .begins .held .control) ≡ true
+  idle = ap isIdle (h .begins .idle)
+
+  -- a forward request
+  module _ (v : Word) (k : ℕ) (f : Passed) where
+    abbrev F : Forwarded
+    F = record { heading = f .heading; message = record { at = 0; count = f .bits } }
+
+    abbrev C : Called
+    C = Ended p ver d at-rest (v .number) (forwardRequest x k p) (lent (f .msgs)) (lent (f .msgs)) (lent (f .msgs)) (carriesForward F)
+
+    abbrev Begins-it : Outcome Desk (Numbered Wire) → Type 0
+    Begins-it o = Starts (centreMachine p) (Away p ver) (Good p ver) d o
+
+    request-coded : Coded (forwardRequest x k p .next)
+    unfolding forwardRequest enter
+    request-coded = record { request = valid; policy = keeps .coded .policy; least = keeps .coded .least; most = keeps .coded .most; highest = keeps .coded .highest }
+
+    request-taken : isNone (forwardRequest x k p .refusal) ≡ true
+    unfolding forwardRequest
+    request-taken = refl
+
+    request-loads : loadAt (C .kept) ≡ Is Ground (forwardRequest x k p .next) (v .number)
+    request-loads =
+        loads-next p ver d at-rest (v .number) (forwardRequest x k p) (lent (f .msgs)) (lent (f .msgs)) (lent (f .msgs)) (carriesForward F) request-taken request-coded (v .low)
+
+    request-size : length (C .kept) ≡ recordBytes
+    request-size =
+        ap length (kept-is p ver d at-rest (v .number) (forwardRequest x k p) (lent (f .msgs)) (lent (f .msgs)) (lent (f .msgs)) (carriesForward F) request-taken)
+        ∙ stored-loads p ver d at-rest (forwardRequest x k p .next) (v .number) request-coded (v .low) .1
+
+    request-away : Away p ver (after d C)
+    unfolding forwardRequest enter
+    request-away =
+        record {
+          at = record { held = forwardRequest x k p .next; number = v .number; load = request-loads; size = request-size; coded = request-coded; low = v .low; policy = h .begins .policy; version = h .version };
+          control = ap (λ (c : Control). entered FORWARD (c .dsc)) (h .begins .idle);
+          request = refl;
+        }
+
+    request-primitive : ltb k routingClasses ≡ true → centreEntry C .it .primitive ≡ DStartForwardRequest (qosAsked k) p ver
+    unfolding forwardRequest invokedNumber
+    request-primitive e =
+        let kl = ltb-true k routingClasses e in
+        let i = invoked-is p ver d at-rest (v .number) (forwardRequest x k p) (lent (f .msgs)) (lent (f .msgs)) (lent (f .msgs)) (carriesForward F) request-taken in
+        let w = own-version (x .version) (keeps .coded .least) in
+        let most = keeps .coded .most in
+        let z = version-is p ver d at-rest (v .number) (forwardRequest x k p) (lent (f .msgs)) (lent (f .msgs)) (lent (f .msgs)) (carriesForward F) request-taken (subst (λ (z : ℕ). z < versions) (sym w) most) in
+        ap (λ (z : ℕ). betweenCentres (versionPart (C .number)) (invokedOf z)) i
+        ∙ ap (betweenCentres (versionPart (C .number))) (request-back k p (omega arith) (omega (arith, valid)))
+        ∙ ap (DStartForwardRequest (qosAsked k) p) (z ∙ w ∙ h .version)
+
+    request-good : ltb k routingClasses ≡ true → forwardShaped (lent (f .msgs)) F ≡ true → Good p ver (centreEntry C)
+    unfolding forwardRequest firstTakes apduShaped pduIn
+    request-good e sh =
+        let r = put-read pdu.Ground (is.Forward F) (f .msgs) (f .msgs) (f .msgs) (lent-first d) sh (d .lends (d .kept .calls) .first-full) in
+        let g = forward-value _ (r .value) _ _ (r .same) in
+        let b = bytes-are p ver d at-rest (v .number) (forwardRequest x k p) (lent (f .msgs)) (lent (f .msgs)) (lent (f .msgs)) (carriesForward F) request-taken (is.Forward F) sh refl in
+        a-forward k e (request-primitive e) (g .message) (ap (λ (z : List ℕ). apduAt pdu.Ground (lent z) 0) b ∙ r .read ∙ ap answer.Is (g .same)) (subst (λ (z : ℕ). z < 2 ^ 64) (sym (ap numberIn request-loads)) (v .low))
+
+    request-begun : ltb k routingClasses ≡ true → y < v .number → forwardShaped (lent (f .msgs)) F ≡ true → Begun (centreMachine p) (Away p ver) (Good p ver) d (after d C) (centreEntry C)
+    request-begun e lt sh =
+        let a = held-is p ver d at-rest in
+        let b = ap numberIn request-loads in
+        record {
+          start = ap (λ (i : Invoked). begins? (sortOf i)) (request-primitive e);
+          away = request-away;
+          good = request-good e sh;
+          number = refl;
+          above = omega arith;
+        }
+
+    request-starts : ltb k routingClasses ≡ true → y < v .number → forwardShaped (lent (f .msgs)) F ≡ true → Begins-it (does d C)
+    request-starts e lt sh =
+        taken-does Begins-it d C (number-taken p ver d at-rest (v .number) (forwardRequest x k p) (lent (f .msgs)) (lent (f .msgs)) (lent (f .msgs)) (carriesForward F) request-taken)
+        (subst (λ (i : Invoked). Begins-it (acts (after d C) (handedOf C) (putOn (centreEntry C) i))) (sym (request-primitive e)) (request-begun e lt sh))
+
+    request-step : ltb k routingClasses ≡ true → y < v .number → numberedStep Ground x y (ForwardRequested k p) (v .number) ≡ forwardRequest x k p
+    unfolding numberedStep refusalOf shapely isStale isStartEvent permitted messageRefusal clause
+    request-step e lt = rw (e, lt-ltb p securityValues valid, lt-ltb y (v .number) lt, idle)
+
+    asks-forward : Begins-it (does d (forwards p d v k f))
+    unfolding forwardCall forwardStep heldAfter isStartEvent
+    asks-forward =
+        subst (λ (c : Called). Begins-it (does d c))
+        (sym (at-record p ver d at-rest (forwardStep (d .kept .bytes) (lent-first d) (lent-second d) k p (v .number) (lent (f .msgs)) F)))
+        (shape (forwardShaped (lent (f .msgs)) F) refl)
+      where
+        E : O.Outcome → Called
+        E o = concluded (d .kept .bytes) (lent-first d) (lent-second d) Ground (v .number) o (lent (f .msgs)) (lent (f .msgs)) (lent (f .msgs)) (carriesForward F)
+
+        O′ : O.Outcome
+        O′ = numberedStep Ground x y (ForwardRequested k p) (v .number)
+
+        unmade : isNone (numberedStep Ground x y (ForwardRequested k p) (v .number) .refusal) ≡ false → Begins-it (does d (E O′))
+        unmade e = refused-call p ver d at-rest Begins-it (v .number) (numberedStep Ground x y (ForwardRequested k p) (v .number)) (lent (f .msgs)) (lent (f .msgs)) (lent (f .msgs)) (carriesForward F) e tt
+
+        number : forwardShaped (lent (f .msgs)) F ≡ true → ltb k routingClasses ≡ true → (b : Bool) → ltb y (v .number) ≡ b → Begins-it (does d (E O′))
+        number sh e true lt = subst (λ (o : O.Outcome). Begins-it (does d (E o))) (sym (request-step e (ltb-true y (v .number) lt))) (request-starts e (ltb-true y (v .number) lt) sh)
+        number sh e false lt = unmade (forward-stale p ver d at-rest k (v .number) lt)
+
+        class : forwardShaped (lent (f .msgs)) F ≡ true → (b : Bool) → ltb k routingClasses ≡ b → Begins-it (does d (E O′))
+        class sh true e = number sh e (ltb y (v .number)) refl
+        class sh false e = unmade (forward-unshaped p ver d at-rest k (v .number) e)
+
+        shape : (b : Bool) → forwardShaped (lent (f .msgs)) F ≡ b → Begins-it (does d (cond b (E O′) (calledWith 2 (d .kept .bytes) (lent-first d) (lent-second d))))
+        shape true sh = class sh (ltb k routingClasses) refl
+        shape false sh = tt
+
+  -- any other call: there is no start but a forward, and IDLE permits nothing else
+  data-refused : (P : Outcome Desk (Numbered Wire) → Type 0) (u : UserPrimitive) (ids msgs checks : List ℕ) (z : Data) → userStarts u ≡ false → P refused → P (does d (userCall (d .kept .bytes) (lent-first d) (lent-second d) (User u) 0 ids msgs checks z))
+  data-refused P u ids msgs checks z e t = user-refused p ver d at-rest P u 0 ids msgs checks z (ap (λ (c : Control). takes Ground c (callOf u)) (h .begins .idle) ∙ idle-takes u e) t
+
+  asks-other : (a : Asked) → Starts (centreMachine p) (Away p ver) (Good p ver) d (centreAsks p d (other-call a))
+  unfolding userStarts
+  asks-other (start-request v m k g) = tt
+  asks-other (start-response m z g) = data-refused (Starts (centreMachine p) (Away p ver) (Good p ver) d) (StartServiceResponse m z) (g .ids) (g .msgs) (g .checks) (givenData (length (g .ids)) (g .bits) (g .check)) refl tt
+  asks-other (message-request j g) = data-refused (Starts (centreMachine p) (Away p ver) (Good p ver) d) (messageRequested (g .bits) (j .number)) (g .ids) (g .msgs) (g .checks) (givenData (length (g .ids)) (g .bits) (g .check)) refl tt
+  asks-other (end-request m g) = data-refused (Starts (centreMachine p) (Away p ver) (Good p ver) d) (EndServiceRequest m) (g .ids) (g .msgs) (g .checks) (givenData (length (g .ids)) (g .bits) (g .check)) refl tt
+  asks-other (end-response m z g) = data-refused (Starts (centreMachine p) (Away p ver) (Good p ver) d) (EndServiceResponse m z) (g .ids) (g .msgs) (g .checks) (givenData (length (g .ids)) (g .bits) (g .check)) refl tt
+  asks-other (user-abort z) = data-refused (Starts (centreMachine p) (Away p ver) (Good p ver) d) (abortRequested z) [] [] [] noData refl tt
+
+  pub rest-asks : (a : CentreAsked) → Starts (centreMachine p) (Away p ver) (Good p ver) d (centreAsks p d a)
+  rest-asks (forward-request v k f) = asks-forward v k f
+  rest-asks (other-call a) = asks-other a
+
+  -- t-start does not run
+  pub rest-expires : Quiet (centreMachine p) (Rest p ver) d (does d (reports d TimerExpires))
+  unfolding permitted
+  rest-expires =
+      subst (λ (c : Called). Quiet (centreMachine p) (Rest p ver) d (does d c)) (sym (reported p ver d at-rest TimerExpires))
+      (refused-call p ver d at-rest (Quiet (centreMachine p) (Rest p ver) d) (heldAfter y TimerExpires 0) (numberedStep Ground x y TimerExpires 0) (lent []) (lent []) (lent []) (carriesData noData) (unpermitted p ver d at-rest TimerExpires 0 (h .begins .timer)) tt)
+
+  -- a system error gives no output
+  pub rest-errs : Quiet (centreMachine p) (Rest p ver) d (does d (reports d UnrecoverableSystemError))
+  unfolding heldAfter isStartEvent isStale isService closes invokedNumber
+  rest-errs =
+      subst (λ (c : Called). Quiet (centreMachine p) (Rest p ver) d (does d c)) (sym (reported p ver d at-rest UnrecoverableSystemError))
+      (subst (λ (o : O.Outcome). Quiet (centreMachine p) (Rest p ver) d (does d (E o))) (sym (no-number p ver d at-rest UnrecoverableSystemError refl ∙ error-idle Ground x idle)) silent)
+    where
+      E : O.Outcome → Called
+      E o = concluded (d .kept .bytes) (lent-first d) (lent-second d) Ground y o (lent []) (lent []) (lent []) (carriesData noData)
+
+      shut : Shut x (closes x Untold)
+      shut = closes-shut x Untold (keeps .coded)
+
+      prim : centreEntry (E (closes x Untold)) .it .primitive ≡ Silent
+      prim = ap (λ (i : ℕ). betweenCentres (versionPart (E (closes x Untold) .number)) (invokedOf i)) (invoked-is p ver d at-rest y (closes x Untold) (lent []) (lent []) (lent []) (carriesData noData) (shut .taken))
+
+      silent : Quiet (centreMachine p) (Rest p ver) d (does d (E (closes x Untold)))
+      silent =
+          taken-does (Quiet (centreMachine p) (Rest p ver) d) d (E (closes x Untold)) (number-taken p ver d at-rest y (closes x Untold) (lent []) (lent []) (lent []) (carriesData noData) (shut .taken))
+          (subst (λ (i : Invoked). Quiet (centreMachine p) (Rest p ver) d (acts (after d (E (closes x Untold))) (handedOf (E (closes x Untold))) (putOn (centreEntry (E (closes x Untold))) i))) (sym prim)
+          (shut-back p ver d at-rest (closes x Untold) (lent []) (lent []) (lent []) (carriesData noData) shut nothing refl))
+
+  -- ---- a forward arrives
+
+  -- it was answered by the result z, with t told to the user
+  module _ (w : Numbered Wire) (z : ℕ) (t : Told) (c : Carried) (zl : ltb z forwardResults ≡ true) (sh : apduShaped pdu.Ground (lent (w .it .bytes)) (lent (w .it .bytes)) (lent (w .it .bytes)) (is.ForwardResponse z) ≡ true) (quiet : versionNumber (DStartForwardResponse p noVersion) t ≡ noVersion) (low : w .no < 2 ^ 64) where
+    abbrev B : O.Outcome
+    B = responds x z p noVersion t
+
+    abbrev K : Called
+    K = concluded (d .kept .bytes) (lent-first d) (lent-second d) Ground (w .no) (responds x z p noVersion t) (lent (w .it .bytes)) (lent (w .it .bytes)) (lent (w .it .bytes)) c
+
+    reply-coded : Coded (responds x z p noVersion t .next)
+    unfolding responds enter
+    reply-coded = record { request = keeps .coded .request; policy = keeps .coded .policy; least = keeps .coded .least; most = keeps .coded .most; highest = keeps .coded .highest }
+
+    reply-taken : isNone (responds x z p noVersion t .refusal) ≡ true
+    unfolding responds
+    reply-taken = refl
+
+    reply-loads : loadAt (K .kept) ≡ Is Ground (responds x z p noVersion t .next) (w .no)
+    reply-loads = loads-next p ver d at-rest (w .no) B (lent (w .it .bytes)) (lent (w .it .bytes)) (lent (w .it .bytes)) c reply-taken reply-coded low
+
+    reply-rests : Rests p ver (K .kept)
+    unfolding responds enter
+    reply-rests = record { begins = record { held = responds x z p noVersion t .next; number = w .no; load = reply-loads; policy = h .begins .policy; idle = refl; timer = refl; user = refl }; version = h .version }
+
+    reply-primitive : centreEntry K .it .primitive ≡ DStartForwardResponse p noVersion
+    unfolding responds invokedNumber
+    reply-primitive =
+        let i = invoked-is p ver d at-rest (w .no) B (lent (w .it .bytes)) (lent (w .it .bytes)) (lent (w .it .bytes)) c reply-taken in
+        let v = version-is p ver d at-rest (w .no) B (lent (w .it .bytes)) (lent (w .it .bytes)) (lent (w .it .bytes)) c reply-taken (subst (λ (k : ℕ). k < versions) (sym quiet) (omega arith)) in
+        ap (λ (k : ℕ). betweenCentres (versionPart (K .number)) (invokedOf k)) i
+        ∙ ap (betweenCentres (versionPart (K .number))) (response-back p (omega (arith, valid)))
+        ∙ ap (DStartForwardResponse p) (v ∙ quiet)
+
+    reply-good : Good p ver (centreEntry K)
+    unfolding responds firstTakes pduIn
+    reply-good =
+        let r = put-read pdu.Ground (is.ForwardResponse z) (w .it .bytes) (w .it .bytes) (w .it .bytes) (lent-first d) sh (d .lends (d .kept .calls) .first-full) in
+        let b = bytes-are p ver d at-rest (w .no) B (lent (w .it .bytes)) (lent (w .it .bytes)) (lent (w .it .bytes)) c reply-taken (is.ForwardResponse z) sh refl in
+        a-response z zl reply-primitive (ap (λ (l : List ℕ). apduAt pdu.Ground (lent l) 0) b ∙ r .read ∙ ap answer.Is (response-value _ (r .value) z (r .same)))
+
+    replied : Answers (centreMachine p) (Rest p ver) (Good p ver) w (does d K)
+    replied =
+        taken-does (Answers (centreMachine p) (Rest p ver) (Good p ver) w) d K (number-taken p ver d at-rest (w .no) B (lent (w .it .bytes)) (lent (w .it .bytes)) (lent (w .it .bytes)) c reply-taken)
+        (subst (λ (i : Invoked). Answers (centreMachine p) (Rest p ver) (Good p ver) w (acts (after d K) (handedOf K) (putOn (centreEntry K) i))) (sym reply-primitive)
+        (record { rest = reply-rests; good = reply-good; plain = ap sortOf reply-primitive; number = ap numberIn reply-loads; holds = ap numberIn reply-loads }))
+
+  -- whether forwarding is supported or not
+  module _ (w : Numbered Wire) (k : ℕ) (kl : ltb k routingClasses ≡ true) (low : w .no < 2 ^ 64) (above : y < w .no) where
+    abbrev I : ServicePrimitive
+    I = DStartIndication facility p (qosAsked k) ver
+
+    not-stale : isStale y (Service I Forward) (w .no) ≡ false
+    unfolding isStale isStartEvent serviceStarts
+    not-stale = rw (lt-ltb y (w .no) above)
+
+    shaped : serviceShapely I ≡ true
+    unfolding serviceShapely
+    shaped = rw (lt-ltb p securityValues valid, lt-ltb ver versions (subst (λ (v : ℕ). v < versions) (h .version) (keeps .coded .most)))
+
+    right : qosFits (qosAsked k) ≡ true
+    unfolding qosFits
+    right = rw kl
+
+    fits : eqb p (x .policy) ≡ true
+    fits = eq-eqb p (x .policy) (sym (h .begins .policy))
+
+    same-version : eqb ver (x .version) ≡ true
+    same-version = eq-eqb ver (x .version) (sym (h .version))
+
+    forward-answered : (c : Carried) → Answers (centreMachine p) (Rest p ver) (Good p ver) w (does d (concluded (d .kept .bytes) (lent-first d) (lent-second d) Ground (w .no) (numberedStep Ground x y (Service I Forward) (w .no)) (lent (w .it .bytes)) (lent (w .it .bytes)) (lent (w .it .bytes)) c))
+    unfolding apduShaped
+    forward-answered c = subst (λ (o : O.Outcome). Answers (centreMachine p) (Rest p ver) (Good p ver) w (does d (E o))) (sym (then-step Ground x y (Service I Forward) (w .no) not-stale)) (go (x .forwards) refl)
+      where
+        E : O.Outcome → Called
+        E o = concluded (d .kept .bytes) (lent-first d) (lent-second d) Ground (w .no) o (lent (w .it .bytes)) (lent (w .it .bytes)) (lent (w .it .bytes)) c
+
+        go : (b : Bool) → x .forwards ≡ b → Answers (centreMachine p) (Rest p ver) (Good p ver) w (does d (E (step Ground x (Service I Forward))))
+        go true e = subst (λ (o : O.Outcome). Answers (centreMachine p) (Rest p ver) (Good p ver) w (does d (E o))) (sym (supported x p ver (qosAsked k) shaped idle right fits e same-version)) (replied w success ForwardIndication c refl refl refl low)
+        go false e = subst (λ (o : O.Outcome). Answers (centreMachine p) (Rest p ver) (Good p ver) w (does d (E o))) (sym (not-supported x p ver (qosAsked k) shaped idle right fits e)) (replied w serviceNotSupported Untold c refl refl refl low)
+
+  -- what is read
+  rest-reads : (k : ℕ) (l : List ℕ) (f : Forwarded) → apduAt pdu.Ground l 0 ≡ answer.Is (is.Forward f) → meaning (readPdu Ground (x .control) (DStartIndication facility p (qosAsked k) ver) l) ≡ Forward
+  unfolding readPdu readsAs readsAgain meaning
+  rest-reads k l f e = rw e
+
+  pub rest-answers : (w : Numbered Wire) → Good p ver w → isStart (centreMachine p .at) w ≡ true → y < w .no → Answers (centreMachine p) (Rest p ver) (Good p ver) w (does d (hears d (arrives Ground (w .it .primitive)) (w .no) 1 (w .it .bytes)))
+  unfolding heldAfter isStartEvent serviceStarts
+  rest-answers w (a-response z zl e r) st above = clash (sym st ∙ ap (λ (i : Invoked). begins? (sortOf i)) e)
+  rest-answers w (a-forward k kl e f r low) st above =
+      subst (λ (i : Invoked). Answers (centreMachine p) (Rest p ver) (Good p ver) w (does d (hears d (arrives Ground i) (w .no) 1 (w .it .bytes)))) (sym e)
+      (subst (λ (c : Called). Answers (centreMachine p) (Rest p ver) (Good p ver) w (does d c)) (sym (heard-data p ver d at-rest (DStartIndication facility p (qosAsked k) ver) (w .no) (w .it .bytes)))
+      (subst (λ (a : Apdu). Answers (centreMachine p) (Rest p ver) (Good p ver) w (does d (concluded (d .kept .bytes) (lent-first d) (lent-second d) Ground (w .no) (numberedStep Ground x y (Service (DStartIndication facility p (qosAsked k) ver) a) (w .no)) (lent (w .it .bytes)) (lent (w .it .bytes)) (lent (w .it .bytes)) (carriedBy (readPdu Ground (x .control) (DStartIndication facility p (qosAsked k) ver) (lent (w .it .bytes)))))))
+      (sym (rest-reads k (lent (w .it .bytes)) f r)) (forward-answered w k kl low above (carriedBy (readPdu Ground (x .control) (DStartIndication facility p (qosAsked k) ver) (lent (w .it .bytes)))))))
+
+  pub rest-stale : (w : Numbered Wire) → Good p ver w → isStart (centreMachine p .at) w ≡ true → w .no ≤ y → Refuses (centreMachine p) (does d (hears d (arrives Ground (w .it .primitive)) (w .no) 1 (w .it .bytes)))
+  rest-stale w (a-response z zl e r) st below = clash (sym st ∙ ap (λ (i : Invoked). begins? (sortOf i)) e)
+  rest-stale w (a-forward k kl e f r low) st below =
+      subst (λ (i : Invoked). Refuses (centreMachine p) (does d (hears d (arrives Ground i) (w .no) 1 (w .it .bytes)))) (sym e)
+      (heard-stale p ver d at-rest (DStartIndication facility p (qosAsked k) ver) (w .no) (w .it .bytes) (start-stale p ver d at-rest facility p (qosAsked k) ver (w .no) below))
+
+-- ---- away
+
+-- what the carrier makes in FORWARD
+turned-in-forward : (r : Record) → r .control ≡ entered FORWARD false → reached Ground r rejects Absent ≡ closes r (tell r (ProviderAbortIndication communicationServiceError))
+unfolding reached firstFault confirmationFault responseFault answeredBy answerOf
+turned-in-forward r c = rw c
+
+lost-in-forward : (r : Record) → r .control ≡ entered FORWARD false → reached Ground r DPAbortIndication Absent ≡ closes r (tell r (ProviderAbortIndication communicationServiceFailure))
+unfolding reached firstFault abortFault answeredBy instructed
+lost-in-forward r c = rw c
+
+module _ (p ver : ℕ) (d : Desk) (h : Away p ver d) where
+  abbrev rec : Record
+  rec = h .at .held
+
+  abbrev num : ℕ
+  num = h .at .number
+
+  busy : isIdle (h .at .held .control) ≡ false
+  busy = ap isIdle (h .control)
+
+  -- any user primitive but an abort
+  call-refused : (u : UserPrimitive) (ids msgs checks : List ℕ) (z : Data) → isUserAbort u ≡ false → Returns (centreMachine p) (Rest p ver) d (does d (userCall (d .kept .bytes) (lent-first d) (lent-second d) (User u) 0 ids msgs checks z))
+  call-refused u ids msgs checks z e =
+      user-refused p ver d (h .at) (Returns (centreMachine p) (Rest p ver) d) u 0 ids msgs checks z (ap (λ (c : Control). takes Ground c (callOf u)) (h .control) ∙ only-abort Ground false u e) tt
+
+  -- an abort
+  aborts-away : (g : Bool) (z : ℕ) → Returns (centreMachine p) (Rest p ver) d (does d (reports d (User (UserAbortServiceRequest g z))))
+  unfolding heldAfter isStartEvent userStarts isStale isService shapely userShapely
+  aborts-away g z =
+      subst (λ (c : Called). Returns (centreMachine p) (Rest p ver) d (does d c)) (sym (reported p ver d (h .at) (User (UserAbortServiceRequest g z))))
+      (shut-returns p ver d (h .at) (numberedStep Ground rec num (User (UserAbortServiceRequest g z)) 0) (lent []) (lent []) (lent []) (carriesData noData) (go (ltb z userReasons) refl))
+    where
+      go : (b : Bool) → ltb z userReasons ≡ b → isNone (numberedStep Ground rec num (User (UserAbortServiceRequest g z)) 0 .refusal) ≡ true → Shut rec (numberedStep Ground rec num (User (UserAbortServiceRequest g z)) 0)
+      go true e t = subst (Shut rec) (sym (no-number p ver d (h .at) (User (UserAbortServiceRequest g z)) refl ∙ user-aborts Ground rec g z e busy)) (abort-shut rec g z (h .at .coded))
+      go false e t = clash (sym t ∙ unshaped p ver d (h .at) (User (UserAbortServiceRequest g z)) 0 e)
+
+  away-other : (a : Asked) → Returns (centreMachine p) (Rest p ver) d (centreAsks p d (other-call a))
+  away-other (start-request v m k g) = tt
+  away-other (start-response m z g) = call-refused (StartServiceResponse m z) (g .ids) (g .msgs) (g .checks) (givenData (length (g .ids)) (g .bits) (g .check)) refl
+  away-other (message-request j g) = call-refused (messageRequested (g .bits) (j .number)) (g .ids) (g .msgs) (g .checks) (givenData (length (g .ids)) (g .bits) (g .check)) refl
+  away-other (end-request m g) = call-refused (EndServiceRequest m) (g .ids) (g .msgs) (g .checks) (givenData (length (g .ids)) (g .bits) (g .check)) refl
+  away-other (end-response m z g) = call-refused (EndServiceResponse m z) (g .ids) (g .msgs) (g .checks) (givenData (length (g .ids)) (g .bits) (g .check)) refl
+  away-other (user-abort z) = aborts-away (not (eqb z noCount)) (cond (eqb z noCount) 0 z)
+
+  -- a further forward
+  away-forward : (v : Word) (k : ℕ) (f : Passed) → Returns (centreMachine p) (Rest p ver) d (does d (forwards p d v k f))
+  unfolding forwardCall forwardStep permitted
+  away-forward v k f =
+      subst (λ (c : Called). Returns (centreMachine p) (Rest p ver) d (does d c))
+      (sym (at-record p ver d (h .at) (forwardStep (d .kept .bytes) (lent-first d) (lent-second d) k p (v .number) (lent (f .msgs)) (record { heading = f .heading; message = record { at = 0; count = f .bits } }))))
+      (go (forwardShaped (lent (f .msgs)) (record { heading = f .heading; message = record { at = 0; count = f .bits } })))
+    where
+      go : (b : Bool) → Returns (centreMachine p) (Rest p ver) d (does d (cond b (eventStep (d .kept .bytes) (lent-first d) (lent-second d) (ForwardRequested k p) (v .number) (lent (f .msgs)) (lent (f .msgs)) (lent (f .msgs)) (carriesForward (record { heading = f .heading; message = record { at = 0; count = f .bits } })) Ground rec num) (calledWith 2 (d .kept .bytes) (lent-first d) (lent-second d))))
+      go true =
+          refused-call p ver d (h .at) (Returns (centreMachine p) (Rest p ver) d) (heldAfter num (ForwardRequested k p) (v .number)) (numberedStep Ground rec num (ForwardRequested k p) (v .number)) (lent (f .msgs)) (lent (f .msgs)) (lent (f .msgs)) (carriesForward (record { heading = f .heading; message = record { at = 0; count = f .bits } }))
+          (unpermitted p ver d (h .at) (ForwardRequested k p) (v .number) busy) tt
+      go false = tt
+
+  pub away-asks : (a : CentreAsked) → Returns (centreMachine p) (Rest p ver) d (centreAsks p d a)
+  away-asks (forward-request v k f) = away-forward v k f
+  away-asks (other-call a) = away-other a
+
+  pub away-expires : Returns (centreMachine p) (Rest p ver) d (does d (reports d TimerExpires))
+  unfolding heldAfter isStartEvent isStale isService permitted
+  away-expires =
+      subst (λ (c : Called). Returns (centreMachine p) (Rest p ver) d (does d c)) (sym (reported p ver d (h .at) TimerExpires))
+      (shut-returns p ver d (h .at) (numberedStep Ground rec num TimerExpires 0) (lent []) (lent []) (lent []) (carriesData noData) (go (rec .timer) refl))
+    where
+      go : (b : Bool) → rec .timer ≡ b → isNone (numberedStep Ground rec num TimerExpires 0 .refusal) ≡ true → Shut rec (numberedStep Ground rec num TimerExpires 0)
+      go true e t = subst (Shut rec) (sym (no-number p ver d (h .at) TimerExpires refl ∙ expiry Ground rec e)) (aborts-shut rec _ _ (h .at .coded))
+      go false e t = clash (sym t ∙ unpermitted p ver d (h .at) TimerExpires 0 e)
+
+  error-busy : step Ground rec UnrecoverableSystemError ≡ aborts rec undefinedError (tell rec (ProviderAbortIndication undefinedError))
+  unfolding step S.refusalOf shapely permitted messageRefusal clause systemError excepts
+  error-busy = rw busy
+
+  pub away-errs : Returns (centreMachine p) (Rest p ver) d (does d (reports d UnrecoverableSystemError))
+  unfolding heldAfter isStartEvent isStale isService
+  away-errs =
+      subst (λ (c : Called). Returns (centreMachine p) (Rest p ver) d (does d c)) (sym (reported p ver d (h .at) UnrecoverableSystemError))
+      (shut-returns p ver d (h .at) (numberedStep Ground rec num UnrecoverableSystemError 0) (lent []) (lent []) (lent []) (carriesData noData) (λ t. subst (Shut rec) (sym (no-number p ver d (h .at) UnrecoverableSystemError refl ∙ error-busy)) (aborts-shut rec _ _ (h .at .coded))))
+
+  -- what the carrier makes
+  comes-bare : (a : ServicePrimitive) (o : O.Outcome) → shapely Ground (Service a Absent) ≡ true → serviceStarts a ≡ false → reached Ground rec a Absent ≡ o → Shut rec o → Comes (centreMachine p) (Rest p ver) d (does d (hears d a (heldBy (d .kept .bytes)) 0 []))
+  unfolding heldAfter isStartEvent
+  comes-bare a o sh st e s =
+      subst (λ (v : ℕ). Comes (centreMachine p) (Rest p ver) d (does d (hears d a v 0 []))) (sym (held-is p ver d (h .at)))
+      (subst (λ (c : Called). Comes (centreMachine p) (Rest p ver) d (does d c)) (sym (heard-bare p ver d (h .at) a num))
+      (subst (λ (z : O.Outcome). Comes (centreMachine p) (Rest p ver) d (does d (E (cond (serviceStarts a) num num) z))) (sym (own-number p ver d (h .at) a Absent sh st ∙ e))
+      (subst (λ (b : Bool). Comes (centreMachine p) (Rest p ver) d (does d (E (cond b num num) o))) (sym st) (shut-comes p ver d (h .at) o (lent []) (lent []) (lent []) (carriesData noData) s))))
+    where
+      E : ℕ → O.Outcome → Called
+      E m z = concluded (d .kept .bytes) (lent-first d) (lent-second d) Ground m z (lent []) (lent []) (lent []) (carriesData noData)
+
+  pub away-away : Comes (centreMachine p) (Rest p ver) d (does d (hears d rejects (heldBy (d .kept .bytes)) 0 []))
+  unfolding shapely serviceShapely readable serviceStarts
+  away-away = comes-bare rejects _ refl refl (turned-in-forward rec (h .control)) (closes-shut rec _ (h .at .coded))
+
+  pub away-p-abort : Comes (centreMachine p) (Rest p ver) d (does d (hears d DPAbortIndication (heldBy (d .kept .bytes)) 0 []))
+  unfolding shapely serviceShapely readable serviceStarts
+  away-p-abort = comes-bare DPAbortIndication _ refl refl (lost-in-forward rec (h .control)) (closes-shut rec _ (h .at .coded))
+
+  -- ---- the response
+
+  abbrev J : ServicePrimitive
+  J = DStartConfirmation permanent 0 p noVersion
+
+  away-reads : (z : ℕ) (l : List ℕ) → apduAt pdu.Ground l 0 ≡ answer.Is (is.ForwardResponse z) → meaning (readPdu Ground (rec .control) J l) ≡ ForwardResponse z
+  unfolding readPdu readsAs readsAgain meaning
+  away-reads z l e = rw (h .control, e)
+
+  response-confirmed : (z : ℕ) → ltb z forwardResults ≡ true → p < securityValues → numberedStep Ground rec num (Service J (ForwardResponse z)) num ≡ forwardConfirmed rec z noVersion
+  unfolding isStale isStartEvent isService serviceStarts
+  response-confirmed z zl pl =
+      then-step Ground rec num (Service J (ForwardResponse z)) num (rw (eq-eqb num num refl))
+      ∙ confirmed Ground rec false p noVersion z (h .control) (lt-ltb p securityValues pl) refl zl (eq-eqb p (rec .request) (sym (h .request)))
+
+  confirmed-shut : (z : ℕ) → Shut rec (forwardConfirmed rec z noVersion)
+  unfolding forwardConfirmed
+  confirmed-shut z =
+      let k = h .at .coded in
+      let s = closes-shut (withTimer rec false) (ForwardConfirmation z noVersion) (record { request = k .request; policy = k .policy; least = k .least; most = k .most; highest = k .highest }) in
+      record { taken = s .taken; control = s .control; timer = s .timer; user = s .user; policy = s .policy; version = s .version; coded = s .coded; calm = s .calm }
+
+  valid-away : p < securityValues
+  valid-away = subst (λ (v : ℕ). v < securityValues) (h .at .policy) (h .at .coded .policy)
+
+  pub away-takes : (w : Numbered Wire) → Good p ver w → isStart (centreMachine p .at) w ≡ false → w .no ≡ heldBy (d .kept .bytes) → Comes (centreMachine p) (Rest p ver) d (does d (hears d (arrives Ground (w .it .primitive)) (w .no) 1 (w .it .bytes)))
+  unfolding heldAfter isStartEvent serviceStarts
+  away-takes w (a-forward k kl e f r low) st m = clash (sym (ap (λ (i : Invoked). begins? (sortOf i)) e) ∙ st)
+  away-takes w (a-response z zl e r) st m =
+      subst (λ (i : Invoked). Comes (centreMachine p) (Rest p ver) d (does d (hears d (arrives Ground i) (w .no) 1 (w .it .bytes)))) (sym e)
+      (subst (λ (v : ℕ). Comes (centreMachine p) (Rest p ver) d (does d (hears d J v 1 (w .it .bytes)))) (sym (m ∙ held-is p ver d (h .at)))
+      (subst (λ (c : Called). Comes (centreMachine p) (Rest p ver) d (does d c)) (sym (heard-data p ver d (h .at) J num (w .it .bytes)))
+      (subst (λ (a : Apdu). Comes (centreMachine p) (Rest p ver) d (does d (E (numberedStep Ground rec num (Service J a) num)))) (sym (away-reads z (lent (w .it .bytes)) r))
+      (subst (λ (o : O.Outcome). Comes (centreMachine p) (Rest p ver) d (does d (E o))) (sym (response-confirmed z zl valid-away))
+      (shut-comes p ver d (h .at) (forwardConfirmed rec z noVersion) (lent (w .it .bytes)) (lent (w .it .bytes)) (lent (w .it .bytes)) (carriedBy (readPdu Ground (rec .control) J (lent (w .it .bytes)))) (confirmed-shut z))))))
+    where
+      E : O.Outcome → Called
+      E o = concluded (d .kept .bytes) (lent-first d) (lent-second d) Ground num o (lent (w .it .bytes)) (lent (w .it .bytes)) (lent (w .it .bytes)) (carriedBy (readPdu Ground (rec .control) J (lent (w .it .bytes))))
+
+  pub away-stale : (w : Numbered Wire) → Good p ver w → isStart (centreMachine p .at) w ≡ false → (w .no ≡ heldBy (d .kept .bytes) → ⊥) → Refuses (centreMachine p) (does d (hears d (arrives Ground (w .it .primitive)) (w .no) 1 (w .it .bytes)))
+  away-stale w (a-forward k kl e f r low) st m = clash (sym (ap (λ (i : Invoked). begins? (sortOf i)) e) ∙ st)
+  away-stale w (a-response z zl e r) st m =
+      subst (λ (i : Invoked). Refuses (centreMachine p) (does d (hears d (arrives Ground i) (w .no) 1 (w .it .bytes)))) (sym e)
+      (heard-stale p ver d (h .at) J (w .no) (w .it .bytes) (other-stale p ver d (h .at) permanent 0 p noVersion (w .no) (λ (q : w .no ≡ num). m (q ∙ sym (held-is p ver d (h .at))))))
+
+-- ---- so they are a machine as pair asks for
+
+abbrev pub centre : (p ver : ℕ) → Centre (centreMachine p)
+centre p ver = record {
+  Rest = Rest p ver;
+  Away = Away p ver;
+  Good = Good p ver;
+  rest-idle = λ (d : Desk) (h : Rests p ver (d .kept .bytes)). ap (λ (l : Loaded). isIdle (controlIn l)) (h .begins .load) ∙ ap isIdle (h .begins .idle);
+  rest-waits = λ (d : Desk) (h : Rests p ver (d .kept .bytes)). ap (λ (l : Loaded). waits (controlIn l .state)) (h .begins .load) ∙ ap (λ (c : Control). waits (c .state)) (h .begins .idle);
+  away-idle = λ (d : Desk) (h : Away p ver d). ap (λ (l : Loaded). isIdle (controlIn l)) (h .at .load) ∙ ap isIdle (h .control);
+  call-rest = λ (d : Desk) (a : CentreAsked) (h : Rests p ver (d .kept .bytes)). rest-asks p ver d h a;
+  call-away = λ (d : Desk) (a : CentreAsked) (h : Away p ver d). away-asks p ver d h a;
+  start-answered = λ (d : Desk) (w : Numbered Wire) (h : Rests p ver (d .kept .bytes)) (g : Good p ver w) (s : isStart (centreMachine p .at) w ≡ true) (b : heldBy (d .kept .bytes) < w .no). rest-answers p ver d h w g s (let e = ap numberIn (h .begins .load) in omega arith);
+  start-stale = λ (d : Desk) (w : Numbered Wire) (h : Rests p ver (d .kept .bytes)) (g : Good p ver w) (s : isStart (centreMachine p .at) w ≡ true) (b : w .no ≤ heldBy (d .kept .bytes)). rest-stale p ver d h w g s (let e = ap numberIn (h .begins .load) in omega arith);
+  answer-taken = λ (d : Desk) (w : Numbered Wire) (h : Away p ver d) (g : Good p ver w) (s : isStart (centreMachine p .at) w ≡ false) (m : w .no ≡ heldBy (d .kept .bytes)). away-takes p ver d h w g s m;
+  answer-stale = λ (d : Desk) (w : Numbered Wire) (h : Away p ver d) (g : Good p ver w) (s : isStart (centreMachine p .at) w ≡ false) (m : w .no ≡ heldBy (d .kept .bytes) → ⊥). away-stale p ver d h w g s m;
+  expiry-rest = λ (d : Desk) (h : Rests p ver (d .kept .bytes)). rest-expires p ver d h;
+  expiry-away = λ (d : Desk) (h : Away p ver d). away-expires p ver d h;
+  error-rest = λ (d : Desk) (h : Rests p ver (d .kept .bytes)). rest-errs p ver d h;
+  error-away = λ (d : Desk) (h : Away p ver d). away-errs p ver d h;
+  away-away = λ (d : Desk) (h : Away p ver d). away-away p ver d h;
+  p-abort-away = λ (d : Desk) (h : Away p ver d). away-p-abort p ver d h;
+}

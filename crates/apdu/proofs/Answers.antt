@@ -26,8 +26,8 @@ use Rattle.apdu.specs.declared.Taken.{Taken}
 use Rattle.apdu.specs.declared.Taken.the-variants as taken
 use Rattle.apdu.specs.declared.Lead.{Lead}
 use Rattle.apdu.specs.declared.Lead.the-variants as lead
-use Rattle.apdu.specs.declared.Answer.{Answer}
-use Rattle.apdu.specs.declared.Answer.the-variants as answer
+use Rattle.apdu.specs.declared.Decoded.{Decoded}
+use Rattle.apdu.specs.declared.Decoded.the-variants as decoded
 
 -- ---- after a field, message data, leading fields
 
@@ -37,16 +37,16 @@ handed up f g r x k p q h = ap up (h ∙ ap fieldRefusal q) ∙ ap (λ (y : Fiel
 pub went : {A : Type 0} (up : Refusal → A) (f g : Field) (o : A) (v n : ℕ) (k : ℕ → ℕ → A) → f ≡ g → f ≡ Value v n → o ≡ k v n → o ≡ onField up g k
 went up f g o v n k p q h = h ∙ ap (λ (y : Field). onField up y k) (sym q ∙ p)
 
-pub data-handed : (t u : Taken) (r x : Refusal) (k : Data → ℕ → Answer) → t ≡ u → t ≡ taken.Refused r → x ≡ takenRefusal t → answer.Refused x ≡ onData u k
-data-handed t u r x k p q h = ap answer.Refused (h ∙ ap takenRefusal q) ∙ ap (λ (y : Taken). onData y k) (sym q ∙ p)
+pub data-handed : (t u : Taken) (r x : Refusal) (k : Data → ℕ → Decoded) → t ≡ u → t ≡ taken.Refused r → x ≡ takenRefusal t → decoded.Refused x ≡ onData u k
+data-handed t u r x k p q h = ap decoded.Refused (h ∙ ap takenRefusal q) ∙ ap (λ (y : Taken). onData y k) (sym q ∙ p)
 
-pub data-went : (t u : Taken) (o : Answer) (d : Data) (n : ℕ) (k : Data → ℕ → Answer) → t ≡ u → t ≡ taken.Is d n → o ≡ k d n → o ≡ onData u k
+pub data-went : (t u : Taken) (o : Decoded) (d : Data) (n : ℕ) (k : Data → ℕ → Decoded) → t ≡ u → t ≡ taken.Is d n → o ≡ k d n → o ≡ onData u k
 data-went t u o d n k p q h = h ∙ ap (λ (y : Taken). onData y k) (sym q ∙ p)
 
-pub lead-handed : (t u : Lead) (r x : Refusal) (k : Kind → ℕ → ℕ → Answer) → t ≡ u → t ≡ lead.Refused r → x ≡ leadRefusal t → answer.Refused x ≡ onLead u k
-lead-handed t u r x k p q h = ap answer.Refused (h ∙ ap leadRefusal q) ∙ ap (λ (y : Lead). onLead y k) (sym q ∙ p)
+pub lead-handed : (t u : Lead) (r x : Refusal) (k : Kind → ℕ → ℕ → Decoded) → t ≡ u → t ≡ lead.Refused r → x ≡ leadRefusal t → decoded.Refused x ≡ onLead u k
+lead-handed t u r x k p q h = ap decoded.Refused (h ∙ ap leadRefusal q) ∙ ap (λ (y : Lead). onLead y k) (sym q ∙ p)
 
-pub lead-went : (t u : Lead) (o : Answer) (c : Kind) (m n : ℕ) (k : Kind → ℕ → ℕ → Answer) → t ≡ u → t ≡ lead.Is c m n → o ≡ k c m n → o ≡ onLead u k
+pub lead-went : (t u : Lead) (o : Decoded) (c : Kind) (m n : ℕ) (k : Kind → ℕ → ℕ → Decoded) → t ≡ u → t ≡ lead.Is c m n → o ≡ k c m n → o ≡ onLead u k
 lead-went t u o c m n k p q h = h ∙ ap (λ (y : Lead). onLead y k) (sym q ∙ p)
 
 -- ---- a tag that is none of the first five

@@ -20,10 +20,10 @@ use Rattle.fields.proofs.Writers.{length-index, length-whole, width-short, widt
 use Rattle.apdu.specs.Sizes.{identifierLeast, identifierMost, messageMost, checkMost, userLast, providerLast, modeLast, octet, bit}
 use Rattle.apdu.specs.Headings.{responseLast, headingBits, headingFits}
 use Rattle.apdu.specs.Pdus.{Optional, absent, given, Content, Pdu, abortUser, abortProvider, start, send, forward, forwardResponse, lastOf, forwards, itemsIn, partIn, contentIn, pduIn}
-use Rattle.apdu.specs.Encoding.{stringBits, stringFits, optionalBits, optionalFits, contentBits, contentFits, forwardBits, forwardFits, modeBits, modeFits, pduBits, pduFits}
-use Rattle.apdu.specs.Writing.{itemsShaped, partShaped, dataShaped, forwardShaped, apduShaped}
-use Rattle.apdu.specs.declared.Side.{Side}
-use Rattle.apdu.specs.declared.Side.the-variants.{Air, Ground}
+use Rattle.apdu.specs.Encoding.{stringBits, stringFits, optionalBits, optionalFits, contentBits, contentFits, forwardBits, forwardPduFits, modeBits, modeFits, pduBits, pduFits}
+use Rattle.apdu.specs.Writing.{itemsFit, partFits, dataFits, forwardFits, apduFits}
+use Rattle.apdu.specs.declared.PduType.{PduType}
+use Rattle.apdu.specs.declared.PduType.the-variants.{AircraftPdus, GroundPdus}
 use Rattle.apdu.specs.declared.Span.{Span}
 use Rattle.apdu.specs.declared.Part.{Part}
 use Rattle.apdu.specs.declared.Part.the-variants.{Absent, Given}
@@ -56,21 +56,21 @@ counted least most n h =
 
 -- ---- items that stand in bits
 
-pub record Shaped (l : List ℕ) (unit least most : ℕ) (x : Span) : Type 0 where
+pub record ItemsFit (l : List ℕ) (unit least most : ℕ) (x : Span) : Type 0 where
   pub fits : withinFits least most (x .count) ≡ true
   pub held : x .at + unit * x .count ≤ length l
 
-pub is-shaped : (l : List ℕ) (unit least most : ℕ) (x : Span) → itemsShaped l unit least most x ≡ true → Shaped l unit least most x
-unfolding itemsShaped
-is-shaped l unit least most x h =
+pub items-fits : (l : List ℕ) (unit least most : ℕ) (x : Span) → itemsFit l unit least most x ≡ true → ItemsFit l unit least most x
+unfolding itemsFit
+items-fits l unit least most x h =
     record {
       fits = both-left (withinFits least most (x .count)) (leb (x .at + unit * x .count) (length l)) h;
       held = leb-true _ _ (both-right (withinFits least most (x .count)) (leb (x .at + unit * x .count) (length l)) h);
     }
 
-pub shaped-is : (l : List ℕ) (unit least most : ℕ) (x : Span) → Shaped l unit least most x → itemsShaped l unit least most x ≡ true
-unfolding itemsShaped
-shaped-is l unit least most x s = rw (s .fits, le-leb _ _ (s .held))
+pub fits-items : (l : List ℕ) (unit least most : ℕ) (x : Span) → ItemsFit l unit least most x → itemsFit l unit least most x ≡ true
+unfolding itemsFit
+fits-items l unit least most x s = rw (s .fits, le-leb _ _ (s .held))
 
 pub length-items : (l : List ℕ) (unit : ℕ) (x : Span) → x .at + unit * x .count ≤ length l → length (itemsIn l unit x) ≡ unit * x .count
 length-items l unit x h = length-part l (x .at) (unit * x .count) h
@@ -82,53 +82,53 @@ pub string-is : (l : List ℕ) (unit : ℕ) (x : Span) → 0 < unit → x .at + 
 unfolding stringBits
 string-is l unit x pos h = ap (λ (n : ℕ). lengthBits n ++ itemsIn l unit x) (items-count l unit x pos h)
 
-pub items-fit : (l : List ℕ) (unit least most : ℕ) (x : Span) → 0 < unit → Shaped l unit least most x → stringFits unit least most (itemsIn l unit x) ≡ true
-items-fit l unit least most x pos s =
+pub items-value-fits : (l : List ℕ) (unit least most : ℕ) (x : Span) → 0 < unit → ItemsFit l unit least most x → stringFits unit least most (itemsIn l unit x) ≡ true
+items-value-fits l unit least most x pos s =
     rw (items-count l unit x pos (s .held), length-items l unit x (s .held), eq-eqb (unit * x .count) (unit * x .count) refl) (s .fits)
 
-pub part-fit : (l : List ℕ) (unit least most : ℕ) (p : Part) → 0 < unit → partShaped l unit least most p ≡ true → optionalFits unit least most (partIn l unit p) ≡ true
-unfolding partShaped optionalFits partIn
-part-fit l unit least most Absent pos h = refl
-part-fit l unit least most (Given x) pos h = items-fit l unit least most x pos (is-shaped l unit least most x h)
+pub part-value-fits : (l : List ℕ) (unit least most : ℕ) (p : Part) → 0 < unit → partFits l unit least most p ≡ true → optionalFits unit least most (partIn l unit p) ≡ true
+unfolding partFits optionalFits partIn
+part-value-fits l unit least most Absent pos h = refl
+part-value-fits l unit least most (Given x) pos h = items-value-fits l unit least most x pos (items-fits l unit least most x h)
 
 -- ---- message data
 
-pub record DataShaped (li lm lc : List ℕ) (d : Data) : Type 0 where
-  pub identifier : partShaped li octet identifierLeast identifierMost (d .identifier) ≡ true
-  pub message : partShaped lm bit 0 messageMost (d .message) ≡ true
-  pub check : itemsShaped lc bit 0 checkMost (d .check) ≡ true
+pub record DataFits (li lm lc : List ℕ) (d : Data) : Type 0 where
+  pub identifier : partFits li octet identifierLeast identifierMost (d .identifier) ≡ true
+  pub message : partFits lm bit 0 messageMost (d .message) ≡ true
+  pub check : itemsFit lc bit 0 checkMost (d .check) ≡ true
 
-pub data-shaped : (li lm lc : List ℕ) (d : Data) → dataShaped li lm lc d ≡ true → DataShaped li lm lc d
-unfolding dataShaped
-data-shaped li lm lc d h =
-    let i : Bool = partShaped li octet identifierLeast identifierMost (d .identifier) in
-    let m : Bool = partShaped lm bit 0 messageMost (d .message) in
-    let a = both-left (i && m) (itemsShaped lc bit 0 checkMost (d .check)) h in
-    record { identifier = both-left i m a; message = both-right i m a; check = both-right (i && m) (itemsShaped lc bit 0 checkMost (d .check)) h }
+pub data-fits : (li lm lc : List ℕ) (d : Data) → dataFits li lm lc d ≡ true → DataFits li lm lc d
+unfolding dataFits
+data-fits li lm lc d h =
+    let i : Bool = partFits li octet identifierLeast identifierMost (d .identifier) in
+    let m : Bool = partFits lm bit 0 messageMost (d .message) in
+    let a = both-left (i && m) (itemsFit lc bit 0 checkMost (d .check)) h in
+    record { identifier = both-left i m a; message = both-right i m a; check = both-right (i && m) (itemsFit lc bit 0 checkMost (d .check)) h }
 
-pub data-fit : (li lm lc : List ℕ) (d : Data) → dataShaped li lm lc d ≡ true → contentFits (contentIn li lm lc d) ≡ true
+pub data-value-fits : (li lm lc : List ℕ) (d : Data) → dataFits li lm lc d ≡ true → contentFits (contentIn li lm lc d) ≡ true
 unfolding contentFits contentIn
-data-fit li lm lc d h =
-    let s = data-shaped li lm lc d h in
-    rw (part-fit li octet identifierLeast identifierMost (d .identifier) (omega arith) (s .identifier), part-fit lm bit 0 messageMost (d .message) (omega arith) (s .message))
-    (items-fit lc bit 0 checkMost (d .check) (omega arith) (is-shaped lc bit 0 checkMost (d .check) (s .check)))
+data-value-fits li lm lc d h =
+    let s = data-fits li lm lc d h in
+    rw (part-value-fits li octet identifierLeast identifierMost (d .identifier) (omega arith) (s .identifier), part-value-fits lm bit 0 messageMost (d .message) (omega arith) (s .message))
+    (items-value-fits lc bit 0 checkMost (d .check) (omega arith) (items-fits lc bit 0 checkMost (d .check) (s .check)))
 
 -- a forward message
 
-pub forward-fit : (lm : List ℕ) (f : Forward) → forwardShaped lm f ≡ true → forwardFits (f .heading) (itemsIn lm bit (f .message)) ≡ true
-unfolding forwardShaped forwardFits
-forward-fit lm f e =
-    rw (both-left (headingFits (f .heading)) (itemsShaped lm bit 0 messageMost (f .message)) e)
-    (items-fit lm bit 0 messageMost (f .message) (omega arith) (is-shaped lm bit 0 messageMost (f .message) (both-right (headingFits (f .heading)) (itemsShaped lm bit 0 messageMost (f .message)) e)))
+pub forward-value-fits : (lm : List ℕ) (f : Forward) → forwardFits lm f ≡ true → forwardPduFits (f .heading) (itemsIn lm bit (f .message)) ≡ true
+unfolding forwardFits forwardPduFits
+forward-value-fits lm f e =
+    rw (both-left (headingFits (f .heading)) (itemsFit lm bit 0 messageMost (f .message)) e)
+    (items-value-fits lm bit 0 messageMost (f .message) (omega arith) (items-fits lm bit 0 messageMost (f .message) (both-right (headingFits (f .heading)) (itemsFit lm bit 0 messageMost (f .message)) e)))
 
-pub apdu-fit : (side : Side) (li lm lc : List ℕ) (a : Apdu) → apduShaped side li lm lc a ≡ true → pduFits side (pduIn li lm lc a) ≡ true
-unfolding apduShaped pduFits pduIn
-apdu-fit side li lm lc (apdu.AbortUser r) h = h
-apdu-fit side li lm lc (apdu.AbortProvider r) h = h
-apdu-fit side li lm lc (apdu.Start m d) h = rw (both-left (modeFits side m) (dataShaped li lm lc d) h) (data-fit li lm lc d (both-right (modeFits side m) (dataShaped li lm lc d) h))
-apdu-fit side li lm lc (apdu.Send d) h = data-fit li lm lc d h
-apdu-fit side li lm lc (apdu.Forward f) h = rw (both-left (forwards side) (forwardShaped lm f) h) (forward-fit lm f (both-right (forwards side) (forwardShaped lm f) h))
-apdu-fit side li lm lc (apdu.ForwardResponse x) h = h
+pub apdu-value-fits : (pdus : PduType) (li lm lc : List ℕ) (a : Apdu) → apduFits pdus li lm lc a ≡ true → pduFits pdus (pduIn li lm lc a) ≡ true
+unfolding apduFits pduFits pduIn
+apdu-value-fits pdus li lm lc (apdu.AbortUser r) h = h
+apdu-value-fits pdus li lm lc (apdu.AbortProvider r) h = h
+apdu-value-fits pdus li lm lc (apdu.Start m d) h = rw (both-left (modeFits pdus m) (dataFits li lm lc d) h) (data-value-fits li lm lc d (both-right (modeFits pdus m) (dataFits li lm lc d) h))
+apdu-value-fits pdus li lm lc (apdu.Send d) h = data-value-fits li lm lc d h
+apdu-value-fits pdus li lm lc (apdu.Forward f) h = rw (both-left (forwards pdus) (forwardFits lm f) h) (forward-value-fits lm f (both-right (forwards pdus) (forwardFits lm f) h))
+apdu-value-fits pdus li lm lc (apdu.ForwardResponse x) h = h
 
 -- ---- sizes
 
@@ -186,8 +186,8 @@ content-most c h =
 abbrev pub forwardMost : ℕ
 forwardMost = headingMost + (16 + bit * messageMost)
 
-pub forward-most : (h : Heading) (m : List ℕ) → forwardFits h m ≡ true → length (forwardBits h m) ≤ forwardMost
-unfolding forwardFits forwardBits
+pub forward-most : (h : Heading) (m : List ℕ) → forwardPduFits h m ≡ true → length (forwardBits h m) ≤ forwardMost
+unfolding forwardPduFits forwardBits
 forward-most h m e =
     let x = heading-most h (both-left (headingFits h) (stringFits bit 0 messageMost m) e) in
     let y = string-most bit 0 messageMost m (both-right (headingFits h) (stringFits bit 0 messageMost m) e) in
@@ -199,16 +199,16 @@ abbrev pub pduMost : ℕ
 pduMost = 5 + contentMost
 
 -- the bits of the alternative
-pub width : Side → ℕ
-width Air = 3
-width Ground = 4
+pub width : PduType → ℕ
+width AircraftPdus = 3
+width GroundPdus = 4
 
-pub length-alternative : (side : Side) (i : ℕ) → length (indexBits (lastOf side) i) ≡ width side
+pub length-alternative : (pdus : PduType) (i : ℕ) → length (indexBits (lastOf pdus) i) ≡ width pdus
 unfolding digitsIn width
-length-alternative Air i = length-index 3 i
-length-alternative Ground i = length-index 5 i
+length-alternative AircraftPdus i = length-index 3 i
+length-alternative GroundPdus i = length-index 5 i
 
-mode-most : (m : ℕ) → length (modeBits Air m) ≤ 2
+mode-most : (m : ℕ) → length (modeBits AircraftPdus m) ≤ 2
 unfolding modeBits digitsIn
 mode-most m = go (eqb m 0)
   where
@@ -216,30 +216,30 @@ mode-most m = go (eqb m 0)
     go true = rw (length-bitsN 1 0) (omega arith)
     go false = rw (length-append, length-bitsN, length-whole) (omega arith)
 
-lead-most : (side : Side) (m : ℕ) → width side + length (modeBits side m) ≤ 5
+lead-most : (pdus : PduType) (m : ℕ) → width pdus + length (modeBits pdus m) ≤ 5
 unfolding width modeBits
-lead-most Air m = omega (arith, mode-most m)
-lead-most Ground m = omega arith
+lead-most AircraftPdus m = omega (arith, mode-most m)
+lead-most GroundPdus m = omega arith
 
-width-most : (side : Side) → width side ≤ 4
+width-most : (pdus : PduType) → width pdus ≤ 4
 unfolding width
-width-most Air = omega arith
-width-most Ground = omega arith
+width-most AircraftPdus = omega arith
+width-most GroundPdus = omega arith
 
 reason-most : (last r : ℕ) → widthOf last ≤ 4 → length (indexBits last r) ≤ 5
 reason-most last r h = rw (length-index last r) (omega arith)
 
-pub pdu-most : (side : Side) (v : Pdu) → pduFits side v ≡ true → length (pduBits side v) ≤ pduMost
+pub pdu-most : (pdus : PduType) (v : Pdu) → pduFits pdus v ≡ true → length (pduBits pdus v) ≤ pduMost
 unfolding pduFits pduBits digitsIn
-pdu-most side (abortUser r) h = rw (length-append, length-alternative) (omega (arith, width-most side, reason-most userLast r (omega arith)))
-pdu-most side (abortProvider r) h = rw (length-append, length-alternative) (omega (arith, width-most side, reason-most providerLast r (omega arith)))
-pdu-most side (start m c) h =
-    let k = content-most c (both-right (modeFits side m) (contentFits c) h) in
-    rw (length-append, length-alternative, length-append) (omega (arith, lead-most side m))
-pdu-most side (send c) h =
+pdu-most pdus (abortUser r) h = rw (length-append, length-alternative) (omega (arith, width-most pdus, reason-most userLast r (omega arith)))
+pdu-most pdus (abortProvider r) h = rw (length-append, length-alternative) (omega (arith, width-most pdus, reason-most providerLast r (omega arith)))
+pdu-most pdus (start m c) h =
+    let k = content-most c (both-right (modeFits pdus m) (contentFits c) h) in
+    rw (length-append, length-alternative, length-append) (omega (arith, lead-most pdus m))
+pdu-most pdus (send c) h =
     let k = content-most c h in
-    rw (length-append, length-alternative) (omega (arith, width-most side))
-pdu-most side (forward x m) h =
-    let k = forward-most x m (both-right (forwards side) (forwardFits x m) h) in
-    rw (length-append, length-alternative) (omega (arith, width-most side))
-pdu-most side (forwardResponse x) h = rw (length-append, length-alternative) (omega (arith, width-most side, reason-most responseLast x (omega arith)))
+    rw (length-append, length-alternative) (omega (arith, width-most pdus))
+pdu-most pdus (forward x m) h =
+    let k = forward-most x m (both-right (forwards pdus) (forwardPduFits x m) h) in
+    rw (length-append, length-alternative) (omega (arith, width-most pdus))
+pdu-most pdus (forwardResponse x) h = rw (length-append, length-alternative) (omega (arith, width-most pdus, reason-most responseLast x (omega arith)))

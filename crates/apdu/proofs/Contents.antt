@@ -24,13 +24,13 @@ use Rattle.apdu.specs.Pdus.{Optional, absent, given, Content, itemsIn, p
 use Rattle.apdu.specs.Encoding.{stringBits, stringFits, optionalBits, optionalFits, presence, rootBits, contentBits, contentFits}
 use Rattle.apdu.specs.Reading.{onField, onTaken, spanTo, partAt, optionalAt, partsWithin, partsAt, withAdditions, dataWithin, dataAt}
 use Rattle.apdu.specs.Stripped.{rootEnd}
-use Rattle.apdu.specs.Writing.{itemsShaped, partShaped, dataShaped}
+use Rattle.apdu.specs.Writing.{itemsFit, partFits, dataFits}
 use Rattle.apdu.specs.declared.Part.{Part}
 use Rattle.apdu.specs.declared.Data.{Data}
 use Rattle.apdu.specs.declared.Taken.{Taken}
 use Rattle.apdu.specs.declared.Taken.the-variants as taken
 use Rattle.apdu.proofs.Answers.{string-room}
-use Rattle.apdu.proofs.Bounds.{never, shaped-is, string-is}
+use Rattle.apdu.proofs.Bounds.{never, fits-items, string-is}
 
 -- bits that stand at a place, at another name for the place after them
 pub stands-at : (l : List ℕ) (at next m : ℕ) (bs : List ℕ) → next ≡ m → Stands l at bs next → Stands l at bs m
@@ -82,12 +82,12 @@ optional-written l at next unit least most (given items) h s =
 
 -- what was read says that it has shape, and that its bits stand there
 record OptionalIs (l : List ℕ) (at next unit least most : ℕ) (there : Bool) (p : Part) : Type 0 where
-  shaped : partShaped l unit least most p ≡ true
+  placed-fits : partFits l unit least most p ≡ true
   stands : Stands l at (optionalBits unit (partIn l unit p)) next
   bit : presence (partIn l unit p) ≡ cond there 1 0
 
 pub record ItemsIs (l : List ℕ) (at next unit least most n : ℕ) : Type 0 where
-  pub shaped : itemsShaped l unit least most (spanTo unit n next) ≡ true
+  pub placed-fits : itemsFit l unit least most (spanTo unit n next) ≡ true
   pub stands : Stands l at (stringBits unit (itemsIn l unit (spanTo unit n next))) next
 
 pub items-read : (l : List ℕ) (at next unit least most n : ℕ) → Bits l → 0 < unit → stringAt l at unit least most ≡ Value n next → ItemsIs l at next unit least most n
@@ -100,16 +100,16 @@ items-read l at next unit least most n b pos e =
     let a : next - unit * n ≡ at + length (lengthBits n) = omega arith in
     let h : next - unit * n + unit * n ≤ length l = omega arith in
     let q : stringBits unit (itemsIn l unit (spanTo unit n next)) ≡ lengthBits n ++ take (unit * n) (drop (at + length (lengthBits n)) l) = string-is l unit (spanTo unit n next) pos h ∙ rw a in
-    record { shaped = shaped-is l unit least most (spanTo unit n next) (record { fits = i .count; held = h }); stands = rw q s }
+    record { placed-fits = fits-items l unit least most (spanTo unit n next) (record { fits = i .count; held = h }); stands = rw q s }
 
 optional-read : (l : List ℕ) (at next unit least most n : ℕ) (t : Bool) → Bits l → 0 < unit → at ≤ length l → optionalAt l t at unit least most ≡ Value n next → OptionalIs l at next unit least most t (partAt t unit n next)
-unfolding optionalAt partAt partIn optionalBits partShaped
+unfolding optionalAt partAt partIn optionalBits partFits
 optional-read l at next unit least most n true b pos h e =
     let i = items-read l at next unit least most n b pos e in
-    record { shaped = i .shaped; stands = i .stands; bit = refl }
+    record { placed-fits = i .placed-fits; stands = i .stands; bit = refl }
 optional-read l at next unit least most n false b pos h e =
     let p : at ≡ next = cc in
-    record { shaped = refl; stands = stands-at l at at next [] p (stands-none l at h); bit = refl }
+    record { placed-fits = refl; stands = stands-at l at at next [] p (stands-none l at h); bit = refl }
 
 -- ---- message data
 
@@ -183,14 +183,14 @@ two-bits (suc (suc (suc zero))) h = refl
 two-bits (suc (suc (suc (suc v)))) h = absurd (omega arith)
 
 record PartsIs (l : List ℕ) (at next : ℕ) (i m : Bool) (d : Data) : Type 0 where
-  shaped : dataShaped l l l d ≡ true
+  placed-fits : dataFits l l l d ≡ true
   stands : Stands l at (optionalBits octet (partIn l octet (d .identifier)) ++ (optionalBits bit (partIn l bit (d .message)) ++ stringBits bit (itemsIn l bit (d .check)))) next
   bits : 2 * presence (partIn l octet (d .identifier)) + presence (partIn l bit (d .message)) ≡ 2 * cond i 1 0 + cond m 1 0
   end : rootEnd d ≡ next
 
 parts-made : (l : List ℕ) (at p q next n₁ n₂ n₃ : ℕ) (i m : Bool) → Bits l → at ≤ length l → optionalAt l i at octet identifierLeast identifierMost ≡ Value n₁ p → optionalAt l m p bit 0 messageMost ≡ Value n₂ q
     → stringAt l q bit 0 checkMost ≡ Value n₃ next → PartsIs l at next i m (record { identifier = partAt i octet n₁ p; message = partAt m bit n₂ q; check = spanTo bit n₃ next })
-unfolding dataShaped
+unfolding dataFits
 parts-made l at p q next n₁ n₂ n₃ i m b h x y z =
     let X = optional-read l at p octet identifierLeast identifierMost n₁ i b (omega arith) h x in
     let xs = X .stands in
@@ -200,7 +200,7 @@ parts-made l at p q next n₁ n₂ n₃ i m b h x y z =
     let Z = items-read l q next bit 0 checkMost n₃ b (omega arith) z in
     let room = string-room l q bit 0 checkMost n₃ next z in
     record {
-      shaped = rw (X .shaped, Y .shaped) (Z .shaped);
+      placed-fits = rw (X .placed-fits, Y .placed-fits) (Z .placed-fits);
       stands = stands-join l at p next _ _ (X .stands) (stands-join l p q next _ _ (Y .stands) (Z .stands));
       bits = rw (X .bit, Y .bit);
       end = omega arith;
@@ -228,7 +228,7 @@ parts-read l at next i m d b h e = via (PartsIs l at next i m d) taken.Refused (
 
 -- What was read says: it is within the sizes; the extension bit, `mark`, stands first; the root stands behind it; and behind the root nothing, or additions.
 pub record DataIs (l : List ℕ) (at next : ℕ) (d : Data) : Type 0 where
-  pub shaped : dataShaped l l l d ≡ true
+  pub placed-fits : dataFits l l l d ≡ true
   pub mark : ℕ
   pub low : mark < 2
   pub extension : Stands l at (bitsN 1 mark) (at + 1)
@@ -271,7 +271,7 @@ data-made l at p q v e next n added d h low s t i k =
     let f : n ≡ rootEnd d = sym (i .end) in
     let a : p ≡ at + 1 = s .place ∙ ap (λ (x : ℕ). at + x) (length-bitsN 1 e) in
     record {
-      shaped = i .shaped;
+      placed-fits = i .placed-fits;
       mark = e;
       low = low;
       extension = stands-at l at p (at + 1) (bitsN 1 e) a s;

@@ -13,7 +13,7 @@ use Rattle.fields.specs.declared.Field.the-variants.{Value, Refused}
 use Rattle.fields.specs.declared.Refusal.{Refusal}
 use Rattle.apdu.specs.Sizes.{userLast, providerLast}
 use Rattle.apdu.specs.Reading.{onField, onData, onLead, partsAt, withAdditions, dataWithin, dataAt, leadingAt, endedAt, restWithin, restAt, apduWithin, apduAt}
-use Rattle.apdu.specs.declared.Side.{Side}
+use Rattle.apdu.specs.declared.PduType.{PduType}
 use Rattle.apdu.specs.declared.Kind.{Kind}
 use Rattle.apdu.specs.declared.Kind.the-variants as kind
 use Rattle.apdu.specs.declared.Data.{Data}
@@ -23,8 +23,8 @@ use Rattle.apdu.specs.declared.Taken.{Taken}
 use Rattle.apdu.specs.declared.Taken.the-variants as taken
 use Rattle.apdu.specs.declared.Lead.{Lead}
 use Rattle.apdu.specs.declared.Lead.the-variants as lead
-use Rattle.apdu.specs.declared.Answer.{Answer}
-use Rattle.apdu.specs.declared.Answer.the-variants as answer
+use Rattle.apdu.specs.declared.Decoded.{Decoded}
+use Rattle.apdu.specs.declared.Decoded.the-variants as decoded
 use Rattle.apdu.proofs.Bounds.{never}
 
 -- ---- as it was
@@ -33,7 +33,7 @@ unfoldable pub formerData : List ℕ → ℕ → Taken
 formerData l at =
     onField taken.Refused (extensionBit l at) (λ (e p : ℕ). onField taken.Refused (bitField l p 2) (λ (v q : ℕ). partsAt l q (leb 2 v) (eqb (v % 2) 1)))
 
-unfoldable pub formerRest : List ℕ → Kind → ℕ → ℕ → Answer
+unfoldable pub formerRest : List ℕ → Kind → ℕ → ℕ → Decoded
 formerRest l kind.AbortUser m at = restAt l kind.AbortUser m at
 formerRest l kind.AbortProvider m at = restAt l kind.AbortProvider m at
 formerRest l kind.Start m at = onData (formerData l at) (λ (d : Data) (next : ℕ). endedAt l next (apdu.Start m d))
@@ -41,8 +41,8 @@ formerRest l kind.Send m at = onData (formerData l at) (λ (d : Data) (next : �
 formerRest l kind.Forward m at = restAt l kind.Forward m at
 formerRest l kind.ForwardResponse m at = restAt l kind.ForwardResponse m at
 
-unfoldable pub formerApdu : Side → List ℕ → ℕ → Answer
-formerApdu side l at = onLead (leadingAt side l at) (formerRest l)
+unfoldable pub formerApdu : PduType → List ℕ → ℕ → Decoded
+formerApdu pdus l at = onLead (leadingAt pdus l at) (formerRest l)
 
 -- ---- message data: as before, or its extension bit was refused
 
@@ -65,15 +65,15 @@ data-kept l at = go (bitField l at 1) refl
 -- ---- an APDU
 
 -- the refusal of an extension bit, at any place
-abbrev Twelve : Answer → Type 0
-Twelve (answer.Is a) = ⊥
-Twelve (answer.Refused r) = r .fault ≡ Extension
+abbrev Twelve : Decoded → Type 0
+Twelve (decoded.Is a) = ⊥
+Twelve (decoded.Refused r) = r .fault ≡ Extension
 
-pub data AsBefore (before after : Answer) : Type 0 where
+pub data AsBefore (before after : Decoded) : Type 0 where
   same : after ≡ before → AsBefore before after
   stepped : Twelve before → AsBefore before after
 
-on-kept : (at : ℕ) (k : Data → ℕ → Answer) (t u : Taken) → Kept at t u → AsBefore (onData t k) (onData u k)
+on-kept : (at : ℕ) (k : Data → ℕ → Decoded) (t u : Taken) → Kept at t u → AsBefore (onData t k) (onData u k)
 on-kept at k t u (stayed e) = same (ap (λ (x : Taken). onData x k) e)
 on-kept at k t u (refused e) = stepped (rw e refl)
 
@@ -87,19 +87,19 @@ rest-kept l kind.Forward m at = same refl
 rest-kept l kind.ForwardResponse m at = same refl
 
 -- EVERY ANSWER IS WHAT IT WAS, BUT WHERE IT WAS 12
-pub apdu-kept : (side : Side) (l : List ℕ) (at : ℕ) → AsBefore (formerApdu side l at) (apduAt side l at)
+pub apdu-kept : (pdus : PduType) (l : List ℕ) (at : ℕ) → AsBefore (formerApdu pdus l at) (apduAt pdus l at)
 unfolding formerApdu apduWithin
-apdu-kept side l at = go (leadingAt side l at)
+apdu-kept pdus l at = go (leadingAt pdus l at)
   where
     go : (x : Lead) → AsBefore (onLead x (formerRest l)) (onLead x (restAt l))
     go (lead.Is c m n) = rest-kept l c m n
     go (lead.Refused r) = same refl
 
 -- and what was accepted is accepted with the same value
-pub accepted-before : (side : Side) (l : List ℕ) (at : ℕ) (a : Apdu) → formerApdu side l at ≡ answer.Is a → apduAt side l at ≡ answer.Is a
-accepted-before side l at a e = go (formerApdu side l at) e (apdu-kept side l at)
+pub accepted-before : (pdus : PduType) (l : List ℕ) (at : ℕ) (a : Apdu) → formerApdu pdus l at ≡ decoded.Is a → apduAt pdus l at ≡ decoded.Is a
+accepted-before pdus l at a e = go (formerApdu pdus l at) e (apdu-kept pdus l at)
   where
-    go : (x : Answer) → x ≡ answer.Is a → AsBefore x (apduAt side l at) → apduAt side l at ≡ answer.Is a
-    go (answer.Is b) q (same p) = p ∙ q
-    go (answer.Is b) q (stepped t) = absurd t
-    go (answer.Refused r) q t = never (cc)
+    go : (x : Decoded) → x ≡ decoded.Is a → AsBefore x (apduAt pdus l at) → apduAt pdus l at ≡ decoded.Is a
+    go (decoded.Is b) q (same p) = p ∙ q
+    go (decoded.Is b) q (stepped t) = absurd t
+    go (decoded.Refused r) q t = never (cc)

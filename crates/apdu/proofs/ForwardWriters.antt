@@ -23,7 +23,7 @@ use Rattle.apdu.specs.Sizes.{allBits, messageMost, lengthMost, bit}
 use Rattle.apdu.specs.Headings.{dateFrom, dateTo, timeFrom, timeTo, charactersLeast, charactersMost, character, addressBits, directionLast, tripleBits, tripleFits, aircraftBits, aircraftFits, headingBits, headingFits}
 use Rattle.apdu.specs.Pdus.{itemsIn, partIn}
 use Rattle.apdu.specs.Encoding.{stringBits, optionalBits, forwardBits}
-use Rattle.apdu.specs.Writing.{itemsShaped, partShaped, forwardShaped, placeOf}
+use Rattle.apdu.specs.Writing.{itemsFit, partFits, forwardFits, placeOf}
 use Rattle.apdu.specs.declared.Span.{Span}
 use Rattle.apdu.specs.declared.Part.the-variants.{Given}
 use Rattle.apdu.specs.declared.Triple.{Triple}
@@ -119,18 +119,18 @@ characters-most h e = leb-true (h .characters) charactersMost (both-right (leb c
 
 -- ---- a forward message
 
-module _ (s lm : List ℕ) (at : ℕ) (f : Forward) (shaped : forwardShaped lm f ≡ true) (room : at + length (forwardBits (f .heading) (itemsIn lm bit (f .message))) ≤ length (bitsTo s allBits)) where
+module _ (s lm : List ℕ) (at : ℕ) (f : Forward) (placed-fits : forwardFits lm f ≡ true) (room : at + length (forwardBits (f .heading) (itemsIn lm bit (f .message))) ≤ length (bitsTo s allBits)) where
   whole-room : at + length (headingBits (f .heading) ++ stringBits bit (itemsIn lm bit (f .message))) ≤ length (bitsTo s allBits)
   unfolding forwardBits
   whole-room = room
 
   pub heading-asks : (headingFits (f .heading) ≡ true) × (at + length (headingBits (f .heading)) ≤ length (bitsTo s allBits))
-  unfolding forwardShaped
-  heading-asks = (both-left (headingFits (f .heading)) (itemsShaped lm bit 0 messageMost (f .message)) shaped, front-room s at (headingBits (f .heading)) (stringBits bit (itemsIn lm bit (f .message))) whole-room)
+  unfolding forwardFits
+  heading-asks = (both-left (headingFits (f .heading)) (itemsFit lm bit 0 messageMost (f .message)) placed-fits, front-room s at (headingBits (f .heading)) (stringBits bit (itemsIn lm bit (f .message))) whole-room)
 
-  pub message-asks : partShaped lm bit 0 lengthMost (Given (f .message)) ≡ true
-  unfolding forwardShaped
-  message-asks = check-wider lm bit 0 messageMost (f .message) (both-right (headingFits (f .heading)) (itemsShaped lm bit 0 messageMost (f .message)) shaped)
+  pub message-asks : partFits lm bit 0 lengthMost (Given (f .message)) ≡ true
+  unfolding forwardFits
+  message-asks = check-wider lm bit 0 messageMost (f .message) (both-right (headingFits (f .heading)) (itemsFit lm bit 0 messageMost (f .message)) placed-fits)
 
   pub message-put : (z : List ℕ) (o : Left) (p : ℕ) (r : Put) → left r z ≡ putRun s allBits at (headingBits (f .heading)) → p ≡ placeOf r
       → o ≡ putRun z allBits p (optionalBits bit (partIn lm bit (Given (f .message)))) → o ≡ putRun s allBits at (forwardBits (f .heading) (itemsIn lm bit (f .message)))

@@ -21,9 +21,9 @@ use Rattle.fields.proofs.RoundTrip.{Stands, stands-join, stands-split, bit-fiel
 use Rattle.apdu.specs.Sizes.{messageMost, bit}
 use Rattle.apdu.specs.Headings.{triple, dateFrom, dateTo, timeFrom, timeTo, charactersLeast, charactersMost, character, addressBits, directionLast, tripleBits, tripleFits, aircraftBits, headingBits, headingFits}
 use Rattle.apdu.specs.Pdus.{itemsIn}
-use Rattle.apdu.specs.Encoding.{stringBits, stringFits, forwardBits, forwardFits}
+use Rattle.apdu.specs.Encoding.{stringBits, stringFits, forwardBits, forwardPduFits}
 use Rattle.apdu.specs.Reading.{onField, onTriple, onHeading, onForward, tripleRefusal, headingRefusal, forwardRefusal, spanTo, tripleAt, headingAt, forwardWithin, forwardAt}
-use Rattle.apdu.specs.Writing.{forwardShaped}
+use Rattle.apdu.specs.Writing.{forwardFits}
 use Rattle.apdu.specs.declared.Triple.{Triple}
 use Rattle.apdu.specs.declared.Heading.{Heading}
 use Rattle.apdu.specs.declared.Forward.{Forward}
@@ -237,8 +237,8 @@ pub record ForwardRead (l : List ℕ) (at next : ℕ) (h : Heading) (m : List �
   pub heading : value .heading ≡ h
   pub message : itemsIn l bit (value .message) ≡ m
 
-pub forward-written : (l : List ℕ) (at next : ℕ) (h : Heading) (m : List ℕ) → forwardFits h m ≡ true → Stands l at (forwardBits h m) next → ForwardRead l at next h m
-unfolding forwardFits forwardBits forwardWithin
+pub forward-written : (l : List ℕ) (at next : ℕ) (h : Heading) (m : List ℕ) → forwardPduFits h m ≡ true → Stands l at (forwardBits h m) next → ForwardRead l at next h m
+unfolding forwardPduFits forwardBits forwardWithin
 forward-written l at next h m e s =
     let w = stands-split l at next (headingBits h) (stringBits bit m) s in
     let x = heading-written l at h (at + length (headingBits h)) (both-left (headingFits h) (stringFits bit 0 messageMost m) e) (w .first) in
@@ -246,7 +246,7 @@ forward-written l at next h m e s =
     record { value = record { heading = h; message = spanTo bit (length m / bit) next }; read = rw (x, y .0); heading = refl; message = y .1 }
 
 pub record ForwardIs (l : List ℕ) (at : ℕ) (f : Forward) (next : ℕ) : Type 0 where
-  pub shaped : forwardShaped l f ≡ true
+  pub placed-fits : forwardFits l f ≡ true
   pub stands : Stands l at (forwardBits (f .heading) (itemsIn l bit (f .message))) next
 
 via-heading : (R : Type 0) (f : Forward) (next : ℕ) (t : Headed) (k : Heading → ℕ → Forwarded) → ((h : Heading) (m : ℕ) → t ≡ headed.Is h m → k h m ≡ forwarded.Is f next → R) → onHeading t k ≡ forwarded.Is f next → R
@@ -254,11 +254,11 @@ via-heading R f next (headed.Is h m) k g e = g h m refl e
 via-heading R f next (headed.Refused r) k g e = never (cc)
 
 forward-made : (l : List ℕ) (at p next n : ℕ) (h : Heading) → Bits l → headingAt l at ≡ headed.Is h p → stringAt l p bit 0 messageMost ≡ Value n next → ForwardIs l at (record { heading = h; message = spanTo bit n next }) next
-unfolding forwardShaped forwardBits
+unfolding forwardFits forwardBits
 forward-made l at p next n h b e f =
     let x = heading-read l at h p b e in
     let y = items-read l p next bit 0 messageMost n b (omega arith) f in
-    record { shaped = rw (x .fits) (y .shaped); stands = stands-join l at p next _ _ (x .stands) (y .stands) }
+    record { placed-fits = rw (x .fits) (y .placed-fits); stands = stands-join l at p next _ _ (x .stands) (y .stands) }
 
 pub forward-read : (l : List ℕ) (at : ℕ) (f : Forward) (next : ℕ) → Bits l → forwardAt l at ≡ forwarded.Is f next → ForwardIs l at f next
 unfolding forwardWithin

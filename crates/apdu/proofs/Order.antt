@@ -20,8 +20,8 @@ use Rattle.apdu.specs.Sizes.{userLast, providerLast}
 use Rattle.apdu.specs.Headings.{responseLast}
 use Rattle.apdu.specs.Pdus.{lastOf, kindOf, indexOf}
 use Rattle.apdu.specs.Reading.{onField, onTaken, onData, onForward, onLead, partsAt, withAdditions, dataWithin, dataAt, forwardAt, kindMode, leadingAt, tailAt, endedAt, restWithin, restAt, apduWithin, apduAt}
-use Rattle.apdu.specs.Writing.{apduShaped}
-use Rattle.apdu.specs.declared.Side.{Side}
+use Rattle.apdu.specs.Writing.{apduFits}
+use Rattle.apdu.specs.declared.PduType.{PduType}
 use Rattle.apdu.specs.declared.Kind.{Kind}
 use Rattle.apdu.specs.declared.Kind.the-variants as kind
 use Rattle.apdu.specs.declared.Data.{Data}
@@ -34,8 +34,8 @@ use Rattle.apdu.specs.declared.Taken.{Taken}
 use Rattle.apdu.specs.declared.Taken.the-variants as taken
 use Rattle.apdu.specs.declared.Lead.{Lead}
 use Rattle.apdu.specs.declared.Lead.the-variants as lead
-use Rattle.apdu.specs.declared.Answer.{Answer}
-use Rattle.apdu.specs.declared.Answer.the-variants as answer
+use Rattle.apdu.specs.declared.Decoded.{Decoded}
+use Rattle.apdu.specs.declared.Decoded.the-variants as decoded
 use Rattle.apdu.proofs.Bounds.{never}
 use Rattle.apdu.proofs.Spared.{Not, Spared, spared-value, spared-fault, spared-then, spared-cond, spared-on, bits-spared, whole-spared, kind-mode-spared, parts-spared, forward-spared, stepped-spared, taken-one, taken-is}
 use Rattle.apdu.proofs.Contents.{stands-at}
@@ -99,7 +99,7 @@ module _ (wrong : ℕ) where
 
   -- ---- so message data and leading fields are not
 
-  answer-one : (r : Refusal) → answer.Refused r ≡ answer.Refused tailRefusal → r ≡ tailRefusal
+  answer-one : (r : Refusal) → decoded.Refused r ≡ decoded.Refused tailRefusal → r ≡ tailRefusal
   answer-one r e = cc
 
   lead-one : (r : Refusal) → lead.Refused r ≡ lead.Refused tailRefusal → r ≡ tailRefusal
@@ -124,72 +124,72 @@ module _ (wrong : ℕ) where
       spared-on tailRefusal not-tail taken.Refused (taken-one tailRefusal) (bitField l p 2) _ (bits-spared tailRefusal not-tail l p 2) (λ (v q : ℕ).
       behind-early l (eqb x 0) (partsAt l q (leb 2 v) (eqb (v % 2) 1)) (parts-spared tailRefusal not-tail l q (leb 2 v) (eqb (v % 2) 1))))
 
-  lead-early : (side : Side) (l : List ℕ) (at : ℕ) → leadingAt side l at ≡ lead.Refused tailRefusal → ⊥
+  lead-early : (pdus : PduType) (l : List ℕ) (at : ℕ) → leadingAt pdus l at ≡ lead.Refused tailRefusal → ⊥
   unfolding leadingAt
-  lead-early side l at =
-      spared-on tailRefusal not-tail lead.Refused lead-one (extensibleIndex l at (lastOf side)) _ (index-early l at (lastOf side)) (λ (i p : ℕ).
-      spared-on tailRefusal not-tail lead.Refused lead-one (kindMode side l (kindOf i) p) _ (kind-mode-spared tailRefusal not-tail side l (kindOf i) p) (λ (m q : ℕ). lead-is (kindOf i) m q))
+  lead-early pdus l at =
+      spared-on tailRefusal not-tail lead.Refused lead-one (extensibleIndex l at (lastOf pdus)) _ (index-early l at (lastOf pdus)) (λ (i p : ℕ).
+      spared-on tailRefusal not-tail lead.Refused lead-one (kindMode pdus l (kindOf i) p) _ (kind-mode-spared tailRefusal not-tail pdus l (kindOf i) p) (λ (m q : ℕ). lead-is (kindOf i) m q))
 
   -- ---- where an APDU is refused with TAIL, all its fields stand
 
-  pub record TailOnly (side : Side) (l : List ℕ) (at : ℕ) : Type 0 where
+  pub record TailOnly (pdus : PduType) (l : List ℕ) (at : ℕ) : Type 0 where
     pub value : Apdu
     pub place : ℕ
-    pub shaped : apduShaped side l l l value ≡ true
-    pub stands : Standing side l at place value
+    pub placed-fits : apduFits pdus l l l value ≡ true
+    pub stands : Standing pdus l at place value
     pub tail : tailAt l place ≡ Refused tailRefusal
 
-  on-field : (R : Type 0) (f : Field) (k : ℕ → ℕ → Answer) → Early f → ((v n : ℕ) → f ≡ Value v n → k v n ≡ answer.Refused tailRefusal → R) → onField answer.Refused f k ≡ answer.Refused tailRefusal → R
+  on-field : (R : Type 0) (f : Field) (k : ℕ → ℕ → Decoded) → Early f → ((v n : ℕ) → f ≡ Value v n → k v n ≡ decoded.Refused tailRefusal → R) → onField decoded.Refused f k ≡ decoded.Refused tailRefusal → R
   on-field R (Value v n) k h g e = g v n refl e
   on-field R (Refused r) k h g e = absurd (h (ap Refused (answer-one r e)))
 
-  on-data : (R : Type 0) (x : Taken) (k : Data → ℕ → Answer) → (x ≡ taken.Refused tailRefusal → ⊥) → ((d : Data) (n : ℕ) → x ≡ taken.Is d n → k d n ≡ answer.Refused tailRefusal → R) → onData x k ≡ answer.Refused tailRefusal → R
+  on-data : (R : Type 0) (x : Taken) (k : Data → ℕ → Decoded) → (x ≡ taken.Refused tailRefusal → ⊥) → ((d : Data) (n : ℕ) → x ≡ taken.Is d n → k d n ≡ decoded.Refused tailRefusal → R) → onData x k ≡ decoded.Refused tailRefusal → R
   on-data R (taken.Is d n) k h g e = g d n refl e
   on-data R (taken.Refused r) k h g e = absurd (h (ap taken.Refused (answer-one r e)))
 
-  on-lead : (R : Type 0) (x : Lead) (k : Kind → ℕ → ℕ → Answer) → (x ≡ lead.Refused tailRefusal → ⊥) → ((c : Kind) (m n : ℕ) → x ≡ lead.Is c m n → k c m n ≡ answer.Refused tailRefusal → R) → onLead x k ≡ answer.Refused tailRefusal → R
+  on-lead : (R : Type 0) (x : Lead) (k : Kind → ℕ → ℕ → Decoded) → (x ≡ lead.Refused tailRefusal → ⊥) → ((c : Kind) (m n : ℕ) → x ≡ lead.Is c m n → k c m n ≡ decoded.Refused tailRefusal → R) → onLead x k ≡ decoded.Refused tailRefusal → R
   on-lead R (lead.Is c m n) k h g e = g c m n refl e
   on-lead R (lead.Refused r) k h g e = absurd (h (ap lead.Refused (answer-one r e)))
 
-  on-forward : (R : Type 0) (x : Forwarded) (k : Forward → ℕ → Answer) → (x ≡ forwarded.Refused tailRefusal → ⊥) → ((f : Forward) (n : ℕ) → x ≡ forwarded.Is f n → k f n ≡ answer.Refused tailRefusal → R) → onForward answer.Refused x k ≡ answer.Refused tailRefusal → R
+  on-forward : (R : Type 0) (x : Forwarded) (k : Forward → ℕ → Decoded) → (x ≡ forwarded.Refused tailRefusal → ⊥) → ((f : Forward) (n : ℕ) → x ≡ forwarded.Is f n → k f n ≡ decoded.Refused tailRefusal → R) → onForward decoded.Refused x k ≡ decoded.Refused tailRefusal → R
   on-forward R (forwarded.Is f n) k h g e = g f n refl e
   on-forward R (forwarded.Refused r) k h g e = absurd (h (ap forwarded.Refused (answer-one r e)))
 
-  ended-tail : (l : List ℕ) (at : ℕ) (a : Apdu) → endedAt l at a ≡ answer.Refused tailRefusal → tailAt l at ≡ Refused tailRefusal
+  ended-tail : (l : List ℕ) (at : ℕ) (a : Apdu) → endedAt l at a ≡ decoded.Refused tailRefusal → tailAt l at ≡ Refused tailRefusal
   unfolding endedAt
   ended-tail l at a e = go (tailAt l at) refl e
     where
-      go : (f : Field) → tailAt l at ≡ f → onField answer.Refused f (λ (v n : ℕ). answer.Is a) ≡ answer.Refused tailRefusal → tailAt l at ≡ Refused tailRefusal
+      go : (f : Field) → tailAt l at ≡ f → onField decoded.Refused f (λ (v n : ℕ). decoded.Is a) ≡ decoded.Refused tailRefusal → tailAt l at ≡ Refused tailRefusal
       go (Value v n) p k = never (cc)
       go (Refused r) p k = p ∙ ap Refused (answer-one r k)
 
-  only : (side : Side) (l : List ℕ) (at n : ℕ) (a : Apdu) → Stood side l at a n → endedAt l n a ≡ answer.Refused tailRefusal → TailOnly side l at
-  only side l at n a s e = record { value = a; place = n; shaped = s .shaped; stands = s .stands; tail = ended-tail l n a e }
+  only : (pdus : PduType) (l : List ℕ) (at n : ℕ) (a : Apdu) → Stood pdus l at a n → endedAt l n a ≡ decoded.Refused tailRefusal → TailOnly pdus l at
+  only pdus l at n a s e = record { value = a; place = n; placed-fits = s .placed-fits; stands = s .stands; tail = ended-tail l n a e }
 
-  rest-tail : (side : Side) (l : List ℕ) (at p : ℕ) (c : Kind) (m q : ℕ) → Bits l → indexOf c ≤ lastOf side → Stands l at (indexBits (lastOf side) (indexOf c)) p → kindMode side l c p ≡ Value m q → restAt l c m q ≡ answer.Refused tailRefusal → TailOnly side l at
+  rest-tail : (pdus : PduType) (l : List ℕ) (at p : ℕ) (c : Kind) (m q : ℕ) → Bits l → indexOf c ≤ lastOf pdus → Stands l at (indexBits (lastOf pdus) (indexOf c)) p → kindMode pdus l c p ≡ Value m q → restAt l c m q ≡ decoded.Refused tailRefusal → TailOnly pdus l at
   unfolding kindMode restWithin
-  rest-tail side l at p kind.AbortUser m q b u s f k =
-      on-field (TailOnly side l at) (extensibleIndex l q userLast) _ (index-early l q userLast)
-      (λ (r n : ℕ) (g : extensibleIndex l q userLast ≡ Value r n) (e : endedAt l n (apdu.AbortUser r) ≡ answer.Refused tailRefusal). only side l at n (apdu.AbortUser r) (user-stood side l at q n r b (stands-at l at p q _ (value-place p m q f) s) g) e) k
-  rest-tail side l at p kind.AbortProvider m q b u s f k =
-      on-field (TailOnly side l at) (extensibleIndex l q providerLast) _ (index-early l q providerLast)
-      (λ (r n : ℕ) (g : extensibleIndex l q providerLast ≡ Value r n) (e : endedAt l n (apdu.AbortProvider r) ≡ answer.Refused tailRefusal). only side l at n (apdu.AbortProvider r) (provider-stood side l at q n r b (stands-at l at p q _ (value-place p m q f) s) g) e) k
-  rest-tail side l at p kind.Start m q b u s f k =
-      on-data (TailOnly side l at) (dataAt l q) _ (data-early l q) (λ (d : Data) (n : ℕ) (g : dataAt l q ≡ taken.Is d n) (e : endedAt l n (apdu.Start m d) ≡ answer.Refused tailRefusal). only side l at n (apdu.Start m d) (start-stood side l at p q n m d b s f g) e) k
-  rest-tail side l at p kind.Send m q b u s f k =
-      on-data (TailOnly side l at) (dataAt l q) _ (data-early l q) (λ (d : Data) (n : ℕ) (g : dataAt l q ≡ taken.Is d n) (e : endedAt l n (apdu.Send d) ≡ answer.Refused tailRefusal). only side l at n (apdu.Send d) (send-stood side l at q n d b (stands-at l at p q _ (value-place p m q f) s) g) e) k
-  rest-tail side l at p kind.Forward m q b u s f k =
-      on-forward (TailOnly side l at) (forwardAt l q) _ (forward-spared tailRefusal not-tail l q) (λ (x : Forward) (n : ℕ) (g : forwardAt l q ≡ forwarded.Is x n) (e : endedAt l n (apdu.Forward x) ≡ answer.Refused tailRefusal).
-      only side l at n (apdu.Forward x) (forward-stood side l at q n x b (ground-only side 4 u (omega arith)) (stands-at l at p q _ (value-place p m q f) s) g) e) k
-  rest-tail side l at p kind.ForwardResponse m q b u s f k =
-      on-field (TailOnly side l at) (extensibleIndex l q responseLast) _ (index-early l q responseLast)
-      (λ (r n : ℕ) (g : extensibleIndex l q responseLast ≡ Value r n) (e : endedAt l n (apdu.ForwardResponse r) ≡ answer.Refused tailRefusal). only side l at n (apdu.ForwardResponse r) (response-stood side l at q n r b (ground-only side 5 u (omega arith)) (stands-at l at p q _ (value-place p m q f) s) g) e) k
+  rest-tail pdus l at p kind.AbortUser m q b u s f k =
+      on-field (TailOnly pdus l at) (extensibleIndex l q userLast) _ (index-early l q userLast)
+      (λ (r n : ℕ) (g : extensibleIndex l q userLast ≡ Value r n) (e : endedAt l n (apdu.AbortUser r) ≡ decoded.Refused tailRefusal). only pdus l at n (apdu.AbortUser r) (user-stood pdus l at q n r b (stands-at l at p q _ (value-place p m q f) s) g) e) k
+  rest-tail pdus l at p kind.AbortProvider m q b u s f k =
+      on-field (TailOnly pdus l at) (extensibleIndex l q providerLast) _ (index-early l q providerLast)
+      (λ (r n : ℕ) (g : extensibleIndex l q providerLast ≡ Value r n) (e : endedAt l n (apdu.AbortProvider r) ≡ decoded.Refused tailRefusal). only pdus l at n (apdu.AbortProvider r) (provider-stood pdus l at q n r b (stands-at l at p q _ (value-place p m q f) s) g) e) k
+  rest-tail pdus l at p kind.Start m q b u s f k =
+      on-data (TailOnly pdus l at) (dataAt l q) _ (data-early l q) (λ (d : Data) (n : ℕ) (g : dataAt l q ≡ taken.Is d n) (e : endedAt l n (apdu.Start m d) ≡ decoded.Refused tailRefusal). only pdus l at n (apdu.Start m d) (start-stood pdus l at p q n m d b s f g) e) k
+  rest-tail pdus l at p kind.Send m q b u s f k =
+      on-data (TailOnly pdus l at) (dataAt l q) _ (data-early l q) (λ (d : Data) (n : ℕ) (g : dataAt l q ≡ taken.Is d n) (e : endedAt l n (apdu.Send d) ≡ decoded.Refused tailRefusal). only pdus l at n (apdu.Send d) (send-stood pdus l at q n d b (stands-at l at p q _ (value-place p m q f) s) g) e) k
+  rest-tail pdus l at p kind.Forward m q b u s f k =
+      on-forward (TailOnly pdus l at) (forwardAt l q) _ (forward-spared tailRefusal not-tail l q) (λ (x : Forward) (n : ℕ) (g : forwardAt l q ≡ forwarded.Is x n) (e : endedAt l n (apdu.Forward x) ≡ decoded.Refused tailRefusal).
+      only pdus l at n (apdu.Forward x) (forward-stood pdus l at q n x b (ground-only pdus 4 u (omega arith)) (stands-at l at p q _ (value-place p m q f) s) g) e) k
+  rest-tail pdus l at p kind.ForwardResponse m q b u s f k =
+      on-field (TailOnly pdus l at) (extensibleIndex l q responseLast) _ (index-early l q responseLast)
+      (λ (r n : ℕ) (g : extensibleIndex l q responseLast ≡ Value r n) (e : endedAt l n (apdu.ForwardResponse r) ≡ decoded.Refused tailRefusal). only pdus l at n (apdu.ForwardResponse r) (response-stood pdus l at q n r b (ground-only pdus 5 u (omega arith)) (stands-at l at p q _ (value-place p m q f) s) g) e) k
 
-  pub tail-last : (side : Side) (l : List ℕ) (at : ℕ) → Bits l → apduAt side l at ≡ answer.Refused tailRefusal → TailOnly side l at
+  pub tail-last : (pdus : PduType) (l : List ℕ) (at : ℕ) → Bits l → apduAt pdus l at ≡ decoded.Refused tailRefusal → TailOnly pdus l at
   unfolding apduWithin
-  tail-last side l at b e = on-lead (TailOnly side l at) (leadingAt side l at) (restAt l) (lead-early side l at) found e
+  tail-last pdus l at b e = on-lead (TailOnly pdus l at) (leadingAt pdus l at) (restAt l) (lead-early pdus l at) found e
     where
-      found : (c : Kind) (m n : ℕ) → leadingAt side l at ≡ lead.Is c m n → restAt l c m n ≡ answer.Refused tailRefusal → TailOnly side l at
+      found : (c : Kind) (m n : ℕ) → leadingAt pdus l at ≡ lead.Is c m n → restAt l c m n ≡ decoded.Refused tailRefusal → TailOnly pdus l at
       found c m n f k =
-          let i = lead-read side l at c m n b f in
-          rest-tail side l at (i .place) c m n b (i .most) (i .stands) (i .mode) k
+          let i = lead-read pdus l at c m n b f in
+          rest-tail pdus l at (i .place) c m n b (i .most) (i .stands) (i .mode) k

@@ -1,4 +1,4 @@
--- Laws of the tests of shape, as the code has them.
+-- Laws of the tests whether a value fits, as the code has them.
 -- Assumes nothing.
 use mathlib.Core.Path.{_≡_, _∙_}
 use mathlib.Core.Bool.{Bool, false}
@@ -12,28 +12,28 @@ use Rattle.bits.proofs.Bytes.{length-to}
 use Rattle.fields.specs.Encodings.{wholeFits}
 use Rattle.apdu.specs.Sizes.{allBits, messageMost}
 use Rattle.apdu.specs.Pdus.{lent}
-use Rattle.apdu.specs.Writing.{itemsShaped, runShaped}
+use Rattle.apdu.specs.Writing.{itemsFit, runFits}
 use Rattle.apdu.specs.declared.Span.{Span}
 
-pub too-few : (l : List ℕ) (unit least most : ℕ) (x : Span) → x .count < least → false ≡ itemsShaped l unit least most x
-unfolding itemsShaped
+pub too-few : (l : List ℕ) (unit least most : ℕ) (x : Span) → x .count < least → false ≡ itemsFit l unit least most x
+unfolding itemsFit
 too-few l unit least most x h = rw (lt-leb least (x .count) h)
 
-pub too-many : (l : List ℕ) (unit least most : ℕ) (x : Span) → least ≤ x .count → most < x .count → false ≡ itemsShaped l unit least most x
-unfolding itemsShaped
+pub too-many : (l : List ℕ) (unit least most : ℕ) (x : Span) → least ≤ x .count → most < x .count → false ≡ itemsFit l unit least most x
+unfolding itemsFit
 too-many l unit least most x h g = rw (le-leb least (x .count) h, lt-leb (x .count) most g)
 
-pub held : (s : List ℕ) (unit least most : ℕ) (x : Span) (t : Bool) → least ≤ x .count → x .count ≤ most → most < 16384 → t ≡ leb (x .at + unit * x .count) (min allBits (8 * length s)) → t ≡ itemsShaped (lent s) unit least most x
-unfolding itemsShaped
+pub held : (s : List ℕ) (unit least most : ℕ) (x : Span) (t : Bool) → least ≤ x .count → x .count ≤ most → most < 16384 → t ≡ leb (x .at + unit * x .count) (min allBits (8 * length s)) → t ≡ itemsFit (lent s) unit least most x
+unfolding itemsFit
 held s unit least most x t h g k e = e ∙ rw (le-leb least (x .count) h, le-leb (x .count) most g, lt-ltb (x .count) 16384 (omega arith), length-to)
 
 pub from-zero : (hi v : ℕ) → leb v hi ≡ wholeFits 0 hi v
 from-zero hi v = rw (le-leb 0 v (omega arith))
 
-pub run-long : (s : List ℕ) (at n : ℕ) → messageMost < n → false ≡ runShaped s at n
-unfolding runShaped
+pub run-long : (s : List ℕ) (at n : ℕ) → messageMost < n → false ≡ runFits s at n
+unfolding runFits
 run-long s at n h = rw (lt-leb n messageMost h)
 
-pub run-held : (s : List ℕ) (at n : ℕ) (t : Bool) → n ≤ messageMost → t ≡ leb (at + n) (min allBits (8 * length s)) → t ≡ runShaped s at n
-unfolding runShaped
+pub run-held : (s : List ℕ) (at n : ℕ) (t : Bool) → n ≤ messageMost → t ≡ leb (at + n) (min allBits (8 * length s)) → t ≡ runFits s at n
+unfolding runFits
 run-held s at n t h e = e ∙ rw (le-leb n messageMost h, length-to)

@@ -20,8 +20,8 @@ use Rattle.fields.specs.declared.Field.the-variants.{Value, Refused}
 use Rattle.apdu.specs.Sizes.{identifierLeast, identifierMost, messageMost, checkMost, modeLast, octet, bit}
 use Rattle.apdu.specs.Headings.{triple, dateFrom, dateTo, timeFrom, timeTo, charactersLeast, charactersMost, character, addressBits, directionLast}
 use Rattle.apdu.specs.Reading.{onField, onTriple, onHeading, optionalAt, spanTo, partsWithin, partsAt, tripleAt, headingAt, forwardWithin, forwardAt, modeValue, modeAt, kindMode}
-use Rattle.apdu.specs.declared.Side.{Side}
-use Rattle.apdu.specs.declared.Side.the-variants.{Air, Ground}
+use Rattle.apdu.specs.declared.PduType.{PduType}
+use Rattle.apdu.specs.declared.PduType.the-variants.{AircraftPdus, GroundPdus}
 use Rattle.apdu.specs.declared.Kind.{Kind}
 use Rattle.apdu.specs.declared.Kind.the-variants as kind
 use Rattle.apdu.specs.declared.Data.{Data}
@@ -123,19 +123,19 @@ module _ (bad : Refusal) (not : Not bad) where
       spared-then (wholeNumber l at 0 modeLast) _ (whole-spared l at 0 modeLast)
       (λ (m n : ℕ). spared-cond (eqb m 0) (refusedAt at Default) (Value m n) (spared-fault Default at (not .default)) (spared-value m n))
 
-  mode-spared : (side : Side) (l : List ℕ) (at : ℕ) → Spared (modeAt side l at)
+  mode-spared : (pdus : PduType) (l : List ℕ) (at : ℕ) → Spared (modeAt pdus l at)
   unfolding modeAt
-  mode-spared Ground l at = spared-value 0 at
-  mode-spared Air l at = spared-then (bitField l at 1) _ (bits-spared l at 1) (λ (p n : ℕ). spared-cond (eqb p 0) (Value 0 n) (modeValue l n) (spared-value 0 n) (mode-value-spared l n))
+  mode-spared GroundPdus l at = spared-value 0 at
+  mode-spared AircraftPdus l at = spared-then (bitField l at 1) _ (bits-spared l at 1) (λ (p n : ℕ). spared-cond (eqb p 0) (Value 0 n) (modeValue l n) (spared-value 0 n) (mode-value-spared l n))
 
-  pub kind-mode-spared : (side : Side) (l : List ℕ) (c : Kind) (at : ℕ) → Spared (kindMode side l c at)
+  pub kind-mode-spared : (pdus : PduType) (l : List ℕ) (c : Kind) (at : ℕ) → Spared (kindMode pdus l c at)
   unfolding kindMode
-  kind-mode-spared side l kind.AbortUser at = spared-value 0 at
-  kind-mode-spared side l kind.AbortProvider at = spared-value 0 at
-  kind-mode-spared side l kind.Start at = mode-spared side l at
-  kind-mode-spared side l kind.Send at = spared-value 0 at
-  kind-mode-spared side l kind.Forward at = spared-value 0 at
-  kind-mode-spared side l kind.ForwardResponse at = spared-value 0 at
+  kind-mode-spared pdus l kind.AbortUser at = spared-value 0 at
+  kind-mode-spared pdus l kind.AbortProvider at = spared-value 0 at
+  kind-mode-spared pdus l kind.Start at = mode-spared pdus l at
+  kind-mode-spared pdus l kind.Send at = spared-value 0 at
+  kind-mode-spared pdus l kind.Forward at = spared-value 0 at
+  kind-mode-spared pdus l kind.ForwardResponse at = spared-value 0 at
 
   -- ---- additions that are there, and the parts of message data
 

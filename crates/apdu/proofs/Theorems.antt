@@ -28,12 +28,12 @@ use Rattle.fields.proofs.RoundTrip as fields
 use Rattle.apdu.specs.Sizes.{bufferLeast, allBits, octet, bit, identifierMost, messageMost, checkMost, modeLast, userLast, providerLast}
 use Rattle.apdu.specs.Headings.{responseLast}
 use Rattle.apdu.specs.Pdus.{given, Content, Pdu, start, lastOf, lent, itemsIn, partIn, contentIn, pduIn}
-use Rattle.apdu.specs.Encoding.{stringBits, optionalBits, optionalFits, presence, alternative, rootBits, contentBits, contentFits, forwardBits, forwardFits, modeBits, modeFits, pduBits, pduFits, padding, padded, bytesFor}
+use Rattle.apdu.specs.Encoding.{stringBits, optionalBits, optionalFits, presence, alternative, rootBits, contentBits, contentFits, forwardBits, forwardPduFits, modeBits, modeFits, pduBits, pduFits, padding, padded, bytesFor}
 use Rattle.apdu.specs.Reading.{onField, onTaken, tailAt, apduAt, dataAt, wholeWithin, wholeData, wholeForwardWithin, wholeForward}
 use Rattle.apdu.specs.Stripped.{rootEnd, stripAt, strip, extended}
-use Rattle.apdu.specs.Writing.{apduShaped, done, writeOut}
-use Rattle.apdu.specs.declared.Side.{Side}
-use Rattle.apdu.specs.declared.Side.the-variants.{Air, Ground}
+use Rattle.apdu.specs.Writing.{apduFits, done, writeOut}
+use Rattle.apdu.specs.declared.PduType.{PduType}
+use Rattle.apdu.specs.declared.PduType.the-variants.{AircraftPdus, GroundPdus}
 use Rattle.apdu.specs.declared.Kind.the-variants as kind
 use Rattle.apdu.specs.declared.Span.{Span}
 use Rattle.apdu.specs.declared.Part.{Part}
@@ -44,9 +44,9 @@ use Rattle.apdu.specs.declared.Forward.{Forward}
 use Rattle.apdu.specs.declared.Forwarded.the-variants as forwarded
 use Rattle.apdu.specs.declared.Apdu.{Apdu}
 use Rattle.apdu.specs.declared.Apdu.the-variants as apdu
-use Rattle.apdu.specs.declared.Answer.the-variants as answer
+use Rattle.apdu.specs.declared.Decoded.the-variants as decoded
 use Rattle.apdu.specs.declared.Written.the-variants as written
-use Rattle.apdu.proofs.Bounds.{never, apdu-fit, content-most, forward-most, pduMost, pdu-most, width, length-alternative}
+use Rattle.apdu.proofs.Bounds.{never, apdu-value-fits, content-most, forward-most, pduMost, pdu-most, width, length-alternative}
 use Rattle.apdu.proofs.Contents.{DataIs, data-mark, data-plain, data-written, data-read}
 use Rattle.apdu.proofs.Forwards.{forward-are-bits, forward-written}
 use Rattle.apdu.proofs.Apdus.{ApduRead, Led, Standing, apdu-written, apdu-read}
@@ -127,48 +127,48 @@ content-are-bits li lm lc d i m c =
     (bits-append (optionalBits octet (partIn li octet (d .identifier))) _ (part-are-bits li octet (d .identifier) i)
     (bits-append (optionalBits bit (partIn lm bit (d .message))) _ (part-are-bits lm bit (d .message) m) (string-are-bits lc bit (d .check) c))))
 
-pub mode-are-bits : (side : Side) (m : ℕ) → Bits (modeBits side m)
+pub mode-are-bits : (pdus : PduType) (m : ℕ) → Bits (modeBits pdus m)
 unfolding modeBits
-mode-are-bits Ground m = no-bits
-mode-are-bits Air m = go (eqb m 0)
+mode-are-bits GroundPdus m = no-bits
+mode-are-bits AircraftPdus m = go (eqb m 0)
   where
     go : (t : Bool) → Bits (cond t (bitsN 1 0) (bitsN 1 1 ++ wholeBits 0 modeLast m))
     go true = bits-bitsN 1 0
     go false = bits-append (bitsN 1 1) (wholeBits 0 modeLast m) (bits-bitsN 1 1) (whole-number 0 modeLast (omega arith) .are-bits m)
 
-pub index-are-bits : (side : Side) (i : ℕ) → Bits (indexBits (lastOf side) i)
-index-are-bits Air i = extensible-index 3 (omega arith) .are-bits i
-index-are-bits Ground i = extensible-index 5 (omega arith) .are-bits i
+pub index-are-bits : (pdus : PduType) (i : ℕ) → Bits (indexBits (lastOf pdus) i)
+index-are-bits AircraftPdus i = extensible-index 3 (omega arith) .are-bits i
+index-are-bits GroundPdus i = extensible-index 5 (omega arith) .are-bits i
 
-pdu-are-bits : (side : Side) (li lm lc : List ℕ) (a : Apdu) → Bits li → Bits lm → Bits lc → Bits (pduBits side (pduIn li lm lc a))
+pdu-are-bits : (pdus : PduType) (li lm lc : List ℕ) (a : Apdu) → Bits li → Bits lm → Bits lc → Bits (pduBits pdus (pduIn li lm lc a))
 unfolding pduBits pduIn
-pdu-are-bits side li lm lc (apdu.AbortUser r) i m c = bits-append (indexBits (lastOf side) 0) (indexBits userLast r) (index-are-bits side 0) (extensible-index userLast (omega arith) .are-bits r)
-pdu-are-bits side li lm lc (apdu.AbortProvider r) i m c = bits-append (indexBits (lastOf side) 1) (indexBits providerLast r) (index-are-bits side 1) (extensible-index providerLast (omega arith) .are-bits r)
-pdu-are-bits side li lm lc (apdu.Start v d) i m c = bits-append (indexBits (lastOf side) 2) _ (index-are-bits side 2) (bits-append (modeBits side v) (contentBits (contentIn li lm lc d)) (mode-are-bits side v) (content-are-bits li lm lc d i m c))
-pdu-are-bits side li lm lc (apdu.Send d) i m c = bits-append (indexBits (lastOf side) 3) (contentBits (contentIn li lm lc d)) (index-are-bits side 3) (content-are-bits li lm lc d i m c)
-pdu-are-bits side li lm lc (apdu.Forward f) i m c = bits-append (indexBits (lastOf side) 4) (forwardBits (f .heading) (itemsIn lm bit (f .message))) (index-are-bits side 4) (forward-are-bits (f .heading) (itemsIn lm bit (f .message)) (string-are-bits lm bit (f .message) m))
-pdu-are-bits side li lm lc (apdu.ForwardResponse x) i m c = bits-append (indexBits (lastOf side) 5) (indexBits responseLast x) (index-are-bits side 5) (extensible-index responseLast (omega arith) .are-bits x)
+pdu-are-bits pdus li lm lc (apdu.AbortUser r) i m c = bits-append (indexBits (lastOf pdus) 0) (indexBits userLast r) (index-are-bits pdus 0) (extensible-index userLast (omega arith) .are-bits r)
+pdu-are-bits pdus li lm lc (apdu.AbortProvider r) i m c = bits-append (indexBits (lastOf pdus) 1) (indexBits providerLast r) (index-are-bits pdus 1) (extensible-index providerLast (omega arith) .are-bits r)
+pdu-are-bits pdus li lm lc (apdu.Start v d) i m c = bits-append (indexBits (lastOf pdus) 2) _ (index-are-bits pdus 2) (bits-append (modeBits pdus v) (contentBits (contentIn li lm lc d)) (mode-are-bits pdus v) (content-are-bits li lm lc d i m c))
+pdu-are-bits pdus li lm lc (apdu.Send d) i m c = bits-append (indexBits (lastOf pdus) 3) (contentBits (contentIn li lm lc d)) (index-are-bits pdus 3) (content-are-bits li lm lc d i m c)
+pdu-are-bits pdus li lm lc (apdu.Forward f) i m c = bits-append (indexBits (lastOf pdus) 4) (forwardBits (f .heading) (itemsIn lm bit (f .message))) (index-are-bits pdus 4) (forward-are-bits (f .heading) (itemsIn lm bit (f .message)) (string-are-bits lm bit (f .message) m))
+pdu-are-bits pdus li lm lc (apdu.ForwardResponse x) i m c = bits-append (indexBits (lastOf pdus) 5) (indexBits responseLast x) (index-are-bits pdus 5) (extensible-index responseLast (omega arith) .are-bits x)
 
 -- ---- reading what was written gives the value
 
 -- bits that are the padded encoding of a value within the sizes are read as that value
-pub encoding-accepted : (side : Side) (l : List ℕ) (v : Pdu) → pduFits side v ≡ true → l ≡ padded (pduBits side v) → ApduRead side l 0 v
-encoding-accepted side l v h e =
-    rw e (apdu-written side (padded (pduBits side v)) 0 (length (pduBits side v)) (length (pduBits side v) + padding (length (pduBits side v))) v h (stands-front (pduBits side v)) (tail-padded (pduBits side v)))
+pub encoding-accepted : (pdus : PduType) (l : List ℕ) (v : Pdu) → pduFits pdus v ≡ true → l ≡ padded (pduBits pdus v) → ApduRead pdus l 0 v
+encoding-accepted pdus l v h e =
+    rw e (apdu-written pdus (padded (pduBits pdus v)) 0 (length (pduBits pdus v)) (length (pduBits pdus v) + padding (length (pduBits pdus v))) v h (stands-front (pduBits pdus v)) (tail-padded (pduBits pdus v)))
 
 -- what is written to a buffer is read as it was
-pub written-read : (side : Side) (v : Pdu) (t : List ℕ) → Bits (pduBits side v) → pduFits side v ≡ true → bufferLeast ≤ length t
-    → ApduRead side (lent (take (bytesFor (length (pduBits side v))) (putBits t 0 (padded (pduBits side v))))) 0 v
-written-read side v t b h g =
-    let m = pdu-most side v h in
-    encoding-accepted side _ v h (front t (pduBits side v) b (omega arith) g .bits)
+pub written-read : (pdus : PduType) (v : Pdu) (t : List ℕ) → Bits (pduBits pdus v) → pduFits pdus v ≡ true → bufferLeast ≤ length t
+    → ApduRead pdus (lent (take (bytesFor (length (pduBits pdus v))) (putBits t 0 (padded (pduBits pdus v))))) 0 v
+written-read pdus v t b h g =
+    let m = pdu-most pdus v h in
+    encoding-accepted pdus _ v h (front t (pduBits pdus v) b (omega arith) g .bits)
 
 -- what stands in lent bytes, put into a buffer by `put_apdu`, is read as it was
-pub put-read : (side : Side) (a : Apdu) (ids msgs checks t : List ℕ) → apduShaped side (lent ids) (lent msgs) (lent checks) a ≡ true → bufferLeast ≤ length t
-    → ApduRead side (lent (take (bytesFor (length (pduBits side (pduIn (lent ids) (lent msgs) (lent checks) a)))) (putBits t 0 (padded (pduBits side (pduIn (lent ids) (lent msgs) (lent checks) a)))))) 0 (pduIn (lent ids) (lent msgs) (lent checks) a)
-put-read side a ids msgs checks t h g =
-    written-read side (pduIn (lent ids) (lent msgs) (lent checks) a) t
-    (pdu-are-bits side (lent ids) (lent msgs) (lent checks) a (bits-to ids allBits) (bits-to msgs allBits) (bits-to checks allBits)) (apdu-fit side (lent ids) (lent msgs) (lent checks) a h) g
+pub put-read : (pdus : PduType) (a : Apdu) (ids msgs checks t : List ℕ) → apduFits pdus (lent ids) (lent msgs) (lent checks) a ≡ true → bufferLeast ≤ length t
+    → ApduRead pdus (lent (take (bytesFor (length (pduBits pdus (pduIn (lent ids) (lent msgs) (lent checks) a)))) (putBits t 0 (padded (pduBits pdus (pduIn (lent ids) (lent msgs) (lent checks) a)))))) 0 (pduIn (lent ids) (lent msgs) (lent checks) a)
+put-read pdus a ids msgs checks t h g =
+    written-read pdus (pduIn (lent ids) (lent msgs) (lent checks) a) t
+    (pdu-are-bits pdus (lent ids) (lent msgs) (lent checks) a (bits-to ids allBits) (bits-to msgs allBits) (bits-to checks allBits)) (apdu-value-fits pdus (lent ids) (lent msgs) (lent checks) a h) g
 
 -- message data by itself, as it is delivered
 pub record DataWhole (l : List ℕ) (c : Content) : Type 0 where
@@ -202,14 +202,14 @@ whole-data l d next b h = from (dataAt l 0) refl h
     from (taken.Refused r) q p = let z : _≡_ {A = ℕ} 0 1 = cc in absurd (omega arith)
 
 -- one encoding, one value
-pub one-value : (side : Side) (v w : Pdu) → pduFits side v ≡ true → pduFits side w ≡ true → padded (pduBits side v) ≡ padded (pduBits side w) → v ≡ w
-one-value side v w f g e =
-    let l : List ℕ = padded (pduBits side v) in
-    let x = encoding-accepted side (padded (pduBits side v)) v f refl in
-    let y = encoding-accepted side (padded (pduBits side v)) w g e in
-    let q : answer.Is (x .value) ≡ answer.Is (y .value) = sym (x .read) ∙ y .read in
+pub one-value : (pdus : PduType) (v w : Pdu) → pduFits pdus v ≡ true → pduFits pdus w ≡ true → padded (pduBits pdus v) ≡ padded (pduBits pdus w) → v ≡ w
+one-value pdus v w f g e =
+    let l : List ℕ = padded (pduBits pdus v) in
+    let x = encoding-accepted pdus (padded (pduBits pdus v)) v f refl in
+    let y = encoding-accepted pdus (padded (pduBits pdus v)) w g e in
+    let q : decoded.Is (x .value) ≡ decoded.Is (y .value) = sym (x .read) ∙ y .read in
     let z : x .value ≡ y .value = cc in
-    sym (x .same) ∙ ap (pduIn (padded (pduBits side v)) (padded (pduBits side v)) (padded (pduBits side v))) z ∙ y .same
+    sym (x .same) ∙ ap (pduIn (padded (pduBits pdus v)) (padded (pduBits pdus v)) (padded (pduBits pdus v))) z ∙ y .same
 
 -- ---- writing what was read gives the same bytes
 
@@ -302,112 +302,112 @@ module _ (l bs : List ℕ) (next : ℕ) (d : Data) (i : Led l 0 next d bs) where
   led-cleared = ap (λ (x : List ℕ). getD x (length bs) 0) led-strip ∙ first-clear bs (contentIn l l l d)
 
 -- Bits that are read as an APDU: with the additions gone they are the padded encoding of its value, which is within the sizes.
-pub record Accepted (side : Side) (l : List ℕ) (a : Apdu) : Type 0 where
-  pub shaped : apduShaped side l l l a ≡ true
-  pub fits : pduFits side (pduIn l l l a) ≡ true
-  pub bits : strip side l a ≡ padded (pduBits side (pduIn l l l a))
+pub record Accepted (pdus : PduType) (l : List ℕ) (a : Apdu) : Type 0 where
+  pub placed-fits : apduFits pdus l l l a ≡ true
+  pub fits : pduFits pdus (pduIn l l l a) ≡ true
+  pub bits : strip pdus l a ≡ padded (pduBits pdus (pduIn l l l a))
 
-strip-encoding : (side : Side) (l : List ℕ) (place left end : ℕ) (a : Apdu) → Bits l → Standing side l 0 place a → tailAt l place ≡ Value left end → strip side l a ≡ padded (pduBits side (pduIn l l l a))
+strip-encoding : (pdus : PduType) (l : List ℕ) (place left end : ℕ) (a : Apdu) → Bits l → Standing pdus l 0 place a → tailAt l place ≡ Value left end → strip pdus l a ≡ padded (pduBits pdus (pduIn l l l a))
 unfolding strip pduBits pduIn
-strip-encoding side l place left end (apdu.AbortUser r) b s t = ended-whole l _ place left end b s t
-strip-encoding side l place left end (apdu.AbortProvider r) b s t = ended-whole l _ place left end b s t
-strip-encoding side l place left end (apdu.Start m d) b s t = led-strip l _ place d s ∙ ap padded (append-assoc (indexBits (lastOf side) 2) (modeBits side m) (contentBits (contentIn l l l d)))
-strip-encoding side l place left end (apdu.Send d) b s t = led-strip l _ place d s
-strip-encoding side l place left end (apdu.Forward f) b s t = ended-whole l _ place left end b s t
-strip-encoding side l place left end (apdu.ForwardResponse x) b s t = ended-whole l _ place left end b s t
+strip-encoding pdus l place left end (apdu.AbortUser r) b s t = ended-whole l _ place left end b s t
+strip-encoding pdus l place left end (apdu.AbortProvider r) b s t = ended-whole l _ place left end b s t
+strip-encoding pdus l place left end (apdu.Start m d) b s t = led-strip l _ place d s ∙ ap padded (append-assoc (indexBits (lastOf pdus) 2) (modeBits pdus m) (contentBits (contentIn l l l d)))
+strip-encoding pdus l place left end (apdu.Send d) b s t = led-strip l _ place d s
+strip-encoding pdus l place left end (apdu.Forward f) b s t = ended-whole l _ place left end b s t
+strip-encoding pdus l place left end (apdu.ForwardResponse x) b s t = ended-whole l _ place left end b s t
 
-pub accepted-encoding : (side : Side) (l : List ℕ) (a : Apdu) → Bits l → apduAt side l 0 ≡ answer.Is a → Accepted side l a
-accepted-encoding side l a b e =
-    let i = apdu-read side l 0 a b e in
-    record { shaped = i .shaped; fits = apdu-fit side l l l a (i .shaped); bits = strip-encoding side l (i .place) (i .left) (i .end) a b (i .stands) (i .tail) }
+pub accepted-encoding : (pdus : PduType) (l : List ℕ) (a : Apdu) → Bits l → apduAt pdus l 0 ≡ decoded.Is a → Accepted pdus l a
+accepted-encoding pdus l a b e =
+    let i = apdu-read pdus l 0 a b e in
+    record { placed-fits = i .placed-fits; fits = apdu-value-fits pdus l l l a (i .placed-fits); bits = strip-encoding pdus l (i .place) (i .left) (i .end) a b (i .stands) (i .tail) }
 
 -- WITH THE ADDITIONS GONE IT IS READ AS THE SAME VALUE
-pub stripped-read : (side : Side) (l : List ℕ) (a : Apdu) → Bits l → apduAt side l 0 ≡ answer.Is a → ApduRead side (strip side l a) 0 (pduIn l l l a)
-stripped-read side l a b e =
-    let c = accepted-encoding side l a b e in
-    encoding-accepted side (strip side l a) (pduIn l l l a) (c .fits) (c .bits)
+pub stripped-read : (pdus : PduType) (l : List ℕ) (a : Apdu) → Bits l → apduAt pdus l 0 ≡ decoded.Is a → ApduRead pdus (strip pdus l a) 0 (pduIn l l l a)
+stripped-read pdus l a b e =
+    let c = accepted-encoding pdus l a b e in
+    encoding-accepted pdus (strip pdus l a) (pduIn l l l a) (c .fits) (c .bits)
 
 -- ---- without additions
 
-plain-stands : (side : Side) (l : List ℕ) (place : ℕ) (a : Apdu) → Standing side l 0 place a → extended side l a ≡ false → Stands l 0 (pduBits side (pduIn l l l a)) place
+plain-stands : (pdus : PduType) (l : List ℕ) (place : ℕ) (a : Apdu) → Standing pdus l 0 place a → extended pdus l a ≡ false → Stands l 0 (pduBits pdus (pduIn l l l a)) place
 unfolding extended pduBits pduIn
-plain-stands side l place (apdu.AbortUser r) s e = s
-plain-stands side l place (apdu.AbortProvider r) s e = s
-plain-stands side l place (apdu.Start m d) s e =
-    subst (λ (x : List ℕ). Stands l 0 x place) (append-assoc (indexBits (lastOf side) 2) (modeBits side m) (contentBits (contentIn l l l d))) (led-plain l _ place d s (led-unmarked l _ place d s e))
-plain-stands side l place (apdu.Send d) s e = led-plain l _ place d s (led-unmarked l _ place d s e)
-plain-stands side l place (apdu.Forward f) s e = s
-plain-stands side l place (apdu.ForwardResponse x) s e = s
+plain-stands pdus l place (apdu.AbortUser r) s e = s
+plain-stands pdus l place (apdu.AbortProvider r) s e = s
+plain-stands pdus l place (apdu.Start m d) s e =
+    subst (λ (x : List ℕ). Stands l 0 x place) (append-assoc (indexBits (lastOf pdus) 2) (modeBits pdus m) (contentBits (contentIn l l l d))) (led-plain l _ place d s (led-unmarked l _ place d s e))
+plain-stands pdus l place (apdu.Send d) s e = led-plain l _ place d s (led-unmarked l _ place d s e)
+plain-stands pdus l place (apdu.Forward f) s e = s
+plain-stands pdus l place (apdu.ForwardResponse x) s e = s
 
 -- Bits without additions that are read as an APDU are the padded encoding of its value.
-pub record Same (side : Side) (l : List ℕ) (a : Apdu) : Type 0 where
-  pub bits : l ≡ padded (pduBits side (pduIn l l l a))
-  pub stands : Stands l 0 (pduBits side (pduIn l l l a)) (length (pduBits side (pduIn l l l a)))
+pub record Same (pdus : PduType) (l : List ℕ) (a : Apdu) : Type 0 where
+  pub bits : l ≡ padded (pduBits pdus (pduIn l l l a))
+  pub stands : Stands l 0 (pduBits pdus (pduIn l l l a)) (length (pduBits pdus (pduIn l l l a)))
 
-pub plain-encoding : (side : Side) (l : List ℕ) (a : Apdu) → Bits l → extended side l a ≡ false → apduAt side l 0 ≡ answer.Is a → Same side l a
-plain-encoding side l a b x e =
-    let i = apdu-read side l 0 a b e in
-    let s = plain-stands side l (i .place) a (i .stands) x in
+pub plain-encoding : (pdus : PduType) (l : List ℕ) (a : Apdu) → Bits l → extended pdus l a ≡ false → apduAt pdus l 0 ≡ decoded.Is a → Same pdus l a
+plain-encoding pdus l a b x e =
+    let i = apdu-read pdus l 0 a b e in
+    let s = plain-stands pdus l (i .place) a (i .stands) x in
     record { bits = ended-whole l _ (i .place) (i .left) (i .end) b s (i .tail); stands = record { place = omega arith; within = s .within; holds = s .holds } }
 
 -- to take additions away changes nothing exactly where there are none
-pub plain-strip : (side : Side) (l : List ℕ) (a : Apdu) → Bits l → extended side l a ≡ false → apduAt side l 0 ≡ answer.Is a → strip side l a ≡ l
-plain-strip side l a b x e = accepted-encoding side l a b e .bits ∙ sym (plain-encoding side l a b x e .bits)
+pub plain-strip : (pdus : PduType) (l : List ℕ) (a : Apdu) → Bits l → extended pdus l a ≡ false → apduAt pdus l 0 ≡ decoded.Is a → strip pdus l a ≡ l
+plain-strip pdus l a b x e = accepted-encoding pdus l a b e .bits ∙ sym (plain-encoding pdus l a b x e .bits)
 
 unmarked : (x y : ℕ) → x ≡ y → y ≡ 0 → eqb x 1 ≡ false
 unmarked x y p q = rw (p, q)
 
-strip-standing : (side : Side) (l : List ℕ) (place : ℕ) (a : Apdu) → Standing side l 0 place a → strip side l a ≡ l → extended side l a ≡ false
+strip-standing : (pdus : PduType) (l : List ℕ) (place : ℕ) (a : Apdu) → Standing pdus l 0 place a → strip pdus l a ≡ l → extended pdus l a ≡ false
 unfolding strip extended
-strip-standing side l place (apdu.AbortUser r) s e = refl
-strip-standing side l place (apdu.AbortProvider r) s e = refl
-strip-standing side l place (apdu.Start m d) s e = unmarked _ _ (ap (λ (x : List ℕ). getD x (length (alternative side kind.Start ++ modeBits side m)) 0) (sym e)) (led-cleared l _ place d s)
-strip-standing side l place (apdu.Send d) s e = unmarked _ _ (ap (λ (x : List ℕ). getD x (length (alternative side kind.Send)) 0) (sym e)) (led-cleared l _ place d s)
-strip-standing side l place (apdu.Forward f) s e = refl
-strip-standing side l place (apdu.ForwardResponse x) s e = refl
+strip-standing pdus l place (apdu.AbortUser r) s e = refl
+strip-standing pdus l place (apdu.AbortProvider r) s e = refl
+strip-standing pdus l place (apdu.Start m d) s e = unmarked _ _ (ap (λ (x : List ℕ). getD x (length (alternative pdus kind.Start ++ modeBits pdus m)) 0) (sym e)) (led-cleared l _ place d s)
+strip-standing pdus l place (apdu.Send d) s e = unmarked _ _ (ap (λ (x : List ℕ). getD x (length (alternative pdus kind.Send)) 0) (sym e)) (led-cleared l _ place d s)
+strip-standing pdus l place (apdu.Forward f) s e = refl
+strip-standing pdus l place (apdu.ForwardResponse x) s e = refl
 
-pub strip-plain : (side : Side) (l : List ℕ) (a : Apdu) → Bits l → apduAt side l 0 ≡ answer.Is a → strip side l a ≡ l → extended side l a ≡ false
-strip-plain side l a b e k =
-    let i = apdu-read side l 0 a b e in
-    strip-standing side l (i .place) a (i .stands) k
+pub strip-plain : (pdus : PduType) (l : List ℕ) (a : Apdu) → Bits l → apduAt pdus l 0 ≡ decoded.Is a → strip pdus l a ≡ l → extended pdus l a ≡ false
+strip-plain pdus l a b e k =
+    let i = apdu-read pdus l 0 a b e in
+    strip-standing pdus l (i .place) a (i .stands) k
 
 -- every bit of accepted bytes without additions is lent
-accepted-all : (side : Side) (s : List ℕ) (a : Apdu) → extended side (lent s) a ≡ false → apduAt side (lent s) 0 ≡ answer.Is a → lent s ≡ bitsOf s
-accepted-all side s a x e =
-    let c = accepted-encoding side (lent s) a (bits-to s allBits) e in
-    let m = pdu-most side (pduIn (lent s) (lent s) (lent s) a) (c .fits) in
-    let n = length-padded (pduBits side (pduIn (lent s) (lent s) (lent s) a)) in
-    let k : length (lent s) ≡ length (padded (pduBits side (pduIn (lent s) (lent s) (lent s) a))) = ap length (plain-encoding side (lent s) a (bits-to s allBits) x e .bits) in
+accepted-all : (pdus : PduType) (s : List ℕ) (a : Apdu) → extended pdus (lent s) a ≡ false → apduAt pdus (lent s) 0 ≡ decoded.Is a → lent s ≡ bitsOf s
+accepted-all pdus s a x e =
+    let c = accepted-encoding pdus (lent s) a (bits-to s allBits) e in
+    let m = pdu-most pdus (pduIn (lent s) (lent s) (lent s) a) (c .fits) in
+    let n = length-padded (pduBits pdus (pduIn (lent s) (lent s) (lent s) a)) in
+    let k : length (lent s) ≡ length (padded (pduBits pdus (pduIn (lent s) (lent s) (lent s) a))) = ap length (plain-encoding pdus (lent s) a (bits-to s allBits) x e .bits) in
     let t = length-to s allBits in
     all-bits s allBits (omega arith)
 
 -- To write what was read from bytes without additions, with the parts taken from where they stand, leaves those bytes in the buffer, and later bytes as they
 -- were.
-pub read-written : (side : Side) (s t : List ℕ) (a : Apdu) → Bytes s → Bytes t → bufferLeast ≤ length t → extended side (lent s) a ≡ false → apduAt side (lent s) 0 ≡ answer.Is a
-    → writeOut (apduShaped side (lent s) (lent s) (lent s) a) t (pduBits side (pduIn (lent s) (lent s) (lent s) a))
-    ≡ done (written.Bits (length (pduBits side (pduIn (lent s) (lent s) (lent s) a)))) (s ++ drop (length s) t)
+pub read-written : (pdus : PduType) (s t : List ℕ) (a : Apdu) → Bytes s → Bytes t → bufferLeast ≤ length t → extended pdus (lent s) a ≡ false → apduAt pdus (lent s) 0 ≡ decoded.Is a
+    → writeOut (apduFits pdus (lent s) (lent s) (lent s) a) t (pduBits pdus (pduIn (lent s) (lent s) (lent s) a))
+    ≡ done (written.Bits (length (pduBits pdus (pduIn (lent s) (lent s) (lent s) a)))) (s ++ drop (length s) t)
 unfolding writeOut
-read-written side s t a hs ht g x e =
-    let c = accepted-encoding side (lent s) a (bits-to s allBits) e in
+read-written pdus s t a hs ht g x e =
+    let c = accepted-encoding pdus (lent s) a (bits-to s allBits) e in
     let v : Pdu = pduIn (lent s) (lent s) (lent s) a in
-    let m = pdu-most side (pduIn (lent s) (lent s) (lent s) a) (c .fits) in
-    let n = length-padded (pduBits side (pduIn (lent s) (lent s) (lent s) a)) in
-    let q : padded (pduBits side (pduIn (lent s) (lent s) (lent s) a)) ≡ bitsOf s = sym (plain-encoding side (lent s) a (bits-to s allBits) x e .bits) ∙ accepted-all side s a x e in
-    let k : length (bitsOf s) ≡ length (padded (pduBits side (pduIn (lent s) (lent s) (lent s) a))) = ap length (sym q) in
+    let m = pdu-most pdus (pduIn (lent s) (lent s) (lent s) a) (c .fits) in
+    let n = length-padded (pduBits pdus (pduIn (lent s) (lent s) (lent s) a)) in
+    let q : padded (pduBits pdus (pduIn (lent s) (lent s) (lent s) a)) ≡ bitsOf s = sym (plain-encoding pdus (lent s) a (bits-to s allBits) x e .bits) ∙ accepted-all pdus s a x e in
+    let k : length (bitsOf s) ≡ length (padded (pduBits pdus (pduIn (lent s) (lent s) (lent s) a))) = ap length (sym q) in
     let z = length-bits s in
-    let p : putBits t 0 (padded (pduBits side (pduIn (lent s) (lent s) (lent s) a))) ≡ s ++ drop (length s) t = ap (putBits t 0) q ∙ put-bytes t s ht hs (omega arith) in
-    rw (le-ltb (length t) bufferLeast g, c .shaped, p)
+    let p : putBits t 0 (padded (pduBits pdus (pduIn (lent s) (lent s) (lent s) a))) ≡ s ++ drop (length s) t = ap (putBits t 0) q ∙ put-bytes t s ht hs (omega arith) in
+    rw (le-ltb (length t) bufferLeast g, c .placed-fits, p)
 
 -- ---- with additions or without
 
 -- To write what was read leaves the APDU with the additions gone at the front of the buffer, and later bytes as they were.
-pub read-stripped : (side : Side) (s t : List ℕ) (a : Apdu) → bufferLeast ≤ length t → apduAt side (lent s) 0 ≡ answer.Is a
-    → writeOut (apduShaped side (lent s) (lent s) (lent s) a) t (pduBits side (pduIn (lent s) (lent s) (lent s) a))
-    ≡ done (written.Bits (length (pduBits side (pduIn (lent s) (lent s) (lent s) a)))) (putBits t 0 (strip side (lent s) a))
+pub read-stripped : (pdus : PduType) (s t : List ℕ) (a : Apdu) → bufferLeast ≤ length t → apduAt pdus (lent s) 0 ≡ decoded.Is a
+    → writeOut (apduFits pdus (lent s) (lent s) (lent s) a) t (pduBits pdus (pduIn (lent s) (lent s) (lent s) a))
+    ≡ done (written.Bits (length (pduBits pdus (pduIn (lent s) (lent s) (lent s) a)))) (putBits t 0 (strip pdus (lent s) a))
 unfolding writeOut
-read-stripped side s t a g e =
-    let c = accepted-encoding side (lent s) a (bits-to s allBits) e in
-    rw (le-ltb (length t) bufferLeast g, c .shaped, c .bits)
+read-stripped pdus s t a g e =
+    let c = accepted-encoding pdus (lent s) a (bits-to s allBits) e in
+    rw (le-ltb (length t) bufferLeast g, c .placed-fits, c .bits)
 
 -- ---- the writer's refusals, and no others
 
@@ -425,48 +425,48 @@ writes s bs h = rw (le-ltb (length s) bufferLeast h)
 
 -- ---- the message data that a user is delivered: the root's bits behind a bit 0, whatever the extension bit was
 
-pub send-delivered : (side : Side) (s : List ℕ) (d : Data) → apduAt side (lent s) 0 ≡ answer.Is (apdu.Send d)
-    → contentBits (contentIn (lent s) (lent s) (lent s) d) ≡ bitsN 1 0 ++ take (rootEnd d - (width side + 1)) (drop (width side + 1) (lent s))
-send-delivered side s d e =
-    let i = apdu-read side (lent s) 0 (apdu.Send d) (bits-to s allBits) e in
-    rw (length-alternative side 3) at (led-content (lent s) (indexBits (lastOf side) 3) (i .place) d (i .stands))
+pub send-delivered : (pdus : PduType) (s : List ℕ) (d : Data) → apduAt pdus (lent s) 0 ≡ decoded.Is (apdu.Send d)
+    → contentBits (contentIn (lent s) (lent s) (lent s) d) ≡ bitsN 1 0 ++ take (rootEnd d - (width pdus + 1)) (drop (width pdus + 1) (lent s))
+send-delivered pdus s d e =
+    let i = apdu-read pdus (lent s) 0 (apdu.Send d) (bits-to s allBits) e in
+    rw (length-alternative pdus 3) at (led-content (lent s) (indexBits (lastOf pdus) 3) (i .place) d (i .stands))
 
-pub start-delivered : (side : Side) (s : List ℕ) (m : ℕ) (d : Data) → apduAt side (lent s) 0 ≡ answer.Is (apdu.Start m d)
-    → contentBits (contentIn (lent s) (lent s) (lent s) d) ≡ bitsN 1 0 ++ take (rootEnd d - (width side + length (modeBits side m) + 1)) (drop (width side + length (modeBits side m) + 1) (lent s))
-start-delivered side s m d e =
-    let i = apdu-read side (lent s) 0 (apdu.Start m d) (bits-to s allBits) e in
-    rw (length-append, length-alternative side 2) at (led-content (lent s) (indexBits (lastOf side) 2 ++ modeBits side m) (i .place) d (i .stands))
+pub start-delivered : (pdus : PduType) (s : List ℕ) (m : ℕ) (d : Data) → apduAt pdus (lent s) 0 ≡ decoded.Is (apdu.Start m d)
+    → contentBits (contentIn (lent s) (lent s) (lent s) d) ≡ bitsN 1 0 ++ take (rootEnd d - (width pdus + length (modeBits pdus m) + 1)) (drop (width pdus + length (modeBits pdus m) + 1) (lent s))
+start-delivered pdus s m d e =
+    let i = apdu-read pdus (lent s) 0 (apdu.Start m d) (bits-to s allBits) e in
+    rw (length-append, length-alternative pdus 2) at (led-content (lent s) (indexBits (lastOf pdus) 2 ++ modeBits pdus m) (i .place) d (i .stands))
 
 -- and so, without additions, bits of the APDU
-pub send-plain : (side : Side) (s : List ℕ) (d : Data) → extended side (lent s) (apdu.Send d) ≡ false → apduAt side (lent s) 0 ≡ answer.Is (apdu.Send d)
-    → contentBits (contentIn (lent s) (lent s) (lent s) d) ≡ take (length (contentBits (contentIn (lent s) (lent s) (lent s) d))) (drop (width side) (lent s))
+pub send-plain : (pdus : PduType) (s : List ℕ) (d : Data) → extended pdus (lent s) (apdu.Send d) ≡ false → apduAt pdus (lent s) 0 ≡ decoded.Is (apdu.Send d)
+    → contentBits (contentIn (lent s) (lent s) (lent s) d) ≡ take (length (contentBits (contentIn (lent s) (lent s) (lent s) d))) (drop (width pdus) (lent s))
 unfolding pduBits pduIn
-send-plain side s d x e =
-    let c = plain-encoding side (lent s) (apdu.Send d) (bits-to s allBits) x e in
-    let w = stands-split (lent s) 0 _ (indexBits (lastOf side) 3) (contentBits (contentIn (lent s) (lent s) (lent s) d)) (c .stands) in
+send-plain pdus s d x e =
+    let c = plain-encoding pdus (lent s) (apdu.Send d) (bits-to s allBits) x e in
+    let w = stands-split (lent s) 0 _ (indexBits (lastOf pdus) 3) (contentBits (contentIn (lent s) (lent s) (lent s) d)) (c .stands) in
     let h = w .second .holds in
-    let p : 0 + length (indexBits (lastOf side) 3) ≡ width side = omega (arith, length-alternative side 3) in
+    let p : 0 + length (indexBits (lastOf pdus) 3) ≡ width pdus = omega (arith, length-alternative pdus 3) in
     sym (rw p at h)
 
-pub start-plain : (side : Side) (s : List ℕ) (m : ℕ) (d : Data) → extended side (lent s) (apdu.Start m d) ≡ false → apduAt side (lent s) 0 ≡ answer.Is (apdu.Start m d)
-    → contentBits (contentIn (lent s) (lent s) (lent s) d) ≡ take (length (contentBits (contentIn (lent s) (lent s) (lent s) d))) (drop (width side + length (modeBits side m)) (lent s))
+pub start-plain : (pdus : PduType) (s : List ℕ) (m : ℕ) (d : Data) → extended pdus (lent s) (apdu.Start m d) ≡ false → apduAt pdus (lent s) 0 ≡ decoded.Is (apdu.Start m d)
+    → contentBits (contentIn (lent s) (lent s) (lent s) d) ≡ take (length (contentBits (contentIn (lent s) (lent s) (lent s) d))) (drop (width pdus + length (modeBits pdus m)) (lent s))
 unfolding pduBits pduIn
-start-plain side s m d x e =
-    let c = plain-encoding side (lent s) (apdu.Start m d) (bits-to s allBits) x e in
-    let w = stands-split (lent s) 0 _ (indexBits (lastOf side) 2) (modeBits side m ++ contentBits (contentIn (lent s) (lent s) (lent s) d)) (c .stands) in
-    let u = stands-split (lent s) _ _ (modeBits side m) (contentBits (contentIn (lent s) (lent s) (lent s) d)) (w .second) in
+start-plain pdus s m d x e =
+    let c = plain-encoding pdus (lent s) (apdu.Start m d) (bits-to s allBits) x e in
+    let w = stands-split (lent s) 0 _ (indexBits (lastOf pdus) 2) (modeBits pdus m ++ contentBits (contentIn (lent s) (lent s) (lent s) d)) (c .stands) in
+    let u = stands-split (lent s) _ _ (modeBits pdus m) (contentBits (contentIn (lent s) (lent s) (lent s) d)) (w .second) in
     let h = u .second .holds in
-    let p : 0 + length (indexBits (lastOf side) 2) + length (modeBits side m) ≡ width side + length (modeBits side m) = omega (arith, length-alternative side 2) in
+    let p : 0 + length (indexBits (lastOf pdus) 2) + length (modeBits pdus m) ≡ width pdus + length (modeBits pdus m) = omega (arith, length-alternative pdus 2) in
     sym (rw p at h)
 
-pub forward-delivered : (s : List ℕ) (f : Forward) → apduAt Ground (lent s) 0 ≡ answer.Is (apdu.Forward f)
-    → forwardBits (f .heading) (itemsIn (lent s) bit (f .message)) ≡ take (length (forwardBits (f .heading) (itemsIn (lent s) bit (f .message)))) (drop (width Ground) (lent s))
+pub forward-delivered : (s : List ℕ) (f : Forward) → apduAt GroundPdus (lent s) 0 ≡ decoded.Is (apdu.Forward f)
+    → forwardBits (f .heading) (itemsIn (lent s) bit (f .message)) ≡ take (length (forwardBits (f .heading) (itemsIn (lent s) bit (f .message)))) (drop (width GroundPdus) (lent s))
 unfolding pduBits pduIn extended
 forward-delivered s f e =
-    let c = plain-encoding Ground (lent s) (apdu.Forward f) (bits-to s allBits) refl e in
-    let w = stands-split (lent s) 0 _ (indexBits (lastOf Ground) 4) (forwardBits (f .heading) (itemsIn (lent s) bit (f .message))) (c .stands) in
+    let c = plain-encoding GroundPdus (lent s) (apdu.Forward f) (bits-to s allBits) refl e in
+    let w = stands-split (lent s) 0 _ (indexBits (lastOf GroundPdus) 4) (forwardBits (f .heading) (itemsIn (lent s) bit (f .message))) (c .stands) in
     let h = w .second .holds in
-    let p : 0 + length (indexBits (lastOf Ground) 4) ≡ width Ground = omega (arith, length-alternative Ground 4) in
+    let p : 0 + length (indexBits (lastOf GroundPdus) 4) ≡ width GroundPdus = omega (arith, length-alternative GroundPdus 4) in
     sym (rw p at h)
 
 -- ---- a forward message by itself, as it is delivered
@@ -477,13 +477,13 @@ pub record ForwardWhole (l : List ℕ) (h : Heading) (m : List ℕ) : Type 0 whe
   pub heading : value .heading ≡ h
   pub message : itemsIn l bit (value .message) ≡ m
 
-forward-accepted : (h : Heading) (m : List ℕ) → forwardFits h m ≡ true → ForwardWhole (padded (forwardBits h m)) h m
+forward-accepted : (h : Heading) (m : List ℕ) → forwardPduFits h m ≡ true → ForwardWhole (padded (forwardBits h m)) h m
 unfolding wholeForwardWithin
 forward-accepted h m e =
     let f = forward-written (padded (forwardBits h m)) 0 (length (forwardBits h m)) h m e (stands-front (forwardBits h m)) in
     record { value = f .value; read = rw (f .read, tail-padded (forwardBits h m)); heading = f .heading; message = f .message }
 
-pub forward-written-read : (h : Heading) (m t : List ℕ) → Bits (forwardBits h m) → forwardFits h m ≡ true → bufferLeast ≤ length t
+pub forward-written-read : (h : Heading) (m t : List ℕ) → Bits (forwardBits h m) → forwardPduFits h m ≡ true → bufferLeast ≤ length t
     → ForwardWhole (lent (take (bytesFor (length (forwardBits h m))) (putBits t 0 (padded (forwardBits h m))))) h m
 forward-written-read h m t b e g =
     let k = forward-most h m e in
@@ -500,10 +500,10 @@ largest = refl
 pub largest-bytes : bytesFor pduMost ≡ 2077
 largest-bytes = refl
 
-pub largest-fits : pduFits Air (start modeLast full) ≡ true
+pub largest-fits : pduFits AircraftPdus (start modeLast full) ≡ true
 unfolding full pduFits modeFits contentFits optionalFits
 largest-fits = refl
 
-pub largest-reached : length (pduBits Air (start modeLast full)) ≡ pduMost
+pub largest-reached : length (pduBits AircraftPdus (start modeLast full)) ≡ pduMost
 unfolding full pduBits modeBits contentBits optionalBits stringBits indexBits wholeBits lengthBits bitsN digitsIn
 largest-reached = refl

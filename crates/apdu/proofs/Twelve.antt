@@ -20,7 +20,7 @@ use Rattle.apdu.specs.Headings.{responseLast}
 use Rattle.apdu.specs.Pdus.{lastOf, kindOf}
 use Rattle.apdu.specs.Encoding.{padding}
 use Rattle.apdu.specs.Reading.{onField, onTaken, onData, onForward, onLead, partsAt, withAdditions, dataWithin, dataAt, forwardAt, kindMode, leadingAt, tailAt, endedAt, restWithin, restAt, apduWithin, apduAt}
-use Rattle.apdu.specs.declared.Side.{Side}
+use Rattle.apdu.specs.declared.PduType.{PduType}
 use Rattle.apdu.specs.declared.Kind.{Kind}
 use Rattle.apdu.specs.declared.Kind.the-variants as kind
 use Rattle.apdu.specs.declared.Data.{Data}
@@ -33,17 +33,17 @@ use Rattle.apdu.specs.declared.Taken.{Taken}
 use Rattle.apdu.specs.declared.Taken.the-variants as taken
 use Rattle.apdu.specs.declared.Lead.{Lead}
 use Rattle.apdu.specs.declared.Lead.the-variants as lead
-use Rattle.apdu.specs.declared.Answer.{Answer}
-use Rattle.apdu.specs.declared.Answer.the-variants as answer
+use Rattle.apdu.specs.declared.Decoded.{Decoded}
+use Rattle.apdu.specs.declared.Decoded.the-variants as decoded
 use Rattle.apdu.proofs.Bounds.{never}
 use Rattle.apdu.proofs.Spared.{Not, Spared, spared-value, spared-fault, spared-then, spared-cond, bits-spared, whole-spared, kind-mode-spared, parts-spared, forward-spared, stepped-spared, taken-one}
 
 -- message data whose extension bit is 1, and whose root ends at a place
-pub record Root (side : Side) (l : List ℕ) (at : ℕ) : Type 0 where
+pub record Root (pdus : PduType) (l : List ℕ) (at : ℕ) : Type 0 where
   pub kind : Kind
   pub mode : ℕ
   pub begin : ℕ
-  pub led : leadingAt side l 0 ≡ lead.Is kind mode begin
+  pub led : leadingAt pdus l 0 ≡ lead.Is kind mode begin
   pub mark : ℕ
   pub after : ℕ
   pub extension : bitField l begin 1 ≡ Value mark after
@@ -54,11 +54,11 @@ pub record Root (side : Side) (l : List ℕ) (at : ℕ) : Type 0 where
   pub parts : Data
   pub root : partsAt l from identified messaged ≡ taken.Is parts at
 
-pub data Twelve (side : Side) (l : List ℕ) (r : Refusal) : Type 0 where
-  of-choice : extensionBit l 0 ≡ Refused r → Twelve side l r
-  of-enumerated : (c : Kind) (m at : ℕ) → leadingAt side l 0 ≡ lead.Is c m at → extensionBit l at ≡ Refused r → Twelve side l r
-  of-count : (at : ℕ) → Root side l at → extensionBit l at ≡ Refused r → Twelve side l r
-  of-none : (at n p next : ℕ) → Root side l at → additionCount l at ≡ Value n p → bitField l p n ≡ Value 0 next → r ≡ refusal p Extension → Twelve side l r
+pub data Twelve (pdus : PduType) (l : List ℕ) (r : Refusal) : Type 0 where
+  of-choice : extensionBit l 0 ≡ Refused r → Twelve pdus l r
+  of-enumerated : (c : Kind) (m at : ℕ) → leadingAt pdus l 0 ≡ lead.Is c m at → extensionBit l at ≡ Refused r → Twelve pdus l r
+  of-count : (at : ℕ) → Root pdus l at → extensionBit l at ≡ Refused r → Twelve pdus l r
+  of-none : (at n p next : ℕ) → Root pdus l at → additionCount l at ≡ Value n p → bitField l p n ≡ Value 0 next → r ≡ refusal p Extension → Twelve pdus l r
 
 -- no other fault is Extension
 twelve-not : (r : Refusal) → r .fault ≡ Extension → Not r
@@ -71,13 +71,13 @@ twelve-not r x =
       default = λ (e : Default ≡ r .fault). never (cc);
     }
 
-answer-one : (r q : Refusal) → answer.Refused q ≡ answer.Refused r → q ≡ r
+answer-one : (r q : Refusal) → decoded.Refused q ≡ decoded.Refused r → q ≡ r
 answer-one r q e = cc
 
 lead-one : (r q : Refusal) → lead.Refused q ≡ lead.Refused r → q ≡ r
 lead-one r q e = cc
 
-module _ (side : Side) (l : List ℕ) (r : Refusal) (x : r .fault ≡ Extension) where
+module _ (pdus : PduType) (l : List ℕ) (r : Refusal) (x : r .fault ≡ Extension) where
   not-twelve : Not r
   not-twelve = twelve-not r x
 
@@ -102,104 +102,104 @@ module _ (side : Side) (l : List ℕ) (r : Refusal) (x : r .fault ≡ Extension)
       (spared-cond r not-twelve (leb (next + 1) (length l)) (refusedAt next Tail) (Value 0 next) (spared-fault r not-twelve Tail next (tail-not Tail refl)) (spared-value r not-twelve 0 next))
       (spared-fault r not-twelve Tail (next - widthOf v) (tail-not Tail refl)))
 
-  ended-twelve : (at : ℕ) (a : Apdu) → endedAt l at a ≡ answer.Refused r → ⊥
+  ended-twelve : (at : ℕ) (a : Apdu) → endedAt l at a ≡ decoded.Refused r → ⊥
   unfolding endedAt
   ended-twelve at a e = go (tailAt l at) refl e
     where
-      go : (f : Field) → tailAt l at ≡ f → onField answer.Refused f (λ (v n : ℕ). answer.Is a) ≡ answer.Refused r → ⊥
+      go : (f : Field) → tailAt l at ≡ f → onField decoded.Refused f (λ (v n : ℕ). decoded.Is a) ≡ decoded.Refused r → ⊥
       go (Value v n) p k = never (cc)
       go (Refused q) p k = tail-twelve at (p ∙ ap Refused (answer-one r q k))
 
   -- ---- additions
 
-  none-twelve : (at n : ℕ) (p : ℕ) → Root side l at → additionCount l at ≡ Value n p → additionsThere l p n ≡ Refused r → Twelve side l r
+  none-twelve : (at n : ℕ) (p : ℕ) → Root pdus l at → additionCount l at ≡ Value n p → additionsThere l p n ≡ Refused r → Twelve pdus l r
   unfolding additionsThere
   none-twelve at n p o c e = go (bitField l p n) refl e
     where
-      by : (v k : ℕ) → bitField l p n ≡ Value v k → (t : Bool) → eqb v 0 ≡ t → cond t (refusedAt p Extension) (Value v k) ≡ Refused r → Twelve side l r
+      by : (v k : ℕ) → bitField l p n ≡ Value v k → (t : Bool) → eqb v 0 ≡ t → cond t (refusedAt p Extension) (Value v k) ≡ Refused r → Twelve pdus l r
       by v k f true q u =
           let z : v ≡ 0 = eqb-true v 0 q in
           let w : refusal p Extension ≡ r = cc in
           of-none at n p k o c (f ∙ ap (λ (y : ℕ). Value y k) z) (sym w)
       by v k f false q u = never (cc)
 
-      go : (f : Field) → bitField l p n ≡ f → then f (λ (v next : ℕ). cond (eqb v 0) (refusedAt p Extension) (Value v next)) ≡ Refused r → Twelve side l r
+      go : (f : Field) → bitField l p n ≡ f → then f (λ (v next : ℕ). cond (eqb v 0) (refusedAt p Extension) (Value v next)) ≡ Refused r → Twelve pdus l r
       go (Refused q) f k = absurd (bits-spared r not-twelve l p n (f ∙ k))
       go (Value v k) f u = by v k f (eqb v 0) refl u
 
-  count-twelve : (at : ℕ) → Root side l at → additionCount l at ≡ Refused r → Twelve side l r
+  count-twelve : (at : ℕ) → Root pdus l at → additionCount l at ≡ Refused r → Twelve pdus l r
   unfolding additionCount
   count-twelve at o e = go (extensionBit l at) refl e
     where
-      seven : (f : Field) → bitField l at 7 ≡ f → then f (λ (v next : ℕ). Value (v + 1) next) ≡ Refused r → Twelve side l r
+      seven : (f : Field) → bitField l at 7 ≡ f → then f (λ (v next : ℕ). Value (v + 1) next) ≡ Refused r → Twelve pdus l r
       seven (Refused q) f k = absurd (bits-spared r not-twelve l at 7 (f ∙ k))
       seven (Value v n) f k = never (cc)
 
-      go : (f : Field) → extensionBit l at ≡ f → then f (λ (b p : ℕ). then (bitField l at 7) (λ (v next : ℕ). Value (v + 1) next)) ≡ Refused r → Twelve side l r
+      go : (f : Field) → extensionBit l at ≡ f → then f (λ (b p : ℕ). then (bitField l at 7) (λ (v next : ℕ). Value (v + 1) next)) ≡ Refused r → Twelve pdus l r
       go (Refused q) f k = of-count at o (f ∙ k)
       go (Value b n) f k = seven (bitField l at 7) refl k
 
-  additions-twelve : (at : ℕ) → Root side l at → additionsAt l at ≡ Refused r → Twelve side l r
+  additions-twelve : (at : ℕ) → Root pdus l at → additionsAt l at ≡ Refused r → Twelve pdus l r
   unfolding additionsAt
   additions-twelve at o e = go (additionCount l at) refl e
     where
-      second : (n p : ℕ) → additionCount l at ≡ Value n p → (f : Field) → additionsThere l p n ≡ f → then f (λ (v q : ℕ). steppedOver l q (ones v)) ≡ Refused r → Twelve side l r
+      second : (n p : ℕ) → additionCount l at ≡ Value n p → (f : Field) → additionsThere l p n ≡ f → then f (λ (v q : ℕ). steppedOver l q (ones v)) ≡ Refused r → Twelve pdus l r
       second n p c (Refused q) f k = none-twelve at n p o c (f ∙ k)
       second n p c (Value v q) f k = absurd (stepped-spared r not-twelve l (ones v) q k)
 
-      go : (f : Field) → additionCount l at ≡ f → then f (λ (n p : ℕ). then (additionsThere l p n) (λ (v q : ℕ). steppedOver l q (ones v))) ≡ Refused r → Twelve side l r
+      go : (f : Field) → additionCount l at ≡ f → then f (λ (n p : ℕ). then (additionsThere l p n) (λ (v q : ℕ). steppedOver l q (ones v))) ≡ Refused r → Twelve pdus l r
       go (Refused q) f k = count-twelve at o (f ∙ k)
       go (Value n p) f k = second n p f (additionsThere l p n) refl k
 
   -- ---- message data
 
-  module _ (c : Kind) (m at : ℕ) (led : leadingAt side l 0 ≡ lead.Is c m at) where
-    root-twelve : (e p q : ℕ) (i s : Bool) → bitField l at 1 ≡ Value e p → eqb e 0 ≡ false → (t : Taken) → partsAt l q i s ≡ t → withAdditions l t ≡ taken.Refused r → Twelve side l r
+  module _ (c : Kind) (m at : ℕ) (led : leadingAt pdus l 0 ≡ lead.Is c m at) where
+    root-twelve : (e p q : ℕ) (i s : Bool) → bitField l at 1 ≡ Value e p → eqb e 0 ≡ false → (t : Taken) → partsAt l q i s ≡ t → withAdditions l t ≡ taken.Refused r → Twelve pdus l r
     unfolding withAdditions
     root-twelve e p q i s f z (taken.Refused y) g k = absurd (parts-spared r not-twelve l q i s (g ∙ k))
     root-twelve e p q i s f z (taken.Is d n) g k = go (additionsAt l n) refl k
       where
-        o : Root side l n
+        o : Root pdus l n
         o = record { kind = c; mode = m; begin = at; led = led; mark = e; after = p; extension = f; set = z; from = q; identified = i; messaged = s; parts = d; root = g }
 
-        go : (y : Field) → additionsAt l n ≡ y → onField taken.Refused y (λ (v after : ℕ). taken.Is d after) ≡ taken.Refused r → Twelve side l r
+        go : (y : Field) → additionsAt l n ≡ y → onField taken.Refused y (λ (v after : ℕ). taken.Is d after) ≡ taken.Refused r → Twelve pdus l r
         go (Refused y) u w = additions-twelve n o (u ∙ ap Refused (taken-one r y w))
         go (Value v k) u w = never (cc)
 
-    data-twelve : dataAt l at ≡ taken.Refused r → Twelve side l r
+    data-twelve : dataAt l at ≡ taken.Refused r → Twelve pdus l r
     unfolding dataWithin
     data-twelve e = first (bitField l at 1) refl e
       where
         third : (x₁ p v q : ℕ) → bitField l at 1 ≡ Value x₁ p → (t : Bool) → eqb x₁ 0 ≡ t
-            → cond t (partsAt l q (leb 2 v) (eqb (v % 2) 1)) (withAdditions l (partsAt l q (leb 2 v) (eqb (v % 2) 1))) ≡ taken.Refused r → Twelve side l r
+            → cond t (partsAt l q (leb 2 v) (eqb (v % 2) 1)) (withAdditions l (partsAt l q (leb 2 v) (eqb (v % 2) 1))) ≡ taken.Refused r → Twelve pdus l r
         third x₁ p v q f true z k = absurd (parts-spared r not-twelve l q (leb 2 v) (eqb (v % 2) 1) k)
         third x₁ p v q f false z k = root-twelve x₁ p q (leb 2 v) (eqb (v % 2) 1) f z (partsAt l q (leb 2 v) (eqb (v % 2) 1)) refl k
 
         second : (x₁ p : ℕ) → bitField l at 1 ≡ Value x₁ p → (g : Field) → bitField l p 2 ≡ g
-            → onField taken.Refused g (λ (v q : ℕ). cond (eqb x₁ 0) (partsAt l q (leb 2 v) (eqb (v % 2) 1)) (withAdditions l (partsAt l q (leb 2 v) (eqb (v % 2) 1)))) ≡ taken.Refused r → Twelve side l r
+            → onField taken.Refused g (λ (v q : ℕ). cond (eqb x₁ 0) (partsAt l q (leb 2 v) (eqb (v % 2) 1)) (withAdditions l (partsAt l q (leb 2 v) (eqb (v % 2) 1)))) ≡ taken.Refused r → Twelve pdus l r
         second x₁ p f (Refused y) g k = absurd (bits-spared r not-twelve l p 2 (g ∙ ap Refused (taken-one r y k)))
         second x₁ p f (Value v q) g k = third x₁ p v q f (eqb x₁ 0) refl k
 
         first : (f : Field) → bitField l at 1 ≡ f
             → onField taken.Refused f (λ (x₁ p : ℕ). onField taken.Refused (bitField l p 2) (λ (v q : ℕ). cond (eqb x₁ 0) (partsAt l q (leb 2 v) (eqb (v % 2) 1)) (withAdditions l (partsAt l q (leb 2 v) (eqb (v % 2) 1))))) ≡ taken.Refused r
-            → Twelve side l r
+            → Twelve pdus l r
         first (Refused y) f k = absurd (bits-spared r not-twelve l at 1 (f ∙ ap Refused (taken-one r y k)))
         first (Value x₁ p) f k = second x₁ p f (bitField l p 2) refl k
 
-    on-data : (k : Data → ℕ → Apdu) (t : Taken) → dataAt l at ≡ t → onData t (λ (d : Data) (next : ℕ). endedAt l next (k d next)) ≡ answer.Refused r → Twelve side l r
+    on-data : (k : Data → ℕ → Apdu) (t : Taken) → dataAt l at ≡ t → onData t (λ (d : Data) (next : ℕ). endedAt l next (k d next)) ≡ decoded.Refused r → Twelve pdus l r
     on-data k (taken.Refused q) f e = data-twelve (f ∙ ap taken.Refused (answer-one r q e))
     on-data k (taken.Is d n) f e = absurd (ended-twelve n (k d n) e)
 
-    on-reason : (last : ℕ) (k : ℕ → Apdu) (f : Field) → extensibleIndex l at last ≡ f → onField answer.Refused f (λ (v next : ℕ). endedAt l next (k v)) ≡ answer.Refused r → Twelve side l r
+    on-reason : (last : ℕ) (k : ℕ → Apdu) (f : Field) → extensibleIndex l at last ≡ f → onField decoded.Refused f (λ (v next : ℕ). endedAt l next (k v)) ≡ decoded.Refused r → Twelve pdus l r
     on-reason last k (Refused q) f e = of-enumerated c m at led (index-twelve at last (f ∙ ap Refused (answer-one r q e)))
     on-reason last k (Value v n) f e = absurd (ended-twelve n (k v) e)
 
   -- a forward message has no extension bit
-  on-forward : (at : ℕ) (t : Forwarded) → forwardAt l at ≡ t → onForward answer.Refused t (λ (f : Forward) (next : ℕ). endedAt l next (apdu.Forward f)) ≡ answer.Refused r → Twelve side l r
+  on-forward : (at : ℕ) (t : Forwarded) → forwardAt l at ≡ t → onForward decoded.Refused t (λ (f : Forward) (next : ℕ). endedAt l next (apdu.Forward f)) ≡ decoded.Refused r → Twelve pdus l r
   on-forward at (forwarded.Refused q) g e = absurd (forward-spared r not-twelve l at (g ∙ ap forwarded.Refused (answer-one r q e)))
   on-forward at (forwarded.Is f n) g e = absurd (ended-twelve n (apdu.Forward f) e)
 
-  rest-twelve : (c : Kind) (m at : ℕ) → leadingAt side l 0 ≡ lead.Is c m at → restAt l c m at ≡ answer.Refused r → Twelve side l r
+  rest-twelve : (c : Kind) (m at : ℕ) → leadingAt pdus l 0 ≡ lead.Is c m at → restAt l c m at ≡ decoded.Refused r → Twelve pdus l r
   unfolding restWithin
   rest-twelve kind.AbortUser m at g e = on-reason kind.AbortUser m at g userLast apdu.AbortUser (extensibleIndex l at userLast) refl e
   rest-twelve kind.AbortProvider m at g e = on-reason kind.AbortProvider m at g providerLast apdu.AbortProvider (extensibleIndex l at providerLast) refl e
@@ -210,22 +210,22 @@ module _ (side : Side) (l : List ℕ) (r : Refusal) (x : r .fault ≡ Extension)
 
   -- ---- the leading fields
 
-  lead-twelve : leadingAt side l 0 ≡ lead.Refused r → Twelve side l r
+  lead-twelve : leadingAt pdus l 0 ≡ lead.Refused r → Twelve pdus l r
   unfolding leadingAt
-  lead-twelve e = go (extensibleIndex l 0 (lastOf side)) refl e
+  lead-twelve e = go (extensibleIndex l 0 (lastOf pdus)) refl e
     where
-      second : (i p : ℕ) (f : Field) → kindMode side l (kindOf i) p ≡ f → onField lead.Refused f (λ (m q : ℕ). lead.Is (kindOf i) m q) ≡ lead.Refused r → Twelve side l r
-      second i p (Refused q) f k = absurd (kind-mode-spared r not-twelve side l (kindOf i) p (f ∙ ap Refused (lead-one r q k)))
+      second : (i p : ℕ) (f : Field) → kindMode pdus l (kindOf i) p ≡ f → onField lead.Refused f (λ (m q : ℕ). lead.Is (kindOf i) m q) ≡ lead.Refused r → Twelve pdus l r
+      second i p (Refused q) f k = absurd (kind-mode-spared r not-twelve pdus l (kindOf i) p (f ∙ ap Refused (lead-one r q k)))
       second i p (Value v q) f k = never (cc)
 
-      go : (f : Field) → extensibleIndex l 0 (lastOf side) ≡ f → onField lead.Refused f (λ (i p : ℕ). onField lead.Refused (kindMode side l (kindOf i) p) (λ (m q : ℕ). lead.Is (kindOf i) m q)) ≡ lead.Refused r → Twelve side l r
-      go (Refused q) f k = of-choice (index-twelve 0 (lastOf side) (f ∙ ap Refused (lead-one r q k)))
-      go (Value i p) f k = second i p (kindMode side l (kindOf i) p) refl k
+      go : (f : Field) → extensibleIndex l 0 (lastOf pdus) ≡ f → onField lead.Refused f (λ (i p : ℕ). onField lead.Refused (kindMode pdus l (kindOf i) p) (λ (m q : ℕ). lead.Is (kindOf i) m q)) ≡ lead.Refused r → Twelve pdus l r
+      go (Refused q) f k = of-choice (index-twelve 0 (lastOf pdus) (f ∙ ap Refused (lead-one r q k)))
+      go (Value i p) f k = second i p (kindMode pdus l (kindOf i) p) refl k
 
-  pub twelve-only : apduAt side l 0 ≡ answer.Refused r → Twelve side l r
+  pub twelve-only : apduAt pdus l 0 ≡ decoded.Refused r → Twelve pdus l r
   unfolding apduWithin
-  twelve-only e = go (leadingAt side l 0) refl e
+  twelve-only e = go (leadingAt pdus l 0) refl e
     where
-      go : (t : Lead) → leadingAt side l 0 ≡ t → onLead t (restAt l) ≡ answer.Refused r → Twelve side l r
+      go : (t : Lead) → leadingAt pdus l 0 ≡ t → onLead t (restAt l) ≡ decoded.Refused r → Twelve pdus l r
       go (lead.Refused q) f k = lead-twelve (f ∙ ap lead.Refused (answer-one r q k))
       go (lead.Is c m n) f k = rest-twelve c m n f k

@@ -23,9 +23,9 @@ use Rattle.apdu.specs.Sizes.{bufferLeast, messageMost, userLast, provide
 use Rattle.apdu.specs.Headings.{responseLast}
 use Rattle.apdu.specs.Pdus.{lastOf, forwards, lent, itemsIn, partIn, contentIn, pduIn}
 use Rattle.apdu.specs.Encoding.{stringBits, optionalBits, presence, contentBits, forwardBits, modeBits, modeFits, pduBits, padding, padded}
-use Rattle.apdu.specs.Writing.{itemsShaped, partShaped, dataShaped, forwardShaped, apduShaped, runShaped, there, placeOf, done, writeOut}
-use Rattle.apdu.specs.declared.Side.{Side}
-use Rattle.apdu.specs.declared.Side.the-variants.{Air, Ground}
+use Rattle.apdu.specs.Writing.{itemsFit, partFits, dataFits, forwardFits, apduFits, runFits, there, placeOf, done, writeOut}
+use Rattle.apdu.specs.declared.PduType.{PduType}
+use Rattle.apdu.specs.declared.PduType.the-variants.{AircraftPdus, GroundPdus}
 use Rattle.apdu.specs.declared.Span.{Span}
 use Rattle.apdu.specs.declared.Part.{Part}
 use Rattle.apdu.specs.declared.Part.the-variants.{Absent, Given}
@@ -34,7 +34,7 @@ use Rattle.apdu.specs.declared.Forward.{Forward}
 use Rattle.apdu.specs.declared.Apdu.{Apdu}
 use Rattle.apdu.specs.declared.Apdu.the-variants as apdu
 use Rattle.apdu.specs.declared.Written.the-variants as written
-use Rattle.apdu.proofs.Bounds.{never, counted, Shaped, is-shaped, shaped-is, string-is, data-fit, forward-fit, apdu-fit, content-most, forward-most, pdu-most}
+use Rattle.apdu.proofs.Bounds.{never, counted, ItemsFit, items-fits, fits-items, string-is, data-value-fits, forward-value-fits, apdu-value-fits, content-most, forward-most, pdu-most}
 
 -- ---- one run after the other
 
@@ -69,7 +69,7 @@ pub part-none : (s l : List ℕ) (o : Left) (at unit : ℕ) (part : Part) → pa
 unfolding optionalBits partIn
 part-none s l o at unit part q p = none-run s o allBits at p ∙ rw q
 
-string-run : (s src : List ℕ) (o : Left) (at unit : ℕ) (x : Span) → 0 < unit → Shaped (lent src) unit 0 lengthMost x
+string-run : (s src : List ℕ) (o : Left) (at unit : ℕ) (x : Span) → 0 < unit → ItemsFit (lent src) unit 0 lengthMost x
     → o ≡ putIf (lengthFits (x .count) && leb (x .at + unit * x .count) (length (bitsTo src allBits))) s allBits at (lengthBits (x .count) ++ run src (x .at) (unit * x .count))
     → o ≡ putRun s allBits at (stringBits unit (itemsIn (lent src) unit x))
 string-run s src o at unit x pos h p =
@@ -80,27 +80,27 @@ string-run s src o at unit x pos h p =
     let r : run src (x .at) (unit * x .count) ≡ itemsIn (lent src) unit x = sym (run-to src allBits (x .at) (unit * x .count) (omega arith)) in
     p ∙ put-if-yes _ s allBits at _ g ∙ rw (r, string-is (lent src) unit x pos (h .held))
 
-pub part-some : (s src : List ℕ) (o : Left) (at unit : ℕ) (part : Part) (x : Span) → part ≡ Given x → 0 < unit → partShaped (lent src) unit 0 lengthMost part ≡ true
+pub part-some : (s src : List ℕ) (o : Left) (at unit : ℕ) (part : Part) (x : Span) → part ≡ Given x → 0 < unit → partFits (lent src) unit 0 lengthMost part ≡ true
     → o ≡ putIf (lengthFits (x .count) && leb (x .at + unit * x .count) (length (bitsTo src allBits))) s allBits at (lengthBits (x .count) ++ run src (x .at) (unit * x .count))
     → o ≡ putRun s allBits at (optionalBits unit (partIn (lent src) unit part))
-unfolding optionalBits partIn partShaped
+unfolding optionalBits partIn partFits
 part-some s src o at unit part x q pos h p =
-    string-run s src o at unit x pos (is-shaped (lent src) unit 0 lengthMost x (rw q at h)) p ∙ rw q
+    string-run s src o at unit x pos (items-fits (lent src) unit 0 lengthMost x (rw q at h)) p ∙ rw q
 
 -- a part of any size is one of the largest
-wider : (l : List ℕ) (unit least most : ℕ) (x : Span) → itemsShaped l unit least most x ≡ true → itemsShaped l unit 0 lengthMost x ≡ true
+wider : (l : List ℕ) (unit least most : ℕ) (x : Span) → itemsFit l unit least most x ≡ true → itemsFit l unit 0 lengthMost x ≡ true
 wider l unit least most x h =
-    let s = is-shaped l unit least most x h in
+    let s = items-fits l unit least most x h in
     let c = counted least most (x .count) (s .fits) in
-    shaped-is l unit 0 lengthMost x (record { fits = rw (le-leb 0 (x .count) (omega arith), le-leb (x .count) lengthMost (omega arith), lt-ltb (x .count) 16384 (c .small)); held = s .held })
+    fits-items l unit 0 lengthMost x (record { fits = rw (le-leb 0 (x .count) (omega arith), le-leb (x .count) lengthMost (omega arith), lt-ltb (x .count) 16384 (c .small)); held = s .held })
 
-pub part-wider : (l : List ℕ) (unit least most : ℕ) (p : Part) → partShaped l unit least most p ≡ true → partShaped l unit 0 lengthMost p ≡ true
-unfolding partShaped
+pub part-wider : (l : List ℕ) (unit least most : ℕ) (p : Part) → partFits l unit least most p ≡ true → partFits l unit 0 lengthMost p ≡ true
+unfolding partFits
 part-wider l unit least most Absent h = refl
 part-wider l unit least most (Given x) h = wider l unit least most x h
 
-pub check-wider : (l : List ℕ) (unit least most : ℕ) (x : Span) → itemsShaped l unit least most x ≡ true → partShaped l unit 0 lengthMost (Given x) ≡ true
-unfolding partShaped
+pub check-wider : (l : List ℕ) (unit least most : ℕ) (x : Span) → itemsFit l unit least most x ≡ true → partFits l unit 0 lengthMost (Given x) ≡ true
+unfolding partFits
 check-wider l unit least most x h = wider l unit least most x h
 
 -- ---- message data
@@ -143,29 +143,29 @@ content-put s z₁ z₂ z₃ z₄ li lm lc o at p₁ p₂ p₃ p₄ a b r₁ r�
 
 -- ---- the mode
 
-pub mode-none : (s : List ℕ) (o : Left) (at m : ℕ) (side : Side) → side ≡ Ground → o ≡ putNumber s allBits at 0 0 → o ≡ putRun s allBits at (modeBits side m)
+pub mode-none : (s : List ℕ) (o : Left) (at m : ℕ) (pdus : PduType) → pdus ≡ GroundPdus → o ≡ putNumber s allBits at 0 0 → o ≡ putRun s allBits at (modeBits pdus m)
 unfolding modeBits
-mode-none s o at m side q p = none-run s o allBits at p ∙ rw q
+mode-none s o at m pdus q p = none-run s o allBits at p ∙ rw q
 
-pub mode-default : (s : List ℕ) (o : Left) (at m : ℕ) (side : Side) → side ≡ Air → m ≡ 0 → o ≡ putNumber s allBits at 1 0 → o ≡ putRun s allBits at (modeBits side m)
+pub mode-default : (s : List ℕ) (o : Left) (at m : ℕ) (pdus : PduType) → pdus ≡ AircraftPdus → m ≡ 0 → o ≡ putNumber s allBits at 1 0 → o ≡ putRun s allBits at (modeBits pdus m)
 unfolding modeBits
-mode-default s o at m side q e p = number-run s o allBits at 1 0 (omega arith) (omega arith) p ∙ rw (q, eq-eqb m 0 e)
+mode-default s o at m pdus q e p = number-run s o allBits at 1 0 (omega arith) (omega arith) p ∙ rw (q, eq-eqb m 0 e)
 
-present-bits : (side : Side) (m : ℕ) → side ≡ Air → (m ≡ 0 → ⊥) → modeBits side m ≡ bitsN 1 1 ++ wholeBits 0 modeLast m
+present-bits : (pdus : PduType) (m : ℕ) → pdus ≡ AircraftPdus → (m ≡ 0 → ⊥) → modeBits pdus m ≡ bitsN 1 1 ++ wholeBits 0 modeLast m
 unfolding modeBits
-present-bits side m q e = rw (q, ne-eqb m 0 e)
+present-bits pdus m q e = rw (q, ne-eqb m 0 e)
 
-mode-in : (side : Side) (m : ℕ) → side ≡ Air → modeFits side m ≡ true → wholeFits 0 modeLast m ≡ true
+mode-in : (pdus : PduType) (m : ℕ) → pdus ≡ AircraftPdus → modeFits pdus m ≡ true → wholeFits 0 modeLast m ≡ true
 unfolding modeFits
-mode-in side m q h = rw q at h
+mode-in pdus m q h = rw q at h
 
-pub mode-present : (s z : List ℕ) (o : Left) (at p m : ℕ) (r : Put) (side : Side) → side ≡ Air → (m ≡ 0 → ⊥) → modeFits side m ≡ true → at + length (modeBits side m) ≤ length (bitsTo s allBits)
+pub mode-present : (s z : List ℕ) (o : Left) (at p m : ℕ) (r : Put) (pdus : PduType) → pdus ≡ AircraftPdus → (m ≡ 0 → ⊥) → modeFits pdus m ≡ true → at + length (modeBits pdus m) ≤ length (bitsTo s allBits)
     → left r z ≡ putNumber s allBits at 1 1 → p ≡ placeOf r → o ≡ putIf (wholeFits 0 modeLast m) z allBits p (wholeBits 0 modeLast m)
-    → o ≡ putRun s allBits at (modeBits side m)
-mode-present s z o at p m r side q e f h w i k =
-    let b = present-bits side m q e in
+    → o ≡ putRun s allBits at (modeBits pdus m)
+mode-present s z o at p m r pdus q e f h w i k =
+    let b = present-bits pdus m q e in
     let n = put-on s z allBits at p (bitsN 1 1) (wholeBits 0 modeLast m) r (rw b at h) (number-run s (left r z) allBits at 1 1 (omega arith) (omega arith) w) i in
-    k ∙ put-if-yes _ z allBits p (wholeBits 0 modeLast m) (mode-in side m q f) ∙ n .whole ∙ ap (putRun s allBits at) (sym b)
+    k ∙ put-if-yes _ z allBits p (wholeBits 0 modeLast m) (mode-in pdus m q f) ∙ n .whole ∙ ap (putRun s allBits at) (sym b)
 
 -- ---- the alternative, with what follows it
 
@@ -173,19 +173,19 @@ pub index-run : (s : List ℕ) (o : Left) (at last i : ℕ) → i ≤ last → o
 index-run s o at last i h p = p ∙ put-if-yes _ s allBits at (indexBits last i) (in-range 0 last i (omega arith) h)
 
 -- an alternative that both types have
-both-have : (side : Side) (i : ℕ) → i ≤ 3 → i ≤ lastOf side
-both-have Air i h = h
-both-have Ground i h = omega arith
+both-have : (pdus : PduType) (i : ℕ) → i ≤ 3 → i ≤ lastOf pdus
+both-have AircraftPdus i h = h
+both-have GroundPdus i h = omega arith
 
 -- one that GroundPDUs alone has
-ground-has : (side : Side) (i : ℕ) → forwards side ≡ true → i ≤ 5 → i ≤ lastOf side
-ground-has Air i y h = never (cc)
-ground-has Ground i y h = h
+ground-has : (pdus : PduType) (i : ℕ) → forwards pdus ≡ true → i ≤ 5 → i ≤ lastOf pdus
+ground-has AircraftPdus i y h = never (cc)
+ground-has GroundPdus i y h = h
 
-index-on : (s z : List ℕ) (p i : ℕ) (r : Put) (side : Side) (ys : List ℕ) → i ≤ lastOf side → length (indexBits (lastOf side) i ++ ys) ≤ length (bitsTo s allBits)
-    → left r z ≡ putIf (wholeFits 0 (lastOf side) i) s allBits 0 (indexBits (lastOf side) i) → p ≡ placeOf r → On s z allBits 0 p (indexBits (lastOf side) i) ys
-index-on s z p i r side ys k room w q =
-    put-on s z allBits 0 p (indexBits (lastOf side) i) ys r (omega arith) (index-run s (left r z) 0 (lastOf side) i k w) q
+index-on : (s z : List ℕ) (p i : ℕ) (r : Put) (pdus : PduType) (ys : List ℕ) → i ≤ lastOf pdus → length (indexBits (lastOf pdus) i ++ ys) ≤ length (bitsTo s allBits)
+    → left r z ≡ putIf (wholeFits 0 (lastOf pdus) i) s allBits 0 (indexBits (lastOf pdus) i) → p ≡ placeOf r → On s z allBits 0 p (indexBits (lastOf pdus) i) ys
+index-on s z p i r pdus ys k room w q =
+    put-on s z allBits 0 p (indexBits (lastOf pdus) i) ys r (omega arith) (index-run s (left r z) 0 (lastOf pdus) i k w) q
 
 -- what is written first leaves room for what follows
 front : (s z : List ℕ) (e at p : ℕ) (xs ys zs : List ℕ) → On s z e at p xs (ys ++ zs) → p + length ys ≤ length (bitsTo z e)
@@ -194,85 +194,85 @@ front s z e at p xs ys zs o =
     let n = length-append ys zs in
     omega arith
 
-module _ (side : Side) (li lm lc s z : List ℕ) (a : Apdu) (p : ℕ) (r : Put) (h : apduShaped side li lm lc a ≡ true)
-    (room : length (pduBits side (pduIn li lm lc a)) ≤ length (bitsTo s allBits)) (hp : p ≡ placeOf r) where
+module _ (pdus : PduType) (li lm lc s z : List ℕ) (a : Apdu) (p : ℕ) (r : Put) (h : apduFits pdus li lm lc a ≡ true)
+    (room : length (pduBits pdus (pduIn li lm lc a)) ≤ length (bitsTo s allBits)) (hp : p ≡ placeOf r) where
   -- an abort: the alternative i, then a reason up to `most`
-  abort-put : (i most v : ℕ) (o : Left) → i ≤ lastOf side → pduBits side (pduIn li lm lc a) ≡ indexBits (lastOf side) i ++ indexBits most v → wholeFits 0 most v ≡ true
-      → left r z ≡ putIf (wholeFits 0 (lastOf side) i) s allBits 0 (indexBits (lastOf side) i) → o ≡ putIf (wholeFits 0 most v) z allBits p (indexBits most v)
-      → o ≡ putRun s allBits 0 (pduBits side (pduIn li lm lc a))
+  abort-put : (i most v : ℕ) (o : Left) → i ≤ lastOf pdus → pduBits pdus (pduIn li lm lc a) ≡ indexBits (lastOf pdus) i ++ indexBits most v → wholeFits 0 most v ≡ true
+      → left r z ≡ putIf (wholeFits 0 (lastOf pdus) i) s allBits 0 (indexBits (lastOf pdus) i) → o ≡ putIf (wholeFits 0 most v) z allBits p (indexBits most v)
+      → o ≡ putRun s allBits 0 (pduBits pdus (pduIn li lm lc a))
   abort-put i most v o k e f w g =
-      let n = index-on s z p i r side (indexBits most v) k (rw e at room) w hp in
+      let n = index-on s z p i r pdus (indexBits most v) k (rw e at room) w hp in
       g ∙ put-if-yes _ z allBits p (indexBits most v) f ∙ n .whole ∙ ap (putRun s allBits 0) (sym e)
 
-  pub user-put : (v : ℕ) (o : Left) → a ≡ apdu.AbortUser v → left r z ≡ putIf (wholeFits 0 (lastOf side) 0) s allBits 0 (indexBits (lastOf side) 0)
-      → o ≡ putIf (wholeFits 0 userLast v) z allBits p (indexBits userLast v) → o ≡ putRun s allBits 0 (pduBits side (pduIn li lm lc a))
-  unfolding pduBits pduIn apduShaped
-  user-put v o q w k = abort-put 0 userLast v o (both-have side 0 (omega arith)) (rw q) (rw q at h) w k
+  pub user-put : (v : ℕ) (o : Left) → a ≡ apdu.AbortUser v → left r z ≡ putIf (wholeFits 0 (lastOf pdus) 0) s allBits 0 (indexBits (lastOf pdus) 0)
+      → o ≡ putIf (wholeFits 0 userLast v) z allBits p (indexBits userLast v) → o ≡ putRun s allBits 0 (pduBits pdus (pduIn li lm lc a))
+  unfolding pduBits pduIn apduFits
+  user-put v o q w k = abort-put 0 userLast v o (both-have pdus 0 (omega arith)) (rw q) (rw q at h) w k
 
-  pub provider-put : (v : ℕ) (o : Left) → a ≡ apdu.AbortProvider v → left r z ≡ putIf (wholeFits 0 (lastOf side) 1) s allBits 0 (indexBits (lastOf side) 1)
-      → o ≡ putIf (wholeFits 0 providerLast v) z allBits p (indexBits providerLast v) → o ≡ putRun s allBits 0 (pduBits side (pduIn li lm lc a))
-  unfolding pduBits pduIn apduShaped
-  provider-put v o q w k = abort-put 1 providerLast v o (both-have side 1 (omega arith)) (rw q) (rw q at h) w k
+  pub provider-put : (v : ℕ) (o : Left) → a ≡ apdu.AbortProvider v → left r z ≡ putIf (wholeFits 0 (lastOf pdus) 1) s allBits 0 (indexBits (lastOf pdus) 1)
+      → o ≡ putIf (wholeFits 0 providerLast v) z allBits p (indexBits providerLast v) → o ≡ putRun s allBits 0 (pduBits pdus (pduIn li lm lc a))
+  unfolding pduBits pduIn apduFits
+  provider-put v o q w k = abort-put 1 providerLast v o (both-have pdus 1 (omega arith)) (rw q) (rw q at h) w k
 
-  module _ (d : Data) (q : a ≡ apdu.Send d) (w : left r z ≡ putIf (wholeFits 0 (lastOf side) 3) s allBits 0 (indexBits (lastOf side) 3)) where
-    sent : On s z allBits 0 p (indexBits (lastOf side) 3) (contentBits (contentIn li lm lc d))
+  module _ (d : Data) (q : a ≡ apdu.Send d) (w : left r z ≡ putIf (wholeFits 0 (lastOf pdus) 3) s allBits 0 (indexBits (lastOf pdus) 3)) where
+    sent : On s z allBits 0 p (indexBits (lastOf pdus) 3) (contentBits (contentIn li lm lc d))
     unfolding pduBits pduIn
-    sent = index-on s z p 3 r side (contentBits (contentIn li lm lc d)) (both-have side 3 (omega arith)) (rw q at room) w hp
+    sent = index-on s z p 3 r pdus (contentBits (contentIn li lm lc d)) (both-have pdus 3 (omega arith)) (rw q at room) w hp
 
-    pub send-asks : (dataShaped li lm lc d ≡ true) × (p + length (contentBits (contentIn li lm lc d)) ≤ length (bitsTo z allBits))
-    unfolding apduShaped
+    pub send-asks : (dataFits li lm lc d ≡ true) × (p + length (contentBits (contentIn li lm lc d)) ≤ length (bitsTo z allBits))
+    unfolding apduFits
     send-asks = (rw q at h, sent .room)
 
-    pub send-put : (o : Left) → o ≡ putRun z allBits p (contentBits (contentIn li lm lc d)) → o ≡ putRun s allBits 0 (pduBits side (pduIn li lm lc a))
+    pub send-put : (o : Left) → o ≡ putRun z allBits p (contentBits (contentIn li lm lc d)) → o ≡ putRun s allBits 0 (pduBits pdus (pduIn li lm lc a))
     unfolding pduBits pduIn
     send-put o k = k ∙ sent .whole ∙ rw q
 
-  module _ (m : ℕ) (d : Data) (q : a ≡ apdu.Start m d) (w : left r z ≡ putIf (wholeFits 0 (lastOf side) 2) s allBits 0 (indexBits (lastOf side) 2)) where
-    started : On s z allBits 0 p (indexBits (lastOf side) 2) (modeBits side m ++ contentBits (contentIn li lm lc d))
+  module _ (m : ℕ) (d : Data) (q : a ≡ apdu.Start m d) (w : left r z ≡ putIf (wholeFits 0 (lastOf pdus) 2) s allBits 0 (indexBits (lastOf pdus) 2)) where
+    started : On s z allBits 0 p (indexBits (lastOf pdus) 2) (modeBits pdus m ++ contentBits (contentIn li lm lc d))
     unfolding pduBits pduIn
-    started = index-on s z p 2 r side (modeBits side m ++ contentBits (contentIn li lm lc d)) (both-have side 2 (omega arith)) (rw q at room) w hp
+    started = index-on s z p 2 r pdus (modeBits pdus m ++ contentBits (contentIn li lm lc d)) (both-have pdus 2 (omega arith)) (rw q at room) w hp
 
-    both : modeFits side m && dataShaped li lm lc d ≡ true
-    unfolding apduShaped
+    both : modeFits pdus m && dataFits li lm lc d ≡ true
+    unfolding apduFits
     both = rw q at h
 
-    pub mode-asks : (modeFits side m ≡ true) × (p + length (modeBits side m) ≤ length (bitsTo z allBits))
-    mode-asks = (both-left (modeFits side m) (dataShaped li lm lc d) both, front s z allBits 0 p (indexBits (lastOf side) 2) (modeBits side m) (contentBits (contentIn li lm lc d)) started)
+    pub mode-asks : (modeFits pdus m ≡ true) × (p + length (modeBits pdus m) ≤ length (bitsTo z allBits))
+    mode-asks = (both-left (modeFits pdus m) (dataFits li lm lc d) both, front s z allBits 0 p (indexBits (lastOf pdus) 2) (modeBits pdus m) (contentBits (contentIn li lm lc d)) started)
 
-    module _ (y : List ℕ) (t : ℕ) (r₂ : Put) (w₂ : left r₂ y ≡ putRun z allBits p (modeBits side m)) (ht : t ≡ placeOf r₂) where
-      moded : On z y allBits p t (modeBits side m) (contentBits (contentIn li lm lc d))
-      moded = put-on z y allBits p t (modeBits side m) (contentBits (contentIn li lm lc d)) r₂ (started .room) w₂ ht
+    module _ (y : List ℕ) (t : ℕ) (r₂ : Put) (w₂ : left r₂ y ≡ putRun z allBits p (modeBits pdus m)) (ht : t ≡ placeOf r₂) where
+      moded : On z y allBits p t (modeBits pdus m) (contentBits (contentIn li lm lc d))
+      moded = put-on z y allBits p t (modeBits pdus m) (contentBits (contentIn li lm lc d)) r₂ (started .room) w₂ ht
 
-      pub start-asks : (dataShaped li lm lc d ≡ true) × (t + length (contentBits (contentIn li lm lc d)) ≤ length (bitsTo y allBits))
-      start-asks = (both-right (modeFits side m) (dataShaped li lm lc d) both, moded .room)
+      pub start-asks : (dataFits li lm lc d ≡ true) × (t + length (contentBits (contentIn li lm lc d)) ≤ length (bitsTo y allBits))
+      start-asks = (both-right (modeFits pdus m) (dataFits li lm lc d) both, moded .room)
 
-      pub start-put : (o : Left) → o ≡ putRun y allBits t (contentBits (contentIn li lm lc d)) → o ≡ putRun s allBits 0 (pduBits side (pduIn li lm lc a))
+      pub start-put : (o : Left) → o ≡ putRun y allBits t (contentBits (contentIn li lm lc d)) → o ≡ putRun s allBits 0 (pduBits pdus (pduIn li lm lc a))
       unfolding pduBits pduIn
       start-put o k = k ∙ moded .whole ∙ started .whole ∙ rw q
 
-  response-is : (v : ℕ) → a ≡ apdu.ForwardResponse v → forwards side && wholeFits 0 responseLast v ≡ true
-  unfolding apduShaped
+  response-is : (v : ℕ) → a ≡ apdu.ForwardResponse v → forwards pdus && wholeFits 0 responseLast v ≡ true
+  unfolding apduFits
   response-is v q = rw q at h
 
-  pub response-put : (v : ℕ) (o : Left) → a ≡ apdu.ForwardResponse v → left r z ≡ putIf (wholeFits 0 (lastOf side) 5) s allBits 0 (indexBits (lastOf side) 5)
-      → o ≡ putIf (wholeFits 0 responseLast v) z allBits p (indexBits responseLast v) → o ≡ putRun s allBits 0 (pduBits side (pduIn li lm lc a))
+  pub response-put : (v : ℕ) (o : Left) → a ≡ apdu.ForwardResponse v → left r z ≡ putIf (wholeFits 0 (lastOf pdus) 5) s allBits 0 (indexBits (lastOf pdus) 5)
+      → o ≡ putIf (wholeFits 0 responseLast v) z allBits p (indexBits responseLast v) → o ≡ putRun s allBits 0 (pduBits pdus (pduIn li lm lc a))
   unfolding pduBits pduIn
   response-put v o q w k =
-      abort-put 5 responseLast v o (ground-has side 5 (both-left (forwards side) (wholeFits 0 responseLast v) (response-is v q)) (omega arith)) (rw q) (both-right (forwards side) (wholeFits 0 responseLast v) (response-is v q)) w k
+      abort-put 5 responseLast v o (ground-has pdus 5 (both-left (forwards pdus) (wholeFits 0 responseLast v) (response-is v q)) (omega arith)) (rw q) (both-right (forwards pdus) (wholeFits 0 responseLast v) (response-is v q)) w k
 
-  module _ (f : Forward) (q : a ≡ apdu.Forward f) (w : left r z ≡ putIf (wholeFits 0 (lastOf side) 4) s allBits 0 (indexBits (lastOf side) 4)) where
-    forward-is : forwards side && forwardShaped lm f ≡ true
-    unfolding apduShaped
+  module _ (f : Forward) (q : a ≡ apdu.Forward f) (w : left r z ≡ putIf (wholeFits 0 (lastOf pdus) 4) s allBits 0 (indexBits (lastOf pdus) 4)) where
+    forward-is : forwards pdus && forwardFits lm f ≡ true
+    unfolding apduFits
     forward-is = rw q at h
 
-    passed : On s z allBits 0 p (indexBits (lastOf side) 4) (forwardBits (f .heading) (itemsIn lm bit (f .message)))
+    passed : On s z allBits 0 p (indexBits (lastOf pdus) 4) (forwardBits (f .heading) (itemsIn lm bit (f .message)))
     unfolding pduBits pduIn
-    passed = index-on s z p 4 r side (forwardBits (f .heading) (itemsIn lm bit (f .message))) (ground-has side 4 (both-left (forwards side) (forwardShaped lm f) forward-is) (omega arith)) (rw q at room) w hp
+    passed = index-on s z p 4 r pdus (forwardBits (f .heading) (itemsIn lm bit (f .message))) (ground-has pdus 4 (both-left (forwards pdus) (forwardFits lm f) forward-is) (omega arith)) (rw q at room) w hp
 
-    pub forward-asks : (forwardShaped lm f ≡ true) × (p + length (forwardBits (f .heading) (itemsIn lm bit (f .message))) ≤ length (bitsTo z allBits))
-    forward-asks = (both-right (forwards side) (forwardShaped lm f) forward-is, passed .room)
+    pub forward-asks : (forwardFits lm f ≡ true) × (p + length (forwardBits (f .heading) (itemsIn lm bit (f .message))) ≤ length (bitsTo z allBits))
+    forward-asks = (both-right (forwards pdus) (forwardFits lm f) forward-is, passed .room)
 
-    pub forward-put : (o : Left) → o ≡ putRun z allBits p (forwardBits (f .heading) (itemsIn lm bit (f .message))) → o ≡ putRun s allBits 0 (pduBits side (pduIn li lm lc a))
+    pub forward-put : (o : Left) → o ≡ putRun z allBits p (forwardBits (f .heading) (itemsIn lm bit (f .message))) → o ≡ putRun s allBits 0 (pduBits pdus (pduIn li lm lc a))
     unfolding pduBits pduIn
     forward-put o k = k ∙ passed .whole ∙ rw q
 
@@ -282,9 +282,9 @@ pub too-small : (s bs : List ℕ) (ok : Bool) → length s < bufferLeast → don
 unfolding writeOut
 too-small s bs ok h = rw (lt-ltb (length s) bufferLeast h)
 
-pub not-shaped : (s bs : List ℕ) (t ok : Bool) → bufferLeast ≤ length s → t ≡ ok → t ≡ false → done written.Shape s ≡ writeOut ok s bs
+pub not-fitting : (s bs : List ℕ) (t ok : Bool) → bufferLeast ≤ length s → t ≡ ok → t ≡ false → done written.Shape s ≡ writeOut ok s bs
 unfolding writeOut
-not-shaped s bs t ok h p q = rw (le-ltb (length s) bufferLeast h, ← p, q)
+not-fitting s bs t ok h p q = rw (le-ltb (length s) bufferLeast h, ← p, q)
 
 pub room-for : (s : List ℕ) (n : ℕ) → bufferLeast ≤ length s → n ≤ 8 * bufferLeast → n ≤ length (bitsTo s allBits)
 room-for s n h g = rw (length-to s allBits) (omega arith)
@@ -308,23 +308,23 @@ written-out s z z′ bs t ok n w r r′ h g p q a i j k =
     rw (le-ltb (length s) bufferLeast h, ← p, q, e, v)
 
 -- what has shape fits the buffer, with its padding
-module _ (side : Side) (li lm lc : List ℕ) (a : Apdu) (h : apduShaped side li lm lc a ≡ true) where
-  pub apdu-pads : length (pduBits side (pduIn li lm lc a)) + 7 ≤ 8 * bufferLeast
-  apdu-pads = omega (arith, pdu-most side (pduIn li lm lc a) (apdu-fit side li lm lc a h))
+module _ (pdus : PduType) (li lm lc : List ℕ) (a : Apdu) (h : apduFits pdus li lm lc a ≡ true) where
+  pub apdu-pads : length (pduBits pdus (pduIn li lm lc a)) + 7 ≤ 8 * bufferLeast
+  apdu-pads = omega (arith, pdu-most pdus (pduIn li lm lc a) (apdu-value-fits pdus li lm lc a h))
 
-  pub apdu-room : (s : List ℕ) → bufferLeast ≤ length s → length (pduBits side (pduIn li lm lc a)) ≤ length (bitsTo s allBits)
+  pub apdu-room : (s : List ℕ) → bufferLeast ≤ length s → length (pduBits pdus (pduIn li lm lc a)) ≤ length (bitsTo s allBits)
   apdu-room s b = room-for s _ b (omega (arith, apdu-pads))
 
-module _ (li lm lc : List ℕ) (d : Data) (h : dataShaped li lm lc d ≡ true) where
+module _ (li lm lc : List ℕ) (d : Data) (h : dataFits li lm lc d ≡ true) where
   pub data-pads : length (contentBits (contentIn li lm lc d)) + 7 ≤ 8 * bufferLeast
-  data-pads = omega (arith, content-most (contentIn li lm lc d) (data-fit li lm lc d h))
+  data-pads = omega (arith, content-most (contentIn li lm lc d) (data-value-fits li lm lc d h))
 
   pub data-room : (s : List ℕ) → bufferLeast ≤ length s → 0 + length (contentBits (contentIn li lm lc d)) ≤ length (bitsTo s allBits)
   data-room s b = room-for s _ b (omega (arith, data-pads))
 
-module _ (lm : List ℕ) (f : Forward) (h : forwardShaped lm f ≡ true) where
+module _ (lm : List ℕ) (f : Forward) (h : forwardFits lm f ≡ true) where
   pub forward-pads : length (forwardBits (f .heading) (itemsIn lm bit (f .message))) + 7 ≤ 8 * bufferLeast
-  forward-pads = omega (arith, forward-most (f .heading) (itemsIn lm bit (f .message)) (forward-fit lm f h))
+  forward-pads = omega (arith, forward-most (f .heading) (itemsIn lm bit (f .message)) (forward-value-fits lm f h))
 
   pub forward-room : (s : List ℕ) → bufferLeast ≤ length s → 0 + length (forwardBits (f .heading) (itemsIn lm bit (f .message))) ≤ length (bitsTo s allBits)
   forward-room s b = room-for s _ b (omega (arith, forward-pads))
@@ -334,20 +334,20 @@ pub record RunHeld (s : List ℕ) (at n : ℕ) : Type 0 where
   pub few : n ≤ messageMost
   pub there : at + n ≤ length (lent s)
 
-pub run-is : (s : List ℕ) (at n : ℕ) → runShaped s at n ≡ true → RunHeld s at n
-unfolding runShaped
+pub run-is : (s : List ℕ) (at n : ℕ) → runFits s at n ≡ true → RunHeld s at n
+unfolding runFits
 run-is s at n h =
     record {
       few = leb-true n messageMost (both-left (leb n messageMost) (leb (at + n) (length (lent s))) h);
       there = leb-true (at + n) (length (lent s)) (both-right (leb n messageMost) (leb (at + n) (length (lent s))) h);
     }
 
-pub run-pads : (s : List ℕ) (at n : ℕ) → runShaped s at n ≡ true → length (run s at n) + 7 ≤ 8 * bufferLeast
+pub run-pads : (s : List ℕ) (at n : ℕ) → runFits s at n ≡ true → length (run s at n) + 7 ≤ 8 * bufferLeast
 run-pads s at n h =
     let p = run-is s at n h in
     let w : at + n ≤ 8 * length s = omega (arith, p .there, length-to s allBits) in
     omega (arith, p .few, length-run s at n w)
 
-pub run-copied : (d s z : List ℕ) (at n : ℕ) (r : Put) → runShaped s at n ≡ true → left r z ≡ copyRun d allBits 0 s allBits at n → left r z ≡ putRun d allBits 0 (run s at n)
+pub run-copied : (d s z : List ℕ) (at n : ℕ) (r : Put) → runFits s at n ≡ true → left r z ≡ copyRun d allBits 0 s allBits at n → left r z ≡ putRun d allBits 0 (run s at n)
 unfolding copyRun putIf
 run-copied d s z at n r h e = e ∙ rw (le-leb (at + n) (length (lent s)) (run-is s at n h .there))

@@ -9,8 +9,8 @@ use Rattle.fields.specs.Encodings.{indexBits, lengthBits, wholeBits, wholeFits,
 use Rattle.apdu.specs.Sizes.{identifierLeast, identifierMost, messageMost, checkMost, userLast, providerLast, modeLast, octet, bit}
 use Rattle.apdu.specs.Headings.{responseLast, headingBits, headingFits}
 use Rattle.apdu.specs.Pdus.{Optional, absent, given, Content, Pdu, abortUser, abortProvider, start, send, forward, forwardResponse, lastOf, indexOf, forwards}
-use Rattle.apdu.specs.declared.Side.{Side}
-use Rattle.apdu.specs.declared.Side.the-variants.{Air, Ground}
+use Rattle.apdu.specs.declared.PduType.{PduType}
+use Rattle.apdu.specs.declared.PduType.the-variants.{AircraftPdus, GroundPdus}
 use Rattle.apdu.specs.declared.Kind.{Kind}
 use Rattle.apdu.specs.declared.Heading.{Heading}
 use Rattle.apdu.specs.declared.Kind.the-variants as kind
@@ -55,38 +55,38 @@ contentFits c =
 unfoldable pub forwardBits : Heading → List ℕ → List ℕ
 forwardBits h m = headingBits h ++ stringBits bit m
 
-unfoldable pub forwardFits : Heading → List ℕ → Bool
-forwardFits h m = headingFits h && stringFits bit 0 messageMost m
+unfoldable pub forwardPduFits : Heading → List ℕ → Bool
+forwardPduFits h m = headingFits h && stringFits bit 0 messageMost m
 
 -- ---- APDUs (X.691, clause 23): the extension bit and the index of the alternative, then what the alternative holds
 
 -- StartDownMessage begins with the presence bit of mode; the default, cpdlc, is left out (X.691, 19.5). startup has no mode: it is cpdlc.
-unfoldable pub modeBits : Side → ℕ → List ℕ
-modeBits Ground m = []
-modeBits Air m = cond (eqb m 0) (bitsN 1 0) (bitsN 1 1 ++ wholeBits 0 modeLast m)
+unfoldable pub modeBits : PduType → ℕ → List ℕ
+modeBits GroundPdus m = []
+modeBits AircraftPdus m = cond (eqb m 0) (bitsN 1 0) (bitsN 1 1 ++ wholeBits 0 modeLast m)
 
-unfoldable pub modeFits : Side → ℕ → Bool
-modeFits Ground m = eqb m 0
-modeFits Air m = wholeFits 0 modeLast m
+unfoldable pub modeFits : PduType → ℕ → Bool
+modeFits GroundPdus m = eqb m 0
+modeFits AircraftPdus m = wholeFits 0 modeLast m
 
-abbrev pub alternative : Side → Kind → List ℕ
-alternative side k = indexBits (lastOf side) (indexOf k)
+abbrev pub alternative : PduType → Kind → List ℕ
+alternative pdus k = indexBits (lastOf pdus) (indexOf k)
 
-unfoldable pub pduBits : Side → Pdu → List ℕ
-pduBits side (abortUser r) = alternative side kind.AbortUser ++ indexBits userLast r
-pduBits side (abortProvider r) = alternative side kind.AbortProvider ++ indexBits providerLast r
-pduBits side (start m c) = alternative side kind.Start ++ (modeBits side m ++ contentBits c)
-pduBits side (send c) = alternative side kind.Send ++ contentBits c
-pduBits side (forward h m) = alternative side kind.Forward ++ forwardBits h m
-pduBits side (forwardResponse x) = alternative side kind.ForwardResponse ++ indexBits responseLast x
+unfoldable pub pduBits : PduType → Pdu → List ℕ
+pduBits pdus (abortUser r) = alternative pdus kind.AbortUser ++ indexBits userLast r
+pduBits pdus (abortProvider r) = alternative pdus kind.AbortProvider ++ indexBits providerLast r
+pduBits pdus (start m c) = alternative pdus kind.Start ++ (modeBits pdus m ++ contentBits c)
+pduBits pdus (send c) = alternative pdus kind.Send ++ contentBits c
+pduBits pdus (forward h m) = alternative pdus kind.Forward ++ forwardBits h m
+pduBits pdus (forwardResponse x) = alternative pdus kind.ForwardResponse ++ indexBits responseLast x
 
-unfoldable pub pduFits : Side → Pdu → Bool
-pduFits side (abortUser r) = wholeFits 0 userLast r
-pduFits side (abortProvider r) = wholeFits 0 providerLast r
-pduFits side (start m c) = modeFits side m && contentFits c
-pduFits side (send c) = contentFits c
-pduFits side (forward h m) = forwards side && forwardFits h m
-pduFits side (forwardResponse x) = forwards side && wholeFits 0 responseLast x
+unfoldable pub pduFits : PduType → Pdu → Bool
+pduFits pdus (abortUser r) = wholeFits 0 userLast r
+pduFits pdus (abortProvider r) = wholeFits 0 providerLast r
+pduFits pdus (start m c) = modeFits pdus m && contentFits c
+pduFits pdus (send c) = contentFits c
+pduFits pdus (forward h m) = forwards pdus && forwardPduFits h m
+pduFits pdus (forwardResponse x) = forwards pdus && wholeFits 0 responseLast x
 
 -- ---- whole bytes (X.691, 11.1): zero bits after the encoding, up to a whole byte
 

@@ -1,5 +1,5 @@
--- What stands before the message's bits in an ATCForwardMessage (Doc 9705, 2.3.4.2 and 2.3.4.3): ForwardHeader, and which alternative of ForwardMessage
--- follows. None of these types has an extension marker.
+-- What stands before the message's bits in an ATCForwardMessage (Doc 9705, 2.3.4.2 and 2.3.4.3): ForwardHeader, and which alternative of
+-- ForwardMessage follows. None of these types has an extension marker.
 use Prim.Native.Nat.{ℕ, _*_}
 use mathlib.Core.List.{List, _++_}
 use mathlib.Core.Bool.{Bool, _&&_}
@@ -27,7 +27,8 @@ timeFrom = triple 0 0 0
 abbrev pub timeTo : Triple
 timeTo = triple 23 59 59
 
--- AircraftFlightIdentification, an IA5String of 2 to 8 characters, seven bits each (X.691, 30.5), here as one number, the first character on top
+-- AircraftFlightIdentification, an IA5String of 2 to 8 characters, seven bits each (X.691, 30.5), here as one number, the first character
+-- on top
 abbrev pub charactersLeast : ℕ
 charactersLeast = 2
 

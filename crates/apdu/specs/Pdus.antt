@@ -5,8 +5,8 @@ use mathlib.Core.Bool.{Bool, true, false}
 use lib.ListN.{take, drop}
 use Rattle.bits.specs.Bits.{bitsTo}
 use Rattle.apdu.specs.Sizes.{allBits, octet, bit}
-use Rattle.apdu.specs.declared.Side.{Side}
-use Rattle.apdu.specs.declared.Side.the-variants.{Air, Ground}
+use Rattle.apdu.specs.declared.PduType.{PduType}
+use Rattle.apdu.specs.declared.PduType.the-variants.{AircraftPdus, GroundPdus}
 use Rattle.apdu.specs.declared.Kind.{Kind}
 use Rattle.apdu.specs.declared.Kind.the-variants as kind
 use Rattle.apdu.specs.declared.Span.{Span}
@@ -32,8 +32,9 @@ pub record Content : Type 0 where
   pub message : Optional
   pub check : List ℕ
 
--- One type for both directions. A start is startup (Ground), whose mode is cpdlc, or startdown (Air) with its mode. A forward is ATCForwardMessage: what
--- stands before the message, and the message's bits, which are not looked into (2.3.4.1.3, Note 2); its response is ATCForwardResponse.
+-- One type for both directions. A start is startup (GroundPDUs), whose mode is cpdlc, or startdown (AircraftPDUs) with its mode. A forward
+-- is ATCForwardMessage: what stands before the message, and the message's bits, which are not looked into (2.3.4.1.3, Note 2); its response
+-- is ATCForwardResponse.
 pub data Pdu : Type 0 where
   abortUser : ℕ → Pdu
   abortProvider : ℕ → Pdu
@@ -45,9 +46,9 @@ pub data Pdu : Type 0 where
 -- ---- alternatives
 
 -- the last alternative of AircraftPDUs, and of GroundPDUs
-abbrev pub lastOf : Side → ℕ
-lastOf Air = 3
-lastOf Ground = 5
+abbrev pub lastOf : PduType → ℕ
+lastOf AircraftPdus = 3
+lastOf GroundPdus = 5
 
 -- the alternatives by their tags, which are the same in both types as far as both have them
 abbrev pub kindOf : ℕ → Kind
@@ -67,9 +68,9 @@ indexOf kind.Forward = 4
 indexOf kind.ForwardResponse = 5
 
 -- GroundPDUs alone has the two forward alternatives
-abbrev pub forwards : Side → Bool
-forwards Air = false
-forwards Ground = true
+abbrev pub forwards : PduType → Bool
+forwards AircraftPdus = false
+forwards GroundPdus = true
 
 -- ---- what places stand for
 

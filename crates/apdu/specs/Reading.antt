@@ -15,8 +15,8 @@ use Rattle.apdu.specs.Sizes.{identifierLeast, identifierMost, messageMos
 use Rattle.apdu.specs.Headings.{triple, dateFrom, dateTo, timeFrom, timeTo, charactersLeast, charactersMost, character, addressBits, directionLast, responseLast}
 use Rattle.apdu.specs.Pdus.{lastOf, kindOf}
 use Rattle.apdu.specs.Encoding.{padding}
-use Rattle.apdu.specs.declared.Side.{Side}
-use Rattle.apdu.specs.declared.Side.the-variants.{Air, Ground}
+use Rattle.apdu.specs.declared.PduType.{PduType}
+use Rattle.apdu.specs.declared.PduType.the-variants.{AircraftPdus, GroundPdus}
 use Rattle.apdu.specs.declared.Kind.{Kind}
 use Rattle.apdu.specs.declared.Kind.the-variants as kind
 use Rattle.apdu.specs.declared.Span.{Span}
@@ -38,8 +38,8 @@ use Rattle.apdu.specs.declared.Taken.{Taken}
 use Rattle.apdu.specs.declared.Taken.the-variants as taken
 use Rattle.apdu.specs.declared.Lead.{Lead}
 use Rattle.apdu.specs.declared.Lead.the-variants as lead
-use Rattle.apdu.specs.declared.Answer.{Answer}
-use Rattle.apdu.specs.declared.Answer.the-variants as answer
+use Rattle.apdu.specs.declared.Decoded.{Decoded}
+use Rattle.apdu.specs.declared.Decoded.the-variants as decoded
 
 -- ---- answers: a refusal is handed up unchanged, and nothing further is read
 
@@ -48,17 +48,17 @@ abbrev pub onField : {A : Type 0} → (Refusal → A) → Field → (ℕ → ℕ
 onField up (field.Value v next) k = k v next
 onField up (field.Refused r) k = up r
 
-abbrev pub onData : Taken → (Data → ℕ → Answer) → Answer
+abbrev pub onData : Taken → (Data → ℕ → Decoded) → Decoded
 onData (taken.Is d next) k = k d next
-onData (taken.Refused r) k = answer.Refused r
+onData (taken.Refused r) k = decoded.Refused r
 
 abbrev pub onTaken : Taken → (Data → ℕ → Taken) → Taken
 onTaken (taken.Is d next) k = k d next
 onTaken (taken.Refused r) k = taken.Refused r
 
-abbrev pub onLead : Lead → (Kind → ℕ → ℕ → Answer) → Answer
+abbrev pub onLead : Lead → (Kind → ℕ → ℕ → Decoded) → Decoded
 onLead (lead.Is c m next) k = k c m next
-onLead (lead.Refused r) k = answer.Refused r
+onLead (lead.Refused r) k = decoded.Refused r
 
 abbrev pub onTriple : Triples → (Triple → ℕ → Headed) → Headed
 onTriple (triples.Is v next) k = k v next
@@ -163,46 +163,46 @@ modeValue l at =
     then (wholeNumber l at 0 modeLast) (λ (m next : ℕ). cond (eqb m 0) (refusedAt at Default) (field.Value m next))
 
 -- the mode of a start: that of startup is cpdlc, in no bits
-unfoldable pub modeAt : Side → List ℕ → ℕ → Field
-modeAt Ground l at = field.Value 0 at
-modeAt Air l at = then (bitField l at 1) (λ (p next : ℕ). cond (eqb p 0) (field.Value 0 next) (modeValue l next))
+unfoldable pub modeAt : PduType → List ℕ → ℕ → Field
+modeAt GroundPdus l at = field.Value 0 at
+modeAt AircraftPdus l at = then (bitField l at 1) (λ (p next : ℕ). cond (eqb p 0) (field.Value 0 next) (modeValue l next))
 
 -- the mode, where the alternative has one
-unfoldable pub kindMode : Side → List ℕ → Kind → ℕ → Field
-kindMode side l kind.AbortUser at = field.Value 0 at
-kindMode side l kind.AbortProvider at = field.Value 0 at
-kindMode side l kind.Start at = modeAt side l at
-kindMode side l kind.Send at = field.Value 0 at
-kindMode side l kind.Forward at = field.Value 0 at
-kindMode side l kind.ForwardResponse at = field.Value 0 at
+unfoldable pub kindMode : PduType → List ℕ → Kind → ℕ → Field
+kindMode pdus l kind.AbortUser at = field.Value 0 at
+kindMode pdus l kind.AbortProvider at = field.Value 0 at
+kindMode pdus l kind.Start at = modeAt pdus l at
+kindMode pdus l kind.Send at = field.Value 0 at
+kindMode pdus l kind.Forward at = field.Value 0 at
+kindMode pdus l kind.ForwardResponse at = field.Value 0 at
 
-unfoldable pub leadingAt : Side → List ℕ → ℕ → Lead
-leadingAt side l at =
-    onField lead.Refused (extensibleIndex l at (lastOf side)) (λ (i p : ℕ). onField lead.Refused (kindMode side l (kindOf i) p) (λ (m q : ℕ). lead.Is (kindOf i) m q))
+unfoldable pub leadingAt : PduType → List ℕ → ℕ → Lead
+leadingAt pdus l at =
+    onField lead.Refused (extensibleIndex l at (lastOf pdus)) (λ (i p : ℕ). onField lead.Refused (kindMode pdus l (kindOf i) p) (λ (m q : ℕ). lead.Is (kindOf i) m q))
 
 -- ---- the rest
 
--- TAIL, last of all: the first padding bit that is 1, which stands as far before the padding's end as its number has digits; where there is none,
--- the first bit that follows the padding
+-- TAIL, last of all: the first padding bit that is 1, which stands as far before the padding's end as its number has digits; where there is
+-- none, the first bit that follows the padding
 unfoldable pub tailAt : List ℕ → ℕ → Field
 tailAt l at =
     then (bitField l at (padding at)) (λ (v next : ℕ).
     cond (eqb v 0) (cond (leb (next + 1) (length l)) (refusedAt next Tail) (field.Value 0 next)) (refusedAt (next - widthOf v) Tail))
 
-unfoldable pub endedAt : List ℕ → ℕ → Apdu → Answer
-endedAt l at a = onField answer.Refused (tailAt l at) (λ (v next : ℕ). answer.Is a)
+unfoldable pub endedAt : List ℕ → ℕ → Apdu → Decoded
+endedAt l at a = onField decoded.Refused (tailAt l at) (λ (v next : ℕ). decoded.Is a)
 
-unfoldable pub restWithin : ℕ → List ℕ → Kind → ℕ → ℕ → Answer
-restWithin limit l kind.AbortUser m at = onField answer.Refused (extensibleIndex l at userLast) (λ (r next : ℕ). endedAt l next (apdu.AbortUser r))
-restWithin limit l kind.AbortProvider m at = onField answer.Refused (extensibleIndex l at providerLast) (λ (r next : ℕ). endedAt l next (apdu.AbortProvider r))
+unfoldable pub restWithin : ℕ → List ℕ → Kind → ℕ → ℕ → Decoded
+restWithin limit l kind.AbortUser m at = onField decoded.Refused (extensibleIndex l at userLast) (λ (r next : ℕ). endedAt l next (apdu.AbortUser r))
+restWithin limit l kind.AbortProvider m at = onField decoded.Refused (extensibleIndex l at providerLast) (λ (r next : ℕ). endedAt l next (apdu.AbortProvider r))
 restWithin limit l kind.Start m at = onData (dataWithin limit l at) (λ (d : Data) (next : ℕ). endedAt l next (apdu.Start m d))
 restWithin limit l kind.Send m at = onData (dataWithin limit l at) (λ (d : Data) (next : ℕ). endedAt l next (apdu.Send d))
-restWithin limit l kind.Forward m at = onForward answer.Refused (forwardWithin limit l at) (λ (f : Forward) (next : ℕ). endedAt l next (apdu.Forward f))
-restWithin limit l kind.ForwardResponse m at = onField answer.Refused (extensibleIndex l at responseLast) (λ (r next : ℕ). endedAt l next (apdu.ForwardResponse r))
+restWithin limit l kind.Forward m at = onForward decoded.Refused (forwardWithin limit l at) (λ (f : Forward) (next : ℕ). endedAt l next (apdu.Forward f))
+restWithin limit l kind.ForwardResponse m at = onField decoded.Refused (extensibleIndex l at responseLast) (λ (r next : ℕ). endedAt l next (apdu.ForwardResponse r))
 
 -- the leading fields, then the rest
-unfoldable pub apduWithin : ℕ → Side → List ℕ → ℕ → Answer
-apduWithin limit side l at = onLead (leadingAt side l at) (restWithin limit l)
+unfoldable pub apduWithin : ℕ → PduType → List ℕ → ℕ → Decoded
+apduWithin limit pdus l at = onLead (leadingAt pdus l at) (restWithin limit l)
 
 -- message data by itself, as it is delivered: its parts, and nothing after it but the padding
 unfoldable pub wholeWithin : ℕ → List ℕ → Taken
@@ -223,10 +223,10 @@ dataAt = dataWithin messageMost
 abbrev pub forwardAt : List ℕ → ℕ → Forwarded
 forwardAt = forwardWithin messageMost
 
-abbrev pub restAt : List ℕ → Kind → ℕ → ℕ → Answer
+abbrev pub restAt : List ℕ → Kind → ℕ → ℕ → Decoded
 restAt = restWithin messageMost
 
-abbrev pub apduAt : Side → List ℕ → ℕ → Answer
+abbrev pub apduAt : PduType → List ℕ → ℕ → Decoded
 apduAt = apduWithin messageMost
 
 abbrev pub wholeData : List ℕ → Taken

@@ -1,4 +1,5 @@
--- An APDU with the additions from a later edition gone (document 02, E6): the extension bit of its message data 0, the same root, and nothing behind it.
+-- An APDU with the additions from a later edition gone (document 02, E6): the extension bit of its message data 0, the same root, and
+-- nothing behind it.
 use Prim.Native.Nat.{ℕ, _+_, _-_, _*_}
 use mathlib.Core.Bool.{Bool, false}
 use mathlib.Core.List.{List, _++_}
@@ -7,7 +8,7 @@ use lib.ListN.{length, take, drop, getD}
 use Rattle.bits.specs.Bits.{bitsN}
 use Rattle.apdu.specs.Sizes.{bit}
 use Rattle.apdu.specs.Encoding.{alternative, modeBits, padded}
-use Rattle.apdu.specs.declared.Side.{Side}
+use Rattle.apdu.specs.declared.PduType.{PduType}
 use Rattle.apdu.specs.declared.Kind.the-variants as kind
 use Rattle.apdu.specs.declared.Data.{Data}
 use Rattle.apdu.specs.declared.Apdu.{Apdu}
@@ -22,19 +23,19 @@ unfoldable pub stripAt : List ℕ → ℕ → Data → List ℕ
 stripAt l p d = padded (take p l ++ (bitsN 1 0 ++ take (rootEnd d - (p + 1)) (drop (p + 1) l)))
 
 -- the bits that were read as an APDU, with the additions gone
-unfoldable pub strip : Side → List ℕ → Apdu → List ℕ
-strip side l (apdu.AbortUser r) = l
-strip side l (apdu.AbortProvider r) = l
-strip side l (apdu.Start m d) = stripAt l (length (alternative side kind.Start ++ modeBits side m)) d
-strip side l (apdu.Send d) = stripAt l (length (alternative side kind.Send)) d
-strip side l (apdu.Forward f) = l
-strip side l (apdu.ForwardResponse x) = l
+unfoldable pub strip : PduType → List ℕ → Apdu → List ℕ
+strip pdus l (apdu.AbortUser r) = l
+strip pdus l (apdu.AbortProvider r) = l
+strip pdus l (apdu.Start m d) = stripAt l (length (alternative pdus kind.Start ++ modeBits pdus m)) d
+strip pdus l (apdu.Send d) = stripAt l (length (alternative pdus kind.Send)) d
+strip pdus l (apdu.Forward f) = l
+strip pdus l (apdu.ForwardResponse x) = l
 
 -- whether they have additions: the extension bit of the message data is 1
-unfoldable pub extended : Side → List ℕ → Apdu → Bool
-extended side l (apdu.AbortUser r) = false
-extended side l (apdu.AbortProvider r) = false
-extended side l (apdu.Start m d) = eqb (getD l (length (alternative side kind.Start ++ modeBits side m)) 0) 1
-extended side l (apdu.Send d) = eqb (getD l (length (alternative side kind.Send)) 0) 1
-extended side l (apdu.Forward f) = false
-extended side l (apdu.ForwardResponse x) = false
+unfoldable pub extended : PduType → List ℕ → Apdu → Bool
+extended pdus l (apdu.AbortUser r) = false
+extended pdus l (apdu.AbortProvider r) = false
+extended pdus l (apdu.Start m d) = eqb (getD l (length (alternative pdus kind.Start ++ modeBits pdus m)) 0) 1
+extended pdus l (apdu.Send d) = eqb (getD l (length (alternative pdus kind.Send)) 0) 1
+extended pdus l (apdu.Forward f) = false
+extended pdus l (apdu.ForwardResponse x) = false

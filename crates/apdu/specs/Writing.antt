@@ -12,7 +12,7 @@ use Rattle.apdu.specs.Sizes.{identifierLeast, identifierMost, messageMos
 use Rattle.apdu.specs.Headings.{responseLast, headingFits}
 use Rattle.apdu.specs.Pdus.{lent, forwards}
 use Rattle.apdu.specs.Encoding.{padded, modeFits}
-use Rattle.apdu.specs.declared.Side.{Side}
+use Rattle.apdu.specs.declared.PduType.{PduType}
 use Rattle.apdu.specs.declared.Span.{Span}
 use Rattle.apdu.specs.declared.Part.{Part}
 use Rattle.apdu.specs.declared.Part.the-variants.{Absent, Given}
@@ -26,33 +26,33 @@ use Rattle.apdu.specs.declared.Written.the-variants as written
 -- ---- SHAPE: an argument breaks the sizes, its type or its codes, or a count is more than the lent bytes hold
 
 -- items of `unit` bits each at a place of the bits l: from least to most of them, and l holds them
-unfoldable pub itemsShaped : List ℕ → ℕ → ℕ → ℕ → Span → Bool
-itemsShaped l unit least most x = withinFits least most (x .count) && leb (x .at + unit * x .count) (length l)
+unfoldable pub itemsFit : List ℕ → ℕ → ℕ → ℕ → Span → Bool
+itemsFit l unit least most x = withinFits least most (x .count) && leb (x .at + unit * x .count) (length l)
 
-unfoldable pub partShaped : List ℕ → ℕ → ℕ → ℕ → Part → Bool
-partShaped l unit least most Absent = true
-partShaped l unit least most (Given x) = itemsShaped l unit least most x
+unfoldable pub partFits : List ℕ → ℕ → ℕ → ℕ → Part → Bool
+partFits l unit least most Absent = true
+partFits l unit least most (Given x) = itemsFit l unit least most x
 
-unfoldable pub dataShaped : List ℕ → List ℕ → List ℕ → Data → Bool
-dataShaped li lm lc d =
-    partShaped li octet identifierLeast identifierMost (d .identifier) && partShaped lm bit 0 messageMost (d .message) &&
-    itemsShaped lc bit 0 checkMost (d .check)
+unfoldable pub dataFits : List ℕ → List ℕ → List ℕ → Data → Bool
+dataFits li lm lc d =
+    partFits li octet identifierLeast identifierMost (d .identifier) && partFits lm bit 0 messageMost (d .message) &&
+    itemsFit lc bit 0 checkMost (d .check)
 
 -- a forward message: what stands before the message's bits keeps its types, and lm holds those bits
-unfoldable pub forwardShaped : List ℕ → Forward → Bool
-forwardShaped lm f = headingFits (f .heading) && itemsShaped lm bit 0 messageMost (f .message)
+unfoldable pub forwardFits : List ℕ → Forward → Bool
+forwardFits lm f = headingFits (f .heading) && itemsFit lm bit 0 messageMost (f .message)
 
-unfoldable pub apduShaped : Side → List ℕ → List ℕ → List ℕ → Apdu → Bool
-apduShaped side li lm lc (apdu.AbortUser r) = wholeFits 0 userLast r
-apduShaped side li lm lc (apdu.AbortProvider r) = wholeFits 0 providerLast r
-apduShaped side li lm lc (apdu.Start m d) = modeFits side m && dataShaped li lm lc d
-apduShaped side li lm lc (apdu.Send d) = dataShaped li lm lc d
-apduShaped side li lm lc (apdu.Forward f) = forwards side && forwardShaped lm f
-apduShaped side li lm lc (apdu.ForwardResponse x) = forwards side && wholeFits 0 responseLast x
+unfoldable pub apduFits : PduType → List ℕ → List ℕ → List ℕ → Apdu → Bool
+apduFits pdus li lm lc (apdu.AbortUser r) = wholeFits 0 userLast r
+apduFits pdus li lm lc (apdu.AbortProvider r) = wholeFits 0 providerLast r
+apduFits pdus li lm lc (apdu.Start m d) = modeFits pdus m && dataFits li lm lc d
+apduFits pdus li lm lc (apdu.Send d) = dataFits li lm lc d
+apduFits pdus li lm lc (apdu.Forward f) = forwards pdus && forwardFits lm f
+apduFits pdus li lm lc (apdu.ForwardResponse x) = forwards pdus && wholeFits 0 responseLast x
 
 -- n bits at a place of lent bytes, at most those of a message
-unfoldable pub runShaped : List ℕ → ℕ → ℕ → Bool
-runShaped s at n = leb n messageMost && leb (at + n) (length (lent s))
+unfoldable pub runFits : List ℕ → ℕ → ℕ → Bool
+runFits s at n = leb n messageMost && leb (at + n) (length (lent s))
 
 -- ---- the answer and the buffer
 
@@ -73,8 +73,8 @@ pub record Done : Type 0 where
 abbrev pub done : Written → List ℕ → Done
 done a s = record { answer = a; bytes = s }
 
--- Bits written from the first bit of a buffer on, padded with zeros to a whole byte, and their count before the padding; later bytes stay. A buffer
--- that is too small, then a value that is not right, is refused, and every byte stays.
+-- Bits written from the first bit of a buffer on, padded with zeros to a whole byte, and their count before the padding; later bytes stay.
+-- A buffer that is too small, then a value that is not right, is refused, and every byte stays.
 unfoldable pub writeOut : Bool → List ℕ → List ℕ → Done
 writeOut ok s bs =
     cond (ltb (length s) bufferLeast) (done written.Room s)

@@ -4,12 +4,12 @@ ghost use Prim.Native.Nat.{_-_, _%_};
 ghost use Rattle.apdu.specs.Pdus.{lent};
 ghost use Rattle.apdu.specs.Encoding.{padding as paddingOf};
 ghost use Rattle.apdu.specs.Reading.{apduAt, endedAt, restAt, tailAt, wholeData, wholeForward};
-use crate::Answer;
 use crate::Apdu;
+use crate::Decoded;
 use crate::Forwarded;
 use crate::Kind;
 use crate::Lead;
-use crate::Side;
+use crate::PduType;
 use crate::Taken;
 use crate::headings::forward_at;
 use crate::headings::forward_refusal;
@@ -50,60 +50,60 @@ fn tail(s: &[u8], at: usize) -> Field
 }
 
 // An APDU whose last field ends at a place.
-fn ended(s: &[u8], at: usize, a: Apdu) -> Answer
+fn ended(s: &[u8], at: usize, a: Apdu) -> Decoded
     ensures { λ r. ⌜ r ≡ endedAt (lent (now (s .entry))) at a ⌝ }
 {
     let rest = tail(s, at);
     let Field::Value(_, _) = rest else {
-        return Answer::Refused(field_refusal(rest));
+        return Decoded::Refused(field_refusal(rest));
     };
-    Answer::Is(a)
+    Decoded::Is(a)
 }
 
 // What follows the leading fields.
-fn rest_at(s: &[u8], kind: Kind, mode: u64, at: usize) -> Answer
+fn rest_at(s: &[u8], kind: Kind, mode: u64, at: usize) -> Decoded
     ensures { λ r. ⌜ r ≡ restAt (lent (now (s .entry))) kind mode at ⌝ }
 {
     match kind {
         Kind::AbortUser => {
             let reason = fields::extensible_index(s, ALL, at, Apdu::USER_LAST);
             let Field::Value(r, next) = reason else {
-                return Answer::Refused(field_refusal(reason));
+                return Decoded::Refused(field_refusal(reason));
             };
             ended(s, next, Apdu::AbortUser(r))
         }
         Kind::AbortProvider => {
             let reason = fields::extensible_index(s, ALL, at, Apdu::PROVIDER_LAST);
             let Field::Value(r, next) = reason else {
-                return Answer::Refused(field_refusal(reason));
+                return Decoded::Refused(field_refusal(reason));
             };
             ended(s, next, Apdu::AbortProvider(r))
         }
         Kind::Start => {
             let parts = data_at(s, at);
             let Taken::Is(d, next) = parts else {
-                return Answer::Refused(taken_refusal(parts));
+                return Decoded::Refused(taken_refusal(parts));
             };
             ended(s, next, Apdu::Start(mode, d))
         }
         Kind::Send => {
             let parts = data_at(s, at);
             let Taken::Is(d, next) = parts else {
-                return Answer::Refused(taken_refusal(parts));
+                return Decoded::Refused(taken_refusal(parts));
             };
             ended(s, next, Apdu::Send(d))
         }
         Kind::Forward => {
             let message = forward_at(s, at);
             let Forwarded::Is(f, next) = message else {
-                return Answer::Refused(forward_refusal(message));
+                return Decoded::Refused(forward_refusal(message));
             };
             ended(s, next, Apdu::Forward(f))
         }
         Kind::ForwardResponse => {
             let result = fields::extensible_index(s, ALL, at, Apdu::RESPONSE_LAST);
             let Field::Value(r, next) = result else {
-                return Answer::Refused(field_refusal(result));
+                return Decoded::Refused(field_refusal(result));
             };
             ended(s, next, Apdu::ForwardResponse(r))
         }
@@ -111,12 +111,12 @@ fn rest_at(s: &[u8], kind: Kind, mode: u64, at: usize) -> Answer
 }
 
 // The APDU that begins at a place and ends with the lent bytes.
-pub(crate) fn apdu_at(s: &[u8], at: usize, side: Side) -> Answer
-    ensures { λ r. ⌜ r ≡ apduAt side (lent (now (s .entry))) at ⌝ }
+pub(crate) fn apdu_at(s: &[u8], at: usize, pdus: PduType) -> Decoded
+    ensures { λ r. ⌜ r ≡ apduAt pdus (lent (now (s .entry))) at ⌝ }
 {
-    let leading = leading_at(s, at, side);
+    let leading = leading_at(s, at, pdus);
     let Lead::Is(kind, mode, next) = leading else {
-        return Answer::Refused(lead_refusal(leading));
+        return Decoded::Refused(lead_refusal(leading));
     };
     rest_at(s, kind, mode, next)
 }

@@ -8,7 +8,7 @@ ghost use Rattle.apdu.specs.Sizes.{allBits, bit};
 ghost use Rattle.apdu.specs.Headings.{aircraftBits, headingBits, headingFits, tripleBits, tripleFits};
 ghost use Rattle.apdu.specs.Pdus.{itemsIn, lent};
 ghost use Rattle.apdu.specs.Encoding.{forwardBits};
-ghost use Rattle.apdu.specs.Writing.{done, forwardShaped, writeOut};
+ghost use Rattle.apdu.specs.Writing.{done, forwardFits, writeOut};
 use crate::Apdu;
 use crate::Data;
 use crate::Forward;
@@ -20,7 +20,7 @@ use crate::decoder::ALL;
 use crate::decoder::padding;
 use crate::encoder::place;
 use crate::encoder::put_part;
-use crate::heading_shape::forward_shaped;
+use crate::heading_shape::forward_fits;
 use bits::Put;
 
 // Three whole numbers in a row.
@@ -65,7 +65,7 @@ fn put_heading(buf: &mut [u8], at: usize, h: Heading) -> Put
 }
 
 pub(crate) fn put_forward_at(buf: &mut [u8], at: usize, f: Forward, msgs: &[u8]) -> Put
-    requires { ⌜ (forwardShaped (lent (now msgs)) f ≡ true) × (at + length (forwardBits (f .heading) (itemsIn (lent (now msgs)) bit (f .message))) ≤ length (lent (now buf))) ⌝ }
+    requires { ⌜ (forwardFits (lent (now msgs)) f ≡ true) × (at + length (forwardBits (f .heading) (itemsIn (lent (now msgs)) bit (f .message))) ≤ length (lent (now buf))) ⌝ }
     ensures { λ r. ⌜ left r (now (buf .exit)) ≡ putRun (now (buf .entry)) allBits at (forwardBits (f .heading) (itemsIn (lent (now (msgs .entry))) bit (f .message))) ⌝ }
 {
     let heading = f.heading;
@@ -76,12 +76,12 @@ pub(crate) fn put_forward_at(buf: &mut [u8], at: usize, f: Forward, msgs: &[u8])
 
 // ATCForwardMessage by itself, as it is delivered to a user.
 pub fn put_forward(buf: &mut [u8], f: Forward, msgs: &[u8]) -> Written
-    ensures { λ r. ⌜ done r (now (buf .exit)) ≡ writeOut (forwardShaped (lent (now (msgs .entry))) f) (now (buf .entry)) (forwardBits (f .heading) (itemsIn (lent (now (msgs .entry))) bit (f .message))) ⌝ }
+    ensures { λ r. ⌜ done r (now (buf .exit)) ≡ writeOut (forwardFits (lent (now (msgs .entry))) f) (now (buf .entry)) (forwardBits (f .heading) (itemsIn (lent (now (msgs .entry))) bit (f .message))) ⌝ }
 {
     if buf.len() < Apdu::BUFFER {
         return Written::Room;
     }
-    if forward_shaped(f, msgs) {
+    if forward_fits(f, msgs) {
         let n = place(put_forward_at(buf, 0, f, msgs));
         bits::put_bits(buf, ALL, n, padding(n), 0);
         return Written::Bits(n);

@@ -5,20 +5,20 @@ ghost use Rattle.apdu.specs.Reading.{kindMode, leadingAt, modeAt, modeVa
 use crate::Apdu;
 use crate::Kind;
 use crate::Lead;
-use crate::Side;
+use crate::PduType;
 use crate::decoder::ALL;
 use crate::refusals::field_refusal;
 use fields::Fault;
 use fields::Field;
 
-impl Side {
+impl PduType {
     // The last alternative of the type.
     pub fn last(self) -> u64
         ensures { λ r. ⌜ r ≡ lastOf self ⌝ }
     {
         match self {
-            Side::Air => 3,
-            Side::Ground => 5,
+            PduType::AircraftPdus => 3,
+            PduType::GroundPdus => 5,
         }
     }
 }
@@ -66,7 +66,7 @@ fn mode_value(s: &[u8], at: usize) -> Field
 
 // The presence bit of StartDownMessage, and its mode.
 fn down_mode(s: &[u8], at: usize) -> Field
-    ensures { λ f. ⌜ f ≡ modeAt Side.Air (lent (now (s .entry))) at ⌝ }
+    ensures { λ f. ⌜ f ≡ modeAt PduType.AircraftPdus (lent (now (s .entry))) at ⌝ }
 {
     let presence = fields::bit_field(s, ALL, at, 1);
     let Field::Value(p, next) = presence else {
@@ -78,38 +78,38 @@ fn down_mode(s: &[u8], at: usize) -> Field
     mode_value(s, next)
 }
 
-fn mode_at(s: &[u8], side: Side, at: usize) -> Field
-    ensures { λ f. ⌜ f ≡ modeAt side (lent (now (s .entry))) at ⌝ }
+fn mode_at(s: &[u8], pdus: PduType, at: usize) -> Field
+    ensures { λ f. ⌜ f ≡ modeAt pdus (lent (now (s .entry))) at ⌝ }
 {
-    match side {
-        Side::Air => down_mode(s, at),
-        Side::Ground => Field::Value(0, at),
+    match pdus {
+        PduType::AircraftPdus => down_mode(s, at),
+        PduType::GroundPdus => Field::Value(0, at),
     }
 }
 
 // The mode, where the alternative has one.
-fn kind_mode(s: &[u8], side: Side, kind: Kind, at: usize) -> Field
-    ensures { λ f. ⌜ f ≡ kindMode side (lent (now (s .entry))) kind at ⌝ }
+fn kind_mode(s: &[u8], pdus: PduType, kind: Kind, at: usize) -> Field
+    ensures { λ f. ⌜ f ≡ kindMode pdus (lent (now (s .entry))) kind at ⌝ }
 {
     match kind {
         Kind::AbortUser => Field::Value(0, at),
         Kind::AbortProvider => Field::Value(0, at),
-        Kind::Start => mode_at(s, side, at),
+        Kind::Start => mode_at(s, pdus, at),
         Kind::Send => Field::Value(0, at),
         Kind::Forward => Field::Value(0, at),
         Kind::ForwardResponse => Field::Value(0, at),
     }
 }
 
-pub(crate) fn leading_at(s: &[u8], at: usize, side: Side) -> Lead
-    ensures { λ l. ⌜ l ≡ leadingAt side (lent (now (s .entry))) at ⌝ }
+pub(crate) fn leading_at(s: &[u8], at: usize, pdus: PduType) -> Lead
+    ensures { λ l. ⌜ l ≡ leadingAt pdus (lent (now (s .entry))) at ⌝ }
 {
-    let index = fields::extensible_index(s, ALL, at, side.last());
+    let index = fields::extensible_index(s, ALL, at, pdus.last());
     let Field::Value(i, p) = index else {
         return Lead::Refused(field_refusal(index));
     };
     let kind = kind_of(i);
-    let mode = kind_mode(s, side, kind, p);
+    let mode = kind_mode(s, pdus, kind, p);
     let Field::Value(m, q) = mode else {
         return Lead::Refused(field_refusal(mode));
     };

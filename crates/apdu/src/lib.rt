@@ -22,19 +22,19 @@ pub use encoder::put_apdu;
 pub use encoder::put_data;
 pub use encoder::put_run;
 use fields::Refusal;
-pub use heading_shape::forward_shaped;
+pub use heading_shape::forward_fits;
 pub use heading_writer::put_forward;
-pub use shape::apdu_shaped;
-pub use shape::data_shaped;
+pub use shape::apdu_fits;
+pub use shape::data_fits;
 use words::Limit;
 
 // Which of the two types an APDU is of: the air end writes AircraftPDUs, the ground end GroundPDUs.
-pub enum Side {
-    Air,
-    Ground,
+pub enum PduType {
+    AircraftPdus,
+    GroundPdus,
 }
 
-// The alternatives of both types. Start is startdown (Air) or startup (Ground).
+// The alternatives of both types. Start is startdown (AircraftPDUs) or startup (GroundPDUs).
 pub enum Kind {
     AbortUser,
     AbortProvider,
@@ -142,8 +142,8 @@ pub struct Forward {
     pub message: Span,
 }
 
-// An APDU: an abort's reason, a start's mode (0 cpdlc, 1 dsc), message data, a forward message, and what a forward met (0 success, 1 service not
-// supported, 2 version not equal).
+// An APDU: an abort's reason, a start's mode (0 cpdlc, 1 dsc), message data, a forward message, and what a forward met (0 success, 1
+// service not supported, 2 version not equal).
 pub enum Apdu {
     AbortUser(u64),
     AbortProvider(u64),
@@ -194,13 +194,13 @@ pub enum Lead {
 }
 
 // What reading an APDU finds.
-pub enum Answer {
+pub enum Decoded {
     Is(Apdu),
     Refused(Refusal),
 }
 
-// What writing finds: the count of bits before the padding; or, with every byte as it was, a buffer under the least size, or an argument that
-// breaks a size, its type or its codes, or is more than the lent bytes hold.
+// What writing finds: the count of bits before the padding; or, with every byte as it was, a buffer under the least size, or an argument
+// that breaks a size, its type or its codes, or is more than the lent bytes hold.
 pub enum Written {
     Bits(usize),
     Room,
@@ -215,10 +215,10 @@ pub struct Reader<'a> {
 
 impl<'a> Reader<'a> {
     // The APDU at the position.
-    pub fn apdu(self, side: Side) -> Answer
-        ensures { λ r. ⌜ r ≡ apduAt side (lent (now (self .entry .src))) (self .entry .at) ⌝ }
+    pub fn apdu(self, pdus: PduType) -> Decoded
+        ensures { λ r. ⌜ r ≡ apduAt pdus (lent (now (self .entry .src))) (self .entry .at) ⌝ }
     {
-        apdu_at(self.src, self.at, side)
+        apdu_at(self.src, self.at, pdus)
     }
 
     // The reader at another position.
@@ -237,8 +237,8 @@ pub fn new<'a>(src: &'a [u8]) -> Reader<'a>
 }
 
 // The APDU that lent bytes are: for whoever holds no reader.
-pub fn read_apdu(s: &[u8], side: Side) -> Answer
-    ensures { λ r. ⌜ r ≡ apduAt side (lent (now (s .entry))) 0 ⌝ }
+pub fn read_apdu(s: &[u8], pdus: PduType) -> Decoded
+    ensures { λ r. ⌜ r ≡ apduAt pdus (lent (now (s .entry))) 0 ⌝ }
 {
-    new(s).apdu(side)
+    new(s).apdu(pdus)
 }

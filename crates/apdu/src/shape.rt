@@ -4,19 +4,19 @@ ghost use Prim.Native.Nat.{_*_, _^_, _<_};
 ghost use Rattle.fields.specs.Encodings.{wholeFits};
 ghost use Rattle.apdu.specs.Pdus.{forwards, lent};
 ghost use Rattle.apdu.specs.Encoding.{modeFits};
-ghost use Rattle.apdu.specs.Writing.{apduShaped, dataShaped, itemsShaped, partShaped};
+ghost use Rattle.apdu.specs.Writing.{apduFits, dataFits, itemsFit, partFits};
 use crate::Apdu;
 use crate::Data;
 use crate::Part;
-use crate::Side;
+use crate::PduType;
 use crate::Span;
 use crate::decoder::ALL;
-use crate::heading_shape::forward_shaped;
+use crate::heading_shape::forward_fits;
 
 // From least to most items, and the bytes hold them.
-pub(crate) fn items_shaped(src: &[u8], unit: usize, least: usize, most: usize, x: Span) -> bool
+pub(crate) fn items_fit(src: &[u8], unit: usize, least: usize, most: usize, x: Span) -> bool
     requires { ⌜ (unit * most < 2 ^ 32) × (most < 16384) ⌝ }
-    ensures { λ r. ⌜ r ≡ itemsShaped (lent (now (src .entry))) unit least most x ⌝ }
+    ensures { λ r. ⌜ r ≡ itemsFit (lent (now (src .entry))) unit least most x ⌝ }
 {
     let n = x.count;
     if n < least {
@@ -28,78 +28,78 @@ pub(crate) fn items_shaped(src: &[u8], unit: usize, least: usize, most: usize, x
     bits::within(src.len(), ALL, x.at, unit * n)
 }
 
-fn part_shaped(src: &[u8], unit: usize, least: usize, most: usize, part: Part) -> bool
+fn part_fits(src: &[u8], unit: usize, least: usize, most: usize, part: Part) -> bool
     requires { ⌜ (unit * most < 2 ^ 32) × (most < 16384) ⌝ }
-    ensures { λ r. ⌜ r ≡ partShaped (lent (now (src .entry))) unit least most part ⌝ }
+    ensures { λ r. ⌜ r ≡ partFits (lent (now (src .entry))) unit least most part ⌝ }
 {
     match part {
         Part::Absent => true,
-        Part::Given(x) => items_shaped(src, unit, least, most, x),
+        Part::Given(x) => items_fit(src, unit, least, most, x),
     }
 }
 
 // Message data: the identifier stands in ids, the message in msgs, the check in checks.
-pub fn data_shaped(d: Data, ids: &[u8], msgs: &[u8], checks: &[u8]) -> bool
-    ensures { λ r. ⌜ r ≡ dataShaped (lent (now (ids .entry))) (lent (now (msgs .entry))) (lent (now (checks .entry))) d ⌝ }
+pub fn data_fits(d: Data, ids: &[u8], msgs: &[u8], checks: &[u8]) -> bool
+    ensures { λ r. ⌜ r ≡ dataFits (lent (now (ids .entry))) (lent (now (msgs .entry))) (lent (now (checks .entry))) d ⌝ }
 {
     let identifier = d.identifier;
     let message = d.message;
     let check = d.check;
-    if part_shaped(
+    if part_fits(
         ids,
         Data::OCTET,
         Data::IDENTIFIER_LEAST,
         Data::IDENTIFIER_MOST,
         identifier,
     ) {
-        if part_shaped(msgs, Data::BIT, 0, Data::MESSAGE_MOST, message) {
-            return items_shaped(checks, Data::BIT, 0, Data::CHECK_MOST, check);
+        if part_fits(msgs, Data::BIT, 0, Data::MESSAGE_MOST, message) {
+            return items_fit(checks, Data::BIT, 0, Data::CHECK_MOST, check);
         }
         return false;
     }
     false
 }
 
-fn mode_shaped(side: Side, m: u64) -> bool
-    ensures { λ r. ⌜ r ≡ modeFits side m ⌝ }
+fn mode_fits(pdus: PduType, m: u64) -> bool
+    ensures { λ r. ⌜ r ≡ modeFits pdus m ⌝ }
 {
-    match side {
-        Side::Air => m <= Apdu::MODE_LAST,
-        Side::Ground => m == 0,
+    match pdus {
+        PduType::AircraftPdus => m <= Apdu::MODE_LAST,
+        PduType::GroundPdus => m == 0,
     }
 }
 
 // GroundPDUs alone has the two forward alternatives.
-fn side_forwards(side: Side) -> bool
-    ensures { λ r. ⌜ r ≡ forwards side ⌝ }
+fn has_forwards(pdus: PduType) -> bool
+    ensures { λ r. ⌜ r ≡ forwards pdus ⌝ }
 {
-    match side {
-        Side::Air => false,
-        Side::Ground => true,
+    match pdus {
+        PduType::AircraftPdus => false,
+        PduType::GroundPdus => true,
     }
 }
 
-pub fn apdu_shaped(side: Side, a: Apdu, ids: &[u8], msgs: &[u8], checks: &[u8]) -> bool
-    ensures { λ r. ⌜ r ≡ apduShaped side (lent (now (ids .entry))) (lent (now (msgs .entry))) (lent (now (checks .entry))) a ⌝ }
+pub fn apdu_fits(pdus: PduType, a: Apdu, ids: &[u8], msgs: &[u8], checks: &[u8]) -> bool
+    ensures { λ r. ⌜ r ≡ apduFits pdus (lent (now (ids .entry))) (lent (now (msgs .entry))) (lent (now (checks .entry))) a ⌝ }
 {
     match a {
         Apdu::AbortUser(r) => r <= Apdu::USER_LAST,
         Apdu::AbortProvider(r) => r <= Apdu::PROVIDER_LAST,
         Apdu::Start(m, d) => {
-            if mode_shaped(side, m) {
-                return data_shaped(d, ids, msgs, checks);
+            if mode_fits(pdus, m) {
+                return data_fits(d, ids, msgs, checks);
             }
             false
         }
-        Apdu::Send(d) => data_shaped(d, ids, msgs, checks),
+        Apdu::Send(d) => data_fits(d, ids, msgs, checks),
         Apdu::Forward(f) => {
-            if side_forwards(side) {
-                return forward_shaped(f, msgs);
+            if has_forwards(pdus) {
+                return forward_fits(f, msgs);
             }
             false
         }
         Apdu::ForwardResponse(x) => {
-            if side_forwards(side) {
+            if has_forwards(pdus) {
                 return x <= Apdu::RESPONSE_LAST;
             }
             false

@@ -1,13 +1,13 @@
 // Answers requests about APDUs, a line for each, so that they can be held to an independent coder: tests/apdu/PROTOCOL.md says how requests
 // and answers are written. Input past 65,536 bytes is not looked at.
 ghost use Prim.Native.Nat.{_^_, _<_, _≤_};
-use apdu::Answer;
 use apdu::Apdu;
 use apdu::Data;
+use apdu::Decoded;
 use apdu::Forward;
 use apdu::Heading;
 use apdu::Part;
-use apdu::Side;
+use apdu::PduType;
 use apdu::Span;
 use apdu::Triple;
 use apdu::Written;
@@ -27,11 +27,11 @@ fn number(s: &[u8], at: usize, n: usize) -> u64 {
     v
 }
 
-fn side(h: &[u8]) -> Side {
+fn pdus(h: &[u8]) -> PduType {
     if number(h, 8, 8) == 0 {
-        return Side::Air;
+        return PduType::AircraftPdus;
     }
-    Side::Ground
+    PduType::GroundPdus
 }
 
 fn span(h: &[u8], at: usize) -> Span
@@ -191,12 +191,12 @@ fn show(a: Apdu) {
     }
 }
 
-fn show_answer(r: Answer) {
+fn show_answer(r: Decoded) {
     match r {
-        Answer::Is(a) => {
+        Decoded::Is(a) => {
             show(a);
         }
-        Answer::Refused(e) => {
+        Decoded::Refused(e) => {
             io::write_all(1, b"refused ");
             let fault = e.fault;
             let at = e.at;
@@ -252,7 +252,7 @@ fn write(h: &[u8], body: &[u8], out: &mut [u8], words: usize, whole: bool)
 {
     fill(out);
     if whole {
-        let w = apdu::put_apdu(out, side(h), asked(h), body, body, body);
+        let w = apdu::put_apdu(out, pdus(h), asked(h), body, body, body);
         show_written(w, out, words);
         return;
     }
@@ -263,7 +263,7 @@ fn write(h: &[u8], body: &[u8], out: &mut [u8], words: usize, whole: bool)
 fn answer(h: &[u8], body: &[u8], out: &mut [u8]) {
     let op = number(h, 0, 8);
     if op == 0 {
-        show_answer(apdu::read_apdu(body, side(h)));
+        show_answer(apdu::read_apdu(body, pdus(h)));
         return;
     }
     let words = number(h, 488, 16) as usize;

@@ -14,7 +14,7 @@ use lib.Pow.{pow-mono}
 use native.Mathlib.Nat.{mod-eq-of-lt, pow-suc}
 use Rattle.words.proofs.Laws.{both-left, both-right}
 use Rattle.book.specs.Books.{octets, eightAt, eightsIn, eights, mark, marks, lowestFree, bookOf, jobsIn, isBook, loadAt, left, emptyAt, opening, openAt, closing, closeAt, countAt, jobAt}
-use Rattle.book.specs.declared.Refusal.the-variants.{Shape, AllOpen, NotOpen}
+use Rattle.book.specs.declared.BookRefusal.the-variants.{Shape, AllOpen, NotOpen}
 use Rattle.book.specs.declared.Answer.the-variants.{Is, Refused}
 use Rattle.book.specs.declared.loaded.Loaded.{Loaded}
 use Rattle.book.specs.declared.loaded.Loaded.the-variants.{Open, NoBook}

@@ -12,7 +12,7 @@ use lib.ListN.{length, getD, set, length-set, List·getD-eq-default}
 use lib.Seq.{ext-getD, getD-set-same, getD-set-other}
 use Rattle.book.specs.Books.{lowestFree, openCount, bookOf, jobsIn, isBook, Left, left, emptyAt, opening, openAt, closing, closeAt, countAt, jobAt}
 use Rattle.book.specs.Histories.{Call, empties, opens, closes, opened, closed, History, jobOf, listed, jobsOf, closesNumber, Orderly, Kept, called, noted, after, run, emptied, Claims}
-use Rattle.book.specs.declared.Refusal.the-variants.{Shape, AllOpen, NotOpen}
+use Rattle.book.specs.declared.BookRefusal.the-variants.{Shape, AllOpen, NotOpen}
 use Rattle.book.specs.declared.Answer.{Answer}
 use Rattle.book.specs.declared.Answer.the-variants.{Is, Refused}
 use Rattle.book.proofs.Eights.{Wide}

@@ -10,8 +10,8 @@ use borrow.Author.Tests.{eq-eqb, ne-eqb, eqb-true, eqb-false}
 use lib.Dec.{eqb}
 use lib.ListN.{length, getD, set, replicate}
 use Rattle.book.specs.Books.{lowestFree, openCount, bookOf, jobsIn, isBook, Left, left, emptyAt, opening, openAt, closing, closeAt, countAt, jobAt}
-use Rattle.book.specs.declared.Refusal.{Refusal}
-use Rattle.book.specs.declared.Refusal.the-variants.{Shape, AllOpen, NotOpen}
+use Rattle.book.specs.declared.BookRefusal.{BookRefusal}
+use Rattle.book.specs.declared.BookRefusal.the-variants.{Shape, AllOpen, NotOpen}
 use Rattle.book.specs.declared.Answer.the-variants.{Is, Refused}
 use Rattle.book.proofs.Marks.{free-le, free-closed, lower-open, count-le, count-free, free-count}
 use Rattle.book.proofs.Books.{length-jobs}
@@ -19,42 +19,42 @@ use Rattle.book.proofs.Books.{length-jobs}
 -- ---- "the book stays"
 
 -- a call that is refused or leaves b
-stays : (t : Bool) (b : List ℕ) (x : Left) (r s : Refusal) → (x .answer ≡ Refused r → x .bytes ≡ b) → cond t (left (Refused s) b) x .answer ≡ Refused r
+stays : (t : Bool) (b : List ℕ) (x : Left) (r s : BookRefusal) → (x .answer ≡ Refused r → x .bytes ≡ b) → cond t (left (Refused s) b) x .answer ≡ Refused r
     → cond t (left (Refused s) b) x .bytes ≡ b
 stays true b x r s h e = refl
 stays false b x r s h e = h e
 
 -- or one that is taken, and else refused
-stays-else : (t : Bool) (b : List ℕ) (x : Left) (r s : Refusal) → (x .answer ≡ Refused r → x .bytes ≡ b) → cond t x (left (Refused s) b) .answer ≡ Refused r
+stays-else : (t : Bool) (b : List ℕ) (x : Left) (r s : BookRefusal) → (x .answer ≡ Refused r → x .bytes ≡ b) → cond t x (left (Refused s) b) .answer ≡ Refused r
     → cond t x (left (Refused s) b) .bytes ≡ b
 stays-else true b x r s h e = h e
 stays-else false b x r s h e = refl
 
-taken : (n : ℕ) (b c : List ℕ) (r : Refusal) → left (Is n) c .answer ≡ Refused r → left (Is n) c .bytes ≡ b
+taken : (n : ℕ) (b c : List ℕ) (r : BookRefusal) → left (Is n) c .answer ≡ Refused r → left (Is n) c .bytes ≡ b
 taken n b c r e = let z : _≡_ {A = ℕ} 0 1 = cc in absurd (omega arith)
 
-pub empty-stays : (b : List ℕ) (r : Refusal) → emptyAt b .answer ≡ Refused r → emptyAt b .bytes ≡ b
+pub empty-stays : (b : List ℕ) (r : BookRefusal) → emptyAt b .answer ≡ Refused r → emptyAt b .bytes ≡ b
 unfolding emptyAt
 empty-stays b r e = stays-else (eqb (length b) 520) b (left (Is 0) (bookOf (replicate 64 0))) r Shape (taken 0 b (bookOf (replicate 64 0)) r) e
 
-opening-stays : (b : List ℕ) (j : ℕ) (r : Refusal) → opening b j (jobsIn b) .answer ≡ Refused r → opening b j (jobsIn b) .bytes ≡ b
+opening-stays : (b : List ℕ) (j : ℕ) (r : BookRefusal) → opening b j (jobsIn b) .answer ≡ Refused r → opening b j (jobsIn b) .bytes ≡ b
 unfolding opening
 opening-stays b j r e =
     let n = lowestFree (jobsIn b) in
     stays (eqb n 64) b (left (Is n) (bookOf (set (jobsIn b) n j))) r AllOpen (taken n b (bookOf (set (jobsIn b) n j)) r) e
 
-pub open-stays : (b : List ℕ) (j : ℕ) (r : Refusal) → openAt b j .answer ≡ Refused r → openAt b j .bytes ≡ b
+pub open-stays : (b : List ℕ) (j : ℕ) (r : BookRefusal) → openAt b j .answer ≡ Refused r → openAt b j .bytes ≡ b
 unfolding openAt
 open-stays b j r e =
     stays (eqb j 0) b (cond (isBook b) (opening b j (jobsIn b)) (left (Refused Shape) b)) r Shape
     (stays-else (isBook b) b (opening b j (jobsIn b)) r Shape (opening-stays b j r)) e
 
-closing-stays : (b : List ℕ) (n : ℕ) (r : Refusal) → closing b n (jobsIn b) .answer ≡ Refused r → closing b n (jobsIn b) .bytes ≡ b
+closing-stays : (b : List ℕ) (n : ℕ) (r : BookRefusal) → closing b n (jobsIn b) .answer ≡ Refused r → closing b n (jobsIn b) .bytes ≡ b
 unfolding closing
 closing-stays b n r e =
     stays (eqb (getD (jobsIn b) n 0) 0) b (left (Is 0) (bookOf (set (jobsIn b) n 0))) r NotOpen (taken 0 b (bookOf (set (jobsIn b) n 0)) r) e
 
-pub close-stays : (b : List ℕ) (n : ℕ) (r : Refusal) → closeAt b n .answer ≡ Refused r → closeAt b n .bytes ≡ b
+pub close-stays : (b : List ℕ) (n : ℕ) (r : BookRefusal) → closeAt b n .answer ≡ Refused r → closeAt b n .bytes ≡ b
 unfolding closeAt
 close-stays b n r e = stays-else (isBook b) b (closing b n (jobsIn b)) r Shape (closing-stays b n r) e
 

@@ -1,24 +1,25 @@
--- The book of message identification numbers: document 02, E2. A book says of each of the 64 numbers the job that it is open for, 0 where it is not open.
+-- The book of message identification numbers: document 02, E2. A book says of each of the 64 numbers the job that it is open for, 0 where
+-- it is not open.
 -- The host keeps it in 520 bytes:
 --   0 to 7   the open numbers: bit n, counted from the lowest, is 1 where number n is open
 --   8 (n + 1) and the seven bytes after it   the job of number n
--- each number of eight bytes the most significant byte first. The jobs decide which numbers are open, so the first eight bytes have one value, and books
--- with the same open numbers and jobs have the same bytes.
+-- each number of eight bytes the most significant byte first. The jobs decide which numbers are open, so the first eight bytes have one
+-- value, and books with the same open numbers and jobs have the same bytes.
 use Prim.Native.Nat.{ℕ, zero, suc, _+_, _*_, _/_, _%_, _^_}
 use mathlib.Core.Bool.{Bool, true, false, cond, _&&_}
 use mathlib.Core.List.{List, [], _∷_, _++_}
 use lib.Dec.{eqb}
 use lib.ListN.{length, take, drop, getD, set, replicate}
 use Rattle.words.specs.Limits.{shape}
-use Rattle.book.specs.declared.Refusal.{Refusal}
-use Rattle.book.specs.declared.Refusal.the-variants.{Shape, AllOpen, NotOpen}
+use Rattle.book.specs.declared.BookRefusal.{BookRefusal}
+use Rattle.book.specs.declared.BookRefusal.the-variants.{Shape, AllOpen, NotOpen}
 use Rattle.book.specs.declared.Answer.{Answer}
 use Rattle.book.specs.declared.Answer.the-variants.{Is, Refused}
 use Rattle.book.specs.declared.loaded.Loaded.{Loaded}
 use Rattle.book.specs.declared.loaded.Loaded.the-variants.{Open, NoBook}
 
 -- document 01, "The numbers a refusal carries", and E2: "7, all 64 are open [..]; 8, closing a number that isn't open or is above 63"
-abbrev pub refusalNumber : Refusal → ℕ
+abbrev pub refusalNumber : BookRefusal → ℕ
 refusalNumber Shape = shape
 refusalNumber AllOpen = 7
 refusalNumber NotOpen = 8

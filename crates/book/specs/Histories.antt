@@ -1,5 +1,6 @@
--- The history of a book: document 02, E2, "After any calls the book's open numbers, their jobs and the open count are those of the history of openings and
--- closings since it was last emptied." The history is made of what the calls answered, and says by itself which numbers are open and for which jobs.
+-- The history of a book: document 02, E2, "After any calls the book's open numbers, their jobs and the open count are those of the history
+-- of openings and closings since it was last emptied." The history is made of what the calls answered, and says by itself which numbers are
+-- open and for which jobs.
 use Prim.Native.Nat.{ℕ, zero, suc, _^_, _<_}
 use mathlib.Core.Path.{_≡_}
 use mathlib.Core.Bool.{Bool, true, false, cond, _||_}

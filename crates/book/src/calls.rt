@@ -2,7 +2,7 @@
 ghost use mathlib.Core.Path.{_≡_};
 ghost use Rattle.book.specs.Books.{closeAt, countAt, emptyAt, jobAt, left, openAt};
 use crate::Answer;
-use crate::Refusal;
+use crate::BookRefusal;
 use crate::eight::clear_eight;
 use crate::eight::eight_at;
 use crate::eight::put_eight;
@@ -17,7 +17,7 @@ pub fn empty(b: &mut [u8]) -> Answer
     ensures { λ r. ⌜ left r (now (b .exit)) ≡ emptyAt (now (b .entry)) ⌝ }
 {
     if b.len() != Loaded::BYTES {
-        return Answer::Refused(Refusal::Shape);
+        return Answer::Refused(BookRefusal::Shape);
     }
     let mut i: usize = 0;
     while i <= Loaded::NUMBERS {
@@ -32,14 +32,14 @@ pub fn open(b: &mut [u8], job: u64) -> Answer
     ensures { λ r. ⌜ left r (now (b .exit)) ≡ openAt (now (b .entry)) job ⌝ }
 {
     if job == 0 {
-        return Answer::Refused(Refusal::Shape);
+        return Answer::Refused(BookRefusal::Shape);
     }
     let Loaded::Open(opened) = load(b) else {
-        return Answer::Refused(Refusal::Shape);
+        return Answer::Refused(BookRefusal::Shape);
     };
     let n = lowest_free(opened);
     if n == Loaded::NUMBERS {
-        return Answer::Refused(Refusal::AllOpen);
+        return Answer::Refused(BookRefusal::AllOpen);
     }
     put_eight(b, 0, opened + bit_of(n));
     put_eight(b, 8 * (n + 1), job);
@@ -51,15 +51,15 @@ pub fn close(b: &mut [u8], number: u64) -> Answer
     ensures { λ r. ⌜ left r (now (b .exit)) ≡ closeAt (now (b .entry)) number ⌝ }
 {
     let Loaded::Open(opened) = load(b) else {
-        return Answer::Refused(Refusal::Shape);
+        return Answer::Refused(BookRefusal::Shape);
     };
     if (Loaded::NUMBERS as u64) <= number {
-        return Answer::Refused(Refusal::NotOpen);
+        return Answer::Refused(BookRefusal::NotOpen);
     }
     let n = number as usize;
     let job = eight_at(b, 8 * (n + 1));
     if job == 0 {
-        return Answer::Refused(Refusal::NotOpen);
+        return Answer::Refused(BookRefusal::NotOpen);
     }
     put_eight(b, 0, opened - bit_of(n));
     put_eight(b, 8 * (n + 1), 0);
@@ -71,7 +71,7 @@ pub fn count(b: &[u8]) -> Answer
     ensures { λ r. ⌜ r ≡ countAt (now (b .entry)) ⌝ }
 {
     let Loaded::Open(opened) = load(b) else {
-        return Answer::Refused(Refusal::Shape);
+        return Answer::Refused(BookRefusal::Shape);
     };
     Answer::Is(open_count(opened))
 }

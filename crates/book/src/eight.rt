@@ -37,8 +37,8 @@ pub(crate) fn put_eight(b: &mut [u8], at: usize, v: u64)
     }
 }
 
-// Zero to a byte position. It is written only where it is not there yet: of a loop that always writes, the compiler would make a call of C's
-// memset, and the archive needs no library.
+// Zero to a byte position. It is written only where it is not there yet: of a loop that always writes, the compiler would make a call of
+// C's memset, and the archive needs no library.
 pub(crate) fn clear_eight(b: &mut [u8], at: usize)
     requires { ⌜ at + 8 ≤ length (now b) ⌝ }
     ensures { λ r. ⌜ now (b .exit) ≡ sets (now (b .entry)) at (octets 8 0) ⌝ }

@@ -1,5 +1,6 @@
-// The book of message identification numbers (document 02, E2): which of the numbers 0 to 63 are open in one direction of a dialogue, and the job
-// that each belongs to. The host keeps it in a lent range of a fixed size, beside the record of the dialogue, and the book does not look at that.
+// The book of message identification numbers (document 02, E2): which of the numbers 0 to 63 are open in one direction of a dialogue, and
+// the job that each belongs to. The host keeps it in a lent range of a fixed size, beside the record of the dialogue, and the book does not
+// look at that.
 // Every function takes every argument; what it refuses changes nothing.
 ghost use mathlib.Core.Path.{_≡_};
 ghost use Rattle.book.specs.Books.{refusalNumber};
@@ -17,7 +18,7 @@ pub use calls::job;
 pub use calls::open;
 
 // Why a call is refused.
-pub enum Refusal {
+pub enum BookRefusal {
     // the range is no book, or the job is 0
     Shape,
     // all 64 numbers are open
@@ -26,15 +27,15 @@ pub enum Refusal {
     NotOpen,
 }
 
-impl Refusal {
+impl BookRefusal {
     // The number in the documents' tables.
     pub fn number(self) -> u64
         ensures { λ r. ⌜ r ≡ refusalNumber self ⌝ }
     {
         match self {
-            Refusal::Shape => Limit::SHAPE,
-            Refusal::AllOpen => 7,
-            Refusal::NotOpen => 8,
+            BookRefusal::Shape => Limit::SHAPE,
+            BookRefusal::AllOpen => 7,
+            BookRefusal::NotOpen => 8,
         }
     }
 }
@@ -42,5 +43,5 @@ impl Refusal {
 // What a call answers: a message identification number or a count, 0 where there is nothing to say; or why it was refused.
 pub enum Answer {
     Is(u64),
-    Refused(Refusal),
+    Refused(BookRefusal),
 }

@@ -7,15 +7,15 @@ use native.Mathlib.Omega.{arith}
 use lib.ListN.{length}
 use Rattle.envelope.specs.Envelopes.{mostBits, envelopeAt, Left, left, contentOf, placed, bytesOf, header, largest}
 use Rattle.envelope.specs.declared.Envelope.{Envelope}
-use Rattle.envelope.specs.declared.Read.the-variants as read
-use Rattle.envelope.specs.declared.Written.{Written}
+use Rattle.envelope.specs.declared.EnvelopeRead.the-variants as read
+use Rattle.envelope.specs.declared.EnvelopeWritten.{EnvelopeWritten}
 use Rattle.envelope.proofs.Numbers.{AllBytes}
 use Rattle.envelope.proofs.RoundTrip.{ReadIs, read-written, length-whole}
 use Rattle.envelope.proofs.Sizes.{kind-small, bits-small, within-largest, largest-is}
 use Rattle.card.specs.Mail.{envelopeNumber, said, sent, answered, writtenAnswer}
 
 -- as `peat_write_envelope` has them
-pub put-answered : (n : ℕ) (w : Written) (out : List ℕ) (x : Left) → n ≡ writtenAnswer w → left w out ≡ x → sent n out ≡ answered x
+pub put-answered : (n : ℕ) (w : EnvelopeWritten) (out : List ℕ) (x : Left) → n ≡ writtenAnswer w → left w out ≡ x → sent n out ≡ answered x
 put-answered n w out x p q = rw (p, ← q)
 
 -- the parts of an answer

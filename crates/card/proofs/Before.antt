@@ -9,7 +9,7 @@ use lib.Dec.{ltb}
 use lib.ListN.{length}
 use Rattle.words.specs.Limits.{shape}
 use Rattle.apdu.specs.Pdus.{lent}
-use Rattle.apdu.specs.Writing.{dataShaped}
+use Rattle.apdu.specs.Writing.{dataFits}
 use Rattle.apdu.specs.declared.Data.{Data}
 use Rattle.control.specs.Control.{takes}
 use Rattle.control.specs.declared.Side.{Side}
@@ -18,18 +18,18 @@ use Rattle.machine.specs.Codes.{routingClasses, securityValues}
 use Rattle.machine.specs.Outcome.{isNone, refused}
 use Rattle.machine.specs.Calls.{startRequest}
 use Rattle.machine.specs.declared.record.Record.{Record}
-use Rattle.machine.specs.declared.outcome.Refusal.{Refusal}
-use Rattle.machine.specs.declared.outcome.Refusal.the-variants.{None, Shape, Prohibited}
+use Rattle.machine.specs.declared.outcome.StepRefusal.{StepRefusal}
+use Rattle.machine.specs.declared.outcome.StepRefusal.the-variants.{None, Shape, Prohibited}
 use Rattle.machine.specs.declared.outcome.Outcome.{Outcome}
 use Rattle.step.specs.Call.{Called, called, carriesData, concluded, entering}
 use Rattle.card.specs.Face.{givenData}
 
--- the codes, class and security, the same at both sides (machine, userShapely)
+-- the codes, class and security, the same at both sides (machine, userFits)
 abbrev pub codesBefore : ℕ → ℕ → Bool
 codesBefore k s = ltb k routingClasses && ltb s securityValues
 
 -- SHAPE, then PROHIBITED (machine, refusalOf)
-abbrev pub refusalBefore : Side → Record → Bool → ℕ → ℕ → Refusal
+abbrev pub refusalBefore : Side → Record → Bool → ℕ → ℕ → StepRefusal
 refusalBefore sd x m k s = cond (not (codesBefore k s)) Shape (cond (not (takes sd (x .control) (StartRequest m))) Prohibited None)
 
 -- (machine, step)
@@ -39,7 +39,7 @@ stepBefore sd x m k s = cond (isNone (refusalBefore sd x m k s)) (startRequest x
 -- (step, userStep)
 abbrev pub userStepBefore : List ℕ → List ℕ → List ℕ → ℕ → Bool → ℕ → ℕ → List ℕ → List ℕ → List ℕ → Data → Side → Record → ℕ → Called
 userStepBefore r a b v m k s li lm lc d sd x n =
-    cond (dataShaped li lm lc d) (concluded r a b sd v (stepBefore sd x m k s) li lm lc (carriesData d)) (called shape r a b)
+    cond (dataFits li lm lc d) (concluded r a b sd v (stepBefore sd x m k s) li lm lc (carriesData d)) (called shape r a b)
 
 -- the exported calls (step, userCall; card, dataCall), of the bytes of the record and of the two buffers, of class and security, and of the message data
 abbrev pub startBefore : Bool → List ℕ → List ℕ → List ℕ → ℕ → ℕ → ℕ → List ℕ → List ℕ → ℕ → List ℕ → ℕ → Called

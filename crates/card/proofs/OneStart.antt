@@ -12,13 +12,13 @@ use lib.ListN.{length}
 use Rattle.words.specs.Limits.{room, shape}
 use Rattle.apdu.specs.Sizes.{bufferLeast}
 use Rattle.apdu.specs.Pdus.{lent}
-use Rattle.apdu.specs.Writing.{dataShaped}
+use Rattle.apdu.specs.Writing.{dataFits}
 use Rattle.apdu.specs.declared.Data.{Data}
 use Rattle.control.specs.Control.{isIdle}
 use Rattle.control.specs.declared.Side.{Side}
 use Rattle.control.specs.declared.Side.the-variants.{Air, Ground}
 use Rattle.machine.specs.Codes.{dscMode, modes}
-use Rattle.machine.specs.Event.{hasMode, userShapely, shapely}
+use Rattle.machine.specs.Event.{hasMode, userFits, eventFits}
 use Rattle.machine.specs.Outcome.{isNone, refused, refusalNumber}
 use Rattle.machine.specs.Calls.{callOf, unsent}
 use Rattle.machine.specs.Calls as clause
@@ -28,7 +28,7 @@ use Rattle.machine.specs.declared.record.Record.{Record}
 use Rattle.machine.specs.declared.event.UserPrimitive.the-variants.{StartServiceRequest}
 use Rattle.machine.specs.declared.event.Event.{Event}
 use Rattle.machine.specs.declared.event.Event.the-variants.{User}
-use Rattle.machine.specs.declared.outcome.Refusal.the-variants.{None, Shape, Prohibited}
+use Rattle.machine.specs.declared.outcome.StepRefusal.the-variants.{None, Shape, Prohibited}
 use Rattle.machine.specs.declared.outcome.Outcome.{Outcome}
 use Rattle.numbered.specs.Numbers.{userStarts, isStart, isStale, heldAfter, numberedStep}
 use Rattle.numbered.proofs.Laws.{shape-first, then-step}
@@ -43,12 +43,12 @@ use Rattle.card.proofs.Before.{codesBefore, stepBefore, userStepBefore,
 -- ---- the step of either machine
 
 cpdlc-step : (sd : Side) (x : Record) (k s : ℕ) → step sd x (User (StartServiceRequest cpdlcMode k s)) ≡ stepBefore sd x false k s
-unfolding step refusalOf shapely userShapely hasMode permitted callOf messageRefusal unsent acts clause.called
+unfolding step refusalOf eventFits userFits hasMode permitted callOf messageRefusal unsent acts clause.called
 cpdlc-step Air x k s = refl
 cpdlc-step Ground x k s = refl
 
 dsc-step : (x : Record) (k s : ℕ) → step Air x (User (StartServiceRequest dscMode k s)) ≡ stepBefore Air x true k s
-unfolding step refusalOf shapely userShapely hasMode permitted callOf messageRefusal unsent acts clause.called
+unfolding step refusalOf eventFits userFits hasMode permitted callOf messageRefusal unsent acts clause.called
 dsc-step x k s = refl
 
 -- the old DSC-start request had no action at the ground machine
@@ -93,9 +93,9 @@ isAbove r v = belowIn (loadAt r) v
 abbrev pub shapeForProhibited : Called → Called
 shapeForProhibited x = called (cond (eqb (x .number) (refusalNumber Prohibited)) shape (x .number)) (x .kept) (x .first) (x .second)
 
-shaped-entering : (r a b : List ℕ) (k : Side → Record → ℕ → Called) → shapeForProhibited (entering r a b k) ≡ entering r a b (λ (sd : Side) (x : Record) (n : ℕ). shapeForProhibited (k sd x n))
+shape-entering : (r a b : List ℕ) (k : Side → Record → ℕ → Called) → shapeForProhibited (entering r a b k) ≡ entering r a b (λ (sd : Side) (x : Record) (n : ℕ). shapeForProhibited (k sd x n))
 unfolding entering withRecord
-shaped-entering r a b k = go (ltb (length a) bufferLeast) (ltb (length b) bufferLeast) (loadAt r)
+shape-entering r a b k = go (ltb (length a) bufferLeast) (ltb (length b) bufferLeast) (loadAt r)
   where
     go : (f g : Bool) (v : Loaded) → shapeForProhibited (cond f (called room r a b) (cond g (called room r a b) (withRecord r a b v k))) ≡ cond f (called room r a b) (cond g (called room r a b) (withRecord r a b v (λ (sd : Side) (x : Record) (n : ℕ). shapeForProhibited (k sd x n))))
     go true g v = refl
@@ -122,12 +122,12 @@ module _ (r a b : List ℕ) (v k s : ℕ) (ids msgs : List ℕ) (n : ℕ) (check
   abbrev given : Data
   given = givenData (length ids) n c
 
-  abbrev shaped : Bool
-  shaped = dataShaped (lent ids) (lent msgs) (lent checks) given
+  abbrev placed-fits : Bool
+  placed-fits = dataFits (lent ids) (lent msgs) (lent checks) given
 
   -- what the message data and an outcome make of a call
   abbrev with-data : Side → Outcome → Called
-  with-data sd o = cond shaped (concluded r a b sd v o (lent ids) (lent msgs) (lent checks) (carriesData given)) (called shape r a b)
+  with-data sd o = cond placed-fits (concluded r a b sd v o (lent ids) (lent msgs) (lent checks) (carriesData given)) (called shape r a b)
 
   abbrev start : ℕ → Event
   start m = User (StartServiceRequest m k s)
@@ -166,21 +166,21 @@ module _ (r a b : List ℕ) (v k s : ℕ) (ids msgs : List ℕ) (n : ℕ) (check
       same Ground x h e = never (sym g ∙ ap groundIn e)
 
   -- a mode that the machine has not is SHAPE, before STALE
-  shape-at : (m : ℕ) (sd : Side) (x : Record) (h : ℕ) → shapely sd (start m) ≡ false → now-step m sd x h ≡ with-data sd (refused Shape x)
+  shape-at : (m : ℕ) (sd : Side) (x : Record) (h : ℕ) → eventFits sd (start m) ≡ false → now-step m sd x h ≡ with-data sd (refused Shape x)
   shape-at m sd x h e = now-is m sd x h ∙ ap (with-data sd) (shape-first sd x h (start m) v e)
 
-  ground-shape : shapely Ground (start dscMode) ≡ false
-  unfolding shapely userShapely hasMode
+  ground-shape : eventFits Ground (start dscMode) ≡ false
+  unfolding eventFits userFits hasMode
   ground-shape = refl
 
-  mode-shape : (sd : Side) (m : ℕ) → modes ≤ m → shapely sd (start m) ≡ false
-  unfolding shapely userShapely hasMode
+  mode-shape : (sd : Side) (m : ℕ) → modes ≤ m → eventFits sd (start m) ≡ false
+  unfolding eventFits userFits hasMode
   mode-shape sd m l = rw (le-ltb m modes l)
 
   -- mode dsc at the ground machine
   pub dsc-at-the-ground : atGround r ≡ true → numberedCall r a b (StartServiceRequest dscMode k s) v ids msgs n checks c ≡ shapeForProhibited (dscStartBefore r a b v k s ids msgs n checks c)
   unfolding userCall concluded
-  dsc-at-the-ground g = entering-same r a b (now-step dscMode) (λ (sd : Side) (x : Record) (h : ℕ). shapeForProhibited (old-step true sd x h)) moved ∙ sym (shaped-entering r a b (old-step true))
+  dsc-at-the-ground g = entering-same r a b (now-step dscMode) (λ (sd : Side) (x : Record) (h : ℕ). shapeForProhibited (old-step true sd x h)) moved ∙ sym (shape-entering r a b (old-step true))
     where
       refuses : (d t : Bool) (x : Record) → cond d (concluded r a b Ground v (refused Shape x) (lent ids) (lent msgs) (lent checks) (carriesData given)) (called shape r a b) ≡ shapeForProhibited (cond d (concluded r a b Ground v (refused (cond t Prohibited Shape) x) (lent ids) (lent msgs) (lent checks) (carriesData given)) (called shape r a b))
       refuses true true x = refl
@@ -190,7 +190,7 @@ module _ (r a b : List ℕ) (v k s : ℕ) (ids msgs : List ℕ) (n : ℕ) (check
       moved : (sd : Side) (x : Record) (h : ℕ) → loadAt r ≡ Is sd x h → now-step dscMode sd x h ≡ shapeForProhibited (old-step true sd x h)
       moved Air x h e = never (sym (ap groundIn e) ∙ g)
       moved Ground x h e =
-          shape-at dscMode Ground x h ground-shape ∙ refuses shaped (codesBefore k s) x ∙ ap (λ (o : Outcome). shapeForProhibited (with-data Ground o)) (sym (ground-step x k s))
+          shape-at dscMode Ground x h ground-shape ∙ refuses placed-fits (codesBefore k s) x ∙ ap (λ (o : Outcome). shapeForProhibited (with-data Ground o)) (sym (ground-step x k s))
 
   -- so it is refused there in every state, after ROOM
   pub dsc-refused-at-the-ground : atGround r ≡ true → numberedCall r a b (StartServiceRequest dscMode k s) v ids msgs n checks c ≡ roomOrShape r a b
@@ -203,12 +203,12 @@ module _ (r a b : List ℕ) (v k s : ℕ) (ids msgs : List ℕ) (n : ℕ) (check
 
       refuses : (sd : Side) (x : Record) (h : ℕ) → loadAt r ≡ Is sd x h → now-step dscMode sd x h ≡ called shape r a b
       refuses Air x h e = never (sym (ap groundIn e) ∙ g)
-      refuses Ground x h e = shape-at dscMode Ground x h ground-shape ∙ either shaped x
+      refuses Ground x h e = shape-at dscMode Ground x h ground-shape ∙ either placed-fits x
 
   -- a code that is no mode: refused for any record, of either machine, after ROOM
   pub no-other-mode : (m : ℕ) → modes ≤ m → numberedCall r a b (StartServiceRequest m k s) v ids msgs n checks c ≡ roomOrShape r a b
   unfolding userCall concluded
-  no-other-mode m l = entering-same r a b (now-step m) (λ (sd : Side) (x : Record) (h : ℕ). called shape r a b) (λ sd x h e. shape-at m sd x h (mode-shape sd m l) ∙ either sd shaped x) ∙ entering-shape r a b
+  no-other-mode m l = entering-same r a b (now-step m) (λ (sd : Side) (x : Record) (h : ℕ). called shape r a b) (λ sd x h e. shape-at m sd x h (mode-shape sd m l) ∙ either sd placed-fits x) ∙ entering-shape r a b
     where
       either : (sd : Side) (d : Bool) (x : Record) → cond d (concluded r a b sd v (refused Shape x) (lent ids) (lent msgs) (lent checks) (carriesData given)) (called shape r a b) ≡ called shape r a b
       either sd true x = refl

@@ -12,7 +12,7 @@ use Rattle.fields.specs.declared.Refusal.{Refusal}
 use Rattle.apdu.specs.Sizes.{bufferLeast}
 use Rattle.apdu.specs.Pdus.{lent}
 use Rattle.apdu.specs.Reading.{wholeForward}
-use Rattle.apdu.specs.Writing.{done, writeOut, runShaped}
+use Rattle.apdu.specs.Writing.{done, writeOut, runFits}
 use Rattle.apdu.specs.declared.Heading.{Heading}
 use Rattle.apdu.specs.declared.Forward.{Forward}
 use Rattle.apdu.specs.declared.Forwarded.{Forwarded}
@@ -33,7 +33,7 @@ last-part (suc (suc (suc (suc (suc (suc (suc zero))))))) h a b c d e f g i j = a
 last-part (suc (suc (suc (suc (suc (suc (suc (suc zero)))))))) h a b c d e f g i j = absurd (j refl)
 last-part (suc (suc (suc (suc (suc (suc (suc (suc (suc n))))))))) h a b c d e f g i j = refl
 
-pub bits-out : (out z s : List ℕ) (which n : ℕ) (f : Forward) (w : Written) → which ≡ messagePart → n ≡ messageAnswer w → done w z ≡ writeOut (runShaped s (f .message .at) (f .message .count)) out (run s (f .message .at) (f .message .count)) → sent n z ≡ forwardPart out s which f
+pub bits-out : (out z s : List ℕ) (which n : ℕ) (f : Forward) (w : Written) → which ≡ messagePart → n ≡ messageAnswer w → done w z ≡ writeOut (runFits s (f .message .at) (f .message .count)) out (run s (f .message .at) (f .message .count)) → sent n z ≡ forwardPart out s which f
 unfolding forwardPart
 bits-out out z s which n f w e q h = rw (eq-eqb which messagePart e, q, ← h)
 

@@ -17,7 +17,7 @@ use Rattle.fields.specs.declared.Refusal.{Refusal}
 use Rattle.apdu.specs.Sizes.{bufferLeast, octet, bit, identifierLeast, identifierMost, messageMost, checkMost, allBits}
 use Rattle.apdu.specs.Pdus.{lent}
 use Rattle.apdu.specs.Reading.{wholeData}
-use Rattle.apdu.specs.Writing.{done, writeOut, runShaped, itemsShaped, partShaped, dataShaped}
+use Rattle.apdu.specs.Writing.{done, writeOut, runFits, itemsFit, partFits, dataFits}
 use Rattle.apdu.specs.declared.Span.{Span}
 use Rattle.apdu.specs.declared.Part.{Part}
 use Rattle.apdu.specs.declared.Part.the-variants.{Absent, Given}
@@ -25,7 +25,7 @@ use Rattle.apdu.specs.declared.Data.{Data}
 use Rattle.apdu.specs.declared.Taken.{Taken}
 use Rattle.apdu.specs.declared.Taken.the-variants as taken
 use Rattle.apdu.specs.declared.Written.{Written}
-use Rattle.apdu.proofs.Bounds.{data-shaped}
+use Rattle.apdu.proofs.Bounds.{data-fits}
 use Rattle.apdu.proofs.Theorems.{whole-data}
 use Rattle.card.specs.Mail.{sent}
 use Rattle.card.specs.Parts.{chosen, unitOf, countOf, partAnswer, putOut, putChosen, partCall}
@@ -34,7 +34,7 @@ pub put-absent : (out s : List ℕ) (unit : ℕ) (p : Part) → p ≡ Absent →
 unfolding putOut
 put-absent out s unit p e = rw e
 
-pub put-given : (out z s : List ℕ) (unit n : ℕ) (p : Part) (x : Span) (w : Written) → p ≡ Given x → n ≡ partAnswer w → done w z ≡ writeOut (runShaped s (x .at) (unit * x .count)) out (run s (x .at) (unit * x .count)) → sent n z ≡ putOut out s unit p
+pub put-given : (out z s : List ℕ) (unit n : ℕ) (p : Part) (x : Span) (w : Written) → p ≡ Given x → n ≡ partAnswer w → done w z ≡ writeOut (runFits s (x .at) (unit * x .count)) out (run s (x .at) (unit * x .count)) → sent n z ≡ putOut out s unit p
 unfolding putOut
 put-given out z s unit n p x w e q h = rw (e, q, ← h)
 
@@ -59,13 +59,13 @@ part-put out z s which n unit next t d p h g e q u c k = k ∙ rw (le-ltb (lengt
 pub given-small : (unit : ℕ) (p : Part) (x : Span) → p ≡ Given x → unit * countOf p < 65536 → unit * x .count < 65536
 given-small unit p x e h = rw e at h
 
-items-few : (l : List ℕ) (unit least most : ℕ) (x : Span) → itemsShaped l unit least most x ≡ true → x .count ≤ most
-unfolding itemsShaped
+items-few : (l : List ℕ) (unit least most : ℕ) (x : Span) → itemsFit l unit least most x ≡ true → x .count ≤ most
+unfolding itemsFit
 items-few l unit least most x h =
     leb-true (x .count) most (both-right (leb least (x .count)) (leb (x .count) most) (both-left (leb least (x .count) && leb (x .count) most) (ltb (x .count) 16384) (both-left _ _ h)))
 
-part-few : (l : List ℕ) (unit least most : ℕ) (p : Part) → partShaped l unit least most p ≡ true → countOf p ≤ most
-unfolding partShaped
+part-few : (l : List ℕ) (unit least most : ℕ) (p : Part) → partFits l unit least most p ≡ true → countOf p ≤ most
+unfolding partFits
 part-few l unit least most Absent h = omega arith
 part-few l unit least most (Given x) h = items-few l unit least most x h
 
@@ -74,14 +74,14 @@ by d i m k true b = omega (arith, i)
 by d i m k false true = omega (arith, m)
 by d i m k false false = omega (arith, k)
 
-few : (l : List ℕ) (which : ℕ) (d : Data) → dataShaped l l l d ≡ true → unitOf which * countOf (chosen which d) < 65536
+few : (l : List ℕ) (which : ℕ) (d : Data) → dataFits l l l d ≡ true → unitOf which * countOf (chosen which d) < 65536
 unfolding chosen unitOf
 few l which d h =
-    let s = data-shaped l l l d h in
+    let s = data-fits l l l d h in
     let i : countOf (d .identifier) ≤ identifierMost = part-few l octet identifierLeast identifierMost (d .identifier) (s .identifier) in
     let m : countOf (d .message) ≤ messageMost = part-few l bit 0 messageMost (d .message) (s .message) in
     let k : d .check .count ≤ checkMost = items-few l bit 0 checkMost (d .check) (s .check) in
     by d i m k (eqb which 0) (eqb which 1)
 
 pub part-small : (s : List ℕ) (which unit next : ℕ) (t : Taken) (d : Data) (p : Part) → t ≡ wholeData (lent s) → t ≡ taken.Is d next → unit ≡ unitOf which → p ≡ chosen which d → unit * countOf p < 65536
-part-small s which unit next t d p e q u c = rw (u, c) (few (lent s) which d (whole-data (lent s) d next (bits-to s allBits) (sym e ∙ q) .shaped))
+part-small s which unit next t d p e q u c = rw (u, c) (few (lent s) which d (whole-data (lent s) d next (bits-to s allBits) (sym e ∙ q) .placed-fits))

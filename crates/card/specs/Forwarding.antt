@@ -1,8 +1,8 @@
--- A forward message that was delivered, taken apart for the host. Its parts by number: 0 year, 1 month, 2 day, 3 hours, 4 minutes, 5 seconds, 6 the count of the
--- flight identification's characters, 7 they as one number, seven bits each, the first on top, 8 the aircraft's address, 9 what the message's bits are
--- (0 uplink, 1 downlink), 10 those bits.
--- The number that taking one out answers. A refusal is its number, with its place above it where the bytes are at fault (fields' `packed`), and every other
--- bit is zero. Else, from the lowest bit on:
+-- A forward message that was delivered, taken apart for the host. Its parts by number: 0 year, 1 month, 2 day, 3 hours, 4 minutes, 5
+-- seconds, 6 the count of the flight identification's characters, 7 they as one number, seven bits each, the first on top, 8 the aircraft's
+-- address, 9 what the message's bits are (0 uplink, 1 downlink), 10 those bits.
+-- The number that taking one out answers. A refusal is its number, with its place above it where the bytes are at fault (fields' `packed`),
+-- and every other bit is zero. Else, from the lowest bit on:
 --    8 bits  0
 --   56 bits  the part; of the message's bits, which stand in the buffer from the first on, their count
 use Prim.Native.Nat.{ℕ, zero, suc, _*_, _%_}
@@ -16,7 +16,7 @@ use Rattle.fields.specs.Refusals.{packed}
 use Rattle.apdu.specs.Sizes.{bufferLeast}
 use Rattle.apdu.specs.Pdus.{lent}
 use Rattle.apdu.specs.Reading.{wholeForward}
-use Rattle.apdu.specs.Writing.{Done, writeOut, runShaped}
+use Rattle.apdu.specs.Writing.{Done, writeOut, runFits}
 use Rattle.apdu.specs.declared.Heading.{Heading}
 use Rattle.apdu.specs.declared.Forward.{Forward}
 use Rattle.apdu.specs.declared.Forwarded.{Forwarded}
@@ -55,7 +55,7 @@ messageDone x = sent (messageAnswer (x .answer)) (x .bytes)
 
 unfoldable pub forwardPart : List ℕ → List ℕ → ℕ → Forward → Sent
 forwardPart out s which f =
-    cond (eqb which messagePart) (messageDone (writeOut (runShaped s (f .message .at) (f .message .count)) out (run s (f .message .at) (f .message .count))))
+    cond (eqb which messagePart) (messageDone (writeOut (runFits s (f .message .at) (f .message .count)) out (run s (f .message .at) (f .message .count))))
     (sent (told (headingPart which (f .heading))) out)
 
 unfoldable pub forwardChosen : List ℕ → List ℕ → ℕ → Forwarded → Sent

@@ -12,24 +12,24 @@ use mathlib.Core.List.{List}
 use Rattle.words.specs.Limits.{room, shape}
 use Rattle.envelope.specs.Envelopes.{refusalNumber, leastRoom, mostBits, writeEnvelope, Left}
 use Rattle.envelope.specs.declared.Envelope.{Envelope}
-use Rattle.envelope.specs.declared.Read.{Read}
-use Rattle.envelope.specs.declared.Read.the-variants as read
-use Rattle.envelope.specs.declared.Written.{Written}
-use Rattle.envelope.specs.declared.Written.the-variants.{Bytes, Room, Shape}
+use Rattle.envelope.specs.declared.EnvelopeRead.{EnvelopeRead}
+use Rattle.envelope.specs.declared.EnvelopeRead.the-variants as read
+use Rattle.envelope.specs.declared.EnvelopeWritten.{EnvelopeWritten}
+use Rattle.envelope.specs.declared.EnvelopeWritten.the-variants.{Bytes, Room, Shape}
 
 abbrev pub said : Envelope → ℕ
 said e = 256 * (e .kind % 256 + 256 * (e .bits % 65536 + 65536 * (e .body % 65536 + 65536 * (e .next % 65536))))
 
-unfoldable pub envelopeNumber : Read → ℕ
+unfoldable pub envelopeNumber : EnvelopeRead → ℕ
 envelopeNumber (read.Is e) = said e
 envelopeNumber (read.Refused r) = refusalNumber r
 
 -- 0 is no job
-unfoldable pub envelopeJob : Read → ℕ
+unfoldable pub envelopeJob : EnvelopeRead → ℕ
 envelopeJob (read.Is e) = e .job
 envelopeJob (read.Refused r) = 0
 
-unfoldable pub writtenAnswer : Written → ℕ
+unfoldable pub writtenAnswer : EnvelopeWritten → ℕ
 writtenAnswer (Bytes n) = 256 * (n % 65536)
 writtenAnswer Room = room
 writtenAnswer Shape = shape

@@ -1,6 +1,6 @@
 -- The parts of message data that was delivered, for the host: 0 the algorithm identifier, 1 the CPDLC message, 2 the integrity check.
--- The number that taking one out answers. A refusal is its number, with its place above it where the bytes are at fault (fields' `packed`), and
--- every other bit is zero. Else, from the lowest bit on:
+-- The number that taking one out answers. A refusal is its number, with its place above it where the bytes are at fault (fields' `packed`),
+-- and every other bit is zero. Else, from the lowest bit on:
 --    8 bits  0
 --    8 bits  1 where the part is there, 0 where it is not
 --   16 bits  its bits, in the buffer from the first on
@@ -15,7 +15,7 @@ use Rattle.fields.specs.Refusals.{packed}
 use Rattle.apdu.specs.Sizes.{bufferLeast, octet, bit}
 use Rattle.apdu.specs.Pdus.{lent}
 use Rattle.apdu.specs.Reading.{wholeData}
-use Rattle.apdu.specs.Writing.{Done, writeOut, runShaped}
+use Rattle.apdu.specs.Writing.{Done, writeOut, runFits}
 use Rattle.apdu.specs.declared.Part.{Part}
 use Rattle.apdu.specs.declared.Part.the-variants.{Absent, Given}
 use Rattle.apdu.specs.declared.Data.{Data}
@@ -47,7 +47,7 @@ partDone x = sent (partAnswer (x .answer)) (x .bytes)
 -- a part that is there, at the front of the buffer
 unfoldable pub putOut : List ℕ → List ℕ → ℕ → Part → Sent
 putOut out s unit Absent = sent 0 out
-putOut out s unit (Given x) = partDone (writeOut (runShaped s (x .at) (unit * x .count)) out (run s (x .at) (unit * x .count)))
+putOut out s unit (Given x) = partDone (writeOut (runFits s (x .at) (unit * x .count)) out (run s (x .at) (unit * x .count)))
 
 unfoldable pub putChosen : List ℕ → List ℕ → ℕ → Taken → Sent
 putChosen out s which (taken.Is d next) = putOut out s (unitOf which) (chosen which d)

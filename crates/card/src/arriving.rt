@@ -1,4 +1,5 @@
-// The broker's envelopes as they arrive in fragments. The host keeps the reader's record; a finished envelope stands in it until the next call.
+// The broker's envelopes as they arrive in fragments. The host keeps the reader's record; a finished envelope stands in it until the next
+// call.
 ghost use mathlib.Core.Path.{_≡_};
 ghost use Rattle.card.specs.Arriving.{endMail, freshMail, takeMail, takenNumber};
 ghost use Rattle.card.specs.Mail.{sent};

@@ -16,8 +16,9 @@ use apdu::read_forward;
 use step::forward_call;
 use words::Limit;
 
-// CPDLC-forward request, which brings a dialogue number as a start does. The flight identification is the count of its characters, and they as one number, seven bits each, the first on top; the
-// direction says what the message's bits are (0 uplink, 1 downlink); they stand in msgs from the first on, and `message` says how many.
+// CPDLC-forward request, which brings a dialogue number as a start does. The flight identification is the count of its characters, and they
+// as one number, seven bits each, the first on top; the direction says what the message's bits are (0 uplink, 1 downlink); they stand in
+// msgs from the first on, and `message` says how many.
 #[no_mangle]
 pub extern "C" fn peat_forward_request(
     rec: &mut [u8],
@@ -39,7 +40,19 @@ pub extern "C" fn peat_forward_request(
     first: &mut [u8],
     second: &mut [u8],
 ) -> u64
-    ensures { λ n. ⌜ called n (now (rec .exit)) (now (first .exit)) (now (second .exit)) ≡ forwardCall (now (rec .entry)) (now (first .entry)) (now (second .entry)) class security number (now (msgs .entry)) (record { heading = record { date = triple year month day; time = triple hours minutes seconds; characters = characters; flight = flight; address = address; direction = direction }; message = record { at = 0; count = message } }) ⌝ }
+    ensures { λ n. ⌜ called n (now (rec .exit)) (now (first .exit)) (now (second .exit)) ≡
+        forwardCall (now (rec .entry)) (now (first .entry)) (now (second .entry)) class security number (now (msgs .entry))
+        (record {
+          heading = record {
+            date = triple year month day;
+            time = triple hours minutes seconds;
+            characters = characters;
+            flight = flight;
+            address = address;
+            direction = direction;
+          };
+          message = record { at = 0; count = message };
+        }) ⌝ }
 {
     let heading = Heading {
         date: Triple {

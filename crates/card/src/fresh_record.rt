@@ -17,8 +17,8 @@ fn told_made(stored: bool) -> u64
 
 const FIRST_NUMBER: u64 = 0;
 
-// A fresh record for a side (1 air, 2 ground), with the security value that local policy accepts, whether forwarding is supported (0, 1), and the own
-// version (1 to 255).
+// A fresh record for a side (1 air, 2 ground), with the security value that local policy accepts, whether forwarding is supported (0, 1),
+// and the own version (1 to 255).
 #[no_mangle]
 pub extern "C" fn peat_fresh(
     rec: &mut [u8],

@@ -1,5 +1,6 @@
-// What the host gives to a call. Message data come as three ranges, each from its first bit on: the identifier's octets (none: no identifier), the
-// bits of the message, of which `message` says how many (NONE: no message), and those of the check, of which `check` says how many.
+// What the host gives to a call. Message data come as three ranges, each from its first bit on: the identifier's octets (none: no
+// identifier), the bits of the message, of which `message` says how many (NONE: no message), and those of the check, of which `check` says
+// how many.
 ghost use mathlib.Core.Path.{_≡_};
 ghost use Rattle.card.specs.Face.{dataCall, givenData, numberedCall, partOf, plainCall};
 ghost use Rattle.step.specs.Call.{called};
@@ -56,7 +57,9 @@ pub(crate) fn numbered_call(
     first: &mut [u8],
     second: &mut [u8],
 ) -> u64
-    ensures { λ n. ⌜ called n (now (rec .exit)) (now (first .exit)) (now (second .exit)) ≡ numberedCall (now (rec .entry)) (now (first .entry)) (now (second .entry)) u number (now (ids .entry)) (now (msgs .entry)) message (now (checks .entry)) check ⌝ }
+    ensures { λ n. ⌜ called n (now (rec .exit)) (now (first .exit)) (now (second .exit)) ≡
+        numberedCall (now (rec .entry)) (now (first .entry)) (now (second .entry)) u number (now (ids .entry)) (now (msgs .entry)) message
+        (now (checks .entry)) check ⌝ }
 {
     let d = given_data(ids.len(), message, check);
     user_call(
@@ -84,7 +87,9 @@ pub(crate) fn data_call(
     first: &mut [u8],
     second: &mut [u8],
 ) -> u64
-    ensures { λ n. ⌜ called n (now (rec .exit)) (now (first .exit)) (now (second .exit)) ≡ dataCall (now (rec .entry)) (now (first .entry)) (now (second .entry)) u (now (ids .entry)) (now (msgs .entry)) message (now (checks .entry)) check ⌝ }
+    ensures { λ n. ⌜ called n (now (rec .exit)) (now (first .exit)) (now (second .exit)) ≡
+        dataCall (now (rec .entry)) (now (first .entry)) (now (second .entry)) u (now (ids .entry)) (now (msgs .entry)) message
+        (now (checks .entry)) check ⌝ }
 {
     numbered_call(
         rec,
@@ -102,7 +107,8 @@ pub(crate) fn data_call(
 
 // An event without message data.
 pub(crate) fn plain_call(rec: &mut [u8], e: Event, first: &mut [u8], second: &mut [u8]) -> u64
-    ensures { λ n. ⌜ called n (now (rec .exit)) (now (first .exit)) (now (second .exit)) ≡ plainCall (now (rec .entry)) (now (first .entry)) (now (second .entry)) e ⌝ }
+    ensures { λ n. ⌜ called n (now (rec .exit)) (now (first .exit)) (now (second .exit)) ≡
+        plainCall (now (rec .entry)) (now (first .entry)) (now (second .entry)) e ⌝ }
 {
     let empty = [0u8; 0];
     user_call(

@@ -3,35 +3,35 @@ ghost use mathlib.Core.Path.{_≡_};
 ghost use Rattle.envelope.specs.Envelopes.{envelopeAt, leastRoom, mostBits, writeEnvelope};
 ghost use Rattle.card.specs.Mail.{envelopeJob, envelopeNumber, putEnvelope, sent, writtenAnswer};
 use envelope::Envelope;
-use envelope::Read;
-use envelope::Written;
+use envelope::EnvelopeRead;
+use envelope::EnvelopeWritten;
 use envelope::reading::read_envelope;
 use envelope::writing::write_envelope;
 use words::Limit;
 
 // What an envelope says, in one number.
 pub(crate) fn packed(e: Envelope) -> u64
-    ensures { λ n. ⌜ n ≡ envelopeNumber (Read.Is e) ⌝ }
+    ensures { λ n. ⌜ n ≡ envelopeNumber (EnvelopeRead.Is e) ⌝ }
 {
     let places = (e.body % 65536) as u64 + 65536 * ((e.next % 65536) as u64);
     256 * (e.kind % 256 + 256 * (e.bits % 65536 + 65536 * places))
 }
 
-fn envelope_number(r: Read) -> u64
+fn envelope_number(r: EnvelopeRead) -> u64
     ensures { λ n. ⌜ n ≡ envelopeNumber r ⌝ }
 {
     match r {
-        Read::Is(e) => packed(e),
-        Read::Refused(x) => x.number(),
+        EnvelopeRead::Is(e) => packed(e),
+        EnvelopeRead::Refused(x) => x.number(),
     }
 }
 
-fn envelope_job(r: Read) -> u64
+fn envelope_job(r: EnvelopeRead) -> u64
     ensures { λ n. ⌜ n ≡ envelopeJob r ⌝ }
 {
     match r {
-        Read::Is(e) => e.job,
-        Read::Refused(_) => 0,
+        EnvelopeRead::Is(e) => e.job,
+        EnvelopeRead::Refused(_) => 0,
     }
 }
 
@@ -52,13 +52,13 @@ pub extern "C" fn peat_envelope_job(lent: &[u8]) -> u64
 }
 
 // What the writer answers, in one number.
-fn written_answer(w: Written) -> u64
+fn written_answer(w: EnvelopeWritten) -> u64
     ensures { λ n. ⌜ n ≡ writtenAnswer w ⌝ }
 {
     match w {
-        Written::Bytes(n) => 256 * ((n % 65536) as u64),
-        Written::Room => Limit::ROOM,
-        Written::Shape => Limit::SHAPE,
+        EnvelopeWritten::Bytes(n) => 256 * ((n % 65536) as u64),
+        EnvelopeWritten::Room => Limit::ROOM,
+        EnvelopeWritten::Shape => Limit::SHAPE,
     }
 }
 

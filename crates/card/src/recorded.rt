@@ -2,9 +2,9 @@
 ghost use mathlib.Core.Path.{_≡_};
 ghost use Prim.Native.Nat.{_<_};
 ghost use Rattle.card.specs.Recorded.{apduAnswer, apduCall, apduNumber, apduSaid};
-use apdu::Answer;
 use apdu::Apdu;
-use apdu::Side;
+use apdu::Decoded;
+use apdu::PduType;
 use apdu::read_apdu;
 use words::Limit;
 
@@ -32,25 +32,26 @@ fn apdu_number(a: Apdu) -> u64
     }
 }
 
-fn apdu_answer(a: Answer) -> u64
+fn apdu_answer(a: Decoded) -> u64
     ensures { λ n. ⌜ n ≡ apduAnswer a ⌝ }
 {
     match a {
-        Answer::Is(x) => apdu_number(x),
-        Answer::Refused(r) => fields::packed(r),
+        Decoded::Is(x) => apdu_number(x),
+        Decoded::Refused(r) => fields::packed(r),
     }
 }
 
-// The APDU that the lent bytes are, read as the type that a number names: its alternative, its reason or mode, and whether there is message data.
+// The APDU that the lent bytes are, read as the type that a number names: its alternative, its reason or mode, and whether there is message
+// data.
 #[no_mangle]
 pub extern "C" fn peat_read_apdu(which: u64, bytes: &[u8]) -> u64
     ensures { λ n. ⌜ n ≡ apduCall which (now (bytes .entry)) ⌝ }
 {
     if which == AIRCRAFT {
-        return apdu_answer(read_apdu(bytes, Side::Air));
+        return apdu_answer(read_apdu(bytes, PduType::AircraftPdus));
     }
     if which == GROUND {
-        return apdu_answer(read_apdu(bytes, Side::Ground));
+        return apdu_answer(read_apdu(bytes, PduType::GroundPdus));
     }
     Limit::SHAPE
 }

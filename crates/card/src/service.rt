@@ -22,7 +22,10 @@ pub extern "C" fn peat_d_start_indication(
     first: &mut [u8],
     second: &mut [u8],
 ) -> u64
-    ensures { λ n. ⌜ called n (now (rec .exit)) (now (first .exit)) (now (second .exit)) ≡ serviceCall (now (rec .entry)) (now (first .entry)) (now (second .entry)) (ServicePrimitive.DStartIndication peer security (record { priority = priority; rer = rate; routing = routing }) version) number given (now (bytes .entry)) ⌝ }
+    ensures { λ n. ⌜ called n (now (rec .exit)) (now (first .exit)) (now (second .exit)) ≡
+        serviceCall (now (rec .entry)) (now (first .entry)) (now (second .entry))
+        (ServicePrimitive.DStartIndication peer security (record { priority = priority; rer = rate; routing = routing }) version) number
+        given (now (bytes .entry)) ⌝ }
 {
     let qos = Qos {
         priority,
@@ -47,7 +50,9 @@ pub extern "C" fn peat_d_start_confirmation(
     first: &mut [u8],
     second: &mut [u8],
 ) -> u64
-    ensures { λ n. ⌜ called n (now (rec .exit)) (now (first .exit)) (now (second .exit)) ≡ serviceCall (now (rec .entry)) (now (first .entry)) (now (second .entry)) (ServicePrimitive.DStartConfirmation result source security version) number given (now (bytes .entry)) ⌝ }
+    ensures { λ n. ⌜ called n (now (rec .exit)) (now (first .exit)) (now (second .exit)) ≡
+        serviceCall (now (rec .entry)) (now (first .entry)) (now (second .entry))
+        (ServicePrimitive.DStartConfirmation result source security version) number given (now (bytes .entry)) ⌝ }
 {
     service_call(
         rec,
@@ -70,7 +75,9 @@ pub extern "C" fn peat_d_data_indication(
     first: &mut [u8],
     second: &mut [u8],
 ) -> u64
-    ensures { λ n. ⌜ called n (now (rec .exit)) (now (first .exit)) (now (second .exit)) ≡ serviceCall (now (rec .entry)) (now (first .entry)) (now (second .entry)) ServicePrimitive.DDataIndication number given (now (bytes .entry)) ⌝ }
+    ensures { λ n. ⌜ called n (now (rec .exit)) (now (first .exit)) (now (second .exit)) ≡
+        serviceCall (now (rec .entry)) (now (first .entry)) (now (second .entry)) ServicePrimitive.DDataIndication number given
+        (now (bytes .entry)) ⌝ }
 {
     service_call(
         rec,
@@ -93,7 +100,9 @@ pub extern "C" fn peat_d_end_indication(
     first: &mut [u8],
     second: &mut [u8],
 ) -> u64
-    ensures { λ n. ⌜ called n (now (rec .exit)) (now (first .exit)) (now (second .exit)) ≡ serviceCall (now (rec .entry)) (now (first .entry)) (now (second .entry)) ServicePrimitive.DEndIndication number given (now (bytes .entry)) ⌝ }
+    ensures { λ n. ⌜ called n (now (rec .exit)) (now (first .exit)) (now (second .exit)) ≡
+        serviceCall (now (rec .entry)) (now (first .entry)) (now (second .entry)) ServicePrimitive.DEndIndication number given
+        (now (bytes .entry)) ⌝ }
 {
     service_call(
         rec,
@@ -117,7 +126,9 @@ pub extern "C" fn peat_d_end_confirmation(
     first: &mut [u8],
     second: &mut [u8],
 ) -> u64
-    ensures { λ n. ⌜ called n (now (rec .exit)) (now (first .exit)) (now (second .exit)) ≡ serviceCall (now (rec .entry)) (now (first .entry)) (now (second .entry)) (ServicePrimitive.DEndConfirmation result) number given (now (bytes .entry)) ⌝ }
+    ensures { λ n. ⌜ called n (now (rec .exit)) (now (first .exit)) (now (second .exit)) ≡
+        serviceCall (now (rec .entry)) (now (first .entry)) (now (second .entry)) (ServicePrimitive.DEndConfirmation result) number given
+        (now (bytes .entry)) ⌝ }
 {
     service_call(
         rec,
@@ -141,7 +152,9 @@ pub extern "C" fn peat_d_abort_indication(
     first: &mut [u8],
     second: &mut [u8],
 ) -> u64
-    ensures { λ n. ⌜ called n (now (rec .exit)) (now (first .exit)) (now (second .exit)) ≡ serviceCall (now (rec .entry)) (now (first .entry)) (now (second .entry)) (ServicePrimitive.DAbortIndication originator) number given (now (bytes .entry)) ⌝ }
+    ensures { λ n. ⌜ called n (now (rec .exit)) (now (first .exit)) (now (second .exit)) ≡
+        serviceCall (now (rec .entry)) (now (first .entry)) (now (second .entry)) (ServicePrimitive.DAbortIndication originator) number
+        given (now (bytes .entry)) ⌝ }
 {
     service_call(
         rec,
@@ -162,7 +175,8 @@ pub extern "C" fn peat_d_p_abort_indication(
     first: &mut [u8],
     second: &mut [u8],
 ) -> u64
-    ensures { λ n. ⌜ called n (now (rec .exit)) (now (first .exit)) (now (second .exit)) ≡ serviceCall (now (rec .entry)) (now (first .entry)) (now (second .entry)) ServicePrimitive.DPAbortIndication number 0 [] ⌝ }
+    ensures { λ n. ⌜ called n (now (rec .exit)) (now (first .exit)) (now (second .exit)) ≡
+        serviceCall (now (rec .entry)) (now (first .entry)) (now (second .entry)) ServicePrimitive.DPAbortIndication number 0 [] ⌝ }
 {
     let empty = [0u8; 0];
     service_call(

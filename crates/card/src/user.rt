@@ -26,7 +26,9 @@ pub extern "C" fn peat_start(
     first: &mut [u8],
     second: &mut [u8],
 ) -> u64
-    ensures { λ n. ⌜ called n (now (rec .exit)) (now (first .exit)) (now (second .exit)) ≡ numberedCall (now (rec .entry)) (now (first .entry)) (now (second .entry)) (UserPrimitive.StartServiceRequest mode class security) number (now (ids .entry)) (now (msgs .entry)) message (now (checks .entry)) check ⌝ }
+    ensures { λ n. ⌜ called n (now (rec .exit)) (now (first .exit)) (now (second .exit)) ≡
+        numberedCall (now (rec .entry)) (now (first .entry)) (now (second .entry)) (UserPrimitive.StartServiceRequest mode class security)
+        number (now (ids .entry)) (now (msgs .entry)) message (now (checks .entry)) check ⌝ }
 {
     numbered_call(
         rec,
@@ -55,7 +57,9 @@ pub extern "C" fn peat_start_response(
     first: &mut [u8],
     second: &mut [u8],
 ) -> u64
-    ensures { λ n. ⌜ called n (now (rec .exit)) (now (first .exit)) (now (second .exit)) ≡ dataCall (now (rec .entry)) (now (first .entry)) (now (second .entry)) (UserPrimitive.StartServiceResponse false result) (now (ids .entry)) (now (msgs .entry)) message (now (checks .entry)) check ⌝ }
+    ensures { λ n. ⌜ called n (now (rec .exit)) (now (first .exit)) (now (second .exit)) ≡
+        dataCall (now (rec .entry)) (now (first .entry)) (now (second .entry)) (UserPrimitive.StartServiceResponse false result)
+        (now (ids .entry)) (now (msgs .entry)) message (now (checks .entry)) check ⌝ }
 {
     data_call(
         rec,
@@ -83,7 +87,9 @@ pub extern "C" fn peat_dsc_start_response(
     first: &mut [u8],
     second: &mut [u8],
 ) -> u64
-    ensures { λ n. ⌜ called n (now (rec .exit)) (now (first .exit)) (now (second .exit)) ≡ dataCall (now (rec .entry)) (now (first .entry)) (now (second .entry)) (UserPrimitive.StartServiceResponse true result) (now (ids .entry)) (now (msgs .entry)) message (now (checks .entry)) check ⌝ }
+    ensures { λ n. ⌜ called n (now (rec .exit)) (now (first .exit)) (now (second .exit)) ≡
+        dataCall (now (rec .entry)) (now (first .entry)) (now (second .entry)) (UserPrimitive.StartServiceResponse true result)
+        (now (ids .entry)) (now (msgs .entry)) message (now (checks .entry)) check ⌝ }
 {
     data_call(
         rec,
@@ -111,7 +117,9 @@ pub extern "C" fn peat_message_request(
     first: &mut [u8],
     second: &mut [u8],
 ) -> u64
-    ensures { λ n. ⌜ called n (now (rec .exit)) (now (first .exit)) (now (second .exit)) ≡ dataCall (now (rec .entry)) (now (first .entry)) (now (second .entry)) (messageRequested message job) (now (ids .entry)) (now (msgs .entry)) message (now (checks .entry)) check ⌝ }
+    ensures { λ n. ⌜ called n (now (rec .exit)) (now (first .exit)) (now (second .exit)) ≡
+        dataCall (now (rec .entry)) (now (first .entry)) (now (second .entry)) (messageRequested message job) (now (ids .entry))
+        (now (msgs .entry)) message (now (checks .entry)) check ⌝ }
 {
     data_call(
         rec,
@@ -138,7 +146,9 @@ pub extern "C" fn peat_end_request(
     first: &mut [u8],
     second: &mut [u8],
 ) -> u64
-    ensures { λ n. ⌜ called n (now (rec .exit)) (now (first .exit)) (now (second .exit)) ≡ dataCall (now (rec .entry)) (now (first .entry)) (now (second .entry)) (UserPrimitive.EndServiceRequest false) (now (ids .entry)) (now (msgs .entry)) message (now (checks .entry)) check ⌝ }
+    ensures { λ n. ⌜ called n (now (rec .exit)) (now (first .exit)) (now (second .exit)) ≡
+        dataCall (now (rec .entry)) (now (first .entry)) (now (second .entry)) (UserPrimitive.EndServiceRequest false) (now (ids .entry))
+        (now (msgs .entry)) message (now (checks .entry)) check ⌝ }
 {
     data_call(
         rec,
@@ -165,7 +175,9 @@ pub extern "C" fn peat_dsc_end_request(
     first: &mut [u8],
     second: &mut [u8],
 ) -> u64
-    ensures { λ n. ⌜ called n (now (rec .exit)) (now (first .exit)) (now (second .exit)) ≡ dataCall (now (rec .entry)) (now (first .entry)) (now (second .entry)) (UserPrimitive.EndServiceRequest true) (now (ids .entry)) (now (msgs .entry)) message (now (checks .entry)) check ⌝ }
+    ensures { λ n. ⌜ called n (now (rec .exit)) (now (first .exit)) (now (second .exit)) ≡
+        dataCall (now (rec .entry)) (now (first .entry)) (now (second .entry)) (UserPrimitive.EndServiceRequest true) (now (ids .entry))
+        (now (msgs .entry)) message (now (checks .entry)) check ⌝ }
 {
     data_call(
         rec,
@@ -193,7 +205,9 @@ pub extern "C" fn peat_end_response(
     first: &mut [u8],
     second: &mut [u8],
 ) -> u64
-    ensures { λ n. ⌜ called n (now (rec .exit)) (now (first .exit)) (now (second .exit)) ≡ dataCall (now (rec .entry)) (now (first .entry)) (now (second .entry)) (UserPrimitive.EndServiceResponse false result) (now (ids .entry)) (now (msgs .entry)) message (now (checks .entry)) check ⌝ }
+    ensures { λ n. ⌜ called n (now (rec .exit)) (now (first .exit)) (now (second .exit)) ≡
+        dataCall (now (rec .entry)) (now (first .entry)) (now (second .entry)) (UserPrimitive.EndServiceResponse false result)
+        (now (ids .entry)) (now (msgs .entry)) message (now (checks .entry)) check ⌝ }
 {
     data_call(
         rec,
@@ -221,7 +235,9 @@ pub extern "C" fn peat_dsc_end_response(
     first: &mut [u8],
     second: &mut [u8],
 ) -> u64
-    ensures { λ n. ⌜ called n (now (rec .exit)) (now (first .exit)) (now (second .exit)) ≡ dataCall (now (rec .entry)) (now (first .entry)) (now (second .entry)) (UserPrimitive.EndServiceResponse true result) (now (ids .entry)) (now (msgs .entry)) message (now (checks .entry)) check ⌝ }
+    ensures { λ n. ⌜ called n (now (rec .exit)) (now (first .exit)) (now (second .exit)) ≡
+        dataCall (now (rec .entry)) (now (first .entry)) (now (second .entry)) (UserPrimitive.EndServiceResponse true result)
+        (now (ids .entry)) (now (msgs .entry)) message (now (checks .entry)) check ⌝ }
 {
     data_call(
         rec,
@@ -253,7 +269,8 @@ pub extern "C" fn peat_user_abort(
     first: &mut [u8],
     second: &mut [u8],
 ) -> u64
-    ensures { λ n. ⌜ called n (now (rec .exit)) (now (first .exit)) (now (second .exit)) ≡ plainCall (now (rec .entry)) (now (first .entry)) (now (second .entry)) (Event.User (abortRequested reason)) ⌝ }
+    ensures { λ n. ⌜ called n (now (rec .exit)) (now (first .exit)) (now (second .exit)) ≡
+        plainCall (now (rec .entry)) (now (first .entry)) (now (second .entry)) (Event.User (abortRequested reason)) ⌝ }
 {
     plain_call(rec, Event::User(abort_requested(reason)), first, second)
 }
@@ -261,7 +278,8 @@ pub extern "C" fn peat_user_abort(
 // t-start expires.
 #[no_mangle]
 pub extern "C" fn peat_timer_expiry(rec: &mut [u8], first: &mut [u8], second: &mut [u8]) -> u64
-    ensures { λ n. ⌜ called n (now (rec .exit)) (now (first .exit)) (now (second .exit)) ≡ plainCall (now (rec .entry)) (now (first .entry)) (now (second .entry)) Event.TimerExpires ⌝ }
+    ensures { λ n. ⌜ called n (now (rec .exit)) (now (first .exit)) (now (second .exit)) ≡
+        plainCall (now (rec .entry)) (now (first .entry)) (now (second .entry)) Event.TimerExpires ⌝ }
 {
     plain_call(rec, Event::TimerExpires, first, second)
 }
@@ -269,7 +287,8 @@ pub extern "C" fn peat_timer_expiry(rec: &mut [u8], first: &mut [u8], second: &m
 // An unrecoverable system error.
 #[no_mangle]
 pub extern "C" fn peat_system_error(rec: &mut [u8], first: &mut [u8], second: &mut [u8]) -> u64
-    ensures { λ n. ⌜ called n (now (rec .exit)) (now (first .exit)) (now (second .exit)) ≡ plainCall (now (rec .entry)) (now (first .entry)) (now (second .entry)) Event.UnrecoverableSystemError ⌝ }
+    ensures { λ n. ⌜ called n (now (rec .exit)) (now (first .exit)) (now (second .exit)) ≡
+        plainCall (now (rec .entry)) (now (first .entry)) (now (second .entry)) Event.UnrecoverableSystemError ⌝ }
 {
     plain_call(rec, Event::UnrecoverableSystemError, first, second)
 }

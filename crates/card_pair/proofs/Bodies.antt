@@ -22,7 +22,7 @@ use Rattle.apdu.specs.declared.Part.the-variants.{Absent, Given}
 use Rattle.apdu.specs.declared.Data.{Data}
 use Rattle.apdu.specs.declared.Taken.{Taken}
 use Rattle.apdu.specs.declared.Taken.the-variants as taken
-use Rattle.apdu.proofs.Bounds.{data-fit}
+use Rattle.apdu.proofs.Bounds.{data-value-fits}
 use Rattle.apdu.proofs.Contents.{DataRead, data-written, data-mark, data-plain, data-read}
 use Rattle.step.proofs.Taken.{never}
 
@@ -78,7 +78,7 @@ body-is b e = go (dataAt b 0) refl (both-right (plain b) (wholly (dataAt b 0) (l
         let h = bits-only b (both-left (bitsOnly b) (plain b && wholly (dataAt b 0) (length b)) e) in
         let i = data-read b 0 next d h q in
         let z : i .mark ≡ 0 = sym (data-mark b 0 next d i) ∙ eqb-true (getD b 0 0) 0 (both-left (plain b) (wholly (dataAt b 0) (length b)) rest) in
-        record { content = contentIn b b b d; fits = data-fit b b b d (i .shaped); bits = all-of b (contentBits (contentIn b b b d)) next (data-plain b 0 next d i z) (eqb-true next (length b) w); are-bits = h }
+        record { content = contentIn b b b d; fits = data-value-fits b b b d (i .placed-fits); bits = all-of b (contentBits (contentIn b b b d)) next (data-plain b 0 next d i z) (eqb-true next (length b) w); are-bits = h }
     go (taken.Refused r) q w = never w
 
 -- is there a message in it

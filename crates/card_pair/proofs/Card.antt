@@ -20,9 +20,9 @@ use Rattle.pair.specs.Numbered.{NSys, Numbered, mark, notBelow, nFresh, nRun}
 use Rattle.pair.specs.Wires.{Wire, sortOf, rejects}
 use Rattle.pair.proofs.StepMachine.{Order}
 use Rattle.pair.proofs.Agree.{does}
-use Rattle.pair.proofs.NumPair.{NQuiet, n-taken-once}
-use Rattle.pair.proofs.NumSimulate.{NAgree, NRunRel, n-followed, n-carried, n-quiet-through}
-use Rattle.pair.proofs.NumStep.{stepNumbered, numbered-holds, numbered-local, numbered-silent}
+use Rattle.pair.proofs.NumberedClaims.{NQuiet, n-taken-once}
+use Rattle.pair.proofs.NumberedSimulate.{NAgree, NRunRel, n-followed, n-carried, n-quiet-through}
+use Rattle.pair.proofs.NumberedStepAgrees.{stepNumbered, numbered-holds, numbered-local, numbered-silent}
 use Rattle.card_pair.specs.CardMachine.{Buffers, Asked, start-request, start-response, message-request, end-request, end-response, user-abort, answered, Kept, newly, numberIn, controlIn, cardMachine}
 use Rattle.card_pair.specs.Promise.{Begins, Promise}
 use Rattle.card_pair.proofs.Codec.{cardCodec, true-holds}

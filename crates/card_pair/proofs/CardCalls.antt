@@ -12,13 +12,13 @@ use Rattle.bits.proofs.Bytes.{bits-to}
 use Rattle.apdu.specs.Sizes.{allBits, bit}
 use Rattle.apdu.specs.Pdus.{lent, contentIn}
 use Rattle.apdu.specs.Encoding.{contentBits}
-use Rattle.apdu.specs.Writing.{itemsShaped, partShaped, dataShaped}
+use Rattle.apdu.specs.Writing.{itemsFit, partFits, dataFits}
 use Rattle.apdu.specs.declared.Data.{Data}
-use Rattle.apdu.proofs.Bounds.{data-fit}
+use Rattle.apdu.proofs.Bounds.{data-value-fits}
 use Rattle.machine.specs.Outcome.{isNone}
-use Rattle.machine.specs.Apdus.{isSend}
+use Rattle.machine.specs.UserData.{isSend}
 use Rattle.machine.specs.declared.record.Record.{Record}
-use Rattle.machine.specs.declared.event.Apdu.{Apdu}
+use Rattle.machine.specs.declared.event.UserData.{UserData}
 use Rattle.machine.specs.declared.event.UserPrimitive.{UserPrimitive}
 use Rattle.machine.specs.declared.event.UserPrimitive.the-variants.{StartServiceRequest, StartServiceResponse, MessageServiceRequest, EndServiceRequest, EndServiceResponse, UserAbortServiceRequest}
 use Rattle.machine.specs.declared.event.Event.{Event}
@@ -37,8 +37,8 @@ use Rattle.pair.specs.Carrier.{Body, Sent}
 use Rattle.pair.specs.Carrier as C
 use Rattle.pair.specs.Numbered.{Numbered, mark}
 use Rattle.pair.specs.Wires.{Wire}
-use Rattle.pair.proofs.NumMachine.{tag, leaves}
-use Rattle.pair.proofs.NumStep.{numberedly, stepNumbered}
+use Rattle.pair.proofs.NumberedMachine.{tag, leaves}
+use Rattle.pair.proofs.NumberedStepAgrees.{numberedly, stepNumbered}
 use Rattle.pair.proofs.StepMachine.{sentBy, taken, happens, Order, asked, dataOf, jobOf, calls}
 use Rattle.pair.proofs.StepMachine as S
 use Rattle.pair.proofs.Agree.{SentRel, OutRel, Follows, stays, does}
@@ -60,12 +60,12 @@ module _ (r : List ℕ) (w : Buffers) (sd : Side) (q : Record) (h : ℕ) (keeps 
   user-entered e v ids msgs checks d = entered (userStep r (w .first) (w .second) e v (lent ids) (lent msgs) (lent checks) d)
 
 -- message data of which nothing is there are within the sizes
-pub none-shaped : (li lm lc : List ℕ) → dataShaped li lm lc noData ≡ true
-unfolding dataShaped partShaped itemsShaped
-none-shaped li lm lc = rw (le-leb (0 + bit * 0) (length lc) (omega arith))
+pub none-fits : (li lm lc : List ℕ) → dataFits li lm lc noData ≡ true
+unfolding dataFits partFits itemsFit
+none-fits li lm lc = rw (le-leb (0 + bit * 0) (length lc) (omega arith))
 
 -- a user primitive invokes a primitive
-user-writable : (sd : Side) (i : Invoked) (a : Apdu) → GoesOut true sd i a → writable sd a ≡ true
+user-writable : (sd : Side) (i : Invoked) (a : UserData) → GoesOut true sd i a → writable sd a ≡ true
 user-writable sd Silent a g = absurd (subst T (g .0) tt)
 user-writable sd (DStartRequest q s) a g = g
 user-writable sd (DStartResponse x s) a g = g
@@ -117,18 +117,18 @@ module _ (p n : ℕ) (r : List ℕ) (w : Buffers) (sd : Side) (q : Record) (h : 
   Follow o = Follows (KeepsAt sd) (Carries sd) o (mark h q) (stepNumbered cardCodec p .at .call sd (mark h q))
 
   abbrev pub Sends : Type 0
-  Sends = (c : Called) (m : ℕ) (i : Invoked) (z : Apdu) (ys : List ℕ) → entryOf c .primitive ≡ i → GoesOut true sd i z → isDData i ≡ brings (User u) .message → (writable sd z ≡ true → Carries sd (markedEntry c) (mark m (record { primitive = i; bytes = ys }))) → SentRel (Carries sd) (s c) (tag m (sentBy i ys (dataOf a) (jobOf a)))
+  Sends = (c : Called) (m : ℕ) (i : Invoked) (z : UserData) (ys : List ℕ) → entryOf c .primitive ≡ i → GoesOut true sd i z → isDData i ≡ brings (User u) .message → (writable sd z ≡ true → Carries sd (markedEntry c) (mark m (record { primitive = i; bytes = ys }))) → SentRel (Carries sd) (s c) (tag m (sentBy i ys (dataOf a) (jobOf a)))
 
-  pub asked-rel : JobLow sd (User u) → (dataShaped (lent ids) (lent msgs) (lent checks) d ≡ true → asked cardCodec p a ≡ u) → dataOf a ≡ cond (brings (User u) .body) B [] → Sends → Follow (left n (userCall r (w .first) (w .second) (User u) v ids msgs checks d) (s (userCall r (w .first) (w .second) (User u) v ids msgs checks d)))
+  pub asked-rel : JobLow sd (User u) → (dataFits (lent ids) (lent msgs) (lent checks) d ≡ true → asked cardCodec p a ≡ u) → dataOf a ≡ cond (brings (User u) .body) B [] → Sends → Follow (left n (userCall r (w .first) (w .second) (User u) v ids msgs checks d) (s (userCall r (w .first) (w .second) (User u) v ids msgs checks d)))
   unfolding userStep
   asked-rel j same ey sends =
-      subst (λ (c : Called). Follow (left n c (s c))) (sym (user-entered r w sd q h keeps (User u) v ids msgs checks d)) (shape (dataShaped (lent ids) (lent msgs) (lent checks) d) refl)
+      subst (λ (c : Called). Follow (left n c (s c))) (sym (user-entered r w sd q h keeps (User u) v ids msgs checks d)) (shape (dataFits (lent ids) (lent msgs) (lent checks) d) refl)
     where
       refusal : (b : Bool) → isTaken (E .number) ≡ b → b ≡ false → Follow (cond b (C.acts (record { bytes = E .kept; calls = suc n }) (handedOf E) (s E)) C.refused)
       refusal true e f = absurd (subst T f tt)
       refusal false e f = stays tt
 
-      acts : dataShaped (lent ids) (lent msgs) (lent checks) d ≡ true → isNone (numberedStep sd q h (User u) v .refusal) ≡ true → OutRel (KeepsAt sd) (Carries sd) (left n E (s E)) (Ordered u)
+      acts : dataFits (lent ids) (lent msgs) (lent checks) d ≡ true → isNone (numberedStep sd q h (User u) v .refusal) ≡ true → OutRel (KeepsAt sd) (Carries sd) (left n E (s E)) (Ordered u)
       acts sh u-taken =
           let k = numbered-fits sd q (keeps .coded) (keeps .dialogue) h (User u) v j u-taken in
           let t = ended r w sd q h (User u) v (lent ids) (lent msgs) (lent checks) (carriesData d) keeps lv (bits-to ids allBits) (bits-to msgs allBits) (bits-to checks allBits) sh j u-taken in
@@ -140,11 +140,11 @@ module _ (p n : ℕ) (r : List ℕ) (w : Buffers) (sd : Side) (q : Record) (h : 
           (taken-rel sd (brings (User u)) M O B E t k x (dataOf a) ey n [] (unheard u) (jobOf a) (s E)
           (sends E M (O .invoked) (O .apdu) (enc sd (O .apdu) (dataOf a)) (t .primitive) g (k .invokes) (entry-is sd (brings (User u)) M O B E t k x (dataOf a) ey))))
 
-      refuses : dataShaped (lent ids) (lent msgs) (lent checks) d ≡ true → (b : Bool) → isNone (numberedStep sd q h (User u) v .refusal) ≡ b → Follow (left n E (s E))
+      refuses : dataFits (lent ids) (lent msgs) (lent checks) d ≡ true → (b : Bool) → isNone (numberedStep sd q h (User u) v .refusal) ≡ b → Follow (left n E (s E))
       refuses sh true e = does (mark v a) (subst (λ (x : UserPrimitive). OutRel (KeepsAt sd) (Carries sd) (left n E (s E)) (Ordered x)) (sym (same sh)) (acts sh e))
       refuses sh false e = refusal (isTaken (E .number)) refl (concluded-refused r (w .first) (w .second) sd M O (lent ids) (lent msgs) (lent checks) (carriesData d) e)
 
-      shape : (b : Bool) → dataShaped (lent ids) (lent msgs) (lent checks) d ≡ b → Follow (left n (cond b E (called 2 r (w .first) (w .second))) (s (cond b E (called 2 r (w .first) (w .second)))))
+      shape : (b : Bool) → dataFits (lent ids) (lent msgs) (lent checks) d ≡ b → Follow (left n (cond b E (called 2 r (w .first) (w .second))) (s (cond b E (called 2 r (w .first) (w .second)))))
       shape true sh = refuses sh (isNone (numberedStep sd q h (User u) v .refusal)) refl
       shape false sh = stays tt
 
@@ -160,10 +160,10 @@ given-message : (n m k : ℕ) → isGiven (givenData n m k .message) ≡ not (eq
 unfolding givenData
 given-message n m k = part-given (eqb m noCount) m
 
-given-carries : (g : Given) → dataShaped (lent (g .ids)) (lent (g .msgs)) (lent (g .checks)) (givenData (length (g .ids)) (g .bits) (g .check)) ≡ true → carries (bodyGiven g) ≡ not (eqb (g .bits) noCount)
+given-carries : (g : Given) → dataFits (lent (g .ids)) (lent (g .msgs)) (lent (g .checks)) (givenData (length (g .ids)) (g .bits) (g .check)) ≡ true → carries (bodyGiven g) ≡ not (eqb (g .bits) noCount)
 given-carries g sh =
     let d : Data = givenData (length (g .ids)) (g .bits) (g .check) in
-    carries-is (contentIn (lent (g .ids)) (lent (g .msgs)) (lent (g .checks)) (givenData (length (g .ids)) (g .bits) (g .check))) (data-fit (lent (g .ids)) (lent (g .msgs)) (lent (g .checks)) (givenData (length (g .ids)) (g .bits) (g .check)) sh)
+    carries-is (contentIn (lent (g .ids)) (lent (g .msgs)) (lent (g .checks)) (givenData (length (g .ids)) (g .bits) (g .check))) (data-value-fits (lent (g .ids)) (lent (g .msgs)) (lent (g .checks)) (givenData (length (g .ids)) (g .bits) (g .check)) sh)
     ∙ content-there (lent (g .ids)) (lent (g .msgs)) (lent (g .checks)) (givenData (length (g .ids)) (g .bits) (g .check))
     ∙ given-message (length (g .ids)) (g .bits) (g .check)
 
@@ -199,5 +199,5 @@ module _ (p n : ℕ) (r : List ℕ) (w : Buffers) (sd : Side) (q : Record) (h : 
   unfolding userStep
   report-rel e j hb hm f =
       subst (λ (c : Called). OutRel (KeepsAt sd) (Carries sd) (simply n c) (numberedly sd (mark h q) e 0 (λ (o : Outcome). happens cardCodec sd o []))) (sym (user-entered r w sd q h keeps e 0 [] [] [] noData))
-      (subst (λ (t : Bool). OutRel (KeepsAt sd) (Carries sd) (simply n (cond t (concluded r (w .first) (w .second) sd (heldAfter h e 0) (numberedStep sd q h e 0) (lent []) (lent []) (lent []) (carriesData noData)) (called 2 r (w .first) (w .second)))) (numberedly sd (mark h q) e 0 (λ (o : Outcome). happens cardCodec sd o []))) (sym (none-shaped (lent []) (lent []) (lent [])))
-      (happens-rel r w sd q h e 0 (lent []) (lent []) (lent []) (carriesData noData) keeps none-low (bits-to [] allBits) (bits-to [] allBits) (bits-to [] allBits) (none-shaped (lent []) (lent []) (lent [])) n [] j hb hm (λ g. never (sym f ∙ g))))
+      (subst (λ (t : Bool). OutRel (KeepsAt sd) (Carries sd) (simply n (cond t (concluded r (w .first) (w .second) sd (heldAfter h e 0) (numberedStep sd q h e 0) (lent []) (lent []) (lent []) (carriesData noData)) (called 2 r (w .first) (w .second)))) (numberedly sd (mark h q) e 0 (λ (o : Outcome). happens cardCodec sd o []))) (sym (none-fits (lent []) (lent []) (lent [])))
+      (happens-rel r w sd q h e 0 (lent []) (lent []) (lent []) (carriesData noData) keeps none-low (bits-to [] allBits) (bits-to [] allBits) (bits-to [] allBits) (none-fits (lent []) (lent []) (lent [])) n [] j hb hm (λ g. never (sym f ∙ g))))

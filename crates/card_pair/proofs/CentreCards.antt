@@ -12,25 +12,25 @@ use Rattle.bits.specs.Put.{putBits}
 use Rattle.apdu.specs.Pdus.{forward, forwardResponse, lent, pduIn}
 use Rattle.apdu.specs.Encoding.{pduBits, padded, bytesFor}
 use Rattle.apdu.specs.Reading.{apduAt}
-use Rattle.apdu.specs.Writing.{done, dataShaped, forwardShaped, apduShaped}
-use Rattle.apdu.specs.declared.Side.the-variants as pdu
+use Rattle.apdu.specs.Writing.{done, dataFits, forwardFits, apduFits}
+use Rattle.apdu.specs.declared.PduType.the-variants as pdu
 use Rattle.apdu.specs.declared.Data.{Data}
 use Rattle.apdu.specs.declared.Heading.{Heading}
 use Rattle.apdu.specs.declared.Forward.{Forward as Forwarded}
-use Rattle.apdu.specs.declared.Apdu.{Apdu as Pdus}
+use Rattle.apdu.specs.declared.Apdu.{Apdu}
 use Rattle.apdu.specs.declared.Apdu.the-variants as is
-use Rattle.apdu.specs.declared.Answer.the-variants as answer
+use Rattle.apdu.specs.declared.Decoded.the-variants as decoded
 use Rattle.apdu.specs.declared.Written.the-variants as written
-use Rattle.apdu.proofs.Bounds.{never as apart, apdu-fit, pdu-most}
+use Rattle.apdu.proofs.Bounds.{never as apart, apdu-value-fits, pdu-most}
 use Rattle.apdu.proofs.Theorems.{writes, put-read}
 use Rattle.machine.specs.Codes.{securityValues, routingClasses, versions, forwardResults, facility, permanent, success, serviceNotSupported, noVersion, user, userReasons, undefinedError, communicationServiceError, communicationServiceFailure}
 use Rattle.machine.specs.Record.{withTimer, enter}
-use Rattle.machine.specs.Event.{qosFits, userShapely, serviceShapely, shapely}
-use Rattle.machine.specs.Apdus.{readable}
+use Rattle.machine.specs.Event.{qosFits, userFits, serviceFits, eventFits}
+use Rattle.machine.specs.UserData.{userDataFits}
 use Rattle.machine.specs.Outcome.{isNone}
 use Rattle.machine.specs.Outcome as N
 use Rattle.machine.specs.Exceptions.{tell, closes, aborts, excepts, systemError}
-use Rattle.machine.specs.Calls.{answer as answerOf, qosAsked, sent, userAbort, callOf}
+use Rattle.machine.specs.Calls.{replyOf, qosAsked, sent, userAbort, callOf}
 use Rattle.machine.specs.Forwards.{forwardRequest, responds, forwardConfirmed}
 use Rattle.machine.specs.Faults.{abortFault, responseFault, confirmationFault, firstFault}
 use Rattle.machine.specs.Primitives.{instructed, answered as answeredBy, reached}
@@ -40,8 +40,8 @@ use Rattle.machine.proofs.Clauses.{service-taken, user-aborts, expiry, error-id
 use Rattle.machine.proofs.ForwardClauses.{isUserAbort, only-abort, supported, not-supported, confirmed}
 use Rattle.machine.specs.declared.record.Record.{Record}
 use Rattle.machine.specs.declared.event.Qos.{Qos}
-use Rattle.machine.specs.declared.event.Apdu.{Apdu}
-use Rattle.machine.specs.declared.event.Apdu.the-variants.{Absent, Forward, ForwardResponse}
+use Rattle.machine.specs.declared.event.UserData.{UserData}
+use Rattle.machine.specs.declared.event.UserData.the-variants.{Absent, Forward, ForwardResponse}
 use Rattle.machine.specs.declared.event.UserPrimitive.{UserPrimitive}
 use Rattle.machine.specs.declared.event.UserPrimitive.the-variants.{StartServiceRequest, StartServiceResponse, MessageServiceRequest, EndServiceRequest, EndServiceResponse, UserAbortServiceRequest}
 use Rattle.machine.specs.declared.event.ServicePrimitive.{ServicePrimitive}
@@ -49,7 +49,7 @@ use Rattle.machine.specs.declared.event.ServicePrimitive.the-variants.{DStartIn
 use Rattle.machine.specs.declared.event.Event.{Event}
 use Rattle.machine.specs.declared.event.Event.the-variants.{User, Service, TimerExpires, UnrecoverableSystemError}
 use Rattle.machine.specs.declared.event.Event.the-variants.{Forward as ForwardRequested}
-use Rattle.machine.specs.declared.outcome.Refusal.the-variants.{Shape, Stale, Prohibited}
+use Rattle.machine.specs.declared.outcome.StepRefusal.the-variants.{Shape, Stale, Prohibited}
 use Rattle.machine.specs.declared.outcome.Invoked.{Invoked}
 use Rattle.machine.specs.declared.outcome.Invoked.the-variants.{Silent, DStartRequest, DStartResponse, DDataRequest, DEndRequest, DEndResponse, DAbortRequest, DStartForwardRequest, DStartForwardResponse}
 use Rattle.machine.specs.declared.outcome.Told.{Told}
@@ -79,7 +79,7 @@ use Rattle.card_pair.specs.CentreMachine.{Passed, CentreAsked, forward-r
 use Rattle.card_pair.specs.Promise.{Rests}
 use Rattle.card_pair.proofs.Ends.{Keeps, concluded-refused}
 use Rattle.card_pair.proofs.Beginnings.{begins-keeps, begins-valid}
-use Rattle.card_pair.proofs.CardCalls.{none-shaped}
+use Rattle.card_pair.proofs.CardCalls.{none-fits}
 
 -- ---- a call that is taken, or not
 
@@ -188,13 +188,13 @@ module _ (p ver : ℕ) (d : Desk) (at : At p ver d) where
     unfolding concluded finished
     version-is h = rw t (version-unpacked _ _ _ _ _ (invoked-low (o .invoked)) (told-low (o .told)) h)
 
-    bytes-are : (a : Pdus) → apduShaped pdu.Ground li lm lc a ≡ true → firstTakes Ground li lm lc x (o .apdu) (lent-first d) ≡ pduTo pdu.Ground li lm lc a (lent-first d)
-        → entryOf (Ended m o li lm lc x) .bytes ≡ take (bytesFor (length (pduBits pdu.Ground (pduIn li lm lc a)))) (putBits (lent-first d) 0 (padded (pduBits pdu.Ground (pduIn li lm lc a))))
+    bytes-are : (a : Apdu) → apduFits pdu.GroundPdus li lm lc a ≡ true → firstTakes Ground li lm lc x (o .apdu) (lent-first d) ≡ pduTo pdu.GroundPdus li lm lc a (lent-first d)
+        → entryOf (Ended m o li lm lc x) .bytes ≡ take (bytesFor (length (pduBits pdu.GroundPdus (pduIn li lm lc a)))) (putBits (lent-first d) 0 (padded (pduBits pdu.GroundPdus (pduIn li lm lc a))))
     unfolding concluded finished
     bytes-are a sh e =
-        let w = pdu-most pdu.Ground (pduIn li lm lc a) (apdu-fit pdu.Ground li lm lc a sh) in
-        let z : pduTo pdu.Ground li lm lc a (lent-first d) ≡ done (written.Bits (length (pduBits pdu.Ground (pduIn li lm lc a)))) (putBits (lent-first d) 0 (padded (pduBits pdu.Ground (pduIn li lm lc a)))) = rw sh (writes (lent-first d) (pduBits pdu.Ground (pduIn li lm lc a)) (d .lends (d .kept .calls) .first-full)) in
-        rw (t, e, z, sent-unpacked (invokedNumber (o .invoked)) (toldNumber (o .told)) (length (pduBits pdu.Ground (pduIn li lm lc a))) (bitsOfWritten (secondTakes li lm lc x (passes (o .told)) (o .delivers) (lent-second d) .answer)) (versionNumber (o .invoked) (o .told)) (invoked-low (o .invoked)) (told-low (o .told)) (omega arith))
+        let w = pdu-most pdu.GroundPdus (pduIn li lm lc a) (apdu-value-fits pdu.GroundPdus li lm lc a sh) in
+        let z : pduTo pdu.GroundPdus li lm lc a (lent-first d) ≡ done (written.Bits (length (pduBits pdu.GroundPdus (pduIn li lm lc a)))) (putBits (lent-first d) 0 (padded (pduBits pdu.GroundPdus (pduIn li lm lc a)))) = rw sh (writes (lent-first d) (pduBits pdu.GroundPdus (pduIn li lm lc a)) (d .lends (d .kept .calls) .first-full)) in
+        rw (t, e, z, sent-unpacked (invokedNumber (o .invoked)) (toldNumber (o .told)) (length (pduBits pdu.GroundPdus (pduIn li lm lc a))) (bitsOfWritten (secondTakes li lm lc x (passes (o .told)) (o .delivers) (lent-second d) .answer)) (versionNumber (o .invoked) (o .told)) (invoked-low (o .invoked)) (told-low (o .told)) (omega arith))
 
   -- ---- back to rest
 
@@ -242,10 +242,10 @@ module _ (p ver : ℕ) (d : Desk) (at : At p ver d) where
 
   reported : (e : Event) → reports d e ≡ eventStep (d .kept .bytes) (lent-first d) (lent-second d) e 0 (lent []) (lent []) (lent []) (carriesData noData) Ground q n
   unfolding userCall userStep
-  reported e = at-record (userStep (d .kept .bytes) (lent-first d) (lent-second d) e 0 (lent []) (lent []) (lent []) noData) ∙ rw (none-shaped (lent []) (lent []) (lent []))
+  reported e = at-record (userStep (d .kept .bytes) (lent-first d) (lent-second d) e 0 (lent []) (lent []) (lent []) noData) ∙ rw (none-fits (lent []) (lent []) (lent []))
 
   -- a primitive with the number that the record holds
-  own-number : (a : ServicePrimitive) (x : Apdu) → shapely Ground (Service a x) ≡ true → serviceStarts a ≡ false → numberedStep Ground q n (Service a x) n ≡ reached Ground q a x
+  own-number : (a : ServicePrimitive) (x : UserData) → eventFits Ground (Service a x) ≡ true → serviceStarts a ≡ false → numberedStep Ground q n (Service a x) n ≡ reached Ground q a x
   unfolding isStale isStartEvent isService
   own-number a x sh st = then-step Ground q n (Service a x) n (rw (st, eq-eqb n n refl)) ∙ service-taken Ground q a x sh
 
@@ -257,7 +257,7 @@ module _ (p ver : ℕ) (d : Desk) (at : At p ver d) where
 
   unpermitted : (e : Event) (v : ℕ) → permitted Ground q e ≡ false → isNone (numberedStep Ground q n e v .refusal) ≡ false
   unfolding numberedStep refusalOf
-  unpermitted e v h = rw h (go (shapely Ground e) (isStale n e v) (clause Ground q e))
+  unpermitted e v h = rw h (go (eventFits Ground e) (isStale n e v) (clause Ground q e))
     where
       go : (s l : Bool) (a : O.Outcome) → isNone (cond (isNone (cond (not s) Shape (cond l Stale Prohibited))) a (N.refused (cond (not s) Shape (cond l Stale Prohibited)) q) .refusal) ≡ false
       go true true a = refl
@@ -266,20 +266,20 @@ module _ (p ver : ℕ) (d : Desk) (at : At p ver d) where
 
   stale-refused : (e : Event) (v : ℕ) → isStale n e v ≡ true → isNone (numberedStep Ground q n e v .refusal) ≡ false
   unfolding numberedStep refusalOf
-  stale-refused e v h = rw h (go (shapely Ground e) (clause Ground q e))
+  stale-refused e v h = rw h (go (eventFits Ground e) (clause Ground q e))
     where
       go : (s : Bool) (a : O.Outcome) → isNone (cond (isNone (cond (not s) Shape Stale)) a (N.refused (cond (not s) Shape Stale) q) .refusal) ≡ false
       go true a = refl
       go false a = refl
 
-  unshaped : (e : Event) (v : ℕ) → shapely Ground e ≡ false → isNone (numberedStep Ground q n e v .refusal) ≡ false
-  unshaped e v h = ap (λ (o : O.Outcome). isNone (o .refusal)) (shape-first Ground q n e v h)
+  not-fitting : (e : Event) (v : ℕ) → eventFits Ground e ≡ false → isNone (numberedStep Ground q n e v .refusal) ≡ false
+  not-fitting e v h = ap (λ (o : O.Outcome). isNone (o .refusal)) (shape-first Ground q n e v h)
 
   -- a user call that the machine does not permit
   user-refused : (P : Outcome Desk (Numbered Wire) → Type 0) (u : UserPrimitive) (v : ℕ) (ids msgs checks : List ℕ) (x : Data) → takes Ground (q .control) (callOf u) ≡ false → P refused → P (does d (userCall (d .kept .bytes) (lent-first d) (lent-second d) (User u) v ids msgs checks x))
   unfolding userCall userStep permitted
   user-refused P u v ids msgs checks x h z =
-      subst (λ (c : Called). P (does d c)) (sym (at-record (userStep (d .kept .bytes) (lent-first d) (lent-second d) (User u) v (lent ids) (lent msgs) (lent checks) x))) (go (dataShaped (lent ids) (lent msgs) (lent checks) x))
+      subst (λ (c : Called). P (does d c)) (sym (at-record (userStep (d .kept .bytes) (lent-first d) (lent-second d) (User u) v (lent ids) (lent msgs) (lent checks) x))) (go (dataFits (lent ids) (lent msgs) (lent checks) x))
     where
       go : (b : Bool) → P (does d (cond b (eventStep (d .kept .bytes) (lent-first d) (lent-second d) (User u) v (lent ids) (lent msgs) (lent checks) (carriesData x) Ground q n) (calledWith 2 (d .kept .bytes) (lent-first d) (lent-second d))))
       go true = refused-call P (heldAfter n (User u) v) (numberedStep Ground q n (User u) v) (lent ids) (lent msgs) (lent checks) (carriesData x) (unpermitted (User u) v h) z
@@ -290,22 +290,22 @@ module _ (p ver : ℕ) (d : Desk) (at : At p ver d) where
   unfolding isStale isStartEvent
   forward-stale k v lt = stale-refused (ForwardRequested k p) v (ap not lt)
 
-  forward-unshaped : (k v : ℕ) → ltb k routingClasses ≡ false → isNone (numberedStep Ground q n (ForwardRequested k p) v .refusal) ≡ false
-  unfolding shapely
-  forward-unshaped k v e = unshaped (ForwardRequested k p) v (rw e)
+  forward-not-fitting : (k v : ℕ) → ltb k routingClasses ≡ false → isNone (numberedStep Ground q n (ForwardRequested k p) v .refusal) ≡ false
+  unfolding eventFits
+  forward-not-fitting k v e = not-fitting (ForwardRequested k p) v (rw e)
 
   -- an entry of another number
-  heard-stale : (a : ServicePrimitive) (v : ℕ) (s : List ℕ) → ((b : Apdu) → isStale n (Service a b) v ≡ true) → Refuses (centreMachine p) (does d (hears d a v 1 s))
+  heard-stale : (a : ServicePrimitive) (v : ℕ) (s : List ℕ) → ((b : UserData) → isStale n (Service a b) v ≡ true) → Refuses (centreMachine p) (does d (hears d a v 1 s))
   heard-stale a v s f =
       subst (λ (c : Called). Refuses (centreMachine p) (does d c)) (sym (heard-data a v s))
       (refused-call (Refuses (centreMachine p)) (heldAfter n (Service a (meaning (readPdu Ground (q .control) a (lent s)))) v) (numberedStep Ground q n (Service a (meaning (readPdu Ground (q .control) a (lent s)))) v) (lent s) (lent s) (lent s) (carriedBy (readPdu Ground (q .control) a (lent s)))
       (stale-refused (Service a (meaning (readPdu Ground (q .control) a (lent s)))) v (f (meaning (readPdu Ground (q .control) a (lent s))))) tt)
 
-  start-stale : (x s : ℕ) (k : Qos) (w v : ℕ) → v ≤ n → (b : Apdu) → isStale n (Service (DStartIndication x s k w) b) v ≡ true
+  start-stale : (x s : ℕ) (k : Qos) (w v : ℕ) → v ≤ n → (b : UserData) → isStale n (Service (DStartIndication x s k w) b) v ≡ true
   unfolding isStale isStartEvent serviceStarts
   start-stale x s k w v h b = rw (le-ltb n v h)
 
-  other-stale : (x o s w v : ℕ) → (v ≡ n → ⊥) → (b : Apdu) → isStale n (Service (DStartConfirmation x o s w) b) v ≡ true
+  other-stale : (x o s w v : ℕ) → (v ≡ n → ⊥) → (b : UserData) → isStale n (Service (DStartConfirmation x o s w) b) v ≡ true
   unfolding isStale isStartEvent serviceStarts isService
   other-stale x o s w v h b = rw (ne-eqb v n h)
 
@@ -319,8 +319,8 @@ pub record Away (p ver : ℕ) (d : Desk) : Type 0 where
 
 -- a forward with its message, or its response
 pub data Good (p ver : ℕ) (w : Numbered Wire) : Type 0 where
-  a-forward : (k : ℕ) → ltb k routingClasses ≡ true → w .it .primitive ≡ DStartForwardRequest (qosAsked k) p ver → (f : Forwarded) → apduAt pdu.Ground (lent (w .it .bytes)) 0 ≡ answer.Is (is.Forward f) → w .no < 2 ^ 64 → Good p ver w
-  a-response : (x : ℕ) → ltb x forwardResults ≡ true → w .it .primitive ≡ DStartForwardResponse p noVersion → apduAt pdu.Ground (lent (w .it .bytes)) 0 ≡ answer.Is (is.ForwardResponse x) → Good p ver w
+  a-forward : (k : ℕ) → ltb k routingClasses ≡ true → w .it .primitive ≡ DStartForwardRequest (qosAsked k) p ver → (f : Forwarded) → apduAt pdu.GroundPdus (lent (w .it .bytes)) 0 ≡ decoded.Is (is.Forward f) → w .no < 2 ^ 64 → Good p ver w
+  a-response : (x : ℕ) → ltb x forwardResults ≡ true → w .it .primitive ≡ DStartForwardResponse p noVersion → apduAt pdu.GroundPdus (lent (w .it .bytes)) 0 ≡ decoded.Is (is.ForwardResponse x) → Good p ver w
 
 abbrev pub Rest : ℕ → ℕ → Desk → Type 0
 Rest p ver d = Rests p ver (d .kept .bytes)
@@ -330,11 +330,11 @@ clash e = absurd (subst T e tt)
 
 -- ---- what is read back
 
-record IsForward (a : Pdus) : Type 0 where
+record IsForward (a : Apdu) : Type 0 where
   message : Forwarded
   same : a ≡ is.Forward message
 
-forward-value : (l : List ℕ) (a : Pdus) (h : Heading) (m : List ℕ) → pduIn l l l a ≡ forward h m → IsForward a
+forward-value : (l : List ℕ) (a : Apdu) (h : Heading) (m : List ℕ) → pduIn l l l a ≡ forward h m → IsForward a
 unfolding pduIn
 forward-value l (is.AbortUser r) h m e = apart (cc)
 forward-value l (is.AbortProvider r) h m e = apart (cc)
@@ -343,7 +343,7 @@ forward-value l (is.Send d) h m e = apart (cc)
 forward-value l (is.Forward f) h m e = record { message = f; same = refl }
 forward-value l (is.ForwardResponse x) h m e = apart (cc)
 
-response-value : (l : List ℕ) (a : Pdus) (x : ℕ) → pduIn l l l a ≡ forwardResponse x → a ≡ is.ForwardResponse x
+response-value : (l : List ℕ) (a : Apdu) (x : ℕ) → pduIn l l l a ≡ forwardResponse x → a ≡ is.ForwardResponse x
 unfolding pduIn
 response-value l (is.AbortUser r) x e = apart (cc)
 response-value l (is.AbortProvider r) x e = apart (cc)
@@ -442,15 +442,15 @@ module _ (p ver : ℕ) (d : Desk) (h : Rests p ver (d .kept .bytes)) where
         ∙ ap (betweenCentres (versionPart (C .number))) (request-back k p (omega arith) (omega (arith, valid)))
         ∙ ap (DStartForwardRequest (qosAsked k) p) (z ∙ w ∙ h .version)
 
-    request-good : ltb k routingClasses ≡ true → forwardShaped (lent (f .msgs)) F ≡ true → Good p ver (centreEntry C)
-    unfolding forwardRequest firstTakes apduShaped pduIn
+    request-good : ltb k routingClasses ≡ true → forwardFits (lent (f .msgs)) F ≡ true → Good p ver (centreEntry C)
+    unfolding forwardRequest firstTakes apduFits pduIn
     request-good e sh =
-        let r = put-read pdu.Ground (is.Forward F) (f .msgs) (f .msgs) (f .msgs) (lent-first d) sh (d .lends (d .kept .calls) .first-full) in
+        let r = put-read pdu.GroundPdus (is.Forward F) (f .msgs) (f .msgs) (f .msgs) (lent-first d) sh (d .lends (d .kept .calls) .first-full) in
         let g = forward-value _ (r .value) _ _ (r .same) in
         let b = bytes-are p ver d at-rest (v .number) (forwardRequest x k p) (lent (f .msgs)) (lent (f .msgs)) (lent (f .msgs)) (carriesForward F) request-taken (is.Forward F) sh refl in
-        a-forward k e (request-primitive e) (g .message) (ap (λ (z : List ℕ). apduAt pdu.Ground (lent z) 0) b ∙ r .read ∙ ap answer.Is (g .same)) (subst (λ (z : ℕ). z < 2 ^ 64) (sym (ap numberIn request-loads)) (v .low))
+        a-forward k e (request-primitive e) (g .message) (ap (λ (z : List ℕ). apduAt pdu.GroundPdus (lent z) 0) b ∙ r .read ∙ ap decoded.Is (g .same)) (subst (λ (z : ℕ). z < 2 ^ 64) (sym (ap numberIn request-loads)) (v .low))
 
-    request-begun : ltb k routingClasses ≡ true → y < v .number → forwardShaped (lent (f .msgs)) F ≡ true → Begun (centreMachine p) (Away p ver) (Good p ver) d (after d C) (centreEntry C)
+    request-begun : ltb k routingClasses ≡ true → y < v .number → forwardFits (lent (f .msgs)) F ≡ true → Begun (centreMachine p) (Away p ver) (Good p ver) d (after d C) (centreEntry C)
     request-begun e lt sh =
         let a = held-is p ver d at-rest in
         let b = ap numberIn request-loads in
@@ -462,13 +462,13 @@ module _ (p ver : ℕ) (d : Desk) (h : Rests p ver (d .kept .bytes)) where
           above = omega arith;
         }
 
-    request-starts : ltb k routingClasses ≡ true → y < v .number → forwardShaped (lent (f .msgs)) F ≡ true → Begins-it (does d C)
+    request-starts : ltb k routingClasses ≡ true → y < v .number → forwardFits (lent (f .msgs)) F ≡ true → Begins-it (does d C)
     request-starts e lt sh =
         taken-does Begins-it d C (number-taken p ver d at-rest (v .number) (forwardRequest x k p) (lent (f .msgs)) (lent (f .msgs)) (lent (f .msgs)) (carriesForward F) request-taken)
         (subst (λ (i : Invoked). Begins-it (acts (after d C) (handedOf C) (putOn (centreEntry C) i))) (sym (request-primitive e)) (request-begun e lt sh))
 
     request-step : ltb k routingClasses ≡ true → y < v .number → numberedStep Ground x y (ForwardRequested k p) (v .number) ≡ forwardRequest x k p
-    unfolding numberedStep refusalOf shapely isStale isStartEvent permitted messageRefusal clause
+    unfolding numberedStep refusalOf eventFits isStale isStartEvent permitted messageRefusal clause
     request-step e lt = rw (e, lt-ltb p securityValues valid, lt-ltb y (v .number) lt, idle)
 
     asks-forward : Begins-it (does d (forwards p d v k f))
@@ -476,7 +476,7 @@ module _ (p ver : ℕ) (d : Desk) (h : Rests p ver (d .kept .bytes)) where
     asks-forward =
         subst (λ (c : Called). Begins-it (does d c))
         (sym (at-record p ver d at-rest (forwardStep (d .kept .bytes) (lent-first d) (lent-second d) k p (v .number) (lent (f .msgs)) F)))
-        (shape (forwardShaped (lent (f .msgs)) F) refl)
+        (shape (forwardFits (lent (f .msgs)) F) refl)
       where
         E : O.Outcome → Called
         E o = concluded (d .kept .bytes) (lent-first d) (lent-second d) Ground (v .number) o (lent (f .msgs)) (lent (f .msgs)) (lent (f .msgs)) (carriesForward F)
@@ -487,15 +487,15 @@ module _ (p ver : ℕ) (d : Desk) (h : Rests p ver (d .kept .bytes)) where
         unmade : isNone (numberedStep Ground x y (ForwardRequested k p) (v .number) .refusal) ≡ false → Begins-it (does d (E O′))
         unmade e = refused-call p ver d at-rest Begins-it (v .number) (numberedStep Ground x y (ForwardRequested k p) (v .number)) (lent (f .msgs)) (lent (f .msgs)) (lent (f .msgs)) (carriesForward F) e tt
 
-        number : forwardShaped (lent (f .msgs)) F ≡ true → ltb k routingClasses ≡ true → (b : Bool) → ltb y (v .number) ≡ b → Begins-it (does d (E O′))
+        number : forwardFits (lent (f .msgs)) F ≡ true → ltb k routingClasses ≡ true → (b : Bool) → ltb y (v .number) ≡ b → Begins-it (does d (E O′))
         number sh e true lt = subst (λ (o : O.Outcome). Begins-it (does d (E o))) (sym (request-step e (ltb-true y (v .number) lt))) (request-starts e (ltb-true y (v .number) lt) sh)
         number sh e false lt = unmade (forward-stale p ver d at-rest k (v .number) lt)
 
-        class : forwardShaped (lent (f .msgs)) F ≡ true → (b : Bool) → ltb k routingClasses ≡ b → Begins-it (does d (E O′))
+        class : forwardFits (lent (f .msgs)) F ≡ true → (b : Bool) → ltb k routingClasses ≡ b → Begins-it (does d (E O′))
         class sh true e = number sh e (ltb y (v .number)) refl
-        class sh false e = unmade (forward-unshaped p ver d at-rest k (v .number) e)
+        class sh false e = unmade (forward-not-fitting p ver d at-rest k (v .number) e)
 
-        shape : (b : Bool) → forwardShaped (lent (f .msgs)) F ≡ b → Begins-it (does d (cond b (E O′) (calledWith 2 (d .kept .bytes) (lent-first d) (lent-second d))))
+        shape : (b : Bool) → forwardFits (lent (f .msgs)) F ≡ b → Begins-it (does d (cond b (E O′) (calledWith 2 (d .kept .bytes) (lent-first d) (lent-second d))))
         shape true sh = class sh (ltb k routingClasses) refl
         shape false sh = tt
 
@@ -548,7 +548,7 @@ module _ (p ver : ℕ) (d : Desk) (h : Rests p ver (d .kept .bytes)) where
   -- ---- a forward arrives
 
   -- it was answered by the result z, with t told to the user
-  module _ (w : Numbered Wire) (z : ℕ) (t : Told) (c : Carried) (zl : ltb z forwardResults ≡ true) (sh : apduShaped pdu.Ground (lent (w .it .bytes)) (lent (w .it .bytes)) (lent (w .it .bytes)) (is.ForwardResponse z) ≡ true) (quiet : versionNumber (DStartForwardResponse p noVersion) t ≡ noVersion) (low : w .no < 2 ^ 64) where
+  module _ (w : Numbered Wire) (z : ℕ) (t : Told) (c : Carried) (zl : ltb z forwardResults ≡ true) (sh : apduFits pdu.GroundPdus (lent (w .it .bytes)) (lent (w .it .bytes)) (lent (w .it .bytes)) (is.ForwardResponse z) ≡ true) (quiet : versionNumber (DStartForwardResponse p noVersion) t ≡ noVersion) (low : w .no < 2 ^ 64) where
     abbrev B : O.Outcome
     B = responds x z p noVersion t
 
@@ -582,9 +582,9 @@ module _ (p ver : ℕ) (d : Desk) (h : Rests p ver (d .kept .bytes)) where
     reply-good : Good p ver (centreEntry K)
     unfolding responds firstTakes pduIn
     reply-good =
-        let r = put-read pdu.Ground (is.ForwardResponse z) (w .it .bytes) (w .it .bytes) (w .it .bytes) (lent-first d) sh (d .lends (d .kept .calls) .first-full) in
+        let r = put-read pdu.GroundPdus (is.ForwardResponse z) (w .it .bytes) (w .it .bytes) (w .it .bytes) (lent-first d) sh (d .lends (d .kept .calls) .first-full) in
         let b = bytes-are p ver d at-rest (w .no) B (lent (w .it .bytes)) (lent (w .it .bytes)) (lent (w .it .bytes)) c reply-taken (is.ForwardResponse z) sh refl in
-        a-response z zl reply-primitive (ap (λ (l : List ℕ). apduAt pdu.Ground (lent l) 0) b ∙ r .read ∙ ap answer.Is (response-value _ (r .value) z (r .same)))
+        a-response z zl reply-primitive (ap (λ (l : List ℕ). apduAt pdu.GroundPdus (lent l) 0) b ∙ r .read ∙ ap decoded.Is (response-value _ (r .value) z (r .same)))
 
     replied : Answers (centreMachine p) (Rest p ver) (Good p ver) w (does d K)
     replied =
@@ -601,9 +601,9 @@ module _ (p ver : ℕ) (d : Desk) (h : Rests p ver (d .kept .bytes)) where
     unfolding isStale isStartEvent serviceStarts
     not-stale = rw (lt-ltb y (w .no) above)
 
-    shaped : serviceShapely I ≡ true
-    unfolding serviceShapely
-    shaped = rw (lt-ltb p securityValues valid, lt-ltb ver versions (subst (λ (v : ℕ). v < versions) (h .version) (keeps .coded .most)))
+    indication-fits : serviceFits I ≡ true
+    unfolding serviceFits
+    indication-fits = rw (lt-ltb p securityValues valid, lt-ltb ver versions (subst (λ (v : ℕ). v < versions) (h .version) (keeps .coded .most)))
 
     right : qosFits (qosAsked k) ≡ true
     unfolding qosFits
@@ -616,18 +616,18 @@ module _ (p ver : ℕ) (d : Desk) (h : Rests p ver (d .kept .bytes)) where
     same-version = eq-eqb ver (x .version) (sym (h .version))
 
     forward-answered : (c : Carried) → Answers (centreMachine p) (Rest p ver) (Good p ver) w (does d (concluded (d .kept .bytes) (lent-first d) (lent-second d) Ground (w .no) (numberedStep Ground x y (Service I Forward) (w .no)) (lent (w .it .bytes)) (lent (w .it .bytes)) (lent (w .it .bytes)) c))
-    unfolding apduShaped
+    unfolding apduFits
     forward-answered c = subst (λ (o : O.Outcome). Answers (centreMachine p) (Rest p ver) (Good p ver) w (does d (E o))) (sym (then-step Ground x y (Service I Forward) (w .no) not-stale)) (go (x .forwards) refl)
       where
         E : O.Outcome → Called
         E o = concluded (d .kept .bytes) (lent-first d) (lent-second d) Ground (w .no) o (lent (w .it .bytes)) (lent (w .it .bytes)) (lent (w .it .bytes)) c
 
         go : (b : Bool) → x .forwards ≡ b → Answers (centreMachine p) (Rest p ver) (Good p ver) w (does d (E (step Ground x (Service I Forward))))
-        go true e = subst (λ (o : O.Outcome). Answers (centreMachine p) (Rest p ver) (Good p ver) w (does d (E o))) (sym (supported x p ver (qosAsked k) shaped idle right fits e same-version)) (replied w success ForwardIndication c refl refl refl low)
-        go false e = subst (λ (o : O.Outcome). Answers (centreMachine p) (Rest p ver) (Good p ver) w (does d (E o))) (sym (not-supported x p ver (qosAsked k) shaped idle right fits e)) (replied w serviceNotSupported Untold c refl refl refl low)
+        go true e = subst (λ (o : O.Outcome). Answers (centreMachine p) (Rest p ver) (Good p ver) w (does d (E o))) (sym (supported x p ver (qosAsked k) indication-fits idle right fits e same-version)) (replied w success ForwardIndication c refl refl refl low)
+        go false e = subst (λ (o : O.Outcome). Answers (centreMachine p) (Rest p ver) (Good p ver) w (does d (E o))) (sym (not-supported x p ver (qosAsked k) indication-fits idle right fits e)) (replied w serviceNotSupported Untold c refl refl refl low)
 
   -- what is read
-  rest-reads : (k : ℕ) (l : List ℕ) (f : Forwarded) → apduAt pdu.Ground l 0 ≡ answer.Is (is.Forward f) → meaning (readPdu Ground (x .control) (DStartIndication facility p (qosAsked k) ver) l) ≡ Forward
+  rest-reads : (k : ℕ) (l : List ℕ) (f : Forwarded) → apduAt pdu.GroundPdus l 0 ≡ decoded.Is (is.Forward f) → meaning (readPdu Ground (x .control) (DStartIndication facility p (qosAsked k) ver) l) ≡ Forward
   unfolding readPdu readsAs readsAgain meaning
   rest-reads k l f e = rw e
 
@@ -637,7 +637,7 @@ module _ (p ver : ℕ) (d : Desk) (h : Rests p ver (d .kept .bytes)) where
   rest-answers w (a-forward k kl e f r low) st above =
       subst (λ (i : Invoked). Answers (centreMachine p) (Rest p ver) (Good p ver) w (does d (hears d (arrives Ground i) (w .no) 1 (w .it .bytes)))) (sym e)
       (subst (λ (c : Called). Answers (centreMachine p) (Rest p ver) (Good p ver) w (does d c)) (sym (heard-data p ver d at-rest (DStartIndication facility p (qosAsked k) ver) (w .no) (w .it .bytes)))
-      (subst (λ (a : Apdu). Answers (centreMachine p) (Rest p ver) (Good p ver) w (does d (concluded (d .kept .bytes) (lent-first d) (lent-second d) Ground (w .no) (numberedStep Ground x y (Service (DStartIndication facility p (qosAsked k) ver) a) (w .no)) (lent (w .it .bytes)) (lent (w .it .bytes)) (lent (w .it .bytes)) (carriedBy (readPdu Ground (x .control) (DStartIndication facility p (qosAsked k) ver) (lent (w .it .bytes)))))))
+      (subst (λ (a : UserData). Answers (centreMachine p) (Rest p ver) (Good p ver) w (does d (concluded (d .kept .bytes) (lent-first d) (lent-second d) Ground (w .no) (numberedStep Ground x y (Service (DStartIndication facility p (qosAsked k) ver) a) (w .no)) (lent (w .it .bytes)) (lent (w .it .bytes)) (lent (w .it .bytes)) (carriedBy (readPdu Ground (x .control) (DStartIndication facility p (qosAsked k) ver) (lent (w .it .bytes)))))))
       (sym (rest-reads k (lent (w .it .bytes)) f r)) (forward-answered w k kl low above (carriedBy (readPdu Ground (x .control) (DStartIndication facility p (qosAsked k) ver) (lent (w .it .bytes)))))))
 
   pub rest-stale : (w : Numbered Wire) → Good p ver w → isStart (centreMachine p .at) w ≡ true → w .no ≤ y → Refuses (centreMachine p) (does d (hears d (arrives Ground (w .it .primitive)) (w .no) 1 (w .it .bytes)))
@@ -650,7 +650,7 @@ module _ (p ver : ℕ) (d : Desk) (h : Rests p ver (d .kept .bytes)) where
 
 -- what the carrier makes in FORWARD
 turned-in-forward : (r : Record) → r .control ≡ entered FORWARD false → reached Ground r rejects Absent ≡ closes r (tell r (ProviderAbortIndication communicationServiceError))
-unfolding reached firstFault confirmationFault responseFault answeredBy answerOf
+unfolding reached firstFault confirmationFault responseFault answeredBy replyOf
 turned-in-forward r c = rw c
 
 lost-in-forward : (r : Record) → r .control ≡ entered FORWARD false → reached Ground r DPAbortIndication Absent ≡ closes r (tell r (ProviderAbortIndication communicationServiceFailure))
@@ -674,14 +674,14 @@ module _ (p ver : ℕ) (d : Desk) (h : Away p ver d) where
 
   -- an abort
   aborts-away : (g : Bool) (z : ℕ) → Returns (centreMachine p) (Rest p ver) d (does d (reports d (User (UserAbortServiceRequest g z))))
-  unfolding heldAfter isStartEvent userStarts isStale isService shapely userShapely
+  unfolding heldAfter isStartEvent userStarts isStale isService eventFits userFits
   aborts-away g z =
       subst (λ (c : Called). Returns (centreMachine p) (Rest p ver) d (does d c)) (sym (reported p ver d (h .at) (User (UserAbortServiceRequest g z))))
       (shut-returns p ver d (h .at) (numberedStep Ground rec num (User (UserAbortServiceRequest g z)) 0) (lent []) (lent []) (lent []) (carriesData noData) (go (ltb z userReasons) refl))
     where
       go : (b : Bool) → ltb z userReasons ≡ b → isNone (numberedStep Ground rec num (User (UserAbortServiceRequest g z)) 0 .refusal) ≡ true → Shut rec (numberedStep Ground rec num (User (UserAbortServiceRequest g z)) 0)
       go true e t = subst (Shut rec) (sym (no-number p ver d (h .at) (User (UserAbortServiceRequest g z)) refl ∙ user-aborts Ground rec g z e busy)) (abort-shut rec g z (h .at .coded))
-      go false e t = clash (sym t ∙ unshaped p ver d (h .at) (User (UserAbortServiceRequest g z)) 0 e)
+      go false e t = clash (sym t ∙ not-fitting p ver d (h .at) (User (UserAbortServiceRequest g z)) 0 e)
 
   away-other : (a : Asked) → Returns (centreMachine p) (Rest p ver) d (centreAsks p d (other-call a))
   away-other (start-request v m k g) = tt
@@ -697,7 +697,7 @@ module _ (p ver : ℕ) (d : Desk) (h : Away p ver d) where
   away-forward v k f =
       subst (λ (c : Called). Returns (centreMachine p) (Rest p ver) d (does d c))
       (sym (at-record p ver d (h .at) (forwardStep (d .kept .bytes) (lent-first d) (lent-second d) k p (v .number) (lent (f .msgs)) (record { heading = f .heading; message = record { at = 0; count = f .bits } }))))
-      (go (forwardShaped (lent (f .msgs)) (record { heading = f .heading; message = record { at = 0; count = f .bits } })))
+      (go (forwardFits (lent (f .msgs)) (record { heading = f .heading; message = record { at = 0; count = f .bits } })))
     where
       go : (b : Bool) → Returns (centreMachine p) (Rest p ver) d (does d (cond b (eventStep (d .kept .bytes) (lent-first d) (lent-second d) (ForwardRequested k p) (v .number) (lent (f .msgs)) (lent (f .msgs)) (lent (f .msgs)) (carriesForward (record { heading = f .heading; message = record { at = 0; count = f .bits } })) Ground rec num) (calledWith 2 (d .kept .bytes) (lent-first d) (lent-second d))))
       go true =
@@ -720,7 +720,7 @@ module _ (p ver : ℕ) (d : Desk) (h : Away p ver d) where
       go false e t = clash (sym t ∙ unpermitted p ver d (h .at) TimerExpires 0 e)
 
   error-busy : step Ground rec UnrecoverableSystemError ≡ aborts rec undefinedError (tell rec (ProviderAbortIndication undefinedError))
-  unfolding step S.refusalOf shapely permitted messageRefusal clause systemError excepts
+  unfolding step S.refusalOf eventFits permitted messageRefusal clause systemError excepts
   error-busy = rw busy
 
   pub away-errs : Returns (centreMachine p) (Rest p ver) d (does d (reports d UnrecoverableSystemError))
@@ -730,7 +730,7 @@ module _ (p ver : ℕ) (d : Desk) (h : Away p ver d) where
       (shut-returns p ver d (h .at) (numberedStep Ground rec num UnrecoverableSystemError 0) (lent []) (lent []) (lent []) (carriesData noData) (λ t. subst (Shut rec) (sym (no-number p ver d (h .at) UnrecoverableSystemError refl ∙ error-busy)) (aborts-shut rec _ _ (h .at .coded))))
 
   -- what the carrier makes
-  comes-bare : (a : ServicePrimitive) (o : O.Outcome) → shapely Ground (Service a Absent) ≡ true → serviceStarts a ≡ false → reached Ground rec a Absent ≡ o → Shut rec o → Comes (centreMachine p) (Rest p ver) d (does d (hears d a (heldBy (d .kept .bytes)) 0 []))
+  comes-bare : (a : ServicePrimitive) (o : O.Outcome) → eventFits Ground (Service a Absent) ≡ true → serviceStarts a ≡ false → reached Ground rec a Absent ≡ o → Shut rec o → Comes (centreMachine p) (Rest p ver) d (does d (hears d a (heldBy (d .kept .bytes)) 0 []))
   unfolding heldAfter isStartEvent
   comes-bare a o sh st e s =
       subst (λ (v : ℕ). Comes (centreMachine p) (Rest p ver) d (does d (hears d a v 0 []))) (sym (held-is p ver d (h .at)))
@@ -742,11 +742,11 @@ module _ (p ver : ℕ) (d : Desk) (h : Away p ver d) where
       E m z = concluded (d .kept .bytes) (lent-first d) (lent-second d) Ground m z (lent []) (lent []) (lent []) (carriesData noData)
 
   pub away-away : Comes (centreMachine p) (Rest p ver) d (does d (hears d rejects (heldBy (d .kept .bytes)) 0 []))
-  unfolding shapely serviceShapely readable serviceStarts
+  unfolding eventFits serviceFits userDataFits serviceStarts
   away-away = comes-bare rejects _ refl refl (turned-in-forward rec (h .control)) (closes-shut rec _ (h .at .coded))
 
   pub away-p-abort : Comes (centreMachine p) (Rest p ver) d (does d (hears d DPAbortIndication (heldBy (d .kept .bytes)) 0 []))
-  unfolding shapely serviceShapely readable serviceStarts
+  unfolding eventFits serviceFits userDataFits serviceStarts
   away-p-abort = comes-bare DPAbortIndication _ refl refl (lost-in-forward rec (h .control)) (closes-shut rec _ (h .at .coded))
 
   -- ---- the response
@@ -754,7 +754,7 @@ module _ (p ver : ℕ) (d : Desk) (h : Away p ver d) where
   abbrev J : ServicePrimitive
   J = DStartConfirmation permanent 0 p noVersion
 
-  away-reads : (z : ℕ) (l : List ℕ) → apduAt pdu.Ground l 0 ≡ answer.Is (is.ForwardResponse z) → meaning (readPdu Ground (rec .control) J l) ≡ ForwardResponse z
+  away-reads : (z : ℕ) (l : List ℕ) → apduAt pdu.GroundPdus l 0 ≡ decoded.Is (is.ForwardResponse z) → meaning (readPdu Ground (rec .control) J l) ≡ ForwardResponse z
   unfolding readPdu readsAs readsAgain meaning
   away-reads z l e = rw (h .control, e)
 
@@ -781,7 +781,7 @@ module _ (p ver : ℕ) (d : Desk) (h : Away p ver d) where
       subst (λ (i : Invoked). Comes (centreMachine p) (Rest p ver) d (does d (hears d (arrives Ground i) (w .no) 1 (w .it .bytes)))) (sym e)
       (subst (λ (v : ℕ). Comes (centreMachine p) (Rest p ver) d (does d (hears d J v 1 (w .it .bytes)))) (sym (m ∙ held-is p ver d (h .at)))
       (subst (λ (c : Called). Comes (centreMachine p) (Rest p ver) d (does d c)) (sym (heard-data p ver d (h .at) J num (w .it .bytes)))
-      (subst (λ (a : Apdu). Comes (centreMachine p) (Rest p ver) d (does d (E (numberedStep Ground rec num (Service J a) num)))) (sym (away-reads z (lent (w .it .bytes)) r))
+      (subst (λ (a : UserData). Comes (centreMachine p) (Rest p ver) d (does d (E (numberedStep Ground rec num (Service J a) num)))) (sym (away-reads z (lent (w .it .bytes)) r))
       (subst (λ (o : O.Outcome). Comes (centreMachine p) (Rest p ver) d (does d (E o))) (sym (response-confirmed z zl valid-away))
       (shut-comes p ver d (h .at) (forwardConfirmed rec z noVersion) (lent (w .it .bytes)) (lent (w .it .bytes)) (lent (w .it .bytes)) (carriedBy (readPdu Ground (rec .control) J (lent (w .it .bytes)))) (confirmed-shut z))))))
     where

@@ -12,13 +12,13 @@ use Rattle.bits.specs.Read.{readBits}
 use Rattle.fields.specs.Encodings.{wholeBits, indexBits, lengthBits}
 use Rattle.fields.specs.Fields.{bitField, extensionBit, digitsIn, wholeNumber, extensibleIndex, lengthAt, lengthWithin, runAt, stringAt}
 use Rattle.apdu.specs.Sizes.{bufferLeast}
-use Rattle.apdu.specs.Encoding.{forwardBits, forwardFits, stringBits, optionalBits, optionalFits, contentBits, contentFits, modeBits, modeFits, pduBits, pduFits, padded}
+use Rattle.apdu.specs.Encoding.{forwardBits, forwardPduFits, stringBits, optionalBits, optionalFits, contentBits, contentFits, modeBits, modeFits, pduBits, pduFits, padded}
 use Rattle.apdu.specs.Pdus.{partIn, contentIn, pduIn}
 use Rattle.apdu.specs.Reading.{tripleAt, headingAt, forwardWithin, optionalAt, partAt, partsWithin, dataWithin, modeValue, modeAt, kindMode, leadingAt, tailAt, endedAt, restWithin, apduWithin}
-use Rattle.apdu.specs.Writing.{forwardShaped, itemsShaped, partShaped, dataShaped, apduShaped, writeOut}
-use Rattle.machine.specs.Calls.{answer, sent, qosAsked, startRequest, startResponse, messageRequest, endRequest, endResponse, userAbort, callOf, unsent, called}
-use Rattle.machine.specs.Apdus.{readable}
-use Rattle.machine.specs.Event.{hasMode, qosFits, userShapely, serviceShapely, shapely}
+use Rattle.apdu.specs.Writing.{forwardFits, itemsFit, partFits, dataFits, apduFits, writeOut}
+use Rattle.machine.specs.Calls.{replyOf, sent, qosAsked, startRequest, startResponse, messageRequest, endRequest, endResponse, userAbort, callOf, unsent, called}
+use Rattle.machine.specs.UserData.{userDataFits}
+use Rattle.machine.specs.Event.{hasMode, qosFits, userFits, serviceFits, eventFits}
 use Rattle.machine.specs.Exceptions.{tell, closes, aborts, excepts, timerExpires, systemError, noInstruction}
 use Rattle.machine.specs.Faults.{responseFault, pduFault, sendFault, abortFault, startFits, indicationFault, confirmationFault, firstFault}
 use Rattle.machine.specs.Primitives.{handed, instructed, answered, reached}
@@ -93,25 +93,25 @@ wire i l = mark 1 (record { primitive = i; bytes = l })
 
 -- on its way
 pub on-its-way : after 1 (asks ∷ []) ≡ view (seen 1 (entered Forward false) (wire (DStartForwardRequest (qosAsked 3) 1 3) (67 ∷ 212 ∷ 234 ∷ 61 ∷ 218 ∷ 131 ∷ 9 ∷ 139 ∷ 42 ∷ 188 ∷ 222 ∷ 248 ∷ 85 ∷ 46 ∷ []) ∷ [])) (seen 0 closed [])
-unfolding bitsN bitsOf accOf bitsTo bytesOf withBit setBit putBits readBits wholeBits indexBits lengthBits bitField extensionBit digitsIn wholeNumber extensibleIndex lengthAt lengthWithin runAt stringAt stringBits optionalBits optionalFits contentBits contentFits modeBits modeFits pduBits pduFits padded partIn contentIn pduIn optionalAt partAt partsWithin dataWithin modeValue modeAt kindMode leadingAt tailAt endedAt restWithin apduWithin itemsShaped partShaped dataShaped apduShaped writeOut answer sent startRequest startResponse messageRequest endRequest endResponse userAbort callOf unsent called readable qosFits userShapely hasMode serviceShapely shapely tell closes aborts excepts timerExpires systemError noInstruction pduFault sendFault abortFault startFits indicationFault confirmationFault firstFault handed instructed answered reached enter permitted messageRefusal userStarts serviceStarts isStart isService isStale heldAfter refusalOf acts numberedStep firstTakes secondTakes finished concluded withRecord entering userStep userCall readsAs readsAgain abortOf orAbort readPdu meaning dataOf dataStep bareStep serviceStep serviceCall invokedNumber toldNumber packed headBytes storedBytes headFits withNumbers loadAt storeAt partOf givenData freshFor freshCall forwardRequest responds forwardArrives forwardConfirmed responseFault forwardCall forwardStep forwardOf tripleAt headingAt forwardWithin tripleBits tripleFits aircraftBits headingBits aircraftFits headingFits forwardBits forwardFits forwardShaped centreRun
+unfolding bitsN bitsOf accOf bitsTo bytesOf withBit setBit putBits readBits wholeBits indexBits lengthBits bitField extensionBit digitsIn wholeNumber extensibleIndex lengthAt lengthWithin runAt stringAt stringBits optionalBits optionalFits contentBits contentFits modeBits modeFits pduBits pduFits padded partIn contentIn pduIn optionalAt partAt partsWithin dataWithin modeValue modeAt kindMode leadingAt tailAt endedAt restWithin apduWithin itemsFit partFits dataFits apduFits writeOut replyOf sent startRequest startResponse messageRequest endRequest endResponse userAbort callOf unsent called userDataFits qosFits userFits hasMode serviceFits eventFits tell closes aborts excepts timerExpires systemError noInstruction pduFault sendFault abortFault startFits indicationFault confirmationFault firstFault handed instructed answered reached enter permitted messageRefusal userStarts serviceStarts isStart isService isStale heldAfter refusalOf acts numberedStep firstTakes secondTakes finished concluded withRecord entering userStep userCall readsAs readsAgain abortOf orAbort readPdu meaning dataOf dataStep bareStep serviceStep serviceCall invokedNumber toldNumber packed headBytes storedBytes headFits withNumbers loadAt storeAt partOf givenData freshFor freshCall forwardRequest responds forwardArrives forwardConfirmed responseFault forwardCall forwardStep forwardOf tripleAt headingAt forwardWithin tripleBits tripleFits aircraftBits headingBits aircraftFits headingFits forwardBits forwardPduFits forwardFits centreRun
 on-its-way = refl
 
 -- answered: success
 pub answered-success : after 1 (asks ∷ gets false ∷ []) ≡ view (seen 1 (entered Forward false) []) (seen 1 closed (wire (DStartForwardResponse 1 0) (80 ∷ []) ∷ []))
-unfolding bitsN bitsOf accOf bitsTo bytesOf withBit setBit putBits readBits wholeBits indexBits lengthBits bitField extensionBit digitsIn wholeNumber extensibleIndex lengthAt lengthWithin runAt stringAt stringBits optionalBits optionalFits contentBits contentFits modeBits modeFits pduBits pduFits padded partIn contentIn pduIn optionalAt partAt partsWithin dataWithin modeValue modeAt kindMode leadingAt tailAt endedAt restWithin apduWithin itemsShaped partShaped dataShaped apduShaped writeOut answer sent startRequest startResponse messageRequest endRequest endResponse userAbort callOf unsent called readable qosFits userShapely hasMode serviceShapely shapely tell closes aborts excepts timerExpires systemError noInstruction pduFault sendFault abortFault startFits indicationFault confirmationFault firstFault handed instructed answered reached enter permitted messageRefusal userStarts serviceStarts isStart isService isStale heldAfter refusalOf acts numberedStep firstTakes secondTakes finished concluded withRecord entering userStep userCall readsAs readsAgain abortOf orAbort readPdu meaning dataOf dataStep bareStep serviceStep serviceCall invokedNumber toldNumber packed headBytes storedBytes headFits withNumbers loadAt storeAt partOf givenData freshFor freshCall forwardRequest responds forwardArrives forwardConfirmed responseFault forwardCall forwardStep forwardOf tripleAt headingAt forwardWithin tripleBits tripleFits aircraftBits headingBits aircraftFits headingFits forwardBits forwardFits forwardShaped centreRun
+unfolding bitsN bitsOf accOf bitsTo bytesOf withBit setBit putBits readBits wholeBits indexBits lengthBits bitField extensionBit digitsIn wholeNumber extensibleIndex lengthAt lengthWithin runAt stringAt stringBits optionalBits optionalFits contentBits contentFits modeBits modeFits pduBits pduFits padded partIn contentIn pduIn optionalAt partAt partsWithin dataWithin modeValue modeAt kindMode leadingAt tailAt endedAt restWithin apduWithin itemsFit partFits dataFits apduFits writeOut replyOf sent startRequest startResponse messageRequest endRequest endResponse userAbort callOf unsent called userDataFits qosFits userFits hasMode serviceFits eventFits tell closes aborts excepts timerExpires systemError noInstruction pduFault sendFault abortFault startFits indicationFault confirmationFault firstFault handed instructed answered reached enter permitted messageRefusal userStarts serviceStarts isStart isService isStale heldAfter refusalOf acts numberedStep firstTakes secondTakes finished concluded withRecord entering userStep userCall readsAs readsAgain abortOf orAbort readPdu meaning dataOf dataStep bareStep serviceStep serviceCall invokedNumber toldNumber packed headBytes storedBytes headFits withNumbers loadAt storeAt partOf givenData freshFor freshCall forwardRequest responds forwardArrives forwardConfirmed responseFault forwardCall forwardStep forwardOf tripleAt headingAt forwardWithin tripleBits tripleFits aircraftBits headingBits aircraftFits headingFits forwardBits forwardPduFits forwardFits centreRun
 answered-success = refl
 
 -- both IDLE again
 pub over-again : after 1 (asks ∷ gets false ∷ gets true ∷ []) ≡ view (seen 1 closed []) (seen 1 closed [])
-unfolding bitsN bitsOf accOf bitsTo bytesOf withBit setBit putBits readBits wholeBits indexBits lengthBits bitField extensionBit digitsIn wholeNumber extensibleIndex lengthAt lengthWithin runAt stringAt stringBits optionalBits optionalFits contentBits contentFits modeBits modeFits pduBits pduFits padded partIn contentIn pduIn optionalAt partAt partsWithin dataWithin modeValue modeAt kindMode leadingAt tailAt endedAt restWithin apduWithin itemsShaped partShaped dataShaped apduShaped writeOut answer sent startRequest startResponse messageRequest endRequest endResponse userAbort callOf unsent called readable qosFits userShapely hasMode serviceShapely shapely tell closes aborts excepts timerExpires systemError noInstruction pduFault sendFault abortFault startFits indicationFault confirmationFault firstFault handed instructed answered reached enter permitted messageRefusal userStarts serviceStarts isStart isService isStale heldAfter refusalOf acts numberedStep firstTakes secondTakes finished concluded withRecord entering userStep userCall readsAs readsAgain abortOf orAbort readPdu meaning dataOf dataStep bareStep serviceStep serviceCall invokedNumber toldNumber packed headBytes storedBytes headFits withNumbers loadAt storeAt partOf givenData freshFor freshCall forwardRequest responds forwardArrives forwardConfirmed responseFault forwardCall forwardStep forwardOf tripleAt headingAt forwardWithin tripleBits tripleFits aircraftBits headingBits aircraftFits headingFits forwardBits forwardFits forwardShaped centreRun
+unfolding bitsN bitsOf accOf bitsTo bytesOf withBit setBit putBits readBits wholeBits indexBits lengthBits bitField extensionBit digitsIn wholeNumber extensibleIndex lengthAt lengthWithin runAt stringAt stringBits optionalBits optionalFits contentBits contentFits modeBits modeFits pduBits pduFits padded partIn contentIn pduIn optionalAt partAt partsWithin dataWithin modeValue modeAt kindMode leadingAt tailAt endedAt restWithin apduWithin itemsFit partFits dataFits apduFits writeOut replyOf sent startRequest startResponse messageRequest endRequest endResponse userAbort callOf unsent called userDataFits qosFits userFits hasMode serviceFits eventFits tell closes aborts excepts timerExpires systemError noInstruction pduFault sendFault abortFault startFits indicationFault confirmationFault firstFault handed instructed answered reached enter permitted messageRefusal userStarts serviceStarts isStart isService isStale heldAfter refusalOf acts numberedStep firstTakes secondTakes finished concluded withRecord entering userStep userCall readsAs readsAgain abortOf orAbort readPdu meaning dataOf dataStep bareStep serviceStep serviceCall invokedNumber toldNumber packed headBytes storedBytes headFits withNumbers loadAt storeAt partOf givenData freshFor freshCall forwardRequest responds forwardArrives forwardConfirmed responseFault forwardCall forwardStep forwardOf tripleAt headingAt forwardWithin tripleBits tripleFits aircraftBits headingBits aircraftFits headingFits forwardBits forwardPduFits forwardFits centreRun
 over-again = refl
 
 -- answered: service not supported
 pub answered-unsupported : after 0 (asks ∷ gets false ∷ []) ≡ view (seen 1 (entered Forward false) []) (seen 1 closed (wire (DStartForwardResponse 1 0) (82 ∷ []) ∷ []))
-unfolding bitsN bitsOf accOf bitsTo bytesOf withBit setBit putBits readBits wholeBits indexBits lengthBits bitField extensionBit digitsIn wholeNumber extensibleIndex lengthAt lengthWithin runAt stringAt stringBits optionalBits optionalFits contentBits contentFits modeBits modeFits pduBits pduFits padded partIn contentIn pduIn optionalAt partAt partsWithin dataWithin modeValue modeAt kindMode leadingAt tailAt endedAt restWithin apduWithin itemsShaped partShaped dataShaped apduShaped writeOut answer sent startRequest startResponse messageRequest endRequest endResponse userAbort callOf unsent called readable qosFits userShapely hasMode serviceShapely shapely tell closes aborts excepts timerExpires systemError noInstruction pduFault sendFault abortFault startFits indicationFault confirmationFault firstFault handed instructed answered reached enter permitted messageRefusal userStarts serviceStarts isStart isService isStale heldAfter refusalOf acts numberedStep firstTakes secondTakes finished concluded withRecord entering userStep userCall readsAs readsAgain abortOf orAbort readPdu meaning dataOf dataStep bareStep serviceStep serviceCall invokedNumber toldNumber packed headBytes storedBytes headFits withNumbers loadAt storeAt partOf givenData freshFor freshCall forwardRequest responds forwardArrives forwardConfirmed responseFault forwardCall forwardStep forwardOf tripleAt headingAt forwardWithin tripleBits tripleFits aircraftBits headingBits aircraftFits headingFits forwardBits forwardFits forwardShaped centreRun
+unfolding bitsN bitsOf accOf bitsTo bytesOf withBit setBit putBits readBits wholeBits indexBits lengthBits bitField extensionBit digitsIn wholeNumber extensibleIndex lengthAt lengthWithin runAt stringAt stringBits optionalBits optionalFits contentBits contentFits modeBits modeFits pduBits pduFits padded partIn contentIn pduIn optionalAt partAt partsWithin dataWithin modeValue modeAt kindMode leadingAt tailAt endedAt restWithin apduWithin itemsFit partFits dataFits apduFits writeOut replyOf sent startRequest startResponse messageRequest endRequest endResponse userAbort callOf unsent called userDataFits qosFits userFits hasMode serviceFits eventFits tell closes aborts excepts timerExpires systemError noInstruction pduFault sendFault abortFault startFits indicationFault confirmationFault firstFault handed instructed answered reached enter permitted messageRefusal userStarts serviceStarts isStart isService isStale heldAfter refusalOf acts numberedStep firstTakes secondTakes finished concluded withRecord entering userStep userCall readsAs readsAgain abortOf orAbort readPdu meaning dataOf dataStep bareStep serviceStep serviceCall invokedNumber toldNumber packed headBytes storedBytes headFits withNumbers loadAt storeAt partOf givenData freshFor freshCall forwardRequest responds forwardArrives forwardConfirmed responseFault forwardCall forwardStep forwardOf tripleAt headingAt forwardWithin tripleBits tripleFits aircraftBits headingBits aircraftFits headingFits forwardBits forwardPduFits forwardFits centreRun
 answered-unsupported = refl
 
 -- turned away by the carrier
 pub turned-away-again : after 1 (asks ∷ record { starting = true; step = turn-away 0 } ∷ []) ≡ view (seen 1 closed []) (seen 0 closed [])
-unfolding bitsN bitsOf accOf bitsTo bytesOf withBit setBit putBits readBits wholeBits indexBits lengthBits bitField extensionBit digitsIn wholeNumber extensibleIndex lengthAt lengthWithin runAt stringAt stringBits optionalBits optionalFits contentBits contentFits modeBits modeFits pduBits pduFits padded partIn contentIn pduIn optionalAt partAt partsWithin dataWithin modeValue modeAt kindMode leadingAt tailAt endedAt restWithin apduWithin itemsShaped partShaped dataShaped apduShaped writeOut answer sent startRequest startResponse messageRequest endRequest endResponse userAbort callOf unsent called readable qosFits userShapely hasMode serviceShapely shapely tell closes aborts excepts timerExpires systemError noInstruction pduFault sendFault abortFault startFits indicationFault confirmationFault firstFault handed instructed answered reached enter permitted messageRefusal userStarts serviceStarts isStart isService isStale heldAfter refusalOf acts numberedStep firstTakes secondTakes finished concluded withRecord entering userStep userCall readsAs readsAgain abortOf orAbort readPdu meaning dataOf dataStep bareStep serviceStep serviceCall invokedNumber toldNumber packed headBytes storedBytes headFits withNumbers loadAt storeAt partOf givenData freshFor freshCall forwardRequest responds forwardArrives forwardConfirmed responseFault forwardCall forwardStep forwardOf tripleAt headingAt forwardWithin tripleBits tripleFits aircraftBits headingBits aircraftFits headingFits forwardBits forwardFits forwardShaped centreRun
+unfolding bitsN bitsOf accOf bitsTo bytesOf withBit setBit putBits readBits wholeBits indexBits lengthBits bitField extensionBit digitsIn wholeNumber extensibleIndex lengthAt lengthWithin runAt stringAt stringBits optionalBits optionalFits contentBits contentFits modeBits modeFits pduBits pduFits padded partIn contentIn pduIn optionalAt partAt partsWithin dataWithin modeValue modeAt kindMode leadingAt tailAt endedAt restWithin apduWithin itemsFit partFits dataFits apduFits writeOut replyOf sent startRequest startResponse messageRequest endRequest endResponse userAbort callOf unsent called userDataFits qosFits userFits hasMode serviceFits eventFits tell closes aborts excepts timerExpires systemError noInstruction pduFault sendFault abortFault startFits indicationFault confirmationFault firstFault handed instructed answered reached enter permitted messageRefusal userStarts serviceStarts isStart isService isStale heldAfter refusalOf acts numberedStep firstTakes secondTakes finished concluded withRecord entering userStep userCall readsAs readsAgain abortOf orAbort readPdu meaning dataOf dataStep bareStep serviceStep serviceCall invokedNumber toldNumber packed headBytes storedBytes headFits withNumbers loadAt storeAt partOf givenData freshFor freshCall forwardRequest responds forwardArrives forwardConfirmed responseFault forwardCall forwardStep forwardOf tripleAt headingAt forwardWithin tripleBits tripleFits aircraftBits headingBits aircraftFits headingFits forwardBits forwardPduFits forwardFits centreRun
 turned-away-again = refl

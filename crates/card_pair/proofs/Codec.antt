@@ -19,14 +19,14 @@ use Rattle.apdu.specs.Pdus.{Content, Pdu, abortUser, abortProvider, start, send
 use Rattle.apdu.specs.Encoding.{contentBits, contentFits, modeBits, modeFits, alternative, pduBits, pduFits, padded, bytesFor}
 use Rattle.apdu.specs.Reading.{apduAt}
 use Rattle.apdu.specs.declared.Kind.the-variants as kind
-use Rattle.apdu.specs.declared.Answer.{Answer}
-use Rattle.apdu.specs.declared.Answer.the-variants as answer
+use Rattle.apdu.specs.declared.Decoded.{Decoded}
+use Rattle.apdu.specs.declared.Decoded.the-variants as decoded
 use Rattle.apdu.proofs.Theorems.{written-read}
 use Rattle.machine.specs.Codes.{providerReasons}
-use Rattle.machine.specs.declared.event.Apdu.{Apdu}
-use Rattle.machine.specs.declared.event.Apdu.the-variants.{Absent, NotValid, Start, Send, AbortUser, AbortProvider, Forward, ForwardResponse}
+use Rattle.machine.specs.declared.event.UserData.{UserData}
+use Rattle.machine.specs.declared.event.UserData.the-variants.{Absent, NotValid, Start, Send, AbortUser, AbortProvider, Forward, ForwardResponse}
 use Rattle.step.specs.Stored.{flag}
-use Rattle.step.specs.Call.{pduSide}
+use Rattle.step.specs.Call.{pdusOf}
 use Rattle.step.proofs.Taken.{never}
 use Rattle.pair.specs.Names.{Side}
 use Rattle.pair.specs.Carrier.{Body}
@@ -37,10 +37,10 @@ use Rattle.card_pair.proofs.Bodies.{isBody, body-is, carries}
 
 -- ---- writing
 
-abbrev pub fits : Side → Apdu → Body → Bool
+abbrev pub fits : Side → UserData → Body → Bool
 fits sd Absent b = false
 fits sd NotValid b = false
-fits sd (Start m) b = modeFits (pduSide sd) (flag m) && isBody b
+fits sd (Start m) b = modeFits (pdusOf sd) (flag m) && isBody b
 fits sd Send b = isBody b
 fits sd (AbortUser x) b = wholeFits 0 userLast x && isNil b
 fits sd (AbortProvider x) b = wholeFits 0 providerLast x && isNil b
@@ -48,13 +48,13 @@ fits sd Forward b = false
 fits sd (ForwardResponse x) b = false
 
 -- the bits of an APDU with the body b
-unfoldable pub apduBits : Side → Apdu → Body → List ℕ
+unfoldable pub apduBits : Side → UserData → Body → List ℕ
 apduBits sd Absent b = []
 apduBits sd NotValid b = []
-apduBits sd (Start m) b = alternative (pduSide sd) kind.Start ++ (modeBits (pduSide sd) (flag m) ++ b)
-apduBits sd Send b = alternative (pduSide sd) kind.Send ++ b
-apduBits sd (AbortUser x) b = pduBits (pduSide sd) (abortUser x)
-apduBits sd (AbortProvider x) b = pduBits (pduSide sd) (abortProvider x)
+apduBits sd (Start m) b = alternative (pdusOf sd) kind.Start ++ (modeBits (pdusOf sd) (flag m) ++ b)
+apduBits sd Send b = alternative (pdusOf sd) kind.Send ++ b
+apduBits sd (AbortUser x) b = pduBits (pdusOf sd) (abortUser x)
+apduBits sd (AbortProvider x) b = pduBits (pdusOf sd) (abortProvider x)
 apduBits sd Forward b = []
 apduBits sd (ForwardResponse x) b = []
 
@@ -65,7 +65,7 @@ zeros = replicate bufferLeast 0
 abbrev pub frontOf : List ℕ → List ℕ → List ℕ
 frontOf t bs = take (bytesFor (length bs)) (putBits t 0 (padded bs))
 
-abbrev pub enc : Side → Apdu → Body → List ℕ
+abbrev pub enc : Side → UserData → Body → List ℕ
 enc sd a b = frontOf zeros (apduBits sd a b)
 
 -- ---- reading
@@ -78,38 +78,38 @@ valueRead (send c) = got Send (contentBits c)
 valueRead (forward h m) = got Forward []
 valueRead (forwardResponse x) = got (ForwardResponse x) []
 
-abbrev pub readOf : List ℕ → Answer → Read
-readOf l (answer.Is a) = valueRead (pduIn l l l a)
-readOf l (answer.Refused r) = fault
+abbrev pub readOf : List ℕ → Decoded → Read
+readOf l (decoded.Is a) = valueRead (pduIn l l l a)
+readOf l (decoded.Refused r) = fault
 
 -- what the other side reads
 abbrev pub dec : Side → List ℕ → Read
-dec sd w = readOf (lent w) (apduAt (pduSide sd) (lent w) 0)
+dec sd w = readOf (lent w) (apduAt (pdusOf sd) (lent w) 0)
 
 -- ---- what was written is read
 
 pub full : bufferLeast ≤ length zeros
 full = omega arith
 
-module _ (sd : Side) (v : Pdu) (b : Bits (pduBits (pduSide sd) v)) (h : pduFits (pduSide sd) v ≡ true) where
-  pub value-back : dec sd (frontOf zeros (pduBits (pduSide sd) v)) ≡ valueRead v
+module _ (sd : Side) (v : Pdu) (b : Bits (pduBits (pdusOf sd) v)) (h : pduFits (pdusOf sd) v ≡ true) where
+  pub value-back : dec sd (frontOf zeros (pduBits (pdusOf sd) v)) ≡ valueRead v
   value-back =
-      let x = written-read (pduSide sd) v zeros b h full in
-      ap (readOf (lent (frontOf zeros (pduBits (pduSide sd) v)))) (x .read) ∙ ap valueRead (x .same)
+      let x = written-read (pdusOf sd) v zeros b h full in
+      ap (readOf (lent (frontOf zeros (pduBits (pdusOf sd) v)))) (x .read) ∙ ap valueRead (x .same)
 
 module _ (sd : Side) (c : Content) (f : contentFits c ≡ true) (b : Bits (contentBits c)) where
   send-back : dec sd (enc sd Send (contentBits c)) ≡ got Send (contentBits c)
   unfolding apduBits pduBits pduFits
-  send-back = value-back sd (send c) (bits-append (indexBits (lastOf (pduSide sd)) 3) (contentBits c) (index-are-bits (pduSide sd) 3) b) f
+  send-back = value-back sd (send c) (bits-append (indexBits (lastOf (pdusOf sd)) 3) (contentBits c) (index-are-bits (pdusOf sd) 3) b) f
 
-  start-value : (n : ℕ) → modeFits (pduSide sd) n ≡ true → dec sd (frontOf zeros (alternative (pduSide sd) kind.Start ++ (modeBits (pduSide sd) n ++ contentBits c))) ≡ got (Start (eqb n 1)) (contentBits c)
+  start-value : (n : ℕ) → modeFits (pdusOf sd) n ≡ true → dec sd (frontOf zeros (alternative (pdusOf sd) kind.Start ++ (modeBits (pdusOf sd) n ++ contentBits c))) ≡ got (Start (eqb n 1)) (contentBits c)
   unfolding pduBits pduFits
   start-value n m =
       value-back sd (start n c)
-      (bits-append (indexBits (lastOf (pduSide sd)) 2) _ (index-are-bits (pduSide sd) 2) (bits-append (modeBits (pduSide sd) n) (contentBits c) (mode-are-bits (pduSide sd) n) b))
+      (bits-append (indexBits (lastOf (pdusOf sd)) 2) _ (index-are-bits (pdusOf sd) 2) (bits-append (modeBits (pdusOf sd) n) (contentBits c) (mode-are-bits (pdusOf sd) n) b))
       (rw m f)
 
-  start-back : (m : Bool) → modeFits (pduSide sd) (flag m) ≡ true → dec sd (enc sd (Start m) (contentBits c)) ≡ got (Start m) (contentBits c)
+  start-back : (m : Bool) → modeFits (pdusOf sd) (flag m) ≡ true → dec sd (enc sd (Start m) (contentBits c)) ≡ got (Start m) (contentBits c)
   unfolding apduBits
   start-back true m = start-value 1 m
   start-back false m = start-value 0 m
@@ -117,11 +117,11 @@ module _ (sd : Side) (c : Content) (f : contentFits c ≡ true) (b : Bits (conte
 module _ (sd : Side) (x : ℕ) where
   user-back : wholeFits 0 userLast x ≡ true → dec sd (enc sd (AbortUser x) []) ≡ got (AbortUser x) []
   unfolding apduBits pduBits pduFits
-  user-back h = value-back sd (abortUser x) (bits-append (indexBits (lastOf (pduSide sd)) 0) (indexBits userLast x) (index-are-bits (pduSide sd) 0) (extensible-index userLast (omega arith) .are-bits x)) h
+  user-back h = value-back sd (abortUser x) (bits-append (indexBits (lastOf (pdusOf sd)) 0) (indexBits userLast x) (index-are-bits (pdusOf sd) 0) (extensible-index userLast (omega arith) .are-bits x)) h
 
   provider-back : wholeFits 0 providerLast x ≡ true → dec sd (enc sd (AbortProvider x) []) ≡ got (AbortProvider x) []
   unfolding apduBits pduBits pduFits
-  provider-back h = value-back sd (abortProvider x) (bits-append (indexBits (lastOf (pduSide sd)) 1) (indexBits providerLast x) (index-are-bits (pduSide sd) 1) (extensible-index providerLast (omega arith) .are-bits x)) h
+  provider-back h = value-back sd (abortProvider x) (bits-append (indexBits (lastOf (pdusOf sd)) 1) (indexBits providerLast x) (index-are-bits (pdusOf sd) 1) (extensible-index providerLast (omega arith) .are-bits x)) h
 
 pub holds : (b : Bool) → T b → b ≡ true
 holds true t = refl
@@ -134,13 +134,13 @@ nil-is : (b : Body) → isNil b ≡ true → b ≡ []
 nil-is [] e = refl
 nil-is (x ∷ b) e = never e
 
-pub back : (sd : Side) (a : Apdu) (b : Body) → T (fits sd a b) → dec sd (enc sd a b) ≡ got a b
+pub back : (sd : Side) (a : UserData) (b : Body) → T (fits sd a b) → dec sd (enc sd a b) ≡ got a b
 back sd Absent b t = absurd t
 back sd NotValid b t = absurd t
 back sd (Start m) b t =
-    let e = holds (modeFits (pduSide sd) (flag m) && isBody b) t in
-    let i = body-is b (both-right (modeFits (pduSide sd) (flag m)) (isBody b) e) in
-    subst (λ (x : Body). dec sd (enc sd (Start m) x) ≡ got (Start m) x) (sym (i .bits)) (start-back sd (i .content) (i .fits) (subst Bits (i .bits) (i .are-bits)) m (both-left (modeFits (pduSide sd) (flag m)) (isBody b) e))
+    let e = holds (modeFits (pdusOf sd) (flag m) && isBody b) t in
+    let i = body-is b (both-right (modeFits (pdusOf sd) (flag m)) (isBody b) e) in
+    subst (λ (x : Body). dec sd (enc sd (Start m) x) ≡ got (Start m) x) (sym (i .bits)) (start-back sd (i .content) (i .fits) (subst Bits (i .bits) (i .are-bits)) m (both-left (modeFits (pdusOf sd) (flag m)) (isBody b) e))
 back sd Send b t =
     let i = body-is b (holds (isBody b) t) in
     subst (λ (x : Body). dec sd (enc sd Send x) ≡ got Send x) (sym (i .bits)) (send-back sd (i .content) (i .fits) (subst Bits (i .bits) (i .are-bits)))

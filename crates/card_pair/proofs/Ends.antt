@@ -18,21 +18,21 @@ use Rattle.fields.proofs.RoundTrip.{extensible-index}
 use Rattle.apdu.specs.Sizes.{bufferLeast, userLast, providerLast}
 use Rattle.apdu.specs.Pdus.{lastOf, lent, contentIn, pduIn}
 use Rattle.apdu.specs.Encoding.{contentBits, modeBits, pduBits, padded, bytesFor, padding}
-use Rattle.apdu.specs.Writing.{Done, writeOut, dataShaped, apduShaped}
+use Rattle.apdu.specs.Writing.{Done, writeOut, dataFits, apduFits}
 use Rattle.control.specs.Control.{awaitsResponse}
-use Rattle.apdu.specs.declared.Apdu.{Apdu as Pdu}
+use Rattle.apdu.specs.declared.Apdu.{Apdu}
 use Rattle.apdu.specs.declared.Apdu.the-variants as is
-use Rattle.apdu.proofs.Bounds.{data-fit, apdu-fit, content-most, pdu-most}
+use Rattle.apdu.proofs.Bounds.{data-value-fits, apdu-value-fits, content-most, pdu-most}
 use Rattle.apdu.proofs.Theorems.{front, writes}
 use Rattle.machine.specs.Codes.{securityValues, versions}
 use Rattle.machine.specs.Outcome.{isNone, refusalNumber}
 use Rattle.machine.specs.declared.event.Qos.{Qos}
-use Rattle.machine.specs.Apdus.{isSend}
+use Rattle.machine.specs.UserData.{isSend}
 use Rattle.machine.specs.declared.record.Record.{Record}
-use Rattle.machine.specs.declared.event.Apdu.{Apdu}
-use Rattle.machine.specs.declared.event.Apdu.the-variants.{Absent, NotValid, Start, Send, AbortUser, AbortProvider, Forward, ForwardResponse}
-use Rattle.machine.specs.declared.outcome.Refusal.{Refusal}
-use Rattle.machine.specs.declared.outcome.Refusal.the-variants.{None, Shape, Stale, Prohibited, NoMessage, Repeat}
+use Rattle.machine.specs.declared.event.UserData.{UserData}
+use Rattle.machine.specs.declared.event.UserData.the-variants.{Absent, NotValid, Start, Send, AbortUser, AbortProvider, Forward, ForwardResponse}
+use Rattle.machine.specs.declared.outcome.StepRefusal.{StepRefusal}
+use Rattle.machine.specs.declared.outcome.StepRefusal.the-variants.{None, Shape, Stale, Prohibited, NoMessage, Repeat}
 use Rattle.machine.specs.declared.outcome.Invoked.{Invoked}
 use Rattle.machine.specs.declared.outcome.Invoked.the-variants.{Silent, DStartRequest, DStartResponse, DDataRequest, DEndRequest, DEndResponse, DAbortRequest, DStartForwardRequest, DStartForwardResponse}
 use Rattle.machine.specs.declared.outcome.Told.{Told}
@@ -40,7 +40,7 @@ use Rattle.machine.specs.declared.outcome.Told.the-variants.{Untold, StartIndic
 use Rattle.machine.specs.declared.outcome.Outcome.{Outcome}
 use Rattle.step.specs.Stored.{recordBytes, flag, loadAt, storeAt}
 use Rattle.step.specs.Packed.{refusals, primitives, counts, packed, invokedNumber, toldNumber, versionNumber}
-use Rattle.step.specs.Call.{Carried, Called, passes, pduSide, bitsOfWritten, nothingTo, pduTo, firstTakes, secondTakes, finished, concluded}
+use Rattle.step.specs.Call.{Carried, Called, passes, pdusOf, bitsOfWritten, nothingTo, pduTo, firstTakes, secondTakes, finished, concluded}
 use Rattle.step.specs.declared.stored.Loaded.the-variants.{Is}
 use Rattle.step.proofs.Storing.{length-stored, loaded-stored}
 use Rattle.step.proofs.Calling.{invoked-low, told-low}
@@ -69,32 +69,32 @@ unfolding bitsTo bitsOf padded bitsN
 nothing-is s = record { count = refl; bytes = refl; zeroed = refl; small = omega arith }
 
 -- the bits of an APDU are bits
-apdu-are-bits : (sd : Side) (a : Apdu) (b : Body) → Bits b → Bits (apduBits sd a b)
+apdu-are-bits : (sd : Side) (a : UserData) (b : Body) → Bits b → Bits (apduBits sd a b)
 unfolding apduBits pduBits
 apdu-are-bits sd Absent b h = λ (k : ℕ). omega arith
 apdu-are-bits sd NotValid b h = λ (k : ℕ). omega arith
-apdu-are-bits sd (Start m) b h = bits-append (indexBits (lastOf (pduSide sd)) 2) _ (index-are-bits (pduSide sd) 2) (bits-append (modeBits (pduSide sd) (flag m)) b (mode-are-bits (pduSide sd) (flag m)) h)
-apdu-are-bits sd Send b h = bits-append (indexBits (lastOf (pduSide sd)) 3) b (index-are-bits (pduSide sd) 3) h
-apdu-are-bits sd (AbortUser x) b h = bits-append (indexBits (lastOf (pduSide sd)) 0) (indexBits userLast x) (index-are-bits (pduSide sd) 0) (extensible-index userLast (omega arith) .are-bits x)
-apdu-are-bits sd (AbortProvider x) b h = bits-append (indexBits (lastOf (pduSide sd)) 1) (indexBits providerLast x) (index-are-bits (pduSide sd) 1) (extensible-index providerLast (omega arith) .are-bits x)
+apdu-are-bits sd (Start m) b h = bits-append (indexBits (lastOf (pdusOf sd)) 2) _ (index-are-bits (pdusOf sd) 2) (bits-append (modeBits (pdusOf sd) (flag m)) b (mode-are-bits (pdusOf sd) (flag m)) h)
+apdu-are-bits sd Send b h = bits-append (indexBits (lastOf (pdusOf sd)) 3) b (index-are-bits (pdusOf sd) 3) h
+apdu-are-bits sd (AbortUser x) b h = bits-append (indexBits (lastOf (pdusOf sd)) 0) (indexBits userLast x) (index-are-bits (pdusOf sd) 0) (extensible-index userLast (omega arith) .are-bits x)
+apdu-are-bits sd (AbortProvider x) b h = bits-append (indexBits (lastOf (pdusOf sd)) 1) (indexBits providerLast x) (index-are-bits (pdusOf sd) 1) (extensible-index providerLast (omega arith) .are-bits x)
 apdu-are-bits sd Forward b h = λ (k : ℕ). omega arith
 apdu-are-bits sd (ForwardResponse x) b h = λ (k : ℕ). omega arith
 
-module _ (sd : Side) (li lm lc : List ℕ) (d : Carried) (hi : Bits li) (hm : Bits lm) (hc : Bits lc) (sh : dataShaped li lm lc (d .content) ≡ true) where
+module _ (sd : Side) (li lm lc : List ℕ) (d : Carried) (hi : Bits li) (hm : Bits lm) (hc : Bits lc) (sh : dataFits li lm lc (d .content) ≡ true) where
   abbrev pub body : Body
   body = contentBits (contentIn li lm lc (d .content))
 
   pub body-bits : Bits body
   body-bits = content-are-bits li lm lc (d .content) hi hm hc
 
-  pdu-is : (a : Pdu) (s : List ℕ) → apduShaped (pduSide sd) li lm lc a ≡ true → Bits (pduBits (pduSide sd) (pduIn li lm lc a)) → bufferLeast ≤ length s → Wrote (pduBits (pduSide sd) (pduIn li lm lc a)) (pduTo (pduSide sd) li lm lc a s)
+  pdu-is : (a : Apdu) (s : List ℕ) → apduFits (pdusOf sd) li lm lc a ≡ true → Bits (pduBits (pdusOf sd) (pduIn li lm lc a)) → bufferLeast ≤ length s → Wrote (pduBits (pdusOf sd) (pduIn li lm lc a)) (pduTo (pdusOf sd) li lm lc a s)
   pdu-is a s e b g =
-      let m = pdu-most (pduSide sd) (pduIn li lm lc a) (apdu-fit (pduSide sd) li lm lc a e) in
-      write-is (apduShaped (pduSide sd) li lm lc a) s (pduBits (pduSide sd) (pduIn li lm lc a)) e b (omega arith) g
+      let m = pdu-most (pdusOf sd) (pduIn li lm lc a) (apdu-value-fits (pdusOf sd) li lm lc a e) in
+      write-is (apduFits (pdusOf sd) li lm lc a) s (pduBits (pdusOf sd) (pduIn li lm lc a)) e b (omega arith) g
 
   -- the first buffer takes an APDU that is writable
-  first-is : (a : Apdu) (s : List ℕ) → writable sd a ≡ true → bufferLeast ≤ length s → Wrote (apduBits sd a body) (firstTakes sd li lm lc d a s)
-  unfolding firstTakes apduBits pduBits pduIn apduShaped
+  first-is : (a : UserData) (s : List ℕ) → writable sd a ≡ true → bufferLeast ≤ length s → Wrote (apduBits sd a body) (firstTakes sd li lm lc d a s)
+  unfolding firstTakes apduBits pduBits pduIn apduFits
   first-is Absent s e g = never e
   first-is NotValid s e g = never e
   first-is (Start m) s e g = pdu-is (is.Start (flag m) (d .content)) s (rw (e, sh)) (apdu-are-bits sd (Start m) body body-bits) g
@@ -104,11 +104,11 @@ module _ (sd : Side) (li lm lc : List ℕ) (d : Carried) (hi : Bits li) (hm : Bi
   first-is Forward s e g = never e
   first-is (ForwardResponse x) s e g = never e
 
-  absent-is : (a : Apdu) (s : List ℕ) → a ≡ Absent → Wrote (apduBits sd a body) (firstTakes sd li lm lc d a s)
+  absent-is : (a : UserData) (s : List ℕ) → a ≡ Absent → Wrote (apduBits sd a body) (firstTakes sd li lm lc d a s)
   unfolding firstTakes apduBits
-  absent-is a s e = subst (λ (z : Apdu). Wrote (apduBits sd z body) (firstTakes sd li lm lc d z s)) (sym e) (nothing-is s)
+  absent-is a s e = subst (λ (z : UserData). Wrote (apduBits sd z body) (firstTakes sd li lm lc d z s)) (sym e) (nothing-is s)
 
-  goes-is : (u : Bool) (i : Invoked) (a : Apdu) (s : List ℕ) → GoesOut u sd i a → bufferLeast ≤ length s → Wrote (apduBits sd a body) (firstTakes sd li lm lc d a s)
+  goes-is : (u : Bool) (i : Invoked) (a : UserData) (s : List ℕ) → GoesOut u sd i a → bufferLeast ≤ length s → Wrote (apduBits sd a body) (firstTakes sd li lm lc d a s)
   goes-is u Silent a s h g = absent-is a s (h .1)
   goes-is u (DStartRequest q x) a s h g = first-is a s h g
   goes-is u (DStartResponse x y) a s h g = first-is a s h g
@@ -124,8 +124,8 @@ module _ (sd : Side) (li lm lc : List ℕ) (d : Carried) (hi : Bits li) (hm : Bi
   unfolding secondTakes
   second-is true delivers s e g = absurd (subst T e tt)
   second-is false true s e g =
-      let m = content-most (contentIn li lm lc (d .content)) (data-fit li lm lc (d .content) sh) in
-      write-is (dataShaped li lm lc (d .content)) s body sh body-bits (omega arith) g
+      let m = content-most (contentIn li lm lc (d .content)) (data-value-fits li lm lc (d .content) sh) in
+      write-is (dataFits li lm lc (d .content)) s body sh body-bits (omega arith) g
   second-is false false s e g = nothing-is s
 
 -- ---- the number's parts
@@ -274,7 +274,7 @@ module _ (r a b : List ℕ) (sd : Side) (v : Brings) (m : ℕ) (o : Outcome) (y 
       }
 
 -- a step that was taken
-pub concluded-is : (r a b : List ℕ) (sd : Side) (v : Brings) (m : ℕ) (o : Outcome) (li lm lc : List ℕ) (d : Carried) → bufferLeast ≤ length a → bufferLeast ≤ length b → length r ≡ recordBytes → m < 2 ^ 64 → Bits li → Bits lm → Bits lc → dataShaped li lm lc (d .content) ≡ true → isNone (o .refusal) ≡ true → Fit sd v o
+pub concluded-is : (r a b : List ℕ) (sd : Side) (v : Brings) (m : ℕ) (o : Outcome) (li lm lc : List ℕ) (d : Carried) → bufferLeast ≤ length a → bufferLeast ≤ length b → length r ≡ recordBytes → m < 2 ^ 64 → Bits li → Bits lm → Bits lc → dataFits li lm lc (d .content) ≡ true → isNone (o .refusal) ≡ true → Fit sd v o
     → Ended sd v m o (contentBits (contentIn li lm lc (d .content))) (concluded r a b sd m o li lm lc d)
 unfolding concluded
 concluded-is r a b sd v m o li lm lc d ha hb size low hi hm hc sh n k =
@@ -282,7 +282,7 @@ concluded-is r a b sd v m o li lm lc d ha hb size low hi hm hc sh n k =
     (goes-is sd li lm lc d hi hm hc sh (v .user) (o .invoked) (o .apdu) a (k .apdu) ha)
     (second-is sd li lm lc d hi hm hc sh (passes (o .told)) (o .delivers) b (k .plain) hb))
 
-refusal-told : (w : Refusal) → isNone w ≡ false → isTaken (refusalNumber w) ≡ false
+refusal-told : (w : StepRefusal) → isNone w ≡ false → isTaken (refusalNumber w) ≡ false
 refusal-told None e = never (sym e)
 refusal-told Shape e = refl
 refusal-told Stale e = refl

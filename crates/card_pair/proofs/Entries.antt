@@ -9,28 +9,28 @@ use Rattle.bits.proofs.Numbers.{Bits}
 use Rattle.apdu.specs.Pdus.{lent, contentIn}
 use Rattle.apdu.specs.Encoding.{contentBits}
 use Rattle.apdu.specs.Reading.{apduAt}
-use Rattle.apdu.specs.Writing.{dataShaped}
-use Rattle.apdu.specs.declared.Answer.{Answer}
-use Rattle.apdu.specs.declared.Answer.the-variants as answer
-use Rattle.apdu.proofs.Bounds.{data-fit}
+use Rattle.apdu.specs.Writing.{dataFits}
+use Rattle.apdu.specs.declared.Decoded.{Decoded}
+use Rattle.apdu.specs.declared.Decoded.the-variants as decoded
+use Rattle.apdu.proofs.Bounds.{data-value-fits}
 use Rattle.machine.specs.Outcome.{isNone}
-use Rattle.machine.specs.Apdus.{isSend}
+use Rattle.machine.specs.UserData.{isSend}
 use Rattle.machine.specs.declared.record.Record.{Record}
-use Rattle.machine.specs.declared.event.Apdu.{Apdu}
-use Rattle.machine.specs.declared.event.Apdu.the-variants.{Absent, NotValid, Start, Send, AbortUser, AbortProvider, Forward, ForwardResponse}
+use Rattle.machine.specs.declared.event.UserData.{UserData}
+use Rattle.machine.specs.declared.event.UserData.the-variants.{Absent, NotValid, Start, Send, AbortUser, AbortProvider, Forward, ForwardResponse}
 use Rattle.machine.specs.declared.event.Event.{Event}
 use Rattle.machine.specs.declared.outcome.Invoked.{Invoked}
 use Rattle.machine.specs.declared.outcome.Invoked.the-variants.{Silent, DStartRequest, DStartResponse, DDataRequest, DEndRequest, DEndResponse, DAbortRequest, DStartForwardRequest, DStartForwardResponse}
 use Rattle.machine.specs.declared.outcome.Outcome.{Outcome}
 use Rattle.numbered.specs.Numbers.{isStart, heldAfter, numberedStep}
-use Rattle.step.specs.Call.{Carried, Called, pduSide, concluded}
+use Rattle.step.specs.Call.{Carried, Called, pdusOf, concluded}
 use Rattle.step.proofs.Taken.{never, writable, withBody, Brings, brings, GoesOut, isDData, Fit, JobLow, isDialogue, roomy-dialogue, numbered-fits}
 use Rattle.pair.specs.Names.{Side}
 use Rattle.pair.specs.Carrier.{Body, Sent, message}
 use Rattle.pair.specs.Carrier as C
 use Rattle.pair.specs.Numbered.{Numbered, mark}
 use Rattle.pair.specs.Wires.{Wire}
-use Rattle.pair.proofs.NumMachine.{tag, leaves}
+use Rattle.pair.proofs.NumberedMachine.{tag, leaves}
 use Rattle.pair.proofs.StepMachine.{Read, got, fault, sentBy, taken, happens}
 use Rattle.pair.proofs.Agree.{SentRel, OutRel}
 use Rattle.card_pair.specs.Answered.{entryOf, handedOf}
@@ -42,9 +42,9 @@ use Rattle.card_pair.proofs.Ends.{Keeps, Ended, concluded-is, concluded
 
 -- ---- entries
 
-abbrev pub isRead : Answer → Bool
-isRead (answer.Is a) = true
-isRead (answer.Refused r) = false
+abbrev pub isRead : Decoded → Bool
+isRead (decoded.Is a) = true
+isRead (decoded.Refused r) = false
 
 -- two entries that side sd sent: the same primitive with the same dialogue number, which eight bytes hold, and the same bits, which are read as a PDU
 pub record Carries (sd : Side) (e f : Numbered Wire) : Type 0 where
@@ -52,16 +52,16 @@ pub record Carries (sd : Side) (e f : Numbered Wire) : Type 0 where
   pub low : f .no < 2 ^ 64
   pub primitive : e .it .primitive ≡ f .it .primitive
   pub bits : lent (e .it .bytes) ≡ lent (f .it .bytes)
-  pub read : isRead (apduAt (pduSide sd) (lent (f .it .bytes)) 0) ≡ true
+  pub read : isRead (apduAt (pdusOf sd) (lent (f .it .bytes)) 0) ≡ true
   pub dialogue : isDialogue (f .it .primitive) ≡ true
 
 abbrev isFault : Read → Bool
 isFault fault = true
 isFault (got a b) = false
 
-read-from : (l : List ℕ) (x : Answer) (a : Apdu) (y : Body) → readOf l x ≡ got a y → isRead x ≡ true
-read-from l (answer.Is z) a y e = refl
-read-from l (answer.Refused r) a y e = absurd (subst (λ (q : Read). T (isFault q)) e tt)
+read-from : (l : List ℕ) (x : Decoded) (a : UserData) (y : Body) → readOf l x ≡ got a y → isRead x ≡ true
+read-from l (decoded.Is z) a y e = refl
+read-from l (decoded.Refused r) a y e = absurd (subst (λ (q : Read). T (isFault q)) e tt)
 
 -- what a host keeps, and the record with its number
 abbrev pub KeepsAt : Side → Kept → Numbered Record → Type 0
@@ -77,7 +77,7 @@ held-low n e v h l = go (isStart e)
 
 -- ---- message data that go out
 
-fits-is : (sd : Side) (a : Apdu) (b : Body) → writable sd a ≡ true → isBody b ≡ true → fits sd a (cond (withBody a) b []) ≡ true
+fits-is : (sd : Side) (a : UserData) (b : Body) → writable sd a ≡ true → isBody b ≡ true → fits sd a (cond (withBody a) b []) ≡ true
 fits-is sd Absent b e h = never e
 fits-is sd NotValid b e h = never e
 fits-is sd (Start m) b e h = rw (e, h)
@@ -88,7 +88,7 @@ fits-is sd Forward b e h = never e
 fits-is sd (ForwardResponse x) b e h = never e
 
 -- an APDU without message data is written without
-bits-same : (sd : Side) (a : Apdu) (b : Body) → apduBits sd a (cond (withBody a) b []) ≡ apduBits sd a b
+bits-same : (sd : Side) (a : UserData) (b : Body) → apduBits sd a (cond (withBody a) b []) ≡ apduBits sd a b
 unfolding apduBits
 bits-same sd Absent b = refl
 bits-same sd NotValid b = refl
@@ -101,7 +101,7 @@ bits-same sd (ForwardResponse x) b = refl
 
 -- ---- what is sent
 
-module _ (sd : Side) (u : Bool) (a : Apdu) (w : Numbered Wire) (m : ℕ) (ys : List ℕ) (y : Body) (j : ℕ) where
+module _ (sd : Side) (u : Bool) (a : UserData) (w : Numbered Wire) (m : ℕ) (ys : List ℕ) (y : Body) (j : ℕ) where
   abbrev pub Entered : Invoked → Type 0
   Entered i = writable sd a ≡ true → Carries sd w (mark m (record { primitive = i; bytes = ys }))
 
@@ -150,7 +150,7 @@ module _ (sd : Side) (v : Brings) (m : ℕ) (o : Outcome) (b : Body) (c : Called
         low = t .keeps .low;
         primitive = t .primitive;
         bits = t .bits ∙ ap lent (sym enc-y);
-        read = read-from (lent (enc sd (o .apdu) y)) (apduAt (pduSide sd) (lent (enc sd (o .apdu) y)) 0) (o .apdu) y (back sd (o .apdu) y (true-holds (fits sd (o .apdu) y) (fits-y e)));
+        read = read-from (lent (enc sd (o .apdu) y)) (apduAt (pdusOf sd) (lent (enc sd (o .apdu) y)) 0) (o .apdu) y (back sd (o .apdu) y (true-holds (fits sd (o .apdu) y) (fits-y e)));
         dialogue = roomy-dialogue (o .invoked) (k .roomy);
       }
 
@@ -161,7 +161,7 @@ module _ (sd : Side) (v : Brings) (m : ℕ) (o : Outcome) (b : Body) (c : Called
 
 -- ---- an event at a record that is no user primitive. h: the dialogue number that the record holds; v: the one that the event brings
 
-module _ (r : List ℕ) (w : Buffers) (sd : Side) (q : Record) (h : ℕ) (e : Event) (v : ℕ) (li lm lc : List ℕ) (d : Carried) (keeps : Keeps sd r q h) (lv : v < 2 ^ 64) (hi : Bits li) (hm : Bits lm) (hc : Bits lc) (sh : dataShaped li lm lc (d .content) ≡ true) where
+module _ (r : List ℕ) (w : Buffers) (sd : Side) (q : Record) (h : ℕ) (e : Event) (v : ℕ) (li lm lc : List ℕ) (d : Carried) (keeps : Keeps sd r q h) (lv : v < 2 ^ 64) (hi : Bits li) (hm : Bits lm) (hc : Bits lc) (sh : dataFits li lm lc (d .content) ≡ true) where
   abbrev pub O : Outcome
   O = numberedStep sd q h e v
 
@@ -172,7 +172,7 @@ module _ (r : List ℕ) (w : Buffers) (sd : Side) (q : Record) (h : ℕ) (e : Ev
   K = concluded r (w .first) (w .second) sd (heldAfter h e v) (numberedStep sd q h e v) li lm lc d
 
   pub bodied : isBody (contentBits (contentIn li lm lc (d .content))) ≡ true
-  bodied = is-body (contentIn li lm lc (d .content)) (data-fit li lm lc (d .content) sh) (content-are-bits li lm lc (d .content) hi hm hc)
+  bodied = is-body (contentIn li lm lc (d .content)) (data-value-fits li lm lc (d .content) sh) (content-are-bits li lm lc (d .content) hi hm hc)
 
   pub ended : JobLow sd e → isNone (numberedStep sd q h e v .refusal) ≡ true → Ended sd (brings e) (heldAfter h e v) (numberedStep sd q h e v) (contentBits (contentIn li lm lc (d .content))) (concluded r (w .first) (w .second) sd (heldAfter h e v) (numberedStep sd q h e v) li lm lc d)
   ended j n = concluded-is r (w .first) (w .second) sd (brings e) M O li lm lc d (w .first-full) (w .second-full) (keeps .size) (held-low h e v (keeps .low) lv) hi hm hc sh n (numbered-fits sd q (keeps .coded) (keeps .dialogue) h e v j n)

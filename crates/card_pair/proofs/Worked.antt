@@ -16,12 +16,12 @@ use Rattle.apdu.specs.Sizes.{bufferLeast}
 use Rattle.apdu.specs.Encoding.{stringBits, optionalBits, optionalFits, contentBits, contentFits, modeBits, modeFits, pduBits, pduFits, padded}
 use Rattle.apdu.specs.Pdus.{partIn, contentIn, pduIn}
 use Rattle.apdu.specs.Reading.{optionalAt, partAt, partsWithin, dataWithin, modeValue, modeAt, kindMode, leadingAt, tailAt, endedAt, restWithin, apduWithin}
-use Rattle.apdu.specs.Writing.{itemsShaped, partShaped, dataShaped, apduShaped, writeOut}
-use Rattle.machine.specs.Calls.{answer, sent, qosAsked, startRequest, startResponse, messageRequest, endRequest, endResponse, userAbort, callOf, unsent, called}
-use Rattle.machine.specs.Apdus.{readable}
+use Rattle.apdu.specs.Writing.{itemsFit, partFits, dataFits, apduFits, writeOut}
+use Rattle.machine.specs.Calls.{replyOf, sent, qosAsked, startRequest, startResponse, messageRequest, endRequest, endResponse, userAbort, callOf, unsent, called}
+use Rattle.machine.specs.UserData.{userDataFits}
 use Rattle.machine.specs.Codes.{dscMode}
 use Rattle.machine.proofs.Clauses.{cpdlcMode}
-use Rattle.machine.specs.Event.{hasMode, qosFits, userShapely, serviceShapely, shapely}
+use Rattle.machine.specs.Event.{hasMode, qosFits, userFits, serviceFits, eventFits}
 use Rattle.machine.specs.Exceptions.{tell, closes, aborts, excepts, timerExpires, systemError, noInstruction}
 use Rattle.machine.specs.Faults.{pduFault, sendFault, abortFault, startFits, indicationFault, confirmationFault, firstFault}
 use Rattle.machine.specs.Primitives.{handed, instructed, answered, reached}
@@ -193,7 +193,7 @@ rows =
     (view (seen 1 closed (wire 1 (DAbortRequest 0) (3 ∷ []) ∷ []) (bodyGiven (text 96) ∷ bodyGiven (text 97) ∷ []) (bodyGiven (text 80) ∷ []) (1 ∷ 2 ∷ [])) (seen 1 (entered Dialogue false) [] (bodyGiven (text 80) ∷ []) (bodyGiven (text 96) ∷ []) (1 ∷ [])) true) ∷ []
 
 pub all-as-said : seenIn rows ≡ saidIn rows
-unfolding bitsN bitsOf accOf bitsTo bytesOf withBit setBit putBits readBits wholeBits indexBits lengthBits bitField extensionBit digitsIn wholeNumber extensibleIndex lengthAt lengthWithin runAt stringAt stringBits optionalBits optionalFits contentBits contentFits modeBits modeFits pduBits pduFits padded partIn contentIn pduIn optionalAt partAt partsWithin dataWithin modeValue modeAt kindMode leadingAt tailAt endedAt restWithin apduWithin itemsShaped partShaped dataShaped apduShaped writeOut answer sent startRequest startResponse messageRequest endRequest endResponse userAbort callOf unsent called readable qosFits userShapely hasMode serviceShapely shapely tell closes aborts excepts timerExpires systemError noInstruction pduFault sendFault abortFault startFits indicationFault confirmationFault firstFault handed instructed answered reached enter permitted messageRefusal userStarts serviceStarts isStart isService isStale heldAfter refusalOf acts numberedStep firstTakes secondTakes finished concluded withRecord entering userStep userCall readsAs readsAgain abortOf orAbort readPdu meaning dataOf dataStep bareStep serviceStep serviceCall invokedNumber toldNumber packed headBytes storedBytes headFits withNumbers loadAt storeAt partOf givenData freshFor freshCall nRun
+unfolding bitsN bitsOf accOf bitsTo bytesOf withBit setBit putBits readBits wholeBits indexBits lengthBits bitField extensionBit digitsIn wholeNumber extensibleIndex lengthAt lengthWithin runAt stringAt stringBits optionalBits optionalFits contentBits contentFits modeBits modeFits pduBits pduFits padded partIn contentIn pduIn optionalAt partAt partsWithin dataWithin modeValue modeAt kindMode leadingAt tailAt endedAt restWithin apduWithin itemsFit partFits dataFits apduFits writeOut replyOf sent startRequest startResponse messageRequest endRequest endResponse userAbort callOf unsent called userDataFits qosFits userFits hasMode serviceFits eventFits tell closes aborts excepts timerExpires systemError noInstruction pduFault sendFault abortFault startFits indicationFault confirmationFault firstFault handed instructed answered reached enter permitted messageRefusal userStarts serviceStarts isStart isService isStale heldAfter refusalOf acts numberedStep firstTakes secondTakes finished concluded withRecord entering userStep userCall readsAs readsAgain abortOf orAbort readPdu meaning dataOf dataStep bareStep serviceStep serviceCall invokedNumber toldNumber packed headBytes storedBytes headFits withNumbers loadAt storeAt partOf givenData freshFor freshCall nRun
 all-as-said = refl
 
 -- ---- a restart (docs/HOST.md): the host loses its power and loads the bytes that it stored. That is the step `fail`: between two calls a record
@@ -210,5 +210,5 @@ restarted =
 pub restart-takes-once :
     after 2 restarted
     ≡ view (seen 2 (entered Dialogue false) [] [] (bodyGiven (text 82) ∷ []) []) (seen 2 (entered Dialogue false) [] (bodyGiven (text 82) ∷ []) [] (1 ∷ 2 ∷ 3 ∷ [])) false
-unfolding bitsN bitsOf accOf bitsTo bytesOf withBit setBit putBits readBits wholeBits indexBits lengthBits bitField extensionBit digitsIn wholeNumber extensibleIndex lengthAt lengthWithin runAt stringAt stringBits optionalBits optionalFits contentBits contentFits modeBits modeFits pduBits pduFits padded partIn contentIn pduIn optionalAt partAt partsWithin dataWithin modeValue modeAt kindMode leadingAt tailAt endedAt restWithin apduWithin itemsShaped partShaped dataShaped apduShaped writeOut answer sent startRequest startResponse messageRequest endRequest endResponse userAbort callOf unsent called readable qosFits userShapely hasMode serviceShapely shapely tell closes aborts excepts timerExpires systemError noInstruction pduFault sendFault abortFault startFits indicationFault confirmationFault firstFault handed instructed answered reached enter permitted messageRefusal userStarts serviceStarts isStart isService isStale heldAfter refusalOf acts numberedStep firstTakes secondTakes finished concluded withRecord entering userStep userCall readsAs readsAgain abortOf orAbort readPdu meaning dataOf dataStep bareStep serviceStep serviceCall invokedNumber toldNumber packed headBytes storedBytes headFits withNumbers loadAt storeAt partOf givenData freshFor freshCall nRun
+unfolding bitsN bitsOf accOf bitsTo bytesOf withBit setBit putBits readBits wholeBits indexBits lengthBits bitField extensionBit digitsIn wholeNumber extensibleIndex lengthAt lengthWithin runAt stringAt stringBits optionalBits optionalFits contentBits contentFits modeBits modeFits pduBits pduFits padded partIn contentIn pduIn optionalAt partAt partsWithin dataWithin modeValue modeAt kindMode leadingAt tailAt endedAt restWithin apduWithin itemsFit partFits dataFits apduFits writeOut replyOf sent startRequest startResponse messageRequest endRequest endResponse userAbort callOf unsent called userDataFits qosFits userFits hasMode serviceFits eventFits tell closes aborts excepts timerExpires systemError noInstruction pduFault sendFault abortFault startFits indicationFault confirmationFault firstFault handed instructed answered reached enter permitted messageRefusal userStarts serviceStarts isStart isService isStale heldAfter refusalOf acts numberedStep firstTakes secondTakes finished concluded withRecord entering userStep userCall readsAs readsAgain abortOf orAbort readPdu meaning dataOf dataStep bareStep serviceStep serviceCall invokedNumber toldNumber packed headBytes storedBytes headFits withNumbers loadAt storeAt partOf givenData freshFor freshCall nRun
 restart-takes-once = refl

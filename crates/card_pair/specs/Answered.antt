@@ -31,8 +31,8 @@ sentBits n = n / (refusals * primitives * primitives) % counts
 abbrev pub givenBits : ℕ → ℕ
 givenBits n = n / (refusals * primitives * primitives * counts) % counts
 
--- the primitive of a code, with its parameter and security value. A D-START request has the quality of service that document 01 calls right,
--- with the routing class of the number
+-- the primitive of a code, with its parameter and security value. A D-START request has the quality of service that document 01 calls
+-- right, with the routing class of the number
 abbrev pub primitiveOf : ℕ → ℕ → ℕ → Invoked
 primitiveOf zero x s = Silent
 primitiveOf (suc zero) x s = DStartRequest (qosAsked x) s

@@ -1,6 +1,6 @@
--- The exported calls at the two ends of the carrier. A record is its bytes, as the host keeps them; an entry of a line is a primitive's numbers, the bytes of its
--- user data and its dialogue number; a user call is an exported call with its arguments. What a call sends and hands out is taken out of its answer, and the
--- dialogue number of what it sends out of the record's bytes.
+-- The exported calls at the two ends of the carrier. A record is its bytes, as the host keeps them; an entry of a line is a primitive's
+-- numbers, the bytes of its user data and its dialogue number; a user call is an exported call with its arguments. What a call sends and
+-- hands out is taken out of its answer, and the dialogue number of what it sends out of the record's bytes.
 use Prim.Native.Nat.{ℕ, suc, _^_, _≤_, _<_}
 use mathlib.Core.Bool.{Bool, cond}
 use mathlib.Core.List.{List, []}
@@ -48,8 +48,8 @@ pub record Word : Type 0 where
   pub number : ℕ
   pub low : number < 2 ^ 64
 
--- the calls, any numbers and any ranges; a start has its dialogue number and its mode, and true is the DSC- one of the others. A number or a byte that C has no
--- place for is taken too, but for a job and a dialogue number, which the record keeps in eight bytes each
+-- the calls, any numbers and any ranges; a start has its dialogue number and its mode, and true is the DSC- one of the others. A number or
+-- a byte that C has no place for is taken too, but for a job and a dialogue number, which the record keeps in eight bytes each
 pub data Asked : Type 0 where
   start-request : Word → ℕ → ℕ → Given → Asked
   start-response : Bool → ℕ → Given → Asked

@@ -1,6 +1,6 @@
--- The exported calls of two ground cards at the two ends of the carrier (document 02, E8). As in CardMachine a record is its bytes, an entry of a line a primitive's
--- numbers, the bytes of its user data and its dialogue number. Between two ground ends a forward request is the only start; so a D-START request is a forward's, and a
--- D-START response its answer.
+-- The exported calls of two ground cards at the two ends of the carrier (document 02, E8). As in CardMachine a record is its bytes, an
+-- entry of a line a primitive's numbers, the bytes of its user data and its dialogue number. Between two ground ends a forward request is
+-- the only start; so a D-START request is a forward's, and a D-START response its answer.
 use Prim.Native.Nat.{ℕ, suc, _*_, _/_}
 use mathlib.Core.Bool.{Bool, true, false, cond}
 use mathlib.Core.List.{List, []}

@@ -11,8 +11,8 @@ use Rattle.pair.specs.Names.{Side, Air, Ground, closed}
 use Rattle.pair.specs.Numbered.{NSys, NClaims}
 use Rattle.card_pair.specs.CardMachine.{Buffers, cardMachine}
 
--- document 01: an end at the beginning is "IDLE with DSC false, timer stopped and user not active". b are the bytes of such a record, of side sd, whose policy
--- accepts p. Its highest job is any, and so are its dialogue number and the value of its last start request
+-- document 01: an end at the beginning is "IDLE with DSC false, timer stopped and user not active". b are the bytes of such a record, of
+-- side sd, whose policy accepts p. Its highest job is any, and so are its dialogue number and the value of its last start request
 pub record Begins (p : ℕ) (sd : Side) (b : List ℕ) : Type 0 where
   pub held : Record
   pub number : ℕ
@@ -22,8 +22,8 @@ pub record Begins (p : ℕ) (sd : Side) (b : List ℕ) : Type 0 where
   pub timer : held .timer ≡ false
   pub user : held .active ≡ false
 
--- b are the bytes of a record of side sd whose policy accepts p, in which t-start runs exactly in START-REQ and FORWARD, the user is active exactly outside IDLE, and IDLE has
--- DSC false. So bytes that are no record can't count as an IDLE end
+-- b are the bytes of a record of side sd whose policy accepts p, in which t-start runs exactly in START-REQ and FORWARD, the user is active
+-- exactly outside IDLE, and IDLE has DSC false. So bytes that are no record can't count as an IDLE end
 pub record Stands (p : ℕ) (sd : Side) (b : List ℕ) : Type 0 where
   pub held : Record
   pub number : ℕ

@@ -9,8 +9,8 @@ use Rattle.control.specs.declared.Side.the-variants.{Air, Ground}
 use Rattle.control.specs.declared.State.{State}
 use Rattle.control.specs.declared.State.the-variants.{Idle, StartReq, StartInd, Dialogue, End, Forward}
 use Rattle.control.specs.declared.Control.{Control}
-use Rattle.control.specs.declared.Answer.{Answer}
-use Rattle.control.specs.declared.Answer.the-variants.{Accepted, Rejected}
+use Rattle.control.specs.declared.Reply.{Reply}
+use Rattle.control.specs.declared.Reply.the-variants.{Accepted, Rejected}
 use Rattle.control.specs.declared.Call.{Call}
 use Rattle.control.specs.declared.Call.the-variants.{StartRequest, StartResponse, MessageRequest, EndRequest, EndResponse, UserAbort, TimerExpiry, SystemError}
 use Rattle.control.specs.declared.Primitive.{Primitive}
@@ -62,10 +62,10 @@ at-state f t Dialogue = and-l (f Dialogue) _ (and-r (f StartInd) _ (and-r (f Sta
 at-state f t End = and-l (f End) _ (and-r (f Dialogue) _ (and-r (f StartInd) _ (and-r (f StartReq) _ (and-r (f Idle) _ t))))
 at-state f t Forward = and-r (f End) _ (and-r (f Dialogue) _ (and-r (f StartInd) _ (and-r (f StartReq) _ (and-r (f Idle) _ t))))
 
-unfoldable pub allAnswer : (Answer → Bool) → Bool
+unfoldable pub allAnswer : (Reply → Bool) → Bool
 allAnswer f = f Accepted && f Rejected
 
-pub at-answer : (f : Answer → Bool) → T (allAnswer f) → (x : Answer) → T (f x)
+pub at-answer : (f : Reply → Bool) → T (allAnswer f) → (x : Reply) → T (f x)
 unfolding allAnswer
 at-answer f t Accepted = and-l (f Accepted) _ t
 at-answer f t Rejected = and-r (f Accepted) _ t
@@ -79,45 +79,45 @@ at-control f t x =
     at-bool (λ (d : Bool). f (entered (x .state) d)) (at-state (λ (s : State). allBool (λ (d : Bool). f (entered s d))) t (x .state)) (x .dsc)
 
 -- the calls, kind by kind
-unfoldable pub allResponse : (Bool → Answer → Bool) → Bool
-allResponse f = allBool (λ (m : Bool). allAnswer (λ (a : Answer). f m a))
+unfoldable pub allResponse : (Bool → Reply → Bool) → Bool
+allResponse f = allBool (λ (m : Bool). allAnswer (λ (a : Reply). f m a))
 
-pub at-response : (f : Bool → Answer → Bool) → T (allResponse f) → (m : Bool) (a : Answer) → T (f m a)
+pub at-response : (f : Bool → Reply → Bool) → T (allResponse f) → (m : Bool) (a : Reply) → T (f m a)
 unfolding allResponse
-at-response f t m a = at-answer (f m) (at-bool (λ (m : Bool). allAnswer (λ (a : Answer). f m a)) t m) a
+at-response f t m a = at-answer (f m) (at-bool (λ (m : Bool). allAnswer (λ (a : Reply). f m a)) t m) a
 
 unfoldable pub allCall : (Call → Bool) → Bool
 allCall f =
     allBool (λ (m : Bool). f (StartRequest m)) &&
-    (allResponse (λ (m : Bool) (a : Answer). f (StartResponse m a)) &&
+    (allResponse (λ (m : Bool) (a : Reply). f (StartResponse m a)) &&
     (f MessageRequest &&
     (allBool (λ (m : Bool). f (EndRequest m)) &&
-    (allResponse (λ (m : Bool) (a : Answer). f (EndResponse m a)) && (f UserAbort && (f TimerExpiry && f SystemError))))))
+    (allResponse (λ (m : Bool) (a : Reply). f (EndResponse m a)) && (f UserAbort && (f TimerExpiry && f SystemError))))))
 
 pub at-call : (f : Call → Bool) → T (allCall f) → (x : Call) → T (f x)
 unfolding allCall
 at-call f t (StartRequest m) = at-bool (λ (m : Bool). f (StartRequest m)) (and-l (allBool (λ (m : Bool). f (StartRequest m))) _ t) m
-at-call f t (StartResponse m a) = at-response (λ (m : Bool) (a : Answer). f (StartResponse m a)) (and-l (allResponse (λ (m : Bool) (a : Answer). f (StartResponse m a))) _ (and-r (allBool (λ (m : Bool). f (StartRequest m))) _ t)) m a
-at-call f t MessageRequest = and-l (f MessageRequest) _ (and-r (allResponse (λ (m : Bool) (a : Answer). f (StartResponse m a))) _ (and-r (allBool (λ (m : Bool). f (StartRequest m))) _ t))
-at-call f t (EndRequest m) = at-bool (λ (m : Bool). f (EndRequest m)) (and-l (allBool (λ (m : Bool). f (EndRequest m))) _ (and-r (f MessageRequest) _ (and-r (allResponse (λ (m : Bool) (a : Answer). f (StartResponse m a))) _ (and-r (allBool (λ (m : Bool). f (StartRequest m))) _ t)))) m
-at-call f t (EndResponse m a) = at-response (λ (m : Bool) (a : Answer). f (EndResponse m a)) (and-l (allResponse (λ (m : Bool) (a : Answer). f (EndResponse m a))) _ (and-r (allBool (λ (m : Bool). f (EndRequest m))) _ (and-r (f MessageRequest) _ (and-r (allResponse (λ (m : Bool) (a : Answer). f (StartResponse m a))) _ (and-r (allBool (λ (m : Bool). f (StartRequest m))) _ t))))) m a
-at-call f t UserAbort = and-l (f UserAbort) _ (and-r (allResponse (λ (m : Bool) (a : Answer). f (EndResponse m a))) _ (and-r (allBool (λ (m : Bool). f (EndRequest m))) _ (and-r (f MessageRequest) _ (and-r (allResponse (λ (m : Bool) (a : Answer). f (StartResponse m a))) _ (and-r (allBool (λ (m : Bool). f (StartRequest m))) _ t)))))
-at-call f t TimerExpiry = and-l (f TimerExpiry) _ (and-r (f UserAbort) _ (and-r (allResponse (λ (m : Bool) (a : Answer). f (EndResponse m a))) _ (and-r (allBool (λ (m : Bool). f (EndRequest m))) _ (and-r (f MessageRequest) _ (and-r (allResponse (λ (m : Bool) (a : Answer). f (StartResponse m a))) _ (and-r (allBool (λ (m : Bool). f (StartRequest m))) _ t))))))
-at-call f t SystemError = and-r (f TimerExpiry) _ (and-r (f UserAbort) _ (and-r (allResponse (λ (m : Bool) (a : Answer). f (EndResponse m a))) _ (and-r (allBool (λ (m : Bool). f (EndRequest m))) _ (and-r (f MessageRequest) _ (and-r (allResponse (λ (m : Bool) (a : Answer). f (StartResponse m a))) _ (and-r (allBool (λ (m : Bool). f (StartRequest m))) _ t))))))
+at-call f t (StartResponse m a) = at-response (λ (m : Bool) (a : Reply). f (StartResponse m a)) (and-l (allResponse (λ (m : Bool) (a : Reply). f (StartResponse m a))) _ (and-r (allBool (λ (m : Bool). f (StartRequest m))) _ t)) m a
+at-call f t MessageRequest = and-l (f MessageRequest) _ (and-r (allResponse (λ (m : Bool) (a : Reply). f (StartResponse m a))) _ (and-r (allBool (λ (m : Bool). f (StartRequest m))) _ t))
+at-call f t (EndRequest m) = at-bool (λ (m : Bool). f (EndRequest m)) (and-l (allBool (λ (m : Bool). f (EndRequest m))) _ (and-r (f MessageRequest) _ (and-r (allResponse (λ (m : Bool) (a : Reply). f (StartResponse m a))) _ (and-r (allBool (λ (m : Bool). f (StartRequest m))) _ t)))) m
+at-call f t (EndResponse m a) = at-response (λ (m : Bool) (a : Reply). f (EndResponse m a)) (and-l (allResponse (λ (m : Bool) (a : Reply). f (EndResponse m a))) _ (and-r (allBool (λ (m : Bool). f (EndRequest m))) _ (and-r (f MessageRequest) _ (and-r (allResponse (λ (m : Bool) (a : Reply). f (StartResponse m a))) _ (and-r (allBool (λ (m : Bool). f (StartRequest m))) _ t))))) m a
+at-call f t UserAbort = and-l (f UserAbort) _ (and-r (allResponse (λ (m : Bool) (a : Reply). f (EndResponse m a))) _ (and-r (allBool (λ (m : Bool). f (EndRequest m))) _ (and-r (f MessageRequest) _ (and-r (allResponse (λ (m : Bool) (a : Reply). f (StartResponse m a))) _ (and-r (allBool (λ (m : Bool). f (StartRequest m))) _ t)))))
+at-call f t TimerExpiry = and-l (f TimerExpiry) _ (and-r (f UserAbort) _ (and-r (allResponse (λ (m : Bool) (a : Reply). f (EndResponse m a))) _ (and-r (allBool (λ (m : Bool). f (EndRequest m))) _ (and-r (f MessageRequest) _ (and-r (allResponse (λ (m : Bool) (a : Reply). f (StartResponse m a))) _ (and-r (allBool (λ (m : Bool). f (StartRequest m))) _ t))))))
+at-call f t SystemError = and-r (f TimerExpiry) _ (and-r (f UserAbort) _ (and-r (allResponse (λ (m : Bool) (a : Reply). f (EndResponse m a))) _ (and-r (allBool (λ (m : Bool). f (EndRequest m))) _ (and-r (f MessageRequest) _ (and-r (allResponse (λ (m : Bool) (a : Reply). f (StartResponse m a))) _ (and-r (allBool (λ (m : Bool). f (StartRequest m))) _ t))))))
 
 unfoldable pub allPrimitive : (Primitive → Bool) → Bool
 allPrimitive f =
     allBool (λ (m : Bool). f (DStart m)) &&
-    (allAnswer (λ (a : Answer). f (DStartCnf a)) &&
-    (f DTurnedAway && (f DData && (f DEnd && (allAnswer (λ (a : Answer). f (DEndCnf a)) && (f DAbort && f DPAbort))))))
+    (allAnswer (λ (a : Reply). f (DStartCnf a)) &&
+    (f DTurnedAway && (f DData && (f DEnd && (allAnswer (λ (a : Reply). f (DEndCnf a)) && (f DAbort && f DPAbort))))))
 
 pub at-primitive : (f : Primitive → Bool) → T (allPrimitive f) → (x : Primitive) → T (f x)
 unfolding allPrimitive
 at-primitive f t (DStart m) = at-bool (λ (m : Bool). f (DStart m)) (and-l (allBool (λ (m : Bool). f (DStart m))) _ t) m
-at-primitive f t (DStartCnf a) = at-answer (λ (a : Answer). f (DStartCnf a)) (and-l (allAnswer (λ (a : Answer). f (DStartCnf a))) _ (and-r (allBool (λ (m : Bool). f (DStart m))) _ t)) a
-at-primitive f t DTurnedAway = and-l (f DTurnedAway) _ (and-r (allAnswer (λ (a : Answer). f (DStartCnf a))) _ (and-r (allBool (λ (m : Bool). f (DStart m))) _ t))
-at-primitive f t DData = and-l (f DData) _ (and-r (f DTurnedAway) _ (and-r (allAnswer (λ (a : Answer). f (DStartCnf a))) _ (and-r (allBool (λ (m : Bool). f (DStart m))) _ t)))
-at-primitive f t DEnd = and-l (f DEnd) _ (and-r (f DData) _ (and-r (f DTurnedAway) _ (and-r (allAnswer (λ (a : Answer). f (DStartCnf a))) _ (and-r (allBool (λ (m : Bool). f (DStart m))) _ t))))
-at-primitive f t (DEndCnf a) = at-answer (λ (a : Answer). f (DEndCnf a)) (and-l (allAnswer (λ (a : Answer). f (DEndCnf a))) _ (and-r (f DEnd) _ (and-r (f DData) _ (and-r (f DTurnedAway) _ (and-r (allAnswer (λ (a : Answer). f (DStartCnf a))) _ (and-r (allBool (λ (m : Bool). f (DStart m))) _ t)))))) a
-at-primitive f t DAbort = and-l (f DAbort) _ (and-r (allAnswer (λ (a : Answer). f (DEndCnf a))) _ (and-r (f DEnd) _ (and-r (f DData) _ (and-r (f DTurnedAway) _ (and-r (allAnswer (λ (a : Answer). f (DStartCnf a))) _ (and-r (allBool (λ (m : Bool). f (DStart m))) _ t))))))
-at-primitive f t DPAbort = and-r (f DAbort) _ (and-r (allAnswer (λ (a : Answer). f (DEndCnf a))) _ (and-r (f DEnd) _ (and-r (f DData) _ (and-r (f DTurnedAway) _ (and-r (allAnswer (λ (a : Answer). f (DStartCnf a))) _ (and-r (allBool (λ (m : Bool). f (DStart m))) _ t))))))
+at-primitive f t (DStartCnf a) = at-answer (λ (a : Reply). f (DStartCnf a)) (and-l (allAnswer (λ (a : Reply). f (DStartCnf a))) _ (and-r (allBool (λ (m : Bool). f (DStart m))) _ t)) a
+at-primitive f t DTurnedAway = and-l (f DTurnedAway) _ (and-r (allAnswer (λ (a : Reply). f (DStartCnf a))) _ (and-r (allBool (λ (m : Bool). f (DStart m))) _ t))
+at-primitive f t DData = and-l (f DData) _ (and-r (f DTurnedAway) _ (and-r (allAnswer (λ (a : Reply). f (DStartCnf a))) _ (and-r (allBool (λ (m : Bool). f (DStart m))) _ t)))
+at-primitive f t DEnd = and-l (f DEnd) _ (and-r (f DData) _ (and-r (f DTurnedAway) _ (and-r (allAnswer (λ (a : Reply). f (DStartCnf a))) _ (and-r (allBool (λ (m : Bool). f (DStart m))) _ t))))
+at-primitive f t (DEndCnf a) = at-answer (λ (a : Reply). f (DEndCnf a)) (and-l (allAnswer (λ (a : Reply). f (DEndCnf a))) _ (and-r (f DEnd) _ (and-r (f DData) _ (and-r (f DTurnedAway) _ (and-r (allAnswer (λ (a : Reply). f (DStartCnf a))) _ (and-r (allBool (λ (m : Bool). f (DStart m))) _ t)))))) a
+at-primitive f t DAbort = and-l (f DAbort) _ (and-r (allAnswer (λ (a : Reply). f (DEndCnf a))) _ (and-r (f DEnd) _ (and-r (f DData) _ (and-r (f DTurnedAway) _ (and-r (allAnswer (λ (a : Reply). f (DStartCnf a))) _ (and-r (allBool (λ (m : Bool). f (DStart m))) _ t))))))
+at-primitive f t DPAbort = and-r (f DAbort) _ (and-r (allAnswer (λ (a : Reply). f (DEndCnf a))) _ (and-r (f DEnd) _ (and-r (f DData) _ (and-r (f DTurnedAway) _ (and-r (allAnswer (λ (a : Reply). f (DStartCnf a))) _ (and-r (allBool (λ (m : Bool). f (DStart m))) _ t))))))

@@ -9,8 +9,8 @@ use Rattle.control.specs.declared.Side.the-variants.{Air, Ground}
 use Rattle.control.specs.declared.State.{State}
 use Rattle.control.specs.declared.State.the-variants.{Idle, StartReq, StartInd, Dialogue, End, Forward}
 use Rattle.control.specs.declared.Control.{Control}
-use Rattle.control.specs.declared.Answer.{Answer}
-use Rattle.control.specs.declared.Answer.the-variants.{Accepted, Rejected}
+use Rattle.control.specs.declared.Reply.{Reply}
+use Rattle.control.specs.declared.Reply.the-variants.{Accepted, Rejected}
 use Rattle.control.specs.declared.Call.{Call}
 use Rattle.control.specs.declared.Call.the-variants.{StartRequest, StartResponse, MessageRequest, EndRequest, EndResponse, UserAbort, TimerExpiry, SystemError}
 use Rattle.control.specs.declared.Primitive.{Primitive}
@@ -73,8 +73,9 @@ ender Ground dsc = not dsc
 
 -- ---- a call
 
--- Is there an action for it in this state with this DSC. An expiry and a system error are said as the pair needs them, of records that a run reaches: there t-start
--- runs in START-REQ and FORWARD and nowhere else, and a system error in IDLE does nothing. What is refused is `permitted` (Step).
+-- Is there an action for it in this state with this DSC. An expiry and a system error are said as the pair needs them, of records that a
+-- run reaches: there t-start runs in START-REQ and FORWARD and nowhere else, and a system error in IDLE does nothing. What is refused is
+-- `permitted` (Step).
 abbrev pub takes : Side → Control → Call → Bool
 takes sd c (StartRequest m) = is (c .state) Idle && mayStart sd m
 takes sd c (StartResponse m a) = within c StartInd m && mayStart (other sd) m
@@ -85,11 +86,11 @@ takes sd c UserAbort = not (is (c .state) Idle)
 takes sd c TimerExpiry = waits (c .state)
 takes sd c SystemError = not (is (c .state) Idle)
 
-abbrev pub started : Answer → Bool → Control
+abbrev pub started : Reply → Bool → Control
 started Accepted d = entered Dialogue d
 started Rejected d = closed
 
-abbrev pub ended : Answer → Bool → Control
+abbrev pub ended : Reply → Bool → Control
 ended Accepted d = closed
 ended Rejected d = entered Dialogue d
 

@@ -32,7 +32,7 @@ impl Control {
     };
 }
 
-pub enum Answer {
+pub enum Reply {
     Accepted,
     Rejected,
 }
@@ -40,10 +40,10 @@ pub enum Answer {
 // What the user asks and the host reports; a flag says whether a primitive is the DSC- (true) or the CPDLC- one, of a start its mode.
 pub enum Call {
     StartRequest(bool),
-    StartResponse(bool, Answer),
+    StartResponse(bool, Reply),
     MessageRequest,
     EndRequest(bool),
-    EndResponse(bool, Answer),
+    EndResponse(bool, Reply),
     UserAbort,
     TimerExpiry,
     SystemError,
@@ -53,11 +53,11 @@ pub enum Call {
 // DTurnedAway is a D-START confirmation that the dialogue service makes itself, or "rejected (transient)".
 pub enum Primitive {
     DStart(bool),
-    DStartCnf(Answer),
+    DStartCnf(Reply),
     DTurnedAway,
     DData,
     DEnd,
-    DEndCnf(Answer),
+    DEndCnf(Reply),
     DAbort,
     DPAbort,
 }
@@ -128,24 +128,24 @@ fn marked(dsc: bool, held: bool) -> bool
     if dsc { true } else { held }
 }
 
-fn started(a: Answer, dsc: bool) -> Control
+fn started(a: Reply, dsc: bool) -> Control
     ensures { λ r. ⌜ r ≡ started a dsc ⌝ }
 {
     match a {
-        Answer::Accepted => Control {
+        Reply::Accepted => Control {
             state: State::Dialogue,
             dsc,
         },
-        Answer::Rejected => Control::CLOSED,
+        Reply::Rejected => Control::CLOSED,
     }
 }
 
-fn ended(a: Answer, dsc: bool) -> Control
+fn ended(a: Reply, dsc: bool) -> Control
     ensures { λ r. ⌜ r ≡ ended a dsc ⌝ }
 {
     match a {
-        Answer::Accepted => Control::CLOSED,
-        Answer::Rejected => Control {
+        Reply::Accepted => Control::CLOSED,
+        Reply::Rejected => Control {
             state: State::Dialogue,
             dsc,
         },

@@ -14,8 +14,8 @@ use Rattle.bits.specs.Put.{Left, left, putBits}
 use Rattle.bits.specs.declared.Put.the-variants.{Next}
 use Rattle.fields.specs.Encodings.{wholeFits}
 use Rattle.elements.specs.declared.kinds.Direction.{Direction}
-use Rattle.elements.specs.declared.kinds.Kind.{Kind}
-use Rattle.elements.specs.declared.kinds.Kind.the-variants as kind
+use Rattle.elements.specs.declared.kinds.ArgumentKind.{ArgumentKind}
+use Rattle.elements.specs.declared.kinds.ArgumentKind.the-variants as kind
 use Rattle.elements.specs.declared.values.LevelType.{LevelType}
 use Rattle.elements.specs.declared.values.Level.{Level}
 use Rattle.elements.specs.declared.values.Time.{Time}
@@ -91,7 +91,7 @@ unfolding facilityPieces facilityFits
 facility-fit [] p = choice-fits false
 facility-fit (c ∷ cs) p = rw (ne-eqb (suc (length cs)) 0 (λ (z : suc (length cs) ≡ 0). omega arith)) (fit-append (choicePiece true) (sizedPieces 4 8 (c ∷ cs)) (choice-fits true) (sized-fit 4 8 (c ∷ cs) p))
 
-pub argument-fit : (k : Kind) (e : Element) (t : List ℕ) → argumentFits k e t ≡ true → piecesFit (argumentPieces k e t) ≡ true
+pub argument-fit : (k : ArgumentKind) (e : Element) (t : List ℕ) → argumentFits k e t ≡ true → piecesFit (argumentPieces k e t) ≡ true
 unfolding argumentPieces argumentFits levelsUnused codeFits atisFits
 argument-fit kind.NotCarried e t p = never (cc)
 argument-fit kind.None e t p = no-piece

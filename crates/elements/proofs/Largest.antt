@@ -12,8 +12,8 @@ use Rattle.fields.specs.Fields.{digitsIn, widthOf}
 use Rattle.fields.specs.Encodings.{wholeFits}
 use Rattle.elements.specs.declared.kinds.Direction.{Direction}
 use Rattle.elements.specs.declared.kinds.Direction.the-variants.{Downlink, Uplink}
-use Rattle.elements.specs.declared.kinds.Kind.{Kind}
-use Rattle.elements.specs.declared.kinds.Kind.the-variants as kind
+use Rattle.elements.specs.declared.kinds.ArgumentKind.{ArgumentKind}
+use Rattle.elements.specs.declared.kinds.ArgumentKind.the-variants as kind
 use Rattle.elements.specs.declared.values.LevelType.{LevelType}
 use Rattle.elements.specs.declared.values.Level.{Level}
 use Rattle.elements.specs.declared.values.Element.{Element}
@@ -42,7 +42,7 @@ block : Level
 block = record { block = true; first = metres; second = metres }
 
 -- the characters of an argument that has as many as its kind may have, and the element
-pub most : Kind → List ℕ
+pub most : ArgumentKind → List ℕ
 most kind.FreeText = replicate 256 65
 most kind.Facility = replicate 8 65
 most kind.FacilityDesignation = replicate 8 65
@@ -54,7 +54,7 @@ most kind.TwoLevels = []
 most kind.Time = []
 most kind.Code = []
 
-pub largest : Kind → ℕ → Element
+pub largest : ArgumentKind → ℕ → Element
 largest kind.NotCarried i = bare i
 largest kind.None i = bare i
 largest kind.Level i = withLevels i block noLevel
@@ -66,7 +66,7 @@ largest kind.Facility i = withCharacters i 8
 largest kind.FacilityDesignation i = withCharacters i 8
 largest kind.AtisCode i = withCharacters i 1
 
-numbered : (k : Kind) (i : ℕ) → largest k i .number ≡ i
+numbered : (k : ArgumentKind) (i : ℕ) → largest k i .number ≡ i
 unfolding largest
 numbered kind.NotCarried i = refl
 numbered kind.None i = refl
@@ -79,7 +79,7 @@ numbered kind.Facility i = refl
 numbered kind.FacilityDesignation i = refl
 numbered kind.AtisCode i = refl
 
-counted : (k : Kind) (i : ℕ) → largest k i .characters ≡ length (most k)
+counted : (k : ArgumentKind) (i : ℕ) → largest k i .characters ≡ length (most k)
 unfolding largest most
 counted kind.NotCarried i = refl
 counted kind.None i = refl
@@ -92,7 +92,7 @@ counted kind.Facility i = refl
 counted kind.FacilityDesignation i = refl
 counted kind.AtisCode i = refl
 
-fit : (k : Kind) (i : ℕ) → (k ≡ kind.NotCarried → ⊥) → argumentFits k (largest k i) (most k) ≡ true
+fit : (k : ArgumentKind) (i : ℕ) → (k ≡ kind.NotCarried → ⊥) → argumentFits k (largest k i) (most k) ≡ true
 unfolding largest most block metres lowest highest levelTypeFits levelFits timeFits digitsFit codeFits charactersFit sizedFits facilityFits atisFits levelUnused timeUnused zeros codeUnused levelsUnused plain argumentFits
 fit kind.NotCarried i c = absurd (c refl)
 fit kind.None i c = refl
@@ -113,7 +113,7 @@ length-metre-block : length (levelBits block) ≡ 35
 unfolding block
 length-metre-block = omega (arith, length-block block refl, length-metres)
 
-long : (k : Kind) (i : ℕ) → length (argumentBits k (largest k i) (most k)) ≡ largestOf k
+long : (k : ArgumentKind) (i : ℕ) → length (argumentBits k (largest k i) (most k)) ≡ largestOf k
 unfolding largest most argumentBits largestOf digitsIn
 long kind.NotCarried i = refl
 long kind.None i = refl

@@ -15,8 +15,8 @@ use Rattle.fields.specs.Fields.{digitsIn, widthOf}
 use Rattle.fields.specs.Encodings.{indexBits, wholeBits, wholeFits}
 use Rattle.fields.proofs.Widths.{width-most}
 use Rattle.elements.specs.declared.kinds.Direction.{Direction}
-use Rattle.elements.specs.declared.kinds.Kind.{Kind}
-use Rattle.elements.specs.declared.kinds.Kind.the-variants as kind
+use Rattle.elements.specs.declared.kinds.ArgumentKind.{ArgumentKind}
+use Rattle.elements.specs.declared.kinds.ArgumentKind.the-variants as kind
 use Rattle.elements.specs.declared.values.LevelType.{LevelType}
 use Rattle.elements.specs.declared.values.Level.{Level}
 use Rattle.elements.specs.declared.values.Time.{Time}
@@ -26,7 +26,7 @@ use Rattle.elements.specs.declared.values.Size.the-variants as size
 use Rattle.elements.specs.Elements.{kindOf}
 use Rattle.elements.specs.Arguments.{flag, lowest, highest, levelTypeBits, levelFits, levelBits, timeFits, timeBits, digitsFit, codeFits, digitsBits, charactersFit, sizedFits, sizedBits, facilityFits, facilityBits, atisFits}
 use Rattle.elements.specs.OneElement.{zeros, codeUnused, levelUnused, timeUnused, levelsUnused, plain, noText, argumentFits, argumentBits, lastOf, elementFits, elementBits}
-use Rattle.elements.specs.Measuring.{allMost, typeOk, levelOk, timeOk, codeOk, textOk, usesOf, largestOf}
+use Rattle.elements.specs.Measuring.{allMost, typeFitsUse, levelFitsUse, timeFitsUse, codeFitsUse, textFitsKind, usesOf, largestOf}
 use Rattle.words.proofs.Laws.{both-left, both-right}
 use Rattle.elements.proofs.Steps.{never}
 use Rattle.elements.proofs.Whole.{length-whole, whole-below}
@@ -44,7 +44,7 @@ both-as r a b x y p q s = rw (p, q, s)
 pub fits-as : (r : Bool) (lo hi lo′ hi′ v : ℕ) → r ≡ wholeFits lo hi v → lo ≡ lo′ → hi ≡ hi′ → r ≡ wholeFits lo′ hi′ v
 fits-as r lo hi lo′ hi′ v e p q = rw (← p, ← q) e
 
-pub element-fits-by : (d : Direction) (e : Element) (t : List ℕ) (r a f g : Bool) (last : ℕ) (k : Kind) → r ≡ a && g → a ≡ f && eqb (e .characters) (length t) → f ≡ wholeFits 0 last (e .number) → g ≡ argumentFits k e t → last ≡ lastOf d → k ≡ kindOf d (e .number) → r ≡ elementFits d e t
+pub element-fits-by : (d : Direction) (e : Element) (t : List ℕ) (r a f g : Bool) (last : ℕ) (k : ArgumentKind) → r ≡ a && g → a ≡ f && eqb (e .characters) (length t) → f ≡ wholeFits 0 last (e .number) → g ≡ argumentFits k e t → last ≡ lastOf d → k ≡ kindOf d (e .number) → r ≡ elementFits d e t
 unfolding elementFits
 element-fits-by d e t r a f g last k h i j m p q = rw (h, i, j, m, p, q)
 
@@ -102,12 +102,12 @@ zeros-most (x ∷ xs) = rw (none x, zeros-most xs)
 -- ---- a code, a string, a facility
 
 module _ (r : Bool) (xs : List ℕ) (n : length xs ≡ 4) where
-  pub code-used : r ≡ allMost 7 xs → r ≡ codeOk true xs
-  unfolding codeOk codeFits
+  pub code-used : r ≡ allMost 7 xs → r ≡ codeFitsUse true xs
+  unfolding codeFitsUse codeFits
   code-used e = rw (eq-eqb (length xs) 4 n) (e ∙ digits-most xs)
 
-  pub code-unused : r ≡ allMost 0 xs → r ≡ codeOk false xs
-  unfolding codeOk codeUnused
+  pub code-unused : r ≡ allMost 0 xs → r ≡ codeFitsUse false xs
+  unfolding codeFitsUse codeUnused
   code-unused e = rw (eq-eqb (length xs) 4 n) (e ∙ zeros-most xs)
 
 pub sized-fits-by : (r a b : Bool) (least most n : ℕ) (xs : List ℕ) → r ≡ a && b → a ≡ wholeFits least most n → n ≡ length xs → b ≡ allMost 127 xs → r ≡ sizedFits least most xs
@@ -130,12 +130,12 @@ atis-fits-by r b xs p s = rw (p, s, characters-most xs)
 
 -- ---- levels
 
-pub level-used : (r p q : Bool) (x : Level) → r ≡ p && q → p ≡ typeOk true (x .first) → q ≡ typeOk (x .block) (x .second) → r ≡ levelOk true x
-unfolding levelOk levelFits typeOk
+pub level-used : (r p q : Bool) (x : Level) → r ≡ p && q → p ≡ typeFitsUse true (x .first) → q ≡ typeFitsUse (x .block) (x .second) → r ≡ levelFitsUse true x
+unfolding levelFitsUse levelFits typeFitsUse
 level-used r p q x h i j = rw (h, i, j)
 
-pub level-zero : (r a p q : Bool) (x : Level) → r ≡ a && q → a ≡ not (x .block) && p → p ≡ typeOk false (x .first) → q ≡ typeOk false (x .second) → r ≡ levelOk false x
-unfolding levelOk levelUnused typeOk
+pub level-zero : (r a p q : Bool) (x : Level) → r ≡ a && q → a ≡ not (x .block) && p → p ≡ typeFitsUse false (x .first) → q ≡ typeFitsUse false (x .second) → r ≡ levelFitsUse false x
+unfolding levelFitsUse levelUnused typeFitsUse
 level-zero r a p q x h i j k = rw (h, i, j, k)
 
 -- ---- an argument, part by part
@@ -144,8 +144,8 @@ never-both : (a : Bool) → a && false ≡ false
 never-both true = refl
 never-both false = refl
 
-argument-parts : (k : Kind) (e : Element) (t : List ℕ) → levelOk (leb 1 (usesOf k .levels)) (e .level) && levelOk (leb 2 (usesOf k .levels)) (e .other) && timeOk (usesOf k .time) (e .time) && codeOk (usesOf k .code) (e .code) && textOk k t ≡ argumentFits k e t
-unfolding usesOf levelOk timeOk codeOk textOk argumentFits plain levelsUnused
+argument-parts : (k : ArgumentKind) (e : Element) (t : List ℕ) → levelFitsUse (leb 1 (usesOf k .levels)) (e .level) && levelFitsUse (leb 2 (usesOf k .levels)) (e .other) && timeFitsUse (usesOf k .time) (e .time) && codeFitsUse (usesOf k .code) (e .code) && textFitsKind k t ≡ argumentFits k e t
+unfolding usesOf levelFitsUse timeFitsUse codeFitsUse textFitsKind argumentFits plain levelsUnused
 argument-parts kind.NotCarried e t = never-both (levelUnused (e .level) && levelUnused (e .other) && timeUnused (e .time) && codeUnused (e .code))
 argument-parts kind.None e t = refl
 argument-parts kind.Level e t = refl
@@ -157,7 +157,7 @@ argument-parts kind.Facility e t = refl
 argument-parts kind.FacilityDesignation e t = refl
 argument-parts kind.AtisCode e t = refl
 
-pub argument-fits-by : (k : Kind) (e : Element) (t : List ℕ) (u : Uses) (r a b c p q m n o : Bool) → r ≡ c && o → c ≡ b && n → b ≡ a && m → a ≡ p && q → p ≡ levelOk (leb 1 (u .levels)) (e .level) → q ≡ levelOk (leb 2 (u .levels)) (e .other) → m ≡ timeOk (u .time) (e .time) → n ≡ codeOk (u .code) (e .code) → o ≡ textOk k t → u ≡ usesOf k → r ≡ argumentFits k e t
+pub argument-fits-by : (k : ArgumentKind) (e : Element) (t : List ℕ) (u : Uses) (r a b c p q m n o : Bool) → r ≡ c && o → c ≡ b && n → b ≡ a && m → a ≡ p && q → p ≡ levelFitsUse (leb 1 (u .levels)) (e .level) → q ≡ levelFitsUse (leb 2 (u .levels)) (e .other) → m ≡ timeFitsUse (u .time) (e .time) → n ≡ codeFitsUse (u .code) (e .code) → o ≡ textFitsKind k t → u ≡ usesOf k → r ≡ argumentFits k e t
 argument-fits-by k e t u r a b c p q m n o h₁ h₂ h₃ h₄ h₅ h₆ h₇ h₈ h₉ h = rw (h₁, h₂, h₃, h₄, h₅, h₆, h₇, h₈, h₉, h) (argument-parts k e t)
 
 -- ---- lengths
@@ -288,7 +288,7 @@ code-four ds p = eqb-true (length ds) 4 (both-left (eqb (length ds) 4) (digitsFi
 none : (t : List ℕ) → noText t ≡ true → length t ≤ 256
 none t p = omega (arith, eqb-true (length t) 0 p)
 
-pub argument-largest : (k : Kind) (e : Element) (t : List ℕ) → argumentFits k e t ≡ true → length (argumentBits k e t) ≤ largestOf k
+pub argument-largest : (k : ArgumentKind) (e : Element) (t : List ℕ) → argumentFits k e t ≡ true → length (argumentBits k e t) ≤ largestOf k
 unfolding argumentFits argumentBits largestOf levelsUnused
 argument-largest kind.NotCarried e t p = never (cc)
 argument-largest kind.None e t p = omega arith
@@ -301,7 +301,7 @@ argument-largest kind.Facility e t p = facility-largest t (both-right (plain e) 
 argument-largest kind.FacilityDesignation e t p = designation-largest t (both-right (plain e) (sizedFits 4 8 t) p)
 argument-largest kind.AtisCode e t p = omega (arith, length-charactersBits t, atis-one t (both-right (plain e) (atisFits t) p))
 
-few : (k : Kind) (e : Element) (t : List ℕ) → argumentFits k e t ≡ true → length t ≤ 256
+few : (k : ArgumentKind) (e : Element) (t : List ℕ) → argumentFits k e t ≡ true → length t ≤ 256
 unfolding argumentFits
 few kind.NotCarried e t p = never (cc)
 few kind.None e t p = none t (both-right (plain e) (noText t) p)
@@ -314,7 +314,7 @@ few kind.Facility e t p = omega (arith, facility-few t (both-right (plain e) (fa
 few kind.FacilityDesignation e t p = omega (arith, sized-largest 4 8 t (both-right (plain e) (sizedFits 4 8 t) p))
 few kind.AtisCode e t p = omega (arith, atis-one t (both-right (plain e) (atisFits t) p))
 
-largest-small : (k : Kind) → largestOf k ≤ 1800
+largest-small : (k : ArgumentKind) → largestOf k ≤ 1800
 unfolding largestOf
 largest-small kind.NotCarried = omega arith
 largest-small kind.None = omega arith
@@ -341,11 +341,11 @@ module _ (d : Direction) (e : Element) (t : List ℕ) (p : elementFits d e t ≡
   pub few-characters : length t ≤ 256
   few-characters = few (kindOf d (e .number)) e t its-argument
 
-  pub argument-small : (k : Kind) → k ≡ kindOf d (e .number) → length (argumentBits k e t) ≤ 1800
+  pub argument-small : (k : ArgumentKind) → k ≡ kindOf d (e .number) → length (argumentBits k e t) ≤ 1800
   argument-small k q = rw q (omega (arith, argument-largest (kindOf d (e .number)) e t its-argument, largest-small (kindOf d (e .number))))
 
 module _ (d : Direction) (e : Element) (t : List ℕ) (ok : Bool) (h : ok ≡ elementFits d e t) where
-  pub measured : (w last n : ℕ) (k : Kind) → ok ≡ true → w ≡ widthOf (last - 0) → last ≡ lastOf d → k ≡ kindOf d (e .number) → n ≡ length (argumentBits k e t) → size.Bits (1 + w + n) ≡ cond (elementFits d e t) (size.Bits (length (elementBits d e t))) size.Shape
+  pub measured : (w last n : ℕ) (k : ArgumentKind) → ok ≡ true → w ≡ widthOf (last - 0) → last ≡ lastOf d → k ≡ kindOf d (e .number) → n ≡ length (argumentBits k e t) → size.Bits (1 + w + n) ≡ cond (elementFits d e t) (size.Bits (length (elementBits d e t))) size.Shape
   measured w last n k p a b c m = rw (← h, p, length-element d e t, ← c, ← m, ← b, ← a)
 
   pub no-shape : ok ≡ false → size.Shape ≡ cond (elementFits d e t) (size.Bits (length (elementBits d e t))) size.Shape

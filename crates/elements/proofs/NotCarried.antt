@@ -7,7 +7,7 @@ use Rattle.fields.specs.Fields.{refusedAt, extensibleIndex}
 use Rattle.fields.specs.declared.Field.the-variants.{Value}
 use Rattle.fields.specs.declared.Fault.the-variants as fault
 use Rattle.elements.specs.declared.kinds.Direction.{Direction}
-use Rattle.elements.specs.declared.kinds.Kind.the-variants as kind
+use Rattle.elements.specs.declared.kinds.ArgumentKind.the-variants as kind
 use Rattle.elements.specs.Elements.{kindOf}
 use Rattle.elements.specs.Arguments.{refusalOf}
 use Rattle.elements.specs.OneElement.{noElement, lastOf, argumentAt, elementAt}

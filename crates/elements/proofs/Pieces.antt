@@ -19,7 +19,7 @@ use Rattle.bits.proofs.Bytes.{length-to}
 use Rattle.bits.proofs.Putting.{put-append, put-nil, put-fits, length-put}
 use Rattle.fields.specs.Encodings.{indexBits, wholeBits, wholeFits}
 use Rattle.elements.specs.declared.kinds.Direction.{Direction}
-use Rattle.elements.specs.declared.kinds.Kind.{Kind}
+use Rattle.elements.specs.declared.kinds.ArgumentKind.{ArgumentKind}
 use Rattle.elements.specs.declared.values.Level.{Level}
 use Rattle.elements.specs.declared.values.Element.{Element}
 use Rattle.elements.specs.Elements.{kindOf}
@@ -207,6 +207,6 @@ module _ (d : Direction) (e : Element) (xs s t : List ℕ) (end at last : ℕ) (
   unfolding elementPieces
   element-full q = pieces-full (indexPiece (lastOf d) (e .number) ∷ []) (argumentPieces (kindOf d (e .number)) e xs) s t end at a index-put q
 
-  pub element-next : (z : List ℕ) (p : ℕ) (k : Kind) (b : Put) → a ≡ Next p → k ≡ kindOf d (e .number) → left b z ≡ putPieces t end p (argumentPieces k e xs) → left b z ≡ putPieces s end at (elementPieces d e xs)
+  pub element-next : (z : List ℕ) (p : ℕ) (k : ArgumentKind) (b : Put) → a ≡ Next p → k ≡ kindOf d (e .number) → left b z ≡ putPieces t end p (argumentPieces k e xs) → left b z ≡ putPieces s end at (elementPieces d e xs)
   unfolding elementPieces
   element-next z p k b q i w = pieces-next (indexPiece (lastOf d) (e .number) ∷ []) (argumentPieces (kindOf d (e .number)) e xs) s t z end at p a b index-put q (rw i at w)

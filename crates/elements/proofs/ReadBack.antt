@@ -14,8 +14,8 @@ use Rattle.bits.proofs.Numbers.{Bits}
 use Rattle.fields.specs.declared.Refusal.{Refusal}
 use Rattle.fields.specs.declared.Field.{Field}
 use Rattle.fields.specs.declared.Field.the-variants as field
-use Rattle.elements.specs.declared.kinds.Kind.{Kind}
-use Rattle.elements.specs.declared.kinds.Kind.the-variants as kind
+use Rattle.elements.specs.declared.kinds.ArgumentKind.{ArgumentKind}
+use Rattle.elements.specs.declared.kinds.ArgumentKind.the-variants as kind
 use Rattle.elements.specs.declared.values.Level.{Level}
 use Rattle.elements.specs.declared.values.LevelRead.{LevelRead}
 use Rattle.elements.specs.declared.values.LevelRead.the-variants as level
@@ -131,7 +131,7 @@ module _ (l : List ℕ) (at next : ℕ) (e : Element) (t : List ℕ) (n : e .cha
   unfolding argumentFits
   atis-reads-in s = characters-read (atisFits t) (atisAt l at) (s .fits) (atis-reads l at next t (stands-as l at next _ _ _ (both-right (plain e) (atisFits t) (s .fits)) s))
 
-  pub argument-reads : (index : ℕ) (k : Kind) → Stands l at (argumentFits k e t) (argumentBits k e t) next → argumentAt k (e .number) index l at ≡ isElement e next
+  pub argument-reads : (index : ℕ) (k : ArgumentKind) → Stands l at (argumentFits k e t) (argumentBits k e t) next → argumentAt k (e .number) index l at ≡ isElement e next
   unfolding argumentBits argumentAt
   argument-reads index kind.NotCarried s = not-carried (s .fits)
   argument-reads index kind.None s = none-reads s
@@ -150,7 +150,7 @@ module _ (l : List ℕ) (at next : ℕ) (e : Element) (t : List ℕ) (n : e .cha
   unfolding charactersIn
   without h = rw (no-text t h)
 
-  pub argument-text : (k : Kind) → Stands l at (argumentFits k e t) (argumentBits k e t) next → charactersIn l (next - 7 * length t) (length t) ≡ t
+  pub argument-text : (k : ArgumentKind) → Stands l at (argumentFits k e t) (argumentBits k e t) next → charactersIn l (next - 7 * length t) (length t) ≡ t
   unfolding argumentBits argumentFits levelsUnused
   argument-text kind.NotCarried s = not-carried (s .fits)
   argument-text kind.None s = without (both-right (plain e) (noText t) (s .fits))

@@ -8,8 +8,8 @@ use Rattle.bits.proofs.Numbers.{Bits}
 use Rattle.fields.specs.declared.Refusal.{Refusal}
 use Rattle.fields.specs.declared.Field.{Field}
 use Rattle.fields.specs.declared.Field.the-variants as field
-use Rattle.elements.specs.declared.kinds.Kind.{Kind}
-use Rattle.elements.specs.declared.kinds.Kind.the-variants as kind
+use Rattle.elements.specs.declared.kinds.ArgumentKind.{ArgumentKind}
+use Rattle.elements.specs.declared.kinds.ArgumentKind.the-variants as kind
 use Rattle.elements.specs.declared.values.Level.{Level}
 use Rattle.elements.specs.declared.values.LevelRead.{LevelRead}
 use Rattle.elements.specs.declared.values.LevelRead.the-variants as level
@@ -55,7 +55,7 @@ same-element e x m n h = ap (λ (r : ElementRead). r .element) h
 pub no-place : {R : Type 0} (r : Refusal) (e : Element) (n : ℕ) → noElement r ≡ isElement e n → R
 no-place r e n h = let g : step.Refused r ≡ step.Next n = ap (λ (r : ElementRead). r .step) h in never (cc)
 
-pub record Argued (l : List ℕ) (at i : ℕ) (k : Kind) (e : Element) (next : ℕ) : Type 0 where
+pub record Argued (l : List ℕ) (at i : ℕ) (k : ArgumentKind) (e : Element) (next : ℕ) : Type 0 where
   pub number : e .number ≡ i
   pub stands : Stands l at (argumentFits k e (textOf l e next)) (argumentBits k e (textOf l e next)) next
 
@@ -81,18 +81,18 @@ module _ (l : List ℕ) (at i next : ℕ) (b : Bits l) where
   code-argued x s = record { number = refl; stands = stands-as l at next _ _ _ (rw (s .fits)) s }
 
   -- the kinds whose argument is characters
-  text-argued : (k : Kind) (n : ℕ) (ok : Bool) (bs : List ℕ) → argumentFits k (withCharacters i n) (charactersIn l (next - 7 * n) n) ≡ true && ok → argumentBits k (withCharacters i n) (charactersIn l (next - 7 * n) n) ≡ bs → Stands l at ok bs next → Argued l at i k (withCharacters i n) next
+  text-argued : (k : ArgumentKind) (n : ℕ) (ok : Bool) (bs : List ℕ) → argumentFits k (withCharacters i n) (charactersIn l (next - 7 * n) n) ≡ true && ok → argumentBits k (withCharacters i n) (charactersIn l (next - 7 * n) n) ≡ bs → Stands l at ok bs next → Argued l at i k (withCharacters i n) next
   text-argued k n ok bs p q s = record { number = refl; stands = stands-as l at next _ _ _ (p ∙ s .fits) (rw (← q) at s) }
 
   module _ (e : Element) where
-    Goal : Kind → Type 0
+    Goal : ArgumentKind → Type 0
     Goal k = Argued l at i k e next
 
-    moved : (k : Kind) (x : Element) (m : ℕ) → isElement x m ≡ isElement e next → Argued l at i k x m → Goal k
+    moved : (k : ArgumentKind) (x : Element) (m : ℕ) → isElement x m ≡ isElement e next → Argued l at i k x m → Goal k
     unfolding Goal
     moved k x m h a = rw (← same-place e x m next h, ← same-element e x m next h) a
 
-    characters-are : (k : Kind) (f : Field) → ((n m : ℕ) → f ≡ field.Value n m → m ≡ next → Argued l at i k (withCharacters i n) next) → charactersOf i f ≡ isElement e next → Goal k
+    characters-are : (k : ArgumentKind) (f : Field) → ((n m : ℕ) → f ≡ field.Value n m → m ≡ next → Argued l at i k (withCharacters i n) next) → charactersOf i f ≡ isElement e next → Goal k
     characters-are k f go h =
         onto-is noElement f (λ (n m : ℕ). isElement (withCharacters i n) m) (isElement e next)
         (λ (n m : ℕ) (p : f ≡ field.Value n m) (q : isElement (withCharacters i n) m ≡ isElement e next).
@@ -189,7 +189,7 @@ module _ (l : List ℕ) (at i next : ℕ) (b : Bits l) where
         let j = same-place e (bare i) at next h in
         moved kind.None (bare i) at h none-argued
 
-    pub argument-stands : (index : ℕ) (k : Kind) → argumentAt k i index l at ≡ isElement e next → Argued l at i k e next
+    pub argument-stands : (index : ℕ) (k : ArgumentKind) → argumentAt k i index l at ≡ isElement e next → Argued l at i k e next
     unfolding argumentAt Goal
     argument-stands index kind.NotCarried h = no-place _ e next h
     argument-stands index kind.None h = none-found h

@@ -12,8 +12,8 @@ use borrow.Author.Tests.{ltb-true}
 use Rattle.words.proofs.Laws.{both-left, both-right}
 use Rattle.elements.specs.declared.kinds.Direction.{Direction}
 use Rattle.elements.specs.declared.kinds.Direction.the-variants.{Downlink, Uplink}
-use Rattle.elements.specs.declared.kinds.Kind.{Kind}
-use Rattle.elements.specs.declared.kinds.Kind.the-variants.{NotCarried}
+use Rattle.elements.specs.declared.kinds.ArgumentKind.{ArgumentKind}
+use Rattle.elements.specs.declared.kinds.ArgumentKind.the-variants.{NotCarried}
 use Rattle.elements.specs.Elements.{kinds, other, downlink, uplink, rows, allKnown, kindAt, rowsOf, kindOf}
 
 pub downlink-rows : length (rowsOf Downlink) ≡ 114

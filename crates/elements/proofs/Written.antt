@@ -13,8 +13,8 @@ use Rattle.bits.specs.Bits.{bitsN}
 use Rattle.fields.specs.Fields.{digitsIn}
 use Rattle.fields.specs.Encodings.{wholeBits, wholeFits}
 use Rattle.elements.specs.declared.kinds.Direction.{Direction}
-use Rattle.elements.specs.declared.kinds.Kind.{Kind}
-use Rattle.elements.specs.declared.kinds.Kind.the-variants as kind
+use Rattle.elements.specs.declared.kinds.ArgumentKind.{ArgumentKind}
+use Rattle.elements.specs.declared.kinds.ArgumentKind.the-variants as kind
 use Rattle.elements.specs.declared.values.LevelType.{LevelType}
 use Rattle.elements.specs.declared.values.Level.{Level}
 use Rattle.elements.specs.declared.values.Time.{Time}
@@ -77,7 +77,7 @@ facility-bits [] = rw one-bits
 facility-bits (c ∷ cs) = rw (ne-eqb (suc (length cs)) 0 (λ (z : suc (length cs) ≡ 0). omega arith), bits-append, one-bits, sized-bits)
 
 -- the bits that the pieces of an argument make are the argument's
-pub argument-bits : (k : Kind) (e : Element) (t : List ℕ) → piecesBits (argumentPieces k e t) ≡ argumentBits k e t
+pub argument-bits : (k : ArgumentKind) (e : Element) (t : List ℕ) → piecesBits (argumentPieces k e t) ≡ argumentBits k e t
 unfolding argumentPieces argumentBits
 argument-bits kind.NotCarried e t = one-bits (record { fits = false; bits = [] })
 argument-bits kind.None e t = no-bits

@@ -52,7 +52,8 @@ stepRefusal (step.Refused r) = r
 
 -- ---- LevelType: a CHOICE of four units
 
--- LevelFeet (-60..7000), LevelMeters (-30..25000), LevelFlightLevel (30..700), LevelFlightLevelMetric (100..2500); the first two from their lowest
+-- LevelFeet (-60..7000), LevelMeters (-30..25000), LevelFlightLevel (30..700), LevelFlightLevelMetric (100..2500); the first two from their
+-- lowest
 unfoldable pub lowest : ℕ → ℕ
 lowest unit = getD (0 ∷ 0 ∷ 30 ∷ 100 ∷ []) unit 0
 
@@ -161,7 +162,8 @@ unfoldable pub charactersIn : List ℕ → ℕ → ℕ → List ℕ
 charactersIn l at zero = []
 charactersIn l at (suc n) = numOf (take 7 (drop at l)) ∷ charactersIn l (at + 7) n
 
--- A string of a size from least to most: FreeText (1..256), FacilityDesignation (4..8). How many characters there are is read, and the place after them.
+-- A string of a size from least to most: FreeText (1..256), FacilityDesignation (4..8). How many characters there are is read, and the
+-- place after them.
 unfoldable pub sizedFits : ℕ → ℕ → List ℕ → Bool
 sizedFits least most t = wholeFits least most (length t) && charactersFit t
 

@@ -1,8 +1,8 @@
 -- The argument kind of each message element, by direction and element number.
 --
--- The rows are the alternatives of ATCDownlinkMsgElementId and ATCUplinkMsgElementId (Doc 9705 2.3.4.3; tables M-6 and M-4), in the order of
--- their tags from 0, ten to a line. A row is the place of its kind in `kinds`: the kinds of document 01 in its order, behind one that stands for
--- every other argument type.
+-- The rows are the alternatives of ATCDownlinkMsgElementId and ATCUplinkMsgElementId (Doc 9705 2.3.4.3; tables M-6 and M-4), in the order
+-- of their tags from 0, ten to a line. A row is the place of its kind in `kinds`: the kinds of document 01 in its order, behind one that
+-- stands for every other argument type.
 use Prim.Native.Nat.{ℕ}
 use mathlib.Core.List.{List, [], _∷_, _++_}
 use mathlib.Core.Bool.{Bool, true, _&&_}
@@ -10,10 +10,10 @@ use lib.ListN.{length, getD}
 use lib.Dec.{ltb}
 use Rattle.elements.specs.declared.kinds.Direction.{Direction}
 use Rattle.elements.specs.declared.kinds.Direction.the-variants.{Downlink, Uplink}
-use Rattle.elements.specs.declared.kinds.Kind.{Kind}
-use Rattle.elements.specs.declared.kinds.Kind.the-variants.{NotCarried, None, Level, TwoLevels, Time, Code, FreeText, Facility, FacilityDesignation, AtisCode}
+use Rattle.elements.specs.declared.kinds.ArgumentKind.{ArgumentKind}
+use Rattle.elements.specs.declared.kinds.ArgumentKind.the-variants.{NotCarried, None, Level, TwoLevels, Time, Code, FreeText, Facility, FacilityDesignation, AtisCode}
 
-unfoldable pub kinds : List Kind
+unfoldable pub kinds : List ArgumentKind
 kinds =
     NotCarried ∷ None ∷ Level ∷ TwoLevels ∷ Time ∷ Code ∷ FreeText ∷ Facility ∷ FacilityDesignation ∷ AtisCode ∷ []
 
@@ -101,7 +101,7 @@ allKnown [] = true
 allKnown (x ∷ xs) = ltb x (length kinds) && allKnown xs
 
 -- the kind in a row of the table
-unfoldable pub kindAt : ℕ → Kind
+unfoldable pub kindAt : ℕ → ArgumentKind
 kindAt row = getD kinds (getD rows row other) NotCarried
 
 -- the rows of a direction
@@ -110,5 +110,5 @@ rowsOf Downlink = downlink
 rowsOf Uplink = uplink
 
 -- the kind of an element's argument; a number that has no row is not carried
-unfoldable pub kindOf : Direction → ℕ → Kind
+unfoldable pub kindOf : Direction → ℕ → ArgumentKind
 kindOf d n = getD kinds (getD (rowsOf d) n other) NotCarried

@@ -5,8 +5,8 @@ use mathlib.Core.Bool.{Bool, true, false, cond, _&&_}
 use lib.Dec.{leb}
 use Rattle.elements.specs.declared.kinds.Direction.{Direction}
 use Rattle.elements.specs.declared.kinds.Direction.the-variants.{Downlink, Uplink}
-use Rattle.elements.specs.declared.kinds.Kind.{Kind}
-use Rattle.elements.specs.declared.kinds.Kind.the-variants as kind
+use Rattle.elements.specs.declared.kinds.ArgumentKind.{ArgumentKind}
+use Rattle.elements.specs.declared.kinds.ArgumentKind.the-variants as kind
 use Rattle.elements.specs.declared.values.LevelType.{LevelType}
 use Rattle.elements.specs.declared.values.Level.{Level}
 use Rattle.elements.specs.declared.values.Time.{Time}
@@ -21,35 +21,35 @@ allMost hi (x ∷ xs) = leb x hi && allMost hi xs
 
 -- ---- a part that is used is of its type, and one that is not is zero
 
-unfoldable pub typeOk : Bool → LevelType → Bool
-typeOk used x = cond used (levelTypeFits x) (same? x noType)
+unfoldable pub typeFitsUse : Bool → LevelType → Bool
+typeFitsUse used x = cond used (levelTypeFits x) (same? x noType)
 
-unfoldable pub levelOk : Bool → Level → Bool
-levelOk used x = cond used (levelFits x) (levelUnused x)
+unfoldable pub levelFitsUse : Bool → Level → Bool
+levelFitsUse used x = cond used (levelFits x) (levelUnused x)
 
-unfoldable pub timeOk : Bool → Time → Bool
-timeOk used x = cond used (timeFits x) (timeUnused x)
+unfoldable pub timeFitsUse : Bool → Time → Bool
+timeFitsUse used x = cond used (timeFits x) (timeUnused x)
 
-unfoldable pub codeOk : Bool → List ℕ → Bool
-codeOk used x = cond used (codeFits x) (codeUnused x)
+unfoldable pub codeFitsUse : Bool → List ℕ → Bool
+codeFitsUse used x = cond used (codeFits x) (codeUnused x)
 
-unfoldable pub textOk : Kind → List ℕ → Bool
-textOk kind.NotCarried t = false
-textOk kind.None t = noText t
-textOk kind.Level t = noText t
-textOk kind.TwoLevels t = noText t
-textOk kind.Time t = noText t
-textOk kind.Code t = noText t
-textOk kind.FreeText t = sizedFits 1 256 t
-textOk kind.Facility t = facilityFits t
-textOk kind.FacilityDesignation t = sizedFits 4 8 t
-textOk kind.AtisCode t = atisFits t
+unfoldable pub textFitsKind : ArgumentKind → List ℕ → Bool
+textFitsKind kind.NotCarried t = false
+textFitsKind kind.None t = noText t
+textFitsKind kind.Level t = noText t
+textFitsKind kind.TwoLevels t = noText t
+textFitsKind kind.Time t = noText t
+textFitsKind kind.Code t = noText t
+textFitsKind kind.FreeText t = sizedFits 1 256 t
+textFitsKind kind.Facility t = facilityFits t
+textFitsKind kind.FacilityDesignation t = sizedFits 4 8 t
+textFitsKind kind.AtisCode t = atisFits t
 
 abbrev pub uses : ℕ → Bool → Bool → Uses
 uses levels time code = record { levels = levels; time = time; code = code }
 
 -- what a kind uses besides characters
-unfoldable pub usesOf : Kind → Uses
+unfoldable pub usesOf : ArgumentKind → Uses
 usesOf kind.NotCarried = uses 0 false false
 usesOf kind.None = uses 0 false false
 usesOf kind.Level = uses 1 false false
@@ -69,7 +69,7 @@ indexWidth Downlink = 8
 indexWidth Uplink = 9
 
 -- an argument, by its kind: a block of two levels in metres, 256 characters of free text, a designation of eight
-unfoldable pub largestOf : Kind → ℕ
+unfoldable pub largestOf : ArgumentKind → ℕ
 largestOf kind.NotCarried = 0
 largestOf kind.None = 0
 largestOf kind.Level = 35

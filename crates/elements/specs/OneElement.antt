@@ -12,8 +12,8 @@ use Rattle.fields.specs.declared.Fault.the-variants as fault
 use Rattle.fields.specs.declared.Field.{Field}
 use Rattle.elements.specs.declared.kinds.Direction.{Direction}
 use Rattle.elements.specs.declared.kinds.Direction.the-variants.{Downlink, Uplink}
-use Rattle.elements.specs.declared.kinds.Kind.{Kind}
-use Rattle.elements.specs.declared.kinds.Kind.the-variants as kind
+use Rattle.elements.specs.declared.kinds.ArgumentKind.{ArgumentKind}
+use Rattle.elements.specs.declared.kinds.ArgumentKind.the-variants as kind
 use Rattle.elements.specs.declared.values.Level.{Level}
 use Rattle.elements.specs.declared.values.LevelRead.{LevelRead}
 use Rattle.elements.specs.declared.values.LevelRead.the-variants as level
@@ -94,7 +94,7 @@ unfoldable pub codeArgument : ℕ → List ℕ → ℕ → ElementRead
 codeArgument i l at = ontoStep (codeAt l at .step) (λ (next : ℕ). isElement (withCode i (codeAt l at .digits)) next)
 
 -- the argument of element i, by its kind; an element that is not carried is refused at its index
-unfoldable pub argumentAt : Kind → ℕ → ℕ → List ℕ → ℕ → ElementRead
+unfoldable pub argumentAt : ArgumentKind → ℕ → ℕ → List ℕ → ℕ → ElementRead
 argumentAt kind.NotCarried i index l at = noElement (refusalOf (refusedAt index fault.NotCarried))
 argumentAt kind.None i index l at = isElement (bare i) at
 argumentAt kind.Level i index l at = levelArgument i l at
@@ -111,8 +111,8 @@ unfoldable pub lastOf : Direction → ℕ
 lastOf Downlink = 113
 lastOf Uplink = 236
 
--- an element: the index of an extensible CHOICE, which stands behind the extension bit, and the argument; a kind that is not carried is a fault of
--- the index
+-- an element: the index of an extensible CHOICE, which stands behind the extension bit, and the argument; a kind that is not carried is a
+-- fault of the index
 unfoldable pub elementAt : Direction → List ℕ → ℕ → ElementRead
 elementAt d l at = onto noElement (extensibleIndex l at (lastOf d)) (λ (i next : ℕ). argumentAt (kindOf d i) i (at + 1) l next)
 
@@ -142,7 +142,7 @@ abbrev pub noText : List ℕ → Bool
 noText t = eqb (length t) 0
 
 -- what the kind uses is of its type, and what it does not use is zero
-unfoldable pub argumentFits : Kind → Element → List ℕ → Bool
+unfoldable pub argumentFits : ArgumentKind → Element → List ℕ → Bool
 argumentFits kind.NotCarried e t = false
 argumentFits kind.None e t = plain e && noText t
 argumentFits kind.Level e t =
@@ -156,7 +156,7 @@ argumentFits kind.Facility e t = plain e && facilityFits t
 argumentFits kind.FacilityDesignation e t = plain e && sizedFits 4 8 t
 argumentFits kind.AtisCode e t = plain e && atisFits t
 
-unfoldable pub argumentBits : Kind → Element → List ℕ → List ℕ
+unfoldable pub argumentBits : ArgumentKind → Element → List ℕ → List ℕ
 argumentBits kind.NotCarried e t = []
 argumentBits kind.None e t = []
 argumentBits kind.Level e t = levelBits (e .level)

@@ -14,8 +14,8 @@ use Rattle.elements.specs.declared.values.Level.{Level}
 use Rattle.elements.specs.declared.values.Time.{Time}
 use Rattle.elements.specs.declared.values.Element.{Element}
 use Rattle.elements.specs.declared.kinds.Direction.{Direction}
-use Rattle.elements.specs.declared.kinds.Kind.{Kind}
-use Rattle.elements.specs.declared.kinds.Kind.the-variants as kind
+use Rattle.elements.specs.declared.kinds.ArgumentKind.{ArgumentKind}
+use Rattle.elements.specs.declared.kinds.ArgumentKind.the-variants as kind
 use Rattle.elements.specs.Elements.{kindOf}
 use Rattle.elements.specs.Arguments.{flag, lowest, highest}
 use Rattle.elements.specs.OneElement.{lastOf}
@@ -72,7 +72,7 @@ unfoldable pub facilityPieces : List ℕ → List Piece
 facilityPieces t = cond (eqb (length t) 0) (choicePiece false) (choicePiece true ++ sizedPieces 4 8 t)
 
 -- the argument of an element whose characters are t; an element that is not carried is not written
-unfoldable pub argumentPieces : Kind → Element → List ℕ → List Piece
+unfoldable pub argumentPieces : ArgumentKind → Element → List ℕ → List Piece
 argumentPieces kind.NotCarried e t = record { fits = false; bits = [] } ∷ []
 argumentPieces kind.None e t = []
 argumentPieces kind.Level e t = levelPieces (e .level)

@@ -22,7 +22,7 @@ impl Direction {
 }
 
 // What an element carries: a kind of argument that document 01 lists, or one that is not carried.
-pub enum Kind {
+pub enum ArgumentKind {
     NotCarried,
     None,
     Level,
@@ -36,17 +36,17 @@ pub enum Kind {
 }
 
 // The kinds in their order; a row of the table is a place in this list.
-const LISTED: [Kind; 10] = [
-    Kind::NotCarried,
-    Kind::None,
-    Kind::Level,
-    Kind::TwoLevels,
-    Kind::Time,
-    Kind::Code,
-    Kind::FreeText,
-    Kind::Facility,
-    Kind::FacilityDesignation,
-    Kind::AtisCode,
+const LISTED: [ArgumentKind; 10] = [
+    ArgumentKind::NotCarried,
+    ArgumentKind::None,
+    ArgumentKind::Level,
+    ArgumentKind::TwoLevels,
+    ArgumentKind::Time,
+    ArgumentKind::Code,
+    ArgumentKind::FreeText,
+    ArgumentKind::Facility,
+    ArgumentKind::FacilityDesignation,
+    ArgumentKind::AtisCode,
 ];
 
 const OTHER: u8 = 0;
@@ -426,7 +426,7 @@ const KINDS: [u8; Direction::DOWNLINK_ROWS + Direction::UPLINK_ROWS] = [
 ];
 
 // The kind in a row of the table.
-fn kind_at(row: usize) -> Kind
+fn kind_at(row: usize) -> ArgumentKind
     requires { ⌜ row < length rows ⌝ }
     ensures { λ r. ⌜ r ≡ kindAt row ⌝ }
 {
@@ -434,7 +434,7 @@ fn kind_at(row: usize) -> Kind
 }
 
 // The kind of an element's argument; a number that has no row is not carried.
-pub fn kind_of(direction: Direction, number: u8) -> Kind
+pub fn kind_of(direction: Direction, number: u8) -> ArgumentKind
     ensures { λ r. ⌜ r ≡ kindOf direction number ⌝ }
 {
     let row = number as usize;
@@ -443,13 +443,13 @@ pub fn kind_of(direction: Direction, number: u8) -> Kind
             if row < Direction::DOWNLINK_ROWS {
                 return kind_at(row);
             }
-            Kind::NotCarried
+            ArgumentKind::NotCarried
         }
         Direction::Uplink => {
             if row < Direction::UPLINK_ROWS {
                 return kind_at(Direction::DOWNLINK_ROWS + row);
             }
-            Kind::NotCarried
+            ArgumentKind::NotCarried
         }
     }
 }

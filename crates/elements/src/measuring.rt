@@ -6,12 +6,12 @@ ghost use lib.ListN.{length};
 ghost use Rattle.fields.specs.Encodings.{wholeFits};
 ghost use Rattle.fields.specs.Fields.{widthOf};
 ghost use Rattle.elements.specs.Arguments.{levelBits, levelTypeBits, sizedBits, sizedFits};
-ghost use Rattle.elements.specs.Measuring.{allMost, codeOk, levelOk, textOk, timeOk, typeOk, usesOf};
+ghost use Rattle.elements.specs.Measuring.{allMost, codeFitsUse, levelFitsUse, textFitsKind, timeFitsUse, typeFitsUse, usesOf};
 ghost use Rattle.elements.specs.OneElement.{argumentBits, argumentFits, elementBits, elementFits};
 use crate::arguments::highest;
 use crate::arguments::lowest;
+use crate::kinds::ArgumentKind;
 use crate::kinds::Direction;
-use crate::kinds::Kind;
 use crate::kinds::kind_of;
 use crate::reading::last_of;
 use crate::values::Element;
@@ -51,8 +51,8 @@ fn all_most(hi: u64, items: &[u8]) -> bool
 }
 
 // A part that is used is of its type, and one that is not is zero.
-fn type_ok(used: bool, x: LevelType) -> bool
-    ensures { λ r. ⌜ r ≡ typeOk used x ⌝ }
+fn type_fits_use(used: bool, x: LevelType) -> bool
+    ensures { λ r. ⌜ r ≡ typeFitsUse used x ⌝ }
 {
     let unit = x.unit as u64;
     if used {
@@ -64,22 +64,22 @@ fn type_ok(used: bool, x: LevelType) -> bool
     both(x.unit == 0, x.number == 0)
 }
 
-fn level_ok(used: bool, x: Level) -> bool
-    ensures { λ r. ⌜ r ≡ levelOk used x ⌝ }
+fn level_fits_use(used: bool, x: Level) -> bool
+    ensures { λ r. ⌜ r ≡ levelFitsUse used x ⌝ }
 {
     let first = x.first;
     let second = x.second;
     if used {
-        return both(type_ok(true, first), type_ok(x.block, second));
+        return both(type_fits_use(true, first), type_fits_use(x.block, second));
     }
     both(
-        both(!x.block, type_ok(false, first)),
-        type_ok(false, second),
+        both(!x.block, type_fits_use(false, first)),
+        type_fits_use(false, second),
     )
 }
 
-fn time_ok(used: bool, x: Time) -> bool
-    ensures { λ r. ⌜ r ≡ timeOk used x ⌝ }
+fn time_fits_use(used: bool, x: Time) -> bool
+    ensures { λ r. ⌜ r ≡ timeFitsUse used x ⌝ }
 {
     if used {
         return both(
@@ -90,8 +90,8 @@ fn time_ok(used: bool, x: Time) -> bool
     both(x.hours == 0, x.minutes == 0)
 }
 
-fn code_ok(used: bool, x: [u8; 4]) -> bool
-    ensures { λ r. ⌜ r ≡ codeOk used x ⌝ }
+fn code_fits_use(used: bool, x: [u8; 4]) -> bool
+    ensures { λ r. ⌜ r ≡ codeFitsUse used x ⌝ }
 {
     if used {
         return all_most(Element::LAST_DIGIT, &x);
@@ -108,27 +108,31 @@ fn sized_fits(least: u64, most: u64, text: &[u8]) -> bool
     )
 }
 
-fn text_ok(kind: Kind, text: &[u8]) -> bool
-    ensures { λ r. ⌜ r ≡ textOk kind (now (text .entry)) ⌝ }
+fn text_fits_kind(kind: ArgumentKind, text: &[u8]) -> bool
+    ensures { λ r. ⌜ r ≡ textFitsKind kind (now (text .entry)) ⌝ }
 {
     match kind {
-        Kind::NotCarried => false,
-        Kind::None => text.len() == 0,
-        Kind::Level => text.len() == 0,
-        Kind::TwoLevels => text.len() == 0,
-        Kind::Time => text.len() == 0,
-        Kind::Code => text.len() == 0,
-        Kind::FreeText => sized_fits(Element::FREE_TEXT_LEAST, Element::FREE_TEXT_MOST, text),
-        Kind::Facility => {
+        ArgumentKind::NotCarried => false,
+        ArgumentKind::None => text.len() == 0,
+        ArgumentKind::Level => text.len() == 0,
+        ArgumentKind::TwoLevels => text.len() == 0,
+        ArgumentKind::Time => text.len() == 0,
+        ArgumentKind::Code => text.len() == 0,
+        ArgumentKind::FreeText => sized_fits(
+            Element::FREE_TEXT_LEAST,
+            Element::FREE_TEXT_MOST,
+            text,
+        ),
+        ArgumentKind::Facility => {
             if text.len() == 0 {
                 return true;
             }
             sized_fits(Element::DESIGNATION_LEAST, Element::DESIGNATION_MOST, text)
         }
-        Kind::FacilityDesignation => {
+        ArgumentKind::FacilityDesignation => {
             sized_fits(Element::DESIGNATION_LEAST, Element::DESIGNATION_MOST, text)
         }
-        Kind::AtisCode => both(text.len() == 1, all_most(Element::LAST_CHARACTER, text)),
+        ArgumentKind::AtisCode => both(text.len() == 1, all_most(Element::LAST_CHARACTER, text)),
     }
 }
 
@@ -171,25 +175,25 @@ impl Uses {
     };
 }
 
-fn used_by(kind: Kind) -> Uses
+fn used_by(kind: ArgumentKind) -> Uses
     ensures { λ r. ⌜ r ≡ usesOf kind ⌝ }
 {
     match kind {
-        Kind::NotCarried => Uses::NOTHING,
-        Kind::None => Uses::NOTHING,
-        Kind::Level => Uses::LEVEL,
-        Kind::TwoLevels => Uses::TWO_LEVELS,
-        Kind::Time => Uses::TIME,
-        Kind::Code => Uses::CODE,
-        Kind::FreeText => Uses::NOTHING,
-        Kind::Facility => Uses::NOTHING,
-        Kind::FacilityDesignation => Uses::NOTHING,
-        Kind::AtisCode => Uses::NOTHING,
+        ArgumentKind::NotCarried => Uses::NOTHING,
+        ArgumentKind::None => Uses::NOTHING,
+        ArgumentKind::Level => Uses::LEVEL,
+        ArgumentKind::TwoLevels => Uses::TWO_LEVELS,
+        ArgumentKind::Time => Uses::TIME,
+        ArgumentKind::Code => Uses::CODE,
+        ArgumentKind::FreeText => Uses::NOTHING,
+        ArgumentKind::Facility => Uses::NOTHING,
+        ArgumentKind::FacilityDesignation => Uses::NOTHING,
+        ArgumentKind::AtisCode => Uses::NOTHING,
     }
 }
 
 // What the kind uses is of its type, and what it does not use is zero.
-fn argument_fits(kind: Kind, e: Element, text: &[u8]) -> bool
+fn argument_fits(kind: ArgumentKind, e: Element, text: &[u8]) -> bool
     ensures { λ r. ⌜ r ≡ argumentFits kind e (now (text .entry)) ⌝ }
 {
     let level = e.level;
@@ -198,15 +202,15 @@ fn argument_fits(kind: Kind, e: Element, text: &[u8]) -> bool
     let code = e.code;
     let used = used_by(kind);
     let levels = both(
-        level_ok(1 <= used.levels, level),
-        level_ok(2 <= used.levels, other),
+        level_fits_use(1 <= used.levels, level),
+        level_fits_use(2 <= used.levels, other),
     );
     both(
         both(
-            both(levels, time_ok(used.time, time)),
-            code_ok(used.code, code),
+            both(levels, time_fits_use(used.time, time)),
+            code_fits_use(used.code, code),
         ),
-        text_ok(kind, text),
+        text_fits_kind(kind, text),
     )
 }
 
@@ -247,37 +251,42 @@ fn sized_bits(least: u64, most: u64, text: &[u8]) -> usize
 }
 
 // The bits of an argument whose characters are few enough.
-fn argument_bits(kind: Kind, e: Element, text: &[u8]) -> usize
+fn argument_bits(kind: ArgumentKind, e: Element, text: &[u8]) -> usize
     requires { ⌜ length (now text) ≤ 256 ⌝ }
     ensures { λ r. ⌜ r ≡ length (argumentBits kind e (now (text .entry))) ⌝ }
 {
     let level = e.level;
     let other = e.other;
     match kind {
-        Kind::NotCarried => 0,
-        Kind::None => 0,
-        Kind::Level => level_bits(level),
-        Kind::TwoLevels => level_bits(level) + level_bits(other),
-        Kind::Time => whole_bits(0, Time::LAST_HOUR) + whole_bits(0, Time::LAST_MINUTE),
-        Kind::Code => 4 * whole_bits(0, Element::LAST_DIGIT),
-        Kind::FreeText => sized_bits(Element::FREE_TEXT_LEAST, Element::FREE_TEXT_MOST, text),
-        Kind::Facility => {
+        ArgumentKind::NotCarried => 0,
+        ArgumentKind::None => 0,
+        ArgumentKind::Level => level_bits(level),
+        ArgumentKind::TwoLevels => level_bits(level) + level_bits(other),
+        ArgumentKind::Time => whole_bits(0, Time::LAST_HOUR) + whole_bits(0, Time::LAST_MINUTE),
+        ArgumentKind::Code => 4 * whole_bits(0, Element::LAST_DIGIT),
+        ArgumentKind::FreeText => sized_bits(
+            Element::FREE_TEXT_LEAST,
+            Element::FREE_TEXT_MOST,
+            text,
+        ),
+        ArgumentKind::Facility => {
             let choice = whole_bits(0, 1);
             if text.len() == 0 {
                 return choice;
             }
             choice + sized_bits(Element::DESIGNATION_LEAST, Element::DESIGNATION_MOST, text)
         }
-        Kind::FacilityDesignation => {
+        ArgumentKind::FacilityDesignation => {
             sized_bits(Element::DESIGNATION_LEAST, Element::DESIGNATION_MOST, text)
         }
-        Kind::AtisCode => Element::CHARACTER_BITS * text.len(),
+        ArgumentKind::AtisCode => Element::CHARACTER_BITS * text.len(),
     }
 }
 
 // How many bits an element takes whose characters are `text`; an element that is none of its type has the wrong shape.
 pub fn element_bits(direction: Direction, e: Element, text: &[u8]) -> Size
-    ensures { λ r. ⌜ r ≡ cond (elementFits direction e (now (text .entry))) (Size.Bits (length (elementBits direction e (now (text .entry))))) Size.Shape ⌝ }
+    ensures { λ r. ⌜ r ≡ cond (elementFits direction e (now (text .entry)))
+        (Size.Bits (length (elementBits direction e (now (text .entry))))) Size.Shape ⌝ }
 {
     let number = e.number;
     let kind = kind_of(direction, number);

@@ -7,8 +7,8 @@ use crate::arguments::facility;
 use crate::arguments::read_code;
 use crate::arguments::read_level;
 use crate::arguments::read_time;
+use crate::kinds::ArgumentKind;
 use crate::kinds::Direction;
-use crate::kinds::Kind;
 use crate::kinds::kind_of;
 use crate::values::Element;
 use crate::values::ElementRead;
@@ -121,7 +121,7 @@ fn characters(number: u8, count: Field) -> ElementRead
 
 // The argument of the element whose index stands at a place.
 fn read_argument(
-    kind: Kind,
+    kind: ArgumentKind,
     number: u8,
     index: usize,
     s: &[u8],
@@ -131,8 +131,11 @@ fn read_argument(
     ensures { λ r. ⌜ r ≡ argumentAt kind number index (bitsTo (now (s .entry)) end) at ⌝ }
 {
     match kind {
-        Kind::NotCarried => no_element(refusal(fields::refused_at(index, Fault::NotCarried))),
-        Kind::None => {
+        ArgumentKind::NotCarried => no_element(refusal(fields::refused_at(
+            index,
+            Fault::NotCarried,
+        ))),
+        ArgumentKind::None => {
             let mut element = Element::EMPTY;
             element.number = number;
             ElementRead {
@@ -140,11 +143,11 @@ fn read_argument(
                 element,
             }
         }
-        Kind::Level => level_argument(number, s, end, at),
-        Kind::TwoLevels => two_levels_argument(number, s, end, at),
-        Kind::Time => time_argument(number, s, end, at),
-        Kind::Code => code_argument(number, s, end, at),
-        Kind::FreeText => characters(
+        ArgumentKind::Level => level_argument(number, s, end, at),
+        ArgumentKind::TwoLevels => two_levels_argument(number, s, end, at),
+        ArgumentKind::Time => time_argument(number, s, end, at),
+        ArgumentKind::Code => code_argument(number, s, end, at),
+        ArgumentKind::FreeText => characters(
             number,
             fields::sized(
                 s,
@@ -155,8 +158,8 @@ fn read_argument(
                 Element::FREE_TEXT_MOST,
             ),
         ),
-        Kind::Facility => characters(number, facility(s, end, at)),
-        Kind::FacilityDesignation => characters(
+        ArgumentKind::Facility => characters(number, facility(s, end, at)),
+        ArgumentKind::FacilityDesignation => characters(
             number,
             fields::sized(
                 s,
@@ -167,7 +170,7 @@ fn read_argument(
                 Element::DESIGNATION_MOST,
             ),
         ),
-        Kind::AtisCode => characters(
+        ArgumentKind::AtisCode => characters(
             number,
             fields::contents(s, end, at, Element::CHARACTER_BITS, 1),
         ),

@@ -1,12 +1,13 @@
-// Elements and their arguments written, piece after piece. A message is measured before it is written, so that none of these is refused then.
+// Elements and their arguments written, piece after piece. A message is measured before it is written, so that none of these is refused
+// then.
 ghost use mathlib.Core.Path.{_≡_};
 ghost use mathlib.Core.List.{_++_};
 ghost use Rattle.bits.specs.Put.{left};
 ghost use Rattle.elements.specs.Writing.{argumentPieces, choicePiece, elementPieces, facilityPieces, levelPieces, levelTypePieces, numberPieces, putPieces, sizedPieces, timePieces};
 use crate::arguments::highest;
 use crate::arguments::lowest;
+use crate::kinds::ArgumentKind;
 use crate::kinds::Direction;
-use crate::kinds::Kind;
 use crate::kinds::kind_of;
 use crate::reading::last_of;
 use crate::values::Element;
@@ -138,30 +139,37 @@ fn put_code(buf: &mut [u8], end: usize, at: usize, code: [u8; 4]) -> Put
 }
 
 // The argument of an element, whose characters are `text`.
-fn put_argument(buf: &mut [u8], end: usize, at: usize, kind: Kind, e: Element, text: &[u8]) -> Put
+fn put_argument(
+    buf: &mut [u8],
+    end: usize,
+    at: usize,
+    kind: ArgumentKind,
+    e: Element,
+    text: &[u8],
+) -> Put
     ensures { λ r. ⌜ left r (now (buf .exit)) ≡ putPieces (now (buf .entry)) end at (argumentPieces kind e (now (text .entry))) ⌝ }
 {
     match kind {
-        Kind::NotCarried => Put::Full,
-        Kind::None => Put::Next(at),
-        Kind::Level => {
+        ArgumentKind::NotCarried => Put::Full,
+        ArgumentKind::None => Put::Next(at),
+        ArgumentKind::Level => {
             let x = e.level;
             put_level(buf, end, at, x)
         }
-        Kind::TwoLevels => {
+        ArgumentKind::TwoLevels => {
             let x = e.level;
             let y = e.other;
             put_two_levels(buf, end, at, x, y)
         }
-        Kind::Time => {
+        ArgumentKind::Time => {
             let x = e.time;
             put_time(buf, end, at, x)
         }
-        Kind::Code => {
+        ArgumentKind::Code => {
             let x = e.code;
             put_code(buf, end, at, x)
         }
-        Kind::FreeText => put_sized(
+        ArgumentKind::FreeText => put_sized(
             buf,
             end,
             at,
@@ -169,8 +177,8 @@ fn put_argument(buf: &mut [u8], end: usize, at: usize, kind: Kind, e: Element, t
             Element::FREE_TEXT_MOST,
             text,
         ),
-        Kind::Facility => put_facility(buf, end, at, text),
-        Kind::FacilityDesignation => put_sized(
+        ArgumentKind::Facility => put_facility(buf, end, at, text),
+        ArgumentKind::FacilityDesignation => put_sized(
             buf,
             end,
             at,
@@ -178,7 +186,7 @@ fn put_argument(buf: &mut [u8], end: usize, at: usize, kind: Kind, e: Element, t
             Element::DESIGNATION_MOST,
             text,
         ),
-        Kind::AtisCode => put_numbers(buf, end, at, Element::LAST_CHARACTER, text),
+        ArgumentKind::AtisCode => put_numbers(buf, end, at, Element::LAST_CHARACTER, text),
     }
 }
 

@@ -13,8 +13,8 @@ use borrow.Author.Tests.{le-ltb, le-leb}
 use Rattle.envelope.specs.Envelopes.{bytesFor, envelopeAt, Content, content, contentOf, bytesOf, header, placed, Fit, fits, Left, left, wrote, writeEnvelope}
 use Rattle.envelope.specs.Strings.{stringOf, allPlaced, AllFit, none, more, contentsOf}
 use Rattle.envelope.specs.declared.Envelope.{Envelope}
-use Rattle.envelope.specs.declared.Read.the-variants.{Is}
-use Rattle.envelope.specs.declared.Written.the-variants.{Bytes, Room, Shape}
+use Rattle.envelope.specs.declared.EnvelopeRead.the-variants.{Is}
+use Rattle.envelope.specs.declared.EnvelopeWritten.the-variants.{Bytes, Room, Shape}
 use Rattle.envelope.proofs.Numbers.{AllBytes}
 use Rattle.envelope.proofs.Sizes.{padded-taken, is-fit}
 use Rattle.envelope.proofs.RoundTrip.{written-read, read-written}

@@ -13,13 +13,13 @@ use borrow.Author.Tests.{le-ltb, lt-ltb, eq-eqb, ne-eqb, not-true, not-false}
 use Rattle.words.proofs.Laws.{cond-yes, cond-no}
 use Rattle.envelope.specs.Numbers.{numberAt}
 use Rattle.envelope.specs.Envelopes.{isKind, sizeFits, bytesFor, isPadded, then, refusedBy, bodyAt, sizeAt, jobAt, kindAt}
-use Rattle.envelope.specs.declared.Refusal.{Refusal}
-use Rattle.envelope.specs.declared.Refusal.the-variants.{Cut, Groups, Kind, Size}
+use Rattle.envelope.specs.declared.EnvelopeRefusal.{EnvelopeRefusal}
+use Rattle.envelope.specs.declared.EnvelopeRefusal.the-variants.{Cut, Groups, Kind, Size}
 use Rattle.envelope.specs.declared.Number.{Number}
 use Rattle.envelope.specs.declared.Number.the-variants as num
 use Rattle.envelope.specs.declared.Envelope.{Envelope}
-use Rattle.envelope.specs.declared.Read.{Read}
-use Rattle.envelope.specs.declared.Read.the-variants.{Is, Refused}
+use Rattle.envelope.specs.declared.EnvelopeRead.{EnvelopeRead}
+use Rattle.envelope.specs.declared.EnvelopeRead.the-variants.{Is, Refused}
 
 -- ---- bytes and padding
 
@@ -81,10 +81,10 @@ module _ (s : List ℕ) (kind job bits at n : ℕ) (e : n ≡ bytesFor bits) whe
 
 -- ---- a number is taken apart: its refusal goes up unchanged, or its value goes on
 
-pub handed : (f g : Number) (a : Read) (r : Refusal) (k : ℕ → ℕ → Read) → f ≡ g → f ≡ num.Refused r → a ≡ refusedBy f → a ≡ then g k
+pub handed : (f g : Number) (a : EnvelopeRead) (r : EnvelopeRefusal) (k : ℕ → ℕ → EnvelopeRead) → f ≡ g → f ≡ num.Refused r → a ≡ refusedBy f → a ≡ then g k
 handed f g a r k p q e = e ∙ rw (← p, q)
 
-pub went : (f g : Number) (a : Read) (v n : ℕ) (k : ℕ → ℕ → Read) → f ≡ g → f ≡ num.Value v n → a ≡ k v n → a ≡ then g k
+pub went : (f g : Number) (a : EnvelopeRead) (v n : ℕ) (k : ℕ → ℕ → EnvelopeRead) → f ≡ g → f ≡ num.Value v n → a ≡ k v n → a ≡ then g k
 went f g a v n k p q e = e ∙ rw (← p, q)
 
 -- ---- the three fields, by the code's tests
@@ -94,7 +94,7 @@ module _ (limit : ℕ) (s : List ℕ) (kind at : ℕ) (t : Bool) (e : t ≡ isKi
   unfolding kindAt
   kind-refused h = cond-no (isKind kind) _ _ _ (sym e ∙ not-true t h) refl
 
-  pub kind-taken : (a : Read) → not t ≡ false → a ≡ then (numberAt s at) (jobAt limit s kind) → a ≡ kindAt limit s kind at
+  pub kind-taken : (a : EnvelopeRead) → not t ≡ false → a ≡ then (numberAt s at) (jobAt limit s kind) → a ≡ kindAt limit s kind at
   unfolding kindAt
   kind-taken a h p = cond-yes (isKind kind) _ _ _ (sym e ∙ not-false t h) p
 
@@ -103,7 +103,7 @@ module _ (limit : ℕ) (s : List ℕ) (kind job at : ℕ) where
   unfolding jobAt
   job-refused h = rw (eq-eqb job 0 h)
 
-  pub job-taken : (a : Read) → (job ≡ 0 → ⊥) → a ≡ then (numberAt s at) (sizeAt limit s kind job) → a ≡ jobAt limit s kind job at
+  pub job-taken : (a : EnvelopeRead) → (job ≡ 0 → ⊥) → a ≡ then (numberAt s at) (sizeAt limit s kind job) → a ≡ jobAt limit s kind job at
   unfolding jobAt
   job-taken a h p = cond-no (eqb job 0) _ _ _ (ne-eqb job 0 h) p
 
@@ -112,6 +112,6 @@ module _ (limit : ℕ) (s : List ℕ) (kind job bits at : ℕ) (t : Bool) (e : t
   unfolding sizeAt
   size-refused h = cond-no (sizeFits limit kind bits) _ _ _ (sym e ∙ not-true t h) refl
 
-  pub size-taken : (a : Read) → not t ≡ false → a ≡ bodyAt s kind job bits at → a ≡ sizeAt limit s kind job bits at
+  pub size-taken : (a : EnvelopeRead) → not t ≡ false → a ≡ bodyAt s kind job bits at → a ≡ sizeAt limit s kind job bits at
   unfolding sizeAt
   size-taken a h p = cond-yes (sizeFits limit kind bits) _ _ _ (sym e ∙ not-false t h) p

@@ -14,12 +14,12 @@ use lib.Seq.{drop-drop, drop-append-le}
 use borrow.Author.Tests.{le-ltb, lt-ltb, le-leb, ltb-false}
 use Rattle.envelope.specs.Numbers.{numberIn, onward, numberAt}
 use Rattle.envelope.specs.Envelopes.{isKind, sizeFits, bytesFor, isPadded, then, bodyAt, sizeAt, jobAt, kindAt, envelopeAt, moved}
-use Rattle.envelope.specs.declared.Refusal.the-variants.{Cut, Groups, Kind, Size}
+use Rattle.envelope.specs.declared.EnvelopeRefusal.the-variants.{Cut, Groups, Kind, Size}
 use Rattle.envelope.specs.declared.Number.{Number}
 use Rattle.envelope.specs.declared.Number.the-variants as num
 use Rattle.envelope.specs.declared.Envelope.{Envelope}
-use Rattle.envelope.specs.declared.Read.{Read}
-use Rattle.envelope.specs.declared.Read.the-variants.{Is, Refused}
+use Rattle.envelope.specs.declared.EnvelopeRead.{EnvelopeRead}
+use Rattle.envelope.specs.declared.EnvelopeRead.the-variants.{Is, Refused}
 use Rattle.envelope.proofs.Numbers.{number-nil, stays}
 use Rattle.envelope.proofs.Sizes.{padded-front, bits-small}
 
@@ -42,7 +42,7 @@ number-stays s t at z e live =
     elim (decLt (length s) at) [ yes h ↦ absurd (live (sym e ∙ number-past s at (omega arith))) | no h ↦ number-within s t at z (omega arith) e live ]
 
 -- a number, then what follows it
-then-stays : (s t : List ℕ) (at : ℕ) (k l : ℕ → ℕ → Read) (y : Number) (z : Read) → numberAt s at ≡ y → then y k ≡ z → (z ≡ Refused Cut → ⊥) → ((v n : ℕ) → k v n ≡ z → l v n ≡ z) → then (numberAt (s ++ t) at) l ≡ z
+then-stays : (s t : List ℕ) (at : ℕ) (k l : ℕ → ℕ → EnvelopeRead) (y : Number) (z : EnvelopeRead) → numberAt s at ≡ y → then y k ≡ z → (z ≡ Refused Cut → ⊥) → ((v n : ℕ) → k v n ≡ z → l v n ≡ z) → then (numberAt (s ++ t) at) l ≡ z
 then-stays s t at k l (num.Value v n) z p e live f =
     let x : num.Value v n ≡ num.Refused Cut → ⊥ = λ (q : num.Value v n ≡ num.Refused Cut). (let o : _≡_ {A = ℕ} 0 1 = cc in omega arith) in
     rw (number-stays s t at (num.Value v n) p x) (f v n e)
@@ -50,7 +50,7 @@ then-stays s t at k l (num.Refused r) z p e live f =
     let x : num.Refused r ≡ num.Refused Cut → ⊥ = λ (q : num.Refused r ≡ num.Refused Cut). live (sym e ∙ (let o : r ≡ Cut = cc in rw o)) in
     rw (number-stays s t at (num.Refused r) p x) e
 
-module _ (s t : List ℕ) (z : Read) (live : z ≡ Refused Cut → ⊥) where
+module _ (s t : List ℕ) (z : EnvelopeRead) (live : z ≡ Refused Cut → ⊥) where
   body-stays : (kind job bits at : ℕ) (b : Bool) → ltb (length s) (at + bytesFor bits) ≡ b → bodyAt s kind job bits at ≡ z → bodyAt (s ++ t) kind job bits at ≡ z
   unfolding bodyAt
   body-stays kind job bits at true p e = absurd (live (sym e ∙ rw p))
@@ -93,14 +93,14 @@ number-shifted s by at = rw (drop-drop at by s) (go (numberIn 9 (drop (by + at) 
     go (num.Value v n) = let e : by + at + n ≡ by + (at + n) = omega arith in rw e
     go (num.Refused r) = refl
 
-then-shifted : (s : List ℕ) (by at : ℕ) (k l : ℕ → ℕ → Read) → ((v n : ℕ) → k v (by + n) ≡ moved by (l v n)) → then (numberAt s (by + at)) k ≡ moved by (then (numberAt (drop by s) at) l)
+then-shifted : (s : List ℕ) (by at : ℕ) (k l : ℕ → ℕ → EnvelopeRead) → ((v n : ℕ) → k v (by + n) ≡ moved by (l v n)) → then (numberAt s (by + at)) k ≡ moved by (then (numberAt (drop by s) at) l)
 then-shifted s by at k l f = rw (number-shifted s by at) (go (numberAt (drop by s) at))
   where
     go : (z : Number) → then (onward by z) k ≡ moved by (then z l)
     go (num.Value v n) = f v n
     go (num.Refused r) = refl
 
-moved-cond : (by : ℕ) (b : Bool) (x y : Read) → cond b (moved by x) (moved by y) ≡ moved by (cond b x y)
+moved-cond : (by : ℕ) (b : Bool) (x y : EnvelopeRead) → cond b (moved by x) (moved by y) ≡ moved by (cond b x y)
 moved-cond by true x y = refl
 moved-cond by false x y = refl
 
@@ -155,15 +155,15 @@ module _ (l m : ℕ) (h : l ≤ m) (s : List ℕ) where
   size-narrow kind job bits at true p = inl (rw (p, fits-more l m kind bits h p))
   size-narrow kind job bits at false p = inr (rw p)
 
-  then-narrow : (z : Number) (j k : ℕ → ℕ → Read) → ((v n : ℕ) → (j v n ≡ k v n) ⊎ (j v n ≡ Refused Size)) → (then z j ≡ then z k) ⊎ (then z j ≡ Refused Size)
+  then-narrow : (z : Number) (j k : ℕ → ℕ → EnvelopeRead) → ((v n : ℕ) → (j v n ≡ k v n) ⊎ (j v n ≡ Refused Size)) → (then z j ≡ then z k) ⊎ (then z j ≡ Refused Size)
   then-narrow (num.Value v n) j k f = f v n
   then-narrow (num.Refused r) j k f = inl refl
 
-  cond-narrow : (b : Bool) (x y r : Read) → (x ≡ y) ⊎ (x ≡ Refused Size) → (cond b x r ≡ cond b y r) ⊎ (cond b x r ≡ Refused Size)
+  cond-narrow : (b : Bool) (x y r : EnvelopeRead) → (x ≡ y) ⊎ (x ≡ Refused Size) → (cond b x r ≡ cond b y r) ⊎ (cond b x r ≡ Refused Size)
   cond-narrow true x y r f = f
   cond-narrow false x y r f = inl refl
 
-  cond-narrow-no : (b : Bool) (x y r : Read) → (x ≡ y) ⊎ (x ≡ Refused Size) → (cond b r x ≡ cond b r y) ⊎ (cond b r x ≡ Refused Size)
+  cond-narrow-no : (b : Bool) (x y r : EnvelopeRead) → (x ≡ y) ⊎ (x ≡ Refused Size) → (cond b r x ≡ cond b r y) ⊎ (cond b r x ≡ Refused Size)
   cond-narrow-no false x y r f = f
   cond-narrow-no true x y r f = inl refl
 

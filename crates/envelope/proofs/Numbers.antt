@@ -15,7 +15,7 @@ use lib.Pow.{pow-mono, pow-add}
 use lib.Arith.{digits-lt}
 use borrow.Author.Tests.{ltb-true, ltb-false, eqb-false, le-ltb, lt-ltb, eq-eqb, ne-eqb}
 use Rattle.envelope.specs.Numbers.{groups, below, numberIn, onward, numberAt}
-use Rattle.envelope.specs.declared.Refusal.the-variants.{Cut, Groups}
+use Rattle.envelope.specs.declared.EnvelopeRefusal.the-variants.{Cut, Groups}
 use Rattle.envelope.specs.declared.Number.{Number}
 use Rattle.envelope.specs.declared.Number.the-variants.{Value, Refused}
 

@@ -11,13 +11,13 @@ use lib.Seq.{drop-drop, drop-append-seam, length-take-le, getD-drop}
 use borrow.Author.Tests.{le-ltb, ltb-false}
 use Rattle.envelope.specs.Numbers.{groups, number, numberIn, onward, numberAt}
 use Rattle.envelope.specs.Envelopes.{isKind, sizeFits, bytesFor, isPadded, then, bodyAt, sizeAt, jobAt, kindAt, envelopeAt, Content, content, contentOf, bytesOf, header, placed, Fit}
-use Rattle.envelope.specs.declared.Refusal.{Refusal}
-use Rattle.envelope.specs.declared.Refusal.the-variants.{Cut, Groups, Kind, Size}
+use Rattle.envelope.specs.declared.EnvelopeRefusal.{EnvelopeRefusal}
+use Rattle.envelope.specs.declared.EnvelopeRefusal.the-variants.{Cut, Groups, Kind, Size}
 use Rattle.envelope.specs.declared.Number.{Number}
 use Rattle.envelope.specs.declared.Number.the-variants as num
 use Rattle.envelope.specs.declared.Envelope.{Envelope}
-use Rattle.envelope.specs.declared.Read.{Read}
-use Rattle.envelope.specs.declared.Read.the-variants.{Is, Refused}
+use Rattle.envelope.specs.declared.EnvelopeRead.{EnvelopeRead}
+use Rattle.envelope.specs.declared.EnvelopeRead.the-variants.{Is, Refused}
 use Rattle.envelope.proofs.Numbers.{AllBytes, groups-read, groups-written}
 use Rattle.envelope.proofs.Puts.{groups-pos}
 use Rattle.envelope.proofs.Sizes.{kind-small, bits-small, padded-front, padded-taken}
@@ -113,15 +113,15 @@ pub record ReadIs (limit : ℕ) (s : List ℕ) (at : ℕ) (e : Envelope) : Type 
   pub holds : drop at s ≡ bytesOf (contentOf s e) ++ drop (e .next) s
 
 -- an answer that is an envelope was not a refusal on the way
-yes-of : (t : Bool) (x : Read) (r : Refusal) (e : Envelope) → cond t x (Refused r) ≡ Is e → (t ≡ true) × (x ≡ Is e)
+yes-of : (t : Bool) (x : EnvelopeRead) (r : EnvelopeRefusal) (e : Envelope) → cond t x (Refused r) ≡ Is e → (t ≡ true) × (x ≡ Is e)
 yes-of true x r e p = (refl, p)
 yes-of false x r e p = let z : _≡_ {A = ℕ} 0 1 = cc in absurd (omega arith)
 
-no-of : (t : Bool) (x : Read) (r : Refusal) (e : Envelope) → cond t (Refused r) x ≡ Is e → (t ≡ false) × (x ≡ Is e)
+no-of : (t : Bool) (x : EnvelopeRead) (r : EnvelopeRefusal) (e : Envelope) → cond t (Refused r) x ≡ Is e → (t ≡ false) × (x ≡ Is e)
 no-of false x r e p = (refl, p)
 no-of true x r e p = let z : _≡_ {A = ℕ} 0 1 = cc in absurd (omega arith)
 
-via : (z : Number) (k : ℕ → ℕ → Read) (e : Envelope) (A : Type 0) → ((v n : ℕ) → z ≡ num.Value v n → k v n ≡ Is e → A) → then z k ≡ Is e → A
+via : (z : Number) (k : ℕ → ℕ → EnvelopeRead) (e : Envelope) (A : Type 0) → ((v n : ℕ) → z ≡ num.Value v n → k v n ≡ Is e → A) → then z k ≡ Is e → A
 via (num.Value v n) k e A f p = f v n refl p
 via (num.Refused r) k e A f p = let z : _≡_ {A = ℕ} 0 1 = cc in absurd (omega arith)
 

@@ -13,7 +13,7 @@ use borrow.Author.Tests.{leb-true, le-ltb, lt-ltb, not-true, not-false}
 use Rattle.words.proofs.Laws.{both-left, both-right}
 use Rattle.envelope.specs.Numbers.{groups, number, Put}
 use Rattle.envelope.specs.Envelopes.{isKind, sizeFits, bytesFor, isPadded, mostBits, leastRoom, Content, content, bytesOf, fits, left, writeEnvelope, Fit, largest}
-use Rattle.envelope.specs.declared.Written.the-variants.{Bytes, Room, Shape}
+use Rattle.envelope.specs.declared.EnvelopeWritten.the-variants.{Bytes, Room, Shape}
 use Rattle.envelope.proofs.Numbers.{groups-one, groups-more}
 use Rattle.envelope.proofs.Fields.{padded-none}
 use Rattle.envelope.proofs.Puts.{groups-pos, put-then}

@@ -13,10 +13,10 @@ use borrow.Author.Tests.{le-leb, lt-leb, leb-true, leb-false}
 use Rattle.envelope.specs.Numbers.{number}
 use Rattle.envelope.specs.Envelopes.{envelopeAt, Content, contentOf, bytesOf, placed, Fit}
 use Rattle.envelope.specs.Strings.{stringOf, allPlaced, AllFit, none, more, ended, stopped, Walk, ends, past, onRead, walkFrom, walk, Told, whole, broken}
-use Rattle.envelope.specs.declared.Refusal.{Refusal}
+use Rattle.envelope.specs.declared.EnvelopeRefusal.{EnvelopeRefusal}
 use Rattle.envelope.specs.declared.Envelope.{Envelope}
-use Rattle.envelope.specs.declared.Read.{Read}
-use Rattle.envelope.specs.declared.Read.the-variants.{Is, Refused}
+use Rattle.envelope.specs.declared.EnvelopeRead.{EnvelopeRead}
+use Rattle.envelope.specs.declared.EnvelopeRead.the-variants.{Is, Refused}
 use Rattle.envelope.proofs.Numbers.{AllBytes}
 use Rattle.envelope.proofs.Puts.{groups-pos}
 use Rattle.envelope.proofs.Sizes.{length-bytes}
@@ -84,7 +84,7 @@ at-end limit s at h =
     let w : Told limit s at (ends (ended (at + 0))) = whole [] none (drop-of-length-le s h) in
     rw (add-zero at) at w
 
-at-refusal : (limit : ℕ) (s : List ℕ) (at : ℕ) (r : Refusal) → at < length s → envelopeAt limit s at ≡ Refused r → Told limit s at (ends (stopped r at))
+at-refusal : (limit : ℕ) (s : List ℕ) (at : ℕ) (r : EnvelopeRefusal) → at < length s → envelopeAt limit s at ≡ Refused r → Told limit s at (ends (stopped r at))
 unfolding stringOf allPlaced
 at-refusal limit s at r h e =
     let w : Told limit s at (ends (stopped r (at + 0))) = broken [] (drop at s) r none refl (rw (add-zero at) h) (rw (add-zero at) e) in
@@ -107,7 +107,7 @@ at-envelope limit s at e w r t =
     let d : drop at s ≡ bytesOf (contentOf s e) ++ drop (at + length (bytesOf (contentOf s e))) s = r .holds ∙ ap (λ (k : ℕ). bytesOf (contentOf s e) ++ drop k s) n in
     subst (λ (x : Envelope). Told limit s at (past x w)) (sym (r .place)) (after limit s at (contentOf s e) w (r .fit) d (subst (λ (k : ℕ). Told limit s k w) n t))
 
-at-answer : (limit : ℕ) (s : List ℕ) → AllBytes s → (f at : ℕ) (z : Read) → envelopeAt limit s at ≡ z → at < length s → ((e : Envelope) → ReadIs limit s at e → Told limit s (e .next) (walkFrom limit s f (e .next))) → Told limit s at (onRead z at (λ (e : Envelope). walkFrom limit s f (e .next)))
+at-answer : (limit : ℕ) (s : List ℕ) → AllBytes s → (f at : ℕ) (z : EnvelopeRead) → envelopeAt limit s at ≡ z → at < length s → ((e : Envelope) → ReadIs limit s at e → Told limit s (e .next) (walkFrom limit s f (e .next))) → Told limit s at (onRead z at (λ (e : Envelope). walkFrom limit s f (e .next)))
 at-answer limit s b f at (Is e) p h k = let r = read-written limit s at b e p in at-envelope limit s at e (walkFrom limit s f (e .next)) r (k e r)
 at-answer limit s b f at (Refused r) p h k = at-refusal limit s at r h p
 

@@ -8,24 +8,24 @@ use lib.ListN.{length, take, drop, getD}
 use lib.Dec.{leb, ltb, eqb}
 use Rattle.words.specs.Limits.{messageBits, bufferBytes}
 use Rattle.envelope.specs.Numbers.{number, numberAt}
-use Rattle.envelope.specs.declared.Refusal.{Refusal}
-use Rattle.envelope.specs.declared.Refusal.the-variants.{Cut, Groups, Kind, Size}
+use Rattle.envelope.specs.declared.EnvelopeRefusal.{EnvelopeRefusal}
+use Rattle.envelope.specs.declared.EnvelopeRefusal.the-variants.{Cut, Groups, Kind, Size}
 use Rattle.envelope.specs.declared.Number.{Number}
 use Rattle.envelope.specs.declared.Number.the-variants as num
 use Rattle.envelope.specs.declared.Envelope.{Envelope}
-use Rattle.envelope.specs.declared.Read.{Read}
-use Rattle.envelope.specs.declared.Read.the-variants.{Is, Refused}
-use Rattle.envelope.specs.declared.Written.{Written}
-use Rattle.envelope.specs.declared.Written.the-variants.{Bytes, Room, Shape}
+use Rattle.envelope.specs.declared.EnvelopeRead.{EnvelopeRead}
+use Rattle.envelope.specs.declared.EnvelopeRead.the-variants.{Is, Refused}
+use Rattle.envelope.specs.declared.EnvelopeWritten.{EnvelopeWritten}
+use Rattle.envelope.specs.declared.EnvelopeWritten.the-variants.{Bytes, Room, Shape}
 
 -- "The numbers a refusal carries"
-abbrev pub refusalNumber : Refusal → ℕ
+abbrev pub refusalNumber : EnvelopeRefusal → ℕ
 refusalNumber Cut = 20
 refusalNumber Groups = 21
 refusalNumber Kind = 22
 refusalNumber Size = 23
 
-abbrev pub writtenNumber : Written → ℕ
+abbrev pub writtenNumber : EnvelopeWritten → ℕ
 writtenNumber (Bytes n) = 0
 writtenNumber Room = 1
 writtenNumber Shape = 2
@@ -65,31 +65,31 @@ isPadded bits body = eqb (getD body (bytesFor bits - 1) 0 % 2 ^ (8 * bytesFor bi
 -- ---- reading, in the order kind number (20, 21, 22), job (20, 21), bit count (20, 21, 23), body (20, 23)
 
 -- a number and the position after it, or its refusal unchanged
-abbrev pub then : Number → (ℕ → ℕ → Read) → Read
+abbrev pub then : Number → (ℕ → ℕ → EnvelopeRead) → EnvelopeRead
 then (num.Value v next) k = k v next
 then (num.Refused r) k = Refused r
 
-unfoldable pub bodyAt : List ℕ → ℕ → ℕ → ℕ → ℕ → Read
+unfoldable pub bodyAt : List ℕ → ℕ → ℕ → ℕ → ℕ → EnvelopeRead
 bodyAt s kind job bits at =
     cond (ltb (length s) (at + bytesFor bits)) (Refused Cut)
     (cond (isPadded bits (drop at s)) (Is (record { kind = kind; job = job; bits = bits; body = at; next = at + bytesFor bits }))
     (Refused Size))
 
-unfoldable pub sizeAt : ℕ → List ℕ → ℕ → ℕ → ℕ → ℕ → Read
+unfoldable pub sizeAt : ℕ → List ℕ → ℕ → ℕ → ℕ → ℕ → EnvelopeRead
 sizeAt limit s kind job bits at = cond (sizeFits limit kind bits) (bodyAt s kind job bits at) (Refused Size)
 
-unfoldable pub jobAt : ℕ → List ℕ → ℕ → ℕ → ℕ → Read
+unfoldable pub jobAt : ℕ → List ℕ → ℕ → ℕ → ℕ → EnvelopeRead
 jobAt limit s kind job at = cond (eqb job 0) (Refused Groups) (then (numberAt s at) (sizeAt limit s kind job))
 
-unfoldable pub kindAt : ℕ → List ℕ → ℕ → ℕ → Read
+unfoldable pub kindAt : ℕ → List ℕ → ℕ → ℕ → EnvelopeRead
 kindAt limit s kind at = cond (isKind kind) (then (numberAt s at) (jobAt limit s kind)) (Refused Kind)
 
 -- the envelope that begins at a position
-unfoldable pub envelopeAt : ℕ → List ℕ → ℕ → Read
+unfoldable pub envelopeAt : ℕ → List ℕ → ℕ → EnvelopeRead
 envelopeAt limit s at = then (numberAt s at) (kindAt limit s)
 
 -- a number's refusal as the envelope's, for the code's `else`; a value does not come there
-abbrev pub refusedBy : Number → Read
+abbrev pub refusedBy : Number → EnvelopeRead
 refusedBy (num.Value v next) = Refused Cut
 refusedBy (num.Refused r) = Refused r
 
@@ -117,10 +117,10 @@ fits limit kind job bits body =
 
 -- the answer and the buffer after it
 pub record Left : Type 0 where
-  pub answer : Written
+  pub answer : EnvelopeWritten
   pub bytes : List ℕ
 
-abbrev pub left : Written → List ℕ → Left
+abbrev pub left : EnvelopeWritten → List ℕ → Left
 left w s = record { answer = w; bytes = s }
 
 -- bytes put at the front of a buffer, the rest of it as it was
@@ -158,7 +158,7 @@ abbrev pub contentOf : List ℕ → Envelope → Content
 contentOf s e = content (e .kind) (e .job) (e .bits) (drop (e .body) s)
 
 -- an answer with its positions counted from further back
-abbrev pub moved : ℕ → Read → Read
+abbrev pub moved : ℕ → EnvelopeRead → EnvelopeRead
 moved by (Is e) = Is (record { kind = e .kind; job = e .job; bits = e .bits; body = by + e .body; next = by + e .next })
 moved by (Refused r) = Refused r
 

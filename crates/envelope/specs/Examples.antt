@@ -5,8 +5,8 @@ use mathlib.Core.List.{List}
 use lib.ListN.{length}
 use lib.Dec.{eqb}
 use Rattle.envelope.specs.Envelopes.{refusalNumber}
-use Rattle.envelope.specs.declared.Read.{Read}
-use Rattle.envelope.specs.declared.Read.the-variants.{Is, Refused}
+use Rattle.envelope.specs.declared.EnvelopeRead.{EnvelopeRead}
+use Rattle.envelope.specs.declared.EnvelopeRead.the-variants.{Is, Refused}
 
 -- bytes, the refusal's number or 0, and the envelope's kind, job and bit count or zeros
 pub record Row : Type 0 where
@@ -20,7 +20,7 @@ abbrev pub reads : List ℕ → ℕ → ℕ → ℕ → Row
 reads l kind job bits = record { bytes = l; refusal = 0; kind = kind; job = job; bits = bits }
 
 -- the answer is the row's, and the envelope takes all its bytes
-abbrev pub answers : Read → Row → Bool
+abbrev pub answers : EnvelopeRead → Row → Bool
 answers (Is e) r =
     eqb (r .refusal) 0 && eqb (e .kind) (r .kind) && eqb (e .job) (r .job) && eqb (e .bits) (r .bits) && eqb (e .next) (length (r .bytes))
 answers (Refused f) r = eqb (refusalNumber f) (r .refusal)

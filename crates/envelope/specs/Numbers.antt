@@ -8,7 +8,7 @@ use mathlib.Core.List.{List, [], _∷_}
 use lib.ListN.{length, drop}
 use lib.Seq.{sets}
 use lib.Dec.{ltb, eqb}
-use Rattle.envelope.specs.declared.Refusal.the-variants.{Cut, Groups}
+use Rattle.envelope.specs.declared.EnvelopeRefusal.the-variants.{Cut, Groups}
 use Rattle.envelope.specs.declared.Number.{Number}
 use Rattle.envelope.specs.declared.Number.the-variants.{Value, Refused}
 

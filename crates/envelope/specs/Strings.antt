@@ -6,10 +6,10 @@ use mathlib.Core.List.{List, [], _∷_, _++_, map}
 use lib.ListN.{length, drop}
 use lib.Dec.{leb}
 use Rattle.envelope.specs.Envelopes.{Content, contentOf, bytesOf, Fit, placed, envelopeAt}
-use Rattle.envelope.specs.declared.Refusal.{Refusal}
+use Rattle.envelope.specs.declared.EnvelopeRefusal.{EnvelopeRefusal}
 use Rattle.envelope.specs.declared.Envelope.{Envelope}
-use Rattle.envelope.specs.declared.Read.{Read}
-use Rattle.envelope.specs.declared.Read.the-variants.{Is, Refused}
+use Rattle.envelope.specs.declared.EnvelopeRead.{EnvelopeRead}
+use Rattle.envelope.specs.declared.EnvelopeRead.the-variants.{Is, Refused}
 
 -- ---- written
 
@@ -33,7 +33,7 @@ pub data AllFit (limit : ℕ) : List Content → Type 0 where
 -- where reading stops: at the end of the bytes, or at a refusal and the byte where its envelope begins
 pub data Ending : Type 0 where
   ended : ℕ → Ending
-  stopped : Refusal → ℕ → Ending
+  stopped : EnvelopeRefusal → ℕ → Ending
 
 pub record Walk : Type 0 where
   pub envelopes : List Envelope
@@ -46,7 +46,7 @@ abbrev pub past : Envelope → Walk → Walk
 past e w = record { envelopes = e ∷ w .envelopes; ending = w .ending }
 
 -- a refusal stops; an envelope is followed by what stands at its next position
-abbrev pub onRead : Read → ℕ → (Envelope → Walk) → Walk
+abbrev pub onRead : EnvelopeRead → ℕ → (Envelope → Walk) → Walk
 onRead (Is e) at k = past e (k e)
 onRead (Refused r) at k = ends (stopped r at)
 
@@ -68,4 +68,4 @@ contentsOf s es = map (λ (e : Envelope). contentOf s e) es
 
 pub data Told (limit : ℕ) (s : List ℕ) (at : ℕ) : Walk → Type 0 where
   whole : (cs : List Content) → AllFit limit cs → drop at s ≡ stringOf cs → Told limit s at (record { envelopes = allPlaced at cs; ending = ended (at + length (stringOf cs)) })
-  broken : (cs : List Content) (t : List ℕ) (r : Refusal) → AllFit limit cs → drop at s ≡ stringOf cs ++ t → at + length (stringOf cs) < length s → envelopeAt limit s (at + length (stringOf cs)) ≡ Refused r → Told limit s at (record { envelopes = allPlaced at cs; ending = stopped r (at + length (stringOf cs)) })
+  broken : (cs : List Content) (t : List ℕ) (r : EnvelopeRefusal) → AllFit limit cs → drop at s ≡ stringOf cs ++ t → at + length (stringOf cs) < length s → envelopeAt limit s (at + length (stringOf cs)) ≡ Refused r → Told limit s at (record { envelopes = allPlaced at cs; ending = stopped r (at + length (stringOf cs)) })

@@ -1,8 +1,8 @@
 // Numbers in groups of seven bits, lowest group first, the top bit set on all but the last byte.
 ghost use mathlib.Core.Path.{_≡_};
 ghost use Rattle.envelope.specs.Numbers.{numberAt};
+use crate::EnvelopeRefusal;
 use crate::Number;
-use crate::Refusal;
 use crate::wide;
 
 // The number at a position. Nine groups may be followed by another; the tenth has one bit.
@@ -15,7 +15,7 @@ pub fn read_number(s: &[u8], at: usize) -> Number
     let mut i: usize = 0;
     while i < Number::FOLLOWED {
         if s.len() <= p {
-            return Number::Refused(Refusal::Cut);
+            return Number::Refused(EnvelopeRefusal::Cut);
         }
         let b = wide(s[p]);
         if b < 128 {
@@ -23,7 +23,7 @@ pub fn read_number(s: &[u8], at: usize) -> Number
                 return Number::Value(v + b * w, p + 1);
             }
             if 0 < i {
-                return Number::Refused(Refusal::Groups);
+                return Number::Refused(EnvelopeRefusal::Groups);
             }
             return Number::Value(0, p + 1);
         }
@@ -33,14 +33,14 @@ pub fn read_number(s: &[u8], at: usize) -> Number
         i += 1;
     }
     if s.len() <= p {
-        return Number::Refused(Refusal::Cut);
+        return Number::Refused(EnvelopeRefusal::Cut);
     }
     let b = wide(s[p]);
     if 1 < b {
-        return Number::Refused(Refusal::Groups);
+        return Number::Refused(EnvelopeRefusal::Groups);
     }
     if b == 0 {
-        return Number::Refused(Refusal::Groups);
+        return Number::Refused(EnvelopeRefusal::Groups);
     }
     Number::Value(v + w, p + 1)
 }

@@ -11,7 +11,7 @@ mod putting; // putting.rt: bytes and numbers into a buffer
 use words::Limit;
 
 // Why an envelope is refused.
-pub enum Refusal {
+pub enum EnvelopeRefusal {
     // it ends inside
     Cut,
     // a number not in its shortest form or above 2^64 - 1, or job 0
@@ -22,16 +22,16 @@ pub enum Refusal {
     Size,
 }
 
-impl Refusal {
+impl EnvelopeRefusal {
     // Document 01's number.
     pub fn number(self) -> u64
         ensures { λ r. ⌜ r ≡ refusalNumber self ⌝ }
     {
         match self {
-            Refusal::Cut => 20,
-            Refusal::Groups => 21,
-            Refusal::Kind => 22,
-            Refusal::Size => 23,
+            EnvelopeRefusal::Cut => 20,
+            EnvelopeRefusal::Groups => 21,
+            EnvelopeRefusal::Kind => 22,
+            EnvelopeRefusal::Size => 23,
         }
     }
 }
@@ -39,7 +39,7 @@ impl Refusal {
 // A number in groups, and the position after it.
 pub enum Number {
     Value(u64, usize),
-    Refused(Refusal),
+    Refused(EnvelopeRefusal),
 }
 
 impl Number {
@@ -68,27 +68,27 @@ impl Envelope {
 }
 
 // What is read at a position.
-pub enum Read {
+pub enum EnvelopeRead {
     Is(Envelope),
-    Refused(Refusal),
+    Refused(EnvelopeRefusal),
 }
 
 // What the writer answers: the bytes that it took of the buffer, or why it took none.
-pub enum Written {
+pub enum EnvelopeWritten {
     Bytes(usize),
     Room,
     Shape,
 }
 
-impl Written {
+impl EnvelopeWritten {
     // Document 01's number of a refusal, and 0 for none.
     pub fn number(self) -> u64
         ensures { λ r. ⌜ r ≡ writtenNumber self ⌝ }
     {
         match self {
-            Written::Bytes(_) => 0,
-            Written::Room => Limit::ROOM,
-            Written::Shape => Limit::SHAPE,
+            EnvelopeWritten::Bytes(_) => 0,
+            EnvelopeWritten::Room => Limit::ROOM,
+            EnvelopeWritten::Shape => Limit::SHAPE,
         }
     }
 }

@@ -4,9 +4,9 @@ ghost use Prim.Native.Nat.{_+_, _≤_};
 ghost use lib.ListN.{length, drop};
 ghost use Rattle.envelope.specs.Envelopes.{isKind, sizeFits, bytesFor, isPadded, bodyAt, refusedBy, envelopeAt, mostBits};
 use crate::Envelope;
+use crate::EnvelopeRead;
+use crate::EnvelopeRefusal;
 use crate::Number;
-use crate::Read;
-use crate::Refusal;
 use crate::groups::read_number;
 use crate::wide;
 
@@ -52,18 +52,18 @@ pub(crate) fn padded(s: &[u8], at: usize, bits: u64) -> bool
     wide(s[at + n - 1]) % (128 >> ((bits % 8 + 7) % 8)) == 0
 }
 
-fn read_body(s: &[u8], kind: u64, job: u64, bits: u64, at: usize) -> Read
+fn read_body(s: &[u8], kind: u64, job: u64, bits: u64, at: usize) -> EnvelopeRead
     ensures { λ r. ⌜ r ≡ bodyAt (now (s .entry)) kind job bits at ⌝ }
 {
     let n = bytes_for(bits);
     if s.len() < n {
-        return Read::Refused(Refusal::Cut);
+        return EnvelopeRead::Refused(EnvelopeRefusal::Cut);
     }
     if s.len() - n < at {
-        return Read::Refused(Refusal::Cut);
+        return EnvelopeRead::Refused(EnvelopeRefusal::Cut);
     }
     if padded(s, at, bits) {
-        return Read::Is(Envelope {
+        return EnvelopeRead::Is(Envelope {
             kind,
             job,
             bits,
@@ -71,21 +71,21 @@ fn read_body(s: &[u8], kind: u64, job: u64, bits: u64, at: usize) -> Read
             next: at + n,
         });
     }
-    Read::Refused(Refusal::Size)
+    EnvelopeRead::Refused(EnvelopeRefusal::Size)
 }
 
 // A number's refusal is the envelope's.
-fn refused(n: Number) -> Read
+fn refused(n: Number) -> EnvelopeRead
     ensures { λ r. ⌜ r ≡ refusedBy n ⌝ }
 {
     match n {
-        Number::Value(_, _) => Read::Refused(Refusal::Cut),
-        Number::Refused(r) => Read::Refused(r),
+        Number::Value(_, _) => EnvelopeRead::Refused(EnvelopeRefusal::Cut),
+        Number::Refused(r) => EnvelopeRead::Refused(r),
     }
 }
 
 // The envelope that begins at a position: kind number, job, bit count, body, and the first refusal among them.
-pub fn read_envelope(s: &[u8], at: usize) -> Read
+pub fn read_envelope(s: &[u8], at: usize) -> EnvelopeRead
     ensures { λ r. ⌜ r ≡ envelopeAt mostBits (now (s .entry)) at ⌝ }
 {
     let first = read_number(s, at);
@@ -93,21 +93,21 @@ pub fn read_envelope(s: &[u8], at: usize) -> Read
         return refused(first);
     };
     if !is_kind(kind) {
-        return Read::Refused(Refusal::Kind);
+        return EnvelopeRead::Refused(EnvelopeRefusal::Kind);
     }
     let second = read_number(s, p);
     let Number::Value(job, q) = second else {
         return refused(second);
     };
     if job == 0 {
-        return Read::Refused(Refusal::Groups);
+        return EnvelopeRead::Refused(EnvelopeRefusal::Groups);
     }
     let third = read_number(s, q);
     let Number::Value(bits, t) = third else {
         return refused(third);
     };
     if !size_fits(kind, bits) {
-        return Read::Refused(Refusal::Size);
+        return EnvelopeRead::Refused(EnvelopeRefusal::Size);
     }
     read_body(s, kind, job, bits, t)
 }

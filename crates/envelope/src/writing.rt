@@ -2,7 +2,7 @@
 ghost use mathlib.Core.Path.{_≡_};
 ghost use Rattle.envelope.specs.Envelopes.{fits, mostBits, leastRoom, left, writeEnvelope};
 use crate::Envelope;
-use crate::Written;
+use crate::EnvelopeWritten;
 use crate::putting::put_bytes;
 use crate::putting::put_number;
 use crate::reading::bytes_for;
@@ -30,19 +30,25 @@ fn may_write(kind: u64, job: u64, bits: u64, body: &[u8]) -> bool
 }
 
 // The envelope of a kind, a job, a bit count and the first bytes of a body. The buffer is changed where it is written only.
-pub fn write_envelope(out: &mut [u8], kind: u64, job: u64, bits: u64, body: &[u8]) -> Written
+pub fn write_envelope(
+    out: &mut [u8],
+    kind: u64,
+    job: u64,
+    bits: u64,
+    body: &[u8],
+) -> EnvelopeWritten
     ensures { λ r. ⌜ left r (now (out .exit)) ≡ writeEnvelope leastRoom mostBits (now (out .entry)) kind job bits (now (body .entry)) ⌝ }
 {
     if out.len() < Envelope::ROOM {
-        return Written::Room;
+        return EnvelopeWritten::Room;
     }
     if !may_write(kind, job, bits, body) {
-        return Written::Shape;
+        return EnvelopeWritten::Shape;
     }
     let p = put_number(out, 0, kind);
     let q = put_number(out, p, job);
     let t = put_number(out, q, bits);
     let n = bytes_for(bits);
     let end = put_bytes(out, t, body, n);
-    Written::Bytes(end)
+    EnvelopeWritten::Bytes(end)
 }

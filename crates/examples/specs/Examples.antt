@@ -1,4 +1,5 @@
--- Document 01, "Examples by hand", the rows marked P, and the two lengths of document 02, E3: one list. A subject is a constructor of Row and a line of holds.
+-- Document 01, "Examples by hand", the rows marked P, and the two lengths of document 02, E3: one list. A subject is a constructor of Row
+-- and a line of holds.
 use Prim.Native.Nat.{ℕ, _+_, _-_, _*_, _/_}
 use mathlib.Core.Bool.{Bool, true, false, _&&_}
 use mathlib.Core.List.{List, [], _∷_, _++_}
@@ -12,8 +13,8 @@ use Rattle.elements.specs.Arguments.{codeFits, digitsBits, codeAt, charactersIn
 use Rattle.elements.specs.declared.values.Step.{Step}
 use Rattle.elements.specs.declared.values.Step.the-variants as step
 use Rattle.envelope.specs.Envelopes.{envelopeAt, mostBits, contentOf, bytesOf}
-use Rattle.envelope.specs.declared.Read.{Read}
-use Rattle.envelope.specs.declared.Read.the-variants as envelope
+use Rattle.envelope.specs.declared.EnvelopeRead.{EnvelopeRead}
+use Rattle.envelope.specs.declared.EnvelopeRead.the-variants as envelope
 use Rattle.envelope.specs.Examples.{answers, reads}
 use Rattle.envelope.specs.Examples.{Row as EnvelopeRow}
 use Rattle.fields.specs.declared.Field.{Field}
@@ -31,8 +32,8 @@ pub data Text : Type 0 where
   freeText : Text
   atisCode : Text
 
--- bytes and what they say, by their subject. A code: its digits, how many bits, and the bytes; characters the same; a facility designation that is
--- refused: the bytes, and the number
+-- bytes and what they say, by their subject. A code: its digits, how many bits, and the bytes; characters the same; a facility designation
+-- that is refused: the bytes, and the number
 pub data Row : Type 0 where
   aLength : List ℕ → Says ℕ → Row
   aCode : List ℕ → ℕ → List ℕ → Row
@@ -111,7 +112,7 @@ abbrev pub ends : Step → ℕ → Bool
 ends (step.Next next) n = eqb next n
 ends (step.Refused r) n = false
 
-abbrev pub writesBack : Read → List ℕ → Bool
+abbrev pub writesBack : EnvelopeRead → List ℕ → Bool
 writesBack (envelope.Is e) bytes = same (bytesOf (contentOf bytes e)) bytes
 writesBack (envelope.Refused r) bytes = true
 

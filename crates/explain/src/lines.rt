@@ -1,7 +1,7 @@
 // A line of standard input: the word that says what it is, and its bytes.
 use crate::messages::explain_message;
 use crate::pdus::explain_apdu;
-use apdu::Side;
+use apdu::PduType;
 use elements::kinds::Direction;
 
 // What digits say, and the place after them; or none of it.
@@ -121,14 +121,14 @@ fn not_read() {
     );
 }
 
-fn explain_pdu_line(line: &[u8], from: usize, side: Side, out: &mut [u8]) {
+fn explain_pdu_line(line: &[u8], from: usize, pdus: PduType, out: &mut [u8]) {
     let taken = bytes(line, from, out);
     let Taken::Bytes(n) = taken else {
         not_read();
         return;
     };
     if n <= out.len() {
-        explain_apdu(&out[..n], side);
+        explain_apdu(&out[..n], pdus);
     }
 }
 
@@ -153,11 +153,11 @@ pub(crate) fn explain_line(line: &[u8], out: &mut [u8]) {
     io::write_all(1, line);
     io::write_all(1, b"\n");
     if begins(line, b"air ") {
-        explain_pdu_line(line, 4, Side::Air, out);
+        explain_pdu_line(line, 4, PduType::AircraftPdus, out);
         return;
     }
     if begins(line, b"ground ") {
-        explain_pdu_line(line, 7, Side::Ground, out);
+        explain_pdu_line(line, 7, PduType::GroundPdus, out);
         return;
     }
     if begins(line, b"down ") {

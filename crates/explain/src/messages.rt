@@ -2,8 +2,8 @@
 use crate::rows::accepted;
 use crate::rows::refused;
 use crate::rows::row;
+use elements::kinds::ArgumentKind;
 use elements::kinds::Direction;
-use elements::kinds::Kind;
 use elements::kinds::kind_of;
 use elements::values::Element;
 use elements::values::LevelType;
@@ -123,24 +123,24 @@ fn walk_facility(s: &[u8], end: usize, at: usize) -> Field {
 }
 
 // The argument; of an element that is not carried nothing more is read.
-fn walk_argument(kind: Kind, s: &[u8], end: usize, at: usize) -> Field {
+fn walk_argument(kind: ArgumentKind, s: &[u8], end: usize, at: usize) -> Field {
     match kind {
-        Kind::NotCarried => fields::refused_at(at, fields::Fault::NotCarried),
-        Kind::None => Field::Value(0, at),
-        Kind::Level => walk_level(s, end, at),
-        Kind::TwoLevels => walk_two_levels(s, end, at),
-        Kind::Time => walk_time(s, end, at),
-        Kind::Code => walk_code(s, end, at),
-        Kind::FreeText => walk_text(
+        ArgumentKind::NotCarried => fields::refused_at(at, fields::Fault::NotCarried),
+        ArgumentKind::None => Field::Value(0, at),
+        ArgumentKind::Level => walk_level(s, end, at),
+        ArgumentKind::TwoLevels => walk_two_levels(s, end, at),
+        ArgumentKind::Time => walk_time(s, end, at),
+        ArgumentKind::Code => walk_code(s, end, at),
+        ArgumentKind::FreeText => walk_text(
             s,
             end,
             at,
             Element::FREE_TEXT_LEAST,
             Element::FREE_TEXT_MOST,
         ),
-        Kind::Facility => walk_facility(s, end, at),
-        Kind::FacilityDesignation => walk_designation(s, end, at),
-        Kind::AtisCode => row(
+        ArgumentKind::Facility => walk_facility(s, end, at),
+        ArgumentKind::FacilityDesignation => walk_designation(s, end, at),
+        ArgumentKind::AtisCode => row(
             b"characters",
             at,
             fields::contents(s, end, at, Element::CHARACTER_BITS, 1),

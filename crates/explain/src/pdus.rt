@@ -3,10 +3,10 @@ use crate::forwards::walk_forward;
 use crate::rows::accepted;
 use crate::rows::refused;
 use crate::rows::row;
-use apdu::Answer;
 use apdu::Apdu;
 use apdu::Data;
-use apdu::Side;
+use apdu::Decoded;
+use apdu::PduType;
 use fields::Field;
 
 // The end of lent bytes: all of them.
@@ -184,22 +184,22 @@ fn walk_start_down(s: &[u8], at: usize) {
     }
 }
 
-fn walk_start(s: &[u8], side: Side, at: usize) {
-    match side {
-        Side::Air => walk_start_down(s, at),
-        Side::Ground => walk_data(s, at),
+fn walk_start(s: &[u8], pdus: PduType, at: usize) {
+    match pdus {
+        PduType::AircraftPdus => walk_start_down(s, at),
+        PduType::GroundPdus => walk_data(s, at),
     }
 }
 
-fn last_of(side: Side) -> u64 {
-    match side {
-        Side::Air => 3,
-        Side::Ground => 5,
+fn last_of(pdus: PduType) -> u64 {
+    match pdus {
+        PduType::AircraftPdus => 3,
+        PduType::GroundPdus => 5,
     }
 }
 
-fn walk(s: &[u8], side: Side) {
-    let index = walk_index(s, 0, b"alternative", last_of(side));
+fn walk(s: &[u8], pdus: PduType) {
+    let index = walk_index(s, 0, b"alternative", last_of(pdus));
     let Field::Value(i, p) = index else {
         return;
     };
@@ -210,7 +210,7 @@ fn walk(s: &[u8], side: Side) {
         walk_index(s, p, b"reason of the provider", Apdu::PROVIDER_LAST);
     }
     if i == 2 {
-        walk_start(s, side, p);
+        walk_start(s, pdus, p);
     }
     if i == 3 {
         walk_data(s, p);
@@ -223,11 +223,11 @@ fn walk(s: &[u8], side: Side) {
     }
 }
 
-pub(crate) fn explain_apdu(s: &[u8], side: Side) {
-    walk(s, side);
-    let answer = apdu::read_apdu(s, side);
+pub(crate) fn explain_apdu(s: &[u8], pdus: PduType) {
+    walk(s, pdus);
+    let answer = apdu::read_apdu(s, pdus);
     match answer {
-        Answer::Is(_) => accepted(),
-        Answer::Refused(r) => refused(r, s),
+        Decoded::Is(_) => accepted(),
+        Decoded::Refused(r) => refused(r, s),
     }
 }

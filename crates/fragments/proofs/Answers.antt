@@ -8,10 +8,10 @@ use native.Mathlib.Omega.{arith}
 use lib.Dec.{eqb}
 use lib.ListN.{length, length-append}
 use Rattle.envelope.specs.Envelopes.{envelopeAt, largest}
-use Rattle.envelope.specs.declared.Refusal.the-variants.{Cut, Groups, Kind, Size}
+use Rattle.envelope.specs.declared.EnvelopeRefusal.the-variants.{Cut, Groups, Kind, Size}
 use Rattle.envelope.specs.declared.Envelope.{Envelope}
-use Rattle.envelope.specs.declared.Read.{Read}
-use Rattle.envelope.specs.declared.Read.the-variants.{Is, Refused}
+use Rattle.envelope.specs.declared.EnvelopeRead.{EnvelopeRead}
+use Rattle.envelope.specs.declared.EnvelopeRead.the-variants.{Is, Refused}
 use Rattle.envelope.proofs.Numbers.{AllBytes}
 use Rattle.envelope.proofs.Sizes.{kind-small, bits-small}
 use Rattle.envelope.proofs.RoundTrip.{read-written}
@@ -54,7 +54,7 @@ module _ (limit : ℕ) (z : Sized limit) (e : Envelope) (n : ℕ) where
   unfolding joined
   joined-small p h f b g q = by (envelopeAt limit (h ++ f) 0) refl q
     where
-      by : (x : Read) → envelopeAt limit (h ++ f) 0 ≡ x → onward p h f x .answer ≡ taken.Whole e n → Small limit f e n
+      by : (x : EnvelopeRead) → envelopeAt limit (h ++ f) 0 ≡ x → onward p h f x .answer ≡ taken.Whole e n → Small limit f e n
       by (Is c) o q = in-record-small h f b g c o q
       by (Refused Cut) o q = let y : _≡_ {A = ℕ} 0 1 = cc in absurd (omega arith)
       by (Refused Groups) o q = let y : _≡_ {A = ℕ} 0 1 = cc in absurd (omega arith)

@@ -10,11 +10,11 @@ use lib.ListN.{length, take, getD}
 use lib.Seq.{sets, length-take-le}
 use borrow.Author.Tests.{eq-eqb, ne-eqb}
 use Rattle.envelope.specs.Envelopes.{envelopeAt, largest, mostBits}
-use Rattle.envelope.specs.declared.Refusal.{Refusal}
-use Rattle.envelope.specs.declared.Refusal.the-variants.{Cut, Groups, Kind, Size}
+use Rattle.envelope.specs.declared.EnvelopeRefusal.{EnvelopeRefusal}
+use Rattle.envelope.specs.declared.EnvelopeRefusal.the-variants.{Cut, Groups, Kind, Size}
 use Rattle.envelope.specs.declared.Envelope.{Envelope}
-use Rattle.envelope.specs.declared.Read.{Read}
-use Rattle.envelope.specs.declared.Read.the-variants.{Is, Refused}
+use Rattle.envelope.specs.declared.EnvelopeRead.{EnvelopeRead}
+use Rattle.envelope.specs.declared.EnvelopeRead.the-variants.{Is, Refused}
 use Rattle.envelope.proofs.Numbers.{AllBytes}
 use Rattle.envelope.proofs.Sizes.{largest-is}
 use Rattle.fragments.specs.declared.Taken.{Taken}
@@ -35,22 +35,22 @@ sized = record { small = lit< tt; least = omega (arith, largest-is); most = omeg
 
 -- ---- with nothing held
 
-module _ (limit : ℕ) (b f : List ℕ) (p : ℕ) (x : Read) (e : x ≡ envelopeAt limit f 0) where
+module _ (limit : ℕ) (b f : List ℕ) (p : ℕ) (x : EnvelopeRead) (e : x ≡ envelopeAt limit f 0) where
   pub begin-whole : (c d : Envelope) (y z : List ℕ) → x ≡ Is c → c .next ≤ length f → y ≡ sets b head (take (c .next) f) → z ≡ sets y 0 (headAt 1 (c .next) p) → d ≡ inRecord c → after (taken.Whole d (c .next)) z ≡ kept limit 0 b (joined limit p [] f)
   unfolding joined kept laid
   begin-whole c d y z q l g h k =
       let o : c .next - 0 ≡ c .next = omega arith in
       rw (← e, q, o, padded-none 0 (take (c .next) f) (omega arith), ← g, length-take-le (c .next) f l, ← h, ← k)
 
-  pub begin-part : (r : Refusal) (t : Bool) (y z : List ℕ) → x ≡ Refused r → t ≡ isCut r → t ≡ true → y ≡ sets b head f → z ≡ sets y 0 (headAt 0 (length f) p) → after (taken.Part (length f)) z ≡ kept limit 0 b (joined limit p [] f)
+  pub begin-part : (r : EnvelopeRefusal) (t : Bool) (y z : List ℕ) → x ≡ Refused r → t ≡ isCut r → t ≡ true → y ≡ sets b head f → z ≡ sets y 0 (headAt 0 (length f) p) → after (taken.Part (length f)) z ≡ kept limit 0 b (joined limit p [] f)
   unfolding joined kept laid
   begin-part r t y z q s u g h = rw (← e, q, ← s, u, padded-none 0 f (omega arith), ← g, ← h)
 
-  pub begin-refused : (r : Refusal) (t : Bool) (a : Taken) (z : List ℕ) → x ≡ Refused r → t ≡ isCut r → t ≡ false → after a z ≡ after (taken.Refused r) (recordOf limit (refused r p)) → after a z ≡ kept limit 0 b (joined limit p [] f)
+  pub begin-refused : (r : EnvelopeRefusal) (t : Bool) (a : Taken) (z : List ℕ) → x ≡ Refused r → t ≡ isCut r → t ≡ false → after a z ≡ after (taken.Refused r) (recordOf limit (refused r p)) → after a z ≡ kept limit 0 b (joined limit p [] f)
   unfolding joined kept
   begin-refused r t a z q s u g = g ∙ rw (← e, q, ← s, u)
 
-pub begin-cut : (limit : ℕ) (f : List ℕ) (x : Read) (r : Refusal) (t : Bool) → x ≡ envelopeAt limit f 0 → x ≡ Refused r → t ≡ isCut r → t ≡ true → envelopeAt limit f 0 ≡ Refused Cut
+pub begin-cut : (limit : ℕ) (f : List ℕ) (x : EnvelopeRead) (r : EnvelopeRefusal) (t : Bool) → x ≡ envelopeAt limit f 0 → x ≡ Refused r → t ≡ isCut r → t ≡ true → envelopeAt limit f 0 ≡ Refused Cut
 begin-cut limit f x r t e q s u = sym e ∙ (q ∙ ap Refused (cut-is r (sym s ∙ u)))
 
 -- ---- zeros over what was finished, and then from nothing
@@ -69,13 +69,13 @@ joined-fits : (limit : ℕ) → Sized limit → (p : ℕ) (f : List ℕ) → All
 unfolding joined
 joined-fits limit z p f b = go (envelopeAt limit f 0) refl
   where
-    cut : (r : Refusal) → envelopeAt limit f 0 ≡ Refused r → length (heldOf (cond (isCut r) (step (taken.Part (length f)) (part p f)) (step (taken.Refused r) (refused r p)) .mail)) ≤ largest limit
+    cut : (r : EnvelopeRefusal) → envelopeAt limit f 0 ≡ Refused r → length (heldOf (cond (isCut r) (step (taken.Part (length f)) (part p f)) (step (taken.Refused r) (refused r p)) .mail)) ≤ largest limit
     cut Cut e = omega (arith, lacks limit z f b e .room)
     cut Groups e = omega arith
     cut Kind e = omega arith
     cut Size e = omega arith
 
-    go : (x : Read) → envelopeAt limit f 0 ≡ x → length (heldOf (onward p [] f x .mail)) ≤ largest limit
+    go : (x : EnvelopeRead) → envelopeAt limit f 0 ≡ x → length (heldOf (onward p [] f x .mail)) ≤ largest limit
     go (Is c) e = omega (arith, length-take-le (c .next) f (next-within limit z f b c e), next-largest limit z f b c e)
     go (Refused r) e = cut r e
 
@@ -141,7 +141,7 @@ module _ (limit : ℕ) (b : List ℕ) (x : Loaded) (e : x ≡ loadAt limit b) wh
   unfolding takeAt
   take-whole f n p o q g = g ∙ rw (← e, q)
 
-  pub take-refused : (f : List ℕ) (r : Refusal) → x ≡ loaded.Refused r → after (taken.Refused r) b ≡ takeAt limit b f
+  pub take-refused : (f : List ℕ) (r : EnvelopeRefusal) → x ≡ loaded.Refused r → after (taken.Refused r) b ≡ takeAt limit b f
   unfolding takeAt
   take-refused f r q = rw (← e, q)
 
@@ -167,7 +167,7 @@ module _ (limit : ℕ) (b : List ℕ) (x : Loaded) (e : x ≡ loadAt limit b) wh
   unfolding endAt
   end-whole n p q = rw (← e, q)
 
-  pub end-refused : (r : Refusal) → x ≡ loaded.Refused r → after (taken.Refused r) b ≡ endAt limit b
+  pub end-refused : (r : EnvelopeRefusal) → x ≡ loaded.Refused r → after (taken.Refused r) b ≡ endAt limit b
   unfolding endAt
   end-refused r q = rw (← e, q)
 

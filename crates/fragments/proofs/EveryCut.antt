@@ -11,11 +11,11 @@ use lib.Seq.{take-append-le, drop-append-le, drop-append-add, drop-drop, length-
 use borrow.Author.Tests.{ne-eqb}
 use Rattle.envelope.specs.Envelopes.{bytesFor, envelopeAt, Content, contentOf, largest, mostBits}
 use Rattle.envelope.specs.Strings.{Ending, ended, stopped, Walk, walk, stringOf, Told as Says, whole as says-all, broken as says-part}
-use Rattle.envelope.specs.declared.Refusal.{Refusal}
-use Rattle.envelope.specs.declared.Refusal.the-variants.{Cut, Groups, Kind, Size}
+use Rattle.envelope.specs.declared.EnvelopeRefusal.{EnvelopeRefusal}
+use Rattle.envelope.specs.declared.EnvelopeRefusal.the-variants.{Cut, Groups, Kind, Size}
 use Rattle.envelope.specs.declared.Envelope.{Envelope}
-use Rattle.envelope.specs.declared.Read.{Read}
-use Rattle.envelope.specs.declared.Read.the-variants.{Is, Refused}
+use Rattle.envelope.specs.declared.EnvelopeRead.{EnvelopeRead}
+use Rattle.envelope.specs.declared.EnvelopeRead.the-variants.{Is, Refused}
 use Rattle.envelope.proofs.Numbers.{AllBytes}
 use Rattle.envelope.proofs.Strings.{every-string}
 use Rattle.fragments.specs.declared.Taken.the-variants as taken
@@ -57,13 +57,13 @@ module _ (limit : ℕ) (z : Sized limit) where
   unfolding joined
   joined-fits p h f b = by (envelopeAt limit (h ++ f) 0) refl
     where
-      cut : (r : Refusal) → envelopeAt limit (h ++ f) 0 ≡ Refused r → length (heldOf (onward p h f (Refused r) .mail)) ≤ largest limit
+      cut : (r : EnvelopeRefusal) → envelopeAt limit (h ++ f) 0 ≡ Refused r → length (heldOf (onward p h f (Refused r) .mail)) ≤ largest limit
       cut Cut e = omega (arith, lacks limit z (h ++ f) b e .room)
       cut Groups e = omega arith
       cut Kind e = omega arith
       cut Size e = omega arith
 
-      by : (x : Read) → envelopeAt limit (h ++ f) 0 ≡ x → length (heldOf (onward p h f x .mail)) ≤ largest limit
+      by : (x : EnvelopeRead) → envelopeAt limit (h ++ f) 0 ≡ x → length (heldOf (onward p h f x .mail)) ≤ largest limit
       by (Is c) e = omega (arith, length-take-le (c .next) (h ++ f) (next-within limit z (h ++ f) b c e), next-largest limit z (h ++ f) b c e)
       by (Refused r) e = cut r e
 
@@ -85,7 +85,7 @@ module _ (limit : ℕ) (z : Sized limit) where
   unfolding takeAt loadedBy begun
   take-nothing p h g = rw (loads (whole p h) g)
 
-  take-refused : (r : Refusal) (p : ℕ) (f : List ℕ) → Good limit (refused r p) → takeAt limit (recordOf limit (refused r p)) f ≡ after (taken.Refused r) (recordOf limit (refused r p))
+  take-refused : (r : EnvelopeRefusal) (p : ℕ) (f : List ℕ) → Good limit (refused r p) → takeAt limit (recordOf limit (refused r p)) f ≡ after (taken.Refused r) (recordOf limit (refused r p))
   unfolding takeAt loadedBy
   take-refused Cut p f g = rw (loads (refused Cut p) g)
   take-refused Groups p f g = rw (loads (refused Groups p) g)
@@ -137,7 +137,7 @@ module _ (limit : ℕ) (z : Sized limit) where
   module _ (k p : ℕ) (b h f : List ℕ) (c : envelopeAt limit h 0 ≡ Refused Cut) (bytes : AllBytes (h ++ f)) (size : length f ≤ k) (e : takeAt limit b f ≡ stepped (joined limit p h f))
       (ih : (m : Mail) (v : List ℕ) → Good limit m → AllBytes v → length v < k → handOver limit k (recordOf limit m) v ≡ fedOf limit (follow limit m v))
       (good : p ≤ top) where
-    joined-by : (x : Read) → envelopeAt limit (h ++ f) 0 ≡ x → goOn (onward p h f x .answer) (recordOf limit (onward p h f x .mail)) (λ (n : ℕ). handOver limit k (recordOf limit (onward p h f x .mail)) (drop n f)) ≡ fedOf limit (readAs (λ (q : ℕ) (v : List ℕ). readOn limit (length (h ++ f)) q v) p (h ++ f) x)
+    joined-by : (x : EnvelopeRead) → envelopeAt limit (h ++ f) 0 ≡ x → goOn (onward p h f x .answer) (recordOf limit (onward p h f x .mail)) (λ (n : ℕ). handOver limit k (recordOf limit (onward p h f x .mail)) (drop n f)) ≡ fedOf limit (readAs (λ (q : ℕ) (v : List ℕ). readOn limit (length (h ++ f)) q v) p (h ++ f) x)
     joined-by (Refused Cut) q = refl
     joined-by (Refused Groups) q = refl
     joined-by (Refused Kind) q = refl
@@ -210,7 +210,7 @@ module _ (limit : ℕ) (z : Sized limit) where
   leaves-quiet s [] m at n q = q
   leaves-quiet s (e ∷ es) m at n q = leaves-quiet s es (whole (min at top) (take (e .next - at) (drop at s))) (e .next) n done
 
-  leaves-stopped : (s : List ℕ) (es : List Envelope) (m : Mail) (at : ℕ) (r : Refusal) (n : ℕ) → leaves s m at es (stopped r n) ≡ stoppedAt s r n
+  leaves-stopped : (s : List ℕ) (es : List Envelope) (m : Mail) (at : ℕ) (r : EnvelopeRefusal) (n : ℕ) → leaves s m at es (stopped r n) ≡ stoppedAt s r n
   unfolding leaves
   leaves-stopped s [] m at r n = refl
   leaves-stopped s (e ∷ es) m at r n = leaves-stopped s es (whole (min at top) (take (e .next - at) (drop at s))) (e .next) r n
@@ -225,7 +225,7 @@ module _ (limit : ℕ) (z : Sized limit) where
   end-cut p x xs g =
       rw (loads (part p (x ∷ xs)) g, ne-eqb (length (x ∷ xs)) 0 (λ (q : length (x ∷ xs) ≡ 0). omega arith), held-record limit (part p (x ∷ xs)) (fits (part p (x ∷ xs)) g), is-open limit (x ∷ xs) (g .0))
 
-  end-refused : (r : Refusal) (p : ℕ) → Good limit (refused r p) → endAt limit (recordOf limit (refused r p)) ≡ after (taken.Refused r) (recordOf limit (refused r p))
+  end-refused : (r : EnvelopeRefusal) (p : ℕ) → Good limit (refused r p) → endAt limit (recordOf limit (refused r p)) ≡ after (taken.Refused r) (recordOf limit (refused r p))
   unfolding endAt loadedBy
   end-refused Cut p g = rw (loads (refused Cut p) g)
   end-refused Groups p g = rw (loads (refused Groups p) g)
@@ -233,11 +233,11 @@ module _ (limit : ℕ) (z : Sized limit) where
   end-refused Size p g = rw (loads (refused Size p) g)
 
   -- a refused envelope begins within the string
-  stopped-within : (s : List ℕ) (at : ℕ) (w : Walk) → Says limit s at w → (r : Refusal) (n : ℕ) → w .ending ≡ stopped r n → n < length s
+  stopped-within : (s : List ℕ) (at : ℕ) (w : Walk) → Says limit s at w → (r : EnvelopeRefusal) (n : ℕ) → w .ending ≡ stopped r n → n < length s
   stopped-within s at w (says-all cs f d) r n e = let o : _≡_ {A = ℕ} 0 1 = cc in absurd (omega arith)
   stopped-within s at w (says-part cs t q f d h p) r n e = let o : n ≡ at + length (stringOf cs) = cc in omega arith
 
-  end-stopped : (s : List ℕ) (r : Refusal) (n : ℕ) → n < length s → Good limit (stoppedAt s r n) → endAt limit (recordOf limit (stoppedAt s r n)) ≡ after (taken.Refused r) (recordOf limit (refused r (min n top)))
+  end-stopped : (s : List ℕ) (r : EnvelopeRefusal) (n : ℕ) → n < length s → Good limit (stoppedAt s r n) → endAt limit (recordOf limit (stoppedAt s r n)) ≡ after (taken.Refused r) (recordOf limit (refused r (min n top)))
   end-stopped s Cut n h g = by (drop n s) (length-drop n s) g
     where
       by : (v : List ℕ) → length v ≡ length s - n → Good limit (part (min n top) v) → endAt limit (recordOf limit (part (min n top) v)) ≡ after (taken.Refused Cut) (recordOf limit (refused Cut (min n top)))

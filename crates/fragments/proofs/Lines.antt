@@ -9,7 +9,7 @@ use lib.Seq.{sets, sets-eq, length-sets, take-all, drop-drop}
 use borrow.Author.Tests.{lt-ltb, le-ltb}
 use Rattle.envelope.specs.Numbers.{Put}
 use Rattle.envelope.specs.Envelopes.{refusalNumber, Content, contentOf}
-use Rattle.envelope.specs.declared.Refusal.{Refusal}
+use Rattle.envelope.specs.declared.EnvelopeRefusal.{EnvelopeRefusal}
 use Rattle.envelope.specs.declared.Envelope.{Envelope}
 use Rattle.envelope.proofs.Numbers.{AllBytes}
 use Rattle.envelope.proofs.Puts.{sets-append}
@@ -36,7 +36,7 @@ pub length-end : (n : ℕ) → length (endOf n) ≡ length (decimal n) + 5
 unfolding endOf
 length-end n = simp length-append (omega arith)
 
-pub length-refusal : (r : Refusal) (n : ℕ) → length (refusalOf r n) ≡ length (decimal (refusalNumber r)) + length (decimal n) + 13
+pub length-refusal : (r : EnvelopeRefusal) (n : ℕ) → length (refusalOf r n) ≡ length (decimal (refusalNumber r)) + length (decimal n) + 13
 unfolding refusalOf
 length-refusal r n = simp length-append (omega arith)
 
@@ -44,7 +44,7 @@ length-refusal r n = simp length-append (omega arith)
 pub end-fits : (n : ℕ) → length (endOf n) ≤ lastRoom
 end-fits n = omega (arith, length-end n, decimal-most n)
 
-pub refusal-fits : (r : Refusal) (n : ℕ) → length (refusalOf r n) ≤ lastRoom
+pub refusal-fits : (r : EnvelopeRefusal) (n : ℕ) → length (refusalOf r n) ≤ lastRoom
 refusal-fits r n = omega (arith, length-refusal r n, decimal-most (refusalNumber r), decimal-most n)
 
 -- the fragment's rest, as the code lends it
@@ -106,7 +106,7 @@ module _ (x : Taken) (y : List ℕ) (p : ℕ) (e : p ≡ placeIn y) where
   pub end-line : (n k r : ℕ) → x ≡ taken.Part n → k ≡ countIn y → r ≡ later p k → endLine x y ≡ endOf r
   end-line n k r q f g = rw q (ap endOf (omega (arith, e, f, g)))
 
-  pub refusal-line : (r : Refusal) → x ≡ taken.Refused r → p < 2 ^ 64 → endLine x y ≡ refusalOf r p
+  pub refusal-line : (r : EnvelopeRefusal) → x ≡ taken.Refused r → p < 2 ^ 64 → endLine x y ≡ refusalOf r p
   refusal-line r q h = rw q (ap (refusalOf r) (omega (arith, e)))
 
 -- ---- the loop over a fragment: the buffer z has the lines of the bytes before `at`, up to p; b is the record

@@ -10,8 +10,8 @@ use lib.ListN.{length, take, drop, length-append}
 use lib.Seq.{length-take-le, drop-drop, drop-append-seam}
 use Rattle.envelope.specs.Envelopes.{Content, bytesOf, mostBits}
 use Rattle.envelope.specs.Strings.{ended, stopped, Walk, walk, stringOf, allPlaced, Told as Says, whole as says-all, broken as says-part}
-use Rattle.envelope.specs.declared.Refusal.{Refusal}
-use Rattle.envelope.specs.declared.Refusal.the-variants.{Cut, Groups, Kind, Size}
+use Rattle.envelope.specs.declared.EnvelopeRefusal.{EnvelopeRefusal}
+use Rattle.envelope.specs.declared.EnvelopeRefusal.the-variants.{Cut, Groups, Kind, Size}
 use Rattle.envelope.proofs.Numbers.{AllBytes}
 use Rattle.envelope.proofs.Strings.{every-string, placed-next}
 use Rattle.fragments.specs.Mail.{Mail, part, whole, refused, fresh, top, later}
@@ -52,12 +52,12 @@ module _ (limit : ℕ) (z : Sized limit) where
   abbrev rest : Mail → List (List ℕ) → List ℕ
   rest m fs = plain (fedOf limit (followAll limit m fs))
 
-  refused-stays : (r : Refusal) (p : ℕ) (fs : List (List ℕ)) → followAll limit (refused r p) fs ≡ told [] (refused r p)
+  refused-stays : (r : EnvelopeRefusal) (p : ℕ) (fs : List (List ℕ)) → followAll limit (refused r p) fs ≡ told [] (refused r p)
   unfolding followAll
   refused-stays r p [] = refl
   refused-stays r p (f ∷ fs) = rw (refused-stays r p fs)
 
-  refused-rest : (r : Refusal) (p : ℕ) (fs : List (List ℕ)) → endText (endAt limit (recordOf limit (refused r p))) ≡ rest (refused r p) fs
+  refused-rest : (r : EnvelopeRefusal) (p : ℕ) (fs : List (List ℕ)) → endText (endAt limit (recordOf limit (refused r p))) ≡ rest (refused r p) fs
   unfolding linesOf
   refused-rest r p fs = rw (refused-stays r p fs)
 

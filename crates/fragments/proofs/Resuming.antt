@@ -9,11 +9,11 @@ use lib.ListN.{length, take, drop, length-append, length-drop, take-append-drop}
 use lib.Seq.{sets, length-sets, take-add, take-at, take-append-add, take-all, length-take-le}
 use borrow.Author.Tests.{not-true, not-false}
 use Rattle.envelope.specs.Envelopes.{envelopeAt, largest}
-use Rattle.envelope.specs.declared.Refusal.{Refusal}
-use Rattle.envelope.specs.declared.Refusal.the-variants.{Cut, Groups, Kind, Size}
+use Rattle.envelope.specs.declared.EnvelopeRefusal.{EnvelopeRefusal}
+use Rattle.envelope.specs.declared.EnvelopeRefusal.the-variants.{Cut, Groups, Kind, Size}
 use Rattle.envelope.specs.declared.Envelope.{Envelope}
-use Rattle.envelope.specs.declared.Read.{Read}
-use Rattle.envelope.specs.declared.Read.the-variants.{Is, Refused}
+use Rattle.envelope.specs.declared.EnvelopeRead.{EnvelopeRead}
+use Rattle.envelope.specs.declared.EnvelopeRead.the-variants.{Is, Refused}
 use Rattle.envelope.proofs.Numbers.{AllBytes}
 use Rattle.envelope.proofs.Puts.{sets-append}
 use Rattle.envelope.proofs.Longer.{envelope-stays}
@@ -28,13 +28,13 @@ use Rattle.fragments.proofs.Unfinished.{Sized, lacks, still-cut, takes-
 is-live : (e : Envelope) → Is e ≡ Refused Cut → ⊥
 is-live e q = let o : _≡_ {A = ℕ} 0 1 = cc in omega arith
 
-pub not-cut : (r : Refusal) (t : Bool) → t ≡ isCut r → not t ≡ true → r ≡ Cut → ⊥
+pub not-cut : (r : EnvelopeRefusal) (t : Bool) → t ≡ isCut r → not t ≡ true → r ≡ Cut → ⊥
 not-cut r t e h p = let o : t ≡ true = e ∙ rw p in let q : t ≡ false = not-true t h in let z : _≡_ {A = ℕ} 0 1 = cc in omega arith
 
-refused-live : (r : Refusal) → (r ≡ Cut → ⊥) → Refused r ≡ Refused Cut → ⊥
+refused-live : (r : EnvelopeRefusal) → (r ≡ Cut → ⊥) → Refused r ≡ Refused Cut → ⊥
 refused-live r h q = h (cc)
 
-pub cut-is : (r : Refusal) → isCut r ≡ true → r ≡ Cut
+pub cut-is : (r : EnvelopeRefusal) → isCut r ≡ true → r ≡ Cut
 cut-is Cut e = refl
 cut-is Groups e = let z : _≡_ {A = ℕ} 0 1 = cc in absurd (omega arith)
 cut-is Kind e = let z : _≡_ {A = ℕ} 0 1 = cc in absurd (omega arith)
@@ -139,7 +139,7 @@ module _ (limit : ℕ) (b₀ f : List ℕ) (n : ℕ) (room : head + n ≤ length
           let e : m + lack ≡ n + (i + lack) = omega (arith, r .count) in
           rw e (held-then (i + lack) y (omega (arith, r .within)) (omega (arith, o .long, r .same, r .count)) on)
 
-      pub still-open : (x : Read) (q : Refusal) (t : Bool) → x ≡ envelopeAt limit (heldIn (m + lack) y) 0 → x ≡ Refused q → t ≡ isCut q → not t ≡ false → envelopeAt limit (heldIn (m + lack) y) 0 ≡ Refused Cut
+      pub still-open : (x : EnvelopeRead) (q : EnvelopeRefusal) (t : Bool) → x ≡ envelopeAt limit (heldIn (m + lack) y) 0 → x ≡ Refused q → t ≡ isCut q → not t ≡ false → envelopeAt limit (heldIn (m + lack) y) 0 ≡ Refused Cut
       still-open x q t g h k v = sym g ∙ (h ∙ ap Refused (cut-is q (sym k ∙ not-false t v)))
 
       pub resuming-more : (k : ℕ) → envelopeAt limit (heldIn (m + lack) y) 0 ≡ Refused Cut → k ≡ missing (heldIn (m + lack) y) → Resuming limit b₀ y f n (m + lack) (i + lack) k
@@ -153,7 +153,7 @@ module _ (limit : ℕ) (b₀ f : List ℕ) (n : ℕ) (room : head + n ≤ length
             lacking = rw holds-next at g;
           }
 
-      whole-stays : (x : Read) → (x ≡ Refused Cut → ⊥) → envelopeAt limit (heldIn (m + lack) y) 0 ≡ x → envelopeAt limit (heldIn n b₀ ++ f) 0 ≡ x
+      whole-stays : (x : EnvelopeRead) → (x ≡ Refused Cut → ⊥) → envelopeAt limit (heldIn (m + lack) y) 0 ≡ x → envelopeAt limit (heldIn n b₀ ++ f) 0 ≡ x
       whole-stays x live e =
           rw (all-of (i + lack)) at (envelope-stays (heldIn n b₀ ++ take (i + lack) f) (drop (i + lack) f) x live limit 0 (rw holds-next at e))
 
@@ -167,14 +167,14 @@ module _ (limit : ℕ) (b₀ f : List ℕ) (n : ℕ) (room : head + n ≤ length
           let t = takes-all limit z (heldIn n b₀ ++ take i f) (take lack (drop i f)) a e (r .live) q (omega (arith, r .lacking)) in
           omega (arith, t, length-append (heldIn n b₀ ++ take i f) (take lack (drop i f)), length-so-far i (r .within), r .count)
 
-      pub whole-fits : (x : Read) (e : Envelope) → x ≡ envelopeAt limit (heldIn (m + lack) y) 0 → x ≡ Is e → (e .body ≤ largest limit) × (e .next ≤ largest limit)
+      pub whole-fits : (x : EnvelopeRead) (e : Envelope) → x ≡ envelopeAt limit (heldIn (m + lack) y) 0 → x ≡ Is e → (e .body ≤ largest limit) × (e .next ≤ largest limit)
       whole-fits x e q g =
           let s : envelopeAt limit (heldIn (m + lack) y) 0 ≡ Is e = sym q ∙ g in
           let t = finished e s in
           let o = body-next limit z (heldIn (m + lack) y) (rw holds-next (all-bytes (i + lack))) e s in
           (omega (arith, has-room .most), omega (arith, has-room .most))
 
-      pub resume-whole : (p : ℕ) (w : List ℕ) (x : Read) (e c : Envelope) → unfinished limit (heldIn n b₀) ≡ true → x ≡ envelopeAt limit (heldIn (m + lack) y) 0 → x ≡ Is e → w ≡ sets y 0 (headAt 1 (m + lack) p) → c ≡ inRecord e → after (taken.Whole c (i + lack)) w ≡ resumed limit b₀ n p f
+      pub resume-whole : (p : ℕ) (w : List ℕ) (x : EnvelopeRead) (e c : Envelope) → unfinished limit (heldIn n b₀) ≡ true → x ≡ envelopeAt limit (heldIn (m + lack) y) 0 → x ≡ Is e → w ≡ sets y 0 (headAt 1 (m + lack) p) → c ≡ inRecord e → after (taken.Whole c (i + lack)) w ≡ resumed limit b₀ n p f
       unfolding resumed joined kept laid
       resume-whole p w x e c u q g h k =
           let s : envelopeAt limit (heldIn (m + lack) y) 0 ≡ Is e = sym q ∙ g in
@@ -187,7 +187,7 @@ module _ (limit : ℕ) (b₀ f : List ℕ) (n : ℕ) (room : head + n ≤ length
           let j : m + lack ≡ n + (i + lack) = omega (arith, r .count) in
           rw (u, whole-stays (Is e) (is-live e) s, v, d, padded-none n (heldIn n b₀ ++ take (i + lack) f) (omega arith), sets-behind b₀ head n (take (i + lack) f) room, ← on, a, ← j, ← h, ← k)
 
-      pub resume-refused : (p : ℕ) (w : List ℕ) (x : Read) (q : Refusal) (t : Bool) (o : Taken) → unfinished limit (heldIn n b₀) ≡ true → x ≡ envelopeAt limit (heldIn (m + lack) y) 0 → x ≡ Refused q → t ≡ isCut q → not t ≡ true → after o w ≡ after (taken.Refused q) (recordOf limit (refused q p)) → after o w ≡ resumed limit b₀ n p f
+      pub resume-refused : (p : ℕ) (w : List ℕ) (x : EnvelopeRead) (q : EnvelopeRefusal) (t : Bool) (o : Taken) → unfinished limit (heldIn n b₀) ≡ true → x ≡ envelopeAt limit (heldIn (m + lack) y) 0 → x ≡ Refused q → t ≡ isCut q → not t ≡ true → after o w ≡ after (taken.Refused q) (recordOf limit (refused q p)) → after o w ≡ resumed limit b₀ n p f
       unfolding resumed joined kept
       resume-refused p w x q t o u g h k v e =
           e ∙ rw (u, whole-stays (Refused q) (refused-live q (not-cut q t k v)) (sym g ∙ h), ← k, not-true t v)

@@ -10,8 +10,8 @@ use lib.ListN.{length, drop, getD, length-append}
 use lib.Seq.{sets, take-at, drop-at, drop-append-add}
 use borrow.Author.Tests.{eq-eqb, ne-eqb, le-leb, lt-leb, eqb-true, leb-true}
 use Rattle.envelope.specs.Envelopes.{refusalNumber, largest}
-use Rattle.envelope.specs.declared.Refusal.{Refusal}
-use Rattle.envelope.specs.declared.Refusal.the-variants.{Cut, Groups, Kind, Size}
+use Rattle.envelope.specs.declared.EnvelopeRefusal.{EnvelopeRefusal}
+use Rattle.envelope.specs.declared.EnvelopeRefusal.the-variants.{Cut, Groups, Kind, Size}
 use Rattle.fragments.specs.declared.stored.Loaded.{Loaded}
 use Rattle.fragments.specs.declared.stored.Loaded.the-variants.{Part, Refused, NoRecord}
 use Rattle.fragments.specs.declared.Taken.the-variants as taken
@@ -177,11 +177,11 @@ pub fresh-made : (limit : ℕ) (b z : List ℕ) → length b ≡ recordBytes lim
 unfolding freshAt recordOf
 fresh-made limit b z l e = rw (eq-eqb (length b) (recordBytes limit) l, e)
 
-pub refusal-made : (limit : ℕ) (z : List ℕ) (r : Refusal) (k p : ℕ) → k ≡ refusalNumber r → z ≡ emptyOf limit k p → after (taken.Refused r) z ≡ after (taken.Refused r) (recordOf limit (refused r p))
+pub refusal-made : (limit : ℕ) (z : List ℕ) (r : EnvelopeRefusal) (k p : ℕ) → k ≡ refusalNumber r → z ≡ emptyOf limit k p → after (taken.Refused r) z ≡ after (taken.Refused r) (recordOf limit (refused r p))
 unfolding recordOf
 refusal-made limit z r k p e h = rw (h, e)
 
-pub refusal-small : (r : Refusal) → refusalNumber r < 256
+pub refusal-small : (r : EnvelopeRefusal) → refusalNumber r < 256
 refusal-small Cut = omega arith
 refusal-small Groups = omega arith
 refusal-small Kind = omega arith

@@ -12,13 +12,13 @@ use lib.Seq.{take-at, take-append-le, take-append-add, length-take-le}
 use borrow.Author.Tests.{lt-ltb, ltb-true}
 use Rattle.envelope.specs.Numbers.{below, numberIn, onward, numberAt}
 use Rattle.envelope.specs.Envelopes.{isKind, sizeFits, bytesFor, isPadded, then, bodyAt, sizeAt, jobAt, kindAt, envelopeAt, contentOf, bytesOf, header, placed, largest}
-use Rattle.envelope.specs.declared.Refusal.{Refusal}
-use Rattle.envelope.specs.declared.Refusal.the-variants.{Cut, Groups, Kind, Size}
+use Rattle.envelope.specs.declared.EnvelopeRefusal.{EnvelopeRefusal}
+use Rattle.envelope.specs.declared.EnvelopeRefusal.the-variants.{Cut, Groups, Kind, Size}
 use Rattle.envelope.specs.declared.Number.{Number}
 use Rattle.envelope.specs.declared.Number.the-variants as num
 use Rattle.envelope.specs.declared.Envelope.{Envelope}
-use Rattle.envelope.specs.declared.Read.{Read}
-use Rattle.envelope.specs.declared.Read.the-variants.{Is, Refused}
+use Rattle.envelope.specs.declared.EnvelopeRead.{EnvelopeRead}
+use Rattle.envelope.specs.declared.EnvelopeRead.the-variants.{Is, Refused}
 use Rattle.envelope.proofs.Numbers.{AllBytes}
 use Rattle.envelope.proofs.Sizes.{number-most, number-mono, number-one, kind-small, bits-small, bytes-mono, within-largest}
 use Rattle.envelope.proofs.Longer.{number-stays, envelope-stays}
@@ -80,15 +80,15 @@ pub data CutIn (limit : ℕ) (s : List ℕ) : Type 0 where
   in-size : (kind p job q : ℕ) → numberAt s 0 ≡ num.Value kind p → isKind kind ≡ true → numberAt s p ≡ num.Value job q → eqb job 0 ≡ false → numberAt s q ≡ num.Refused Cut → CutIn limit s
   in-body : (kind p job q bits t : ℕ) → numberAt s 0 ≡ num.Value kind p → isKind kind ≡ true → numberAt s p ≡ num.Value job q → eqb job 0 ≡ false → numberAt s q ≡ num.Value bits t → sizeFits limit kind bits ≡ true → length s < t + bytesFor bits → CutIn limit s
 
-via : (z : Number) (k : ℕ → ℕ → Read) (A : Type 0) → (z ≡ num.Refused Cut → A) → ((v n : ℕ) → z ≡ num.Value v n → k v n ≡ Refused Cut → A) → then z k ≡ Refused Cut → A
+via : (z : Number) (k : ℕ → ℕ → EnvelopeRead) (A : Type 0) → (z ≡ num.Refused Cut → A) → ((v n : ℕ) → z ≡ num.Value v n → k v n ≡ Refused Cut → A) → then z k ≡ Refused Cut → A
 via (num.Value v n) k A f g e = g v n refl e
 via (num.Refused r) k A f g e = f (let o : r ≡ Cut = cc in rw o)
 
-yes-of : (t : Bool) (x : Read) (r : Refusal) → (r ≡ Cut → ⊥) → cond t x (Refused r) ≡ Refused Cut → (t ≡ true) × (x ≡ Refused Cut)
+yes-of : (t : Bool) (x : EnvelopeRead) (r : EnvelopeRefusal) → (r ≡ Cut → ⊥) → cond t x (Refused r) ≡ Refused Cut → (t ≡ true) × (x ≡ Refused Cut)
 yes-of true x r h p = (refl, p)
 yes-of false x r h p = absurd (h (let o : r ≡ Cut = cc in o))
 
-no-of : (t : Bool) (x : Read) (r : Refusal) → (r ≡ Cut → ⊥) → cond t (Refused r) x ≡ Refused Cut → (t ≡ false) × (x ≡ Refused Cut)
+no-of : (t : Bool) (x : EnvelopeRead) (r : EnvelopeRefusal) → (r ≡ Cut → ⊥) → cond t (Refused r) x ≡ Refused Cut → (t ≡ false) × (x ≡ Refused Cut)
 no-of false x r h p = (refl, p)
 no-of true x r h p = absurd (h (let o : r ≡ Cut = cc in o))
 
@@ -132,15 +132,15 @@ module _ (limit : ℕ) (s : List ℕ) where
 
 -- ---- how many bytes it lacks
 
-pub missing-kind : (s : List ℕ) (r : Refusal) → numberAt s 0 ≡ num.Refused r → missing s ≡ 1
+pub missing-kind : (s : List ℕ) (r : EnvelopeRefusal) → numberAt s 0 ≡ num.Refused r → missing s ≡ 1
 unfolding missing
 missing-kind s r e = rw e
 
-pub missing-job : (s : List ℕ) (kind p : ℕ) (r : Refusal) → numberAt s 0 ≡ num.Value kind p → numberAt s p ≡ num.Refused r → missing s ≡ 1
+pub missing-job : (s : List ℕ) (kind p : ℕ) (r : EnvelopeRefusal) → numberAt s 0 ≡ num.Value kind p → numberAt s p ≡ num.Refused r → missing s ≡ 1
 unfolding missing missingJob
 missing-job s kind p r n₁ e = rw (n₁, e)
 
-pub missing-size : (s : List ℕ) (kind p job q : ℕ) (r : Refusal) → numberAt s 0 ≡ num.Value kind p → numberAt s p ≡ num.Value job q → numberAt s q ≡ num.Refused r → missing s ≡ 1
+pub missing-size : (s : List ℕ) (kind p job q : ℕ) (r : EnvelopeRefusal) → numberAt s 0 ≡ num.Value kind p → numberAt s p ≡ num.Value job q → numberAt s q ≡ num.Refused r → missing s ≡ 1
 unfolding missing missingJob missingSize
 missing-size s kind p job q r n₁ n₂ e = rw (n₁, n₂, e)
 
@@ -150,15 +150,15 @@ missing-body s kind p job q bits t n₁ n₂ n₃ = rw (n₁, n₂, n₃)
 
 -- the ways out of `lacking`, as the code has them
 module _ (s : List ℕ) (x₁ : Number) (e₁ : x₁ ≡ numberAt s 0) where
-  pub lacks-kind : (r : Refusal) → x₁ ≡ num.Refused r → 1 ≡ missing s
+  pub lacks-kind : (r : EnvelopeRefusal) → x₁ ≡ num.Refused r → 1 ≡ missing s
   lacks-kind r q = sym (missing-kind s r (sym e₁ ∙ q))
 
   module _ (v₁ p : ℕ) (q₁ : x₁ ≡ num.Value v₁ p) (x₂ : Number) (e₂ : x₂ ≡ numberAt s p) where
-    pub lacks-job : (r : Refusal) → x₂ ≡ num.Refused r → 1 ≡ missing s
+    pub lacks-job : (r : EnvelopeRefusal) → x₂ ≡ num.Refused r → 1 ≡ missing s
     lacks-job r q = sym (missing-job s v₁ p r (sym e₁ ∙ q₁) (sym e₂ ∙ q))
 
     module _ (v₂ q : ℕ) (q₂ : x₂ ≡ num.Value v₂ q) (x₃ : Number) (e₃ : x₃ ≡ numberAt s q) where
-      pub lacks-size : (r : Refusal) → x₃ ≡ num.Refused r → 1 ≡ missing s
+      pub lacks-size : (r : EnvelopeRefusal) → x₃ ≡ num.Refused r → 1 ≡ missing s
       lacks-size r k = sym (missing-size s v₁ p v₂ q r (sym e₁ ∙ q₁) (sym e₂ ∙ q₂) (sym e₃ ∙ k))
 
       pub lacks-body : (bits t n : ℕ) → x₃ ≡ num.Value bits t → n ≡ bytesFor bits → missing s ≡ t + n - length s
@@ -292,7 +292,7 @@ pub cut-of : (limit : ℕ) (h : List ℕ) → unfinished limit h ≡ true → en
 unfolding unfinished
 cut-of limit h e = go (envelopeAt limit h 0) e
   where
-    go : (x : Read) → mayGoOn x ≡ true → x ≡ Refused Cut
+    go : (x : EnvelopeRead) → mayGoOn x ≡ true → x ≡ Refused Cut
     go (Is x) q = never (cc)
     go (Refused Cut) q = refl
     go (Refused Groups) q = never (cc)

@@ -11,11 +11,11 @@ use lib.ListN.{length, take, drop, length-append, length-drop}
 use lib.Seq.{take-append-le, drop-append-le, drop-drop, length-take-le}
 use Rattle.envelope.specs.Envelopes.{bytesFor, envelopeAt, Content, content, contentOf, largest, moved}
 use Rattle.envelope.specs.Strings.{ended, stopped, Walk, ends, past, onRead, walkFrom, walk, contentsOf}
-use Rattle.envelope.specs.declared.Refusal.{Refusal}
-use Rattle.envelope.specs.declared.Refusal.the-variants.{Cut, Groups, Kind, Size}
+use Rattle.envelope.specs.declared.EnvelopeRefusal.{EnvelopeRefusal}
+use Rattle.envelope.specs.declared.EnvelopeRefusal.the-variants.{Cut, Groups, Kind, Size}
 use Rattle.envelope.specs.declared.Envelope.{Envelope}
-use Rattle.envelope.specs.declared.Read.{Read}
-use Rattle.envelope.specs.declared.Read.the-variants.{Is, Refused}
+use Rattle.envelope.specs.declared.EnvelopeRead.{EnvelopeRead}
+use Rattle.envelope.specs.declared.EnvelopeRead.the-variants.{Is, Refused}
 use Rattle.envelope.proofs.Numbers.{AllBytes}
 use Rattle.envelope.proofs.Longer.{envelope-stays, envelope-shifted}
 use Rattle.envelope.proofs.Strings.{walk-end, walk-on}
@@ -44,7 +44,7 @@ abbrev pub restOf : (ℕ → List ℕ → Told) → ℕ → List ℕ → List �
 restOf go p h [] = told [] (whole p h)
 restOf go p h (x ∷ xs) = go (later p (length h)) (x ∷ xs)
 
-abbrev pub readAs : (ℕ → List ℕ → Told) → ℕ → List ℕ → Read → Told
+abbrev pub readAs : (ℕ → List ℕ → Told) → ℕ → List ℕ → EnvelopeRead → Told
 readAs go p w (Is e) = add (contentOf w e) (restOf go p (take (e .next) w) (drop (e .next) w))
 readAs go p w (Refused r) = told [] (cond (isCut r) (part p w) (refused r p))
 
@@ -59,7 +59,7 @@ read-on limit k p w = refl
 is-live : (e : Envelope) → Is e ≡ Refused Cut → ⊥
 is-live e q = let o : _≡_ {A = ℕ} 0 1 = cc in omega arith
 
-refused-live : (r : Refusal) → isCut r ≡ false → Refused r ≡ Refused Cut → ⊥
+refused-live : (r : EnvelopeRefusal) → isCut r ≡ false → Refused r ≡ Refused Cut → ⊥
 refused-live Cut h q = let o : _≡_ {A = ℕ} 0 1 = cc in omega arith
 refused-live Groups h q = let o : _≡_ {A = ℕ} 0 1 = cc in omega arith
 refused-live Kind h q = let o : _≡_ {A = ℕ} 0 1 = cc in omega arith
@@ -93,7 +93,7 @@ module _ (limit : ℕ) (z : Sized limit) where
   read-fuel (suc k) (suc j) p w b hk hj h g =
       read-on limit k p w ∙ (by (envelopeAt limit w 0) refl (λ (q : ℕ) (v : List ℕ) (c : AllBytes v) (o : 0 < length v) (s : length v < length w). read-fuel k j q v c (omega arith) (omega arith) (omega arith) (omega arith)) ∙ sym (read-on limit j p w))
     where
-      by : (x : Read) → envelopeAt limit w 0 ≡ x → ((q : ℕ) (v : List ℕ) → AllBytes v → 0 < length v → length v < length w → readOn limit k q v ≡ readOn limit j q v) → readAs (λ (q : ℕ) (v : List ℕ). readOn limit k q v) p w x ≡ readAs (λ (q : ℕ) (v : List ℕ). readOn limit j q v) p w x
+      by : (x : EnvelopeRead) → envelopeAt limit w 0 ≡ x → ((q : ℕ) (v : List ℕ) → AllBytes v → 0 < length v → length v < length w → readOn limit k q v ≡ readOn limit j q v) → readAs (λ (q : ℕ) (v : List ℕ). readOn limit k q v) p w x ≡ readAs (λ (q : ℕ) (v : List ℕ). readOn limit j q v) p w x
       by (Refused r) e f = refl
       by (Is c) e f =
           let n = next-within limit z w b c e in
@@ -124,7 +124,7 @@ module _ (limit : ℕ) (z : Sized limit) where
   good-read (suc k) p w b h g =
       rw (read-on limit k p w) (by (envelopeAt limit w 0) refl (λ (q : ℕ) (v : List ℕ) (a : AllBytes v) (s : length v < length w) (o : q ≤ top). good-read k q v a (omega arith) o))
     where
-      stop : (r : Refusal) → envelopeAt limit w 0 ≡ Refused r → Good limit (cond (isCut r) (part p w) (refused r p))
+      stop : (r : EnvelopeRefusal) → envelopeAt limit w 0 ≡ Refused r → Good limit (cond (isCut r) (part p w) (refused r p))
       stop Cut e = (e, b, g)
       stop Groups e = g
       stop Kind e = g
@@ -134,7 +134,7 @@ module _ (limit : ℕ) (z : Sized limit) where
       rest h [] l a s f = (l, g)
       rest h (x ∷ xs) l a s f = f (later p (length h)) (x ∷ xs) a s (omega arith)
 
-      by : (x : Read) → envelopeAt limit w 0 ≡ x → ((q : ℕ) (v : List ℕ) → AllBytes v → length v < length w → q ≤ top → Good limit (readOn limit k q v .mail)) → Good limit (readAs (λ (q : ℕ) (v : List ℕ). readOn limit k q v) p w x .mail)
+      by : (x : EnvelopeRead) → envelopeAt limit w 0 ≡ x → ((q : ℕ) (v : List ℕ) → AllBytes v → length v < length w → q ≤ top → Good limit (readOn limit k q v .mail)) → Good limit (readAs (λ (q : ℕ) (v : List ℕ). readOn limit k q v) p w x .mail)
       by (Refused r) e f = stop r e
       by (Is c) e f =
           let n = next-within limit z w b c e in
@@ -166,10 +166,10 @@ module _ (limit : ℕ) (z : Sized limit) where
       cut : envelopeAt limit w 0 ≡ Refused Cut → readAs (λ (q : ℕ) (v : List ℕ). readOn limit j q v) p (w ++ f) (envelopeAt limit (w ++ f) 0) ≡ readAll limit p (w ++ f)
       cut e = sym (read-on limit j p (w ++ f)) ∙ read-fuel limit z (suc j) (suc (length (w ++ f))) p (w ++ f) (bytes-append w f a b) (omega arith) (omega arith) (omega arith) (omega arith)
 
-      stop : (r : Refusal) → isCut r ≡ false → envelopeAt limit w 0 ≡ Refused r → readAs (λ (q : ℕ) (v : List ℕ). readOn limit j q v) p (w ++ f) (envelopeAt limit (w ++ f) 0) ≡ told [] (refused r p)
+      stop : (r : EnvelopeRefusal) → isCut r ≡ false → envelopeAt limit w 0 ≡ Refused r → readAs (λ (q : ℕ) (v : List ℕ). readOn limit j q v) p (w ++ f) (envelopeAt limit (w ++ f) 0) ≡ told [] (refused r p)
       stop r n e = rw (envelope-stays w f (Refused r) (refused-live r n) limit 0 e, n)
 
-      stops : (r : Refusal) → envelopeAt limit w 0 ≡ Refused r → readAs (λ (q : ℕ) (v : List ℕ). readOn limit j q v) p (w ++ f) (envelopeAt limit (w ++ f) 0) ≡ follow limit (cond (isCut r) (part p w) (refused r p)) f
+      stops : (r : EnvelopeRefusal) → envelopeAt limit w 0 ≡ Refused r → readAs (λ (q : ℕ) (v : List ℕ). readOn limit j q v) p (w ++ f) (envelopeAt limit (w ++ f) 0) ≡ follow limit (cond (isCut r) (part p w) (refused r p)) f
       stops Cut e = cut e
       stops Groups e = stop Groups refl e
       stops Kind e = stop Kind refl e
@@ -179,7 +179,7 @@ module _ (limit : ℕ) (z : Sized limit) where
       rest h [] c s ih = rest-follow j p h f (omega (arith, length-append w f)) b
       rest h (x ∷ xs) c s ih = ih (later p (length h)) (x ∷ xs) c s
 
-      by : (x : Read) → envelopeAt limit w 0 ≡ x → ((q : ℕ) (v : List ℕ) → AllBytes v → length v < length w → readOn limit j q (v ++ f) ≡ onto (readOn limit k q v .envelopes) (follow limit (readOn limit k q v .mail) f)) → readAs (λ (q : ℕ) (v : List ℕ). readOn limit j q v) p (w ++ f) (envelopeAt limit (w ++ f) 0) ≡ onto (readAs (λ (q : ℕ) (v : List ℕ). readOn limit k q v) p w x .envelopes) (follow limit (readAs (λ (q : ℕ) (v : List ℕ). readOn limit k q v) p w x .mail) f)
+      by : (x : EnvelopeRead) → envelopeAt limit w 0 ≡ x → ((q : ℕ) (v : List ℕ) → AllBytes v → length v < length w → readOn limit j q (v ++ f) ≡ onto (readOn limit k q v .envelopes) (follow limit (readOn limit k q v .mail) f)) → readAs (λ (q : ℕ) (v : List ℕ). readOn limit j q v) p (w ++ f) (envelopeAt limit (w ++ f) 0) ≡ onto (readAs (λ (q : ℕ) (v : List ℕ). readOn limit k q v) p w x .envelopes) (follow limit (readAs (λ (q : ℕ) (v : List ℕ). readOn limit k q v) p w x .mail) f)
       by (Refused r) e ih = stops r e
       by (Is c) e ih =
           let n = next-within limit z w a c e in
@@ -203,7 +203,7 @@ module _ (limit : ℕ) (z : Sized limit) (s : List ℕ) (b : AllBytes s) where
   abbrev leaves-of : Mail → ℕ → Walk → Told
   leaves-of m at w = told (contentsOf s (w .envelopes)) (leaves s m at (w .envelopes) (w .ending))
 
-  stop-leaves : (m : Mail) (at : ℕ) (r : Refusal) → leaves-of m at (ends (stopped r at)) ≡ told [] (cond (isCut r) (part (min at top) (drop at s)) (refused r (min at top)))
+  stop-leaves : (m : Mail) (at : ℕ) (r : EnvelopeRefusal) → leaves-of m at (ends (stopped r at)) ≡ told [] (cond (isCut r) (part (min at top) (drop at s)) (refused r (min at top)))
   unfolding leaves
   stop-leaves m at r = refl
 
@@ -235,7 +235,7 @@ module _ (limit : ℕ) (z : Sized limit) (s : List ℕ) (b : AllBytes s) where
           let i = ih (at + e .next) (whole (min at top) (take (at + e .next - at) (drop at s))) (omega arith) (omega arith) in
           rw (t, q, ← p) i
 
-      by : (x : Read) → envelopeAt limit (drop at s) 0 ≡ x → ((n : ℕ) (y : Mail) → n < length s → at < n → readOn limit k (min n top) (drop n s) ≡ leaves-of y n (walked k n)) → readAs (λ (q : ℕ) (v : List ℕ). readOn limit k q v) (min at top) (drop at s) x ≡ leaves-of m at (onRead (moved at x) at (λ (e : Envelope). walkFrom limit s k (e .next)))
+      by : (x : EnvelopeRead) → envelopeAt limit (drop at s) 0 ≡ x → ((n : ℕ) (y : Mail) → n < length s → at < n → readOn limit k (min n top) (drop n s) ≡ leaves-of y n (walked k n)) → readAs (λ (q : ℕ) (v : List ℕ). readOn limit k q v) (min at top) (drop at s) x ≡ leaves-of m at (onRead (moved at x) at (λ (e : Envelope). walkFrom limit s k (e .next)))
       by (Refused r) e ih = sym (stop-leaves m at r)
       by (Is c) e ih =
           let d = length-drop at s in

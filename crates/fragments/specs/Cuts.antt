@@ -7,7 +7,7 @@ use mathlib.Core.List.{List, [], _∷_, _++_}
 use lib.ListN.{length, take, drop}
 use Rattle.envelope.specs.Envelopes.{Content, contentOf}
 use Rattle.envelope.specs.Strings.{Ending, ended, stopped, walk, contentsOf}
-use Rattle.envelope.specs.declared.Refusal.{Refusal}
+use Rattle.envelope.specs.declared.EnvelopeRefusal.{EnvelopeRefusal}
 use Rattle.envelope.specs.declared.Envelope.{Envelope}
 use Rattle.fragments.specs.declared.Taken.{Taken}
 use Rattle.fragments.specs.declared.Taken.the-variants.{Whole, Part, Refused, Shape}
@@ -53,7 +53,7 @@ joinedUp (f ∷ fs) = f ++ joinedUp fs
 -- ---- whole
 
 -- what a refusal leaves: of an envelope that ends inside, its bytes
-abbrev pub stoppedAt : List ℕ → Refusal → ℕ → Mail
+abbrev pub stoppedAt : List ℕ → EnvelopeRefusal → ℕ → Mail
 stoppedAt s r at = cond (isCut r) (part (min at top) (drop at s)) (refused r (min at top))
 
 -- what a walk from a position leaves, where m was held

@@ -6,11 +6,11 @@ use mathlib.Core.Bool.{Bool, true, false, cond}
 use mathlib.Core.List.{List, [], _++_}
 use lib.ListN.{length, take}
 use Rattle.envelope.specs.Envelopes.{envelopeAt}
-use Rattle.envelope.specs.declared.Refusal.{Refusal}
-use Rattle.envelope.specs.declared.Refusal.the-variants.{Cut, Groups, Kind, Size}
+use Rattle.envelope.specs.declared.EnvelopeRefusal.{EnvelopeRefusal}
+use Rattle.envelope.specs.declared.EnvelopeRefusal.the-variants.{Cut, Groups, Kind, Size}
 use Rattle.envelope.specs.declared.Envelope.{Envelope}
-use Rattle.envelope.specs.declared.Read.{Read}
-use Rattle.envelope.specs.declared.Read.the-variants as read
+use Rattle.envelope.specs.declared.EnvelopeRead.{EnvelopeRead}
+use Rattle.envelope.specs.declared.EnvelopeRead.the-variants as read
 use Rattle.fragments.specs.declared.Taken.{Taken}
 use Rattle.fragments.specs.declared.Taken.the-variants.{Whole, Part, Refused}
 
@@ -19,19 +19,19 @@ use Rattle.fragments.specs.declared.Taken.the-variants.{Whole, Part, Ref
 pub data Mail : Type 0 where
   part : ℕ → List ℕ → Mail
   whole : ℕ → List ℕ → Mail
-  refused : Refusal → ℕ → Mail
+  refused : EnvelopeRefusal → ℕ → Mail
 
 abbrev pub fresh : Mail
 fresh = part 0 []
 
 -- "CUT is given only when the host says the input has ended": until then the envelope may go on
-abbrev pub isCut : Refusal → Bool
+abbrev pub isCut : EnvelopeRefusal → Bool
 isCut Cut = true
 isCut Groups = false
 isCut Kind = false
 isCut Size = false
 
-abbrev pub mayGoOn : Read → Bool
+abbrev pub mayGoOn : EnvelopeRead → Bool
 mayGoOn (read.Is e) = false
 mayGoOn (read.Refused r) = isCut r
 
@@ -56,7 +56,7 @@ abbrev pub step : Taken → Mail → Step
 step a m = record { answer = a; mail = m }
 
 -- of h that is held from the byte p on and f behind it: an envelope, with the bytes of f that it took; or all of f is taken; or a refusal
-abbrev pub onward : ℕ → List ℕ → List ℕ → Read → Step
+abbrev pub onward : ℕ → List ℕ → List ℕ → EnvelopeRead → Step
 onward p h f (read.Is e) = step (Whole (inRecord e) (e .next - length h)) (whole p (take (e .next) (h ++ f)))
 onward p h f (read.Refused r) = cond (isCut r) (step (Part (length f)) (part p (h ++ f))) (step (Refused r) (refused r p))
 

@@ -11,7 +11,7 @@ use lib.ListN.{length, take, drop, getD, replicate}
 use lib.Seq.{sets}
 use lib.Dec.{leb, eqb}
 use Rattle.envelope.specs.Envelopes.{refusalNumber, largest}
-use Rattle.envelope.specs.declared.Refusal.the-variants.{Cut, Groups, Kind, Size}
+use Rattle.envelope.specs.declared.EnvelopeRefusal.the-variants.{Cut, Groups, Kind, Size}
 use Rattle.fragments.specs.declared.Taken.{Taken}
 use Rattle.fragments.specs.declared.Taken.the-variants as taken
 use Rattle.fragments.specs.declared.stored.Loaded.{Loaded}

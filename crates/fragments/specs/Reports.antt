@@ -1,5 +1,5 @@
--- What the program `envelopes` prints as its input arrives: the header, the lines of each fragment, the last line. Each is put at the front of a lent
--- buffer, the rest of it as it was; or the buffer is too small for any such text.
+-- What the program `envelopes` prints as its input arrives: the header, the lines of each fragment, the last line. Each is put at the front
+-- of a lent buffer, the rest of it as it was; or the buffer is too small for any such text.
 use Prim.Native.Nat.{ℕ, suc, _*_}
 use mathlib.Core.Bool.{Bool, true, false, cond}
 use mathlib.Core.List.{List, [], _∷_, _++_}
@@ -60,7 +60,8 @@ unfoldable pub linesAt : ℕ → List ℕ → List ℕ → List ℕ → Said
 linesAt limit b f out =
     cond (ltb (length out) (lineRoom * length f)) (said Small b out) (says (linesOf (fragmentBy limit b f .envelopes)) (fragmentBy limit b f .bytes) out)
 
--- from the record after the end: the bytes read, or the refusal and the byte where its envelope begins. A range that is no record has no last line.
+-- from the record after the end: the bytes read, or the refusal and the byte where its envelope begins. A range that is no record has no
+-- last line.
 abbrev pub endLine : Taken → List ℕ → List ℕ
 endLine (taken.Part n) b = lastLine (ended (later (placeIn b) (countIn b)))
 endLine (taken.Refused r) b = lastLine (stopped r (placeIn b))

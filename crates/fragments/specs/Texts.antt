@@ -5,7 +5,7 @@ use mathlib.Core.List.{List, [], _∷_, _++_}
 use lib.Dec.{ltb}
 use Rattle.envelope.specs.Envelopes.{Content, refusalNumber}
 use Rattle.envelope.specs.Strings.{Ending, ended, stopped, walk, contentsOf}
-use Rattle.envelope.specs.declared.Refusal.{Refusal}
+use Rattle.envelope.specs.declared.EnvelopeRefusal.{EnvelopeRefusal}
 use Rattle.fragments.specs.Mail.{top}
 
 -- a number in decimal digits, f + 1 of them at most and no more than it needs
@@ -49,7 +49,7 @@ linesOf (c ∷ cs) = lineOf (c .kind) (c .job) (c .bits) ++ linesOf cs
 unfoldable pub endOf : ℕ → List ℕ
 endOf n = endWord ++ (decimal n ++ newline)
 
-unfoldable pub refusalOf : Refusal → ℕ → List ℕ
+unfoldable pub refusalOf : EnvelopeRefusal → ℕ → List ℕ
 refusalOf r n = refusedWord ++ (decimal (refusalNumber r) ++ (atWord ++ (decimal n ++ newline)))
 
 -- a count of bytes that eight bytes do not hold is shown as the largest that they do

@@ -7,7 +7,7 @@ use crate::stored::Loaded;
 use crate::stored::load;
 use crate::taking::is_unfinished;
 use crate::taking::refuse;
-use envelope::Refusal;
+use envelope::EnvelopeRefusal;
 
 pub fn end(rec: &mut [u8]) -> Taken
     ensures { λ r. ⌜ after r (now (rec .exit)) ≡ endAt mostBits (now (rec .entry)) ⌝ }
@@ -19,7 +19,7 @@ pub fn end(rec: &mut [u8]) -> Taken
                 return Taken::Part(0);
             }
             if is_unfinished(rec, n) {
-                return refuse(rec, place, Refusal::Cut);
+                return refuse(rec, place, EnvelopeRefusal::Cut);
             }
             Taken::Shape
         }

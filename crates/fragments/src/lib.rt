@@ -1,7 +1,7 @@
 // Envelopes as they arrive (document 02, E4): a reader that keeps an unfinished envelope between calls, in a lent range of one
 // size, and hands out each finished one. A fragment is read together with what is held, by the reader of whole strings.
 use envelope::Envelope;
-use envelope::Refusal;
+use envelope::EnvelopeRefusal;
 
 pub mod ending; // ending.rt: the input has ended
 pub mod reporting; // reporting.rt: the text that is printed of what arrives
@@ -18,7 +18,7 @@ pub enum Taken {
     // none is finished, and all bytes of the fragment were taken
     Part(usize),
     // the input is refused, here or by an earlier call
-    Refused(Refusal),
+    Refused(EnvelopeRefusal),
     // the range is no record
     Shape,
 }

@@ -16,8 +16,8 @@ pub(crate) fn put_bytes(out: &mut [u8], at: usize, src: &[u8])
     }
 }
 
-// Zero to a byte. It is written only where it is not there yet: of a loop that always writes, the compiler would make a call of C's memset, and
-// the archive needs no library.
+// Zero to a byte. It is written only where it is not there yet: of a loop that always writes, the compiler would make a call of C's memset,
+// and the archive needs no library.
 fn clear(out: &mut [u8], at: usize)
     requires { ⌜ at < length (now out) ⌝ }
     ensures { λ r. ⌜ now (out .exit) ≡ set (now (out .entry)) at 0 ⌝ }

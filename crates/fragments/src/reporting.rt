@@ -1,4 +1,5 @@
-// The text that is printed of envelopes as they arrive: a header, a line for each envelope that a fragment finishes, and the end or the refusal.
+// The text that is printed of envelopes as they arrive: a header, a line for each envelope that a fragment finishes, and the end or the
+// refusal.
 ghost use mathlib.Core.Path.{_≡_};
 ghost use Prim.Native.Nat.{_+_, _≤_};
 ghost use lib.ListN.{length};
@@ -18,7 +19,7 @@ use crate::stored::load;
 use crate::stored::place_in;
 use crate::taking::place_behind;
 use crate::taking::take;
-use envelope::Refusal;
+use envelope::EnvelopeRefusal;
 
 // Bytes, and the position after them.
 fn put_text(out: &mut [u8], at: usize, text: &[u8]) -> usize
@@ -50,7 +51,7 @@ fn put_end(out: &mut [u8], at: usize, read: u64) -> usize
     put_text(out, b, b"\n")
 }
 
-fn put_refusal(out: &mut [u8], at: usize, r: Refusal, begin: u64) -> usize
+fn put_refusal(out: &mut [u8], at: usize, r: EnvelopeRefusal, begin: u64) -> usize
     requires { ⌜ at + length (refusalOf r begin) ≤ length (now out) ⌝ }
     ensures { λ z. ⌜ Put (now (out .entry)) (now (out .exit)) at z (refusalOf r begin) ⌝ }
 {
@@ -73,7 +74,8 @@ pub fn report_title(out: &mut [u8]) -> Reported
 
 // A line for each envelope that the fragment finishes, into a buffer of LINE_ROOM bytes at least for each byte of it.
 pub fn report_lines(rec: &mut [u8], fragment: &[u8], out: &mut [u8]) -> Reported
-    ensures { λ r. ⌜ said r (now (rec .exit)) (now (out .exit)) ≡ linesAt mostBits (now (rec .entry)) (now (fragment .entry)) (now (out .entry)) ⌝ }
+    ensures { λ r. ⌜ said r (now (rec .exit)) (now (out .exit)) ≡
+        linesAt mostBits (now (rec .entry)) (now (fragment .entry)) (now (out .entry)) ⌝ }
 {
     if out.len() / Reported::LINE_ROOM < fragment.len() {
         return Reported::Small;

@@ -9,14 +9,15 @@ ghost use Rattle.fragments.specs.Record.{after, countIn, eightOf, emptyO
 use crate::Taken;
 use crate::putting::put_bytes;
 use crate::putting::put_zeros;
-use envelope::Refusal;
+use envelope::EnvelopeRefusal;
 use words::Limit;
 
-// What a range says: the bytes that are held and where they begin, of an envelope that is not finished or of a finished one; or the refusal.
+// What a range says: the bytes that are held and where they begin, of an envelope that is not finished or of a finished one; or the
+// refusal.
 pub enum Loaded {
     Part(usize, u64),
     Whole(usize, u64),
-    Refused(Refusal),
+    Refused(EnvelopeRefusal),
     NoRecord,
 }
 
@@ -29,7 +30,8 @@ impl Loaded {
     pub const SIZE: usize = Loaded::HEAD + Loaded::LARGEST;
     // The largest place that is kept: of what begins there, or behind it.
     pub(crate) const LAST_PLACE: u64 = 18446744073709551615;
-    // The first byte of a record that holds an envelope which is not finished, or a finished one. Of any other it is the number of the refusal.
+    // The first byte of a record that holds an envelope which is not finished, or a finished one. Of any other it is the number of the
+    // refusal.
     pub(crate) const PART: u8 = 0;
 
     pub(crate) const WHOLE: u8 = 1;
@@ -62,16 +64,16 @@ fn load_by(state: u8, n: usize, place: u64) -> Loaded
         return Loaded::Whole(n, place);
     }
     if state == 20 {
-        return Loaded::Refused(Refusal::Cut);
+        return Loaded::Refused(EnvelopeRefusal::Cut);
     }
     if state == 21 {
-        return Loaded::Refused(Refusal::Groups);
+        return Loaded::Refused(EnvelopeRefusal::Groups);
     }
     if state == 22 {
-        return Loaded::Refused(Refusal::Kind);
+        return Loaded::Refused(EnvelopeRefusal::Kind);
     }
     if state == 23 {
-        return Loaded::Refused(Refusal::Size);
+        return Loaded::Refused(EnvelopeRefusal::Size);
     }
     Loaded::NoRecord
 }

@@ -1,4 +1,5 @@
-// A fragment is read together with what is held. At most one envelope is finished by a call; the host calls again with the rest of the fragment.
+// A fragment is read together with what is held. At most one envelope is finished by a call; the host calls again with the rest of the
+// fragment.
 ghost use mathlib.Core.Path.{_≡_};
 ghost use mathlib.Core.List.{[]};
 ghost use Prim.Native.Nat.{_+_, _≤_};
@@ -16,19 +17,19 @@ use crate::stored::load;
 use crate::stored::put_empty;
 use crate::stored::put_head;
 use envelope::Envelope;
-use envelope::Read;
-use envelope::Refusal;
+use envelope::EnvelopeRead;
+use envelope::EnvelopeRefusal;
 use envelope::reading::read_envelope;
 
 // An envelope that ends inside may go on in the next fragment.
-fn is_cut(r: Refusal) -> bool
+fn is_cut(r: EnvelopeRefusal) -> bool
     ensures { λ b. ⌜ b ≡ isCut r ⌝ }
 {
     match r {
-        Refusal::Cut => true,
-        Refusal::Groups => false,
-        Refusal::Kind => false,
-        Refusal::Size => false,
+        EnvelopeRefusal::Cut => true,
+        EnvelopeRefusal::Groups => false,
+        EnvelopeRefusal::Kind => false,
+        EnvelopeRefusal::Size => false,
     }
 }
 
@@ -47,7 +48,7 @@ fn in_record(e: Envelope) -> Envelope
 }
 
 // What the reader of whole strings says of the bytes that are held.
-fn read_held(rec: &[u8], n: usize) -> Read
+fn read_held(rec: &[u8], n: usize) -> EnvelopeRead
     requires { ⌜ head + n ≤ length (now rec) ⌝ }
     ensures { λ r. ⌜ r ≡ envelopeAt mostBits (heldIn n (now (rec .entry))) 0 ⌝ }
 {
@@ -70,8 +71,8 @@ pub(crate) fn is_unfinished(rec: &[u8], n: usize) -> bool
 {
     let x = read_held(rec, n);
     match x {
-        Read::Is(_) => false,
-        Read::Refused(r) => is_cut(r),
+        EnvelopeRead::Is(_) => false,
+        EnvelopeRead::Refused(r) => is_cut(r),
     }
 }
 
@@ -87,7 +88,7 @@ pub(crate) fn place_behind(place: u64, n: usize) -> u64
 }
 
 // A refused input: nothing is held any more.
-pub(crate) fn refuse(rec: &mut [u8], place: u64, r: Refusal) -> Taken
+pub(crate) fn refuse(rec: &mut [u8], place: u64, r: EnvelopeRefusal) -> Taken
     requires { ⌜ length (now rec) ≡ recordBytes mostBits ⌝ }
     ensures { λ x. ⌜ after x (now (rec .exit)) ≡ after (Taken.Refused r) (recordOf mostBits (refused r place)) ⌝ }
 {
@@ -102,13 +103,13 @@ fn begin(rec: &mut [u8], place: u64, fragment: &[u8]) -> Taken
 {
     let x = read_envelope(fragment, 0);
     match x {
-        Read::Is(e) => {
+        EnvelopeRead::Is(e) => {
             let n = e.next;
             put_bytes(rec, Loaded::HEAD, &fragment[..n]);
             put_head(rec, Loaded::WHOLE, n, place);
             Taken::Whole(in_record(e), n)
         }
-        Read::Refused(r) => {
+        EnvelopeRead::Refused(r) => {
             if is_cut(r) {
                 put_bytes(rec, Loaded::HEAD, fragment);
                 put_head(rec, Loaded::PART, fragment.len(), place);
@@ -137,11 +138,11 @@ fn resume(rec: &mut [u8], n: usize, place: u64, fragment: &[u8]) -> Taken
         i = to;
         let x = read_held(rec, m);
         match x {
-            Read::Is(e) => {
+            EnvelopeRead::Is(e) => {
                 put_head(rec, Loaded::WHOLE, m, place);
                 return Taken::Whole(in_record(e), i);
             }
-            Read::Refused(r) => {
+            EnvelopeRead::Refused(r) => {
                 if !is_cut(r) {
                     return refuse(rec, place, r);
                 }

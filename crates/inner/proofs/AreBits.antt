@@ -11,8 +11,8 @@ use Rattle.bits.proofs.Bytes.{bits-append}
 use Rattle.fields.specs.Fields.{widthOf}
 use Rattle.fields.specs.Encodings.{wholeBits, indexBits}
 use Rattle.elements.specs.declared.kinds.Direction.{Direction}
-use Rattle.elements.specs.declared.kinds.Kind.{Kind}
-use Rattle.elements.specs.declared.kinds.Kind.the-variants as kind
+use Rattle.elements.specs.declared.kinds.ArgumentKind.{ArgumentKind}
+use Rattle.elements.specs.declared.kinds.ArgumentKind.the-variants as kind
 use Rattle.elements.specs.declared.values.LevelType.{LevelType}
 use Rattle.elements.specs.declared.values.Level.{Level}
 use Rattle.elements.specs.declared.values.Time.{Time}
@@ -75,7 +75,7 @@ unfolding facilityBits
 facility-bits [] = whole-bits 0 1 0
 facility-bits (c ∷ cs) = bits-append (wholeBits 0 1 1) (sizedBits 4 8 (c ∷ cs)) (whole-bits 0 1 1) (sized-bits 4 8 (c ∷ cs))
 
-argument-bits : (k : Kind) (e : Element) (t : List ℕ) → Bits (argumentBits k e t)
+argument-bits : (k : ArgumentKind) (e : Element) (t : List ℕ) → Bits (argumentBits k e t)
 unfolding argumentBits
 argument-bits kind.NotCarried e t = none
 argument-bits kind.None e t = none

@@ -21,8 +21,8 @@ use Rattle.bits.proofs.Reading.{number-is, number-lt}
 use Rattle.fields.specs.Encodings.{wholeFits}
 use Rattle.fields.specs.declared.Refusal.{Refusal}
 use Rattle.elements.specs.declared.kinds.Direction.{Direction}
-use Rattle.elements.specs.declared.kinds.Kind.{Kind}
-use Rattle.elements.specs.declared.kinds.Kind.the-variants as kind
+use Rattle.elements.specs.declared.kinds.ArgumentKind.{ArgumentKind}
+use Rattle.elements.specs.declared.kinds.ArgumentKind.the-variants as kind
 use Rattle.elements.specs.declared.values.Element.{Element}
 use Rattle.elements.specs.declared.values.ElementRead.{ElementRead}
 use Rattle.elements.specs.declared.values.Step.the-variants as step
@@ -79,7 +79,7 @@ module _ (z l o : List ℕ) (from at n i : ℕ) (inv : sets z (from + i) (charac
 
 -- ---- an element's characters are the last of its bits
 
-argument-holds : (k : Kind) (e : Element) (t : List ℕ) → argumentFits k e t ≡ true → 7 * length t ≤ length (argumentBits k e t)
+argument-holds : (k : ArgumentKind) (e : Element) (t : List ℕ) → argumentFits k e t ≡ true → 7 * length t ≤ length (argumentBits k e t)
 unfolding argumentFits argumentBits levelsUnused
 argument-holds kind.NotCarried e t p = never (cc)
 argument-holds kind.None e t p = omega (arith, eqb-true (length t) 0 (both-right (plain e) (noText t) p))

@@ -29,10 +29,10 @@ use Rattle.elements.proofs.Pieces.{pieces-left}
 use Rattle.elements.proofs.Written.{bits-append}
 use Rattle.elements.proofs.Whole.{whole-below}
 use Rattle.inner.specs.declared.values.Message.{Message}
-use Rattle.inner.specs.declared.values.Written.the-variants as written
+use Rattle.inner.specs.declared.values.MessageWritten.the-variants as written
 use Rattle.inner.specs.Headers.{headerFits, headerBits}
 use Rattle.inner.specs.Places.{rowFits, rowBits}
-use Rattle.inner.specs.Messages.{allEmpty, messageFits, messageBits, bitsMost, roomLeast, messageShaped, padding, padded, done, writeMessage}
+use Rattle.inner.specs.Messages.{allEmpty, messageFits, messageBits, bitsMost, roomLeast, messageCarried, padding, padded, done, writeMessage}
 use Rattle.inner.specs.Writing.{headerPieces, rowPieces, messagePieces}
 use Rattle.inner.proofs.Runs.{yes, no, run-turn, run-full}
 use Rattle.inner.proofs.HeaderWritten.{bits-cons, bits-none, header-bits, header-fit, length-header, fit-cons, fit-none, fit-join}
@@ -63,7 +63,7 @@ module _ (d : Direction) (m : Message) (t : List ℕ) where
   -- ---- measured, as the code does it
 
   module _ (r : Size) (k : r ≡ sized (headerFits (m .header)) (headerBits (m .header))) where
-    pub no-header : r ≡ size.Shape → size.Shape ≡ sized (messageShaped d m t) (messageBits d m t)
+    pub no-header : r ≡ size.Shape → size.Shape ≡ sized (messageCarried d m t) (messageBits d m t)
     unfolding messageFits
     no-header q = rw (sized-no (headerFits (m .header)) (headerBits (m .header)) (sym q ∙ k))
 
@@ -71,7 +71,7 @@ module _ (d : Direction) (m : Message) (t : List ℕ) where
       header-right : (headerFits (m .header) ≡ true) × (a ≡ length (headerBits (m .header)))
       header-right = sized-yes (headerFits (m .header)) (headerBits (m .header)) a (sym q ∙ k)
 
-      pub no-count : not c ≡ true → size.Shape ≡ sized (messageShaped d m t) (messageBits d m t)
+      pub no-count : not c ≡ true → size.Shape ≡ sized (messageCarried d m t) (messageBits d m t)
       unfolding messageFits
       no-count p = rw (header-right .0, no c (wholeFits 1 5 (m .count)) kc p)
 
@@ -80,7 +80,7 @@ module _ (d : Direction) (m : Message) (t : List ℕ) where
         count-few = whole-below 1 5 (m .count) (yes c (wholeFits 1 5 (m .count)) kc p)
 
         module _ (five : length (m .places) ≡ 5) (s : Size) (ks : s ≡ sized (rowFits d (take (m .count) (m .places)) t) (rowBits d (take (m .count) (m .places)) t)) where
-          pub no-row : s ≡ size.Shape → size.Shape ≡ sized (messageShaped d m t) (messageBits d m t)
+          pub no-row : s ≡ size.Shape → size.Shape ≡ sized (messageCarried d m t) (messageBits d m t)
           unfolding messageFits
           no-row z = rw (header-right .0, yes c (wholeFits 1 5 (m .count)) kc p, eq-eqb (length (m .places)) 5 five, sized-no (rowFits d (take (m .count) (m .places)) t) (rowBits d (take (m .count) (m .places)) t) (sym z ∙ ks))
 
@@ -98,7 +98,7 @@ module _ (d : Direction) (m : Message) (t : List ℕ) where
                 (omega arith, omega arith)
 
             module _ (u : Bool) (ku : u ≡ allEmpty (drop (m .count) (m .places))) where
-              pub no-rest : not u ≡ true → size.Shape ≡ sized (messageShaped d m t) (messageBits d m t)
+              pub no-rest : not u ≡ true → size.Shape ≡ sized (messageCarried d m t) (messageBits d m t)
               unfolding messageFits
               no-rest w = rw (header-right .0, yes c (wholeFits 1 5 (m .count)) kc p, eq-eqb (length (m .places)) 5 five, row-right .0, no u (allEmpty (drop (m .count) (m .places))) ku w)
 
@@ -110,10 +110,10 @@ module _ (d : Direction) (m : Message) (t : List ℕ) where
                 total : a + 4 + b ≡ length (messageBits d m t)
                 total = let e = header-right .1 in let f = row-right .1 in let g = length-message in omega arith
 
-                pub too-long : bitsMost < a + 4 + b → size.Shape ≡ sized (messageShaped d m t) (messageBits d m t)
+                pub too-long : bitsMost < a + 4 + b → size.Shape ≡ sized (messageCarried d m t) (messageBits d m t)
                 too-long o = let e = total in rw (all-right, lt-leb (length (messageBits d m t)) bitsMost (omega arith))
 
-                pub measured-message : a + 4 + b ≤ bitsMost → size.Bits (a + 4 + b) ≡ sized (messageShaped d m t) (messageBits d m t)
+                pub measured-message : a + 4 + b ≤ bitsMost → size.Bits (a + 4 + b) ≡ sized (messageCarried d m t) (messageBits d m t)
                 measured-message o =
                     let e = total in
                     rw (all-right, le-leb (length (messageBits d m t)) bitsMost (omega arith), total)
@@ -162,20 +162,20 @@ module _ (d : Direction) (m : Message) (t s : List ℕ) where
   unfolding writeMessage
   too-small h = rw (lt-ltb (length s) roomLeast h)
 
-  module _ (h : roomLeast ≤ length s) (r : Size) (k : r ≡ sized (messageShaped d m t) (messageBits d m t)) where
-    pub not-shaped : r ≡ size.Shape → done written.Shape s ≡ writeMessage d m t s
+  module _ (h : roomLeast ≤ length s) (r : Size) (k : r ≡ sized (messageCarried d m t) (messageBits d m t)) where
+    pub not-carried : r ≡ size.Shape → done written.Shape s ≡ writeMessage d m t s
     unfolding writeMessage
-    not-shaped q = rw (le-ltb (length s) roomLeast h, sized-no (messageShaped d m t) (messageBits d m t) (sym q ∙ k))
+    not-carried q = rw (le-ltb (length s) roomLeast h, sized-no (messageCarried d m t) (messageBits d m t) (sym q ∙ k))
 
     module _ (n : ℕ) (q : r ≡ size.Bits n) where
-      shaped : (messageShaped d m t ≡ true) × (n ≡ length (messageBits d m t))
-      shaped = sized-yes (messageShaped d m t) (messageBits d m t) n (sym q ∙ k)
+      carried : (messageCarried d m t ≡ true) × (n ≡ length (messageBits d m t))
+      carried = sized-yes (messageCarried d m t) (messageBits d m t) n (sym q ∙ k)
 
       fits : messageFits d m t ≡ true
-      fits = both-left (messageFits d m t) (leb (length (messageBits d m t)) bitsMost) (shaped .0)
+      fits = both-left (messageFits d m t) (leb (length (messageBits d m t)) bitsMost) (carried .0)
 
       within : length (messageBits d m t) ≤ bitsMost
-      within = leb-true (length (messageBits d m t)) bitsMost (both-right (messageFits d m t) (leb (length (messageBits d m t)) bitsMost) (shaped .0))
+      within = leb-true (length (messageBits d m t)) bitsMost (both-right (messageFits d m t) (leb (length (messageBits d m t)) bitsMost) (carried .0))
 
       pub written-count : m .count ≤ 5
       written-count = whole-below 1 5 (m .count) (fits-of d m t fits .count)
@@ -184,7 +184,7 @@ module _ (d : Direction) (m : Message) (t s : List ℕ) where
       unfolding writeMessage padded
       written-out z y a b w f i g =
           let bs : List ℕ = messageBits d m t in
-          let e = shaped .1 in
+          let e = carried .1 in
           let len = within in
           let p : putPieces s (8 * roomLeast) 0 (messagePieces d m t) ≡ left (Next (0 + length bs)) (putBits s 0 bs) = rw (message-bits d m t) at (pieces-left (messagePieces d m t) s (8 * roomLeast) 0 (message-fit d m t fits) (rw (message-bits d m t) (room-for s (0 + length bs) h (omega arith)))) in
           let zz : z ≡ putBits s 0 bs = ap (λ (l : Left). l .bytes) (f ∙ p) in
@@ -195,4 +195,4 @@ module _ (d : Direction) (m : Message) (t s : List ℕ) where
           as-number z (8 * roomLeast) n w 0 true (bitsN w 0) (omega arith) (pow-pos w) refl refl ∙ put-if-yes true z (8 * roomLeast) n (bitsN w 0) refl ∙ put-fits z (8 * roomLeast) n (bitsN w 0) (room-for z (n + length (bitsN w 0)) (omega arith) (omega arith)) in
           let yy : y ≡ putBits z n (bitsN w 0) = ap (λ (l : Left). l .bytes) (g ∙ o) in
           let v : putBits z n (bitsN w 0) ≡ putBits s 0 (bs ++ bitsN (padding (length bs)) 0) = let c : 0 + length bs ≡ length bs = omega arith in rw (zz, j, e) (rw c at (sym (put-append bs (bitsN (padding (length bs)) 0) s 0))) in
-          rw (le-ltb (length s) roomLeast h, shaped .0, yy, v, e)
+          rw (le-ltb (length s) roomLeast h, carried .0, yy, v, e)

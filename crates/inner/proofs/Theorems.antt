@@ -19,7 +19,7 @@ use Rattle.bits.proofs.Bytes.{bits-to, length-to}
 use Rattle.bits.proofs.Putting.{read-back, length-put}
 use Rattle.fields.specs.Encodings.{wholeFits}
 use Rattle.elements.specs.declared.kinds.Direction.{Direction}
-use Rattle.elements.specs.declared.kinds.Kind.the-variants as kind
+use Rattle.elements.specs.declared.kinds.ArgumentKind.the-variants as kind
 use Rattle.elements.specs.declared.values.Element.{Element}
 use Rattle.elements.specs.declared.values.Step.{Step}
 use Rattle.elements.specs.declared.values.Step.the-variants as step
@@ -34,9 +34,9 @@ use Rattle.inner.specs.declared.values.Message.{Message}
 use Rattle.inner.specs.Headers.{headerFits, headerBits}
 use Rattle.inner.specs.declared.values.MessageOpened.{MessageOpened}
 use Rattle.inner.specs.declared.values.Opened.the-variants as opened
-use Rattle.inner.specs.declared.values.Written.the-variants as written
+use Rattle.inner.specs.declared.values.MessageWritten.the-variants as written
 use Rattle.inner.specs.Places.{rowFits, rowBits}
-use Rattle.inner.specs.Messages.{exactly, isMessage, messageText, messageFits, messageBits, bitsMost, roomLeast, messageShaped, padding, padded, Done, done, writeMessage, Opening, opening, notOpened, openedAs, openMessage}
+use Rattle.inner.specs.Messages.{exactly, isMessage, messageText, messageFits, messageBits, bitsMost, roomLeast, messageCarried, padding, padded, Done, done, writeMessage, Opening, opening, notOpened, openedAs, openMessage}
 use Rattle.inner.proofs.AreBits.{message-are-bits, padded-are-bits}
 use Rattle.inner.proofs.MessageLaws.{message-reads, message-text, message-stands, places-empty, fits-of}
 use Rattle.inner.proofs.Characters.{ReadIs, exactly-is}
@@ -47,21 +47,21 @@ use Rattle.inner.proofs.MessageWritten.{header-most, row-most, length-m
 -- the message was written
 record WrittenIs (d : Direction) (m : Message) (t out : List ℕ) (n : ℕ) : Type 0 where
   room : roomLeast ≤ length out
-  shaped : messageShaped d m t ≡ true
+  carried : messageCarried d m t ≡ true
   count : n ≡ length (messageBits d m t)
   bytes : writeMessage d m t out .bytes ≡ putBits out 0 (padded (messageBits d m t))
 
 written-is : (d : Direction) (m : Message) (t out : List ℕ) (n : ℕ) → writeMessage d m t out .answer ≡ written.Bits n → WrittenIs d m t out n
 unfolding writeMessage
-written-is d m t out n h = go (ltb (length out) roomLeast) refl (messageShaped d m t) refl h refl
+written-is d m t out n h = go (ltb (length out) roomLeast) refl (messageCarried d m t) refl h refl
   where
     both : Bool → Bool → Done
     both a b = cond a (done written.Room out) (cond b (done (written.Bits (length (messageBits d m t))) (putBits out 0 (padded (messageBits d m t)))) (done written.Shape out))
 
-    go : (a : Bool) → ltb (length out) roomLeast ≡ a → (b : Bool) → messageShaped d m t ≡ b → both a b .answer ≡ written.Bits n → writeMessage d m t out .bytes ≡ both a b .bytes → WrittenIs d m t out n
+    go : (a : Bool) → ltb (length out) roomLeast ≡ a → (b : Bool) → messageCarried d m t ≡ b → both a b .answer ≡ written.Bits n → writeMessage d m t out .bytes ≡ both a b .bytes → WrittenIs d m t out n
     go true p b q e f = never (cc)
     go false p false q e f = never (cc)
-    go false p true q e f = record { room = ltb-false (length out) roomLeast p; shaped = q; count = cc; bytes = f }
+    go false p true q e f = record { room = ltb-false (length out) roomLeast p; carried = q; count = cc; bytes = f }
 
 -- the message was opened
 record OpenedIs (d : Direction) (s : List ℕ) (n : ℕ) (z : List ℕ) (k : ℕ) (m : Message) : Type 0 where
@@ -137,8 +137,8 @@ module _ (d : Direction) (m : Message) (t out text : List ℕ) (n : ℕ) where
   written-read h r =
       let w = written-is d m t out n h in
       let bs : List ℕ = messageBits d m t in
-      let f = both-left (messageFits d m t) (leb (length bs) bitsMost) (w .shaped) in
-      let l = leb-true (length bs) bitsMost (both-right (messageFits d m t) (leb (length bs) bitsMost) (w .shaped)) in
+      let f = both-left (messageFits d m t) (leb (length bs) bitsMost) (w .carried) in
+      let l = leb-true (length bs) bitsMost (both-right (messageFits d m t) (leb (length bs) bitsMost) (w .carried)) in
       let c = w .count in
       let o = w .room in
       let p = length-padded bs in
@@ -182,7 +182,7 @@ module _ (d : Direction) (s : List ℕ) (n : ℕ) (text : List ℕ) (k : ℕ) (m
 
 pub refused-leaves : (d : Direction) (m : Message) (t out : List ℕ) → ((n : ℕ) → writeMessage d m t out .answer ≡ written.Bits n → ⊥) → writeMessage d m t out .bytes ≡ out
 unfolding writeMessage
-refused-leaves d m t out h = go (ltb (length out) roomLeast) (messageShaped d m t) h
+refused-leaves d m t out h = go (ltb (length out) roomLeast) (messageCarried d m t) h
   where
     go : (a b : Bool) → ((n : ℕ) → cond a (done written.Room out) (cond b (done (written.Bits (length (messageBits d m t))) (putBits out 0 (padded (messageBits d m t)))) (done written.Shape out)) .answer ≡ written.Bits n → ⊥) → cond a (done written.Room out) (cond b (done (written.Bits (length (messageBits d m t))) (putBits out 0 (padded (messageBits d m t)))) (done written.Shape out)) .bytes ≡ out
     go true b f = refl
@@ -231,7 +231,7 @@ module _ (d : Direction) (m : Message) (t : List ℕ) (h : messageFits d m t ≡
       omega (arith, length-message d m t, header-most m, row-most d (take (m .count) (m .places)) t (f .row))
 
   -- so no message of its type passes the card's limit: the test for it stays in the definition, and is never met
-  pub never-too-long : messageShaped d m t ≡ true
+  pub never-too-long : messageCarried d m t ≡ true
   never-too-long = let n = message-bounded in rw (h, le-leb (length (messageBits d m t)) bitsMost (omega arith))
 
 -- ---- these bounds are met: n times the largest element of a number i

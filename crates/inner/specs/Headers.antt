@@ -56,8 +56,8 @@ dateTimeAt l at =
     (λ (m q : ℕ). onto date.Refused (wholeNumber l q 1 31) (λ (d r : ℕ). timeOfDayAt l y m d r)))
 
 -- ---- ATCMessageHeader: the presence bits of the reference and of the acknowledgement, the identification number (0..63), the reference number
--- (0..63) where there is one, date and time, and the acknowledgement where it is present. Its default is notRequired (1), so that present it
--- must be required (0).
+-- (0..63) where there is one, date and time, and the acknowledgement where it is present. Its default is notRequired (1), so that present
+-- it must be required (0).
 
 abbrev pub presence : Bool → Bool → ℕ
 presence reference acknowledgement = 2 * flag reference + flag acknowledgement

@@ -24,8 +24,8 @@ use Rattle.inner.specs.declared.values.MessageRead.{MessageRead}
 use Rattle.inner.specs.declared.values.MessageOpened.{MessageOpened}
 use Rattle.inner.specs.declared.values.Opened.{Opened}
 use Rattle.inner.specs.declared.values.Opened.the-variants as opened
-use Rattle.inner.specs.declared.values.Written.{Written}
-use Rattle.inner.specs.declared.values.Written.the-variants as written
+use Rattle.inner.specs.declared.values.MessageWritten.{MessageWritten}
+use Rattle.inner.specs.declared.values.MessageWritten.the-variants as written
 use Rattle.elements.specs.Arguments.{onto, refusalOf}
 use Rattle.elements.specs.OneElement.{bare, noTime, plain}
 use Rattle.inner.specs.Headers.{headerFits, headerBits, headerAt}
@@ -120,8 +120,8 @@ abbrev pub roomLeast : ℕ
 roomLeast = limits.bufferBytes
 
 -- a message that the card carries: it is of its type, and it does not pass the limit
-abbrev pub messageShaped : Direction → Message → List ℕ → Bool
-messageShaped d m t = messageFits d m t && leb (length (messageBits d m t)) bitsMost
+abbrev pub messageCarried : Direction → Message → List ℕ → Bool
+messageCarried d m t = messageFits d m t && leb (length (messageBits d m t)) bitsMost
 
 -- ---- writing: what a call leaves in a lent buffer
 
@@ -133,18 +133,18 @@ unfoldable pub padded : List ℕ → List ℕ
 padded l = l ++ bitsN (padding (length l)) 0
 
 pub record Done : Type 0 where
-  pub answer : Written
+  pub answer : MessageWritten
   pub bytes : List ℕ
 
-abbrev pub done : Written → List ℕ → Done
+abbrev pub done : MessageWritten → List ℕ → Done
 done a s = record { answer = a; bytes = s }
 
--- A buffer that is too small is refused first, then a message that is not carried; every byte stays. Else the bits stand from the buffer's first
--- bit on, padded with zeros to a whole byte, and their count is answered; later bytes stay.
+-- A buffer that is too small is refused first, then a message that is not carried; every byte stays. Else the bits stand from the buffer's
+-- first bit on, padded with zeros to a whole byte, and their count is answered; later bytes stay.
 unfoldable pub writeMessage : Direction → Message → List ℕ → List ℕ → Done
 writeMessage d m t out =
     cond (ltb (length out) roomLeast) (done written.Room out)
-    (cond (messageShaped d m t) (done (written.Bits (length (messageBits d m t))) (putBits out 0 (padded (messageBits d m t)))) (done written.Shape out))
+    (cond (messageCarried d m t) (done (written.Bits (length (messageBits d m t))) (putBits out 0 (padded (messageBits d m t)))) (done written.Shape out))
 
 -- ---- reading: the message in the first n bits of lent bytes, its characters in a lent text
 
@@ -163,8 +163,8 @@ abbrev pub openedAs : List ℕ → Message → List ℕ → Step → Opening
 openedAs z m t (step.Next next) = opening (record { answer = opened.Characters (length t); message = m }) (t ++ drop (length t) z)
 openedAs z m t (step.Refused r) = opening (notOpened (opened.Refused r)) z
 
--- A text that is too small is refused first, then a count that passes the limit or the lent bytes, then what reading refuses; every byte of the
--- text stays.
+-- A text that is too small is refused first, then a count that passes the limit or the lent bytes, then what reading refuses; every byte of
+-- the text stays.
 unfoldable pub openMessage : Direction → List ℕ → ℕ → List ℕ → Opening
 openMessage d s n z =
     cond (ltb (length z) roomLeast) (opening (notOpened opened.Room) z)

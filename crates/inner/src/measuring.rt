@@ -6,7 +6,7 @@ ghost use lib.ListN.{drop, length, take};
 ghost use Rattle.fields.specs.Encodings.{wholeFits};
 ghost use Rattle.elements.specs.Arguments.{flag as flagOf};
 ghost use Rattle.inner.specs.Headers.{dateTimeFits, headerBits, headerFits, referenceFits};
-ghost use Rattle.inner.specs.Messages.{allEmpty, empty, messageBits, messageShaped};
+ghost use Rattle.inner.specs.Messages.{allEmpty, empty, messageBits, messageCarried};
 ghost use Rattle.inner.specs.Places.{rowBits, rowFits};
 use crate::values::DateTime;
 use crate::values::Header;
@@ -103,7 +103,8 @@ pub(crate) fn part_end(len: usize, from: usize, n: u64) -> usize
 // How many bits the elements of a message take; their characters are the whole text.
 fn row_bits(direction: Direction, m: Message, text: &[u8]) -> Size
     requires { ⌜ m .count ≤ 5 ⌝ }
-    ensures { λ r. ⌜ r ≡ cond (rowFits direction (take (m .count) (m .places)) (now (text .entry))) (Size.Bits (length (rowBits direction (take (m .count) (m .places)) (now (text .entry))))) Size.Shape ⌝ }
+    ensures { λ r. ⌜ r ≡ cond (rowFits direction (take (m .count) (m .places)) (now (text .entry)))
+        (Size.Bits (length (rowBits direction (take (m .count) (m .places)) (now (text .entry))))) Size.Shape ⌝ }
 {
     let n = m.count;
     let mut i: usize = 0;
@@ -159,7 +160,8 @@ fn rest_empty(direction: Direction, m: Message, text: &[u8]) -> bool
 
 // How many bits a message takes whose characters are `text`. One that is none of its type, or passes the most bits, has the wrong shape.
 pub fn message_bits(direction: Direction, m: Message, text: &[u8]) -> Size
-    ensures { λ r. ⌜ r ≡ cond (messageShaped direction m (now (text .entry))) (Size.Bits (length (messageBits direction m (now (text .entry))))) Size.Shape ⌝ }
+    ensures { λ r. ⌜ r ≡ cond (messageCarried direction m (now (text .entry)))
+        (Size.Bits (length (messageBits direction m (now (text .entry))))) Size.Shape ⌝ }
 {
     let h = m.header;
     let first = header_bits(h);

@@ -1,4 +1,5 @@
-// A message read from lent bytes, and its characters copied into a lent text. It is read first, so that a refusal leaves every byte of the text.
+// A message read from lent bytes, and its characters copied into a lent text. It is read first, so that a refusal leaves every byte of the
+// text.
 ghost use mathlib.Core.Path.{_≡_};
 ghost use Prim.Native.Nat.{_+_, _*_, _^_, _≤_, _<_};
 ghost use lib.ListN.{drop, length, take};
@@ -54,7 +55,8 @@ fn copy_text(
     text: &mut [u8],
 ) -> usize
     requires { ⌜ length (textAt direction (bitsTo (now s) end) at n) ≤ length (now text) ⌝ }
-    ensures { λ r. ⌜ (r ≡ length (textAt direction (bitsTo (now (s .entry)) end) at n)) × (now (text .exit) ≡ sets (now (text .entry)) 0 (textAt direction (bitsTo (now (s .entry)) end) at n)) ⌝ }
+    ensures { λ r. ⌜ (r ≡ length (textAt direction (bitsTo (now (s .entry)) end) at n)) × (now (text .exit) ≡
+        sets (now (text .entry)) 0 (textAt direction (bitsTo (now (s .entry)) end) at n)) ⌝ }
 {
     let mut i: usize = 0;
     let mut p = at;
@@ -85,7 +87,8 @@ fn message_text(
     text: &mut [u8],
 ) -> usize
     requires { ⌜ (length (elementsText direction (bitsTo (now s) end) at n) ≤ length (now text)) × (at < 2 ^ 32) ⌝ }
-    ensures { λ r. ⌜ (r ≡ length (elementsText direction (bitsTo (now (s .entry)) end) at n)) × (now (text .exit) ≡ sets (now (text .entry)) 0 (elementsText direction (bitsTo (now (s .entry)) end) at n)) ⌝ }
+    ensures { λ r. ⌜ (r ≡ length (elementsText direction (bitsTo (now (s .entry)) end) at n)) × (now (text .exit) ≡
+        sets (now (text .entry)) 0 (elementsText direction (bitsTo (now (s .entry)) end) at n)) ⌝ }
 {
     let first = read_header(s, end, at);
     let HeaderRead::Got(_, next) = first else {

@@ -106,16 +106,16 @@ pub struct MessageRead {
     pub message: Message,
 }
 
-// What writing a message finds: the count of bits before the padding; or, with every byte as it was, a buffer under the least size, or a message
-// that is none of its type or passes the most bits.
-pub enum Written {
+// What writing a message finds: the count of bits before the padding; or, with every byte as it was, a buffer under the least size, or a
+// message that is none of its type or passes the most bits.
+pub enum MessageWritten {
     Bits(usize),
     Room,
     Shape,
 }
 
-// What reading a message and its text finds: how many characters there are; or, with every byte of the text as it was, a text under the least size,
-// a count of bits that is more than a message has at most or than the lent bytes hold, or the refusal.
+// What reading a message and its text finds: how many characters there are; or, with every byte of the text as it was, a text under the
+// least size, a count of bits that is more than a message has at most or than the lent bytes hold, or the refusal.
 pub enum Opened {
     Characters(usize),
     Room,

@@ -13,7 +13,7 @@ use crate::measuring::part_end;
 use crate::values::DateTime;
 use crate::values::Header;
 use crate::values::Message;
-use crate::values::Written;
+use crate::values::MessageWritten;
 use bits::Put;
 use elements::kinds::Direction;
 use elements::values::Size;
@@ -107,7 +107,8 @@ fn put_acknowledgement(buf: &mut [u8], end: usize, at: usize, present: bool) -> 
 
 // What follows the reference.
 fn put_dated(buf: &mut [u8], end: usize, at: usize, x: DateTime, acknowledged: bool) -> Put
-    ensures { λ r. ⌜ left r (now (buf .exit)) ≡ putPieces (now (buf .entry)) end at (dateTimePieces x ++ acknowledgementPieces acknowledged) ⌝ }
+    ensures { λ r. ⌜ left r (now (buf .exit)) ≡
+        putPieces (now (buf .entry)) end at (dateTimePieces x ++ acknowledgementPieces acknowledged) ⌝ }
 {
     let first = put_date_time(buf, end, at, x);
     let Put::Next(next) = first else {
@@ -152,7 +153,8 @@ fn put_row(
     text: &[u8],
 ) -> Put
     requires { ⌜ m .count ≤ 5 ⌝ }
-    ensures { λ r. ⌜ left r (now (buf .exit)) ≡ putPieces (now (buf .entry)) end at (rowPieces direction (take (m .count) (m .places)) (now (text .entry))) ⌝ }
+    ensures { λ r. ⌜ left r (now (buf .exit)) ≡
+        putPieces (now (buf .entry)) end at (rowPieces direction (take (m .count) (m .places)) (now (text .entry))) ⌝ }
 {
     let n = m.count;
     let mut i: usize = 0;
@@ -214,18 +216,23 @@ fn padding(n: usize) -> usize
 }
 
 // The message, whose characters are `text`, from the buffer's first bit on. Everything that can be refused is decided first.
-pub fn write_message(direction: Direction, m: Message, text: &[u8], out: &mut [u8]) -> Written
+pub fn write_message(
+    direction: Direction,
+    m: Message,
+    text: &[u8],
+    out: &mut [u8],
+) -> MessageWritten
     ensures { λ r. ⌜ done r (now (out .exit)) ≡ writeMessage direction m (now (text .entry)) (now (out .entry)) ⌝ }
 {
     if out.len() < Message::ROOM {
-        return Written::Room;
+        return MessageWritten::Room;
     }
     let size = message_bits(direction, m, text);
     let Size::Bits(n) = size else {
-        return Written::Shape;
+        return MessageWritten::Shape;
     };
     let end = 8 * Message::ROOM;
     put_message(out, end, 0, direction, m, text);
     bits::put_bits(out, end, n, padding(n), 0);
-    Written::Bits(n)
+    MessageWritten::Bits(n)
 }

@@ -20,14 +20,14 @@ use Rattle.fields.specs.declared.Fault.the-variants as fault
 use Rattle.elements.specs.declared.kinds.Direction.{Direction}
 use Rattle.elements.specs.declared.values.Step.{Step}
 use Rattle.elements.specs.declared.values.Step.the-variants as step
-use Rattle.inner.specs.Messages.{noMessage, endedAt, messageAt, exactly, isMessage, messageText, messageFits, messageBits, bitsMost, roomLeast, padded, opening, Opening, notOpened, openedAs, openMessage, done, Done, writeMessage, messageShaped}
+use Rattle.inner.specs.Messages.{noMessage, endedAt, messageAt, exactly, isMessage, messageText, messageFits, messageBits, bitsMost, roomLeast, padded, opening, Opening, notOpened, openedAs, openMessage, done, Done, writeMessage, messageCarried}
 use Rattle.inner.specs.declared.values.Message.{Message}
 use Rattle.inner.specs.declared.values.MessageRead.{MessageRead}
 use Rattle.inner.specs.declared.values.MessageOpened.{MessageOpened}
 use Rattle.inner.specs.declared.values.Opened.{Opened}
 use Rattle.inner.specs.declared.values.Opened.the-variants as opened
-use Rattle.inner.specs.declared.values.Written.{Written}
-use Rattle.inner.specs.declared.values.Written.the-variants as written
+use Rattle.inner.specs.declared.values.MessageWritten.{MessageWritten}
+use Rattle.inner.specs.declared.values.MessageWritten.the-variants as written
 use Rattle.inner.proofs.MessageLaws.{message-stands}
 use Rattle.inner.proofs.Characters.{charactersMost, exactly-few}
 use Rattle.layout.specs.Layout.{messageBytes, bytesFit, kept, storeAt, loadAt, Kept, isMessage as loadedAs}
@@ -141,11 +141,11 @@ module _ (d : ℕ) (s : List ℕ) (n : ℕ) (m t : List ℕ) where
 
 -- ---- the ways out of `write_call`
 
-pub written-few : (d : Direction) (m : Message) (t o z : List ℕ) (a : Written) (n : ℕ) → done a z ≡ writeMessage d m t o → a ≡ written.Bits n → n ≤ bitsMost
+pub written-few : (d : Direction) (m : Message) (t o z : List ℕ) (a : MessageWritten) (n : ℕ) → done a z ≡ writeMessage d m t o → a ≡ written.Bits n → n ≤ bitsMost
 unfolding writeMessage
-written-few d m t o z a n e h = go (ltb (length o) roomLeast) (messageShaped d m t) refl e
+written-few d m t o z a n e h = go (ltb (length o) roomLeast) (messageCarried d m t) refl e
   where
-    go : (x y : Bool) → messageShaped d m t ≡ y → done a z ≡ cond x (done written.Room o) (cond y (done (written.Bits (length (messageBits d m t))) (putBits o 0 (padded (messageBits d m t)))) (done written.Shape o)) → n ≤ bitsMost
+    go : (x y : Bool) → messageCarried d m t ≡ y → done a z ≡ cond x (done written.Room o) (cond y (done (written.Bits (length (messageBits d m t))) (putBits o 0 (padded (messageBits d m t)))) (done written.Shape o)) → n ≤ bitsMost
     go true y p q = let g : a ≡ written.Room = ap (λ (w : Done). w .answer) q in never (cc)
     go false true p q =
         let g : a ≡ written.Bits (length (messageBits d m t)) = ap (λ (w : Done). w .answer) q in
@@ -169,6 +169,6 @@ module _ (d : ℕ) (b t o : List ℕ) where
       unfolding writeCall writeBy
       write-no-way q = rw (le-ltb (length o) roomLeast h, ← e, k, ← p, q)
 
-      pub write-is : (x : Direction) → w ≡ way.Is x → (a v : Written) (z : List ℕ) → done a z ≡ writeMessage x (l .message) t o → a ≡ v → sentAs v z ≡ writeCall d b t o
+      pub write-is : (x : Direction) → w ≡ way.Is x → (a v : MessageWritten) (z : List ℕ) → done a z ≡ writeMessage x (l .message) t o → a ≡ v → sentAs v z ≡ writeCall d b t o
       unfolding writeCall writeBy sentOf
       write-is x q a v z f g = rw (le-ltb (length o) roomLeast h, ← e, k, ← p, q, ← f, g)

@@ -19,8 +19,8 @@ use Rattle.inner.specs.declared.values.Message.{Message}
 use Rattle.inner.specs.declared.values.MessageOpened.{MessageOpened}
 use Rattle.inner.specs.declared.values.Opened.{Opened}
 use Rattle.inner.specs.declared.values.Opened.the-variants as opened
-use Rattle.inner.specs.declared.values.Written.{Written}
-use Rattle.inner.specs.declared.values.Written.the-variants as written
+use Rattle.inner.specs.declared.values.MessageWritten.{MessageWritten}
+use Rattle.inner.specs.declared.values.MessageWritten.the-variants as written
 use Rattle.inner.proofs.Theorems.{written-read, read-written, refused-leaves, unread-leaves}
 use Rattle.layout.specs.Layout.{messageBytes, loadAt, isMessage as loadedAs}
 use Rattle.layout.specs.Calls.{Told, told, toldAs, toldOf, wayOf, readBy, readCall, Sent, sent, sentAs, sentOf, writeBy, writeCall}
@@ -95,7 +95,7 @@ record Gave (d : ℕ) (b t out : List ℕ) (n : ℕ) : Type 0 where
   bytes : writeCall d b t out .bytes ≡ writeMessage direction (loadAt b .message) t out .bytes
 
 module _ (d : ℕ) (b t out : List ℕ) (n : ℕ) where
-  gave-as : (x : Direction) → wayOf d ≡ way.Is x → loadAt b ≡ loadedAs (loadAt b .message) → (a : Written) → writeMessage x (loadAt b .message) t out .answer ≡ a → writeCall d b t out ≡ sentAs a (writeMessage x (loadAt b .message) t out .bytes) → writeCall d b t out .number ≡ 16777216 * n → Gave d b t out n
+  gave-as : (x : Direction) → wayOf d ≡ way.Is x → loadAt b ≡ loadedAs (loadAt b .message) → (a : MessageWritten) → writeMessage x (loadAt b .message) t out .answer ≡ a → writeCall d b t out ≡ sentAs a (writeMessage x (loadAt b .message) t out .bytes) → writeCall d b t out .number ≡ 16777216 * n → Gave d b t out n
   unfolding sentAs
   gave-as x p l (written.Bits k) f e h =
       let g = ap (λ (o : Sent). o .number) e in
@@ -168,13 +168,13 @@ module _ (d : ℕ) (s : List ℕ) (n : ℕ) (m t : List ℕ) (h : (c : ℕ) → 
       go false true e = stays-by (wayOf d) e
       go false false e = (ap (λ (o : Told). o .message) e, ap (λ (o : Told). o .text) e)
 
-sent-bytes : (a : Written) (z : List ℕ) → sentAs a z .bytes ≡ z
+sent-bytes : (a : MessageWritten) (z : List ℕ) → sentAs a z .bytes ≡ z
 unfolding sentAs
 sent-bytes (written.Bits k) z = refl
 sent-bytes written.Room z = refl
 sent-bytes written.Shape z = refl
 
-sent-count : (a : Written) (z : List ℕ) (k : ℕ) → a ≡ written.Bits k → sentAs a z .number ≡ 16777216 * k
+sent-count : (a : MessageWritten) (z : List ℕ) (k : ℕ) → a ≡ written.Bits k → sentAs a z .number ≡ 16777216 * k
 unfolding sentAs
 sent-count a z k e = rw e
 

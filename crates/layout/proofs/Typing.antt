@@ -15,8 +15,8 @@ use Rattle.elements.specs.Elements.{kindOf}
 use Rattle.elements.specs.OneElement.{noLevel, noTime, noDigits, lastOf, levelUnused, timeUnused, codeUnused, levelsUnused, plain, noText, argumentFits, elementFits}
 use Rattle.elements.specs.declared.kinds.Direction.{Direction}
 use Rattle.elements.specs.declared.kinds.Direction.the-variants.{Downlink, Uplink}
-use Rattle.elements.specs.declared.kinds.Kind.{Kind}
-use Rattle.elements.specs.declared.kinds.Kind.the-variants as kind
+use Rattle.elements.specs.declared.kinds.ArgumentKind.{ArgumentKind}
+use Rattle.elements.specs.declared.kinds.ArgumentKind.the-variants as kind
 use Rattle.elements.specs.declared.values.LevelType.{LevelType}
 use Rattle.elements.specs.declared.values.Level.{Level}
 use Rattle.elements.specs.declared.values.Time.{Time}
@@ -185,7 +185,7 @@ without-levels e t b c x y h =
       short = no-characters t (both-right (a && b && c) (noText t) h);
     }
 
-argument : (k : Kind) (e : Element) (t : List ℕ) → argumentFits k e t ≡ true → Argument e t
+argument : (k : ArgumentKind) (e : Element) (t : List ℕ) → argumentFits k e t ≡ true → Argument e t
 unfolding argumentFits
 argument kind.NotCarried e t h = never h
 argument kind.None e t h = plain-argument e t (both-left (plain e) (noText t) h) (no-characters t (both-right (plain e) (noText t) h))

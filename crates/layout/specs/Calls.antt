@@ -1,6 +1,6 @@
--- The calls on bytes that the card exports: reading and writing an inner message. The direction is a number, 1 downlink and 2 uplink. The answer is the
--- number of a refusal, with its place above it where the bits are at fault, or a count: of characters, 256 times, or of bits, 2^24 times. Each count has
--- places of its own in the answer, so that one taken for the other is 0. A refusal leaves every lent byte.
+-- The calls on bytes that the card exports: reading and writing an inner message. The direction is a number, 1 downlink and 2 uplink. The
+-- answer is the number of a refusal, with its place above it where the bits are at fault, or a count: of characters, 256 times, or of bits,
+-- 2^24 times. Each count has places of its own in the answer, so that one taken for the other is 0. A refusal leaves every lent byte.
 use Prim.Native.Nat.{ℕ, _*_}
 use mathlib.Core.Bool.{cond}
 use mathlib.Core.List.{List}
@@ -13,8 +13,8 @@ use Rattle.inner.specs.Messages.{roomLeast, Opening, openMessage, Done, writeMe
 use Rattle.inner.specs.declared.values.Message.{Message}
 use Rattle.inner.specs.declared.values.Opened.{Opened}
 use Rattle.inner.specs.declared.values.Opened.the-variants as opened
-use Rattle.inner.specs.declared.values.Written.{Written}
-use Rattle.inner.specs.declared.values.Written.the-variants as written
+use Rattle.inner.specs.declared.values.MessageWritten.{MessageWritten}
+use Rattle.inner.specs.declared.values.MessageWritten.the-variants as written
 use Rattle.layout.specs.Layout.{size, messageBytes, loadAt}
 use Rattle.layout.specs.declared.calls.Way.{Way}
 use Rattle.layout.specs.declared.calls.Way.the-variants as way
@@ -68,7 +68,7 @@ pub record Sent : Type 0 where
 abbrev pub sent : ℕ → List ℕ → Sent
 sent n o = record { number = n; bytes = o }
 
-unfoldable pub sentAs : Written → List ℕ → Sent
+unfoldable pub sentAs : MessageWritten → List ℕ → Sent
 sentAs (written.Bits n) o = sent (countedBits n) o
 sentAs written.Room o = sent room o
 sentAs written.Shape o = sent shape o

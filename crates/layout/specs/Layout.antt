@@ -24,7 +24,8 @@
 --   19 to 22  the four digits of a code
 --   23        zero
 --
--- The characters of all elements stand in a text beside the message, one element's after another's. A number may be any that its bytes hold:
+-- The characters of all elements stand in a text beside the message, one element's after another's. A number may be any that its bytes
+-- hold:
 -- whether it is one of its type, and whether what is not used is zero, the writer asks.
 use Prim.Native.Nat.{ℕ, zero, suc, _+_, _*_, _/_, _%_}
 use mathlib.Core.Bool.{Bool, true, false, cond, _&&_}

@@ -7,8 +7,8 @@ use crate::stored::store_message;
 use elements::kinds::Direction;
 use inner::opening::open_message;
 use inner::values::Message;
+use inner::values::MessageWritten;
 use inner::values::Opened;
-use inner::values::Written;
 use inner::writing::write_message;
 use words::Limit;
 
@@ -45,7 +45,8 @@ pub fn read_call(
     message: &mut [u8],
     text: &mut [u8],
 ) -> u64
-    ensures { λ r. ⌜ told r (now (message .exit)) (now (text .exit)) ≡ readCall direction (now (bits .entry)) count (now (message .entry)) (now (text .entry)) ⌝ }
+    ensures { λ r. ⌜ told r (now (message .exit)) (now (text .exit)) ≡
+        readCall direction (now (bits .entry)) count (now (message .entry)) (now (text .entry)) ⌝ }
 {
     if text.len() < Message::ROOM {
         return Limit::ROOM;
@@ -89,8 +90,8 @@ pub fn write_call(direction: u64, message: &[u8], text: &[u8], out: &mut [u8]) -
     let m = laid.message;
     let answer = write_message(d, m, text, out);
     match answer {
-        Written::Bits(n) => Way::COUNTED_BITS * n as u64,
-        Written::Room => Limit::ROOM,
-        Written::Shape => Limit::SHAPE,
+        MessageWritten::Bits(n) => Way::COUNTED_BITS * n as u64,
+        MessageWritten::Room => Limit::ROOM,
+        MessageWritten::Shape => Limit::SHAPE,
     }
 }

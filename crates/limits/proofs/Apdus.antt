@@ -20,7 +20,7 @@ use Rattle.fields.proofs.RoundTrip.{via, if-value}
 use Rattle.apdu.specs.Sizes.{identifierLeast, identifierMost, checkMost, userLast, providerLast, octet, bit}
 use Rattle.apdu.specs.Headings.{responseLast}
 use Rattle.apdu.specs.Reading.{onField, onData, onTaken, onHeading, onForward, onLead, optionalAt, partAt, spanTo, partsWithin, withAdditions, dataWithin, headingAt, forwardWithin, leadingAt, tailAt, endedAt, restWithin, apduWithin, wholeWithin, wholeForwardWithin}
-use Rattle.apdu.specs.declared.Side.{Side}
+use Rattle.apdu.specs.declared.PduType.{PduType}
 use Rattle.apdu.specs.declared.Kind.{Kind}
 use Rattle.apdu.specs.declared.Kind.the-variants as kind
 use Rattle.apdu.specs.declared.Span.{Span}
@@ -39,8 +39,8 @@ use Rattle.apdu.specs.declared.Taken.{Taken}
 use Rattle.apdu.specs.declared.Taken.the-variants as taken
 use Rattle.apdu.specs.declared.Lead.{Lead}
 use Rattle.apdu.specs.declared.Lead.the-variants as lead
-use Rattle.apdu.specs.declared.Answer.{Answer}
-use Rattle.apdu.specs.declared.Answer.the-variants as answer
+use Rattle.apdu.specs.declared.Decoded.{Decoded}
+use Rattle.apdu.specs.declared.Decoded.the-variants as decoded
 use Rattle.apdu.proofs.Bounds.{never}
 use Rattle.apdu.proofs.Contents.{via as on, behind-read}
 use Rattle.limits.specs.Claims.{Limited, Meets, messageOf}
@@ -124,21 +124,21 @@ module _ (low high : ℕ) (less : low ≤ high) (l : List ℕ) where
 
   -- ---- an APDU
 
-  rest-meets : (k : Kind) (m at : ℕ) → Meets answer.Refused (restWithin low l k m at) (restWithin high l k m at)
+  rest-meets : (k : Kind) (m at : ℕ) → Meets decoded.Refused (restWithin low l k m at) (restWithin high l k m at)
   unfolding restWithin
   rest-meets kind.AbortUser m at = inl refl
   rest-meets kind.AbortProvider m at = inl refl
-  rest-meets kind.Start m at = handed taken.Refused answer.Refused (λ (t : Taken). onData t (λ (d : Data) (next : ℕ). endedAt l next (apdu.Start m d))) (λ (r : Refusal). refl) _ _ (data-meets at)
-  rest-meets kind.Send m at = handed taken.Refused answer.Refused (λ (t : Taken). onData t (λ (d : Data) (next : ℕ). endedAt l next (apdu.Send d))) (λ (r : Refusal). refl) _ _ (data-meets at)
-  rest-meets kind.Forward m at = handed forwarded.Refused answer.Refused (λ (t : Forwarded). onForward answer.Refused t (λ (f : Forward) (next : ℕ). endedAt l next (apdu.Forward f))) (λ (r : Refusal). refl) _ _ (forward-meets at)
+  rest-meets kind.Start m at = handed taken.Refused decoded.Refused (λ (t : Taken). onData t (λ (d : Data) (next : ℕ). endedAt l next (apdu.Start m d))) (λ (r : Refusal). refl) _ _ (data-meets at)
+  rest-meets kind.Send m at = handed taken.Refused decoded.Refused (λ (t : Taken). onData t (λ (d : Data) (next : ℕ). endedAt l next (apdu.Send d))) (λ (r : Refusal). refl) _ _ (data-meets at)
+  rest-meets kind.Forward m at = handed forwarded.Refused decoded.Refused (λ (t : Forwarded). onForward decoded.Refused t (λ (f : Forward) (next : ℕ). endedAt l next (apdu.Forward f))) (λ (r : Refusal). refl) _ _ (forward-meets at)
   rest-meets kind.ForwardResponse m at = inl refl
 
   -- A CARD WITH A LOWER LIMIT answers to an APDU what one with a higher limit answers, or LIMIT
-  pub apdu-meets : (side : Side) (at : ℕ) → Meets answer.Refused (apduWithin low side l at) (apduWithin high side l at)
+  pub apdu-meets : (pdus : PduType) (at : ℕ) → Meets decoded.Refused (apduWithin low pdus l at) (apduWithin high pdus l at)
   unfolding apduWithin
-  apdu-meets side at = go (leadingAt side l at)
+  apdu-meets pdus at = go (leadingAt pdus l at)
     where
-      go : (x : Lead) → Meets answer.Refused (onLead x (restWithin low l)) (onLead x (restWithin high l))
+      go : (x : Lead) → Meets decoded.Refused (onLead x (restWithin low l)) (onLead x (restWithin high l))
       go (lead.Is k m next) = rest-meets k m next
       go (lead.Refused r) = inl refl
 
@@ -154,12 +154,12 @@ module _ (low high : ℕ) (less : low ≤ high) (l : List ℕ) where
       handed forwarded.Refused forwarded.Refused (λ (t : Forwarded). onForward forwarded.Refused t (λ (f : Forward) (next : ℕ). onField forwarded.Refused (tailAt l next) (λ (v m : ℕ). forwarded.Is f next))) (λ (r : Refusal). refl) _ _ (forward-meets 0)
 
   -- what it accepts, the other accepts as the same: so what both accept is the same
-  pub apdu-kept : (side : Side) (at : ℕ) (a : Apdu) → apduWithin low side l at ≡ answer.Is a → apduWithin high side l at ≡ answer.Is a
-  apdu-kept side at a e = go (apdu-meets side at)
+  pub apdu-kept : (pdus : PduType) (at : ℕ) (a : Apdu) → apduWithin low pdus l at ≡ decoded.Is a → apduWithin high pdus l at ≡ decoded.Is a
+  apdu-kept pdus at a e = go (apdu-meets pdus at)
     where
-      go : Meets answer.Refused (apduWithin low side l at) (apduWithin high side l at) → apduWithin high side l at ≡ answer.Is a
+      go : Meets decoded.Refused (apduWithin low pdus l at) (apduWithin high pdus l at) → apduWithin high pdus l at ≡ decoded.Is a
       go (inl p) = sym p ∙ e
-      go (inr x) = let z : answer.Is a ≡ answer.Refused (refusal (x .at) Limit) = sym e ∙ x .is in never (cc)
+      go (inr x) = let z : decoded.Is a ≡ decoded.Refused (refusal (x .at) Limit) = sym e ∙ x .is in never (cc)
 
 -- ---- a message that was accepted is within the limit
 
@@ -193,7 +193,7 @@ module _ (limit : ℕ) (l : List ℕ) where
   taken-not : (d : Data) (next : ℕ) (r : Refusal) → taken.Refused r ≡ taken.Is d next → Few d
   taken-not d next r e = never (cc)
 
-  answer-not : (a : Apdu) (r : Refusal) {R : Type 0} → answer.Refused r ≡ answer.Is a → R
+  answer-not : (a : Apdu) (r : Refusal) {R : Type 0} → decoded.Refused r ≡ decoded.Is a → R
   answer-not a r e = never (cc)
 
   parts-few : (at next : ℕ) (i m : Bool) (d : Data) → partsWithin limit l at i m ≡ taken.Is d next → Few d
@@ -218,17 +218,17 @@ module _ (limit : ℕ) (l : List ℕ) where
       parts-few q (k .place) (leb 2 v) (eqb (v % 2) 1) d (k .parts))) e
 
   -- what was ended is the APDU that was read
-  ended-is : (at : ℕ) (a b : Apdu) → endedAt l at a ≡ answer.Is b → a ≡ b
+  ended-is : (at : ℕ) (a b : Apdu) → endedAt l at a ≡ decoded.Is b → a ≡ b
   unfolding endedAt
-  ended-is at a b e = on (a ≡ b) answer.Refused (answer.Is b) (λ (r : Refusal). answer-not b r) (tailAt l at) _ (λ (v n : ℕ) (p : tailAt l at ≡ Value v n) (q : answer.Is a ≡ answer.Is b). cc) e
+  ended-is at a b e = on (a ≡ b) decoded.Refused (decoded.Is b) (λ (r : Refusal). answer-not b r) (tailAt l at) _ (λ (v n : ℕ) (p : tailAt l at ≡ Value v n) (q : decoded.Is a ≡ decoded.Is b). cc) e
 
   abbrev Fewer : Apdu → Type 0
   Fewer a = (x : Span) → messageOf a ≡ Given x → x .count ≤ limit
 
-  behind-data : (at : ℕ) (made : Data → Apdu) → ((d : Data) → messageOf (made d) ≡ d .message) → (a : Apdu) → onData (dataWithin limit l at) (λ (d : Data) (next : ℕ). endedAt l next (made d)) ≡ answer.Is a → Fewer a
+  behind-data : (at : ℕ) (made : Data → Apdu) → ((d : Data) → messageOf (made d) ≡ d .message) → (a : Apdu) → onData (dataWithin limit l at) (λ (d : Data) (next : ℕ). endedAt l next (made d)) ≡ decoded.Is a → Fewer a
   behind-data at made same a e = go (dataWithin limit l at) refl e
     where
-      go : (t : Taken) → dataWithin limit l at ≡ t → onData t (λ (d : Data) (next : ℕ). endedAt l next (made d)) ≡ answer.Is a → (x : Span) → messageOf a ≡ Given x → x .count ≤ limit
+      go : (t : Taken) → dataWithin limit l at ≡ t → onData t (λ (d : Data) (next : ℕ). endedAt l next (made d)) ≡ decoded.Is a → (x : Span) → messageOf a ≡ Given x → x .count ≤ limit
       go (taken.Is d next) p q x g = let k = ended-is next (made d) a q in data-few at next d p x (sym (same d) ∙ (ap messageOf k ∙ g))
       go (taken.Refused r) p q x g = answer-not a r q
 
@@ -251,25 +251,25 @@ module _ (limit : ℕ) (l : List ℕ) where
           omega arith) q
       go (headed.Refused r) q = not-is r q
 
-  behind-forward : (at : ℕ) (a : Apdu) → onForward answer.Refused (forwardWithin limit l at) (λ (f : Forward) (next : ℕ). endedAt l next (apdu.Forward f)) ≡ answer.Is a → Fewer a
+  behind-forward : (at : ℕ) (a : Apdu) → onForward decoded.Refused (forwardWithin limit l at) (λ (f : Forward) (next : ℕ). endedAt l next (apdu.Forward f)) ≡ decoded.Is a → Fewer a
   behind-forward at a e = go (forwardWithin limit l at) refl e
     where
       countIn : Part → ℕ
       countIn Absent = 0
       countIn (Given y) = y .count
 
-      go : (t : Forwarded) → forwardWithin limit l at ≡ t → onForward answer.Refused t (λ (f : Forward) (next : ℕ). endedAt l next (apdu.Forward f)) ≡ answer.Is a → (x : Span) → messageOf a ≡ Given x → x .count ≤ limit
+      go : (t : Forwarded) → forwardWithin limit l at ≡ t → onForward decoded.Refused t (λ (f : Forward) (next : ℕ). endedAt l next (apdu.Forward f)) ≡ decoded.Is a → (x : Span) → messageOf a ≡ Given x → x .count ≤ limit
       go (forwarded.Is f next) p q x g =
           let k : f .message .count ≡ x .count = ap (λ (y : Part). countIn y) (ap messageOf (ended-is next (apdu.Forward f) a q) ∙ g) in
           let c = forward-few at next f p in
           omega arith
       go (forwarded.Refused r) p q x g = answer-not a r q
 
-  abort-none : (f : Field) (made : ℕ → Apdu) → ((r : ℕ) → messageOf (made r) ≡ Absent) → (a : Apdu) → onField answer.Refused f (λ (r next : ℕ). endedAt l next (made r)) ≡ answer.Is a → Fewer a
+  abort-none : (f : Field) (made : ℕ → Apdu) → ((r : ℕ) → messageOf (made r) ≡ Absent) → (a : Apdu) → onField decoded.Refused f (λ (r next : ℕ). endedAt l next (made r)) ≡ decoded.Is a → Fewer a
   abort-none (Value r next) made none a e x g = let k = ended-is next (made r) a e in let z : Absent ≡ Given x = sym (none r) ∙ (ap messageOf k ∙ g) in never (cc)
   abort-none (Refused r) made none a e x g = answer-not a r e
 
-  rest-few : (k : Kind) (m at : ℕ) (a : Apdu) → restWithin limit l k m at ≡ answer.Is a → Fewer a
+  rest-few : (k : Kind) (m at : ℕ) (a : Apdu) → restWithin limit l k m at ≡ decoded.Is a → Fewer a
   unfolding restWithin
   rest-few kind.AbortUser m at a e x g = abort-none (extensibleIndex l at userLast) apdu.AbortUser (λ (r : ℕ). refl) a e x g
   rest-few kind.AbortProvider m at a e x g = abort-none (extensibleIndex l at providerLast) apdu.AbortProvider (λ (r : ℕ). refl) a e x g
@@ -278,18 +278,18 @@ module _ (limit : ℕ) (l : List ℕ) where
   rest-few kind.Forward m at a e x g = behind-forward at a e x g
   rest-few kind.ForwardResponse m at a e x g = abort-none (extensibleIndex l at responseLast) apdu.ForwardResponse (λ (r : ℕ). refl) a e x g
 
-  pub apdu-few : (side : Side) (at : ℕ) (a : Apdu) (x : Span) → apduWithin limit side l at ≡ answer.Is a → messageOf a ≡ Given x → x .count ≤ limit
+  pub apdu-few : (pdus : PduType) (at : ℕ) (a : Apdu) (x : Span) → apduWithin limit pdus l at ≡ decoded.Is a → messageOf a ≡ Given x → x .count ≤ limit
   unfolding apduWithin
-  apdu-few side at a x e g = go (leadingAt side l at) e
+  apdu-few pdus at a x e g = go (leadingAt pdus l at) e
     where
-      go : (y : Lead) → onLead y (restWithin limit l) ≡ answer.Is a → x .count ≤ limit
+      go : (y : Lead) → onLead y (restWithin limit l) ≡ decoded.Is a → x .count ≤ limit
       go (lead.Is k m next) q = rest-few k m next a q x g
       go (lead.Refused r) q = answer-not a r q
 
 -- A LONGER MESSAGE: what the card with the higher limit accepts, and whose message passes the lower limit, is LIMIT there
-pub apdu-longer : (low high : ℕ) → low ≤ high → (l : List ℕ) (side : Side) (at : ℕ) (a : Apdu) (x : Span) → apduWithin high side l at ≡ answer.Is a → messageOf a ≡ Given x → low < x .count → Limited answer.Refused (apduWithin low side l at)
-apdu-longer low high less l side at a x e g over = go (apdu-meets low high less l side at)
+pub apdu-longer : (low high : ℕ) → low ≤ high → (l : List ℕ) (pdus : PduType) (at : ℕ) (a : Apdu) (x : Span) → apduWithin high pdus l at ≡ decoded.Is a → messageOf a ≡ Given x → low < x .count → Limited decoded.Refused (apduWithin low pdus l at)
+apdu-longer low high less l pdus at a x e g over = go (apdu-meets low high less l pdus at)
   where
-    go : Meets answer.Refused (apduWithin low side l at) (apduWithin high side l at) → Limited answer.Refused (apduWithin low side l at)
-    go (inl p) = let k = apdu-few low l side at a x (p ∙ e) g in absurd (omega arith)
+    go : Meets decoded.Refused (apduWithin low pdus l at) (apduWithin high pdus l at) → Limited decoded.Refused (apduWithin low pdus l at)
+    go (inl p) = let k = apdu-few low l pdus at a x (p ∙ e) g in absurd (omega arith)
     go (inr y) = y

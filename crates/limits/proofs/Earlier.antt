@@ -14,38 +14,38 @@ use Rattle.fields.specs.declared.Field.{Field}
 use Rattle.fields.specs.declared.Field.the-variants.{Value}
 use Rattle.apdu.specs.Sizes.{messageMost}
 use Rattle.apdu.specs.Reading.{apduWithin, apduAt, wholeWithin, wholeData}
-use Rattle.apdu.specs.declared.Side.{Side}
+use Rattle.apdu.specs.declared.PduType.{PduType}
 use Rattle.apdu.specs.declared.Span.{Span}
 use Rattle.apdu.specs.declared.Part.the-variants.{Given}
 use Rattle.apdu.specs.declared.Apdu.{Apdu}
 use Rattle.apdu.specs.declared.Taken.the-variants as taken
-use Rattle.apdu.specs.declared.Answer.the-variants as answer
+use Rattle.apdu.specs.declared.Decoded.the-variants as decoded
 use Rattle.step.specs.Call.{meaning, dataOf, noData}
-use Rattle.machine.specs.declared.event.Apdu.the-variants.{NotValid}
+use Rattle.machine.specs.declared.event.UserData.the-variants.{NotValid}
 use Rattle.envelope.specs.Numbers.{numberIn, numberAt}
 use Rattle.envelope.specs.Envelopes.{mostBits, isKind, sizeFits, bytesFor, isPadded, bodyAt, sizeAt, jobAt, kindAt, envelopeAt}
-use Rattle.envelope.specs.declared.Refusal.the-variants.{Cut, Size}
+use Rattle.envelope.specs.declared.EnvelopeRefusal.the-variants.{Cut, Size}
 use Rattle.envelope.specs.declared.Envelope.{Envelope}
-use Rattle.envelope.specs.declared.Read.{Read}
-use Rattle.envelope.specs.declared.Read.the-variants.{Is, Refused}
+use Rattle.envelope.specs.declared.EnvelopeRead.{EnvelopeRead}
+use Rattle.envelope.specs.declared.EnvelopeRead.the-variants.{Is, Refused}
 use Rattle.envelope.proofs.Longer.{envelope-narrow}
 use Rattle.limits.specs.Claims.{earlierBits, Limited, Meets, messageOf}
 use Rattle.limits.proofs.Apdus.{apdu-meets, whole-meets, apdu-longer}
 use Rattle.limits.proofs.Envelopes.{envelope-kept}
 
-pub earlier-apdu : (l : List ℕ) (side : Side) (at : ℕ) → Meets answer.Refused (apduWithin earlierBits side l at) (apduAt side l at)
-earlier-apdu l side at = apdu-meets earlierBits messageMost (lit≤ tt) l side at
+pub earlier-apdu : (l : List ℕ) (pdus : PduType) (at : ℕ) → Meets decoded.Refused (apduWithin earlierBits pdus l at) (apduAt pdus l at)
+earlier-apdu l pdus at = apdu-meets earlierBits messageMost (lit≤ tt) l pdus at
 
 pub earlier-data : (l : List ℕ) → Meets taken.Refused (wholeWithin earlierBits l) (wholeData l)
 earlier-data l = whole-meets earlierBits messageMost (lit≤ tt) l
 
-pub earlier-longer : (l : List ℕ) (side : Side) (at : ℕ) (a : Apdu) (x : Span) → apduAt side l at ≡ answer.Is a → messageOf a ≡ Given x → earlierBits < x .count → Limited answer.Refused (apduWithin earlierBits side l at)
-earlier-longer l side at a x e g over = apdu-longer earlierBits messageMost (lit≤ tt) l side at a x e g over
+pub earlier-longer : (l : List ℕ) (pdus : PduType) (at : ℕ) (a : Apdu) (x : Span) → apduAt pdus l at ≡ decoded.Is a → messageOf a ≡ Given x → earlierBits < x .count → Limited decoded.Refused (apduWithin earlierBits pdus l at)
+earlier-longer l pdus at a x e g over = apdu-longer earlierBits messageMost (lit≤ tt) l pdus at a x e g over
 
 -- "and shows nothing of it": to a machine it is no valid PDU, and there are no message data
-pub shows-nothing : (l : List ℕ) (side : Side) (at : ℕ) → Limited answer.Refused (apduWithin earlierBits side l at) → (meaning (apduWithin earlierBits side l at) ≡ NotValid) × (dataOf (apduWithin earlierBits side l at) ≡ noData)
+pub shows-nothing : (l : List ℕ) (pdus : PduType) (at : ℕ) → Limited decoded.Refused (apduWithin earlierBits pdus l at) → (meaning (apduWithin earlierBits pdus l at) ≡ NotValid) × (dataOf (apduWithin earlierBits pdus l at) ≡ noData)
 unfolding meaning dataOf
-shows-nothing l side at x = (rw (x .is), rw (x .is))
+shows-nothing l pdus at x = (rw (x .is), rw (x .is))
 
 pub earlier-envelope : (s : List ℕ) (at : ℕ) → (envelopeAt earlierBits s at ≡ envelopeAt mostBits s at) ⊎ (envelopeAt earlierBits s at ≡ Refused Size)
 earlier-envelope s at = envelope-narrow earlierBits mostBits (lit≤ tt) s at
@@ -88,7 +88,7 @@ unfolding bitsOf accOf bitsN readBits bitField lengthAt lengthWithin
 lengths-now = refl
 
 -- the bit counts 2,049 and 16,383 without their bodies: refused at the count before E3, read now; 16,384 is refused at both limits
-abbrev pub counted : ℕ → List Read
+abbrev pub counted : ℕ → List EnvelopeRead
 counted limit =
     envelopeAt limit (0x01 ∷ 0x01 ∷ 0x81 ∷ 0x10 ∷ []) 0 ∷ envelopeAt limit (0x01 ∷ 0x01 ∷ 0xFF ∷ 0x7F ∷ []) 0 ∷ envelopeAt limit (0x01 ∷ 0x01 ∷ 0x80 ∷ 0x80 ∷ 0x01 ∷ []) 0 ∷ []
 

@@ -13,11 +13,11 @@ use lib.ListN.{length}
 use Rattle.words.proofs.Laws.{both-left, both-right}
 use Rattle.envelope.specs.Envelopes.{isKind, sizeFits, bytesFor, isPadded, envelopeAt, fits, writeEnvelope}
 use Rattle.envelope.specs.Strings.{Ending, ended, stopped, Walk, ends, past, onRead, walkFrom, walk}
-use Rattle.envelope.specs.declared.Refusal.{Refusal}
-use Rattle.envelope.specs.declared.Refusal.the-variants.{Size}
+use Rattle.envelope.specs.declared.EnvelopeRefusal.{EnvelopeRefusal}
+use Rattle.envelope.specs.declared.EnvelopeRefusal.the-variants.{Size}
 use Rattle.envelope.specs.declared.Envelope.{Envelope}
-use Rattle.envelope.specs.declared.Read.{Read}
-use Rattle.envelope.specs.declared.Read.the-variants.{Is, Refused}
+use Rattle.envelope.specs.declared.EnvelopeRead.{EnvelopeRead}
+use Rattle.envelope.specs.declared.EnvelopeRead.the-variants.{Is, Refused}
 use Rattle.envelope.proofs.Numbers.{AllBytes}
 use Rattle.envelope.proofs.Sizes.{bits-small}
 use Rattle.envelope.proofs.RoundTrip.{read-written}
@@ -49,7 +49,7 @@ module _ (low high : ℕ) (less : low ≤ high) (s : List ℕ) where
   walk-from zero at n h = refl
   walk-from (suc f) at n h = go (λ (next : ℕ) (q : walkFrom low s f next .ending ≡ ended n). walk-from f next n q) (leb (length s) at) h
     where
-      read : ((next : ℕ) → walkFrom low s f next .ending ≡ ended n → walkFrom high s f next ≡ walkFrom low s f next) → (x : Read) → envelopeAt low s at ≡ x → onRead x at (λ (e : Envelope). walkFrom low s f (e .next)) .ending ≡ ended n → onRead (envelopeAt high s at) at (λ (e : Envelope). walkFrom high s f (e .next)) ≡ onRead x at (λ (e : Envelope). walkFrom low s f (e .next))
+      read : ((next : ℕ) → walkFrom low s f next .ending ≡ ended n → walkFrom high s f next ≡ walkFrom low s f next) → (x : EnvelopeRead) → envelopeAt low s at ≡ x → onRead x at (λ (e : Envelope). walkFrom low s f (e .next)) .ending ≡ ended n → onRead (envelopeAt high s at) at (λ (e : Envelope). walkFrom high s f (e .next)) ≡ onRead x at (λ (e : Envelope). walkFrom low s f (e .next))
       read more (Is e) p q = rw (envelope-kept at e p, more (e .next) q)
       read more (Refused r) p q = never (cc)
 

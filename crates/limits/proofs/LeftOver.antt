@@ -27,8 +27,8 @@ use Rattle.apdu.specs.Headings.{triple, dateFrom, dateTo, timeFrom, timeTo, cha
 use Rattle.apdu.specs.Pdus.{lastOf, kindOf}
 use Rattle.apdu.specs.Encoding.{padding}
 use Rattle.apdu.specs.Reading.{onField, onData, onTaken, onTriple, onHeading, onForward, onLead, optionalAt, partAt, spanTo, partsWithin, withAdditions, dataWithin, tripleAt, headingAt, forwardWithin, forwardAt, modeValue, modeAt, kindMode, leadingAt, tailAt, endedAt, restWithin, apduWithin, apduAt, dataAt, partsAt, wholeWithin, wholeData, wholeForwardWithin, wholeForward}
-use Rattle.apdu.specs.declared.Side.{Side}
-use Rattle.apdu.specs.declared.Side.the-variants.{Air, Ground}
+use Rattle.apdu.specs.declared.PduType.{PduType}
+use Rattle.apdu.specs.declared.PduType.the-variants.{AircraftPdus, GroundPdus}
 use Rattle.apdu.specs.declared.Kind.{Kind}
 use Rattle.apdu.specs.declared.Kind.the-variants as kind
 use Rattle.apdu.specs.declared.Data.{Data}
@@ -47,8 +47,8 @@ use Rattle.apdu.specs.declared.Taken.{Taken}
 use Rattle.apdu.specs.declared.Taken.the-variants as taken
 use Rattle.apdu.specs.declared.Lead.{Lead}
 use Rattle.apdu.specs.declared.Lead.the-variants as lead
-use Rattle.apdu.specs.declared.Answer.{Answer}
-use Rattle.apdu.specs.declared.Answer.the-variants as answer
+use Rattle.apdu.specs.declared.Decoded.{Decoded}
+use Rattle.apdu.specs.declared.Decoded.the-variants as decoded
 use Rattle.apdu.proofs.Bounds.{never}
 use Rattle.limits.specs.Claims.{LeftFor, identifier, check}
 
@@ -156,7 +156,7 @@ module _ (l : List ℕ) where
   lead-one : (r x : Refusal) → lead.Refused r ≡ lead.Refused x → r ≡ x
   lead-one r x e = cc
 
-  answer-one : (r x : Refusal) → answer.Refused r ≡ answer.Refused x → r ≡ x
+  answer-one : (r x : Refusal) → decoded.Refused r ≡ decoded.Refused x → r ≡ x
   answer-one r x e = cc
 
   taken-spares : (d : Data) (n : ℕ) → Spares taken.Refused (taken.Is d n)
@@ -165,7 +165,7 @@ module _ (l : List ℕ) where
   lead-spares : (k : Kind) (m n : ℕ) → Spares lead.Refused (lead.Is k m n)
   lead-spares k m n r e f = never (cc)
 
-  is-spares : (a : Apdu) → Spares answer.Refused (answer.Is a)
+  is-spares : (a : Apdu) → Spares decoded.Refused (decoded.Is a)
   is-spares a r e f = never (cc)
 
   -- ---- message data
@@ -269,28 +269,28 @@ module _ (l : List ℕ) where
 
   -- ---- the leading fields, the tail
 
-  mode-spares : (side : Side) (at : ℕ) → Spares Refused (modeAt side l at)
+  mode-spares : (pdus : PduType) (at : ℕ) → Spares Refused (modeAt pdus l at)
   unfolding modeAt modeValue
-  mode-spares Ground at = value-spares 0 at
-  mode-spares Air at =
+  mode-spares GroundPdus at = value-spares 0 at
+  mode-spares AircraftPdus at =
       then-spares (bitField l at 1) _ (bits-spare at 1) (λ (p n : ℕ).
       cond-spares (eqb p 0) (Value 0 n) _ (value-spares 0 n)
       (then-spares (wholeNumber l n 0 modeLast) _ (whole-spares n 0 modeLast) (λ (m k : ℕ). cond-spares (eqb m 0) (refusedAt n Default) (Value m k) (other-spares n Default (λ (e : Default ≡ Limit). never (cc))) (value-spares m k))))
 
-  kind-spares : (side : Side) (k : Kind) (at : ℕ) → Spares Refused (kindMode side l k at)
+  kind-spares : (pdus : PduType) (k : Kind) (at : ℕ) → Spares Refused (kindMode pdus l k at)
   unfolding kindMode
-  kind-spares side kind.AbortUser at = value-spares 0 at
-  kind-spares side kind.AbortProvider at = value-spares 0 at
-  kind-spares side kind.Start at = mode-spares side at
-  kind-spares side kind.Send at = value-spares 0 at
-  kind-spares side kind.Forward at = value-spares 0 at
-  kind-spares side kind.ForwardResponse at = value-spares 0 at
+  kind-spares pdus kind.AbortUser at = value-spares 0 at
+  kind-spares pdus kind.AbortProvider at = value-spares 0 at
+  kind-spares pdus kind.Start at = mode-spares pdus at
+  kind-spares pdus kind.Send at = value-spares 0 at
+  kind-spares pdus kind.Forward at = value-spares 0 at
+  kind-spares pdus kind.ForwardResponse at = value-spares 0 at
 
-  leading-spares : (side : Side) (at : ℕ) → Spares lead.Refused (leadingAt side l at)
+  leading-spares : (pdus : PduType) (at : ℕ) → Spares lead.Refused (leadingAt pdus l at)
   unfolding leadingAt
-  leading-spares side at =
-      on-spares lead.Refused lead-one (extensibleIndex l at (lastOf side)) _ (index-spares at (lastOf side)) (λ (i p : ℕ).
-      on-spares lead.Refused lead-one (kindMode side l (kindOf i) p) _ (kind-spares side (kindOf i) p) (λ (m q : ℕ). lead-spares (kindOf i) m q))
+  leading-spares pdus at =
+      on-spares lead.Refused lead-one (extensibleIndex l at (lastOf pdus)) _ (index-spares at (lastOf pdus)) (λ (i p : ℕ).
+      on-spares lead.Refused lead-one (kindMode pdus l (kindOf i) p) _ (kind-spares pdus (kindOf i) p) (λ (m q : ℕ). lead-spares (kindOf i) m q))
 
   tail-spares : (at : ℕ) → Spares Refused (tailAt l at)
   unfolding tailAt
@@ -301,13 +301,13 @@ module _ (l : List ℕ) where
       tail : (n : ℕ) → Spares Refused (refusedAt n Tail)
       tail n = other-spares n Tail (λ (e : Tail ≡ Limit). never (cc))
 
-  ended-spares : (at : ℕ) (a : Apdu) → Spares answer.Refused (endedAt l at a)
+  ended-spares : (at : ℕ) (a : Apdu) → Spares decoded.Refused (endedAt l at a)
   unfolding endedAt
-  ended-spares at a = on-spares answer.Refused answer-one (tailAt l at) _ (tail-spares at) (λ (v next : ℕ). is-spares a)
+  ended-spares at a = on-spares decoded.Refused answer-one (tailAt l at) _ (tail-spares at) (λ (v next : ℕ). is-spares a)
 
   -- ---- an APDU, and message data by itself
 
-  on-data : (t : Taken) (k : Data → ℕ → Answer) → Spares taken.Refused t → ((d : Data) (n : ℕ) → Spares answer.Refused (k d n)) → Spares answer.Refused (onData t k)
+  on-data : (t : Taken) (k : Data → ℕ → Decoded) → Spares taken.Refused t → ((d : Data) (n : ℕ) → Spares decoded.Refused (k d n)) → Spares decoded.Refused (onData t k)
   on-data (taken.Is d n) k a b x e f = b d n x e f
   on-data (taken.Refused r) k a b x e f = a x (ap taken.Refused (answer-one r x e)) f
 
@@ -315,20 +315,20 @@ module _ (l : List ℕ) where
   on-forward up one (forwarded.Is y n) k a b x e f = b y n x e f
   on-forward up one (forwarded.Refused r) k a b x e f = a x (ap forwarded.Refused (one r x e)) f
 
-  rest-spares : Bits l → (k : Kind) (m at : ℕ) → Spares answer.Refused (restWithin messageMost l k m at)
+  rest-spares : Bits l → (k : Kind) (m at : ℕ) → Spares decoded.Refused (restWithin messageMost l k m at)
   unfolding restWithin
-  rest-spares b kind.AbortUser m at = on-spares answer.Refused answer-one (extensibleIndex l at userLast) _ (index-spares at userLast) (λ (r next : ℕ). ended-spares next (apdu.AbortUser r))
-  rest-spares b kind.AbortProvider m at = on-spares answer.Refused answer-one (extensibleIndex l at providerLast) _ (index-spares at providerLast) (λ (r next : ℕ). ended-spares next (apdu.AbortProvider r))
+  rest-spares b kind.AbortUser m at = on-spares decoded.Refused answer-one (extensibleIndex l at userLast) _ (index-spares at userLast) (λ (r next : ℕ). ended-spares next (apdu.AbortUser r))
+  rest-spares b kind.AbortProvider m at = on-spares decoded.Refused answer-one (extensibleIndex l at providerLast) _ (index-spares at providerLast) (λ (r next : ℕ). ended-spares next (apdu.AbortProvider r))
   rest-spares b kind.Start m at = on-data (dataAt l at) _ (data-spares b at) (λ (d : Data) (next : ℕ). ended-spares next (apdu.Start m d))
   rest-spares b kind.Send m at = on-data (dataAt l at) _ (data-spares b at) (λ (d : Data) (next : ℕ). ended-spares next (apdu.Send d))
-  rest-spares b kind.Forward m at = on-forward answer.Refused answer-one (forwardAt l at) _ (forward-spares b at) (λ (y : Forward) (next : ℕ). ended-spares next (apdu.Forward y))
-  rest-spares b kind.ForwardResponse m at = on-spares answer.Refused answer-one (extensibleIndex l at responseLast) _ (index-spares at responseLast) (λ (r next : ℕ). ended-spares next (apdu.ForwardResponse r))
+  rest-spares b kind.Forward m at = on-forward decoded.Refused answer-one (forwardAt l at) _ (forward-spares b at) (λ (y : Forward) (next : ℕ). ended-spares next (apdu.Forward y))
+  rest-spares b kind.ForwardResponse m at = on-spares decoded.Refused answer-one (extensibleIndex l at responseLast) _ (index-spares at responseLast) (λ (r next : ℕ). ended-spares next (apdu.ForwardResponse r))
 
-  pub apdu-left : Bits l → (side : Side) (at : ℕ) (r : Refusal) → apduAt side l at ≡ answer.Refused r → r .fault ≡ Limit → LeftFor l r
+  pub apdu-left : Bits l → (pdus : PduType) (at : ℕ) (r : Refusal) → apduAt pdus l at ≡ decoded.Refused r → r .fault ≡ Limit → LeftFor l r
   unfolding apduWithin
-  apdu-left b side at = go (leadingAt side l at) (leading-spares side at)
+  apdu-left b pdus at = go (leadingAt pdus l at) (leading-spares pdus at)
     where
-      go : (x : Lead) → Spares lead.Refused x → Spares answer.Refused (onLead x (restWithin messageMost l))
+      go : (x : Lead) → Spares lead.Refused x → Spares decoded.Refused (onLead x (restWithin messageMost l))
       go (lead.Is k m next) a x e f = rest-spares b k m next x e f
       go (lead.Refused r) a x e f = a x (ap lead.Refused (answer-one r x e)) f
 

@@ -1,5 +1,6 @@
--- Cards of two limits (document 02, E3): "A card not yet changed meets a longer one with 14 or 23 and shows nothing of it." What is claimed, over any reader
--- of bits and any two limits; `refused` makes a refusal the reader's answer. (An envelope's answer says the same with SIZE.)
+-- Cards of two limits (document 02, E3): "A card not yet changed meets a longer one with 14 or 23 and shows nothing of it." What is
+-- claimed, over any reader of bits and any two limits; `refused` makes a refusal the reader's answer. (An envelope's answer says the same
+-- with SIZE.)
 use mathlib.Core.Path.{_≡_}
 use mathlib.Core.List.{List}
 use mathlib.Core.Logic.{_⊎_}

@@ -7,11 +7,11 @@ use lib.Dec.{T, ltb, eqb}
 use Rattle.control.specs.Control.{isIdle, entered, takes, awaitsResponse, expects}
 use Rattle.machine.specs.Codes.{securityValues, routingClasses, versions, forwardResults, facility, success, serviceNotSupported, versionNotEqual, noVersion, protocolError, accepted, permanent}
 use Rattle.machine.specs.Record.{enter}
-use Rattle.machine.specs.Apdus.{isMissing, isInvalid, isForward, readable}
-use Rattle.machine.specs.Event.{qosFits, serviceShapely, shapely}
+use Rattle.machine.specs.UserData.{isMissing, isInvalid, isForward, userDataFits}
+use Rattle.machine.specs.Event.{qosFits, serviceFits, eventFits}
 use Rattle.machine.specs.Outcome.{refused}
 use Rattle.machine.specs.Exceptions.{tell, aborts, closes, excepts}
-use Rattle.machine.specs.Calls.{answer, callOf}
+use Rattle.machine.specs.Calls.{replyOf, callOf}
 use Rattle.machine.specs.Forwards.{forwardRequest, responds, forwardArrives, forwardConfirmed}
 use Rattle.machine.specs.Faults.{pduFault, startFits, indicationFault, responseFault, confirmationFault, firstFault}
 use Rattle.machine.specs.Primitives.{instructed, answered}
@@ -21,8 +21,8 @@ use Rattle.control.specs.declared.Side.{Side}
 use Rattle.control.specs.declared.Side.the-variants.{Air, Ground}
 use Rattle.control.specs.declared.State.the-variants.{Forward as FORWARD}
 use Rattle.machine.specs.declared.record.Record.{Record}
-use Rattle.machine.specs.declared.event.Apdu.{Apdu}
-use Rattle.machine.specs.declared.event.Apdu.the-variants.{Forward, ForwardResponse}
+use Rattle.machine.specs.declared.event.UserData.{UserData}
+use Rattle.machine.specs.declared.event.UserData.the-variants.{Forward, ForwardResponse}
 use Rattle.machine.specs.declared.event.Qos.{Qos}
 use Rattle.machine.specs.declared.event.UserPrimitive.{UserPrimitive}
 use Rattle.machine.specs.declared.event.UserPrimitive.the-variants.{StartServiceRequest, StartServiceResponse, MessageServiceRequest, EndServiceRequest, EndServiceResponse, UserAbortServiceRequest}
@@ -30,21 +30,21 @@ use Rattle.machine.specs.declared.event.ServicePrimitive.the-variants.{D
 use Rattle.machine.specs.declared.event.Event.the-variants.{User, Service}
 use Rattle.machine.specs.declared.event.Event.the-variants.{Forward as ForwardRequested}
 use Rattle.machine.specs.declared.faults.Fault.the-variants.{NoFault, NotPermitted}
-use Rattle.machine.specs.declared.outcome.Refusal.the-variants.{Prohibited}
+use Rattle.machine.specs.declared.outcome.StepRefusal.the-variants.{Prohibited}
 use Rattle.machine.specs.declared.outcome.Told.the-variants.{Untold, ProviderAbortIndication, ForwardIndication}
 
 -- ---- the request: 2.3.5.5.13.1; elsewhere, and at the air machine, it is prohibited
 
 pub request-taken : (r : Record) (k s : ℕ) → ltb k routingClasses ≡ true → ltb s securityValues ≡ true → isIdle (r .control) ≡ true → step Ground r (ForwardRequested k s) ≡ forwardRequest r k s
-unfolding step refusalOf shapely permitted messageRefusal acts
+unfolding step refusalOf eventFits permitted messageRefusal acts
 request-taken r k s h g i = rw (h, g, i)
 
 pub request-prohibited : (r : Record) (k s : ℕ) → ltb k routingClasses ≡ true → ltb s securityValues ≡ true → isIdle (r .control) ≡ false → step Ground r (ForwardRequested k s) ≡ refused Prohibited r
-unfolding step refusalOf shapely permitted
+unfolding step refusalOf eventFits permitted
 request-prohibited r k s h g i = rw (h, g, i)
 
 pub request-at-air : (r : Record) (k s : ℕ) → ltb k routingClasses ≡ true → ltb s securityValues ≡ true → step Air r (ForwardRequested k s) ≡ refused Prohibited r
-unfolding step refusalOf shapely permitted
+unfolding step refusalOf eventFits permitted
 request-at-air r k s h g = rw (h, g)
 
 -- in FORWARD every user primitive but the user abort is prohibited (2.3.5.5.1.1, table 2.3.5-3)
@@ -67,9 +67,9 @@ only-abort sd d (UserAbortServiceRequest g x) e = absurd (subst T e tt)
 
 -- ---- the indication, at an IDLE ground machine, with the right quality of service and the security value that local policy accepts
 
-module _ (r : Record) (s v : ℕ) (q : Qos) (h : serviceShapely (DStartIndication facility s q v) ≡ true) (i : isIdle (r .control) ≡ true) (g : qosFits q ≡ true) (y : eqb s (r .policy) ≡ true) where
+module _ (r : Record) (s v : ℕ) (q : Qos) (h : serviceFits (DStartIndication facility s q v) ≡ true) (i : isIdle (r .control) ≡ true) (g : qosFits q ≡ true) (y : eqb s (r .policy) ≡ true) where
   arrives : step Ground r (Service (DStartIndication facility s q v) Forward) ≡ forwardArrives r s v
-  unfolding shapely readable firstFault indicationFault startFits pduFault answered instructed
+  unfolding eventFits userDataFits firstFault indicationFault startFits pduFault answered instructed
   arrives = fault-answered Ground r (DStartIndication facility s q v) Forward NoFault (rw h) (rw (i, g, y))
 
   -- 2.3.5.5.2.4, whatever the version
@@ -88,8 +88,8 @@ module _ (r : Record) (s v : ℕ) (q : Qos) (h : serviceShapely (DStartIndicatio
   other-version n e = arrives ∙ rw (n, e)
 
   -- any other valid PDU of a centre is not permitted
-  pub not-forward : (a : Apdu) → readable a ≡ true → isMissing a ≡ false → isInvalid a ≡ false → isForward a ≡ false → step Ground r (Service (DStartIndication facility s q v) a) ≡ aborts r protocolError (tell r (ProviderAbortIndication protocolError))
-  unfolding shapely firstFault indicationFault startFits pduFault answered excepts
+  pub not-forward : (a : UserData) → userDataFits a ≡ true → isMissing a ≡ false → isInvalid a ≡ false → isForward a ≡ false → step Ground r (Service (DStartIndication facility s q v) a) ≡ aborts r protocolError (tell r (ProviderAbortIndication protocolError))
+  unfolding eventFits firstFault indicationFault startFits pduFault answered excepts
   not-forward a w m n f = fault-answered Ground r (DStartIndication facility s q v) a (NotPermitted true) (rw (h, w)) (rw (i, g, y, m, n, f))
 
 pub answer-inactive : (r : Record) (x s v : ℕ) → (responds r x s v ForwardIndication .next .active ≡ false) × (isIdle (responds r x s v ForwardIndication .next .control) ≡ true)
@@ -100,7 +100,7 @@ answer-inactive r x s v = (refl, refl)
 
 pub confirmed : (sd : Side) (r : Record) (d : Bool) (s v x : ℕ) → r .control ≡ entered FORWARD d → ltb s securityValues ≡ true → ltb v versions ≡ true → ltb x forwardResults ≡ true → eqb s (r .request) ≡ true
     → step sd r (Service (DStartConfirmation permanent 0 s v) (ForwardResponse x)) ≡ forwardConfirmed r x v
-unfolding shapely serviceShapely readable firstFault confirmationFault responseFault pduFault answered instructed answer
+unfolding eventFits serviceFits userDataFits firstFault confirmationFault responseFault pduFault answered instructed replyOf
 confirmed sd r d s v x c h g w y = fault-answered sd r (DStartConfirmation permanent 0 s v) (ForwardResponse x) NoFault (rw (h, g, w)) (rw (c, y))
 
 -- the timer is stopped, the user is not active, and IDLE
@@ -111,5 +111,5 @@ confirmed-closes r x v = (refl, refl, refl)
 -- "accepted" has no action there: protocol-error, whatever the PDU
 pub accepted-not-permitted : (sd : Side) (r : Record) (d : Bool) (s v x : ℕ) → r .control ≡ entered FORWARD d → ltb s securityValues ≡ true → ltb v versions ≡ true → ltb x forwardResults ≡ true → eqb s (r .request) ≡ true
     → step sd r (Service (DStartConfirmation accepted 0 s v) (ForwardResponse x)) ≡ aborts r protocolError (tell r (ProviderAbortIndication protocolError))
-unfolding shapely serviceShapely readable firstFault confirmationFault responseFault pduFault answered excepts answer
+unfolding eventFits serviceFits userDataFits firstFault confirmationFault responseFault pduFault answered excepts replyOf
 accepted-not-permitted sd r d s v x c h g w y = fault-answered sd r (DStartConfirmation accepted 0 s v) (ForwardResponse x) (NotPermitted true) (rw (h, g, w)) (rw (c, y))

@@ -20,8 +20,8 @@ use Rattle.machine.proofs.Ways.{Way, is-refused, is-closed, is-aborted,
 use Rattle.control.proofs.Moves.{isConfirmation, call-rests, primitive-rests, call-timed, call-held, primitive-timed, primitive-held, busy-takes}
 use Rattle.control.specs.declared.Side.{Side}
 use Rattle.control.specs.declared.Control.{Control}
-use Rattle.control.specs.declared.Answer.{Answer}
-use Rattle.control.specs.declared.Answer.the-variants.{Accepted, Rejected}
+use Rattle.control.specs.declared.Reply.{Reply}
+use Rattle.control.specs.declared.Reply.the-variants.{Accepted, Rejected}
 use Rattle.control.specs.declared.Call.the-variants.{MessageRequest}
 use Rattle.control.specs.declared.Primitive.{Primitive}
 use Rattle.control.specs.declared.Primitive.the-variants.{DStart, DStartCnf, DTurnedAway, DData, DEnd, DEndCnf, DAbort, DPAbort}

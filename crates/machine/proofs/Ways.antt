@@ -8,11 +8,11 @@ use borrow.Author.Tests.{leb-false, eqb-true, not-false}
 use Rattle.words.proofs.Laws.{both-left, both-right}
 use Rattle.control.specs.Control.{isIdle, takes, takesForward, awaitsResponse, expects}
 use Rattle.machine.specs.Record.{withTimer, withUser}
-use Rattle.machine.specs.Event.{isDsc, qosFits, shapely}
+use Rattle.machine.specs.Event.{isDsc, qosFits, eventFits}
 use Rattle.machine.specs.Outcome.{isNone, refused}
 use Rattle.machine.specs.Exceptions.{tell, closes, aborts, excepts, timerExpires, systemError, noInstruction}
-use Rattle.machine.specs.Calls.{answer, sent, startRequest, startResponse, messageRequest, endRequest, endResponse, userAbort, callOf, unsent, called}
-use Rattle.machine.specs.Apdus.{kindOf, modeOf, reasonOf, isMissing, isInvalid, isStartPdu, isSend, isForward, isResponse}
+use Rattle.machine.specs.Calls.{replyOf, sent, startRequest, startResponse, messageRequest, endRequest, endResponse, userAbort, callOf, unsent, called}
+use Rattle.machine.specs.UserData.{kindOf, modeOf, reasonOf, isMissing, isInvalid, isStartPdu, isSend, isForward, isResponse}
 use Rattle.machine.specs.Faults.{turnedAway, pduFault, sendFault, peerFits, fromCentre, startFits, indicationFault, responseFault, confirmationFault, firstFault}
 use Rattle.machine.specs.Codes.{accepted, success, serviceNotSupported, versionNotEqual, noVersion}
 use Rattle.machine.specs.Forwards.{forwardRequest, responds, forwardArrives, forwardConfirmed}
@@ -20,13 +20,13 @@ use Rattle.machine.specs.Primitives.{handed, abortTold, instructed, answ
 use Rattle.control.proofs.Moves.{busy}
 use Rattle.machine.specs.Step.{permitted, messageRefusal, refusalOf, acts, step}
 use Rattle.control.specs.declared.Side.{Side}
-use Rattle.control.specs.declared.Answer.{Answer}
+use Rattle.control.specs.declared.Reply.{Reply}
 use Rattle.control.specs.declared.Call.{Call}
 use Rattle.control.specs.declared.Call.the-variants.{StartRequest, StartResponse, MessageRequest, EndRequest, EndResponse, UserAbort}
 use Rattle.control.specs.declared.Primitive.{Primitive}
 use Rattle.control.specs.declared.Primitive.the-variants.{DStart, DStartCnf, DTurnedAway, DData, DEnd, DEndCnf, DAbort, DPAbort}
 use Rattle.machine.specs.declared.record.Record.{Record}
-use Rattle.machine.specs.declared.event.Apdu.{Apdu}
+use Rattle.machine.specs.declared.event.UserData.{UserData}
 use Rattle.machine.specs.declared.event.Qos.{Qos}
 use Rattle.machine.specs.declared.event.UserPrimitive.{UserPrimitive}
 use Rattle.machine.specs.declared.event.UserPrimitive.the-variants.{StartServiceRequest, StartServiceResponse, MessageServiceRequest, EndServiceRequest, EndServiceResponse, UserAbortServiceRequest}
@@ -36,8 +36,8 @@ use Rattle.machine.specs.declared.event.Event.{Event}
 use Rattle.machine.specs.declared.event.Event.the-variants.{User, Forward, Service, TimerExpires, UnrecoverableSystemError}
 use Rattle.machine.specs.declared.faults.Fault.{Fault}
 use Rattle.machine.specs.declared.faults.Fault.the-variants.{NoFault, NoInstruction, Quality, TurnedAway, Security, Missing, Invalid, NotPermitted}
-use Rattle.machine.specs.declared.outcome.Refusal.{Refusal}
-use Rattle.machine.specs.declared.outcome.Refusal.the-variants.{None, Shape, Prohibited, NoMessage, Repeat}
+use Rattle.machine.specs.declared.outcome.StepRefusal.{StepRefusal}
+use Rattle.machine.specs.declared.outcome.StepRefusal.the-variants.{None, Shape, Prohibited, NoMessage, Repeat}
 use Rattle.machine.specs.declared.outcome.Invoked.{Invoked}
 use Rattle.machine.specs.declared.outcome.Told.{Told}
 use Rattle.machine.specs.declared.outcome.Told.the-variants.{Untold, StartIndication, StartConfirmation, MessageIndication, EndIndication, EndConfirmation, UserAbortIndication, ProviderAbortIndication, ForwardIndication, ForwardConfirmation}
@@ -71,14 +71,14 @@ abbrev pub ToActive : Record → Told → Type 0
 ToActive r t = r .active ≡ false → t ≡ Untold
 
 pub data Way (sd : Side) (r : Record) : Outcome → Type 0 where
-  is-refused : (w : Refusal) → isNone w ≡ false → Way sd r (refused w r)
+  is-refused : (w : StepRefusal) → isNone w ≡ false → Way sd r (refused w r)
   is-closed : (t : Told) → ToActive r t → Way sd r (closes r t)
   is-aborted : (p : ℕ) (t : Told) → ToActive r t → Way sd r (aborts r p t)
   is-started : (m : Bool) (k s : ℕ) → takes sd (r .control) (StartRequest m) ≡ true → Way sd r (startRequest r m k s)
   is-message : (j : ℕ) → takes sd (r .control) MessageRequest ≡ true → r .highest < j → Way sd r (messageRequest r j)
-  is-called : (k : Call) (i : Invoked) (a : Apdu) → takes sd (r .control) k ≡ true → busy k ≡ true → Way sd r (sent r k i a)
+  is-called : (k : Call) (i : Invoked) (a : UserData) → takes sd (r .control) k ≡ true → busy k ≡ true → Way sd r (sent r k i a)
   is-invited : (m : Bool) (x : ℕ) → expects sd (r .control) (DStart m) ≡ true → Way sd r (handed (withUser r true) (DStart m) (StartIndication m x))
-  is-confirmed : (a : Answer) (m : Bool) (x : ℕ) → expects sd (r .control) (DStartCnf a) ≡ true → Way sd r (handed (withTimer r false) (DStartCnf a) (StartConfirmation m x))
+  is-confirmed : (a : Reply) (m : Bool) (x : ℕ) → expects sd (r .control) (DStartCnf a) ≡ true → Way sd r (handed (withTimer r false) (DStartCnf a) (StartConfirmation m x))
   is-forwarding : (k s : ℕ) → takesForward sd (r .control) ≡ true → Way sd r (forwardRequest r k s)
   is-responding : (x s v : ℕ) (t : Told) → isIdle (r .control) ≡ true → isAbort t ≡ false → Way sd r (responds r x s v t)
   is-forwarded : (x v : ℕ) → awaitsResponse (r .control) ≡ true → Way sd r (forwardConfirmed r x v)
@@ -107,7 +107,7 @@ passed : (b : Bool) (f g : Fault) → isFault f ≡ true → cond b f g ≡ NoFa
 passed true f g n e = absurd (subst T (sym n ∙ ap isFault e) tt)
 passed false f g n e = (refl, e)
 
-pdu-fits : (fits i u : Bool) (a : Apdu) (g : Fault) → pduFault fits i u a g ≡ NoFault → fits ≡ true
+pdu-fits : (fits i u : Bool) (a : UserData) (g : Fault) → pduFault fits i u a g ≡ NoFault → fits ≡ true
 unfolding pduFault
 pdu-fits fits i u a g e =
     let there = passed (isMissing a) Missing _ refl e in
@@ -116,13 +116,13 @@ pdu-fits fits i u a g e =
 
 -- ---- the parts
 
-pub record StartIs (sd : Side) (r : Record) (x s : ℕ) (a : Apdu) : Type 0 where
+pub record StartIs (sd : Side) (r : Record) (x s : ℕ) (a : UserData) : Type 0 where
   pub idle : isIdle (r .control) ≡ true
   pub secure : eqb s (r .policy) ≡ true
   pub fits : startFits sd r x a ≡ true
 
 -- a start that fits and is a forward is one of a centre, at the ground
-pub forward-ground : (sd : Side) (r : Record) (x : ℕ) (a : Apdu) → startFits sd r x a ≡ true → isForward a ≡ true → fromCentre sd x ≡ true
+pub forward-ground : (sd : Side) (r : Record) (x : ℕ) (a : UserData) → startFits sd r x a ≡ true → isForward a ≡ true → fromCentre sd x ≡ true
 unfolding startFits
 forward-ground sd r x a e y = go (fromCentre sd x) e
   where
@@ -149,7 +149,7 @@ module _ (sd : Side) (r : Record) where
       by-test (Way sd r) (isIdle (r .control)) _ _ (λ e. is-closed Untold (λ f. refl)) (λ e. except-way x _ _)
 
   -- what is done about a fault; without one, the instruction
-  answered-way : (p : ServicePrimitive) (a : Apdu) (f : Fault) → (f ≡ NoFault → Way sd r (instructed r p a)) → Way sd r (answered r p a f)
+  answered-way : (p : ServicePrimitive) (a : UserData) (f : Fault) → (f ≡ NoFault → Way sd r (instructed r p a)) → Way sd r (answered r p a f)
   unfolding answered
   answered-way p a NoFault k = k refl
   answered-way p a (NoInstruction live) k = none-way live
@@ -160,17 +160,17 @@ module _ (sd : Side) (r : Record) where
   answered-way p a (Invalid live) k = except-way live _ _
   answered-way p a (NotPermitted live) k = except-way live _ _
 
-  send-expected : (p : Primitive) (live : Bool) (a : Apdu) → sendFault sd r p live a ≡ NoFault → expects sd (r .control) p ≡ true
+  send-expected : (p : Primitive) (live : Bool) (a : UserData) → sendFault sd r p live a ≡ NoFault → expects sd (r .control) p ≡ true
   unfolding sendFault
   send-expected p live a e = not-false _ (passed (not (expects sd (r .control) p)) (NoInstruction true) _ refl e .0)
 
-  pub send-there : (p : Primitive) (live : Bool) (a : Apdu) → sendFault sd r p live a ≡ NoFault → isSend a ≡ true
+  pub send-there : (p : Primitive) (live : Bool) (a : UserData) → sendFault sd r p live a ≡ NoFault → isSend a ≡ true
   unfolding sendFault
   send-there p live a e =
       pdu-fits (isSend a) live live a NoFault (passed (not (expects sd (r .control) p)) (NoInstruction true) _ refl e .1)
 
   -- a start that fits and is no forward is one that the control expects
-  fits-expected : (x : ℕ) (a : Apdu) → startFits sd r x a ≡ true → isForward a ≡ false → expects sd (r .control) (DStart (modeOf a)) ≡ true
+  fits-expected : (x : ℕ) (a : UserData) → startFits sd r x a ≡ true → isForward a ≡ false → expects sd (r .control) (DStart (modeOf a)) ≡ true
   unfolding startFits
   fits-expected x a e n = go (fromCentre sd x) e
     where
@@ -185,7 +185,7 @@ module _ (sd : Side) (r : Record) where
       (λ e. by-test (Way sd r) (eqb v (r .version)) _ _ (λ y. is-responding success s noVersion ForwardIndication i refl) (λ y. is-responding versionNotEqual s (r .version) Untold i refl))
 
   -- in FORWARD only a response has no fault
-  response-there : (x o s : ℕ) (a : Apdu) → responseFault r x o s a ≡ NoFault → isResponse a ≡ true
+  response-there : (x o s : ℕ) (a : UserData) → responseFault r x o s a ≡ NoFault → isResponse a ≡ true
   unfolding responseFault
   response-there x o s a e =
       let away = passed (turnedAway x o) TurnedAway _ refl e in
@@ -197,27 +197,27 @@ module _ (sd : Side) (r : Record) where
       rejected false k = pdu-fits (isResponse a) false true a NoFault k
 
   -- a send is no response
-  send-other : (a : Apdu) → isSend a ≡ true → isResponse a ≡ false
+  send-other : (a : UserData) → isSend a ≡ true → isResponse a ≡ false
   send-other a e = rw (eqb-true (kindOf a) 3 e)
 
   -- a confirmation without a fault: of a start that the control expects, or of a forward
-  confirmed-way : (x o s v : ℕ) (a : Apdu) (t : Bool) → expects sd (r .control) (DStartCnf (answer x)) ≡ t
+  confirmed-way : (x o s v : ℕ) (a : UserData) (t : Bool) → expects sd (r .control) (DStartCnf (replyOf x)) ≡ t
       → cond (not t) (cond (awaitsResponse (r .control)) (responseFault r x o s a) (NoInstruction true)) (cond (turnedAway x o) TurnedAway (cond (not (eqb s (r .request))) (Security (eqb x accepted)) (pduFault (isSend a) (eqb x accepted) true a NoFault))) ≡ NoFault
-      → Way sd r (cond (isResponse a) (forwardConfirmed r (reasonOf a) v) (handed (withTimer r false) (DStartCnf (answer x)) (StartConfirmation (r .control .dsc) x)))
+      → Way sd r (cond (isResponse a) (forwardConfirmed r (reasonOf a) v) (handed (withTimer r false) (DStartCnf (replyOf x)) (StartConfirmation (r .control .dsc) x)))
   confirmed-way x o s v a true p e =
       let away = passed (turnedAway x o) TurnedAway _ refl e in
       let secure = passed (not (eqb s (r .request))) (Security (eqb x accepted)) _ refl (away .1) in
       let n = send-other a (pdu-fits (isSend a) (eqb x accepted) true a NoFault (secure .1)) in
-      rw n (is-confirmed (answer x) (r .control .dsc) x p)
+      rw n (is-confirmed (replyOf x) (r .control .dsc) x p)
   confirmed-way x o s v a false p e = awaited (awaitsResponse (r .control)) refl e
     where
       awaited : (b : Bool) → awaitsResponse (r .control) ≡ b → cond b (responseFault r x o s a) (NoInstruction true) ≡ NoFault
-          → Way sd r (cond (isResponse a) (forwardConfirmed r (reasonOf a) v) (handed (withTimer r false) (DStartCnf (answer x)) (StartConfirmation (r .control .dsc) x)))
+          → Way sd r (cond (isResponse a) (forwardConfirmed r (reasonOf a) v) (handed (withTimer r false) (DStartCnf (replyOf x)) (StartConfirmation (r .control .dsc) x)))
       awaited true q k = rw (response-there x o s a k) (is-forwarded (reasonOf a) v q)
       awaited false q k = absurd (subst T (ap isFault k) tt)
 
   -- a D-START indication without a fault
-  pub start-there : (x s : ℕ) (q : Qos) (a : Apdu) → indicationFault sd r x s q a ≡ NoFault → StartIs sd r x s a
+  pub start-there : (x s : ℕ) (q : Qos) (a : UserData) → indicationFault sd r x s q a ≡ NoFault → StartIs sd r x s a
   unfolding indicationFault
   start-there x s q a e =
       let idle = passed (not (isIdle (r .control))) (NoInstruction true) _ refl e in
@@ -230,19 +230,19 @@ module _ (sd : Side) (r : Record) where
       }
 
   -- a primitive without a fault is one that the control expects
-  instructed-way : (p : ServicePrimitive) (a : Apdu) → firstFault sd r p a ≡ NoFault → Way sd r (instructed r p a)
+  instructed-way : (p : ServicePrimitive) (a : UserData) → firstFault sd r p a ≡ NoFault → Way sd r (instructed r p a)
   unfolding instructed firstFault confirmationFault
   instructed-way (DStartIndication x s q v) a e =
       let i = start-there x s q a e in
       by-test (Way sd r) (isForward a) _ _ (λ y. arrives-way s v (i .idle)) (λ n. is-invited (modeOf a) (q .routing) (fits-expected x a (i .fits) n))
-  instructed-way (DStartConfirmation x o s v) a e = confirmed-way x o s v a (expects sd (r .control) (DStartCnf (answer x))) refl e
+  instructed-way (DStartConfirmation x o s v) a e = confirmed-way x o s v a (expects sd (r .control) (DStartCnf (replyOf x))) refl e
   instructed-way DDataIndication a e = is-read DData MessageIndication (send-expected DData true a e) refl refl
   instructed-way DEndIndication a e = is-read DEnd _ (send-expected DEnd true a e) refl refl
-  instructed-way (DEndConfirmation x) a e = is-read (DEndCnf (answer x)) _ (send-expected (DEndCnf (answer x)) _ a e) refl refl
+  instructed-way (DEndConfirmation x) a e = is-read (DEndCnf (replyOf x)) _ (send-expected (DEndCnf (replyOf x)) _ a e) refl refl
   instructed-way (DAbortIndication o) a e = is-closed _ (tell-active (abortTold a))
   instructed-way DPAbortIndication a e = is-closed _ (tell-active _)
 
-  reached-way : (p : ServicePrimitive) (a : Apdu) → Way sd r (reached sd r p a)
+  reached-way : (p : ServicePrimitive) (a : UserData) → Way sd r (reached sd r p a)
   unfolding reached
   reached-way p a = answered-way p a (firstFault sd r p a) (instructed-way p a)
 
@@ -260,10 +260,10 @@ module _ (sd : Side) (r : Record) where
   called-way : (u : UserPrimitive) → takes sd (r .control) (callOf u) ≡ true → isNone (unsent (r .highest) u) ≡ true → Way sd r (called r u)
   unfolding called callOf startResponse endRequest endResponse userAbort
   called-way (StartServiceRequest m k s) e n = is-started (isDsc m) k s e
-  called-way (StartServiceResponse m x) e n = is-called (StartResponse m (answer x)) _ _ e refl
+  called-way (StartServiceResponse m x) e n = is-called (StartResponse m (replyOf x)) _ _ e refl
   called-way (MessageServiceRequest h j) e n = is-message j e (above h j n)
   called-way (EndServiceRequest m) e n = is-called (EndRequest m) _ _ e refl
-  called-way (EndServiceResponse m x) e n = is-called (EndResponse m (answer x)) _ _ e refl
+  called-way (EndServiceResponse m x) e n = is-called (EndResponse m (replyOf x)) _ _ e refl
   called-way (UserAbortServiceRequest g x) e n = is-called UserAbort _ _ e refl
 
   acts-way : (e : Event) → permitted sd r e ≡ true → isNone (messageRefusal r e) ≡ true → Way sd r (acts sd r e)
@@ -276,7 +276,7 @@ module _ (sd : Side) (r : Record) where
       by-test (Way sd r) (isIdle (r .control)) _ _ (λ e. is-closed Untold (λ f. refl)) (λ e. except-way true _ _)
 
 -- what is not refused is permitted, and no message request that is refused
-pub not-refused : (s p : Bool) (w : Refusal) → isNone (cond (not s) Shape (cond (not p) Prohibited w)) ≡ true → (s ≡ true) × ((p ≡ true) × (isNone w ≡ true))
+pub not-refused : (s p : Bool) (w : StepRefusal) → isNone (cond (not s) Shape (cond (not p) Prohibited w)) ≡ true → (s ≡ true) × ((p ≡ true) × (isNone w ≡ true))
 not-refused true true w e = (refl, (refl, e))
 not-refused true false w e = absurd (subst T (sym e) tt)
 not-refused false p w e = absurd (subst T (sym e) tt)
@@ -284,7 +284,7 @@ not-refused false p w e = absurd (subst T (sym e) tt)
 taken-way : (sd : Side) (r : Record) (e : Event) → isNone (refusalOf sd r e) ≡ true → Way sd r (acts sd r e)
 unfolding refusalOf
 taken-way sd r e n =
-    let k = not-refused (shapely sd e) (permitted sd r e) (messageRefusal r e) n in acts-way sd r e (k .1 .0) (k .1 .1)
+    let k = not-refused (eventFits sd e) (permitted sd r e) (messageRefusal r e) n in acts-way sd r e (k .1 .0) (k .1 .1)
 
 -- every step is one of the twelve ways
 pub ways : (sd : Side) (r : Record) (e : Event) → Way sd r (step sd r e)

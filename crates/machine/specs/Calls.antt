@@ -7,29 +7,29 @@ use Rattle.control.specs.Control.{goes}
 use Rattle.machine.specs.Event.{isDsc}
 use Rattle.machine.specs.Record.{withTimer, withUser, withJob, withRequest, enter}
 use Rattle.machine.specs.Outcome.{outcome}
-use Rattle.control.specs.declared.Answer.{Answer}
-use Rattle.control.specs.declared.Answer.the-variants.{Accepted, Rejected}
+use Rattle.control.specs.declared.Reply.{Reply}
+use Rattle.control.specs.declared.Reply.the-variants.{Accepted, Rejected}
 use Rattle.control.specs.declared.Call.{Call}
 use Rattle.control.specs.declared.Call.the-variants.{StartRequest, StartResponse, MessageRequest, EndRequest, EndResponse, UserAbort}
 use Rattle.machine.specs.declared.record.Record.{Record}
-use Rattle.machine.specs.declared.event.Apdu.{Apdu}
-use Rattle.machine.specs.declared.event.Apdu.the-variants.{Start, Send, AbortUser}
+use Rattle.machine.specs.declared.event.UserData.{UserData}
+use Rattle.machine.specs.declared.event.UserData.the-variants.{Start, Send, AbortUser}
 use Rattle.machine.specs.declared.event.Qos.{Qos}
 use Rattle.machine.specs.declared.event.UserPrimitive.{UserPrimitive}
 use Rattle.machine.specs.declared.event.UserPrimitive.the-variants.{StartServiceRequest, StartServiceResponse, MessageServiceRequest, EndServiceRequest, EndServiceResponse, UserAbortServiceRequest}
-use Rattle.machine.specs.declared.outcome.Refusal.{Refusal}
-use Rattle.machine.specs.declared.outcome.Refusal.the-variants.{None, NoMessage, Repeat}
+use Rattle.machine.specs.declared.outcome.StepRefusal.{StepRefusal}
+use Rattle.machine.specs.declared.outcome.StepRefusal.the-variants.{None, NoMessage, Repeat}
 use Rattle.machine.specs.declared.outcome.Invoked.{Invoked}
 use Rattle.machine.specs.declared.outcome.Invoked.the-variants.{DStartRequest, DStartResponse, DDataRequest, DEndRequest, DEndResponse, DAbortRequest}
 use Rattle.machine.specs.declared.outcome.Told.the-variants.{Untold}
 use Rattle.machine.specs.declared.outcome.Outcome.{Outcome}
 
 -- a Result: accepted, or rejected
-unfoldable pub answer : ℕ → Answer
-answer x = cond (eqb x accepted) Accepted Rejected
+unfoldable pub replyOf : ℕ → Reply
+replyOf x = cond (eqb x accepted) Accepted Rejected
 
 -- the control goes where the call leads; a primitive is invoked with an APDU
-unfoldable pub sent : Record → Call → Invoked → Apdu → Outcome
+unfoldable pub sent : Record → Call → Invoked → UserData → Outcome
 sent r k i a = outcome (enter r (goes (r .control) k)) i Untold a false
 
 -- the Quality of Service of a D-START request with Class of Communication k (2.3.5.3.7 b, 3.5.3.9 b; 2.3.5.5.7 b)
@@ -44,7 +44,7 @@ startRequest r m k s = sent (withRequest (withUser (withTimer r true) true) s) (
 -- CPDLC-start response: 2.3.5.3.8 (air), 2.3.5.5.8 (ground); DSC-start response: 2.3.5.5.9 (ground).
 -- The security value received in the indication is the one that local policy accepts
 unfoldable pub startResponse : Record → Bool → ℕ → Outcome
-startResponse r m x = sent r (StartResponse m (answer x)) (DStartResponse x (r .policy)) Send
+startResponse r m x = sent r (StartResponse m (replyOf x)) (DStartResponse x (r .policy)) Send
 
 -- CPDLC-message request: 3.5.3.10 (air), 2.3.5.5.10 (ground)
 unfoldable pub messageRequest : Record → ℕ → Outcome
@@ -56,7 +56,7 @@ endRequest r m = sent r (EndRequest m) DEndRequest Send
 
 -- CPDLC-end response: 3.5.3.11 (air); DSC-end response: 2.3.5.5.12 (ground)
 unfoldable pub endResponse : Record → Bool → ℕ → Outcome
-endResponse r m x = sent r (EndResponse m (answer x)) (DEndResponse x) Send
+endResponse r m x = sent r (EndResponse m (replyOf x)) (DEndResponse x) Send
 
 -- no reason given means undefined
 abbrev pub reasonSent : Bool → ℕ → ℕ
@@ -71,14 +71,14 @@ userAbort r given x = sent r UserAbort (DAbortRequest user) (AbortUser (reasonSe
 -- what it is to the control
 unfoldable pub callOf : UserPrimitive → Call
 callOf (StartServiceRequest m k s) = StartRequest (isDsc m)
-callOf (StartServiceResponse m x) = StartResponse m (answer x)
+callOf (StartServiceResponse m x) = StartResponse m (replyOf x)
 callOf (MessageServiceRequest h j) = MessageRequest
 callOf (EndServiceRequest m) = EndRequest m
-callOf (EndServiceResponse m x) = EndResponse m (answer x)
+callOf (EndServiceResponse m x) = EndResponse m (replyOf x)
 callOf (UserAbortServiceRequest g x) = UserAbort
 
 -- document 01, NO-MESSAGE and REPEAT: a message request without a CPDLC message, then one whose job is not above the highest taken
-unfoldable pub unsent : ℕ → UserPrimitive → Refusal
+unfoldable pub unsent : ℕ → UserPrimitive → StepRefusal
 unsent highest (StartServiceRequest m k s) = None
 unsent highest (StartServiceResponse m x) = None
 unsent highest (MessageServiceRequest h j) = cond (not h) NoMessage (cond (leb j highest) Repeat None)

@@ -15,7 +15,8 @@ noSecurity = 0
 abbrev pub securityValues : ℕ
 securityValues = 2
 
--- Result. The user's: accepted, rejected. Of a D-START: accepted, rejected (permanent), rejected (transient). Of a D-END: accepted, rejected.
+-- Result. The user's: accepted, rejected. Of a D-START: accepted, rejected (permanent), rejected (transient). Of a D-END: accepted,
+-- rejected.
 -- The user's "rejected" is "rejected (permanent)" in a D-START (2.3.5.3.8.2, 2.3.5.5.8.2, 2.3.5.5.9.2), and the reverse (2.3.5.3.3.2).
 abbrev pub accepted : ℕ
 accepted = 0

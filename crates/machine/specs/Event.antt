@@ -3,7 +3,7 @@ use Prim.Native.Nat.{ℕ}
 use mathlib.Core.Bool.{Bool, true, false, not, _&&_}
 use lib.Dec.{ltb, eqb}
 use Rattle.machine.specs.Codes.{dscMode, modes, securityValues, results, startResults, rejectSources, originators, peers, highPriority, lowErrorRate, routingClasses, userReasons, versions}
-use Rattle.machine.specs.Apdus.{readable}
+use Rattle.machine.specs.UserData.{userDataFits}
 use Rattle.control.specs.Control.{mayStart}
 use Rattle.control.specs.declared.Side.{Side}
 use Rattle.machine.specs.declared.event.Qos.{Qos}
@@ -26,27 +26,27 @@ unfoldable pub hasMode : Side → ℕ → Bool
 hasMode sd m = ltb m modes && mayStart sd (isDsc m)
 
 -- document 01, SHAPE: "an argument breaks the sizes above, its type or its codes"; a job is 1 or more ("Sizes")
-unfoldable pub userShapely : Side → UserPrimitive → Bool
-userShapely sd (StartServiceRequest m k s) = hasMode sd m && (ltb k routingClasses && ltb s securityValues)
-userShapely sd (StartServiceResponse m x) = ltb x results
-userShapely sd (MessageServiceRequest h j) = ltb 0 j
-userShapely sd (EndServiceRequest m) = true
-userShapely sd (EndServiceResponse m x) = ltb x results
-userShapely sd (UserAbortServiceRequest g x) = ltb x userReasons
+unfoldable pub userFits : Side → UserPrimitive → Bool
+userFits sd (StartServiceRequest m k s) = hasMode sd m && (ltb k routingClasses && ltb s securityValues)
+userFits sd (StartServiceResponse m x) = ltb x results
+userFits sd (MessageServiceRequest h j) = ltb 0 j
+userFits sd (EndServiceRequest m) = true
+userFits sd (EndServiceResponse m x) = ltb x results
+userFits sd (UserAbortServiceRequest g x) = ltb x userReasons
 
 -- a received Quality of Service is not looked at ("received QOS values excepted")
-unfoldable pub serviceShapely : ServicePrimitive → Bool
-serviceShapely (DStartIndication x s q v) = ltb x peers && (ltb s securityValues && ltb v versions)
-serviceShapely (DStartConfirmation x o s v) = ltb x startResults && (ltb o rejectSources && (ltb s securityValues && ltb v versions))
-serviceShapely DDataIndication = true
-serviceShapely DEndIndication = true
-serviceShapely (DEndConfirmation x) = ltb x results
-serviceShapely (DAbortIndication o) = ltb o originators
-serviceShapely DPAbortIndication = true
+unfoldable pub serviceFits : ServicePrimitive → Bool
+serviceFits (DStartIndication x s q v) = ltb x peers && (ltb s securityValues && ltb v versions)
+serviceFits (DStartConfirmation x o s v) = ltb x startResults && (ltb o rejectSources && (ltb s securityValues && ltb v versions))
+serviceFits DDataIndication = true
+serviceFits DEndIndication = true
+serviceFits (DEndConfirmation x) = ltb x results
+serviceFits (DAbortIndication o) = ltb o originators
+serviceFits DPAbortIndication = true
 
-unfoldable pub shapely : Side → Event → Bool
-shapely sd (User u) = userShapely sd u
-shapely sd (Forward k s) = ltb k routingClasses && ltb s securityValues
-shapely sd (Service p a) = serviceShapely p && readable a
-shapely sd TimerExpires = true
-shapely sd UnrecoverableSystemError = true
+unfoldable pub eventFits : Side → Event → Bool
+eventFits sd (User u) = userFits sd u
+eventFits sd (Forward k s) = ltb k routingClasses && ltb s securityValues
+eventFits sd (Service p a) = serviceFits p && userDataFits a
+eventFits sd TimerExpires = true
+eventFits sd UnrecoverableSystemError = true

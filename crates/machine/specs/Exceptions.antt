@@ -6,7 +6,7 @@ use Rattle.control.specs.Control.{isIdle, closed}
 use Rattle.machine.specs.Record.{enter}
 use Rattle.machine.specs.Outcome.{outcome}
 use Rattle.machine.specs.declared.record.Record.{Record}
-use Rattle.machine.specs.declared.event.Apdu.the-variants.{Absent, AbortProvider}
+use Rattle.machine.specs.declared.event.UserData.the-variants.{Absent, AbortProvider}
 use Rattle.machine.specs.declared.outcome.Invoked.the-variants.{Silent, DAbortRequest}
 use Rattle.machine.specs.declared.outcome.Told.{Told}
 use Rattle.machine.specs.declared.outcome.Told.the-variants.{Untold, ProviderAbortIndication}

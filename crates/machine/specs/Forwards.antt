@@ -9,19 +9,20 @@ use Rattle.machine.specs.Outcome.{outcome}
 use Rattle.machine.specs.Exceptions.{closes}
 use Rattle.machine.specs.Calls.{qosAsked}
 use Rattle.machine.specs.declared.record.Record.{Record}
-use Rattle.machine.specs.declared.event.Apdu.the-variants.{Forward, ForwardResponse}
+use Rattle.machine.specs.declared.event.UserData.the-variants.{Forward, ForwardResponse}
 use Rattle.machine.specs.declared.outcome.Invoked.the-variants.{DStartForwardRequest, DStartForwardResponse}
 use Rattle.machine.specs.declared.outcome.Told.{Told}
 use Rattle.machine.specs.declared.outcome.Told.the-variants.{Untold, ForwardIndication, ForwardConfirmation}
 use Rattle.machine.specs.declared.outcome.Outcome.{Outcome}
 
--- CPDLC-forward request: 2.3.5.5.13.1. t-start is started and the user becomes active (3.5.5.1.6 d). The D-START carries the own version, which the other
--- centre compares (2.3.5.5.2.3)
+-- CPDLC-forward request: 2.3.5.5.13.1. t-start is started and the user becomes active (3.5.5.1.6 d). The D-START carries the own version,
+-- which the other centre compares (2.3.5.5.2.3)
 unfoldable pub forwardRequest : Record → ℕ → ℕ → Outcome
 forwardRequest r k s =
     outcome (enter (withRequest (withUser (withTimer r true) true) s) (forwarding (r .control))) (DStartForwardRequest (qosAsked k) s (r .version)) Untold Forward false
 
--- D-START response "rejected (permanent)" with a forward response, in the same event; IDLE stays (2.3.5.5.2.3, 2.3.5.5.2.4). The user does not become active
+-- D-START response "rejected (permanent)" with a forward response, in the same event; IDLE stays (2.3.5.5.2.3, 2.3.5.5.2.4). The user does
+-- not become active
 unfoldable pub responds : Record → ℕ → ℕ → ℕ → Told → Outcome
 responds r x s v t = outcome (enter r closed) (DStartForwardResponse s v) t (ForwardResponse x) false
 

@@ -1,6 +1,6 @@
 pub mod Codes
 pub mod Record
-pub mod Apdus
+pub mod UserData
 pub mod Event
 pub mod Outcome
 pub mod Exceptions

@@ -1,7 +1,7 @@
 -- The step of either machine: the refusals in document 01's order, else the clause of the event.
 use mathlib.Core.Bool.{Bool, true, false, not, cond}
 use Rattle.control.specs.Control.{takes, takesForward}
-use Rattle.machine.specs.Event.{shapely}
+use Rattle.machine.specs.Event.{eventFits}
 use Rattle.machine.specs.Outcome.{isNone, refused}
 use Rattle.machine.specs.Exceptions.{timerExpires, systemError}
 use Rattle.machine.specs.Calls.{callOf, unsent, called}
@@ -11,8 +11,8 @@ use Rattle.control.specs.declared.Side.{Side}
 use Rattle.machine.specs.declared.record.Record.{Record}
 use Rattle.machine.specs.declared.event.Event.{Event}
 use Rattle.machine.specs.declared.event.Event.the-variants.{User, Forward, Service, TimerExpires, UnrecoverableSystemError}
-use Rattle.machine.specs.declared.outcome.Refusal.{Refusal}
-use Rattle.machine.specs.declared.outcome.Refusal.the-variants.{None, Shape, Prohibited}
+use Rattle.machine.specs.declared.outcome.StepRefusal.{StepRefusal}
+use Rattle.machine.specs.declared.outcome.StepRefusal.the-variants.{None, Shape, Prohibited}
 use Rattle.machine.specs.declared.outcome.Outcome.{Outcome}
 
 -- has a user primitive an action in this state with this DSC (2.3.5.3.1.1, 2.3.5.5.1.1); an expiry asks whether the timer runs;
@@ -24,7 +24,7 @@ permitted sd r (Service p a) = true
 permitted sd r TimerExpires = r .timer
 permitted sd r UnrecoverableSystemError = true
 
-unfoldable pub messageRefusal : Record → Event → Refusal
+unfoldable pub messageRefusal : Record → Event → StepRefusal
 messageRefusal r (User u) = unsent (r .highest) u
 messageRefusal r (Forward k s) = None
 messageRefusal r (Service p a) = None
@@ -32,8 +32,8 @@ messageRefusal r TimerExpires = None
 messageRefusal r UnrecoverableSystemError = None
 
 -- the order of refusals: SHAPE, PROHIBITED, then NO-MESSAGE and REPEAT of a message request
-unfoldable pub refusalOf : Side → Record → Event → Refusal
-refusalOf sd r e = cond (not (shapely sd e)) Shape (cond (not (permitted sd r e)) Prohibited (messageRefusal r e))
+unfoldable pub refusalOf : Side → Record → Event → StepRefusal
+refusalOf sd r e = cond (not (eventFits sd e)) Shape (cond (not (permitted sd r e)) Prohibited (messageRefusal r e))
 
 -- the clause of an event that is not refused
 unfoldable pub acts : Side → Record → Event → Outcome

@@ -1,20 +1,20 @@
 // User requests and responses that are taken: Doc 9880 3.5.3.9 to 3.5.3.13 and Doc 9705 2.3.5.3.7, 2.3.5.3.8 (air),
 // Doc 9705 2.3.5.5.7 to 2.3.5.5.14 (ground).
-use crate::event::Apdu;
 use crate::event::Qos;
 use crate::event::ServicePrimitive;
+use crate::event::UserData;
 use crate::event::UserPrimitive;
 use crate::event::is_dsc;
 use crate::outcome::Invoked;
 use crate::outcome::Outcome;
-use crate::outcome::Refusal;
+use crate::outcome::StepRefusal;
 use crate::outcome::Told;
 use crate::record::Record;
-use control::Answer;
 use control::Call;
+use control::Reply;
 use control::goes;
 ghost use mathlib.Core.Path.{_≡_};
-ghost use Rattle.machine.specs.Calls.{answer, sent, startRequest, startResponse, messageRequest, endRequest, endResponse, reasonSent, userAbort, callOf, unsent, called};
+ghost use Rattle.machine.specs.Calls.{replyOf, sent, startRequest, startResponse, messageRequest, endRequest, endResponse, reasonSent, userAbort, callOf, unsent, called};
 
 // Result; the other value is "rejected", in a D-START "rejected (permanent)".
 pub(crate) const ACCEPTED: u64 = 0;
@@ -22,18 +22,18 @@ pub(crate) const ACCEPTED: u64 = 0;
 // CPDLCUserAbortReason, where none is given.
 pub(crate) const UNDEFINED: u64 = 0;
 
-pub(crate) fn answer(result: u64) -> Answer
-    ensures { λ a. ⌜ a ≡ answer result ⌝ }
+pub(crate) fn reply_of(result: u64) -> Reply
+    ensures { λ a. ⌜ a ≡ replyOf result ⌝ }
 {
     if result == ACCEPTED {
-        Answer::Accepted
+        Reply::Accepted
     } else {
-        Answer::Rejected
+        Reply::Rejected
     }
 }
 
 // The control goes where the call leads; a primitive is invoked with an APDU.
-fn sent(r: Record, call: Call, invoked: Invoked, apdu: Apdu) -> Outcome
+fn sent(r: Record, call: Call, invoked: Invoked, apdu: UserData) -> Outcome
     ensures { λ o. ⌜ o ≡ sent r call invoked apdu ⌝ }
 {
     let c = r.control;
@@ -57,19 +57,19 @@ fn start_request(r: Record, dsc: bool, class: u64, security: u64) -> Outcome
         n,
         Call::StartRequest(dsc),
         Invoked::DStartRequest(q, security),
-        Apdu::Start(dsc),
+        UserData::Start(dsc),
     )
 }
 
 fn start_response(r: Record, dsc: bool, result: u64) -> Outcome
     ensures { λ o. ⌜ o ≡ startResponse r dsc result ⌝ }
 {
-    let a = answer(result);
+    let a = reply_of(result);
     sent(
         r,
         Call::StartResponse(dsc, a),
         Invoked::DStartResponse(result, r.policy),
-        Apdu::Send,
+        UserData::Send,
     )
 }
 
@@ -78,24 +78,34 @@ fn message_request(r: Record, job: u64) -> Outcome
 {
     let mut n = r;
     n.highest = job;
-    sent(n, Call::MessageRequest, Invoked::DDataRequest, Apdu::Send)
+    sent(
+        n,
+        Call::MessageRequest,
+        Invoked::DDataRequest,
+        UserData::Send,
+    )
 }
 
 fn end_request(r: Record, dsc: bool) -> Outcome
     ensures { λ o. ⌜ o ≡ endRequest r dsc ⌝ }
 {
-    sent(r, Call::EndRequest(dsc), Invoked::DEndRequest, Apdu::Send)
+    sent(
+        r,
+        Call::EndRequest(dsc),
+        Invoked::DEndRequest,
+        UserData::Send,
+    )
 }
 
 fn end_response(r: Record, dsc: bool, result: u64) -> Outcome
     ensures { λ o. ⌜ o ≡ endResponse r dsc result ⌝ }
 {
-    let a = answer(result);
+    let a = reply_of(result);
     sent(
         r,
         Call::EndResponse(dsc, a),
         Invoked::DEndResponse(result),
-        Apdu::Send,
+        UserData::Send,
     )
 }
 
@@ -114,7 +124,7 @@ fn user_abort(r: Record, given: bool, reason: u64) -> Outcome
         r,
         Call::UserAbort,
         Invoked::DAbortRequest(ServicePrimitive::USER),
-        Apdu::AbortUser(x),
+        UserData::AbortUser(x),
     )
 }
 
@@ -126,34 +136,34 @@ pub(crate) fn call_of(u: UserPrimitive) -> Call
         UserPrimitive::StartServiceRequest(mode, _, _) => Call::StartRequest(is_dsc(mode)),
         UserPrimitive::StartServiceResponse(dsc, result) => Call::StartResponse(
             dsc,
-            answer(result),
+            reply_of(result),
         ),
         UserPrimitive::MessageServiceRequest(_, _) => Call::MessageRequest,
         UserPrimitive::EndServiceRequest(dsc) => Call::EndRequest(dsc),
-        UserPrimitive::EndServiceResponse(dsc, result) => Call::EndResponse(dsc, answer(result)),
+        UserPrimitive::EndServiceResponse(dsc, result) => Call::EndResponse(dsc, reply_of(result)),
         UserPrimitive::UserAbortServiceRequest(_, _) => Call::UserAbort,
     }
 }
 
 // A message request without a CPDLC message, then one whose job is not above the highest taken.
-pub(crate) fn unsent(highest: u64, u: UserPrimitive) -> Refusal
+pub(crate) fn unsent(highest: u64, u: UserPrimitive) -> StepRefusal
     ensures { λ x. ⌜ x ≡ unsent highest u ⌝ }
 {
     match u {
-        UserPrimitive::StartServiceRequest(_, _, _) => Refusal::None,
-        UserPrimitive::StartServiceResponse(_, _) => Refusal::None,
+        UserPrimitive::StartServiceRequest(_, _, _) => StepRefusal::None,
+        UserPrimitive::StartServiceResponse(_, _) => StepRefusal::None,
         UserPrimitive::MessageServiceRequest(holds, job) => {
             if !holds {
-                return Refusal::NoMessage;
+                return StepRefusal::NoMessage;
             }
             if job <= highest {
-                return Refusal::Repeat;
+                return StepRefusal::Repeat;
             }
-            Refusal::None
+            StepRefusal::None
         }
-        UserPrimitive::EndServiceRequest(_) => Refusal::None,
-        UserPrimitive::EndServiceResponse(_, _) => Refusal::None,
-        UserPrimitive::UserAbortServiceRequest(_, _) => Refusal::None,
+        UserPrimitive::EndServiceRequest(_) => StepRefusal::None,
+        UserPrimitive::EndServiceResponse(_, _) => StepRefusal::None,
+        UserPrimitive::UserAbortServiceRequest(_, _) => StepRefusal::None,
     }
 }
 

@@ -3,11 +3,11 @@ use crate::record::Configuration;
 use control::Side;
 use control::may_start;
 ghost use mathlib.Core.Path.{_≡_};
-ghost use Rattle.machine.specs.Apdus.{kindOf, modeOf, reasonOf, readable};
-ghost use Rattle.machine.specs.Event.{isDsc, hasMode, qosFits, userShapely, serviceShapely, shapely};
+ghost use Rattle.machine.specs.UserData.{kindOf, modeOf, reasonOf, userDataFits};
+ghost use Rattle.machine.specs.Event.{isDsc, hasMode, qosFits, userFits, serviceFits, eventFits};
 
 // The user data of a primitive: none, not a valid PDU, or an APDU with its numbers. Message data is not held here.
-pub enum Apdu {
+pub enum UserData {
     Absent,
     NotValid,
     // startup, or startDown with its mode (true: dsc).
@@ -64,12 +64,12 @@ pub enum Event {
     // CPDLC-forward request, which begins no dialogue: Class of Communication, Security Required.
     Forward(u64, u64),
     // A primitive of the dialogue service, with its user data.
-    Service(ServicePrimitive, Apdu),
+    Service(ServicePrimitive, UserData),
     TimerExpires,
     UnrecoverableSystemError,
 }
 
-impl Apdu {
+impl UserData {
     // The kinds that are asked for, as `kind` numbers them.
     pub(crate) const ABSENT: u64 = 0;
 
@@ -99,14 +99,14 @@ impl Apdu {
         ensures { λ k. ⌜ k ≡ kindOf self ⌝ }
     {
         match self {
-            Apdu::Absent => 0,
-            Apdu::NotValid => 1,
-            Apdu::Start(_) => 2,
-            Apdu::Send => 3,
-            Apdu::AbortUser(_) => 4,
-            Apdu::AbortProvider(_) => 5,
-            Apdu::Forward => 6,
-            Apdu::ForwardResponse(_) => 7,
+            UserData::Absent => 0,
+            UserData::NotValid => 1,
+            UserData::Start(_) => 2,
+            UserData::Send => 3,
+            UserData::AbortUser(_) => 4,
+            UserData::AbortProvider(_) => 5,
+            UserData::Forward => 6,
+            UserData::ForwardResponse(_) => 7,
         }
     }
 
@@ -115,14 +115,14 @@ impl Apdu {
         ensures { λ b. ⌜ b ≡ modeOf self ⌝ }
     {
         match self {
-            Apdu::Absent => false,
-            Apdu::NotValid => false,
-            Apdu::Start(dsc) => dsc,
-            Apdu::Send => false,
-            Apdu::AbortUser(_) => false,
-            Apdu::AbortProvider(_) => false,
-            Apdu::Forward => false,
-            Apdu::ForwardResponse(_) => false,
+            UserData::Absent => false,
+            UserData::NotValid => false,
+            UserData::Start(dsc) => dsc,
+            UserData::Send => false,
+            UserData::AbortUser(_) => false,
+            UserData::AbortProvider(_) => false,
+            UserData::Forward => false,
+            UserData::ForwardResponse(_) => false,
         }
     }
 
@@ -131,30 +131,30 @@ impl Apdu {
         ensures { λ x. ⌜ x ≡ reasonOf self ⌝ }
     {
         match self {
-            Apdu::Absent => 0,
-            Apdu::NotValid => 0,
-            Apdu::Start(_) => 0,
-            Apdu::Send => 0,
-            Apdu::AbortUser(reason) => reason,
-            Apdu::AbortProvider(reason) => reason,
-            Apdu::Forward => 0,
-            Apdu::ForwardResponse(result) => result,
+            UserData::Absent => 0,
+            UserData::NotValid => 0,
+            UserData::Start(_) => 0,
+            UserData::Send => 0,
+            UserData::AbortUser(reason) => reason,
+            UserData::AbortProvider(reason) => reason,
+            UserData::Forward => 0,
+            UserData::ForwardResponse(result) => result,
         }
     }
 
     // Is its reason or its result of its type?
-    pub(crate) fn readable(self) -> bool
-        ensures { λ b. ⌜ b ≡ readable self ⌝ }
+    pub(crate) fn fits(self) -> bool
+        ensures { λ b. ⌜ b ≡ userDataFits self ⌝ }
     {
         let kind = self.kind();
-        if kind == Apdu::ABORT_USER {
-            return self.reason() < Apdu::USER_REASONS;
+        if kind == UserData::ABORT_USER {
+            return self.reason() < UserData::USER_REASONS;
         }
-        if kind == Apdu::ABORT_PROVIDER {
-            return self.reason() < Apdu::PROVIDER_REASONS;
+        if kind == UserData::ABORT_PROVIDER {
+            return self.reason() < UserData::PROVIDER_REASONS;
         }
-        if kind == Apdu::FORWARD_RESPONSE {
-            return self.reason() < Apdu::FORWARD_RESULTS;
+        if kind == UserData::FORWARD_RESPONSE {
+            return self.reason() < UserData::FORWARD_RESULTS;
         }
         true
     }
@@ -203,8 +203,8 @@ impl UserPrimitive {
 
     pub(crate) const RESULTS: u64 = 2;
 
-    pub(crate) fn shapely(self, side: Side) -> bool
-        ensures { λ b. ⌜ b ≡ userShapely side self ⌝ }
+    pub(crate) fn fits(self, side: Side) -> bool
+        ensures { λ b. ⌜ b ≡ userFits side self ⌝ }
     {
         match self {
             UserPrimitive::StartServiceRequest(mode, class, security) => {
@@ -217,7 +217,7 @@ impl UserPrimitive {
             UserPrimitive::MessageServiceRequest(_, job) => 0 < job,
             UserPrimitive::EndServiceRequest(_) => true,
             UserPrimitive::EndServiceResponse(_, result) => result < UserPrimitive::RESULTS,
-            UserPrimitive::UserAbortServiceRequest(_, reason) => reason < Apdu::USER_REASONS,
+            UserPrimitive::UserAbortServiceRequest(_, reason) => reason < UserData::USER_REASONS,
         }
     }
 }
@@ -251,8 +251,8 @@ impl ServicePrimitive {
 
     pub(crate) const VERSIONS: u64 = 256;
 
-    pub(crate) fn shapely(self) -> bool
-        ensures { λ b. ⌜ b ≡ serviceShapely self ⌝ }
+    pub(crate) fn fits(self) -> bool
+        ensures { λ b. ⌜ b ≡ serviceFits self ⌝ }
     {
         match self {
             ServicePrimitive::DStartIndication(peer, security, _, version) => {
@@ -289,15 +289,15 @@ impl ServicePrimitive {
 
 impl Event {
     // Are its codes of their types? SHAPE is answered otherwise.
-    pub fn shapely(self, side: Side) -> bool
-        ensures { λ b. ⌜ b ≡ shapely side self ⌝ }
+    pub fn fits(self, side: Side) -> bool
+        ensures { λ b. ⌜ b ≡ eventFits side self ⌝ }
     {
         match self {
-            Event::User(u) => u.shapely(side),
+            Event::User(u) => u.fits(side),
             Event::Forward(class, security) => {
                 class < Qos::ROUTING_CLASSES && security < Configuration::SECURITY_VALUES
             }
-            Event::Service(p, apdu) => p.shapely() && apdu.readable(),
+            Event::Service(p, apdu) => p.fits() && apdu.fits(),
             Event::TimerExpires => true,
             Event::UnrecoverableSystemError => true,
         }

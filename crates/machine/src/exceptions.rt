@@ -1,6 +1,6 @@
 // Exception handling: Doc 9880 3.5.4 (air), Doc 9705 2.3.5.6 (ground).
-use crate::event::Apdu;
 use crate::event::ServicePrimitive;
+use crate::event::UserData;
 use crate::outcome::Invoked;
 use crate::outcome::Outcome;
 use crate::outcome::Told;
@@ -42,7 +42,7 @@ pub(crate) fn closes(r: Record, t: Told) -> Outcome
     ensures { λ o. ⌜ o ≡ closes r t ⌝ }
 {
     let n = r.enter(Control::CLOSED);
-    Outcome::taken(n, Invoked::Silent, t, Apdu::Absent, false)
+    Outcome::taken(n, Invoked::Silent, t, UserData::Absent, false)
 }
 
 // The dialogue closes with a D-ABORT from the provider.
@@ -54,7 +54,7 @@ pub(crate) fn aborts(r: Record, reason: u64, t: Told) -> Outcome
         n,
         Invoked::DAbortRequest(ServicePrimitive::PROVIDER),
         t,
-        Apdu::AbortProvider(reason),
+        UserData::AbortProvider(reason),
         false,
     )
 }

@@ -1,9 +1,9 @@
 // The first fault of a dialogue-service primitive: the orders that document 01 gives for several faults in one.
 use crate::calls::ACCEPTED;
-use crate::calls::answer;
-use crate::event::Apdu;
+use crate::calls::reply_of;
 use crate::event::Qos;
 use crate::event::ServicePrimitive;
+use crate::event::UserData;
 use crate::record::Record;
 use control::Primitive;
 use control::Side;
@@ -12,7 +12,7 @@ use control::awaits_response;
 use control::expects;
 use control::is;
 ghost use mathlib.Core.Path.{_≡_};
-ghost use Rattle.machine.specs.Apdus.{abortFits};
+ghost use Rattle.machine.specs.UserData.{abortFits};
 ghost use Rattle.machine.specs.Faults.{pduFault, sendFault, abortFault, peerFits, fromCentre, startFits, turnedAway, indicationFault, responseFault, confirmationFault, firstFault};
 
 // A flag says whether the dialogue is open still, so that a D-ABORT is sent.
@@ -32,14 +32,14 @@ pub enum Fault {
 }
 
 // Missing, invalid, not permitted; then what is behind them. i, u: is the dialogue open for the last two.
-fn pdu_fault(fits: bool, i: bool, u: bool, apdu: Apdu, behind: Fault) -> Fault
+fn pdu_fault(fits: bool, i: bool, u: bool, apdu: UserData, behind: Fault) -> Fault
     ensures { λ f. ⌜ f ≡ pduFault fits i u apdu behind ⌝ }
 {
     let kind = apdu.kind();
-    if kind == Apdu::ABSENT {
+    if kind == UserData::ABSENT {
         return Fault::Missing;
     }
-    if kind == Apdu::NOT_VALID {
+    if kind == UserData::NOT_VALID {
         return Fault::Invalid(i);
     }
     if !fits {
@@ -49,14 +49,14 @@ fn pdu_fault(fits: bool, i: bool, u: bool, apdu: Apdu, behind: Fault) -> Fault
 }
 
 // A primitive whose PDU is to be a send.
-fn send_fault(side: Side, r: Record, p: Primitive, live: bool, apdu: Apdu) -> Fault
+fn send_fault(side: Side, r: Record, p: Primitive, live: bool, apdu: UserData) -> Fault
     ensures { λ f. ⌜ f ≡ sendFault side r p live apdu ⌝ }
 {
     let c = r.control;
     if !expects(side, c, p) {
         return Fault::NoInstruction(true);
     }
-    let send = apdu.kind() == Apdu::SEND;
+    let send = apdu.kind() == UserData::SEND;
     pdu_fault(send, live, live, apdu, Fault::NoFault)
 }
 
@@ -74,8 +74,8 @@ fn abort_fault(side: Side, r: Record, p: Primitive, fits: bool) -> Fault
     Fault::NoFault
 }
 
-// The Calling Peer ID of a start is a facility designation at the air machine; at the ground machine an aircraft address, or a facility designation for a
-// forward.
+// The Calling Peer ID of a start is a facility designation at the air machine; at the ground machine an aircraft address, or a facility
+// designation for a forward.
 fn peer_fits(side: Side, peer: u64) -> bool
     ensures { λ b. ⌜ b ≡ peerFits side peer ⌝ }
 {
@@ -95,14 +95,14 @@ fn from_centre(side: Side, peer: u64) -> bool
     }
 }
 
-fn start_fits(side: Side, r: Record, peer: u64, apdu: Apdu) -> bool
+fn start_fits(side: Side, r: Record, peer: u64, apdu: UserData) -> bool
     ensures { λ b. ⌜ b ≡ startFits side r peer apdu ⌝ }
 {
     let c = r.control;
     if from_centre(side, peer) {
-        return apdu.kind() == Apdu::FORWARD;
+        return apdu.kind() == UserData::FORWARD;
     }
-    if apdu.kind() != Apdu::START {
+    if apdu.kind() != UserData::START {
         return false;
     }
     expects(side, c, Primitive::DStart(apdu.mode()))
@@ -115,7 +115,14 @@ fn turned_away(result: u64, source: u64) -> bool
 }
 
 // A wrong calling peer comes last, and has no instruction.
-fn indication_fault(side: Side, r: Record, peer: u64, security: u64, qos: Qos, apdu: Apdu) -> Fault
+fn indication_fault(
+    side: Side,
+    r: Record,
+    peer: u64,
+    security: u64,
+    qos: Qos,
+    apdu: UserData,
+) -> Fault
     ensures { λ f. ⌜ f ≡ indicationFault side r peer security qos apdu ⌝ }
 {
     let c = r.control;
@@ -137,7 +144,7 @@ fn indication_fault(side: Side, r: Record, peer: u64, security: u64, qos: Qos, a
 }
 
 // The response to a forward: "rejected (permanent)"; for "accepted" no action is described.
-fn response_fault(r: Record, result: u64, source: u64, security: u64, apdu: Apdu) -> Fault
+fn response_fault(r: Record, result: u64, source: u64, security: u64, apdu: UserData) -> Fault
     ensures { λ f. ⌜ f ≡ responseFault r result source security apdu ⌝ }
 {
     let open = result == ACCEPTED;
@@ -150,7 +157,7 @@ fn response_fault(r: Record, result: u64, source: u64, security: u64, apdu: Apdu
     if open {
         return pdu_fault(false, true, true, apdu, Fault::NoFault);
     }
-    let response = apdu.kind() == Apdu::FORWARD_RESPONSE;
+    let response = apdu.kind() == UserData::FORWARD_RESPONSE;
     pdu_fault(response, false, true, apdu, Fault::NoFault)
 }
 
@@ -160,13 +167,13 @@ fn confirmation_fault(
     result: u64,
     source: u64,
     security: u64,
-    apdu: Apdu,
+    apdu: UserData,
 ) -> Fault
     ensures { λ f. ⌜ f ≡ confirmationFault side r result source security apdu ⌝ }
 {
     let c = r.control;
     let open = result == ACCEPTED;
-    if !expects(side, c, Primitive::DStartCnf(answer(result))) {
+    if !expects(side, c, Primitive::DStartCnf(reply_of(result))) {
         if awaits_response(c) {
             return response_fault(r, result, source, security, apdu);
         }
@@ -178,25 +185,25 @@ fn confirmation_fault(
     if security != r.request {
         return Fault::Security(open);
     }
-    let send = apdu.kind() == Apdu::SEND;
+    let send = apdu.kind() == UserData::SEND;
     pdu_fault(send, open, true, apdu, Fault::NoFault)
 }
 
 // Does the APDU fit the originator?
-fn abort_fits(originator: u64, apdu: Apdu) -> bool
+fn abort_fits(originator: u64, apdu: UserData) -> bool
     ensures { λ b. ⌜ b ≡ abortFits originator apdu ⌝ }
 {
     let kind = apdu.kind();
     if originator == ServicePrimitive::USER {
-        return kind == Apdu::ABORT_USER;
+        return kind == UserData::ABORT_USER;
     }
     if originator == ServicePrimitive::PROVIDER {
-        return kind == Apdu::ABORT_PROVIDER;
+        return kind == UserData::ABORT_PROVIDER;
     }
     false
 }
 
-pub(crate) fn first_fault(side: Side, r: Record, p: ServicePrimitive, apdu: Apdu) -> Fault
+pub(crate) fn first_fault(side: Side, r: Record, p: ServicePrimitive, apdu: UserData) -> Fault
     ensures { λ f. ⌜ f ≡ firstFault side r p apdu ⌝ }
 {
     match p {
@@ -221,7 +228,7 @@ pub(crate) fn first_fault(side: Side, r: Record, p: ServicePrimitive, apdu: Apdu
         ServicePrimitive::DEndConfirmation(result) => send_fault(
             side,
             r,
-            Primitive::DEndCnf(answer(result)),
+            Primitive::DEndCnf(reply_of(result)),
             result != ACCEPTED,
             apdu,
         ),

@@ -1,6 +1,6 @@
 // The CPDLC-forward service at both centres: Doc 9705 2.3.5.5.13.1, 2.3.5.5.2.3, 2.3.5.5.2.4 and 2.3.5.5.3.3.
-use crate::event::Apdu;
 use crate::event::Qos;
+use crate::event::UserData;
 use crate::exceptions::closes;
 use crate::outcome::Invoked;
 use crate::outcome::Outcome;
@@ -41,7 +41,7 @@ pub(crate) fn forward_request(r: Record, class: u64, security: u64) -> Outcome
         next,
         Invoked::DStartForwardRequest(q, security, version),
         Told::Untold,
-        Apdu::Forward,
+        UserData::Forward,
         false,
     )
 }
@@ -55,7 +55,7 @@ fn responds(r: Record, result: u64, security: u64, version: u64, t: Told) -> Out
         n,
         Invoked::DStartForwardResponse(security, version),
         t,
-        Apdu::ForwardResponse(result),
+        UserData::ForwardResponse(result),
         false,
     )
 }

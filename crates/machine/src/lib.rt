@@ -20,13 +20,14 @@ use exceptions::system_error;
 use exceptions::timer_expires;
 use forwards::forward_request;
 use outcome::Outcome;
-use outcome::Refusal;
+use outcome::StepRefusal;
 use primitives::reached;
 use record::Record;
 ghost use mathlib.Core.Path.{_≡_};
 ghost use Rattle.machine.specs.Step.{permitted, messageRefusal, refusalOf, acts, step};
 
-// Has a user primitive an action here? An expiry asks whether the timer runs; a dialogue-service primitive and a system error are never prohibited.
+// Has a user primitive an action here? An expiry asks whether the timer runs; a dialogue-service primitive and a system error are never
+// prohibited.
 fn permitted(side: Side, r: Record, e: Event) -> bool
     ensures { λ b. ⌜ b ≡ permitted side r e ⌝ }
 {
@@ -40,27 +41,27 @@ fn permitted(side: Side, r: Record, e: Event) -> bool
     }
 }
 
-fn message_refusal(r: Record, e: Event) -> Refusal
+fn message_refusal(r: Record, e: Event) -> StepRefusal
     ensures { λ x. ⌜ x ≡ messageRefusal r e ⌝ }
 {
     match e {
         Event::User(u) => unsent(r.highest, u),
-        Event::Forward(_, _) => Refusal::None,
-        Event::Service(_, _) => Refusal::None,
-        Event::TimerExpires => Refusal::None,
-        Event::UnrecoverableSystemError => Refusal::None,
+        Event::Forward(_, _) => StepRefusal::None,
+        Event::Service(_, _) => StepRefusal::None,
+        Event::TimerExpires => StepRefusal::None,
+        Event::UnrecoverableSystemError => StepRefusal::None,
     }
 }
 
 // The order of refusals.
-fn refusal(side: Side, r: Record, e: Event) -> Refusal
+fn refusal(side: Side, r: Record, e: Event) -> StepRefusal
     ensures { λ x. ⌜ x ≡ refusalOf side r e ⌝ }
 {
-    if !e.shapely(side) {
-        return Refusal::Shape;
+    if !e.fits(side) {
+        return StepRefusal::Shape;
     }
     if !permitted(side, r, e) {
-        return Refusal::Prohibited;
+        return StepRefusal::Prohibited;
     }
     message_refusal(r, e)
 }

@@ -1,11 +1,11 @@
 // What a call answers: a refusal, or the next record with what is invoked, told, written and delivered.
-use crate::event::Apdu;
 use crate::event::Qos;
+use crate::event::UserData;
 use crate::record::Record;
 ghost use mathlib.Core.Path.{_≡_};
 ghost use Rattle.machine.specs.Outcome.{refusalNumber, isNone, refused, outcome};
 
-pub enum Refusal {
+pub enum StepRefusal {
     None,
     Shape,
     Stale,
@@ -53,28 +53,28 @@ pub enum Told {
 }
 
 pub struct Outcome {
-    pub refusal: Refusal,
+    pub refusal: StepRefusal,
     pub next: Record,
     pub invoked: Invoked,
     pub told: Told,
     // The APDU to write; Absent: none.
-    pub apdu: Apdu,
+    pub apdu: UserData,
     // Is the message data of the received APDU delivered to the user.
     pub delivers: bool,
 }
 
-impl Refusal {
+impl StepRefusal {
     // Document 01's number; 0: not refused.
     pub fn number(self) -> u64
         ensures { λ n. ⌜ n ≡ refusalNumber self ⌝ }
     {
         match self {
-            Refusal::None => 0,
-            Refusal::Shape => 2,
-            Refusal::Stale => 6,
-            Refusal::Prohibited => 3,
-            Refusal::NoMessage => 4,
-            Refusal::Repeat => 5,
+            StepRefusal::None => 0,
+            StepRefusal::Shape => 2,
+            StepRefusal::Stale => 6,
+            StepRefusal::Prohibited => 3,
+            StepRefusal::NoMessage => 4,
+            StepRefusal::Repeat => 5,
         }
     }
 
@@ -82,19 +82,19 @@ impl Refusal {
         ensures { λ b. ⌜ b ≡ isNone self ⌝ }
     {
         match self {
-            Refusal::None => true,
-            Refusal::Shape => false,
-            Refusal::Stale => false,
-            Refusal::Prohibited => false,
-            Refusal::NoMessage => false,
-            Refusal::Repeat => false,
+            StepRefusal::None => true,
+            StepRefusal::Shape => false,
+            StepRefusal::Stale => false,
+            StepRefusal::Prohibited => false,
+            StepRefusal::NoMessage => false,
+            StepRefusal::Repeat => false,
         }
     }
 }
 
 impl Outcome {
     // A refused call: the record as it was, and nothing else.
-    pub fn refused(why: Refusal, r: Record) -> Outcome
+    pub fn refused(why: StepRefusal, r: Record) -> Outcome
         ensures { λ o. ⌜ o ≡ refused why r ⌝ }
     {
         Outcome {
@@ -102,7 +102,7 @@ impl Outcome {
             next: r,
             invoked: Invoked::Silent,
             told: Told::Untold,
-            apdu: Apdu::Absent,
+            apdu: UserData::Absent,
             delivers: false,
         }
     }
@@ -112,13 +112,13 @@ impl Outcome {
         r: Record,
         invoked: Invoked,
         told: Told,
-        apdu: Apdu,
+        apdu: UserData,
         delivers: bool,
     ) -> Outcome
         ensures { λ o. ⌜ o ≡ outcome r invoked told apdu delivers ⌝ }
     {
         Outcome {
-            refusal: Refusal::None,
+            refusal: StepRefusal::None,
             next: r,
             invoked,
             told,

@@ -1,8 +1,8 @@
 // Dialogue-service primitives: Doc 9705 2.3.5.3.2 to 2.3.5.3.6 and Doc 9880 3.5.3.14, 3.5.3.15 (air),
 // Doc 9705 2.3.5.5.2 to 2.3.5.5.6, 2.3.5.5.15 and 2.3.5.5.16 (ground).
-use crate::calls::answer;
-use crate::event::Apdu;
+use crate::calls::reply_of;
 use crate::event::ServicePrimitive;
+use crate::event::UserData;
 use crate::exceptions::COMMUNICATION_SERVICE_ERROR;
 use crate::exceptions::COMMUNICATION_SERVICE_FAILURE;
 use crate::exceptions::EXPECTED_PDU_MISSING;
@@ -37,7 +37,7 @@ fn handed(r: Record, p: Primitive, t: Told) -> Outcome
 {
     let c = r.control;
     let n = r.enter(after(c, p));
-    Outcome::taken(n, Invoked::Silent, t, Apdu::Absent, true)
+    Outcome::taken(n, Invoked::Silent, t, UserData::Absent, true)
 }
 
 // The user becomes active.
@@ -59,25 +59,25 @@ fn confirmed(r: Record) -> Record
 }
 
 // The indication with the reason of the APDU.
-fn abort_told(apdu: Apdu) -> Told
+fn abort_told(apdu: UserData) -> Told
     ensures { λ t. ⌜ t ≡ abortTold apdu ⌝ }
 {
     let reason = apdu.reason();
-    if apdu.kind() == Apdu::ABORT_USER {
+    if apdu.kind() == UserData::ABORT_USER {
         return Told::UserAbortIndication(reason);
     }
     Told::ProviderAbortIndication(reason)
 }
 
 // A primitive without a fault.
-fn instructed(r: Record, p: ServicePrimitive, apdu: Apdu) -> Outcome
+fn instructed(r: Record, p: ServicePrimitive, apdu: UserData) -> Outcome
     ensures { λ o. ⌜ o ≡ instructed r p apdu ⌝ }
 {
     let c = r.control;
     let dsc = c.dsc;
     match p {
         ServicePrimitive::DStartIndication(_, security, qos, version) => {
-            if apdu.kind() == Apdu::FORWARD {
+            if apdu.kind() == UserData::FORWARD {
                 return forward_arrives(r, security, version);
             }
             let mode = apdu.mode();
@@ -88,12 +88,12 @@ fn instructed(r: Record, p: ServicePrimitive, apdu: Apdu) -> Outcome
             )
         }
         ServicePrimitive::DStartConfirmation(result, _, _, version) => {
-            if apdu.kind() == Apdu::FORWARD_RESPONSE {
+            if apdu.kind() == UserData::FORWARD_RESPONSE {
                 return forward_confirmed(r, apdu.reason(), version);
             }
             handed(
                 confirmed(r),
-                Primitive::DStartCnf(answer(result)),
+                Primitive::DStartCnf(reply_of(result)),
                 Told::StartConfirmation(dsc, result),
             )
         }
@@ -101,7 +101,7 @@ fn instructed(r: Record, p: ServicePrimitive, apdu: Apdu) -> Outcome
         ServicePrimitive::DEndIndication => handed(r, Primitive::DEnd, Told::EndIndication(dsc)),
         ServicePrimitive::DEndConfirmation(result) => handed(
             r,
-            Primitive::DEndCnf(answer(result)),
+            Primitive::DEndCnf(reply_of(result)),
             Told::EndConfirmation(dsc, result),
         ),
         ServicePrimitive::DAbortIndication(_) => closes(r, tell(r, abort_told(apdu))),
@@ -116,7 +116,7 @@ fn instructed(r: Record, p: ServicePrimitive, apdu: Apdu) -> Outcome
 }
 
 // What is done about the first fault.
-fn answered(r: Record, p: ServicePrimitive, apdu: Apdu, f: Fault) -> Outcome
+fn answered(r: Record, p: ServicePrimitive, apdu: UserData, f: Fault) -> Outcome
     ensures { λ o. ⌜ o ≡ answered r p apdu f ⌝ }
 {
     match f {
@@ -143,7 +143,7 @@ fn answered(r: Record, p: ServicePrimitive, apdu: Apdu, f: Fault) -> Outcome
 }
 
 // A primitive of the dialogue service with its user data.
-pub(crate) fn reached(side: Side, r: Record, p: ServicePrimitive, apdu: Apdu) -> Outcome
+pub(crate) fn reached(side: Side, r: Record, p: ServicePrimitive, apdu: UserData) -> Outcome
     ensures { λ o. ⌜ o ≡ reached side r p apdu ⌝ }
 {
     answered(r, p, apdu, first_fault(side, r, p, apdu))

@@ -1,10 +1,11 @@
-// The machine's step with a dialogue number (document 02, E9): the check, the step as it is, and the number that the record holds afterwards.
+// The machine's step with a dialogue number (document 02, E9): the check, the step as it is, and the number that the record holds
+// afterwards.
 use control::Side;
 use machine::event::Event;
 use machine::event::ServicePrimitive;
 use machine::event::UserPrimitive;
 use machine::outcome::Outcome;
-use machine::outcome::Refusal;
+use machine::outcome::StepRefusal;
 use machine::record::Record;
 ghost use mathlib.Core.Path.{_≡_};
 ghost use Rattle.numbered.specs.Numbers.{userStarts, serviceStarts, isStart, isService, isStale, heldAfter, numberedStep};
@@ -88,11 +89,11 @@ pub fn held_after(held: u64, e: Event, brought: u64) -> u64
 pub fn step(side: Side, r: Record, held: u64, e: Event, brought: u64) -> Outcome
     ensures { λ o. ⌜ o ≡ numberedStep side r held e brought ⌝ }
 {
-    if !e.shapely(side) {
-        return Outcome::refused(Refusal::Shape, r);
+    if !e.fits(side) {
+        return Outcome::refused(StepRefusal::Shape, r);
     }
     if is_stale(held, e, brought) {
-        return Outcome::refused(Refusal::Stale, r);
+        return Outcome::refused(StepRefusal::Stale, r);
     }
     machine::step(side, r, e)
 }

@@ -1,5 +1,5 @@
 -- The carrier as one dialogue by itself sees it, without numbers: the steps of `Numbered` on the entries of one dialogue, a start when nothing is on the
--- lines, and the claims of demand 3. The proof with numbers sees every dialogue as a run of this one (NumView).
+-- lines, and the claims of demand 3. The proof with numbers sees every dialogue as a run of this one (NumberedView).
 use Prim.Native.Nat.{ℕ}
 use mathlib.Core.Path.{_≡_}
 use mathlib.Core.Bool.{Bool, true, false, not, cond, _&&_, _||_}

@@ -8,22 +8,22 @@ use Prim.Native.Nat.{ℕ}
 use lib.Dec.{T, ltb, eqb}
 use Rattle.machine.specs.Codes.{dscMode, providerReasons}
 use Rattle.machine.specs.Record.{enter}
-use Rattle.machine.specs.Apdus.{readable}
-use Rattle.machine.specs.Event.{hasMode, qosFits, userShapely, serviceShapely, shapely}
+use Rattle.machine.specs.UserData.{userDataFits}
+use Rattle.machine.specs.Event.{hasMode, qosFits, userFits, serviceFits, eventFits}
 use Rattle.machine.specs.Exceptions.{tell, aborts, excepts, timerExpires}
-use Rattle.machine.specs.Calls.{answer, sent, startRequest, startResponse, messageRequest, endRequest, callOf, unsent, called}
+use Rattle.machine.specs.Calls.{replyOf, sent, startRequest, startResponse, messageRequest, endRequest, callOf, unsent, called}
 use Rattle.machine.specs.Faults.{pduFault, sendFault, startFits, indicationFault, confirmationFault, firstFault}
 use Rattle.machine.specs.Primitives.{handed, instructed, answered, reached}
 use Rattle.machine.specs.Step.{permitted, messageRefusal, refusalOf, acts, step}
-use Rattle.machine.specs.declared.event.Apdu.{Apdu}
-use Rattle.machine.specs.declared.event.Apdu.the-variants.{Absent, NotValid, Start, Send, AbortUser, AbortProvider, Forward, ForwardResponse}
+use Rattle.machine.specs.declared.event.UserData.{UserData}
+use Rattle.machine.specs.declared.event.UserData.the-variants.{Absent, NotValid, Start, Send, AbortUser, AbortProvider, Forward, ForwardResponse}
 use Rattle.machine.specs.declared.outcome.Invoked.the-variants.{DDataRequest, DEndRequest, DAbortRequest}
 use Rattle.pair.specs.Names.{Side, Air, Ground, Dialogue, End, entered, closed}
 use Rattle.pair.specs.Carrier.{Body, user-call, hand-over, timer-expires, Turn}
 use Rattle.pair.proofs.OneDialogue.{Sys, fresh, run}
 use Rattle.pair.proofs.StepMachine.{Read, got, fault, Codec, Order, start-request, start-response, message-request, end-request, stepMachine, freshWith}
 
-abbrev fits : Side → Apdu → Body → Bool
+abbrev fits : Side → UserData → Body → Bool
 fits sd Absent b = false
 fits sd NotValid b = false
 fits sd (Start m) b = true
@@ -33,7 +33,7 @@ fits sd (AbortProvider x) b = true
 fits sd Forward b = false
 fits sd (ForwardResponse x) b = false
 
-abbrev enc : Side → Apdu → Body → List ℕ
+abbrev enc : Side → UserData → Body → List ℕ
 enc sd Absent b = []
 enc sd NotValid b = []
 enc sd (Start m) b = 1 ∷ (cond m 1 0 ∷ b)
@@ -52,7 +52,7 @@ dec sd (t ∷ (x ∷ b)) =
     (cond (eqb t 3) (got (AbortUser x) b)
     (cond (eqb t 4) (got (AbortProvider x) b) fault)))
 
-pub back : (sd : Side) (a : Apdu) (b : Body) → T (fits sd a b) → dec sd (enc sd a b) ≡ got a b
+pub back : (sd : Side) (a : UserData) (b : Body) → T (fits sd a b) → dec sd (enc sd a b) ≡ got a b
 back sd Absent b t = absurd t
 back sd NotValid b t = absurd t
 back sd (Start true) b t = refl
@@ -93,7 +93,7 @@ after ts = run (stepMachine sample 1) (fresh (stepMachine sample 1) (freshWith 1
 pub bytes-run :
     (after turns .here .rec .control ≡ entered End true) × (after turns .there .rec .control ≡ entered Dialogue true) × (after turns .here .taken ≡ (5 ∷ []) ∷ (6 ∷ []) ∷ []) × (after turns .there .given ≡ (5 ∷ []) ∷ [])
     × (after turns .here .jobs ≡ 1 ∷ 2 ∷ []) × (after turns .here .line ≡ record { primitive = DDataRequest; bytes = 2 ∷ (0 ∷ (6 ∷ [])) } ∷ (record { primitive = DEndRequest; bytes = 2 ∷ (0 ∷ []) } ∷ []))
-unfolding run step refusalOf shapely userShapely hasMode serviceShapely readable permitted callOf messageRefusal unsent acts called reached startRequest startResponse messageRequest endRequest sent answer enter qosFits firstFault indicationFault confirmationFault sendFault startFits pduFault answered instructed handed
+unfolding run step refusalOf eventFits userFits hasMode serviceFits userDataFits permitted callOf messageRefusal unsent acts called reached startRequest startResponse messageRequest endRequest sent replyOf enter qosFits firstFault indicationFault confirmationFault sendFault startFits pduFault answered instructed handed
 bytes-run = (refl, refl, refl, refl, refl, refl)
 
 -- t-start expires before the response is delivered: the ground is told by the D-ABORT, and the air discards the response
@@ -102,5 +102,5 @@ late = asks Air (start-request dscMode 0 []) ∷ gets Ground ∷ asks Ground (st
 
 pub bytes-late :
     (after late .here .rec .control ≡ closed) × (after late .there .rec .control ≡ entered Dialogue true) × (after late .here .line ≡ record { primitive = DAbortRequest 1; bytes = 4 ∷ (0 ∷ []) } ∷ []) × (after late .there .line ≡ []) × (after late .broken ≡ true)
-unfolding run step refusalOf shapely userShapely hasMode serviceShapely readable permitted callOf messageRefusal unsent acts called reached startRequest startResponse sent answer enter qosFits firstFault indicationFault startFits pduFault answered instructed handed timerExpires excepts aborts tell
+unfolding run step refusalOf eventFits userFits hasMode serviceFits userDataFits permitted callOf messageRefusal unsent acts called reached startRequest startResponse sent replyOf enter qosFits firstFault indicationFault startFits pduFault answered instructed handed timerExpires excepts aborts tell
 bytes-late = (refl, refl, refl, refl, refl)

@@ -7,8 +7,8 @@ use lib.Dec.{T, ltb}
 use Rattle.machine.specs.Codes.{securityValues}
 use Rattle.machine.specs.Step.{step}
 use Rattle.machine.specs.declared.record.Record.{Record}
-use Rattle.machine.specs.declared.event.Apdu.{Apdu}
-use Rattle.machine.specs.declared.event.Apdu.the-variants.{Absent}
+use Rattle.machine.specs.declared.event.UserData.{UserData}
+use Rattle.machine.specs.declared.event.UserData.the-variants.{Absent}
 use Rattle.machine.specs.declared.event.ServicePrimitive.{ServicePrimitive}
 use Rattle.machine.specs.declared.event.ServicePrimitive.the-variants.{DPAbortIndication}
 use Rattle.machine.specs.declared.event.Event.{Event}
@@ -22,8 +22,8 @@ use Rattle.pair.specs.Wires.{Wire, arrives, rejects}
 use Rattle.pair.proofs.StepMachine.{Codec, apduOf, bodyOf, happens, Order, asked, dataOf, jobOf, calls, stepMachine}
 use Rattle.pair.proofs.Finite.{is-T}
 use Rattle.pair.proofs.Agree.{OutRel, Follows, Agree}
-use Rattle.pair.proofs.Any.{followed, machine-holds}
-use Rattle.pair.proofs.Quiet.{BothQuiet, none-answered}
+use Rattle.pair.proofs.EveryMachine.{followed, machine-holds}
+use Rattle.pair.proofs.NoAbortAnswers.{BothQuiet, none-answered}
 use Rattle.pair.proofs.StepLocal.{Local, lowOf, Same, Low, closed-is-idle, happens-formed, calls-formed, same-out, same-follows}
 use Rattle.pair.proofs.StepMeans.{Means, meaning-sort}
 use Rattle.pair.proofs.StepCalls.{call-rel, expiry-rel, error-rel}
@@ -32,7 +32,7 @@ use Rattle.pair.proofs.StepReceives.{receive-rel, away-rel, p-abort-rel
 -- p is a security value
 module _ (K : Codec) (p : ℕ) (v : T (ltb p securityValues)) where
   -- what a primitive does to a formed record leaves a formed one
-  pub formed-service : (sd : Side) (r : Record) (e : ServicePrimitive) (a : Apdu) (x : Body) (z : C.Outcome Held Ent) → Local p r → OutRel (Low p) (Means K p sd) (happens K sd (step sd r (Service e a)) x) z → OutRel (Same p) (Means K p sd) (happens K sd (step sd r (Service e a)) x) z
+  pub formed-service : (sd : Side) (r : Record) (e : ServicePrimitive) (a : UserData) (x : Body) (z : C.Outcome Held Ent) → Local p r → OutRel (Low p) (Means K p sd) (happens K sd (step sd r (Service e a)) x) z → OutRel (Same p) (Means K p sd) (happens K sd (step sd r (Service e a)) x) z
   formed-service sd r e a x z h y = same-out p (Means K p sd) (happens K sd (step sd r (Service e a)) x) z (happens-formed K sd r (Service e a) x (h .formed)) y
 
   pub receive-at : (sd : Side) (r : Record) (w : Wire) (f : Ent) → Local p r → Means K p (other sd) w f → OutRel (Same p) (Means K p sd) (stepMachine K p .receive sd r w) (receives sd (lowOf r) f)

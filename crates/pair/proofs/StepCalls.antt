@@ -10,21 +10,21 @@ use Rattle.control.specs.Control.{started, ended}
 use Rattle.machine.specs.Record.{withTimer, withUser, withJob, withRequest, enter}
 use Rattle.machine.specs.Outcome.{isNone}
 use Rattle.machine.specs.Outcome as O
-use Rattle.machine.specs.Event.{isDsc, hasMode, userShapely, shapely}
+use Rattle.machine.specs.Event.{isDsc, hasMode, userFits, eventFits}
 use Rattle.machine.specs.Exceptions.{closes, excepts, timerExpires, systemError}
-use Rattle.machine.specs.Calls.{answer, sent, qosAsked, startRequest, startResponse, messageRequest, endRequest, endResponse, reasonSent, userAbort, unsent, called}
+use Rattle.machine.specs.Calls.{replyOf, sent, qosAsked, startRequest, startResponse, messageRequest, endRequest, endResponse, reasonSent, userAbort, unsent, called}
 use Rattle.machine.specs.Calls as U
 use Rattle.machine.specs.Step.{permitted, messageRefusal, refusalOf, acts, step}
 use Rattle.machine.specs.declared.record.Record.{Record}
-use Rattle.machine.specs.declared.event.Apdu.the-variants.{Start, Send, AbortUser}
+use Rattle.machine.specs.declared.event.UserData.the-variants.{Start, Send, AbortUser}
 use Rattle.machine.specs.declared.event.Event.{Event}
 use Rattle.machine.specs.declared.event.Event.the-variants.{User, TimerExpires, UnrecoverableSystemError}
-use Rattle.machine.specs.declared.outcome.Refusal.{Refusal}
-use Rattle.machine.specs.declared.outcome.Refusal.the-variants.{None, Shape, Prohibited, NoMessage, Repeat}
+use Rattle.machine.specs.declared.outcome.StepRefusal.{StepRefusal}
+use Rattle.machine.specs.declared.outcome.StepRefusal.the-variants.{None, Shape, Prohibited, NoMessage, Repeat}
 use Rattle.machine.specs.declared.outcome.Invoked.the-variants.{DStartRequest, DStartResponse, DDataRequest, DEndRequest, DEndResponse, DAbortRequest}
 use Rattle.machine.specs.declared.outcome.Told.the-variants.{Untold}
 use Rattle.control.proofs.Moves.{goes-awaits}
-use Rattle.pair.specs.Names.{Side, Control, Call, StartRequest, StartResponse, MessageRequest, EndRequest, EndResponse, UserAbort, TimerExpiry, SystemError, is, isIdle, takes, goes, StartReq, Answer, Accepted, Rejected}
+use Rattle.pair.specs.Names.{Side, Control, Call, StartRequest, StartResponse, MessageRequest, EndRequest, EndResponse, UserAbort, TimerExpiry, SystemError, is, isIdle, takes, goes, StartReq, Reply, Accepted, Rejected}
 use Rattle.pair.specs.Carrier.{Body, Sent}
 use Rattle.pair.specs.Carrier as C
 use Rattle.pair.proofs.ControlMachine.{Held, held, Ent, Ask, ask, jobFine, mayCall, highest, moved, callOf}
@@ -40,7 +40,7 @@ use Rattle.pair.proofs.StepMeans.{Means, written, start-means, answer-m
 -- ---- refusals
 
 -- an event that is not refused has the codes of its types, is permitted, and is not unsent
-order : (a b : Bool) (w : Refusal) → isNone (cond (not a) Shape (cond (not b) Prohibited w)) ≡ true → T a × T b × (isNone w ≡ true)
+order : (a b : Bool) (w : StepRefusal) → isNone (cond (not a) Shape (cond (not b) Prohibited w)) ≡ true → T a × T b × (isNone w ≡ true)
 order true true w e = (tt, tt, e)
 order true false w e = absurd (subst T (sym e) tt)
 order false b w e = absurd (subst T (sym e) tt)
@@ -78,11 +78,11 @@ module _ (K : Codec) (p : ℕ) where
       (record { low = ap (held (goes (r .control) u)) e; policy = g ∙ h .policy; request = n; dialogue = goes-awaits (r .control) u (h .dialogue) }, refl, s)
 
   -- an answer does not lead to START-REQ
-  pub started-not : (a : Answer) (d : Bool) → T (is (started a d .state) StartReq) → ⊥
+  pub started-not : (a : Reply) (d : Bool) → T (is (started a d .state) StartReq) → ⊥
   started-not Accepted d x = x
   started-not Rejected d x = x
 
-  pub ended-not : (a : Answer) (d : Bool) → T (is (ended a d .state) StartReq) → ⊥
+  pub ended-not : (a : Reply) (d : Bool) → T (is (ended a d .state) StartReq) → ⊥
   ended-not Accepted d x = x
   ended-not Rejected d x = x
 
@@ -92,7 +92,7 @@ module _ (K : Codec) (p : ℕ) where
   Done sd r a = (f : Bool) → K .fits sd (acts sd r (User (asked K p a)) .apdu) (dataOf a) ≡ f → Follow sd r (cond (isNone (acts sd r (User (asked K p a)) .refusal) && f) (taken K sd (acts sd r (User (asked K p a))) (dataOf a) (jobOf a) []) C.refused)
 
   acted : (sd : Side) (r : Record) (a : Order) → Local p r → isNone (refusalOf sd r (User (asked K p a))) ≡ true → Done sd r a
-  unfolding acts called startRequest startResponse messageRequest endRequest endResponse userAbort sent refusalOf shapely userShapely permitted U.callOf messageRefusal unsent
+  unfolding acts called startRequest startResponse messageRequest endRequest endResponse userAbort sent refusalOf eventFits userFits permitted U.callOf messageRefusal unsent
   acted sd r (start-request m k b) h e false q = stays tt
   acted sd r (start-request m k b) h e true q =
       let v = order (hasMode sd m && (ltb k routingClasses && ltb p securityValues)) (takes sd (r .control) (StartRequest (isDsc m))) None e in
@@ -101,9 +101,9 @@ module _ (K : Codec) (p : ℕ) where
       (written K p sd (DStartRequest (qosAsked k) p) (Start (isDsc m)) b _ (T-is _ q) (start-means p k (isDsc m) b (and-l (ltb k routingClasses) _ (and-r (hasMode sd m) _ (v .0))))))
   acted sd r (start-response m x b) h e false q = stays tt
   acted sd r (start-response m x b) h e true q =
-      let v = order (ltb x results) (takes sd (r .control) (StartResponse m (answer x))) None e in
-      does (ask (StartResponse m (answer x)) b 0)
-      (same-call sd r r (StartResponse m (answer x)) b 0 _ h (v .1) tt refl (λ (y : T (is (started (answer x) (r .control .dsc) .state) StartReq)). absurd (started-not (answer x) (r .control .dsc) y)) refl
+      let v = order (ltb x results) (takes sd (r .control) (StartResponse m (replyOf x))) None e in
+      does (ask (StartResponse m (replyOf x)) b 0)
+      (same-call sd r r (StartResponse m (replyOf x)) b 0 _ h (v .1) tt refl (λ (y : T (is (started (replyOf x) (r .control .dsc) .state) StartReq)). absurd (started-not (replyOf x) (r .control .dsc) y)) refl
       (written K p sd (DStartResponse x (r .policy)) Send b _ (T-is _ q) (answer-means p x (r .policy) b (v .0) (h .policy))))
   acted sd r (message-request b j) h e false q = stays tt
   acted sd r (message-request b j) h e true q =
@@ -117,9 +117,9 @@ module _ (K : Codec) (p : ℕ) where
       does (ask (EndRequest m) b 0) (same-call sd r r (EndRequest m) b 0 _ h (v .1) tt refl (λ (y : T false). absurd y) refl (written K p sd DEndRequest Send b _ (T-is _ q) refl))
   acted sd r (end-response m x b) h e false q = stays tt
   acted sd r (end-response m x b) h e true q =
-      let v = order (ltb x results) (takes sd (r .control) (EndResponse m (answer x))) None e in
-      does (ask (EndResponse m (answer x)) b 0)
-      (same-call sd r r (EndResponse m (answer x)) b 0 _ h (v .1) tt refl (λ (y : T (is (ended (answer x) (r .control .dsc) .state) StartReq)). absurd (ended-not (answer x) (r .control .dsc) y)) refl (written K p sd (DEndResponse x) Send b _ (T-is _ q) (end-means p x b (v .0))))
+      let v = order (ltb x results) (takes sd (r .control) (EndResponse m (replyOf x))) None e in
+      does (ask (EndResponse m (replyOf x)) b 0)
+      (same-call sd r r (EndResponse m (replyOf x)) b 0 _ h (v .1) tt refl (λ (y : T (is (ended (replyOf x) (r .control .dsc) .state) StartReq)). absurd (ended-not (replyOf x) (r .control .dsc) y)) refl (written K p sd (DEndResponse x) Send b _ (T-is _ q) (end-means p x b (v .0))))
   acted sd r (user-abort g x) h e false q = stays tt
   acted sd r (user-abort g x) h e true q =
       let v = order (ltb x userReasons) (takes sd (r .control) UserAbort) None e in
@@ -147,7 +147,7 @@ module _ (K : Codec) (p : ℕ) where
   taken-report sd r u o t x = does tt (subst (λ (z : C.Outcome Held Ent). OutRel (Low p) (Means K p sd) o z) (sym (made sd (lowOf r) (ask u [] 0) t)) x)
 
   pub expiry-rel : (sd : Side) (r : Record) → Local p r → Reported sd r (happens K sd (step sd r TimerExpires) []) TimerExpiry
-  unfolding step refusalOf shapely permitted messageRefusal acts timerExpires
+  unfolding step refusalOf eventFits permitted messageRefusal acts timerExpires
   expiry-rel sd r h = go (r .timer) refl
     where
       go : (t : Bool) → r .timer ≡ t → Reported sd r (happens K sd (cond (isNone (cond (not t) Prohibited None)) (timerExpires r) (O.refused (cond (not t) Prohibited None) r)) []) TimerExpiry
@@ -155,7 +155,7 @@ module _ (K : Codec) (p : ℕ) where
       go true e = taken-report sd r TimerExpiry _ (both (takes sd (r .control) TimerExpiry) true (T-is _ (sym (h .formed .timer) ∙ e)) tt) (excepts-rel K p sd r timerExpired timerExpired [] h tt)
 
   pub error-rel : (sd : Side) (r : Record) → Local p r → Reported sd r (happens K sd (step sd r UnrecoverableSystemError) []) SystemError
-  unfolding step refusalOf shapely permitted messageRefusal acts systemError closes enter
+  unfolding step refusalOf eventFits permitted messageRefusal acts systemError closes enter
   error-rel sd r h = go (isIdle (r .control)) refl
     where
       go : (i : Bool) → isIdle (r .control) ≡ i → Reported sd r (happens K sd (cond i (closes r Untold) (excepts r true undefinedError undefinedError)) []) SystemError

@@ -11,8 +11,8 @@ use Rattle.machine.specs.Outcome.{isNone}
 use Rattle.machine.specs.Record.{freshRecord}
 use Rattle.machine.specs.Step.{step}
 use Rattle.machine.specs.declared.record.Record.{Record}
-use Rattle.machine.specs.declared.event.Apdu.{Apdu}
-use Rattle.machine.specs.declared.event.Apdu.the-variants.{Absent, NotValid, AbortProvider}
+use Rattle.machine.specs.declared.event.UserData.{UserData}
+use Rattle.machine.specs.declared.event.UserData.the-variants.{Absent, NotValid, AbortProvider}
 use Rattle.machine.specs.declared.event.UserPrimitive.{UserPrimitive}
 use Rattle.machine.specs.declared.event.UserPrimitive.the-variants.{StartServiceRequest, StartServiceResponse, MessageServiceRequest, EndServiceRequest, EndServiceResponse, UserAbortServiceRequest}
 use Rattle.machine.specs.declared.event.ServicePrimitive.{ServicePrimitive}
@@ -32,22 +32,22 @@ use Rattle.pair.specs.Wires.{Wire, sortOf, arrives, rejects}
 
 -- an APDU with the message data in it; or bits that are no valid PDU
 pub data Read : Type 0 where
-  got : Apdu → Body → Read
+  got : UserData → Body → Read
   fault : Read
 
 -- all that the pair needs to know of the codec. A side writes its own PDUs: fits, are the data within document 01's sizes;
 -- carries, is there a CPDLC message in them
 pub record Codec : Type 0 where
-  pub fits : Side → Apdu → Body → Bool
-  pub enc : Side → Apdu → Body → List ℕ
+  pub fits : Side → UserData → Body → Bool
+  pub enc : Side → UserData → Body → List ℕ
   pub dec : Side → List ℕ → Read
   pub carries : Body → Bool
   pub reasons-fit : (sd : Side) (x : ℕ) → T (ltb x providerReasons) → T (fits sd (AbortProvider x) [])
-  pub back : (sd : Side) (a : Apdu) (b : Body) → T (fits sd a b) → dec sd (enc sd a b) ≡ got a b
+  pub back : (sd : Side) (a : UserData) (b : Body) → T (fits sd a b) → dec sd (enc sd a b) ≡ got a b
 
 -- ---- what is read
 
-abbrev pub apduOf : Read → Apdu
+abbrev pub apduOf : Read → UserData
 apduOf (got a b) = a
 apduOf fault = NotValid
 

@@ -9,9 +9,9 @@ use lib.Dec.{T, ltb, eqb}
 use borrow.Author.Tests.{eq-eqb}
 use Rattle.machine.specs.Codes.{user, provider, results, userReasons, providerReasons, routingClasses}
 use Rattle.machine.specs.Event.{qosFits}
-use Rattle.machine.specs.Calls.{answer, qosAsked}
-use Rattle.machine.specs.declared.event.Apdu.{Apdu}
-use Rattle.machine.specs.declared.event.Apdu.the-variants.{Absent, NotValid, Start, Send, AbortUser, AbortProvider, Forward, ForwardResponse}
+use Rattle.machine.specs.Calls.{replyOf, qosAsked}
+use Rattle.machine.specs.declared.event.UserData.{UserData}
+use Rattle.machine.specs.declared.event.UserData.the-variants.{Absent, NotValid, Start, Send, AbortUser, AbortProvider, Forward, ForwardResponse}
 use Rattle.machine.specs.declared.outcome.Invoked.{Invoked}
 use Rattle.machine.specs.declared.outcome.Invoked.the-variants.{Silent, DStartRequest, DStartResponse, DDataRequest, DEndRequest, DEndResponse, DAbortRequest, DStartForwardRequest, DStartForwardResponse}
 use Rattle.pair.specs.Names.{Side, Primitive, DStart, DStartCnf, DData, DEnd, DEndCnf, DAbort}
@@ -35,7 +35,7 @@ abbrev pub entOf : Meaning → Ent
 entOf odd = ent DAbort []
 entOf (known e) = e
 
-abbrev pub startOf : Apdu → Body → Meaning
+abbrev pub startOf : UserData → Body → Meaning
 startOf Absent b = odd
 startOf NotValid b = odd
 startOf (Start m) b = known (ent (DStart m) b)
@@ -45,7 +45,7 @@ startOf (AbortProvider x) b = odd
 startOf Forward b = odd
 startOf (ForwardResponse x) b = odd
 
-abbrev pub sendOf : Primitive → Apdu → Body → Meaning
+abbrev pub sendOf : Primitive → UserData → Body → Meaning
 sendOf k Absent b = odd
 sendOf k NotValid b = odd
 sendOf k (Start m) b = odd
@@ -56,7 +56,7 @@ sendOf k Forward b = odd
 sendOf k (ForwardResponse x) b = odd
 
 -- the reason fits the originator
-abbrev pub abortOf : ℕ → Apdu → Meaning
+abbrev pub abortOf : ℕ → UserData → Meaning
 abortOf o Absent = odd
 abortOf o NotValid = odd
 abortOf o (Start m) = odd
@@ -67,13 +67,13 @@ abortOf o Forward = odd
 abortOf o (ForwardResponse x) = odd
 
 -- p: the security value of both ends
-abbrev pub meant : ℕ → Invoked → Apdu → Body → Meaning
+abbrev pub meant : ℕ → Invoked → UserData → Body → Meaning
 meant p Silent a b = odd
 meant p (DStartRequest q s) a b = cond (qosFits q && eqb s p) (startOf a b) odd
-meant p (DStartResponse x s) a b = cond (ltb x results && eqb s p) (sendOf (DStartCnf (answer x)) a b) odd
+meant p (DStartResponse x s) a b = cond (ltb x results && eqb s p) (sendOf (DStartCnf (replyOf x)) a b) odd
 meant p DDataRequest a b = sendOf DData a b
 meant p DEndRequest a b = sendOf DEnd a b
-meant p (DEndResponse x) a b = cond (ltb x results) (sendOf (DEndCnf (answer x)) a b) odd
+meant p (DEndResponse x) a b = cond (ltb x results) (sendOf (DEndCnf (replyOf x)) a b) odd
 meant p (DAbortRequest o) a b = abortOf o a
 meant p (DStartForwardRequest q s v) a b = odd
 meant p (DStartForwardResponse s v) a b = odd
@@ -99,7 +99,7 @@ known-if false x f e = never f e
 
 -- ---- sorts
 
-start-sort : (a : Apdu) (b : Body) (f : Ent) → startOf a b ≡ known f → M.sortOf (DStart true) ≡ M.sortOf (f .kind)
+start-sort : (a : UserData) (b : Body) (f : Ent) → startOf a b ≡ known f → M.sortOf (DStart true) ≡ M.sortOf (f .kind)
 start-sort Absent b f e = never f e
 start-sort NotValid b f e = never f e
 start-sort (Start m) b f e = ap (λ (x : Meaning). M.sortOf (entOf x .kind)) e
@@ -109,7 +109,7 @@ start-sort (AbortProvider x) b f e = never f e
 start-sort Forward b f e = never f e
 start-sort (ForwardResponse x) b f e = never f e
 
-send-sort : (k : Primitive) (a : Apdu) (b : Body) (f : Ent) → sendOf k a b ≡ known f → M.sortOf k ≡ M.sortOf (f .kind)
+send-sort : (k : Primitive) (a : UserData) (b : Body) (f : Ent) → sendOf k a b ≡ known f → M.sortOf k ≡ M.sortOf (f .kind)
 send-sort k Absent b f e = never f e
 send-sort k NotValid b f e = never f e
 send-sort k (Start m) b f e = never f e
@@ -119,7 +119,7 @@ send-sort k (AbortProvider x) b f e = never f e
 send-sort k Forward b f e = never f e
 send-sort k (ForwardResponse x) b f e = never f e
 
-pub abort-is : (o : ℕ) (a : Apdu) (f : Ent) → abortOf o a ≡ known f → ent DAbort [] ≡ f
+pub abort-is : (o : ℕ) (a : UserData) (f : Ent) → abortOf o a ≡ known f → ent DAbort [] ≡ f
 abort-is o Absent f e = never f e
 abort-is o NotValid f e = never f e
 abort-is o (Start m) f e = never f e
@@ -129,13 +129,13 @@ abort-is o (AbortProvider x) f e = ap entOf (known-if (eqb o provider && ltb x p
 abort-is o Forward f e = never f e
 abort-is o (ForwardResponse x) f e = never f e
 
-meant-sort : (p : ℕ) (i : Invoked) (a : Apdu) (b : Body) (f : Ent) → meant p i a b ≡ known f → sortOf i ≡ M.sortOf (f .kind)
+meant-sort : (p : ℕ) (i : Invoked) (a : UserData) (b : Body) (f : Ent) → meant p i a b ≡ known f → sortOf i ≡ M.sortOf (f .kind)
 meant-sort p Silent a b f e = never f e
 meant-sort p (DStartRequest q s) a b f e = start-sort a b f (known-if (qosFits q && eqb s p) (startOf a b) f e .1)
-meant-sort p (DStartResponse x s) a b f e = send-sort (DStartCnf (answer x)) a b f (known-if (ltb x results && eqb s p) (sendOf (DStartCnf (answer x)) a b) f e .1)
+meant-sort p (DStartResponse x s) a b f e = send-sort (DStartCnf (replyOf x)) a b f (known-if (ltb x results && eqb s p) (sendOf (DStartCnf (replyOf x)) a b) f e .1)
 meant-sort p DDataRequest a b f e = send-sort DData a b f e
 meant-sort p DEndRequest a b f e = send-sort DEnd a b f e
-meant-sort p (DEndResponse x) a b f e = send-sort (DEndCnf (answer x)) a b f (known-if (ltb x results) (sendOf (DEndCnf (answer x)) a b) f e .1)
+meant-sort p (DEndResponse x) a b f e = send-sort (DEndCnf (replyOf x)) a b f (known-if (ltb x results) (sendOf (DEndCnf (replyOf x)) a b) f e .1)
 meant-sort p (DAbortRequest o) a b f e = ap (λ (x : Ent). M.sortOf (x .kind)) (abort-is o a f e)
 meant-sort p (DStartForwardRequest q s v) a b f e = never f e
 meant-sort p (DStartForwardResponse s v) a b f e = never f e
@@ -147,18 +147,18 @@ meaning-sort p i fault f e = never f e
 -- ---- what a side writes means what the control sends
 
 -- bytes that were written are read back
-pub written : (K : Codec) (p : ℕ) (sd : Side) (i : Invoked) (a : Apdu) (b : Body) (f : Ent) → T (K .fits sd a b) → meant p i a b ≡ known f → Means K p sd (record { primitive = i; bytes = K .enc sd a b }) f
+pub written : (K : Codec) (p : ℕ) (sd : Side) (i : Invoked) (a : UserData) (b : Body) (f : Ent) → T (K .fits sd a b) → meant p i a b ≡ known f → Means K p sd (record { primitive = i; bytes = K .enc sd a b }) f
 written K p sd i a b f t e = ap (λ (x : Read). meaning p i x) (K .back sd a b t) ∙ e
 
 pub start-means : (p k : ℕ) (m : Bool) (b : Body) → T (ltb k routingClasses) → meant p (DStartRequest (qosAsked k) p) (Start m) b ≡ known (ent (DStart m) b)
 unfolding qosFits
 start-means p k m b t = yes (ltb k routingClasses && eqb p p) (known (ent (DStart m) b)) (ap (λ (x : Bool). x && eqb p p) (is-T (ltb k routingClasses) t) ∙ eq-eqb p p refl)
 
-pub answer-means : (p x s : ℕ) (b : Body) → T (ltb x results) → s ≡ p → meant p (DStartResponse x s) Send b ≡ known (ent (DStartCnf (answer x)) b)
-answer-means p x s b t e = yes (ltb x results && eqb s p) (known (ent (DStartCnf (answer x)) b)) (ap (λ (y : Bool). y && eqb s p) (is-T (ltb x results) t) ∙ eq-eqb s p e)
+pub answer-means : (p x s : ℕ) (b : Body) → T (ltb x results) → s ≡ p → meant p (DStartResponse x s) Send b ≡ known (ent (DStartCnf (replyOf x)) b)
+answer-means p x s b t e = yes (ltb x results && eqb s p) (known (ent (DStartCnf (replyOf x)) b)) (ap (λ (y : Bool). y && eqb s p) (is-T (ltb x results) t) ∙ eq-eqb s p e)
 
-pub end-means : (p x : ℕ) (b : Body) → T (ltb x results) → meant p (DEndResponse x) Send b ≡ known (ent (DEndCnf (answer x)) b)
-end-means p x b t = yes (ltb x results) (known (ent (DEndCnf (answer x)) b)) (is-T (ltb x results) t)
+pub end-means : (p x : ℕ) (b : Body) → T (ltb x results) → meant p (DEndResponse x) Send b ≡ known (ent (DEndCnf (replyOf x)) b)
+end-means p x b t = yes (ltb x results) (known (ent (DEndCnf (replyOf x)) b)) (is-T (ltb x results) t)
 
 pub user-means : (p x : ℕ) → T (ltb x userReasons) → meant p (DAbortRequest user) (AbortUser x) [] ≡ known (ent DAbort [])
 user-means p x t = yes (ltb x userReasons) (known (ent DAbort [])) (is-T (ltb x userReasons) t)

@@ -15,16 +15,16 @@ use Rattle.machine.proofs.Clauses.{no-instruction-outside}
 use Rattle.machine.specs.Record.{withTimer, withUser, enter}
 use Rattle.machine.specs.Outcome.{isNone}
 use Rattle.machine.specs.Outcome as O
-use Rattle.machine.specs.Apdus.{readable, abortFits}
-use Rattle.machine.specs.Event.{qosFits, serviceShapely, shapely}
+use Rattle.machine.specs.UserData.{userDataFits, abortFits}
+use Rattle.machine.specs.Event.{qosFits, serviceFits, eventFits}
 use Rattle.machine.specs.Exceptions.{tell, closes, excepts, noInstruction}
-use Rattle.machine.specs.Calls.{answer}
+use Rattle.machine.specs.Calls.{replyOf}
 use Rattle.machine.specs.Faults.{pduFault, sendFault, abortFault, startFits, turnedAway, indicationFault, responseFault, confirmationFault, firstFault}
 use Rattle.machine.specs.Primitives.{handed, abortTold, instructed, answered, reached}
 use Rattle.machine.specs.Step.{permitted, messageRefusal, refusalOf, acts, step}
 use Rattle.machine.specs.declared.record.Record.{Record}
-use Rattle.machine.specs.declared.event.Apdu.{Apdu}
-use Rattle.machine.specs.declared.event.Apdu.the-variants.{Absent, NotValid, Start, Send, AbortUser, AbortProvider, Forward, ForwardResponse}
+use Rattle.machine.specs.declared.event.UserData.{UserData}
+use Rattle.machine.specs.declared.event.UserData.the-variants.{Absent, NotValid, Start, Send, AbortUser, AbortProvider, Forward, ForwardResponse}
 use Rattle.machine.specs.declared.event.Qos.{Qos}
 use Rattle.machine.specs.declared.event.ServicePrimitive.{ServicePrimitive}
 use Rattle.machine.specs.declared.event.ServicePrimitive.the-variants.{DStartIndication, DStartConfirmation, DDataIndication, DEndIndication, DEndConfirmation, DAbortIndication, DPAbortIndication}
@@ -32,7 +32,7 @@ use Rattle.machine.specs.declared.event.Event.{Event}
 use Rattle.machine.specs.declared.event.Event.the-variants.{Service}
 use Rattle.machine.specs.declared.faults.Fault.{Fault}
 use Rattle.machine.specs.declared.faults.Fault.the-variants.{NoFault, NoInstruction, Quality, TurnedAway, Security, NotPermitted}
-use Rattle.machine.specs.declared.outcome.Refusal.the-variants.{None, Shape}
+use Rattle.machine.specs.declared.outcome.StepRefusal.the-variants.{None, Shape}
 use Rattle.machine.specs.declared.outcome.Invoked.{Invoked}
 use Rattle.machine.specs.declared.outcome.Invoked.the-variants.{Silent, DStartRequest, DStartResponse, DDataRequest, DEndRequest, DEndResponse, DAbortRequest, DStartForwardRequest, DStartForwardResponse}
 use Rattle.machine.specs.declared.outcome.Told.{Told}
@@ -82,7 +82,7 @@ module _ (K : Codec) (p : ℕ) where
   and-false false = refl
 
   -- the first fault is an unexpected state, or f
-  expected-rel : (sd : Side) (r : Record) (k : Primitive) (b : Body) (q : ServicePrimitive) (a : Apdu) (f : Fault) → Local p r
+  expected-rel : (sd : Side) (r : Record) (k : Primitive) (b : Body) (q : ServicePrimitive) (a : UserData) (f : Fault) → Local p r
       → (T (expects sd (r .control) k) → Out K p sd (happens K sd (answered r q a f) b) (C.acts (held (after (r .control) k) (r .highest)) (M.handed (isData k) b) nothing))
       → Meets sd r k b (answered r q a (cond (not (expects sd (r .control) k)) (NoInstruction true) f))
   unfolding answered
@@ -95,27 +95,27 @@ module _ (K : Codec) (p : ℕ) where
   -- ---- D-DATA, D-END
 
   data-rel : (sd : Side) (r : Record) (b : Body) → Local p r → Out K p sd (happens K sd (step sd r (Service DDataIndication Send)) b) (receives sd (lowOf r) (ent DData b))
-  unfolding step refusalOf shapely serviceShapely readable permitted messageRefusal acts reached firstFault sendFault pduFault answered instructed
+  unfolding step refusalOf eventFits serviceFits userDataFits permitted messageRefusal acts reached firstFault sendFault pduFault answered instructed
   data-rel sd r b h =
       expected-rel sd r DData b DDataIndication Send NoFault h
       (λ (v : T (expects sd (r .control) DData)). handed-rel sd r r DData MessageIndication b h v refl refl refl (h .request) refl)
 
   end-rel : (sd : Side) (r : Record) (b : Body) → Local p r → Out K p sd (happens K sd (step sd r (Service DEndIndication Send)) b) (receives sd (lowOf r) (ent DEnd b))
-  unfolding step refusalOf shapely serviceShapely readable permitted messageRefusal acts reached firstFault sendFault pduFault answered instructed
+  unfolding step refusalOf eventFits serviceFits userDataFits permitted messageRefusal acts reached firstFault sendFault pduFault answered instructed
   end-rel sd r b h =
       expected-rel sd r DEnd b DEndIndication Send NoFault h
       (λ (v : T (expects sd (r .control) DEnd)). handed-rel sd r r DEnd (EndIndication (r .control .dsc)) b h v refl refl refl (λ (x : T false). absurd x) refl)
 
   -- ---- D-END confirmation
 
-  ended-rel : (sd : Side) (r : Record) (x : ℕ) (b : Body) → Local p r → T (ltb x results) → Out K p sd (happens K sd (step sd r (Service (DEndConfirmation x) Send)) b) (receives sd (lowOf r) (ent (DEndCnf (answer x)) b))
-  unfolding step refusalOf shapely serviceShapely readable permitted messageRefusal acts reached firstFault sendFault pduFault answered instructed
-  ended-rel sd r x b h t = two (λ (y : ℕ). Out K p sd (happens K sd (step sd r (Service (DEndConfirmation y) Send)) b) (receives sd (lowOf r) (ent (DEndCnf (answer y)) b))) (go 0) (go 1) x t
+  ended-rel : (sd : Side) (r : Record) (x : ℕ) (b : Body) → Local p r → T (ltb x results) → Out K p sd (happens K sd (step sd r (Service (DEndConfirmation x) Send)) b) (receives sd (lowOf r) (ent (DEndCnf (replyOf x)) b))
+  unfolding step refusalOf eventFits serviceFits userDataFits permitted messageRefusal acts reached firstFault sendFault pduFault answered instructed
+  ended-rel sd r x b h t = two (λ (y : ℕ). Out K p sd (happens K sd (step sd r (Service (DEndConfirmation y) Send)) b) (receives sd (lowOf r) (ent (DEndCnf (replyOf y)) b))) (go 0) (go 1) x t
     where
-      go : (y : ℕ) → Meets sd r (DEndCnf (answer y)) b (answered r (DEndConfirmation y) Send (cond (not (expects sd (r .control) (DEndCnf (answer y)))) (NoInstruction true) NoFault))
+      go : (y : ℕ) → Meets sd r (DEndCnf (replyOf y)) b (answered r (DEndConfirmation y) Send (cond (not (expects sd (r .control) (DEndCnf (replyOf y)))) (NoInstruction true) NoFault))
       go y =
-          expected-rel sd r (DEndCnf (answer y)) b (DEndConfirmation y) Send NoFault h
-          (λ (v : T (expects sd (r .control) (DEndCnf (answer y)))). handed-rel sd r r (DEndCnf (answer y)) (EndConfirmation (r .control .dsc) y) b h v refl refl refl (λ (x : T (is (ended (answer y) (r .control .dsc) .state) StartReq)). absurd (ended-not K p (answer y) (r .control .dsc) x)) refl)
+          expected-rel sd r (DEndCnf (replyOf y)) b (DEndConfirmation y) Send NoFault h
+          (λ (v : T (expects sd (r .control) (DEndCnf (replyOf y)))). handed-rel sd r r (DEndCnf (replyOf y)) (EndConfirmation (r .control .dsc) y) b h v refl refl refl (λ (x : T (is (ended (replyOf y) (r .control .dsc) .state) StartReq)). absurd (ended-not K p (replyOf y) (r .control .dsc) x)) refl)
 
   -- ---- D-START confirmation
 
@@ -125,17 +125,17 @@ module _ (K : Codec) (p : ℕ) where
   confirmed-none false true g q d = refl
   confirmed-none false false g q d = absurd (subst T (sym d) tt)
 
-  confirmed-acts : (sd : Side) (r : Record) (x s : ℕ) (b : Body) → Local p r → s ≡ p → turnedAway x dsUser ≡ false → Meets sd r (DStartCnf (answer x)) b (reached sd r (DStartConfirmation x dsUser s noVersion) Send)
+  confirmed-acts : (sd : Side) (r : Record) (x s : ℕ) (b : Body) → Local p r → s ≡ p → turnedAway x dsUser ≡ false → Meets sd r (DStartCnf (replyOf x)) b (reached sd r (DStartConfirmation x dsUser s noVersion) Send)
   unfolding reached firstFault confirmationFault pduFault answered instructed
   confirmed-acts sd r x s b h e w =
-      let k = DStartCnf (answer x) in
+      let k = DStartCnf (replyOf x) in
       let f = cond (turnedAway x dsUser) TurnedAway (cond (not (eqb s (r .request))) (Security (eqb x accepted)) NoFault) in
       subst (λ (z : Bool). Meets sd r k b (answered r (DStartConfirmation x dsUser s noVersion) Send (cond (not (expects sd (r .control) k)) (cond z (responseFault r x dsUser s Send) (NoInstruction true)) f))) (sym (h .dialogue))
       (expected-rel sd r k b (DStartConfirmation x dsUser s noVersion) Send f h
       (λ (v : T (expects sd (r .control) k)).
       subst (λ (z : Fault). Out K p sd (happens K sd (answered r (DStartConfirmation x dsUser s noVersion) Send z) b) (C.acts (held (after (r .control) k) (r .highest)) [] nothing))
       (sym (confirmed-none (turnedAway x dsUser) (eqb s (r .request)) (Security (eqb x accepted)) w (eq-eqb s (r .request) (e ∙ sym (h .request (and-l (is (r .control .state) StartReq) (mayStart sd (r .control .dsc)) v))))))
-      (handed-rel sd r (withTimer r false) k (StartConfirmation (r .control .dsc) x) b h v refl refl refl (λ (y : T (is (started (answer x) (r .control .dsc) .state) StartReq)). absurd (started-not K p (answer x) (r .control .dsc) y)) refl)))
+      (handed-rel sd r (withTimer r false) k (StartConfirmation (r .control .dsc) x) b h v refl refl refl (λ (y : T (is (started (replyOf x) (r .control .dsc) .state) StartReq)). absurd (started-not K p (replyOf x) (r .control .dsc) y)) refl)))
 
   -- an event with the codes of its types is not refused
   step-fits : (sd : Side) (r : Record) (e : Event) → isNone (refusalOf sd r e) ≡ true → step sd r e ≡ acts sd r e
@@ -143,24 +143,24 @@ module _ (K : Codec) (p : ℕ) where
   step-fits sd r e t = ap (λ (b : Bool). cond b (acts sd r e) (O.refused (refusalOf sd r e) r)) t
 
   confirmed-fits : (sd : Side) (r : Record) (x s : ℕ) → ltb x startResults ≡ true → ltb s securityValues ≡ true → isNone (refusalOf sd r (Service (DStartConfirmation x dsUser s noVersion) Send)) ≡ true
-  unfolding refusalOf shapely serviceShapely readable permitted messageRefusal
+  unfolding refusalOf eventFits serviceFits userDataFits permitted messageRefusal
   confirmed-fits sd r x s t v = ap (λ (b : Bool). isNone (cond (not ((b && (true && (ltb s securityValues && true))) && true)) Shape None)) t ∙ ap (λ (b : Bool). isNone (cond (not ((b && true) && true)) Shape None)) v
 
-  confirmed-rel : (sd : Side) (r : Record) (x s : ℕ) (b : Body) → Local p r → T (ltb x results) → s ≡ p → ltb p securityValues ≡ true → Out K p sd (happens K sd (step sd r (Service (DStartConfirmation x dsUser s noVersion) Send)) b) (receives sd (lowOf r) (ent (DStartCnf (answer x)) b))
+  confirmed-rel : (sd : Side) (r : Record) (x s : ℕ) (b : Body) → Local p r → T (ltb x results) → s ≡ p → ltb p securityValues ≡ true → Out K p sd (happens K sd (step sd r (Service (DStartConfirmation x dsUser s noVersion) Send)) b) (receives sd (lowOf r) (ent (DStartCnf (replyOf x)) b))
   unfolding acts
   confirmed-rel sd r x s b h t e v =
-      two (λ (y : ℕ). Out K p sd (happens K sd (step sd r (Service (DStartConfirmation y dsUser s noVersion) Send)) b) (receives sd (lowOf r) (ent (DStartCnf (answer y)) b))) (go 0 refl refl) (go 1 refl refl) x t
+      two (λ (y : ℕ). Out K p sd (happens K sd (step sd r (Service (DStartConfirmation y dsUser s noVersion) Send)) b) (receives sd (lowOf r) (ent (DStartCnf (replyOf y)) b))) (go 0 refl refl) (go 1 refl refl) x t
     where
-      go : (y : ℕ) → ltb y startResults ≡ true → turnedAway y dsUser ≡ false → Out K p sd (happens K sd (step sd r (Service (DStartConfirmation y dsUser s noVersion) Send)) b) (receives sd (lowOf r) (ent (DStartCnf (answer y)) b))
+      go : (y : ℕ) → ltb y startResults ≡ true → turnedAway y dsUser ≡ false → Out K p sd (happens K sd (step sd r (Service (DStartConfirmation y dsUser s noVersion) Send)) b) (receives sd (lowOf r) (ent (DStartCnf (replyOf y)) b))
       go y f w =
-          subst (λ (z : Outcome). Out K p sd (happens K sd z b) (receives sd (lowOf r) (ent (DStartCnf (answer y)) b)))
+          subst (λ (z : Outcome). Out K p sd (happens K sd z b) (receives sd (lowOf r) (ent (DStartCnf (replyOf y)) b)))
           (sym (step-fits sd r (Service (DStartConfirmation y dsUser s noVersion) Send) (confirmed-fits sd r y s f (ap (λ (a : ℕ). ltb a securityValues) e ∙ v))))
           (confirmed-acts sd r y s b h e w)
 
   -- ---- the carrier turns a start away
 
   pub away-rel : (sd : Side) (r : Record) → Local p r → Out K p sd (happens K sd (step sd r (Service rejects Absent)) []) (receives sd (lowOf r) (ent DTurnedAway []))
-  unfolding step refusalOf shapely serviceShapely readable permitted messageRefusal acts reached firstFault confirmationFault answered answer
+  unfolding step refusalOf eventFits serviceFits userDataFits permitted messageRefusal acts reached firstFault confirmationFault answered replyOf
   away-rel sd r h =
       subst (λ (z : Bool). Meets sd r DTurnedAway [] (answered r rejects Absent (cond (not (expects sd (r .control) DTurnedAway)) (cond z (responseFault r transient dsProvider noSecurity Absent) (NoInstruction true)) TurnedAway))) (sym (h .dialogue))
       (expected-rel sd r DTurnedAway [] rejects Absent TurnedAway h
@@ -179,7 +179,7 @@ module _ (K : Codec) (p : ℕ) where
       go true = closes-rel K p sd r Untold b h
       go false = closes-rel K p sd r (tell r (ProviderAbortIndication protocolError)) b h
 
-  ends-rel : (sd : Side) (r : Record) (b : Body) (q : ServicePrimitive) (a : Apdu) (t : Told) → Local p r → instructed r q a ≡ closes r t → Closes sd r b (answered r q a (cond (not (not (isIdle (r .control)))) (NoInstruction false) NoFault))
+  ends-rel : (sd : Side) (r : Record) (b : Body) (q : ServicePrimitive) (a : UserData) (t : Told) → Local p r → instructed r q a ≡ closes r t → Closes sd r b (answered r q a (cond (not (not (isIdle (r .control)))) (NoInstruction false) NoFault))
   unfolding answered
   ends-rel sd r b q a t h e = go (isIdle (r .control))
     where
@@ -188,14 +188,14 @@ module _ (K : Codec) (p : ℕ) where
       go false = subst (λ (z : Outcome). Out K p sd (happens K sd z b) (C.acts (held closed (r .highest)) [] nothing)) (sym e) (closes-rel K p sd r t b h)
 
   pub p-abort-rel : (sd : Side) (r : Record) → Local p r → Out K p sd (happens K sd (step sd r (Service DPAbortIndication Absent)) []) (receives sd (lowOf r) (ent DPAbort []))
-  unfolding step refusalOf shapely serviceShapely readable permitted messageRefusal acts reached firstFault abortFault instructed
+  unfolding step refusalOf eventFits serviceFits userDataFits permitted messageRefusal acts reached firstFault abortFault instructed
   p-abort-rel sd r h = ends-rel sd r [] DPAbortIndication Absent (tell r (ProviderAbortIndication communicationServiceFailure)) h refl
 
-  abort-fits : (sd : Side) (r : Record) (o : ℕ) (a : Apdu) → ltb o originators && readable a ≡ true → isNone (refusalOf sd r (Service (DAbortIndication o) a)) ≡ true
-  unfolding refusalOf shapely serviceShapely permitted messageRefusal
+  abort-fits : (sd : Side) (r : Record) (o : ℕ) (a : UserData) → ltb o originators && userDataFits a ≡ true → isNone (refusalOf sd r (Service (DAbortIndication o) a)) ≡ true
+  unfolding refusalOf eventFits serviceFits permitted messageRefusal
   abort-fits sd r o a e = ap (λ (z : Bool). isNone (cond (not z) Shape None)) e
 
-  abort-rel : (sd : Side) (r : Record) (o : ℕ) (a : Apdu) (b : Body) → Local p r → ltb o originators && readable a ≡ true → abortFits o a ≡ true → Out K p sd (happens K sd (step sd r (Service (DAbortIndication o) a)) b) (receives sd (lowOf r) (ent DAbort []))
+  abort-rel : (sd : Side) (r : Record) (o : ℕ) (a : UserData) (b : Body) → Local p r → ltb o originators && userDataFits a ≡ true → abortFits o a ≡ true → Out K p sd (happens K sd (step sd r (Service (DAbortIndication o) a)) b) (receives sd (lowOf r) (ent DAbort []))
   unfolding acts reached firstFault abortFault instructed
   abort-rel sd r o a b h s f =
       subst (λ (z : Outcome). Closes sd r b z) (sym (step-fits sd r (Service (DAbortIndication o) a) (abort-fits sd r o a s)))
@@ -235,7 +235,7 @@ module _ (K : Codec) (p : ℕ) where
       (offered-rel Ground r q s m (isIdle (r .control)) (mayStart Air m) b h refl (λ (v : T (isIdle (r .control) && mayStart Air m)). v))
 
   start-fits : (sd : Side) (r : Record) (q : Qos) (s : ℕ) (m : Bool) → ltb s securityValues ≡ true → isNone (refusalOf sd r (Service (indication sd q s) (Start m))) ≡ true
-  unfolding refusalOf shapely serviceShapely readable permitted messageRefusal
+  unfolding refusalOf eventFits serviceFits userDataFits permitted messageRefusal
   start-fits Air r q s m v = ap (λ (b : Bool). isNone (cond (not ((b && true) && true)) Shape None)) v
   start-fits Ground r q s m v = ap (λ (b : Bool). isNone (cond (not ((b && true) && true)) Shape None)) v
 
@@ -248,14 +248,14 @@ module _ (K : Codec) (p : ℕ) where
 
   -- ---- every entry that means something
 
-  abbrev Received : Side → Record → Invoked → Apdu → Body → Ent → Type 0
+  abbrev Received : Side → Record → Invoked → UserData → Body → Ent → Type 0
   Received sd r i a b f = Out K p sd (happens K sd (step sd r (Service (arrives sd i) a)) b) (receives sd (lowOf r) f)
 
   -- what is known of the entry is what it means
-  at-known : (sd : Side) (r : Record) (i : Invoked) (a : Apdu) (b : Body) (g f : Ent) → known g ≡ known f → Received sd r i a b g → Received sd r i a b f
+  at-known : (sd : Side) (r : Record) (i : Invoked) (a : UserData) (b : Body) (g f : Ent) → known g ≡ known f → Received sd r i a b g → Received sd r i a b f
   at-known sd r i a b g f e x = subst (λ (z : Ent). Received sd r i a b z) (ap entOf e) x
 
-  send-core : (sd : Side) (r : Record) (i : Invoked) (k : Primitive) (a : Apdu) (b : Body) (f : Ent) → Received sd r i Send b (ent k b) → sendOf k a b ≡ known f → Received sd r i a b f
+  send-core : (sd : Side) (r : Record) (i : Invoked) (k : Primitive) (a : UserData) (b : Body) (f : Ent) → Received sd r i Send b (ent k b) → sendOf k a b ≡ known f → Received sd r i a b f
   send-core sd r i k Absent b f x e = never f e
   send-core sd r i k NotValid b f x e = never f e
   send-core sd r i k (Start m) b f x e = never f e
@@ -265,7 +265,7 @@ module _ (K : Codec) (p : ℕ) where
   send-core sd r i k Forward b f x e = never f e
   send-core sd r i k (ForwardResponse y) b f x e = never f e
 
-  start-core : (sd : Side) (r : Record) (q : Qos) (s : ℕ) (a : Apdu) (b : Body) (f : Ent) → Local p r → qosFits q ≡ true → s ≡ p → ltb p securityValues ≡ true → startOf a b ≡ known f → Received sd r (DStartRequest q s) a b f
+  start-core : (sd : Side) (r : Record) (q : Qos) (s : ℕ) (a : UserData) (b : Body) (f : Ent) → Local p r → qosFits q ≡ true → s ≡ p → ltb p securityValues ≡ true → startOf a b ≡ known f → Received sd r (DStartRequest q s) a b f
   start-core sd r q s Absent b f h t e v k = never f k
   start-core sd r q s NotValid b f h t e v k = never f k
   start-core sd r q s (Start m) b f h t e v k = at-known sd r (DStartRequest q s) (Start m) b (ent (DStart m) b) f k (start-rel sd r q s m b h t e v)
@@ -275,8 +275,8 @@ module _ (K : Codec) (p : ℕ) where
   start-core sd r q s Forward b f h t e v k = never f k
   start-core sd r q s (ForwardResponse y) b f h t e v k = never f k
 
-  abort-core : (sd : Side) (r : Record) (o : ℕ) (a : Apdu) (b : Body) (f : Ent) → Local p r → abortOf o a ≡ known f → Received sd r (DAbortRequest o) a b f
-  unfolding readable
+  abort-core : (sd : Side) (r : Record) (o : ℕ) (a : UserData) (b : Body) (f : Ent) → Local p r → abortOf o a ≡ known f → Received sd r (DAbortRequest o) a b f
+  unfolding userDataFits
   abort-core sd r o Absent b f h k = never f k
   abort-core sd r o NotValid b f h k = never f k
   abort-core sd r o (Start m) b f h k = never f k
@@ -294,19 +294,19 @@ module _ (K : Codec) (p : ℕ) where
   abort-core sd r o Forward b f h k = never f k
   abort-core sd r o (ForwardResponse x) b f h k = never f k
 
-  core : (sd : Side) (r : Record) (i : Invoked) (a : Apdu) (b : Body) (f : Ent) → Local p r → ltb p securityValues ≡ true → meant p i a b ≡ known f → Received sd r i a b f
+  core : (sd : Side) (r : Record) (i : Invoked) (a : UserData) (b : Body) (f : Ent) → Local p r → ltb p securityValues ≡ true → meant p i a b ≡ known f → Received sd r i a b f
   core sd r Silent a b f h v k = never f k
   core sd r (DStartRequest q s) a b f h v k =
       let w = known-if (qosFits q && eqb s p) (startOf a b) f k in
       start-core sd r q s a b f h (is-T (qosFits q) (and-l (qosFits q) (eqb s p) (w .0))) (eqb→eq s p (and-r (qosFits q) (eqb s p) (w .0))) v (w .1)
   core sd r (DStartResponse x s) a b f h v k =
-      let w = known-if (ltb x results && eqb s p) (sendOf (DStartCnf (answer x)) a b) f k in
-      send-core sd r (DStartResponse x s) (DStartCnf (answer x)) a b f (confirmed-rel sd r x s b h (and-l (ltb x results) (eqb s p) (w .0)) (eqb→eq s p (and-r (ltb x results) (eqb s p) (w .0))) v) (w .1)
+      let w = known-if (ltb x results && eqb s p) (sendOf (DStartCnf (replyOf x)) a b) f k in
+      send-core sd r (DStartResponse x s) (DStartCnf (replyOf x)) a b f (confirmed-rel sd r x s b h (and-l (ltb x results) (eqb s p) (w .0)) (eqb→eq s p (and-r (ltb x results) (eqb s p) (w .0))) v) (w .1)
   core sd r DDataRequest a b f h v k = send-core sd r DDataRequest DData a b f (data-rel sd r b h) k
   core sd r DEndRequest a b f h v k = send-core sd r DEndRequest DEnd a b f (end-rel sd r b h) k
   core sd r (DEndResponse x) a b f h v k =
-      let w = known-if (ltb x results) (sendOf (DEndCnf (answer x)) a b) f k in
-      send-core sd r (DEndResponse x) (DEndCnf (answer x)) a b f (ended-rel sd r x b h (w .0)) (w .1)
+      let w = known-if (ltb x results) (sendOf (DEndCnf (replyOf x)) a b) f k in
+      send-core sd r (DEndResponse x) (DEndCnf (replyOf x)) a b f (ended-rel sd r x b h (w .0)) (w .1)
   core sd r (DAbortRequest o) a b f h v k = abort-core sd r o a b f h k
   core sd r (DStartForwardRequest q s w) a b f h v k = never f k
   core sd r (DStartForwardResponse s w) a b f h v k = never f k

@@ -1,6 +1,6 @@
--- A machine as the carrier sees it, and the steps that a run is made of: document 01, "The carrier in the pair statement". What the steps do stands in
--- `Numbered`. It is said once, over any machine that can stand at an end. Same version, same security, the right quality of service
--- and full buffers are properties of the machine that is put there, not of the carrier.
+-- A machine as the carrier sees it, and the steps that a run is made of: document 01, "The carrier in the pair statement". What the steps
+-- do stands in `Numbered`. It is said once, over any machine that can stand at an end. Same version, same security, the right quality of
+-- service and full buffers are properties of the machine that is put there, not of the carrier.
 use Prim.Native.Nat.{ℕ}
 use mathlib.Core.Bool.{Bool, true, false, not, _&&_}
 use mathlib.Core.List.{List}

@@ -1,6 +1,6 @@
--- Two ground ends joined by the carrier (document 02, E8 and E9). The steps are those of Numbered. A forward request counts as a start, and between two ground ends it
--- is the only one, so the machine that is put here has no other; all starts come from one end, `here`. A start may be turned away while its end is in START-REQ or
--- FORWARD.
+-- Two ground ends joined by the carrier (document 02, E8 and E9). The steps are those of Numbered. A forward request counts as a start, and
+-- between two ground ends it is the only one, so the machine that is put here has no other; all starts come from one end, `here`. A start
+-- may be turned away while its end is in START-REQ or FORWARD.
 use Prim.Native.Nat.{ℕ}
 use mathlib.Core.Bool.{Bool, true, false, cond, _&&_, _||_}
 use mathlib.Core.List.{List, [], _∷_}

@@ -4,8 +4,8 @@ pub use Rattle.control.specs.declared.Side.the-variants.{Air, Ground}
 pub use Rattle.control.specs.declared.State.{State}
 pub use Rattle.control.specs.declared.State.the-variants.{Idle, StartReq, StartInd, Dialogue, End, Forward}
 pub use Rattle.control.specs.declared.Control.{Control}
-pub use Rattle.control.specs.declared.Answer.{Answer}
-pub use Rattle.control.specs.declared.Answer.the-variants.{Accepted, Rejected}
+pub use Rattle.control.specs.declared.Reply.{Reply}
+pub use Rattle.control.specs.declared.Reply.the-variants.{Accepted, Rejected}
 pub use Rattle.control.specs.declared.Call.{Call}
 pub use Rattle.control.specs.declared.Call.the-variants.{StartRequest, StartResponse, MessageRequest, EndRequest, EndResponse, UserAbort, TimerExpiry, SystemError}
 pub use Rattle.control.specs.declared.Primitive.{Primitive}

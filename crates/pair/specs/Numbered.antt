@@ -1,5 +1,5 @@
--- Two ends joined by two lines, one each way, first in first out: document 01, "The carrier in the pair statement", as document 02, E9, words it. The records hold
--- a dialogue number and the entries carry one; an entry of an old dialogue may be handed over after a new start.
+-- Two ends joined by two lines, one each way, first in first out: document 01, "The carrier in the pair statement", as document 02, E9,
+-- words it. The records hold a dialogue number and the entries carry one; an entry of an old dialogue may be handed over after a new start.
 use Prim.Native.Nat.{ℕ, zero, suc, _≤_}
 use mathlib.Core.Path.{_≡_}
 use mathlib.Core.Bool.{Bool, true, false, not, cond, _&&_, _||_}
@@ -15,8 +15,8 @@ pub record NMachine : Type 1 where
   pub holds : at .R → ℕ
   pub carries : at .E → ℕ
 
--- a party is one end: its record; the line that leaves it, oldest entry first; the messages that it took and that it handed to its user, by the number of
--- the dialogue; every job that it ever took
+-- a party is one end: its record; the line that leaves it, oldest entry first; the messages that it took and that it handed to its user, by
+-- the number of the dialogue; every job that it ever took
 pub record NParty (m : NMachine) : Type 0 where
   pub rec : m .at .R
   pub line : List (m .at .E)
@@ -61,7 +61,8 @@ module _ (m : NMachine) where
   abbrev pub nLine : NParty m → List (m .at .E) → NParty m
   nLine x l = record { rec = x .rec; line = l; taken = x .taken; given = x .given; jobs = x .jobs }
 
-  -- when an end invokes D-ABORT, the entries that it sent earlier in that dialogue, n, and that are not yet delivered may be lost, youngest first, all but `keep`
+  -- when an end invokes D-ABORT, the entries that it sent earlier in that dialogue, n, and that are not yet delivered may be lost, youngest
+  -- first, all but `keep`
   abbrev pub trim : ℕ → ℕ → List (m .at .E) → List (m .at .E)
   trim n zero [] = []
   trim n (suc k) [] = []
@@ -120,7 +121,8 @@ module _ (m : NMachine) where
   nHandedOver sd s [] keep = s
   nHandedOver sd s (e ∷ l) keep = cond (discards (m .at) (s .here .rec) e) (nOff s l) (nDid (nOff s l) (m .at .receive sd (s .here .rec) e) keep)
 
-  -- while the starting end is in START-REQ, the carrier removes its undelivered start, the one of the number that the end holds, and turns it away at once
+  -- while the starting end is in START-REQ, the carrier removes its undelivered start, the one of the number that the end holds, and turns
+  -- it away at once
   abbrev pub startOf : ℕ → m .at .E → Bool
   startOf n e = isStart (m .at) e && eqb (m .carries e) n
 
@@ -141,7 +143,8 @@ module _ (m : NMachine) where
   abbrev pub nTurnedAway : Side → NSys m → ℕ → NSys m
   nTurnedAway sd s keep = cond (nMayTurnAway s) (nDid (nRecalled s) (m .at .away sd (s .here .rec)) keep) s
 
-  -- the carrier fails, empties both lines and gives D-P-ABORT to each end that is not IDLE. That breaks each dialogue that an end holds or that has an entry on a line
+  -- the carrier fails, empties both lines and gives D-P-ABORT to each end that is not IDLE. That breaks each dialogue that an end holds or
+  -- that has an entry on a line
   abbrev pub onLine : List (m .at .E) → ℕ → Bool
   onLine [] j = false
   onLine (e ∷ l) j = eqb (m .carries e) j || onLine l j

@@ -34,8 +34,8 @@ callerOf Ground = aircraft
 abbrev pub dsUser : ℕ
 dsUser = 0
 
--- what a primitive is at the other end, whose side is sd (nothing silent is on a line). A forward comes from a facility, and is answered by "rejected
--- (permanent)"; the D-START of a dialogue carries no version here
+-- what a primitive is at the other end, whose side is sd (nothing silent is on a line). A forward comes from a facility, and is answered by
+-- "rejected (permanent)"; the D-START of a dialogue carries no version here
 abbrev pub arrives : Side → Invoked → ServicePrimitive
 arrives sd Silent = DPAbortIndication
 arrives sd (DStartRequest q s) = DStartIndication (callerOf sd) s q noVersion

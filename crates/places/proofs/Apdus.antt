@@ -26,8 +26,8 @@ use Rattle.apdu.specs.Headings.{triple, dateFrom, dateTo, timeFrom, timeTo, cha
 use Rattle.apdu.specs.Pdus.{lastOf, kindOf}
 use Rattle.apdu.specs.Encoding.{padding}
 use Rattle.apdu.specs.Reading.{onField, onData, onTaken, onTriple, onHeading, onForward, onLead, optionalAt, partAt, spanTo, partsWithin, partsAt, withAdditions, dataWithin, dataAt, tripleAt, headingAt, forwardWithin, forwardAt, modeValue, modeAt, kindMode, leadingAt, tailAt, endedAt, restWithin, restAt, apduWithin, apduAt, wholeWithin, wholeData, wholeForwardWithin, wholeForward}
-use Rattle.apdu.specs.declared.Side.{Side}
-use Rattle.apdu.specs.declared.Side.the-variants.{Air, Ground}
+use Rattle.apdu.specs.declared.PduType.{PduType}
+use Rattle.apdu.specs.declared.PduType.the-variants.{AircraftPdus, GroundPdus}
 use Rattle.apdu.specs.declared.Kind.{Kind}
 use Rattle.apdu.specs.declared.Kind.the-variants as kind
 use Rattle.apdu.specs.declared.Data.{Data}
@@ -46,8 +46,8 @@ use Rattle.apdu.specs.declared.Taken.{Taken}
 use Rattle.apdu.specs.declared.Taken.the-variants as taken
 use Rattle.apdu.specs.declared.Lead.{Lead}
 use Rattle.apdu.specs.declared.Lead.the-variants as lead
-use Rattle.apdu.specs.declared.Answer.{Answer}
-use Rattle.apdu.specs.declared.Answer.the-variants as answer
+use Rattle.apdu.specs.declared.Decoded.{Decoded}
+use Rattle.apdu.specs.declared.Decoded.the-variants as decoded
 use Rattle.apdu.proofs.Bounds.{never}
 
 -- ---- what the answers tell
@@ -142,31 +142,31 @@ mode-value-sound l at h =
     by false v n true p = refl
     by false v n false p = never (cc)
 
-pub mode-sound : (side : Side) (l : List ℕ) (at : ℕ) → at ≤ length l → Sound seenField (λ (x : List ℕ). modeAt side x at) l at
+pub mode-sound : (pdus : PduType) (l : List ℕ) (at : ℕ) → at ≤ length l → Sound seenField (λ (x : List ℕ). modeAt pdus x at) l at
 unfolding modeAt
-mode-sound Ground l at h = sound-value seenField (Value 0 at) l at h refl
-mode-sound Air l at h =
+mode-sound GroundPdus l at h = sound-value seenField (Value 0 at) l at h refl
+mode-sound AircraftPdus l at h =
     then-sound (λ (x : List ℕ). bitField x at 1) (λ (p n : ℕ) (x : List ℕ). cond (eqb p 0) (Value 0 n) (modeValue x n)) l at (bit-sound l at 1 h)
     (λ (p n : ℕ) (e : bitField l at 1 ≡ Value p n) (a : at ≤ n) (b : n ≤ length l).
     sound-cond seenField (eqb p 0) (λ (x : List ℕ). Value 0 n) (λ (x : List ℕ). modeValue x n) l n
     (λ (q : eqb p 0 ≡ true). sound-value seenField (Value 0 n) l n b refl) (λ (q : eqb p 0 ≡ false). mode-value-sound l n b))
 
-pub kind-mode-sound : (side : Side) (l : List ℕ) (c : Kind) (at : ℕ) → at ≤ length l → Sound seenField (λ (x : List ℕ). kindMode side x c at) l at
+pub kind-mode-sound : (pdus : PduType) (l : List ℕ) (c : Kind) (at : ℕ) → at ≤ length l → Sound seenField (λ (x : List ℕ). kindMode pdus x c at) l at
 unfolding kindMode
-kind-mode-sound side l kind.AbortUser at h = sound-value seenField (Value 0 at) l at h refl
-kind-mode-sound side l kind.AbortProvider at h = sound-value seenField (Value 0 at) l at h refl
-kind-mode-sound side l kind.Start at h = mode-sound side l at h
-kind-mode-sound side l kind.Send at h = sound-value seenField (Value 0 at) l at h refl
-kind-mode-sound side l kind.Forward at h = sound-value seenField (Value 0 at) l at h refl
-kind-mode-sound side l kind.ForwardResponse at h = sound-value seenField (Value 0 at) l at h refl
+kind-mode-sound pdus l kind.AbortUser at h = sound-value seenField (Value 0 at) l at h refl
+kind-mode-sound pdus l kind.AbortProvider at h = sound-value seenField (Value 0 at) l at h refl
+kind-mode-sound pdus l kind.Start at h = mode-sound pdus l at h
+kind-mode-sound pdus l kind.Send at h = sound-value seenField (Value 0 at) l at h refl
+kind-mode-sound pdus l kind.Forward at h = sound-value seenField (Value 0 at) l at h refl
+kind-mode-sound pdus l kind.ForwardResponse at h = sound-value seenField (Value 0 at) l at h refl
 
-pub lead-sound : (side : Side) (l : List ℕ) (at : ℕ) → at ≤ length l → Sound seenLead (λ (x : List ℕ). leadingAt side x at) l at
+pub lead-sound : (pdus : PduType) (l : List ℕ) (at : ℕ) → at ≤ length l → Sound seenLead (λ (x : List ℕ). leadingAt pdus x at) l at
 unfolding leadingAt
-lead-sound side l at h =
-    lead-field (λ (x : List ℕ). extensibleIndex x at (lastOf side)) (λ (i p : ℕ) (x : List ℕ). onField lead.Refused (kindMode side x (kindOf i) p) (λ (m q : ℕ). lead.Is (kindOf i) m q)) l at (index-sound l at (lastOf side) h)
-    (λ (i p : ℕ) (e : extensibleIndex l at (lastOf side) ≡ Value i p) (a : at ≤ p) (b : p ≤ length l).
-    lead-field (λ (x : List ℕ). kindMode side x (kindOf i) p) (λ (m q : ℕ) (x : List ℕ). lead.Is (kindOf i) m q) l p (kind-mode-sound side l (kindOf i) p b)
-    (λ (m q : ℕ) (f : kindMode side l (kindOf i) p ≡ Value m q) (c : p ≤ q) (d : q ≤ length l). sound-value seenLead (lead.Is (kindOf i) m q) l q d refl))
+lead-sound pdus l at h =
+    lead-field (λ (x : List ℕ). extensibleIndex x at (lastOf pdus)) (λ (i p : ℕ) (x : List ℕ). onField lead.Refused (kindMode pdus x (kindOf i) p) (λ (m q : ℕ). lead.Is (kindOf i) m q)) l at (index-sound l at (lastOf pdus) h)
+    (λ (i p : ℕ) (e : extensibleIndex l at (lastOf pdus) ≡ Value i p) (a : at ≤ p) (b : p ≤ length l).
+    lead-field (λ (x : List ℕ). kindMode pdus x (kindOf i) p) (λ (m q : ℕ) (x : List ℕ). lead.Is (kindOf i) m q) l p (kind-mode-sound pdus l (kindOf i) p b)
+    (λ (m q : ℕ) (f : kindMode pdus l (kindOf i) p ≡ Value m q) (c : p ≤ q) (d : q ≤ length l). sound-value seenLead (lead.Is (kindOf i) m q) l q d refl))
 
 -- ---- the tail: the first padding bit that is 1, or the first bit behind the padding
 
@@ -227,20 +227,20 @@ tail-refusing l at b h r e = by (bitField l at (padding at)) refl
 
 -- ---- the whole
 
-abbrev pub seenAnswer : Answer → Seen
-seenAnswer (answer.Is a) = went 0
-seenAnswer (answer.Refused r) = refused r
+abbrev pub seenAnswer : Decoded → Seen
+seenAnswer (decoded.Is a) = went 0
+seenAnswer (decoded.Refused r) = refused r
 
-answer-field : (f : List ℕ → Field) (k : ℕ → ℕ → List ℕ → Answer) (l : List ℕ) (at : ℕ) → Sound seenField f l at → ((v n : ℕ) → f l ≡ Value v n → at ≤ n → n ≤ length l → Refusing seenAnswer (k v n) l n)
-    → Refusing seenAnswer (λ (x : List ℕ). onField answer.Refused (f x) (λ (v n : ℕ). k v n x)) l at
+answer-field : (f : List ℕ → Field) (k : ℕ → ℕ → List ℕ → Decoded) (l : List ℕ) (at : ℕ) → Sound seenField f l at → ((v n : ℕ) → f l ≡ Value v n → at ≤ n → n ≤ length l → Refusing seenAnswer (k v n) l n)
+    → Refusing seenAnswer (λ (x : List ℕ). onField decoded.Refused (f x) (λ (v n : ℕ). k v n x)) l at
 answer-field f k l at s on =
-    refusing-bind seenField seenAnswer answer.Refused f (λ (x : Field) (y : List ℕ). onField answer.Refused x (λ (v n : ℕ). k v n y)) l at (λ (r : Refusal). refl) hands s (go (f l) refl)
+    refusing-bind seenField seenAnswer decoded.Refused f (λ (x : Field) (y : List ℕ). onField decoded.Refused x (λ (v n : ℕ). k v n y)) l at (λ (r : Refusal). refl) hands s (go (f l) refl)
   where
-    hands : (x : Field) (r : Refusal) (y : List ℕ) → seenField x ≡ refused r → onField answer.Refused x (λ (v n : ℕ). k v n y) ≡ answer.Refused r
+    hands : (x : Field) (r : Refusal) (y : List ℕ) → seenField x ≡ refused r → onField decoded.Refused x (λ (v n : ℕ). k v n y) ≡ decoded.Refused r
     hands (Value v n) r y e = clash n r e
-    hands (Refused q) r y e = ap answer.Refused (one-refusal q r e)
+    hands (Refused q) r y e = ap decoded.Refused (one-refusal q r e)
 
-    go : (x : Field) → f l ≡ x → (n : ℕ) → seenField x ≡ went n → at ≤ n → n ≤ length l → Refusing seenAnswer (λ (y : List ℕ). onField answer.Refused x (λ (v j : ℕ). k v j y)) l n
+    go : (x : Field) → f l ≡ x → (n : ℕ) → seenField x ≡ went n → at ≤ n → n ≤ length l → Refusing seenAnswer (λ (y : List ℕ). onField decoded.Refused x (λ (v j : ℕ). k v j y)) l n
     go (Value v j) e n q a b = let i : j ≡ n = one-place j n q in subst (λ (z : ℕ). Refusing seenAnswer (k v j) l z) i (on v j e (omega arith) (omega arith))
     go (Refused r) e n q a b = clash n r (sym q)
 
@@ -267,15 +267,15 @@ behind-refusing {A} seen up says made place is l at b h r e = go (tailAt l at) r
 
 ended-refusing : (l : List ℕ) (at : ℕ) (a : Apdu) → Bits l → at ≤ length l → Refusing seenAnswer (λ (x : List ℕ). endedAt x at a) l at
 unfolding endedAt
-ended-refusing l at a b h = behind-refusing seenAnswer answer.Refused (λ (r : Refusal). refl) (answer.Is a) 0 refl l at b h
+ended-refusing l at a b h = behind-refusing seenAnswer decoded.Refused (λ (r : Refusal). refl) (decoded.Is a) 0 refl l at b h
 
 data-refusing : (l : List ℕ) (at : ℕ) (k : Data → Apdu) → Bits l → at ≤ length l → Refusing seenAnswer (λ (x : List ℕ). onData (dataAt x at) (λ (d : Data) (next : ℕ). endedAt x next (k d))) l at
 data-refusing l at k b h =
-    refusing-bind seenTaken seenAnswer answer.Refused (λ (x : List ℕ). dataAt x at) (λ (t : Taken) (y : List ℕ). onData t (λ (d : Data) (next : ℕ). endedAt y next (k d))) l at (λ (r : Refusal). refl) hands (data-sound l at h) (go (dataAt l at) refl)
+    refusing-bind seenTaken seenAnswer decoded.Refused (λ (x : List ℕ). dataAt x at) (λ (t : Taken) (y : List ℕ). onData t (λ (d : Data) (next : ℕ). endedAt y next (k d))) l at (λ (r : Refusal). refl) hands (data-sound l at h) (go (dataAt l at) refl)
   where
-    hands : (t : Taken) (r : Refusal) (y : List ℕ) → seenTaken t ≡ refused r → onData t (λ (d : Data) (next : ℕ). endedAt y next (k d)) ≡ answer.Refused r
+    hands : (t : Taken) (r : Refusal) (y : List ℕ) → seenTaken t ≡ refused r → onData t (λ (d : Data) (next : ℕ). endedAt y next (k d)) ≡ decoded.Refused r
     hands (taken.Is d n) r y e = clash n r e
-    hands (taken.Refused q) r y e = ap answer.Refused (one-refusal q r e)
+    hands (taken.Refused q) r y e = ap decoded.Refused (one-refusal q r e)
 
     go : (t : Taken) → dataAt l at ≡ t → (n : ℕ) → seenTaken t ≡ went n → at ≤ n → n ≤ length l → Refusing seenAnswer (λ (y : List ℕ). onData t (λ (d : Data) (next : ℕ). endedAt y next (k d))) l n
     go (taken.Is d j) e n q a w = let i : j ≡ n = one-place j n q in subst (λ (z : ℕ). Refusing seenAnswer (λ (y : List ℕ). endedAt y j (k d)) l z) i (ended-refusing l j (k d) b (omega arith))
@@ -370,15 +370,15 @@ forward-sound l at h =
     forward-field (λ (x : List ℕ). stringAt x p bit 0 messageMost) _ l p (string-sound l p bit 0 messageMost w)
     (λ (n m : ℕ) (f : stringAt l p bit 0 messageMost ≡ Value n m) (u₂ : p ≤ m) (w₂ : m ≤ length l). sound-value seenForward (forwarded.Is (record { heading = v; message = spanTo bit n m }) m) l m w₂ refl))
 
-forward-refusing : (l : List ℕ) (at : ℕ) → Bits l → at ≤ length l → Refusing seenAnswer (λ (x : List ℕ). onForward answer.Refused (forwardAt x at) (λ (f : Forward) (next : ℕ). endedAt x next (apdu.Forward f))) l at
+forward-refusing : (l : List ℕ) (at : ℕ) → Bits l → at ≤ length l → Refusing seenAnswer (λ (x : List ℕ). onForward decoded.Refused (forwardAt x at) (λ (f : Forward) (next : ℕ). endedAt x next (apdu.Forward f))) l at
 forward-refusing l at b h =
-    refusing-bind seenForward seenAnswer answer.Refused (λ (x : List ℕ). forwardAt x at) (λ (t : Forwarded) (y : List ℕ). onForward answer.Refused t (λ (f : Forward) (next : ℕ). endedAt y next (apdu.Forward f))) l at (λ (r : Refusal). refl) hands (forward-sound l at h) (go (forwardAt l at) refl)
+    refusing-bind seenForward seenAnswer decoded.Refused (λ (x : List ℕ). forwardAt x at) (λ (t : Forwarded) (y : List ℕ). onForward decoded.Refused t (λ (f : Forward) (next : ℕ). endedAt y next (apdu.Forward f))) l at (λ (r : Refusal). refl) hands (forward-sound l at h) (go (forwardAt l at) refl)
   where
-    hands : (t : Forwarded) (r : Refusal) (y : List ℕ) → seenForward t ≡ refused r → onForward answer.Refused t (λ (f : Forward) (next : ℕ). endedAt y next (apdu.Forward f)) ≡ answer.Refused r
+    hands : (t : Forwarded) (r : Refusal) (y : List ℕ) → seenForward t ≡ refused r → onForward decoded.Refused t (λ (f : Forward) (next : ℕ). endedAt y next (apdu.Forward f)) ≡ decoded.Refused r
     hands (forwarded.Is f n) r y e = clash n r e
-    hands (forwarded.Refused q) r y e = ap answer.Refused (one-refusal q r e)
+    hands (forwarded.Refused q) r y e = ap decoded.Refused (one-refusal q r e)
 
-    go : (t : Forwarded) → forwardAt l at ≡ t → (n : ℕ) → seenForward t ≡ went n → at ≤ n → n ≤ length l → Refusing seenAnswer (λ (y : List ℕ). onForward answer.Refused t (λ (f : Forward) (next : ℕ). endedAt y next (apdu.Forward f))) l n
+    go : (t : Forwarded) → forwardAt l at ≡ t → (n : ℕ) → seenForward t ≡ went n → at ≤ n → n ≤ length l → Refusing seenAnswer (λ (y : List ℕ). onForward decoded.Refused t (λ (f : Forward) (next : ℕ). endedAt y next (apdu.Forward f))) l n
     go (forwarded.Is f j) e n q a w = let i : j ≡ n = one-place j n q in subst (λ (z : ℕ). Refusing seenAnswer (λ (y : List ℕ). endedAt y j (apdu.Forward f)) l z) i (ended-refusing l j (apdu.Forward f) b (omega arith))
     go (forwarded.Refused r) e n q a w = clash n r (sym q)
 
@@ -398,16 +398,16 @@ rest-refusing l kind.ForwardResponse m at b h =
     (λ (r n : ℕ) (e : extensibleIndex l at responseLast ≡ Value r n) (a : at ≤ n) (w : n ≤ length l). ended-refusing l n (apdu.ForwardResponse r) b w)
 
 -- AN APDU THAT IS REFUSED: its place is within the bits, a field begins there, and bits behind the field do not matter
-pub apdu-refusing : (side : Side) (l : List ℕ) → Bits l → Refusing seenAnswer (λ (x : List ℕ). apduAt side x 0) l 0
+pub apdu-refusing : (pdus : PduType) (l : List ℕ) → Bits l → Refusing seenAnswer (λ (x : List ℕ). apduAt pdus x 0) l 0
 unfolding apduWithin
-apdu-refusing side l b =
-    refusing-bind seenLead seenAnswer answer.Refused (λ (x : List ℕ). leadingAt side x 0) (λ (t : Lead) (y : List ℕ). onLead t (restAt y)) l 0 (λ (r : Refusal). refl) hands (lead-sound side l 0 (omega arith)) (go (leadingAt side l 0) refl)
+apdu-refusing pdus l b =
+    refusing-bind seenLead seenAnswer decoded.Refused (λ (x : List ℕ). leadingAt pdus x 0) (λ (t : Lead) (y : List ℕ). onLead t (restAt y)) l 0 (λ (r : Refusal). refl) hands (lead-sound pdus l 0 (omega arith)) (go (leadingAt pdus l 0) refl)
   where
-    hands : (t : Lead) (r : Refusal) (y : List ℕ) → seenLead t ≡ refused r → onLead t (restAt y) ≡ answer.Refused r
+    hands : (t : Lead) (r : Refusal) (y : List ℕ) → seenLead t ≡ refused r → onLead t (restAt y) ≡ decoded.Refused r
     hands (lead.Is c m n) r y e = clash n r e
-    hands (lead.Refused q) r y e = ap answer.Refused (one-refusal q r e)
+    hands (lead.Refused q) r y e = ap decoded.Refused (one-refusal q r e)
 
-    go : (t : Lead) → leadingAt side l 0 ≡ t → (n : ℕ) → seenLead t ≡ went n → 0 ≤ n → n ≤ length l → Refusing seenAnswer (λ (y : List ℕ). onLead t (restAt y)) l n
+    go : (t : Lead) → leadingAt pdus l 0 ≡ t → (n : ℕ) → seenLead t ≡ went n → 0 ≤ n → n ≤ length l → Refusing seenAnswer (λ (y : List ℕ). onLead t (restAt y)) l n
     go (lead.Is c m j) e n q a w = let i : j ≡ n = one-place j n q in subst (λ (z : ℕ). Refusing seenAnswer (λ (y : List ℕ). restAt y c m j) l z) i (rest-refusing l c m j b (omega arith))
     go (lead.Refused r) e n q a w = clash n r (sym q)
 

@@ -14,8 +14,8 @@ use Rattle.fields.specs.declared.Field.{Field}
 use Rattle.fields.specs.declared.Field.the-variants.{Value, Refused}
 use Rattle.elements.specs.declared.kinds.Direction.{Direction}
 use Rattle.elements.specs.declared.kinds.Direction.the-variants.{Downlink, Uplink}
-use Rattle.elements.specs.declared.kinds.Kind.{Kind}
-use Rattle.elements.specs.declared.kinds.Kind.the-variants as kind
+use Rattle.elements.specs.declared.kinds.ArgumentKind.{ArgumentKind}
+use Rattle.elements.specs.declared.kinds.ArgumentKind.the-variants as kind
 use Rattle.elements.specs.declared.values.LevelType.{LevelType}
 use Rattle.elements.specs.declared.values.LevelTypeRead.{LevelTypeRead}
 use Rattle.elements.specs.declared.values.LevelTypeRead.the-variants as type
@@ -199,7 +199,7 @@ code-argument-sound i l at h =
     go (step.Refused r) ds n q b = clash n r (sym q)
 
 -- of a kind that is carried
-carried : Kind → Bool
+carried : ArgumentKind → Bool
 carried kind.NotCarried = false
 carried kind.None = true
 carried kind.Level = true
@@ -211,7 +211,7 @@ carried kind.Facility = true
 carried kind.FacilityDesignation = true
 carried kind.AtisCode = true
 
-argument-sound : (k : Kind) (i index : ℕ) (l : List ℕ) (at : ℕ) → carried k ≡ true → at ≤ length l → Sound seenElement (λ (m : List ℕ). argumentAt k i index m at) l at
+argument-sound : (k : ArgumentKind) (i index : ℕ) (l : List ℕ) (at : ℕ) → carried k ≡ true → at ≤ length l → Sound seenElement (λ (m : List ℕ). argumentAt k i index m at) l at
 unfolding argumentAt carried
 argument-sound kind.NotCarried i index l at c h = never (cc)
 argument-sound kind.None i index l at c h = sound-value seenElement (isElement (bare i) at) l at h refl
@@ -251,7 +251,7 @@ module _ (d : Direction) where
       (λ (v n : ℕ) (q : carried (kindOf d v) ≡ false). ap (λ (t : Bool). cond t (Value v n) (refusedAt p NotCarried)) q)
       (λ (v n : ℕ) (f : wholeNumber l p 0 (lastOf d) ≡ Value v n) (q : carried (kindOf d v) ≡ false). whole-cut l p 0 (lastOf d) w index-wide))
 
-  not-carried-kind : (k : Kind) (i index : ℕ) (l : List ℕ) (at : ℕ) → carried k ≡ false → argumentAt k i index l at ≡ noElement (refusal index NotCarried)
+  not-carried-kind : (k : ArgumentKind) (i index : ℕ) (l : List ℕ) (at : ℕ) → carried k ≡ false → argumentAt k i index l at ≡ noElement (refusal index NotCarried)
   unfolding argumentAt carried
   not-carried-kind kind.NotCarried i index l at c = refl
   not-carried-kind kind.None i index l at c = never (cc)

@@ -33,8 +33,9 @@ pub record Settled {A : Type 0} (rd : List ℕ → A) (l : List ℕ) (p : ℕ) :
   pub within : end ≤ length l
   pub same : (m : List ℕ) → Alike end l m → rd m ≡ rd l
 
--- The place of a refusal is within the bits. A field begins there: with the bits before it alone, the bits end inside the field that begins there. Where
--- the fault is in the field itself, bits that are cut off or added behind the field do not matter. (TAIL is about the bits behind all fields.)
+-- The place of a refusal is within the bits. A field begins there: with the bits before it alone, the bits end inside the field that begins
+-- there. Where the fault is in the field itself, bits that are cut off or added behind the field do not matter. (TAIL is about the bits
+-- behind all fields.)
 pub record Placed {A : Type 0} (seen : A → Seen) (rd : List ℕ → A) (l : List ℕ) (at : ℕ) (r : Refusal) : Type 0 where
   pub after : at ≤ r .at
   pub within : r .at ≤ length l

@@ -8,20 +8,20 @@ use native.Mathlib.Omega.{arith}
 use borrow.Author.Tests.{lt-ltb, le-ltb, eq-eqb, ne-eqb}
 use lib.ListN.{length}
 use Rattle.apdu.specs.Sizes.{bufferLeast}
-use Rattle.apdu.specs.Writing.{done, dataShaped, forwardShaped}
+use Rattle.apdu.specs.Writing.{done, dataFits, forwardFits}
 use Rattle.apdu.specs.declared.Data.{Data}
 use Rattle.apdu.specs.declared.Forward.{Forward as Forwarded}
 use Rattle.apdu.specs.declared.Written.{Written}
 use Rattle.machine.specs.Outcome.{refusalNumber, isNone}
 use Rattle.control.specs.declared.Side.{Side}
 use Rattle.machine.specs.declared.record.Record.{Record}
-use Rattle.machine.specs.declared.event.Apdu.{Apdu}
-use Rattle.machine.specs.declared.event.Apdu.the-variants.{Absent}
+use Rattle.machine.specs.declared.event.UserData.{UserData}
+use Rattle.machine.specs.declared.event.UserData.the-variants.{Absent}
 use Rattle.machine.specs.declared.event.ServicePrimitive.{ServicePrimitive}
 use Rattle.machine.specs.declared.event.Event.{Event}
 use Rattle.machine.specs.declared.event.Event.the-variants.{Service}
 use Rattle.machine.specs.declared.event.Event.the-variants.{Forward as ForwardRequested}
-use Rattle.apdu.specs.declared.Answer.{Answer}
+use Rattle.apdu.specs.declared.Decoded.{Decoded}
 use Rattle.machine.specs.declared.outcome.Invoked.{Invoked}
 use Rattle.machine.specs.declared.outcome.Invoked.the-variants.{Silent, DStartRequest, DStartResponse, DDataRequest, DEndRequest, DEndResponse, DAbortRequest, DStartForwardRequest, DStartForwardResponse}
 use Rattle.machine.specs.declared.outcome.Told.{Told}
@@ -103,7 +103,7 @@ module _ (r a b : List ℕ) (k : Side → Record → ℕ → Called) where
 pub event-steps : (r a b : List ℕ) (e : Event) (v : ℕ) (li lm lc : List ℕ) (d : Carried) (sd : Side) (x : Record) (n : ℕ) (o : Outcome) (m : ℕ) (z : Called) → o ≡ numberedStep sd x n e v → m ≡ heldAfter n e v → z ≡ concluded r a b sd m o li lm lc d → z ≡ eventStep r a b e v li lm lc d sd x n
 event-steps r a b e v li lm lc d sd x n o m z f g h = h ∙ rw (f, g)
 
-module _ (r a b : List ℕ) (k s v : ℕ) (lm : List ℕ) (f : Forwarded) (sd : Side) (x : Record) (n : ℕ) (t : Bool) (p : t ≡ forwardShaped lm f) where
+module _ (r a b : List ℕ) (k s v : ℕ) (lm : List ℕ) (f : Forwarded) (sd : Side) (x : Record) (n : ℕ) (t : Bool) (p : t ≡ forwardFits lm f) where
   pub no-forward-shape : t ≡ false → called 2 r a b ≡ forwardStep r a b k s v lm f sd x n
   unfolding forwardStep
   no-forward-shape q = rw (← p, q)
@@ -112,7 +112,7 @@ module _ (r a b : List ℕ) (k s v : ℕ) (lm : List ℕ) (f : Forwarded) (sd : 
   unfolding forwardStep
   forward-steps d z q h e = e ∙ rw (← p, q, h)
 
-module _ (r a b : List ℕ) (e : Event) (v : ℕ) (li lm lc : List ℕ) (d : Data) (sd : Side) (x : Record) (n : ℕ) (t : Bool) (p : t ≡ dataShaped li lm lc d) where
+module _ (r a b : List ℕ) (e : Event) (v : ℕ) (li lm lc : List ℕ) (d : Data) (sd : Side) (x : Record) (n : ℕ) (t : Bool) (p : t ≡ dataFits li lm lc d) where
   pub no-shape : t ≡ false → called 2 r a b ≡ userStep r a b e v li lm lc d sd x n
   unfolding userStep
   no-shape q = rw (← p, q)
@@ -124,7 +124,7 @@ module _ (r a b : List ℕ) (e : Event) (v : ℕ) (li lm lc : List ℕ) (d : Dat
 -- ---- a dialogue-service primitive
 
 module _ (r a b : List ℕ) (p : ServicePrimitive) (v : ℕ) (l : List ℕ) (sd : Side) (x : Record) (n : ℕ) where
-  pub data-steps : (f : Answer) (m : Apdu) (d : Data) (w : Forwarded) (z : Called) → f ≡ readPdu sd (x .control) p l → m ≡ meaning f → d ≡ dataOf f → w ≡ forwardOf f → z ≡ eventStep r a b (Service p m) v l l l (carries d w) sd x n → z ≡ dataStep r a b p v l sd x n
+  pub data-steps : (f : Decoded) (m : UserData) (d : Data) (w : Forwarded) (z : Called) → f ≡ readPdu sd (x .control) p l → m ≡ meaning f → d ≡ dataOf f → w ≡ forwardOf f → z ≡ eventStep r a b (Service p m) v l l l (carries d w) sd x n → z ≡ dataStep r a b p v l sd x n
   unfolding dataStep
   data-steps f m d w z pf pm pd pw e = e ∙ rw (pd, pw, pm, pf)
 

@@ -7,7 +7,7 @@ use lib.Dec.{ltb, eqb}
 use lib.ListN.{length}
 use Rattle.apdu.specs.Sizes.{bufferLeast}
 use Rattle.apdu.specs.Pdus.{lent}
-use Rattle.apdu.specs.Writing.{dataShaped, forwardShaped}
+use Rattle.apdu.specs.Writing.{dataFits, forwardFits}
 use Rattle.apdu.specs.declared.Data.{Data}
 use Rattle.apdu.specs.declared.Forward.{Forward}
 use Rattle.machine.specs.Outcome.{isNone}
@@ -46,12 +46,12 @@ module _ (r a b : List ℕ) where
   pub user-leaves : (e : Event) (v : ℕ) (ids msgs checks : List ℕ) (d : Data) → Leaves r a b (userCall r a b e v ids msgs checks d)
   unfolding userCall userStep
   user-leaves e v ids msgs checks d =
-      entering-leaves (userStep r a b e v (lent ids) (lent msgs) (lent checks) d) (λ sd x n. by-test (Leaves r a b) (dataShaped (lent ids) (lent msgs) (lent checks) d) _ _ (λ h. concluded-leaves sd _ _ _ _ _ (carriesData d)) (λ h w. (refl, refl, refl)))
+      entering-leaves (userStep r a b e v (lent ids) (lent msgs) (lent checks) d) (λ sd x n. by-test (Leaves r a b) (dataFits (lent ids) (lent msgs) (lent checks) d) _ _ (λ h. concluded-leaves sd _ _ _ _ _ (carriesData d)) (λ h w. (refl, refl, refl)))
 
   pub forward-leaves : (k s v : ℕ) (msgs : List ℕ) (f : Forward) → Leaves r a b (forwardCall r a b k s v msgs f)
   unfolding forwardCall forwardStep
   forward-leaves k s v msgs f =
-      entering-leaves (forwardStep r a b k s v (lent msgs) f) (λ sd x n. by-test (Leaves r a b) (forwardShaped (lent msgs) f) _ _ (λ h. concluded-leaves sd _ _ _ _ _ (carriesForward f)) (λ h w. (refl, refl, refl)))
+      entering-leaves (forwardStep r a b k s v (lent msgs) f) (λ sd x n. by-test (Leaves r a b) (forwardFits (lent msgs) f) _ _ (λ h. concluded-leaves sd _ _ _ _ _ (carriesForward f)) (λ h w. (refl, refl, refl)))
 
   pub service-leaves : (p : ServicePrimitive) (v given : ℕ) (bytes : List ℕ) → Leaves r a b (serviceCall r a b p v given bytes)
   unfolding serviceCall serviceStep dataStep bareStep

@@ -15,11 +15,11 @@ use Rattle.machine.specs.Codes.{securityValues, results, userReasons, routingCl
 use Rattle.control.specs.Control.{isIdle, takes, awaitsResponse, mayStart}
 use Rattle.control.proofs.Moves.{goes-awaits, after-awaits}
 use Rattle.machine.specs.Record.{withTimer, withUser, withJob, withRequest, enter}
-use Rattle.machine.specs.Apdus.{isSend, isForward, isResponse, modeOf, reasonOf, isUserAbort}
-use Rattle.machine.specs.Event.{isDsc, hasMode, userShapely, shapely}
+use Rattle.machine.specs.UserData.{isSend, isForward, isResponse, modeOf, reasonOf, isUserAbort}
+use Rattle.machine.specs.Event.{isDsc, hasMode, userFits, eventFits}
 use Rattle.machine.specs.Outcome.{isNone, refused}
 use Rattle.machine.specs.Exceptions.{tell, closes, aborts, excepts, noInstruction, timerExpires, systemError}
-use Rattle.machine.specs.Calls.{answer, sent, qosAsked, startRequest, startResponse, messageRequest, endRequest, endResponse, reasonSent, userAbort, callOf, called}
+use Rattle.machine.specs.Calls.{replyOf, sent, qosAsked, startRequest, startResponse, messageRequest, endRequest, endResponse, reasonSent, userAbort, callOf, called}
 use Rattle.machine.specs.Faults.{fromCentre, indicationFault, firstFault}
 use Rattle.machine.specs.Forwards.{forwardConfirmed}
 use Rattle.machine.specs.Primitives.{handed, abortTold, instructed, answered, reached}
@@ -32,8 +32,8 @@ use Rattle.control.specs.declared.Call.the-variants.{StartRequest, StartRespons
 use Rattle.control.specs.declared.Primitive.{Primitive}
 use Rattle.control.specs.declared.Primitive.the-variants.{DStart, DStartCnf, DData, DEnd, DEndCnf}
 use Rattle.machine.specs.declared.record.Record.{Record}
-use Rattle.machine.specs.declared.event.Apdu.{Apdu}
-use Rattle.machine.specs.declared.event.Apdu.the-variants.{Absent, NotValid, Start, Send, AbortUser, AbortProvider, Forward, ForwardResponse}
+use Rattle.machine.specs.declared.event.UserData.{UserData}
+use Rattle.machine.specs.declared.event.UserData.the-variants.{Absent, NotValid, Start, Send, AbortUser, AbortProvider, Forward, ForwardResponse}
 use Rattle.machine.specs.declared.event.UserPrimitive.{UserPrimitive}
 use Rattle.machine.specs.declared.event.UserPrimitive.the-variants.{StartServiceRequest, StartServiceResponse, MessageServiceRequest, EndServiceRequest, EndServiceResponse, UserAbortServiceRequest}
 use Rattle.machine.specs.declared.event.ServicePrimitive.{ServicePrimitive}
@@ -47,22 +47,22 @@ use Rattle.machine.specs.declared.outcome.Invoked.{Invoked}
 use Rattle.machine.specs.declared.outcome.Invoked.the-variants.{Silent, DStartRequest, DStartResponse, DDataRequest, DEndRequest, DEndResponse, DAbortRequest, DStartForwardRequest, DStartForwardResponse}
 use Rattle.machine.specs.declared.outcome.Told.{Told}
 use Rattle.machine.specs.declared.outcome.Told.the-variants.{Untold, StartIndication, StartConfirmation, MessageIndication, EndIndication, EndConfirmation, UserAbortIndication, ProviderAbortIndication, ForwardIndication, ForwardConfirmation}
-use Rattle.machine.specs.declared.outcome.Refusal.the-variants.{Stale}
+use Rattle.machine.specs.declared.outcome.StepRefusal.the-variants.{Stale}
 use Rattle.machine.specs.declared.outcome.Outcome.{Outcome}
 use Rattle.numbered.specs.Numbers.{isStale, numberedStep}
 use Rattle.numbered.proofs.Laws.{numbered-is}
 use Rattle.step.specs.Packed.{codes}
 use Rattle.step.specs.Stored.{flag}
-use Rattle.step.specs.Call.{pduSide, passes}
+use Rattle.step.specs.Call.{pdusOf, passes}
 pub use Rattle.step.proofs.Storing.{Coded}
 
 -- ---- what is shown
 
 -- an APDU of a dialogue that the side's writer takes, with message data that are within the sizes
-abbrev pub writable : Side → Apdu → Bool
+abbrev pub writable : Side → UserData → Bool
 writable sd Absent = false
 writable sd NotValid = false
-writable sd (Start m) = modeFits (pduSide sd) (flag m)
+writable sd (Start m) = modeFits (pdusOf sd) (flag m)
 writable sd Send = true
 writable sd (AbortUser x) = wholeFits 0 userLast x
 writable sd (AbortProvider x) = wholeFits 0 providerLast x
@@ -70,7 +70,7 @@ writable sd Forward = false
 writable sd (ForwardResponse x) = false
 
 -- message data travel in it
-abbrev pub withBody : Apdu → Bool
+abbrev pub withBody : UserData → Bool
 withBody Absent = false
 withBody NotValid = false
 withBody (Start m) = true
@@ -85,12 +85,12 @@ pub record Brings : Type 0 where
   pub user : Bool
   pub body : Bool
   pub message : Bool
-  pub apdu : Apdu
+  pub apdu : UserData
 
 abbrev pub asks : Bool → Bool → Brings
 asks b m = record { user = true; body = b; message = m; apdu = Absent }
 
-abbrev pub hears : Apdu → Brings
+abbrev pub hears : UserData → Brings
 hears a = record { user = false; body = false; message = false; apdu = a }
 
 abbrev pub brings : Event → Brings
@@ -106,7 +106,7 @@ brings TimerExpires = hears Absent
 brings UnrecoverableSystemError = hears Absent
 
 -- a primitive that is invoked has such an APDU; a user primitive invokes one; where none is invoked there is no APDU
-abbrev pub GoesOut : Bool → Side → Invoked → Apdu → Type 0
+abbrev pub GoesOut : Bool → Side → Invoked → UserData → Type 0
 GoesOut u sd Silent a = (u ≡ false) × (a ≡ Absent)
 GoesOut u sd (DStartRequest q s) a = writable sd a ≡ true
 GoesOut u sd (DStartResponse x s) a = writable sd a ≡ true
@@ -214,7 +214,7 @@ roomy-dialogue (DStartForwardResponse s v) h = absurd h
 pub never : {A : Type 0} → false ≡ true → A
 never e = absurd (subst T (sym e) tt)
 
-module _ (sd : Side) (r : Record) (k : Coded r) (w : awaitsResponse (r .control) ≡ false) (a : Apdu) where
+module _ (sd : Side) (r : Record) (k : Coded r) (w : awaitsResponse (r .control) ≡ false) (a : UserData) where
   closed-fits : (t : Told) → quiet t ≡ true → passes t ≡ false → Fit sd (hears a) (closes r t)
   unfolding closes enter
   closed-fits t q z = record { coded = record { request = k .request; policy = k .policy; least = k .least; most = k .most; highest = k .highest }; apdu = (refl, refl); body = refl; invokes = refl; roomy = tt; told = rw q; dialogue = refl; plain = z }
@@ -251,14 +251,14 @@ module _ (sd : Side) (r : Record) (k : Coded r) (w : awaitsResponse (r .control)
 same-coded : (r : Record) (on : Bool) → Coded r → Coded (withUser r on) × Coded (withTimer r on)
 same-coded r on k = (record { request = k .request; policy = k .policy; least = k .least; most = k .most; highest = k .highest }, record { request = k .request; policy = k .policy; least = k .least; most = k .most; highest = k .highest })
 
-abort-quiet : (a : Apdu) → quiet (abortTold a) ≡ true
+abort-quiet : (a : UserData) → quiet (abortTold a) ≡ true
 abort-quiet a = by-test (λ (t : Told). quiet t ≡ true) (isUserAbort a) _ _ (λ e. refl) (λ e. refl)
 
-abort-plain : (a : Apdu) → passes (abortTold a) ≡ false
+abort-plain : (a : UserData) → passes (abortTold a) ≡ false
 abort-plain a = by-test (λ (t : Told). passes t ≡ false) (isUserAbort a) _ _ (λ e. refl) (λ e. refl)
 
 module _ (sd : Side) (r : Record) (k : Coded r) (w : awaitsResponse (r .control) ≡ false) where
-  answered-fits : (p : ServicePrimitive) (a : Apdu) (f : Fault) → (f ≡ NoFault → Fit sd (hears a) (instructed r p a)) → Fit sd (hears a) (answered r p a f)
+  answered-fits : (p : ServicePrimitive) (a : UserData) (f : Fault) → (f ≡ NoFault → Fit sd (hears a) (instructed r p a)) → Fit sd (hears a) (answered r p a f)
   unfolding answered
   answered-fits p a NoFault i = i refl
   answered-fits p a (NoInstruction live) i = none-fits sd r k w a live
@@ -269,33 +269,33 @@ module _ (sd : Side) (r : Record) (k : Coded r) (w : awaitsResponse (r .control)
   answered-fits p a (Invalid live) i = except-fits sd r k w a live _ _ refl
   answered-fits p a (NotPermitted live) i = except-fits sd r k w a live _ _ refl
 
-  confirmed-fits : (a : Apdu) (x v : ℕ) → Fit sd (hears a) (forwardConfirmed r x v)
+  confirmed-fits : (a : UserData) (x v : ℕ) → Fit sd (hears a) (forwardConfirmed r x v)
   unfolding forwardConfirmed
   confirmed-fits a x v = closed-fits sd (withTimer r false) (same-coded r false k .1) w a (ForwardConfirmation x v) refl refl
 
   -- without a fault, what a D-DATA indication tells is with a send
-  instructed-fits : (p : ServicePrimitive) (a : Apdu) → JobLow sd (Service p a) → firstFault sd r p a ≡ NoFault → Fit sd (hears a) (instructed r p a)
+  instructed-fits : (p : ServicePrimitive) (a : UserData) → JobLow sd (Service p a) → firstFault sd r p a ≡ NoFault → Fit sd (hears a) (instructed r p a)
   unfolding instructed firstFault
   instructed-fits (DStartIndication x s q v) a b e =
       let i = start-there sd r x s q a e in
       by-test (Fit sd (hears a)) (isForward a) _ _ (λ y. never (sym b ∙ forward-ground sd r x a (i .fits) y))
       (λ n. handed-fits sd (withUser r true) (same-coded r true k .0) w a (DStart (modeOf a)) _ refl refl)
   instructed-fits (DStartConfirmation x o s v) a b e =
-      by-test (Fit sd (hears a)) (isResponse a) _ _ (λ y. confirmed-fits a (reasonOf a) v) (λ n. handed-fits sd (withTimer r false) (same-coded r false k .1) w a (DStartCnf (answer x)) _ refl refl)
+      by-test (Fit sd (hears a)) (isResponse a) _ _ (λ y. confirmed-fits a (reasonOf a) v) (λ n. handed-fits sd (withTimer r false) (same-coded r false k .1) w a (DStartCnf (replyOf x)) _ refl refl)
   instructed-fits DDataIndication a b e = handed-fits sd r k w a DData MessageIndication (send-there sd r DData true a e) refl
   instructed-fits DEndIndication a b e = handed-fits sd r k w a DEnd _ refl refl
-  instructed-fits (DEndConfirmation x) a b e = handed-fits sd r k w a (DEndCnf (answer x)) _ refl refl
+  instructed-fits (DEndConfirmation x) a b e = handed-fits sd r k w a (DEndCnf (replyOf x)) _ refl refl
   instructed-fits (DAbortIndication o) a b e = closed-fits sd r k w a _ (tell-quiet sd r k w a (abortTold a) (abort-quiet a)) (tell-plain sd r k w a (abortTold a) (abort-plain a))
   instructed-fits DPAbortIndication a b e = closed-fits sd r k w a _ (tell-quiet sd r k w a _ refl) (tell-plain sd r k w a _ refl)
 
-  reached-fits : (p : ServicePrimitive) (a : Apdu) → JobLow sd (Service p a) → Fit sd (hears a) (reached sd r p a)
+  reached-fits : (p : ServicePrimitive) (a : UserData) → JobLow sd (Service p a) → Fit sd (hears a) (reached sd r p a)
   unfolding reached
   reached-fits p a b = answered-fits p a (firstFault sd r p a) (instructed-fits p a b)
 
   -- ---- a user primitive
 
   -- only the air starts in mode dsc
-  start-writable : (s : Side) (m i : Bool) → (i && mayStart s m) ≡ true → modeFits (pduSide s) (flag m) ≡ true
+  start-writable : (s : Side) (m i : Bool) → (i && mayStart s m) ≡ true → modeFits (pdusOf s) (flag m) ≡ true
   unfolding modeFits
   start-writable Air true i e = refl
   start-writable Air false i e = refl
@@ -307,12 +307,12 @@ module _ (sd : Side) (r : Record) (k : Coded r) (w : awaitsResponse (r .control)
   reason-low true x h = omega arith
   reason-low false x h = omega arith
 
-  sent-fits : (q : Record) (c : Call) (i : Invoked) (a : Apdu) (m : Bool) → Coded q → awaitsResponse (q .control) ≡ false → GoesOut true sd i a → isDData i ≡ m → Roomy i → Fit sd (asks (withBody a) m) (sent q c i a)
+  sent-fits : (q : Record) (c : Call) (i : Invoked) (a : UserData) (m : Bool) → Coded q → awaitsResponse (q .control) ≡ false → GoesOut true sd i a → isDData i ≡ m → Roomy i → Fit sd (asks (withBody a) m) (sent q c i a)
   unfolding sent enter
   sent-fits q c i a m kq z g d n = record { coded = record { request = kq .request; policy = kq .policy; least = kq .least; most = kq .most; highest = kq .highest }; apdu = g; body = refl; invokes = d; roomy = n; told = refl; dialogue = goes-awaits (q .control) c z; plain = refl }
 
-  called-fits : (u : UserPrimitive) → userShapely sd u ≡ true → takes sd (r .control) (callOf u) ≡ true → JobLow sd (User u) → Fit sd (brings (User u)) (called r u)
-  unfolding called callOf userShapely startRequest startResponse messageRequest endRequest endResponse userAbort
+  called-fits : (u : UserPrimitive) → userFits sd u ≡ true → takes sd (r .control) (callOf u) ≡ true → JobLow sd (User u) → Fit sd (brings (User u)) (called r u)
+  unfolding called callOf userFits startRequest startResponse messageRequest endRequest endResponse userAbort
   called-fits (StartServiceRequest m c s) h t j =
       let codes = both-right (hasMode sd m) (ltb c routingClasses && ltb s securityValues) h in
       let hc = ltb-true c routingClasses (both-left (ltb c routingClasses) (ltb s securityValues) codes) in
@@ -321,18 +321,18 @@ module _ (sd : Side) (r : Record) (k : Coded r) (w : awaitsResponse (r .control)
   called-fits (StartServiceResponse m x) h t j =
       let hx = ltb-true x results h in
       let hp = k .policy in
-      sent-fits r (StartResponse m (answer x)) _ _ false k w refl refl (omega arith, omega arith)
+      sent-fits r (StartResponse m (replyOf x)) _ _ false k w refl refl (omega arith, omega arith)
   called-fits (MessageServiceRequest b n) h t j = sent-fits (withJob r n) MessageRequest _ _ true (record { request = k .request; policy = k .policy; least = k .least; most = k .most; highest = j }) w refl refl tt
   called-fits (EndServiceRequest m) h t j = sent-fits r (EndRequest m) _ _ false k w refl refl tt
   called-fits (EndServiceResponse m x) h t j =
       let hx = ltb-true x results h in
-      sent-fits r (EndResponse m (answer x)) _ _ false k w refl refl (omega arith)
+      sent-fits r (EndResponse m (replyOf x)) _ _ false k w refl refl (omega arith)
   called-fits (UserAbortServiceRequest g x) h t j =
       let hx = reason-low g x (ltb-true x userReasons h) in
       sent-fits r UserAbort _ _ false k w (rw (le-leb 0 (reasonSent g x) (omega arith), le-leb (reasonSent g x) userLast hx)) refl (omega arith)
 
-  acts-fits : (e : Event) → shapely sd e ≡ true → permitted sd r e ≡ true → JobLow sd e → Fit sd (brings e) (acts sd r e)
-  unfolding acts shapely permitted timerExpires systemError
+  acts-fits : (e : Event) → eventFits sd e ≡ true → permitted sd r e ≡ true → JobLow sd e → Fit sd (brings e) (acts sd r e)
+  unfolding acts eventFits permitted timerExpires systemError
   acts-fits (User u) h t j = called-fits u h t j
   acts-fits (ForwardRequested c s) h t j = absurd j
   acts-fits (Service p a) h t j = reached-fits p a j
@@ -346,12 +346,12 @@ module _ (sd : Side) (r : Record) (k : Coded r) (w : awaitsResponse (r .control)
     where
       go : (b : Bool) → isNone (refusalOf sd r e) ≡ b → isNone (cond b (acts sd r e) (refused (refusalOf sd r e) r) .refusal) ≡ true → Fit sd (brings e) (cond b (acts sd r e) (refused (refusalOf sd r e) r))
       go true q n =
-          let v = not-refused (shapely sd e) (permitted sd r e) (messageRefusal r e) q in acts-fits e (v .0) (v .1 .0) j
+          let v = not-refused (eventFits sd e) (permitted sd r e) (messageRefusal r e) q in acts-fits e (v .0) (v .1 .0) j
       go false q n = never (sym q ∙ n)
 
   -- with a dialogue number
   pub numbered-fits : (n : ℕ) (e : Event) (v : ℕ) → JobLow sd e → isNone (numberedStep sd r n e v .refusal) ≡ true → Fit sd (brings e) (numberedStep sd r n e v)
-  numbered-fits n e v j = subst (λ (o : Outcome). isNone (o .refusal) ≡ true → Fit sd (brings e) o) (sym (numbered-is sd r n e v)) (go (shapely sd e && isStale n e v))
+  numbered-fits n e v j = subst (λ (o : Outcome). isNone (o .refusal) ≡ true → Fit sd (brings e) o) (sym (numbered-is sd r n e v)) (go (eventFits sd e && isStale n e v))
     where
       go : (t : Bool) → isNone (cond t (refused Stale r) (step sd r e) .refusal) ≡ true → Fit sd (brings e) (cond t (refused Stale r) (step sd r e))
       go true x = never x

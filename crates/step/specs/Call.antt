@@ -11,18 +11,18 @@ use Rattle.apdu.specs.Headings.{triple}
 use Rattle.apdu.specs.Pdus.{lent, itemsIn, contentIn, pduIn}
 use Rattle.apdu.specs.Encoding.{pduBits, contentBits, forwardBits}
 use Rattle.apdu.specs.Reading.{apduAt}
-use Rattle.apdu.specs.Writing.{Done, done, writeOut, dataShaped, forwardShaped, apduShaped}
-use Rattle.apdu.specs.declared.Side.the-variants as pdu
-use Rattle.apdu.specs.declared.Side.{Side as PduSide}
+use Rattle.apdu.specs.Writing.{Done, done, writeOut, dataFits, forwardFits, apduFits}
+use Rattle.apdu.specs.declared.PduType.the-variants as pdu
+use Rattle.apdu.specs.declared.PduType.{PduType}
 use Rattle.apdu.specs.declared.Span.{Span}
 use Rattle.apdu.specs.declared.Part.{Part}
 use Rattle.apdu.specs.declared.Part.the-variants as part
 use Rattle.apdu.specs.declared.Data.{Data}
 use Rattle.apdu.specs.declared.Forward.{Forward as Forwarded}
-use Rattle.apdu.specs.declared.Apdu.{Apdu as Pdu}
+use Rattle.apdu.specs.declared.Apdu.{Apdu}
 use Rattle.apdu.specs.declared.Apdu.the-variants as is
-use Rattle.apdu.specs.declared.Answer.{Answer}
-use Rattle.apdu.specs.declared.Answer.the-variants as answer
+use Rattle.apdu.specs.declared.Decoded.{Decoded}
+use Rattle.apdu.specs.declared.Decoded.the-variants as decoded
 use Rattle.apdu.specs.declared.Written.{Written}
 use Rattle.apdu.specs.declared.Written.the-variants as written
 use Rattle.machine.specs.Codes.{aircraft, facility, provider}
@@ -30,8 +30,8 @@ use Rattle.machine.specs.Outcome.{refusalNumber, isNone}
 use Rattle.control.specs.declared.Side.{Side}
 use Rattle.control.specs.declared.Side.the-variants.{Air, Ground}
 use Rattle.machine.specs.declared.record.Record.{Record}
-use Rattle.machine.specs.declared.event.Apdu.{Apdu}
-use Rattle.machine.specs.declared.event.Apdu.the-variants.{Absent, NotValid, Start, Send, AbortUser, AbortProvider, Forward, ForwardResponse}
+use Rattle.machine.specs.declared.event.UserData.{UserData}
+use Rattle.machine.specs.declared.event.UserData.the-variants.{Absent, NotValid, Start, Send, AbortUser, AbortProvider, Forward, ForwardResponse}
 use Rattle.machine.specs.declared.event.ServicePrimitive.{ServicePrimitive}
 use Rattle.machine.specs.declared.event.ServicePrimitive.the-variants.{DStartIndication, DStartConfirmation, DDataIndication, DEndIndication, DEndConfirmation, DAbortIndication, DPAbortIndication}
 use Rattle.machine.specs.declared.event.Event.{Event}
@@ -87,9 +87,10 @@ carriesForward f = carries noData f
 
 -- ---- what is written
 
-abbrev pub pduSide : Side → PduSide
-pduSide Air = pdu.Air
-pduSide Ground = pdu.Ground
+-- the type that a side writes
+abbrev pub pdusOf : Side → PduType
+pdusOf Air = pdu.AircraftPdus
+pdusOf Ground = pdu.GroundPdus
 
 -- the bits that were written
 abbrev pub bitsOfWritten : Written → ℕ
@@ -102,19 +103,19 @@ abbrev pub nothingTo : List ℕ → Done
 nothingTo s = done (written.Bits 0) s
 
 -- an APDU with its message data, whose parts stand in the bits li, lm and lc
-abbrev pub pduTo : PduSide → List ℕ → List ℕ → List ℕ → Pdu → List ℕ → Done
-pduTo side li lm lc a s = writeOut (apduShaped side li lm lc a) s (pduBits side (pduIn li lm lc a))
+abbrev pub pduTo : PduType → List ℕ → List ℕ → List ℕ → Apdu → List ℕ → Done
+pduTo pdus li lm lc a s = writeOut (apduFits pdus li lm lc a) s (pduBits pdus (pduIn li lm lc a))
 
 -- the first buffer takes the outcome's APDU
-unfoldable pub firstTakes : Side → List ℕ → List ℕ → List ℕ → Carried → Apdu → List ℕ → Done
+unfoldable pub firstTakes : Side → List ℕ → List ℕ → List ℕ → Carried → UserData → List ℕ → Done
 firstTakes sd li lm lc d Absent s = nothingTo s
 firstTakes sd li lm lc d NotValid s = nothingTo s
-firstTakes sd li lm lc d (Start m) s = pduTo (pduSide sd) li lm lc (is.Start (flag m) (d .content)) s
-firstTakes sd li lm lc d Send s = pduTo (pduSide sd) li lm lc (is.Send (d .content)) s
-firstTakes sd li lm lc d (AbortUser x) s = pduTo (pduSide sd) li lm lc (is.AbortUser x) s
-firstTakes sd li lm lc d (AbortProvider x) s = pduTo (pduSide sd) li lm lc (is.AbortProvider x) s
-firstTakes sd li lm lc d Forward s = pduTo (pduSide sd) li lm lc (is.Forward (d .forward)) s
-firstTakes sd li lm lc d (ForwardResponse x) s = pduTo (pduSide sd) li lm lc (is.ForwardResponse x) s
+firstTakes sd li lm lc d (Start m) s = pduTo (pdusOf sd) li lm lc (is.Start (flag m) (d .content)) s
+firstTakes sd li lm lc d Send s = pduTo (pdusOf sd) li lm lc (is.Send (d .content)) s
+firstTakes sd li lm lc d (AbortUser x) s = pduTo (pdusOf sd) li lm lc (is.AbortUser x) s
+firstTakes sd li lm lc d (AbortProvider x) s = pduTo (pdusOf sd) li lm lc (is.AbortProvider x) s
+firstTakes sd li lm lc d Forward s = pduTo (pdusOf sd) li lm lc (is.Forward (d .forward)) s
+firstTakes sd li lm lc d (ForwardResponse x) s = pduTo (pdusOf sd) li lm lc (is.ForwardResponse x) s
 
 -- a forward indication hands the forward message on (Doc 9705, 2.3.5.5.2.3 a)
 abbrev pub passes : Told → Bool
@@ -131,13 +132,13 @@ passes (ForwardConfirmation x v) = false
 
 -- a forward message, whose bits stand in lm
 abbrev pub forwardTo : List ℕ → Forwarded → List ℕ → Done
-forwardTo lm f s = writeOut (forwardShaped lm f) s (forwardBits (f .heading) (itemsIn lm bit (f .message)))
+forwardTo lm f s = writeOut (forwardFits lm f) s (forwardBits (f .heading) (itemsIn lm bit (f .message)))
 
 -- the second buffer takes the forward message that is passed on, or the message data that is delivered
 unfoldable pub secondTakes : List ℕ → List ℕ → List ℕ → Carried → Bool → Bool → List ℕ → Done
 secondTakes li lm lc d passed delivers s =
     cond passed (forwardTo lm (d .forward) s)
-    (cond delivers (writeOut (dataShaped li lm lc (d .content)) s (contentBits (contentIn li lm lc (d .content)))) (nothingTo s))
+    (cond delivers (writeOut (dataFits li lm lc (d .content)) s (contentBits (contentIn li lm lc (d .content)))) (nothingTo s))
 
 -- a step that was taken: the buffers, the record with the dialogue number n that it holds afterwards, and the answer's number
 unfoldable pub finished : List ℕ → List ℕ → List ℕ → Side → ℕ → Outcome → Done → Done → Called
@@ -170,7 +171,7 @@ eventStep r a b e v li lm lc d sd x n = concluded r a b sd (heldAfter n e v) (nu
 
 unfoldable pub userStep : List ℕ → List ℕ → List ℕ → Event → ℕ → List ℕ → List ℕ → List ℕ → Data → Side → Record → ℕ → Called
 userStep r a b e v li lm lc d sd x n =
-    cond (dataShaped li lm lc d) (eventStep r a b e v li lm lc (carriesData d) sd x n) (called shape r a b)
+    cond (dataFits li lm lc d) (eventStep r a b e v li lm lc (carriesData d) sd x n) (called shape r a b)
 
 unfoldable pub userCall : List ℕ → List ℕ → List ℕ → Event → ℕ → List ℕ → List ℕ → List ℕ → Data → Called
 userCall r a b e v ids msgs checks d = entering r a b (userStep r a b e v (lent ids) (lent msgs) (lent checks) d)
@@ -179,7 +180,7 @@ userCall r a b e v ids msgs checks d = entering r a b (userStep r a b e v (lent 
 
 unfoldable pub forwardStep : List ℕ → List ℕ → List ℕ → ℕ → ℕ → ℕ → List ℕ → Forwarded → Side → Record → ℕ → Called
 forwardStep r a b k s v lm f sd x n =
-    cond (forwardShaped lm f) (eventStep r a b (ForwardRequested k s) v lm lm lm (carriesForward f) sd x n) (called shape r a b)
+    cond (forwardFits lm f) (eventStep r a b (ForwardRequested k s) v lm lm lm (carriesForward f) sd x n) (called shape r a b)
 
 unfoldable pub forwardCall : List ℕ → List ℕ → List ℕ → ℕ → ℕ → ℕ → List ℕ → Forwarded → Called
 forwardCall r a b k s v msgs f = entering r a b (forwardStep r a b k s v (lent msgs) f)
@@ -188,21 +189,21 @@ forwardCall r a b k s v msgs f = entering r a b (forwardStep r a b k s v (lent m
 
 -- The type that the user data is read as. The air end reads GroundPDUs, the ground end AircraftPDUs; but what a facility sends in a D-START
 -- indication to the ground end, and the confirmation in FORWARD, are GroundPDUs (Doc 9705, 2.3.5.5.2.3, 2.3.5.5.3.3).
-abbrev pub peerReads : ℕ → PduSide
-peerReads x = cond (eqb x facility) pdu.Ground pdu.Air
+abbrev pub peerReads : ℕ → PduType
+peerReads x = cond (eqb x facility) pdu.GroundPdus pdu.AircraftPdus
 
-abbrev pub confirmationReads : Control → PduSide
-confirmationReads c = cond (awaitsResponse c) pdu.Ground pdu.Air
+abbrev pub confirmationReads : Control → PduType
+confirmationReads c = cond (awaitsResponse c) pdu.GroundPdus pdu.AircraftPdus
 
-unfoldable pub readsAs : Side → Control → ServicePrimitive → PduSide
-readsAs Air c p = pdu.Ground
+unfoldable pub readsAs : Side → Control → ServicePrimitive → PduType
+readsAs Air c p = pdu.GroundPdus
 readsAs Ground c (DStartIndication x s q v) = peerReads x
 readsAs Ground c (DStartConfirmation x o s v) = confirmationReads c
-readsAs Ground c DDataIndication = pdu.Air
-readsAs Ground c DEndIndication = pdu.Air
-readsAs Ground c (DEndConfirmation x) = pdu.Air
-readsAs Ground c (DAbortIndication o) = pdu.Air
-readsAs Ground c DPAbortIndication = pdu.Air
+readsAs Ground c DDataIndication = pdu.AircraftPdus
+readsAs Ground c DEndIndication = pdu.AircraftPdus
+readsAs Ground c (DEndConfirmation x) = pdu.AircraftPdus
+readsAs Ground c (DAbortIndication o) = pdu.AircraftPdus
+readsAs Ground c DPAbortIndication = pdu.AircraftPdus
 
 -- a D-ABORT of a provider at the ground end may hold the abort of a ground provider (Doc 9705, 2.3.5.5.15.2)
 unfoldable pub readsAgain : Side → ServicePrimitive → Bool
@@ -216,53 +217,53 @@ readsAgain Ground (DAbortIndication o) = eqb o provider
 readsAgain Ground DPAbortIndication = false
 
 -- of a second reading only an abort by a provider counts
-unfoldable pub abortOf : Answer → Pdu → Answer
+unfoldable pub abortOf : Decoded → Apdu → Decoded
 abortOf first (is.AbortUser r) = first
-abortOf first (is.AbortProvider r) = answer.Is (is.AbortProvider r)
+abortOf first (is.AbortProvider r) = decoded.Is (is.AbortProvider r)
 abortOf first (is.Start m d) = first
 abortOf first (is.Send d) = first
 abortOf first (is.Forward f) = first
 abortOf first (is.ForwardResponse x) = first
 
-unfoldable pub orAbort : Answer → Answer → Answer
-orAbort (answer.Is a) second = answer.Is a
-orAbort (answer.Refused x) (answer.Is a) = abortOf (answer.Refused x) a
-orAbort (answer.Refused x) (answer.Refused y) = answer.Refused x
+unfoldable pub orAbort : Decoded → Decoded → Decoded
+orAbort (decoded.Is a) second = decoded.Is a
+orAbort (decoded.Refused x) (decoded.Is a) = abortOf (decoded.Refused x) a
+orAbort (decoded.Refused x) (decoded.Refused y) = decoded.Refused x
 
-unfoldable pub readPdu : Side → Control → ServicePrimitive → List ℕ → Answer
-readPdu sd c p l = cond (readsAgain sd p) (orAbort (apduAt (readsAs sd c p) l 0) (apduAt pdu.Ground l 0)) (apduAt (readsAs sd c p) l 0)
+unfoldable pub readPdu : Side → Control → ServicePrimitive → List ℕ → Decoded
+readPdu sd c p l = cond (readsAgain sd p) (orAbort (apduAt (readsAs sd c p) l 0) (apduAt pdu.GroundPdus l 0)) (apduAt (readsAs sd c p) l 0)
 
 -- refusals 10 to 17 mean "no valid PDU"
-unfoldable pub meaning : Answer → Apdu
-meaning (answer.Refused r) = NotValid
-meaning (answer.Is (is.AbortUser r)) = AbortUser r
-meaning (answer.Is (is.AbortProvider r)) = AbortProvider r
-meaning (answer.Is (is.Start m d)) = Start (eqb m 1)
-meaning (answer.Is (is.Send d)) = Send
-meaning (answer.Is (is.Forward f)) = Forward
-meaning (answer.Is (is.ForwardResponse x)) = ForwardResponse x
+unfoldable pub meaning : Decoded → UserData
+meaning (decoded.Refused r) = NotValid
+meaning (decoded.Is (is.AbortUser r)) = AbortUser r
+meaning (decoded.Is (is.AbortProvider r)) = AbortProvider r
+meaning (decoded.Is (is.Start m d)) = Start (eqb m 1)
+meaning (decoded.Is (is.Send d)) = Send
+meaning (decoded.Is (is.Forward f)) = Forward
+meaning (decoded.Is (is.ForwardResponse x)) = ForwardResponse x
 
 -- where its message data stand
-unfoldable pub dataOf : Answer → Data
-dataOf (answer.Refused r) = noData
-dataOf (answer.Is (is.AbortUser r)) = noData
-dataOf (answer.Is (is.AbortProvider r)) = noData
-dataOf (answer.Is (is.Start m d)) = d
-dataOf (answer.Is (is.Send d)) = d
-dataOf (answer.Is (is.Forward f)) = noData
-dataOf (answer.Is (is.ForwardResponse x)) = noData
+unfoldable pub dataOf : Decoded → Data
+dataOf (decoded.Refused r) = noData
+dataOf (decoded.Is (is.AbortUser r)) = noData
+dataOf (decoded.Is (is.AbortProvider r)) = noData
+dataOf (decoded.Is (is.Start m d)) = d
+dataOf (decoded.Is (is.Send d)) = d
+dataOf (decoded.Is (is.Forward f)) = noData
+dataOf (decoded.Is (is.ForwardResponse x)) = noData
 
 -- its forward message
-unfoldable pub forwardOf : Answer → Forwarded
-forwardOf (answer.Refused r) = noForward
-forwardOf (answer.Is (is.AbortUser r)) = noForward
-forwardOf (answer.Is (is.AbortProvider r)) = noForward
-forwardOf (answer.Is (is.Start m d)) = noForward
-forwardOf (answer.Is (is.Send d)) = noForward
-forwardOf (answer.Is (is.Forward f)) = f
-forwardOf (answer.Is (is.ForwardResponse x)) = noForward
+unfoldable pub forwardOf : Decoded → Forwarded
+forwardOf (decoded.Refused r) = noForward
+forwardOf (decoded.Is (is.AbortUser r)) = noForward
+forwardOf (decoded.Is (is.AbortProvider r)) = noForward
+forwardOf (decoded.Is (is.Start m d)) = noForward
+forwardOf (decoded.Is (is.Send d)) = noForward
+forwardOf (decoded.Is (is.Forward f)) = f
+forwardOf (decoded.Is (is.ForwardResponse x)) = noForward
 
-abbrev pub carriedBy : Answer → Carried
+abbrev pub carriedBy : Decoded → Carried
 carriedBy a = carries (dataOf a) (forwardOf a)
 
 -- with user data, or without

@@ -1,6 +1,7 @@
 -- The number that a call answers. A refusal is its number, and every other bit is zero. Else, from the lowest bit on:
 --    8 bits  0
---    4 bits  the dialogue-service primitive that is invoked: 0 none, 1 D-START request, 2 D-START response, 3 D-DATA request, 4 D-END request,
+--    4 bits  the dialogue-service primitive that is invoked: 0 none, 1 D-START request, 2 D-START response, 3 D-DATA request, 4 D-END
+--    request,
 --            5 D-END response, 6 D-ABORT request
 --    4 bits  its parameter: routing class (1), result (2, 5), originator (6)
 --    1 bit   its security value (1, 2)

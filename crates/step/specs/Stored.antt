@@ -1,5 +1,5 @@
--- A record as the host keeps it: nine bytes of one code each, then the highest job taken and the dialogue number (document 02, E9), eight bytes
--- each, most significant byte first. A range of zeros is no record.
+-- A record as the host keeps it: nine bytes of one code each, then the highest job taken and the dialogue number (document 02, E9), eight
+-- bytes each, most significant byte first. A range of zeros is no record.
 use Prim.Native.Nat.{ℕ, zero, suc, _+_, _*_}
 use mathlib.Core.Bool.{Bool, true, false, cond, _&&_}
 use mathlib.Core.List.{List, [], _∷_, _++_}

@@ -4,58 +4,58 @@ ghost use Rattle.apdu.specs.Pdus.{lent};
 ghost use Rattle.step.specs.Call.{abortOf, confirmationReads, dataOf, forwardOf, meaning, orAbort, peerReads, readPdu, readsAgain, readsAs};
 use crate::carried::no_data;
 use crate::carried::no_forward;
-use apdu::Answer;
-use apdu::Apdu as Pdu;
+use apdu::Apdu;
 use apdu::Data;
+use apdu::Decoded;
 use apdu::Forward;
-use apdu::Side as PduSide;
+use apdu::PduType;
 use control::Control;
 use control::Side;
 use control::awaits_response;
-use machine::event::Apdu;
 use machine::event::ServicePrimitive;
+use machine::event::UserData;
 
 // The type that a facility's, or an aircraft's, D-START is read as.
-fn of_peer(peer: u64) -> PduSide
+fn of_peer(peer: u64) -> PduType
     ensures { λ s. ⌜ s ≡ peerReads peer ⌝ }
 {
     if peer == ServicePrimitive::FACILITY {
-        PduSide::Ground
+        PduType::GroundPdus
     } else {
-        PduSide::Air
+        PduType::AircraftPdus
     }
 }
 
 // The type that a confirmation is read as.
-fn of_confirmation(c: Control) -> PduSide
+fn of_confirmation(c: Control) -> PduType
     ensures { λ s. ⌜ s ≡ confirmationReads c ⌝ }
 {
     if awaits_response(c) {
-        PduSide::Ground
+        PduType::GroundPdus
     } else {
-        PduSide::Air
+        PduType::AircraftPdus
     }
 }
 
-fn ground_reads(c: Control, p: ServicePrimitive) -> PduSide
+fn ground_reads(c: Control, p: ServicePrimitive) -> PduType
     ensures { λ s. ⌜ s ≡ readsAs Side.Ground c p ⌝ }
 {
     match p {
         ServicePrimitive::DStartIndication(x, _, _, _) => of_peer(x),
         ServicePrimitive::DStartConfirmation(_, _, _, _) => of_confirmation(c),
-        ServicePrimitive::DDataIndication => PduSide::Air,
-        ServicePrimitive::DEndIndication => PduSide::Air,
-        ServicePrimitive::DEndConfirmation(_) => PduSide::Air,
-        ServicePrimitive::DAbortIndication(_) => PduSide::Air,
-        ServicePrimitive::DPAbortIndication => PduSide::Air,
+        ServicePrimitive::DDataIndication => PduType::AircraftPdus,
+        ServicePrimitive::DEndIndication => PduType::AircraftPdus,
+        ServicePrimitive::DEndConfirmation(_) => PduType::AircraftPdus,
+        ServicePrimitive::DAbortIndication(_) => PduType::AircraftPdus,
+        ServicePrimitive::DPAbortIndication => PduType::AircraftPdus,
     }
 }
 
-fn reads_as(side: Side, c: Control, p: ServicePrimitive) -> PduSide
+fn reads_as(side: Side, c: Control, p: ServicePrimitive) -> PduType
     ensures { λ s. ⌜ s ≡ readsAs side c p ⌝ }
 {
     match side {
-        Side::Air => PduSide::Ground,
+        Side::Air => PduType::GroundPdus,
         Side::Ground => ground_reads(c, p),
     }
 }
@@ -84,107 +84,107 @@ fn reads_again(side: Side, p: ServicePrimitive) -> bool
 }
 
 // Of a second reading only an abort by a provider counts.
-fn abort_of(first: Answer, second: Pdu) -> Answer
+fn abort_of(first: Decoded, second: Apdu) -> Decoded
     ensures { λ a. ⌜ a ≡ abortOf first second ⌝ }
 {
     match second {
-        Pdu::AbortUser(_) => first,
-        Pdu::AbortProvider(r) => Answer::Is(Pdu::AbortProvider(r)),
-        Pdu::Start(_, _) => first,
-        Pdu::Send(_) => first,
-        Pdu::Forward(_) => first,
-        Pdu::ForwardResponse(_) => first,
+        Apdu::AbortUser(_) => first,
+        Apdu::AbortProvider(r) => Decoded::Is(Apdu::AbortProvider(r)),
+        Apdu::Start(_, _) => first,
+        Apdu::Send(_) => first,
+        Apdu::Forward(_) => first,
+        Apdu::ForwardResponse(_) => first,
     }
 }
 
-fn or_abort(first: Answer, second: Answer) -> Answer
+fn or_abort(first: Decoded, second: Decoded) -> Decoded
     ensures { λ a. ⌜ a ≡ orAbort first second ⌝ }
 {
-    let Answer::Refused(_) = first else {
+    let Decoded::Refused(_) = first else {
         return first;
     };
-    let Answer::Is(a) = second else {
+    let Decoded::Is(a) = second else {
         return first;
     };
     abort_of(first, a)
 }
 
 // What the user data is, of which the types that may be there are tried.
-pub(crate) fn read_pdu(side: Side, c: Control, p: ServicePrimitive, bytes: &[u8]) -> Answer
+pub(crate) fn read_pdu(side: Side, c: Control, p: ServicePrimitive, bytes: &[u8]) -> Decoded
     ensures { λ a. ⌜ a ≡ readPdu side c p (lent (now (bytes .entry))) ⌝ }
 {
     let first = apdu::read_apdu(bytes, reads_as(side, c, p));
     if reads_again(side, p) {
-        return or_abort(first, apdu::read_apdu(bytes, PduSide::Ground));
+        return or_abort(first, apdu::read_apdu(bytes, PduType::GroundPdus));
     }
     first
 }
 
-fn meaning_of(a: Pdu) -> Apdu
-    ensures { λ m. ⌜ m ≡ meaning (Answer.Is a) ⌝ }
+fn meaning_of(a: Apdu) -> UserData
+    ensures { λ m. ⌜ m ≡ meaning (Decoded.Is a) ⌝ }
 {
     match a {
-        Pdu::AbortUser(r) => Apdu::AbortUser(r),
-        Pdu::AbortProvider(r) => Apdu::AbortProvider(r),
-        Pdu::Start(m, _) => Apdu::Start(m == 1),
-        Pdu::Send(_) => Apdu::Send,
-        Pdu::Forward(_) => Apdu::Forward,
-        Pdu::ForwardResponse(x) => Apdu::ForwardResponse(x),
+        Apdu::AbortUser(r) => UserData::AbortUser(r),
+        Apdu::AbortProvider(r) => UserData::AbortProvider(r),
+        Apdu::Start(m, _) => UserData::Start(m == 1),
+        Apdu::Send(_) => UserData::Send,
+        Apdu::Forward(_) => UserData::Forward,
+        Apdu::ForwardResponse(x) => UserData::ForwardResponse(x),
     }
 }
 
 // Refusals 10 to 17 mean "no valid PDU".
-pub(crate) fn meaning(a: Answer) -> Apdu
+pub(crate) fn meaning(a: Decoded) -> UserData
     ensures { λ m. ⌜ m ≡ meaning a ⌝ }
 {
     match a {
-        Answer::Is(p) => meaning_of(p),
-        Answer::Refused(_) => Apdu::NotValid,
+        Decoded::Is(p) => meaning_of(p),
+        Decoded::Refused(_) => UserData::NotValid,
     }
 }
 
-fn data_of_pdu(a: Pdu) -> Data
-    ensures { λ d. ⌜ d ≡ dataOf (Answer.Is a) ⌝ }
+fn data_of_pdu(a: Apdu) -> Data
+    ensures { λ d. ⌜ d ≡ dataOf (Decoded.Is a) ⌝ }
 {
     match a {
-        Pdu::AbortUser(_) => no_data(),
-        Pdu::AbortProvider(_) => no_data(),
-        Pdu::Start(_, d) => d,
-        Pdu::Send(d) => d,
-        Pdu::Forward(_) => no_data(),
-        Pdu::ForwardResponse(_) => no_data(),
+        Apdu::AbortUser(_) => no_data(),
+        Apdu::AbortProvider(_) => no_data(),
+        Apdu::Start(_, d) => d,
+        Apdu::Send(d) => d,
+        Apdu::Forward(_) => no_data(),
+        Apdu::ForwardResponse(_) => no_data(),
     }
 }
 
 // Where its message data stand.
-pub(crate) fn data_of(a: Answer) -> Data
+pub(crate) fn data_of(a: Decoded) -> Data
     ensures { λ d. ⌜ d ≡ dataOf a ⌝ }
 {
     match a {
-        Answer::Is(p) => data_of_pdu(p),
-        Answer::Refused(_) => no_data(),
+        Decoded::Is(p) => data_of_pdu(p),
+        Decoded::Refused(_) => no_data(),
     }
 }
 
-fn forward_of_pdu(a: Pdu) -> Forward
-    ensures { λ f. ⌜ f ≡ forwardOf (Answer.Is a) ⌝ }
+fn forward_of_pdu(a: Apdu) -> Forward
+    ensures { λ f. ⌜ f ≡ forwardOf (Decoded.Is a) ⌝ }
 {
     match a {
-        Pdu::AbortUser(_) => no_forward(),
-        Pdu::AbortProvider(_) => no_forward(),
-        Pdu::Start(_, _) => no_forward(),
-        Pdu::Send(_) => no_forward(),
-        Pdu::Forward(f) => f,
-        Pdu::ForwardResponse(_) => no_forward(),
+        Apdu::AbortUser(_) => no_forward(),
+        Apdu::AbortProvider(_) => no_forward(),
+        Apdu::Start(_, _) => no_forward(),
+        Apdu::Send(_) => no_forward(),
+        Apdu::Forward(f) => f,
+        Apdu::ForwardResponse(_) => no_forward(),
     }
 }
 
 // Its forward message.
-pub(crate) fn forward_of(a: Answer) -> Forward
+pub(crate) fn forward_of(a: Decoded) -> Forward
     ensures { λ f. ⌜ f ≡ forwardOf a ⌝ }
 {
     match a {
-        Answer::Is(p) => forward_of_pdu(p),
-        Answer::Refused(_) => no_forward(),
+        Decoded::Is(p) => forward_of_pdu(p),
+        Decoded::Refused(_) => no_forward(),
     }
 }

@@ -2,7 +2,7 @@
 ghost use mathlib.Core.Path.{_≡_};
 ghost use Rattle.apdu.specs.Pdus.{lent};
 ghost use Rattle.apdu.specs.Writing.{done};
-ghost use Rattle.step.specs.Call.{bareStep, bitsOfWritten, called, carries, concluded, dataStep, eventStep, firstTakes, forwardCall, pduSide, secondTakes, serviceCall, userCall};
+ghost use Rattle.step.specs.Call.{bareStep, bitsOfWritten, called, carries, concluded, dataStep, eventStep, firstTakes, forwardCall, pdusOf, secondTakes, serviceCall, userCall};
 use crate::arrived::data_of;
 use crate::arrived::forward_of;
 use crate::arrived::meaning;
@@ -18,26 +18,26 @@ use crate::packing::version_number;
 use crate::stored::Loaded;
 use crate::stored::load;
 use crate::stored::store;
-use apdu::Apdu as Pdu;
+use apdu::Apdu;
 use apdu::Data;
 use apdu::Forward;
-use apdu::Side as PduSide;
+use apdu::PduType;
 use apdu::Written;
 use control::Side;
-use machine::event::Apdu;
 use machine::event::Event;
 use machine::event::ServicePrimitive;
+use machine::event::UserData;
 use machine::outcome::Outcome;
 use machine::record::Record;
 use numbered::held_after;
 use words::Limit;
 
-fn pdu_side(s: Side) -> PduSide
-    ensures { λ p. ⌜ p ≡ pduSide s ⌝ }
+fn pdus_of(s: Side) -> PduType
+    ensures { λ p. ⌜ p ≡ pdusOf s ⌝ }
 {
     match s {
-        Side::Air => PduSide::Air,
-        Side::Ground => PduSide::Ground,
+        Side::Air => PduType::AircraftPdus,
+        Side::Ground => PduType::GroundPdus,
     }
 }
 
@@ -55,7 +55,7 @@ fn bits_of(w: Written) -> usize
 fn write_first(
     first: &mut [u8],
     side: Side,
-    a: Apdu,
+    a: UserData,
     content: Data,
     forward: Forward,
     ids: &[u8],
@@ -64,21 +64,21 @@ fn write_first(
 ) -> Written
     ensures { λ w. ⌜ done w (now (first .exit)) ≡ firstTakes side (lent (now (ids .entry))) (lent (now (msgs .entry))) (lent (now (checks .entry))) (carries content forward) a (now (first .entry)) ⌝ }
 {
-    let pdu = pdu_side(side);
+    let pdu = pdus_of(side);
     match a {
-        Apdu::Absent => Written::Bits(0),
-        Apdu::NotValid => Written::Bits(0),
-        Apdu::Start(m) => {
-            apdu::put_apdu(first, pdu, Pdu::Start(mode(m), content), ids, msgs, checks)
+        UserData::Absent => Written::Bits(0),
+        UserData::NotValid => Written::Bits(0),
+        UserData::Start(m) => {
+            apdu::put_apdu(first, pdu, Apdu::Start(mode(m), content), ids, msgs, checks)
         }
-        Apdu::Send => apdu::put_apdu(first, pdu, Pdu::Send(content), ids, msgs, checks),
-        Apdu::AbortUser(x) => apdu::put_apdu(first, pdu, Pdu::AbortUser(x), ids, msgs, checks),
-        Apdu::AbortProvider(x) => {
-            apdu::put_apdu(first, pdu, Pdu::AbortProvider(x), ids, msgs, checks)
+        UserData::Send => apdu::put_apdu(first, pdu, Apdu::Send(content), ids, msgs, checks),
+        UserData::AbortUser(x) => apdu::put_apdu(first, pdu, Apdu::AbortUser(x), ids, msgs, checks),
+        UserData::AbortProvider(x) => {
+            apdu::put_apdu(first, pdu, Apdu::AbortProvider(x), ids, msgs, checks)
         }
-        Apdu::Forward => apdu::put_apdu(first, pdu, Pdu::Forward(forward), ids, msgs, checks),
-        Apdu::ForwardResponse(x) => {
-            apdu::put_apdu(first, pdu, Pdu::ForwardResponse(x), ids, msgs, checks)
+        UserData::Forward => apdu::put_apdu(first, pdu, Apdu::Forward(forward), ids, msgs, checks),
+        UserData::ForwardResponse(x) => {
+            apdu::put_apdu(first, pdu, Apdu::ForwardResponse(x), ids, msgs, checks)
         }
     }
 }
@@ -199,16 +199,16 @@ pub fn user_call(
 ) -> u64
     ensures { λ n. ⌜ called n (now (rec .exit)) (now (first .exit)) (now (second .exit)) ≡ userCall (now (rec .entry)) (now (first .entry)) (now (second .entry)) e brought (now (ids .entry)) (now (msgs .entry)) (now (checks .entry)) d ⌝ }
 {
-    if first.len() < Pdu::BUFFER {
+    if first.len() < Apdu::BUFFER {
         return Limit::ROOM;
     }
-    if second.len() < Pdu::BUFFER {
+    if second.len() < Apdu::BUFFER {
         return Limit::ROOM;
     }
     let Loaded::Is(side, r, held) = load(rec) else {
         return Limit::SHAPE;
     };
-    if apdu::data_shaped(d, ids, msgs, checks) {
+    if apdu::data_fits(d, ids, msgs, checks) {
         return event_step(
             rec,
             first,
@@ -241,16 +241,16 @@ pub fn forward_call(
 ) -> u64
     ensures { λ n. ⌜ called n (now (rec .exit)) (now (first .exit)) (now (second .exit)) ≡ forwardCall (now (rec .entry)) (now (first .entry)) (now (second .entry)) class security brought (now (msgs .entry)) f ⌝ }
 {
-    if first.len() < Pdu::BUFFER {
+    if first.len() < Apdu::BUFFER {
         return Limit::ROOM;
     }
-    if second.len() < Pdu::BUFFER {
+    if second.len() < Apdu::BUFFER {
         return Limit::ROOM;
     }
     let Loaded::Is(side, r, held) = load(rec) else {
         return Limit::SHAPE;
     };
-    if apdu::forward_shaped(f, msgs) {
+    if apdu::forward_fits(f, msgs) {
         let e = Event::Forward(class, security);
         return event_step(
             rec,
@@ -321,7 +321,7 @@ fn bare_step(
 ) -> u64
     ensures { λ n. ⌜ called n (now (rec .exit)) (now (first .exit)) (now (second .exit)) ≡ bareStep (now (rec .entry)) (now (first .entry)) (now (second .entry)) p brought (lent (now (bytes .entry))) side r held ⌝ }
 {
-    let e = Event::Service(p, Apdu::Absent);
+    let e = Event::Service(p, UserData::Absent);
     let content = no_data();
     let forward = no_forward();
     event_step(
@@ -353,10 +353,10 @@ pub fn service_call(
 ) -> u64
     ensures { λ n. ⌜ called n (now (rec .exit)) (now (first .exit)) (now (second .exit)) ≡ serviceCall (now (rec .entry)) (now (first .entry)) (now (second .entry)) p brought given (now (bytes .entry)) ⌝ }
 {
-    if first.len() < Pdu::BUFFER {
+    if first.len() < Apdu::BUFFER {
         return Limit::ROOM;
     }
-    if second.len() < Pdu::BUFFER {
+    if second.len() < Apdu::BUFFER {
         return Limit::ROOM;
     }
     let Loaded::Is(side, r, held) = load(rec) else {

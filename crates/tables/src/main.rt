@@ -6,10 +6,10 @@
 use control::Control;
 use control::Side;
 use control::State;
-use machine::event::Apdu;
 use machine::event::Event;
 use machine::event::Qos;
 use machine::event::ServicePrimitive;
+use machine::event::UserData;
 use machine::event::UserPrimitive;
 use machine::outcome::Invoked;
 use machine::outcome::Outcome;
@@ -64,28 +64,28 @@ fn show_record(r: Record) {
     number(r.highest);
 }
 
-fn pdu_name(a: Apdu) {
+fn pdu_name(a: UserData) {
     match a {
-        Apdu::Absent => text(b"missing"),
-        Apdu::NotValid => text(b"invalid"),
-        Apdu::Start(dsc) => {
+        UserData::Absent => text(b"missing"),
+        UserData::NotValid => text(b"invalid"),
+        UserData::Start(dsc) => {
             if dsc {
                 text(b"start dsc");
             } else {
                 text(b"start cpdlc");
             }
         }
-        Apdu::Send => text(b"send"),
-        Apdu::AbortUser(n) => {
+        UserData::Send => text(b"send"),
+        UserData::AbortUser(n) => {
             text(b"abort user");
             number(n);
         }
-        Apdu::AbortProvider(n) => {
+        UserData::AbortProvider(n) => {
             text(b"abort provider");
             number(n);
         }
-        Apdu::Forward => text(b"forward"),
-        Apdu::ForwardResponse(n) => {
+        UserData::Forward => text(b"forward"),
+        UserData::ForwardResponse(n) => {
             text(b"forward response");
             number(n);
         }
@@ -334,7 +334,7 @@ fn event_of(policy: u64, kind: u64, n: u64) -> Event {
         7 => data_or_end(n),
         8 => Event::Service(ServicePrimitive::DEndConfirmation(n / PDUS), pdu(n % PDUS)),
         9 => Event::Service(ServicePrimitive::DAbortIndication(n / PDUS), pdu(n % PDUS)),
-        _ => Event::Service(ServicePrimitive::DPAbortIndication, Apdu::Absent),
+        _ => Event::Service(ServicePrimitive::DPAbortIndication, UserData::Absent),
     }
 }
 
@@ -374,17 +374,17 @@ fn report(policy: u64, n: u64) -> Event {
 // Nine user data: one of each PDU, none valid, none at all.
 const PDUS: u64 = 9;
 
-fn pdu(n: u64) -> Apdu {
+fn pdu(n: u64) -> UserData {
     match n {
-        0 => Apdu::Send,
-        1 => Apdu::Start(false),
-        2 => Apdu::Start(true),
-        3 => Apdu::Forward,
-        4 => Apdu::ForwardResponse(2),
-        5 => Apdu::AbortUser(5),
-        6 => Apdu::AbortProvider(1),
-        7 => Apdu::NotValid,
-        _ => Apdu::Absent,
+        0 => UserData::Send,
+        1 => UserData::Start(false),
+        2 => UserData::Start(true),
+        3 => UserData::Forward,
+        4 => UserData::ForwardResponse(2),
+        5 => UserData::AbortUser(5),
+        6 => UserData::AbortProvider(1),
+        7 => UserData::NotValid,
+        _ => UserData::Absent,
     }
 }
 
@@ -395,14 +395,14 @@ fn other(policy: u64) -> u64 {
     0
 }
 
-fn indication(peer: u64, security: u64, qos: Qos, version: u64, apdu: Apdu) -> Event {
+fn indication(peer: u64, security: u64, qos: Qos, version: u64, apdu: UserData) -> Event {
     Event::Service(
         ServicePrimitive::DStartIndication(peer, security, qos, version),
         apdu,
     )
 }
 
-fn confirmation(result: u64, source: u64, security: u64, version: u64, apdu: Apdu) -> Event {
+fn confirmation(result: u64, source: u64, security: u64, version: u64, apdu: UserData) -> Event {
     Event::Service(
         ServicePrimitive::DStartConfirmation(result, source, security, version),
         apdu,
@@ -430,15 +430,15 @@ fn faulty_start(policy: u64, n: u64) -> Event {
             policy,
             quality(1, 1, 2),
             OWN + n % 2,
-            Apdu::Forward,
+            UserData::Forward,
         );
     }
     let peer = n / 4;
     match n % 4 {
-        0 => indication(peer, other(policy), quality(1, 1, 2), 0, Apdu::Absent),
-        1 => indication(peer, other(policy), quality(7, 1, 2), 0, Apdu::Absent),
-        2 => indication(peer, policy, quality(1, 7, 2), 0, Apdu::Start(false)),
-        _ => indication(peer, policy, quality(1, 1, 9), 0, Apdu::Start(false)),
+        0 => indication(peer, other(policy), quality(1, 1, 2), 0, UserData::Absent),
+        1 => indication(peer, other(policy), quality(7, 1, 2), 0, UserData::Absent),
+        2 => indication(peer, policy, quality(1, 7, 2), 0, UserData::Start(false)),
+        _ => indication(peer, policy, quality(1, 1, 9), 0, UserData::Start(false)),
     }
 }
 
@@ -450,9 +450,9 @@ fn started(policy: u64, n: u64) -> Event {
 // Its other faults; then a forward response with a version.
 fn faulty_started(policy: u64, n: u64) -> Event {
     if n == 6 {
-        return confirmation(1, 0, policy, OWN + 1, Apdu::ForwardResponse(2));
+        return confirmation(1, 0, policy, OWN + 1, UserData::ForwardResponse(2));
     }
-    confirmation(n / 2, n % 2, other(policy), 0, Apdu::Absent)
+    confirmation(n / 2, n % 2, other(policy), 0, UserData::Absent)
 }
 
 fn data_or_end(n: u64) -> Event {
@@ -489,7 +489,7 @@ fn result_name(n: u64) {
     noted(n == 2, b", rejected (transient)");
 }
 
-fn pdu_title(a: Apdu) {
+fn pdu_title(a: UserData) {
     text(b", ");
     pdu_name(a);
 }
@@ -539,7 +539,7 @@ fn version_title(version: u64) {
     }
 }
 
-fn service_title(policy: u64, p: ServicePrimitive, a: Apdu) {
+fn service_title(policy: u64, p: ServicePrimitive, a: UserData) {
     match p {
         ServicePrimitive::DStartIndication(peer, security, qos, version) => {
             text(b"D-START indication");
@@ -636,11 +636,11 @@ const STEPS: u64 = 10;
 fn job_event(n: u64) -> Event {
     match n {
         1 => Event::User(UserPrimitive::StartServiceRequest(UserPrimitive::CPDLC, 0, 0)),
-        2 => confirmation(0, 0, 0, 0, Apdu::Send),
-        5 => Event::Service(ServicePrimitive::DEndIndication, Apdu::Send),
+        2 => confirmation(0, 0, 0, 0, UserData::Send),
+        5 => Event::Service(ServicePrimitive::DEndIndication, UserData::Send),
         6 => Event::User(UserPrimitive::EndServiceResponse(false, 0)),
         7 => Event::User(UserPrimitive::StartServiceRequest(UserPrimitive::CPDLC, 0, 0)),
-        8 => confirmation(0, 0, 0, 0, Apdu::Send),
+        8 => confirmation(0, 0, 0, 0, UserData::Send),
         _ => Event::User(UserPrimitive::MessageServiceRequest(true, 7)),
     }
 }

@@ -40,16 +40,16 @@ use denote.Triple.Clauses.{ensured, lasts}
 use Rattle.apdu.specs.Pdus.{lent}
 use Rattle.apdu.specs.Reading.{apduAt}
 use Rattle.apdu.specs.declared.Reader.{Reader}
-use Rattle.apdu.specs.declared.Side.{Side}
-use Rattle.apdu.specs.declared.Answer.{Answer}
+use Rattle.apdu.specs.declared.PduType.{PduType}
+use Rattle.apdu.specs.declared.Decoded.{Decoded}
 use Prim.Native.Nat.{_<_, _^_}
 use denote.Plain.{uint-makes, uint-vals, uint-tells}
 use Rattle.apdu.proofs.Reader as T
 use Rattle.apdu.proofs.Reader.Laws as T′
-use Rattle.apdu.proofs.Side as E
-use Rattle.apdu.proofs.Side.Laws as E′
-use Rattle.apdu.proofs.Answer as S
-use Rattle.apdu.proofs.Answer.Laws as S′
+use Rattle.apdu.proofs.PduType as E
+use Rattle.apdu.proofs.PduType.Laws as E′
+use Rattle.apdu.proofs.Decoded as S
+use Rattle.apdu.proofs.Decoded.Laws as S′
 use Rattle.apdu.proofs.new as new
 use Rattle.apdu.proofs.new.Symbol as new-def
 use Rattle.apdu.proofs.new.Symbol.{name as #apdu·new}
@@ -63,8 +63,8 @@ use Rattle.apdu.proofs.read_apdu as first
 use Rattle.apdu.proofs.read_apdu.Statement as stated
 use Rattle.apdu.proofs.read_apdu.Code as code
 
--- the machine value of a side
-abbrev sv : Side → Val
+-- the machine value of a type of APDU
+abbrev sv : PduType → Val
 sv sd = EL.val E.the-type E′.the-laws sd
 
 -- the struct's type, over the signature's lifetimes
@@ -82,12 +82,12 @@ module _ {M : Type 1} (𝓤 : URA M) (H : Heap 𝓤) (A : Atoms 𝓤) (mem : Mem
   abbrev Next : Contract 𝓤
   Next = tripleOf 𝓤 H A next.signature (next.spec 𝓤 H A mem run)
 
-module _ {M : Type 1} (𝓤 : URA M) (H : Heap 𝓤) (A : Atoms 𝓤) (W : Given 𝓤 H A) (mem : Memory → SProp 𝓤) (run : Routine → Fun 𝓤) (κ : Lft) (q : Share) (s : RefT (List ℕ)) (sd : Side) (ok : Is E.the-row sd (EL.vals E.the-type E′.the-laws sd)) where
+module _ {M : Type 1} (𝓤 : URA M) (H : Heap 𝓤) (A : Atoms 𝓤) (W : Given 𝓤 H A) (mem : Memory → SProp 𝓤) (run : Routine → Fun 𝓤) (κ : Lft) (q : Share) (s : RefT (List ℕ)) (sd : PduType) (ok : Is E.the-row sd (EL.vals E.the-type E′.the-laws sd)) where
   -- the machine value that s has
   abbrev v : Val
   v = sliceVal (s .ptr) (length (s .now))
 
-  abbrev found : Answer
+  abbrev found : Decoded
   found = apduAt sd (lent (now s)) 0
 
   abbrev at : Vals first.signature (κ, tt)
@@ -123,10 +123,10 @@ module _ {M : Type 1} (𝓤 : URA M) (H : Heap 𝓤) (A : Atoms 𝓤) (W : Given
   goes-next : (r : Reader) (u : Val) → ent 𝓤 (⋆ 𝓤 H A (‵ (B (κ, tt) .own r (u ∷ [])) ∷ (‵ (flft κ q) ⊛ ‵ ftrue) ∷ [])) (Next 𝓤 H A mem run .pre (to-next r u))
   goes-next r u = qed W (‵ (B (κ, tt) .own r (u ∷ [])) ∷ (‵ (flft κ q) ⊛ ‵ ftrue) ∷ []) ∵ nothing ! $ owned ! E.the-row (Is E.the-row) (EL.makes E.the-type E′.the-plain 𝓤 H A) sd _ ok $ fjoin ! $ move ! (1 ∷ 0 ∷ []) $ fjoin ! $ move ! (1 ∷ 0 ∷ []) $ join ! $ frame ! $ done !
 
-  next-said : (r : Reader) (t : Answer) → ent 𝓤 (ensured 𝓤 H A next.ended (next.clauses 𝓤 H A mem run) (κ, tt) (r, (sd, tt)) tt t) (fact 𝓤 (t ≡ apduAt sd (lent (now (r .src))) (r .at)))
+  next-said : (r : Reader) (t : Decoded) → ent 𝓤 (ensured 𝓤 H A next.ended (next.clauses 𝓤 H A mem run) (κ, tt) (r, (sd, tt)) tt t) (fact 𝓤 (t ≡ apduAt sd (lent (now (r .src))) (r .at)))
   next-said r t = exE 𝓤 _ (λ ws. snd∗ 𝓤 (sem 𝓤 H A (lasts next.ended (κ, tt) (r, (sd, tt)) ws)) (fact 𝓤 (t ≡ apduAt sd (lent (now (r .src))) (r .at))))
 
-  exits : (t : Answer) (u : Val) → t ≡ found → ent 𝓤 (⋆ 𝓤 H A (‵ (S.the-row .own t (u ∷ [])) ∷ (‵ (flft κ q) ⊛ ‵ ftrue) ∷ ‵ Own ∷ [])) (Post u)
+  exits : (t : Decoded) (u : Val) → t ≡ found → ent 𝓤 (⋆ 𝓤 H A (‵ (S.the-row .own t (u ∷ [])) ∷ (‵ (flft κ q) ⊛ ‵ ftrue) ∷ ‵ Own ∷ [])) (Post u)
   exits t u e =
       qed W (‵ (S.the-row .own t (u ∷ [])) ∷ (‵ (flft κ q) ⊛ ‵ ftrue) ∷ ‵ Own ∷ []) ∵
       suffices ! _ (ends-at 𝓤 H A first.ended stayed (first.clauses 𝓤 H A mem run) W (((κ, tt), (q, tt), tt, (s, (sd, tt)), at), tt) u t (tt, (tt, tt)) (tt, (tt, tt))) $ says ! e $
@@ -146,7 +146,7 @@ module _ {M : Type 1} (𝓤 : URA M) (H : Heap 𝓤) (A : Atoms 𝓤) (W : Given
         land ! (from ! (stop !)) (init ! 3 refl (LL.lawful (T.the-type αᵉ) (T′.the-laws αᵉ) 𝓤 H A W .typed r _ is .0)) $
         use2 W (raw (Next 𝓤 H A mem run .pre (to-next r u))) (goes-next r u) $
         calls-at ! fm (Next 𝓤 H A mem run) known-next (to-next r u) (and-then ! (load ! (from ! (stop !)) (look ! 2 refl)) (and-then ! (load ! (from ! (stop !)) (look ! 4 refl)) (no-more !))) (λ u′.
-        use1 W (later (some (λ (t : Answer). ((‵ (flft κ q) ⊛ ‵ ftrue) ⊛ ‵ (S.the-row .own t (u′ ∷ []))) ⊛ raw (ensured 𝓤 H A next.ended (next.clauses 𝓤 H A mem run) (κ, tt) (r, (sd, tt)) tt t)))) (id⊢ 𝓤 _) $ await ! tt $ pick ! (λ t.
+        use1 W (later (some (λ (t : Decoded). ((‵ (flft κ q) ⊛ ‵ ftrue) ⊛ ‵ (S.the-row .own t (u′ ∷ []))) ⊛ raw (ensured 𝓤 H A next.ended (next.clauses 𝓤 H A mem run) (κ, tt) (r, (sd, tt)) tt t)))) (id⊢ 𝓤 _) $ await ! tt $ pick ! (λ t.
         split ! $ move ! (1 ∷ []) $ use1 W (raw (fact 𝓤 (t ≡ apduAt sd (lent (now (r .src))) (r .at)))) (next-said r t) $ heard ! (t ≡ apduAt sd (lent (now (r .src))) (r .at)) (λ e′. split ! $ move ! (1 ∷ []) $
         -- [the result; the token; what s owns; _2; …; _1; …; room for _0; …]
         peeks ! S.the-row (Is S.the-row) (shows 𝓤 H A S.the-row) t (u′ ∷ []) (λ is′.

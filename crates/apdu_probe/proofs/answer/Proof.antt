@@ -8,7 +8,7 @@ use Rattle.apdu_probe.proofs.answer.Lts as lts
 use Rattle.apdu.proofs.read_apdu.Reads as read-apdu-reads
 use Rattle.apdu_probe.proofs.number.Reads as number-reads
 use Rattle.apdu_probe.proofs.show_answer.Reads as show-answer-reads
-use Rattle.apdu_probe.proofs.side.Reads as side-reads
+use Rattle.apdu_probe.proofs.pdus.Reads as pdus-reads
 use Rattle.apdu_probe.proofs.write.Reads as write-reads
 use Rattle.io.proofs.write_all.Reads as write-all-reads
 
@@ -17,8 +17,8 @@ number-requires : tie.Need-number-requires
 number-requires c κs = search needs
 
 -- src/main.rt:207:43
-side-requires : tie.Need-side-requires
-side-requires c κs = search needs
+pdus-requires : tie.Need-pdus-requires
+pdus-requires c κs = search needs
 
 -- src/main.rt:207:21
 read-apdu-requires : tie.Need-read-apdu-requires
@@ -89,7 +89,7 @@ answer-spec =
     tie.close
     (tie.spec
     number-requires
-    side-requires
+    pdus-requires
     read-apdu-requires
     show-answer-requires
     returns

@@ -6,15 +6,15 @@ use Rattle.numbered.proofs.Laws.{then-step}
 use Rattle.numbered.proofs.step.Statement.{statement}
 use Rattle.numbered.proofs.step.Tie as tie
 
-shapely-requires : tie.Need-shapely-requires
-shapely-requires c κs = tt
+fits-requires : tie.Need-fits-requires
+fits-requires c κs = tt
 
 refused-requires : tie.Need-refused-requires
 refused-requires c κs = tt
 
 returns : tie.Need-returns
 unfolding numberedStep refusalOf
-returns c = rw (← c .before .before .shapely .ensures, c .before .if1 .taken) (c .refused .ensures)
+returns c = rw (← c .before .before .fits2 .ensures, c .before .if1 .taken) (c .refused .ensures)
 
 is-stale-requires : tie.Need-is-stale-requires
 is-stale-requires c κs = tt
@@ -24,7 +24,7 @@ refused-requires-2 c κs = tt
 
 returns-2 : tie.Need-returns-2
 unfolding numberedStep refusalOf
-returns-2 c = rw (← c .before .before .before .before .shapely .ensures, c .before .before .before .if1 .left, ← c .before .before .is-stale .ensures, c .before .if2 .taken) (c .refused2 .ensures)
+returns-2 c = rw (← c .before .before .before .before .fits2 .ensures, c .before .before .before .if1 .left, ← c .before .before .is-stale .ensures, c .before .if2 .taken) (c .refused2 .ensures)
 
 step-requires : tie.Need-step-requires
 step-requires c κs = tt
@@ -36,7 +36,7 @@ pub step-spec : {M : Type 1} → statement M
 step-spec =
     tie.close
     (tie.spec
-    shapely-requires
+    fits-requires
     refused-requires
     returns
     is-stale-requires

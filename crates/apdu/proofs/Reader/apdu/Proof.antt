@@ -1,4 +1,4 @@
--- `apdu::Reader::apdu` meets its contract: a walk of its MIR, by hand. The struct is taken apart, and `apdu_at` is called on the slice, the number and the side. All that the proof knows of `apdu_at` is that it meets its contract.
+-- `apdu::Reader::apdu` meets its contract: a walk of its MIR, by hand. The struct is taken apart, and `apdu_at` is called on the slice, the number and the type. All that the proof knows of `apdu_at` is that it meets its contract.
 -- The struct is Copy: what it owns is had twice, one copy is kept whole for the exit, and of the other what src owns goes to the callee, beside the lifetime's token, which comes back.
 -- Assumes nothing.
 use mathlib.Core.Path.{_≡_, refl}
@@ -46,14 +46,14 @@ use denote.Triple.Clauses.{ensured, lasts}
 use Rattle.apdu.specs.Pdus.{lent}
 use Rattle.apdu.specs.Reading.{apduAt}
 use Rattle.apdu.specs.declared.Reader.{Reader}
-use Rattle.apdu.specs.declared.Side.{Side}
-use Rattle.apdu.specs.declared.Answer.{Answer}
+use Rattle.apdu.specs.declared.PduType.{PduType}
+use Rattle.apdu.specs.declared.Decoded.{Decoded}
 use Rattle.apdu.proofs.Reader as T
 use Rattle.apdu.proofs.Reader.Laws as T′
-use Rattle.apdu.proofs.Side as E
-use Rattle.apdu.proofs.Side.Laws as E′
-use Rattle.apdu.proofs.Answer as S
-use Rattle.apdu.proofs.Answer.Laws as S′
+use Rattle.apdu.proofs.PduType as E
+use Rattle.apdu.proofs.PduType.Laws as E′
+use Rattle.apdu.proofs.Decoded as S
+use Rattle.apdu.proofs.Decoded.Laws as S′
 use Rattle.apdu.proofs.decoder.apdu_at as step
 use Rattle.apdu.proofs.decoder.apdu_at.Symbol as step-def
 use Rattle.apdu.proofs.decoder.apdu_at.Symbol.{name as #apdu·apdu-at}
@@ -63,8 +63,8 @@ use Rattle.apdu.proofs.Reader.apdu as apdu
 use Rattle.apdu.proofs.Reader.apdu.Statement as stated
 use Rattle.apdu.proofs.Reader.apdu.Code as code
 
--- the machine value of a side
-abbrev sv : Side → Val
+-- the machine value of a type of APDU
+abbrev sv : PduType → Val
 sv sd = EL.val E.the-type E′.the-laws sd
 
 -- the struct's type, over the signature's lifetimes
@@ -79,7 +79,7 @@ module _ {M : Type 1} (𝓤 : URA M) (H : Heap 𝓤) (A : Atoms 𝓤) (mem : Mem
   abbrev StepAt : Contract 𝓤
   StepAt = tripleOf 𝓤 H A step.signature (step.spec 𝓤 H A mem run)
 
-module _ {M : Type 1} (𝓤 : URA M) (H : Heap 𝓤) (A : Atoms 𝓤) (W : Given 𝓤 H A) (mem : Memory → SProp 𝓤) (run : Routine → Fun 𝓤) (κ : Lft) (q : Share) (d : Reader) (sd : Side) (ok : Is E.the-row sd (EL.vals E.the-type E′.the-laws sd)) where
+module _ {M : Type 1} (𝓤 : URA M) (H : Heap 𝓤) (A : Atoms 𝓤) (W : Given 𝓤 H A) (mem : Memory → SProp 𝓤) (run : Routine → Fun 𝓤) (κ : Lft) (q : Share) (d : Reader) (sd : PduType) (ok : Is E.the-row sd (EL.vals E.the-type E′.the-laws sd)) where
   abbrev mach : Val
   mach = T′.lowered d
 
@@ -87,7 +87,7 @@ module _ {M : Type 1} (𝓤 : URA M) (H : Heap 𝓤) (A : Atoms 𝓤) (W : Given
   abbrev v : Val
   v = sliceVal (d .src .ptr) (length (d .src .now))
 
-  abbrev found : Answer
+  abbrev found : Decoded
   found = apduAt sd (lent (now (d .src))) (d .at)
 
   abbrev at : Vals apdu.signature (κ, tt)
@@ -130,10 +130,10 @@ module _ {M : Type 1} (𝓤 : URA M) (H : Heap 𝓤) (A : Atoms 𝓤) (W : Given
       move ! (2 ∷ 0 ∷ []) $ use2 W (raw (StepAt 𝓤 H A mem run .pre to)) asked $ frame ! $ done !)
 
   -- of the callee's `ensured`, the clause alone: it has no `&mut`, so what is said of last values is dropped
-  said : (r : Answer) → ent 𝓤 (ensured 𝓤 H A step.ended (step.clauses 𝓤 H A mem run) (κ, tt) (d .src, (d .at, (sd, tt))) tt r) (fact 𝓤 (r ≡ found))
+  said : (r : Decoded) → ent 𝓤 (ensured 𝓤 H A step.ended (step.clauses 𝓤 H A mem run) (κ, tt) (d .src, (d .at, (sd, tt))) tt r) (fact 𝓤 (r ≡ found))
   said r = exE 𝓤 _ (λ ws. snd∗ 𝓤 (sem 𝓤 H A (lasts step.ended (κ, tt) (d .src, (d .at, (sd, tt))) ws)) (fact 𝓤 (r ≡ found)))
 
-  exits : (r : Answer) (u : Val) → r ≡ found → ent 𝓤 (⋆ 𝓤 H A (‵ (S.the-row .own r (u ∷ [])) ∷ (‵ (flft κ q) ⊛ ‵ ftrue) ∷ ‵ Own ∷ [])) (Post u)
+  exits : (r : Decoded) (u : Val) → r ≡ found → ent 𝓤 (⋆ 𝓤 H A (‵ (S.the-row .own r (u ∷ [])) ∷ (‵ (flft κ q) ⊛ ‵ ftrue) ∷ ‵ Own ∷ [])) (Post u)
   exits r u e =
       qed W (‵ (S.the-row .own r (u ∷ [])) ∷ (‵ (flft κ q) ⊛ ‵ ftrue) ∷ ‵ Own ∷ []) ∵
       suffices ! _ (ends-at 𝓤 H A apdu.ended stayed (apdu.clauses 𝓤 H A mem run) W (((κ, tt), (q, tt), tt, (d, (sd, tt)), at), tt) u r (tt, (tt, tt)) (tt, (tt, tt))) $ says ! e $
@@ -148,7 +148,7 @@ module _ {M : Type 1} (𝓤 : URA M) (H : Heap 𝓤) (A : Atoms 𝓤) (W : Given
         assigns ! (of-opd ! (load ! (from ! (fld ! refl (stop !))) (look-in ! 6 (sub ! 1 refl (whole !))))) (from ! (stop !)) (init ! 0 refl (tt, wt .1 .1 .0)) $
         move ! (10 ∷ []) $ use1 W (raw (StepAt 𝓤 H A mem run .pre to) ⊛ ‵ Own) (apart (wt .1 .1 .0 .fits)) $ split ! $
         calls-at ! fm (StepAt 𝓤 H A mem run) known to (and-then ! (load ! (from ! (stop !)) (look ! 4 refl)) (and-then ! (load ! (from ! (stop !)) (look ! 2 refl)) (and-then ! (load ! (from ! (stop !)) (look ! 6 refl)) (no-more !)))) (λ u.
-        use1 W (later (some (λ (r : Answer). ((‵ (flft κ q) ⊛ ‵ ftrue) ⊛ ‵ (S.the-row .own r (u ∷ []))) ⊛ raw (ensured 𝓤 H A step.ended (step.clauses 𝓤 H A mem run) (κ, tt) (d .src, (d .at, (sd, tt))) tt r)))) (id⊢ 𝓤 _) $ await ! tt $ pick ! (λ r.
+        use1 W (later (some (λ (r : Decoded). ((‵ (flft κ q) ⊛ ‵ ftrue) ⊛ ‵ (S.the-row .own r (u ∷ []))) ⊛ raw (ensured 𝓤 H A step.ended (step.clauses 𝓤 H A mem run) (κ, tt) (d .src, (d .at, (sd, tt))) tt r)))) (id⊢ 𝓤 _) $ await ! tt $ pick ! (λ r.
         split ! $ move ! (1 ∷ []) $ use1 W (raw (fact 𝓤 (r ≡ found))) (said r) $ heard ! (r ≡ found) (λ e. split ! $ move ! (1 ∷ []) $
         -- [the result; the token; what the struct owns; _3; …; _2; …; _1; …; room for _0; …]
         peeks ! S.the-row (Is S.the-row) (shows 𝓤 H A S.the-row) r (u ∷ []) (λ is.

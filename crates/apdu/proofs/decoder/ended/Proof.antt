@@ -1,7 +1,7 @@
 use mathlib.Core.Path.{refl}
 use Rattle.apdu.proofs.Answers.{handed, went}
 use Rattle.apdu.specs.Reading.{endedAt}
-use Rattle.apdu.specs.declared.Answer.the-variants as answer
+use Rattle.apdu.specs.declared.Decoded.the-variants as decoded
 use Rattle.apdu.proofs.decoder.ended.Statement.{statement}
 use Rattle.apdu.proofs.decoder.ended.Tie as tie
 use Rattle.apdu.proofs.decoder.ended.Reads as reads
@@ -27,12 +27,12 @@ field-refusal-requires c κs = tt
 -- src/decoder.rt:55:9
 returns : tie.Need-returns
 unfolding endedAt
-returns c = handed answer.Refused _ _ _ _ _ (c .before .before .before .tail .ensures) (c .before .enum-told2 .given .1) (c .field-refusal .ensures)
+returns c = handed decoded.Refused _ _ _ _ _ (c .before .before .before .tail .ensures) (c .before .enum-told2 .given .1) (c .field-refusal .ensures)
 
 -- src/decoder.rt:50:1
 returns-2 : tie.Need-returns-2
 unfolding endedAt
-returns-2 c = went answer.Refused _ _ _ _ _ _ (c .before .before .tail .ensures) (c .enum-told .given .1) refl
+returns-2 c = went decoded.Refused _ _ _ _ _ _ (c .before .before .tail .ensures) (c .enum-told .given .1) refl
 
 pub ended-spec : {M : Type 1} → statement M
 ended-spec =

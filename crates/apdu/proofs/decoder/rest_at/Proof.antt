@@ -1,7 +1,7 @@
 use Rattle.apdu.proofs.Answers.{handed, went, data-handed, data-went}
 use Rattle.apdu.proofs.Forwards.{forward-handed, forward-went}
 use Rattle.apdu.specs.Reading.{restWithin}
-use Rattle.apdu.specs.declared.Answer.the-variants as answer
+use Rattle.apdu.specs.declared.Decoded.the-variants as decoded
 use borrow.Author.Needs.{needs}
 use Rattle.apdu.proofs.decoder.rest_at.Statement.{statement}
 use Rattle.apdu.proofs.decoder.rest_at.Tie as tie
@@ -38,7 +38,7 @@ field-refusal-requires c κs = search needs
 -- src/decoder.rt:71:17
 returns : tie.Need-returns
 unfolding restWithin
-returns c = rw (c .before .before .before .before .enum-told .given .1) (handed answer.Refused _ _ _ _ _ (c .before .before .before .extensible-index .ensures) (c .before .enum-told2 .given .1) (c .field-refusal .ensures))
+returns c = rw (c .before .before .before .before .enum-told .given .1) (handed decoded.Refused _ _ _ _ _ (c .before .before .before .extensible-index .ensures) (c .before .enum-told2 .given .1) (c .field-refusal .ensures))
 
 -- src/decoder.rt:73:13
 ended-requires : tie.Need-ended-requires
@@ -67,7 +67,7 @@ field-refusal-requires-2 c κs = search needs
 -- src/decoder.rt:78:17
 returns-2 : tie.Need-returns-2
 unfolding restWithin
-returns-2 c = rw (c .before .before .before .before .enum-told3 .given .1) (handed answer.Refused _ _ _ _ _ (c .before .before .before .extensible-index2 .ensures) (c .before .enum-told4 .given .1) (c .field-refusal2 .ensures))
+returns-2 c = rw (c .before .before .before .before .enum-told3 .given .1) (handed decoded.Refused _ _ _ _ _ (c .before .before .before .extensible-index2 .ensures) (c .before .enum-told4 .given .1) (c .field-refusal2 .ensures))
 
 -- src/decoder.rt:80:13
 ended-requires-2 : tie.Need-ended-requires-2
@@ -154,7 +154,7 @@ forward-refusal-requires c κs = search needs
 -- src/decoder.rt:99:17
 returns-5 : tie.Need-returns-5
 unfolding restWithin
-returns-5 c = rw (c .before .before .before .before .enum-told9 .given .1) (forward-handed answer.Refused _ _ _ _ _ (c .before .before .before .forward-at .ensures) (c .before .enum-told10 .given .1) (c .forward-refusal .ensures))
+returns-5 c = rw (c .before .before .before .before .enum-told9 .given .1) (forward-handed decoded.Refused _ _ _ _ _ (c .before .before .before .forward-at .ensures) (c .before .enum-told10 .given .1) (c .forward-refusal .ensures))
 
 -- src/decoder.rt:101:13
 ended-requires-5 : tie.Need-ended-requires-5
@@ -183,7 +183,7 @@ field-refusal-requires-3 c κs = search needs
 -- src/decoder.rt:106:17
 returns-6 : tie.Need-returns-6
 unfolding restWithin
-returns-6 c = rw (c .before .before .before .before .enum-told11 .given .1) (handed answer.Refused _ _ _ _ _ (c .before .before .before .extensible-index3 .ensures) (c .before .enum-told12 .given .1) (c .field-refusal3 .ensures))
+returns-6 c = rw (c .before .before .before .before .enum-told11 .given .1) (handed decoded.Refused _ _ _ _ _ (c .before .before .before .extensible-index3 .ensures) (c .before .enum-told12 .given .1) (c .field-refusal3 .ensures))
 
 -- src/decoder.rt:108:13
 ended-requires-6 : tie.Need-ended-requires-6
@@ -192,12 +192,12 @@ ended-requires-6 c κs = search needs
 -- src/decoder.rt:64:1
 returns-7 : tie.Need-returns-7
 unfolding restWithin
-returns-7 c = rw (c .before .before .before .before .before .enum-told .given .1) (went answer.Refused _ _ _ _ _ _ (c .before .before .before .before .extensible-index .ensures) (c .before .before .reason .given .1) (c .ended .ensures))
+returns-7 c = rw (c .before .before .before .before .before .enum-told .given .1) (went decoded.Refused _ _ _ _ _ _ (c .before .before .before .before .extensible-index .ensures) (c .before .before .reason .given .1) (c .ended .ensures))
 
 -- src/decoder.rt:64:1
 returns-8 : tie.Need-returns-8
 unfolding restWithin
-returns-8 c = rw (c .before .before .before .before .before .enum-told3 .given .1) (went answer.Refused _ _ _ _ _ _ (c .before .before .before .before .extensible-index2 .ensures) (c .before .before .reason2 .given .1) (c .ended2 .ensures))
+returns-8 c = rw (c .before .before .before .before .before .enum-told3 .given .1) (went decoded.Refused _ _ _ _ _ _ (c .before .before .before .before .extensible-index2 .ensures) (c .before .before .reason2 .given .1) (c .ended2 .ensures))
 
 -- src/decoder.rt:64:1
 returns-9 : tie.Need-returns-9
@@ -212,12 +212,12 @@ returns-10 c = rw (c .before .before .before .before .before .enum-told7 .given 
 -- src/decoder.rt:64:1
 returns-11 : tie.Need-returns-11
 unfolding restWithin
-returns-11 c = rw (c .before .before .before .before .before .enum-told9 .given .1) (forward-went answer.Refused _ _ _ _ _ _ (c .before .before .before .before .forward-at .ensures) (c .before .before .message .given .1) (c .ended5 .ensures))
+returns-11 c = rw (c .before .before .before .before .before .enum-told9 .given .1) (forward-went decoded.Refused _ _ _ _ _ _ (c .before .before .before .before .forward-at .ensures) (c .before .before .message .given .1) (c .ended5 .ensures))
 
 -- src/decoder.rt:64:1
 returns-12 : tie.Need-returns-12
 unfolding restWithin
-returns-12 c = rw (c .before .before .before .before .before .enum-told11 .given .1) (went answer.Refused _ _ _ _ _ _ (c .before .before .before .before .extensible-index3 .ensures) (c .before .before .result .given .1) (c .ended6 .ensures))
+returns-12 c = rw (c .before .before .before .before .before .enum-told11 .given .1) (went decoded.Refused _ _ _ _ _ _ (c .before .before .before .before .extensible-index3 .ensures) (c .before .before .result .given .1) (c .ended6 .ensures))
 
 pub rest-at-spec : {M : Type 1} → statement M
 rest-at-spec =

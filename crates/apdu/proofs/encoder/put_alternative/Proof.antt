@@ -3,7 +3,7 @@ use Rattle.apdu.proofs.encoder.put_alternative.Statement.{statement}
 use Rattle.apdu.proofs.encoder.put_alternative.Tie as tie
 use Rattle.apdu.proofs.encoder.put_alternative.Reads as reads
 use Rattle.apdu.proofs.encoder.put_alternative.Lts as lts
-use Rattle.apdu.proofs.Side.last.Reads as last-reads
+use Rattle.apdu.proofs.PduType.last.Reads as last-reads
 use Rattle.apdu.proofs.leading.index_of.Reads as index-of-reads
 use Rattle.fields.proofs.put_extensible_index.Reads as put-extensible-index-reads
 

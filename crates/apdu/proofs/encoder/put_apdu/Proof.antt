@@ -1,5 +1,5 @@
 use mathlib.Core.Path.{sym, _∙_}
-use Rattle.apdu.proofs.Writers.{too-small, not-shaped, written-out, apdu-pads, apdu-room}
+use Rattle.apdu.proofs.Writers.{too-small, not-fitting, written-out, apdu-pads, apdu-room}
 use borrow.Author.Needs.{needs}
 use Rattle.apdu.proofs.encoder.put_apdu.Statement.{statement}
 use Rattle.apdu.proofs.encoder.put_apdu.Tie as tie
@@ -8,7 +8,7 @@ use Rattle.apdu.proofs.encoder.put_apdu.Lts as lts
 use Rattle.apdu.proofs.decoder.padding.Reads as padding-reads
 use Rattle.apdu.proofs.encoder.place.Reads as place-reads
 use Rattle.apdu.proofs.encoder.put_pdu.Reads as put-pdu-reads
-use Rattle.apdu.proofs.shape.apdu_shaped.Reads as apdu-shaped-reads
+use Rattle.apdu.proofs.shape.apdu_fits.Reads as apdu-fits-reads
 use Rattle.bits.proofs.put_bits.Reads as put-bits-reads
 
 -- src/encoder.rt:142:9
@@ -16,12 +16,12 @@ returns : tie.Need-returns
 returns c = too-small _ _ _ (c .if1 .taken)
 
 -- src/encoder.rt:144:8
-apdu-shaped-requires : tie.Need-apdu-shaped-requires
-apdu-shaped-requires c κs = tt
+apdu-fits-requires : tie.Need-apdu-fits-requires
+apdu-fits-requires c κs = tt
 
 -- src/encoder.rt:145:23
 put-pdu-requires : tie.Need-put-pdu-requires
-put-pdu-requires c κs = (sym (c .before .before .apdu-shaped .ensures) ∙ c .before .if2 .taken, apdu-room _ _ _ _ _ (sym (c .before .before .apdu-shaped .ensures) ∙ c .before .if2 .taken) _ (c .before .before .before .if1 .left))
+put-pdu-requires c κs = (sym (c .before .before .apdu-fits .ensures) ∙ c .before .if2 .taken, apdu-room _ _ _ _ _ (sym (c .before .before .apdu-fits .ensures) ∙ c .before .if2 .taken) _ (c .before .before .before .if1 .left))
 
 -- src/encoder.rt:145:13
 place-requires : tie.Need-place-requires
@@ -41,18 +41,18 @@ same-length c = search needs
 
 -- src/encoder.rt:147:9
 returns-2 : tie.Need-returns-2
-returns-2 c = written-out _ _ _ _ _ _ _ _ _ _ (c .before .before .before .before .before .before .before .before .before .before .before .before .if1 .left) (apdu-pads _ _ _ _ _ (sym (c .before .before .before .before .before .before .before .before .before .before .before .apdu-shaped .ensures) ∙ c .before .before .before .before .before .before .before .before .before .before .if2 .taken)) (c .before .before .before .before .before .before .before .before .before .before .before .apdu-shaped .ensures) (c .before .before .before .before .before .before .before .before .before .before .if2 .taken) (c .before .before .before .before .before .before .before .before .put-pdu .ensures) (c .before .before .before .before .before .place .ensures) (c .before .before .before .padding .ensures) (c .before .before .put-bits .ensures)
+returns-2 c = written-out _ _ _ _ _ _ _ _ _ _ (c .before .before .before .before .before .before .before .before .before .before .before .before .if1 .left) (apdu-pads _ _ _ _ _ (sym (c .before .before .before .before .before .before .before .before .before .before .before .apdu-fits .ensures) ∙ c .before .before .before .before .before .before .before .before .before .before .if2 .taken)) (c .before .before .before .before .before .before .before .before .before .before .before .apdu-fits .ensures) (c .before .before .before .before .before .before .before .before .before .before .if2 .taken) (c .before .before .before .before .before .before .before .before .put-pdu .ensures) (c .before .before .before .before .before .place .ensures) (c .before .before .before .padding .ensures) (c .before .before .put-bits .ensures)
 
 -- src/encoder.rt:131:1
 returns-3 : tie.Need-returns-3
-returns-3 c = not-shaped _ _ _ _ (c .before .before .if1 .left) (c .before .apdu-shaped .ensures) (c .if2 .left)
+returns-3 c = not-fitting _ _ _ _ (c .before .before .if1 .left) (c .before .apdu-fits .ensures) (c .if2 .left)
 
 pub put-apdu-spec : {M : Type 1} → statement M
 put-apdu-spec =
     tie.close
     (tie.spec
     returns
-    apdu-shaped-requires
+    apdu-fits-requires
     put-pdu-requires
     place-requires
     padding-requires

@@ -1,6 +1,6 @@
 use Rattle.apdu.specs.Sizes.{identifierLeast, identifierMost, messageMost, checkMost, octet, bit}
 use native.Mathlib.Omega.{arith}
-use Rattle.apdu.proofs.Bounds.{data-shaped}
+use Rattle.apdu.proofs.Bounds.{data-fits}
 use Rattle.apdu.proofs.Writers.{part-wider, check-wider, there-lt, content-put}
 use borrow.Author.Needs.{needs}
 use Rattle.apdu.proofs.encoder.put_content.Statement.{statement}
@@ -47,7 +47,7 @@ place-requires-2 c κs = tt
 
 -- src/encoder.rt:72:19
 put-part-requires : tie.Need-put-part-requires
-put-part-requires c κs = (omega arith, part-wider _ octet identifierLeast identifierMost _ (data-shaped _ _ _ _ (c .before .before .before .before .before .before .before .before .before .before .before .before .before .before .before .before .before .before .pre .0) .identifier))
+put-part-requires c κs = (omega arith, part-wider _ octet identifierLeast identifierMost _ (data-fits _ _ _ _ (c .before .before .before .before .before .before .before .before .before .before .before .before .before .before .before .before .before .before .pre .0) .identifier))
 
 -- src/encoder.rt:72:9
 place-requires-3 : tie.Need-place-requires-3
@@ -55,7 +55,7 @@ place-requires-3 c κs = tt
 
 -- src/encoder.rt:73:19
 put-part-requires-2 : tie.Need-put-part-requires-2
-put-part-requires-2 c κs = (omega arith, part-wider _ bit 0 messageMost _ (data-shaped _ _ _ _ (c .before .before .before .before .before .before .before .before .before .before .before .before .before .before .before .before .before .before .before .before .before .before .before .pre .0) .message))
+put-part-requires-2 c κs = (omega arith, part-wider _ bit 0 messageMost _ (data-fits _ _ _ _ (c .before .before .before .before .before .before .before .before .before .before .before .before .before .before .before .before .before .before .before .before .before .before .before .pre .0) .message))
 
 -- src/encoder.rt:73:9
 place-requires-4 : tie.Need-place-requires-4
@@ -63,7 +63,7 @@ place-requires-4 c κs = tt
 
 -- src/encoder.rt:74:5
 put-part-requires-3 : tie.Need-put-part-requires-3
-put-part-requires-3 c κs = (omega arith, check-wider _ bit 0 checkMost _ (data-shaped _ _ _ _ (c .before .before .before .before .before .before .before .before .before .before .before .before .before .before .before .before .before .before .before .before .before .before .before .before .before .before .before .before .pre .0) .check))
+put-part-requires-3 c κs = (omega arith, check-wider _ bit 0 checkMost _ (data-fits _ _ _ _ (c .before .before .before .before .before .before .before .before .before .before .before .before .before .before .before .before .before .before .before .before .before .before .before .before .before .before .before .before .pre .0) .check))
 
 -- src/encoder.rt:55:1
 same-length : tie.Need-same-length

@@ -1,7 +1,7 @@
 -- `apdu::encoder::put_run` meets its contract.
 -- Assumes nothing.
 use mathlib.Core.Path.{sym, _∙_}
-use Rattle.apdu.proofs.Writers.{too-small, not-shaped, written-out, run-pads, run-copied}
+use Rattle.apdu.proofs.Writers.{too-small, not-fitting, written-out, run-pads, run-copied}
 use borrow.Author.Needs.{needs}
 use Rattle.apdu.proofs.encoder.put_run.Statement.{statement}
 use Rattle.apdu.proofs.encoder.put_run.Tie as tie
@@ -9,8 +9,8 @@ use Rattle.apdu.proofs.encoder.put_run.Tie as tie
 returns : tie.Need-returns
 returns c = too-small _ _ _ (c .if1 .taken)
 
-run-shaped-requires : tie.Need-run-shaped-requires
-run-shaped-requires c κs = search needs
+run-fits-requires : tie.Need-run-fits-requires
+run-fits-requires c κs = search needs
 
 copy-bits-requires : tie.Need-copy-bits-requires
 copy-bits-requires c κs = search needs
@@ -28,17 +28,17 @@ same-length : tie.Need-same-length
 same-length c = search needs
 
 returns-2 : tie.Need-returns-2
-returns-2 c = let ok = sym (c .before .before .before .before .before .before .before .before .before .before .before .run-shaped .ensures) ∙ c .before .before .before .before .before .before .before .before .before .before .if2 .taken in written-out _ _ _ _ _ _ _ _ _ _ (c .before .before .before .before .before .before .before .before .before .before .before .before .if1 .left) (run-pads _ _ _ ok) (c .before .before .before .before .before .before .before .before .before .before .before .run-shaped .ensures) (c .before .before .before .before .before .before .before .before .before .before .if2 .taken) (run-copied _ _ _ _ _ _ ok (c .before .before .before .before .before .before .before .before .copy-bits .ensures)) (c .before .before .before .before .before .place .ensures) (c .before .before .before .padding .ensures) (c .before .before .put-bits .ensures)
+returns-2 c = let ok = sym (c .before .before .before .before .before .before .before .before .before .before .before .run-fits .ensures) ∙ c .before .before .before .before .before .before .before .before .before .before .if2 .taken in written-out _ _ _ _ _ _ _ _ _ _ (c .before .before .before .before .before .before .before .before .before .before .before .before .if1 .left) (run-pads _ _ _ ok) (c .before .before .before .before .before .before .before .before .before .before .before .run-fits .ensures) (c .before .before .before .before .before .before .before .before .before .before .if2 .taken) (run-copied _ _ _ _ _ _ ok (c .before .before .before .before .before .before .before .before .copy-bits .ensures)) (c .before .before .before .before .before .place .ensures) (c .before .before .before .padding .ensures) (c .before .before .put-bits .ensures)
 
 returns-3 : tie.Need-returns-3
-returns-3 c = not-shaped _ _ _ _ (c .before .before .if1 .left) (c .before .run-shaped .ensures) (c .if2 .left)
+returns-3 c = not-fitting _ _ _ _ (c .before .before .if1 .left) (c .before .run-fits .ensures) (c .if2 .left)
 
 pub put-run-spec : {M : Type 1} → statement M
 put-run-spec =
     tie.close
     (tie.spec
     returns
-    run-shaped-requires
+    run-fits-requires
     copy-bits-requires
     place-requires
     padding-requires

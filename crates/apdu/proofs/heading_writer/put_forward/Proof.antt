@@ -1,5 +1,5 @@
 use mathlib.Core.Path.{sym, _∙_}
-use Rattle.apdu.proofs.Writers.{too-small, not-shaped, written-out, forward-pads, forward-room}
+use Rattle.apdu.proofs.Writers.{too-small, not-fitting, written-out, forward-pads, forward-room}
 use borrow.Author.Needs.{needs}
 use Rattle.apdu.proofs.heading_writer.put_forward.Statement.{statement}
 use Rattle.apdu.proofs.heading_writer.put_forward.Tie as tie
@@ -7,7 +7,7 @@ use Rattle.apdu.proofs.heading_writer.put_forward.Reads as reads
 use Rattle.apdu.proofs.heading_writer.put_forward.Lts as lts
 use Rattle.apdu.proofs.decoder.padding.Reads as padding-reads
 use Rattle.apdu.proofs.encoder.place.Reads as place-reads
-use Rattle.apdu.proofs.heading_shape.forward_shaped.Reads as forward-shaped-reads
+use Rattle.apdu.proofs.heading_shape.forward_fits.Reads as forward-fits-reads
 use Rattle.apdu.proofs.heading_writer.put_forward_at.Reads as put-forward-at-reads
 use Rattle.bits.proofs.put_bits.Reads as put-bits-reads
 
@@ -16,12 +16,12 @@ returns : tie.Need-returns
 returns c = too-small _ _ _ (c .if1 .taken)
 
 -- src/heading_writer.rt:88:8
-forward-shaped-requires : tie.Need-forward-shaped-requires
-forward-shaped-requires c κs = search needs
+forward-fits-requires : tie.Need-forward-fits-requires
+forward-fits-requires c κs = search needs
 
 -- src/heading_writer.rt:89:23
 put-forward-at-requires : tie.Need-put-forward-at-requires
-put-forward-at-requires c κs = (sym (c .before .before .forward-shaped .ensures) ∙ c .before .if2 .taken, forward-room _ _ (sym (c .before .before .forward-shaped .ensures) ∙ c .before .if2 .taken) _ (c .before .before .before .if1 .left))
+put-forward-at-requires c κs = (sym (c .before .before .forward-fits .ensures) ∙ c .before .if2 .taken, forward-room _ _ (sym (c .before .before .forward-fits .ensures) ∙ c .before .if2 .taken) _ (c .before .before .before .if1 .left))
 
 -- src/heading_writer.rt:89:13
 place-requires : tie.Need-place-requires
@@ -41,18 +41,18 @@ same-length c = search needs
 
 -- src/heading_writer.rt:91:9
 returns-2 : tie.Need-returns-2
-returns-2 c = written-out _ _ _ _ _ _ _ _ _ _ (c .before .before .before .before .before .before .before .before .before .before .before .before .if1 .left) (forward-pads _ _ (sym (c .before .before .before .before .before .before .before .before .before .before .before .forward-shaped .ensures) ∙ c .before .before .before .before .before .before .before .before .before .before .if2 .taken)) (c .before .before .before .before .before .before .before .before .before .before .before .forward-shaped .ensures) (c .before .before .before .before .before .before .before .before .before .before .if2 .taken) (c .before .before .before .before .before .before .before .before .put-forward-at .ensures) (c .before .before .before .before .before .place .ensures) (c .before .before .before .padding .ensures) (c .before .before .put-bits .ensures)
+returns-2 c = written-out _ _ _ _ _ _ _ _ _ _ (c .before .before .before .before .before .before .before .before .before .before .before .before .if1 .left) (forward-pads _ _ (sym (c .before .before .before .before .before .before .before .before .before .before .before .forward-fits .ensures) ∙ c .before .before .before .before .before .before .before .before .before .before .if2 .taken)) (c .before .before .before .before .before .before .before .before .before .before .before .forward-fits .ensures) (c .before .before .before .before .before .before .before .before .before .before .if2 .taken) (c .before .before .before .before .before .before .before .before .put-forward-at .ensures) (c .before .before .before .before .before .place .ensures) (c .before .before .before .padding .ensures) (c .before .before .put-bits .ensures)
 
 -- src/heading_writer.rt:82:1
 returns-3 : tie.Need-returns-3
-returns-3 c = not-shaped _ _ _ _ (c .before .before .if1 .left) (c .before .forward-shaped .ensures) (c .if2 .left)
+returns-3 c = not-fitting _ _ _ _ (c .before .before .if1 .left) (c .before .forward-fits .ensures) (c .if2 .left)
 
 pub put-forward-spec : {M : Type 1} → statement M
 put-forward-spec =
     tie.close
     (tie.spec
     returns
-    forward-shaped-requires
+    forward-fits-requires
     put-forward-at-requires
     place-requires
     padding-requires

@@ -6,7 +6,7 @@ use Rattle.apdu.proofs.leading.leading_at.Statement.{statement}
 use Rattle.apdu.proofs.leading.leading_at.Tie as tie
 use Rattle.apdu.proofs.leading.leading_at.Reads as reads
 use Rattle.apdu.proofs.leading.leading_at.Lts as lts
-use Rattle.apdu.proofs.Side.last.Reads as last-reads
+use Rattle.apdu.proofs.PduType.last.Reads as last-reads
 use Rattle.apdu.proofs.leading.kind_mode.Reads as kind-mode-reads
 use Rattle.apdu.proofs.leading.kind_of.Reads as kind-of-reads
 use Rattle.apdu.proofs.refusals.field_refusal.Reads as field-refusal-reads

@@ -8,48 +8,48 @@ use Rattle.elements.proofs.measuring.argument_fits.Tie as tie
 used-by-requires : tie.Need-used-by-requires
 used-by-requires c κs = search needs
 
-level-ok-requires : tie.Need-level-ok-requires
-level-ok-requires c κs = search needs
+level-fits-use-requires : tie.Need-level-fits-use-requires
+level-fits-use-requires c κs = search needs
 
-level-ok-requires-2 : tie.Need-level-ok-requires-2
-level-ok-requires-2 c κs = search needs
+level-fits-use-requires-2 : tie.Need-level-fits-use-requires-2
+level-fits-use-requires-2 c κs = search needs
 
 both-requires : tie.Need-both-requires
 both-requires c κs = search needs
 
-time-ok-requires : tie.Need-time-ok-requires
-time-ok-requires c κs = search needs
+time-fits-use-requires : tie.Need-time-fits-use-requires
+time-fits-use-requires c κs = search needs
 
 both-requires-2 : tie.Need-both-requires-2
 both-requires-2 c κs = search needs
 
-code-ok-requires : tie.Need-code-ok-requires
-code-ok-requires c κs = search needs
+code-fits-use-requires : tie.Need-code-fits-use-requires
+code-fits-use-requires c κs = search needs
 
 both-requires-3 : tie.Need-both-requires-3
 both-requires-3 c κs = search needs
 
-text-ok-requires : tie.Need-text-ok-requires
-text-ok-requires c κs = search needs
+text-fits-kind-requires : tie.Need-text-fits-kind-requires
+text-fits-kind-requires c κs = search needs
 
 both-requires-4 : tie.Need-both-requires-4
 both-requires-4 c κs = search needs
 
 returns : tie.Need-returns
-returns c = argument-fits-by _ _ _ _ _ _ _ _ _ _ _ _ _ (c .both4 .ensures) (c .before .before .both3 .ensures) (c .before .before .before .before .both2 .ensures) (c .before .before .before .before .before .before .both .ensures) (c .before .before .before .before .before .before .before .before .before .level-ok .ensures) (c .before .before .before .before .before .before .before .level-ok2 .ensures) (c .before .before .before .before .before .time-ok .ensures) (c .before .before .before .code-ok .ensures) (c .before .text-ok .ensures) (c .before .before .before .before .before .before .before .before .before .before .before .used-by .ensures)
+returns c = argument-fits-by _ _ _ _ _ _ _ _ _ _ _ _ _ (c .both4 .ensures) (c .before .before .both3 .ensures) (c .before .before .before .before .both2 .ensures) (c .before .before .before .before .before .before .both .ensures) (c .before .before .before .before .before .before .before .before .before .level-fits-use .ensures) (c .before .before .before .before .before .before .before .level-fits-use2 .ensures) (c .before .before .before .before .before .time-fits-use .ensures) (c .before .before .before .code-fits-use .ensures) (c .before .text-fits-kind .ensures) (c .before .before .before .before .before .before .before .before .before .before .before .used-by .ensures)
 
 pub argument-fits-spec : {M : Type 1} → statement M
 argument-fits-spec =
     tie.close
     (tie.spec
     used-by-requires
-    level-ok-requires
-    level-ok-requires-2
+    level-fits-use-requires
+    level-fits-use-requires-2
     both-requires
-    time-ok-requires
+    time-fits-use-requires
     both-requires-2
-    code-ok-requires
+    code-fits-use-requires
     both-requires-3
-    text-ok-requires
+    text-fits-kind-requires
     both-requires-4
     returns)

@@ -1,7 +1,7 @@
 -- `inner::writing::write_message` meets its contract.
 -- Assumes nothing.
 use borrow.Author.Needs.{needs}
-use Rattle.inner.proofs.MessageWritten.{too-small, not-shaped, written-count, written-out}
+use Rattle.inner.proofs.MessageWritten.{too-small, not-carried, written-count, written-out}
 use Rattle.inner.proofs.writing.write_message.Statement.{statement}
 use Rattle.inner.proofs.writing.write_message.Tie as tie
 
@@ -18,7 +18,7 @@ enum-told : tie.Need-enum-told
 enum-told c = search needs
 
 returns-2 : tie.Need-returns-2
-returns-2 c = not-shaped _ _ _ _ (c .before .before .before .if1 .left) _ (c .before .before .message-bits .ensures) (c .enum-told .given .1)
+returns-2 c = not-carried _ _ _ _ (c .before .before .before .if1 .left) _ (c .before .before .message-bits .ensures) (c .enum-told .given .1)
 
 mul-end : tie.Need-mul-end
 mul-end c = search needs

@@ -13,8 +13,8 @@ is-dsc-requires c κs = tt
 enum-known-u-2 : tie.Need-enum-known-u-2
 enum-known-u-2 c = c .match .keys2
 
-answer-requires : tie.Need-answer-requires
-answer-requires c κs = tt
+reply-of-requires : tie.Need-reply-of-requires
+reply-of-requires c κs = tt
 
 enum-told : tie.Need-enum-told
 enum-told c = c .match .keys3
@@ -25,8 +25,8 @@ enum-known-u-3 c = c .match .keys4
 enum-known-u-4 : tie.Need-enum-known-u-4
 enum-known-u-4 c = c .match .keys5
 
-answer-requires-2 : tie.Need-answer-requires-2
-answer-requires-2 c κs = tt
+reply-of-requires-2 : tie.Need-reply-of-requires-2
+reply-of-requires-2 c κs = tt
 
 enum-told-2 : tie.Need-enum-told-2
 enum-told-2 c = c .match .keys6
@@ -37,7 +37,7 @@ returns c = rw (c .before .before .u .given .1, c .is-dsc .ensures)
 
 returns-2 : tie.Need-returns-2
 unfolding callOf
-returns-2 c = rw (c .before .before .u2 .given .1, c .answer .ensures)
+returns-2 c = rw (c .before .before .u2 .given .1, c .reply-of .ensures)
 
 returns-3 : tie.Need-returns-3
 unfolding callOf
@@ -49,7 +49,7 @@ returns-4 c = rw (c .before .u3 .given .1)
 
 returns-5 : tie.Need-returns-5
 unfolding callOf
-returns-5 c = rw (c .before .before .u4 .given .1, c .answer2 .ensures)
+returns-5 c = rw (c .before .before .u4 .given .1, c .reply-of2 .ensures)
 
 returns-6 : tie.Need-returns-6
 unfolding callOf
@@ -62,11 +62,11 @@ call-of-spec =
     enum-known-u
     is-dsc-requires
     enum-known-u-2
-    answer-requires
+    reply-of-requires
     enum-told
     enum-known-u-3
     enum-known-u-4
-    answer-requires-2
+    reply-of-requires-2
     enum-told-2
     returns
     returns-2

@@ -4,15 +4,15 @@ use Rattle.machine.specs.Calls.{endResponse}
 use Rattle.machine.proofs.calls.end_response.Statement.{statement}
 use Rattle.machine.proofs.calls.end_response.Tie as tie
 
-answer-requires : tie.Need-answer-requires
-answer-requires c κs = tt
+reply-of-requires : tie.Need-reply-of-requires
+reply-of-requires c κs = tt
 
 sent-requires : tie.Need-sent-requires
 sent-requires c κs = tt
 
 returns : tie.Need-returns
 unfolding endResponse
-returns c = rw (c .sent .ensures, c .before .answer .ensures)
+returns c = rw (c .sent .ensures, c .before .reply-of .ensures)
 
 pub end-response-spec : {M : Type 1} → statement M
-end-response-spec = tie.close (tie.spec answer-requires sent-requires returns)
+end-response-spec = tie.close (tie.spec reply-of-requires sent-requires returns)

@@ -5,8 +5,8 @@ use borrow.Author.Tests.{eq-eqb, ne-eqb}
 use Rattle.machine.proofs.faults.confirmation_fault.Statement.{statement}
 use Rattle.machine.proofs.faults.confirmation_fault.Tie as tie
 
-answer-requires : tie.Need-answer-requires
-answer-requires c κs = tt
+reply-of-requires : tie.Need-reply-of-requires
+reply-of-requires c κs = tt
 
 expects-requires : tie.Need-expects-requires
 expects-requires c κs = tt
@@ -50,7 +50,7 @@ pub confirmation-fault-spec : {M : Type 1} → statement M
 confirmation-fault-spec =
     tie.close
     (tie.spec
-    answer-requires
+    reply-of-requires
     expects-requires
     awaits-response-requires
     response-fault-requires

@@ -31,8 +31,8 @@ send-fault-requires-2 c κs = tt
 enum-known-p-3 : tie.Need-enum-known-p-3
 enum-known-p-3 c = c .match .keys5
 
-answer-requires : tie.Need-answer-requires
-answer-requires c κs = tt
+reply-of-requires : tie.Need-reply-of-requires
+reply-of-requires c κs = tt
 
 send-fault-requires-3 : tie.Need-send-fault-requires-3
 send-fault-requires-3 c κs = tt
@@ -70,7 +70,7 @@ returns-4 c = rw (c .before .enum-told2 .given .1) (c .send-fault2 .ensures)
 
 returns-5 : tie.Need-returns-5
 unfolding firstFault
-returns-5 c = rw (c .before .before .before .p3 .given .1, ← c .before .answer .ensures) (c .send-fault3 .ensures)
+returns-5 c = rw (c .before .before .before .p3 .given .1, ← c .before .reply-of .ensures) (c .send-fault3 .ensures)
 
 returns-6 : tie.Need-returns-6
 unfolding firstFault
@@ -93,7 +93,7 @@ first-fault-spec =
     enum-told-2
     send-fault-requires-2
     enum-known-p-3
-    answer-requires
+    reply-of-requires
     send-fault-requires-3
     enum-known-p-4
     abort-fits-requires

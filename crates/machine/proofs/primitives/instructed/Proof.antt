@@ -46,8 +46,8 @@ returns-2 c = rw (c .before .before .before .before .before .p2 .given .1, ← c
 confirmed-requires : tie.Need-confirmed-requires
 confirmed-requires c κs = tt
 
-answer-requires : tie.Need-answer-requires
-answer-requires c κs = tt
+reply-of-requires : tie.Need-reply-of-requires
+reply-of-requires c κs = tt
 
 handed-requires-2 : tie.Need-handed-requires-2
 handed-requires-2 c κs = tt
@@ -67,8 +67,8 @@ handed-requires-4 c κs = tt
 enum-known-p-3 : tie.Need-enum-known-p-3
 enum-known-p-3 c = c .match .keys5
 
-answer-requires-2 : tie.Need-answer-requires-2
-answer-requires-2 c κs = tt
+reply-of-requires-2 : tie.Need-reply-of-requires-2
+reply-of-requires-2 c κs = tt
 
 handed-requires-5 : tie.Need-handed-requires-5
 handed-requires-5 c κs = tt
@@ -100,7 +100,7 @@ returns-3 c = rw (c .before .before .before .before .before .before .p .given .1
 
 returns-4 : tie.Need-returns-4
 unfolding instructed
-returns-4 c = rw (c .before .before .before .before .before .before .p2 .given .1, ← c .before .before .before .before .kind2 .ensures, ne-eqb _ _ (c .before .before .before .if2 .left), ← c .before .before .confirmed .ensures, ← c .before .answer .ensures) (c .handed2 .ensures)
+returns-4 c = rw (c .before .before .before .before .before .before .p2 .given .1, ← c .before .before .before .before .kind2 .ensures, ne-eqb _ _ (c .before .before .before .if2 .left), ← c .before .before .confirmed .ensures, ← c .before .reply-of .ensures) (c .handed2 .ensures)
 
 returns-5 : tie.Need-returns-5
 unfolding instructed
@@ -112,7 +112,7 @@ returns-6 c = rw (c .before .enum-told2 .given .1) (c .handed4 .ensures)
 
 returns-7 : tie.Need-returns-7
 unfolding instructed
-returns-7 c = rw (c .before .before .before .p3 .given .1, ← c .before .answer2 .ensures) (c .handed5 .ensures)
+returns-7 c = rw (c .before .before .before .p3 .given .1, ← c .before .reply-of2 .ensures) (c .handed5 .ensures)
 
 returns-8 : tie.Need-returns-8
 unfolding instructed
@@ -139,14 +139,14 @@ instructed-spec =
     forward-confirmed-requires
     returns-2
     confirmed-requires
-    answer-requires
+    reply-of-requires
     handed-requires-2
     enum-told
     handed-requires-3
     enum-told-2
     handed-requires-4
     enum-known-p-3
-    answer-requires-2
+    reply-of-requires-2
     handed-requires-5
     enum-told-3
     abort-told-requires

@@ -5,8 +5,8 @@ use Rattle.step.proofs.call.conclude.Statement.{statement}
 use Rattle.step.proofs.call.conclude.Tie as tie
 use Rattle.step.proofs.call.conclude.Reads as reads
 use Rattle.step.proofs.call.conclude.Lts as lts
-use Rattle.machine.proofs.outcome.Refusal.is_none.Reads as is-none-reads
-use Rattle.machine.proofs.outcome.Refusal.number.Reads as number-reads
+use Rattle.machine.proofs.outcome.StepRefusal.is_none.Reads as is-none-reads
+use Rattle.machine.proofs.outcome.StepRefusal.number.Reads as number-reads
 use Rattle.step.proofs.call.bits_of.Reads as bits-of-reads
 use Rattle.step.proofs.call.write_first.Reads as write-first-reads
 use Rattle.step.proofs.call.write_second.Reads as write-second-reads

@@ -5,7 +5,7 @@ use Rattle.step.proofs.call.forward_call.Statement.{statement}
 use Rattle.step.proofs.call.forward_call.Tie as tie
 use Rattle.step.proofs.call.forward_call.Reads as reads
 use Rattle.step.proofs.call.forward_call.Lts as lts
-use Rattle.apdu.proofs.forward_shaped.Reads as forward-shaped-reads
+use Rattle.apdu.proofs.forward_fits.Reads as forward-fits-reads
 use Rattle.step.proofs.call.event_step.Reads as event-step-reads
 use Rattle.step.proofs.carried.no_data.Reads as no-data-reads
 use Rattle.step.proofs.stored.load.Reads as load-reads
@@ -42,8 +42,8 @@ unfolding forwardCall
 returns-3 c = no-record _ _ _ _ (c .before .before .before .before .before .if1 .left) (c .before .before .before .before .if2 .left) _ (c .before .before .load .ensures) (c .enum-told .given .1)
 
 -- src/call.rt:253:8
-forward-shaped-requires : tie.Need-forward-shaped-requires
-forward-shaped-requires c κs = search needs
+forward-fits-requires : tie.Need-forward-fits-requires
+forward-fits-requires c κs = search needs
 
 -- src/call.rt:264:13
 no-data-requires : tie.Need-no-data-requires
@@ -68,7 +68,7 @@ same-length-4 c = search needs
 -- src/call.rt:255:9
 returns-4 : tie.Need-returns-4
 unfolding forwardCall
-returns-4 c = with-record _ _ _ _ (c .before .before .before .before .before .before .before .before .before .before .before .before .before .before .before .before .before .before .before .if1 .left) (c .before .before .before .before .before .before .before .before .before .before .before .before .before .before .before .before .before .before .if2 .left) _ (c .before .before .before .before .before .before .before .before .before .before .before .before .before .before .before .before .load .ensures) _ _ _ _ (c .before .before .before .before .before .before .before .before .before .before .before .before .before .before .side .given .1) (forward-steps _ _ _ _ _ _ _ _ _ _ _ _ (c .before .before .before .before .before .before .before .before .before .before .before .before .forward-shaped .ensures) _ _ (c .before .before .before .before .before .before .before .before .before .before .before .if3 .taken) (c .before .before .before .before .before .before .before .no-data .ensures) (c .before .before .before .before .before .before .event-step .ensures))
+returns-4 c = with-record _ _ _ _ (c .before .before .before .before .before .before .before .before .before .before .before .before .before .before .before .before .before .before .before .if1 .left) (c .before .before .before .before .before .before .before .before .before .before .before .before .before .before .before .before .before .before .if2 .left) _ (c .before .before .before .before .before .before .before .before .before .before .before .before .before .before .before .before .load .ensures) _ _ _ _ (c .before .before .before .before .before .before .before .before .before .before .before .before .before .before .side .given .1) (forward-steps _ _ _ _ _ _ _ _ _ _ _ _ (c .before .before .before .before .before .before .before .before .before .before .before .before .forward-fits .ensures) _ _ (c .before .before .before .before .before .before .before .before .before .before .before .if3 .taken) (c .before .before .before .before .before .before .before .no-data .ensures) (c .before .before .before .before .before .before .event-step .ensures))
 
 -- src/call.rt:232:1
 same-length-5 : tie.Need-same-length-5
@@ -77,7 +77,7 @@ same-length-5 c = search needs
 -- src/call.rt:232:1
 returns-5 : tie.Need-returns-5
 unfolding forwardCall
-returns-5 c = with-record _ _ _ _ (c .before .before .before .before .before .before .before .before .if1 .left) (c .before .before .before .before .before .before .before .if2 .left) _ (c .before .before .before .before .before .load .ensures) _ _ _ _ (c .before .before .before .side .given .1) (no-forward-shape _ _ _ _ _ _ _ _ _ _ _ _ (c .before .forward-shaped .ensures) (c .if3 .left))
+returns-5 c = with-record _ _ _ _ (c .before .before .before .before .before .before .before .before .if1 .left) (c .before .before .before .before .before .before .before .if2 .left) _ (c .before .before .before .before .before .load .ensures) _ _ _ _ (c .before .before .before .side .given .1) (no-forward-shape _ _ _ _ _ _ _ _ _ _ _ _ (c .before .forward-fits .ensures) (c .if3 .left))
 
 pub forward-call-spec : {M : Type 1} → statement M
 forward-call-spec =
@@ -90,7 +90,7 @@ forward-call-spec =
     enum-told
     same-length
     returns-3
-    forward-shaped-requires
+    forward-fits-requires
     no-data-requires
     event-step-requires
     same-length-2

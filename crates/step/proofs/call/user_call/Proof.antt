@@ -5,7 +5,7 @@ use Rattle.step.proofs.call.user_call.Statement.{statement}
 use Rattle.step.proofs.call.user_call.Tie as tie
 use Rattle.step.proofs.call.user_call.Reads as reads
 use Rattle.step.proofs.call.user_call.Lts as lts
-use Rattle.apdu.proofs.data_shaped.Reads as data-shaped-reads
+use Rattle.apdu.proofs.data_fits.Reads as data-fits-reads
 use Rattle.step.proofs.call.event_step.Reads as event-step-reads
 use Rattle.step.proofs.carried.no_forward.Reads as no-forward-reads
 use Rattle.step.proofs.stored.load.Reads as load-reads
@@ -42,8 +42,8 @@ unfolding userCall
 returns-3 c = no-record _ _ _ _ (c .before .before .before .before .before .if1 .left) (c .before .before .before .before .if2 .left) _ (c .before .before .load .ensures) (c .enum-told .given .1)
 
 -- src/call.rt:211:8
-data-shaped-requires : tie.Need-data-shaped-requires
-data-shaped-requires c κs = search needs
+data-fits-requires : tie.Need-data-fits-requires
+data-fits-requires c κs = search needs
 
 -- src/call.rt:222:13
 no-forward-requires : tie.Need-no-forward-requires
@@ -68,7 +68,7 @@ same-length-4 c = search needs
 -- src/call.rt:212:9
 returns-4 : tie.Need-returns-4
 unfolding userCall
-returns-4 c = with-record _ _ _ _ (c .before .before .before .before .before .before .before .before .before .before .before .before .before .before .before .before .before .before .before .if1 .left) (c .before .before .before .before .before .before .before .before .before .before .before .before .before .before .before .before .before .before .if2 .left) _ (c .before .before .before .before .before .before .before .before .before .before .before .before .before .before .before .before .load .ensures) _ _ _ _ (c .before .before .before .before .before .before .before .before .before .before .before .before .before .before .side .given .1) (steps _ _ _ _ _ _ _ _ _ _ _ _ _ (c .before .before .before .before .before .before .before .before .before .before .before .before .data-shaped .ensures) _ _ (c .before .before .before .before .before .before .before .before .before .before .before .if3 .taken) (c .before .before .before .before .before .before .before .no-forward .ensures) (c .before .before .before .before .before .before .event-step .ensures))
+returns-4 c = with-record _ _ _ _ (c .before .before .before .before .before .before .before .before .before .before .before .before .before .before .before .before .before .before .before .if1 .left) (c .before .before .before .before .before .before .before .before .before .before .before .before .before .before .before .before .before .before .if2 .left) _ (c .before .before .before .before .before .before .before .before .before .before .before .before .before .before .before .before .load .ensures) _ _ _ _ (c .before .before .before .before .before .before .before .before .before .before .before .before .before .before .side .given .1) (steps _ _ _ _ _ _ _ _ _ _ _ _ _ (c .before .before .before .before .before .before .before .before .before .before .before .before .data-fits .ensures) _ _ (c .before .before .before .before .before .before .before .before .before .before .before .if3 .taken) (c .before .before .before .before .before .before .before .no-forward .ensures) (c .before .before .before .before .before .before .event-step .ensures))
 
 -- src/call.rt:189:1
 same-length-5 : tie.Need-same-length-5
@@ -77,7 +77,7 @@ same-length-5 c = search needs
 -- src/call.rt:189:1
 returns-5 : tie.Need-returns-5
 unfolding userCall
-returns-5 c = with-record _ _ _ _ (c .before .before .before .before .before .before .before .before .if1 .left) (c .before .before .before .before .before .before .before .if2 .left) _ (c .before .before .before .before .before .load .ensures) _ _ _ _ (c .before .before .before .side .given .1) (no-shape _ _ _ _ _ _ _ _ _ _ _ _ _ (c .before .data-shaped .ensures) (c .if3 .left))
+returns-5 c = with-record _ _ _ _ (c .before .before .before .before .before .before .before .before .if1 .left) (c .before .before .before .before .before .before .before .if2 .left) _ (c .before .before .before .before .before .load .ensures) _ _ _ _ (c .before .before .before .side .given .1) (no-shape _ _ _ _ _ _ _ _ _ _ _ _ _ (c .before .data-fits .ensures) (c .if3 .left))
 
 pub user-call-spec : {M : Type 1} → statement M
 user-call-spec =
@@ -90,7 +90,7 @@ user-call-spec =
     enum-told
     same-length
     returns-3
-    data-shaped-requires
+    data-fits-requires
     no-forward-requires
     event-step-requires
     same-length-2

@@ -6,12 +6,12 @@ use Rattle.step.proofs.call.write_first.Tie as tie
 use Rattle.step.proofs.call.write_first.Reads as reads
 use Rattle.step.proofs.call.write_first.Lts as lts
 use Rattle.apdu.proofs.put_apdu.Reads as put-apdu-reads
-use Rattle.step.proofs.call.pdu_side.Reads as pdu-side-reads
+use Rattle.step.proofs.call.pdus_of.Reads as pdus-of-reads
 use Rattle.step.proofs.packing.mode.Reads as mode-reads
 
 -- src/call.rt:67:9
-pdu-side-requires : tie.Need-pdu-side-requires
-pdu-side-requires c κs = search needs
+pdus-of-requires : tie.Need-pdus-of-requires
+pdus-of-requires c κs = search needs
 
 -- src/call.rt:69:25
 enum-told : tie.Need-enum-told
@@ -90,7 +90,7 @@ same-length c = search needs
 -- src/call.rt:55:1
 returns-3 : tie.Need-returns-3
 unfolding firstTakes
-returns-3 c = c .before .before .put-apdu .ensures ∙ rw (c .before .before .before .before .before .before .before .before .pdu-side .ensures, c .before .before .before .mode .ensures, c .before .before .before .before .before .before .a .given .1)
+returns-3 c = c .before .before .put-apdu .ensures ∙ rw (c .before .before .before .before .before .before .before .before .pdus-of .ensures, c .before .before .before .mode .ensures, c .before .before .before .before .before .before .a .given .1)
 
 -- src/call.rt:55:1
 same-length-2 : tie.Need-same-length-2
@@ -99,7 +99,7 @@ same-length-2 c = search needs
 -- src/call.rt:55:1
 returns-4 : tie.Need-returns-4
 unfolding firstTakes
-returns-4 c = c .before .before .put-apdu2 .ensures ∙ rw (c .before .before .before .before .before .before .pdu-side .ensures, c .before .before .before .before .enum-told3 .given .1)
+returns-4 c = c .before .before .put-apdu2 .ensures ∙ rw (c .before .before .before .before .before .before .pdus-of .ensures, c .before .before .before .before .enum-told3 .given .1)
 
 -- src/call.rt:55:1
 same-length-3 : tie.Need-same-length-3
@@ -108,7 +108,7 @@ same-length-3 c = search needs
 -- src/call.rt:55:1
 returns-5 : tie.Need-returns-5
 unfolding firstTakes
-returns-5 c = c .before .before .put-apdu3 .ensures ∙ rw (c .before .before .before .before .before .before .before .pdu-side .ensures, c .before .before .before .before .before .a2 .given .1)
+returns-5 c = c .before .before .put-apdu3 .ensures ∙ rw (c .before .before .before .before .before .before .before .pdus-of .ensures, c .before .before .before .before .before .a2 .given .1)
 
 -- src/call.rt:55:1
 same-length-4 : tie.Need-same-length-4
@@ -117,7 +117,7 @@ same-length-4 c = search needs
 -- src/call.rt:55:1
 returns-6 : tie.Need-returns-6
 unfolding firstTakes
-returns-6 c = c .before .before .put-apdu4 .ensures ∙ rw (c .before .before .before .before .before .before .before .pdu-side .ensures, c .before .before .before .before .before .a3 .given .1)
+returns-6 c = c .before .before .put-apdu4 .ensures ∙ rw (c .before .before .before .before .before .before .before .pdus-of .ensures, c .before .before .before .before .before .a3 .given .1)
 
 -- src/call.rt:55:1
 same-length-5 : tie.Need-same-length-5
@@ -126,7 +126,7 @@ same-length-5 c = search needs
 -- src/call.rt:55:1
 returns-7 : tie.Need-returns-7
 unfolding firstTakes
-returns-7 c = c .before .before .put-apdu5 .ensures ∙ rw (c .before .before .before .before .before .before .pdu-side .ensures, c .before .before .before .before .enum-told4 .given .1)
+returns-7 c = c .before .before .put-apdu5 .ensures ∙ rw (c .before .before .before .before .before .before .pdus-of .ensures, c .before .before .before .before .enum-told4 .given .1)
 
 -- src/call.rt:55:1
 same-length-6 : tie.Need-same-length-6
@@ -135,13 +135,13 @@ same-length-6 c = search needs
 -- src/call.rt:55:1
 returns-8 : tie.Need-returns-8
 unfolding firstTakes
-returns-8 c = c .before .before .put-apdu6 .ensures ∙ rw (c .before .before .before .before .before .before .before .pdu-side .ensures, c .before .before .before .before .before .a4 .given .1)
+returns-8 c = c .before .before .put-apdu6 .ensures ∙ rw (c .before .before .before .before .before .before .before .pdus-of .ensures, c .before .before .before .before .before .a4 .given .1)
 
 pub write-first-spec : {M : Type 1} → statement M
 write-first-spec =
     tie.close
     (tie.spec
-    pdu-side-requires
+    pdus-of-requires
     enum-told
     enum-told-2
     enum-known-a

@@ -96,7 +96,7 @@ abbrev seen : ℕ → Control → List (Numbered Wire) → List Body → List Bo
 seen n c l t g j = record { no = n; ctl = c; line = l; took = t; gave = g; jobs = j }
 
 abbrev ofParty : ℕ → NParty (cardMachine 1 lends) → Seen
-ofParty d x = seen (heldBy (x .rec .bytes)) (controlIn (loadAt (x .rec .bytes))) (x .line) (x .taken d) (x .given d) (x .jobs)
+ofParty d x = seen (heldBy (x .rec .bytes)) (controlIn (loadAt (x .rec .bytes))) (x .line) (x .taken d) (x .handed d) (x .jobs)
 
 -- from two fresh records that the card made, with "secured exchange" at both ends; the air starts. d: the dialogue whose messages are seen
 abbrev after : ℕ → List (Turn Asked) → View

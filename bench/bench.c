@@ -238,11 +238,11 @@ static void card_inner_read(const struct job_case *c)
     said = peat_read_message(PEAT_UPLINK, RANGE(c->inner), c->inner_bits, RANGE(laid_read), RANGE(second));
 }
 
-/* two calls: all but the job, and the job */
 static void card_unsealed(const struct job_case *c)
 {
-    said = peat_read_envelope(c->sealed, c->sealed_bytes);
-    envelope_read.job = peat_envelope_job(c->sealed, c->sealed_bytes);
+    uint8_t job[PEAT_JOB_BYTES];
+    said = peat_read_envelope(c->sealed, c->sealed_bytes, RANGE(job));
+    envelope_read.job = peat_job_number(job);
 }
 
 /* ---- the others */

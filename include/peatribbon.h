@@ -12,8 +12,8 @@
  * Ranges. A range is a pointer and, as the next parameter, its length in bytes.
  *   - A call reads and writes inside the ranges that it is lent, keeps no pointer, allocates nothing and has no memory of
  *     its own: calls on different records and buffers may run at the same time.
- *   - LENT RANGES MUST NOT OVERLAP: no byte of a range that is lent without const (rec, first, second, out, mail, book, and
- *     message and text where they are read into) may be a byte of any other range of the same call. (Ranges lent as const are only
+ *   - LENT RANGES MUST NOT OVERLAP: no byte of a range that is lent without const (rec, first, second, out, job, mail, book,
+ *     and message and text where they are read into) may be a byte of any other range of the same call. (Ranges lent as const are only
  *     read; they may share bytes with each other.) This is the host's to keep. No call can see it, and the promises below do
  *     not hold without it.
  *   - A range of length 0 is never looked at. Its pointer may be any pointer, the null pointer too.
@@ -25,7 +25,7 @@
  * peat_message_characters and peat_message_bits that of the message's, peat_opened_number and peat_open_count that of the
  * book's. Refused: the number of the refusal and, where bits were at fault (PEAT_SHORT to PEAT_DEFAULT), the position of the
  * fault, which peat_position reads; all other bits 0, and NO byte of any lent range has changed (but peat_mail_take and
- * peat_mail_end keep the refusal of their input in mail). (peat_envelope_job and peat_book_job answer a plain number.) The refusals are tried in the order ROOM, SHAPE, STALE, PROHIBITED, NO_MESSAGE,
+ * peat_mail_end keep the refusal of their input in mail). (peat_book_job answers a plain number.) The refusals are tried in the order ROOM, SHAPE, STALE, PROHIBITED, NO_MESSAGE,
  * REPEAT; of a book SHAPE, then ALL_OPEN or NOT_OPEN. A primitive of the dialogue service is refused with ROOM, SHAPE or STALE only:
  * user data that is no valid PDU is not refused but answered as the protocol says.
  *
@@ -71,9 +71,9 @@ extern "C" {
  * VERSION of the project: what the header is of, as a string and in three numbers. CHANGELOG.md says what changed.
  */
 
-#define PEAT_VERSION "0.5.0"
+#define PEAT_VERSION "0.6.0"
 #define PEAT_VERSION_MAJOR 0
-#define PEAT_VERSION_MINOR 5
+#define PEAT_VERSION_MINOR 6
 #define PEAT_VERSION_PATCH 0
 
 /* What the archive is of: "peatribbon VERSION, rattle logic HASH", where the hash names the logic in which its card was proved.
@@ -93,6 +93,7 @@ extern const char peat_archive_version[];
 #define PEAT_ENVELOPE_MOST 2061 /* an envelope, bytes */
 #define PEAT_MAIL_HEAD 11      /* a mail record, bytes before those of the envelope */
 #define PEAT_MAIL_BYTES (PEAT_MAIL_HEAD + PEAT_ENVELOPE_MOST) /* a mail record, exactly */
+#define PEAT_JOB_BYTES 8       /* the range that takes the job of an envelope, exactly */
 #define PEAT_INNER_BYTES 132   /* a message range, exactly */
 #define PEAT_INNER_PLACES 5    /* the elements of a message, at most */
 #define PEAT_BOOK_BYTES 520    /* a book, exactly */
@@ -131,7 +132,7 @@ static inline uint64_t peat_bits_given(const struct peat_data *data) { return da
 /* ---- refusals */
 
 /* The machine's calls answer 0 to 6, the readers of a message, of message data, of a forward message and of an APDU 1, 2 and 10 to 17, the reader of
-   an envelope 20 to 23, that of fragments 2 and 20 to 23, the two writers 1 and 2, and the book's calls 2, 7 and 8. A machine's call that meets 10 to 17 in
+   an envelope and that of fragments 2 and 20 to 23, the two writers 1 and 2, and the book's calls 2, 7 and 8. A machine's call that meets 10 to 17 in
    user data does as the protocol says. An envelope of kind 3 carries any of these numbers. */
 enum peat_refusal {
     PEAT_TAKEN = 0,      /* not refused */
@@ -634,14 +635,11 @@ static inline unsigned peat_record_policy(const uint8_t *rec) { return rec[PEAT_
 static inline unsigned peat_record_forwards(const uint8_t *rec) { return rec[PEAT_RECORD_FORWARDS]; } /* enum peat_forwarding */
 static inline unsigned peat_record_version(const uint8_t *rec) { return rec[PEAT_RECORD_VERSION]; }   /* the own version, 1 to 255 */
 
-/* a number in eight bytes, the most significant first */
+/* a number in eight bytes, the most significant first; not a loop, so that compilers make one load of it */
 static inline uint64_t peat_eight_bytes(const uint8_t *at)
 {
-    uint64_t n = 0;
-    size_t i;
-    for (i = 0; i < 8; i++)
-        n = n << 8 | at[i];
-    return n;
+    return (uint64_t)at[0] << 56 | (uint64_t)at[1] << 48 | (uint64_t)at[2] << 40 | (uint64_t)at[3] << 32 | (uint64_t)at[4] << 24 |
+           (uint64_t)at[5] << 16 | (uint64_t)at[6] << 8 | at[7];
 }
 
 /* the highest job taken, 0 at first */
@@ -934,15 +932,16 @@ uint64_t peat_read_apdu(uint64_t which, const uint8_t *bytes, size_t bytes_len);
  */
 
 /* The envelope at the front of the lent bytes; what follows it is not looked at.
-   Answers PEAT_CUT (the bytes end inside it; none at all, too), PEAT_GROUPS, PEAT_KIND or PEAT_SIZE, whichever it meets
-   first in the order kind, job, bit count, body. Else peat_envelope_kind, _bits, _body and _next read the answer: the body
-   is peat_envelope_bits bits, from byte peat_envelope_body of the lent ones on, and the next envelope, if there are bytes
-   left, begins at byte peat_envelope_next. Both places are at most PEAT_ENVELOPE_MOST. Writes nothing. */
-uint64_t peat_read_envelope(const uint8_t *lent, size_t lent_len);
+   Answers PEAT_SHAPE (job is not of PEAT_JOB_BYTES bytes); PEAT_CUT (the bytes end inside the envelope; none at all, too),
+   PEAT_GROUPS, PEAT_KIND or PEAT_SIZE, whichever it meets first in the order kind, job, bit count, body; and job stays.
+   Else peat_envelope_kind, _bits, _body and _next read the answer: the body is peat_envelope_bits bits, from byte
+   peat_envelope_body of the lent ones on, and the next envelope, if there are bytes left, begins at byte
+   peat_envelope_next. Both places are at most PEAT_ENVELOPE_MOST. And job has the job number, 1 to 2^64 - 1, which takes
+   all bits of a number and so is not in the answer: peat_job_number reads it there. */
+uint64_t peat_read_envelope(const uint8_t *lent, size_t lent_len, uint8_t *job, size_t job_len);
 
-/* The job number of the envelope at the front of the lent bytes, 1 to 2^64 - 1; 0 where peat_read_envelope refuses it.
-   (A job takes all bits of a number, so it has a call of its own.) Writes nothing. */
-uint64_t peat_envelope_job(const uint8_t *lent, size_t lent_len);
+/* the job number that reading an envelope left in job, PEAT_JOB_BYTES bytes, the most significant first */
+static inline uint64_t peat_job_number(const uint8_t *job) { return peat_eight_bytes(job); }
 
 /* An envelope into out, from its first byte on. kind: enum peat_envelope. job: 1 to 2^64 - 1. bits: of the body, 0 to
    PEAT_MESSAGE_MOST, and 8 where the kind is PEAT_ENVELOPE_REFUSAL. body: its bits from the first bit on; the range may be
@@ -1007,18 +1006,16 @@ uint64_t peat_mail_end(uint8_t *mail, size_t mail_len);
 
 /* How many bytes of an envelope are held, and where the envelope that is held or refused begins. */
 static inline size_t peat_mail_held(const uint8_t *mail) { return (size_t)mail[PEAT_MAIL_COUNT] << 8 | mail[PEAT_MAIL_COUNT + 1]; }
-static inline uint64_t peat_mail_place(const uint8_t *mail)
-{
-    uint64_t place = 0;
-    unsigned i;
-    for (i = 0; i < 8; i++)
-        place = place << 8 | mail[PEAT_MAIL_PLACE + i];
-    return place;
-}
+static inline uint64_t peat_mail_place(const uint8_t *mail) { return peat_eight_bytes(mail + PEAT_MAIL_PLACE); }
 
 /* Of an envelope that was finished: its body, where it stands in mail; its job number (0: none is finished). */
 static inline const uint8_t *peat_mail_body(const uint8_t *mail, uint64_t answer) { return mail + peat_envelope_body(answer); }
-static inline uint64_t peat_mail_job(const uint8_t *mail) { return peat_envelope_job(mail + PEAT_MAIL_HEAD, peat_mail_held(mail)); }
+static inline uint64_t peat_mail_job(const uint8_t *mail)
+{
+    uint8_t job[PEAT_JOB_BYTES] = {0};
+    peat_read_envelope(mail + PEAT_MAIL_HEAD, peat_mail_held(mail), job, sizeof job);
+    return peat_job_number(job);
+}
 
 /* ---- the CPDLC message
  *

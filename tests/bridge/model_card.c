@@ -70,8 +70,10 @@ uint64_t peat_forward_part(uint64_t which, const uint8_t *delivered, size_t deli
 {
     ASK(FORWARD_PART, .n = {which}, .bytes = lent(delivered, delivered_len), .first = {out, out_len});
 }
-uint64_t peat_read_envelope(const uint8_t *bytes, size_t bytes_len) { ASK(READ_ENVELOPE, .bytes = lent(bytes, bytes_len)); }
-uint64_t peat_envelope_job(const uint8_t *bytes, size_t bytes_len) { ASK(ENVELOPE_JOB, .bytes = lent(bytes, bytes_len)); }
+uint64_t peat_read_envelope(const uint8_t *bytes, size_t bytes_len, uint8_t *job, size_t job_len)
+{
+    ASK(READ_ENVELOPE, .bytes = lent(bytes, bytes_len), .first = {job, job_len});
+}
 uint64_t peat_write_envelope(uint64_t kind, uint64_t job, uint64_t bits, const uint8_t *body, size_t body_len, uint8_t *out, size_t out_len)
 {
     ASK(WRITE_ENVELOPE, .n = {kind, job, bits}, .msgs = lent(body, body_len), .first = {out, out_len});

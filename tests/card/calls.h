@@ -34,8 +34,7 @@ static uint64_t card_call(enum which w, const struct args *a)
     case D_END_CONFIRMATION: return peat_d_end_confirmation(REC, a->number, n[0], GIVEN, OUT);
     case D_ABORT_INDICATION: return peat_d_abort_indication(REC, a->number, n[0], GIVEN, OUT);
     case D_P_ABORT_INDICATION: return peat_d_p_abort_indication(REC, a->number, OUT);
-    case READ_ENVELOPE: return peat_read_envelope(a->bytes.at, a->bytes.len);
-    case ENVELOPE_JOB: return peat_envelope_job(a->bytes.at, a->bytes.len);
+    case READ_ENVELOPE: return peat_read_envelope(a->bytes.at, a->bytes.len, a->first.at, a->first.len);
     case WRITE_ENVELOPE: return peat_write_envelope(n[0], n[1], n[2], a->msgs.at, a->msgs.len, a->first.at, a->first.len);
     case DATA_PART: return peat_data_part(n[0], a->bytes.at, a->bytes.len, a->first.at, a->first.len);
     case FORWARD_PART: return peat_forward_part(n[0], a->bytes.at, a->bytes.len, a->first.at, a->first.len);
@@ -54,7 +53,7 @@ static const char *const names[CALLS] = {
     "peat_start", "peat_start_response", "peat_dsc_start_response", "peat_message_request", "peat_end_request",
     "peat_dsc_end_request", "peat_end_response", "peat_dsc_end_response", "peat_user_abort", "peat_forward_request",
     "peat_timer_expiry", "peat_system_error", "peat_d_start_indication", "peat_d_start_confirmation", "peat_d_data_indication", "peat_d_end_indication",
-    "peat_d_end_confirmation", "peat_d_abort_indication", "peat_d_p_abort_indication", "peat_fresh", "peat_read_envelope", "peat_envelope_job",
-    "peat_write_envelope", "peat_data_part", "peat_forward_part", "peat_read_apdu", "peat_read_message", "peat_write_message"};
+    "peat_d_end_confirmation", "peat_d_abort_indication", "peat_d_p_abort_indication", "peat_fresh", "peat_read_envelope", "peat_write_envelope",
+    "peat_data_part", "peat_forward_part", "peat_read_apdu", "peat_read_message", "peat_write_message"};
 
 #endif

@@ -117,7 +117,7 @@ static int as_copied(struct args *a)
 static int can_refuse(enum which w, unsigned x)
 {
     if (w == READ_ENVELOPE)
-        return x >= PEAT_CUT && x <= PEAT_SIZE;
+        return x == PEAT_SHAPE || (x >= PEAT_CUT && x <= PEAT_SIZE);
     if (w == WRITE_ENVELOPE || w == WRITE_MESSAGE)
         return x == PEAT_ROOM || x == PEAT_SHAPE;
     if (w == DATA_PART)
@@ -140,14 +140,13 @@ static int position_fits(enum which w, const struct args *a, uint64_t said)
     return peat_position(said) <= (peat_refusal(said) < PEAT_SHORT ? 0 : bits);
 }
 
-/* Makes the call: a refusal is its number and its position alone and changes no byte, else it does what the model does. (The answer
-   of ENVELOPE_JOB is a job and no refusal.) */
+/* Makes the call: a refusal is its number and its position alone and changes no byte, else it does what the model does. */
 static int agrees(enum which w, struct args *a, uint64_t *said)
 {
     struct args m = copied(a);
     uint64_t want;
     *said = card_call(w, a);
-    if (w != ENVELOPE_JOB && peat_refusal(*said) != PEAT_TAKEN && (!position_fits(w, a, *said) || !can_refuse(w, peat_refusal(*said)) || !as_copied(a)))
+    if (peat_refusal(*said) != PEAT_TAKEN && (!position_fits(w, a, *said) || !can_refuse(w, peat_refusal(*said)) || !as_copied(a)))
         return 0;
     want = model_call(w, &m);
     return *said == want && as_copied(a);
@@ -397,6 +396,8 @@ static void random_envelope(struct args *a)
     lend(a, 4, len);
     if (len > 0)
         memcpy(a->bytes.at, bytes, len);
+    lend(a, 5, once_in(30) ? below(20) : PEAT_JOB_BYTES);
+    fill(lent[5] - PEAT_JOB_BYTES, PEAT_JOB_BYTES);
 }
 
 static void random_content(struct args *a)
@@ -564,7 +565,7 @@ static void random_call(enum which w, struct args *a)
         random_apdu(a);
     if ((w == D_START_INDICATION || w == D_START_CONFIRMATION) && once_in(3))
         random_centre(w, a);
-    if (w == READ_ENVELOPE || w == ENVELOPE_JOB)
+    if (w == READ_ENVELOPE)
         random_envelope(a);
     if (w == WRITE_ENVELOPE)
         random_content(a);
@@ -627,14 +628,6 @@ static void all_seen(void)
     check(least >= 100, "a call hardly reached a state");
 }
 
-/* what a call was answered: 0 for taken, or the refusal. A job of 0 is the refusal that the reader answers. */
-static unsigned kind_of_answer(enum which w, struct args *a, uint64_t said)
-{
-    if (w == ENVELOPE_JOB)
-        return said != 0 ? PEAT_TAKEN : peat_refusal(card_call(READ_ENVELOPE, a));
-    return peat_refusal(said);
-}
-
 /* a table of how often calls were answered in each way */
 static void print_answers(unsigned long answered[][PEAT_SIZE + 1], int from, int to, const unsigned *way, const char *const *title, int ways)
 {
@@ -671,7 +664,7 @@ static void random_calls(unsigned long calls)
         memcpy(before, lent[0] - sizeof before, sizeof before);
         if (!agrees((enum which)w, &a, &said) && wrong[w]++ == 0)
             printf("card: %s, call %lu: answers %llx, which is not as the model has it\n", names[w], n, (unsigned long long)said);
-        answered[w][kind_of_answer((enum which)w, &a, said)]++;
+        answered[w][peat_refusal(said)]++;
         seen((enum which)w, &a, before, said);
     }
     if (calls >= 500000)
@@ -682,7 +675,7 @@ static void random_calls(unsigned long calls)
     for (w = 0; w < CALLS; w++) {
         check(wrong[w] == 0, names[w]);
         for (x = 0; x <= PEAT_SIZE && calls >= 100000; x++)
-            check((answered[w][x] > 0) == (x == 0 || can_refuse(w == ENVELOPE_JOB ? READ_ENVELOPE : (enum which)w, x)),
+            check((answered[w][x] > 0) == (x == 0 || can_refuse((enum which)w, x)),
                 "an entry point's random calls do not have all its answers, or have others");
     }
 }
@@ -841,18 +834,45 @@ static void start_everywhere(void)
 
 /* ---- edges of the envelope's calls */
 
+static uint64_t job_in(const struct args *a) { return peat_job_number(a->first.at); }
+
 /* lends these bytes to be read; the number that reading answers, or a wrong one where a call is not as the model has it */
 static uint64_t reads(const uint8_t *bytes, size_t len)
 {
     struct args a;
-    uint64_t said, job;
+    uint64_t said;
     memset(&a, 0, sizeof a);
     lend(&a, 4, len);
     if (len > 0)
         memcpy(a.bytes.at, bytes, len);
-    if (!agrees(ENVELOPE_JOB, &a, &job) || !agrees(READ_ENVELOPE, &a, &said) || (job == 0) != (peat_refusal(said) != PEAT_TAKEN))
+    lend(&a, 5, PEAT_JOB_BYTES);
+    memset(a.first.at, 0, PEAT_JOB_BYTES); /* 0 is no job */
+    if (!agrees(READ_ENVELOPE, &a, &said) || (job_in(&a) == 0) != (peat_refusal(said) != PEAT_TAKEN))
         return (uint64_t)-1;
     return said;
+}
+
+/* the job range of any other size is SHAPE, before anything of the envelope is looked at */
+static void job_ranges(void)
+{
+    static const uint8_t sound[] = {0x01, 0xAC, 0x02, 0x0A, 0xA5, 0x40}, cut[] = {0x01};
+    size_t size;
+    int right = 1;
+    for (size = 0; size <= 2 * PEAT_JOB_BYTES; size++) {
+        struct args a;
+        uint64_t said;
+        unsigned i;
+        for (i = 0; i < 2; i++) {
+            memset(&a, 0, sizeof a);
+            lend(&a, 4, i == 0 ? sizeof sound : sizeof cut);
+            memcpy(a.bytes.at, i == 0 ? sound : cut, a.bytes.len);
+            fill(lent[5] - 2 * PEAT_JOB_BYTES, 2 * PEAT_JOB_BYTES);
+            lend(&a, 5, size);
+            right &= agrees(READ_ENVELOPE, &a, &said) && peat_refusal(said) == (size != PEAT_JOB_BYTES ? PEAT_SHAPE : i == 0 ? PEAT_TAKEN : PEAT_CUT);
+            right &= size != PEAT_JOB_BYTES || i != 0 || job_in(&a) == 300;
+        }
+    }
+    check(right, "a job range of each size");
 }
 
 #define READS(...) reads((const uint8_t[]){__VA_ARGS__}, sizeof((const uint8_t[]){__VA_ARGS__}))
@@ -931,10 +951,14 @@ static void damaged_envelopes(void)
 static void known_envelopes(void)
 {
     static const uint8_t one[] = {0x01, 0xAC, 0x02, 0x0A, 0xA5, 0x40, 0x03}; /* and one byte of the next */
+    uint8_t job[PEAT_JOB_BYTES];
     uint64_t n = reads(one, sizeof one);
     check(peat_refusal(n) == PEAT_TAKEN && peat_envelope_kind(n) == PEAT_ENVELOPE_TO_SEND && peat_envelope_bits(n) == 10 && peat_envelope_body(n) == 4 &&
-        peat_envelope_next(n) == 6 && peat_envelope_job(one, sizeof one) == 300, "01 AC 02 0A A5 40: kind 1, job 300, ten bits");
-    check(peat_read_envelope(NULL, 0) == PEAT_CUT && peat_envelope_job(NULL, 0) == 0, "no bytes at all are CUT");
+        peat_envelope_next(n) == 6, "01 AC 02 0A A5 40: kind 1, ten bits");
+    check(peat_read_envelope(PEAT_ARRAY(one), PEAT_ARRAY(job)) == n && memcmp(job, (const uint8_t[]){0, 0, 0, 0, 0, 0, 1, 44}, sizeof job) == 0,
+        "job 300, the most significant byte first");
+    check(peat_read_envelope(NULL, 0, PEAT_ARRAY(job)) == PEAT_CUT && peat_job_number(job) == 300, "no bytes at all are CUT, and the job stays");
+    check(peat_read_envelope(PEAT_ARRAY(one), NULL, 0) == PEAT_SHAPE, "no range for the job is SHAPE");
     check(READS(0x01, 0x80, 0x00) == PEAT_GROUPS, "01 80 00: GROUPS");
     check(READS(0x01, 0x00, 0x00) == PEAT_GROUPS, "job 0: GROUPS");
     check(READS(0x00) == PEAT_KIND && READS(0x04) == PEAT_KIND && READS(0x80) == PEAT_CUT && READS(0x80, 0x00) == PEAT_GROUPS, "a kind");
@@ -963,14 +987,15 @@ static struct args content(uint64_t kind, uint64_t job, uint64_t bits, const uin
 static int writes(uint64_t kind, uint64_t job, uint64_t bits, const uint8_t *body, size_t len, size_t out, uint64_t *said)
 {
     struct args a = content(kind, job, bits, body, len, out);
+    uint8_t back[PEAT_JOB_BYTES];
     uint64_t n;
     if (!agrees(WRITE_ENVELOPE, &a, said))
         return 0;
     if (peat_refusal(*said) != PEAT_TAKEN)
         return 1;
-    n = peat_read_envelope(a.first.at, out);
+    n = peat_read_envelope(a.first.at, out, PEAT_ARRAY(back));
     return peat_written_bytes(*said) <= PEAT_ENVELOPE_MOST && peat_refusal(n) == PEAT_TAKEN && peat_envelope_kind(n) == kind && peat_envelope_bits(n) == bits &&
-           peat_envelope_job(a.first.at, out) == job && peat_envelope_next(n) == peat_written_bytes(*said) &&
+           peat_job_number(back) == job && peat_envelope_next(n) == peat_written_bytes(*said) &&
            (bits == 0 || memcmp(a.first.at + peat_envelope_body(n), body, (size_t)(bits + 7) / 8) == 0);
 }
 
@@ -1671,6 +1696,7 @@ int main(int argc, char **argv)
     forward_everywhere();
     start_everywhere();
     known_envelopes();
+    job_ranges();
     damaged_envelopes();
     written_envelopes();
     message_edges();

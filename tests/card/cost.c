@@ -81,7 +81,7 @@ static const struct row rows[] = {
     {"least", READ_ENVELOPE, 1, PEAT_IDLE, 0, {1, 1, 0}, LEAST, PDU_NONE},
     {"2,048 bits, 269 bytes", READ_ENVELOPE, 1, PEAT_IDLE, 0, {2, UINT64_MAX, 2048}, MIDDLE, PDU_NONE},
     {"largest, 2,061 bytes", READ_ENVELOPE, 1, PEAT_IDLE, 0, {2, UINT64_MAX, 16383}, LARGEST, PDU_NONE},
-    {"largest, 2,061 bytes", ENVELOPE_JOB, 1, PEAT_IDLE, 0, {2, UINT64_MAX, 16383}, LARGEST, PDU_NONE},
+    {"CUT, largest", READ_ENVELOPE, 1, PEAT_IDLE, 0, {2, UINT64_MAX, 16383}, LARGEST, PDU_NONE},
     {"least", WRITE_ENVELOPE, 1, PEAT_IDLE, 0, {1, 1, 0}, LEAST, PDU_NONE},
     {"2,048 bits, 269 bytes", WRITE_ENVELOPE, 1, PEAT_IDLE, 0, {2, UINT64_MAX, 2048}, MIDDLE, PDU_NONE},
     {"largest, 2,061 bytes", WRITE_ENVELOPE, 1, PEAT_IDLE, 0, {2, UINT64_MAX, 16383}, LARGEST, PDU_NONE},
@@ -248,8 +248,10 @@ static void prepare(const struct row *r)
         args.bytes = (struct range){bytes, put_pdu(r)};
         args.given = 1;
     }
-    if (r->which == READ_ENVELOPE || r->which == ENVELOPE_JOB)
-        args.bytes = (struct range){bytes, put_envelope(r)};
+    if (r->which == READ_ENVELOPE) {
+        args.bytes = (struct range){bytes, put_envelope(r) - (strstr(r->title, "CUT") != NULL)};
+        args.first.len = PEAT_JOB_BYTES;
+    }
     if (r->which == DATA_PART) {
         if (r->size == LEAST)
             args.message = 8;
@@ -315,9 +317,9 @@ int main(int argc, char **argv)
         prepare(&rows[i]);
         said = card_call(rows[i].which, &args);
         /* a row is of the kind that it says */
-        if (rows[i].which == ENVELOPE_JOB)
-            return said != rows[i].n[1];
-        return (peat_refusal(said) != 0) != (strstr(rows[i].title, "PROHIBITED") || strstr(rows[i].title, "STALE") || strstr(rows[i].title, "REPEAT") || strstr(rows[i].title, "SHAPE") || strstr(rows[i].title, "SHORT"));
+        if (rows[i].which == READ_ENVELOPE && peat_refusal(said) == 0 && peat_job_number(first) != rows[i].n[1])
+            return 1;
+        return (peat_refusal(said) != 0) != (strstr(rows[i].title, "PROHIBITED") || strstr(rows[i].title, "STALE") || strstr(rows[i].title, "REPEAT") || strstr(rows[i].title, "SHAPE") || strstr(rows[i].title, "SHORT") || strstr(rows[i].title, "CUT"));
     }
     for (i = 0; i < ROWS; i++)
         printf("%lu %s %s\n", (unsigned long)i, names[rows[i].which], rows[i].title);

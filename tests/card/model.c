@@ -786,17 +786,17 @@ static unsigned get_envelope(struct range in, struct envelope *e)
     return 0;
 }
 
-static uint64_t read_envelope(const struct args *a)
+/* the job goes into a range of its own size, the most significant byte first */
+static uint64_t read_envelope(struct args *a)
 {
     struct envelope e;
-    unsigned refusal = get_envelope(a->bytes, &e);
-    return refusal ? refusal : e.number[0] << 8 | e.number[2] << 16 | (uint64_t)e.body << 32 | (uint64_t)e.at << 48;
-}
-
-static uint64_t envelope_job(const struct args *a)
-{
-    struct envelope e;
-    return get_envelope(a->bytes, &e) ? 0 : e.number[1];
+    unsigned refusal = a->first.len != JOB_BYTES ? 2 : get_envelope(a->bytes, &e);
+    size_t i;
+    if (refusal)
+        return refusal;
+    for (i = JOB_BYTES; i-- > 0; e.number[1] /= 256)
+        a->first.at[i] = (uint8_t)(e.number[1] % 256);
+    return e.number[0] << 8 | e.number[2] << 16 | (uint64_t)e.body << 32 | (uint64_t)e.at << 48;
 }
 
 /* "A writer answers SHAPE to a kind, job or bit count that reading refuses": what was put together is read. */
@@ -886,7 +886,6 @@ uint64_t model_call(enum which w, struct args *a)
     switch (w) {
     case FRESH: return fresh(a);
     case READ_ENVELOPE: return read_envelope(a);
-    case ENVELOPE_JOB: return envelope_job(a);
     case WRITE_ENVELOPE: return write_envelope(a);
     case DATA_PART: return data_part(a);
     case READ_APDU: return read_apdu(a);

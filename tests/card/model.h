@@ -14,7 +14,7 @@ enum which {
     START_REQUEST, START_RESPONSE, DSC_START_RESPONSE, MESSAGE_REQUEST, END_REQUEST, DSC_END_REQUEST, END_RESPONSE,
     DSC_END_RESPONSE, USER_ABORT, FORWARD_REQUEST, TIMER_EXPIRY, SYSTEM_ERROR, D_START_INDICATION, D_START_CONFIRMATION,
     D_DATA_INDICATION, D_END_INDICATION, D_END_CONFIRMATION, D_ABORT_INDICATION, D_P_ABORT_INDICATION, FRESH, READ_ENVELOPE,
-    ENVELOPE_JOB, WRITE_ENVELOPE, DATA_PART, FORWARD_PART, READ_APDU, READ_MESSAGE, WRITE_MESSAGE, CALLS
+    WRITE_ENVELOPE, DATA_PART, FORWARD_PART, READ_APDU, READ_MESSAGE, WRITE_MESSAGE, CALLS
 };
 
 struct range {
@@ -35,8 +35,8 @@ struct args {
 /* does to the lent ranges what the call must do, and answers what it must answer */
 uint64_t model_call(enum which which, struct args *a);
 
-/* document 01's sizes, with those of document 02, E3: the bits of a message, the bytes of an output buffer; a record's bytes */
-enum { MESSAGE_MOST = 16383, BUFFER_LEAST = 2112, RECORD_BYTES = 25 };
+/* document 01's sizes, with those of document 02, E3: the bits of a message, the bytes of an output buffer; a record's bytes, and a job's */
+enum { MESSAGE_MOST = 16383, BUFFER_LEAST = 2112, RECORD_BYTES = 25, JOB_BYTES = 8 };
 
 /* bits, one in a byte: the largest APDU has 16,615 */
 struct bits {

@@ -2,6 +2,7 @@
  *
  *     FUNCTION TO AT BITS
  *
+ * Of a read, TO is how many bytes are lent behind those that hold the bits; of a copy no more bytes are lent than the bits need.
  * A slice passes from Rattle's C face as a pointer and a length. The status is 0 where every call did what it should. */
 #include <stdint.h>
 #include <stdio.h>
@@ -46,12 +47,12 @@ static int copies(size_t to, size_t at, size_t bits)
     return answer == to + bits && memcmp(dst, want, sizeof dst) == 0;
 }
 
-static int reads(size_t at, size_t bits)
+static int reads(size_t behind, size_t at, size_t bits)
 {
     uint64_t number = 0;
     for (size_t i = 0; i < bits; i++)
         number = number * 2 + (uint64_t)bit(src, at + i);
-    return bench_read(src, bytes_for(at + bits), at, bits) == number;
+    return bench_read(src, bytes_for(at + bits) + behind, at, bits) == number;
 }
 
 int main(void)
@@ -62,12 +63,12 @@ int main(void)
     fill(dst, sizeof dst, 2);
     while (scanf("%31s %zu %zu %zu", function, &to, &at, &bits) == 4) {
         int right = 0;
-        if (bytes_for(to + bits) > BYTES || bytes_for(at + bits) > BYTES)
+        if (bytes_for(to + bits) > BYTES || bytes_for(at + bits) + to > BYTES)
             fprintf(stderr, "cost: more than %d bytes\n", BYTES);
         else if (strcmp(function, "bench_copy") == 0)
             right = copies(to, at, bits);
         else if (strcmp(function, "bench_read") == 0)
-            right = reads(at, bits);
+            right = reads(to, at, bits);
         if (!right) {
             fprintf(stderr, "cost: %s %zu %zu %zu is wrong\n", function, to, at, bits);
             return 1;

@@ -4,7 +4,7 @@
  *     apdu TYPE HEX       peat_read_apdu: the answer
  *     data HEX            peat_data_part of the message: the answer, and the bytes that it left
  *     deliver SIDE HEX    D-DATA indication to a record of that side in DIALOGUE: the answer, the record, the APDU, the message data
- *     envelope HEX        peat_read_envelope: the answer, and the job
+ *     envelope HEX        peat_read_envelope: the answer, and the job (0 where it is refused)
  *     mail HEX            the bytes one by one through peat_mail_take: the last answer, and how many were taken
  *
  * It is compiled with the header of the card that it asks, and prints `beside` where a call wrote a byte that it must leave.
@@ -77,7 +77,9 @@ static void ask_deliver(uint64_t side)
 
 static void ask_envelope(void)
 {
-    printf("%llu %llu", (unsigned long long)peat_read_envelope(bytes, count), (unsigned long long)peat_envelope_job(bytes, count));
+    uint8_t job[PEAT_JOB_BYTES] = {0};
+    uint64_t n = peat_read_envelope(bytes, count, PEAT_ARRAY(job));
+    printf("%llu %llu", (unsigned long long)n, (unsigned long long)peat_job_number(job));
 }
 
 static void ask_mail(void)

@@ -1,7 +1,7 @@
 /*
  * Asks the card's calls of the envelope, for tests/envelopes/run. A line of standard input is a question:
  *
- *     read BYTES                     answers the number of peat_read_envelope and of peat_envelope_job
+ *     read BYTES JOB                 answers the number of peat_read_envelope, and the range for the job after it, which was JOB
  *     write KIND JOB BITS BODY OUT   answers the number of peat_write_envelope, and the buffer after it, which was OUT
  *
  * Bytes are in hexadecimal, `-` for none. Each range is a block of its own size on the heap.
@@ -34,27 +34,35 @@ static uint8_t *next_bytes(size_t *len)
     return at;
 }
 
+static void show(const uint8_t *at, size_t len)
+{
+    size_t i;
+    for (i = 0; i < len; i++)
+        printf("%02x", at[i]);
+    printf("%s\n", len == 0 ? "-" : "");
+}
+
 static void read_one(void)
 {
-    size_t len;
-    uint8_t *lent = next_bytes(&len);
-    printf("%" PRIu64 " %" PRIu64 "\n", peat_read_envelope(lent, len), peat_envelope_job(lent, len));
+    size_t len, job_len;
+    uint8_t *lent = next_bytes(&len), *job = next_bytes(&job_len);
+    printf("%" PRIu64 " ", peat_read_envelope(lent, len, job, job_len));
+    show(job, job_len);
     free(lent);
+    free(job);
 }
 
 static void write_one(void)
 {
     uint64_t kind, job, bits;
     uint8_t *body, *out;
-    size_t body_len, out_len, i;
+    size_t body_len, out_len;
     if (scanf("%" SCNu64 " %" SCNu64 " %" SCNu64, &kind, &job, &bits) != 3)
         exit(2);
     body = next_bytes(&body_len);
     out = next_bytes(&out_len);
     printf("%" PRIu64 " ", peat_write_envelope(kind, job, bits, body, body_len, out, out_len));
-    for (i = 0; i < out_len; i++)
-        printf("%02x", out[i]);
-    printf("%s\n", out_len == 0 ? "-" : "");
+    show(out, out_len);
     free(body);
     free(out);
 }

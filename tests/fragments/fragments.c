@@ -236,12 +236,13 @@ static struct run read_whole(const uint8_t *s, size_t n)
     size_t at = 0;
     memset(&r, 0, sizeof r);
     while (at < n) {
-        uint64_t answer = peat_read_envelope(s + at, n - at);
+        uint8_t job[PEAT_JOB_BYTES];
+        uint64_t answer = peat_read_envelope(s + at, n - at, PEAT_ARRAY(job));
         unsigned k;
         r.refusal = peat_refusal(answer);
         if (r.refusal != 0)
             break;
-        add(&r.sum, peat_envelope_kind(answer)), add(&r.sum, peat_envelope_job(s + at, n - at)), add(&r.sum, peat_envelope_bits(answer));
+        add(&r.sum, peat_envelope_kind(answer)), add(&r.sum, peat_job_number(job)), add(&r.sum, peat_envelope_bits(answer));
         for (k = 0; k < (peat_envelope_bits(answer) + 7) / 8; k++)
             add(&r.sum, s[at + peat_envelope_body(answer) + k]);
         r.envelopes++;

@@ -10,7 +10,7 @@ use lib.Dec.{leb, ltb, eqb}
 use lib.Pow.{pow-mono}
 use Rattle.words.proofs.Laws.{both-left, both-right}
 use Rattle.bits.proofs.Numbers.{Bits, length-bitsN}
-use Rattle.fields.specs.Fields.{then, bitField, widthOf, lengthWithin, runAt, stringAt}
+use Rattle.fields.specs.Fields.{then, bitField, widthOf, lengthWithin, runAt, stringAt, onto, refusalOf}
 use Rattle.fields.specs.declared.Refusal.{Refusal}
 use Rattle.fields.specs.declared.Field.{Field}
 use Rattle.fields.specs.declared.Field.the-variants.{Value, Refused}
@@ -18,7 +18,7 @@ use Rattle.fields.proofs.Answers.{run-is}
 use Rattle.fields.proofs.RoundTrip.{bit-field}
 use Rattle.fields.proofs.Widths.{width-within}
 use Rattle.apdu.specs.Pdus.{kindOf}
-use Rattle.apdu.specs.Reading.{onField, onData, onTaken, onLead, fieldRefusal, takenRefusal, leadRefusal, optionalAt, withAdditions}
+use Rattle.apdu.specs.Reading.{onData, onTaken, onLead, takenRefusal, leadRefusal, optionalAt, withAdditions}
 use Rattle.apdu.specs.declared.Kind.{Kind}
 use Rattle.apdu.specs.declared.Kind.the-variants as kind
 use Rattle.apdu.specs.declared.Data.{Data}
@@ -31,11 +31,11 @@ use Rattle.apdu.specs.declared.Decoded.the-variants as decoded
 
 -- ---- after a field, message data, leading fields
 
-pub handed : {A : Type 0} (up : Refusal → A) (f g : Field) (r x : Refusal) (k : ℕ → ℕ → A) → f ≡ g → f ≡ Refused r → x ≡ fieldRefusal f → up x ≡ onField up g k
-handed up f g r x k p q h = ap up (h ∙ ap fieldRefusal q) ∙ ap (λ (y : Field). onField up y k) (sym q ∙ p)
+pub handed : {A : Type 0} (up : Refusal → A) (f g : Field) (r x : Refusal) (k : ℕ → ℕ → A) → f ≡ g → f ≡ Refused r → x ≡ refusalOf f → up x ≡ onto up g k
+handed up f g r x k p q h = ap up (h ∙ ap refusalOf q) ∙ ap (λ (y : Field). onto up y k) (sym q ∙ p)
 
-pub went : {A : Type 0} (up : Refusal → A) (f g : Field) (o : A) (v n : ℕ) (k : ℕ → ℕ → A) → f ≡ g → f ≡ Value v n → o ≡ k v n → o ≡ onField up g k
-went up f g o v n k p q h = h ∙ ap (λ (y : Field). onField up y k) (sym q ∙ p)
+pub went : {A : Type 0} (up : Refusal → A) (f g : Field) (o : A) (v n : ℕ) (k : ℕ → ℕ → A) → f ≡ g → f ≡ Value v n → o ≡ k v n → o ≡ onto up g k
+went up f g o v n k p q h = h ∙ ap (λ (y : Field). onto up y k) (sym q ∙ p)
 
 pub data-handed : (t u : Taken) (r x : Refusal) (k : Data → ℕ → Decoded) → t ≡ u → t ≡ taken.Refused r → x ≡ takenRefusal t → decoded.Refused x ≡ onData u k
 data-handed t u r x k p q h = ap decoded.Refused (h ∙ ap takenRefusal q) ∙ ap (λ (y : Taken). onData y k) (sym q ∙ p)

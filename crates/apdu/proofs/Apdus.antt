@@ -11,7 +11,7 @@ use lib.ListN.{length}
 use Rattle.words.proofs.Laws.{both-left, both-right}
 use Rattle.bits.specs.Bits.{bitsN}
 use Rattle.bits.proofs.Numbers.{Bits}
-use Rattle.fields.specs.Fields.{refusedAt, then, bitField, wholeNumber, extensibleIndex}
+use Rattle.fields.specs.Fields.{refusedAt, then, bitField, wholeNumber, extensibleIndex, onto}
 use Rattle.fields.specs.Encodings.{indexBits, wholeBits, wholeFits}
 use Rattle.fields.specs.declared.Refusal.{Refusal}
 use Rattle.fields.specs.declared.Fault.the-variants.{Default}
@@ -22,7 +22,7 @@ use Rattle.apdu.specs.Sizes.{userLast, providerLast, modeLast, bit}
 use Rattle.apdu.specs.Headings.{responseLast}
 use Rattle.apdu.specs.Pdus.{Pdu, abortUser, abortProvider, start, send, forward, forwardResponse, lastOf, kindOf, indexOf, forwards, itemsIn, pduIn}
 use Rattle.apdu.specs.Encoding.{alternative, contentBits, contentFits, forwardBits, forwardPduFits, modeBits, modeFits, pduBits, pduFits}
-use Rattle.apdu.specs.Reading.{onField, onData, onForward, onLead, dataAt, forwardAt, modeValue, modeAt, kindMode, leadingAt, tailAt, endedAt, restWithin, restAt, apduWithin, apduAt}
+use Rattle.apdu.specs.Reading.{onData, onForward, onLead, dataAt, forwardAt, modeValue, modeAt, kindMode, leadingAt, tailAt, endedAt, restWithin, restAt, apduWithin, apduAt}
 use Rattle.apdu.specs.Writing.{forwardFits, apduFits}
 use Rattle.apdu.specs.declared.PduType.{PduType}
 use Rattle.apdu.specs.declared.PduType.the-variants.{AircraftPdus, GroundPdus}
@@ -296,7 +296,7 @@ lead-read pdus l at c m next b e = via (LeadIs pdus l at c m next) lead.Refused 
         let s : Stands l at (indexBits (lastOf pdus) i) p = extensible-index (lastOf pdus) (small pdus) .read-written l at i p b f in
         record { place = p; most = rw (← j) h; stands = rw (← j) s; mode = rw (← x, ← y, ← z) g }
 
-    first : (i p : ℕ) → extensibleIndex l at (lastOf pdus) ≡ Value i p → onField lead.Refused (kindMode pdus l (kindOf i) p) (λ (v q : ℕ). lead.Is (kindOf i) v q) ≡ lead.Is c m next → LeadIs pdus l at c m next
+    first : (i p : ℕ) → extensibleIndex l at (lastOf pdus) ≡ Value i p → onto lead.Refused (kindMode pdus l (kindOf i) p) (λ (v q : ℕ). lead.Is (kindOf i) v q) ≡ lead.Is c m next → LeadIs pdus l at c m next
     first i p f k = via (LeadIs pdus l at c m next) lead.Refused (lead.Is c m next) (lead-not (LeadIs pdus l at c m next) c m next) (kindMode pdus l (kindOf i) p) _ (second i p f) k
 
 -- what follows each alternative

@@ -13,7 +13,7 @@ use Rattle.words.proofs.Laws.{both-left, both-right}
 use Rattle.bits.specs.Bits.{bitsN}
 use Rattle.bits.proofs.Numbers.{Bits, bitsN-suc, length-bitsN}
 use Rattle.fields.specs.Additions.{additionsAt}
-use Rattle.fields.specs.Fields.{bitField, stringAt}
+use Rattle.fields.specs.Fields.{bitField, stringAt, onto}
 use Rattle.fields.specs.Encodings.{bitsFit, lengthBits, withinFits}
 use Rattle.fields.specs.declared.Refusal.{Refusal}
 use Rattle.fields.specs.declared.Field.{Field}
@@ -22,7 +22,7 @@ use Rattle.fields.proofs.RoundTrip.{Stands, stands-join, stands-split, bit-fiel
 use Rattle.apdu.specs.Sizes.{identifierLeast, identifierMost, messageMost, checkMost, octet, bit}
 use Rattle.apdu.specs.Pdus.{Optional, absent, given, Content, itemsIn, partIn, contentIn}
 use Rattle.apdu.specs.Encoding.{stringBits, stringFits, optionalBits, optionalFits, presence, rootBits, contentBits, contentFits}
-use Rattle.apdu.specs.Reading.{onField, onTaken, spanTo, partAt, optionalAt, partsWithin, partsAt, withAdditions, dataWithin, dataAt}
+use Rattle.apdu.specs.Reading.{onTaken, spanTo, partAt, optionalAt, partsWithin, partsAt, withAdditions, dataWithin, dataAt}
 use Rattle.apdu.specs.Stripped.{rootEnd}
 use Rattle.apdu.specs.Writing.{itemsFit, partFits, dataFits}
 use Rattle.apdu.specs.declared.Part.{Part}
@@ -168,7 +168,7 @@ data-written l at next c h s =
     }
 
 -- a value behind a field: the field had a value
-pub via : {A : Type 0} (R : Type 0) (up : Refusal → A) (o : A) (apart : (r : Refusal) → up r ≡ o → R) (f : Field) (k : ℕ → ℕ → A) → ((v m : ℕ) → f ≡ Value v m → k v m ≡ o → R) → onField up f k ≡ o → R
+pub via : {A : Type 0} (R : Type 0) (up : Refusal → A) (o : A) (apart : (r : Refusal) → up r ≡ o → R) (f : Field) (k : ℕ → ℕ → A) → ((v m : ℕ) → f ≡ Value v m → k v m ≡ o → R) → onto up f k ≡ o → R
 via R up o apart (Value v m) k g e = g v m refl e
 via R up o apart (Refused r) k g e = apart r e
 
@@ -218,11 +218,11 @@ parts-read l at next i m d b h e = via (PartsIs l at next i m d) taken.Refused (
         rw (← v, ← u) (parts-made l at p q k n₁ n₂ n₃ i m b h x y z)
 
     second : (n₁ p : ℕ) → optionalAt l i at octet identifierLeast identifierMost ≡ Value n₁ p → (n₂ q : ℕ) → optionalAt l m p bit 0 messageMost ≡ Value n₂ q
-        → onField taken.Refused (stringAt l q bit 0 checkMost) (λ (n k : ℕ). taken.Is (record { identifier = partAt i octet n₁ p; message = partAt m bit n₂ q; check = spanTo bit n k }) k) ≡ taken.Is d next → PartsIs l at next i m d
+        → onto taken.Refused (stringAt l q bit 0 checkMost) (λ (n k : ℕ). taken.Is (record { identifier = partAt i octet n₁ p; message = partAt m bit n₂ q; check = spanTo bit n k }) k) ≡ taken.Is d next → PartsIs l at next i m d
     second n₁ p x n₂ q y w = via (PartsIs l at next i m d) taken.Refused (taken.Is d next) (refused-not (PartsIs l at next i m d) d next) (stringAt l q bit 0 checkMost) _ (third n₁ p n₂ q x y) w
 
     first : (n₁ p : ℕ) → optionalAt l i at octet identifierLeast identifierMost ≡ Value n₁ p
-        → onField taken.Refused (optionalAt l m p bit 0 messageMost) (λ (n₂ q : ℕ). onField taken.Refused (stringAt l q bit 0 checkMost) (λ (n k : ℕ). taken.Is (record { identifier = partAt i octet n₁ p; message = partAt m bit n₂ q; check = spanTo bit n k }) k)) ≡ taken.Is d next
+        → onto taken.Refused (optionalAt l m p bit 0 messageMost) (λ (n₂ q : ℕ). onto taken.Refused (stringAt l q bit 0 checkMost) (λ (n k : ℕ). taken.Is (record { identifier = partAt i octet n₁ p; message = partAt m bit n₂ q; check = spanTo bit n k }) k)) ≡ taken.Is d next
         → PartsIs l at next i m d
     first n₁ p x w = via (PartsIs l at next i m d) taken.Refused (taken.Is d next) (refused-not (PartsIs l at next i m d) d next) (optionalAt l m p bit 0 messageMost) _ (second n₁ p x) w
 
@@ -291,14 +291,14 @@ pub behind-read : (l : List ℕ) (e next : ℕ) (t : Taken) (d : Data) → cond 
 unfolding withAdditions
 behind-read l e next t d k = by (eqb e 0) refl t refl k
   where
-    more : (x : Bool) → eqb e 0 ≡ x → x ≡ false → (f : Data) (n : ℕ) → t ≡ taken.Is f n → (z : Field) → additionsAt l n ≡ z → onField taken.Refused z (λ (v after : ℕ). taken.Is f after) ≡ taken.Is d next → Behind l e next t d
+    more : (x : Bool) → eqb e 0 ≡ x → x ≡ false → (f : Data) (n : ℕ) → t ≡ taken.Is f n → (z : Field) → additionsAt l n ≡ z → onto taken.Refused z (λ (v after : ℕ). taken.Is f after) ≡ taken.Is d next → Behind l e next t d
     more x p q f n u (Value v after) y w =
         let a : f ≡ d = cc in
         let b : after ≡ next = cc in
         record { place = n; added = v; parts = u ∙ ap (λ (g : Data). taken.Is g n) a; rest = rw (p, q) (y ∙ ap (Value v) b) }
     more x p q f n u (Refused r) y w = never (cc)
 
-    by : (x : Bool) → eqb e 0 ≡ x → (u : Taken) → t ≡ u → cond x u (onTaken u (λ (f : Data) (n : ℕ). onField taken.Refused (additionsAt l n) (λ (v after : ℕ). taken.Is f after))) ≡ taken.Is d next → Behind l e next t d
+    by : (x : Bool) → eqb e 0 ≡ x → (u : Taken) → t ≡ u → cond x u (onTaken u (λ (f : Data) (n : ℕ). onto taken.Refused (additionsAt l n) (λ (v after : ℕ). taken.Is f after))) ≡ taken.Is d next → Behind l e next t d
     by true p u q w = record { place = next; added = 0; parts = q ∙ w; rest = rw p }
     by false p (taken.Is f n) q w = more false p refl f n q (additionsAt l n) refl w
     by false p (taken.Refused r) q w = never (cc)
@@ -320,5 +320,5 @@ data-read l at next d b e = via (DataIs l at next d) taken.Refused (taken.Is d n
         data-made l at p q v x next (k .place) (k .added) d (omega arith) (omega arith) s t (parts-read l q (k .place) (leb 2 v) (eqb (v % 2) 1) d b (omega arith) (k .parts)) (k .rest)
 
     first : (x p : ℕ) → bitField l at 1 ≡ Value x p
-        → onField taken.Refused (bitField l p 2) (λ (v q : ℕ). cond (eqb x 0) (partsAt l q (leb 2 v) (eqb (v % 2) 1)) (withAdditions l (partsAt l q (leb 2 v) (eqb (v % 2) 1)))) ≡ taken.Is d next → DataIs l at next d
+        → onto taken.Refused (bitField l p 2) (λ (v q : ℕ). cond (eqb x 0) (partsAt l q (leb 2 v) (eqb (v % 2) 1)) (withAdditions l (partsAt l q (leb 2 v) (eqb (v % 2) 1)))) ≡ taken.Is d next → DataIs l at next d
     first x p f w = via (DataIs l at next d) taken.Refused (taken.Is d next) (refused-not (DataIs l at next d) d next) (bitField l p 2) _ (second x p f) w

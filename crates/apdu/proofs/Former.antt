@@ -6,13 +6,13 @@ use mathlib.Core.Bool.{Bool, true, false, cond}
 use mathlib.Core.List.{List}
 use Prim.Native.Nat.{ℕ, _%_}
 use lib.Dec.{leb, eqb}
-use Rattle.fields.specs.Fields.{refusal, refusedAt, bitField, extensionBit, extensibleIndex}
+use Rattle.fields.specs.Fields.{refusal, refusedAt, bitField, extensionBit, extensibleIndex, onto}
 use Rattle.fields.specs.declared.Fault.the-variants.{Extension}
 use Rattle.fields.specs.declared.Field.{Field}
 use Rattle.fields.specs.declared.Field.the-variants.{Value, Refused}
 use Rattle.fields.specs.declared.Refusal.{Refusal}
 use Rattle.apdu.specs.Sizes.{userLast, providerLast}
-use Rattle.apdu.specs.Reading.{onField, onData, onLead, partsAt, withAdditions, dataWithin, dataAt, leadingAt, endedAt, restWithin, restAt, apduWithin, apduAt}
+use Rattle.apdu.specs.Reading.{onData, onLead, partsAt, withAdditions, dataWithin, dataAt, leadingAt, endedAt, restWithin, restAt, apduWithin, apduAt}
 use Rattle.apdu.specs.declared.PduType.{PduType}
 use Rattle.apdu.specs.declared.Kind.{Kind}
 use Rattle.apdu.specs.declared.Kind.the-variants as kind
@@ -31,7 +31,7 @@ use Rattle.apdu.proofs.Bounds.{never}
 
 unfoldable pub formerData : List ℕ → ℕ → Taken
 formerData l at =
-    onField taken.Refused (extensionBit l at) (λ (e p : ℕ). onField taken.Refused (bitField l p 2) (λ (v q : ℕ). partsAt l q (leb 2 v) (eqb (v % 2) 1)))
+    onto taken.Refused (extensionBit l at) (λ (e p : ℕ). onto taken.Refused (bitField l p 2) (λ (v q : ℕ). partsAt l q (leb 2 v) (eqb (v % 2) 1)))
 
 unfoldable pub formerRest : List ℕ → Kind → ℕ → ℕ → Decoded
 formerRest l kind.AbortUser m at = restAt l kind.AbortUser m at

@@ -13,7 +13,7 @@ use Rattle.words.proofs.Laws.{both-left, both-right}
 use Rattle.bits.specs.Bits.{bitsN}
 use Rattle.bits.proofs.Numbers.{Bits, bits-bitsN}
 use Rattle.bits.proofs.Bytes.{bits-append}
-use Rattle.fields.specs.Fields.{bitField, wholeNumber, stringAt}
+use Rattle.fields.specs.Fields.{bitField, wholeNumber, stringAt, onto}
 use Rattle.fields.specs.Encodings.{wholeBits, wholeFits}
 use Rattle.fields.specs.declared.Refusal.{Refusal}
 use Rattle.fields.specs.declared.Field.the-variants.{Value}
@@ -22,7 +22,7 @@ use Rattle.apdu.specs.Sizes.{messageMost, bit}
 use Rattle.apdu.specs.Headings.{triple, dateFrom, dateTo, timeFrom, timeTo, charactersLeast, charactersMost, character, addressBits, directionLast, tripleBits, tripleFits, aircraftBits, headingBits, headingFits}
 use Rattle.apdu.specs.Pdus.{itemsIn}
 use Rattle.apdu.specs.Encoding.{stringBits, stringFits, forwardBits, forwardPduFits}
-use Rattle.apdu.specs.Reading.{onField, onTriple, onHeading, onForward, tripleRefusal, headingRefusal, forwardRefusal, spanTo, tripleAt, headingAt, forwardWithin, forwardAt}
+use Rattle.apdu.specs.Reading.{onTriple, onHeading, onForward, tripleRefusal, headingRefusal, forwardRefusal, spanTo, tripleAt, headingAt, forwardWithin, forwardAt}
 use Rattle.apdu.specs.Writing.{forwardFits}
 use Rattle.apdu.specs.declared.Triple.{Triple}
 use Rattle.apdu.specs.declared.Heading.{Heading}
@@ -123,11 +123,11 @@ module _ (lo hi : Triple) (small : Small hi) where
           rw (← u, ← w) (triple-made l at p q n x y z b e₁ e₂ e₃)
 
       second : (x p : ℕ) → wholeNumber l at (lo .first) (hi .first) ≡ Value x p → (y q : ℕ) → wholeNumber l p (lo .second) (hi .second) ≡ Value y q
-          → onField triples.Refused (wholeNumber l q (lo .third) (hi .third)) (λ (z n : ℕ). triples.Is (triple x y z) n) ≡ triples.Is v next → TripleIs lo hi l at v next
+          → onto triples.Refused (wholeNumber l q (lo .third) (hi .third)) (λ (z n : ℕ). triples.Is (triple x y z) n) ≡ triples.Is v next → TripleIs lo hi l at v next
       second x p e₁ y q e₂ k = via (TripleIs lo hi l at v next) triples.Refused (triples.Is v next) apart (wholeNumber l q (lo .third) (hi .third)) _ (third x p y q e₁ e₂) k
 
       first : (x p : ℕ) → wholeNumber l at (lo .first) (hi .first) ≡ Value x p
-          → onField triples.Refused (wholeNumber l p (lo .second) (hi .second)) (λ (y q : ℕ). onField triples.Refused (wholeNumber l q (lo .third) (hi .third)) (λ (z n : ℕ). triples.Is (triple x y z) n)) ≡ triples.Is v next → TripleIs lo hi l at v next
+          → onto triples.Refused (wholeNumber l p (lo .second) (hi .second)) (λ (y q : ℕ). onto triples.Refused (wholeNumber l q (lo .third) (hi .third)) (λ (z n : ℕ). triples.Is (triple x y z) n)) ≡ triples.Is v next → TripleIs lo hi l at v next
       first x p e₁ k = via (TripleIs lo hi l at v next) triples.Refused (triples.Is v next) apart (wholeNumber l p (lo .second) (hi .second)) _ (second x p e₁) k
 
 date-small : Small dateTo

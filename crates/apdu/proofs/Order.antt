@@ -9,7 +9,7 @@ use lib.Count.{ones}
 use lib.Dec.{leb, eqb}
 use Rattle.bits.proofs.Numbers.{Bits}
 use Rattle.fields.specs.Additions.{additionCount, additionsThere, additionsAt}
-use Rattle.fields.specs.Fields.{refusal, refusedAt, bitField, extensionBit, extensibleIndex}
+use Rattle.fields.specs.Fields.{refusal, refusedAt, bitField, extensionBit, extensibleIndex, onto}
 use Rattle.fields.specs.Encodings.{indexBits}
 use Rattle.fields.specs.declared.Refusal.{Refusal}
 use Rattle.fields.specs.declared.Fault.the-variants.{Short, Range, Extension, LengthForm, Limit, Tail, Default}
@@ -19,7 +19,7 @@ use Rattle.fields.proofs.RoundTrip.{Stands}
 use Rattle.apdu.specs.Sizes.{userLast, providerLast}
 use Rattle.apdu.specs.Headings.{responseLast}
 use Rattle.apdu.specs.Pdus.{lastOf, kindOf, indexOf}
-use Rattle.apdu.specs.Reading.{onField, onTaken, onData, onForward, onLead, partsAt, withAdditions, dataWithin, dataAt, forwardAt, kindMode, leadingAt, tailAt, endedAt, restWithin, restAt, apduWithin, apduAt}
+use Rattle.apdu.specs.Reading.{onTaken, onData, onForward, onLead, partsAt, withAdditions, dataWithin, dataAt, forwardAt, kindMode, leadingAt, tailAt, endedAt, restWithin, restAt, apduWithin, apduAt}
 use Rattle.apdu.specs.Writing.{apduFits}
 use Rattle.apdu.specs.declared.PduType.{PduType}
 use Rattle.apdu.specs.declared.Kind.{Kind}
@@ -139,7 +139,7 @@ module _ (wrong : ℕ) where
     pub stands : Standing pdus l at place value
     pub tail : tailAt l place ≡ Refused tailRefusal
 
-  on-field : (R : Type 0) (f : Field) (k : ℕ → ℕ → Decoded) → Early f → ((v n : ℕ) → f ≡ Value v n → k v n ≡ decoded.Refused tailRefusal → R) → onField decoded.Refused f k ≡ decoded.Refused tailRefusal → R
+  on-field : (R : Type 0) (f : Field) (k : ℕ → ℕ → Decoded) → Early f → ((v n : ℕ) → f ≡ Value v n → k v n ≡ decoded.Refused tailRefusal → R) → onto decoded.Refused f k ≡ decoded.Refused tailRefusal → R
   on-field R (Value v n) k h g e = g v n refl e
   on-field R (Refused r) k h g e = absurd (h (ap Refused (answer-one r e)))
 
@@ -159,7 +159,7 @@ module _ (wrong : ℕ) where
   unfolding endedAt
   ended-tail l at a e = go (tailAt l at) refl e
     where
-      go : (f : Field) → tailAt l at ≡ f → onField decoded.Refused f (λ (v n : ℕ). decoded.Is a) ≡ decoded.Refused tailRefusal → tailAt l at ≡ Refused tailRefusal
+      go : (f : Field) → tailAt l at ≡ f → onto decoded.Refused f (λ (v n : ℕ). decoded.Is a) ≡ decoded.Refused tailRefusal → tailAt l at ≡ Refused tailRefusal
       go (Value v n) p k = never (cc)
       go (Refused r) p k = p ∙ ap Refused (answer-one r k)
 

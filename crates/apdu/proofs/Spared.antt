@@ -11,7 +11,7 @@ use Rattle.bits.specs.Read.{readBits}
 use Rattle.bits.specs.declared.Read.{Read}
 use Rattle.bits.specs.declared.Read.the-variants as read
 use Rattle.fields.specs.Additions.{additionAt, steppedOver}
-use Rattle.fields.specs.Fields.{refusedAt, then, fieldOf, bitField, widthOf, wholeNumber, lengthAt, lengthFrom, longLength, lengthWithin, runAt, stringAt}
+use Rattle.fields.specs.Fields.{refusedAt, then, fieldOf, bitField, widthOf, wholeNumber, lengthAt, lengthFrom, longLength, lengthWithin, runAt, stringAt, onto}
 use Rattle.fields.specs.declared.Refusal.{Refusal}
 use Rattle.fields.specs.declared.Fault.{Fault}
 use Rattle.fields.specs.declared.Fault.the-variants.{Short, Range, LengthForm, Limit, Default}
@@ -19,7 +19,7 @@ use Rattle.fields.specs.declared.Field.{Field}
 use Rattle.fields.specs.declared.Field.the-variants.{Value, Refused}
 use Rattle.apdu.specs.Sizes.{identifierLeast, identifierMost, messageMost, checkMost, modeLast, octet, bit}
 use Rattle.apdu.specs.Headings.{triple, dateFrom, dateTo, timeFrom, timeTo, charactersLeast, charactersMost, character, addressBits, directionLast}
-use Rattle.apdu.specs.Reading.{onField, onTriple, onHeading, optionalAt, spanTo, partsWithin, partsAt, tripleAt, headingAt, forwardWithin, forwardAt, modeValue, modeAt, kindMode}
+use Rattle.apdu.specs.Reading.{onTriple, onHeading, optionalAt, spanTo, partsWithin, partsAt, tripleAt, headingAt, forwardWithin, forwardAt, modeValue, modeAt, kindMode}
 use Rattle.apdu.specs.declared.PduType.{PduType}
 use Rattle.apdu.specs.declared.PduType.the-variants.{AircraftPdus, GroundPdus}
 use Rattle.apdu.specs.declared.Kind.{Kind}
@@ -73,7 +73,7 @@ module _ (bad : Refusal) (not : Not bad) where
   spared-cond true x y h g e = h e
   spared-cond false x y h g e = g e
 
-  pub spared-on : {A : Type 0} (up : Refusal → A) (one : (r : Refusal) → up r ≡ up bad → r ≡ bad) (f : Field) (k : ℕ → ℕ → A) → Spared f → ((v n : ℕ) → k v n ≡ up bad → ⊥) → onField up f k ≡ up bad → ⊥
+  pub spared-on : {A : Type 0} (up : Refusal → A) (one : (r : Refusal) → up r ≡ up bad → r ≡ bad) (f : Field) (k : ℕ → ℕ → A) → Spared f → ((v n : ℕ) → k v n ≡ up bad → ⊥) → onto up f k ≡ up bad → ⊥
   spared-on up one (Value v n) k h g e = g v n e
   spared-on up one (Refused r) k h g e = h (ap Refused (one r e))
 

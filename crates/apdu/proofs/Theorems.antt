@@ -16,7 +16,7 @@ use Rattle.bits.specs.Put.{putBits}
 use Rattle.bits.proofs.Numbers.{Bits, bits-bitsN, length-bitsN}
 use Rattle.bits.proofs.Bytes.{Bytes, bits-append, bits-take, bits-drop, bits-to, length-bits, length-to}
 use Rattle.bits.proofs.Putting.{length-put}
-use Rattle.fields.specs.Fields.{refusedAt, bitField, digitsIn, widthOf}
+use Rattle.fields.specs.Fields.{refusedAt, bitField, digitsIn, widthOf, onto}
 use Rattle.fields.specs.Encodings.{bitsFit, indexBits, lengthBits, wholeBits}
 use Rattle.fields.specs.declared.Fault.the-variants.{Tail}
 use Rattle.fields.specs.declared.Field.{Field}
@@ -29,7 +29,7 @@ use Rattle.apdu.specs.Sizes.{bufferLeast, allBits, octet, bit, identifie
 use Rattle.apdu.specs.Headings.{responseLast}
 use Rattle.apdu.specs.Pdus.{given, Content, Pdu, start, lastOf, lent, itemsIn, partIn, contentIn, pduIn}
 use Rattle.apdu.specs.Encoding.{stringBits, optionalBits, optionalFits, presence, alternative, rootBits, contentBits, contentFits, forwardBits, forwardPduFits, modeBits, modeFits, pduBits, pduFits, padding, padded, bytesFor}
-use Rattle.apdu.specs.Reading.{onField, onTaken, tailAt, apduAt, dataAt, wholeWithin, wholeData, wholeForwardWithin, wholeForward}
+use Rattle.apdu.specs.Reading.{onTaken, tailAt, apduAt, dataAt, wholeWithin, wholeData, wholeForwardWithin, wholeForward}
 use Rattle.apdu.specs.Stripped.{rootEnd, stripAt, strip, extended}
 use Rattle.apdu.specs.Writing.{apduFits, done, writeOut}
 use Rattle.apdu.specs.declared.PduType.{PduType}
@@ -193,11 +193,11 @@ pub whole-data : (l : List ℕ) (d : Data) (next : ℕ) → Bits l → wholeData
 unfolding wholeWithin
 whole-data l d next b h = from (dataAt l 0) refl h
   where
-    ended : (e : Data) (n : ℕ) (f : Field) → onField taken.Refused f (λ (v m : ℕ). taken.Is e n) ≡ taken.Is d next → taken.Is e n ≡ taken.Is d next
+    ended : (e : Data) (n : ℕ) (f : Field) → onto taken.Refused f (λ (v m : ℕ). taken.Is e n) ≡ taken.Is d next → taken.Is e n ≡ taken.Is d next
     ended e n (Value v m) p = p
     ended e n (Refused r) p = let z : _≡_ {A = ℕ} 0 1 = cc in absurd (omega arith)
 
-    from : (t : Taken) → dataAt l 0 ≡ t → onTaken t (λ (e : Data) (n : ℕ). onField taken.Refused (tailAt l n) (λ (v m : ℕ). taken.Is e n)) ≡ taken.Is d next → DataIs l 0 next d
+    from : (t : Taken) → dataAt l 0 ≡ t → onTaken t (λ (e : Data) (n : ℕ). onto taken.Refused (tailAt l n) (λ (v m : ℕ). taken.Is e n)) ≡ taken.Is d next → DataIs l 0 next d
     from (taken.Is e n) q p = data-read l 0 next d b (q ∙ ended e n (tailAt l n) p)
     from (taken.Refused r) q p = let z : _≡_ {A = ℕ} 0 1 = cc in absurd (omega arith)
 

@@ -9,7 +9,7 @@ use lib.Count.{ones}
 use lib.Dec.{leb, eqb}
 use lib.ListN.{length}
 use Rattle.fields.specs.Additions.{additionCount, additionsThere, steppedOver, additionsAt}
-use Rattle.fields.specs.Fields.{refusal, refusedAt, then, bitField, extensionBit, widthOf, wholeNumber, extensibleIndex}
+use Rattle.fields.specs.Fields.{refusal, refusedAt, then, bitField, extensionBit, widthOf, wholeNumber, extensibleIndex, onto}
 use Rattle.fields.specs.declared.Refusal.{Refusal}
 use Rattle.fields.specs.declared.Fault.{Fault}
 use Rattle.fields.specs.declared.Fault.the-variants.{Short, Range, Extension, LengthForm, Limit, Tail, Default}
@@ -19,7 +19,7 @@ use Rattle.apdu.specs.Sizes.{userLast, providerLast}
 use Rattle.apdu.specs.Headings.{responseLast}
 use Rattle.apdu.specs.Pdus.{lastOf, kindOf}
 use Rattle.apdu.specs.Encoding.{padding}
-use Rattle.apdu.specs.Reading.{onField, onTaken, onData, onForward, onLead, partsAt, withAdditions, dataWithin, dataAt, forwardAt, kindMode, leadingAt, tailAt, endedAt, restWithin, restAt, apduWithin, apduAt}
+use Rattle.apdu.specs.Reading.{onTaken, onData, onForward, onLead, partsAt, withAdditions, dataWithin, dataAt, forwardAt, kindMode, leadingAt, tailAt, endedAt, restWithin, restAt, apduWithin, apduAt}
 use Rattle.apdu.specs.declared.PduType.{PduType}
 use Rattle.apdu.specs.declared.Kind.{Kind}
 use Rattle.apdu.specs.declared.Kind.the-variants as kind
@@ -106,7 +106,7 @@ module _ (pdus : PduType) (l : List ℕ) (r : Refusal) (x : r .fault ≡ Extensi
   unfolding endedAt
   ended-twelve at a e = go (tailAt l at) refl e
     where
-      go : (f : Field) → tailAt l at ≡ f → onField decoded.Refused f (λ (v n : ℕ). decoded.Is a) ≡ decoded.Refused r → ⊥
+      go : (f : Field) → tailAt l at ≡ f → onto decoded.Refused f (λ (v n : ℕ). decoded.Is a) ≡ decoded.Refused r → ⊥
       go (Value v n) p k = never (cc)
       go (Refused q) p k = tail-twelve at (p ∙ ap Refused (answer-one r q k))
 
@@ -162,7 +162,7 @@ module _ (pdus : PduType) (l : List ℕ) (r : Refusal) (x : r .fault ≡ Extensi
         o : Root pdus l n
         o = record { kind = c; mode = m; begin = at; led = led; mark = e; after = p; extension = f; set = z; from = q; identified = i; messaged = s; parts = d; root = g }
 
-        go : (y : Field) → additionsAt l n ≡ y → onField taken.Refused y (λ (v after : ℕ). taken.Is d after) ≡ taken.Refused r → Twelve pdus l r
+        go : (y : Field) → additionsAt l n ≡ y → onto taken.Refused y (λ (v after : ℕ). taken.Is d after) ≡ taken.Refused r → Twelve pdus l r
         go (Refused y) u w = additions-twelve n o (u ∙ ap Refused (taken-one r y w))
         go (Value v k) u w = never (cc)
 
@@ -176,12 +176,12 @@ module _ (pdus : PduType) (l : List ℕ) (r : Refusal) (x : r .fault ≡ Extensi
         third x₁ p v q f false z k = root-twelve x₁ p q (leb 2 v) (eqb (v % 2) 1) f z (partsAt l q (leb 2 v) (eqb (v % 2) 1)) refl k
 
         second : (x₁ p : ℕ) → bitField l at 1 ≡ Value x₁ p → (g : Field) → bitField l p 2 ≡ g
-            → onField taken.Refused g (λ (v q : ℕ). cond (eqb x₁ 0) (partsAt l q (leb 2 v) (eqb (v % 2) 1)) (withAdditions l (partsAt l q (leb 2 v) (eqb (v % 2) 1)))) ≡ taken.Refused r → Twelve pdus l r
+            → onto taken.Refused g (λ (v q : ℕ). cond (eqb x₁ 0) (partsAt l q (leb 2 v) (eqb (v % 2) 1)) (withAdditions l (partsAt l q (leb 2 v) (eqb (v % 2) 1)))) ≡ taken.Refused r → Twelve pdus l r
         second x₁ p f (Refused y) g k = absurd (bits-spared r not-twelve l p 2 (g ∙ ap Refused (taken-one r y k)))
         second x₁ p f (Value v q) g k = third x₁ p v q f (eqb x₁ 0) refl k
 
         first : (f : Field) → bitField l at 1 ≡ f
-            → onField taken.Refused f (λ (x₁ p : ℕ). onField taken.Refused (bitField l p 2) (λ (v q : ℕ). cond (eqb x₁ 0) (partsAt l q (leb 2 v) (eqb (v % 2) 1)) (withAdditions l (partsAt l q (leb 2 v) (eqb (v % 2) 1))))) ≡ taken.Refused r
+            → onto taken.Refused f (λ (x₁ p : ℕ). onto taken.Refused (bitField l p 2) (λ (v q : ℕ). cond (eqb x₁ 0) (partsAt l q (leb 2 v) (eqb (v % 2) 1)) (withAdditions l (partsAt l q (leb 2 v) (eqb (v % 2) 1))))) ≡ taken.Refused r
             → Twelve pdus l r
         first (Refused y) f k = absurd (bits-spared r not-twelve l at 1 (f ∙ ap Refused (taken-one r y k)))
         first (Value x₁ p) f k = second x₁ p f (bitField l p 2) refl k
@@ -190,7 +190,7 @@ module _ (pdus : PduType) (l : List ℕ) (r : Refusal) (x : r .fault ≡ Extensi
     on-data k (taken.Refused q) f e = data-twelve (f ∙ ap taken.Refused (answer-one r q e))
     on-data k (taken.Is d n) f e = absurd (ended-twelve n (k d n) e)
 
-    on-reason : (last : ℕ) (k : ℕ → Apdu) (f : Field) → extensibleIndex l at last ≡ f → onField decoded.Refused f (λ (v next : ℕ). endedAt l next (k v)) ≡ decoded.Refused r → Twelve pdus l r
+    on-reason : (last : ℕ) (k : ℕ → Apdu) (f : Field) → extensibleIndex l at last ≡ f → onto decoded.Refused f (λ (v next : ℕ). endedAt l next (k v)) ≡ decoded.Refused r → Twelve pdus l r
     on-reason last k (Refused q) f e = of-enumerated c m at led (index-twelve at last (f ∙ ap Refused (answer-one r q e)))
     on-reason last k (Value v n) f e = absurd (ended-twelve n (k v) e)
 
@@ -214,11 +214,11 @@ module _ (pdus : PduType) (l : List ℕ) (r : Refusal) (x : r .fault ≡ Extensi
   unfolding leadingAt
   lead-twelve e = go (extensibleIndex l 0 (lastOf pdus)) refl e
     where
-      second : (i p : ℕ) (f : Field) → kindMode pdus l (kindOf i) p ≡ f → onField lead.Refused f (λ (m q : ℕ). lead.Is (kindOf i) m q) ≡ lead.Refused r → Twelve pdus l r
+      second : (i p : ℕ) (f : Field) → kindMode pdus l (kindOf i) p ≡ f → onto lead.Refused f (λ (m q : ℕ). lead.Is (kindOf i) m q) ≡ lead.Refused r → Twelve pdus l r
       second i p (Refused q) f k = absurd (kind-mode-spared r not-twelve pdus l (kindOf i) p (f ∙ ap Refused (lead-one r q k)))
       second i p (Value v q) f k = never (cc)
 
-      go : (f : Field) → extensibleIndex l 0 (lastOf pdus) ≡ f → onField lead.Refused f (λ (i p : ℕ). onField lead.Refused (kindMode pdus l (kindOf i) p) (λ (m q : ℕ). lead.Is (kindOf i) m q)) ≡ lead.Refused r → Twelve pdus l r
+      go : (f : Field) → extensibleIndex l 0 (lastOf pdus) ≡ f → onto lead.Refused f (λ (i p : ℕ). onto lead.Refused (kindMode pdus l (kindOf i) p) (λ (m q : ℕ). lead.Is (kindOf i) m q)) ≡ lead.Refused r → Twelve pdus l r
       go (Refused q) f k = of-choice (index-twelve 0 (lastOf pdus) (f ∙ ap Refused (lead-one r q k)))
       go (Value i p) f k = second i p (kindMode pdus l (kindOf i) p) refl k
 

@@ -6,7 +6,7 @@ use mathlib.Core.Bool.{Bool, cond}
 use lib.ListN.{length}
 use lib.Dec.{leb, eqb}
 use Rattle.fields.specs.Additions.{additionsAt}
-use Rattle.fields.specs.Fields.{noRefusal, refusedAt, then, bitField, widthOf, wholeNumber, extensibleIndex, stringAt}
+use Rattle.fields.specs.Fields.{noRefusal, refusedAt, then, bitField, widthOf, wholeNumber, extensibleIndex, stringAt, onto}
 use Rattle.fields.specs.declared.Refusal.{Refusal}
 use Rattle.fields.specs.declared.Fault.the-variants.{Tail, Default}
 use Rattle.fields.specs.declared.Field.{Field}
@@ -43,11 +43,6 @@ use Rattle.apdu.specs.declared.Decoded.the-variants as decoded
 
 -- ---- answers: a refusal is handed up unchanged, and nothing further is read
 
--- after a field: what its value and the place after it lead to, or its refusal, as the answer above has it
-abbrev pub onField : {A : Type 0} → (Refusal → A) → Field → (ℕ → ℕ → A) → A
-onField up (field.Value v next) k = k v next
-onField up (field.Refused r) k = up r
-
 abbrev pub onData : Taken → (Data → ℕ → Decoded) → Decoded
 onData (taken.Is d next) k = k d next
 onData (taken.Refused r) k = decoded.Refused r
@@ -73,10 +68,6 @@ onForward up (forwarded.Is f next) k = k f next
 onForward up (forwarded.Refused r) k = up r
 
 -- the refusal of an answer that has one
-abbrev pub fieldRefusal : Field → Refusal
-fieldRefusal (field.Refused r) = r
-fieldRefusal (field.Value v next) = noRefusal
-
 abbrev pub takenRefusal : Taken → Refusal
 takenRefusal (taken.Refused r) = r
 takenRefusal (taken.Is d next) = noRefusal
@@ -114,20 +105,20 @@ partAt there unit n next = cond there (Given (spanTo unit n next)) Absent
 -- the fields, of which the first two are there or not
 unfoldable pub partsWithin : ℕ → List ℕ → ℕ → Bool → Bool → Taken
 partsWithin limit l at i m =
-    onField taken.Refused (optionalAt l i at octet identifierLeast identifierMost) (λ (octets p : ℕ).
-    onField taken.Refused (optionalAt l m p bit 0 limit) (λ (bits q : ℕ).
-    onField taken.Refused (stringAt l q bit 0 checkMost) (λ (n next : ℕ).
+    onto taken.Refused (optionalAt l i at octet identifierLeast identifierMost) (λ (octets p : ℕ).
+    onto taken.Refused (optionalAt l m p bit 0 limit) (λ (bits q : ℕ).
+    onto taken.Refused (stringAt l q bit 0 checkMost) (λ (n next : ℕ).
     taken.Is (record { identifier = partAt i octet octets p; message = partAt m bit bits q; check = spanTo bit n next }) next)))
 
 -- behind the fields: where the extension bit is 1, additions from a later edition, which say nothing here (document 02, E6)
 unfoldable pub withAdditions : List ℕ → Taken → Taken
-withAdditions l t = onTaken t (λ (d : Data) (next : ℕ). onField taken.Refused (additionsAt l next) (λ (v after : ℕ). taken.Is d after))
+withAdditions l t = onTaken t (λ (d : Data) (next : ℕ). onto taken.Refused (additionsAt l next) (λ (v after : ℕ). taken.Is d after))
 
 -- the extension bit e, the presence bits as one field of two bits, the fields, the additions
 unfoldable pub dataWithin : ℕ → List ℕ → ℕ → Taken
 dataWithin limit l at =
-    onField taken.Refused (bitField l at 1) (λ (e p : ℕ).
-    onField taken.Refused (bitField l p 2) (λ (v q : ℕ).
+    onto taken.Refused (bitField l at 1) (λ (e p : ℕ).
+    onto taken.Refused (bitField l p 2) (λ (v q : ℕ).
     cond (eqb e 0) (partsWithin limit l q (leb 2 v) (eqb (v % 2) 1)) (withAdditions l (partsWithin limit l q (leb 2 v) (eqb (v % 2) 1)))))
 
 -- ---- ATCForwardMessage
@@ -135,25 +126,25 @@ dataWithin limit l at =
 -- three whole numbers in a row
 unfoldable pub tripleAt : List ℕ → ℕ → Triple → Triple → Triples
 tripleAt l at lo hi =
-    onField triples.Refused (wholeNumber l at (lo .first) (hi .first)) (λ (x p : ℕ).
-    onField triples.Refused (wholeNumber l p (lo .second) (hi .second)) (λ (y q : ℕ).
-    onField triples.Refused (wholeNumber l q (lo .third) (hi .third)) (λ (z next : ℕ). triples.Is (triple x y z) next)))
+    onto triples.Refused (wholeNumber l at (lo .first) (hi .first)) (λ (x p : ℕ).
+    onto triples.Refused (wholeNumber l p (lo .second) (hi .second)) (λ (y q : ℕ).
+    onto triples.Refused (wholeNumber l q (lo .third) (hi .third)) (λ (z next : ℕ). triples.Is (triple x y z) next)))
 
 -- what stands before the message; the characters after their count are one field
 unfoldable pub headingAt : List ℕ → ℕ → Headed
 headingAt l at =
     onTriple (tripleAt l at dateFrom dateTo) (λ (date : Triple) (p : ℕ).
     onTriple (tripleAt l p timeFrom timeTo) (λ (time : Triple) (q : ℕ).
-    onField headed.Refused (wholeNumber l q charactersLeast charactersMost) (λ (n a : ℕ).
-    onField headed.Refused (bitField l a (character * n)) (λ (x b : ℕ).
-    onField headed.Refused (bitField l b addressBits) (λ (y c : ℕ).
-    onField headed.Refused (wholeNumber l c 0 directionLast) (λ (z next : ℕ).
+    onto headed.Refused (wholeNumber l q charactersLeast charactersMost) (λ (n a : ℕ).
+    onto headed.Refused (bitField l a (character * n)) (λ (x b : ℕ).
+    onto headed.Refused (bitField l b addressBits) (λ (y c : ℕ).
+    onto headed.Refused (wholeNumber l c 0 directionLast) (λ (z next : ℕ).
     headed.Is (record { date = date; time = time; characters = n; flight = x; address = y; direction = z }) next))))))
 
 unfoldable pub forwardWithin : ℕ → List ℕ → ℕ → Forwarded
 forwardWithin limit l at =
     onHeading (headingAt l at) (λ (h : Heading) (p : ℕ).
-    onField forwarded.Refused (stringAt l p bit 0 limit) (λ (n next : ℕ). forwarded.Is (record { heading = h; message = spanTo bit n next }) next))
+    onto forwarded.Refused (stringAt l p bit 0 limit) (λ (n next : ℕ). forwarded.Is (record { heading = h; message = spanTo bit n next }) next))
 
 -- ---- the leading fields: the alternative, and the mode of a start
 
@@ -178,7 +169,7 @@ kindMode pdus l kind.ForwardResponse at = field.Value 0 at
 
 unfoldable pub leadingAt : PduType → List ℕ → ℕ → Lead
 leadingAt pdus l at =
-    onField lead.Refused (extensibleIndex l at (lastOf pdus)) (λ (i p : ℕ). onField lead.Refused (kindMode pdus l (kindOf i) p) (λ (m q : ℕ). lead.Is (kindOf i) m q))
+    onto lead.Refused (extensibleIndex l at (lastOf pdus)) (λ (i p : ℕ). onto lead.Refused (kindMode pdus l (kindOf i) p) (λ (m q : ℕ). lead.Is (kindOf i) m q))
 
 -- ---- the rest
 
@@ -190,15 +181,15 @@ tailAt l at =
     cond (eqb v 0) (cond (leb (next + 1) (length l)) (refusedAt next Tail) (field.Value 0 next)) (refusedAt (next - widthOf v) Tail))
 
 unfoldable pub endedAt : List ℕ → ℕ → Apdu → Decoded
-endedAt l at a = onField decoded.Refused (tailAt l at) (λ (v next : ℕ). decoded.Is a)
+endedAt l at a = onto decoded.Refused (tailAt l at) (λ (v next : ℕ). decoded.Is a)
 
 unfoldable pub restWithin : ℕ → List ℕ → Kind → ℕ → ℕ → Decoded
-restWithin limit l kind.AbortUser m at = onField decoded.Refused (extensibleIndex l at userLast) (λ (r next : ℕ). endedAt l next (apdu.AbortUser r))
-restWithin limit l kind.AbortProvider m at = onField decoded.Refused (extensibleIndex l at providerLast) (λ (r next : ℕ). endedAt l next (apdu.AbortProvider r))
+restWithin limit l kind.AbortUser m at = onto decoded.Refused (extensibleIndex l at userLast) (λ (r next : ℕ). endedAt l next (apdu.AbortUser r))
+restWithin limit l kind.AbortProvider m at = onto decoded.Refused (extensibleIndex l at providerLast) (λ (r next : ℕ). endedAt l next (apdu.AbortProvider r))
 restWithin limit l kind.Start m at = onData (dataWithin limit l at) (λ (d : Data) (next : ℕ). endedAt l next (apdu.Start m d))
 restWithin limit l kind.Send m at = onData (dataWithin limit l at) (λ (d : Data) (next : ℕ). endedAt l next (apdu.Send d))
 restWithin limit l kind.Forward m at = onForward decoded.Refused (forwardWithin limit l at) (λ (f : Forward) (next : ℕ). endedAt l next (apdu.Forward f))
-restWithin limit l kind.ForwardResponse m at = onField decoded.Refused (extensibleIndex l at responseLast) (λ (r next : ℕ). endedAt l next (apdu.ForwardResponse r))
+restWithin limit l kind.ForwardResponse m at = onto decoded.Refused (extensibleIndex l at responseLast) (λ (r next : ℕ). endedAt l next (apdu.ForwardResponse r))
 
 -- the leading fields, then the rest
 unfoldable pub apduWithin : ℕ → PduType → List ℕ → ℕ → Decoded
@@ -206,11 +197,11 @@ apduWithin limit pdus l at = onLead (leadingAt pdus l at) (restWithin limit l)
 
 -- message data by itself, as it is delivered: its parts, and nothing after it but the padding
 unfoldable pub wholeWithin : ℕ → List ℕ → Taken
-wholeWithin limit l = onTaken (dataWithin limit l 0) (λ (d : Data) (next : ℕ). onField taken.Refused (tailAt l next) (λ (v m : ℕ). taken.Is d next))
+wholeWithin limit l = onTaken (dataWithin limit l 0) (λ (d : Data) (next : ℕ). onto taken.Refused (tailAt l next) (λ (v m : ℕ). taken.Is d next))
 
 -- ATCForwardMessage by itself, as it is delivered
 unfoldable pub wholeForwardWithin : ℕ → List ℕ → Forwarded
-wholeForwardWithin limit l = onForward forwarded.Refused (forwardWithin limit l 0) (λ (f : Forward) (next : ℕ). onField forwarded.Refused (tailAt l next) (λ (v m : ℕ). forwarded.Is f next))
+wholeForwardWithin limit l = onForward forwarded.Refused (forwardWithin limit l 0) (λ (f : Forward) (next : ℕ). onto forwarded.Refused (tailAt l next) (λ (v m : ℕ). forwarded.Is f next))
 
 -- ---- at the card's limit
 

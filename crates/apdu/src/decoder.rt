@@ -15,11 +15,11 @@ use crate::headings::forward_at;
 use crate::headings::forward_refusal;
 use crate::leading::leading_at;
 use crate::parts::data_at;
-use crate::refusals::field_refusal;
 use crate::refusals::lead_refusal;
 use crate::refusals::taken_refusal;
 use fields::Fault;
 use fields::Field;
+use fields::refusal_of;
 
 // The end of lent bytes: as many bits as a count can say, so all of them.
 pub(crate) const ALL: usize = 18446744073709551615;
@@ -55,7 +55,7 @@ fn ended(s: &[u8], at: usize, a: Apdu) -> Decoded
 {
     let rest = tail(s, at);
     let Field::Value(_, _) = rest else {
-        return Decoded::Refused(field_refusal(rest));
+        return Decoded::Refused(refusal_of(rest));
     };
     Decoded::Is(a)
 }
@@ -68,14 +68,14 @@ fn rest_at(s: &[u8], kind: Kind, mode: u64, at: usize) -> Decoded
         Kind::AbortUser => {
             let reason = fields::extensible_index(s, ALL, at, Apdu::USER_LAST);
             let Field::Value(r, next) = reason else {
-                return Decoded::Refused(field_refusal(reason));
+                return Decoded::Refused(refusal_of(reason));
             };
             ended(s, next, Apdu::AbortUser(r))
         }
         Kind::AbortProvider => {
             let reason = fields::extensible_index(s, ALL, at, Apdu::PROVIDER_LAST);
             let Field::Value(r, next) = reason else {
-                return Decoded::Refused(field_refusal(reason));
+                return Decoded::Refused(refusal_of(reason));
             };
             ended(s, next, Apdu::AbortProvider(r))
         }
@@ -103,7 +103,7 @@ fn rest_at(s: &[u8], kind: Kind, mode: u64, at: usize) -> Decoded
         Kind::ForwardResponse => {
             let result = fields::extensible_index(s, ALL, at, Apdu::RESPONSE_LAST);
             let Field::Value(r, next) = result else {
-                return Decoded::Refused(field_refusal(result));
+                return Decoded::Refused(refusal_of(result));
             };
             ended(s, next, Apdu::ForwardResponse(r))
         }
@@ -131,7 +131,7 @@ pub fn read_data(s: &[u8]) -> Taken
     };
     let rest = tail(s, next);
     let Field::Value(_, _) = rest else {
-        return Taken::Refused(field_refusal(rest));
+        return Taken::Refused(refusal_of(rest));
     };
     Taken::Is(d, next)
 }
@@ -146,7 +146,7 @@ pub fn read_forward(s: &[u8]) -> Forwarded
     };
     let rest = tail(s, next);
     let Field::Value(_, _) = rest else {
-        return Forwarded::Refused(field_refusal(rest));
+        return Forwarded::Refused(refusal_of(rest));
     };
     Forwarded::Is(f, next)
 }

@@ -11,9 +11,9 @@ use crate::Triple;
 use crate::Triples;
 use crate::decoder::ALL;
 use crate::parts::span_to;
-use crate::refusals::field_refusal;
 use fields::Field;
 use fields::Refusal;
+use fields::refusal_of;
 
 // A refusal handed up. (A value holds none, and nobody asks for it.)
 fn triple_refusal(t: Triples) -> Refusal
@@ -49,15 +49,15 @@ fn triple_at(s: &[u8], at: usize, from: Triple, to: Triple) -> Triples
 {
     let first = fields::whole(s, ALL, at, from.first, to.first);
     let Field::Value(x, p) = first else {
-        return Triples::Refused(field_refusal(first));
+        return Triples::Refused(refusal_of(first));
     };
     let second = fields::whole(s, ALL, p, from.second, to.second);
     let Field::Value(y, q) = second else {
-        return Triples::Refused(field_refusal(second));
+        return Triples::Refused(refusal_of(second));
     };
     let third = fields::whole(s, ALL, q, from.third, to.third);
     let Field::Value(z, next) = third else {
-        return Triples::Refused(field_refusal(third));
+        return Triples::Refused(refusal_of(third));
     };
     Triples::Is(
         Triple {
@@ -89,19 +89,19 @@ fn heading_at(s: &[u8], at: usize) -> Headed
         Heading::CHARACTERS_MOST,
     );
     let Field::Value(characters, a) = size else {
-        return Headed::Refused(field_refusal(size));
+        return Headed::Refused(refusal_of(size));
     };
     let name = fields::bit_field(s, ALL, a, Heading::CHARACTER * characters as usize);
     let Field::Value(flight, b) = name else {
-        return Headed::Refused(field_refusal(name));
+        return Headed::Refused(refusal_of(name));
     };
     let aircraft = fields::bit_field(s, ALL, b, Heading::ADDRESS_BITS);
     let Field::Value(address, c) = aircraft else {
-        return Headed::Refused(field_refusal(aircraft));
+        return Headed::Refused(refusal_of(aircraft));
     };
     let index = fields::whole(s, ALL, c, 0, Heading::DIRECTION_LAST);
     let Field::Value(direction, next) = index else {
-        return Headed::Refused(field_refusal(index));
+        return Headed::Refused(refusal_of(index));
     };
     let heading = Heading {
         date,
@@ -123,7 +123,7 @@ pub(crate) fn forward_at(s: &[u8], at: usize) -> Forwarded
     };
     let bits = fields::string(s, ALL, p, Data::BIT, 0, Data::MESSAGE_MOST as u64);
     let Field::Value(n, next) = bits else {
-        return Forwarded::Refused(field_refusal(bits));
+        return Forwarded::Refused(refusal_of(bits));
     };
     let forward = Forward {
         heading,

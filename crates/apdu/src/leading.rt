@@ -7,9 +7,9 @@ use crate::Kind;
 use crate::Lead;
 use crate::PduType;
 use crate::decoder::ALL;
-use crate::refusals::field_refusal;
 use fields::Fault;
 use fields::Field;
+use fields::refusal_of;
 
 impl PduType {
     // The last alternative of the type.
@@ -106,12 +106,12 @@ pub(crate) fn leading_at(s: &[u8], at: usize, pdus: PduType) -> Lead
 {
     let index = fields::extensible_index(s, ALL, at, pdus.last());
     let Field::Value(i, p) = index else {
-        return Lead::Refused(field_refusal(index));
+        return Lead::Refused(refusal_of(index));
     };
     let kind = kind_of(i);
     let mode = kind_mode(s, pdus, kind, p);
     let Field::Value(m, q) = mode else {
-        return Lead::Refused(field_refusal(mode));
+        return Lead::Refused(refusal_of(mode));
     };
     Lead::Is(kind, m, q)
 }

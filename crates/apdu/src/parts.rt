@@ -8,8 +8,8 @@ use crate::Part;
 use crate::Span;
 use crate::Taken;
 use crate::decoder::ALL;
-use crate::refusals::field_refusal;
 use fields::Field;
+use fields::refusal_of;
 
 // A field that is there, or not.
 fn optional(s: &[u8], there: bool, at: usize, unit: usize, least: u64, most: u64) -> Field
@@ -57,15 +57,15 @@ fn parts_at(s: &[u8], at: usize, identified: bool, messaged: bool) -> Taken
         Data::IDENTIFIER_MOST as u64,
     );
     let Field::Value(octets, p) = identifier else {
-        return Taken::Refused(field_refusal(identifier));
+        return Taken::Refused(refusal_of(identifier));
     };
     let message = optional(s, messaged, p, Data::BIT, 0, Data::MESSAGE_MOST as u64);
     let Field::Value(bits, q) = message else {
-        return Taken::Refused(field_refusal(message));
+        return Taken::Refused(refusal_of(message));
     };
     let check = fields::string(s, ALL, q, Data::BIT, 0, Data::CHECK_MOST as u64);
     let Field::Value(n, next) = check else {
-        return Taken::Refused(field_refusal(check));
+        return Taken::Refused(refusal_of(check));
     };
     let data = Data {
         identifier: part(identified, Data::OCTET, octets, p),
@@ -84,7 +84,7 @@ fn with_additions(s: &[u8], parts: Taken) -> Taken
     };
     let added = fields::additions(s, ALL, next);
     let Field::Value(_, after) = added else {
-        return Taken::Refused(field_refusal(added));
+        return Taken::Refused(refusal_of(added));
     };
     Taken::Is(d, after)
 }
@@ -94,11 +94,11 @@ pub(crate) fn data_at(s: &[u8], at: usize) -> Taken
 {
     let extension = fields::bit_field(s, ALL, at, 1);
     let Field::Value(e, p) = extension else {
-        return Taken::Refused(field_refusal(extension));
+        return Taken::Refused(refusal_of(extension));
     };
     let presence = fields::bit_field(s, ALL, p, 2);
     let Field::Value(v, q) = presence else {
-        return Taken::Refused(field_refusal(presence));
+        return Taken::Refused(refusal_of(presence));
     };
     let parts = parts_at(s, q, 2 <= v, v % 2 == 1);
     if e == 0 {

@@ -1,19 +1,11 @@
 // A refusal handed up from a field, message data or leading fields to the answer above. (A value holds no refusal, and nobody asks for it.)
 ghost use mathlib.Core.Path.{_≡_};
-ghost use Rattle.apdu.specs.Reading.{fieldRefusal, takenRefusal, leadRefusal};
+ghost use Rattle.fields.specs.Fields.{refusalOf};
+ghost use Rattle.apdu.specs.Reading.{takenRefusal, leadRefusal};
 use crate::Lead;
 use crate::Taken;
 use fields::Field;
 use fields::Refusal;
-
-pub(crate) fn field_refusal(f: Field) -> Refusal
-    ensures { λ r. ⌜ r ≡ fieldRefusal f ⌝ }
-{
-    match f {
-        Field::Refused(r) => r,
-        Field::Value(_, _) => Refusal::NONE,
-    }
-}
 
 pub(crate) fn taken_refusal(t: Taken) -> Refusal
     ensures { λ r. ⌜ r ≡ takenRefusal t ⌝ }

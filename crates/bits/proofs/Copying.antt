@@ -25,6 +25,12 @@ use Rattle.bits.proofs.Putting.{put-nil, put-append, number-in-byte, re
 pub joined : (d s : List ℕ) (to at m n : ℕ) → at + m ≤ 8 * length s → putBits (putBits d to (run s at m)) (to + m) (run s (at + m) n) ≡ putBits d to (run s at (m + n))
 joined d s to at m n h = rw (run-add s at m n, put-append, length-run s at m h)
 
+-- a run in two parts
+pub in-two : (d x z s : List ℕ) (to at m n : ℕ) → m ≤ n → at + n ≤ 8 * length s → x ≡ putBits d to (run s at m) → z ≡ putBits x (to + m) (run s (at + m) (n - m)) → z ≡ putBits d to (run s at n)
+in-two d x z s to at m n h g p q =
+    let e : m + (n - m) ≡ n = omega arith in
+    q ∙ rw p (joined d s to at m (n - m) (omega arith)) ∙ ap (λ (k : ℕ). putBits d to (run s at k)) e
+
 pub none-left : (d s : List ℕ) (to at n : ℕ) → n ≡ 0 → putBits d to (run s at n) ≡ d
 none-left d s to at n e = rw (e, run-zero, put-nil)
 

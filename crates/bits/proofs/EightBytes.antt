@@ -10,9 +10,9 @@ use lib.Pow.{mod-pow-add, shl-shr, shr-mod}
 use lib.Seq.{take-take, take-nil, drop-drop}
 use Rattle.bits.specs.Bits.{bitsN, bitsOf, numOf, run}
 use Rattle.bits.specs.Put.{putBits}
-use Rattle.bits.proofs.Numbers.{num-bitsN, num-append, num-lt, bitsN-zero, bitsN-part, bitsN-take, bitsN-mod, bitsN-split, length-bitsN}
+use Rattle.bits.proofs.Numbers.{num-nil, num-bitsN, num-append, num-lt, bitsN-zero, bitsN-part, bitsN-take, bitsN-mod, bitsN-split, length-bitsN}
 use Rattle.bits.proofs.Putting.{put-append, put-nil}
-use Rattle.bits.proofs.Bytes.{run-bits, run-add, run-in-byte, bits-run, length-run}
+use Rattle.bits.proofs.Bytes.{run-zero, run-bits, run-add, run-in-byte, bits-run, length-run}
 use Rattle.bits.proofs.Reading.{turn}
 use Rattle.bits.proofs.Copying.{put-byte}
 
@@ -37,17 +37,26 @@ sub-run : (s : List ℕ) (p m r n : ℕ) → r + n ≤ m → run s (p + r) n ≡
 unfolding run
 sub-run s p m r n h = rw (part-to (drop p (bitsOf s)) m r n h, drop-drop)
 
--- n bits within eight bytes
-in-word : (s : List ℕ) (b r at n w v : ℕ) → at ≡ 8 * b + r → r + n ≤ 64 → b + 8 ≤ length s → w ≡ numOf (run s (8 * b) 64) → v ≡ w / 2 ^ (64 - r - n) % 2 ^ n → v ≡ numOf (run s at n)
-in-word s b r at n w v a h g e f =
-    let k : r + (n + (64 - r - n)) ≡ 64 = omega arith in
-    let x : run s (8 * b) 64 ≡ bitsN 64 w = run-bits s (8 * b) 64 (omega arith) ∙ ap (bitsN 64) (sym e) in
-    let y : take n (drop r (bitsN 64 w)) ≡ bitsN n (w / 2 ^ (64 - r - n)) = rw k at (bitsN-part r n (64 - r - n) w) in
-    f ∙ rw (a, sub-run s (8 * b) 64 r n h, x, y, num-bitsN)
+-- n bits within m bits that begin at a byte
+pub in-word : (s : List ℕ) (m b r at n w v : ℕ) → at ≡ 8 * b + r → r + n ≤ m → 8 * b + m ≤ 8 * length s → w ≡ numOf (run s (8 * b) m) → v ≡ w / 2 ^ (m - r - n) % 2 ^ n → v ≡ numOf (run s at n)
+in-word s m b r at n w v a h g e f =
+    let k : r + (n + (m - r - n)) ≡ m = omega arith in
+    let x : run s (8 * b) m ≡ bitsN m w = run-bits s (8 * b) m g ∙ ap (bitsN m) (sym e) in
+    let y : take n (drop r (bitsN m w)) ≡ bitsN n (w / 2 ^ (m - r - n)) = rw k at (bitsN-part r n (m - r - n) w) in
+    f ∙ rw (a, sub-run s (8 * b) m r n h, x, y, num-bitsN)
+
+-- n bits within two bytes
+pub in-two-bytes : (s : List ℕ) (at n x y v : ℕ) → at / 8 + 1 < length s → at % 8 + n ≤ 16 → x ≡ getD s (at / 8) 0 → x < 256 → y ≡ getD s (at / 8 + 1) 0 → y < 256
+    → v ≡ (x * 256 + y) / 2 ^ (16 - at % 8 - n) % 2 ^ n → v ≡ numOf (run s at n)
+in-two-bytes s at n x y v h g e hx f hy k =
+    let p : at / 8 + 0 ≡ at / 8 = omega arith in
+    let one : x ≡ numOf (run s (8 * (at / 8)) 8) = let z : 0 * 256 + x ≡ x = omega arith in rw z at (word-turn s (at / 8) 0 0 x (omega arith) (rw p e) hx (sym (rw run-zero num-nil))) in
+    let two : x * 256 + y ≡ numOf (run s (8 * (at / 8)) 16) = word-turn s (at / 8) 1 x y h f hy one in
+    in-word s 16 (at / 8) (at % 8) at n (x * 256 + y) v (omega arith) g (omega arith) two k
 
 -- ---- 64 bits of nine bytes
 
-shl-cut : (w r : ℕ) → r ≤ 64 → w * 2 ^ r % 2 ^ 64 ≡ w % 2 ^ (64 - r) * 2 ^ r
+pub shl-cut : (w r : ℕ) → r ≤ 64 → w * 2 ^ r % 2 ^ 64 ≡ w % 2 ^ (64 - r) * 2 ^ r
 shl-cut w r h =
     let e : 64 ≡ 64 - r + r = omega arith in
     ap (λ (k : ℕ). w * 2 ^ r % 2 ^ k) e ∙ mod-pow-add (w * 2 ^ r) (64 - r) r ∙ rw (shl-shr, mul-mod-left) (omega arith)
@@ -66,15 +75,15 @@ nine-is s q r w b h g e f hb =
     let k : 64 - r + r ≡ 64 = omega arith in
     let z : 64 - r - (64 - r) ≡ 0 = omega arith in
     let o : w % 2 ^ (64 - r) ≡ w / 2 ^ (64 - r - (64 - r)) % 2 ^ (64 - r) = rw z (ap (λ (n : ℕ). n % 2 ^ (64 - r)) (omega arith)) in
-    let x : w % 2 ^ (64 - r) ≡ numOf (run s (8 * q + r) (64 - r)) = in-word s q r (8 * q + r) (64 - r) w (w % 2 ^ (64 - r)) refl (omega arith) (omega arith) e o in
+    let x : w % 2 ^ (64 - r) ≡ numOf (run s (8 * q + r) (64 - r)) = in-word s 64 q r (8 * q + r) (64 - r) w (w % 2 ^ (64 - r)) refl (omega arith) (omega arith) e o in
     let p : (8 * q + r + (64 - r)) / 8 ≡ q + 8 = omega arith in
     let y : b / 2 ^ (8 - r) ≡ numOf (run s (8 * q + r + (64 - r)) r) = first-of s (8 * q + r + (64 - r)) r b (omega arith) (omega arith) h (rw p f) hb in
     let n : length (run s (8 * q + r + (64 - r)) r) ≡ r = length-run s (8 * q + r + (64 - r)) r (omega arith) in
     rw (shl-cut w r (omega arith), x, y) (sym (ap (λ (j : ℕ). numOf (run s (8 * q + r) j)) (sym k) ∙ rw (run-add s (8 * q + r) (64 - r) r, num-append, n)))
 
--- the sum fits
-pub nine-lt : (s : List ℕ) (p x : ℕ) → p + 64 ≤ 8 * length s → x ≡ numOf (run s p 64) → x < 2 ^ 64
-nine-lt s p x h e = let l : numOf (run s p 64) < 2 ^ 64 = rw (length-run s p 64 h) at (num-lt (run s p 64) (bits-run s p 64)) in rw e l
+-- a number that was read has no more bits than were read
+pub run-lt : (s : List ℕ) (at n v : ℕ) → at + n ≤ 8 * length s → v ≡ numOf (run s at n) → v < 2 ^ n
+run-lt s at n v h e = let l : numOf (run s at n) < 2 ^ n = rw (length-run s at n h) at (num-lt (run s at n) (bits-run s at n)) in rw e l
 
 -- ---- eight bytes put
 
@@ -117,3 +126,10 @@ eights-turn d d′ z s base at m i x h g e f inv =
     let y : run s (at + 64 * i) 64 ≡ bitsN 64 x = run-bits s (at + 64 * i) 64 (omega arith) ∙ ap (bitsN 64) (sym (rw p at e)) in
     let j : putBits d (8 * (base + 8 * i)) (bitsN 64 x ++ run s (at + 64 * (i + 1)) (64 * (m - (i + 1)))) ≡ z = rw (k, run-add, t, y) at inv in
     rw f (rw (put-append, length-bitsN 64 x, u) at j)
+
+-- two numbers of 32 bits, one after the other
+pub halves : (s : List ℕ) (q a b : ℕ) → q + 8 ≤ length s → a ≡ numOf (run s (8 * q) 32) → b ≡ numOf (run s (8 * (q + 4)) 32) → a * 4294967296 + b ≡ numOf (run s (8 * q) 64)
+halves s q a b h e g =
+    let k : 8 * (q + 4) ≡ 8 * q + 32 = omega arith in
+    let n : length (run s (8 * q + 32) 32) ≡ 32 = length-run s (8 * q + 32) 32 (omega arith) in
+    rw (e, g, k) (sym (rw (run-add s (8 * q) 32 32, num-append, n)))

@@ -24,8 +24,8 @@ same-leb a b p q f g =
     ]
 
 -- the last test of `within`
-pub by-bytes : (len e at n : ℕ) → at ≤ e → n ≤ e - at → leb (at / 8 + n / 8 + (at % 8 + n % 8 + 7) / 8) len ≡ leb (at + n) (min e (8 * len))
-by-bytes len e at n h g = same-leb _ _ _ _ (λ (k : at / 8 + n / 8 + (at % 8 + n % 8 + 7) / 8 ≤ len). omega arith) (λ (k : at + n ≤ min e (8 * len)). omega arith)
+pub by-bytes : (len e at n : ℕ) → at ≤ e → n ≤ e - at → leb ((at + n) / 8 + ((at + n) % 8 + 7) / 8) len ≡ leb (at + n) (min e (8 * len))
+by-bytes len e at n h g = same-leb _ _ _ _ (λ (k : (at + n) / 8 + ((at + n) % 8 + 7) / 8 ≤ len). omega arith) (λ (k : at + n ≤ min e (8 * len)). omega arith)
 
 -- what the test says, once it held
 pub record Within (s : List ℕ) (e at n : ℕ) : Type 0 where
@@ -41,3 +41,7 @@ is-within s e at n t p q =
 
 pub not-within : (s : List ℕ) (e at n : ℕ) (t : Bool) → t ≡ leb (at + n) (min e (8 * length s)) → t ≡ false → leb (at + n) (length (bitsTo s e)) ≡ false
 not-within s e at n t p q = rw length-to (sym p ∙ q)
+
+-- a test that does not hold says nothing
+pub never : {A : Type 0} → false ≡ true → A
+never e = let z : _≡_ {A = ℕ} 0 1 = cc in absurd (omega arith)

@@ -5,4 +5,5 @@ pub mod Reading
 pub mod Putting
 pub mod Copying
 pub mod EightBytes
+pub mod Parts
 pub mod Whole

@@ -54,7 +54,7 @@ set-bits (x ∷ l) zero b hb h (suc k) = h (suc k)
 set-bits (x ∷ l) (suc j) b hb h zero = h zero
 set-bits (x ∷ l) (suc j) b hb h (suc k) = set-bits l j b hb (λ (i : ℕ). h (suc i)) k
 
-sets-bits : (bs l : List ℕ) (j : ℕ) → Bits bs → Bits l → Bits (sets l j bs)
+pub sets-bits : (bs l : List ℕ) (j : ℕ) → Bits bs → Bits l → Bits (sets l j bs)
 sets-bits [] l j hb h = h
 sets-bits (b ∷ bs) l j hb h = sets-bits bs (set l j b) (suc j) (λ (i : ℕ). hb (suc i)) (set-bits l j b (hb 0) h)
 

@@ -29,6 +29,10 @@ piece-num b r k h =
     let e : 8 ≡ r + (k + (8 - r - k)) = omega arith in
     ap (λ (n : ℕ). numOf (take k (drop r (bitsN n b)))) e ∙ rw (bitsN-part r k (8 - r - k) b) (num-bitsN k (b / 2 ^ (8 - r - k)))
 
+-- a field that lies within one byte
+pub in-byte : (s : List ℕ) (at n z : ℕ) → at + n ≤ 8 * length s → 0 < n → at % 8 + n ≤ 8 → z ≡ getD s (at / 8) 0 / 2 ^ (8 - at % 8 - n) % 2 ^ n → z ≡ numOf (run s at n)
+in-byte s at n z h pos g e = e ∙ sym (rw (run-in-byte s at n (omega arith) g) (piece-num (getD s (at / 8) 0) (at % 8) n g))
+
 pub turn : (s : List ℕ) (at i k v w z : ℕ) → at + i + k ≤ 8 * length s → (at + i) % 8 + k ≤ 8 → 0 < k → w ≡ 2 ^ k → z ≡ getD s ((at + i) / 8) 0 / 2 ^ (8 - (at + i) % 8 - k) % 2 ^ k
     → v ≡ numOf (run s at i) → v * w + z ≡ numOf (run s at (i + k))
 turn s at i k v w z h g pos p q e =

@@ -5,12 +5,12 @@ ghost use lib.ListN.{length};
 ghost use Rattle.bits.specs.Bits.{run};
 ghost use Rattle.bits.specs.Put.{putBits, copyRun, left};
 use crate::Put;
+use crate::common::least;
+use crate::common::wide;
 use crate::eight_bytes::eight_of_nine;
 use crate::eight_bytes::put_eight;
 use crate::extent::within;
-use crate::reader::least;
 use crate::reader::number_at;
-use crate::reader::wide;
 use crate::writer::put_number_at;
 
 // Eight bits, after the first r of two bytes.
@@ -68,8 +68,10 @@ fn copy_few(dst: &mut [u8], to: usize, src: &[u8], at: usize, n: usize)
     requires { ⌜ (to + n ≤ 8 * length (now dst)) × (to + n < 2 ^ 64) × (at + n ≤ 8 * length (now src)) × (at + n < 2 ^ 64) × (n ≤ 64) ⌝ }
     ensures { λ r. ⌜ now (dst .exit) ≡ putBits (now (dst .entry)) to (run (now (src .entry)) at n) ⌝ }
 {
-    let v = number_at(src, at, n);
-    put_number_at(dst, to, n, v);
+    if n != 0 {
+        let v = number_at(src, at, n);
+        put_number_at(dst, to, n, v);
+    }
 }
 
 // How many whole bytes of n bits at a place have a byte after them in len bytes: all but the last of them at least.
@@ -95,15 +97,36 @@ fn copy_straight(dst: &mut [u8], to: usize, src: &[u8], at: usize, n: usize)
     copy_few(dst, to + h + 8 * m, src, at + h + 8 * m, n - h - 8 * m);
 }
 
-// A run that one number holds goes as that number: most fields of a message are that short.
+// At most 112 bits, as two numbers, of which each lies within eight bytes wherever it stands.
+fn copy_two(dst: &mut [u8], to: usize, src: &[u8], at: usize, n: usize)
+    requires { ⌜ (to + n ≤ 8 * length (now dst)) × (to + n < 2 ^ 64) × (at + n ≤ 8 * length (now src)) × (at + n < 2 ^ 64) × (56 ≤ n) × (n ≤ 112) ⌝ }
+    ensures { λ r. ⌜ now (dst .exit) ≡ putBits (now (dst .entry)) to (run (now (src .entry)) at n) ⌝ }
+{
+    copy_few(dst, to, src, at, 56);
+    copy_few(dst, to + 56, src, at + 56, n - 56);
+}
+
+// A run that is longer than 56 bits.
+fn copy_longer(dst: &mut [u8], to: usize, src: &[u8], at: usize, n: usize)
+    requires { ⌜ (to + n ≤ 8 * length (now dst)) × (to + n < 2 ^ 64) × (at + n ≤ 8 * length (now src)) × (at + n < 2 ^ 64) × (56 ≤ n) ⌝ }
+    ensures { λ r. ⌜ now (dst .exit) ≡ putBits (now (dst .entry)) to (run (now (src .entry)) at n) ⌝ }
+{
+    if n <= 112 {
+        copy_two(dst, to, src, at, n);
+    } else {
+        copy_straight(dst, to, src, at, n);
+    }
+}
+
+// A run that a number or two hold goes as those: most fields of a message are that short.
 fn copy_run(dst: &mut [u8], to: usize, src: &[u8], at: usize, n: usize)
     requires { ⌜ (to + n ≤ 8 * length (now dst)) × (to + n < 2 ^ 64) × (at + n ≤ 8 * length (now src)) × (at + n < 2 ^ 64) ⌝ }
     ensures { λ r. ⌜ now (dst .exit) ≡ putBits (now (dst .entry)) to (run (now (src .entry)) at n) ⌝ }
 {
-    if n <= 64 {
+    if n <= 56 {
         copy_few(dst, to, src, at, n);
     } else {
-        copy_straight(dst, to, src, at, n);
+        copy_longer(dst, to, src, at, n);
     }
 }
 

@@ -13,5 +13,6 @@ pub fn within(len: usize, end: usize, at: usize, n: usize) -> bool
     if end - at < n {
         return false;
     }
-    at / 8 + n / 8 + (at % 8 + n % 8 + 7) / 8 <= len
+    let after = at + n;
+    after / 8 + (after % 8 + 7) / 8 <= len
 }

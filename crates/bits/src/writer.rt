@@ -1,4 +1,4 @@
-// A number written as a run of bits, a turn for each byte that it touches; every other bit stays.
+// A number written as a run of bits: by eight bytes where they are there, else a turn for each byte that it touches; every other bit stays.
 ghost use mathlib.Core.Path.{_≡_};
 ghost use mathlib.Core.Bool.{_&&_};
 ghost use Prim.Native.Nat.{_+_, _*_, _^_, _<_, _≤_};
@@ -8,10 +8,13 @@ ghost use lib.Seq.{sets};
 ghost use Rattle.bits.specs.Bits.{bitsN, numOf};
 ghost use Rattle.bits.specs.Put.{putBits, putNumber, left};
 use crate::Put;
+use crate::common::in_one;
+use crate::common::least;
+use crate::common::pow2;
+use crate::common::wide;
+use crate::eight_bytes::in_eight;
+use crate::eight_bytes::put_in_eight;
 use crate::extent::within;
-use crate::reader::least;
-use crate::reader::pow2;
-use crate::reader::wide;
 
 // The byte x with the k bits of p after its first r.
 fn with_piece(x: u8, r: usize, k: usize, p: u64) -> u8
@@ -24,8 +27,8 @@ fn with_piece(x: u8, r: usize, k: usize, p: u64) -> u8
     (w / above * above + p * low + w % low) as u8
 }
 
-// The n low bits of v put at a place.
-pub(crate) fn put_number_at(buf: &mut [u8], at: usize, n: usize, v: u64)
+// The n low bits of v put at a place, byte by byte.
+fn put_by_bytes(buf: &mut [u8], at: usize, n: usize, v: u64)
     requires { ⌜ (at + n ≤ 8 * length (now buf)) × (at + n < 2 ^ 64) × (n ≤ 64) ⌝ }
     ensures { λ r. ⌜ now (buf .exit) ≡ putBits (now (buf .entry)) at (bitsN n v) ⌝ }
 {
@@ -37,6 +40,31 @@ pub(crate) fn put_number_at(buf: &mut [u8], at: usize, n: usize, v: u64)
         let part = (v >> (n - i - k)) % pow2(k);
         buf[q] = with_piece(buf[q], p % 8, k, part);
         i += k;
+    }
+}
+
+// The number v put in n bits that lie within eight bytes, or do not.
+fn put_wider(buf: &mut [u8], at: usize, n: usize, v: u64)
+    requires { ⌜ (at + n ≤ 8 * length (now buf)) × (at + n < 2 ^ 64) × (n ≤ 64) × (v < 2 ^ n) ⌝ }
+    ensures { λ r. ⌜ now (buf .exit) ≡ putBits (now (buf .entry)) at (bitsN n v) ⌝ }
+{
+    if in_eight(buf.len(), at, n) {
+        put_in_eight(buf, at, n, v);
+    } else {
+        put_by_bytes(buf, at, n, v);
+    }
+}
+
+// The number v put in n bits at a place: most fields lie within one byte.
+pub(crate) fn put_number_at(buf: &mut [u8], at: usize, n: usize, v: u64)
+    requires { ⌜ (at + n ≤ 8 * length (now buf)) × (at + n < 2 ^ 64) × (n ≤ 64) × (v < 2 ^ n) ⌝ }
+    ensures { λ r. ⌜ now (buf .exit) ≡ putBits (now (buf .entry)) at (bitsN n v) ⌝ }
+{
+    if in_one(at, n) {
+        let q = at / 8;
+        buf[q] = with_piece(buf[q], at % 8, n, v);
+    } else {
+        put_wider(buf, at, n, v);
     }
 }
 

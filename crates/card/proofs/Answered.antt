@@ -1,10 +1,14 @@
 -- The numbers that the envelope's calls answer: what they say can be taken out of them again, and a refusal is told from an answer.
 -- Assumes nothing.
 use mathlib.Core.Path.{_≡_, refl, sym, ap, _∙_}
-use mathlib.Core.List.{List}
-use Prim.Native.Nat.{ℕ, _+_, _*_, _/_, _%_, _≤_, _<_}
+use mathlib.Core.List.{List, [], _++_, append-nil}
+use Prim.Native.Nat.{ℕ, suc, _+_, _-_, _*_, _/_, _%_, _^_, _≤_, _<_}
 use native.Mathlib.Omega.{arith}
-use lib.ListN.{length}
+use native.Mathlib.Nat.{mod-eq-of-lt}
+use lib.ListN.{length, set, take, drop, drop-of-length-le}
+use lib.Seq.{sets, sets-eq}
+use Rattle.book.specs.Books.{numberOf, octets}
+use Rattle.book.proofs.Eights.{length-octets, number-octets, octets-suc, octets-zero}
 use Rattle.envelope.specs.Envelopes.{mostBits, envelopeAt, Left, left, contentOf, placed, bytesOf, header, largest}
 use Rattle.envelope.specs.declared.Envelope.{Envelope}
 use Rattle.envelope.specs.declared.EnvelopeRead.the-variants as read
@@ -12,7 +16,7 @@ use Rattle.envelope.specs.declared.EnvelopeWritten.{EnvelopeWritten}
 use Rattle.envelope.proofs.Numbers.{AllBytes}
 use Rattle.envelope.proofs.RoundTrip.{ReadIs, read-written, length-whole}
 use Rattle.envelope.proofs.Sizes.{kind-small, bits-small, within-largest, largest-is}
-use Rattle.card.specs.Mail.{envelopeNumber, said, sent, answered, writtenAnswer}
+use Rattle.card.specs.Mail.{readBy, said, sent, answered, writtenAnswer}
 
 -- as `peat_write_envelope` has them
 pub put-answered : (n : ℕ) (w : EnvelopeWritten) (out : List ℕ) (x : Left) → n ≡ writtenAnswer w → left w out ≡ x → sent n out ≡ answered x
@@ -31,9 +35,9 @@ parts e k b p n =
     record { none = omega arith; kind = omega arith; bits = omega arith; body = omega arith; next = omega arith }
 
 -- an envelope that is read is all in the number
-pub envelope-said : (s : List ℕ) (e : Envelope) → AllBytes s → envelopeAt mostBits s 0 ≡ read.Is e → Says (envelopeNumber (envelopeAt mostBits s 0)) e
-unfolding envelopeNumber placed
-envelope-said s e b p =
+pub envelope-said : (s job : List ℕ) (e : Envelope) → AllBytes s → envelopeAt mostBits s 0 ≡ read.Is e → Says (readBy job (envelopeAt mostBits s 0) .number) e
+unfolding readBy placed
+envelope-said s job e b p =
     let r = read-written mostBits s 0 b e p in
     let c = contentOf s e in
     let m = within-largest mostBits c (r .fit) in
@@ -43,3 +47,30 @@ envelope-said s e b p =
     let h : e .body ≡ 0 + length (header c) = ap (λ (x : Envelope). x .body) (r .place) in
     let n : e .next ≡ 0 + length (bytesOf c) = ap (λ (x : Envelope). x .next) (r .place) in
     rw p (parts e (omega arith) (omega arith) (omega (arith, h, m, w, largest-is)) (omega (arith, n, m, largest-is)))
+
+-- and its job is in the eight bytes
+pub job-said : (s job : List ℕ) (e : Envelope) → AllBytes s → envelopeAt mostBits s 0 ≡ read.Is e → numberOf 0 (readBy job (envelopeAt mostBits s 0) .bytes) ≡ e .job
+unfolding readBy
+job-said s job e b p =
+    let r = read-written mostBits s 0 b e p in
+    rw p (number-octets 8 (e .job) ∙ mod-eq-of-lt (r .fit .within))
+
+-- ---- as `put_job` has them: the bytes that are put, and those to come
+
+pub job-start : (b : List ℕ) (v : ℕ) → length b ≡ 8 → sets b 0 (octets (8 - 0) v) ≡ octets 8 v
+job-start b v h =
+    let n = length-octets 8 v in
+    let d : drop (0 + length (octets 8 v)) b ≡ [] = drop-of-length-le b {i = 0 + length (octets 8 v)} (omega arith) in
+    sets-eq (octets 8 v) b 0 (omega arith) ∙ rw d (append-nil (octets 8 v))
+
+pub job-turn : (b z : List ℕ) (i v : ℕ) → i < 8 → sets b i (octets (8 - i) v) ≡ z → sets (set b i (v / 2 ^ (8 * (7 - i)) % 256)) (i + 1) (octets (8 - (i + 1)) v) ≡ z
+job-turn b z i v h e =
+    let n : 8 - i ≡ suc (7 - i) = omega arith in
+    let m : 8 - (i + 1) ≡ 7 - i = omega arith in
+    let p : i + 1 ≡ suc i = omega arith in
+    rw (m, p) (rw (n, octets-suc (7 - i) v) at e)
+
+pub job-done : (b : List ℕ) (i v : ℕ) → i ≡ 8 → sets b i (octets (8 - i) v) ≡ b
+job-done b i v h =
+    let n : 8 - i ≡ 0 = omega arith in
+    rw (n, octets-zero v)

@@ -9,7 +9,7 @@ use Rattle.machine.specs.Record.{freshRecord}
 use Rattle.control.specs.declared.Side.{Side}
 use Rattle.control.specs.declared.Side.the-variants.{Air, Ground}
 use Rattle.machine.specs.declared.record.Record.{Record}
-use Rattle.step.specs.Stored.{storeAt, kept}
+use Rattle.stored.specs.Stored.{storeAt, kept}
 use Rattle.card.specs.Face.{made, firstNumber, freshFor, configured, freshCall}
 
 fresh-stored : (r z : List ℕ) (sd : Side) (x : Record) (t : Bool) (n : ℕ) → kept t z ≡ storeAt r sd x firstNumber → n ≡ cond t 0 2 → made n z ≡ freshFor (storeAt r sd x firstNumber)

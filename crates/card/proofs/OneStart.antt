@@ -23,7 +23,7 @@ use Rattle.machine.specs.Outcome.{isNone, refused, refusalNumber}
 use Rattle.machine.specs.Calls.{callOf, unsent}
 use Rattle.machine.specs.Calls as clause
 use Rattle.machine.specs.Step.{permitted, messageRefusal, refusalOf, acts, step}
-use Rattle.machine.proofs.Clauses.{cpdlcMode}
+use Rattle.clauses.proofs.Clauses.{cpdlcMode}
 use Rattle.machine.specs.declared.record.Record.{Record}
 use Rattle.machine.specs.declared.event.UserPrimitive.the-variants.{StartServiceRequest}
 use Rattle.machine.specs.declared.event.Event.{Event}
@@ -32,10 +32,10 @@ use Rattle.machine.specs.declared.outcome.StepRefusal.the-variants.{None, Shape
 use Rattle.machine.specs.declared.outcome.Outcome.{Outcome}
 use Rattle.numbered.specs.Numbers.{userStarts, isStart, isStale, heldAfter, numberedStep}
 use Rattle.numbered.proofs.Laws.{shape-first, then-step}
-use Rattle.step.specs.Stored.{loadAt}
+use Rattle.stored.specs.Stored.{loadAt}
 use Rattle.step.specs.Call.{Called, called, carriesData, concluded, withRecord, entering, userStep, userCall}
-use Rattle.step.specs.declared.stored.Loaded.{Loaded}
-use Rattle.step.specs.declared.stored.Loaded.the-variants.{Is, NoRecord}
+use Rattle.stored.specs.declared.Loaded.{Loaded}
+use Rattle.stored.specs.declared.Loaded.the-variants.{Is, NoRecord}
 use Rattle.step.proofs.Taken.{never}
 use Rattle.card.specs.Face.{givenData, numberedCall}
 use Rattle.card.proofs.Before.{codesBefore, stepBefore, userStepBefore, cpdlcStartBefore, dscStartBefore}

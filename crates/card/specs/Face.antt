@@ -16,7 +16,7 @@ use Rattle.machine.specs.declared.event.UserPrimitive.{UserPrimitive}
 use Rattle.machine.specs.declared.event.UserPrimitive.the-variants.{MessageServiceRequest, UserAbortServiceRequest}
 use Rattle.machine.specs.declared.event.Event.{Event}
 use Rattle.machine.specs.declared.event.Event.the-variants.{User}
-use Rattle.step.specs.Stored.{storeAt, Kept}
+use Rattle.stored.specs.Stored.{storeAt, Kept}
 use Rattle.step.specs.Call.{Called, userCall, noData}
 
 -- what stands for the dialogue number of an event that brings none; nothing looks at it (crate numbered, isStale and heldAfter)

@@ -6,11 +6,16 @@
 --   16 bits  the bit count
 --   16 bits  the bytes before the body
 --   16 bits  the bytes before the next envelope
+-- A job has 64 bits, so it does not go into that number: it goes into a lent range of eight bytes, the most significant first.
 -- The number that writing answers. A refusal is its number. Else 8 bits 0, and 16 bits the bytes that the envelope takes.
 use Prim.Native.Nat.{ℕ, _+_, _*_, _%_}
+use mathlib.Core.Bool.{cond}
 use mathlib.Core.List.{List}
+use lib.Dec.{eqb}
+use lib.ListN.{length}
 use Rattle.words.specs.Limits.{room, shape}
-use Rattle.envelope.specs.Envelopes.{refusalNumber, leastRoom, mostBits, writeEnvelope, Left}
+use Rattle.book.specs.Books.{octets}
+use Rattle.envelope.specs.Envelopes.{refusalNumber, leastRoom, mostBits, envelopeAt, writeEnvelope, Left}
 use Rattle.envelope.specs.declared.Envelope.{Envelope}
 use Rattle.envelope.specs.declared.EnvelopeRead.{EnvelopeRead}
 use Rattle.envelope.specs.declared.EnvelopeRead.the-variants as read
@@ -20,27 +25,31 @@ use Rattle.envelope.specs.declared.EnvelopeWritten.the-variants.{Bytes, Room, S
 abbrev pub said : Envelope → ℕ
 said e = 256 * (e .kind % 256 + 256 * (e .bits % 65536 + 65536 * (e .body % 65536 + 65536 * (e .next % 65536))))
 
-unfoldable pub envelopeNumber : EnvelopeRead → ℕ
-envelopeNumber (read.Is e) = said e
-envelopeNumber (read.Refused r) = refusalNumber r
-
--- 0 is no job
-unfoldable pub envelopeJob : EnvelopeRead → ℕ
-envelopeJob (read.Is e) = e .job
-envelopeJob (read.Refused r) = 0
-
 unfoldable pub writtenAnswer : EnvelopeWritten → ℕ
 writtenAnswer (Bytes n) = 256 * (n % 65536)
 writtenAnswer Room = room
 writtenAnswer Shape = shape
 
--- what writing leaves: the number and the buffer
+-- what a call leaves: the number and the range that it may write to
 pub record Sent : Type 0 where
   pub number : ℕ
   pub bytes : List ℕ
 
 abbrev pub sent : ℕ → List ℕ → Sent
 sent n s = record { number = n; bytes = s }
+
+-- the bytes that take a job
+abbrev pub jobBytes : ℕ
+jobBytes = 8
+
+-- what was read: its number and its job; a refusal leaves the range for the job as it was
+unfoldable pub readBy : List ℕ → EnvelopeRead → Sent
+readBy job (read.Is e) = sent (said e) (octets jobBytes (e .job))
+readBy job (read.Refused r) = sent (refusalNumber r) job
+
+-- SHAPE where the range for the job has another size; else the envelope at the front of the lent bytes
+unfoldable pub readEnvelope : List ℕ → List ℕ → Sent
+readEnvelope lent job = cond (eqb (length job) jobBytes) (readBy job (envelopeAt mostBits lent 0)) (sent shape job)
 
 abbrev pub answered : Left → Sent
 answered x = sent (writtenAnswer (x .answer)) (x .bytes)

@@ -6,7 +6,7 @@ ghost use Rattle.card.specs.Face.{freshCall, made};
 use control::Side;
 use machine::record::Configuration;
 use machine::record::Record;
-use step::store;
+use stored::store;
 use words::Limit;
 
 fn told_made(stored: bool) -> u64

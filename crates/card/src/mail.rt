@@ -1,7 +1,8 @@
 // The broker's envelopes for the host. An envelope is read at the front of lent bytes, so that every place in the answer counts from there.
 ghost use mathlib.Core.Path.{_≡_};
-ghost use Rattle.envelope.specs.Envelopes.{envelopeAt, leastRoom, mostBits, writeEnvelope};
-ghost use Rattle.card.specs.Mail.{envelopeJob, envelopeNumber, putEnvelope, sent, writtenAnswer};
+ghost use lib.ListN.{length};
+ghost use Rattle.book.specs.Books.{octets};
+ghost use Rattle.card.specs.Mail.{jobBytes, putEnvelope, readBy, readEnvelope, said, sent, writtenAnswer};
 use envelope::Envelope;
 use envelope::EnvelopeRead;
 use envelope::EnvelopeWritten;
@@ -11,44 +12,51 @@ use words::Limit;
 
 // What an envelope says, in one number.
 pub(crate) fn packed(e: Envelope) -> u64
-    ensures { λ n. ⌜ n ≡ envelopeNumber (EnvelopeRead.Is e) ⌝ }
+    ensures { λ n. ⌜ n ≡ said e ⌝ }
 {
     let places = (e.body % 65536) as u64 + 65536 * ((e.next % 65536) as u64);
     256 * (e.kind % 256 + 256 * (e.bits % 65536 + 65536 * places))
 }
 
-fn envelope_number(r: EnvelopeRead) -> u64
-    ensures { λ n. ⌜ n ≡ envelopeNumber r ⌝ }
+// The bytes that take a job.
+const JOB_BYTES: usize = 8;
+
+// A job into the eight bytes that are lent for it. A loop of exactly eight turns: the compiler makes one store of it.
+fn put_job(job: &mut [u8], number: u64)
+    requires { ⌜ length (now job) ≡ jobBytes ⌝ }
+    ensures { λ r. ⌜ now (job .exit) ≡ octets jobBytes number ⌝ }
+{
+    let mut i: usize = 0;
+    while i < JOB_BYTES {
+        job[i] = ((number >> (8 * (7 - i))) % 256) as u8;
+        i += 1;
+    }
+}
+
+// What was read: its number, and the job where there is one.
+fn told(r: EnvelopeRead, job: &mut [u8]) -> u64
+    requires { ⌜ length (now job) ≡ jobBytes ⌝ }
+    ensures { λ n. ⌜ sent n (now (job .exit)) ≡ readBy (now (job .entry)) r ⌝ }
 {
     match r {
-        EnvelopeRead::Is(e) => packed(e),
+        EnvelopeRead::Is(e) => {
+            put_job(job, e.job);
+            packed(e)
+        }
         EnvelopeRead::Refused(x) => x.number(),
     }
 }
 
-fn envelope_job(r: EnvelopeRead) -> u64
-    ensures { λ n. ⌜ n ≡ envelopeJob r ⌝ }
+// The envelope at the front of lent bytes: its kind, bit count, and the bytes before its body and before the next envelope, and its job
+// into the lent range of eight bytes; or the refusal.
+#[no_mangle]
+pub extern "C" fn peat_read_envelope(lent: &[u8], job: &mut [u8]) -> u64
+    ensures { λ n. ⌜ sent n (now (job .exit)) ≡ readEnvelope (now (lent .entry)) (now (job .entry)) ⌝ }
 {
-    match r {
-        EnvelopeRead::Is(e) => e.job,
-        EnvelopeRead::Refused(_) => 0,
+    if job.len() != JOB_BYTES {
+        return Limit::SHAPE;
     }
-}
-
-// The envelope at the front of lent bytes: its kind, bit count, and the bytes before its body and before the next envelope; or the refusal.
-#[no_mangle]
-pub extern "C" fn peat_read_envelope(lent: &[u8]) -> u64
-    ensures { λ n. ⌜ n ≡ envelopeNumber (envelopeAt mostBits (now (lent .entry)) 0) ⌝ }
-{
-    envelope_number(read_envelope(lent, 0))
-}
-
-// The job number of the envelope at the front of lent bytes; 0 where it is refused.
-#[no_mangle]
-pub extern "C" fn peat_envelope_job(lent: &[u8]) -> u64
-    ensures { λ n. ⌜ n ≡ envelopeJob (envelopeAt mostBits (now (lent .entry)) 0) ⌝ }
-{
-    envelope_job(read_envelope(lent, 0))
+    told(read_envelope(lent, 0), job)
 }
 
 // What the writer answers, in one number.

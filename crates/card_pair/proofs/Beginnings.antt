@@ -21,9 +21,9 @@ use Rattle.machine.specs.declared.record.Configuration.{Configuration}
 use Rattle.control.specs.Control.{waits, awaitsResponse}
 use Rattle.machine.specs.Run.{Formed}
 use Rattle.machine.specs.declared.record.Record.{Record}
-use Rattle.step.specs.Stored.{recordBytes, recordBits, jobBit, jobBits, numberBit, numberBits, sideCode, versionFits, headFits, headOf, withNumbers, loadAt, storeAt}
-use Rattle.step.specs.declared.stored.Loaded.{Loaded}
-use Rattle.step.specs.declared.stored.Loaded.the-variants.{Is, NoRecord}
+use Rattle.stored.specs.Stored.{recordBytes, recordBits, jobBit, jobBits, numberBit, numberBits, sideCode, versionFits, headFits, headOf, withNumbers, loadAt, storeAt}
+use Rattle.stored.specs.declared.Loaded.{Loaded}
+use Rattle.stored.specs.declared.Loaded.the-variants.{Is, NoRecord}
 use Rattle.step.proofs.Taken.{never, Coded}
 use Rattle.card.specs.Face.{firstNumber, configured, freshFor, freshCall}
 use Rattle.pair.specs.Names.{Side, Air, Ground, StartReq, Control, is, isIdle, closed}

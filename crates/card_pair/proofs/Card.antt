@@ -11,7 +11,7 @@ use Rattle.machine.specs.Codes.{securityValues, versions}
 use Rattle.machine.specs.declared.record.Record.{Record}
 use Rattle.machine.specs.declared.event.Event.the-variants.{TimerExpires, UnrecoverableSystemError}
 use Rattle.machine.specs.declared.event.ServicePrimitive.the-variants.{DPAbortIndication}
-use Rattle.step.specs.Stored.{recordBytes}
+use Rattle.stored.specs.Stored.{recordBytes}
 use Rattle.step.proofs.Refusing.{Leaves, user-leaves}
 use Rattle.card.specs.Face.{freshCall}
 use Rattle.pair.specs.Names.{Side, Air, Ground, other}

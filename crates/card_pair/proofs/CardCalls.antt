@@ -27,7 +27,7 @@ use Rattle.machine.specs.declared.outcome.Invoked.{Invoked}
 use Rattle.machine.specs.declared.outcome.Invoked.the-variants.{Silent, DStartRequest, DStartResponse, DDataRequest, DEndRequest, DEndResponse, DAbortRequest, DStartForwardRequest, DStartForwardResponse}
 use Rattle.machine.specs.declared.outcome.Outcome.{Outcome}
 use Rattle.numbered.specs.Numbers.{heldAfter, numberedStep}
-use Rattle.step.specs.Stored.{loadAt}
+use Rattle.stored.specs.Stored.{loadAt}
 use Rattle.step.specs.Call.{Called, called, concluded, entering, userStep, userCall, noData, carriesData}
 use Rattle.step.proofs.Calling.{with-record}
 use Rattle.step.proofs.Taken.{never, writable, brings, GoesOut, isDData, JobLow, numbered-fits}

@@ -36,8 +36,8 @@ use Rattle.machine.specs.Faults.{abortFault, responseFault, confirmationFault, 
 use Rattle.machine.specs.Primitives.{instructed, answered as answeredBy, reached}
 use Rattle.machine.specs.Step.{permitted, messageRefusal, acts as clause, step}
 use Rattle.machine.specs.Step as S
-use Rattle.machine.proofs.Clauses.{service-taken, user-aborts, expiry, error-idle}
-use Rattle.machine.proofs.ForwardClauses.{isUserAbort, only-abort, supported, not-supported, confirmed}
+use Rattle.clauses.proofs.Clauses.{service-taken, user-aborts, expiry, error-idle}
+use Rattle.clauses.proofs.ForwardClauses.{isUserAbort, only-abort, supported, not-supported, confirmed}
 use Rattle.machine.specs.declared.record.Record.{Record}
 use Rattle.machine.specs.declared.event.Qos.{Qos}
 use Rattle.machine.specs.declared.event.UserData.{UserData}
@@ -57,14 +57,14 @@ use Rattle.machine.specs.declared.outcome.Told.the-variants.{Untold, ProviderAb
 use Rattle.machine.specs.declared.outcome.Outcome as O
 use Rattle.numbered.specs.Numbers.{userStarts, serviceStarts, isStart as isStartEvent, isService, isStale, heldAfter, refusalOf, numberedStep}
 use Rattle.numbered.proofs.Laws.{shape-first, then-step}
-use Rattle.step.specs.Stored.{recordBytes, loadAt, storeAt}
-use Rattle.step.specs.Packed.{three, invokedNumber, toldNumber, versionNumber}
+use Rattle.stored.specs.Stored.{recordBytes, loadAt, storeAt}
+use Rattle.packed.specs.Packed.{three, invokedNumber, toldNumber, versionNumber}
 use Rattle.step.specs.Call.{Carried, Called, called as calledWith, carriesData, carriesForward, carriedBy, noData, bitsOfWritten, pduTo, firstTakes, passes, secondTakes, finished, concluded, entering, eventStep, userStep, userCall, forwardStep, forwardCall, readsAs, readsAgain, readPdu, meaning, dataStep, bareStep, serviceStep, serviceCall}
-use Rattle.step.specs.declared.stored.Loaded.{Loaded}
-use Rattle.step.specs.declared.stored.Loaded.the-variants.{Is}
-use Rattle.step.proofs.Storing.{length-stored, loaded-stored}
-use Rattle.step.proofs.Calling.{with-record, invoked-low, told-low}
-use Rattle.step.proofs.Unpacked.{refusal-unpacked, invoked-unpacked, sent-unpacked, version-unpacked, code-unpacked, parameter-unpacked, last-unpacked}
+use Rattle.stored.specs.declared.Loaded.{Loaded}
+use Rattle.stored.specs.declared.Loaded.the-variants.{Is}
+use Rattle.stored.proofs.Storing.{length-stored, loaded-stored}
+use Rattle.step.proofs.Calling.{with-record}
+use Rattle.packed.proofs.Unpacked.{invoked-low, told-low, refusal-unpacked, invoked-unpacked, sent-unpacked, version-unpacked, code-unpacked, parameter-unpacked, last-unpacked}
 use Rattle.step.proofs.Taken.{Coded}
 use Rattle.card.specs.Face.{noCount, givenData, messageRequested, abortRequested}
 use Rattle.pair.specs.Names.{Side, Ground, Control, isIdle, waits, entered, closed, takes}

@@ -26,8 +26,8 @@ use Rattle.machine.specs.Record.{enter}
 use Rattle.machine.specs.Step.{permitted, messageRefusal, acts}
 use Rattle.numbered.specs.Numbers.{userStarts, serviceStarts, isStart, isService, isStale, heldAfter, refusalOf, numberedStep}
 use Rattle.step.specs.Call.{forwardStep, forwardCall, forwardOf, firstTakes, secondTakes, finished, concluded, withRecord, entering, userStep, userCall, readsAs, readsAgain, abortOf, orAbort, readPdu, meaning, dataOf, dataStep, bareStep, serviceStep, serviceCall}
-use Rattle.step.specs.Packed.{invokedNumber, toldNumber, packed}
-use Rattle.step.specs.Stored.{recordBytes, headBytes, storedBytes, headFits, withNumbers, loadAt, storeAt}
+use Rattle.packed.specs.Packed.{invokedNumber, toldNumber, packed}
+use Rattle.stored.specs.Stored.{recordBytes, headBytes, storedBytes, headFits, withNumbers, loadAt, storeAt}
 use Rattle.machine.specs.declared.outcome.Invoked.{Invoked}
 use Rattle.pair.specs.Wires.{Wire}
 use Rattle.apdu.specs.Headings.{triple, tripleBits, tripleFits, aircraftBits, headingBits, aircraftFits, headingFits}

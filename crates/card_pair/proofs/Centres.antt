@@ -8,7 +8,7 @@ use native.Mathlib.Omega.{arith}
 use lib.Dec.{T}
 use lib.ListN.{length}
 use Rattle.machine.specs.Codes.{securityValues, versions}
-use Rattle.step.specs.Stored.{recordBytes, loadAt}
+use Rattle.stored.specs.Stored.{recordBytes, loadAt}
 use Rattle.card.specs.Face.{freshCall}
 use Rattle.pair.specs.Names.{Ground}
 use Rattle.pair.specs.Numbered.{NSys, nFresh}

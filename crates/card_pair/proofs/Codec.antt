@@ -25,7 +25,7 @@ use Rattle.apdu.proofs.Theorems.{written-read}
 use Rattle.machine.specs.Codes.{providerReasons}
 use Rattle.machine.specs.declared.event.UserData.{UserData}
 use Rattle.machine.specs.declared.event.UserData.the-variants.{Absent, NotValid, Start, Send, AbortUser, AbortProvider, Forward, ForwardResponse}
-use Rattle.step.specs.Stored.{flag}
+use Rattle.stored.specs.Stored.{flag}
 use Rattle.step.specs.Call.{pdusOf}
 use Rattle.step.proofs.Taken.{never}
 use Rattle.pair.specs.Names.{Side}

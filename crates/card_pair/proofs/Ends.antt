@@ -38,13 +38,12 @@ use Rattle.machine.specs.declared.outcome.Invoked.the-variants.{Silent, DStartR
 use Rattle.machine.specs.declared.outcome.Told.{Told}
 use Rattle.machine.specs.declared.outcome.Told.the-variants.{Untold, StartIndication, StartConfirmation, MessageIndication, EndIndication, EndConfirmation, UserAbortIndication, ProviderAbortIndication, ForwardIndication, ForwardConfirmation}
 use Rattle.machine.specs.declared.outcome.Outcome.{Outcome}
-use Rattle.step.specs.Stored.{recordBytes, flag, loadAt, storeAt}
-use Rattle.step.specs.Packed.{refusals, primitives, counts, packed, invokedNumber, toldNumber, versionNumber}
+use Rattle.stored.specs.Stored.{recordBytes, flag, loadAt, storeAt}
+use Rattle.packed.specs.Packed.{refusals, primitives, counts, packed, invokedNumber, toldNumber, versionNumber}
 use Rattle.step.specs.Call.{Carried, Called, passes, pdusOf, bitsOfWritten, nothingTo, pduTo, firstTakes, secondTakes, finished, concluded}
-use Rattle.step.specs.declared.stored.Loaded.the-variants.{Is}
-use Rattle.step.proofs.Storing.{length-stored, loaded-stored}
-use Rattle.step.proofs.Calling.{invoked-low, told-low}
-use Rattle.step.proofs.Unpacked.{refusal-unpacked, invoked-unpacked, told-unpacked, sent-unpacked, given-unpacked, code-unpacked, parameter-unpacked, last-unpacked}
+use Rattle.stored.specs.declared.Loaded.the-variants.{Is}
+use Rattle.stored.proofs.Storing.{length-stored, loaded-stored}
+use Rattle.packed.proofs.Unpacked.{invoked-low, told-low, refusal-unpacked, invoked-unpacked, told-unpacked, sent-unpacked, given-unpacked, code-unpacked, parameter-unpacked, last-unpacked}
 use Rattle.step.proofs.Taken.{never, Coded, writable, Brings, GoesOut, Roomy, quiet, Fit}
 use Rattle.pair.specs.Names.{Side}
 use Rattle.pair.specs.Carrier.{Body}

@@ -20,7 +20,7 @@ use Rattle.apdu.specs.Writing.{itemsFit, partFits, dataFits, apduFits, writeOut
 use Rattle.machine.specs.Calls.{replyOf, sent, qosAsked, startRequest, startResponse, messageRequest, endRequest, endResponse, userAbort, callOf, unsent, called}
 use Rattle.machine.specs.UserData.{userDataFits}
 use Rattle.machine.specs.Codes.{dscMode}
-use Rattle.machine.proofs.Clauses.{cpdlcMode}
+use Rattle.clauses.proofs.Clauses.{cpdlcMode}
 use Rattle.machine.specs.Event.{hasMode, qosFits, userFits, serviceFits, eventFits}
 use Rattle.machine.specs.Exceptions.{tell, closes, aborts, excepts, timerExpires, systemError, noInstruction}
 use Rattle.machine.specs.Faults.{pduFault, sendFault, abortFault, startFits, indicationFault, confirmationFault, firstFault}
@@ -29,8 +29,8 @@ use Rattle.machine.specs.Record.{enter}
 use Rattle.machine.specs.Step.{permitted, messageRefusal, acts}
 use Rattle.numbered.specs.Numbers.{userStarts, serviceStarts, isStart, isService, isStale, heldAfter, refusalOf, numberedStep}
 use Rattle.step.specs.Call.{firstTakes, secondTakes, finished, concluded, withRecord, entering, userStep, userCall, readsAs, readsAgain, abortOf, orAbort, readPdu, meaning, dataOf, dataStep, bareStep, serviceStep, serviceCall}
-use Rattle.step.specs.Packed.{invokedNumber, toldNumber, packed}
-use Rattle.step.specs.Stored.{recordBytes, headBytes, storedBytes, headFits, withNumbers, loadAt, storeAt}
+use Rattle.packed.specs.Packed.{invokedNumber, toldNumber, packed}
+use Rattle.stored.specs.Stored.{recordBytes, headBytes, storedBytes, headFits, withNumbers, loadAt, storeAt}
 use Rattle.card.specs.Face.{noCount, partOf, givenData, freshFor, freshCall}
 use Rattle.machine.specs.declared.outcome.Invoked.{Invoked}
 use Rattle.machine.specs.declared.outcome.Invoked.the-variants.{DStartRequest, DDataRequest, DEndResponse, DAbortRequest}
@@ -96,7 +96,7 @@ abbrev seen : ℕ → Control → List (Numbered Wire) → List Body → List Bo
 seen n c l t g j = record { no = n; ctl = c; line = l; took = t; gave = g; jobs = j }
 
 abbrev ofParty : ℕ → NParty (cardMachine 1 lends) → Seen
-ofParty d x = seen (heldBy (x .rec .bytes)) (controlIn (loadAt (x .rec .bytes))) (x .line) (x .taken d) (x .given d) (x .jobs)
+ofParty d x = seen (heldBy (x .rec .bytes)) (controlIn (loadAt (x .rec .bytes))) (x .line) (x .taken d) (x .handed d) (x .jobs)
 
 -- from two fresh records that the card made, with "secured exchange" at both ends; the air starts. d: the dialogue whose messages are seen
 abbrev after : ℕ → List (Turn Asked) → View

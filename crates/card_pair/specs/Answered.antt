@@ -10,7 +10,7 @@ use Rattle.machine.specs.Calls.{qosAsked}
 use Rattle.machine.specs.declared.outcome.Invoked.{Invoked}
 use Rattle.machine.specs.declared.outcome.Invoked.the-variants.{Silent, DStartRequest, DStartResponse, DDataRequest, DEndRequest, DEndResponse, DAbortRequest}
 use Rattle.step.specs.Call.{Called}
-use Rattle.step.specs.Packed.{refusals, codes, primitives, counts}
+use Rattle.packed.specs.Packed.{refusals, codes, primitives, counts}
 use Rattle.pair.specs.Carrier.{Body}
 use Rattle.pair.specs.Wires.{Wire}
 

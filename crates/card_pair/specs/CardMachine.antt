@@ -15,10 +15,10 @@ use Rattle.machine.specs.declared.event.ServicePrimitive.{ServicePrimitive}
 use Rattle.machine.specs.declared.event.ServicePrimitive.the-variants.{DPAbortIndication}
 use Rattle.machine.specs.declared.outcome.Invoked.{Invoked}
 use Rattle.machine.specs.declared.outcome.Invoked.the-variants.{Silent, DStartRequest, DStartResponse, DDataRequest, DEndRequest, DEndResponse, DAbortRequest, DStartForwardRequest, DStartForwardResponse}
-use Rattle.step.specs.Stored.{loadAt}
+use Rattle.stored.specs.Stored.{loadAt}
 use Rattle.step.specs.Call.{Called, serviceCall}
-use Rattle.step.specs.declared.stored.Loaded.{Loaded}
-use Rattle.step.specs.declared.stored.Loaded.the-variants.{Is, NoRecord}
+use Rattle.stored.specs.declared.Loaded.{Loaded}
+use Rattle.stored.specs.declared.Loaded.the-variants.{Is, NoRecord}
 use Rattle.card.specs.Face.{givenData, numberedCall, dataCall, plainCall, messageRequested, abortRequested}
 use Rattle.pair.specs.Names.{Side, Control, closed}
 use Rattle.pair.specs.Carrier.{Body, Sent, nothing, puts, message, Outcome, refused, acts}

@@ -11,8 +11,8 @@ use Rattle.machine.specs.declared.event.ServicePrimitive.{ServicePrimitive}
 use Rattle.machine.specs.declared.event.ServicePrimitive.the-variants.{DPAbortIndication}
 use Rattle.machine.specs.declared.outcome.Invoked.{Invoked}
 use Rattle.machine.specs.declared.outcome.Invoked.the-variants.{Silent, DStartRequest, DStartResponse, DDataRequest, DEndRequest, DEndResponse, DAbortRequest, DStartForwardRequest, DStartForwardResponse}
-use Rattle.step.specs.Stored.{loadAt}
-use Rattle.step.specs.Packed.{refusals, primitives, counts}
+use Rattle.stored.specs.Stored.{loadAt}
+use Rattle.packed.specs.Packed.{refusals, primitives, counts}
 use Rattle.step.specs.Call.{Called, serviceCall, forwardCall}
 use Rattle.card.specs.Face.{plainCall}
 use Rattle.pair.specs.Names.{Side}

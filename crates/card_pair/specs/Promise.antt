@@ -5,8 +5,8 @@ use mathlib.Core.Bool.{false}
 use mathlib.Core.List.{List}
 use Rattle.machine.specs.Run.{Formed}
 use Rattle.machine.specs.declared.record.Record.{Record}
-use Rattle.step.specs.Stored.{loadAt}
-use Rattle.step.specs.declared.stored.Loaded.the-variants.{Is}
+use Rattle.stored.specs.Stored.{loadAt}
+use Rattle.stored.specs.declared.Loaded.the-variants.{Is}
 use Rattle.pair.specs.Names.{Side, Air, Ground, closed}
 use Rattle.pair.specs.Numbered.{NSys, NClaims}
 use Rattle.card_pair.specs.CardMachine.{Buffers, cardMachine}

@@ -7,13 +7,13 @@ use Prim.Native.Nat.{ℕ, _+_}
 use native.Mathlib.Nat.{add-zero}
 use lib.ListN.{length}
 use Rattle.bits.proofs.Numbers.{Bits}
-use Rattle.fields.specs.Fields.{wholeNumber}
+use Rattle.fields.specs.Fields.{wholeNumber, onto}
 use Rattle.fields.specs.Encodings.{wholeBits, wholeFits}
 use Rattle.fields.specs.declared.Refusal.{Refusal}
 use Rattle.fields.specs.declared.Field.the-variants as field
 use Rattle.elements.specs.declared.values.CodeRead.{CodeRead}
 use Rattle.elements.specs.declared.values.Step.the-variants as step
-use Rattle.elements.specs.Arguments.{onto, digit, digitsFit, codeFits, digitsBits, noCode, isCode, codeAt}
+use Rattle.elements.specs.Arguments.{digit, digitsFit, codeFits, digitsBits, noCode, isCode, codeAt}
 use Rattle.elements.proofs.Standing.{Stands, stands-join, stands-split, stands-as, stands-nothing}
 use Rattle.elements.proofs.Whole.{ranged, whole-reads, whole-stands}
 use Rattle.elements.proofs.Steps.{never, onto-is}

@@ -13,14 +13,14 @@ use Rattle.bits.specs.Bits.{bitsTo}
 use Rattle.bits.specs.Put.{Left, left, putBits}
 use Rattle.bits.specs.declared.Put.the-variants.{Next}
 use Rattle.fields.specs.Encodings.{wholeFits}
-use Rattle.elements.specs.declared.kinds.Direction.{Direction}
-use Rattle.elements.specs.declared.kinds.ArgumentKind.{ArgumentKind}
-use Rattle.elements.specs.declared.kinds.ArgumentKind.the-variants as kind
+use Rattle.kinds.specs.declared.Direction.{Direction}
+use Rattle.kinds.specs.declared.ArgumentKind.{ArgumentKind}
+use Rattle.kinds.specs.declared.ArgumentKind.the-variants as kind
 use Rattle.elements.specs.declared.values.LevelType.{LevelType}
 use Rattle.elements.specs.declared.values.Level.{Level}
 use Rattle.elements.specs.declared.values.Time.{Time}
 use Rattle.elements.specs.declared.values.Element.{Element}
-use Rattle.elements.specs.Elements.{kindOf}
+use Rattle.kinds.specs.Elements.{kindOf}
 use Rattle.elements.specs.Arguments.{flag, noType, same?, lowest, highest, levelTypeFits, levelFits, timeFits, digitsFit, codeFits, charactersFit, sizedFits, facilityFits, atisFits}
 use Rattle.elements.specs.OneElement.{levelUnused, timeUnused, codeUnused, levelsUnused, plain, noText, argumentFits, argumentBits, lastOf, elementFits, elementBits}
 use Rattle.elements.specs.Writing.{Piece, whole, putPieces, piecesFit, piecesBits, choicePiece, levelTypePieces, levelPieces, timePieces, numberPieces, sizedPieces, facilityPieces, argumentPieces, indexPiece, elementPieces}

@@ -12,8 +12,8 @@ use Rattle.fields.specs.Encodings.{indexBits, wholeBits, wholeFits}
 use Rattle.fields.specs.declared.Field.{Field}
 use Rattle.fields.specs.declared.Field.the-variants as field
 use Rattle.fields.proofs.RoundTrip.{via, extensible-index}
-use Rattle.elements.specs.declared.kinds.Direction.{Direction}
-use Rattle.elements.specs.declared.kinds.Direction.the-variants.{Downlink, Uplink}
+use Rattle.kinds.specs.declared.Direction.{Direction}
+use Rattle.kinds.specs.declared.Direction.the-variants.{Downlink, Uplink}
 use Rattle.elements.specs.OneElement.{lastOf}
 use Rattle.elements.proofs.Standing.{Stands, field-reads, field-stands}
 use Rattle.elements.proofs.Whole.{Ranged, ranged, length-whole, whole-most}

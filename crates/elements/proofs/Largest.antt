@@ -10,14 +10,14 @@ use lib.Dec.{eqb, leb}
 use borrow.Author.Tests.{le-leb, eq-eqb}
 use Rattle.fields.specs.Fields.{digitsIn, widthOf}
 use Rattle.fields.specs.Encodings.{wholeFits}
-use Rattle.elements.specs.declared.kinds.Direction.{Direction}
-use Rattle.elements.specs.declared.kinds.Direction.the-variants.{Downlink, Uplink}
-use Rattle.elements.specs.declared.kinds.ArgumentKind.{ArgumentKind}
-use Rattle.elements.specs.declared.kinds.ArgumentKind.the-variants as kind
+use Rattle.kinds.specs.declared.Direction.{Direction}
+use Rattle.kinds.specs.declared.Direction.the-variants.{Downlink, Uplink}
+use Rattle.kinds.specs.declared.ArgumentKind.{ArgumentKind}
+use Rattle.kinds.specs.declared.ArgumentKind.the-variants as kind
 use Rattle.elements.specs.declared.values.LevelType.{LevelType}
 use Rattle.elements.specs.declared.values.Level.{Level}
 use Rattle.elements.specs.declared.values.Element.{Element}
-use Rattle.elements.specs.Elements.{kindOf}
+use Rattle.kinds.specs.Elements.{kindOf}
 use Rattle.elements.specs.Arguments.{lowest, highest, levelTypeFits, levelTypeBits, levelFits, levelBits, timeFits, digitsFit, codeFits, charactersFit, sizedFits, facilityFits, atisFits}
 use Rattle.elements.specs.OneElement.{noLevel, bare, withLevels, withCharacters, levelUnused, timeUnused, zeros, codeUnused, levelsUnused, plain, argumentFits, argumentBits, lastOf, elementFits, elementBits}
 use Rattle.elements.specs.Measuring.{indexWidth, largestOf}

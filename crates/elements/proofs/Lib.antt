@@ -1,4 +1,3 @@
-pub mod Table
 pub mod Standing
 pub mod Steps
 pub mod Whole
@@ -18,4 +17,5 @@ pub mod Pieces
 pub mod Written
 pub mod Fitting
 pub mod Measured
+pub mod Gathered
 pub mod Largest

@@ -3,27 +3,27 @@
 use mathlib.Core.Path.{_≡_, refl, sym, _∙_}
 use mathlib.Core.Bool.{Bool, true, false, cond, not, _&&_}
 use mathlib.Core.List.{List, [], _∷_, _++_}
-use Prim.Native.Nat.{ℕ, zero, suc, _+_, _-_, _*_, _<_, _≤_}
+use Prim.Native.Nat.{ℕ, zero, suc, _+_, _-_, _*_, _<_, _≤_, max}
 use native.Mathlib.Numerals.{add-one}
 use native.Mathlib.Omega.{arith}
 use native.Mathlib.Decide.{decLt}
 use lib.ListN.{length, getD, drop, length-append}
 use lib.Seq.{drop-cons}
 use lib.Dec.{eqb, leb, ltb}
-use borrow.Author.Tests.{le-leb, lt-leb, lt-ltb, le-ltb, eq-eqb, eqb-true, ne-eqb}
+use borrow.Author.Tests.{le-leb, lt-leb, leb-true, leb-false, lt-ltb, le-ltb, eq-eqb, eqb-true, ne-eqb}
 use Rattle.fields.specs.Fields.{digitsIn, widthOf}
 use Rattle.fields.specs.Encodings.{indexBits, wholeBits, wholeFits}
 use Rattle.fields.proofs.Widths.{width-most}
-use Rattle.elements.specs.declared.kinds.Direction.{Direction}
-use Rattle.elements.specs.declared.kinds.ArgumentKind.{ArgumentKind}
-use Rattle.elements.specs.declared.kinds.ArgumentKind.the-variants as kind
+use Rattle.kinds.specs.declared.Direction.{Direction}
+use Rattle.kinds.specs.declared.ArgumentKind.{ArgumentKind}
+use Rattle.kinds.specs.declared.ArgumentKind.the-variants as kind
 use Rattle.elements.specs.declared.values.LevelType.{LevelType}
 use Rattle.elements.specs.declared.values.Level.{Level}
 use Rattle.elements.specs.declared.values.Time.{Time}
 use Rattle.elements.specs.declared.values.Element.{Element}
 use Rattle.elements.specs.declared.measuring.Uses.{Uses}
 use Rattle.elements.specs.declared.values.Size.the-variants as size
-use Rattle.elements.specs.Elements.{kindOf}
+use Rattle.kinds.specs.Elements.{kindOf}
 use Rattle.elements.specs.Arguments.{flag, lowest, highest, levelTypeBits, levelFits, levelBits, timeFits, timeBits, digitsFit, codeFits, digitsBits, charactersFit, sizedFits, sizedBits, facilityFits, facilityBits, atisFits}
 use Rattle.elements.specs.OneElement.{zeros, codeUnused, levelUnused, timeUnused, levelsUnused, plain, noText, argumentFits, argumentBits, lastOf, elementFits, elementBits}
 use Rattle.elements.specs.Measuring.{allMost, typeFitsUse, levelFitsUse, timeFitsUse, codeFitsUse, textFitsKind, usesOf, largestOf}
@@ -58,19 +58,32 @@ most-nil : (hi : ℕ) → allMost hi [] ≡ true
 unfolding allMost
 most-nil hi = refl
 
-module _ (hi : ℕ) (xs : List ℕ) (i : ℕ) (z : Bool) (inv : allMost hi (drop i xs) ≡ z) where
-  module _ (h : i < length xs) (v : ℕ) (e : v ≡ getD xs i 0) where
-    split : leb v hi && allMost hi (drop (suc i) xs) ≡ z
-    split = rw e (rw (drop-cons xs i 0 h, most-cons) at inv)
+max-most : (a b hi : ℕ) → leb (max a b) hi ≡ (leb a hi && leb b hi)
+max-most a b hi = go (leb a hi) refl (leb b hi) refl
+  where
+    go : (p : Bool) → leb a hi ≡ p → (q : Bool) → leb b hi ≡ q → leb (max a b) hi ≡ (p && q)
+    go true h true k = let x = leb-true a hi h in let y = leb-true b hi k in le-leb (max a b) hi (omega arith)
+    go true h false k = let y = leb-false b hi k in lt-leb (max a b) hi (omega arith)
+    go false h q k = let x = leb-false a hi h in lt-leb (max a b) hi (omega arith)
 
-    pub most-turn : v ≤ hi → allMost hi (drop (i + 1) xs) ≡ z
-    most-turn k = rw add-one (rw (le-leb v hi k) at split)
+both-assoc : (a b c : Bool) → ((a && b) && c) ≡ (a && (b && c))
+both-assoc true b c = refl
+both-assoc false b c = refl
 
-    pub most-above : hi < v → false ≡ z
-    most-above k = rw (lt-leb v hi k) at split
+both-true : (a : Bool) → (a && true) ≡ a
+both-true true = refl
+both-true false = refl
 
-  pub most-done : length xs ≤ i → true ≡ z
-  most-done h = rw (drop-all xs i h, most-nil) at inv
+pub most-none : (hi : ℕ) (xs : List ℕ) → (leb 0 hi && allMost hi xs) ≡ allMost hi xs
+most-none hi xs = rw (le-leb 0 hi (omega arith))
+
+-- m is the greatest of them
+module _ (hi m : ℕ) (xs : List ℕ) (i : ℕ) (z : Bool) (inv : (leb m hi && allMost hi (drop i xs)) ≡ z) where
+  pub most-turn : i < length xs → (w : ℕ) → w ≡ max m (getD xs i 0) → (leb w hi && allMost hi (drop (i + 1) xs)) ≡ z
+  most-turn h w e = rw (e, max-most, both-assoc, add-one) (rw (drop-cons xs i 0 h, most-cons) at inv)
+
+  pub most-done : length xs ≤ i → leb m hi ≡ z
+  most-done h = rw (drop-all xs i h, most-nil, both-true) at inv
 
 -- digits, characters and zeros are such numbers
 pub digits-most : (ds : List ℕ) → allMost 7 ds ≡ digitsFit ds

@@ -3,13 +3,12 @@
 use mathlib.Core.Path.{_≡_}
 use mathlib.Core.List.{List}
 use Prim.Native.Nat.{ℕ, _+_}
-use Rattle.fields.specs.Fields.{refusedAt, extensibleIndex}
+use Rattle.fields.specs.Fields.{refusedAt, extensibleIndex, refusalOf}
 use Rattle.fields.specs.declared.Field.the-variants.{Value}
 use Rattle.fields.specs.declared.Fault.the-variants as fault
-use Rattle.elements.specs.declared.kinds.Direction.{Direction}
-use Rattle.elements.specs.declared.kinds.ArgumentKind.the-variants as kind
-use Rattle.elements.specs.Elements.{kindOf}
-use Rattle.elements.specs.Arguments.{refusalOf}
+use Rattle.kinds.specs.declared.Direction.{Direction}
+use Rattle.kinds.specs.declared.ArgumentKind.the-variants as kind
+use Rattle.kinds.specs.Elements.{kindOf}
 use Rattle.elements.specs.OneElement.{noElement, lastOf, argumentAt, elementAt}
 
 pub not-carried : (d : Direction) (l : List ℕ) (at i next : ℕ) → extensibleIndex l at (lastOf d) ≡ Value i next → kindOf d i ≡ kind.NotCarried → elementAt d l at ≡ noElement (refusalOf (refusedAt (at + 1) fault.NotCarried))

@@ -6,11 +6,10 @@ use mathlib.Core.List.{List, _++_}
 use Prim.Native.Nat.{ℕ, _≤_}
 use lib.ListN.{length}
 use Rattle.bits.proofs.Numbers.{Bits}
-use Rattle.fields.specs.Fields.{wholeNumber}
+use Rattle.fields.specs.Fields.{wholeNumber, onto}
 use Rattle.fields.specs.Encodings.{wholeBits, wholeFits}
 use Rattle.fields.specs.declared.Refusal.{Refusal}
 use Rattle.fields.specs.declared.Field.the-variants as field
-use Rattle.elements.specs.Arguments.{onto}
 use Rattle.elements.proofs.Standing.{Stands, stands-join, stands-split}
 use Rattle.elements.proofs.Whole.{Ranged, whole-reads, whole-stands, whole-below}
 use Rattle.elements.proofs.Steps.{onto-is}

@@ -18,11 +18,11 @@ use Rattle.bits.specs.declared.Put.the-variants.{Next, Full}
 use Rattle.bits.proofs.Bytes.{length-to}
 use Rattle.bits.proofs.Putting.{put-append, put-nil, put-fits, length-put}
 use Rattle.fields.specs.Encodings.{indexBits, wholeBits, wholeFits}
-use Rattle.elements.specs.declared.kinds.Direction.{Direction}
-use Rattle.elements.specs.declared.kinds.ArgumentKind.{ArgumentKind}
+use Rattle.kinds.specs.declared.Direction.{Direction}
+use Rattle.kinds.specs.declared.ArgumentKind.{ArgumentKind}
 use Rattle.elements.specs.declared.values.Level.{Level}
 use Rattle.elements.specs.declared.values.Element.{Element}
-use Rattle.elements.specs.Elements.{kindOf}
+use Rattle.kinds.specs.Elements.{kindOf}
 use Rattle.elements.specs.OneElement.{lastOf}
 use Rattle.elements.specs.Writing.{Piece, onPut, putPieces, piecesFit, piecesBits, whole, choicePiece, levelTypePieces, levelPieces, numberPieces, sizedPieces, facilityPieces, argumentPieces, indexPiece, elementPieces}
 

@@ -10,15 +10,15 @@ use lib.Dec.{eqb}
 use borrow.Author.Tests.{eqb-true, eq-eqb}
 use Rattle.words.proofs.Laws.{both-left, both-right}
 use Rattle.bits.proofs.Numbers.{Bits}
-use Rattle.fields.specs.Fields.{extensibleIndex}
+use Rattle.fields.specs.Fields.{extensibleIndex, onto}
 use Rattle.fields.specs.Encodings.{indexBits, wholeFits}
 use Rattle.fields.specs.declared.Refusal.{Refusal}
 use Rattle.fields.specs.declared.Field.the-variants as field
-use Rattle.elements.specs.declared.kinds.Direction.{Direction}
+use Rattle.kinds.specs.declared.Direction.{Direction}
 use Rattle.elements.specs.declared.values.Element.{Element}
 use Rattle.elements.specs.declared.values.ElementRead.{ElementRead}
-use Rattle.elements.specs.Elements.{kindOf}
-use Rattle.elements.specs.Arguments.{onto, charactersIn}
+use Rattle.kinds.specs.Elements.{kindOf}
+use Rattle.elements.specs.Arguments.{charactersIn}
 use Rattle.elements.specs.OneElement.{isElement, noElement, argumentAt, argumentFits, argumentBits, lastOf, elementAt, elementFits, elementBits, textOf}
 use Rattle.elements.proofs.Standing.{Stands, stands-join, stands-split, stands-as, both-hold}
 use Rattle.elements.proofs.Steps.{never, onto-is}

@@ -9,13 +9,14 @@ use native.Mathlib.Nat.{add-zero}
 use lib.ListN.{length}
 use lib.Dec.{eqb}
 use borrow.Author.Tests.{eqb-true}
+use Rattle.fields.specs.Fields.{onto}
 use Rattle.words.proofs.Laws.{both-left, both-right}
 use Rattle.bits.proofs.Numbers.{Bits}
 use Rattle.fields.specs.declared.Refusal.{Refusal}
 use Rattle.fields.specs.declared.Field.{Field}
 use Rattle.fields.specs.declared.Field.the-variants as field
-use Rattle.elements.specs.declared.kinds.ArgumentKind.{ArgumentKind}
-use Rattle.elements.specs.declared.kinds.ArgumentKind.the-variants as kind
+use Rattle.kinds.specs.declared.ArgumentKind.{ArgumentKind}
+use Rattle.kinds.specs.declared.ArgumentKind.the-variants as kind
 use Rattle.elements.specs.declared.values.Level.{Level}
 use Rattle.elements.specs.declared.values.LevelRead.{LevelRead}
 use Rattle.elements.specs.declared.values.LevelRead.the-variants as level
@@ -27,7 +28,7 @@ use Rattle.elements.specs.declared.values.Step.the-variants as step
 use Rattle.elements.specs.declared.values.CodeRead.{CodeRead}
 use Rattle.elements.specs.declared.values.Element.{Element}
 use Rattle.elements.specs.declared.values.ElementRead.{ElementRead}
-use Rattle.elements.specs.Arguments.{onto, isCode, levelFits, levelBits, levelAt, timeFits, timeBits, timeAt, digitsFit, codeFits, digitsBits, codeAt, charactersIn, sizedFits, sizedBits, freeTextAt, designationAt, facilityFits, facilityBits, facilityAt, atisFits, charactersBits, atisAt}
+use Rattle.elements.specs.Arguments.{isCode, levelFits, levelBits, levelAt, timeFits, timeBits, timeAt, digitsFit, codeFits, digitsBits, codeAt, charactersIn, sizedFits, sizedBits, freeTextAt, designationAt, facilityFits, facilityBits, facilityAt, atisFits, charactersBits, atisAt}
 use Rattle.elements.specs.OneElement.{noLevel, noTime, noDigits, bare, withLevels, withTime, withCode, withCharacters, isElement, noElement, ontoLevel, ontoTime, ontoStep, charactersOf, levelArgument, twoLevelsArgument, timeArgument, codeArgument, argumentAt, levelUnused, timeUnused, codeUnused, levelsUnused, plain, noText, argumentFits, argumentBits}
 use Rattle.elements.proofs.Standing.{Stands, stands-join, stands-split, stands-as, stands-nothing}
 use Rattle.elements.proofs.Steps.{never, onto-is}

@@ -12,14 +12,14 @@ use Rattle.words.proofs.Laws.{both-left, both-right}
 use Rattle.bits.specs.Bits.{bitsN}
 use Rattle.fields.specs.Fields.{digitsIn}
 use Rattle.fields.specs.Encodings.{wholeBits, wholeFits}
-use Rattle.elements.specs.declared.kinds.Direction.{Direction}
-use Rattle.elements.specs.declared.kinds.ArgumentKind.{ArgumentKind}
-use Rattle.elements.specs.declared.kinds.ArgumentKind.the-variants as kind
+use Rattle.kinds.specs.declared.Direction.{Direction}
+use Rattle.kinds.specs.declared.ArgumentKind.{ArgumentKind}
+use Rattle.kinds.specs.declared.ArgumentKind.the-variants as kind
 use Rattle.elements.specs.declared.values.LevelType.{LevelType}
 use Rattle.elements.specs.declared.values.Level.{Level}
 use Rattle.elements.specs.declared.values.Time.{Time}
 use Rattle.elements.specs.declared.values.Element.{Element}
-use Rattle.elements.specs.Elements.{kindOf}
+use Rattle.kinds.specs.Elements.{kindOf}
 use Rattle.elements.specs.Arguments.{flag, levelTypeFits, levelTypeBits, levelFits, levelBits, timeFits, timeBits, digitsFit, digitsBits, charactersFit, charactersBits, sizedFits, sizedBits, facilityFits, facilityBits}
 use Rattle.elements.specs.OneElement.{argumentBits, elementBits, lastOf}
 use Rattle.elements.specs.Writing.{Piece, whole, piecesFit, piecesBits, choicePiece, levelTypePieces, levelPieces, timePieces, numberPieces, sizedPieces, facilityPieces, argumentPieces, indexPiece, elementPieces}

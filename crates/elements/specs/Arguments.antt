@@ -6,7 +6,7 @@ use mathlib.Core.Bool.{Bool, true, false, cond, not, _&&_}
 use lib.ListN.{length, getD, take, drop}
 use lib.Dec.{eqb, ltb}
 use Rattle.bits.specs.Bits.{bitsN, numOf}
-use Rattle.fields.specs.Fields.{noRefusal, then, wholeNumber, contentsAt, sizedAt}
+use Rattle.fields.specs.Fields.{noRefusal, then, wholeNumber, contentsAt, sizedAt, onto}
 use Rattle.fields.specs.Encodings.{wholeBits, wholeFits}
 use Rattle.fields.specs.declared.Refusal.{Refusal}
 use Rattle.fields.specs.declared.Field.{Field}
@@ -24,16 +24,7 @@ use Rattle.elements.specs.declared.values.Step.{Step}
 use Rattle.elements.specs.declared.values.Step.the-variants as step
 use Rattle.elements.specs.declared.values.CodeRead.{CodeRead}
 
--- What follows a field goes on from its value and the place after it; a refusal is handed up.
-abbrev pub onto : {A : Type 0} → (Refusal → A) → Field → (ℕ → ℕ → A) → A
-onto refused (field.Value v next) k = k v next
-onto refused (field.Refused r) k = refused r
-
 -- the refusal in an answer that is one
-abbrev pub refusalOf : Field → Refusal
-refusalOf (field.Value v next) = noRefusal
-refusalOf (field.Refused r) = r
-
 abbrev pub typeRefusal : LevelTypeRead → Refusal
 typeRefusal (type.Got x next) = noRefusal
 typeRefusal (type.Refused r) = r

@@ -1,4 +1,3 @@
-pub mod Elements
 pub mod Arguments
 pub mod OneElement
 pub mod Writing

@@ -5,15 +5,15 @@ use mathlib.Core.Bool.{Bool, true, false, cond, not, _&&_}
 use lib.ListN.{length, getD, take, drop}
 use lib.Dec.{eqb, ltb, leb}
 use Rattle.bits.specs.Bits.{bitsN}
-use Rattle.fields.specs.Fields.{refusedAt, extensibleIndex}
+use Rattle.fields.specs.Fields.{refusedAt, extensibleIndex, onto, refusalOf}
 use Rattle.fields.specs.Encodings.{indexBits, wholeFits}
 use Rattle.fields.specs.declared.Refusal.{Refusal}
 use Rattle.fields.specs.declared.Fault.the-variants as fault
 use Rattle.fields.specs.declared.Field.{Field}
-use Rattle.elements.specs.declared.kinds.Direction.{Direction}
-use Rattle.elements.specs.declared.kinds.Direction.the-variants.{Downlink, Uplink}
-use Rattle.elements.specs.declared.kinds.ArgumentKind.{ArgumentKind}
-use Rattle.elements.specs.declared.kinds.ArgumentKind.the-variants as kind
+use Rattle.kinds.specs.declared.Direction.{Direction}
+use Rattle.kinds.specs.declared.Direction.the-variants.{Downlink, Uplink}
+use Rattle.kinds.specs.declared.ArgumentKind.{ArgumentKind}
+use Rattle.kinds.specs.declared.ArgumentKind.the-variants as kind
 use Rattle.elements.specs.declared.values.Level.{Level}
 use Rattle.elements.specs.declared.values.LevelRead.{LevelRead}
 use Rattle.elements.specs.declared.values.LevelRead.the-variants as level
@@ -25,8 +25,8 @@ use Rattle.elements.specs.declared.values.Step.the-variants as step
 use Rattle.elements.specs.declared.values.CodeRead.{CodeRead}
 use Rattle.elements.specs.declared.values.Element.{Element}
 use Rattle.elements.specs.declared.values.ElementRead.{ElementRead}
-use Rattle.elements.specs.Elements.{kindOf}
-use Rattle.elements.specs.Arguments.{onto, refusalOf, noType, same?, levelFits, levelBits, levelAt, timeFits, timeBits, timeAt, codeFits, digitsBits, codeAt, charactersFit, charactersBits, charactersIn, sizedFits, sizedBits, freeTextAt, designationAt, facilityFits, facilityBits, facilityAt, atisFits, atisAt}
+use Rattle.kinds.specs.Elements.{kindOf}
+use Rattle.elements.specs.Arguments.{noType, same?, levelFits, levelBits, levelAt, timeFits, timeBits, timeAt, codeFits, digitsBits, codeAt, charactersFit, charactersBits, charactersIn, sizedFits, sizedBits, freeTextAt, designationAt, facilityFits, facilityBits, facilityAt, atisFits, atisAt}
 
 -- ---- what an element holds besides its number; what its kind does not use is zero
 

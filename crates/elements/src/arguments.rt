@@ -11,10 +11,10 @@ use crate::values::LevelTypeRead;
 use crate::values::Step;
 use crate::values::Time;
 use crate::values::TimeRead;
-use crate::values::refusal;
 use crate::values::type_refusal;
 use fields::Field;
 use fields::Refusal;
+use fields::refusal_of;
 
 pub(crate) fn lowest(unit: u64) -> u64
     ensures { λ r. ⌜ r ≡ lowest unit ⌝ }
@@ -39,11 +39,11 @@ pub fn read_level_type(s: &[u8], end: usize, at: usize) -> LevelTypeRead
 {
     let choice = fields::whole(s, end, at, 0, LevelType::LAST_UNIT);
     let Field::Value(unit, next) = choice else {
-        return LevelTypeRead::Refused(refusal(choice));
+        return LevelTypeRead::Refused(refusal_of(choice));
     };
     let amount = fields::whole(s, end, next, lowest(unit), highest(unit));
     let Field::Value(number, last) = amount else {
-        return LevelTypeRead::Refused(refusal(amount));
+        return LevelTypeRead::Refused(refusal_of(amount));
     };
     LevelTypeRead::Got(
         LevelType {
@@ -59,7 +59,7 @@ pub fn read_level(s: &[u8], end: usize, at: usize) -> LevelRead
 {
     let choice = fields::whole(s, end, at, 0, 1);
     let Field::Value(block, from) = choice else {
-        return LevelRead::Refused(refusal(choice));
+        return LevelRead::Refused(refusal_of(choice));
     };
     let one = read_level_type(s, end, from);
     let LevelTypeRead::Got(first, next) = one else {
@@ -94,11 +94,11 @@ pub fn read_time(s: &[u8], end: usize, at: usize) -> TimeRead
 {
     let first = fields::whole(s, end, at, 0, Time::LAST_HOUR);
     let Field::Value(hours, next) = first else {
-        return TimeRead::Refused(refusal(first));
+        return TimeRead::Refused(refusal_of(first));
     };
     let second = fields::whole(s, end, next, 0, Time::LAST_MINUTE);
     let Field::Value(minutes, last) = second else {
-        return TimeRead::Refused(refusal(second));
+        return TimeRead::Refused(refusal_of(second));
     };
     TimeRead::Got(
         Time {
@@ -123,19 +123,19 @@ pub fn read_code(s: &[u8], end: usize, at: usize) -> CodeRead
 {
     let first = fields::whole(s, end, at, 0, Element::LAST_DIGIT);
     let Field::Value(a, p) = first else {
-        return no_code(refusal(first));
+        return no_code(refusal_of(first));
     };
     let second = fields::whole(s, end, p, 0, Element::LAST_DIGIT);
     let Field::Value(b, q) = second else {
-        return no_code(refusal(second));
+        return no_code(refusal_of(second));
     };
     let third = fields::whole(s, end, q, 0, Element::LAST_DIGIT);
     let Field::Value(c, r) = third else {
-        return no_code(refusal(third));
+        return no_code(refusal_of(third));
     };
     let fourth = fields::whole(s, end, r, 0, Element::LAST_DIGIT);
     let Field::Value(d, next) = fourth else {
-        return no_code(refusal(fourth));
+        return no_code(refusal_of(fourth));
     };
     CodeRead {
         step: Step::Next(next),

@@ -6,20 +6,20 @@ ghost use lib.ListN.{length};
 ghost use Rattle.fields.specs.Encodings.{wholeFits};
 ghost use Rattle.fields.specs.Fields.{widthOf};
 ghost use Rattle.elements.specs.Arguments.{levelBits, levelTypeBits, sizedBits, sizedFits};
-ghost use Rattle.elements.specs.Measuring.{allMost, codeFitsUse, levelFitsUse, textFitsKind, timeFitsUse, typeFitsUse, usesOf};
-ghost use Rattle.elements.specs.OneElement.{argumentBits, argumentFits, elementBits, elementFits};
+ghost use Rattle.elements.specs.Measuring.{codeFitsUse, levelFitsUse, textFitsKind, timeFitsUse, typeFitsUse, usesOf};
+ghost use Rattle.elements.specs.OneElement.{argumentBits, argumentFits, elementBits, elementFits, plain};
 use crate::arguments::highest;
 use crate::arguments::lowest;
-use crate::kinds::ArgumentKind;
-use crate::kinds::Direction;
-use crate::kinds::kind_of;
+use crate::numbers::all_most;
 use crate::reading::last_of;
 use crate::values::Element;
 use crate::values::Level;
 use crate::values::LevelType;
 use crate::values::Size;
 use crate::values::Time;
-use crate::writing::wide;
+use kinds::ArgumentKind;
+use kinds::Direction;
+use kinds::kind_of;
 
 fn both(a: bool, b: bool) -> bool
     ensures { λ r. ⌜ r ≡ a && b ⌝ }
@@ -34,20 +34,6 @@ fn fits(lo: u64, hi: u64, v: u64) -> bool
     ensures { λ r. ⌜ r ≡ wholeFits lo hi v ⌝ }
 {
     both(lo <= v, v <= hi)
-}
-
-// Numbers of which none is above hi: the digits of a code, characters, what is unused.
-fn all_most(hi: u64, items: &[u8]) -> bool
-    ensures { λ r. ⌜ r ≡ allMost hi (now (items .entry)) ⌝ }
-{
-    let mut i: usize = 0;
-    while i < items.len() {
-        if hi < wide(items[i]) {
-            return false;
-        }
-        i += 1;
-    }
-    true
 }
 
 // A part that is used is of its type, and one that is not is zero.
@@ -190,6 +176,21 @@ fn used_by(kind: ArgumentKind) -> Uses
         ArgumentKind::FacilityDesignation => Uses::NOTHING,
         ArgumentKind::AtisCode => Uses::NOTHING,
     }
+}
+
+// Nothing of an element is used but its number and its characters.
+pub fn is_plain(e: Element) -> bool
+    ensures { λ r. ⌜ r ≡ plain e ⌝ }
+{
+    let level = e.level;
+    let other = e.other;
+    let time = e.time;
+    let code = e.code;
+    let levels = both(level_fits_use(false, level), level_fits_use(false, other));
+    both(
+        both(levels, time_fits_use(false, time)),
+        code_fits_use(false, code),
+    )
 }
 
 // What the kind uses is of its type, and what it does not use is zero.

@@ -7,21 +7,21 @@ use crate::arguments::facility;
 use crate::arguments::read_code;
 use crate::arguments::read_level;
 use crate::arguments::read_time;
-use crate::kinds::ArgumentKind;
-use crate::kinds::Direction;
-use crate::kinds::kind_of;
 use crate::values::Element;
 use crate::values::ElementRead;
 use crate::values::LevelRead;
 use crate::values::Step;
 use crate::values::TimeRead;
 use crate::values::level_refusal;
-use crate::values::refusal;
 use crate::values::step_refusal;
 use crate::values::time_refusal;
 use fields::Fault;
 use fields::Field;
 use fields::Refusal;
+use fields::refusal_of;
+use kinds::ArgumentKind;
+use kinds::Direction;
+use kinds::kind_of;
 
 fn no_element(r: Refusal) -> ElementRead
     ensures { λ x. ⌜ x ≡ noElement r ⌝ }
@@ -108,7 +108,7 @@ fn characters(number: u8, count: Field) -> ElementRead
     ensures { λ r. ⌜ r ≡ charactersOf number count ⌝ }
 {
     let Field::Value(n, next) = count else {
-        return no_element(refusal(count));
+        return no_element(refusal_of(count));
     };
     let mut element = Element::EMPTY;
     element.number = number;
@@ -131,7 +131,7 @@ fn read_argument(
     ensures { λ r. ⌜ r ≡ argumentAt kind number index (bitsTo (now (s .entry)) end) at ⌝ }
 {
     match kind {
-        ArgumentKind::NotCarried => no_element(refusal(fields::refused_at(
+        ArgumentKind::NotCarried => no_element(refusal_of(fields::refused_at(
             index,
             Fault::NotCarried,
         ))),
@@ -191,7 +191,7 @@ pub fn read_element(direction: Direction, s: &[u8], end: usize, at: usize) -> El
 {
     let index = fields::extensible_index(s, end, at, last_of(direction));
     let Field::Value(i, next) = index else {
-        return no_element(refusal(index));
+        return no_element(refusal_of(index));
     };
     let number = i as u8;
     let kind = kind_of(direction, number);

@@ -1,6 +1,7 @@
 // The values of an element and its argument. Whatever a value does not use is zero.
 ghost use mathlib.Core.Path.{_≡_};
-ghost use Rattle.elements.specs.Arguments.{levelRefusal, refusalOf, stepRefusal, timeRefusal, typeRefusal};
+ghost use Rattle.fields.specs.Fields.{refusalOf};
+ghost use Rattle.elements.specs.Arguments.{levelRefusal, stepRefusal, timeRefusal, typeRefusal};
 use fields::Field;
 use fields::Refusal;
 
@@ -128,15 +129,6 @@ pub enum Size {
 }
 
 // The refusal in an answer that is one.
-pub fn refusal(f: Field) -> Refusal
-    ensures { λ r. ⌜ r ≡ refusalOf f ⌝ }
-{
-    match f {
-        Field::Value(_, _) => Refusal::NONE,
-        Field::Refused(r) => r,
-    }
-}
-
 pub fn type_refusal(f: LevelTypeRead) -> Refusal
     ensures { λ r. ⌜ r ≡ typeRefusal f ⌝ }
 {

@@ -6,15 +6,17 @@ ghost use Rattle.bits.specs.Put.{left};
 ghost use Rattle.elements.specs.Writing.{argumentPieces, choicePiece, elementPieces, facilityPieces, levelPieces, levelTypePieces, numberPieces, putPieces, sizedPieces, timePieces};
 use crate::arguments::highest;
 use crate::arguments::lowest;
-use crate::kinds::ArgumentKind;
-use crate::kinds::Direction;
-use crate::kinds::kind_of;
+use crate::numbers::put_characters;
+use crate::numbers::put_numbers;
 use crate::reading::last_of;
 use crate::values::Element;
 use crate::values::Level;
 use crate::values::LevelType;
 use crate::values::Time;
 use bits::Put;
+use kinds::ArgumentKind;
+use kinds::Direction;
+use kinds::kind_of;
 
 fn put_level_type(buf: &mut [u8], end: usize, at: usize, x: LevelType) -> Put
     ensures { λ r. ⌜ left r (now (buf .exit)) ≡ putPieces (now (buf .entry)) end at (levelTypePieces x) ⌝ }
@@ -67,29 +69,6 @@ fn put_level(buf: &mut [u8], end: usize, at: usize, x: Level) -> Put
     first
 }
 
-pub(crate) fn wide(x: u8) -> u64
-    ensures { λ r. ⌜ r ≡ x ⌝ }
-{
-    x as u64
-}
-
-// Numbers from 0 to hi, one after another: the digits of a code, or characters.
-fn put_numbers(buf: &mut [u8], end: usize, at: usize, hi: u64, items: &[u8]) -> Put
-    ensures { λ r. ⌜ left r (now (buf .exit)) ≡ putPieces (now (buf .entry)) end at (numberPieces hi (now (items .entry))) ⌝ }
-{
-    let mut i: usize = 0;
-    let mut p = at;
-    while i < items.len() {
-        let one = fields::put_whole(buf, end, p, 0, hi, wide(items[i]));
-        let Put::Next(next) = one else {
-            return Put::Full;
-        };
-        p = next;
-        i += 1;
-    }
-    Put::Next(p)
-}
-
 // A string of a size from least to most.
 fn put_sized(buf: &mut [u8], end: usize, at: usize, least: u64, most: u64, text: &[u8]) -> Put
     ensures { λ r. ⌜ left r (now (buf .exit)) ≡ putPieces (now (buf .entry)) end at (sizedPieces least most (now (text .entry))) ⌝ }
@@ -98,7 +77,7 @@ fn put_sized(buf: &mut [u8], end: usize, at: usize, least: u64, most: u64, text:
     let Put::Next(next) = size else {
         return Put::Full;
     };
-    put_numbers(buf, end, next, Element::LAST_CHARACTER, text)
+    put_characters(buf, end, next, text)
 }
 
 // A facility: none has no characters.

@@ -5,11 +5,11 @@ use mathlib.Core.Bool.{Bool, true, false, not}
 use mathlib.Core.List.{List}
 use Prim.Native.Nat.{ℕ, zero, suc, _+_, _-_, _*_, _/_, _%_, _^_, _≤_, _<_}
 use native.Mathlib.Omega.{arith}
-use lib.Dec.{eqb}
+use lib.Dec.{eqb, ltb}
 use lib.ListN.{length, getD, drop}
 use lib.Seq.{getD-drop}
 use lib.Pow.{pow-pos}
-use borrow.Author.Tests.{le-ltb, lt-ltb, eq-eqb, ne-eqb, not-true, not-false}
+use borrow.Author.Tests.{ltb-true, ltb-false, le-ltb, lt-ltb, eq-eqb, ne-eqb, not-true, not-false}
 use Rattle.words.proofs.Laws.{cond-yes, cond-no}
 use Rattle.envelope.specs.Numbers.{numberAt}
 use Rattle.envelope.specs.Envelopes.{isKind, sizeFits, bytesFor, isPadded, then, refusedBy, bodyAt, sizeAt, jobAt, kindAt}
@@ -66,18 +66,31 @@ padded-last s at bits n b e z p =
 abbrev pub at-body : ℕ → ℕ → ℕ → ℕ → ℕ → Envelope
 at-body kind job bits at n = record { kind = kind; job = job; bits = bits; body = at; next = at + n }
 
-module _ (s : List ℕ) (kind job bits at n : ℕ) (e : n ≡ bytesFor bits) where
-  pub body-cut : length s < at + n → Refused Cut ≡ bodyAt s kind job bits at
-  unfolding bodyAt
-  body-cut h = rw (lt-ltb (length s) (at + bytesFor bits) (rw e at h))
+pub lacks-more : (l at bits n : ℕ) → n ≡ bytesFor bits → l < n → true ≡ ltb l (at + bytesFor bits)
+lacks-more l at bits n e h = sym (lt-ltb l (at + bytesFor bits) (omega (arith, e)))
 
-  pub body-is : (t : Bool) → at + n ≤ length s → t ≡ isPadded bits (drop at s) → t ≡ true → Is (at-body kind job bits at n) ≡ bodyAt s kind job bits at
-  unfolding bodyAt
-  body-is t h p q = rw (le-ltb (length s) (at + bytesFor bits) (rw e at h), ← p, q, e)
+pub lacks-there : (l at bits n : ℕ) → n ≡ bytesFor bits → n ≤ l → ltb (l - n) at ≡ ltb l (at + bytesFor bits)
+lacks-there l at bits n e h = by-test (ltb l (at + bytesFor bits)) refl
+  where
+    by-test : (u : Bool) → ltb l (at + bytesFor bits) ≡ u → ltb (l - n) at ≡ ltb l (at + bytesFor bits)
+    by-test true p = let k = ltb-true l (at + bytesFor bits) p in lt-ltb (l - n) at (omega (arith, e, k)) ∙ sym p
+    by-test false p = let k = ltb-false l (at + bytesFor bits) p in le-ltb (l - n) at (omega (arith, e, k)) ∙ sym p
 
-  pub body-loud : (t : Bool) → at + n ≤ length s → t ≡ isPadded bits (drop at s) → t ≡ false → Refused Size ≡ bodyAt s kind job bits at
+pub body-within : (l n : ℕ) (t : Bool) → t ≡ ltb l n → t ≡ false → n ≤ l
+body-within l n t e h = ltb-false l n (sym e ∙ h)
+
+module _ (s : List ℕ) (kind job bits at : ℕ) (t : Bool) (e : t ≡ ltb (length s) (at + bytesFor bits)) where
+  pub body-cut : t ≡ true → Refused Cut ≡ bodyAt s kind job bits at
   unfolding bodyAt
-  body-loud t h p q = rw (le-ltb (length s) (at + bytesFor bits) (rw e at h), ← p, q)
+  body-cut h = rw (← e, h)
+
+  pub body-is : (p : Bool) (n : ℕ) → t ≡ false → p ≡ isPadded bits (drop at s) → not p ≡ false → n ≡ bytesFor bits → Is (at-body kind job bits at n) ≡ bodyAt s kind job bits at
+  unfolding bodyAt
+  body-is p n h q k m = rw (← e, h, ← q, not-false p k, m)
+
+  pub body-loud : (p : Bool) → t ≡ false → p ≡ isPadded bits (drop at s) → not p ≡ true → Refused Size ≡ bodyAt s kind job bits at
+  unfolding bodyAt
+  body-loud p h q k = rw (← e, h, ← q, not-true p k)
 
 -- ---- a number is taken apart: its refusal goes up unchanged, or its value goes on
 

@@ -2,6 +2,7 @@ pub mod Numbers
 pub mod Fields
 pub mod Puts
 pub mod Sizes
+pub mod KindByte
 pub mod RoundTrip
 pub mod Strings
 pub mod Examples

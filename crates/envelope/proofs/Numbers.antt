@@ -263,3 +263,35 @@ module _ (s : List ℕ) (at i p v w b : ℕ) (r : Gathers s at i p v w) where
       let o : b ≡ 1 = omega arith in
       let x : v + b * w ≡ v + w = rw (o, one-mul w) in
       rw (le-ltb 1 b k, ne-eqb b 0 z, not-both (ltb 0 i), x) at (tenth h g e)
+
+-- a number of one byte
+pub one-byte : (s : List ℕ) (at b : ℕ) → at < length s → b ≡ getD s at 0 → b < 128 → Value b (at + 1) ≡ numberAt s at
+one-byte s at b g e k =
+    let v : 0 + b * 1 ≡ b = omega arith in
+    rw v at (ended s at 0 at 0 1 b (gathers-none s at) (omega arith) g e k)
+
+-- a number of two bytes, or what is no number after one that is followed
+module _ (s : List ℕ) (at b : ℕ) (g : at < length s) (e : b ≡ getD s at 0) (k : 128 ≤ b) (l : b < 256) where
+  after-one : Gathers s at 1 (at + 1) (0 + (b - 128) * 1) (1 * 128)
+  after-one = gathers-more s at 0 at 0 1 b (gathers-none s at) (omega arith) g e k l
+
+  pub one-cut : length s ≤ at + 1 → Refused Cut ≡ numberAt s at
+  one-cut h = cut-here s at 1 (at + 1) (0 + (b - 128) * 1) (1 * 128) 0 after-one h
+
+  module _ (c : ℕ) (h : at + 1 < length s) (f : c ≡ getD s (at + 1) 0) where
+    pub one-longer : c ≤ 0 → Refused Groups ≡ numberAt s at
+    one-longer z = ends-longer s at 1 (at + 1) (0 + (b - 128) * 1) (1 * 128) c after-one (omega arith) h f (omega arith) z (omega arith)
+
+    pub two-bytes : 0 < c → c < 128 → Value (b - 128 + c * 128) (at + 2) ≡ numberAt s at
+    two-bytes z m =
+        let v : 0 + (b - 128) * 1 + c * (1 * 128) ≡ b - 128 + c * 128 = omega arith in
+        let p : at + 1 + 1 ≡ at + 2 = omega arith in
+        rw (v, p) at (ends-value s at 1 (at + 1) (0 + (b - 128) * 1) (1 * 128) c after-one (omega arith) h f m z)
+
+-- a number of more bytes
+pub long-number : (s : List ℕ) (at b : ℕ) → at < length s → b ≡ getD s at 0 → 128 ≤ b → numberAt s at ≡ onward at (below (b - 128) (numberIn 8 (drop (at + 1) s)))
+unfolding numberAt
+long-number s at b g e k =
+    let r : List ℕ = drop (at + 1) s in
+    let q : numberIn 9 (getD s at 0 ∷ r) ≡ below (b - 128) (numberIn 8 r) = number-more 8 (getD s at 0) r ∙ rw (← e, le-ltb b 128 k) in
+    ap (λ (l : List ℕ). onward at (numberIn 9 l)) (front s at g) ∙ ap (onward at) q

@@ -88,9 +88,9 @@ kindAt limit s kind at = cond (isKind kind) (then (numberAt s at) (jobAt limit s
 unfoldable pub envelopeAt : ℕ → List ℕ → ℕ → EnvelopeRead
 envelopeAt limit s at = then (numberAt s at) (kindAt limit s)
 
--- a number's refusal as the envelope's, for the code's `else`; a value does not come there
+-- a number's refusal as the envelope's, for the code's `else`; the only value that comes there is no kind
 abbrev pub refusedBy : Number → EnvelopeRead
-refusedBy (num.Value v next) = Refused Cut
+refusedBy (num.Value v next) = Refused Kind
 refusedBy (num.Refused r) = Refused r
 
 -- ---- writing

@@ -5,8 +5,8 @@ use crate::EnvelopeRefusal;
 use crate::Number;
 use crate::wide;
 
-// The number at a position. Nine groups may be followed by another; the tenth has one bit.
-pub fn read_number(s: &[u8], at: usize) -> Number
+// The number at a position, of any length. Nine groups may be followed by another; the tenth has one bit.
+pub(crate) fn gathered(s: &[u8], at: usize) -> Number
     ensures { λ r. ⌜ r ≡ numberAt (now (s .entry)) at ⌝ }
 {
     let mut v: u64 = 0;
@@ -43,4 +43,28 @@ pub fn read_number(s: &[u8], at: usize) -> Number
         return Number::Refused(EnvelopeRefusal::Groups);
     }
     Number::Value(v + w, p + 1)
+}
+
+// The number at a position. Most numbers are one byte or two: a bit count is never more.
+pub fn read_number(s: &[u8], at: usize) -> Number
+    ensures { λ r. ⌜ r ≡ numberAt (now (s .entry)) at ⌝ }
+{
+    if s.len() <= at {
+        return Number::Refused(EnvelopeRefusal::Cut);
+    }
+    let b = wide(s[at]);
+    if b < 128 {
+        return Number::Value(b, at + 1);
+    }
+    if s.len() - at < 2 {
+        return Number::Refused(EnvelopeRefusal::Cut);
+    }
+    let c = wide(s[at + 1]);
+    if c < 1 {
+        return Number::Refused(EnvelopeRefusal::Groups);
+    }
+    if c < 128 {
+        return Number::Value(b - 128 + c * 128, at + 2);
+    }
+    gathered(s, at)
 }

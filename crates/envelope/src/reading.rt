@@ -1,12 +1,14 @@
 // The envelope at a position.
 ghost use mathlib.Core.Path.{_≡_};
 ghost use Prim.Native.Nat.{_+_, _≤_};
+ghost use lib.Dec.{ltb};
 ghost use lib.ListN.{length, drop};
-ghost use Rattle.envelope.specs.Envelopes.{isKind, sizeFits, bytesFor, isPadded, bodyAt, refusedBy, envelopeAt, mostBits};
+ghost use Rattle.envelope.specs.Envelopes.{isKind, sizeFits, bytesFor, isPadded, refusedBy, envelopeAt, mostBits};
 use crate::Envelope;
 use crate::EnvelopeRead;
 use crate::EnvelopeRefusal;
 use crate::Number;
+use crate::groups::gathered;
 use crate::groups::read_number;
 use crate::wide;
 
@@ -52,50 +54,39 @@ pub(crate) fn padded(s: &[u8], at: usize, bits: u64) -> bool
     wide(s[at + n - 1]) % (128 >> ((bits % 8 + 7) % 8)) == 0
 }
 
-fn read_body(s: &[u8], kind: u64, job: u64, bits: u64, at: usize) -> EnvelopeRead
-    ensures { λ r. ⌜ r ≡ bodyAt (now (s .entry)) kind job bits at ⌝ }
+// The bytes of a body are not all there.
+fn lacks_body(s: &[u8], at: usize, bits: u64) -> bool
+    ensures { λ r. ⌜ r ≡ ltb (length (now (s .entry))) (at + bytesFor bits) ⌝ }
 {
     let n = bytes_for(bits);
     if s.len() < n {
-        return EnvelopeRead::Refused(EnvelopeRefusal::Cut);
+        return true;
     }
-    if s.len() - n < at {
-        return EnvelopeRead::Refused(EnvelopeRefusal::Cut);
-    }
-    if padded(s, at, bits) {
-        return EnvelopeRead::Is(Envelope {
-            kind,
-            job,
-            bits,
-            body: at,
-            next: at + n,
-        });
-    }
-    EnvelopeRead::Refused(EnvelopeRefusal::Size)
+    s.len() - n < at
 }
 
-// A number's refusal is the envelope's.
+// A number's refusal is the envelope's; a number that came here is no kind.
 fn refused(n: Number) -> EnvelopeRead
     ensures { λ r. ⌜ r ≡ refusedBy n ⌝ }
 {
     match n {
-        Number::Value(_, _) => EnvelopeRead::Refused(EnvelopeRefusal::Cut),
+        Number::Value(_, _) => EnvelopeRead::Refused(EnvelopeRefusal::Kind),
         Number::Refused(r) => EnvelopeRead::Refused(r),
     }
 }
 
-// The envelope that begins at a position: kind number, job, bit count, body, and the first refusal among them.
+// The envelope that begins at a position: kind number, job, bit count, body, and the first refusal among them. A kind is one byte.
 pub fn read_envelope(s: &[u8], at: usize) -> EnvelopeRead
     ensures { λ r. ⌜ r ≡ envelopeAt mostBits (now (s .entry)) at ⌝ }
 {
-    let first = read_number(s, at);
-    let Number::Value(kind, p) = first else {
-        return refused(first);
-    };
-    if !is_kind(kind) {
-        return EnvelopeRead::Refused(EnvelopeRefusal::Kind);
+    if s.len() <= at {
+        return EnvelopeRead::Refused(EnvelopeRefusal::Cut);
     }
-    let second = read_number(s, p);
+    let kind = wide(s[at]);
+    if !is_kind(kind) {
+        return refused(gathered(s, at));
+    }
+    let second = read_number(s, at + 1);
     let Number::Value(job, q) = second else {
         return refused(second);
     };
@@ -109,5 +100,17 @@ pub fn read_envelope(s: &[u8], at: usize) -> EnvelopeRead
     if !size_fits(kind, bits) {
         return EnvelopeRead::Refused(EnvelopeRefusal::Size);
     }
-    read_body(s, kind, job, bits, t)
+    if lacks_body(s, t, bits) {
+        return EnvelopeRead::Refused(EnvelopeRefusal::Cut);
+    }
+    if !padded(s, t, bits) {
+        return EnvelopeRead::Refused(EnvelopeRefusal::Size);
+    }
+    EnvelopeRead::Is(Envelope {
+        kind,
+        job,
+        bits,
+        body: t,
+        next: t + bytes_for(bits),
+    })
 }

@@ -2,7 +2,7 @@
 use crate::messages::explain_message;
 use crate::pdus::explain_apdu;
 use apdu::PduType;
-use elements::kinds::Direction;
+use kinds::Direction;
 
 // What digits say, and the place after them; or none of it.
 enum Number {

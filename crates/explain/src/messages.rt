@@ -2,9 +2,6 @@
 use crate::rows::accepted;
 use crate::rows::refused;
 use crate::rows::row;
-use elements::kinds::ArgumentKind;
-use elements::kinds::Direction;
-use elements::kinds::kind_of;
 use elements::values::Element;
 use elements::values::LevelType;
 use elements::values::Step;
@@ -14,6 +11,9 @@ use inner::message::read_exactly;
 use inner::values::DateTime;
 use inner::values::Header;
 use inner::values::Message;
+use kinds::ArgumentKind;
+use kinds::Direction;
+use kinds::kind_of;
 
 fn whole(s: &[u8], end: usize, at: usize, name: &[u8], lo: u64, hi: u64) -> Field {
     row(name, at, fields::whole(s, end, at, lo, hi))

@@ -28,10 +28,20 @@ refusedAt at f = Refused (refusal at f)
 abbrev pub noRefusal : Refusal
 noRefusal = refusal 0 Short
 
--- What follows a field goes on from its value and the place after it. A refusal is handed up unchanged, and nothing further is read.
+-- the refusal in an answer that is one
+abbrev pub refusalOf : Field → Refusal
+refusalOf (Value v next) = noRefusal
+refusalOf (Refused r) = r
+
+-- What follows a field goes on from its value and the place after it. A refusal is handed up unchanged, as the answer above has it, and
+-- nothing further is read.
+abbrev pub onto : {A : Type 0} → (Refusal → A) → Field → (ℕ → ℕ → A) → A
+onto up (Value v next) k = k v next
+onto up (Refused r) k = up r
+
+-- the same, where a field is the answer above
 abbrev pub then : Field → (ℕ → ℕ → Field) → Field
-then (Value v next) k = k v next
-then (Refused r) k = Refused r
+then f k = onto Refused f k
 
 -- ---- bits and numbers
 

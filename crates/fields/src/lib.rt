@@ -21,6 +21,7 @@ pub use numbers::extension_bit;
 pub use numbers::put_extensible_index;
 pub use numbers::put_extension_bit;
 pub use numbers::put_whole;
+pub use numbers::refusal_of;
 pub use numbers::refused_at;
 pub use numbers::whole;
 pub use numbers::width;

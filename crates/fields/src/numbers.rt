@@ -5,7 +5,7 @@ ghost use Prim.Native.Nat.{_+_, _-_};
 ghost use Rattle.bits.specs.Bits.{bitsN, bitsTo};
 ghost use Rattle.bits.specs.Put.{left, putIf};
 ghost use Rattle.fields.specs.Encodings.{indexBits, wholeBits, wholeFits};
-ghost use Rattle.fields.specs.Fields.{bitField, extensibleIndex, extensionBit, refusedAt, wholeNumber, widthOf};
+ghost use Rattle.fields.specs.Fields.{bitField, extensibleIndex, extensionBit, refusalOf, refusedAt, wholeNumber, widthOf};
 use crate::Fault;
 use crate::Field;
 use crate::Refusal;
@@ -17,6 +17,16 @@ pub fn refused_at(at: usize, fault: Fault) -> Field
     ensures { λ f. ⌜ f ≡ refusedAt at fault ⌝ }
 {
     Field::Refused(Refusal { fault, at })
+}
+
+// The refusal in an answer that is one.
+pub fn refusal_of(f: Field) -> Refusal
+    ensures { λ r. ⌜ r ≡ refusalOf f ⌝ }
+{
+    match f {
+        Field::Value(_, _) => Refusal::NONE,
+        Field::Refused(r) => r,
+    }
 }
 
 // A field of n bits.

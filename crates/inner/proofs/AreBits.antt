@@ -10,14 +10,14 @@ use Rattle.bits.proofs.Numbers.{Bits, bits-bitsN}
 use Rattle.bits.proofs.Bytes.{bits-append}
 use Rattle.fields.specs.Fields.{widthOf}
 use Rattle.fields.specs.Encodings.{wholeBits, indexBits}
-use Rattle.elements.specs.declared.kinds.Direction.{Direction}
-use Rattle.elements.specs.declared.kinds.ArgumentKind.{ArgumentKind}
-use Rattle.elements.specs.declared.kinds.ArgumentKind.the-variants as kind
+use Rattle.kinds.specs.declared.Direction.{Direction}
+use Rattle.kinds.specs.declared.ArgumentKind.{ArgumentKind}
+use Rattle.kinds.specs.declared.ArgumentKind.the-variants as kind
 use Rattle.elements.specs.declared.values.LevelType.{LevelType}
 use Rattle.elements.specs.declared.values.Level.{Level}
 use Rattle.elements.specs.declared.values.Time.{Time}
 use Rattle.elements.specs.declared.values.Element.{Element}
-use Rattle.elements.specs.Elements.{kindOf}
+use Rattle.kinds.specs.Elements.{kindOf}
 use Rattle.elements.specs.Arguments.{flag, lowest, highest, levelTypeBits, levelBits, timeBits, digitsBits, charactersBits, sizedBits, facilityBits}
 use Rattle.elements.specs.OneElement.{lastOf, argumentBits, elementBits}
 use Rattle.inner.specs.declared.values.DateTime.{DateTime}

@@ -12,7 +12,7 @@ use Rattle.words.proofs.Laws.{both-left, both-right}
 use Rattle.bits.proofs.Numbers.{Bits}
 use Rattle.fields.specs.Fields.{refusal}
 use Rattle.fields.specs.declared.Fault.the-variants as fault
-use Rattle.elements.specs.declared.kinds.Direction.{Direction}
+use Rattle.kinds.specs.declared.Direction.{Direction}
 use Rattle.elements.specs.declared.values.Element.{Element}
 use Rattle.elements.specs.declared.values.Step.{Step}
 use Rattle.elements.specs.declared.values.Step.the-variants as step

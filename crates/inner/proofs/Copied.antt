@@ -3,51 +3,48 @@
 use mathlib.Core.Path.{_≡_, refl, sym, ap, _∙_}
 use mathlib.Core.Bool.{true, _&&_}
 use mathlib.Core.List.{List, [], _∷_, _++_}
-use Prim.Native.Nat.{ℕ, suc, _+_, _*_, _-_, _≤_, _<_}
+use Prim.Native.Nat.{ℕ, zero, suc, _+_, _*_, _-_, _/_, _%_, _^_, _≤_, _<_}
 use native.Mathlib.Omega.{arith}
-use native.Mathlib.Nat.{add-zero}
+use native.Mathlib.Nat.{add-zero, zero-add, suc-add}
 use lib.ListN.{length, take, drop, set, length-append}
-use lib.Seq.{sets, sets-eq, length-sets}
+use lib.Seq.{sets, sets-eq, length-sets, take-length}
 use lib.Dec.{eqb}
 use borrow.Author.Tests.{eqb-true, le-leb}
 use Rattle.words.proofs.Laws.{both-right}
-use Rattle.bits.specs.Bits.{numOf}
+use Rattle.bits.specs.Bits.{bitsN, numOf}
 use Rattle.bits.specs.Read.{readBits}
 use Rattle.bits.specs.declared.Read.{Read}
 use Rattle.bits.specs.declared.Read.the-variants.{Number, Short}
-use Rattle.bits.proofs.Numbers.{Bits}
-use Rattle.bits.proofs.Bytes.{holds-within}
-use Rattle.bits.proofs.Reading.{number-is, number-lt}
+use Rattle.bits.proofs.Numbers.{Bits, bitsN-part, num-bitsN}
+use Rattle.bits.proofs.Bytes.{holds-within, part-bits}
+use Rattle.bits.proofs.Reading.{number-is}
 use Rattle.fields.specs.Encodings.{wholeFits}
 use Rattle.fields.specs.declared.Refusal.{Refusal}
-use Rattle.elements.specs.declared.kinds.Direction.{Direction}
-use Rattle.elements.specs.declared.kinds.ArgumentKind.{ArgumentKind}
-use Rattle.elements.specs.declared.kinds.ArgumentKind.the-variants as kind
+use Rattle.kinds.specs.declared.Direction.{Direction}
+use Rattle.kinds.specs.declared.ArgumentKind.{ArgumentKind}
+use Rattle.kinds.specs.declared.ArgumentKind.the-variants as kind
 use Rattle.elements.specs.declared.values.Element.{Element}
 use Rattle.elements.specs.declared.values.ElementRead.{ElementRead}
 use Rattle.elements.specs.declared.values.Step.the-variants as step
-use Rattle.elements.specs.Elements.{kindOf}
-use Rattle.elements.specs.Arguments.{charactersIn, levelFits, timeFits, codeFits, facilityBits}
+use Rattle.kinds.specs.Elements.{kindOf}
+use Rattle.elements.specs.Arguments.{charactersBits, charactersIn, levelFits, timeFits, codeFits, facilityBits}
 use Rattle.elements.specs.OneElement.{isElement, elementAt, elementFits, elementBits, lastOf, textOf, argumentFits, argumentBits, levelUnused, levelsUnused, timeUnused, codeUnused, plain, noText}
 use Rattle.elements.proofs.Steps.{never}
 use Rattle.elements.proofs.ReadBack.{parts}
-use Rattle.elements.proofs.Texts.{length-characters, length-charactersBits}
+use Rattle.elements.proofs.Texts.{length-characters, length-charactersBits, characters-found, characters-fit, characters-stand}
 use Rattle.elements.proofs.Measured.{length-element, length-sized, length-facility}
 use Rattle.elements.proofs.Placed.{element-stands}
 use Rattle.inner.specs.Places.{ontoText, textAt}
 
--- ---- one character
+-- ---- bits that are there, as a number
 
-module _ (l : List ℕ) (at : ℕ) (r : Read) (e : r ≡ readBits l at 7) where
-  pub character-is : (v next : ℕ) → r ≡ Number v next → v ≡ numOf (take 7 (drop at l))
-  character-is v next q = number-is l at 7 v next (sym e ∙ q) .value
+module _ (l : List ℕ) (at n : ℕ) (r : Read) (e : r ≡ readBits l at n) where
+  pub number-there : (v next : ℕ) → r ≡ Number v next → v ≡ numOf (take n (drop at l))
+  number-there v next q = number-is l at n v next (sym e ∙ q) .value
 
-  pub character-small : Bits l → (v next : ℕ) → r ≡ Number v next → v < 128
-  character-small b v next q = number-lt l at 7 v next b (sym e ∙ q)
-
-  pub character-there : at + 7 ≤ length l → r ≡ Short → {A : Type 0} → A
+  pub not-short : at + n ≤ length l → n ≤ 64 → r ≡ Short → {A : Type 0} → A
   unfolding readBits
-  character-there h q = let z : Number (numOf (take 7 (drop at l))) (at + 7) ≡ Short = rw (le-leb (at + 7) (length l) h) at (sym e ∙ q) in never (cc)
+  not-short h w q = let z : Number (numOf (take n (drop at l))) (at + n) ≡ Short = rw (le-leb n 64 w, le-leb (at + n) (length l) h) at (sym e ∙ q) in never (cc)
 
 -- ---- characters one after another
 
@@ -76,6 +73,46 @@ module _ (z l o : List ℕ) (from at n i : ℕ) (inv : sets z (from + i) (charac
 
   pub characters-done : n ≤ i → z ≡ o
   characters-done h = let a : n - i ≡ 0 = omega arith in rw (a, characters-none) at inv
+
+-- ---- characters eight at a time
+
+characters-add : (l : List ℕ) (at m n : ℕ) → charactersIn l at (m + n) ≡ charactersIn l at m ++ charactersIn l (at + 7 * m) n
+characters-add l at zero n =
+    let a : at + 7 * 0 ≡ at = omega arith in
+    rw (zero-add n, characters-none, a)
+characters-add l at (suc m) n =
+    let a : at + 7 + 7 * m ≡ at + 7 * suc m = omega arith in
+    rw (suc-add m n, characters-suc, characters-suc, characters-add l (at + 7) m n, a)
+
+sets-append : (xs ys z : List ℕ) (k : ℕ) → sets z k (xs ++ ys) ≡ sets (sets z k xs) (k + length xs) ys
+sets-append [] ys z k = rw (add-zero k)
+sets-append (x ∷ xs) ys z k = let a : k + suc (length xs) ≡ suc k + length xs = omega arith in rw a (sets-append xs ys (set z k x) (suc k))
+
+pub eight-turn : (z z′ l o : List ℕ) (from at n i : ℕ) → 8 ≤ n - i → sets z (from + i) (charactersIn l (at + 7 * i) (n - i)) ≡ o → z′ ≡ sets z (from + i) (charactersIn l (at + 7 * i) 8)
+    → sets z′ (from + (i + 8)) (charactersIn l (at + 7 * (i + 8)) (n - (i + 8))) ≡ o
+eight-turn z z′ l o from at n i h inv e =
+    let a : n - i ≡ 8 + (n - (i + 8)) = omega arith in
+    let b : from + i + 8 ≡ from + (i + 8) = omega arith in
+    let c : at + 7 * i + 7 * 8 ≡ at + 7 * (i + 8) = omega arith in
+    rw e (rw (a, characters-add, sets-append, length-characters (l) (at + 7 * i) 8, b, c) at inv)
+
+-- the characters that a number says
+pub spread-at : (n v i : ℕ) → i < n → v / 2 ^ (7 * (n - 1 - i)) % 128 ≡ numOf (take 7 (drop (0 + 7 * i) (bitsN (7 * n) v)))
+spread-at n v i h =
+    let e : 7 * n ≡ 7 * i + (7 + 7 * (n - 1 - i)) = omega arith in
+    let f : 0 + 7 * i ≡ 7 * i = omega arith in
+    sym (ap (λ (j : ℕ). numOf (take 7 (drop (0 + 7 * i) (bitsN j v)))) e ∙ rw (f, bitsN-part (7 * i) 7 (7 * (n - 1 - i)) v) (num-bitsN 7 (v / 2 ^ (7 * (n - 1 - i)))))
+
+-- and those of the bits that say the number
+pub few-are : (z l t : List ℕ) (from at n k v : ℕ) → Bits l → k ≡ 7 * n → at + 7 * n ≤ length l → v ≡ numOf (take k (drop at l)) → z ≡ sets t from (charactersIn (bitsN (7 * n) v) 0 n) → z ≡ sets t from (charactersIn l at n)
+few-are z l t from at n k v b m h e q =
+    let c : length (charactersIn l at n) ≡ n = length-characters l at n in
+    let w : length (charactersBits (charactersIn l at n)) ≡ 7 * n = length-charactersBits (charactersIn l at n) ∙ ap (λ (j : ℕ). 7 * j) c in
+    let p : take (7 * n) (drop at l) ≡ bitsN (7 * n) v = part-bits l at (7 * n) b h ∙ ap (bitsN (7 * n)) (sym (rw m at e)) in
+    let y : bitsN (7 * n) v ≡ charactersBits (charactersIn l at n) = sym p ∙ (rw w at (characters-stand l at n b h)) in
+    let g : charactersIn (charactersBits (charactersIn l at n)) 0 (length (charactersIn l at n)) ≡ charactersIn l at n = characters-found (charactersBits (charactersIn l at n)) 0 (charactersIn l at n) (characters-fit l at n b h) (take-length (charactersBits (charactersIn l at n))) in
+    let o : charactersIn (bitsN (7 * n) v) 0 n ≡ charactersIn l at n = rw y (rw c at g) in
+    q ∙ ap (sets t from) o
 
 -- ---- an element's characters are the last of its bits
 
@@ -118,10 +155,6 @@ element-inside d l at next r b h q =
     record { after = omega arith; within = omega arith }
 
 -- ---- the characters of elements: those of the first i are copied, up to place k of the text
-
-sets-append : (xs ys z : List ℕ) (k : ℕ) → sets z k (xs ++ ys) ≡ sets (sets z k xs) (k + length xs) ys
-sets-append [] ys z k = rw (add-zero k)
-sets-append (x ∷ xs) ys z k = let a : k + suc (length xs) ≡ suc k + length xs = omega arith in rw a (sets-append xs ys (set z k x) (suc k))
 
 pub text-suc : (d : Direction) (l : List ℕ) (at n : ℕ) → textAt d l at (suc n) ≡ ontoText (elementAt d l at .step) (λ (next : ℕ). textOf l (elementAt d l at .element) next ++ textAt d l next n)
 unfolding textAt

@@ -9,9 +9,9 @@ use lib.Dec.{eqb}
 use Rattle.bits.specs.Bits.{bitsN, accOf, bitsOf}
 use Rattle.fields.specs.Fields.{digitsIn}
 use Rattle.fields.specs.Encodings.{wholeBits, indexBits}
-use Rattle.elements.specs.declared.kinds.Direction.the-variants.{Uplink}
+use Rattle.kinds.specs.declared.Direction.the-variants.{Uplink}
 use Rattle.inner.specs.declared.values.Message.{Message}
-use Rattle.elements.specs.Elements.{kinds, uplink, rowsOf, kindOf}
+use Rattle.kinds.specs.Elements.{kinds, uplink, rowsOf, kindOf}
 use Rattle.elements.specs.Arguments.{lowest, highest, levelTypeBits, levelBits, timeBits, digitsBits, noType}
 use Rattle.elements.specs.OneElement.{bare, withCode, lastOf, argumentBits, elementBits}
 use Rattle.inner.specs.Places.{rowBits}

@@ -11,7 +11,7 @@ use lib.Dec.{eqb, leb}
 use borrow.Author.Tests.{eqb-true, eqb-false}
 use Rattle.words.proofs.Laws.{both-left, both-right}
 use Rattle.bits.proofs.Numbers.{Bits}
-use Rattle.fields.specs.Fields.{then, refusedAt, wholeNumber}
+use Rattle.fields.specs.Fields.{then, refusedAt, wholeNumber, onto}
 use Rattle.fields.specs.Encodings.{wholeBits, wholeFits}
 use Rattle.fields.specs.declared.Refusal.{Refusal}
 use Rattle.fields.specs.declared.Fault.the-variants as fault
@@ -26,7 +26,7 @@ use Rattle.inner.specs.declared.values.DateTimeRead.the-variants as date
 use Rattle.inner.specs.declared.values.Header.{Header}
 use Rattle.inner.specs.declared.values.HeaderRead.{HeaderRead}
 use Rattle.inner.specs.declared.values.HeaderRead.the-variants as header
-use Rattle.elements.specs.Arguments.{onto, flag, timeFits, timeBits, timeAt}
+use Rattle.elements.specs.Arguments.{flag, timeFits, timeBits, timeAt}
 use Rattle.inner.specs.Headers.{dateTimeFits, dateTimeBits, ontoTimeOfDay, timeOfDayAt, dateTimeAt, presence, referenceFits, referenceBits, referenceAt, acknowledgementBits, acknowledgementAt, headerFits, headerBits, ontoDate, headerOf, datedAt, headerAt}
 use Rattle.elements.proofs.Standing.{Stands, stands-join, stands-split, stands-as, stands-nothing}
 use Rattle.elements.proofs.Steps.{never, onto-is}

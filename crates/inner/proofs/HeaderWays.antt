@@ -8,13 +8,13 @@ use native.Mathlib.Omega.{arith}
 use lib.Dec.{eqb, leb}
 use lib.ListN.{length}
 use borrow.Author.Tests.{eq-eqb, ne-eqb}
-use Rattle.fields.specs.Fields.{then, refusedAt, wholeNumber}
+use Rattle.fields.specs.Fields.{then, refusedAt, wholeNumber, refusalOf}
 use Rattle.fields.specs.declared.Refusal.{Refusal}
 use Rattle.fields.specs.declared.Fault.the-variants as fault
 use Rattle.fields.specs.declared.Field.{Field}
 use Rattle.fields.specs.declared.Field.the-variants as field
 use Rattle.fields.proofs.Answers as answers
-use Rattle.elements.specs.declared.kinds.Direction.{Direction}
+use Rattle.kinds.specs.declared.Direction.{Direction}
 use Rattle.elements.specs.declared.values.Time.{Time}
 use Rattle.elements.specs.declared.values.TimeRead.{TimeRead}
 use Rattle.elements.specs.declared.values.TimeRead.the-variants as time
@@ -28,7 +28,7 @@ use Rattle.elements.specs.declared.values.Step.{Step}
 use Rattle.elements.specs.declared.values.Step.the-variants as step
 use Rattle.inner.specs.declared.values.PlacesRead.{PlacesRead}
 use Rattle.inner.specs.declared.values.MessageRead.{MessageRead}
-use Rattle.elements.specs.Arguments.{refusalOf, timeRefusal, stepRefusal}
+use Rattle.elements.specs.Arguments.{timeRefusal, stepRefusal}
 use Rattle.inner.specs.Headers.{dateRefusal, headerRefusal, ontoTimeOfDay, ontoDate, referenceAt, acknowledgementAt}
 use Rattle.inner.specs.Messages.{noMessage, messageOf, ontoHeader, messageAt, exactly}
 use Rattle.elements.proofs.Steps.{never}

@@ -11,12 +11,12 @@ use lib.Dec.{eqb}
 use borrow.Author.Tests.{eqb-true, eq-eqb}
 use Rattle.words.proofs.Laws.{both-left, both-right}
 use Rattle.bits.proofs.Numbers.{Bits, length-bitsN}
-use Rattle.fields.specs.Fields.{refusedAt, wholeNumber, digitsIn}
+use Rattle.fields.specs.Fields.{refusedAt, wholeNumber, digitsIn, onto, refusalOf}
 use Rattle.fields.specs.Encodings.{wholeBits, wholeFits}
 use Rattle.fields.specs.declared.Refusal.{Refusal}
 use Rattle.fields.specs.declared.Fault.the-variants as fault
 use Rattle.fields.specs.declared.Field.the-variants as field
-use Rattle.elements.specs.declared.kinds.Direction.{Direction}
+use Rattle.kinds.specs.declared.Direction.{Direction}
 use Rattle.inner.specs.declared.values.Header.{Header}
 use Rattle.inner.specs.declared.values.HeaderRead.{HeaderRead}
 use Rattle.inner.specs.declared.values.HeaderRead.the-variants as header
@@ -25,7 +25,6 @@ use Rattle.elements.specs.declared.values.Element.{Element}
 use Rattle.inner.specs.declared.values.PlacesRead.{PlacesRead}
 use Rattle.inner.specs.declared.values.Message.{Message}
 use Rattle.inner.specs.declared.values.MessageRead.{MessageRead}
-use Rattle.elements.specs.Arguments.{onto, refusalOf}
 use Rattle.elements.specs.OneElement.{bare, noLevel, noTime, noDigits, plain, levelsUnused, levelUnused, timeUnused, zeros, codeUnused}
 use Rattle.inner.specs.Headers.{headerFits, headerBits, headerAt}
 use Rattle.inner.specs.Places.{Row, these, refused, rowAt, textAt, rowFits, rowBits, laid}

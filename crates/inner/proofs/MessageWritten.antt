@@ -19,7 +19,7 @@ use Rattle.bits.proofs.Bytes.{length-to}
 use Rattle.bits.proofs.Putting.{put-append, put-fits, put-if-yes, length-put}
 use Rattle.fields.specs.Encodings.{wholeFits}
 use Rattle.fields.proofs.Writers.{as-number}
-use Rattle.elements.specs.declared.kinds.Direction.{Direction}
+use Rattle.kinds.specs.declared.Direction.{Direction}
 use Rattle.elements.specs.declared.values.Element.{Element}
 use Rattle.elements.specs.declared.values.Size.{Size}
 use Rattle.elements.specs.declared.values.Size.the-variants as size

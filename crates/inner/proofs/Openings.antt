@@ -14,7 +14,7 @@ use Rattle.bits.proofs.Numbers.{Bits}
 use Rattle.bits.proofs.Bytes.{bits-to}
 use Rattle.bits.proofs.Inside.{same-leb}
 use Rattle.fields.specs.declared.Refusal.{Refusal}
-use Rattle.elements.specs.declared.kinds.Direction.{Direction}
+use Rattle.kinds.specs.declared.Direction.{Direction}
 use Rattle.elements.specs.declared.values.Step.the-variants as step
 use Rattle.elements.specs.Arguments.{stepRefusal}
 use Rattle.inner.specs.declared.values.Header.{Header}

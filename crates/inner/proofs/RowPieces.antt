@@ -15,12 +15,12 @@ use Rattle.words.proofs.Laws.{both-left, both-right}
 use Rattle.bits.specs.Put.{Left, left}
 use Rattle.bits.specs.declared.Put.{Put}
 use Rattle.bits.specs.declared.Put.the-variants.{Next, Full}
-use Rattle.elements.specs.declared.kinds.Direction.{Direction}
+use Rattle.kinds.specs.declared.Direction.{Direction}
 use Rattle.elements.specs.declared.values.Element.{Element}
 use Rattle.elements.specs.Writing.{putPieces, piecesFit, piecesBits, elementPieces}
 use Rattle.elements.specs.OneElement.{elementFits, elementBits, lastOf}
-use Rattle.elements.specs.Elements.{kindOf}
-use Rattle.elements.specs.declared.kinds.Direction.the-variants.{Downlink, Uplink}
+use Rattle.kinds.specs.Elements.{kindOf}
+use Rattle.kinds.specs.declared.Direction.the-variants.{Downlink, Uplink}
 use Rattle.elements.specs.declared.values.Size.{Size}
 use Rattle.elements.specs.declared.values.Size.the-variants as size
 use Rattle.fields.specs.Fields.{digitsIn, widthOf}

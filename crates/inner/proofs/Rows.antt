@@ -9,7 +9,7 @@ use lib.ListN.{length, take, drop, take-append-drop}
 use lib.Seq.{take-at, drop-at}
 use Rattle.bits.proofs.Numbers.{Bits}
 use Rattle.fields.specs.declared.Refusal.{Refusal}
-use Rattle.elements.specs.declared.kinds.Direction.{Direction}
+use Rattle.kinds.specs.declared.Direction.{Direction}
 use Rattle.elements.specs.declared.values.Step.{Step}
 use Rattle.elements.specs.declared.values.Step.the-variants as step
 use Rattle.elements.specs.declared.values.Element.{Element}

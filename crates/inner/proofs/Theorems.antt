@@ -18,12 +18,12 @@ use Rattle.bits.proofs.Numbers.{Bits, length-bitsN}
 use Rattle.bits.proofs.Bytes.{bits-to, length-to}
 use Rattle.bits.proofs.Putting.{read-back, length-put}
 use Rattle.fields.specs.Encodings.{wholeFits}
-use Rattle.elements.specs.declared.kinds.Direction.{Direction}
-use Rattle.elements.specs.declared.kinds.ArgumentKind.the-variants as kind
+use Rattle.kinds.specs.declared.Direction.{Direction}
+use Rattle.kinds.specs.declared.ArgumentKind.the-variants as kind
 use Rattle.elements.specs.declared.values.Element.{Element}
 use Rattle.elements.specs.declared.values.Step.{Step}
 use Rattle.elements.specs.declared.values.Step.the-variants as step
-use Rattle.elements.specs.Elements.{kindOf}
+use Rattle.kinds.specs.Elements.{kindOf}
 use Rattle.elements.specs.Measuring.{indexWidth, largestOf}
 use Rattle.elements.specs.OneElement.{bare, lastOf, argumentFits, elementFits, elementBits}
 use Rattle.elements.proofs.Largest.{element-largest, most, largest, largest-fits, largest-reached}

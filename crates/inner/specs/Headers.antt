@@ -3,7 +3,7 @@ use Prim.Native.Nat.{ℕ, _+_, _*_, _%_}
 use mathlib.Core.List.{List, [], _++_}
 use mathlib.Core.Bool.{Bool, true, false, cond, _&&_}
 use lib.Dec.{eqb, leb}
-use Rattle.fields.specs.Fields.{noRefusal, then, refusedAt, wholeNumber}
+use Rattle.fields.specs.Fields.{noRefusal, then, refusedAt, wholeNumber, onto}
 use Rattle.fields.specs.Encodings.{wholeBits, wholeFits}
 use Rattle.fields.specs.declared.Refusal.{Refusal}
 use Rattle.fields.specs.declared.Fault.the-variants as fault
@@ -18,7 +18,7 @@ use Rattle.inner.specs.declared.values.DateTimeRead.the-variants as date
 use Rattle.inner.specs.declared.values.Header.{Header}
 use Rattle.inner.specs.declared.values.HeaderRead.{HeaderRead}
 use Rattle.inner.specs.declared.values.HeaderRead.the-variants as header
-use Rattle.elements.specs.Arguments.{onto, flag, timeFits, timeBits, timeAt}
+use Rattle.elements.specs.Arguments.{flag, timeFits, timeBits, timeAt}
 
 -- the refusal in an answer that is one
 abbrev pub dateRefusal : DateTimeRead → Refusal

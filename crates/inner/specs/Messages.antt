@@ -7,11 +7,11 @@ use lib.Dec.{eqb, leb, ltb}
 use Rattle.words.specs.Limits as limits
 use Rattle.bits.specs.Bits.{bitsN, bitsTo}
 use Rattle.bits.specs.Put.{putBits}
-use Rattle.fields.specs.Fields.{refusedAt, wholeNumber}
+use Rattle.fields.specs.Fields.{refusedAt, wholeNumber, onto, refusalOf}
 use Rattle.fields.specs.Encodings.{wholeBits, wholeFits}
 use Rattle.fields.specs.declared.Refusal.{Refusal}
 use Rattle.fields.specs.declared.Fault.the-variants as fault
-use Rattle.elements.specs.declared.kinds.Direction.{Direction}
+use Rattle.kinds.specs.declared.Direction.{Direction}
 use Rattle.inner.specs.declared.values.Header.{Header}
 use Rattle.inner.specs.declared.values.HeaderRead.{HeaderRead}
 use Rattle.inner.specs.declared.values.HeaderRead.the-variants as header
@@ -26,7 +26,6 @@ use Rattle.inner.specs.declared.values.Opened.{Opened}
 use Rattle.inner.specs.declared.values.Opened.the-variants as opened
 use Rattle.inner.specs.declared.values.MessageWritten.{MessageWritten}
 use Rattle.inner.specs.declared.values.MessageWritten.the-variants as written
-use Rattle.elements.specs.Arguments.{onto, refusalOf}
 use Rattle.elements.specs.OneElement.{bare, noTime, plain}
 use Rattle.inner.specs.Headers.{headerFits, headerBits, headerAt}
 use Rattle.inner.specs.Places.{Row, rowAt, textAt, rowFits, rowBits, laid}

@@ -3,7 +3,7 @@ use Prim.Native.Nat.{ℕ}
 use mathlib.Core.List.{List, [], _∷_, _++_}
 use mathlib.Core.Bool.{Bool, cond}
 use lib.ListN.{take, drop}
-use Rattle.elements.specs.declared.kinds.Direction.{Direction}
+use Rattle.kinds.specs.declared.Direction.{Direction}
 use Rattle.elements.specs.declared.values.Element.{Element}
 use Rattle.elements.specs.Writing.{Piece, whole, timePieces, elementPieces}
 use Rattle.inner.specs.declared.values.DateTime.{DateTime}

@@ -4,12 +4,12 @@ ghost use Prim.Native.Nat.{_≤_};
 ghost use Rattle.bits.specs.Bits.{bitsTo};
 ghost use Rattle.inner.specs.Places.{laid, noPlaces, rowAt};
 use crate::values::PlacesRead;
-use elements::kinds::Direction;
 use elements::reading::read_element;
 use elements::values::Element;
 use elements::values::Step;
 use elements::values::step_refusal;
 use fields::Refusal;
+use kinds::Direction;
 
 fn no_places(r: Refusal) -> PlacesRead
     ensures { λ x. ⌜ x ≡ noPlaces r ⌝ }

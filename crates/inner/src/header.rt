@@ -9,10 +9,10 @@ use crate::values::HeaderRead;
 use crate::values::date_refusal;
 use elements::arguments::read_time;
 use elements::values::TimeRead;
-use elements::values::refusal;
 use elements::values::time_refusal;
 use fields::Fault;
 use fields::Field;
+use fields::refusal_of;
 
 // The time that follows a date.
 fn read_time_of_day(s: &[u8], end: usize, year: u16, month: u8, day: u8, at: usize) -> DateTimeRead
@@ -24,7 +24,7 @@ fn read_time_of_day(s: &[u8], end: usize, year: u16, month: u8, day: u8, at: usi
     };
     let last = fields::whole(s, end, from, 0, DateTime::LAST_SECOND);
     let Field::Value(seconds, next) = last else {
-        return DateTimeRead::Refused(refusal(last));
+        return DateTimeRead::Refused(refusal_of(last));
     };
     DateTimeRead::Got(
         DateTime {
@@ -43,15 +43,15 @@ fn read_date_time(s: &[u8], end: usize, at: usize) -> DateTimeRead
 {
     let first = fields::whole(s, end, at, DateTime::FIRST_YEAR, DateTime::LAST_YEAR);
     let Field::Value(year, p) = first else {
-        return DateTimeRead::Refused(refusal(first));
+        return DateTimeRead::Refused(refusal_of(first));
     };
     let second = fields::whole(s, end, p, 1, DateTime::LAST_MONTH);
     let Field::Value(month, q) = second else {
-        return DateTimeRead::Refused(refusal(second));
+        return DateTimeRead::Refused(refusal_of(second));
     };
     let third = fields::whole(s, end, q, 1, DateTime::LAST_DAY);
     let Field::Value(day, r) = third else {
-        return DateTimeRead::Refused(refusal(third));
+        return DateTimeRead::Refused(refusal_of(third));
     };
     read_time_of_day(s, end, year as u16, month as u8, day as u8, r)
 }
@@ -100,7 +100,7 @@ fn read_dated(
     };
     let last = read_acknowledgement(s, end, from, acknowledged);
     let Field::Value(_, next) = last else {
-        return HeaderRead::Refused(refusal(last));
+        return HeaderRead::Refused(refusal_of(last));
     };
     HeaderRead::Got(
         Header {
@@ -119,16 +119,16 @@ pub fn read_header(s: &[u8], end: usize, at: usize) -> HeaderRead
 {
     let presence = fields::whole(s, end, at, 0, 3);
     let Field::Value(present, p) = presence else {
-        return HeaderRead::Refused(refusal(presence));
+        return HeaderRead::Refused(refusal_of(presence));
     };
     let number = fields::whole(s, end, p, 0, Header::LAST_NUMBER);
     let Field::Value(identification, q) = number else {
-        return HeaderRead::Refused(refusal(number));
+        return HeaderRead::Refused(refusal_of(number));
     };
     let referenced = 2 <= present;
     let other = read_reference(s, end, q, referenced);
     let Field::Value(reference, r) = other else {
-        return HeaderRead::Refused(refusal(other));
+        return HeaderRead::Refused(refusal_of(other));
     };
     read_dated(
         s,

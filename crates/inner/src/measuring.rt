@@ -11,11 +11,12 @@ ghost use Rattle.inner.specs.Places.{rowBits, rowFits};
 use crate::values::DateTime;
 use crate::values::Header;
 use crate::values::Message;
-use elements::kinds::Direction;
 use elements::measuring::element_bits;
+use elements::measuring::is_plain;
 use elements::values::Element;
 use elements::values::Size;
 use elements::values::Time;
+use kinds::Direction;
 
 // Whether a whole number lies in a range.
 fn in_range(lo: u64, hi: u64, v: u64) -> bool
@@ -127,30 +128,27 @@ fn row_bits(direction: Direction, m: Message, text: &[u8]) -> Size
     Size::Shape
 }
 
-// Number 0 takes no argument in either direction, so an empty place is that element and no character.
-fn is_empty(direction: Direction, e: Element, text: &[u8]) -> bool
+fn is_empty(e: Element) -> bool
     ensures { λ r. ⌜ r ≡ empty e ⌝ }
 {
-    let none: usize = 0;
-    if e.number == 0 {
-        let size = element_bits(direction, e, &text[none..none]);
-        let Size::Bits(_) = size else {
-            return false;
-        };
-        return true;
+    if e.number != 0 {
+        return false;
     }
-    false
+    if e.characters != 0 {
+        return false;
+    }
+    is_plain(e)
 }
 
 // The places that the elements of a message leave are empty.
-fn rest_empty(direction: Direction, m: Message, text: &[u8]) -> bool
+fn rest_empty(m: Message) -> bool
     requires { ⌜ m .count ≤ 5 ⌝ }
     ensures { λ r. ⌜ r ≡ allEmpty (drop (m .count) (m .places)) ⌝ }
 {
     let mut i = m.count;
     while i < Message::PLACES {
         let e = m.places[i];
-        if !is_empty(direction, e, text) {
+        if !is_empty(e) {
             return false;
         }
         i += 1;
@@ -175,7 +173,7 @@ pub fn message_bits(direction: Direction, m: Message, text: &[u8]) -> Size
     let Size::Bits(b) = rest else {
         return Size::Shape;
     };
-    if !rest_empty(direction, m, text) {
+    if !rest_empty(m) {
         return Size::Shape;
     }
     let all = a + Message::BETWEEN + b;

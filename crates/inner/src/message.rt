@@ -9,13 +9,13 @@ use crate::values::HeaderRead;
 use crate::values::Message;
 use crate::values::MessageRead;
 use crate::values::header_refusal;
-use elements::kinds::Direction;
 use elements::values::Step;
-use elements::values::refusal;
 use elements::values::step_refusal;
 use fields::Fault;
 use fields::Field;
 use fields::Refusal;
+use fields::refusal_of;
+use kinds::Direction;
 
 fn no_message(r: Refusal) -> MessageRead
     ensures { λ x. ⌜ x ≡ noMessage r ⌝ }
@@ -32,12 +32,12 @@ fn read_body(direction: Direction, s: &[u8], end: usize, header: Header, at: usi
 {
     let presence = fields::whole(s, end, at, 0, 1);
     let Field::Value(constrained, p) = presence else {
-        return no_message(refusal(presence));
+        return no_message(refusal_of(presence));
     };
     if constrained == 0 {
         let size = fields::whole(s, end, p, 1, 5);
         let Field::Value(n, q) = size else {
-            return no_message(refusal(size));
+            return no_message(refusal_of(size));
         };
         let row = read_places(direction, s, end, q, n as usize);
         let step = row.step;
@@ -54,7 +54,7 @@ fn read_body(direction: Direction, s: &[u8], end: usize, header: Header, at: usi
             },
         };
     }
-    no_message(refusal(fields::refused_at(at, Fault::NotCarried)))
+    no_message(refusal_of(fields::refused_at(at, Fault::NotCarried)))
 }
 
 // The message at a place; what follows it is not looked at.
@@ -78,7 +78,7 @@ pub fn read_exactly(direction: Direction, s: &[u8], end: usize) -> MessageRead
         return no_message(step_refusal(step));
     };
     if bits::within(s.len(), end, next, 1) {
-        return no_message(refusal(fields::refused_at(next, Fault::Tail)));
+        return no_message(refusal_of(fields::refused_at(next, Fault::Tail)));
     }
     all
 }

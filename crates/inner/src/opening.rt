@@ -4,7 +4,7 @@ ghost use mathlib.Core.Path.{_≡_};
 ghost use Prim.Native.Nat.{_+_, _*_, _^_, _≤_, _<_};
 ghost use lib.ListN.{drop, length, take};
 ghost use lib.Seq.{sets};
-ghost use Rattle.bits.specs.Bits.{bitsTo, numOf};
+ghost use Rattle.bits.specs.Bits.{bitsN, bitsTo, numOf};
 ghost use Rattle.elements.specs.Arguments.{charactersIn};
 ghost use Rattle.inner.specs.Messages.{elementsText, notOpened, openMessage, opening};
 ghost use Rattle.inner.specs.Places.{textAt};
@@ -15,34 +15,62 @@ use crate::values::Message;
 use crate::values::MessageOpened;
 use crate::values::Opened;
 use bits::Read;
-use elements::kinds::Direction;
 use elements::reading::read_element;
 use elements::values::Element;
 use elements::values::Step;
 use elements::values::step_refusal;
+use kinds::Direction;
 
-// One character, in seven bits that are there.
-fn character(s: &[u8], end: usize, at: usize) -> u8
-    requires { ⌜ at + 7 ≤ length (bitsTo (now s) end) ⌝ }
-    ensures { λ r. ⌜ r ≡ numOf (take 7 (drop at (bitsTo (now (s .entry)) end))) ⌝ }
+// The number that n bits say that are there, at most 64.
+fn number_of(s: &[u8], end: usize, at: usize, n: usize) -> u64
+    requires { ⌜ (at + n ≤ length (bitsTo (now s) end)) × (n ≤ 64) ⌝ }
+    ensures { λ r. ⌜ r ≡ numOf (take n (drop at (bitsTo (now (s .entry)) end))) ⌝ }
 {
-    let Read::Number(v, _) = bits::read_bits(s, end, at, Element::CHARACTER_BITS) else {
+    let Read::Number(v, _) = bits::read_bits(s, end, at, n) else {
         return 0;
     };
-    v as u8
+    v
 }
 
-// The n characters at a place, into the text from a place on.
+// The n characters that a number of 7 n bits says, at most eight, into the text from a place on.
+fn spread(text: &mut [u8], from: usize, n: usize, v: u64)
+    requires { ⌜ (from + n ≤ length (now text)) × (n ≤ 8) ⌝ }
+    ensures { λ r. ⌜ now (text .exit) ≡ sets (now (text .entry)) from (charactersIn (bitsN (7 * n) v) 0 n) ⌝ }
+{
+    let mut i: usize = 0;
+    while i < n {
+        text[from + i] = ((v >> (Element::CHARACTER_BITS * (n - 1 - i))) % 128) as u8;
+        i += 1;
+    }
+}
+
+// The n characters at a place, at most eight, as one number.
+fn copy_few(s: &[u8], end: usize, at: usize, n: usize, text: &mut [u8], from: usize)
+    requires { ⌜ (at + 7 * n ≤ length (bitsTo (now s) end)) × (from + n ≤ length (now text)) × (n ≤ 8) ⌝ }
+    ensures { λ r. ⌜ now (text .exit) ≡ sets (now (text .entry)) from (charactersIn (bitsTo (now (s .entry)) end) at n) ⌝ }
+{
+    let v = number_of(s, end, at, Element::CHARACTER_BITS * n);
+    spread(text, from, n, v);
+}
+
+// The n characters at a place, eight at a time, into the text from a place on.
 fn copy_characters(s: &[u8], end: usize, at: usize, n: usize, text: &mut [u8], from: usize)
     requires { ⌜ (at + 7 * n ≤ length (bitsTo (now s) end)) × (from + n ≤ length (now text)) ⌝ }
     ensures { λ r. ⌜ now (text .exit) ≡ sets (now (text .entry)) from (charactersIn (bitsTo (now (s .entry)) end) at n) ⌝ }
 {
     let mut i: usize = 0;
-    while i < n {
-        let p = at + Element::CHARACTER_BITS * i;
-        text[from + i] = character(s, end, p);
-        i += 1;
+    while 8 <= n - i {
+        copy_few(s, end, at + Element::CHARACTER_BITS * i, 8, text, from + i);
+        i += 8;
     }
+    copy_few(
+        s,
+        end,
+        at + Element::CHARACTER_BITS * i,
+        n - i,
+        text,
+        from + i,
+    );
 }
 
 // The characters of n elements, from the text's first byte on, where it has room for them; how many there are.

@@ -15,10 +15,10 @@ use crate::values::Header;
 use crate::values::Message;
 use crate::values::MessageWritten;
 use bits::Put;
-use elements::kinds::Direction;
 use elements::values::Size;
 use elements::values::Time;
 use elements::writing::put_element;
+use kinds::Direction;
 
 // Two whole numbers, one after the other.
 fn put_two(

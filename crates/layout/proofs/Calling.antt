@@ -17,7 +17,7 @@ use Rattle.fields.specs.Refusals.{packed}
 use Rattle.fields.specs.declared.Refusal.{Refusal}
 use Rattle.fields.specs.Fields.{refusal}
 use Rattle.fields.specs.declared.Fault.the-variants as fault
-use Rattle.elements.specs.declared.kinds.Direction.{Direction}
+use Rattle.kinds.specs.declared.Direction.{Direction}
 use Rattle.elements.specs.declared.values.Step.{Step}
 use Rattle.elements.specs.declared.values.Step.the-variants as step
 use Rattle.inner.specs.Messages.{noMessage, endedAt, messageAt, exactly, isMessage, messageText, messageFits, messageBits, bitsMost, roomLeast, padded, opening, Opening, notOpened, openedAs, openMessage, done, Done, writeMessage, messageCarried}

@@ -13,7 +13,7 @@ use Rattle.bits.specs.Bits.{bitsTo}
 use Rattle.bits.specs.Put.{putBits}
 use Rattle.bits.proofs.Bytes.{Bytes}
 use Rattle.fields.proofs.Numbering.{packed-refuses}
-use Rattle.elements.specs.declared.kinds.Direction.{Direction}
+use Rattle.kinds.specs.declared.Direction.{Direction}
 use Rattle.inner.specs.Messages.{roomLeast, padded, openMessage, writeMessage}
 use Rattle.inner.specs.declared.values.Message.{Message}
 use Rattle.inner.specs.declared.values.MessageOpened.{MessageOpened}

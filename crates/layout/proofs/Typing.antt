@@ -11,12 +11,12 @@ use lib.ListN.{length, getD, take, drop, take-append-drop}
 use Rattle.words.proofs.Laws.{both-left, both-right}
 use Rattle.fields.specs.Encodings.{wholeFits}
 use Rattle.elements.specs.Arguments.{lowest, highest, levelTypeFits, levelFits, noType, same?, timeFits, digitsFit, codeFits, charactersFit, sizedFits, facilityFits, atisFits}
-use Rattle.elements.specs.Elements.{kindOf}
+use Rattle.kinds.specs.Elements.{kindOf}
 use Rattle.elements.specs.OneElement.{noLevel, noTime, noDigits, lastOf, levelUnused, timeUnused, codeUnused, levelsUnused, plain, noText, argumentFits, elementFits}
-use Rattle.elements.specs.declared.kinds.Direction.{Direction}
-use Rattle.elements.specs.declared.kinds.Direction.the-variants.{Downlink, Uplink}
-use Rattle.elements.specs.declared.kinds.ArgumentKind.{ArgumentKind}
-use Rattle.elements.specs.declared.kinds.ArgumentKind.the-variants as kind
+use Rattle.kinds.specs.declared.Direction.{Direction}
+use Rattle.kinds.specs.declared.Direction.the-variants.{Downlink, Uplink}
+use Rattle.kinds.specs.declared.ArgumentKind.{ArgumentKind}
+use Rattle.kinds.specs.declared.ArgumentKind.the-variants as kind
 use Rattle.elements.specs.declared.values.LevelType.{LevelType}
 use Rattle.elements.specs.declared.values.Level.{Level}
 use Rattle.elements.specs.declared.values.Time.{Time}

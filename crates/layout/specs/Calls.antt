@@ -8,7 +8,7 @@ use lib.Dec.{ltb, eqb}
 use lib.ListN.{length}
 use Rattle.words.specs.Limits.{room, shape}
 use Rattle.fields.specs.Refusals.{packed}
-use Rattle.elements.specs.declared.kinds.Direction.the-variants.{Downlink, Uplink}
+use Rattle.kinds.specs.declared.Direction.the-variants.{Downlink, Uplink}
 use Rattle.inner.specs.Messages.{roomLeast, Opening, openMessage, Done, writeMessage}
 use Rattle.inner.specs.declared.values.Message.{Message}
 use Rattle.inner.specs.declared.values.Opened.{Opened}

@@ -4,12 +4,12 @@ ghost use Rattle.layout.specs.Calls.{readCall, sent, told, wayOf, writeC
 use crate::stored::Laid;
 use crate::stored::load_message;
 use crate::stored::store_message;
-use elements::kinds::Direction;
 use inner::opening::open_message;
 use inner::values::Message;
 use inner::values::MessageWritten;
 use inner::values::Opened;
 use inner::writing::write_message;
+use kinds::Direction;
 use words::Limit;
 
 // The direction that a number names: 1 is the downlink, 2 the uplink.

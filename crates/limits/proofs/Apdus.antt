@@ -10,7 +10,7 @@ use borrow.Author.Tests.{le-leb, leb-true}
 use lib.Dec.{leb, eqb}
 use lib.ListN.{length}
 use Rattle.words.proofs.Laws.{both-right}
-use Rattle.fields.specs.Fields.{refusal, refusedAt, then, bitField, extensibleIndex, lengthAt, lengthWithin, runAt, contentsAt, stringAt}
+use Rattle.fields.specs.Fields.{refusal, refusedAt, then, bitField, extensibleIndex, lengthAt, lengthWithin, runAt, contentsAt, stringAt, onto}
 use Rattle.fields.specs.declared.Refusal.{Refusal}
 use Rattle.fields.specs.declared.Fault.the-variants.{Limit}
 use Rattle.fields.specs.declared.Field.{Field}
@@ -19,7 +19,7 @@ use Rattle.fields.proofs.Answers.{run-is}
 use Rattle.fields.proofs.RoundTrip.{via, if-value}
 use Rattle.apdu.specs.Sizes.{identifierLeast, identifierMost, checkMost, userLast, providerLast, octet, bit}
 use Rattle.apdu.specs.Headings.{responseLast}
-use Rattle.apdu.specs.Reading.{onField, onData, onTaken, onHeading, onForward, onLead, optionalAt, partAt, spanTo, partsWithin, withAdditions, dataWithin, headingAt, forwardWithin, leadingAt, tailAt, endedAt, restWithin, apduWithin, wholeWithin, wholeForwardWithin}
+use Rattle.apdu.specs.Reading.{onData, onTaken, onHeading, onForward, onLead, optionalAt, partAt, spanTo, partsWithin, withAdditions, dataWithin, headingAt, forwardWithin, leadingAt, tailAt, endedAt, restWithin, apduWithin, wholeWithin, wholeForwardWithin}
 use Rattle.apdu.specs.declared.PduType.{PduType}
 use Rattle.apdu.specs.declared.Kind.{Kind}
 use Rattle.apdu.specs.declared.Kind.the-variants as kind
@@ -53,7 +53,7 @@ handed up on f hands a b (inl e) = inl (ap f e)
 handed up on f hands a b (inr x) = inr (record { at = x .at; is = ap f (x .is) ∙ hands (refusal (x .at) Limit) })
 
 -- behind a field that both read alike
-behind : {B : Type 0} (on : Refusal → B) (f : Field) (j k : ℕ → ℕ → B) → ((v n : ℕ) → Meets on (j v n) (k v n)) → Meets on (onField on f j) (onField on f k)
+behind : {B : Type 0} (on : Refusal → B) (f : Field) (j k : ℕ → ℕ → B) → ((v n : ℕ) → Meets on (j v n) (k v n)) → Meets on (onto on f j) (onto on f k)
 behind on (Value v n) j k go = go v n
 behind on (Refused r) j k go = inl refl
 
@@ -92,8 +92,8 @@ module _ (low high : ℕ) (less : low ≤ high) (l : List ℕ) where
   unfolding partsWithin
   parts-meets at i m =
       behind taken.Refused (optionalAt l i at octet identifierLeast identifierMost) _ _ (λ (octets p : ℕ).
-      handed Refused taken.Refused (λ (f : Field). onField taken.Refused f (λ (bits q : ℕ).
-      onField taken.Refused (stringAt l q bit 0 checkMost) (λ (n next : ℕ).
+      handed Refused taken.Refused (λ (f : Field). onto taken.Refused f (λ (bits q : ℕ).
+      onto taken.Refused (stringAt l q bit 0 checkMost) (λ (n next : ℕ).
       taken.Is (record { identifier = partAt i octet octets p; message = partAt m bit bits q; check = spanTo bit n next }) next)))
       (λ (r : Refusal). refl) _ _ (optional-meets m p bit 0))
 
@@ -116,10 +116,10 @@ module _ (low high : ℕ) (less : low ≤ high) (l : List ℕ) where
   forward-meets at = go (headingAt l at)
     where
       go : (x : Headed)
-          → Meets forwarded.Refused (onHeading x (λ (h : Heading) (p : ℕ). onField forwarded.Refused (stringAt l p bit 0 low) (λ (n next : ℕ). forwarded.Is (record { heading = h; message = spanTo bit n next }) next)))
-          (onHeading x (λ (h : Heading) (p : ℕ). onField forwarded.Refused (stringAt l p bit 0 high) (λ (n next : ℕ). forwarded.Is (record { heading = h; message = spanTo bit n next }) next)))
+          → Meets forwarded.Refused (onHeading x (λ (h : Heading) (p : ℕ). onto forwarded.Refused (stringAt l p bit 0 low) (λ (n next : ℕ). forwarded.Is (record { heading = h; message = spanTo bit n next }) next)))
+          (onHeading x (λ (h : Heading) (p : ℕ). onto forwarded.Refused (stringAt l p bit 0 high) (λ (n next : ℕ). forwarded.Is (record { heading = h; message = spanTo bit n next }) next)))
       go (headed.Is h p) =
-          handed Refused forwarded.Refused (λ (f : Field). onField forwarded.Refused f (λ (n next : ℕ). forwarded.Is (record { heading = h; message = spanTo bit n next }) next)) (λ (r : Refusal). refl) _ _ (string-meets p bit 0)
+          handed Refused forwarded.Refused (λ (f : Field). onto forwarded.Refused f (λ (n next : ℕ). forwarded.Is (record { heading = h; message = spanTo bit n next }) next)) (λ (r : Refusal). refl) _ _ (string-meets p bit 0)
       go (headed.Refused r) = inl refl
 
   -- ---- an APDU
@@ -145,13 +145,13 @@ module _ (low high : ℕ) (less : low ≤ high) (l : List ℕ) where
   -- and to message data by itself
   pub whole-meets : Meets taken.Refused (wholeWithin low l) (wholeWithin high l)
   unfolding wholeWithin
-  whole-meets = handed taken.Refused taken.Refused (λ (t : Taken). onTaken t (λ (d : Data) (next : ℕ). onField taken.Refused (tailAt l next) (λ (v m : ℕ). taken.Is d next))) (λ (r : Refusal). refl) _ _ (data-meets 0)
+  whole-meets = handed taken.Refused taken.Refused (λ (t : Taken). onTaken t (λ (d : Data) (next : ℕ). onto taken.Refused (tailAt l next) (λ (v m : ℕ). taken.Is d next))) (λ (r : Refusal). refl) _ _ (data-meets 0)
 
   -- and to a forward message by itself
   pub forward-whole-meets : Meets forwarded.Refused (wholeForwardWithin low l) (wholeForwardWithin high l)
   unfolding wholeForwardWithin
   forward-whole-meets =
-      handed forwarded.Refused forwarded.Refused (λ (t : Forwarded). onForward forwarded.Refused t (λ (f : Forward) (next : ℕ). onField forwarded.Refused (tailAt l next) (λ (v m : ℕ). forwarded.Is f next))) (λ (r : Refusal). refl) _ _ (forward-meets 0)
+      handed forwarded.Refused forwarded.Refused (λ (t : Forwarded). onForward forwarded.Refused t (λ (f : Forward) (next : ℕ). onto forwarded.Refused (tailAt l next) (λ (v m : ℕ). forwarded.Is f next))) (λ (r : Refusal). refl) _ _ (forward-meets 0)
 
   -- what it accepts, the other accepts as the same: so what both accept is the same
   pub apdu-kept : (pdus : PduType) (at : ℕ) (a : Apdu) → apduWithin low pdus l at ≡ decoded.Is a → apduWithin high pdus l at ≡ decoded.Is a
@@ -243,7 +243,7 @@ module _ (limit : ℕ) (l : List ℕ) where
       not-is : (r : Refusal) → forwarded.Refused r ≡ forwarded.Is f next → f .message .count ≤ limit
       not-is r k = never (cc)
 
-      go : (x : Headed) → onHeading x (λ (h : Heading) (p : ℕ). onField forwarded.Refused (stringAt l p bit 0 limit) (λ (n m : ℕ). forwarded.Is (record { heading = h; message = spanTo bit n m }) m)) ≡ forwarded.Is f next → f .message .count ≤ limit
+      go : (x : Headed) → onHeading x (λ (h : Heading) (p : ℕ). onto forwarded.Refused (stringAt l p bit 0 limit) (λ (n m : ℕ). forwarded.Is (record { heading = h; message = spanTo bit n m }) m)) ≡ forwarded.Is f next → f .message .count ≤ limit
       go (headed.Is h p) q =
           on (f .message .count ≤ limit) forwarded.Refused (forwarded.Is f next) not-is (stringAt l p bit 0 limit) _ (λ (n m : ℕ) (s : stringAt l p bit 0 limit ≡ Value n m) (w : forwarded.Is (record { heading = h; message = spanTo bit n m }) m ≡ forwarded.Is f next).
           let v : n ≡ f .message .count = ap (λ (t : Forwarded). countIn t) w in
@@ -265,7 +265,7 @@ module _ (limit : ℕ) (l : List ℕ) where
           omega arith
       go (forwarded.Refused r) p q x g = answer-not a r q
 
-  abort-none : (f : Field) (made : ℕ → Apdu) → ((r : ℕ) → messageOf (made r) ≡ Absent) → (a : Apdu) → onField decoded.Refused f (λ (r next : ℕ). endedAt l next (made r)) ≡ decoded.Is a → Fewer a
+  abort-none : (f : Field) (made : ℕ → Apdu) → ((r : ℕ) → messageOf (made r) ≡ Absent) → (a : Apdu) → onto decoded.Refused f (λ (r next : ℕ). endedAt l next (made r)) ≡ decoded.Is a → Fewer a
   abort-none (Value r next) made none a e x g = let k = ended-is next (made r) a e in let z : Absent ≡ Given x = sym (none r) ∙ (ap messageOf k ∙ g) in never (cc)
   abort-none (Refused r) made none a e x g = answer-not a r e
 

@@ -15,7 +15,7 @@ use Rattle.bits.specs.declared.Read.{Read}
 use Rattle.bits.specs.declared.Read.the-variants as read
 use Rattle.bits.proofs.Numbers.{Bits}
 use Rattle.fields.specs.Additions.{additionCount, additionsThere, additionAt, steppedOver, additionsAt}
-use Rattle.fields.specs.Fields.{refusedAt, then, fieldOf, bitField, extensionBit, widthOf, wholeNumber, extensibleIndex, lengthAt, lengthFrom, longLength, lengthWithin, runAt, contentsAt, stringAt}
+use Rattle.fields.specs.Fields.{refusedAt, then, fieldOf, bitField, extensionBit, widthOf, wholeNumber, extensibleIndex, lengthAt, lengthFrom, longLength, lengthWithin, runAt, contentsAt, stringAt, onto}
 use Rattle.fields.specs.declared.Fault.{Fault}
 use Rattle.fields.specs.declared.Fault.the-variants.{Short, Range, Extension, LengthForm, Limit, Tail, Default}
 use Rattle.fields.specs.declared.Refusal.{Refusal}
@@ -26,7 +26,7 @@ use Rattle.apdu.specs.Sizes.{identifierLeast, identifierMost, messageMost, chec
 use Rattle.apdu.specs.Headings.{triple, dateFrom, dateTo, timeFrom, timeTo, charactersLeast, charactersMost, character, addressBits, directionLast, responseLast}
 use Rattle.apdu.specs.Pdus.{lastOf, kindOf}
 use Rattle.apdu.specs.Encoding.{padding}
-use Rattle.apdu.specs.Reading.{onField, onData, onTaken, onTriple, onHeading, onForward, onLead, optionalAt, partAt, spanTo, partsWithin, withAdditions, dataWithin, tripleAt, headingAt, forwardWithin, forwardAt, modeValue, modeAt, kindMode, leadingAt, tailAt, endedAt, restWithin, apduWithin, apduAt, dataAt, partsAt, wholeWithin, wholeData, wholeForwardWithin, wholeForward}
+use Rattle.apdu.specs.Reading.{onData, onTaken, onTriple, onHeading, onForward, onLead, optionalAt, partAt, spanTo, partsWithin, withAdditions, dataWithin, tripleAt, headingAt, forwardWithin, forwardAt, modeValue, modeAt, kindMode, leadingAt, tailAt, endedAt, restWithin, apduWithin, apduAt, dataAt, partsAt, wholeWithin, wholeData, wholeForwardWithin, wholeForward}
 use Rattle.apdu.specs.declared.PduType.{PduType}
 use Rattle.apdu.specs.declared.PduType.the-variants.{AircraftPdus, GroundPdus}
 use Rattle.apdu.specs.declared.Kind.{Kind}
@@ -146,7 +146,7 @@ module _ (l : List ℕ) where
 
   -- ---- behind a field
 
-  on-spares : {A : Type 0} (up : Refusal → A) (one : (r x : Refusal) → up r ≡ up x → r ≡ x) (f : Field) (k : ℕ → ℕ → A) → Spares Refused f → ((v n : ℕ) → Spares up (k v n)) → Spares up (onField up f k)
+  on-spares : {A : Type 0} (up : Refusal → A) (one : (r x : Refusal) → up r ≡ up x → r ≡ x) (f : Field) (k : ℕ → ℕ → A) → Spares Refused f → ((v n : ℕ) → Spares up (k v n)) → Spares up (onto up f k)
   on-spares up one (Value v n) k a b x e f = b v n x e f
   on-spares up one (Refused r) k a b x e f = a x (ap Refused (one r x e)) f
 
@@ -336,7 +336,7 @@ module _ (l : List ℕ) where
   unfolding wholeWithin
   data-left b = go (dataAt l 0) (data-spares b 0)
     where
-      go : (t : Taken) → Spares taken.Refused t → Spares taken.Refused (onTaken t (λ (d : Data) (next : ℕ). onField taken.Refused (tailAt l next) (λ (v m : ℕ). taken.Is d next)))
+      go : (t : Taken) → Spares taken.Refused t → Spares taken.Refused (onTaken t (λ (d : Data) (next : ℕ). onto taken.Refused (tailAt l next) (λ (v m : ℕ). taken.Is d next)))
       go (taken.Is d next) a = on-spares taken.Refused taken-one (tailAt l next) _ (tail-spares next) (λ (v m : ℕ). taken-spares d next)
       go (taken.Refused r) a = a
 

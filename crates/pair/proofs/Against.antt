@@ -42,11 +42,11 @@ module _ (m : Machine) (i j : ℕ) (s : Sys m) where
   match? = not atRest || matching (m .ctl (s .here .rec)) (m .ctl (s .there .rec))
 
   abbrev in-order? : Bool
-  in-order? = isPrefix (s .there .given) (s .here .taken) && isPrefix (s .here .given) (s .there .taken)
+  in-order? = isPrefix (s .there .handed) (s .here .taken) && isPrefix (s .here .handed) (s .there .taken)
 
   -- with `in-order?`: a beginning the other way round too
   abbrev whole : Bool
-  whole = isPrefix (s .here .taken) (s .there .given) && isPrefix (s .there .taken) (s .here .given)
+  whole = isPrefix (s .here .taken) (s .there .handed) && isPrefix (s .there .taken) (s .here .handed)
 
   abbrev all? : Bool
   all? = not (atRest && not (s .broken)) || whole
@@ -97,14 +97,14 @@ module _ (m : Machine) (i j : ℕ) (s : Sys m) (c : Claims m i j s) where
   whole-given t =
       let r = and-l (atRest m i j s) (not (s .broken)) t in
       let w = c .handed-all (here-empty r) (there-empty r) (no-T (s .broken) (and-r (atRest m i j s) (not (s .broken)) t)) in
-      both (isPrefix (s .here .taken) (s .there .given)) (isPrefix (s .there .taken) (s .here .given)) (is-whole (s .there .given) (s .here .taken) (w .0)) (is-whole (s .here .given) (s .there .taken) (w .1))
+      both (isPrefix (s .here .taken) (s .there .handed)) (isPrefix (s .there .taken) (s .here .handed)) (is-whole (s .there .handed) (s .here .taken) (w .0)) (is-whole (s .here .handed) (s .there .taken) (w .1))
 
   pub claims-tested : falseClaims m i j s ≡ []
   claims-tested =
       rw (
         is-T (match? m i j s) (if-then (atRest m i j s) (matching (m .ctl (s .here .rec)) (m .ctl (s .there .rec))) (λ (t : T (atRest m i j s)). c .ends-match (here-empty t) (there-empty t))),
-        is-T (isPrefix (s .there .given) (s .here .taken)) (is-prefix (s .there .given) (s .here .taken) (c .handed-in-order .0)),
-        is-T (isPrefix (s .here .given) (s .there .taken)) (is-prefix (s .here .given) (s .there .taken) (c .handed-in-order .1)),
+        is-T (isPrefix (s .there .handed) (s .here .taken)) (is-prefix (s .there .handed) (s .here .taken) (c .handed-in-order .0)),
+        is-T (isPrefix (s .here .handed) (s .there .taken)) (is-prefix (s .here .handed) (s .there .taken) (c .handed-in-order .1)),
         is-T (all? m i j s) (if-then (atRest m i j s && not (s .broken)) (whole m i j s) whole-given),
         is-T (rising i (s .here .jobs)) (c .jobs-rise .0),
         is-T (rising j (s .there .jobs)) (c .jobs-rise .1),

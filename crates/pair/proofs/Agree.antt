@@ -1,10 +1,10 @@
 -- When one machine agrees with another: their records and entries correspond, and whatever an event does at the first, an
 -- event does at the second. What the first refuses needs no partner.
 -- Assumes nothing.
-use mathlib.Core.Path.{_≡_}
+use mathlib.Core.Path.{_≡_, refl, ap}
 use mathlib.Core.List.{[]}
 use Rattle.pair.specs.Names.{Side, other}
-use Rattle.pair.specs.Carrier.{Sent, nothing, puts, message, Outcome, refused, acts, Machine}
+use Rattle.pair.specs.Carrier.{Sent, nothing, puts, message, Outcome, refused, acts, begins?, Machine, isStart, starts}
 
 -- both send nothing; or corresponding entries; or those of the same message with the same job
 abbrev pub SentRel : {E F : Type 0} → (E → F → Type 0) → Sent E → Sent F → Type 0
@@ -50,3 +50,19 @@ pub record Agree (m n : Machine) : Type 1 where
   pub error-is : (sd : Side) (r : m .R) (q : n .R) → RR sd r q → Follows {X = Unit {0}} (RR sd) (EE sd) (m .error sd r) q (λ (x : Unit {0}). n .error sd q)
   pub away-is : (sd : Side) (r : m .R) (q : n .R) → RR sd r q → OutRel (RR sd) (EE sd) (m .away sd r) (n .away sd q)
   pub p-abort-is : (sd : Side) (r : m .R) (q : n .R) → RR sd r q → OutRel (RR sd) (EE sd) (m .pAbort sd r) (n .pAbort sd q)
+
+-- what one sends begins a dialogue where what the other sends does
+module _ (m n : Machine) (g : Agree m n) where
+  pub start-rel : (sd : Side) (e : m .E) (f : n .E) → g .EE sd e f → isStart m e ≡ isStart n f
+  start-rel sd e f x = ap begins? (g .sort-is sd e f x)
+
+  pub starts-rel : (sd : Side) (p : Sent (m .E)) (o : Sent (n .E)) → SentRel (g .EE sd) p o → starts m p ≡ starts n o
+  starts-rel sd nothing nothing x = refl
+  starts-rel sd nothing (puts f) x = absurd x
+  starts-rel sd nothing (message f c j) x = absurd x
+  starts-rel sd (puts e) nothing x = absurd x
+  starts-rel sd (puts e) (puts f) x = start-rel sd e f x
+  starts-rel sd (puts e) (message f c j) x = absurd x
+  starts-rel sd (message e b i) nothing x = absurd x
+  starts-rel sd (message e b i) (puts f) x = absurd x
+  starts-rel sd (message e b i) (message f c j) x = start-rel sd e f (x .0)

@@ -56,29 +56,29 @@ module _ (sd : Side) (s : Sys control) (u : Call) (b : Body) (j keep : ℕ) (h :
   con-abort : T (cuts u) → T (sound sd true (front sd (goes c u) ga) (front od g (cut control keep ag e)))
   con-abort k = cut-closes u b ag (cut control keep ag e) (cut-loses-youngest control keep ag e) sd (front sd c ga) (front sd (goes c u) ga) g n k (ahead sd u c t n ga) in-fine out-fine
 
-  in-mild : T (mild u) → Data (s .broken) (s .here .given ++ []) (flow sd (goes c u) ga) (s .there .taken)
-  in-mild m = rw (append-nil (s .here .given), ← kept-front sd u c t n m ga in-fine) (h .dataI)
+  in-mild : T (mild u) → Data (s .broken) (s .here .handed ++ []) (flow sd (goes c u) ga) (s .there .taken)
+  in-mild m = rw (append-nil (s .here .handed), ← kept-front sd u c t n m ga in-fine) (h .dataI)
 
-  out-plain : T (not (says u)) → Data (s .broken) (s .there .given) (flow od g (ag ++ (e ∷ []))) (s .here .taken)
+  out-plain : T (not (says u)) → Data (s .broken) (s .there .handed) (flow od g (ag ++ (e ∷ []))) (s .here .taken)
   out-plain k = rw (flow-snoc od g ag e, none-at od u k (front od g ag), append-nil (flow od g ag)) (h .dataO)
 
   -- broken: the other end will not hand it out; unbroken: it will
-  out-message : T (says u) → Data (s .broken) (s .there .given) (flow od g (ag ++ (e ∷ []))) (s .here .taken ++ (b ∷ []))
+  out-message : T (says u) → Data (s .broken) (s .there .handed) (flow od g (ag ++ (e ∷ []))) (s .here .taken ++ (b ∷ []))
   out-message k =
       rw (flow-snoc od g ag e, send-at sd u k (s .broken) (front sd c ga) (front sd (goes c u) ga) (front od g ag) (ahead sd u c t n ga) (h .con))
       (go (s .broken) (h .dataO))
     where
-      go : (x : Bool) → Data x (s .there .given) (flow od g ag) (s .here .taken) → Data x (s .there .given) (flow od g ag ++ handed (not x) b) (s .here .taken ++ (b ∷ []))
+      go : (x : Bool) → Data x (s .there .handed) (flow od g ag) (s .here .taken) → Data x (s .there .handed) (flow od g ag ++ handed (not x) b) (s .here .taken ++ (b ∷ []))
       go true d =
           rw (append-nil (flow od g ag))
           (record { pre = pre-more _ (s .here .taken) (b ∷ []) (d .pre); all = λ (e : true ≡ false). absurd (subst T e tt) })
       go false d =
-          let q = sym (append-assoc (s .there .given) (flow od g ag) (b ∷ [])) ∙ ap (λ (l : List Body). l ++ (b ∷ [])) (d .all refl) in
+          let q = sym (append-assoc (s .there .handed) (flow od g ag) (b ∷ [])) ∙ ap (λ (l : List Body). l ++ (b ∷ [])) (d .all refl) in
           record { pre = rw q (pre-refl _); all = λ (e : false ≡ false). q }
 
   -- a call that neither starts nor breaks a dialogue; tk: the messages taken after it
-  mild-keeps : T (mild u) → (tk : List Body) (js : List ℕ) → Data (s .broken) (s .there .given) (flow od g (ag ++ (e ∷ []))) tk
-      → Inv sd (record { here = record { rec = held (goes c u) j; line = ag ++ (e ∷ []); taken = tk; given = s .here .given ++ []; jobs = js }; there = s .there; broken = s .broken })
+  mild-keeps : T (mild u) → (tk : List Body) (js : List ℕ) → Data (s .broken) (s .there .handed) (flow od g (ag ++ (e ∷ []))) tk
+      → Inv sd (record { here = record { rec = held (goes c u) j; line = ag ++ (e ∷ []); taken = tk; handed = s .here .handed ++ []; jobs = js }; there = s .there; broken = s .broken })
   mild-keeps m tk js d =
       record {
         con = con-mild m;
@@ -104,10 +104,10 @@ module _ (sd : Side) (s : Sys control) (u : Call) (b : Body) (j keep : ℕ) (h :
         wfT = h .wfT;
         headO = λ (x : T (startFirst (cut control keep ag e))). h .headO (cut-first u b ag (cut control keep ag e) (cut-loses-youngest control keep ag e) n x);
         headI = λ (x : T (startFirst ga)). absurd (no-first ga in-fine x);
-        dataO = lost-data (s .broken) (s .there .given) (flow od g ag) (flow od g (cut control keep ag e)) (s .here .taken) (h .dataO) (cut-hands-beginning u b ag (cut control keep ag e) (cut-loses-youngest control keep ag e) od g i);
+        dataO = lost-data (s .broken) (s .there .handed) (flow od g ag) (flow od g (cut control keep ag e)) (s .here .taken) (h .dataO) (cut-hands-beginning u b ag (cut control keep ag e) (cut-loses-youngest control keep ag e) od g i);
         dataI =
-            rw (append-nil (s .here .given), cut-front sd u c t n k ga in-fine)
-            (lost-data (s .broken) (s .here .given) (flow sd c ga) [] (s .there .taken) (h .dataI) (pre-nil _));
+            rw (append-nil (s .here .handed), cut-front sd u c t n k ga in-fine)
+            (lost-data (s .broken) (s .here .handed) (flow sd c ga) [] (s .there .taken) (h .dataI) (pre-nil _));
       }
 
 -- ---- a start

@@ -33,9 +33,9 @@ module _ (m n : Machine) (g : Agree m n) (s : Sys m) (t : Sys n) (h : SysRel m n
       record {
         ends-match = λ (p : s .here .line ≡ []) (q : s .there .line ≡ []).
             rw (g .ctl-is Air (s .here .rec) (t .here .rec) (h .here .rec), g .ctl-is Ground (s .there .rec) (t .there .rec) (h .there .rec)) (c .ends-match (empty-here p) (empty-there q));
-        handed-in-order = rw (h .there .given, h .here .taken, h .here .given, h .there .taken) (c .handed-in-order);
+        handed-in-order = rw (h .there .handed, h .here .taken, h .here .handed, h .there .taken) (c .handed-in-order);
         handed-all = λ (p : s .here .line ≡ []) (q : s .there .line ≡ []) (b : s .broken ≡ false).
-            rw (h .there .given, h .here .taken, h .here .given, h .there .taken) (c .handed-all (empty-here p) (empty-there q) (sym (h .broken) ∙ b));
+            rw (h .there .handed, h .here .taken, h .here .handed, h .there .taken) (c .handed-all (empty-here p) (empty-there q) (sym (h .broken) ∙ b));
         jobs-rise = rw (h .here .jobs, h .there .jobs) (c .jobs-rise);
       }
 
@@ -45,8 +45,8 @@ module _ (m n : Machine) (g : Agree m n) (r q : m .R) (x y : n .R) (near : g .RR
   followed ts =
       run-rel m n g ts (fresh m r q) (fresh n x y)
       (record {
-        here = record { rec = near; line = tt; taken = refl; given = refl; jobs = refl };
-        there = record { rec = far; line = tt; taken = refl; given = refl; jobs = refl };
+        here = record { rec = near; line = tt; taken = refl; handed = refl; jobs = refl };
+        there = record { rec = far; line = tt; taken = refl; handed = refl; jobs = refl };
         broken = refl;
       })
 

@@ -86,8 +86,8 @@ module _ (sd : Side) (s : Sys control) (z : Ent) (l : List Ent) (e : s .there .l
   con-now : T (sound sd (s .broken) x w)
   con-now = subst (λ (k : List Ent). T (sound sd (s .broken) (front sd c k) w)) e (h .con)
 
-  data-now : Data (s .broken) (s .here .given) (new ++ flowD sd (recv sd c (z .kind)) l) (s .there .taken)
-  data-now = subst (λ (k : List Ent). Data (s .broken) (s .here .given) (flow sd c k) (s .there .taken)) e (h .dataI)
+  data-now : Data (s .broken) (s .here .handed) (new ++ flowD sd (recv sd c (z .kind)) l) (s .there .taken)
+  data-now = subst (λ (k : List Ent). Data (s .broken) (s .here .handed) (flow sd c k) (s .there .taken)) e (h .dataI)
 
   fine-now : T (fine x)
   fine-now = sound-left sd (s .broken) x w con-now
@@ -125,7 +125,7 @@ module _ (sd : Side) (s : Sys control) (z : Ent) (l : List Ent) (e : s .there .l
         headO = no-out;
         headI = λ (y : T (startFirst l)). absurd (dead-first r y);
         dataO = h .dataO;
-        dataI = rw (dead-flow c r i) (rw (append-nil (s .here .given)) at (lost-b (s .broken) (s .here .given) [] (flow sd c (s .there .line)) (s .there .taken) b (h .dataI)));
+        dataI = rw (dead-flow c r i) (rw (append-nil (s .here .handed)) at (lost-b (s .broken) (s .here .handed) [] (flow sd c (s .there .line)) (s .there .taken) b (h .dataI)));
       }
 
   loss-keeps : (q : Control) (keep : ℕ) → recv sd c (z .kind) ≡ dead → T (isClosed q) → Inv sd (quietly q keep)
@@ -137,13 +137,13 @@ module _ (sd : Side) (s : Sys control) (z : Ent) (l : List Ent) (e : s .there .l
         headO = no-out;
         headI = λ (y : T (startFirst l)). absurd (dead-first r y);
         dataO = h .dataO;
-        dataI = rw (dead-flow q r i) (lost-b (s .broken) (s .here .given) new (flowD sd (recv sd c (z .kind)) l) (s .there .taken) (and-l (s .broken) _ (broken-now r)) data-now);
+        dataI = rw (dead-flow q r i) (lost-b (s .broken) (s .here .handed) new (flowD sd (recv sd c (z .kind)) l) (s .there .taken) (and-l (s .broken) _ (broken-now r)) data-now);
       }
 
   norm-keeps : (q : Control) (keep : ℕ) → recv sd c (z .kind) ≡ ok q → T (wf q) → Inv sd (quietly q keep)
   norm-keeps q keep r i =
       let f : T (fine (drain sd (ok q) l)) = subst (λ (y : Dr). T (fine (drain sd y l))) r fine-now in
-      let d = subst (λ (y : Dr). Data (s .broken) (s .here .given) (new ++ flowD sd y l) (s .there .taken)) r data-now in
+      let d = subst (λ (y : Dr). Data (s .broken) (s .here .handed) (new ++ flowD sd y l) (s .there .taken)) r data-now in
       record {
         con = rw (front-of sd q l f) (subst (λ (y : Dr). T (sound sd (s .broken) (drain sd y l) w)) r con-now);
         wfH = i;
@@ -154,8 +154,8 @@ module _ (sd : Side) (s : Sys control) (z : Ent) (l : List Ent) (e : s .there .l
         dataI =
             rw (flow-of sd q l f)
             (record {
-              pre = rw (append-assoc (s .here .given) new (flowD sd (ok q) l)) (d .pre);
-              all = λ (y : s .broken ≡ false). append-assoc (s .here .given) new (flowD sd (ok q) l) ∙ d .all y;
+              pre = rw (append-assoc (s .here .handed) new (flowD sd (ok q) l)) (d .pre);
+              all = λ (y : s .broken ≡ false). append-assoc (s .here .handed) new (flowD sd (ok q) l) ∙ d .all y;
             });
       }
 

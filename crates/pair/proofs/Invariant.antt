@@ -30,8 +30,8 @@ pub record Inv (sd : Side) (s : Sys control) : Type 0 where
   pub wfT : T (wf (s .there .rec .ctl))
   pub headO : T (startFirst (s .here .line)) → s .there .line ≡ []
   pub headI : T (startFirst (s .there .line)) → s .here .line ≡ []
-  pub dataO : Data (s .broken) (s .there .given) (flow (other sd) (s .there .rec .ctl) (s .here .line)) (s .here .taken)
-  pub dataI : Data (s .broken) (s .here .given) (flow sd (s .here .rec .ctl) (s .there .line)) (s .there .taken)
+  pub dataO : Data (s .broken) (s .there .handed) (flow (other sd) (s .there .rec .ctl) (s .here .line)) (s .here .taken)
+  pub dataI : Data (s .broken) (s .here .handed) (flow sd (s .here .rec .ctl) (s .there .line)) (s .there .taken)
 
 -- ---- small laws
 

@@ -9,12 +9,12 @@ use lib.Dec.{T, eqb, ltb}
 use Rattle.machine.specs.Codes.{securityValues}
 use Rattle.machine.specs.declared.record.Record.{Record}
 use Rattle.pair.specs.Names.{Side, Air, Ground, isIdle, closed, other}
-use Rattle.pair.specs.Carrier.{Body, Sent, nothing, puts, message, Outcome, refused, acts, begins?, Machine, isStart, starts, Turn}
+use Rattle.pair.specs.Carrier.{Body, Sent, nothing, puts, message, Outcome, refused, acts, Machine, isStart, starts, Turn}
 use Rattle.pair.specs.Numbered.{NClaims, Numbered, mark, notBelow, nFresh, nRun}
 use Rattle.pair.proofs.NumberedMachine.{tag, numbered, leaves, numbers, meetsNo}
 use Rattle.pair.proofs.ControlMachine.{held, control}
 use Rattle.pair.proofs.StepMachine.{Codec, Order, stepMachine}
-use Rattle.pair.proofs.Agree.{SentRel, OutRel, Still, Follows, stays, does, Agree}
+use Rattle.pair.proofs.Agree.{SentRel, OutRel, Still, Follows, stays, does, Agree, start-rel, starts-rel}
 use Rattle.pair.proofs.StepLocal.{Local}
 use Rattle.pair.proofs.StepAgrees.{agrees, idle-same}
 use Rattle.pair.proofs.NumberedSimulate.{NAgree, n-holds-through}
@@ -66,20 +66,6 @@ module _ {R Q E F : Type 0} (RR : R → Q → Type 0) (EE : E → F → Type 0) 
   three-rel false c false v w x y o z e f h = tt
 
 module _ (m n : Machine) (g : Agree m n) where
-  pub start-rel : (sd : Side) (e : m .E) (f : n .E) → g .EE sd e f → isStart m e ≡ isStart n f
-  start-rel sd e f x = ap begins? (g .sort-is sd e f x)
-
-  pub starts-rel : (sd : Side) (p : Sent (m .E)) (o : Sent (n .E)) → SentRel (g .EE sd) p o → starts m p ≡ starts n o
-  starts-rel sd nothing nothing x = refl
-  starts-rel sd nothing (puts f) x = absurd x
-  starts-rel sd nothing (message f c j) x = absurd x
-  starts-rel sd (puts e) nothing x = absurd x
-  starts-rel sd (puts e) (puts f) x = start-rel sd e f x
-  starts-rel sd (puts e) (message f c j) x = absurd x
-  starts-rel sd (message e b i) nothing x = absurd x
-  starts-rel sd (message e b i) (puts f) x = absurd x
-  starts-rel sd (message e b i) (message f c j) x = start-rel sd e f (x .0)
-
   abbrev NOut : Side → Outcome (Numbered (m .R)) (Numbered (m .E)) → Outcome (Numbered (n .R)) (Numbered (n .E)) → Type 0
   NOut sd o z = OutRel (With (g .RR sd)) (With (g .EE sd)) o z
 
@@ -88,7 +74,7 @@ module _ (m n : Machine) (g : Agree m n) where
   numbers-rel sd k i v refused (acts q h o) e x = absurd x
   numbers-rel sd k i v (acts r l p) refused e x = absurd x
   numbers-rel sd k i v (acts r l p) (acts q h o) e x =
-      subst (λ (b : Bool). NOut sd (numbers m k v (acts r l p)) (cond b (cond (ltb i v) (leaves v (acts q h o)) refused) (leaves i (acts q h o)))) (starts-rel sd p o (x .2))
+      subst (λ (b : Bool). NOut sd (numbers m k v (acts r l p)) (cond b (cond (ltb i v) (leaves v (acts q h o)) refused) (leaves i (acts q h o)))) (starts-rel m n g sd p o (x .2))
       (subst (λ (u : ℕ). NOut sd (numbers m k v (acts r l p)) (cond (starts m p) (cond (ltb u v) (leaves v (acts q h o)) refused) (leaves i (acts q h o)))) e
       (two-rel (g .RR sd) (g .EE sd) (starts m p) (ltb k v) v k v i (acts r l p) (acts q h o) refl e x))
 
@@ -105,7 +91,7 @@ module _ (m n : Machine) (g : Agree m n) where
   pub receive-rel : (sd : Side) (r : Numbered (m .R)) (q : Numbered (n .R)) (e : Numbered (m .E)) (f : Numbered (n .E)) → With (g .RR sd) r q → With (g .EE (other sd)) e f → NOut sd (meetsNo m sd r e) (meetsNo n sd q f)
   receive-rel sd r q e f x y =
       let z = n .receive sd (q .it) (f .it) in
-      subst (λ (b : Bool). NOut sd (meetsNo m sd r e) (cond b (cond (ltb (q .no) (f .no)) (leaves (f .no) z) refused) (cond (eqb (f .no) (q .no)) (leaves (q .no) z) refused))) (start-rel (other sd) (e .it) (f .it) (y .1))
+      subst (λ (b : Bool). NOut sd (meetsNo m sd r e) (cond b (cond (ltb (q .no) (f .no)) (leaves (f .no) z) refused) (cond (eqb (f .no) (q .no)) (leaves (q .no) z) refused))) (start-rel m n g (other sd) (e .it) (f .it) (y .1))
       (subst (λ (u : ℕ). NOut sd (meetsNo m sd r e) (cond (isStart m (e .it)) (cond (ltb u (f .no)) (leaves (f .no) z) refused) (cond (eqb (f .no) u) (leaves (q .no) z) refused))) (x .0)
       (subst (λ (u : ℕ). NOut sd (meetsNo m sd r e) (cond (isStart m (e .it)) (cond (ltb (r .no) u) (leaves (f .no) z) refused) (cond (eqb u (r .no)) (leaves (q .no) z) refused))) (y .0)
       (three-rel (g .RR sd) (g .EE sd) (isStart m (e .it)) (ltb (r .no) (e .no)) (eqb (e .no) (r .no)) (e .no) (r .no) (f .no) (q .no) (m .receive sd (r .it) (e .it)) z (y .0) (x .0) (g .receive-is sd (r .it) (q .it) (e .it) (f .it) (x .1) (y .1)))))

@@ -41,8 +41,8 @@ module _ (m : Machine) (B : Base m) where
   -- ---- at the beginning
 
   fresh-led : (from : Side) (r q : Numbered (m .R)) → notBelow from (r .no) (q .no) → Led m (starter from Air) (nFresh (numbered m) r q)
-  fresh-led Air r q h = record { up = le→leb (q .no) (r .no) h; low = tt; new = λ (j : ℕ) (w : r .no < j). record { taken = refl; given = refl; takenT = refl; givenT = refl; whole = refl } }
-  fresh-led Ground r q h = record { up = le→leb (r .no) (q .no) h; low = tt; new = λ (j : ℕ) (w : q .no < j). record { taken = refl; given = refl; takenT = refl; givenT = refl; whole = refl } }
+  fresh-led Air r q h = record { up = le→leb (q .no) (r .no) h; low = tt; new = λ (j : ℕ) (w : r .no < j). record { taken = refl; handed = refl; takenT = refl; givenT = refl; whole = refl } }
+  fresh-led Ground r q h = record { up = le→leb (r .no) (q .no) h; low = tt; new = λ (j : ℕ) (w : q .no < j). record { taken = refl; handed = refl; takenT = refl; givenT = refl; whole = refl } }
 
   seen-closed : (j : ℕ) (r : Numbered (m .R)) → m .ctl (r .it) ≡ closed → m .ctl (seenRec m B j r) ≡ closed
   seen-closed j r e = go (eqb (r .no) j)
@@ -59,7 +59,7 @@ module _ (m : Machine) (B : Base m) where
           sys = fresh m (seenRec m B j r) (seenRec m B j q);
           sim = record {
             near = refl;
-            most = record { here = record { line = refl; taken = refl; given = refl }; there = record { line = refl; taken = refl; given = refl }; far = refl; broken = refl };
+            most = record { here = record { line = refl; taken = refl; handed = refl }; there = record { line = refl; taken = refl; handed = refl }; far = refl; broken = refl };
           };
           keeps = B .begin Air (seenRec m B j r) (seenRec m B j q) (seen-closed j r a) (seen-closed j q b);
         };
@@ -102,10 +102,10 @@ module _ (m : Machine) (B : Base m) where
   n-holds K s h b =
       record {
         ends-match = ends s h;
-        handed-in-order = λ (j : ℕ). let g = h j in rw (g .sim .most .there .given, g .sim .most .here .taken, g .sim .most .here .given, g .sim .most .there .taken) (B .core (g .sys) (g .keeps) .handed-in-order);
+        handed-in-order = λ (j : ℕ). let g = h j in rw (g .sim .most .there .handed, g .sim .most .here .taken, g .sim .most .here .handed, g .sim .most .there .taken) (B .core (g .sys) (g .keeps) .handed-in-order);
         handed-all = λ (j : ℕ) (p : s .here .line ≡ []) (q : s .there .line ≡ []) (e : s .broken j ≡ false).
             let g = h j in
-            rw (g .sim .most .there .given, g .sim .most .here .taken, g .sim .most .here .given, g .sim .most .there .taken)
+            rw (g .sim .most .there .handed, g .sim .most .here .taken, g .sim .most .here .handed, g .sim .most .there .taken)
             (B .core (g .sys) (g .keeps) .handed-all (sym (g .sim .most .here .line) ∙ ap (pick m j) p) (sym (g .sim .most .there .line) ∙ ap (pick m j) q) (sym (g .sim .most .broken) ∙ e));
         jobs-rise = (b .near .up, b .far .up);
       }

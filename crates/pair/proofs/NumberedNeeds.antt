@@ -25,13 +25,13 @@ Calm m (acts r l p) = T (not (starts m p))
 
 -- the same two ends with another record at `here`
 abbrev pub reRec : (m : Machine) → Sys m → m .R → Sys m
-reRec m s r = record { here = record { rec = r; line = s .here .line; taken = s .here .taken; given = s .here .given; jobs = s .here .jobs }; there = s .there; broken = s .broken }
+reRec m s r = record { here = record { rec = r; line = s .here .line; taken = s .here .taken; handed = s .here .handed; jobs = s .here .jobs }; there = s .there; broken = s .broken }
 
 -- the claims about one dialogue
 pub record Core (m : Machine) (s : Sys m) : Type 0 where
   pub ends-match : s .here .line ≡ [] → s .there .line ≡ [] → T (matching (m .ctl (s .here .rec)) (m .ctl (s .there .rec)))
-  pub handed-in-order : Prefix (s .there .given) (s .here .taken) × Prefix (s .here .given) (s .there .taken)
-  pub handed-all : s .here .line ≡ [] → s .there .line ≡ [] → s .broken ≡ false → (s .there .given ≡ s .here .taken) × (s .here .given ≡ s .there .taken)
+  pub handed-in-order : Prefix (s .there .handed) (s .here .taken) × Prefix (s .here .handed) (s .there .taken)
+  pub handed-all : s .here .line ≡ [] → s .there .line ≡ [] → s .broken ≡ false → (s .there .handed ≡ s .here .taken) × (s .here .handed ≡ s .there .taken)
 
 pub record Base (m : Machine) : Type 1 where
   -- an invariant of the base carrier, seen from side sd
@@ -67,7 +67,7 @@ control-re-rec sd s r e h =
       headO = h .headO;
       headI = h .headI;
       dataO = h .dataO;
-      dataI = subst (λ (c : Control). Data (s .broken) (s .here .given) (flow sd c (s .there .line)) (s .there .taken)) e (h .dataI);
+      dataI = subst (λ (c : Control). Data (s .broken) (s .here .handed) (flow sd c (s .there .line)) (s .there .taken)) e (h .dataI);
     }
 
 closed-only : (s : State) (d : Bool) → T (is s Idle) → T (not (is s Idle) || not d) → entered s d ≡ closed

@@ -48,19 +48,19 @@ module _ (m : Machine) where
       record {
         up = snoc-up s (s .here .line) v e q t (h .up);
         low = h .low;
-        new = λ (j : ℕ) (w : s .here .rec .no < j). let n = h .new j w in record { taken = n .taken; given = n .given; takenT = n .takenT; givenT = n .givenT; whole = n .whole };
+        new = λ (j : ℕ) (w : s .here .rec .no < j). let n = h .new j w in record { taken = n .taken; handed = n .handed; takenT = n .takenT; givenT = n .givenT; whole = n .whole };
       }
   put-up breaks s v e keep q t h =
       record {
         up = snoc-up s (trim (numbered m) v keep (s .here .line)) v e q t (orderly-trim m (s .there .rec .no) (s .here .rec .no) v keep (s .here .line) (h .up));
         low = h .low;
-        new = λ (j : ℕ) (w : s .here .rec .no < j). let n = h .new j w in record { taken = n .taken; given = n .given; takenT = n .takenT; givenT = n .givenT; whole = or-false (eqb v j) (s .broken j) (below-differ v j (omega (arith, q, w))) (n .whole) };
+        new = λ (j : ℕ) (w : s .here .rec .no < j). let n = h .new j w in record { taken = n .taken; handed = n .handed; takenT = n .takenT; givenT = n .givenT; whole = or-false (eqb v j) (s .broken j) (below-differ v j (omega (arith, q, w))) (n .whole) };
       }
   put-up plain s v e keep q t h =
       record {
         up = snoc-up s (s .here .line) v e q t (h .up);
         low = h .low;
-        new = λ (j : ℕ) (w : s .here .rec .no < j). let n = h .new j w in record { taken = n .taken; given = n .given; takenT = n .takenT; givenT = n .givenT; whole = n .whole };
+        new = λ (j : ℕ) (w : s .here .rec .no < j). let n = h .new j w in record { taken = n .taken; handed = n .handed; takenT = n .takenT; givenT = n .givenT; whole = n .whole };
       }
 
   took-up : (s : NSys (numbered m)) (v : ℕ) (b : Body) (i : ℕ) → v ≡ s .here .rec .no → Led m true s → Led m true (nTook (numbered m) s v b i)
@@ -68,7 +68,7 @@ module _ (m : Machine) where
       record {
         up = h .up;
         low = h .low;
-        new = λ (j : ℕ) (w : s .here .rec .no < j). let n = h .new j w in record { taken = nay (eqb v j) _ _ (below-differ v j (omega (arith, q, w))) ∙ n .taken; given = n .given; takenT = n .takenT; givenT = n .givenT; whole = n .whole };
+        new = λ (j : ℕ) (w : s .here .rec .no < j). let n = h .new j w in record { taken = nay (eqb v j) _ _ (below-differ v j (omega (arith, q, w))) ∙ n .taken; handed = n .handed; takenT = n .takenT; givenT = n .givenT; whole = n .whole };
       }
 
   left-up : (s : NSys (numbered m)) (v : ℕ) (r : m .R) (l : List Body) → v ≡ s .here .rec .no → Led m true s → Led m true (nLeft (numbered m) s (mark v r) l)
@@ -76,7 +76,7 @@ module _ (m : Machine) where
       record {
         up = subst (λ (n : ℕ). T (orderly m (s .there .rec .no) n (s .here .line))) (sym q) (h .up);
         low = subst (λ (n : ℕ). T (tame m n (s .there .line))) (sym q) (h .low);
-        new = λ (j : ℕ) (w : v < j). let n = h .new j (omega (arith, q, w)) in record { taken = n .taken; given = nay (eqb v j) _ _ (below-differ v j w) ∙ n .given; takenT = n .takenT; givenT = n .givenT; whole = n .whole };
+        new = λ (j : ℕ) (w : v < j). let n = h .new j (omega (arith, q, w)) in record { taken = n .taken; handed = nay (eqb v j) _ _ (below-differ v j w) ∙ n .handed; takenT = n .takenT; givenT = n .givenT; whole = n .whole };
       }
 
   -- the number at `here` is that of s through all this
@@ -102,7 +102,7 @@ module _ (m : Machine) where
       record {
         up = orderly-snoc m (s .there .rec .no) (s .here .rec .no) (s .here .line) (mark v e) (h .up) (subst (λ (z : Bool). T (past m z (s .here .rec .no) v)) (sym (is-T (isStart m e) t)) (lt→ltb (s .here .rec .no) v w));
         low = tame-up m (s .here .rec .no) v (s .there .line) (omega (arith, w)) (h .low);
-        new = λ (j : ℕ) (x : v < j). let n = h .new j (omega (arith, w, x)) in record { taken = n .taken; given = nay (eqb v j) _ _ (below-differ v j x) ∙ n .given; takenT = n .takenT; givenT = n .givenT; whole = n .whole };
+        new = λ (j : ℕ) (x : v < j). let n = h .new j (omega (arith, w, x)) in record { taken = n .taken; handed = nay (eqb v j) _ _ (below-differ v j x) ∙ n .handed; takenT = n .takenT; givenT = n .givenT; whole = n .whole };
       }
   start-up breaks s v r l e keep w c t h = absurd c
   start-up plain s v r l e keep w c t h = absurd c
@@ -112,7 +112,7 @@ module _ (m : Machine) where
       record {
         up = h .up;
         low = h .low;
-        new = λ (j : ℕ) (x : v < j). let n = h .new j x in record { taken = nay (eqb v j) _ _ (below-differ v j x) ∙ n .taken; given = n .given; takenT = n .takenT; givenT = n .givenT; whole = n .whole };
+        new = λ (j : ℕ) (x : v < j). let n = h .new j x in record { taken = nay (eqb v j) _ _ (below-differ v j x) ∙ n .taken; handed = n .handed; takenT = n .takenT; givenT = n .givenT; whole = n .whole };
       }
   start-took breaks s v r l e b i keep c h = absurd c
   start-took plain s v r l e b i keep c h = absurd c
@@ -129,19 +129,19 @@ module _ (m : Machine) where
       record {
         up = h .up;
         low = tame-snoc m (s .there .rec .no) (s .here .line) (mark v e) (h .low) t q;
-        new = λ (j : ℕ) (w : s .there .rec .no < j). let n = h .new j w in record { taken = n .taken; given = n .given; takenT = n .takenT; givenT = n .givenT; whole = n .whole };
+        new = λ (j : ℕ) (w : s .there .rec .no < j). let n = h .new j w in record { taken = n .taken; handed = n .handed; takenT = n .takenT; givenT = n .givenT; whole = n .whole };
       }
   put-low breaks s v e keep q t h =
       record {
         up = h .up;
         low = tame-snoc m (s .there .rec .no) (trim (numbered m) v keep (s .here .line)) (mark v e) (tame-trim m (s .there .rec .no) v keep (s .here .line) (h .low)) t q;
-        new = λ (j : ℕ) (w : s .there .rec .no < j). let n = h .new j w in record { taken = n .taken; given = n .given; takenT = n .takenT; givenT = n .givenT; whole = or-false (eqb v j) (s .broken j) (below-differ v j (omega (arith, q, w))) (n .whole) };
+        new = λ (j : ℕ) (w : s .there .rec .no < j). let n = h .new j w in record { taken = n .taken; handed = n .handed; takenT = n .takenT; givenT = n .givenT; whole = or-false (eqb v j) (s .broken j) (below-differ v j (omega (arith, q, w))) (n .whole) };
       }
   put-low plain s v e keep q t h =
       record {
         up = h .up;
         low = tame-snoc m (s .there .rec .no) (s .here .line) (mark v e) (h .low) t q;
-        new = λ (j : ℕ) (w : s .there .rec .no < j). let n = h .new j w in record { taken = n .taken; given = n .given; takenT = n .takenT; givenT = n .givenT; whole = n .whole };
+        new = λ (j : ℕ) (w : s .there .rec .no < j). let n = h .new j w in record { taken = n .taken; handed = n .handed; takenT = n .takenT; givenT = n .givenT; whole = n .whole };
       }
 
   took-low : (s : NSys (numbered m)) (v : ℕ) (b : Body) (i : ℕ) → v ≤ s .there .rec .no → Led m false s → Led m false (nTook (numbered m) s v b i)
@@ -149,7 +149,7 @@ module _ (m : Machine) where
       record {
         up = h .up;
         low = h .low;
-        new = λ (j : ℕ) (w : s .there .rec .no < j). let n = h .new j w in record { taken = n .taken; given = n .given; takenT = nay (eqb v j) _ _ (below-differ v j (omega (arith, q, w))) ∙ n .takenT; givenT = n .givenT; whole = n .whole };
+        new = λ (j : ℕ) (w : s .there .rec .no < j). let n = h .new j w in record { taken = n .taken; handed = n .handed; takenT = nay (eqb v j) _ _ (below-differ v j (omega (arith, q, w))) ∙ n .takenT; givenT = n .givenT; whole = n .whole };
       }
 
   left-low : (s : NSys (numbered m)) (v : ℕ) (r : m .R) (l : List Body) → v ≤ s .there .rec .no → T (orderly m v (s .there .rec .no) (s .there .line)) → Led m false s → Led m false (nLeft (numbered m) s (mark v r) l)
@@ -157,7 +157,7 @@ module _ (m : Machine) where
       record {
         up = u;
         low = h .low;
-        new = λ (j : ℕ) (w : s .there .rec .no < j). let n = h .new j w in record { taken = n .taken; given = n .given; takenT = n .takenT; givenT = nay (eqb v j) _ _ (below-differ v j (omega (arith, q, w))) ∙ n .givenT; whole = n .whole };
+        new = λ (j : ℕ) (w : s .there .rec .no < j). let n = h .new j w in record { taken = n .taken; handed = n .handed; takenT = n .takenT; givenT = nay (eqb v j) _ _ (below-differ v j (omega (arith, q, w))) ∙ n .givenT; whole = n .whole };
       }
 
   pub did-low : (s : NSys (numbered m)) (v : ℕ) (r : m .R) (l : List Body) (p : Sent (m .E)) (keep : ℕ) → T (orderly m v (s .there .rec .no) (s .there .line)) → T (not (starts m p)) → Led m false s → Led m false (nDid (numbered m) s (leaves v (acts r l p)) keep)
@@ -189,13 +189,13 @@ module _ (m : Machine) where
       record {
         up = h .up;
         low = tame-tail m (s .here .rec .no) e l (subst (λ (k : List (Numbered (m .E))). T (tame m (s .here .rec .no) k)) q (h .low));
-        new = λ (j : ℕ) (w : s .here .rec .no < j). let n = h .new j w in record { taken = n .taken; given = n .given; takenT = n .takenT; givenT = n .givenT; whole = n .whole };
+        new = λ (j : ℕ) (w : s .here .rec .no < j). let n = h .new j w in record { taken = n .taken; handed = n .handed; takenT = n .takenT; givenT = n .givenT; whole = n .whole };
       }
   off-led false s e l q h =
       record {
         up = orderly-tail m (s .here .rec .no) (s .there .rec .no) e l (subst (λ (k : List (Numbered (m .E))). T (orderly m (s .here .rec .no) (s .there .rec .no) k)) q (h .up));
         low = h .low;
-        new = λ (j : ℕ) (w : s .there .rec .no < j). let n = h .new j w in record { taken = n .taken; given = n .given; takenT = n .takenT; givenT = n .givenT; whole = n .whole };
+        new = λ (j : ℕ) (w : s .there .rec .no < j). let n = h .new j w in record { taken = n .taken; handed = n .handed; takenT = n .takenT; givenT = n .givenT; whole = n .whole };
       }
 
   pub recalled-led : (lead : Bool) (s : NSys (numbered m)) → Led m lead s → Led m lead (nRecalled (numbered m) s)
@@ -203,13 +203,13 @@ module _ (m : Machine) where
       record {
         up = orderly-without m (s .there .rec .no) (s .here .rec .no) (s .here .rec .no) (s .here .line) (h .up);
         low = h .low;
-        new = λ (j : ℕ) (w : s .here .rec .no < j). let n = h .new j w in record { taken = n .taken; given = n .given; takenT = n .takenT; givenT = n .givenT; whole = n .whole };
+        new = λ (j : ℕ) (w : s .here .rec .no < j). let n = h .new j w in record { taken = n .taken; handed = n .handed; takenT = n .takenT; givenT = n .givenT; whole = n .whole };
       }
   recalled-led false s h =
       record {
         up = h .up;
         low = tame-without m (s .there .rec .no) (s .here .rec .no) (s .here .line) (h .low);
-        new = λ (j : ℕ) (w : s .there .rec .no < j). let n = h .new j w in record { taken = n .taken; given = n .given; takenT = n .takenT; givenT = n .givenT; whole = n .whole };
+        new = λ (j : ℕ) (w : s .there .rec .no < j). let n = h .new j w in record { taken = n .taken; handed = n .handed; takenT = n .takenT; givenT = n .givenT; whole = n .whole };
       }
 
   on-none : (j : ℕ) (l : List (Numbered (m .E))) → pick m j l ≡ [] → onLine (numbered m) l j ≡ false
@@ -242,7 +242,7 @@ module _ (m : Machine) where
         new = λ (j : ℕ) (w : s .here .rec .no < j).
             let n = h .new j w in
             let a = to-come (s .here) (s .there) (s .broken) j h w in
-            record { taken = n .taken; given = n .given; takenT = n .takenT; givenT = n .givenT; whole = or-false _ _ (or-false _ _ (a .0) (or-false _ _ (a .1) (or-false _ _ (a .2) (a .3)))) (n .whole) };
+            record { taken = n .taken; handed = n .handed; takenT = n .takenT; givenT = n .givenT; whole = or-false _ _ (or-false _ _ (a .0) (or-false _ _ (a .1) (or-false _ _ (a .2) (a .3)))) (n .whole) };
       }
   emptied-led false s h =
       record {
@@ -251,5 +251,5 @@ module _ (m : Machine) where
         new = λ (j : ℕ) (w : s .there .rec .no < j).
             let n = h .new j w in
             let a = to-come (s .there) (s .here) (s .broken) j h w in
-            record { taken = n .taken; given = n .given; takenT = n .takenT; givenT = n .givenT; whole = or-false _ _ (or-false _ _ (a .1) (or-false _ _ (a .0) (or-false _ _ (a .3) (a .2)))) (n .whole) };
+            record { taken = n .taken; handed = n .handed; takenT = n .takenT; givenT = n .givenT; whole = or-false _ _ (or-false _ _ (a .1) (or-false _ _ (a .0) (or-false _ _ (a .3) (a .2)))) (n .whole) };
       }

@@ -6,12 +6,12 @@ use mathlib.Core.List.{List, [], _∷_, _++_, append-nil}
 use Prim.Native.Nat.{ℕ, zero, suc}
 use lib.Dec.{T, eqb}
 use Rattle.pair.specs.Names.{Side, Air, Ground, StartReq, Control, is, isIdle, other}
-use Rattle.pair.specs.Carrier.{Body, Sent, nothing, puts, message, Outcome, refused, acts, Sort, begins, breaks, plain, begins?, Step, user-call, hand-over, timer-expires, error-reported, turn-away, fail, Turn, idle, isStart, starts, discards}
+use Rattle.pair.specs.Carrier.{Body, Sent, nothing, puts, message, Outcome, refused, acts, Sort, begins, breaks, plain, Step, user-call, hand-over, timer-expires, error-reported, turn-away, fail, Turn, idle, isStart, starts, discards}
 use Rattle.pair.specs.Numbered.{NMachine, NParty, NSys, NClaims, more, starter, nSwap, nFresh, trim, nPut, nTook, nSent, nLeft, nDid, nReady, nCalled, nOff, nHandedOver, startOf, nHasStart, nWithoutStart, nMayTurnAway, nRecalled, nTurnedAway, onLine, alive, nEmptied, nToldLost, nFailed, nStepped, nTurned, nRun}
 use Rattle.pair.proofs.Lines.{LL, ll-snoc}
 use Rattle.pair.proofs.NoAbortAnswers.{HeadQuiet, head-quiet}
 use Rattle.pair.proofs.NumberedClaims.{NQuiet}
-use Rattle.pair.proofs.Agree.{SentRel, OutRel, Still, Follows, stays, does, Agree}
+use Rattle.pair.proofs.Agree.{SentRel, OutRel, Still, Follows, stays, does, Agree, start-rel, starts-rel}
 
 -- ---- machines and systems
 
@@ -24,7 +24,7 @@ pub record NPartyRel (m n : NMachine) (g : NAgree m n) (sd : Side) (x : NParty m
   pub rec : g .agree .RR sd (x .rec) (y .rec)
   pub line : LL (g .agree .EE sd) (x .line) (y .line)
   pub taken : (j : ℕ) → x .taken j ≡ y .taken j
-  pub given : (j : ℕ) → x .given j ≡ y .given j
+  pub handed : (j : ℕ) → x .handed j ≡ y .handed j
   pub jobs : x .jobs ≡ y .jobs
 
 pub record NSysRel (m n : NMachine) (g : NAgree m n) (sd : Side) (s : NSys m) (t : NSys n) : Type 0 where
@@ -79,19 +79,19 @@ module _ (m n : NMachine) (g : NAgree m n) where
   put-rel : (sd : Side) (so : Sort) (s : NSys m) (t : NSys n) (e : m .at .E) (f : n .at .E) (keep : ℕ) → Rel sd s t → g .agree .EE sd e f → Rel sd (nPut m so s e keep) (nPut n so t f keep)
   put-rel sd begins s t e f keep h y =
       record {
-        here = record { rec = h .here .rec; line = ll-snoc (g .agree .EE sd) (s .here .line) (t .here .line) e f (h .here .line) y; taken = h .here .taken; given = h .here .given; jobs = h .here .jobs };
+        here = record { rec = h .here .rec; line = ll-snoc (g .agree .EE sd) (s .here .line) (t .here .line) e f (h .here .line) y; taken = h .here .taken; handed = h .here .handed; jobs = h .here .jobs };
         there = h .there;
         broken = h .broken;
       }
   put-rel sd breaks s t e f keep h y =
       record {
-        here = record { rec = h .here .rec; line = cut-rel sd keep (s .here .line) (t .here .line) e f (h .here .line) y; taken = h .here .taken; given = h .here .given; jobs = h .here .jobs };
+        here = record { rec = h .here .rec; line = cut-rel sd keep (s .here .line) (t .here .line) e f (h .here .line) y; taken = h .here .taken; handed = h .here .handed; jobs = h .here .jobs };
         there = h .there;
         broken = λ (j : ℕ). ap (λ (v : ℕ). eqb v j || s .broken j) (g .carries-is sd e f y) ∙ ap (λ (b : Bool). eqb (n .carries f) j || b) (h .broken j);
       }
   put-rel sd plain s t e f keep h y =
       record {
-        here = record { rec = h .here .rec; line = ll-snoc (g .agree .EE sd) (s .here .line) (t .here .line) e f (h .here .line) y; taken = h .here .taken; given = h .here .given; jobs = h .here .jobs };
+        here = record { rec = h .here .rec; line = ll-snoc (g .agree .EE sd) (s .here .line) (t .here .line) e f (h .here .line) y; taken = h .here .taken; handed = h .here .handed; jobs = h .here .jobs };
         there = h .there;
         broken = h .broken;
       }
@@ -110,7 +110,7 @@ module _ (m n : NMachine) (g : NAgree m n) where
           rec = h .here .rec;
           line = h .here .line;
           taken = more-rel (s .here .taken) (t .here .taken) v w (b ∷ []) (c ∷ []) (h .here .taken) o (ap (λ (d : Body). d ∷ []) p);
-          given = h .here .given;
+          handed = h .here .handed;
           jobs = ap (λ (l : List ℕ). l ++ (i ∷ [])) (h .here .jobs) ∙ ap (λ (d : ℕ). t .here .jobs ++ (d ∷ [])) q;
         };
         there = h .there;
@@ -131,7 +131,7 @@ module _ (m n : NMachine) (g : NAgree m n) where
   left-rel : (sd : Side) (s : NSys m) (t : NSys n) (r : m .at .R) (q : n .at .R) (l k : List Body) → Rel sd s t → g .agree .RR sd r q → l ≡ k → Rel sd (nLeft m s r l) (nLeft n t q k)
   left-rel sd s t r q l k h x e =
       record {
-        here = record { rec = x; line = h .here .line; taken = h .here .taken; given = more-rel (s .here .given) (t .here .given) (m .holds r) (n .holds q) l k (h .here .given) (g .holds-is sd r q x) e; jobs = h .here .jobs };
+        here = record { rec = x; line = h .here .line; taken = h .here .taken; handed = more-rel (s .here .handed) (t .here .handed) (m .holds r) (n .holds q) l k (h .here .handed) (g .holds-is sd r q x) e; jobs = h .here .jobs };
         there = h .there;
         broken = h .broken;
       }
@@ -150,25 +150,11 @@ module _ (m n : NMachine) (g : NAgree m n) where
   ready-rel : (sd : Side) (s : NSys m) (t : NSys n) → Rel sd s t → nReady m s ≡ nReady n t
   ready-rel sd s t h = ap (λ (b : Bool). b && idle (m .at) (s .there .rec)) (idle-rel sd (s .here .rec) (t .here .rec) (h .here .rec)) ∙ ap (λ (b : Bool). idle (n .at) (t .here .rec) && b) (idle-rel (other sd) (s .there .rec) (t .there .rec) (h .there .rec))
 
-  start-rel : (sd : Side) (e : m .at .E) (f : n .at .E) → g .agree .EE sd e f → isStart (m .at) e ≡ isStart (n .at) f
-  start-rel sd e f x = ap begins? (g .agree .sort-is sd e f x)
-
-  starts-rel : (sd : Side) (p : Sent (m .at .E)) (o : Sent (n .at .E)) → SentRel (g .agree .EE sd) p o → starts (m .at) p ≡ starts (n .at) o
-  starts-rel sd nothing nothing x = refl
-  starts-rel sd nothing (puts f) x = absurd x
-  starts-rel sd nothing (message f c j) x = absurd x
-  starts-rel sd (puts e) nothing x = absurd x
-  starts-rel sd (puts e) (puts f) x = start-rel sd e f x
-  starts-rel sd (puts e) (message f c j) x = absurd x
-  starts-rel sd (message e b i) nothing x = absurd x
-  starts-rel sd (message e b i) (puts f) x = absurd x
-  starts-rel sd (message e b i) (message f c j) x = start-rel sd e f (x .0)
-
   acts-rel : (may : Bool) (sd : Side) (s : NSys m) (t : NSys n) (r : m .at .R) (l : List Body) (p : Sent (m .at .E)) (o : Outcome (n .at .R) (n .at .E)) (keep : ℕ) → Rel sd s t → OutRel (g .agree .RR sd) (g .agree .EE sd) (acts r l p) o → Rel sd (nCalled m may s (acts r l p) keep) (nCalled n may t o keep)
   acts-rel may sd s t r l p refused keep h x = absurd x
   acts-rel may sd s t r l p (acts q k o) keep h x =
       either sd (not (starts (m .at) p) || (may && nReady m s)) (not (starts (n .at) o) || (may && nReady n t)) (nDid m s (acts r l p) keep) s (nDid n t (acts q k o) keep) t
-      (ap (λ (b : Bool). not b || (may && nReady m s)) (starts-rel sd p o (x .2)) ∙ ap (λ (b : Bool). not (starts (n .at) o) || (may && b)) (ready-rel sd s t h))
+      (ap (λ (b : Bool). not b || (may && nReady m s)) (starts-rel (m .at) (n .at) (g .agree) sd p o (x .2)) ∙ ap (λ (b : Bool). not (starts (n .at) o) || (may && b)) (ready-rel sd s t h))
       (did-rel sd s t (acts r l p) (acts q k o) keep h x) h
 
   nil-same : (b : Bool) (x : List Body) → cond b (x ++ []) x ≡ x
@@ -180,7 +166,7 @@ module _ (m n : NMachine) (g : NAgree m n) where
   still-rel sd s t refused keep h x = h
   still-rel sd s t (acts r l nothing) keep h x =
       record {
-        here = record { rec = x .0; line = h .here .line; taken = h .here .taken; given = λ (j : ℕ). ap (λ (k : List Body). cond (eqb (m .holds r) j) (s .here .given j ++ k) (s .here .given j)) (x .1) ∙ nil-same (eqb (m .holds r) j) (s .here .given j) ∙ h .here .given j; jobs = h .here .jobs };
+        here = record { rec = x .0; line = h .here .line; taken = h .here .taken; handed = λ (j : ℕ). ap (λ (k : List Body). cond (eqb (m .holds r) j) (s .here .handed j ++ k) (s .here .handed j)) (x .1) ∙ nil-same (eqb (m .holds r) j) (s .here .handed j) ∙ h .here .handed j; jobs = h .here .jobs };
         there = h .there;
         broken = h .broken;
       }
@@ -210,7 +196,7 @@ module _ (m n : NMachine) (g : NAgree m n) where
   -- ---- an entry is handed over
 
   off-rel : (sd : Side) (s : NSys m) (t : NSys n) (l : List (m .at .E)) (k : List (n .at .E)) → Rel sd s t → LL (g .agree .EE (other sd)) l k → Rel sd (nOff m s l) (nOff n t k)
-  off-rel sd s t l k h x = record { here = h .here; there = record { rec = h .there .rec; line = x; taken = h .there .taken; given = h .there .given; jobs = h .there .jobs }; broken = h .broken }
+  off-rel sd s t l k h x = record { here = h .here; there = record { rec = h .there .rec; line = x; taken = h .there .taken; handed = h .there .handed; jobs = h .there .jobs }; broken = h .broken }
 
   over-rel : (sd : Side) (s : NSys m) (t : NSys n) (l : List (m .at .E)) (k : List (n .at .E)) (keep : ℕ) → Rel sd s t → LL (g .agree .EE (other sd)) l k → Rel sd (nHandedOver m sd s l keep) (nHandedOver n sd t k keep)
   over-rel sd s t [] [] keep h x = h
@@ -218,14 +204,14 @@ module _ (m n : NMachine) (g : NAgree m n) where
   over-rel sd s t (e ∷ l) [] keep h x = absurd x
   over-rel sd s t (e ∷ l) (f ∷ k) keep h x =
       either sd (discards (m .at) (s .here .rec) e) (discards (n .at) (t .here .rec) f) (nOff m s l) (nDid m (nOff m s l) (m .at .receive sd (s .here .rec) e) keep) (nOff n t k) (nDid n (nOff n t k) (n .at .receive sd (t .here .rec) f) keep)
-      (ap (λ (b : Bool). b && not (isStart (m .at) e)) (idle-rel sd (s .here .rec) (t .here .rec) (h .here .rec)) ∙ ap (λ (b : Bool). idle (n .at) (t .here .rec) && not b) (start-rel (other sd) e f (x .0)))
+      (ap (λ (b : Bool). b && not (isStart (m .at) e)) (idle-rel sd (s .here .rec) (t .here .rec) (h .here .rec)) ∙ ap (λ (b : Bool). idle (n .at) (t .here .rec) && not b) (start-rel (m .at) (n .at) (g .agree) (other sd) e f (x .0)))
       (off-rel sd s t l k h (x .1))
       (did-rel sd (nOff m s l) (nOff n t k) (m .at .receive sd (s .here .rec) e) (n .at .receive sd (t .here .rec) f) keep (off-rel sd s t l k h (x .1)) (g .agree .receive-is sd (s .here .rec) (t .here .rec) e f (h .here .rec) (x .0)))
 
   -- ---- the carrier by itself
 
   start-of-rel : (sd : Side) (v : ℕ) (e : m .at .E) (f : n .at .E) → g .agree .EE sd e f → startOf m v e ≡ startOf n v f
-  start-of-rel sd v e f x = ap (λ (b : Bool). b && eqb (m .carries e) v) (start-rel sd e f x) ∙ ap (λ (u : ℕ). isStart (n .at) f && eqb u v) (g .carries-is sd e f x)
+  start-of-rel sd v e f x = ap (λ (b : Bool). b && eqb (m .carries e) v) (start-rel (m .at) (n .at) (g .agree) sd e f x) ∙ ap (λ (u : ℕ). isStart (n .at) f && eqb u v) (g .carries-is sd e f x)
 
   has-rel : (sd : Side) (v : ℕ) (l : List (m .at .E)) (k : List (n .at .E)) → LL (g .agree .EE sd) l k → nHasStart m v l ≡ nHasStart n v k
   has-rel sd v [] [] x = refl
@@ -252,7 +238,7 @@ module _ (m n : NMachine) (g : NAgree m n) where
           rec = h .here .rec;
           line = subst (λ (v : ℕ). LL (g .agree .EE sd) (nWithoutStart m (m .holds (s .here .rec)) (s .here .line)) (nWithoutStart n v (t .here .line))) (g .holds-is sd (s .here .rec) (t .here .rec) (h .here .rec)) (without-rel sd (m .holds (s .here .rec)) (s .here .line) (t .here .line) (h .here .line));
           taken = h .here .taken;
-          given = h .here .given;
+          handed = h .here .handed;
           jobs = h .here .jobs;
         };
         there = h .there;
@@ -297,8 +283,8 @@ module _ (m n : NMachine) (g : NAgree m n) where
   emptied-rel : (sd : Side) (s : NSys m) (t : NSys n) → Rel sd s t → Rel sd (nEmptied m s) (nEmptied n t)
   emptied-rel sd s t h =
       record {
-        here = record { rec = h .here .rec; line = tt; taken = h .here .taken; given = h .here .given; jobs = h .here .jobs };
-        there = record { rec = h .there .rec; line = tt; taken = h .there .taken; given = h .there .given; jobs = h .there .jobs };
+        here = record { rec = h .here .rec; line = tt; taken = h .here .taken; handed = h .here .handed; jobs = h .here .jobs };
+        there = record { rec = h .there .rec; line = tt; taken = h .there .taken; handed = h .there .handed; jobs = h .there .jobs };
         broken = λ (j : ℕ). ap (λ (b : Bool). b || s .broken j) (alive-rel sd s t j h) ∙ ap (λ (b : Bool). alive n t j || b) (h .broken j);
       }
 
@@ -344,8 +330,8 @@ module _ (m n : NMachine) (g : NAgree m n) where
   -- the second follows every run of the first from corresponding records
   pub n-followed : (from : Side) (r q : m .at .R) (x y : n .at .R) → g .agree .RR Air r x → g .agree .RR Ground q y → (ts : List (Turn (m .at .A))) → NRunRel m n g from (nRun m from (nFresh m r q) ts) (nFresh n x y)
   n-followed from r q x y near far ts = n-run-rel from ts (nFresh m r q) (nFresh n x y) (record {
-    here = record { rec = near; line = tt; taken = λ (j : ℕ). refl; given = λ (j : ℕ). refl; jobs = refl };
-    there = record { rec = far; line = tt; taken = λ (j : ℕ). refl; given = λ (j : ℕ). refl; jobs = refl };
+    here = record { rec = near; line = tt; taken = λ (j : ℕ). refl; handed = λ (j : ℕ). refl; jobs = refl };
+    there = record { rec = far; line = tt; taken = λ (j : ℕ). refl; handed = λ (j : ℕ). refl; jobs = refl };
     broken = λ (j : ℕ). refl;
   })
 
@@ -360,9 +346,9 @@ module _ (m n : NMachine) (g : NAgree m n) where
       record {
         ends-match = λ (p : s .here .line ≡ []) (q : s .there .line ≡ []).
             rw (g .agree .ctl-is Air (s .here .rec) (t .here .rec) (h .here .rec), g .agree .ctl-is Ground (s .there .rec) (t .there .rec) (h .there .rec)) (c .ends-match (nil-rel Air (s .here .line) (t .here .line) (h .here .line) p) (nil-rel Ground (s .there .line) (t .there .line) (h .there .line) q));
-        handed-in-order = λ (j : ℕ). rw (h .there .given j, h .here .taken j, h .here .given j, h .there .taken j) (c .handed-in-order j);
+        handed-in-order = λ (j : ℕ). rw (h .there .handed j, h .here .taken j, h .here .handed j, h .there .taken j) (c .handed-in-order j);
         handed-all = λ (j : ℕ) (p : s .here .line ≡ []) (q : s .there .line ≡ []) (b : s .broken j ≡ false).
-            rw (h .there .given j, h .here .taken j, h .here .given j, h .there .taken j) (c .handed-all j (nil-rel Air (s .here .line) (t .here .line) (h .here .line) p) (nil-rel Ground (s .there .line) (t .there .line) (h .there .line) q) (sym (h .broken j) ∙ b));
+            rw (h .there .handed j, h .here .taken j, h .here .handed j, h .there .taken j) (c .handed-all j (nil-rel Air (s .here .line) (t .here .line) (h .here .line) p) (nil-rel Ground (s .there .line) (t .there .line) (h .there .line) q) (sym (h .broken j) ∙ b));
         jobs-rise = rw (h .here .jobs, h .there .jobs) (c .jobs-rise);
       }
 

@@ -79,7 +79,7 @@ module _ (m : Machine) (B : Base m) where
       go false q = ap (m .ctl) (near-none j s t h q) ∙ B .none-closed
 
   most-re : (j : ℕ) (s : NSys (numbered m)) (t : Sys m) (r : m .R) → Most m B j s t → Most m B j s (reRec m t r)
-  most-re j s t r h = record { here = record { line = h .here .line; taken = h .here .taken; given = h .here .given }; there = h .there; far = h .far; broken = h .broken }
+  most-re j s t r h = record { here = record { line = h .here .line; taken = h .here .taken; handed = h .here .handed }; there = h .there; far = h .far; broken = h .broken }
 
   -- ---- a call
 
@@ -185,14 +185,14 @@ module _ (m : Machine) (B : Base m) where
 
   -- the oldest entry of the line is gone: in its own dialogue, and in another
   off-same : (j : ℕ) (s : NSys (numbered m)) (t : Sys m) (e : Numbered (m .E)) (l : List (Numbered (m .E))) → Most m B j s t → Most m B j (nOff (numbered m) s l) (off m t (pick m j l))
-  off-same j s t e l h = record { here = h .here; there = record { line = refl; taken = h .there .taken; given = h .there .given }; far = h .far; broken = h .broken }
+  off-same j s t e l h = record { here = h .here; there = record { line = refl; taken = h .there .taken; handed = h .there .handed }; far = h .far; broken = h .broken }
 
   off-line : (j : ℕ) (s : NSys (numbered m)) (t : Sys m) (e : Numbered (m .E)) (l : List (Numbered (m .E))) → s .there .line ≡ e ∷ l → eqb (e .no) j ≡ true → Most m B j s t → t .there .line ≡ e .it ∷ pick m j l
   off-line j s t e l z q h = sym (h .there .line) ∙ ap (pick m j) z ∙ yes (eqb (e .no) j) _ _ q
 
   off-other : (j : ℕ) (s : NSys (numbered m)) (t : Sys m) (e : Numbered (m .E)) (l : List (Numbered (m .E))) → s .there .line ≡ e ∷ l → eqb (e .no) j ≡ false → Most m B j s t → Most m B j (nOff (numbered m) s l) t
   off-other j s t e l z q h =
-      record { here = h .here; there = record { line = sym (nay (eqb (e .no) j) _ _ q) ∙ ap (pick m j) (sym z) ∙ h .there .line; taken = h .there .taken; given = h .there .given }; far = h .far; broken = h .broken }
+      record { here = h .here; there = record { line = sym (nay (eqb (e .no) j) _ _ q) ∙ ap (pick m j) (sym z) ∙ h .there .line; taken = h .there .taken; handed = h .there .handed }; far = h .far; broken = h .broken }
 
   -- what the base carrier does with it
   over-base : (sd : Side) (t : Sys m) (keep : ℕ) (e : m .E) (k : List (m .E)) (r : m .R) → t .there .line ≡ e ∷ k → t .here .rec ≡ r → B .P sd t → B .P sd (cond (discards m r e) (off m t k) (did m (off m t k) (m .receive sd r e) keep))
@@ -392,12 +392,12 @@ module _ (m : Machine) (B : Base m) where
       same-most : eqb (s .here .rec .no) j ≡ true → Most m B j (nRecalled (numbered m) s) (recalled m (g .sys))
       same-most q =
           let h = g .sim .most in
-          record { here = record { line = without-same m (s .here .rec .no) j (s .here .line) q ∙ ap (Rattle.pair.proofs.OneDialogue.withoutStart m) (h .here .line); taken = h .here .taken; given = h .here .given }; there = h .there; far = h .far; broken = h .broken }
+          record { here = record { line = without-same m (s .here .rec .no) j (s .here .line) q ∙ ap (Rattle.pair.proofs.OneDialogue.withoutStart m) (h .here .line); taken = h .here .taken; handed = h .here .handed }; there = h .there; far = h .far; broken = h .broken }
 
       other-most : eqb (s .here .rec .no) j ≡ false → Most m B j (nRecalled (numbered m) s) (g .sys)
       other-most q =
           let h = g .sim .most in
-          record { here = record { line = without-other m (s .here .rec .no) j (s .here .line) q ∙ h .here .line; taken = h .here .taken; given = h .here .given }; there = h .there; far = h .far; broken = h .broken }
+          record { here = record { line = without-other m (s .here .rec .no) j (s .here .line) q ∙ h .here .line; taken = h .here .taken; handed = h .here .handed }; there = h .there; far = h .far; broken = h .broken }
 
       base : eqb (s .here .rec .no) j ≡ true → B .P sd (did m (recalled m (g .sys)) o keep)
       base q =
@@ -502,8 +502,8 @@ module _ (m : Machine) (B : Base m) where
           record {
             near = g .sim .near;
             most = record {
-              here = record { line = refl; taken = h .here .taken; given = h .here .given };
-              there = record { line = refl; taken = h .there .taken; given = h .there .given };
+              here = record { line = refl; taken = h .here .taken; handed = h .here .handed };
+              there = record { line = refl; taken = h .there .taken; handed = h .there .handed };
               far = h .far;
               broken = ap (λ (z : Bool). z || s .broken j) q;
             };
@@ -524,8 +524,8 @@ module _ (m : Machine) (B : Base m) where
           record {
             near = g .sim .near;
             most = record {
-              here = record { line = sym (none-on m j (s .here .line) (c .0)) ∙ h .here .line; taken = h .here .taken; given = h .here .given };
-              there = record { line = sym (none-on m j (s .there .line) (c .1)) ∙ h .there .line; taken = h .there .taken; given = h .there .given };
+              here = record { line = sym (none-on m j (s .here .line) (c .0)) ∙ h .here .line; taken = h .here .taken; handed = h .here .handed };
+              there = record { line = sym (none-on m j (s .there .line) (c .1)) ∙ h .there .line; taken = h .there .taken; handed = h .there .handed };
               far = h .far;
               broken = ap (λ (z : Bool). z || s .broken j) q ∙ h .broken;
             };

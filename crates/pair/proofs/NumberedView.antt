@@ -23,7 +23,7 @@ seenRec m B j r = cond (eqb (r .no) j) (r .it) (B .none)
 pub record Seen (m : Machine) (j : ℕ) (x : NParty (numbered m)) (y : Party m) : Type 0 where
   pub line : pick m j (x .line) ≡ y .line
   pub taken : x .taken j ≡ y .taken
-  pub given : x .given j ≡ y .given
+  pub handed : x .handed j ≡ y .handed
 
 -- all but the record at `here`
 pub record Most (m : Machine) (B : Base m) (j : ℕ) (s : NSys (numbered m)) (t : Sys m) : Type 0 where
@@ -45,9 +45,9 @@ pub record Got (m : Machine) (B : Base m) (sd : Side) (j : ℕ) (s : NSys (numbe
 -- nothing has happened in dialogue j
 pub record New (m : Machine) (j : ℕ) (x y : NParty (numbered m)) (b : ℕ → Bool) : Type 0 where
   pub taken : x .taken j ≡ []
-  pub given : x .given j ≡ []
+  pub handed : x .handed j ≡ []
   pub takenT : y .taken j ≡ []
-  pub givenT : y .given j ≡ []
+  pub givenT : y .handed j ≡ []
   pub whole : b j ≡ false
 
 module _ (m : Machine) (B : Base m) (j : ℕ) where
@@ -63,7 +63,7 @@ module _ (m : Machine) (B : Base m) (j : ℕ) where
         here = record {
           line = snoc-same m j (trim (numbered m) v keep (s .here .line)) (mark v e) q ∙ ap (λ (k : List (m .E)). k ++ (e ∷ [])) (trim-same m v j keep (s .here .line) q ∙ ap (λ (k : List (m .E)). take keep k) (h .here .line));
           taken = h .here .taken;
-          given = h .here .given;
+          handed = h .here .handed;
         };
         there = h .there;
         far = h .far;
@@ -71,7 +71,7 @@ module _ (m : Machine) (B : Base m) (j : ℕ) where
       }
   put-same v plain s t e keep q c h =
       record {
-        here = record { line = snoc-same m j (s .here .line) (mark v e) q ∙ ap (λ (k : List (m .E)). k ++ (e ∷ [])) (h .here .line); taken = h .here .taken; given = h .here .given };
+        here = record { line = snoc-same m j (s .here .line) (mark v e) q ∙ ap (λ (k : List (m .E)). k ++ (e ∷ [])) (h .here .line); taken = h .here .taken; handed = h .here .handed };
         there = h .there;
         far = h .far;
         broken = h .broken;
@@ -80,7 +80,7 @@ module _ (m : Machine) (B : Base m) (j : ℕ) where
   took-same : (v : ℕ) (s : NSys (numbered m)) (t : Sys m) (b : Body) (i : ℕ) → eqb v j ≡ true → Most m B j s t → Most m B j (nTook (numbered m) s v b i) (took m t b i)
   took-same v s t b i q h =
       record {
-        here = record { line = h .here .line; taken = yes (eqb v j) _ _ q ∙ ap (λ (k : List Body). k ++ (b ∷ [])) (h .here .taken); given = h .here .given };
+        here = record { line = h .here .line; taken = yes (eqb v j) _ _ q ∙ ap (λ (k : List Body). k ++ (b ∷ [])) (h .here .taken); handed = h .here .handed };
         there = h .there;
         far = h .far;
         broken = h .broken;
@@ -91,7 +91,7 @@ module _ (m : Machine) (B : Base m) (j : ℕ) where
       record {
         near = yes (eqb v j) _ _ q;
         most = record {
-          here = record { line = h .here .line; taken = h .here .taken; given = yes (eqb v j) _ _ q ∙ ap (λ (k : List Body). k ++ l) (h .here .given) };
+          here = record { line = h .here .line; taken = h .here .taken; handed = yes (eqb v j) _ _ q ∙ ap (λ (k : List Body). k ++ l) (h .here .handed) };
           there = h .there;
           far = h .far;
           broken = h .broken;
@@ -111,8 +111,8 @@ module _ (m : Machine) (B : Base m) (j : ℕ) where
   put-start : (v : ℕ) (so : Sort) (s : NSys (numbered m)) (t : Sys m) (e : m .E) (keep : ℕ) → eqb v j ≡ true → T (begins? so) → New m j (s .here) (s .there) (s .broken) → Most m B j s t → Most m B j (nPut (numbered m) so s (mark v e) keep) (put m so t e keep)
   put-start v begins s t e keep q c n h =
       record {
-        here = record { line = snoc-same m j (s .here .line) (mark v e) q ∙ ap (λ (k : List (m .E)). k ++ (e ∷ [])) (h .here .line); taken = n .taken; given = n .given };
-        there = record { line = h .there .line; taken = n .takenT; given = n .givenT };
+        here = record { line = snoc-same m j (s .here .line) (mark v e) q ∙ ap (λ (k : List (m .E)). k ++ (e ∷ [])) (h .here .line); taken = n .taken; handed = n .handed };
+        there = record { line = h .there .line; taken = n .takenT; handed = n .givenT };
         far = h .far;
         broken = n .whole;
       }
@@ -131,19 +131,19 @@ module _ (m : Machine) (B : Base m) (j : ℕ) where
 
   put-other : (v : ℕ) (so : Sort) (s : NSys (numbered m)) (t : Sys m) (e : m .E) (keep : ℕ) → eqb v j ≡ false → Most m B j s t → Most m B j (nPut (numbered m) so s (mark v e) keep) t
   put-other v begins s t e keep q h =
-      record { here = record { line = snoc-other m j (s .here .line) (mark v e) q ∙ h .here .line; taken = h .here .taken; given = h .here .given }; there = h .there; far = h .far; broken = h .broken }
+      record { here = record { line = snoc-other m j (s .here .line) (mark v e) q ∙ h .here .line; taken = h .here .taken; handed = h .here .handed }; there = h .there; far = h .far; broken = h .broken }
   put-other v breaks s t e keep q h =
       record {
-        here = record { line = snoc-other m j (trim (numbered m) v keep (s .here .line)) (mark v e) q ∙ trim-other m v j keep (s .here .line) q ∙ h .here .line; taken = h .here .taken; given = h .here .given };
+        here = record { line = snoc-other m j (trim (numbered m) v keep (s .here .line)) (mark v e) q ∙ trim-other m v j keep (s .here .line) q ∙ h .here .line; taken = h .here .taken; handed = h .here .handed };
         there = h .there;
         far = h .far;
         broken = ap (λ (z : Bool). z || s .broken j) q ∙ h .broken;
       }
   put-other v plain s t e keep q h =
-      record { here = record { line = snoc-other m j (s .here .line) (mark v e) q ∙ h .here .line; taken = h .here .taken; given = h .here .given }; there = h .there; far = h .far; broken = h .broken }
+      record { here = record { line = snoc-other m j (s .here .line) (mark v e) q ∙ h .here .line; taken = h .here .taken; handed = h .here .handed }; there = h .there; far = h .far; broken = h .broken }
 
   took-other : (v : ℕ) (s : NSys (numbered m)) (t : Sys m) (b : Body) (i : ℕ) → eqb v j ≡ false → Most m B j s t → Most m B j (nTook (numbered m) s v b i) t
-  took-other v s t b i q h = record { here = record { line = h .here .line; taken = nay (eqb v j) _ _ q ∙ h .here .taken; given = h .here .given }; there = h .there; far = h .far; broken = h .broken }
+  took-other v s t b i q h = record { here = record { line = h .here .line; taken = nay (eqb v j) _ _ q ∙ h .here .taken; handed = h .here .handed }; there = h .there; far = h .far; broken = h .broken }
 
   sent-other : (v : ℕ) (s : NSys (numbered m)) (t : Sys m) (p : Sent (m .E)) (keep : ℕ) → eqb v j ≡ false → Most m B j s t → Most m B j (nSent (numbered m) s (tag v p) keep) t
   sent-other v s t nothing keep q h = h
@@ -156,7 +156,7 @@ module _ (m : Machine) (B : Base m) (j : ℕ) where
       record {
         near = nay (eqb v j) _ _ q ∙ e;
         most = record {
-          here = record { line = g .here .line; taken = g .here .taken; given = nay (eqb v j) _ _ q ∙ g .here .given };
+          here = record { line = g .here .line; taken = g .here .taken; handed = nay (eqb v j) _ _ q ∙ g .here .handed };
           there = g .there;
           far = g .far;
           broken = g .broken;

@@ -50,7 +50,7 @@ abbrev seen : ℕ → Control → List (Numbered Primitive) → List Body → Li
 seen n c l t g u h = record { no = n; ctl = c; line = l; took1 = t; gave1 = g; took2 = u; gave2 = h }
 
 abbrev ofParty : NParty (numbered control) → Seen
-ofParty x = seen (x .rec .no) (x .rec .it .ctl) (kinds (x .line)) (x .taken 1) (x .given 1) (x .taken 2) (x .given 2)
+ofParty x = seen (x .rec .no) (x .rec .it .ctl) (kinds (x .line)) (x .taken 1) (x .handed 1) (x .taken 2) (x .handed 2)
 
 abbrev view : Seen → Seen → Bool → Bool → View
 view a g b c = record { air = a; ground = g; broken1 = b; broken2 = c }

@@ -16,7 +16,7 @@ pub record Party (m : Machine) : Type 0 where
   pub rec : m .R
   pub line : List (m .E)
   pub taken : List Body
-  pub given : List Body
+  pub handed : List Body
   pub jobs : List ℕ
 
 -- broken: a D-ABORT or a carrier failure broke this dialogue. A step is written for the end `here`
@@ -36,19 +36,19 @@ module _ (m : Machine) where
 
   -- at the beginning both lines are empty
   abbrev pub newEnd : m .R → Party m
-  newEnd r = record { rec = r; line = []; taken = []; given = []; jobs = [] }
+  newEnd r = record { rec = r; line = []; taken = []; handed = []; jobs = [] }
 
   abbrev pub fresh : m .R → m .R → Sys m
   fresh r q = record { here = newEnd r; there = newEnd q; broken = false }
 
   abbrev pub withLine : Party m → List (m .E) → Party m
-  withLine x l = record { rec = x .rec; line = l; taken = x .taken; given = x .given; jobs = x .jobs }
+  withLine x l = record { rec = x .rec; line = l; taken = x .taken; handed = x .handed; jobs = x .jobs }
 
   -- ---- what an event does to the two ends
 
   -- in a new dialogue no message has been taken or handed out
   abbrev pub anew : Party m → Party m
-  anew x = record { rec = x .rec; line = x .line; taken = []; given = []; jobs = x .jobs }
+  anew x = record { rec = x .rec; line = x .line; taken = []; handed = []; jobs = x .jobs }
 
   -- when an end invokes D-ABORT, the entries that it sent earlier and that are not yet delivered may be lost, youngest first,
   -- all but `keep`; the D-ABORT itself is not lost
@@ -64,7 +64,7 @@ module _ (m : Machine) where
   abbrev pub took : Sys m → Body → ℕ → Sys m
   took s b j =
       record {
-        here = record { rec = s .here .rec; line = s .here .line; taken = s .here .taken ++ (b ∷ []); given = s .here .given; jobs = s .here .jobs ++ (j ∷ []) };
+        here = record { rec = s .here .rec; line = s .here .line; taken = s .here .taken ++ (b ∷ []); handed = s .here .handed; jobs = s .here .jobs ++ (j ∷ []) };
         there = s .there;
         broken = s .broken;
       }
@@ -77,7 +77,7 @@ module _ (m : Machine) where
   abbrev pub left : Sys m → m .R → List Body → Sys m
   left s r l =
       record {
-        here = record { rec = r; line = s .here .line; taken = s .here .taken; given = s .here .given ++ l; jobs = s .here .jobs };
+        here = record { rec = r; line = s .here .line; taken = s .here .taken; handed = s .here .handed ++ l; jobs = s .here .jobs };
         there = s .there;
         broken = s .broken;
       }
@@ -160,8 +160,8 @@ pub record Claims (m : Machine) (i j : ℕ) (s : Sys m) : Type 0 where
   -- both lines empty: the two ends are a matching pair
   pub ends-match : s .here .line ≡ [] → s .there .line ≡ [] → T (matching (m .ctl (s .here .rec)) (m .ctl (s .there .rec)))
   -- what an end handed out in this dialogue is the beginning of what the other took in it, in that order
-  pub handed-in-order : Prefix (s .there .given) (s .here .taken) × Prefix (s .here .given) (s .there .taken)
+  pub handed-in-order : Prefix (s .there .handed) (s .here .taken) × Prefix (s .here .handed) (s .there .taken)
   -- and all of it, if both lines are empty and nothing broke the dialogue
-  pub handed-all : s .here .line ≡ [] → s .there .line ≡ [] → s .broken ≡ false → (s .there .given ≡ s .here .taken) × (s .here .given ≡ s .there .taken)
+  pub handed-all : s .here .line ≡ [] → s .there .line ≡ [] → s .broken ≡ false → (s .there .handed ≡ s .here .taken) × (s .here .handed ≡ s .there .taken)
   -- each end takes its jobs in strictly rising order, over all its dialogues: none is taken twice
   pub jobs-rise : T (rising i (s .here .jobs)) × T (rising j (s .there .jobs))

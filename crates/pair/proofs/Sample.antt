@@ -91,7 +91,7 @@ after ts = run (stepMachine sample 1) (fresh (stepMachine sample 1) (freshWith 1
 
 -- the second message request has no message and is refused, so its job is free
 pub bytes-run :
-    (after turns .here .rec .control ≡ entered End true) × (after turns .there .rec .control ≡ entered Dialogue true) × (after turns .here .taken ≡ (5 ∷ []) ∷ (6 ∷ []) ∷ []) × (after turns .there .given ≡ (5 ∷ []) ∷ [])
+    (after turns .here .rec .control ≡ entered End true) × (after turns .there .rec .control ≡ entered Dialogue true) × (after turns .here .taken ≡ (5 ∷ []) ∷ (6 ∷ []) ∷ []) × (after turns .there .handed ≡ (5 ∷ []) ∷ [])
     × (after turns .here .jobs ≡ 1 ∷ 2 ∷ []) × (after turns .here .line ≡ record { primitive = DDataRequest; bytes = 2 ∷ (0 ∷ (6 ∷ [])) } ∷ (record { primitive = DEndRequest; bytes = 2 ∷ (0 ∷ []) } ∷ []))
 unfolding run step refusalOf eventFits userFits hasMode serviceFits userDataFits permitted callOf messageRefusal unsent acts called reached startRequest startResponse messageRequest endRequest sent replyOf enter qosFits firstFault indicationFault confirmationFault sendFault startFits pduFault answered instructed handed
 bytes-run = (refl, refl, refl, refl, refl, refl)

@@ -6,10 +6,10 @@ use mathlib.Core.List.{List, [], _∷_, _++_, append-nil}
 use Prim.Native.Nat.{ℕ}
 use lib.Dec.{T}
 use Rattle.pair.specs.Names.{Side, Air, Ground, StartReq, Control, is, isIdle, other}
-use Rattle.pair.specs.Carrier.{Body, Sent, nothing, puts, message, Outcome, refused, acts, Sort, begins, breaks, plain, begins?, Machine, Step, user-call, hand-over, timer-expires, error-reported, turn-away, fail, Turn, idle, isStart, starts, discards}
+use Rattle.pair.specs.Carrier.{Body, Sent, nothing, puts, message, Outcome, refused, acts, Sort, begins, breaks, plain, Machine, Step, user-call, hand-over, timer-expires, error-reported, turn-away, fail, Turn, idle, isStart, starts, discards}
 use Rattle.pair.proofs.OneDialogue.{Party, Sys, isNil, swap, put, took, sent, left, did, ready, called, off, handedOver, hasStart, withoutStart, mayTurnAway, recalled, turnedAway, emptied, toldLost, failed, stepped, turned, run}
 use Rattle.pair.proofs.Lines.{LL, ll-snoc, ll-cut, ll-nil}
-use Rattle.pair.proofs.Agree.{SentRel, OutRel, Still, Follows, stays, does, Agree}
+use Rattle.pair.proofs.Agree.{SentRel, OutRel, Still, Follows, stays, does, Agree, start-rel, starts-rel}
 
 -- ---- systems
 
@@ -17,7 +17,7 @@ pub record PartyRel (m n : Machine) (g : Agree m n) (sd : Side) (x : Party m) (y
   pub rec : g .RR sd (x .rec) (y .rec)
   pub line : LL (g .EE sd) (x .line) (y .line)
   pub taken : x .taken ≡ y .taken
-  pub given : x .given ≡ y .given
+  pub handed : x .handed ≡ y .handed
   pub jobs : x .jobs ≡ y .jobs
 
 pub record SysRel (m n : Machine) (g : Agree m n) (sd : Side) (s : Sys m) (t : Sys n) : Type 0 where
@@ -49,19 +49,19 @@ module _ (m n : Machine) (g : Agree m n) where
   put-rel : (sd : Side) (so : Sort) (s : Sys m) (t : Sys n) (e : m .E) (f : n .E) (keep : ℕ) → Rel sd s t → g .EE sd e f → Rel sd (put m so s e keep) (put n so t f keep)
   put-rel sd begins s t e f keep h y =
       record {
-        here = record { rec = h .here .rec; line = ll-snoc (g .EE sd) (s .here .line) (t .here .line) e f (h .here .line) y; taken = refl; given = refl; jobs = h .here .jobs };
-        there = record { rec = h .there .rec; line = h .there .line; taken = refl; given = refl; jobs = h .there .jobs };
+        here = record { rec = h .here .rec; line = ll-snoc (g .EE sd) (s .here .line) (t .here .line) e f (h .here .line) y; taken = refl; handed = refl; jobs = h .here .jobs };
+        there = record { rec = h .there .rec; line = h .there .line; taken = refl; handed = refl; jobs = h .there .jobs };
         broken = refl;
       }
   put-rel sd breaks s t e f keep h y =
       record {
-        here = record { rec = h .here .rec; line = ll-cut m n (g .EE sd) keep (s .here .line) (t .here .line) e f (h .here .line) y; taken = h .here .taken; given = h .here .given; jobs = h .here .jobs };
+        here = record { rec = h .here .rec; line = ll-cut m n (g .EE sd) keep (s .here .line) (t .here .line) e f (h .here .line) y; taken = h .here .taken; handed = h .here .handed; jobs = h .here .jobs };
         there = h .there;
         broken = refl;
       }
   put-rel sd plain s t e f keep h y =
       record {
-        here = record { rec = h .here .rec; line = ll-snoc (g .EE sd) (s .here .line) (t .here .line) e f (h .here .line) y; taken = h .here .taken; given = h .here .given; jobs = h .here .jobs };
+        here = record { rec = h .here .rec; line = ll-snoc (g .EE sd) (s .here .line) (t .here .line) e f (h .here .line) y; taken = h .here .taken; handed = h .here .handed; jobs = h .here .jobs };
         there = h .there;
         broken = h .broken;
       }
@@ -76,7 +76,7 @@ module _ (m n : Machine) (g : Agree m n) where
           rec = h .here .rec;
           line = h .here .line;
           taken = ap (λ (l : List Body). l ++ (b ∷ [])) (h .here .taken) ∙ ap (λ (d : Body). t .here .taken ++ (d ∷ [])) p;
-          given = h .here .given;
+          handed = h .here .handed;
           jobs = ap (λ (l : List ℕ). l ++ (i ∷ [])) (h .here .jobs) ∙ ap (λ (d : ℕ). t .here .jobs ++ (d ∷ [])) q;
         };
         there = h .there;
@@ -97,7 +97,7 @@ module _ (m n : Machine) (g : Agree m n) where
   left-rel : (sd : Side) (s : Sys m) (t : Sys n) (r : m .R) (q : n .R) (l k : List Body) → Rel sd s t → g .RR sd r q → l ≡ k → Rel sd (left m s r l) (left n t q k)
   left-rel sd s t r q l k h x e =
       record {
-        here = record { rec = x; line = h .here .line; taken = h .here .taken; given = ap (λ (v : List Body). v ++ l) (h .here .given) ∙ ap (λ (v : List Body). t .here .given ++ v) e; jobs = h .here .jobs };
+        here = record { rec = x; line = h .here .line; taken = h .here .taken; handed = ap (λ (v : List Body). v ++ l) (h .here .handed) ∙ ap (λ (v : List Body). t .here .handed ++ v) e; jobs = h .here .jobs };
         there = h .there;
         broken = h .broken;
       }
@@ -120,25 +120,11 @@ module _ (m n : Machine) (g : Agree m n) where
       ∙ ap (λ (b : Bool). idle n (t .here .rec) && (idle n (t .there .rec) && (b && isNil (s .there .line)))) (ll-nil (g .EE sd) (s .here .line) (t .here .line) (h .here .line))
       ∙ ap (λ (b : Bool). idle n (t .here .rec) && (idle n (t .there .rec) && (isNil (t .here .line) && b))) (ll-nil (g .EE (other sd)) (s .there .line) (t .there .line) (h .there .line))
 
-  start-rel : (sd : Side) (e : m .E) (f : n .E) → g .EE sd e f → isStart m e ≡ isStart n f
-  start-rel sd e f x = ap begins? (g .sort-is sd e f x)
-
-  starts-rel : (sd : Side) (p : Sent (m .E)) (o : Sent (n .E)) → SentRel (g .EE sd) p o → starts m p ≡ starts n o
-  starts-rel sd nothing nothing x = refl
-  starts-rel sd nothing (puts f) x = absurd x
-  starts-rel sd nothing (message f c j) x = absurd x
-  starts-rel sd (puts e) nothing x = absurd x
-  starts-rel sd (puts e) (puts f) x = start-rel sd e f x
-  starts-rel sd (puts e) (message f c j) x = absurd x
-  starts-rel sd (message e b i) nothing x = absurd x
-  starts-rel sd (message e b i) (puts f) x = absurd x
-  starts-rel sd (message e b i) (message f c j) x = start-rel sd e f (x .0)
-
   acts-rel : (sd : Side) (s : Sys m) (t : Sys n) (r : m .R) (l : List Body) (p : Sent (m .E)) (o : Outcome (n .R) (n .E)) (keep : ℕ) → Rel sd s t → OutRel (g .RR sd) (g .EE sd) (acts r l p) o → Rel sd (called m s (acts r l p) keep) (called n t o keep)
   acts-rel sd s t r l p refused keep h x = absurd x
   acts-rel sd s t r l p (acts q k o) keep h x =
       either sd (not (starts m p) || ready m s) (not (starts n o) || ready n t) (did m s (acts r l p) keep) s (did n t (acts q k o) keep) t
-      (ap (λ (b : Bool). not b || ready m s) (starts-rel sd p o (x .2)) ∙ ap (λ (b : Bool). not (starts n o) || b) (ready-rel sd s t h))
+      (ap (λ (b : Bool). not b || ready m s) (starts-rel m n g sd p o (x .2)) ∙ ap (λ (b : Bool). not (starts n o) || b) (ready-rel sd s t h))
       (did-rel sd s t (acts r l p) (acts q k o) keep h x) h
 
   -- an event that needs no partner
@@ -146,7 +132,7 @@ module _ (m n : Machine) (g : Agree m n) where
   still-rel sd s t refused keep h x = h
   still-rel sd s t (acts r l nothing) keep h x =
       record {
-        here = record { rec = x .0; line = h .here .line; taken = h .here .taken; given = ap (λ (k : List Body). s .here .given ++ k) (x .1) ∙ append-nil (s .here .given) ∙ h .here .given; jobs = h .here .jobs };
+        here = record { rec = x .0; line = h .here .line; taken = h .here .taken; handed = ap (λ (k : List Body). s .here .handed ++ k) (x .1) ∙ append-nil (s .here .handed) ∙ h .here .handed; jobs = h .here .jobs };
         there = h .there;
         broken = h .broken;
       }
@@ -176,7 +162,7 @@ module _ (m n : Machine) (g : Agree m n) where
   -- ---- an entry is handed over
 
   off-rel : (sd : Side) (s : Sys m) (t : Sys n) (l : List (m .E)) (k : List (n .E)) → Rel sd s t → LL (g .EE (other sd)) l k → Rel sd (off m s l) (off n t k)
-  off-rel sd s t l k h x = record { here = h .here; there = record { rec = h .there .rec; line = x; taken = h .there .taken; given = h .there .given; jobs = h .there .jobs }; broken = h .broken }
+  off-rel sd s t l k h x = record { here = h .here; there = record { rec = h .there .rec; line = x; taken = h .there .taken; handed = h .there .handed; jobs = h .there .jobs }; broken = h .broken }
 
   over-rel : (sd : Side) (s : Sys m) (t : Sys n) (l : List (m .E)) (k : List (n .E)) (keep : ℕ) → Rel sd s t → LL (g .EE (other sd)) l k → Rel sd (handedOver m sd s l keep) (handedOver n sd t k keep)
   over-rel sd s t [] [] keep h x = h
@@ -184,7 +170,7 @@ module _ (m n : Machine) (g : Agree m n) where
   over-rel sd s t (e ∷ l) [] keep h x = absurd x
   over-rel sd s t (e ∷ l) (f ∷ k) keep h x =
       either sd (discards m (s .here .rec) e) (discards n (t .here .rec) f) (off m s l) (did m (off m s l) (m .receive sd (s .here .rec) e) keep) (off n t k) (did n (off n t k) (n .receive sd (t .here .rec) f) keep)
-      (ap (λ (b : Bool). b && not (isStart m e)) (idle-rel sd (s .here .rec) (t .here .rec) (h .here .rec)) ∙ ap (λ (b : Bool). idle n (t .here .rec) && not b) (start-rel (other sd) e f (x .0)))
+      (ap (λ (b : Bool). b && not (isStart m e)) (idle-rel sd (s .here .rec) (t .here .rec) (h .here .rec)) ∙ ap (λ (b : Bool). idle n (t .here .rec) && not b) (start-rel m n g (other sd) e f (x .0)))
       (off-rel sd s t l k h (x .1))
       (did-rel sd (off m s l) (off n t k) (m .receive sd (s .here .rec) e) (n .receive sd (t .here .rec) f) keep (off-rel sd s t l k h (x .1)) (g .receive-is sd (s .here .rec) (t .here .rec) e f (h .here .rec) (x .0)))
 
@@ -194,14 +180,14 @@ module _ (m n : Machine) (g : Agree m n) where
   has-rel sd [] [] x = refl
   has-rel sd [] (f ∷ k) x = absurd x
   has-rel sd (e ∷ l) [] x = absurd x
-  has-rel sd (e ∷ l) (f ∷ k) x = ap (λ (b : Bool). b || hasStart m l) (start-rel sd e f (x .0)) ∙ ap (λ (b : Bool). isStart n f || b) (has-rel sd l k (x .1))
+  has-rel sd (e ∷ l) (f ∷ k) x = ap (λ (b : Bool). b || hasStart m l) (start-rel m n g sd e f (x .0)) ∙ ap (λ (b : Bool). isStart n f || b) (has-rel sd l k (x .1))
 
   without-rel : (sd : Side) (l : List (m .E)) (k : List (n .E)) → LL (g .EE sd) l k → LL (g .EE sd) (withoutStart m l) (withoutStart n k)
   without-rel sd [] [] x = tt
   without-rel sd [] (f ∷ k) x = absurd x
   without-rel sd (e ∷ l) [] x = absurd x
   without-rel sd (e ∷ l) (f ∷ k) x =
-      subst (λ (b : Bool). LL (g .EE sd) (cond (isStart m e) l (e ∷ withoutStart m l)) (cond b k (f ∷ withoutStart n k))) (start-rel sd e f (x .0))
+      subst (λ (b : Bool). LL (g .EE sd) (cond (isStart m e) l (e ∷ withoutStart m l)) (cond b k (f ∷ withoutStart n k))) (start-rel m n g sd e f (x .0))
       (go (isStart m e) (without-rel sd l k (x .1)))
     where
       go : (b : Bool) → LL (g .EE sd) (withoutStart m l) (withoutStart n k) → LL (g .EE sd) (cond b l (e ∷ withoutStart m l)) (cond b k (f ∷ withoutStart n k))
@@ -209,7 +195,7 @@ module _ (m n : Machine) (g : Agree m n) where
       go false y = (x .0, y)
 
   recalled-rel : (sd : Side) (s : Sys m) (t : Sys n) → Rel sd s t → Rel sd (recalled m s) (recalled n t)
-  recalled-rel sd s t h = record { here = record { rec = h .here .rec; line = without-rel sd (s .here .line) (t .here .line) (h .here .line); taken = h .here .taken; given = h .here .given; jobs = h .here .jobs }; there = h .there; broken = h .broken }
+  recalled-rel sd s t h = record { here = record { rec = h .here .rec; line = without-rel sd (s .here .line) (t .here .line) (h .here .line); taken = h .here .taken; handed = h .here .handed; jobs = h .here .jobs }; there = h .there; broken = h .broken }
 
   away-rel : (sd : Side) (s : Sys m) (t : Sys n) (keep : ℕ) → Rel sd s t → Rel sd (turnedAway m sd s keep) (turnedAway n sd t keep)
   away-rel sd s t keep h =
@@ -234,8 +220,8 @@ module _ (m n : Machine) (g : Agree m n) where
   emptied-rel : (sd : Side) (s : Sys m) (t : Sys n) → Rel sd s t → Rel sd (emptied m s) (emptied n t)
   emptied-rel sd s t h =
       record {
-        here = record { rec = h .here .rec; line = tt; taken = h .here .taken; given = h .here .given; jobs = h .here .jobs };
-        there = record { rec = h .there .rec; line = tt; taken = h .there .taken; given = h .there .given; jobs = h .there .jobs };
+        here = record { rec = h .here .rec; line = tt; taken = h .here .taken; handed = h .here .handed; jobs = h .here .jobs };
+        there = record { rec = h .there .rec; line = tt; taken = h .there .taken; handed = h .there .handed; jobs = h .there .jobs };
         broken = refl;
       }
 

@@ -6,7 +6,7 @@ use mathlib.Core.Bool.{Bool, true, false, cond, _&&_}
 use mathlib.Core.List.{[]}
 use Prim.Native.Nat.{ℕ}
 use lib.Dec.{T}
-use Rattle.machine.proofs.Laws.{step-formed}
+use Rattle.clauses.proofs.Laws.{step-formed}
 use Rattle.machine.specs.Outcome.{isNone}
 use Rattle.machine.specs.Record.{enter}
 use Rattle.machine.specs.Run.{Formed}

@@ -11,7 +11,7 @@ use borrow.Author.Tests.{eq-eqb}
 use Rattle.machine.specs.Codes.{accepted, noSecurity, noVersion, transient, dsProvider, user, provider, results, startResults, originators, userReasons, providerReasons, securityValues, protocolError, communicationServiceError, communicationServiceFailure}
 use Rattle.control.specs.Control.{started, ended}
 use Rattle.control.proofs.Moves.{after-awaits}
-use Rattle.machine.proofs.Clauses.{no-instruction-outside}
+use Rattle.clauses.proofs.Clauses.{no-instruction-outside}
 use Rattle.machine.specs.Record.{withTimer, withUser, enter}
 use Rattle.machine.specs.Outcome.{isNone}
 use Rattle.machine.specs.Outcome as O

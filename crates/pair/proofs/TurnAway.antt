@@ -63,8 +63,8 @@ module _ (sd : Side) (s : Sys control) (keep : ℕ) (h : Inv sd s) (r : T (is (s
       let x : T (expects sd c DTurnedAway) = and-r (isInd w) _ u in
       let f = drain-fine od (recv od g (z .kind)) l (sound-right sd (s .broken) (ok c) w q) in
       let i′ : T (isClosed g) = closed-is g (taken-at od g (z .kind) i f) (h .wfT) in
-      let d : Data (s .broken) (s .there .given) [] (s .here .taken) =
-      alone od g (s .broken) (s .there .given) (s .here .taken) z l i o (subst (λ (k : List Ent). Data (s .broken) (s .there .given) (flow od g k) (s .here .taken)) e (h .dataO)) in
+      let d : Data (s .broken) (s .there .handed) [] (s .here .taken) =
+      alone od g (s .broken) (s .there .handed) (s .here .taken) z l i o (subst (λ (k : List Ent). Data (s .broken) (s .there .handed) (flow od g k) (s .here .taken)) e (h .dataO)) in
       subst (λ (y : Did). Inv sd (did control (on s l) (met (s .here .rec) y []) keep)) (sym (meets-is sd c DTurnedAway x))
       (record {
         con = rw (n, o, b) (fresh-at sd closed g tt i′);
@@ -73,7 +73,7 @@ module _ (sd : Side) (s : Sys control) (keep : ℕ) (h : Inv sd s) (r : T (is (s
         headO = λ (y : T (startFirst l)). n;
         headI = λ (y : T (startFirst (s .there .line))). o;
         dataO = rw o d;
-        dataI = rw (append-nil (s .here .given), n) (subst (λ (k : List Ent). Data (s .broken) (s .here .given) (flow sd c k) (s .there .taken)) n (h .dataI));
+        dataI = rw (append-nil (s .here .handed), n) (subst (λ (k : List Ent). Data (s .broken) (s .here .handed) (flow sd c k) (s .there .taken)) n (h .dataI));
       })
 
   away-any : (l : List Ent) → s .here .line ≡ l → T (hasStart control l) → Inv sd (did control (on s (withoutStart control l)) (receives sd (s .here .rec) (ent DTurnedAway [])) keep)

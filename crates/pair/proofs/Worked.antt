@@ -53,7 +53,7 @@ abbrev seen : Control → List Primitive → List ℕ → List ℕ → List ℕ 
 seen c l t g j = record { ctl = c; line = l; took = t; gave = g; jobs = j }
 
 abbrev ofParty : Party control → Seen
-ofParty x = seen (x .rec .ctl) (kinds (x .line)) (texts (x .taken)) (texts (x .given)) (x .jobs)
+ofParty x = seen (x .rec .ctl) (kinds (x .line)) (texts (x .taken)) (texts (x .handed)) (x .jobs)
 
 abbrev after : List (Turn Ask) → View
 after ts = record { air = ofParty (run control (fresh control new new) ts .here); ground = ofParty (run control (fresh control new new) ts .there); broken = run control (fresh control new new) ts .broken }

@@ -21,7 +21,7 @@ pub record NParty (m : NMachine) : Type 0 where
   pub rec : m .at .R
   pub line : List (m .at .E)
   pub taken : ℕ → List Body
-  pub given : ℕ → List Body
+  pub handed : ℕ → List Body
   pub jobs : List ℕ
 
 -- broken: whether a D-ABORT or a carrier failure broke the dialogue of a number. A step is written for the end `here`
@@ -53,13 +53,13 @@ module _ (m : NMachine) where
 
   -- at the beginning both lines are empty
   abbrev pub nNew : m .at .R → NParty m
-  nNew r = record { rec = r; line = []; taken = λ (j : ℕ). []; given = λ (j : ℕ). []; jobs = [] }
+  nNew r = record { rec = r; line = []; taken = λ (j : ℕ). []; handed = λ (j : ℕ). []; jobs = [] }
 
   abbrev pub nFresh : m .at .R → m .at .R → NSys m
   nFresh r q = record { here = nNew r; there = nNew q; broken = λ (j : ℕ). false }
 
   abbrev pub nLine : NParty m → List (m .at .E) → NParty m
-  nLine x l = record { rec = x .rec; line = l; taken = x .taken; given = x .given; jobs = x .jobs }
+  nLine x l = record { rec = x .rec; line = l; taken = x .taken; handed = x .handed; jobs = x .jobs }
 
   -- when an end invokes D-ABORT, the entries that it sent earlier in that dialogue, n, and that are not yet delivered may be lost, youngest
   -- first, all but `keep`
@@ -82,7 +82,7 @@ module _ (m : NMachine) where
   abbrev pub nTook : NSys m → ℕ → Body → ℕ → NSys m
   nTook s n b i =
       record {
-        here = record { rec = s .here .rec; line = s .here .line; taken = more (s .here .taken) n (b ∷ []); given = s .here .given; jobs = s .here .jobs ++ (i ∷ []) };
+        here = record { rec = s .here .rec; line = s .here .line; taken = more (s .here .taken) n (b ∷ []); handed = s .here .handed; jobs = s .here .jobs ++ (i ∷ []) };
         there = s .there;
         broken = s .broken;
       }
@@ -96,7 +96,7 @@ module _ (m : NMachine) where
   abbrev pub nLeft : NSys m → m .at .R → List Body → NSys m
   nLeft s r l =
       record {
-        here = record { rec = r; line = s .here .line; taken = s .here .taken; given = more (s .here .given) (m .holds r) l; jobs = s .here .jobs };
+        here = record { rec = r; line = s .here .line; taken = s .here .taken; handed = more (s .here .handed) (m .holds r) l; jobs = s .here .jobs };
         there = s .there;
         broken = s .broken;
       }
@@ -184,9 +184,9 @@ pub record NClaims (m : NMachine) (i k : ℕ) (s : NSys m) : Type 0 where
   -- both lines empty: the two ends are a matching pair
   pub ends-match : s .here .line ≡ [] → s .there .line ≡ [] → T (matching (m .at .ctl (s .here .rec)) (m .at .ctl (s .there .rec)))
   -- what an end handed out in a dialogue is the beginning of what the other took in it, in that order
-  pub handed-in-order : (j : ℕ) → Prefix (s .there .given j) (s .here .taken j) × Prefix (s .here .given j) (s .there .taken j)
+  pub handed-in-order : (j : ℕ) → Prefix (s .there .handed j) (s .here .taken j) × Prefix (s .here .handed j) (s .there .taken j)
   -- and all of it, if both lines are empty and nothing broke the dialogue
-  pub handed-all : (j : ℕ) → s .here .line ≡ [] → s .there .line ≡ [] → s .broken j ≡ false → (s .there .given j ≡ s .here .taken j) × (s .here .given j ≡ s .there .taken j)
+  pub handed-all : (j : ℕ) → s .here .line ≡ [] → s .there .line ≡ [] → s .broken j ≡ false → (s .there .handed j ≡ s .here .taken j) × (s .here .handed j ≡ s .there .taken j)
   -- each end takes its jobs in strictly rising order, over all its dialogues: none is taken twice
   pub jobs-rise : T (rising i (s .here .jobs)) × T (rising k (s .there .jobs))
 

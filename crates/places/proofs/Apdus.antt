@@ -12,7 +12,7 @@ use lib.Pow.{pow-mono}
 use Rattle.words.proofs.Laws.{both-left, both-right}
 use Rattle.bits.proofs.Numbers.{Bits, length-bitsN}
 use Rattle.fields.specs.Additions.{additionsAt}
-use Rattle.fields.specs.Fields.{refusal, refusedAt, then, bitField, digitsIn, widthOf, wholeNumber, extensibleIndex, stringAt}
+use Rattle.fields.specs.Fields.{refusal, refusedAt, then, bitField, digitsIn, widthOf, wholeNumber, extensibleIndex, stringAt, onto}
 use Rattle.fields.specs.declared.Fault.the-variants.{Short, Tail, Default}
 use Rattle.fields.specs.declared.Refusal.{Refusal}
 use Rattle.fields.specs.declared.Field.{Field}
@@ -25,7 +25,7 @@ use Rattle.apdu.specs.Sizes.{identifierLeast, identifierMost, messageMost, chec
 use Rattle.apdu.specs.Headings.{triple, dateFrom, dateTo, timeFrom, timeTo, charactersLeast, charactersMost, character, addressBits, directionLast, responseLast}
 use Rattle.apdu.specs.Pdus.{lastOf, kindOf}
 use Rattle.apdu.specs.Encoding.{padding}
-use Rattle.apdu.specs.Reading.{onField, onData, onTaken, onTriple, onHeading, onForward, onLead, optionalAt, partAt, spanTo, partsWithin, partsAt, withAdditions, dataWithin, dataAt, tripleAt, headingAt, forwardWithin, forwardAt, modeValue, modeAt, kindMode, leadingAt, tailAt, endedAt, restWithin, restAt, apduWithin, apduAt, wholeWithin, wholeData, wholeForwardWithin, wholeForward}
+use Rattle.apdu.specs.Reading.{onData, onTaken, onTriple, onHeading, onForward, onLead, optionalAt, partAt, spanTo, partsWithin, partsAt, withAdditions, dataWithin, dataAt, tripleAt, headingAt, forwardWithin, forwardAt, modeValue, modeAt, kindMode, leadingAt, tailAt, endedAt, restWithin, restAt, apduWithin, apduAt, wholeWithin, wholeData, wholeForwardWithin, wholeForward}
 use Rattle.apdu.specs.declared.PduType.{PduType}
 use Rattle.apdu.specs.declared.PduType.the-variants.{AircraftPdus, GroundPdus}
 use Rattle.apdu.specs.declared.Kind.{Kind}
@@ -62,14 +62,14 @@ seenLead (lead.Refused r) = refused r
 
 -- after message data
 taken-field : (f : List ℕ → Field) (k : ℕ → ℕ → List ℕ → Taken) (l : List ℕ) (at : ℕ) → Sound seenField f l at → ((v n : ℕ) → f l ≡ Value v n → at ≤ n → n ≤ length l → Sound seenTaken (k v n) l n)
-    → Sound seenTaken (λ (m : List ℕ). onField taken.Refused (f m) (λ (v n : ℕ). k v n m)) l at
+    → Sound seenTaken (λ (m : List ℕ). onto taken.Refused (f m) (λ (v n : ℕ). k v n m)) l at
 taken-field f k l at s on =
-    after-field seenTaken taken.Refused (onField taken.Refused) (λ (r : Refusal). refl) (λ (v n : ℕ) (c : ℕ → ℕ → Taken). refl) (λ (r : Refusal) (c : ℕ → ℕ → Taken). refl) f k l at s on
+    after-field seenTaken taken.Refused (onto taken.Refused) (λ (r : Refusal). refl) (λ (v n : ℕ) (c : ℕ → ℕ → Taken). refl) (λ (r : Refusal) (c : ℕ → ℕ → Taken). refl) f k l at s on
 
 lead-field : (f : List ℕ → Field) (k : ℕ → ℕ → List ℕ → Lead) (l : List ℕ) (at : ℕ) → Sound seenField f l at → ((v n : ℕ) → f l ≡ Value v n → at ≤ n → n ≤ length l → Sound seenLead (k v n) l n)
-    → Sound seenLead (λ (m : List ℕ). onField lead.Refused (f m) (λ (v n : ℕ). k v n m)) l at
+    → Sound seenLead (λ (m : List ℕ). onto lead.Refused (f m) (λ (v n : ℕ). k v n m)) l at
 lead-field f k l at s on =
-    after-field seenLead lead.Refused (onField lead.Refused) (λ (r : Refusal). refl) (λ (v n : ℕ) (c : ℕ → ℕ → Lead). refl) (λ (r : Refusal) (c : ℕ → ℕ → Lead). refl) f k l at s on
+    after-field seenLead lead.Refused (onto lead.Refused) (λ (r : Refusal). refl) (λ (v n : ℕ) (c : ℕ → ℕ → Lead). refl) (λ (r : Refusal) (c : ℕ → ℕ → Lead). refl) f k l at s on
 
 -- ---- message data
 
@@ -95,23 +95,23 @@ parts-sound l at i m h =
 added-sound : (l : List ℕ) (at : ℕ) (i m : Bool) → at ≤ length l → Sound seenTaken (λ (x : List ℕ). withAdditions x (partsAt x at i m)) l at
 unfolding withAdditions
 added-sound l at i m h =
-    sound-bind seenTaken seenTaken taken.Refused (λ (x : List ℕ). partsAt x at i m) (λ (t : Taken) (y : List ℕ). onTaken t (λ (d : Data) (next : ℕ). onField taken.Refused (additionsAt y next) (λ (v after : ℕ). taken.Is d after))) l at
+    sound-bind seenTaken seenTaken taken.Refused (λ (x : List ℕ). partsAt x at i m) (λ (t : Taken) (y : List ℕ). onTaken t (λ (d : Data) (next : ℕ). onto taken.Refused (additionsAt y next) (λ (v after : ℕ). taken.Is d after))) l at
     (λ (r : Refusal). refl) hands (parts-sound l at i m h) (go (partsAt l at i m) refl)
   where
-    hands : (t : Taken) (r : Refusal) (y : List ℕ) → seenTaken t ≡ refused r → onTaken t (λ (d : Data) (next : ℕ). onField taken.Refused (additionsAt y next) (λ (v after : ℕ). taken.Is d after)) ≡ taken.Refused r
+    hands : (t : Taken) (r : Refusal) (y : List ℕ) → seenTaken t ≡ refused r → onTaken t (λ (d : Data) (next : ℕ). onto taken.Refused (additionsAt y next) (λ (v after : ℕ). taken.Is d after)) ≡ taken.Refused r
     hands (taken.Is d n) r y e = clash n r e
     hands (taken.Refused q) r y e = ap taken.Refused (one-refusal q r e)
 
-    behind : (d : Data) (j : ℕ) → j ≤ length l → Sound seenTaken (λ (y : List ℕ). onField taken.Refused (additionsAt y j) (λ (v after : ℕ). taken.Is d after)) l j
+    behind : (d : Data) (j : ℕ) → j ≤ length l → Sound seenTaken (λ (y : List ℕ). onto taken.Refused (additionsAt y j) (λ (v after : ℕ). taken.Is d after)) l j
     behind d j w =
         taken-field (λ (y : List ℕ). additionsAt y j) (λ (v after : ℕ) (y : List ℕ). taken.Is d after) l j (additions-sound l j w)
         (λ (v after : ℕ) (e : additionsAt l j ≡ Value v after) (a : j ≤ after) (b : after ≤ length l). sound-value seenTaken (taken.Is d after) l after b refl)
 
     go : (t : Taken) → partsAt l at i m ≡ t → (n : ℕ) → seenTaken t ≡ went n → at ≤ n → n ≤ length l
-        → Sound seenTaken (λ (y : List ℕ). onTaken t (λ (d : Data) (next : ℕ). onField taken.Refused (additionsAt y next) (λ (v after : ℕ). taken.Is d after))) l n
+        → Sound seenTaken (λ (y : List ℕ). onTaken t (λ (d : Data) (next : ℕ). onto taken.Refused (additionsAt y next) (λ (v after : ℕ). taken.Is d after))) l n
     go (taken.Is d j) e n q a w =
         let k : j ≡ n = one-place j n q in
-        subst (λ (z : ℕ). Sound seenTaken (λ (y : List ℕ). onField taken.Refused (additionsAt y j) (λ (v after : ℕ). taken.Is d after)) l z) k (behind d j (omega arith))
+        subst (λ (z : ℕ). Sound seenTaken (λ (y : List ℕ). onto taken.Refused (additionsAt y j) (λ (v after : ℕ). taken.Is d after)) l z) k (behind d j (omega arith))
     go (taken.Refused r) e n q a w = clash n r (sym q)
 
 pub data-sound : (l : List ℕ) (at : ℕ) → at ≤ length l → Sound seenTaken (λ (x : List ℕ). dataAt x at) l at
@@ -163,7 +163,7 @@ kind-mode-sound pdus l kind.ForwardResponse at h = sound-value seenField (Value 
 pub lead-sound : (pdus : PduType) (l : List ℕ) (at : ℕ) → at ≤ length l → Sound seenLead (λ (x : List ℕ). leadingAt pdus x at) l at
 unfolding leadingAt
 lead-sound pdus l at h =
-    lead-field (λ (x : List ℕ). extensibleIndex x at (lastOf pdus)) (λ (i p : ℕ) (x : List ℕ). onField lead.Refused (kindMode pdus x (kindOf i) p) (λ (m q : ℕ). lead.Is (kindOf i) m q)) l at (index-sound l at (lastOf pdus) h)
+    lead-field (λ (x : List ℕ). extensibleIndex x at (lastOf pdus)) (λ (i p : ℕ) (x : List ℕ). onto lead.Refused (kindMode pdus x (kindOf i) p) (λ (m q : ℕ). lead.Is (kindOf i) m q)) l at (index-sound l at (lastOf pdus) h)
     (λ (i p : ℕ) (e : extensibleIndex l at (lastOf pdus) ≡ Value i p) (a : at ≤ p) (b : p ≤ length l).
     lead-field (λ (x : List ℕ). kindMode pdus x (kindOf i) p) (λ (m q : ℕ) (x : List ℕ). lead.Is (kindOf i) m q) l p (kind-mode-sound pdus l (kindOf i) p b)
     (λ (m q : ℕ) (f : kindMode pdus l (kindOf i) p ≡ Value m q) (c : p ≤ q) (d : q ≤ length l). sound-value seenLead (lead.Is (kindOf i) m q) l q d refl))
@@ -232,27 +232,27 @@ seenAnswer (decoded.Is a) = went 0
 seenAnswer (decoded.Refused r) = refused r
 
 answer-field : (f : List ℕ → Field) (k : ℕ → ℕ → List ℕ → Decoded) (l : List ℕ) (at : ℕ) → Sound seenField f l at → ((v n : ℕ) → f l ≡ Value v n → at ≤ n → n ≤ length l → Refusing seenAnswer (k v n) l n)
-    → Refusing seenAnswer (λ (x : List ℕ). onField decoded.Refused (f x) (λ (v n : ℕ). k v n x)) l at
+    → Refusing seenAnswer (λ (x : List ℕ). onto decoded.Refused (f x) (λ (v n : ℕ). k v n x)) l at
 answer-field f k l at s on =
-    refusing-bind seenField seenAnswer decoded.Refused f (λ (x : Field) (y : List ℕ). onField decoded.Refused x (λ (v n : ℕ). k v n y)) l at (λ (r : Refusal). refl) hands s (go (f l) refl)
+    refusing-bind seenField seenAnswer decoded.Refused f (λ (x : Field) (y : List ℕ). onto decoded.Refused x (λ (v n : ℕ). k v n y)) l at (λ (r : Refusal). refl) hands s (go (f l) refl)
   where
-    hands : (x : Field) (r : Refusal) (y : List ℕ) → seenField x ≡ refused r → onField decoded.Refused x (λ (v n : ℕ). k v n y) ≡ decoded.Refused r
+    hands : (x : Field) (r : Refusal) (y : List ℕ) → seenField x ≡ refused r → onto decoded.Refused x (λ (v n : ℕ). k v n y) ≡ decoded.Refused r
     hands (Value v n) r y e = clash n r e
     hands (Refused q) r y e = ap decoded.Refused (one-refusal q r e)
 
-    go : (x : Field) → f l ≡ x → (n : ℕ) → seenField x ≡ went n → at ≤ n → n ≤ length l → Refusing seenAnswer (λ (y : List ℕ). onField decoded.Refused x (λ (v j : ℕ). k v j y)) l n
+    go : (x : Field) → f l ≡ x → (n : ℕ) → seenField x ≡ went n → at ≤ n → n ≤ length l → Refusing seenAnswer (λ (y : List ℕ). onto decoded.Refused x (λ (v j : ℕ). k v j y)) l n
     go (Value v j) e n q a b = let i : j ≡ n = one-place j n q in subst (λ (z : ℕ). Refusing seenAnswer (k v j) l z) i (on v j e (omega arith) (omega arith))
     go (Refused r) e n q a b = clash n r (sym q)
 
 -- what was read, and behind it the tail alone
-behind-refusing : {A : Type 0} (seen : A → Seen) (up : Refusal → A) → ((r : Refusal) → seen (up r) ≡ refused r) → (made : A) (place : ℕ) → seen made ≡ went place → (l : List ℕ) (at : ℕ) → Bits l → at ≤ length l → Refusing seen (λ (x : List ℕ). onField up (tailAt x at) (λ (v n : ℕ). made)) l at
+behind-refusing : {A : Type 0} (seen : A → Seen) (up : Refusal → A) → ((r : Refusal) → seen (up r) ≡ refused r) → (made : A) (place : ℕ) → seen made ≡ went place → (l : List ℕ) (at : ℕ) → Bits l → at ≤ length l → Refusing seen (λ (x : List ℕ). onto up (tailAt x at) (λ (v n : ℕ). made)) l at
 behind-refusing {A} seen up says made place is l at b h r e = go (tailAt l at) refl e
   where
-    lift : (x : Field) (z : Refusal) → seenField x ≡ refused z → seen (onField up x (λ (v n : ℕ). made)) ≡ refused z
+    lift : (x : Field) (z : Refusal) → seenField x ≡ refused z → seen (onto up x (λ (v n : ℕ). made)) ≡ refused z
     lift (Value v n) z c = clash n z c
     lift (Refused y) z c = says y ∙ c
 
-    go : (x : Field) → tailAt l at ≡ x → seen (onField up x (λ (v n : ℕ). made)) ≡ refused r → Placed seen (λ (y : List ℕ). onField up (tailAt y at) (λ (v n : ℕ). made)) l at r
+    go : (x : Field) → tailAt l at ≡ x → seen (onto up x (λ (v n : ℕ). made)) ≡ refused r → Placed seen (λ (y : List ℕ). onto up (tailAt y at) (λ (v n : ℕ). made)) l at r
     go (Value v n) f q = clash place r (sym is ∙ q)
     go (Refused z) f q =
         let p = tail-refusing l at b h r (ap seenField f ∙ (sym (says z) ∙ q)) in
@@ -262,7 +262,7 @@ behind-refusing {A} seen up says made place is l at b h r e = go (tailAt l at) r
           begins = λ (t : r .fault ≡ Tail → ⊥). lift (tailAt (take (r .at) l) at) (refusal (r .at) Short) (p .begins t);
           settled = λ (t : r .fault ≡ Short → ⊥) (u : r .fault ≡ Tail → ⊥).
               let c = p .settled t u in
-              record { end = c .end; behind = c .behind; within = c .within; same = λ (m : List ℕ) (k : Alike (c .end) l m). ap (λ (x : Field). onField up x (λ (v n : ℕ). made)) (c .same m k) };
+              record { end = c .end; behind = c .behind; within = c .within; same = λ (m : List ℕ) (k : Alike (c .end) l m). ap (λ (x : Field). onto up x (λ (v n : ℕ). made)) (c .same m k) };
         }
 
 ended-refusing : (l : List ℕ) (at : ℕ) (a : Apdu) → Bits l → at ≤ length l → Refusing seenAnswer (λ (x : List ℕ). endedAt x at a) l at
@@ -296,19 +296,19 @@ seenForward (forwarded.Is f n) = went n
 seenForward (forwarded.Refused r) = refused r
 
 triple-field : (f : List ℕ → Field) (k : ℕ → ℕ → List ℕ → Triples) (l : List ℕ) (at : ℕ) → Sound seenField f l at → ((v n : ℕ) → f l ≡ Value v n → at ≤ n → n ≤ length l → Sound seenTriple (k v n) l n)
-    → Sound seenTriple (λ (m : List ℕ). onField triples.Refused (f m) (λ (v n : ℕ). k v n m)) l at
+    → Sound seenTriple (λ (m : List ℕ). onto triples.Refused (f m) (λ (v n : ℕ). k v n m)) l at
 triple-field f k l at s on =
-    after-field seenTriple triples.Refused (onField triples.Refused) (λ (r : Refusal). refl) (λ (v n : ℕ) (c : ℕ → ℕ → Triples). refl) (λ (r : Refusal) (c : ℕ → ℕ → Triples). refl) f k l at s on
+    after-field seenTriple triples.Refused (onto triples.Refused) (λ (r : Refusal). refl) (λ (v n : ℕ) (c : ℕ → ℕ → Triples). refl) (λ (r : Refusal) (c : ℕ → ℕ → Triples). refl) f k l at s on
 
 heading-field : (f : List ℕ → Field) (k : ℕ → ℕ → List ℕ → Headed) (l : List ℕ) (at : ℕ) → Sound seenField f l at → ((v n : ℕ) → f l ≡ Value v n → at ≤ n → n ≤ length l → Sound seenHeading (k v n) l n)
-    → Sound seenHeading (λ (m : List ℕ). onField headed.Refused (f m) (λ (v n : ℕ). k v n m)) l at
+    → Sound seenHeading (λ (m : List ℕ). onto headed.Refused (f m) (λ (v n : ℕ). k v n m)) l at
 heading-field f k l at s on =
-    after-field seenHeading headed.Refused (onField headed.Refused) (λ (r : Refusal). refl) (λ (v n : ℕ) (c : ℕ → ℕ → Headed). refl) (λ (r : Refusal) (c : ℕ → ℕ → Headed). refl) f k l at s on
+    after-field seenHeading headed.Refused (onto headed.Refused) (λ (r : Refusal). refl) (λ (v n : ℕ) (c : ℕ → ℕ → Headed). refl) (λ (r : Refusal) (c : ℕ → ℕ → Headed). refl) f k l at s on
 
 forward-field : (f : List ℕ → Field) (k : ℕ → ℕ → List ℕ → Forwarded) (l : List ℕ) (at : ℕ) → Sound seenField f l at → ((v n : ℕ) → f l ≡ Value v n → at ≤ n → n ≤ length l → Sound seenForward (k v n) l n)
-    → Sound seenForward (λ (m : List ℕ). onField forwarded.Refused (f m) (λ (v n : ℕ). k v n m)) l at
+    → Sound seenForward (λ (m : List ℕ). onto forwarded.Refused (f m) (λ (v n : ℕ). k v n m)) l at
 forward-field f k l at s on =
-    after-field seenForward forwarded.Refused (onField forwarded.Refused) (λ (r : Refusal). refl) (λ (v n : ℕ) (c : ℕ → ℕ → Forwarded). refl) (λ (r : Refusal) (c : ℕ → ℕ → Forwarded). refl) f k l at s on
+    after-field seenForward forwarded.Refused (onto forwarded.Refused) (λ (r : Refusal). refl) (λ (v n : ℕ) (c : ℕ → ℕ → Forwarded). refl) (λ (r : Refusal) (c : ℕ → ℕ → Forwarded). refl) f k l at s on
 
 triple-sound : (l : List ℕ) (at : ℕ) (lo hi : Triple) → lo .first ≤ hi .first → lo .second ≤ hi .second → lo .third ≤ hi .third → at ≤ length l → Sound seenTriple (λ (x : List ℕ). tripleAt x at lo hi) l at
 unfolding tripleAt
@@ -415,30 +415,30 @@ apdu-refusing pdus l b =
 pub data-refusing-whole : (l : List ℕ) → Bits l → Refusing seenTaken wholeData l 0
 unfolding wholeWithin
 data-refusing-whole l b =
-    refusing-bind seenTaken seenTaken taken.Refused (λ (x : List ℕ). dataAt x 0) (λ (t : Taken) (y : List ℕ). onTaken t (λ (d : Data) (next : ℕ). onField taken.Refused (tailAt y next) (λ (v m : ℕ). taken.Is d next))) l 0
+    refusing-bind seenTaken seenTaken taken.Refused (λ (x : List ℕ). dataAt x 0) (λ (t : Taken) (y : List ℕ). onTaken t (λ (d : Data) (next : ℕ). onto taken.Refused (tailAt y next) (λ (v m : ℕ). taken.Is d next))) l 0
     (λ (r : Refusal). refl) hands (data-sound l 0 (omega arith)) (go (dataAt l 0) refl)
   where
-    hands : (t : Taken) (r : Refusal) (y : List ℕ) → seenTaken t ≡ refused r → onTaken t (λ (d : Data) (next : ℕ). onField taken.Refused (tailAt y next) (λ (v m : ℕ). taken.Is d next)) ≡ taken.Refused r
+    hands : (t : Taken) (r : Refusal) (y : List ℕ) → seenTaken t ≡ refused r → onTaken t (λ (d : Data) (next : ℕ). onto taken.Refused (tailAt y next) (λ (v m : ℕ). taken.Is d next)) ≡ taken.Refused r
     hands (taken.Is d n) r y e = clash n r e
     hands (taken.Refused q) r y e = ap taken.Refused (one-refusal q r e)
 
-    go : (t : Taken) → dataAt l 0 ≡ t → (n : ℕ) → seenTaken t ≡ went n → 0 ≤ n → n ≤ length l → Refusing seenTaken (λ (y : List ℕ). onTaken t (λ (d : Data) (next : ℕ). onField taken.Refused (tailAt y next) (λ (v m : ℕ). taken.Is d next))) l n
-    go (taken.Is d j) e n q a w = let i : j ≡ n = one-place j n q in subst (λ (z : ℕ). Refusing seenTaken (λ (y : List ℕ). onField taken.Refused (tailAt y j) (λ (v m : ℕ). taken.Is d j)) l z) i (behind-refusing seenTaken taken.Refused (λ (r : Refusal). refl) (taken.Is d j) j refl l j b (omega arith))
+    go : (t : Taken) → dataAt l 0 ≡ t → (n : ℕ) → seenTaken t ≡ went n → 0 ≤ n → n ≤ length l → Refusing seenTaken (λ (y : List ℕ). onTaken t (λ (d : Data) (next : ℕ). onto taken.Refused (tailAt y next) (λ (v m : ℕ). taken.Is d next))) l n
+    go (taken.Is d j) e n q a w = let i : j ≡ n = one-place j n q in subst (λ (z : ℕ). Refusing seenTaken (λ (y : List ℕ). onto taken.Refused (tailAt y j) (λ (v m : ℕ). taken.Is d j)) l z) i (behind-refusing seenTaken taken.Refused (λ (r : Refusal). refl) (taken.Is d j) j refl l j b (omega arith))
     go (taken.Refused r) e n q a w = clash n r (sym q)
 
 -- and a forward message by itself
 pub forward-refusing-whole : (l : List ℕ) → Bits l → Refusing seenForward wholeForward l 0
 unfolding wholeForwardWithin
 forward-refusing-whole l b =
-    refusing-bind seenForward seenForward forwarded.Refused (λ (x : List ℕ). forwardAt x 0) (λ (t : Forwarded) (y : List ℕ). onForward forwarded.Refused t (λ (f : Forward) (next : ℕ). onField forwarded.Refused (tailAt y next) (λ (v m : ℕ). forwarded.Is f next))) l 0
+    refusing-bind seenForward seenForward forwarded.Refused (λ (x : List ℕ). forwardAt x 0) (λ (t : Forwarded) (y : List ℕ). onForward forwarded.Refused t (λ (f : Forward) (next : ℕ). onto forwarded.Refused (tailAt y next) (λ (v m : ℕ). forwarded.Is f next))) l 0
     (λ (r : Refusal). refl) hands (forward-sound l 0 (omega arith)) (go (forwardAt l 0) refl)
   where
-    hands : (t : Forwarded) (r : Refusal) (y : List ℕ) → seenForward t ≡ refused r → onForward forwarded.Refused t (λ (f : Forward) (next : ℕ). onField forwarded.Refused (tailAt y next) (λ (v m : ℕ). forwarded.Is f next)) ≡ forwarded.Refused r
+    hands : (t : Forwarded) (r : Refusal) (y : List ℕ) → seenForward t ≡ refused r → onForward forwarded.Refused t (λ (f : Forward) (next : ℕ). onto forwarded.Refused (tailAt y next) (λ (v m : ℕ). forwarded.Is f next)) ≡ forwarded.Refused r
     hands (forwarded.Is f n) r y e = clash n r e
     hands (forwarded.Refused q) r y e = ap forwarded.Refused (one-refusal q r e)
 
-    go : (t : Forwarded) → forwardAt l 0 ≡ t → (n : ℕ) → seenForward t ≡ went n → 0 ≤ n → n ≤ length l → Refusing seenForward (λ (y : List ℕ). onForward forwarded.Refused t (λ (f : Forward) (next : ℕ). onField forwarded.Refused (tailAt y next) (λ (v m : ℕ). forwarded.Is f next))) l n
+    go : (t : Forwarded) → forwardAt l 0 ≡ t → (n : ℕ) → seenForward t ≡ went n → 0 ≤ n → n ≤ length l → Refusing seenForward (λ (y : List ℕ). onForward forwarded.Refused t (λ (f : Forward) (next : ℕ). onto forwarded.Refused (tailAt y next) (λ (v m : ℕ). forwarded.Is f next))) l n
     go (forwarded.Is f j) e n q a w =
         let i : j ≡ n = one-place j n q in
-        subst (λ (z : ℕ). Refusing seenForward (λ (y : List ℕ). onField forwarded.Refused (tailAt y j) (λ (v m : ℕ). forwarded.Is f j)) l z) i (behind-refusing seenForward forwarded.Refused (λ (r : Refusal). refl) (forwarded.Is f j) j refl l j b (omega arith))
+        subst (λ (z : ℕ). Refusing seenForward (λ (y : List ℕ). onto forwarded.Refused (tailAt y j) (λ (v m : ℕ). forwarded.Is f j)) l z) i (behind-refusing seenForward forwarded.Refused (λ (r : Refusal). refl) (forwarded.Is f j) j refl l j b (omega arith))
     go (forwarded.Refused r) e n q a w = clash n r (sym q)

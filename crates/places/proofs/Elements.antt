@@ -7,15 +7,15 @@ use Prim.Native.Nat.{ℕ, zero, suc, _+_, _-_, _*_, _≤_, _<_}
 use native.Mathlib.Omega.{arith}
 use lib.Dec.{eqb}
 use lib.ListN.{length, getD, take}
-use Rattle.fields.specs.Fields.{refusal, refusedAt, then, bitField, extensionBit, digitsIn, widthOf, wholeNumber, extensibleIndex, contentsAt, sizedAt}
+use Rattle.fields.specs.Fields.{refusal, refusedAt, then, bitField, extensionBit, digitsIn, widthOf, wholeNumber, extensibleIndex, contentsAt, sizedAt, onto, refusalOf}
 use Rattle.fields.specs.declared.Fault.the-variants.{Short, Tail, NotCarried}
 use Rattle.fields.specs.declared.Refusal.{Refusal}
 use Rattle.fields.specs.declared.Field.{Field}
 use Rattle.fields.specs.declared.Field.the-variants.{Value, Refused}
-use Rattle.elements.specs.declared.kinds.Direction.{Direction}
-use Rattle.elements.specs.declared.kinds.Direction.the-variants.{Downlink, Uplink}
-use Rattle.elements.specs.declared.kinds.ArgumentKind.{ArgumentKind}
-use Rattle.elements.specs.declared.kinds.ArgumentKind.the-variants as kind
+use Rattle.kinds.specs.declared.Direction.{Direction}
+use Rattle.kinds.specs.declared.Direction.the-variants.{Downlink, Uplink}
+use Rattle.kinds.specs.declared.ArgumentKind.{ArgumentKind}
+use Rattle.kinds.specs.declared.ArgumentKind.the-variants as kind
 use Rattle.elements.specs.declared.values.LevelType.{LevelType}
 use Rattle.elements.specs.declared.values.LevelTypeRead.{LevelTypeRead}
 use Rattle.elements.specs.declared.values.LevelTypeRead.the-variants as type
@@ -29,8 +29,8 @@ use Rattle.elements.specs.declared.values.Step.{Step}
 use Rattle.elements.specs.declared.values.Step.the-variants as step
 use Rattle.elements.specs.declared.values.CodeRead.{CodeRead}
 use Rattle.elements.specs.declared.values.ElementRead.{ElementRead}
-use Rattle.elements.specs.Elements.{kindOf}
-use Rattle.elements.specs.Arguments.{onto, refusalOf, lowest, highest, numberInUnit, levelTypeAt, noType, ontoType, secondOf, levelAt, minutesOf, timeAt, noCode, isCode, digit, codeAt, freeTextAt, designationAt, facilityAt, atisAt}
+use Rattle.kinds.specs.Elements.{kindOf}
+use Rattle.elements.specs.Arguments.{lowest, highest, numberInUnit, levelTypeAt, noType, ontoType, secondOf, levelAt, minutesOf, timeAt, noCode, isCode, digit, codeAt, freeTextAt, designationAt, facilityAt, atisAt}
 use Rattle.elements.specs.OneElement.{bare, noLevel, withLevels, withTime, withCode, withCharacters, isElement, noElement, ontoLevel, ontoTime, ontoStep, charactersOf, levelArgument, twoLevelsArgument, timeArgument, codeArgument, argumentAt, lastOf, elementAt}
 use Rattle.places.specs.Claims.{Seen, went, refused, Sound, seenField}
 use Rattle.places.proofs.Readers.{never, clash, one-place, one-refusal, sound-value, sound-bind, sound-cond, after-field, then-sound, judged, moved, extension-sound, extension-place, whole-sound, whole-cut, run-sound, sized-sound}

@@ -8,12 +8,12 @@ use native.Mathlib.Omega.{arith}
 use borrow.Author.Tests.{leb-true}
 use lib.Dec.{eqb, leb}
 use lib.ListN.{length, take}
-use Rattle.fields.specs.Fields.{refusal, refusedAt, then, digitsIn, wholeNumber}
+use Rattle.fields.specs.Fields.{refusal, refusedAt, then, digitsIn, wholeNumber, onto, refusalOf}
 use Rattle.fields.specs.declared.Fault.the-variants.{Short, Tail, NotCarried, Default}
 use Rattle.fields.specs.declared.Refusal.{Refusal}
 use Rattle.fields.specs.declared.Field.{Field}
 use Rattle.fields.specs.declared.Field.the-variants.{Value, Refused}
-use Rattle.elements.specs.declared.kinds.Direction.{Direction}
+use Rattle.kinds.specs.declared.Direction.{Direction}
 use Rattle.elements.specs.declared.values.Time.{Time}
 use Rattle.elements.specs.declared.values.TimeRead.{TimeRead}
 use Rattle.elements.specs.declared.values.TimeRead.the-variants as time
@@ -21,7 +21,7 @@ use Rattle.elements.specs.declared.values.Step.{Step}
 use Rattle.elements.specs.declared.values.Step.the-variants as step
 use Rattle.elements.specs.declared.values.Element.{Element}
 use Rattle.elements.specs.declared.values.ElementRead.{ElementRead}
-use Rattle.elements.specs.Arguments.{onto, refusalOf, timeAt}
+use Rattle.elements.specs.Arguments.{timeAt}
 use Rattle.elements.specs.OneElement.{elementAt}
 use Rattle.inner.specs.declared.values.DateTime.{DateTime}
 use Rattle.inner.specs.declared.values.DateTimeRead.{DateTimeRead}

@@ -22,44 +22,13 @@ use Rattle.machine.specs.declared.event.Event.{Event}
 use Rattle.machine.specs.declared.event.Event.the-variants.{Service}
 use Rattle.machine.specs.declared.event.Event.the-variants.{Forward as ForwardRequested}
 use Rattle.apdu.specs.declared.Decoded.{Decoded}
-use Rattle.machine.specs.declared.outcome.Invoked.{Invoked}
-use Rattle.machine.specs.declared.outcome.Invoked.the-variants.{Silent, DStartRequest, DStartResponse, DDataRequest, DEndRequest, DEndResponse, DAbortRequest, DStartForwardRequest, DStartForwardResponse}
-use Rattle.machine.specs.declared.outcome.Told.{Told}
-use Rattle.machine.specs.declared.outcome.Told.the-variants.{Untold, StartIndication, StartConfirmation, MessageIndication, EndIndication, EndConfirmation, UserAbortIndication, ProviderAbortIndication, ForwardIndication, ForwardConfirmation}
 use Rattle.machine.specs.declared.outcome.Outcome.{Outcome}
 use Rattle.numbered.specs.Numbers.{heldAfter, numberedStep}
-use Rattle.step.specs.Stored.{loadAt, storeAt, kept}
-use Rattle.step.specs.Packed.{primitives, packed, invokedNumber, toldNumber, versionNumber}
+use Rattle.stored.specs.Stored.{loadAt, storeAt, kept}
+use Rattle.packed.specs.Packed.{packed, invokedNumber, toldNumber, versionNumber}
 use Rattle.step.specs.Call.{Carried, Called, called, carriesData, carriesForward, carriedBy, bitsOfWritten, firstTakes, passes, secondTakes, finished, concluded, eventStep, withRecord, entering, userStep, forwardStep, meaning, readPdu, noData, dataStep, bareStep, serviceStep, noForward, carries, dataOf, forwardOf}
-use Rattle.step.specs.declared.stored.Loaded.{Loaded}
-use Rattle.step.specs.declared.stored.Loaded.the-variants.{Is, NoRecord}
-
--- ---- the number's parts have room
-
-pub invoked-low : (i : Invoked) → invokedNumber i < primitives
-unfolding invokedNumber
-invoked-low Silent = omega arith
-invoked-low (DStartRequest q s) = omega arith
-invoked-low (DStartResponse x s) = omega arith
-invoked-low DDataRequest = omega arith
-invoked-low DEndRequest = omega arith
-invoked-low (DEndResponse x) = omega arith
-invoked-low (DAbortRequest o) = omega arith
-invoked-low (DStartForwardRequest q s v) = omega arith
-invoked-low (DStartForwardResponse s v) = omega arith
-
-pub told-low : (t : Told) → toldNumber t < primitives
-unfolding toldNumber
-told-low Untold = omega arith
-told-low (StartIndication m k) = omega arith
-told-low (StartConfirmation m x) = omega arith
-told-low MessageIndication = omega arith
-told-low (EndIndication m) = omega arith
-told-low (EndConfirmation m x) = omega arith
-told-low (UserAbortIndication x) = omega arith
-told-low (ProviderAbortIndication x) = omega arith
-told-low ForwardIndication = omega arith
-told-low (ForwardConfirmation x v) = omega arith
+use Rattle.stored.specs.declared.Loaded.{Loaded}
+use Rattle.stored.specs.declared.Loaded.the-variants.{Is, NoRecord}
 
 -- ---- after the step
 
@@ -70,10 +39,10 @@ module _ (r a b : List ℕ) (sd : Side) (held : ℕ) (o : Outcome) (li lm lc : L
 
   pub is-taken : t ≡ true → (w v : Written) (a′ b′ : List ℕ) → done w a′ ≡ firstTakes sd li lm lc d (o .apdu) a → (y : Bool) → y ≡ passes (o .told) → done v b′ ≡ secondTakes li lm lc d y (o .delivers) b
       → (x : Bool) (r′ : List ℕ) → kept x r′ ≡ storeAt r sd (o .next) held
-      → (i u m n j k : ℕ) → i ≡ invokedNumber (o .invoked) → u ≡ toldNumber (o .told) → m ≡ bitsOfWritten w → n ≡ bitsOfWritten v → j ≡ versionNumber (o .invoked) (o .told) → k ≡ packed i u m n j
+      → (m n k : ℕ) → m ≡ bitsOfWritten w → n ≡ bitsOfWritten v → k ≡ packed (invokedNumber (o .invoked)) (toldNumber (o .told)) m n (versionNumber (o .invoked) (o .told))
       → called k r′ a′ b′ ≡ concluded r a b sd held o li lm lc d
   unfolding concluded finished
-  is-taken q w v a′ b′ e y ey f x r′ g i u m n j k ei eu em en ej ek = rw (← p, q, ← e, ← ey, ← f, ← g, ek, ei, eu, em, en, ej)
+  is-taken q w v a′ b′ e y ey f x r′ g m n k em en ek = rw (← p, q, ← e, ← ey, ← f, ← g, ek, em, en)
 
 -- ---- before the step
 

@@ -11,17 +11,17 @@ use Rattle.apdu.specs.Writing.{dataFits, forwardFits}
 use Rattle.apdu.specs.declared.Data.{Data}
 use Rattle.apdu.specs.declared.Forward.{Forward}
 use Rattle.machine.specs.Outcome.{isNone}
-use Rattle.machine.proofs.Ways.{by-test}
+use Rattle.clauses.proofs.Ways.{by-test}
 use Rattle.control.specs.declared.Side.{Side}
 use Rattle.machine.specs.declared.record.Record.{Record}
 use Rattle.machine.specs.declared.event.Event.{Event}
 use Rattle.machine.specs.declared.outcome.Outcome.{Outcome}
-use Rattle.step.specs.Stored.{loadAt}
+use Rattle.stored.specs.Stored.{loadAt}
 use Rattle.step.specs.Call.{Carried, Called, carriesData, carriesForward, finished, concluded, withRecord, entering, userStep, userCall, forwardStep, forwardCall, dataStep, bareStep, serviceStep, serviceCall}
 use Rattle.machine.specs.declared.event.ServicePrimitive.{ServicePrimitive}
-use Rattle.step.specs.declared.stored.Loaded.{Loaded}
-use Rattle.step.specs.declared.stored.Loaded.the-variants.{Is, NoRecord}
-use Rattle.step.proofs.Unpacked.{refusal-unpacked}
+use Rattle.stored.specs.declared.Loaded.{Loaded}
+use Rattle.stored.specs.declared.Loaded.the-variants.{Is, NoRecord}
+use Rattle.packed.proofs.Unpacked.{refusal-unpacked}
 
 -- the low byte of a refusal is not 0
 abbrev pub Leaves : List ℕ → List ℕ → List ℕ → Called → Type 0

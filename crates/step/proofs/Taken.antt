@@ -24,7 +24,7 @@ use Rattle.machine.specs.Faults.{fromCentre, indicationFault, firstFault}
 use Rattle.machine.specs.Forwards.{forwardConfirmed}
 use Rattle.machine.specs.Primitives.{handed, abortTold, instructed, answered, reached}
 use Rattle.machine.specs.Step.{permitted, messageRefusal, refusalOf, acts, step}
-use Rattle.machine.proofs.Ways.{by-test, not-refused, send-there, start-there, forward-ground}
+use Rattle.clauses.proofs.Ways.{by-test, not-refused, send-there, start-there, forward-ground}
 use Rattle.control.specs.declared.Side.{Side}
 use Rattle.control.specs.declared.Side.the-variants.{Air, Ground}
 use Rattle.control.specs.declared.Call.{Call}
@@ -51,10 +51,10 @@ use Rattle.machine.specs.declared.outcome.StepRefusal.the-variants.{Stale}
 use Rattle.machine.specs.declared.outcome.Outcome.{Outcome}
 use Rattle.numbered.specs.Numbers.{isStale, numberedStep}
 use Rattle.numbered.proofs.Laws.{numbered-is}
-use Rattle.step.specs.Packed.{codes}
-use Rattle.step.specs.Stored.{flag}
+use Rattle.packed.specs.Packed.{codes}
+use Rattle.stored.specs.Stored.{flag}
 use Rattle.step.specs.Call.{pdusOf, passes}
-pub use Rattle.step.proofs.Storing.{Coded}
+pub use Rattle.stored.proofs.Storing.{Coded}
 
 -- ---- what is shown
 

@@ -43,10 +43,10 @@ use Rattle.control.specs.Control.{awaitsResponse}
 use Rattle.control.specs.declared.Control.{Control}
 use Rattle.machine.specs.declared.outcome.Outcome.{Outcome}
 use Rattle.numbered.specs.Numbers.{heldAfter, numberedStep}
-use Rattle.step.specs.Stored.{flag, loadAt, storeAt, Kept}
-use Rattle.step.specs.Packed.{packed, invokedNumber, toldNumber, versionNumber}
-use Rattle.step.specs.declared.stored.Loaded.{Loaded}
-use Rattle.step.specs.declared.stored.Loaded.the-variants.{Is, NoRecord}
+use Rattle.stored.specs.Stored.{flag, loadAt, storeAt, Kept}
+use Rattle.packed.specs.Packed.{packed, invokedNumber, toldNumber, versionNumber}
+use Rattle.stored.specs.declared.Loaded.{Loaded}
+use Rattle.stored.specs.declared.Loaded.the-variants.{Is, NoRecord}
 
 -- what a call leaves: the number that it answers, the record's bytes and the two buffers
 pub record Called : Type 0 where

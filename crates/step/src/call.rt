@@ -10,14 +10,6 @@ use crate::arrived::read_pdu;
 use crate::carried::no_data;
 use crate::carried::no_forward;
 use crate::carried::passes;
-use crate::packing::invoked_number;
-use crate::packing::mode;
-use crate::packing::packed;
-use crate::packing::told_number;
-use crate::packing::version_number;
-use crate::stored::Loaded;
-use crate::stored::load;
-use crate::stored::store;
 use apdu::Apdu;
 use apdu::Data;
 use apdu::Forward;
@@ -30,6 +22,11 @@ use machine::event::UserData;
 use machine::outcome::Outcome;
 use machine::record::Record;
 use numbered::held_after;
+use packed::answer;
+use packed::mode;
+use stored::Loaded;
+use stored::load;
+use stored::store;
 use words::Limit;
 
 fn pdus_of(s: Side) -> PduType
@@ -139,13 +136,7 @@ fn conclude(
         );
         let next = o.next;
         store(rec, side, next, number);
-        return packed(
-            invoked_number(i),
-            told_number(t),
-            bits_of(sent),
-            bits_of(given),
-            version_number(i, t),
-        );
+        return answer(i, t, bits_of(sent), bits_of(given));
     }
     why.number()
 }

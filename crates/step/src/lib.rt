@@ -3,11 +3,8 @@
 mod arrived;
 mod call;
 mod carried;
-mod packing;
-mod stored;
 
 pub use call::forward_call;
 pub use call::service_call;
 pub use call::user_call;
 pub use carried::no_data;
-pub use stored::store;

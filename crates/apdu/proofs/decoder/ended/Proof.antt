@@ -7,7 +7,6 @@ use Rattle.apdu.proofs.decoder.ended.Tie as tie
 use Rattle.apdu.proofs.decoder.ended.Reads as reads
 use Rattle.apdu.proofs.decoder.ended.Lts as lts
 use Rattle.apdu.proofs.decoder.tail.Reads as tail-reads
-use Rattle.apdu.proofs.refusals.field_refusal.Reads as field-refusal-reads
 
 -- src/decoder.rt:53:9
 tail-requires : tie.Need-tail-requires
@@ -21,13 +20,13 @@ enum-told-2 : tie.Need-enum-told-2
 enum-told-2 c = c .match .keys2
 
 -- src/decoder.rt:55:32
-field-refusal-requires : tie.Need-field-refusal-requires
-field-refusal-requires c κs = tt
+refusal-of-requires : tie.Need-refusal-of-requires
+refusal-of-requires c κs = tt
 
 -- src/decoder.rt:55:9
 returns : tie.Need-returns
 unfolding endedAt
-returns c = handed decoded.Refused _ _ _ _ _ (c .before .before .before .tail .ensures) (c .before .enum-told2 .given .1) (c .field-refusal .ensures)
+returns c = handed decoded.Refused _ _ _ _ _ (c .before .before .before .tail .ensures) (c .before .enum-told2 .given .1) (c .refusal-of .ensures)
 
 -- src/decoder.rt:50:1
 returns-2 : tie.Need-returns-2
@@ -37,4 +36,4 @@ returns-2 c = went decoded.Refused _ _ _ _ _ _ (c .before .before .tail .ensures
 pub ended-spec : {M : Type 1} → statement M
 ended-spec =
     tie.close
-    (tie.spec tail-requires enum-told enum-told-2 field-refusal-requires returns returns-2)
+    (tie.spec tail-requires enum-told enum-told-2 refusal-of-requires returns returns-2)

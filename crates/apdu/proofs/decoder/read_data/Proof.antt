@@ -33,12 +33,12 @@ enum-told-2 c = search needs
 enum-told-3 : tie.Need-enum-told-3
 enum-told-3 c = search needs
 
-field-refusal-requires : tie.Need-field-refusal-requires
-field-refusal-requires c κs = search needs
+refusal-of-requires : tie.Need-refusal-of-requires
+refusal-of-requires c κs = search needs
 
 returns-2 : tie.Need-returns-2
 unfolding wholeWithin
-returns-2 c = taken-went _ _ _ _ _ _ (c .before .before .before .before .before .before .before .data-at .ensures) (c .before .before .before .before .before .parts .given .1) (handed taken.Refused _ _ _ _ _ (c .before .before .before .tail .ensures) (c .before .enum-told3 .given .1) (c .field-refusal .ensures))
+returns-2 c = taken-went _ _ _ _ _ _ (c .before .before .before .before .before .before .before .data-at .ensures) (c .before .before .before .before .before .parts .given .1) (handed taken.Refused _ _ _ _ _ (c .before .before .before .tail .ensures) (c .before .enum-told3 .given .1) (c .refusal-of .ensures))
 
 returns-3 : tie.Need-returns-3
 unfolding wholeWithin
@@ -56,6 +56,6 @@ read-data-spec =
     tail-requires
     enum-told-2
     enum-told-3
-    field-refusal-requires
+    refusal-of-requires
     returns-2
     returns-3)

@@ -11,7 +11,6 @@ use Rattle.apdu.proofs.decoder.read_forward.Lts as lts
 use Rattle.apdu.proofs.decoder.tail.Reads as tail-reads
 use Rattle.apdu.proofs.headings.forward_at.Reads as forward-at-reads
 use Rattle.apdu.proofs.headings.forward_refusal.Reads as forward-refusal-reads
-use Rattle.apdu.proofs.refusals.field_refusal.Reads as field-refusal-reads
 
 -- src/decoder.rt:143:9
 forward-at-requires : tie.Need-forward-at-requires
@@ -46,13 +45,13 @@ enum-told-3 : tie.Need-enum-told-3
 enum-told-3 c = search needs
 
 -- src/decoder.rt:149:35
-field-refusal-requires : tie.Need-field-refusal-requires
-field-refusal-requires c κs = search needs
+refusal-of-requires : tie.Need-refusal-of-requires
+refusal-of-requires c κs = search needs
 
 -- src/decoder.rt:149:9
 returns-2 : tie.Need-returns-2
 unfolding wholeForwardWithin
-returns-2 c = forward-went forwarded.Refused _ _ _ _ _ _ (c .before .before .before .before .before .before .before .forward-at .ensures) (c .before .before .before .before .before .message .given .1) (handed forwarded.Refused _ _ _ _ _ (c .before .before .before .tail .ensures) (c .before .enum-told3 .given .1) (c .field-refusal .ensures))
+returns-2 c = forward-went forwarded.Refused _ _ _ _ _ _ (c .before .before .before .before .before .before .before .forward-at .ensures) (c .before .before .before .before .before .message .given .1) (handed forwarded.Refused _ _ _ _ _ (c .before .before .before .tail .ensures) (c .before .enum-told3 .given .1) (c .refusal-of .ensures))
 
 -- src/decoder.rt:140:1
 returns-3 : tie.Need-returns-3
@@ -71,6 +70,6 @@ read-forward-spec =
     tail-requires
     enum-told-2
     enum-told-3
-    field-refusal-requires
+    refusal-of-requires
     returns-2
     returns-3)

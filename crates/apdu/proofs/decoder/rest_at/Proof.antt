@@ -11,7 +11,6 @@ use Rattle.apdu.proofs.decoder.ended.Reads as ended-reads
 use Rattle.apdu.proofs.headings.forward_at.Reads as forward-at-reads
 use Rattle.apdu.proofs.headings.forward_refusal.Reads as forward-refusal-reads
 use Rattle.apdu.proofs.parts.data_at.Reads as data-at-reads
-use Rattle.apdu.proofs.refusals.field_refusal.Reads as field-refusal-reads
 use Rattle.apdu.proofs.refusals.taken_refusal.Reads as taken-refusal-reads
 use Rattle.fields.proofs.extensible_index.Reads as extensible-index-reads
 
@@ -32,13 +31,13 @@ enum-told-2 : tie.Need-enum-told-2
 enum-told-2 c = search needs
 
 -- src/decoder.rt:71:40
-field-refusal-requires : tie.Need-field-refusal-requires
-field-refusal-requires c κs = search needs
+refusal-of-requires : tie.Need-refusal-of-requires
+refusal-of-requires c κs = search needs
 
 -- src/decoder.rt:71:17
 returns : tie.Need-returns
 unfolding restWithin
-returns c = rw (c .before .before .before .before .enum-told .given .1) (handed decoded.Refused _ _ _ _ _ (c .before .before .before .extensible-index .ensures) (c .before .enum-told2 .given .1) (c .field-refusal .ensures))
+returns c = rw (c .before .before .before .before .enum-told .given .1) (handed decoded.Refused _ _ _ _ _ (c .before .before .before .extensible-index .ensures) (c .before .enum-told2 .given .1) (c .refusal-of .ensures))
 
 -- src/decoder.rt:73:13
 ended-requires : tie.Need-ended-requires
@@ -61,13 +60,13 @@ enum-told-4 : tie.Need-enum-told-4
 enum-told-4 c = search needs
 
 -- src/decoder.rt:78:40
-field-refusal-requires-2 : tie.Need-field-refusal-requires-2
-field-refusal-requires-2 c κs = search needs
+refusal-of-requires-2 : tie.Need-refusal-of-requires-2
+refusal-of-requires-2 c κs = search needs
 
 -- src/decoder.rt:78:17
 returns-2 : tie.Need-returns-2
 unfolding restWithin
-returns-2 c = rw (c .before .before .before .before .enum-told3 .given .1) (handed decoded.Refused _ _ _ _ _ (c .before .before .before .extensible-index2 .ensures) (c .before .enum-told4 .given .1) (c .field-refusal2 .ensures))
+returns-2 c = rw (c .before .before .before .before .enum-told3 .given .1) (handed decoded.Refused _ _ _ _ _ (c .before .before .before .extensible-index2 .ensures) (c .before .enum-told4 .given .1) (c .refusal-of2 .ensures))
 
 -- src/decoder.rt:80:13
 ended-requires-2 : tie.Need-ended-requires-2
@@ -177,13 +176,13 @@ enum-told-12 : tie.Need-enum-told-12
 enum-told-12 c = search needs
 
 -- src/decoder.rt:106:40
-field-refusal-requires-3 : tie.Need-field-refusal-requires-3
-field-refusal-requires-3 c κs = search needs
+refusal-of-requires-3 : tie.Need-refusal-of-requires-3
+refusal-of-requires-3 c κs = search needs
 
 -- src/decoder.rt:106:17
 returns-6 : tie.Need-returns-6
 unfolding restWithin
-returns-6 c = rw (c .before .before .before .before .enum-told11 .given .1) (handed decoded.Refused _ _ _ _ _ (c .before .before .before .extensible-index3 .ensures) (c .before .enum-told12 .given .1) (c .field-refusal3 .ensures))
+returns-6 c = rw (c .before .before .before .before .enum-told11 .given .1) (handed decoded.Refused _ _ _ _ _ (c .before .before .before .extensible-index3 .ensures) (c .before .enum-told12 .given .1) (c .refusal-of3 .ensures))
 
 -- src/decoder.rt:108:13
 ended-requires-6 : tie.Need-ended-requires-6
@@ -227,14 +226,14 @@ rest-at-spec =
     extensible-index-requires
     enum-known-reason
     enum-told-2
-    field-refusal-requires
+    refusal-of-requires
     returns
     ended-requires
     enum-told-3
     extensible-index-requires-2
     enum-known-reason-2
     enum-told-4
-    field-refusal-requires-2
+    refusal-of-requires-2
     returns-2
     ended-requires-2
     enum-told-5
@@ -262,7 +261,7 @@ rest-at-spec =
     extensible-index-requires-3
     enum-known-result
     enum-told-12
-    field-refusal-requires-3
+    refusal-of-requires-3
     returns-6
     ended-requires-6
     returns-7

@@ -13,7 +13,6 @@ use Rattle.apdu.proofs.headings.forward_at.Lts as lts
 use Rattle.apdu.proofs.headings.heading_at.Reads as heading-at-reads
 use Rattle.apdu.proofs.headings.heading_refusal.Reads as heading-refusal-reads
 use Rattle.apdu.proofs.parts.span_to.Reads as span-to-reads
-use Rattle.apdu.proofs.refusals.field_refusal.Reads as field-refusal-reads
 use Rattle.fields.proofs.string.Reads as string-reads
 
 -- src/headings.rt:120:9
@@ -50,13 +49,13 @@ enum-told-2 : tie.Need-enum-told-2
 enum-told-2 c = search needs
 
 -- src/headings.rt:126:35
-field-refusal-requires : tie.Need-field-refusal-requires
-field-refusal-requires c κs = search needs
+refusal-of-requires : tie.Need-refusal-of-requires
+refusal-of-requires c κs = search needs
 
 -- src/headings.rt:126:9
 returns-2 : tie.Need-returns-2
 unfolding forwardWithin
-returns-2 c = heading-went _ _ _ _ _ _ (c .before .before .before .before .before .before .before .heading-at .ensures) (c .before .before .before .before .before .before2 .given .1) (handed forwarded.Refused _ _ _ _ _ (c .before .before .before .string .ensures) (c .before .enum-told2 .given .1) (c .field-refusal .ensures))
+returns-2 c = heading-went _ _ _ _ _ _ (c .before .before .before .before .before .before .before .heading-at .ensures) (c .before .before .before .before .before .before2 .given .1) (handed forwarded.Refused _ _ _ _ _ (c .before .before .before .string .ensures) (c .before .enum-told2 .given .1) (c .refusal-of .ensures))
 
 -- src/headings.rt:130:18
 span-to-requires : tie.Need-span-to-requires
@@ -79,7 +78,7 @@ forward-at-spec =
     string-requires
     enum-known-bits
     enum-told-2
-    field-refusal-requires
+    refusal-of-requires
     returns-2
     span-to-requires
     returns-3)

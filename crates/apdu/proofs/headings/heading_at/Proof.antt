@@ -13,7 +13,6 @@ use Rattle.apdu.proofs.headings.heading_at.Reads as reads
 use Rattle.apdu.proofs.headings.heading_at.Lts as lts
 use Rattle.apdu.proofs.headings.triple_at.Reads as triple-at-reads
 use Rattle.apdu.proofs.headings.triple_refusal.Reads as triple-refusal-reads
-use Rattle.apdu.proofs.refusals.field_refusal.Reads as field-refusal-reads
 use Rattle.fields.proofs.bit_field.Reads as bit-field-reads
 use Rattle.fields.proofs.whole.Reads as whole-reads
 
@@ -72,13 +71,13 @@ enum-told-3 : tie.Need-enum-told-3
 enum-told-3 c = search needs
 
 -- src/headings.rt:92:32
-field-refusal-requires : tie.Need-field-refusal-requires
-field-refusal-requires c κs = search needs
+refusal-of-requires : tie.Need-refusal-of-requires
+refusal-of-requires c κs = search needs
 
 -- src/headings.rt:92:9
 returns-3 : tie.Need-returns-3
 unfolding headingAt
-returns-3 c = triple-went _ _ _ _ _ _ (c .before .before .before .before .before .before .before .before .before .before .before .triple-at .ensures) (c .before .before .before .before .before .before .before .before .before .day .given .1) (triple-went _ _ _ _ _ _ (c .before .before .before .before .before .before .before .triple-at2 .ensures) (c .before .before .before .before .before .clock .given .1) (handed headed.Refused _ _ _ _ _ (c .before .before .before .whole .ensures) (c .before .enum-told3 .given .1) (c .field-refusal .ensures)))
+returns-3 c = triple-went _ _ _ _ _ _ (c .before .before .before .before .before .before .before .before .before .before .before .triple-at .ensures) (c .before .before .before .before .before .before .before .before .before .day .given .1) (triple-went _ _ _ _ _ _ (c .before .before .before .before .before .before .before .triple-at2 .ensures) (c .before .before .before .before .before .clock .given .1) (handed headed.Refused _ _ _ _ _ (c .before .before .before .whole .ensures) (c .before .enum-told3 .given .1) (c .refusal-of .ensures)))
 
 -- src/headings.rt:94:45
 mul-bit-field : tie.Need-mul-bit-field
@@ -97,13 +96,13 @@ enum-told-4 : tie.Need-enum-told-4
 enum-told-4 c = search needs
 
 -- src/headings.rt:96:32
-field-refusal-requires-2 : tie.Need-field-refusal-requires-2
-field-refusal-requires-2 c κs = search needs
+refusal-of-requires-2 : tie.Need-refusal-of-requires-2
+refusal-of-requires-2 c κs = search needs
 
 -- src/headings.rt:96:9
 returns-4 : tie.Need-returns-4
 unfolding headingAt
-returns-4 c = triple-went _ _ _ _ _ _ (c .before .before .before .before .before .before .before .before .before .before .before .before .before .before .before .triple-at .ensures) (c .before .before .before .before .before .before .before .before .before .before .before .before .before .day .given .1) (triple-went _ _ _ _ _ _ (c .before .before .before .before .before .before .before .before .before .before .before .triple-at2 .ensures) (c .before .before .before .before .before .before .before .before .before .clock .given .1) (went headed.Refused _ _ _ _ _ _ (c .before .before .before .before .before .before .before .whole .ensures) (c .before .before .before .before .before .size .given .1) (handed headed.Refused _ _ _ _ _ (c .before .before .before .bit-field .ensures) (c .before .enum-told4 .given .1) (c .field-refusal2 .ensures))))
+returns-4 c = triple-went _ _ _ _ _ _ (c .before .before .before .before .before .before .before .before .before .before .before .before .before .before .before .triple-at .ensures) (c .before .before .before .before .before .before .before .before .before .before .before .before .before .day .given .1) (triple-went _ _ _ _ _ _ (c .before .before .before .before .before .before .before .before .before .before .before .triple-at2 .ensures) (c .before .before .before .before .before .before .before .before .before .clock .given .1) (went headed.Refused _ _ _ _ _ _ (c .before .before .before .before .before .before .before .whole .ensures) (c .before .before .before .before .before .size .given .1) (handed headed.Refused _ _ _ _ _ (c .before .before .before .bit-field .ensures) (c .before .enum-told4 .given .1) (c .refusal-of2 .ensures))))
 
 -- src/headings.rt:98:9
 bit-field-requires-2 : tie.Need-bit-field-requires-2
@@ -118,13 +117,13 @@ enum-told-5 : tie.Need-enum-told-5
 enum-told-5 c = search needs
 
 -- src/headings.rt:100:32
-field-refusal-requires-3 : tie.Need-field-refusal-requires-3
-field-refusal-requires-3 c κs = search needs
+refusal-of-requires-3 : tie.Need-refusal-of-requires-3
+refusal-of-requires-3 c κs = search needs
 
 -- src/headings.rt:100:9
 returns-5 : tie.Need-returns-5
 unfolding headingAt
-returns-5 c = triple-went _ _ _ _ _ _ (c .before .before .before .before .before .before .before .before .before .before .before .before .before .before .before .before .before .before .before .triple-at .ensures) (c .before .before .before .before .before .before .before .before .before .before .before .before .before .before .before .before .before .day .given .1) (triple-went _ _ _ _ _ _ (c .before .before .before .before .before .before .before .before .before .before .before .before .before .before .before .triple-at2 .ensures) (c .before .before .before .before .before .before .before .before .before .before .before .before .before .clock .given .1) (went headed.Refused _ _ _ _ _ _ (c .before .before .before .before .before .before .before .before .before .before .before .whole .ensures) (c .before .before .before .before .before .before .before .before .before .size .given .1) (went headed.Refused _ _ _ _ _ _ (c .before .before .before .before .before .before .before .bit-field .ensures) (c .before .before .before .before .before .name .given .1) (handed headed.Refused _ _ _ _ _ (c .before .before .before .bit-field2 .ensures) (c .before .enum-told5 .given .1) (c .field-refusal3 .ensures)))))
+returns-5 c = triple-went _ _ _ _ _ _ (c .before .before .before .before .before .before .before .before .before .before .before .before .before .before .before .before .before .before .before .triple-at .ensures) (c .before .before .before .before .before .before .before .before .before .before .before .before .before .before .before .before .before .day .given .1) (triple-went _ _ _ _ _ _ (c .before .before .before .before .before .before .before .before .before .before .before .before .before .before .before .triple-at2 .ensures) (c .before .before .before .before .before .before .before .before .before .before .before .before .before .clock .given .1) (went headed.Refused _ _ _ _ _ _ (c .before .before .before .before .before .before .before .before .before .before .before .whole .ensures) (c .before .before .before .before .before .before .before .before .before .size .given .1) (went headed.Refused _ _ _ _ _ _ (c .before .before .before .before .before .before .before .bit-field .ensures) (c .before .before .before .before .before .name .given .1) (handed headed.Refused _ _ _ _ _ (c .before .before .before .bit-field2 .ensures) (c .before .enum-told5 .given .1) (c .refusal-of3 .ensures)))))
 
 -- src/headings.rt:102:9
 whole-requires-2 : tie.Need-whole-requires-2
@@ -139,13 +138,13 @@ enum-told-6 : tie.Need-enum-told-6
 enum-told-6 c = search needs
 
 -- src/headings.rt:104:32
-field-refusal-requires-4 : tie.Need-field-refusal-requires-4
-field-refusal-requires-4 c κs = search needs
+refusal-of-requires-4 : tie.Need-refusal-of-requires-4
+refusal-of-requires-4 c κs = search needs
 
 -- src/headings.rt:104:9
 returns-6 : tie.Need-returns-6
 unfolding headingAt
-returns-6 c = triple-went _ _ _ _ _ _ (c .before .before .before .before .before .before .before .before .before .before .before .before .before .before .before .before .before .before .before .before .before .before .before .triple-at .ensures) (c .before .before .before .before .before .before .before .before .before .before .before .before .before .before .before .before .before .before .before .before .before .day .given .1) (triple-went _ _ _ _ _ _ (c .before .before .before .before .before .before .before .before .before .before .before .before .before .before .before .before .before .before .before .triple-at2 .ensures) (c .before .before .before .before .before .before .before .before .before .before .before .before .before .before .before .before .before .clock .given .1) (went headed.Refused _ _ _ _ _ _ (c .before .before .before .before .before .before .before .before .before .before .before .before .before .before .before .whole .ensures) (c .before .before .before .before .before .before .before .before .before .before .before .before .before .size .given .1) (went headed.Refused _ _ _ _ _ _ (c .before .before .before .before .before .before .before .before .before .before .before .bit-field .ensures) (c .before .before .before .before .before .before .before .before .before .name .given .1) (went headed.Refused _ _ _ _ _ _ (c .before .before .before .before .before .before .before .bit-field2 .ensures) (c .before .before .before .before .before .aircraft .given .1) (handed headed.Refused _ _ _ _ _ (c .before .before .before .whole2 .ensures) (c .before .enum-told6 .given .1) (c .field-refusal4 .ensures))))))
+returns-6 c = triple-went _ _ _ _ _ _ (c .before .before .before .before .before .before .before .before .before .before .before .before .before .before .before .before .before .before .before .before .before .before .before .triple-at .ensures) (c .before .before .before .before .before .before .before .before .before .before .before .before .before .before .before .before .before .before .before .before .before .day .given .1) (triple-went _ _ _ _ _ _ (c .before .before .before .before .before .before .before .before .before .before .before .before .before .before .before .before .before .before .before .triple-at2 .ensures) (c .before .before .before .before .before .before .before .before .before .before .before .before .before .before .before .before .before .clock .given .1) (went headed.Refused _ _ _ _ _ _ (c .before .before .before .before .before .before .before .before .before .before .before .before .before .before .before .whole .ensures) (c .before .before .before .before .before .before .before .before .before .before .before .before .before .size .given .1) (went headed.Refused _ _ _ _ _ _ (c .before .before .before .before .before .before .before .before .before .before .before .bit-field .ensures) (c .before .before .before .before .before .before .before .before .before .name .given .1) (went headed.Refused _ _ _ _ _ _ (c .before .before .before .before .before .before .before .bit-field2 .ensures) (c .before .before .before .before .before .aircraft .given .1) (handed headed.Refused _ _ _ _ _ (c .before .before .before .whole2 .ensures) (c .before .enum-told6 .given .1) (c .refusal-of4 .ensures))))))
 
 -- src/headings.rt:73:1
 returns-7 : tie.Need-returns-7
@@ -169,22 +168,22 @@ heading-at-spec =
     whole-requires
     enum-known-size
     enum-told-3
-    field-refusal-requires
+    refusal-of-requires
     returns-3
     mul-bit-field
     bit-field-requires
     enum-known-name
     enum-told-4
-    field-refusal-requires-2
+    refusal-of-requires-2
     returns-4
     bit-field-requires-2
     enum-known-aircraft
     enum-told-5
-    field-refusal-requires-3
+    refusal-of-requires-3
     returns-5
     whole-requires-2
     enum-known-index
     enum-told-6
-    field-refusal-requires-4
+    refusal-of-requires-4
     returns-6
     returns-7)

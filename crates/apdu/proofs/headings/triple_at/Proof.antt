@@ -7,7 +7,6 @@ use Rattle.apdu.proofs.headings.triple_at.Statement.{statement}
 use Rattle.apdu.proofs.headings.triple_at.Tie as tie
 use Rattle.apdu.proofs.headings.triple_at.Reads as reads
 use Rattle.apdu.proofs.headings.triple_at.Lts as lts
-use Rattle.apdu.proofs.refusals.field_refusal.Reads as field-refusal-reads
 use Rattle.fields.proofs.whole.Reads as whole-reads
 
 -- src/headings.rt:50:9
@@ -23,13 +22,13 @@ enum-told : tie.Need-enum-told
 enum-told c = search needs
 
 -- src/headings.rt:52:33
-field-refusal-requires : tie.Need-field-refusal-requires
-field-refusal-requires c κs = search needs
+refusal-of-requires : tie.Need-refusal-of-requires
+refusal-of-requires c κs = search needs
 
 -- src/headings.rt:52:9
 returns : tie.Need-returns
 unfolding tripleAt
-returns c = handed triples.Refused _ _ _ _ _ (c .before .before .before .whole .ensures) (c .before .enum-told .given .1) (c .field-refusal .ensures)
+returns c = handed triples.Refused _ _ _ _ _ (c .before .before .before .whole .ensures) (c .before .enum-told .given .1) (c .refusal-of .ensures)
 
 -- src/headings.rt:54:9
 whole-requires-2 : tie.Need-whole-requires-2
@@ -44,13 +43,13 @@ enum-told-2 : tie.Need-enum-told-2
 enum-told-2 c = search needs
 
 -- src/headings.rt:56:33
-field-refusal-requires-2 : tie.Need-field-refusal-requires-2
-field-refusal-requires-2 c κs = search needs
+refusal-of-requires-2 : tie.Need-refusal-of-requires-2
+refusal-of-requires-2 c κs = search needs
 
 -- src/headings.rt:56:9
 returns-2 : tie.Need-returns-2
 unfolding tripleAt
-returns-2 c = went triples.Refused _ _ _ _ _ _ (c .before .before .before .before .before .before .before .whole .ensures) (c .before .before .before .before .before .first .given .1) (handed triples.Refused _ _ _ _ _ (c .before .before .before .whole2 .ensures) (c .before .enum-told2 .given .1) (c .field-refusal2 .ensures))
+returns-2 c = went triples.Refused _ _ _ _ _ _ (c .before .before .before .before .before .before .before .whole .ensures) (c .before .before .before .before .before .first .given .1) (handed triples.Refused _ _ _ _ _ (c .before .before .before .whole2 .ensures) (c .before .enum-told2 .given .1) (c .refusal-of2 .ensures))
 
 -- src/headings.rt:58:9
 whole-requires-3 : tie.Need-whole-requires-3
@@ -65,13 +64,13 @@ enum-told-3 : tie.Need-enum-told-3
 enum-told-3 c = search needs
 
 -- src/headings.rt:60:33
-field-refusal-requires-3 : tie.Need-field-refusal-requires-3
-field-refusal-requires-3 c κs = search needs
+refusal-of-requires-3 : tie.Need-refusal-of-requires-3
+refusal-of-requires-3 c κs = search needs
 
 -- src/headings.rt:60:9
 returns-3 : tie.Need-returns-3
 unfolding tripleAt
-returns-3 c = went triples.Refused _ _ _ _ _ _ (c .before .before .before .before .before .before .before .before .before .before .before .whole .ensures) (c .before .before .before .before .before .before .before .before .before .first .given .1) (went triples.Refused _ _ _ _ _ _ (c .before .before .before .before .before .before .before .whole2 .ensures) (c .before .before .before .before .before .second .given .1) (handed triples.Refused _ _ _ _ _ (c .before .before .before .whole3 .ensures) (c .before .enum-told3 .given .1) (c .field-refusal3 .ensures)))
+returns-3 c = went triples.Refused _ _ _ _ _ _ (c .before .before .before .before .before .before .before .before .before .before .before .whole .ensures) (c .before .before .before .before .before .before .before .before .before .first .given .1) (went triples.Refused _ _ _ _ _ _ (c .before .before .before .before .before .before .before .whole2 .ensures) (c .before .before .before .before .before .second .given .1) (handed triples.Refused _ _ _ _ _ (c .before .before .before .whole3 .ensures) (c .before .enum-told3 .given .1) (c .refusal-of3 .ensures)))
 
 -- src/headings.rt:47:1
 returns-4 : tie.Need-returns-4
@@ -85,16 +84,16 @@ triple-at-spec =
     whole-requires
     enum-known-first
     enum-told
-    field-refusal-requires
+    refusal-of-requires
     returns
     whole-requires-2
     enum-known-second
     enum-told-2
-    field-refusal-requires-2
+    refusal-of-requires-2
     returns-2
     whole-requires-3
     enum-known-third
     enum-told-3
-    field-refusal-requires-3
+    refusal-of-requires-3
     returns-3
     returns-4)

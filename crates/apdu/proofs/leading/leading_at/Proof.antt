@@ -9,7 +9,6 @@ use Rattle.apdu.proofs.leading.leading_at.Lts as lts
 use Rattle.apdu.proofs.PduType.last.Reads as last-reads
 use Rattle.apdu.proofs.leading.kind_mode.Reads as kind-mode-reads
 use Rattle.apdu.proofs.leading.kind_of.Reads as kind-of-reads
-use Rattle.apdu.proofs.refusals.field_refusal.Reads as field-refusal-reads
 use Rattle.fields.proofs.extensible_index.Reads as extensible-index-reads
 
 -- src/leading.rt:102:54
@@ -29,13 +28,13 @@ enum-told : tie.Need-enum-told
 enum-told c = c .match .keys2
 
 -- src/leading.rt:104:30
-field-refusal-requires : tie.Need-field-refusal-requires
-field-refusal-requires c κs = tt
+refusal-of-requires : tie.Need-refusal-of-requires
+refusal-of-requires c κs = tt
 
 -- src/leading.rt:104:9
 returns : tie.Need-returns
 unfolding leadingAt
-returns c = rw (← c .before .before .before .before .last .ensures) (handed lead.Refused _ _ _ _ _ (c .before .before .before .extensible-index .ensures) (c .before .enum-told .given .1) (c .field-refusal .ensures))
+returns c = rw (← c .before .before .before .before .last .ensures) (handed lead.Refused _ _ _ _ _ (c .before .before .before .extensible-index .ensures) (c .before .enum-told .given .1) (c .refusal-of .ensures))
 
 -- src/leading.rt:106:9
 kind-of-requires : tie.Need-kind-of-requires
@@ -54,13 +53,13 @@ enum-told-2 : tie.Need-enum-told-2
 enum-told-2 c = c .match2 .keys2
 
 -- src/leading.rt:109:30
-field-refusal-requires-2 : tie.Need-field-refusal-requires-2
-field-refusal-requires-2 c κs = tt
+refusal-of-requires-2 : tie.Need-refusal-of-requires-2
+refusal-of-requires-2 c κs = tt
 
 -- src/leading.rt:109:9
 returns-2 : tie.Need-returns-2
 unfolding leadingAt
-returns-2 c = rw (← c .before .before .before .before .before .before .before .before .before .last .ensures) (went lead.Refused _ _ _ _ _ _ (c .before .before .before .before .before .before .before .before .extensible-index .ensures) (c .before .before .before .before .before .before .index .given .1) (rw (← c .before .before .before .before .kind-of .ensures) (handed lead.Refused _ _ _ _ _ (c .before .before .before .kind-mode .ensures) (c .before .enum-told2 .given .1) (c .field-refusal2 .ensures))))
+returns-2 c = rw (← c .before .before .before .before .before .before .before .before .before .last .ensures) (went lead.Refused _ _ _ _ _ _ (c .before .before .before .before .before .before .before .before .extensible-index .ensures) (c .before .before .before .before .before .before .index .given .1) (rw (← c .before .before .before .before .kind-of .ensures) (handed lead.Refused _ _ _ _ _ (c .before .before .before .kind-mode .ensures) (c .before .enum-told2 .given .1) (c .refusal-of2 .ensures))))
 
 -- src/leading.rt:99:1
 returns-3 : tie.Need-returns-3
@@ -75,12 +74,12 @@ leading-at-spec =
     extensible-index-requires
     enum-known-index
     enum-told
-    field-refusal-requires
+    refusal-of-requires
     returns
     kind-of-requires
     kind-mode-requires
     enum-known-mode
     enum-told-2
-    field-refusal-requires-2
+    refusal-of-requires-2
     returns-2
     returns-3)

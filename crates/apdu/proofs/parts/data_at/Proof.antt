@@ -15,12 +15,12 @@ enum-known-extension c = c .match .keys1
 enum-told : tie.Need-enum-told
 enum-told c = c .match .keys2
 
-field-refusal-requires : tie.Need-field-refusal-requires
-field-refusal-requires c κs = tt
+refusal-of-requires : tie.Need-refusal-of-requires
+refusal-of-requires c κs = tt
 
 returns : tie.Need-returns
 unfolding dataWithin
-returns c = handed taken.Refused _ _ _ _ _ (c .before .before .before .bit-field .ensures) (c .before .enum-told .given .1) (c .field-refusal .ensures)
+returns c = handed taken.Refused _ _ _ _ _ (c .before .before .before .bit-field .ensures) (c .before .enum-told .given .1) (c .refusal-of .ensures)
 
 bit-field-requires-2 : tie.Need-bit-field-requires-2
 bit-field-requires-2 c κs = tt
@@ -31,12 +31,12 @@ enum-known-presence c = c .match2 .keys1
 enum-told-2 : tie.Need-enum-told-2
 enum-told-2 c = c .match2 .keys2
 
-field-refusal-requires-2 : tie.Need-field-refusal-requires-2
-field-refusal-requires-2 c κs = tt
+refusal-of-requires-2 : tie.Need-refusal-of-requires-2
+refusal-of-requires-2 c κs = tt
 
 returns-2 : tie.Need-returns-2
 unfolding dataWithin
-returns-2 c = went taken.Refused _ _ _ _ _ _ (c .before .before .before .before .before .before .before .bit-field .ensures) (c .before .before .before .before .before .extension .given .1) (handed taken.Refused _ _ _ _ _ (c .before .before .before .bit-field2 .ensures) (c .before .enum-told2 .given .1) (c .field-refusal2 .ensures))
+returns-2 c = went taken.Refused _ _ _ _ _ _ (c .before .before .before .before .before .before .before .bit-field .ensures) (c .before .before .before .before .before .extension .given .1) (handed taken.Refused _ _ _ _ _ (c .before .before .before .bit-field2 .ensures) (c .before .enum-told2 .given .1) (c .refusal-of2 .ensures))
 
 parts-at-requires : tie.Need-parts-at-requires
 parts-at-requires c κs = tt
@@ -59,12 +59,12 @@ data-at-spec =
     bit-field-requires
     enum-known-extension
     enum-told
-    field-refusal-requires
+    refusal-of-requires
     returns
     bit-field-requires-2
     enum-known-presence
     enum-told-2
-    field-refusal-requires-2
+    refusal-of-requires-2
     returns-2
     parts-at-requires
     returns-3

@@ -10,7 +10,6 @@ use Rattle.apdu.proofs.parts.parts_at.Lts as lts
 use Rattle.apdu.proofs.parts.optional.Reads as optional-reads
 use Rattle.apdu.proofs.parts.part.Reads as part-reads
 use Rattle.apdu.proofs.parts.span_to.Reads as span-to-reads
-use Rattle.apdu.proofs.refusals.field_refusal.Reads as field-refusal-reads
 use Rattle.fields.proofs.string.Reads as string-reads
 
 -- src/parts.rt:54:9
@@ -26,13 +25,13 @@ enum-told : tie.Need-enum-told
 enum-told c = c .match .keys2
 
 -- src/parts.rt:63:31
-field-refusal-requires : tie.Need-field-refusal-requires
-field-refusal-requires c κs = tt
+refusal-of-requires : tie.Need-refusal-of-requires
+refusal-of-requires c κs = tt
 
 -- src/parts.rt:63:9
 returns : tie.Need-returns
 unfolding partsWithin
-returns c = handed taken.Refused _ _ _ _ _ (c .before .before .before .optional .ensures) (c .before .enum-told .given .1) (c .field-refusal .ensures)
+returns c = handed taken.Refused _ _ _ _ _ (c .before .before .before .optional .ensures) (c .before .enum-told .given .1) (c .refusal-of .ensures)
 
 -- src/parts.rt:65:9
 optional-requires-2 : tie.Need-optional-requires-2
@@ -47,13 +46,13 @@ enum-told-2 : tie.Need-enum-told-2
 enum-told-2 c = c .match2 .keys2
 
 -- src/parts.rt:67:31
-field-refusal-requires-2 : tie.Need-field-refusal-requires-2
-field-refusal-requires-2 c κs = tt
+refusal-of-requires-2 : tie.Need-refusal-of-requires-2
+refusal-of-requires-2 c κs = tt
 
 -- src/parts.rt:67:9
 returns-2 : tie.Need-returns-2
 unfolding partsWithin
-returns-2 c = went taken.Refused _ _ _ _ _ _ (c .before .before .before .before .before .before .before .optional .ensures) (c .before .before .before .before .before .identifier .given .1) (handed taken.Refused _ _ _ _ _ (c .before .before .before .optional2 .ensures) (c .before .enum-told2 .given .1) (c .field-refusal2 .ensures))
+returns-2 c = went taken.Refused _ _ _ _ _ _ (c .before .before .before .before .before .before .before .optional .ensures) (c .before .before .before .before .before .identifier .given .1) (handed taken.Refused _ _ _ _ _ (c .before .before .before .optional2 .ensures) (c .before .enum-told2 .given .1) (c .refusal-of2 .ensures))
 
 -- src/parts.rt:69:9
 string-requires : tie.Need-string-requires
@@ -68,13 +67,13 @@ enum-told-3 : tie.Need-enum-told-3
 enum-told-3 c = c .match3 .keys2
 
 -- src/parts.rt:71:31
-field-refusal-requires-3 : tie.Need-field-refusal-requires-3
-field-refusal-requires-3 c κs = tt
+refusal-of-requires-3 : tie.Need-refusal-of-requires-3
+refusal-of-requires-3 c κs = tt
 
 -- src/parts.rt:71:9
 returns-3 : tie.Need-returns-3
 unfolding partsWithin
-returns-3 c = went taken.Refused _ _ _ _ _ _ (c .before .before .before .before .before .before .before .before .before .before .before .optional .ensures) (c .before .before .before .before .before .before .before .before .before .identifier .given .1) (went taken.Refused _ _ _ _ _ _ (c .before .before .before .before .before .before .before .optional2 .ensures) (c .before .before .before .before .before .message .given .1) (handed taken.Refused _ _ _ _ _ (c .before .before .before .string .ensures) (c .before .enum-told3 .given .1) (c .field-refusal3 .ensures)))
+returns-3 c = went taken.Refused _ _ _ _ _ _ (c .before .before .before .before .before .before .before .before .before .before .before .optional .ensures) (c .before .before .before .before .before .before .before .before .before .identifier .given .1) (went taken.Refused _ _ _ _ _ _ (c .before .before .before .before .before .before .before .optional2 .ensures) (c .before .before .before .before .before .message .given .1) (handed taken.Refused _ _ _ _ _ (c .before .before .before .string .ensures) (c .before .enum-told3 .given .1) (c .refusal-of3 .ensures)))
 
 -- src/parts.rt:74:21
 part-requires : tie.Need-part-requires
@@ -100,17 +99,17 @@ parts-at-spec =
     optional-requires
     enum-known-identifier
     enum-told
-    field-refusal-requires
+    refusal-of-requires
     returns
     optional-requires-2
     enum-known-message
     enum-told-2
-    field-refusal-requires-2
+    refusal-of-requires-2
     returns-2
     string-requires
     enum-known-check
     enum-told-3
-    field-refusal-requires-3
+    refusal-of-requires-3
     returns-3
     part-requires
     part-requires-2

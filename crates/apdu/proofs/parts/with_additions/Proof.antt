@@ -26,12 +26,12 @@ enum-known-added c = c .match2 .keys1
 enum-told-2 : tie.Need-enum-told-2
 enum-told-2 c = c .match2 .keys2
 
-field-refusal-requires : tie.Need-field-refusal-requires
-field-refusal-requires c κs = tt
+refusal-of-requires : tie.Need-refusal-of-requires
+refusal-of-requires c κs = tt
 
 returns-2 : tie.Need-returns-2
 unfolding withAdditions
-returns-2 c = taken-went _ _ _ _ _ _ refl (c .before .before .before .before .before .parts .given .1) (handed taken.Refused _ _ _ _ _ (c .before .before .before .additions .ensures) (c .before .enum-told2 .given .1) (c .field-refusal .ensures))
+returns-2 c = taken-went _ _ _ _ _ _ refl (c .before .before .before .before .before .parts .given .1) (handed taken.Refused _ _ _ _ _ (c .before .before .before .additions .ensures) (c .before .enum-told2 .given .1) (c .refusal-of .ensures))
 
 returns-3 : tie.Need-returns-3
 unfolding withAdditions
@@ -47,6 +47,6 @@ with-additions-spec =
     additions-requires
     enum-known-added
     enum-told-2
-    field-refusal-requires
+    refusal-of-requires
     returns-2
     returns-3)

@@ -5,7 +5,7 @@ use Prim.Native.Nat.{_+_, _*_, _-_, _/_, _%_, _^_, _≤_, _<_}
 use mathlib.Core.Path.{_≡_}
 use native.Mathlib.Omega.{arith}
 use Rattle.bits.specs.Bits.{numOf, run}
-use Rattle.bits.proofs.EightBytes.{nine-is, nine-lt}
+use Rattle.bits.proofs.EightBytes.{nine-is, run-lt}
 use Rattle.bits.proofs.eight_bytes.eight_of_nine.Statement.{statement}
 use Rattle.bits.proofs.eight_bytes.eight_of_nine.Tie as tie
 
@@ -37,7 +37,7 @@ shr-result : tie.Need-shr-result
 shr-result c = search needs
 
 add-result : tie.Need-add-result
-add-result c = omega (arith, nine-lt _ _ _ (omega arith) (sum c))
+add-result c = omega (arith, run-lt _ _ 64 _ (omega arith) (sum c))
 
 returns : tie.Need-returns
 returns c = sum c

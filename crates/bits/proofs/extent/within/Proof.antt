@@ -15,17 +15,14 @@ returns c = sym (lt-leb (c .before .args .at + c .before .args .n) (min (c .befo
 returns-2 : tie.Need-returns-2
 returns-2 c = sym (lt-leb (c .before .before .args .at + c .before .before .args .n) (min (c .before .before .args .end) (8 * c .before .before .args .len)) (omega arith))
 
+add-after : tie.Need-add-after
+add-after c = search needs
+
 add-result : tie.Need-add-result
 add-result c = search needs
 
 add-result-2 : tie.Need-add-result-2
 add-result-2 c = search needs
-
-add-result-3 : tie.Need-add-result-3
-add-result-3 c = search needs
-
-add-result-4 : tie.Need-add-result-4
-add-result-4 c = search needs
 
 returns-3 : tie.Need-returns-3
 returns-3 c = by-bytes (c .before .before .args .len) (c .before .before .args .end) (c .before .before .args .at) (c .before .before .args .n) (omega arith) (omega arith)
@@ -33,4 +30,4 @@ returns-3 c = by-bytes (c .before .before .args .len) (c .before .before .args .
 pub within-spec : {M : Type 1} → statement M
 within-spec =
     tie.close
-    (tie.spec returns returns-2 add-result add-result-2 add-result-3 add-result-4 returns-3)
+    (tie.spec returns returns-2 add-after add-result add-result-2 returns-3)

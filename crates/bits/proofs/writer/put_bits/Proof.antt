@@ -1,9 +1,10 @@
 -- `bits::writer::put_bits` meets its contract.
 -- Assumes nothing.
 use native.Mathlib.Omega.{arith}
-use borrow.Author.Tests.{leb-true}
-use Prim.Native.Nat.{_≤_}
-use Rattle.words.proofs.Laws.{both-left}
+use borrow.Author.Tests.{leb-true, ltb-true}
+use Prim.Native.Nat.{_^_, _≤_, _<_}
+use lib.Dec.{leb}
+use Rattle.words.proofs.Laws.{both-left, both-right}
 use mathlib.Core.Path.{sym, _∙_}
 use Rattle.bits.proofs.Inside.{Within, is-within, not-within}
 use Rattle.bits.proofs.Putting.{is-put, is-full, is-too-wide}
@@ -17,6 +18,9 @@ inside c = is-within _ _ _ _ _ (c .before .within .ensures) (c .if2 .taken)
 narrow : (c : tie.Then2) → c .before .before .before .before .before .args .n ≤ 64
 narrow c = leb-true _ _ (both-left _ _ (sym (c .before .before .before .holds .ensures) ∙ c .before .before .if1 .taken))
 
+small : (c : tie.Then2) → c .before .before .before .before .before .args .v < 2 ^ c .before .before .before .before .before .args .n
+small c = ltb-true _ _ (both-right (leb (c .before .before .before .before .before .args .n) 64) _ (sym (c .before .before .before .holds .ensures) ∙ c .before .before .if1 .taken))
+
 holds-requires : tie.Need-holds-requires
 holds-requires c κs = search needs
 
@@ -24,7 +28,7 @@ within-requires : tie.Need-within-requires
 within-requires c κs = search needs
 
 put-number-at-requires : tie.Need-put-number-at-requires
-put-number-at-requires c κs = omega (arith, inside (c .before), narrow (c .before))
+put-number-at-requires c κs = (omega (arith, inside (c .before)), omega (arith, inside (c .before)), narrow (c .before), small (c .before))
 
 add-t12 : tie.Need-add-t12
 add-t12 c = omega (arith, inside (c .before .before .before .before))

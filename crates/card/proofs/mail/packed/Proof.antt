@@ -1,6 +1,5 @@
 -- `card::mail::packed` meets its contract.
 -- Assumes nothing.
-use Rattle.card.specs.Mail.{envelopeNumber}
 use borrow.Author.Needs.{needs}
 use Rattle.card.proofs.mail.packed.Statement.{statement}
 use Rattle.card.proofs.mail.packed.Tie as tie
@@ -27,7 +26,6 @@ mul-result-3 : tie.Need-mul-result-3
 mul-result-3 c = search needs
 
 returns : tie.Need-returns
-unfolding envelopeNumber
 returns c = search needs
 
 pub packed-spec : {M : Type 1} → statement M

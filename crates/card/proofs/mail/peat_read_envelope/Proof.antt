@@ -1,19 +1,29 @@
--- `card::mail::peat_read_envelope` meets its contract.
+-- `card::mail::peat_read_envelope` meets its contract. SHAPE first; else what was read, and its job.
 -- Assumes nothing.
 use mathlib.Core.Path.{_∙_}
 use borrow.Author.Needs.{needs}
+use borrow.Author.Tests.{eq-eqb, ne-eqb}
+use Rattle.card.specs.Mail.{readEnvelope}
 use Rattle.card.proofs.mail.peat_read_envelope.Statement.{statement}
 use Rattle.card.proofs.mail.peat_read_envelope.Tie as tie
+
+returns : tie.Need-returns
+unfolding readEnvelope
+returns c = rw (ne-eqb _ _ (c .if1 .taken))
 
 read-envelope-requires : tie.Need-read-envelope-requires
 read-envelope-requires c κs = search needs
 
-envelope-number-requires : tie.Need-envelope-number-requires
-envelope-number-requires c κs = search needs
+told-requires : tie.Need-told-requires
+told-requires c κs = search needs
 
-returns : tie.Need-returns
-returns c = c .envelope-number .ensures ∙ rw (c .before .read-envelope .ensures)
+same-length : tie.Need-same-length
+same-length c = search needs
+
+returns-2 : tie.Need-returns-2
+unfolding readEnvelope
+returns-2 c = c .before .before .told .ensures ∙ rw (c .before .before .before .before .read-envelope .ensures, eq-eqb _ _ (c .before .before .before .before .before .if1 .left))
 
 pub peat-read-envelope-spec : {M : Type 1} → statement M
 peat-read-envelope-spec =
-    tie.close (tie.spec read-envelope-requires envelope-number-requires returns)
+    tie.close (tie.spec returns read-envelope-requires told-requires same-length returns-2)

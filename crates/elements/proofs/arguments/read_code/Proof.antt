@@ -18,15 +18,15 @@ enum-known-first c = search needs
 enum-told : tie.Need-enum-told
 enum-told c = search needs
 
-refusal-requires : tie.Need-refusal-requires
-refusal-requires c κs = search needs
+refusal-of-requires : tie.Need-refusal-of-requires
+refusal-of-requires c κs = search needs
 
 no-code-requires : tie.Need-no-code-requires
 no-code-requires c κs = search needs
 
 returns : tie.Need-returns
 unfolding codeAt
-returns c = c .no-code .ensures ∙ handed-up noCode _ _ _ _ _ (c .before .before .before .before .whole .ensures) (c .before .before .enum-told .given .1) (c .before .refusal .ensures)
+returns c = c .no-code .ensures ∙ handed-up noCode _ _ _ _ _ (c .before .before .before .before .whole .ensures) (c .before .before .enum-told .given .1) (c .before .refusal-of .ensures)
 
 whole-requires-2 : tie.Need-whole-requires-2
 whole-requires-2 c κs = search needs
@@ -37,15 +37,15 @@ enum-known-second c = search needs
 enum-told-2 : tie.Need-enum-told-2
 enum-told-2 c = search needs
 
-refusal-requires-2 : tie.Need-refusal-requires-2
-refusal-requires-2 c κs = search needs
+refusal-of-requires-2 : tie.Need-refusal-of-requires-2
+refusal-of-requires-2 c κs = search needs
 
 no-code-requires-2 : tie.Need-no-code-requires-2
 no-code-requires-2 c κs = search needs
 
 returns-2 : tie.Need-returns-2
 unfolding codeAt
-returns-2 c = went noCode _ _ _ _ _ _ (c .before .before .before .before .before .before .before .before .whole .ensures) (c .before .before .before .before .before .before .first .given .1) (c .no-code2 .ensures ∙ handed-up noCode _ _ _ _ _ (c .before .before .before .before .whole2 .ensures) (c .before .before .enum-told2 .given .1) (c .before .refusal2 .ensures))
+returns-2 c = went noCode _ _ _ _ _ _ (c .before .before .before .before .before .before .before .before .whole .ensures) (c .before .before .before .before .before .before .first .given .1) (c .no-code2 .ensures ∙ handed-up noCode _ _ _ _ _ (c .before .before .before .before .whole2 .ensures) (c .before .before .enum-told2 .given .1) (c .before .refusal-of2 .ensures))
 
 whole-requires-3 : tie.Need-whole-requires-3
 whole-requires-3 c κs = search needs
@@ -56,15 +56,15 @@ enum-known-third c = search needs
 enum-told-3 : tie.Need-enum-told-3
 enum-told-3 c = search needs
 
-refusal-requires-3 : tie.Need-refusal-requires-3
-refusal-requires-3 c κs = search needs
+refusal-of-requires-3 : tie.Need-refusal-of-requires-3
+refusal-of-requires-3 c κs = search needs
 
 no-code-requires-3 : tie.Need-no-code-requires-3
 no-code-requires-3 c κs = search needs
 
 returns-3 : tie.Need-returns-3
 unfolding codeAt
-returns-3 c = went noCode _ _ _ _ _ _ (c .before .before .before .before .before .before .before .before .before .before .before .before .whole .ensures) (c .before .before .before .before .before .before .before .before .before .before .first .given .1) (went noCode _ _ _ _ _ _ (c .before .before .before .before .before .before .before .before .whole2 .ensures) (c .before .before .before .before .before .before .second .given .1) (c .no-code3 .ensures ∙ handed-up noCode _ _ _ _ _ (c .before .before .before .before .whole3 .ensures) (c .before .before .enum-told3 .given .1) (c .before .refusal3 .ensures)))
+returns-3 c = went noCode _ _ _ _ _ _ (c .before .before .before .before .before .before .before .before .before .before .before .before .whole .ensures) (c .before .before .before .before .before .before .before .before .before .before .first .given .1) (went noCode _ _ _ _ _ _ (c .before .before .before .before .before .before .before .before .whole2 .ensures) (c .before .before .before .before .before .before .second .given .1) (c .no-code3 .ensures ∙ handed-up noCode _ _ _ _ _ (c .before .before .before .before .whole3 .ensures) (c .before .before .enum-told3 .given .1) (c .before .refusal-of3 .ensures)))
 
 whole-requires-4 : tie.Need-whole-requires-4
 whole-requires-4 c κs = search needs
@@ -75,15 +75,15 @@ enum-known-fourth c = search needs
 enum-told-4 : tie.Need-enum-told-4
 enum-told-4 c = search needs
 
-refusal-requires-4 : tie.Need-refusal-requires-4
-refusal-requires-4 c κs = search needs
+refusal-of-requires-4 : tie.Need-refusal-of-requires-4
+refusal-of-requires-4 c κs = search needs
 
 no-code-requires-4 : tie.Need-no-code-requires-4
 no-code-requires-4 c κs = search needs
 
 returns-4 : tie.Need-returns-4
 unfolding codeAt
-returns-4 c = went noCode _ _ _ _ _ _ (c .before .before .before .before .before .before .before .before .before .before .before .before .before .before .before .before .whole .ensures) (c .before .before .before .before .before .before .before .before .before .before .before .before .before .before .first .given .1) (went noCode _ _ _ _ _ _ (c .before .before .before .before .before .before .before .before .before .before .before .before .whole2 .ensures) (c .before .before .before .before .before .before .before .before .before .before .second .given .1) (went noCode _ _ _ _ _ _ (c .before .before .before .before .before .before .before .before .whole3 .ensures) (c .before .before .before .before .before .before .third .given .1) (c .no-code4 .ensures ∙ handed-up noCode _ _ _ _ _ (c .before .before .before .before .whole4 .ensures) (c .before .before .enum-told4 .given .1) (c .before .refusal4 .ensures))))
+returns-4 c = went noCode _ _ _ _ _ _ (c .before .before .before .before .before .before .before .before .before .before .before .before .before .before .before .before .whole .ensures) (c .before .before .before .before .before .before .before .before .before .before .before .before .before .before .first .given .1) (went noCode _ _ _ _ _ _ (c .before .before .before .before .before .before .before .before .before .before .before .before .whole2 .ensures) (c .before .before .before .before .before .before .before .before .before .before .second .given .1) (went noCode _ _ _ _ _ _ (c .before .before .before .before .before .before .before .before .whole3 .ensures) (c .before .before .before .before .before .before .third .given .1) (c .no-code4 .ensures ∙ handed-up noCode _ _ _ _ _ (c .before .before .before .before .whole4 .ensures) (c .before .before .enum-told4 .given .1) (c .before .refusal-of4 .ensures))))
 
 cast-t21 : tie.Need-cast-t21
 cast-t21 c = omega (arith, whole-most _ _ 0 7 _ _ _ (c .before .before .before .before .before .before .before .before .before .before .before .before .before .before .before .whole .ensures) (c .before .before .before .before .before .before .before .before .before .before .before .before .before .first .given .1))
@@ -108,25 +108,25 @@ read-code-spec =
     whole-requires
     enum-known-first
     enum-told
-    refusal-requires
+    refusal-of-requires
     no-code-requires
     returns
     whole-requires-2
     enum-known-second
     enum-told-2
-    refusal-requires-2
+    refusal-of-requires-2
     no-code-requires-2
     returns-2
     whole-requires-3
     enum-known-third
     enum-told-3
-    refusal-requires-3
+    refusal-of-requires-3
     no-code-requires-3
     returns-3
     whole-requires-4
     enum-known-fourth
     enum-told-4
-    refusal-requires-4
+    refusal-of-requires-4
     no-code-requires-4
     returns-4
     cast-t21

@@ -19,12 +19,12 @@ enum-known-choice c = search needs
 enum-told : tie.Need-enum-told
 enum-told c = search needs
 
-refusal-requires : tie.Need-refusal-requires
-refusal-requires c κs = search needs
+refusal-of-requires : tie.Need-refusal-of-requires
+refusal-of-requires c κs = search needs
 
 returns : tie.Need-returns
 unfolding levelAt
-returns c = handed-up level.Refused _ _ _ _ _ (c .before .before .before .whole .ensures) (c .before .enum-told .given .1) (c .refusal .ensures)
+returns c = handed-up level.Refused _ _ _ _ _ (c .before .before .before .whole .ensures) (c .before .enum-told .given .1) (c .refusal-of .ensures)
 
 read-level-type-requires : tie.Need-read-level-type-requires
 read-level-type-requires c κs = search needs
@@ -73,7 +73,7 @@ read-level-spec =
     whole-requires
     enum-known-choice
     enum-told
-    refusal-requires
+    refusal-of-requires
     returns
     read-level-type-requires
     enum-known-one

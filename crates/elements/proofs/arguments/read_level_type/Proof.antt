@@ -20,12 +20,12 @@ enum-known-choice c = search needs
 enum-told : tie.Need-enum-told
 enum-told c = search needs
 
-refusal-requires : tie.Need-refusal-requires
-refusal-requires c κs = search needs
+refusal-of-requires : tie.Need-refusal-of-requires
+refusal-of-requires c κs = search needs
 
 returns : tie.Need-returns
 unfolding levelTypeAt
-returns c = handed-up type.Refused _ _ _ _ _ (c .before .before .before .whole .ensures) (c .before .enum-told .given .1) (c .refusal .ensures)
+returns c = handed-up type.Refused _ _ _ _ _ (c .before .before .before .whole .ensures) (c .before .enum-told .given .1) (c .refusal-of .ensures)
 
 lowest-requires : tie.Need-lowest-requires
 lowest-requires c κs = search needs
@@ -42,12 +42,12 @@ enum-known-amount c = search needs
 enum-told-2 : tie.Need-enum-told-2
 enum-told-2 c = search needs
 
-refusal-requires-2 : tie.Need-refusal-requires-2
-refusal-requires-2 c κs = search needs
+refusal-of-requires-2 : tie.Need-refusal-of-requires-2
+refusal-of-requires-2 c κs = search needs
 
 returns-2 : tie.Need-returns-2
 unfolding levelTypeAt
-returns-2 c = went type.Refused _ _ _ _ _ _ (c .before .before .before .before .before .before .before .before .before .whole .ensures) (c .before .before .before .before .before .before .before .choice .given .1) (handed-up type.Refused _ _ _ _ _ (whole-as _ _ _ _ _ _ _ (c .before .before .before .whole2 .ensures) (c .before .before .before .before .before .lowest .ensures) (c .before .before .before .before .highest .ensures)) (c .before .enum-told2 .given .1) (c .refusal2 .ensures))
+returns-2 c = went type.Refused _ _ _ _ _ _ (c .before .before .before .before .before .before .before .before .before .whole .ensures) (c .before .before .before .before .before .before .before .choice .given .1) (handed-up type.Refused _ _ _ _ _ (whole-as _ _ _ _ _ _ _ (c .before .before .before .whole2 .ensures) (c .before .before .before .before .before .lowest .ensures) (c .before .before .before .before .highest .ensures)) (c .before .enum-told2 .given .1) (c .refusal-of2 .ensures))
 
 cast-t14 : tie.Need-cast-t14
 cast-t14 c = omega (arith, whole-most _ _ 0 3 _ _ _ (c .before .before .before .before .before .before .before .before .before .whole .ensures) (c .before .before .before .before .before .before .before .choice .given .1))
@@ -66,14 +66,14 @@ read-level-type-spec =
     whole-requires
     enum-known-choice
     enum-told
-    refusal-requires
+    refusal-of-requires
     returns
     lowest-requires
     highest-requires
     whole-requires-2
     enum-known-amount
     enum-told-2
-    refusal-requires-2
+    refusal-of-requires-2
     returns-2
     cast-t14
     cast-t15

@@ -1,7 +1,7 @@
 -- `elements::reading::read_argument` meets its contract.
 -- Assumes nothing.
 use mathlib.Core.Path.{ap, _∙_}
-use Rattle.elements.specs.Arguments.{refusalOf}
+use Rattle.fields.specs.Fields.{refusalOf}
 use Rattle.elements.specs.OneElement.{argumentAt, noElement}
 use borrow.Author.Needs.{needs}
 use Rattle.elements.proofs.reading.read_argument.Statement.{statement}
@@ -13,8 +13,8 @@ enum-told c = search needs
 refused-at-requires : tie.Need-refused-at-requires
 refused-at-requires c κs = search needs
 
-refusal-requires : tie.Need-refusal-requires
-refusal-requires c κs = search needs
+refusal-of-requires : tie.Need-refusal-of-requires
+refusal-of-requires c κs = search needs
 
 no-element-requires : tie.Need-no-element-requires
 no-element-requires c κs = search needs
@@ -84,7 +84,7 @@ characters-requires-4 c κs = search needs
 
 returns : tie.Need-returns
 unfolding argumentAt
-returns c = rw (c .before .before .before .enum-told .given .1) (c .no-element .ensures ∙ ap noElement (c .before .refusal .ensures ∙ ap refusalOf (c .before .before .refused-at .ensures)))
+returns c = rw (c .before .before .before .enum-told .given .1) (c .no-element .ensures ∙ ap noElement (c .before .refusal-of .ensures ∙ ap refusalOf (c .before .before .refused-at .ensures)))
 
 returns-2 : tie.Need-returns-2
 unfolding argumentAt
@@ -128,7 +128,7 @@ read-argument-spec =
     (tie.spec
     enum-told
     refused-at-requires
-    refusal-requires
+    refusal-of-requires
     no-element-requires
     enum-told-2
     enum-told-3

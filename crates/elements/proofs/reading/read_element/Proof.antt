@@ -22,15 +22,15 @@ enum-known-index c = search needs
 enum-told : tie.Need-enum-told
 enum-told c = search needs
 
-refusal-requires : tie.Need-refusal-requires
-refusal-requires c κs = search needs
+refusal-of-requires : tie.Need-refusal-of-requires
+refusal-of-requires c κs = search needs
 
 no-element-requires : tie.Need-no-element-requires
 no-element-requires c κs = search needs
 
 returns : tie.Need-returns
 unfolding elementAt
-returns c = c .no-element .ensures ∙ handed-up noElement _ _ _ _ _ (index-as _ _ _ _ _ (c .before .before .before .before .extensible-index .ensures) (c .before .before .before .before .before .last-of .ensures)) (c .before .before .enum-told .given .1) (c .before .refusal .ensures)
+returns c = c .no-element .ensures ∙ handed-up noElement _ _ _ _ _ (index-as _ _ _ _ _ (c .before .before .before .before .extensible-index .ensures) (c .before .before .before .before .before .last-of .ensures)) (c .before .before .enum-told .given .1) (c .before .refusal-of .ensures)
 
 cast-number : tie.Need-cast-number
 cast-number c = omega (arith, index-most _ _ (c .before .before .before .before .last-of .result) _ _ _ (c .before .before .before .extensible-index .ensures) (c .before .index .given .1), c .before .before .before .before .last-of .ensures, last-small (c .before .before .before .before .before .before .args .direction))
@@ -56,7 +56,7 @@ read-element-spec =
     extensible-index-requires
     enum-known-index
     enum-told
-    refusal-requires
+    refusal-of-requires
     no-element-requires
     returns
     cast-number

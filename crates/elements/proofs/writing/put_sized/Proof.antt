@@ -21,14 +21,14 @@ same-length c = search needs
 returns : tie.Need-returns
 returns c = sized-full _ _ _ _ _ _ _ _ _ (c .before .before .before .before .put-whole .ensures) refl (c .enum-told .given .1)
 
-put-numbers-requires : tie.Need-put-numbers-requires
-put-numbers-requires c κs = search needs
+put-characters-requires : tie.Need-put-characters-requires
+put-characters-requires c κs = search needs
 
 same-length-2 : tie.Need-same-length-2
 same-length-2 c = search needs
 
 returns-2 : tie.Need-returns-2
-returns-2 c = sized-next _ _ _ _ _ _ _ _ _ _ _ _ (c .before .before .before .before .before .before .before .before .before .put-whole .ensures) refl (c .before .before .before .before .before .size .given .1) (c .before .before .put-numbers .ensures)
+returns-2 c = sized-next _ _ _ _ _ _ _ _ _ _ _ _ (c .before .before .before .before .before .before .before .before .before .put-whole .ensures) refl (c .before .before .before .before .before .size .given .1) (c .before .before .put-characters .ensures)
 
 pub put-sized-spec : {M : Type 1} → statement M
 put-sized-spec =
@@ -39,6 +39,6 @@ put-sized-spec =
     enum-told
     same-length
     returns
-    put-numbers-requires
+    put-characters-requires
     same-length-2
     returns-2)

@@ -18,12 +18,12 @@ enum-known-first c = search needs
 enum-told : tie.Need-enum-told
 enum-told c = search needs
 
-refusal-requires : tie.Need-refusal-requires
-refusal-requires c κs = search needs
+refusal-of-requires : tie.Need-refusal-of-requires
+refusal-of-requires c κs = search needs
 
 returns : tie.Need-returns
 unfolding dateTimeAt
-returns c = handed-up date.Refused _ _ _ _ _ (c .before .before .before .whole .ensures) (c .before .enum-told .given .1) (c .refusal .ensures)
+returns c = handed-up date.Refused _ _ _ _ _ (c .before .before .before .whole .ensures) (c .before .enum-told .given .1) (c .refusal-of .ensures)
 
 whole-requires-2 : tie.Need-whole-requires-2
 whole-requires-2 c κs = search needs
@@ -34,12 +34,12 @@ enum-known-second c = search needs
 enum-told-2 : tie.Need-enum-told-2
 enum-told-2 c = search needs
 
-refusal-requires-2 : tie.Need-refusal-requires-2
-refusal-requires-2 c κs = search needs
+refusal-of-requires-2 : tie.Need-refusal-of-requires-2
+refusal-of-requires-2 c κs = search needs
 
 returns-2 : tie.Need-returns-2
 unfolding dateTimeAt
-returns-2 c = went date.Refused _ _ _ _ _ _ (c .before .before .before .before .before .before .before .whole .ensures) (c .before .before .before .before .before .first .given .1) (handed-up date.Refused _ _ _ _ _ (c .before .before .before .whole2 .ensures) (c .before .enum-told2 .given .1) (c .refusal2 .ensures))
+returns-2 c = went date.Refused _ _ _ _ _ _ (c .before .before .before .before .before .before .before .whole .ensures) (c .before .before .before .before .before .first .given .1) (handed-up date.Refused _ _ _ _ _ (c .before .before .before .whole2 .ensures) (c .before .enum-told2 .given .1) (c .refusal-of2 .ensures))
 
 whole-requires-3 : tie.Need-whole-requires-3
 whole-requires-3 c κs = search needs
@@ -50,12 +50,12 @@ enum-known-third c = search needs
 enum-told-3 : tie.Need-enum-told-3
 enum-told-3 c = search needs
 
-refusal-requires-3 : tie.Need-refusal-requires-3
-refusal-requires-3 c κs = search needs
+refusal-of-requires-3 : tie.Need-refusal-of-requires-3
+refusal-of-requires-3 c κs = search needs
 
 returns-3 : tie.Need-returns-3
 unfolding dateTimeAt
-returns-3 c = went date.Refused _ _ _ _ _ _ (c .before .before .before .before .before .before .before .before .before .before .before .whole .ensures) (c .before .before .before .before .before .before .before .before .before .first .given .1) (went date.Refused _ _ _ _ _ _ (c .before .before .before .before .before .before .before .whole2 .ensures) (c .before .before .before .before .before .second .given .1) (handed-up date.Refused _ _ _ _ _ (c .before .before .before .whole3 .ensures) (c .before .enum-told3 .given .1) (c .refusal3 .ensures)))
+returns-3 c = went date.Refused _ _ _ _ _ _ (c .before .before .before .before .before .before .before .before .before .before .before .whole .ensures) (c .before .before .before .before .before .before .before .before .before .first .given .1) (went date.Refused _ _ _ _ _ _ (c .before .before .before .before .before .before .before .whole2 .ensures) (c .before .before .before .before .before .second .given .1) (handed-up date.Refused _ _ _ _ _ (c .before .before .before .whole3 .ensures) (c .before .enum-told3 .given .1) (c .refusal-of3 .ensures)))
 
 cast-read-time-of-day : tie.Need-cast-read-time-of-day
 cast-read-time-of-day c = omega (arith, whole-most _ _ 1996 2095 _ _ _ (c .before .before .before .before .before .before .before .before .before .before .before .whole .ensures) (c .before .before .before .before .before .before .before .before .before .first .given .1))
@@ -80,17 +80,17 @@ read-date-time-spec =
     whole-requires
     enum-known-first
     enum-told
-    refusal-requires
+    refusal-of-requires
     returns
     whole-requires-2
     enum-known-second
     enum-told-2
-    refusal-requires-2
+    refusal-of-requires-2
     returns-2
     whole-requires-3
     enum-known-third
     enum-told-3
-    refusal-requires-3
+    refusal-of-requires-3
     returns-3
     cast-read-time-of-day
     cast-read-time-of-day-2

@@ -34,12 +34,12 @@ enum-known-last c = search needs
 enum-told-2 : tie.Need-enum-told-2
 enum-told-2 c = search needs
 
-refusal-requires : tie.Need-refusal-requires
-refusal-requires c κs = search needs
+refusal-of-requires : tie.Need-refusal-of-requires
+refusal-of-requires c κs = search needs
 
 returns-2 : tie.Need-returns-2
 unfolding datedAt
-returns-2 c = date-went _ _ _ _ _ _ (c .before .before .before .before .before .before .before .read-date-time .ensures) (c .before .before .before .before .before .date .given .1) (handed-up header.Refused _ _ _ _ _ (c .before .before .before .read-acknowledgement .ensures) (c .before .enum-told2 .given .1) (c .refusal .ensures))
+returns-2 c = date-went _ _ _ _ _ _ (c .before .before .before .before .before .before .before .read-date-time .ensures) (c .before .before .before .before .before .date .given .1) (handed-up header.Refused _ _ _ _ _ (c .before .before .before .read-acknowledgement .ensures) (c .before .enum-told2 .given .1) (c .refusal-of .ensures))
 
 returns-3 : tie.Need-returns-3
 unfolding datedAt
@@ -57,6 +57,6 @@ read-dated-spec =
     read-acknowledgement-requires
     enum-known-last
     enum-told-2
-    refusal-requires
+    refusal-of-requires
     returns-2
     returns-3)

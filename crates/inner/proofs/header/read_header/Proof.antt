@@ -19,12 +19,12 @@ enum-known-presence c = search needs
 enum-told : tie.Need-enum-told
 enum-told c = search needs
 
-refusal-requires : tie.Need-refusal-requires
-refusal-requires c κs = search needs
+refusal-of-requires : tie.Need-refusal-of-requires
+refusal-of-requires c κs = search needs
 
 returns : tie.Need-returns
 unfolding headerAt
-returns c = handed-up header.Refused _ _ _ _ _ (c .before .before .before .whole .ensures) (c .before .enum-told .given .1) (c .refusal .ensures)
+returns c = handed-up header.Refused _ _ _ _ _ (c .before .before .before .whole .ensures) (c .before .enum-told .given .1) (c .refusal-of .ensures)
 
 whole-requires-2 : tie.Need-whole-requires-2
 whole-requires-2 c κs = search needs
@@ -35,12 +35,12 @@ enum-known-number c = search needs
 enum-told-2 : tie.Need-enum-told-2
 enum-told-2 c = search needs
 
-refusal-requires-2 : tie.Need-refusal-requires-2
-refusal-requires-2 c κs = search needs
+refusal-of-requires-2 : tie.Need-refusal-of-requires-2
+refusal-of-requires-2 c κs = search needs
 
 returns-2 : tie.Need-returns-2
 unfolding headerAt
-returns-2 c = went header.Refused _ _ _ _ _ _ (c .before .before .before .before .before .before .before .whole .ensures) (c .before .before .before .before .before .presence .given .1) (handed-up header.Refused _ _ _ _ _ (c .before .before .before .whole2 .ensures) (c .before .enum-told2 .given .1) (c .refusal2 .ensures))
+returns-2 c = went header.Refused _ _ _ _ _ _ (c .before .before .before .before .before .before .before .whole .ensures) (c .before .before .before .before .before .presence .given .1) (handed-up header.Refused _ _ _ _ _ (c .before .before .before .whole2 .ensures) (c .before .enum-told2 .given .1) (c .refusal-of2 .ensures))
 
 read-reference-requires : tie.Need-read-reference-requires
 read-reference-requires c κs = search needs
@@ -51,12 +51,12 @@ enum-known-other c = search needs
 enum-told-3 : tie.Need-enum-told-3
 enum-told-3 c = search needs
 
-refusal-requires-3 : tie.Need-refusal-requires-3
-refusal-requires-3 c κs = search needs
+refusal-of-requires-3 : tie.Need-refusal-of-requires-3
+refusal-of-requires-3 c κs = search needs
 
 returns-3 : tie.Need-returns-3
 unfolding headerAt
-returns-3 c = went header.Refused _ _ _ _ _ _ (c .before .before .before .before .before .before .before .before .before .before .before .whole .ensures) (c .before .before .before .before .before .before .before .before .before .presence .given .1) (went header.Refused _ _ _ _ _ _ (c .before .before .before .before .before .before .before .whole2 .ensures) (c .before .before .before .before .before .number .given .1) (handed-up header.Refused _ _ _ _ _ (c .before .before .before .read-reference .ensures) (c .before .enum-told3 .given .1) (c .refusal3 .ensures)))
+returns-3 c = went header.Refused _ _ _ _ _ _ (c .before .before .before .before .before .before .before .before .before .before .before .whole .ensures) (c .before .before .before .before .before .before .before .before .before .presence .given .1) (went header.Refused _ _ _ _ _ _ (c .before .before .before .before .before .before .before .whole2 .ensures) (c .before .before .before .before .before .number .given .1) (handed-up header.Refused _ _ _ _ _ (c .before .before .before .read-reference .ensures) (c .before .enum-told3 .given .1) (c .refusal-of3 .ensures)))
 
 cast-read-dated : tie.Need-cast-read-dated
 cast-read-dated c = omega (arith, whole-most _ _ 0 63 _ _ _ (c .before .before .before .before .before .before .before .whole2 .ensures) (c .before .before .before .before .before .number .given .1))
@@ -78,17 +78,17 @@ read-header-spec =
     whole-requires
     enum-known-presence
     enum-told
-    refusal-requires
+    refusal-of-requires
     returns
     whole-requires-2
     enum-known-number
     enum-told-2
-    refusal-requires-2
+    refusal-of-requires-2
     returns-2
     read-reference-requires
     enum-known-other
     enum-told-3
-    refusal-requires-3
+    refusal-of-requires-3
     returns-3
     cast-read-dated
     cast-read-dated-2

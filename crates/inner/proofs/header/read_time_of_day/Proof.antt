@@ -36,12 +36,12 @@ enum-known-last c = search needs
 enum-told-2 : tie.Need-enum-told-2
 enum-told-2 c = search needs
 
-refusal-requires : tie.Need-refusal-requires
-refusal-requires c κs = search needs
+refusal-of-requires : tie.Need-refusal-of-requires
+refusal-of-requires c κs = search needs
 
 returns-2 : tie.Need-returns-2
 unfolding timeOfDayAt
-returns-2 c = minute-went _ _ _ _ _ _ (c .before .before .before .before .before .before .before .read-time .ensures) (c .before .before .before .before .before .minute .given .1) (handed-up date.Refused _ _ _ _ _ (c .before .before .before .whole .ensures) (c .before .enum-told2 .given .1) (c .refusal .ensures))
+returns-2 c = minute-went _ _ _ _ _ _ (c .before .before .before .before .before .before .before .read-time .ensures) (c .before .before .before .before .before .minute .given .1) (handed-up date.Refused _ _ _ _ _ (c .before .before .before .whole .ensures) (c .before .enum-told2 .given .1) (c .refusal-of .ensures))
 
 cast-t15 : tie.Need-cast-t15
 cast-t15 c = omega (arith, whole-most _ _ 0 59 _ _ _ (c .before .before .before .whole .ensures) (c .before .last .given .1))
@@ -62,7 +62,7 @@ read-time-of-day-spec =
     whole-requires
     enum-known-last
     enum-told-2
-    refusal-requires
+    refusal-of-requires
     returns-2
     cast-t15
     returns-3)

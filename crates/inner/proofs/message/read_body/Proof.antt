@@ -3,7 +3,7 @@
 use mathlib.Core.Path.{ap, _∙_}
 use native.Mathlib.Omega.{arith}
 use borrow.Author.Tests.{eq-eqb, ne-eqb}
-use Rattle.elements.specs.Arguments.{refusalOf}
+use Rattle.fields.specs.Fields.{refusalOf}
 use Rattle.inner.specs.Messages.{bodyAt, noMessage}
 use Rattle.elements.proofs.Steps.{handed-up, went}
 use Rattle.elements.proofs.Whole.{whole-most}
@@ -21,15 +21,15 @@ enum-known-presence c = search needs
 enum-told : tie.Need-enum-told
 enum-told c = search needs
 
-refusal-requires : tie.Need-refusal-requires
-refusal-requires c κs = search needs
+refusal-of-requires : tie.Need-refusal-of-requires
+refusal-of-requires c κs = search needs
 
 no-message-requires : tie.Need-no-message-requires
 no-message-requires c κs = search needs
 
 returns : tie.Need-returns
 unfolding bodyAt
-returns c = c .no-message .ensures ∙ handed-up noMessage _ _ _ _ _ (c .before .before .before .before .whole .ensures) (c .before .before .enum-told .given .1) (c .before .refusal .ensures)
+returns c = c .no-message .ensures ∙ handed-up noMessage _ _ _ _ _ (c .before .before .before .before .whole .ensures) (c .before .before .enum-told .given .1) (c .before .refusal-of .ensures)
 
 whole-requires-2 : tie.Need-whole-requires-2
 whole-requires-2 c κs = search needs
@@ -40,15 +40,15 @@ enum-known-size c = search needs
 enum-told-2 : tie.Need-enum-told-2
 enum-told-2 c = search needs
 
-refusal-requires-2 : tie.Need-refusal-requires-2
-refusal-requires-2 c κs = search needs
+refusal-of-requires-2 : tie.Need-refusal-of-requires-2
+refusal-of-requires-2 c κs = search needs
 
 no-message-requires-2 : tie.Need-no-message-requires-2
 no-message-requires-2 c κs = search needs
 
 returns-2 : tie.Need-returns-2
 unfolding bodyAt
-returns-2 c = went noMessage _ _ _ _ _ _ (c .before .before .before .before .before .before .before .before .before .whole .ensures) (c .before .before .before .before .before .before .before .presence .given .1) (rw (eq-eqb _ _ (c .before .before .before .before .before .if1 .taken)) (c .no-message2 .ensures ∙ handed-up noMessage _ _ _ _ _ (c .before .before .before .before .whole2 .ensures) (c .before .before .enum-told2 .given .1) (c .before .refusal2 .ensures)))
+returns-2 c = went noMessage _ _ _ _ _ _ (c .before .before .before .before .before .before .before .before .before .whole .ensures) (c .before .before .before .before .before .before .before .presence .given .1) (rw (eq-eqb _ _ (c .before .before .before .before .before .if1 .taken)) (c .no-message2 .ensures ∙ handed-up noMessage _ _ _ _ _ (c .before .before .before .before .whole2 .ensures) (c .before .before .enum-told2 .given .1) (c .before .refusal-of2 .ensures)))
 
 read-places-requires : tie.Need-read-places-requires
 read-places-requires c κs = omega (arith, whole-most _ _ 1 5 _ _ _ (c .before .before .before .whole2 .ensures) (c .before .size .given .1))
@@ -76,15 +76,15 @@ returns-4 c = went noMessage _ _ _ _ _ _ (c .before .before .before .before .bef
 refused-at-requires : tie.Need-refused-at-requires
 refused-at-requires c κs = search needs
 
-refusal-requires-3 : tie.Need-refusal-requires-3
-refusal-requires-3 c κs = search needs
+refusal-of-requires-3 : tie.Need-refusal-of-requires-3
+refusal-of-requires-3 c κs = search needs
 
 no-message-requires-4 : tie.Need-no-message-requires-4
 no-message-requires-4 c κs = search needs
 
 returns-5 : tie.Need-returns-5
 unfolding bodyAt
-returns-5 c = went noMessage _ _ _ _ _ _ (c .before .before .before .before .before .before .before .whole .ensures) (c .before .before .before .before .before .presence .given .1) (rw (ne-eqb _ _ (c .before .before .before .if1 .left)) (c .no-message4 .ensures ∙ ap noMessage (c .before .refusal3 .ensures ∙ ap refusalOf (c .before .before .refused-at .ensures))))
+returns-5 c = went noMessage _ _ _ _ _ _ (c .before .before .before .before .before .before .before .whole .ensures) (c .before .before .before .before .before .presence .given .1) (rw (ne-eqb _ _ (c .before .before .before .if1 .left)) (c .no-message4 .ensures ∙ ap noMessage (c .before .refusal-of3 .ensures ∙ ap refusalOf (c .before .before .refused-at .ensures))))
 
 pub read-body-spec : {M : Type 1} → statement M
 read-body-spec =
@@ -93,13 +93,13 @@ read-body-spec =
     whole-requires
     enum-known-presence
     enum-told
-    refusal-requires
+    refusal-of-requires
     no-message-requires
     returns
     whole-requires-2
     enum-known-size
     enum-told-2
-    refusal-requires-2
+    refusal-of-requires-2
     no-message-requires-2
     returns-2
     read-places-requires
@@ -110,6 +110,6 @@ read-body-spec =
     returns-3
     returns-4
     refused-at-requires
-    refusal-requires-3
+    refusal-of-requires-3
     no-message-requires-4
     returns-5)

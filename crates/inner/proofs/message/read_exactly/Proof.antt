@@ -30,14 +30,14 @@ within-requires c κs = search needs
 refused-at-requires : tie.Need-refused-at-requires
 refused-at-requires c κs = search needs
 
-refusal-requires : tie.Need-refusal-requires
-refusal-requires c κs = search needs
+refusal-of-requires : tie.Need-refusal-of-requires
+refusal-of-requires c κs = search needs
 
 no-message-requires-2 : tie.Need-no-message-requires-2
 no-message-requires-2 c κs = search needs
 
 returns-2 : tie.Need-returns-2
-returns-2 c = exactly-more _ _ _ (c .before .before .before .before .before .before .before .before .read-message .ensures) _ _ _ _ (c .before .before .before .before .before .before .step .given .1) (is-within _ _ _ _ _ (c .before .before .before .before .within .ensures) (c .before .before .before .if1 .taken) .test) (c .before .before .refused-at .ensures) (c .before .refusal .ensures) (c .no-message2 .ensures)
+returns-2 c = exactly-more _ _ _ (c .before .before .before .before .before .before .before .before .read-message .ensures) _ _ _ _ (c .before .before .before .before .before .before .step .given .1) (is-within _ _ _ _ _ (c .before .before .before .before .within .ensures) (c .before .before .before .if1 .taken) .test) (c .before .before .refused-at .ensures) (c .before .refusal-of .ensures) (c .no-message2 .ensures)
 
 returns-3 : tie.Need-returns-3
 returns-3 c = exactly-done _ _ _ (c .before .before .before .before .before .read-message .ensures) _ (c .before .before .before .step .given .1) (not-within _ _ _ _ _ (c .before .within .ensures) (c .if1 .left))
@@ -54,7 +54,7 @@ read-exactly-spec =
     returns
     within-requires
     refused-at-requires
-    refusal-requires
+    refusal-of-requires
     no-message-requires-2
     returns-2
     returns-3)

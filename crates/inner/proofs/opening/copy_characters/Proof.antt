@@ -1,15 +1,15 @@
 -- `inner::opening::copy_characters` meets its contract.
 -- Assumes nothing.
-use mathlib.Core.Path.{_≡_, refl}
+use mathlib.Core.Path.{_≡_, refl, ap, _∙_}
 use Prim.Native.Nat.{_+_, _*_, _≤_, _-_}
 use native.Mathlib.Omega.{arith}
-use lib.ListN.{length, length-set}
-use lib.Seq.{sets}
+use lib.ListN.{length}
+use lib.Seq.{sets, length-sets}
 use borrow.Author.Needs.{needs}
 use Rattle.bits.specs.Bits.{bitsTo}
 use Rattle.bits.proofs.Bytes.{length-to}
 use Rattle.elements.specs.Arguments.{charactersIn}
-use Rattle.inner.proofs.Copied.{characters-start, characters-turn, characters-done}
+use Rattle.inner.proofs.Copied.{characters-start, eight-turn}
 use Rattle.inner.proofs.opening.copy_characters.Statement.{statement}
 use Rattle.inner.proofs.opening.copy_characters.Tie as tie
 
@@ -22,35 +22,50 @@ abbrev μ-loop : tie.MeasureT-loop
 loop-holds : tie.Need-loop-holds Inv-loop μ-loop
 loop-holds c = (search needs, refl, characters-start _ _ _ _ _)
 
-mul-p : tie.Need-mul-p Inv-loop μ-loop
-mul-p c = omega (arith, length-to (c .before .before .before .before .args .s .now) (c .before .before .before .before .args .end))
+sub-loop : tie.Need-sub-loop Inv-loop μ-loop
+sub-loop c = search needs
 
-add-p : tie.Need-add-p Inv-loop μ-loop
-add-p c = omega (arith, length-to (c .before .before .before .before .args .s .now) (c .before .before .before .before .args .end))
+mul-copy-few : tie.Need-mul-copy-few Inv-loop μ-loop
+mul-copy-few c = omega (arith, length-to (c .before .before .before .before .args .s .now) (c .before .before .before .before .args .end))
 
-character-requires : tie.Need-character-requires Inv-loop μ-loop
-character-requires c κs = omega arith
+add-copy-few : tie.Need-add-copy-few Inv-loop μ-loop
+add-copy-few c = omega (arith, length-to (c .before .before .before .before .args .s .now) (c .before .before .before .before .args .end))
 
-add-text : tie.Need-add-text Inv-loop μ-loop
-add-text c = omega arith
+add-copy-few-2 : tie.Need-add-copy-few-2 Inv-loop μ-loop
+add-copy-few-2 c = omega arith
 
-slice-write-text : tie.Need-slice-write-text Inv-loop μ-loop
-slice-write-text c = omega arith
+copy-few-requires : tie.Need-copy-few-requires Inv-loop μ-loop
+copy-few-requires c κs = omega arith
 
 add-i : tie.Need-add-i Inv-loop μ-loop
-add-i c = search needs
+add-i c = omega arith
 
 loop-less : tie.Need-loop-less Inv-loop μ-loop
-loop-less c = search needs
+loop-less c = omega arith
 
 loop-again : tie.Need-loop-again Inv-loop μ-loop
-loop-again c = (search needs, simp length-set (c .before .before .loop .inv .1), characters-turn _ _ _ _ _ _ _ (c .before .before .loop .inv .2) (c .before .loop-test .taken) _ (c .character .ensures))
+loop-again c = (omega arith, ap length (c .before .before .copy-few .ensures) ∙ length-sets (c .before .before .before .before .before .loop .text) (c .before .before .before .before .before .before .before .before .args .from + c .before .before .before .before .before .loop .i) (charactersIn (bitsTo (c .before .before .before .before .before .before .before .before .args .s .now) (c .before .before .before .before .before .before .before .before .args .end)) (c .before .before .before .before .before .before .before .before .args .at + 7 * c .before .before .before .before .before .loop .i) 8) ∙ c .before .before .before .before .before .loop .inv .1, eight-turn _ _ _ _ _ _ _ (c .before .before .before .before .before .loop .i) (c .before .before .before .before .loop-test .taken) (c .before .before .before .before .before .loop .inv .2) (c .before .before .copy-few .ensures))
+
+mul-copy-few-2 : tie.Need-mul-copy-few-2 Inv-loop μ-loop
+mul-copy-few-2 c = omega (arith, length-to (c .before .before .before .before .args .s .now) (c .before .before .before .before .args .end))
+
+add-copy-few-3 : tie.Need-add-copy-few-3 Inv-loop μ-loop
+add-copy-few-3 c = omega (arith, length-to (c .before .before .before .before .args .s .now) (c .before .before .before .before .args .end))
+
+sub-copy-few : tie.Need-sub-copy-few Inv-loop μ-loop
+sub-copy-few c = search needs
+
+add-copy-few-4 : tie.Need-add-copy-few-4 Inv-loop μ-loop
+add-copy-few-4 c = omega arith
+
+copy-few-requires-2 : tie.Need-copy-few-requires-2 Inv-loop μ-loop
+copy-few-requires-2 c κs = omega arith
 
 same-length : tie.Need-same-length Inv-loop μ-loop
-same-length c = c .before .loop .inv .1
+same-length c = ap length (c .before .before .copy-few2 .ensures) ∙ length-sets (c .before .before .before .before .before .loop .text) (c .before .before .before .before .before .before .before .before .args .from + c .before .before .before .before .before .loop .i) (charactersIn (bitsTo (c .before .before .before .before .before .before .before .before .args .s .now) (c .before .before .before .before .before .before .before .before .args .end)) (c .before .before .before .before .before .before .before .before .args .at + 7 * c .before .before .before .before .before .loop .i) (c .before .before .before .before .before .before .before .before .args .n - c .before .before .before .before .before .loop .i)) ∙ c .before .before .before .before .before .loop .inv .1
 
 returns : tie.Need-returns Inv-loop μ-loop
-returns c = characters-done _ (bitsTo (c .before .before .before .before .args .s .now) (c .before .before .before .before .args .end)) _ (c .before .before .before .before .args .from) (c .before .before .before .before .args .at) (c .before .before .before .before .args .n) (c .before .loop .i) (c .before .loop .inv .2) (c .loop-test .left)
+returns c = c .before .before .copy-few2 .ensures ∙ c .before .before .before .before .before .loop .inv .2
 
 pub copy-characters-spec : {M : Type 1} → statement M
 copy-characters-spec =
@@ -59,13 +74,18 @@ copy-characters-spec =
     Inv-loop
     μ-loop
     loop-holds
-    mul-p
-    add-p
-    character-requires
-    add-text
-    slice-write-text
+    sub-loop
+    mul-copy-few
+    add-copy-few
+    add-copy-few-2
+    copy-few-requires
     add-i
     loop-less
     loop-again
+    mul-copy-few-2
+    add-copy-few-3
+    sub-copy-few
+    add-copy-few-4
+    copy-few-requires-2
     same-length
     returns)

@@ -1,5 +1,4 @@
-use native.Mathlib.Omega.{arith}
-use Rattle.step.proofs.Calling.{invoked-low, told-low, is-refused, is-taken}
+use Rattle.step.proofs.Calling.{is-refused, is-taken}
 use borrow.Author.Needs.{needs}
 use Rattle.step.proofs.call.conclude.Statement.{statement}
 use Rattle.step.proofs.call.conclude.Tie as tie
@@ -11,11 +10,8 @@ use Rattle.step.proofs.call.bits_of.Reads as bits-of-reads
 use Rattle.step.proofs.call.write_first.Reads as write-first-reads
 use Rattle.step.proofs.call.write_second.Reads as write-second-reads
 use Rattle.step.proofs.carried.passes.Reads as passes-reads
-use Rattle.step.proofs.packing.invoked_number.Reads as invoked-number-reads
-use Rattle.step.proofs.packing.packed.Reads as packed-reads
-use Rattle.step.proofs.packing.told_number.Reads as told-number-reads
-use Rattle.step.proofs.packing.version_number.Reads as version-number-reads
-use Rattle.step.proofs.stored.store.Reads as store-reads
+use Rattle.packed.proofs.answer.Reads as answer-reads
+use Rattle.stored.proofs.store.Reads as store-reads
 
 -- src/call.rt:125:8
 is-none-requires : tie.Need-is-none-requires
@@ -37,14 +33,6 @@ write-second-requires c κs = search needs
 store-requires : tie.Need-store-requires
 store-requires c κs = search needs
 
--- src/call.rt:143:13
-invoked-number-requires : tie.Need-invoked-number-requires
-invoked-number-requires c κs = search needs
-
--- src/call.rt:144:13
-told-number-requires : tie.Need-told-number-requires
-told-number-requires c κs = search needs
-
 -- src/call.rt:145:13
 bits-of-requires : tie.Need-bits-of-requires
 bits-of-requires c κs = search needs
@@ -53,13 +41,9 @@ bits-of-requires c κs = search needs
 bits-of-requires-2 : tie.Need-bits-of-requires-2
 bits-of-requires-2 c κs = search needs
 
--- src/call.rt:147:13
-version-number-requires : tie.Need-version-number-requires
-version-number-requires c κs = search needs
-
 -- src/call.rt:142:9
-packed-requires : tie.Need-packed-requires
-packed-requires c κs = omega (arith, c .before .before .before .before .invoked-number .ensures, c .before .before .before .told-number .ensures, invoked-low (c .before .before .before .before .before .before .before .before .before .before .before .before .before .before .before .before .before .before .before .before .before .before .before .before .before .before .before .args .o .invoked), told-low (c .before .before .before .before .before .before .before .before .before .before .before .before .before .before .before .before .before .before .before .before .before .before .before .before .before .before .before .args .o .told))
+answer-requires : tie.Need-answer-requires
+answer-requires c κs = search needs
 
 -- src/call.rt:142:9
 same-length : tie.Need-same-length
@@ -75,7 +59,7 @@ same-length-3 c = search needs
 
 -- src/call.rt:142:9
 returns : tie.Need-returns
-returns c = is-taken _ _ _ _ _ _ _ _ _ _ _ (c .before .before .before .before .before .before .before .before .before .before .before .before .before .before .before .before .before .before .before .before .before .is-none .ensures) (c .before .before .before .before .before .before .before .before .before .before .before .before .before .before .before .before .before .before .before .before .if1 .taken) _ _ _ _ (c .before .before .before .before .before .before .before .before .before .before .before .before .before .before .before .before .before .before .write-first .ensures) _ (c .before .before .before .before .before .before .before .before .before .before .before .before .before .before .passes .ensures) (c .before .before .before .before .before .before .before .before .before .before .before .before .before .write-second .ensures) _ _ (c .before .before .before .before .before .before .before .before .store .ensures) _ _ _ _ _ _ (c .before .before .before .before .before .invoked-number .ensures) (c .before .before .before .before .told-number .ensures) (c .before .before .before .bits-of .ensures) (c .before .before .bits-of2 .ensures) (c .before .version-number .ensures) (c .packed .ensures)
+returns c = is-taken _ _ _ _ _ _ _ _ _ _ _ (c .before .before .before .before .before .before .before .before .before .before .before .before .before .before .before .before .before .before .is-none .ensures) (c .before .before .before .before .before .before .before .before .before .before .before .before .before .before .before .before .before .if1 .taken) _ _ _ _ (c .before .before .before .before .before .before .before .before .before .before .before .before .before .before .before .write-first .ensures) _ (c .before .before .before .before .before .before .before .before .before .before .before .passes .ensures) (c .before .before .before .before .before .before .before .before .before .before .write-second .ensures) _ _ (c .before .before .before .before .before .store .ensures) _ _ _ (c .before .before .bits-of .ensures) (c .before .bits-of2 .ensures) (c .answer .ensures)
 
 -- src/call.rt:150:5
 number-requires : tie.Need-number-requires
@@ -94,12 +78,9 @@ conclude-spec =
     passes-requires
     write-second-requires
     store-requires
-    invoked-number-requires
-    told-number-requires
     bits-of-requires
     bits-of-requires-2
-    version-number-requires
-    packed-requires
+    answer-requires
     same-length
     same-length-2
     same-length-3

@@ -8,7 +8,7 @@ use Rattle.step.proofs.call.forward_call.Lts as lts
 use Rattle.apdu.proofs.forward_fits.Reads as forward-fits-reads
 use Rattle.step.proofs.call.event_step.Reads as event-step-reads
 use Rattle.step.proofs.carried.no_data.Reads as no-data-reads
-use Rattle.step.proofs.stored.load.Reads as load-reads
+use Rattle.stored.proofs.load.Reads as load-reads
 
 -- src/call.rt:245:9
 returns : tie.Need-returns

@@ -7,7 +7,7 @@ use Rattle.step.proofs.call.service_call.Reads as reads
 use Rattle.step.proofs.call.service_call.Lts as lts
 use Rattle.step.proofs.call.bare_step.Reads as bare-step-reads
 use Rattle.step.proofs.call.data_step.Reads as data-step-reads
-use Rattle.step.proofs.stored.load.Reads as load-reads
+use Rattle.stored.proofs.load.Reads as load-reads
 
 -- src/call.rt:277:9
 returns : tie.Need-returns

@@ -8,7 +8,7 @@ use Rattle.step.proofs.call.user_call.Lts as lts
 use Rattle.apdu.proofs.data_fits.Reads as data-fits-reads
 use Rattle.step.proofs.call.event_step.Reads as event-step-reads
 use Rattle.step.proofs.carried.no_forward.Reads as no-forward-reads
-use Rattle.step.proofs.stored.load.Reads as load-reads
+use Rattle.stored.proofs.load.Reads as load-reads
 
 -- src/call.rt:203:9
 returns : tie.Need-returns

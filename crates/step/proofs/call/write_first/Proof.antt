@@ -7,7 +7,7 @@ use Rattle.step.proofs.call.write_first.Reads as reads
 use Rattle.step.proofs.call.write_first.Lts as lts
 use Rattle.apdu.proofs.put_apdu.Reads as put-apdu-reads
 use Rattle.step.proofs.call.pdus_of.Reads as pdus-of-reads
-use Rattle.step.proofs.packing.mode.Reads as mode-reads
+use Rattle.packed.proofs.mode.Reads as mode-reads
 
 -- src/call.rt:67:9
 pdus-of-requires : tie.Need-pdus-of-requires

@@ -1,0 +1,34 @@
+-- `inner::opening::copy_few` meets its contract.
+-- Assumes nothing.
+use mathlib.Core.Path.{refl}
+use native.Mathlib.Omega.{arith}
+use borrow.Author.Needs.{needs}
+use Rattle.bits.proofs.Bytes.{bits-to}
+use Rattle.inner.proofs.Copied.{few-are}
+use Rattle.inner.proofs.opening.copy_few.Statement.{statement}
+use Rattle.inner.proofs.opening.copy_few.Tie as tie
+
+mul-number-of : tie.Need-mul-number-of
+mul-number-of c = search needs
+
+number-of-requires : tie.Need-number-of-requires
+number-of-requires c κs = omega arith
+
+spread-requires : tie.Need-spread-requires
+spread-requires c κs = search needs
+
+same-length : tie.Need-same-length
+same-length c = search needs
+
+returns : tie.Need-returns
+returns c = few-are _ _ _ _ _ _ _ _ (bits-to _ _) refl (c .before .before .before .before .before .before .before .pre .0) (c .before .before .before .before .number-of .ensures) (c .before .before .spread .ensures)
+
+pub copy-few-spec : {M : Type 1} → statement M
+copy-few-spec =
+    tie.close
+    (tie.spec
+    mul-number-of
+    number-of-requires
+    spread-requires
+    same-length
+    returns)

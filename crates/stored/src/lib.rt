@@ -1,0 +1,216 @@
+// A record as the host keeps it: a lent range of a fixed size, of which every byte has its meaning.
+ghost use mathlib.Core.Path.{_≡_};
+ghost use Prim.Native.Nat.{_<_};
+ghost use Rattle.machine.specs.Codes.{securityValues, versions};
+ghost use Rattle.stored.specs.Stored.{flag, headBytes, headFits, kept, loadAt, sideCode, sideOf, stateOf, storeAt};
+use bits::Read;
+use control::Control;
+use control::Side;
+use control::State;
+use control::number;
+use machine::record::Configuration;
+use machine::record::Record;
+
+// What a range of bytes says: a side, its record and the dialogue number that it holds, or nothing.
+pub enum Loaded {
+    Is(Side, Record, u64),
+    NoRecord,
+}
+
+impl Loaded {
+    // The bytes of a record: those of one code each, then those of the highest job and of the dialogue number.
+    const HEAD: usize = 9;
+
+    const JOB: usize = 8;
+
+    const NUMBER: usize = 8;
+
+    pub const SIZE: usize = Loaded::HEAD + Loaded::JOB + Loaded::NUMBER;
+
+    // The same in bits.
+    const JOB_AT: usize = 8 * Loaded::HEAD;
+
+    const JOB_BITS: usize = 8 * Loaded::JOB;
+
+    const NUMBER_AT: usize = Loaded::JOB_AT + Loaded::JOB_BITS;
+
+    const NUMBER_BITS: usize = 8 * Loaded::NUMBER;
+
+    const BITS: usize = 8 * Loaded::SIZE;
+}
+
+fn side_code(s: Side) -> u8
+    ensures { λ c. ⌜ c ≡ sideCode s ⌝ }
+{
+    match s {
+        Side::Air => 1,
+        Side::Ground => 2,
+    }
+}
+
+fn side_of(x: u8) -> Side
+    ensures { λ s. ⌜ s ≡ sideOf x ⌝ }
+{
+    if x == 1 { Side::Air } else { Side::Ground }
+}
+
+fn state_of(x: u8) -> State
+    ensures { λ s. ⌜ s ≡ stateOf x ⌝ }
+{
+    match x {
+        0 => State::Idle,
+        1 => State::StartReq,
+        2 => State::StartInd,
+        3 => State::Dialogue,
+        4 => State::End,
+        _ => State::Forward,
+    }
+}
+
+pub fn flag_code(b: bool) -> u8
+    ensures { λ c. ⌜ c ≡ flag b ⌝ }
+{
+    if b { 1 } else { 0 }
+}
+
+fn head_fits(
+    side: u8,
+    state: u8,
+    dsc: u8,
+    timer: u8,
+    active: u8,
+    request: u8,
+    policy: u8,
+    forwards: u8,
+    version: u8,
+) -> bool
+    ensures { λ r. ⌜ r ≡ headFits side state dsc timer active request policy forwards version ⌝ }
+{
+    if side < 1 {
+        return false;
+    }
+    if 2 < side {
+        return false;
+    }
+    if 6 <= state {
+        return false;
+    }
+    if 2 <= dsc {
+        return false;
+    }
+    if 2 <= timer {
+        return false;
+    }
+    if 2 <= active {
+        return false;
+    }
+    if 2 <= request {
+        return false;
+    }
+    if 2 <= policy {
+        return false;
+    }
+    if 2 <= forwards {
+        return false;
+    }
+    if version < 1 {
+        return false;
+    }
+    true
+}
+
+// What the bytes say.
+pub fn load(b: &[u8]) -> Loaded
+    ensures { λ r. ⌜ r ≡ loadAt (now (b .entry)) ⌝ }
+{
+    if b.len() != Loaded::SIZE {
+        return Loaded::NoRecord;
+    }
+    if head_fits(b[0], b[1], b[2], b[3], b[4], b[5], b[6], b[7], b[8]) {
+        let Read::Number(highest, _) = bits::read_bits(
+            b,
+            Loaded::BITS,
+            Loaded::JOB_AT,
+            Loaded::JOB_BITS,
+        ) else {
+            return Loaded::NoRecord;
+        };
+        let Read::Number(held, _) = bits::read_bits(
+            b,
+            Loaded::BITS,
+            Loaded::NUMBER_AT,
+            Loaded::NUMBER_BITS,
+        ) else {
+            return Loaded::NoRecord;
+        };
+        let state = state_of(b[1]);
+        let dsc = b[2] == 1;
+        return Loaded::Is(
+            side_of(b[0]),
+            Record {
+                control: Control { state, dsc },
+                timer: b[3] == 1,
+                active: b[4] == 1,
+                highest,
+                request: b[5] as u64,
+                policy: b[6] as u64,
+                forwards: b[7] == 1,
+                version: b[8] as u64,
+            },
+            held,
+        );
+    }
+    Loaded::NoRecord
+}
+
+// The bytes of a record in front of the job.
+fn head_bytes(side: Side, r: Record) -> [u8; 9]
+    requires { ⌜ (r .request < securityValues) × ((r .policy < securityValues) × (r .version < versions)) ⌝ }
+    ensures { λ b. ⌜ b ≡ headBytes side r ⌝ }
+{
+    let c = r.control;
+    let s = c.state;
+    [
+        side_code(side),
+        number(s) as u8,
+        flag_code(c.dsc),
+        flag_code(r.timer),
+        flag_code(r.active),
+        r.request as u8,
+        r.policy as u8,
+        flag_code(r.forwards),
+        r.version as u8,
+    ]
+}
+
+// The bytes of a record with its dialogue number, into a range of their size. Nothing is written elsewhere, nor a record with codes outside their types.
+pub fn store(b: &mut [u8], side: Side, r: Record, held: u64) -> bool
+    ensures { λ x. ⌜ kept x (now (b .exit)) ≡ storeAt (now (b .entry)) side r held ⌝ }
+{
+    if b.len() != Loaded::SIZE {
+        return false;
+    }
+    if Configuration::SECURITY_VALUES <= r.request {
+        return false;
+    }
+    if Configuration::SECURITY_VALUES <= r.policy {
+        return false;
+    }
+    if r.version < 1 {
+        return false;
+    }
+    if Configuration::VERSIONS <= r.version {
+        return false;
+    }
+    let head = head_bytes(side, r);
+    bits::copy_bits(b, Loaded::BITS, 0, &head, Loaded::JOB_AT, 0, Loaded::JOB_AT);
+    bits::put_bits(b, Loaded::BITS, Loaded::JOB_AT, Loaded::JOB_BITS, r.highest);
+    bits::put_bits(
+        b,
+        Loaded::BITS,
+        Loaded::NUMBER_AT,
+        Loaded::NUMBER_BITS,
+        held,
+    );
+    true
+}

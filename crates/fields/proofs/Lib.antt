@@ -6,3 +6,4 @@ pub mod Stepping
 pub mod Editions
 pub mod Order
 pub mod Numbering
+pub mod Joined

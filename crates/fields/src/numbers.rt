@@ -84,8 +84,8 @@ pub fn whole(s: &[u8], end: usize, at: usize, lo: u64, hi: u64) -> Field
     Field::Value(lo + d, next)
 }
 
-// The index of an extensible CHOICE or ENUMERATED type whose last index is `last`.
-pub fn extensible_index(s: &[u8], end: usize, at: usize, last: u64) -> Field
+// An extension bit, and then an index.
+fn index_by_fields(s: &[u8], end: usize, at: usize, last: u64) -> Field
     ensures { λ f. ⌜ f ≡ extensibleIndex (bitsTo (now (s .entry)) end) at last ⌝ }
 {
     let bit = extension_bit(s, end, at);
@@ -93,6 +93,21 @@ pub fn extensible_index(s: &[u8], end: usize, at: usize, last: u64) -> Field
         return bit;
     };
     whole(s, end, next, 0, last)
+}
+
+// The index of an extensible CHOICE or ENUMERATED type whose last index is `last`: as one number with its extension bit, or field by field,
+// which names the fault.
+pub fn extensible_index(s: &[u8], end: usize, at: usize, last: u64) -> Field
+    ensures { λ f. ⌜ f ≡ extensibleIndex (bitsTo (now (s .entry)) end) at last ⌝ }
+{
+    let both = bits::read_bits(s, end, at, 1 + width(last));
+    let Read::Number(v, next) = both else {
+        return index_by_fields(s, end, at, last);
+    };
+    if v <= last {
+        return Field::Value(v, next);
+    }
+    index_by_fields(s, end, at, last)
 }
 
 pub fn put_extension_bit(buf: &mut [u8], end: usize, at: usize) -> Put
@@ -113,7 +128,8 @@ pub fn put_whole(buf: &mut [u8], end: usize, at: usize, lo: u64, hi: u64, v: u64
     bits::put_bits(buf, end, at, width(above(lo, hi)), v - lo)
 }
 
-pub fn put_extensible_index(buf: &mut [u8], end: usize, at: usize, last: u64, i: u64) -> Put
+// An extension bit, and then an index, where both have room.
+fn put_index_by_fields(buf: &mut [u8], end: usize, at: usize, last: u64, i: u64) -> Put
     ensures { λ r. ⌜ left r (now (buf .exit)) ≡ putIf (wholeFits 0 last i) (now (buf .entry)) end at (indexBits last i) ⌝ }
 {
     if last < i {
@@ -124,4 +140,18 @@ pub fn put_extensible_index(buf: &mut [u8], end: usize, at: usize, last: u64, i:
         return put_whole(buf, end, at + 1, 0, last, i);
     }
     Put::Full
+}
+
+// As one number with the extension bit, where a number holds both.
+pub fn put_extensible_index(buf: &mut [u8], end: usize, at: usize, last: u64, i: u64) -> Put
+    ensures { λ r. ⌜ left r (now (buf .exit)) ≡ putIf (wholeFits 0 last i) (now (buf .entry)) end at (indexBits last i) ⌝ }
+{
+    let n = width(last);
+    if n < 64 {
+        if last < i {
+            return Put::Full;
+        }
+        return bits::put_bits(buf, end, at, 1 + n, i);
+    }
+    put_index_by_fields(buf, end, at, last, i)
 }

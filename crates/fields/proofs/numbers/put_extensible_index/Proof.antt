@@ -1,58 +1,49 @@
 -- `fields::numbers::put_extensible_index` meets its contract.
 -- Assumes nothing.
 use native.Mathlib.Omega.{arith}
-use Rattle.bits.proofs.Inside.{Within, is-within, not-within}
-use Prim.Native.Nat.{_+_}
-use Rattle.fields.proofs.Widths.{width-most}
-use Rattle.fields.proofs.Writers.{refused, above-high, no-room, in-range, index-put, length-index}
+use Rattle.fields.proofs.Writers.{refused, above-high}
+use Rattle.fields.proofs.Joined.{index-put-once}
 use borrow.Author.Needs.{needs}
 use Rattle.fields.proofs.numbers.put_extensible_index.Statement.{statement}
 use Rattle.fields.proofs.numbers.put_extensible_index.Tie as tie
 
-inside : (c : tie.Then2) → Within (c .before .before .before .before .before .args .buf .now) (c .before .before .before .before .before .args .end) (c .before .before .before .before .before .args .at) (1 + c .before .before .width .result)
-inside c = is-within _ _ _ _ _ (c .before .within .ensures) (c .if2 .taken)
-
-returns : tie.Need-returns
-returns c = refused _ _ _ _ _ (above-high 0 _ _ (omega arith) (c .if1 .taken))
-
 width-requires : tie.Need-width-requires
 width-requires c κs = search needs
 
-add-within : tie.Need-add-within
-add-within c = omega (arith, c .width .ensures, width-most 64 (c .before .before .before .args .last))
+returns : tie.Need-returns
+returns c = refused _ _ _ _ _ (above-high 0 _ _ (omega arith) (c .if2 .taken))
 
-within-requires : tie.Need-within-requires
-within-requires c κs = search needs
+add-put-bits : tie.Need-add-put-bits
+add-put-bits c = search needs
 
-put-extension-bit-requires : tie.Need-put-extension-bit-requires
-put-extension-bit-requires c κs = search needs
-
-add-put-whole : tie.Need-add-put-whole
-add-put-whole c = omega (arith, inside (c .before .before .before .before .before))
-
-put-whole-requires : tie.Need-put-whole-requires
-put-whole-requires c κs = search needs
+put-bits-requires : tie.Need-put-bits-requires
+put-bits-requires c κs = search needs
 
 same-length : tie.Need-same-length
 same-length c = search needs
 
 returns-2 : tie.Need-returns-2
-returns-2 c = index-put _ _ _ _ _ _ _ _ _ (c .before .before .before .before .before .before .before .before .before .before .before .if1 .left) (c .before .before .before .before .before .before .before .before .before .before .width .ensures) (inside (c .before .before .before .before .before .before .before .before)) (c .before .before .before .before .before .before .put-extension-bit .ensures) (c .before .before .put-whole .ensures)
+returns-2 c = index-put-once _ _ _ _ _ _ _ (omega arith) (c .before .before .before .before .before .before .width .ensures) (c .before .before .before .before .before .if1 .taken) (c .before .before .before .before .if2 .left) (c .before .before .put-bits .ensures)
+
+put-index-by-fields-requires : tie.Need-put-index-by-fields-requires
+put-index-by-fields-requires c κs = search needs
+
+same-length-2 : tie.Need-same-length-2
+same-length-2 c = search needs
 
 returns-3 : tie.Need-returns-3
-returns-3 c = no-room _ _ _ _ _ (in-range 0 _ _ (omega arith) (c .before .before .before .if1 .left)) (rw (length-index, ← c .before .before .width .ensures) (not-within _ _ _ _ _ (c .before .within .ensures) (c .if2 .left)))
+returns-3 c = search needs
 
 pub put-extensible-index-spec : {M : Type 1} → statement M
 put-extensible-index-spec =
     tie.close
     (tie.spec
-    returns
     width-requires
-    add-within
-    within-requires
-    put-extension-bit-requires
-    add-put-whole
-    put-whole-requires
+    returns
+    add-put-bits
+    put-bits-requires
     same-length
     returns-2
+    put-index-by-fields-requires
+    same-length-2
     returns-3)

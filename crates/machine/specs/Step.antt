@@ -35,6 +35,10 @@ messageRefusal r UnrecoverableSystemError = None
 unfoldable pub refusalOf : Side → Record → Event → StepRefusal
 refusalOf sd r e = cond (not (eventFits sd e)) Shape (cond (not (permitted sd r e)) Prohibited (messageRefusal r e))
 
+-- the same of an event whose codes are of their types
+unfoldable pub refusalFitting : Side → Record → Event → StepRefusal
+refusalFitting sd r e = cond (not (permitted sd r e)) Prohibited (messageRefusal r e)
+
 -- the clause of an event that is not refused
 unfoldable pub acts : Side → Record → Event → Outcome
 acts sd r (User u) = called r u
@@ -45,3 +49,7 @@ acts sd r UnrecoverableSystemError = systemError r
 
 unfoldable pub step : Side → Record → Event → Outcome
 step sd r e = cond (isNone (refusalOf sd r e)) (acts sd r e) (refused (refusalOf sd r e) r)
+
+-- the step of an event whose codes are of their types
+unfoldable pub stepFitting : Side → Record → Event → Outcome
+stepFitting sd r e = cond (isNone (refusalFitting sd r e)) (acts sd r e) (refused (refusalFitting sd r e) r)

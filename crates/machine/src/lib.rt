@@ -24,7 +24,7 @@ use outcome::StepRefusal;
 use primitives::reached;
 use record::Record;
 ghost use mathlib.Core.Path.{_≡_};
-ghost use Rattle.machine.specs.Step.{permitted, messageRefusal, refusalOf, acts, step};
+ghost use Rattle.machine.specs.Step.{permitted, messageRefusal, refusalFitting, acts, stepFitting, step};
 
 // Has a user primitive an action here? An expiry asks whether the timer runs; a dialogue-service primitive and a system error are never
 // prohibited.
@@ -53,13 +53,10 @@ fn message_refusal(r: Record, e: Event) -> StepRefusal
     }
 }
 
-// The order of refusals.
+// The order of refusals, of an event whose codes are of their types.
 fn refusal(side: Side, r: Record, e: Event) -> StepRefusal
-    ensures { λ x. ⌜ x ≡ refusalOf side r e ⌝ }
+    ensures { λ x. ⌜ x ≡ refusalFitting side r e ⌝ }
 {
-    if !e.fits(side) {
-        return StepRefusal::Shape;
-    }
     if !permitted(side, r, e) {
         return StepRefusal::Prohibited;
     }
@@ -79,9 +76,9 @@ fn acts(side: Side, r: Record, e: Event) -> Outcome
     }
 }
 
-// One event at one machine.
-pub fn step(side: Side, r: Record, e: Event) -> Outcome
-    ensures { λ o. ⌜ o ≡ step side r e ⌝ }
+// One event at one machine, where the caller has looked at the codes: crate `numbered` does, before it looks at the dialogue number.
+pub fn step_fitting(side: Side, r: Record, e: Event) -> Outcome
+    ensures { λ o. ⌜ o ≡ stepFitting side r e ⌝ }
 {
     let why = refusal(side, r, e);
     if why.is_none() {
@@ -89,4 +86,14 @@ pub fn step(side: Side, r: Record, e: Event) -> Outcome
     } else {
         Outcome::refused(why, r)
     }
+}
+
+// One event at one machine.
+pub fn step(side: Side, r: Record, e: Event) -> Outcome
+    ensures { λ o. ⌜ o ≡ step side r e ⌝ }
+{
+    if !e.fits(side) {
+        return Outcome::refused(StepRefusal::Shape, r);
+    }
+    step_fitting(side, r, e)
 }

@@ -1,6 +1,6 @@
 -- The step with a number is the machine's step but for what is stale, and the number of a start stays.
 -- Assumes nothing.
-use mathlib.Core.Path.{_≡_, refl, ap}
+use mathlib.Core.Path.{_≡_, refl, ap, _∙_}
 use mathlib.Core.Bool.{Bool, true, false, not, cond, _&&_}
 use Prim.Native.Nat.{ℕ, _≤_, _<_}
 use borrow.Author.Tests.{lt-ltb, le-ltb, ne-eqb}
@@ -9,8 +9,9 @@ use Rattle.control.specs.declared.Side.{Side}
 use Rattle.machine.specs.Event.{eventFits}
 use Rattle.machine.specs.Outcome.{isNone, refused}
 use Rattle.machine.specs.Primitives.{reached}
-use Rattle.machine.specs.Step.{permitted, messageRefusal, acts, step}
+use Rattle.machine.specs.Step.{permitted, messageRefusal, acts, step, stepFitting}
 use Rattle.machine.specs.Step as S
+use Rattle.machine.proofs.Fitting.{step-of-fitting}
 use Rattle.machine.specs.declared.record.Record.{Record}
 use Rattle.machine.specs.declared.event.UserData.{UserData}
 use Rattle.machine.specs.declared.event.ServicePrimitive.{ServicePrimitive}
@@ -48,6 +49,10 @@ then-step sd r n e v l = rw (numbered-is sd r n e v, l) (go (eventFits sd e))
     go : (s : Bool) → cond (s && false) (refused Stale r) (step sd r e) ≡ step sd r e
     go true = refl
     go false = refl
+
+-- where the codes were looked at already
+pub then-fitting : (sd : Side) (r : Record) (n : ℕ) (e : Event) (v : ℕ) → eventFits sd e ≡ true → isStale n e v ≡ false → numberedStep sd r n e v ≡ stepFitting sd r e
+then-fitting sd r n e v s l = then-step sd r n e v l ∙ step-of-fitting sd r e s
 
 -- "A primitive of another number changes nothing"
 pub other-number : (sd : Side) (r : Record) (n : ℕ) (p : ServicePrimitive) (a : UserData) (v : ℕ) → eventFits sd (Service p a) ≡ true → serviceStarts p ≡ false → (v ≡ n → ⊥) → numberedStep sd r n (Service p a) v ≡ refused Stale r

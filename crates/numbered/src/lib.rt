@@ -95,5 +95,5 @@ pub fn step(side: Side, r: Record, held: u64, e: Event, brought: u64) -> Outcome
     if is_stale(held, e, brought) {
         return Outcome::refused(StepRefusal::Stale, r);
     }
-    machine::step(side, r, e)
+    machine::step_fitting(side, r, e)
 }

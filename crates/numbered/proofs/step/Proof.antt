@@ -1,8 +1,9 @@
 -- `numbered::step` meets its contract.
 -- Assumes nothing.
 use mathlib.Core.Path.{sym, _∙_}
+use borrow.Author.Tests.{not-false}
 use Rattle.numbered.specs.Numbers.{refusalOf, numberedStep}
-use Rattle.numbered.proofs.Laws.{then-step}
+use Rattle.numbered.proofs.Laws.{then-fitting}
 use Rattle.numbered.proofs.step.Statement.{statement}
 use Rattle.numbered.proofs.step.Tie as tie
 
@@ -26,11 +27,13 @@ returns-2 : tie.Need-returns-2
 unfolding numberedStep refusalOf
 returns-2 c = rw (← c .before .before .before .before .fits2 .ensures, c .before .before .before .if1 .left, ← c .before .before .is-stale .ensures, c .before .if2 .taken) (c .refused2 .ensures)
 
-step-requires : tie.Need-step-requires
-step-requires c κs = tt
+step-fitting-requires : tie.Need-step-fitting-requires
+step-fitting-requires c κs = tt
 
 returns-3 : tie.Need-returns-3
-returns-3 c = c .step .ensures ∙ sym (then-step _ _ _ _ _ (sym (c .before .before .is-stale .ensures) ∙ c .before .if2 .left))
+returns-3 c =
+    c .step-fitting .ensures
+    ∙ sym (then-fitting _ _ _ _ _ (sym (c .before .before .before .before .fits2 .ensures) ∙ not-false _ (c .before .before .before .if1 .left)) (sym (c .before .before .is-stale .ensures) ∙ c .before .if2 .left))
 
 pub step-spec : {M : Type 1} → statement M
 step-spec =
@@ -42,5 +45,5 @@ step-spec =
     is-stale-requires
     refused-requires-2
     returns-2
-    step-requires
+    step-fitting-requires
     returns-3)

@@ -42,6 +42,10 @@ is-within s e at n t p q =
 pub not-within : (s : List ℕ) (e at n : ℕ) (t : Bool) → t ≡ leb (at + n) (min e (8 * length s)) → t ≡ false → leb (at + n) (length (bitsTo s e)) ≡ false
 not-within s e at n t p q = rw length-to (sym p ∙ q)
 
+-- eight bytes from a byte behind the end on
+pub eight-beyond : (len e q : ℕ) → e / 8 < q → leb (8 * q + 64) (min e (8 * len)) ≡ false
+eight-beyond len e q h = lt-leb (8 * q + 64) (min e (8 * len)) (omega arith)
+
 -- a test that does not hold says nothing
 pub never : {A : Type 0} → false ≡ true → A
 never e = let z : _≡_ {A = ℕ} 0 1 = cc in absurd (omega arith)

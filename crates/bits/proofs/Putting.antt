@@ -282,6 +282,10 @@ pub is-too-wide : (s : List ℕ) (e at n v : ℕ) (t : Bool) → t ≡ (leb n 64
 unfolding putNumber putIf
 is-too-wide s e at n v t p q = rw (← p, q)
 
+-- 64 bits hold every number of the code
+pub in-64 : (v : ℕ) → v < 2 ^ 64 → (leb 64 64 && ltb v (2 ^ 64)) ≡ true
+in-64 v h = lt-ltb v (2 ^ 64) h
+
 -- ---- writers, one after the other
 
 pub put-if-yes : (ok : Bool) (s : List ℕ) (e at : ℕ) (bs : List ℕ) → ok ≡ true → putIf ok s e at bs ≡ putRun s e at bs

@@ -11,13 +11,13 @@ use lib.Dec.{eqb, leb}
 use lib.Seq.{drop-at, take-at}
 use lib.ListN.{length, getD, take, drop, length-append}
 use Rattle.bits.specs.Bits.{bitsN, bitsOf, bitsTo, bytesOf, run}
-use Rattle.bits.specs.Put.{Left, left, putBits, putNumber, copyRun}
+use Rattle.bits.specs.Put.{Left, left, putBits, putNumber}
 use Rattle.bits.specs.declared.Put.{Put}
 use Rattle.bits.proofs.Numbers.{Bits, length-bitsN, bits-bitsN}
-use Rattle.bits.proofs.Bytes.{Bytes, Holds, length-bits, length-to, length-run, run-to, bits-append, bits-bits, bits-bytes}
+use Rattle.bits.proofs.Bytes.{Bytes, Holds, length-bits, length-to, run-to, bits-append, bits-bits, bits-bytes}
 use Rattle.bits.proofs.Reading.{number-read}
 use Rattle.bits.proofs.Putting.{put-if-yes, put-fits, put-append, length-put}
-use Rattle.bits.proofs.Whole.{put-whole, bytes-of-bits, run-all, bits-of-append, length-bytes}
+use Rattle.bits.proofs.Whole.{put-whole, bytes-of-bits, bits-of-append, length-bytes}
 use Rattle.bits.specs.Read.{readBits}
 use Rattle.bits.specs.declared.Read.{Read}
 use Rattle.bits.specs.declared.Read.the-variants.{Number, Short}
@@ -95,23 +95,23 @@ pub record Coded (r : Record) : Type 0 where
   pub most : r .version < 256
   pub highest : r .highest < 2 ^ 64
 
-module _ (sd : Side) (r : Record) (h : Coded r) where
-  bytes-head : Bytes (headBytes sd r)
-  unfolding headBytes
-  bytes-head zero = omega (arith, side-low sd)
-  bytes-head (suc zero) = omega (arith, state-low (r .control .state))
-  bytes-head (suc (suc zero)) = omega (arith, flag-low (r .control .dsc))
-  bytes-head (suc (suc (suc zero))) = omega (arith, flag-low (r .timer))
-  bytes-head (suc (suc (suc (suc zero)))) = omega (arith, flag-low (r .active))
-  bytes-head (suc (suc (suc (suc (suc zero))))) = omega (arith, h .request)
-  bytes-head (suc (suc (suc (suc (suc (suc zero)))))) = omega (arith, h .policy)
-  bytes-head (suc (suc (suc (suc (suc (suc (suc zero))))))) = omega (arith, flag-low (r .forwards))
-  bytes-head (suc (suc (suc (suc (suc (suc (suc (suc zero)))))))) = omega (arith, h .most)
-  bytes-head (suc (suc (suc (suc (suc (suc (suc (suc (suc k))))))))) = omega arith
+-- the codes of the head are bytes
+pub bytes-head : (sd : Side) (r : Record) → r .request < 2 → r .policy < 2 → r .version < 256 → Bytes (headBytes sd r)
+unfolding headBytes
+bytes-head sd r q p v zero = omega (arith, side-low sd)
+bytes-head sd r q p v (suc zero) = omega (arith, state-low (r .control .state))
+bytes-head sd r q p v (suc (suc zero)) = omega (arith, flag-low (r .control .dsc))
+bytes-head sd r q p v (suc (suc (suc zero))) = omega (arith, flag-low (r .timer))
+bytes-head sd r q p v (suc (suc (suc (suc zero)))) = omega (arith, flag-low (r .active))
+bytes-head sd r q p v (suc (suc (suc (suc (suc zero))))) = omega (arith, q)
+bytes-head sd r q p v (suc (suc (suc (suc (suc (suc zero)))))) = omega (arith, p)
+bytes-head sd r q p v (suc (suc (suc (suc (suc (suc (suc zero))))))) = omega (arith, flag-low (r .forwards))
+bytes-head sd r q p v (suc (suc (suc (suc (suc (suc (suc (suc zero)))))))) = v
+bytes-head sd r q p v (suc (suc (suc (suc (suc (suc (suc (suc (suc k))))))))) = omega arith
 
-  length-head : length (headBytes sd r) ≡ jobByte
-  unfolding headBytes
-  length-head = refl
+pub length-head : (sd : Side) (r : Record) → length (headBytes sd r) ≡ jobByte
+unfolding headBytes
+length-head sd r = refl
 
 -- ---- the ways out of `store`, as the code has them
 
@@ -146,39 +146,27 @@ word-put y z q at v n m h f =
     let w : length (bitsN 64 v) ≡ 64 = length-bitsN 64 v in
     ap (λ (o : Left). o .bytes) (f ∙ put-if-yes _ y recordBits at (bitsN 64 v) (lt-ltb v (2 ^ 64) h) ∙ put-fits y recordBits at (bitsN 64 v) (omega arith))
 
-module _ (b a y z u : List ℕ) (p q s : Put) (sd : Side) (r : Record) (n : ℕ) (sized : length b ≡ recordBytes) (bs : Bytes b) (hc : Coded r) (hn : n < 2 ^ 64) where
-  first-part : a ≡ headBytes sd r → left p y ≡ copyRun b recordBits 0 a jobBit 0 jobBit → y ≡ putBits b 0 (bitsOf a)
-  unfolding copyRun
-  first-part e f =
-      let len : length a ≡ jobByte = ap length e ∙ length-head sd r hc in
-      let m : length (bitsTo a jobBit) ≡ jobBit = length-to a jobBit ∙ omega arith in
-      let k : length (bitsTo b recordBits) ≡ recordBits = length-to b recordBits ∙ omega arith in
-      let w : length (run a 0 jobBit) ≡ jobBit = length-run a 0 jobBit (omega arith) in
-      let g : run a 0 jobBit ≡ bitsOf a = subst (λ (j : ℕ). run a 0 j ≡ bitsOf a) (omega arith) (run-all a) in
-      ap (λ (o : Left). o .bytes) (f ∙ put-if-yes _ b recordBits 0 (run a 0 jobBit) (le-leb (0 + jobBit) (length (bitsTo a jobBit)) (omega arith)) ∙ put-fits b recordBits 0 (run a 0 jobBit) (omega arith)) ∙ ap (putBits b 0) g
-
+module _ (b y z u : List ℕ) (q s : Put) (sd : Side) (r : Record) (n : ℕ) (sized : length b ≡ recordBytes) (bs : Bytes b) (hc : Coded r) (hn : n < 2 ^ 64) where
   -- three writes are one
-  joined : length (bitsOf a) ≡ jobBit → y ≡ putBits b 0 (bitsOf a) → z ≡ putBits y jobBit (wordBits (r .highest)) → u ≡ putBits z numberBit (wordBits n) → u ≡ putBits b 0 (bitsOf a ++ (wordBits (r .highest) ++ wordBits n))
+  joined : length (bitsOf (headBytes sd r)) ≡ jobBit → y ≡ putBits b 0 (bitsOf (headBytes sd r)) → z ≡ putBits y jobBit (wordBits (r .highest)) → u ≡ putBits z numberBit (wordBits n) → u ≡ putBits b 0 (bitsOf (headBytes sd r) ++ (wordBits (r .highest) ++ wordBits n))
   joined l f g h =
-      let i : putBits b 0 (bitsOf a ++ (wordBits (r .highest) ++ wordBits n)) ≡ putBits y jobBit (wordBits (r .highest) ++ wordBits n) = put-append (bitsOf a) (wordBits (r .highest) ++ wordBits n) b 0 ∙ rw (zero-add, l, f) in
+      let i : putBits b 0 (bitsOf (headBytes sd r) ++ (wordBits (r .highest) ++ wordBits n)) ≡ putBits y jobBit (wordBits (r .highest) ++ wordBits n) = put-append (bitsOf (headBytes sd r)) (wordBits (r .highest) ++ wordBits n) b 0 ∙ rw (zero-add, l, f) in
       let j : putBits y jobBit (wordBits (r .highest) ++ wordBits n) ≡ putBits (putBits y jobBit (wordBits (r .highest))) numberBit (wordBits n) = put-append (wordBits (r .highest)) (wordBits n) y jobBit ∙ rw (length-bitsN 64 (r .highest)) in
       h ∙ ap (λ (x : List ℕ). putBits x numberBit (wordBits n)) g ∙ sym (i ∙ j)
 
-  pub store-is : a ≡ headBytes sd r → left p y ≡ copyRun b recordBits 0 a jobBit 0 jobBit → left q z ≡ putNumber y recordBits jobBit jobBits (r .highest) → left s u ≡ putNumber z recordBits numberBit numberBits n → kept true u ≡ storeAt b sd r n
+  pub store-is : y ≡ putBits b 0 (bitsOf (headBytes sd r)) → left q z ≡ putNumber y recordBits jobBit jobBits (r .highest) → left s u ≡ putNumber z recordBits numberBit numberBits n → kept true u ≡ storeAt b sd r n
   unfolding storeAt storedBytes
-  store-is e f g h =
-      let m : length a ≡ jobByte = ap length e ∙ length-head sd r hc in
-      let ba : Bytes a = rw e (bytes-head sd r hc) in
-      let l : length (bitsOf a) ≡ jobBit = length-bits a ∙ omega arith in
-      let x1 = first-part e f in
-      let n1 : length y ≡ recordBytes = ap length x1 ∙ length-put (bitsOf a) b 0 ∙ sized in
+  store-is f g h =
+      let m : length (headBytes sd r) ≡ jobByte = length-head sd r in
+      let l : length (bitsOf (headBytes sd r)) ≡ jobBit = length-bits (headBytes sd r) ∙ omega arith in
+      let n1 : length y ≡ recordBytes = ap length f ∙ length-put (bitsOf (headBytes sd r)) b 0 ∙ sized in
       let x2 = word-put y z q jobBit (r .highest) n1 (omega arith) (hc .highest) g in
       let n2 : length z ≡ recordBytes = ap length x2 ∙ length-put (wordBits (r .highest)) y jobBit ∙ n1 in
       let x3 = word-put z u s numberBit n n2 (omega arith) hn h in
-      let t : Bits (bitsOf a ++ (wordBits (r .highest) ++ wordBits n)) = bits-append (bitsOf a) (wordBits (r .highest) ++ wordBits n) (bits-bits a) (bits-append (wordBits (r .highest)) (wordBits n) (bits-bitsN 64 (r .highest)) (bits-bitsN 64 n)) in
-      let w : length (bitsOf a ++ (wordBits (r .highest) ++ wordBits n)) ≡ 8 * recordBytes = rw (length-append, length-append, l, length-bitsN, length-bitsN) in
-      let i : bytesOf recordBytes (bitsOf a ++ (wordBits (r .highest) ++ wordBits n)) ≡ a ++ bytesOf (jobBytes + numberBytes) (wordBits (r .highest) ++ wordBits n) = subst (λ (k : ℕ). bytesOf (k + (jobBytes + numberBytes)) (bitsOf a ++ (wordBits (r .highest) ++ wordBits n)) ≡ a ++ bytesOf (jobBytes + numberBytes) (wordBits (r .highest) ++ wordBits n)) m (bytes-of-bits a (wordBits (r .highest) ++ wordBits n) (jobBytes + numberBytes) ba) in
-      rw (eq-eqb (length b) recordBytes sized, lt-ltb (r .request) 2 (hc .request), lt-ltb (r .policy) 2 (hc .policy), le-leb 1 (r .version) (hc .least), lt-ltb (r .version) 256 (hc .most)) (ap (kept true) (joined l x1 x2 x3 ∙ put-whole b _ recordBytes bs t sized w ∙ i ∙ ap (λ (k : List ℕ). k ++ bytesOf (jobBytes + numberBytes) (wordBits (r .highest) ++ wordBits n)) e))
+      let t : Bits (bitsOf (headBytes sd r) ++ (wordBits (r .highest) ++ wordBits n)) = bits-append (bitsOf (headBytes sd r)) (wordBits (r .highest) ++ wordBits n) (bits-bits (headBytes sd r)) (bits-append (wordBits (r .highest)) (wordBits n) (bits-bitsN 64 (r .highest)) (bits-bitsN 64 n)) in
+      let w : length (bitsOf (headBytes sd r) ++ (wordBits (r .highest) ++ wordBits n)) ≡ 8 * recordBytes = rw (length-append, length-append, l, length-bitsN, length-bitsN) in
+      let i : bytesOf recordBytes (bitsOf (headBytes sd r) ++ (wordBits (r .highest) ++ wordBits n)) ≡ headBytes sd r ++ bytesOf (jobBytes + numberBytes) (wordBits (r .highest) ++ wordBits n) = subst (λ (k : ℕ). bytesOf (k + (jobBytes + numberBytes)) (bitsOf (headBytes sd r) ++ (wordBits (r .highest) ++ wordBits n)) ≡ headBytes sd r ++ bytesOf (jobBytes + numberBytes) (wordBits (r .highest) ++ wordBits n)) m (bytes-of-bits (headBytes sd r) (wordBits (r .highest) ++ wordBits n) (jobBytes + numberBytes) (bytes-head sd r (hc .request) (hc .policy) (hc .most))) in
+      rw (eq-eqb (length b) recordBytes sized, lt-ltb (r .request) 2 (hc .request), lt-ltb (r .policy) 2 (hc .policy), le-leb 1 (r .version) (hc .least), lt-ltb (r .version) 256 (hc .most)) (ap (kept true) (joined l f x2 x3 ∙ put-whole b _ recordBytes bs t sized w ∙ i))
 
 -- ---- what was stored is loaded
 
@@ -209,7 +197,7 @@ side-fits Ground = refl
 module _ (sd : Side) (r : Record) (n : ℕ) (hc : Coded r) (hn : n < 2 ^ 64) where
   pub length-stored : length (storedBytes sd r n) ≡ recordBytes
   unfolding storedBytes
-  length-stored = length-append (headBytes sd r) _ ∙ rw (length-head sd r hc, length-bytes)
+  length-stored = length-append (headBytes sd r) _ ∙ rw (length-head sd r, length-bytes)
 
   head-stored : headOf (storedBytes sd r n) ≡ true
   unfolding storedBytes headBytes headFits
@@ -236,7 +224,7 @@ module _ (sd : Side) (r : Record) (n : ℕ) (hc : Coded r) (hn : n < 2 ^ 64) whe
       bits-of-append (headBytes sd r) _ ∙ ap (λ (x : List ℕ). bitsOf (headBytes sd r) ++ x) (bits-bytes (jobBytes + numberBytes) (wordBits (r .highest) ++ wordBits n) t w)
 
   length-head-bits : length (bitsOf (headBytes sd r)) ≡ jobBit
-  length-head-bits = length-bits (headBytes sd r) ∙ rw (length-head sd r hc)
+  length-head-bits = length-bits (headBytes sd r) ∙ rw (length-head sd r)
 
   -- v stands behind x and in front of y
   word-stands : (x y : List ℕ) (at v : ℕ) → bitsOf (storedBytes sd r n) ≡ x ++ (wordBits v ++ y) → length x ≡ at → at + 64 ≤ recordBits → Holds (bitsTo (storedBytes sd r n) recordBits) at (wordBits v)

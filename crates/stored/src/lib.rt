@@ -1,8 +1,11 @@
 // A record as the host keeps it: a lent range of a fixed size, of which every byte has its meaning.
 ghost use mathlib.Core.Path.{_≡_};
 ghost use Prim.Native.Nat.{_<_};
+ghost use lib.ListN.{length};
+ghost use Rattle.bits.specs.Bits.{bitsOf};
+ghost use Rattle.bits.specs.Put.{putBits};
 ghost use Rattle.machine.specs.Codes.{securityValues, versions};
-ghost use Rattle.stored.specs.Stored.{flag, headBytes, headFits, kept, loadAt, sideCode, sideOf, stateOf, storeAt};
+ghost use Rattle.stored.specs.Stored.{flag, headBytes, headFits, kept, loadAt, recordBytes, sideCode, sideOf, stateOf, storeAt};
 use bits::Read;
 use control::Control;
 use control::Side;
@@ -18,24 +21,14 @@ pub enum Loaded {
 }
 
 impl Loaded {
-    // The bytes of a record: those of one code each, then those of the highest job and of the dialogue number.
-    const HEAD: usize = 9;
+    // The bytes of a record: nine of one code each, then eight of the highest job and eight of the dialogue number.
+    const JOB_AT: usize = 9;
 
-    const JOB: usize = 8;
+    const NUMBER_AT: usize = Loaded::JOB_AT + 8;
 
-    const NUMBER: usize = 8;
+    pub const SIZE: usize = Loaded::NUMBER_AT + 8;
 
-    pub const SIZE: usize = Loaded::HEAD + Loaded::JOB + Loaded::NUMBER;
-
-    // The same in bits.
-    const JOB_AT: usize = 8 * Loaded::HEAD;
-
-    const JOB_BITS: usize = 8 * Loaded::JOB;
-
-    const NUMBER_AT: usize = Loaded::JOB_AT + Loaded::JOB_BITS;
-
-    const NUMBER_BITS: usize = 8 * Loaded::NUMBER;
-
+    // All of them in bits.
     const BITS: usize = 8 * Loaded::SIZE;
 }
 
@@ -127,20 +120,12 @@ pub fn load(b: &[u8]) -> Loaded
         return Loaded::NoRecord;
     }
     if head_fits(b[0], b[1], b[2], b[3], b[4], b[5], b[6], b[7], b[8]) {
-        let Read::Number(highest, _) = bits::read_bits(
-            b,
-            Loaded::BITS,
-            Loaded::JOB_AT,
-            Loaded::JOB_BITS,
-        ) else {
+        let Read::Number(highest, _) = bits::read_eight_bytes(b, Loaded::BITS, Loaded::JOB_AT)
+        else {
             return Loaded::NoRecord;
         };
-        let Read::Number(held, _) = bits::read_bits(
-            b,
-            Loaded::BITS,
-            Loaded::NUMBER_AT,
-            Loaded::NUMBER_BITS,
-        ) else {
+        let Read::Number(held, _) = bits::read_eight_bytes(b, Loaded::BITS, Loaded::NUMBER_AT)
+        else {
             return Loaded::NoRecord;
         };
         let state = state_of(b[1]);
@@ -183,6 +168,19 @@ fn head_bytes(side: Side, r: Record) -> [u8; 9]
     ]
 }
 
+// The bytes of a record in front of the job, into the first of a range. The compiler makes a store of each of the nine turns.
+fn put_head(b: &mut [u8], side: Side, r: Record)
+    requires { ⌜ (length (now b) ≡ recordBytes) × ((r .request < securityValues) × ((r .policy < securityValues) × (r .version < versions))) ⌝ }
+    ensures { λ x. ⌜ now (b .exit) ≡ putBits (now (b .entry)) 0 (bitsOf (headBytes side r)) ⌝ }
+{
+    let head = head_bytes(side, r);
+    let mut i: usize = 0;
+    while i < Loaded::JOB_AT {
+        b[i] = head[i];
+        i += 1;
+    }
+}
+
 // The bytes of a record with its dialogue number, into a range of their size. Nothing is written elsewhere, nor a record with codes outside their types.
 pub fn store(b: &mut [u8], side: Side, r: Record, held: u64) -> bool
     ensures { λ x. ⌜ kept x (now (b .exit)) ≡ storeAt (now (b .entry)) side r held ⌝ }
@@ -202,15 +200,8 @@ pub fn store(b: &mut [u8], side: Side, r: Record, held: u64) -> bool
     if Configuration::VERSIONS <= r.version {
         return false;
     }
-    let head = head_bytes(side, r);
-    bits::copy_bits(b, Loaded::BITS, 0, &head, Loaded::JOB_AT, 0, Loaded::JOB_AT);
-    bits::put_bits(b, Loaded::BITS, Loaded::JOB_AT, Loaded::JOB_BITS, r.highest);
-    bits::put_bits(
-        b,
-        Loaded::BITS,
-        Loaded::NUMBER_AT,
-        Loaded::NUMBER_BITS,
-        held,
-    );
+    put_head(b, side, r);
+    bits::put_eight_bytes(b, Loaded::BITS, Loaded::JOB_AT, r.highest);
+    bits::put_eight_bytes(b, Loaded::BITS, Loaded::NUMBER_AT, held);
     true
 }

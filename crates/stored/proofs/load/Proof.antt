@@ -1,152 +1,113 @@
+-- `stored::load` meets its contract.
+-- Assumes nothing.
 use native.Mathlib.Omega.{arith}
 use Rattle.stored.proofs.Storing.{load-long, load-odd, load-none, load-no-number, load-is}
 use borrow.Author.Needs.{needs}
 use Rattle.stored.proofs.load.Statement.{statement}
 use Rattle.stored.proofs.load.Tie as tie
-use Rattle.stored.proofs.load.Reads as reads
-use Rattle.stored.proofs.load.Lts as lts
-use Rattle.bits.proofs.read_bits.Reads as read-bits-reads
-use Rattle.stored.proofs.head_fits.Reads as head-fits-reads
-use Rattle.stored.proofs.side_of.Reads as side-of-reads
-use Rattle.stored.proofs.state_of.Reads as state-of-reads
 
--- src/lib.rt:127:9
 returns : tie.Need-returns
 returns c = load-long _ (c .if1 .taken)
 
--- src/lib.rt:129:18
 shared-slice-read-head-fits : tie.Need-shared-slice-read-head-fits
 shared-slice-read-head-fits c = search needs
 
--- src/lib.rt:129:24
 shared-slice-read-head-fits-2 : tie.Need-shared-slice-read-head-fits-2
 shared-slice-read-head-fits-2 c = search needs
 
--- src/lib.rt:129:30
 shared-slice-read-head-fits-3 : tie.Need-shared-slice-read-head-fits-3
 shared-slice-read-head-fits-3 c = search needs
 
--- src/lib.rt:129:36
 shared-slice-read-head-fits-4 : tie.Need-shared-slice-read-head-fits-4
 shared-slice-read-head-fits-4 c = search needs
 
--- src/lib.rt:129:42
 shared-slice-read-head-fits-5 : tie.Need-shared-slice-read-head-fits-5
 shared-slice-read-head-fits-5 c = search needs
 
--- src/lib.rt:129:48
 shared-slice-read-head-fits-6 : tie.Need-shared-slice-read-head-fits-6
 shared-slice-read-head-fits-6 c = search needs
 
--- src/lib.rt:129:54
 shared-slice-read-head-fits-7 : tie.Need-shared-slice-read-head-fits-7
 shared-slice-read-head-fits-7 c = search needs
 
--- src/lib.rt:129:60
 shared-slice-read-head-fits-8 : tie.Need-shared-slice-read-head-fits-8
 shared-slice-read-head-fits-8 c = search needs
 
--- src/lib.rt:129:66
 shared-slice-read-head-fits-9 : tie.Need-shared-slice-read-head-fits-9
 shared-slice-read-head-fits-9 c = search needs
 
--- src/lib.rt:129:8
 head-fits-requires : tie.Need-head-fits-requires
 head-fits-requires c κs = search needs
 
--- src/lib.rt:130:40
-read-bits-requires : tie.Need-read-bits-requires
-read-bits-requires c κs = search needs
+read-eight-bytes-requires : tie.Need-read-eight-bytes-requires
+read-eight-bytes-requires c κs = search needs
 
--- src/lib.rt:130:26
 enum-known-highest : tie.Need-enum-known-highest
 enum-known-highest c = search needs
 
--- src/lib.rt:136:13
 enum-told : tie.Need-enum-told
 enum-told c = search needs
 
--- src/lib.rt:136:13
 returns-2 : tie.Need-returns-2
-returns-2 c = load-none _ (c .before .before .before .before .before .before .before .before .before .before .before .before .before .before .if1 .left) _ (c .before .before .before .before .head-fits .ensures) (c .before .before .before .if2 .taken) _ (c .before .before .read-bits .ensures) (c .enum-told .given .1)
+returns-2 c = load-none _ (c .before .before .before .before .before .before .before .before .before .before .before .before .before .before .if1 .left) _ (c .before .before .before .before .head-fits .ensures) (c .before .before .before .if2 .taken) _ (c .before .before .read-eight-bytes .ensures) (c .enum-told .given .1)
 
--- src/lib.rt:138:37
-read-bits-requires-2 : tie.Need-read-bits-requires-2
-read-bits-requires-2 c κs = search needs
+read-eight-bytes-requires-2 : tie.Need-read-eight-bytes-requires-2
+read-eight-bytes-requires-2 c κs = search needs
 
--- src/lib.rt:138:26
 enum-known-held : tie.Need-enum-known-held
 enum-known-held c = search needs
 
--- src/lib.rt:144:13
 enum-told-2 : tie.Need-enum-told-2
 enum-told-2 c = search needs
 
--- src/lib.rt:144:13
 returns-3 : tie.Need-returns-3
-returns-3 c = load-no-number _ (c .before .before .before .before .before .before .before .before .before .before .before .before .before .before .before .before .before .before .if1 .left) _ (c .before .before .before .before .before .before .before .before .head-fits .ensures) (c .before .before .before .before .before .before .before .if2 .taken) _ (c .before .before .before .before .before .before .read-bits .ensures) _ _ (c .before .before .before .before .highest .given .1) _ (c .before .before .read-bits2 .ensures) (c .enum-told2 .given .1)
+returns-3 c = load-no-number _ (c .before .before .before .before .before .before .before .before .before .before .before .before .before .before .before .before .before .before .if1 .left) _ (c .before .before .before .before .before .before .before .before .head-fits .ensures) (c .before .before .before .before .before .before .before .if2 .taken) _ (c .before .before .before .before .before .before .read-eight-bytes .ensures) _ _ (c .before .before .before .before .highest .given .1) _ (c .before .before .read-eight-bytes2 .ensures) (c .enum-told2 .given .1)
 
--- src/lib.rt:146:30
 shared-slice-read-state-of : tie.Need-shared-slice-read-state-of
 shared-slice-read-state-of c = search needs
 
--- src/lib.rt:146:13
 state-of-requires : tie.Need-state-of-requires
 state-of-requires c κs = search needs
 
--- src/lib.rt:147:19
 shared-slice-read-dsc : tie.Need-shared-slice-read-dsc
 shared-slice-read-dsc c = search needs
 
--- src/lib.rt:149:21
 shared-slice-read-side-of : tie.Need-shared-slice-read-side-of
 shared-slice-read-side-of c = search needs
 
--- src/lib.rt:149:13
 side-of-requires : tie.Need-side-of-requires
 side-of-requires c κs = search needs
 
--- src/lib.rt:152:24
 shared-slice-read-t36 : tie.Need-shared-slice-read-t36
 shared-slice-read-t36 c = search needs
 
--- src/lib.rt:153:25
 shared-slice-read-t39 : tie.Need-shared-slice-read-t39
 shared-slice-read-t39 c = search needs
 
--- src/lib.rt:155:26
 shared-slice-read-t42 : tie.Need-shared-slice-read-t42
 shared-slice-read-t42 c = search needs
 
--- src/lib.rt:155:26
 cast-t43 : tie.Need-cast-t43
 cast-t43 c = omega (arith, c .before .before .before .before .before .before .before .before .before .before .before .before .before .before .before .before .before .before .before .before .before .before .before .before .before .before .before .before .shared-slice-known .given 5)
 
--- src/lib.rt:156:25
 shared-slice-read-t45 : tie.Need-shared-slice-read-t45
 shared-slice-read-t45 c = search needs
 
--- src/lib.rt:156:25
 cast-t46 : tie.Need-cast-t46
 cast-t46 c = omega (arith, c .before .before .before .before .before .before .before .before .before .before .before .before .before .before .before .before .before .before .before .before .before .before .before .before .before .before .before .before .before .shared-slice-known .given 6)
 
--- src/lib.rt:157:27
 shared-slice-read-t48 : tie.Need-shared-slice-read-t48
 shared-slice-read-t48 c = search needs
 
--- src/lib.rt:158:26
 shared-slice-read-t51 : tie.Need-shared-slice-read-t51
 shared-slice-read-t51 c = search needs
 
--- src/lib.rt:158:26
 cast-t52 : tie.Need-cast-t52
 cast-t52 c = omega (arith, c .before .before .before .before .before .before .before .before .before .before .before .before .before .before .before .before .before .before .before .before .before .before .before .before .before .before .before .before .before .before .before .shared-slice-known .given 8)
 
--- src/lib.rt:148:9
 returns-4 : tie.Need-returns-4
-returns-4 c = load-is _ (c .before .before .before .before .before .before .before .before .before .before .before .before .before .before .before .before .before .before .before .before .before .before .before .before .before .before .before .before .before .before .if1 .left) _ (c .before .before .before .before .before .before .before .before .before .before .before .before .before .before .before .before .before .before .before .before .head-fits .ensures) (c .before .before .before .before .before .before .before .before .before .before .before .before .before .before .before .before .before .before .before .if2 .taken) _ (c .before .before .before .before .before .before .before .before .before .before .before .before .before .before .before .before .before .before .read-bits .ensures) _ _ (c .before .before .before .before .before .before .before .before .before .before .before .before .before .before .before .before .highest .given .1) _ (c .before .before .before .before .before .before .before .before .before .before .before .before .before .before .read-bits2 .ensures) _ _ (c .before .before .before .before .before .before .before .before .before .before .before .before .held .given .1) _ _ (c .before .before .before .before .before .before .side-of .ensures) (c .before .before .before .before .before .before .before .before .before .state-of .ensures)
+returns-4 c = load-is _ (c .before .before .before .before .before .before .before .before .before .before .before .before .before .before .before .before .before .before .before .before .before .before .before .before .before .before .before .before .before .before .if1 .left) _ (c .before .before .before .before .before .before .before .before .before .before .before .before .before .before .before .before .before .before .before .before .head-fits .ensures) (c .before .before .before .before .before .before .before .before .before .before .before .before .before .before .before .before .before .before .before .if2 .taken) _ (c .before .before .before .before .before .before .before .before .before .before .before .before .before .before .before .before .before .before .read-eight-bytes .ensures) _ _ (c .before .before .before .before .before .before .before .before .before .before .before .before .before .before .before .before .highest .given .1) _ (c .before .before .before .before .before .before .before .before .before .before .before .before .before .before .read-eight-bytes2 .ensures) _ _ (c .before .before .before .before .before .before .before .before .before .before .before .before .held .given .1) _ _ (c .before .before .before .before .before .before .side-of .ensures) (c .before .before .before .before .before .before .before .before .before .state-of .ensures)
 
--- src/lib.rt:123:1
 returns-5 : tie.Need-returns-5
 returns-5 c = load-odd _ (c .before .before .before .before .before .before .before .before .before .before .before .if1 .left) _ (c .before .head-fits .ensures) (c .if2 .left)
 
@@ -165,11 +126,11 @@ load-spec =
     shared-slice-read-head-fits-8
     shared-slice-read-head-fits-9
     head-fits-requires
-    read-bits-requires
+    read-eight-bytes-requires
     enum-known-highest
     enum-told
     returns-2
-    read-bits-requires-2
+    read-eight-bytes-requires-2
     enum-known-held
     enum-told-2
     returns-3

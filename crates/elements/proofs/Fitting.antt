@@ -30,7 +30,7 @@ use Rattle.elements.proofs.ReadBack.{parts}
 use Rattle.elements.proofs.Pieces.{pieces-left}
 use Rattle.elements.proofs.Written.{element-bits}
 
-fit-append : (xs ys : List Piece) → piecesFit xs ≡ true → piecesFit ys ≡ true → piecesFit (xs ++ ys) ≡ true
+pub fit-append : (xs ys : List Piece) → piecesFit xs ≡ true → piecesFit ys ≡ true → piecesFit (xs ++ ys) ≡ true
 unfolding piecesFit
 fit-append [] ys p q = q
 fit-append (x ∷ xs) ys p q = both-hold (x .fits) (piecesFit (xs ++ ys)) (both-left (x .fits) (piecesFit xs) p) (fit-append xs ys (both-right (x .fits) (piecesFit xs) p) q)
@@ -43,15 +43,15 @@ two-fit : (x y : Piece) → x .fits && y .fits ≡ true → piecesFit (x ∷ y �
 unfolding piecesFit
 two-fit x y p = both-hold (x .fits) (y .fits && true) (both-left (x .fits) (y .fits) p) (both-hold (y .fits) true (both-right (x .fits) (y .fits) p) refl)
 
-no-piece : piecesFit [] ≡ true
+pub no-piece : piecesFit [] ≡ true
 unfolding piecesFit
 no-piece = refl
 
-level-type-fit : (x : LevelType) → levelTypeFits x ≡ true → piecesFit (levelTypePieces x) ≡ true
+pub level-type-fit : (x : LevelType) → levelTypeFits x ≡ true → piecesFit (levelTypePieces x) ≡ true
 unfolding levelTypePieces levelTypeFits
 level-type-fit x p = two-fit _ _ p
 
-choice-fits : (b : Bool) → piecesFit (choicePiece b) ≡ true
+pub choice-fits : (b : Bool) → piecesFit (choicePiece b) ≡ true
 choice-fits true = one-fits (whole 0 1 1) refl
 choice-fits false = one-fits (whole 0 1 0) refl
 

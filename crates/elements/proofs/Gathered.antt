@@ -30,7 +30,7 @@ use Rattle.elements.proofs.Pieces.{pieces-left, pieces-next}
 
 -- ---- the number of their bits
 
-characters-append : (xs ys : List ℕ) → charactersBits (xs ++ ys) ≡ charactersBits xs ++ charactersBits ys
+pub characters-append : (xs ys : List ℕ) → charactersBits (xs ++ ys) ≡ charactersBits xs ++ charactersBits ys
 unfolding charactersBits
 characters-append [] ys = refl
 characters-append (x ∷ xs) ys = rw (characters-append xs ys, append-assoc)
@@ -83,14 +83,14 @@ pieces-fit (x ∷ xs) f =
     rw (le-leb 0 x (omega arith), le-leb x 127 (omega arith)) (pieces-fit xs (both-right (ltb x 128) (charactersFit xs) f))
 
 -- characters that have room
-characters-left : (s : List ℕ) (e at : ℕ) (xs : List ℕ) → charactersFit xs ≡ true → at + 7 * length xs ≤ min e (8 * length s) → putPieces s e at (numberPieces 127 xs) ≡ left (Next (at + 7 * length xs)) (putBits s at (charactersBits xs))
+pub characters-left : (s : List ℕ) (e at : ℕ) (xs : List ℕ) → charactersFit xs ≡ true → at + 7 * length xs ≤ min e (8 * length s) → putPieces s e at (numberPieces 127 xs) ≡ left (Next (at + 7 * length xs)) (putBits s at (charactersBits xs))
 characters-left s e at xs f r =
     let y : piecesBits (numberPieces 127 xs) ≡ charactersBits xs = characters-bits xs in
     let k = length-charactersBits xs in
     rw (y, k) at (pieces-left (numberPieces 127 xs) s e at (pieces-fit xs f) (rw (y, k, length-to s e) r))
 
 -- the number of their bits, put
-few-put : (s : List ℕ) (e at v : ℕ) (xs : List ℕ) → length xs ≤ 8 → at + 7 * length xs ≤ min e (8 * length s) → bitsN (7 * length xs) v ≡ charactersBits xs → v < 2 ^ (7 * length xs)
+pub few-put : (s : List ℕ) (e at v : ℕ) (xs : List ℕ) → length xs ≤ 8 → at + 7 * length xs ≤ min e (8 * length s) → bitsN (7 * length xs) v ≡ charactersBits xs → v < 2 ^ (7 * length xs)
     → putNumber s e at (7 * length xs) v ≡ left (Next (at + 7 * length xs)) (putBits s at (charactersBits xs))
 unfolding putNumber putIf
 few-put s e at v xs m r b l =
@@ -118,7 +118,7 @@ unfolding numberPieces
 numbers-append hi [] ys = refl
 numbers-append hi (x ∷ xs) ys = rw (numbers-append hi xs ys)
 
-in-parts : (hi i k : ℕ) (xs : List ℕ) → numberPieces hi (drop i xs) ≡ numberPieces hi (take k (drop i xs)) ++ numberPieces hi (drop (i + k) xs)
+pub in-parts : (hi i k : ℕ) (xs : List ℕ) → numberPieces hi (drop i xs) ≡ numberPieces hi (take k (drop i xs)) ++ numberPieces hi (drop (i + k) xs)
 in-parts hi i k xs =
     let d : drop k (drop i xs) ≡ drop (i + k) xs = rw drop-drop in
     ap (numberPieces hi) (sym (take-append-drop k (drop i xs))) ∙ rw (numbers-append, d)

@@ -18,4 +18,6 @@ pub mod Written
 pub mod Fitting
 pub mod Measured
 pub mod Gathered
+pub mod Sixteens
+pub mod Joined
 pub mod Largest

@@ -182,7 +182,7 @@ units : widthOf (3 - 0) ≡ 2
 unfolding digitsIn
 units = refl
 
-widest : (u : ℕ) → widthOf (highest u - lowest u) ≤ 15
+pub widest : (u : ℕ) → widthOf (highest u - lowest u) ≤ 15
 unfolding highest lowest digitsIn
 widest zero = omega arith
 widest (suc zero) = omega arith

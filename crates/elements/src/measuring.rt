@@ -37,7 +37,7 @@ fn fits(lo: u64, hi: u64, v: u64) -> bool
 }
 
 // A part that is used is of its type, and one that is not is zero.
-fn type_fits_use(used: bool, x: LevelType) -> bool
+pub(crate) fn type_fits_use(used: bool, x: LevelType) -> bool
     ensures { λ r. ⌜ r ≡ typeFitsUse used x ⌝ }
 {
     let unit = x.unit as u64;
@@ -216,7 +216,7 @@ fn argument_fits(kind: ArgumentKind, e: Element, text: &[u8]) -> bool
 }
 
 // How many bits a whole number from lo to hi takes.
-fn whole_bits(lo: u64, hi: u64) -> usize
+pub(crate) fn whole_bits(lo: u64, hi: u64) -> usize
     ensures { λ r. ⌜ r ≡ widthOf (hi - lo) ⌝ }
 {
     if lo <= hi {
@@ -232,7 +232,7 @@ fn level_type_bits(x: LevelType) -> usize
     whole_bits(0, LevelType::LAST_UNIT) + whole_bits(lowest(unit), highest(unit))
 }
 
-fn level_bits(x: Level) -> usize
+pub(crate) fn level_bits(x: Level) -> usize
     ensures { λ r. ⌜ r ≡ length (levelBits x) ⌝ }
 {
     let first = x.first;

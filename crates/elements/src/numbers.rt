@@ -5,7 +5,7 @@ ghost use Prim.Native.Nat.{_+_, _*_, _^_, _<_, _≤_, max, min};
 ghost use lib.Dec.{leb};
 ghost use lib.ListN.{length};
 ghost use Rattle.bits.specs.Bits.{bitsN};
-ghost use Rattle.bits.specs.Put.{left};
+ghost use Rattle.bits.specs.Put.{left, putBits};
 ghost use Rattle.elements.specs.Arguments.{charactersBits, charactersFit};
 ghost use Rattle.elements.specs.Measuring.{allMost};
 ghost use Rattle.elements.specs.Writing.{numberPieces, putPieces};
@@ -82,7 +82,7 @@ fn have_room(len: usize, end: usize, at: usize, items: &[u8]) -> bool
     false
 }
 
-// Characters that all have room: eight at a time as one number, and the rest as one.
+// Characters that all have room, a few: eight at a time as one number, and the rest as one.
 fn put_eights(buf: &mut [u8], end: usize, at: usize, items: &[u8]) -> Put
     requires { ⌜ (charactersFit (now items) ≡ true) × (at + 7 * length (now items) ≤ min end (8 * length (now buf))) ⌝ }
     ensures { λ r. ⌜ left r (now (buf .exit)) ≡ putPieces (now (buf .entry)) end at (numberPieces 127 (now (items .entry))) ⌝ }
@@ -109,12 +109,43 @@ fn put_eights(buf: &mut [u8], end: usize, at: usize, items: &[u8]) -> Put
     )
 }
 
+// Sixteen characters that have room, the second eight first. A number of eight characters goes into eight bytes, which are read before, and
+// the last of them is the first of the next number's: one after another, each would wait for the store before it.
+fn put_sixteen(buf: &mut [u8], end: usize, at: usize, items: &[u8])
+    requires { ⌜ (length (now items) ≡ 16) × (charactersFit (now items) ≡ true) × (at + 112 ≤ min end (8 * length (now buf))) ⌝ }
+    ensures { λ r. ⌜ now (buf .exit) ≡ putBits (now (buf .entry)) at (charactersBits (now (items .entry))) ⌝ }
+{
+    let first = gathered(&items[0..8]);
+    let second = gathered(&items[8..]);
+    let eight = 8 * Element::CHARACTER_BITS;
+    bits::put_bits(buf, end, at + eight, eight, second);
+    bits::put_bits(buf, end, at, eight, first);
+}
+
+// Characters that all have room: sixteen at a time, and then the rest.
+fn put_sixteens(buf: &mut [u8], end: usize, at: usize, items: &[u8]) -> Put
+    requires { ⌜ (charactersFit (now items) ≡ true) × (at + 7 * length (now items) ≤ min end (8 * length (now buf))) ⌝ }
+    ensures { λ r. ⌜ left r (now (buf .exit)) ≡ putPieces (now (buf .entry)) end at (numberPieces 127 (now (items .entry))) ⌝ }
+{
+    let mut i: usize = 0;
+    while 16 <= items.len() - i {
+        put_sixteen(
+            buf,
+            end,
+            at + Element::CHARACTER_BITS * i,
+            &items[i..i + 16],
+        );
+        i += 16;
+    }
+    put_eights(buf, end, at + Element::CHARACTER_BITS * i, &items[i..])
+}
+
 // Characters: tested once, or one by one as far as they go.
 pub(crate) fn put_characters(buf: &mut [u8], end: usize, at: usize, items: &[u8]) -> Put
     ensures { λ r. ⌜ left r (now (buf .exit)) ≡ putPieces (now (buf .entry)) end at (numberPieces 127 (now (items .entry))) ⌝ }
 {
     if have_room(buf.len(), end, at, items) {
-        return put_eights(buf, end, at, items);
+        return put_sixteens(buf, end, at, items);
     }
     put_numbers(buf, end, at, Element::LAST_CHARACTER, items)
 }

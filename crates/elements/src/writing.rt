@@ -1,11 +1,17 @@
 // Elements and their arguments written, piece after piece. A message is measured before it is written, so that none of these is refused
 // then.
 ghost use mathlib.Core.Path.{_≡_};
+ghost use mathlib.Core.Bool.{true, false};
 ghost use mathlib.Core.List.{_++_};
+ghost use Rattle.bits.specs.Bits.{numOf};
 ghost use Rattle.bits.specs.Put.{left};
+ghost use Rattle.elements.specs.Arguments.{levelTypeBits, levelTypeFits};
 ghost use Rattle.elements.specs.Writing.{argumentPieces, choicePiece, elementPieces, facilityPieces, levelPieces, levelTypePieces, numberPieces, putPieces, sizedPieces, timePieces};
 use crate::arguments::highest;
 use crate::arguments::lowest;
+use crate::measuring::level_bits;
+use crate::measuring::type_fits_use;
+use crate::measuring::whole_bits;
 use crate::numbers::put_characters;
 use crate::numbers::put_numbers;
 use crate::reading::last_of;
@@ -49,7 +55,7 @@ fn put_choice(buf: &mut [u8], end: usize, at: usize, second: bool) -> Put
     fields::put_whole(buf, end, at, 0, 1, 0)
 }
 
-fn put_level(buf: &mut [u8], end: usize, at: usize, x: Level) -> Put
+fn put_level_by_fields(buf: &mut [u8], end: usize, at: usize, x: Level) -> Put
     ensures { λ r. ⌜ left r (now (buf .exit)) ≡ putPieces (now (buf .entry)) end at (levelPieces x) ⌝ }
 {
     let block = x.block;
@@ -67,6 +73,42 @@ fn put_level(buf: &mut [u8], end: usize, at: usize, x: Level) -> Put
         return put_level_type(buf, end, q, two);
     }
     first
+}
+
+// Whether a level is no block, and what is written of it is of its type.
+fn is_single(x: Level) -> bool
+    ensures { λ r. ⌜ (r ≡ true → (x .block ≡ false) × (levelTypeFits (x .first) ≡ true)) ⌝ }
+{
+    if x.block {
+        return false;
+    }
+    let first = x.first;
+    type_fits_use(true, first)
+}
+
+// The number that the bits of a level in one unit say: the unit, and how far it lies above the lowest.
+fn type_number(x: LevelType) -> u64
+    requires { ⌜ levelTypeFits x ≡ true ⌝ }
+    ensures { λ v. ⌜ v ≡ numOf (levelTypeBits x) ⌝ }
+{
+    let unit = x.unit as u64;
+    let low = lowest(unit);
+    let n = whole_bits(low, highest(unit));
+    (unit << n) + (x.number as u64 - low)
+}
+
+// A level: one that is no block as one number, of which the first bit is the index 0 of the CHOICE; else piece after piece.
+fn put_level(buf: &mut [u8], end: usize, at: usize, x: Level) -> Put
+    ensures { λ r. ⌜ left r (now (buf .exit)) ≡ putPieces (now (buf .entry)) end at (levelPieces x) ⌝ }
+{
+    if is_single(x) {
+        let n = level_bits(x);
+        if bits::within(buf.len(), end, at, n) {
+            let first = x.first;
+            return bits::put_bits(buf, end, at, n, type_number(first));
+        }
+    }
+    put_level_by_fields(buf, end, at, x)
 }
 
 // A string of a size from least to most.

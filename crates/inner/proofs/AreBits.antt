@@ -98,9 +98,9 @@ row-bits d (e ∷ es) t =
     (bits-append (indexBits (lastOf d) (e .number)) _ (index-bits (lastOf d) (e .number)) (argument-bits (kindOf d (e .number)) e (take (e .characters) t)))
     (row-bits d es (drop (e .characters) t))
 
-date-time-bits : (x : DateTime) → Bits (dateTimeBits x)
+pub date-time-are-bits : (x : DateTime) → Bits (dateTimeBits x)
 unfolding dateTimeBits
-date-time-bits x =
+date-time-are-bits x =
     bits-append (wholeBits 1996 2095 (x .year) ++ wholeBits 1 12 (x .month) ++ wholeBits 1 31 (x .day) ++ timeBits (x .time)) _
     (bits-append (wholeBits 1996 2095 (x .year) ++ wholeBits 1 12 (x .month) ++ wholeBits 1 31 (x .day)) _
     (bits-append (wholeBits 1996 2095 (x .year) ++ wholeBits 1 12 (x .month)) _
@@ -119,21 +119,21 @@ unfolding acknowledgementBits
 acknowledgement-bits true = whole-bits 0 1 0
 acknowledgement-bits false = none
 
-header-bits : (x : Header) → Bits (headerBits x)
+pub header-are-bits : (x : Header) → Bits (headerBits x)
 unfolding headerBits
-header-bits x =
+header-are-bits x =
     let p : List ℕ = wholeBits 0 3 (presence (x .referenced) (x .acknowledged)) in
     let i : List ℕ = wholeBits 0 63 (x .identification) in
     let r : List ℕ = referenceBits (x .referenced) (x .reference) in
     bits-append (p ++ i ++ r ++ dateTimeBits (x .dated)) _
-    (bits-append (p ++ i ++ r) _ (bits-append (p ++ i) r (bits-append p i (whole-bits 0 3 (presence (x .referenced) (x .acknowledged))) (whole-bits 0 63 (x .identification))) (reference-bits (x .referenced) (x .reference))) (date-time-bits (x .dated)))
+    (bits-append (p ++ i ++ r) _ (bits-append (p ++ i) r (bits-append p i (whole-bits 0 3 (presence (x .referenced) (x .acknowledged))) (whole-bits 0 63 (x .identification))) (reference-bits (x .referenced) (x .reference))) (date-time-are-bits (x .dated)))
     (acknowledgement-bits (x .acknowledged))
 
 pub message-are-bits : (d : Direction) (m : Message) (t : List ℕ) → Bits (messageBits d m t)
 unfolding messageBits
 message-are-bits d m t =
     bits-append (headerBits (m .header) ++ wholeBits 0 1 0 ++ wholeBits 1 5 (m .count)) _
-    (bits-append (headerBits (m .header) ++ wholeBits 0 1 0) _ (bits-append (headerBits (m .header)) _ (header-bits (m .header)) (whole-bits 0 1 0)) (whole-bits 1 5 (m .count)))
+    (bits-append (headerBits (m .header) ++ wholeBits 0 1 0) _ (bits-append (headerBits (m .header)) _ (header-are-bits (m .header)) (whole-bits 0 1 0)) (whole-bits 1 5 (m .count)))
     (row-bits d (take (m .count) (m .places)) t)
 
 pub padded-are-bits : (l : List ℕ) → Bits l → Bits (padded l)

@@ -118,7 +118,7 @@ module _ (x : Header) where
   acknowledgement-length true = length-whole 0 1 0
   acknowledgement-length false = refl
 
-  date-length : (x : DateTime) → length (dateTimeBits x) ≡ 33
+  pub date-length : (x : DateTime) → length (dateTimeBits x) ≡ 33
   unfolding dateTimeBits timeBits digitsIn
   date-length x = simp (length-append, length-whole)
 

@@ -13,5 +13,7 @@ pub mod Characters
 pub mod MessageWritten
 pub mod Openings
 pub mod AreBits
+pub mod HeaderNumber
+pub mod Silent
 pub mod Theorems
 pub mod Examples

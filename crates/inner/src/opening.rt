@@ -1,11 +1,13 @@
 // A message read from lent bytes, and its characters copied into a lent text. It is read first, so that a refusal leaves every byte of the
 // text.
 ghost use mathlib.Core.Path.{_≡_};
+ghost use mathlib.Core.List.{map};
 ghost use Prim.Native.Nat.{_+_, _*_, _^_, _≤_, _<_};
 ghost use lib.ListN.{drop, length, take};
 ghost use lib.Seq.{sets};
 ghost use Rattle.bits.specs.Bits.{bitsN, bitsTo, numOf};
 ghost use Rattle.elements.specs.Arguments.{charactersIn};
+ghost use Rattle.elements.specs.Measuring.{allMost};
 ghost use Rattle.inner.specs.Messages.{elementsText, notOpened, openMessage, opening};
 ghost use Rattle.inner.specs.Places.{textAt};
 use crate::header::read_header;
@@ -125,6 +127,21 @@ fn message_text(
     copy_text(direction, s, end, next + Message::BETWEEN, n, text)
 }
 
+// Whether no element has characters: then nothing is to be copied, and nothing to be read again.
+fn is_silent(m: Message) -> bool
+    ensures { λ r. ⌜ r ≡ allMost 0 (map (λ (e : Element). e .characters) (m .places)) ⌝ }
+{
+    let mut i: usize = 0;
+    while i < Message::PLACES {
+        let e = m.places[i];
+        if e.characters != 0 {
+            return false;
+        }
+        i += 1;
+    }
+    true
+}
+
 fn not_opened(answer: Opened) -> MessageOpened
     ensures { λ r. ⌜ r ≡ notOpened answer ⌝ }
 {
@@ -151,6 +168,12 @@ pub fn open_message(direction: Direction, s: &[u8], count: usize, text: &mut [u8
             return not_opened(Opened::Refused(step_refusal(step)));
         };
         let message = all.message;
+        if is_silent(message) {
+            return MessageOpened {
+                answer: Opened::Characters(0),
+                message,
+            };
+        }
         let n = message_text(direction, s, count, 0, message.count, text);
         return MessageOpened {
             answer: Opened::Characters(n),

@@ -1,13 +1,18 @@
 // A message written, piece after piece, once it is measured, so that none of these is refused.
 ghost use mathlib.Core.Path.{_≡_};
+ghost use mathlib.Core.Bool.{true};
 ghost use mathlib.Core.List.{[], _∷_, _++_};
-ghost use Prim.Native.Nat.{_≤_};
+ghost use Prim.Native.Nat.{_≤_, _<_};
 ghost use Rattle.inner.specs.Messages.{done, padding as paddingOf, writeMessage};
 ghost use lib.ListN.{take};
+ghost use Rattle.bits.specs.Bits.{numOf};
 ghost use Rattle.bits.specs.Put.{left};
+ghost use Rattle.fields.specs.Encodings.{wholeBits};
 ghost use Rattle.elements.specs.Writing.{putPieces, whole};
+ghost use Rattle.inner.specs.Headers.{dateTimeBits, dateTimeFits, headerBits, headerFits, presence, referenceBits};
 ghost use Rattle.inner.specs.Writing.{acknowledgementPieces, dateTimePieces, headerPieces, messagePieces, referencePieces, rowPieces};
 use crate::measuring::flag;
+use crate::measuring::header_bits;
 use crate::measuring::message_bits;
 use crate::measuring::part_end;
 use crate::values::DateTime;
@@ -117,7 +122,7 @@ fn put_dated(buf: &mut [u8], end: usize, at: usize, x: DateTime, acknowledged: b
     put_acknowledgement(buf, end, next, acknowledged)
 }
 
-pub fn put_header(buf: &mut [u8], end: usize, at: usize, h: Header) -> Put
+fn put_header_by_fields(buf: &mut [u8], end: usize, at: usize, h: Header) -> Put
     ensures { λ r. ⌜ left r (now (buf .exit)) ≡ putPieces (now (buf .entry)) end at (headerPieces h) ⌝ }
 {
     let present = 2 * flag(h.referenced) + flag(h.acknowledged);
@@ -141,6 +146,58 @@ pub fn put_header(buf: &mut [u8], end: usize, at: usize, h: Header) -> Put
     };
     let dated = h.dated;
     put_dated(buf, end, q, dated, h.acknowledged)
+}
+
+// The number that the bits of a date and time say: 7 bits of the year, 4, 5, 5, 6 and 6 of what follows it.
+fn date_time_number(x: DateTime) -> u64
+    requires { ⌜ dateTimeFits x ≡ true ⌝ }
+    ensures { λ v. ⌜ v ≡ numOf (dateTimeBits x) ⌝ }
+{
+    let t = x.time;
+    let month = (x.year as u64 - DateTime::FIRST_YEAR) * 16 + (x.month as u64 - 1);
+    let hour = (month * 32 + (x.day as u64 - 1)) * 32 + t.hours as u64;
+    (hour * 64 + t.minutes as u64) * 64 + x.seconds as u64
+}
+
+// The number that the bits before the date and time say: the presence bits, and 6 bits of each number.
+fn front_number(h: Header) -> u64
+    requires { ⌜ headerFits h ≡ true ⌝ }
+    ensures { λ v. ⌜ (v < 16384) × (v ≡ numOf (wholeBits 0 3 (presence (h .referenced) (h .acknowledged))
+        ++ wholeBits 0 63 (h .identification) ++ referenceBits (h .referenced) (h .reference))) ⌝ }
+{
+    let present = 2 * flag(h.referenced) + flag(h.acknowledged);
+    let front = present * 64 + h.identification as u64;
+    if h.referenced {
+        return front * 64 + h.reference as u64;
+    }
+    front
+}
+
+// The number that the bits of a header say: 33 bits of the date and time behind the front, and a bit 0 for an acknowledgement.
+fn header_number(h: Header) -> u64
+    requires { ⌜ headerFits h ≡ true ⌝ }
+    ensures { λ v. ⌜ v ≡ numOf (headerBits h) ⌝ }
+{
+    let dated = h.dated;
+    let all = front_number(h) * 8589934592 + date_time_number(dated);
+    if h.acknowledged {
+        return all * 2;
+    }
+    all
+}
+
+// A header: as one number where it is of its type and has room, else piece after piece.
+pub fn put_header(buf: &mut [u8], end: usize, at: usize, h: Header) -> Put
+    ensures { λ r. ⌜ left r (now (buf .exit)) ≡ putPieces (now (buf .entry)) end at (headerPieces h) ⌝ }
+{
+    let size = header_bits(h);
+    let Size::Bits(n) = size else {
+        return put_header_by_fields(buf, end, at, h);
+    };
+    if bits::within(buf.len(), end, at, n) {
+        return bits::put_bits(buf, end, at, n, header_number(h));
+    }
+    put_header_by_fields(buf, end, at, h)
 }
 
 // The elements of a message; the characters of each follow those of the one before.

@@ -15,8 +15,8 @@ use Rattle.elements.proofs.numbers.put_characters.Tie as tie
 have-room-requires : tie.Need-have-room-requires
 have-room-requires c κs = search needs
 
-put-eights-requires : tie.Need-put-eights-requires
-put-eights-requires c κs =
+put-sixteens-requires : tie.Need-put-sixteens-requires
+put-sixteens-requires c κs =
     let room = leb (c .before .before .before .before .before .args .at + 7 * length (c .before .before .before .before .before .args .items .now)) (min (c .before .before .before .before .before .args .end) (8 * length (c .before .before .before .before .before .args .buf .now))) in
     let fit = charactersFit (c .before .before .before .before .before .args .items .now) in
     let both : (room && fit) ≡ true = sym (c .before .before .have-room .ensures) ∙ c .before .if1 .taken in
@@ -42,7 +42,7 @@ put-characters-spec =
     tie.close
     (tie.spec
     have-room-requires
-    put-eights-requires
+    put-sixteens-requires
     same-length
     returns
     put-numbers-requires

@@ -2,6 +2,8 @@
 -- Assumes nothing.
 use native.Mathlib.Omega.{arith}
 use borrow.Author.Needs.{needs}
+use Rattle.bits.proofs.Bytes.{bits-to}
+use Rattle.inner.proofs.Silent.{silent-text}
 use Rattle.inner.proofs.Openings.{open-room, open-long, open-past, open-refused, open-space, open-read}
 use Rattle.inner.proofs.opening.open_message.Statement.{statement}
 use Rattle.inner.proofs.opening.open_message.Tie as tie
@@ -39,20 +41,26 @@ not-opened-requires-3 c κs = search needs
 returns-3 : tie.Need-returns-3
 returns-3 c = open-refused _ _ _ _ _ (c .before .before .before .before .before .before .before .before .if1 .left) (c .before .before .before .before .before .before .before .if2 .left) _ (c .before .before .before .before .before .before .within .ensures) (c .before .before .before .before .before .if3 .taken) _ (c .before .before .before .before .read-exactly .ensures) _ _ (c .before .before .enum-told2 .given .1) (c .before .step-refusal .ensures) (c .not-opened3 .ensures)
 
+is-silent-requires : tie.Need-is-silent-requires
+is-silent-requires c κs = search needs
+
+returns-4 : tie.Need-returns-4
+returns-4 c = open-read _ _ _ _ (c .before .before .before .before .before .before .before .before .before .if1 .left) (c .before .before .before .before .before .before .before .before .if2 .left) _ (c .before .before .before .before .before .before .before .within .ensures) (c .before .before .before .before .before .before .if3 .taken) _ (c .before .before .before .before .before .read-exactly .ensures) _ _ _ (c .before .before .before .enum-told .given .1) (silent-text _ _ _ _ _ _ (bits-to (c .before .before .before .before .before .before .before .before .before .before .before .before .args .s .now) (c .before .before .before .before .before .before .before .before .before .before .before .before .args .count)) (c .before .before .before .before .before .read-exactly .ensures) (c .before .before .before .enum-told .given .1) (c .before .is-silent .ensures) (c .if4 .taken))
+
 message-text-requires : tie.Need-message-text-requires
-message-text-requires c κs = (open-space _ _ _ (c .before .before .before .before .before .before .before .before .before .before .before .args .text .now) (c .before .before .before .before .before .before .before .before .if1 .left) _ (c .before .before .before .before .read-exactly .ensures) _ (c .before .before .enum-told .given .1), omega arith)
+message-text-requires c κs = (open-space _ _ _ (c .before .before .before .before .before .before .before .before .before .before .before .before .before .args .text .now) (c .before .before .before .before .before .before .before .before .before .before .if1 .left) _ (c .before .before .before .before .before .before .read-exactly .ensures) _ (c .before .before .before .before .enum-told .given .1), omega arith)
 
 same-length : tie.Need-same-length
 same-length c = search needs
 
-returns-4 : tie.Need-returns-4
-returns-4 c = open-read _ _ _ _ (c .before .before .before .before .before .before .before .before .before .before .before .if1 .left) (c .before .before .before .before .before .before .before .before .before .before .if2 .left) _ (c .before .before .before .before .before .before .before .before .before .within .ensures) (c .before .before .before .before .before .before .before .before .if3 .taken) _ (c .before .before .before .before .before .before .before .read-exactly .ensures) _ _ _ (c .before .before .before .before .before .enum-told .given .1) (c .before .before .message-text .ensures)
+returns-5 : tie.Need-returns-5
+returns-5 c = open-read _ _ _ _ (c .before .before .before .before .before .before .before .before .before .before .before .before .before .if1 .left) (c .before .before .before .before .before .before .before .before .before .before .before .before .if2 .left) _ (c .before .before .before .before .before .before .before .before .before .before .before .within .ensures) (c .before .before .before .before .before .before .before .before .before .before .if3 .taken) _ (c .before .before .before .before .before .before .before .before .before .read-exactly .ensures) _ _ _ (c .before .before .before .before .before .before .before .enum-told .given .1) (c .before .before .message-text .ensures)
 
 not-opened-requires-4 : tie.Need-not-opened-requires-4
 not-opened-requires-4 c κs = search needs
 
-returns-5 : tie.Need-returns-5
-returns-5 c = open-past _ _ _ _ _ (c .before .before .before .before .if1 .left) (c .before .before .before .if2 .left) _ (c .before .before .within .ensures) (c .before .if3 .left) (c .not-opened4 .ensures)
+returns-6 : tie.Need-returns-6
+returns-6 c = open-past _ _ _ _ _ (c .before .before .before .before .if1 .left) (c .before .before .before .if2 .left) _ (c .before .before .within .ensures) (c .before .if3 .left) (c .not-opened4 .ensures)
 
 pub open-message-spec : {M : Type 1} → statement M
 open-message-spec =
@@ -69,8 +77,10 @@ open-message-spec =
     step-refusal-requires
     not-opened-requires-3
     returns-3
+    is-silent-requires
+    returns-4
     message-text-requires
     same-length
-    returns-4
+    returns-5
     not-opened-requires-4
-    returns-5)
+    returns-6)

@@ -21,16 +21,15 @@ use Rattle.fields.specs.Encodings.{bitsFit, wholeBits, wholeFits}
 use Rattle.fields.proofs.Widths.{width-within}
 use Rattle.apdu.specs.Sizes.{allBits, messageMost, lengthMost, bit}
 use Rattle.apdu.specs.Headings.{dateFrom, dateTo, timeFrom, timeTo, charactersLeast, charactersMost, character, addressBits, directionLast, tripleBits, tripleFits, aircraftBits, aircraftFits, headingBits, headingFits}
-use Rattle.apdu.specs.Pdus.{itemsIn, partIn}
-use Rattle.apdu.specs.Encoding.{stringBits, optionalBits, forwardBits}
-use Rattle.apdu.specs.Writing.{itemsFit, partFits, forwardFits, placeOf}
+use Rattle.apdu.specs.Pdus.{itemsIn}
+use Rattle.apdu.specs.Encoding.{stringBits, forwardBits}
+use Rattle.apdu.specs.Writing.{itemsFit, forwardFits, placeOf}
 use Rattle.apdu.specs.declared.Span.{Span}
-use Rattle.apdu.specs.declared.Part.the-variants.{Given}
 use Rattle.apdu.specs.declared.Triple.{Triple}
 use Rattle.apdu.specs.declared.Heading.{Heading}
 use Rattle.apdu.specs.declared.Forward.{Forward}
 use Rattle.apdu.proofs.Heads.{heading-fits}
-use Rattle.apdu.proofs.Writers.{On, put-on, number-run, check-bits, check-wider}
+use Rattle.apdu.proofs.Writers.{On, put-on, number-run, Goes, placed, behind, room-behind, same-bits, unled, wider}
 
 -- a whole number in its range
 whole-run : (s : List ℕ) (o : Left) (at lo hi v : ℕ) → wholeFits lo hi v ≡ true → o ≡ putIf (wholeFits lo hi v) s allBits at (wholeBits lo hi v) → o ≡ putRun s allBits at (wholeBits lo hi v)
@@ -128,16 +127,20 @@ module _ (s lm : List ℕ) (at : ℕ) (f : Forward) (placed-fits : forwardFits l
   unfolding forwardFits
   heading-asks = (both-left (headingFits (f .heading)) (itemsFit lm bit 0 messageMost (f .message)) placed-fits, front-room s at (headingBits (f .heading)) (stringBits bit (itemsIn lm bit (f .message))) whole-room)
 
-  pub message-asks : partFits lm bit 0 lengthMost (Given (f .message)) ≡ true
+  pub message-fits : itemsFit lm bit 0 lengthMost (f .message) ≡ true
   unfolding forwardFits
-  message-asks = check-wider lm bit 0 messageMost (f .message) (both-right (headingFits (f .heading)) (itemsFit lm bit 0 messageMost (f .message)) placed-fits)
+  message-fits = wider lm bit 0 messageMost (f .message) (both-right (headingFits (f .heading)) (itemsFit lm bit 0 messageMost (f .message)) placed-fits)
 
-  pub message-put : (z : List ℕ) (o : Left) (p : ℕ) (r : Put) → left r z ≡ putRun s allBits at (headingBits (f .heading)) → p ≡ placeOf r
-      → o ≡ putRun z allBits p (optionalBits bit (partIn lm bit (Given (f .message)))) → o ≡ putRun s allBits at (forwardBits (f .heading) (itemsIn lm bit (f .message)))
-  unfolding forwardBits
-  message-put z o p r w q k =
-      let n = put-on s z allBits at p (headingBits (f .heading)) (stringBits bit (itemsIn lm bit (f .message))) r whole-room w q in
-      k ∙ ap (putRun z allBits p) (check-bits lm bit (f .message)) ∙ n .whole
+  module _ (y : List ℕ) (p : ℕ) (r : Put) (w : left r y ≡ putRun s allBits at (headingBits (f .heading))) (q : p ≡ placeOf r) where
+    headed : Goes s y at p (headingBits (f .heading))
+    headed = placed s y at p (headingBits (f .heading)) r (heading-asks .1) w q
+
+    pub message-room : p + length (bitsN 0 0 ++ stringBits bit (itemsIn lm bit (f .message))) ≤ length (bitsTo y allBits)
+    message-room = rw (unled (stringBits bit (itemsIn lm bit (f .message)))) (room-behind s y at p (headingBits (f .heading)) (stringBits bit (itemsIn lm bit (f .message))) whole-room headed)
+
+    pub forward-goes : (z : List ℕ) (n : ℕ) → Goes y z p n (bitsN 0 0 ++ stringBits bit (itemsIn lm bit (f .message))) → Goes s z at n (forwardBits (f .heading) (itemsIn lm bit (f .message)))
+    unfolding forwardBits
+    forward-goes z n g = behind s y z at p n (headingBits (f .heading)) (stringBits bit (itemsIn lm bit (f .message))) headed (same-bits y z p n _ _ (unled (stringBits bit (itemsIn lm bit (f .message)))) g)
 
 -- ---- shape
 

@@ -1,10 +1,11 @@
 -- The bits of an APDU, unaligned PER, and which values the card carries.
-use Prim.Native.Nat.{ℕ, _+_, _-_, _*_, _/_, _%_}
+use Prim.Native.Nat.{ℕ, _+_, _*_, _/_}
 use mathlib.Core.List.{List, [], _++_}
 use mathlib.Core.Bool.{Bool, true, false, cond, _&&_}
 use lib.ListN.{length}
 use lib.Dec.{eqb}
 use Rattle.bits.specs.Bits.{bitsN}
+use Rattle.bits.specs.Put.{toByte}
 use Rattle.fields.specs.Encodings.{indexBits, lengthBits, wholeBits, wholeFits, withinFits}
 use Rattle.apdu.specs.Sizes.{identifierLeast, identifierMost, messageMost, checkMost, userLast, providerLast, modeLast, octet, bit}
 use Rattle.apdu.specs.Headings.{responseLast, headingBits, headingFits}
@@ -91,7 +92,7 @@ pduFits pdus (forwardResponse x) = forwards pdus && wholeFits 0 responseLast x
 -- ---- whole bytes (X.691, 11.1): zero bits after the encoding, up to a whole byte
 
 abbrev pub padding : ℕ → ℕ
-padding n = (8 - n % 8) % 8
+padding n = toByte n
 
 unfoldable pub padded : List ℕ → List ℕ
 padded l = l ++ bitsN (padding (length l)) 0

@@ -1,92 +1,119 @@
-// An APDU, or message data by itself, written from the first bit of a lent buffer on. Everything that can be refused is decided first; then the
-// fields are written straight into the buffer, one after the other, and the padding last.
+// An APDU written: what stands before the fields of each alternative waits for the first of them.
 ghost use mathlib.Core.Path.{_≡_};
-ghost use mathlib.Core.Bool.{true};
-ghost use Prim.Native.Nat.{_+_, _≤_, _<_};
-ghost use lib.ListN.{length};
-ghost use Rattle.bits.specs.Bits.{run};
-ghost use Rattle.bits.specs.Put.{left, putIf, putRun};
-ghost use Rattle.fields.specs.Encodings.{wholeFits};
-ghost use Rattle.apdu.specs.Sizes.{allBits, lengthMost};
-ghost use Rattle.apdu.specs.Pdus.{contentIn, indexOf, lastOf, lent, partIn, pduIn};
-ghost use Rattle.apdu.specs.Encoding.{alternative, contentBits, modeBits, modeFits, optionalBits, pduBits};
-ghost use Rattle.apdu.specs.Writing.{apduFits, dataFits, done, partFits, placeOf, runFits, there, writeOut};
+ghost use mathlib.Core.Bool.{true, _&&_};
+ghost use mathlib.Core.List.{_++_};
+ghost use Prim.Native.Nat.{_^_, _≤_, _<_};
+ghost use Rattle.bits.specs.Bits.{bitsN};
+ghost use Rattle.bits.specs.Put.{left, putIf};
+ghost use Rattle.fields.specs.Encodings.{indexBits, wholeFits};
+ghost use Rattle.apdu.specs.Sizes.{allBits, bit, bufferLeast, providerLast, userLast};
+ghost use Rattle.apdu.specs.Headings.{responseLast};
+ghost use Rattle.apdu.specs.Pdus.{abortProvider, abortUser, contentIn, forward, forwardResponse, forwards, indexOf, itemsIn, lastOf, lent, pduIn, send, start};
+ghost use Rattle.apdu.specs.Encoding.{alternative, modeBits, modeFits, pduBits};
+ghost use Rattle.apdu.specs.Writing.{apduFits, dataFits, done, forwardFits, writeOut};
 use crate::Apdu;
 use crate::Data;
+use crate::Forward;
 use crate::Kind;
-use crate::Part;
 use crate::PduType;
 use crate::Written;
+use crate::data_writer::place;
+use crate::data_writer::write_data;
 use crate::decoder::ALL;
-use crate::decoder::padding;
-use crate::heading_writer::put_forward_at;
+use crate::heading_writer::write_forward;
 use crate::leading::index_of;
-use crate::shape::apdu_fits;
-use crate::shape::data_fits;
+use crate::shape::has_forwards;
+use crate::shape::mode_fits;
 use bits::Put;
 
-// The place after what was written.
-pub(crate) fn place(p: Put) -> usize
-    ensures { λ r. ⌜ r ≡ placeOf p ⌝ }
-{
-    match p {
-        Put::Next(n) => n,
-        Put::Full => 0,
-    }
+// Numbers that wait: how many bits they are together, and they as one.
+struct Front {
+    width: usize,
+    number: u64,
 }
 
-// The presence bit of a part.
-fn presence(p: Part) -> u64
-    ensures { λ r. ⌜ r ≡ there p ⌝ }
-{
-    match p {
-        Part::Absent => 0,
-        Part::Given(_) => 1,
-    }
-}
-
-// A part: nothing, or its count and its items.
-pub(crate) fn put_part(buf: &mut [u8], at: usize, unit: usize, src: &[u8], part: Part) -> Put
-    requires { ⌜ (0 < unit) × (partFits (lent (now src)) unit 0 lengthMost part ≡ true) ⌝ }
-    ensures { λ r. ⌜ left r (now (buf .exit)) ≡ putRun (now (buf .entry)) allBits at (optionalBits unit (partIn (lent (now (src .entry))) unit part)) ⌝ }
-{
-    match part {
-        Part::Absent => bits::put_bits(buf, ALL, at, 0, 0),
-        Part::Given(x) => fields::put_string(buf, ALL, at, unit, x.count, src, ALL, x.at),
-    }
-}
-
-// Message data.
-fn put_content(buf: &mut [u8], at: usize, d: Data, ids: &[u8], msgs: &[u8], checks: &[u8]) -> Put
-    requires { ⌜ (dataFits (lent (now ids)) (lent (now msgs)) (lent (now checks)) d ≡ true) × (at + length (contentBits (contentIn (lent (now ids)) (lent (now msgs)) (lent (now checks)) d)) ≤ length (lent (now buf))) ⌝ }
-    ensures { λ r. ⌜ left r (now (buf .exit)) ≡ putRun (now (buf .entry)) allBits at (contentBits (contentIn (lent (now (ids .entry))) (lent (now (msgs .entry))) (lent (now (checks .entry))) d)) ⌝ }
-{
-    let identifier = d.identifier;
-    let message = d.message;
-    let check = d.check;
-    let p = place(fields::put_extension_bit(buf, ALL, at));
-    let v = 2 * presence(identifier) + presence(message);
-    let q = place(bits::put_bits(buf, ALL, p, 2, v));
-    let r = place(put_part(buf, q, Data::OCTET, ids, identifier));
-    let t = place(put_part(buf, r, Data::BIT, msgs, message));
-    put_part(buf, t, Data::BIT, checks, Part::Given(check))
-}
-
-// The mode of a start: that of startup is in no bits, and a default is left out.
-fn put_mode(buf: &mut [u8], at: usize, pdus: PduType, m: u64) -> Put
-    requires { ⌜ (modeFits pdus m ≡ true) × (at + length (modeBits pdus m) ≤ length (lent (now buf))) ⌝ }
-    ensures { λ r. ⌜ left r (now (buf .exit)) ≡ putRun (now (buf .entry)) allBits at (modeBits pdus m) ⌝ }
+// What stands before the message data of a send: the alternative, 0 11 or 0 011.
+fn send_front(pdus: PduType) -> Front
+    ensures { λ f. ⌜ (f .width ≤ 5) × (f .number < 2 ^ f .width) × (bitsN (f .width) (f .number) ≡ alternative pdus Kind.Send) ⌝ }
 {
     match pdus {
-        PduType::GroundPdus => bits::put_bits(buf, ALL, at, 0, 0),
+        PduType::AircraftPdus => Front {
+            width: 3,
+            number: 3,
+        },
+        PduType::GroundPdus => Front {
+            width: 4,
+            number: 3,
+        },
+    }
+}
+
+// What stands before those of a start: the alternative, and the mode. startup: 0 010, with no mode. startdown: 0 10 and the presence bit, which is 0
+// for the default; else 1, and the mode.
+fn start_front(pdus: PduType, m: u64) -> Front
+    requires { ⌜ modeFits pdus m ≡ true ⌝ }
+    ensures { λ f. ⌜ (f .width ≤ 5) × (f .number < 2 ^ f .width) × (bitsN (f .width) (f .number) ≡ alternative pdus Kind.Start ++ modeBits pdus m) ⌝ }
+{
+    match pdus {
+        PduType::GroundPdus => Front {
+            width: 4,
+            number: 2,
+        },
         PduType::AircraftPdus => {
             if m == 0 {
-                return bits::put_bits(buf, ALL, at, 1, 0);
+                return Front {
+                    width: 4,
+                    number: 4,
+                };
             }
-            let p = place(bits::put_bits(buf, ALL, at, 1, 1));
-            fields::put_whole(buf, ALL, p, 0, Apdu::MODE_LAST, m)
+            Front {
+                width: 5,
+                number: 11,
+            }
         }
     }
+}
+
+// A value that is not right: a buffer under the least size comes first.
+fn refused(len: usize) -> Written
+    ensures { λ r. ⌜ (len < bufferLeast → r ≡ Written.Room) × (bufferLeast ≤ len → r ≡ Written.Shape) ⌝ }
+{
+    if len < Apdu::BUFFER {
+        return Written::Room;
+    }
+    Written::Shape
+}
+
+pub fn put_send(
+    buf: &mut [u8],
+    pdus: PduType,
+    d: Data,
+    ids: &[u8],
+    msgs: &[u8],
+    checks: &[u8],
+) -> Written
+    ensures { λ r. ⌜ done r (now (buf .exit)) ≡ writeOut (dataFits (lent (now (ids .entry))) (lent (now (msgs .entry))) (lent (now (checks .entry))) d) (now (buf .entry)) (pduBits pdus (send (contentIn (lent (now (ids .entry))) (lent (now (msgs .entry))) (lent (now (checks .entry))) d))) ⌝ }
+{
+    let front = send_front(pdus);
+    write_data(buf, front.width, front.number, d, ids, msgs, checks)
+}
+
+pub fn put_start(
+    buf: &mut [u8],
+    pdus: PduType,
+    m: u64,
+    d: Data,
+    ids: &[u8],
+    msgs: &[u8],
+    checks: &[u8],
+) -> Written
+    ensures { λ r. ⌜ done r (now (buf .exit)) ≡ writeOut (modeFits pdus m && dataFits (lent (now (ids .entry))) (lent (now (msgs .entry))) (lent (now (checks .entry))) d) (now (buf .entry)) (pduBits pdus (start m (contentIn (lent (now (ids .entry))) (lent (now (msgs .entry))) (lent (now (checks .entry))) d))) ⌝ }
+{
+    if mode_fits(pdus, m) {
+        let front = start_front(pdus, m);
+        return write_data(buf, front.width, front.number, d, ids, msgs, checks);
+    }
+    refused(buf.len())
 }
 
 // The alternative: its extension bit and its index.
@@ -98,38 +125,58 @@ fn put_alternative(buf: &mut [u8], pdus: PduType, kind: Kind) -> Put
     fields::put_extensible_index(buf, ALL, 0, last, i)
 }
 
-// The alternative, and what it holds.
-fn put_pdu(buf: &mut [u8], pdus: PduType, a: Apdu, ids: &[u8], msgs: &[u8], checks: &[u8]) -> Put
-    requires { ⌜ (apduFits pdus (lent (now ids)) (lent (now msgs)) (lent (now checks)) a ≡ true) × (length (pduBits pdus (pduIn (lent (now ids)) (lent (now msgs)) (lent (now checks)) a)) ≤ length (lent (now buf))) ⌝ }
-    ensures { λ r. ⌜ left r (now (buf .exit)) ≡ putRun (now (buf .entry)) allBits 0 (pduBits pdus (pduIn (lent (now (ids .entry))) (lent (now (msgs .entry))) (lent (now (checks .entry))) a)) ⌝ }
+// An alternative that holds an index and nothing else.
+fn put_choice(buf: &mut [u8], pdus: PduType, kind: Kind, last: u64, v: u64) -> Written
+    requires { ⌜ indexOf kind ≤ lastOf pdus ⌝ }
+    ensures { λ r. ⌜ done r (now (buf .exit)) ≡ writeOut (wholeFits 0 last v) (now (buf .entry)) (alternative pdus kind ++ indexBits last v) ⌝ }
 {
-    match a {
-        Apdu::AbortUser(r) => {
-            let p = place(put_alternative(buf, pdus, Kind::AbortUser));
-            fields::put_extensible_index(buf, ALL, p, Apdu::USER_LAST, r)
-        }
-        Apdu::AbortProvider(r) => {
-            let p = place(put_alternative(buf, pdus, Kind::AbortProvider));
-            fields::put_extensible_index(buf, ALL, p, Apdu::PROVIDER_LAST, r)
-        }
-        Apdu::Start(m, d) => {
-            let p = place(put_alternative(buf, pdus, Kind::Start));
-            let q = place(put_mode(buf, p, pdus, m));
-            put_content(buf, q, d, ids, msgs, checks)
-        }
-        Apdu::Send(d) => {
-            let p = place(put_alternative(buf, pdus, Kind::Send));
-            put_content(buf, p, d, ids, msgs, checks)
-        }
-        Apdu::Forward(f) => {
-            let p = place(put_alternative(buf, pdus, Kind::Forward));
-            put_forward_at(buf, p, f, msgs)
-        }
-        Apdu::ForwardResponse(x) => {
-            let p = place(put_alternative(buf, pdus, Kind::ForwardResponse));
-            fields::put_extensible_index(buf, ALL, p, Apdu::RESPONSE_LAST, x)
-        }
+    if buf.len() < Apdu::BUFFER {
+        return Written::Room;
     }
+    if v <= last {
+        let p = place(put_alternative(buf, pdus, kind));
+        let n = place(fields::put_extensible_index(buf, ALL, p, last, v));
+        bits::pad(buf, ALL, n);
+        return Written::Bits(n);
+    }
+    Written::Shape
+}
+
+pub fn put_abort_user(buf: &mut [u8], pdus: PduType, reason: u64) -> Written
+    ensures { λ r. ⌜ done r (now (buf .exit)) ≡ writeOut (wholeFits 0 userLast reason) (now (buf .entry)) (pduBits pdus (abortUser reason)) ⌝ }
+{
+    put_choice(buf, pdus, Kind::AbortUser, Apdu::USER_LAST, reason)
+}
+
+pub fn put_abort_provider(buf: &mut [u8], pdus: PduType, reason: u64) -> Written
+    ensures { λ r. ⌜ done r (now (buf .exit)) ≡ writeOut (wholeFits 0 providerLast reason) (now (buf .entry)) (pduBits pdus (abortProvider reason)) ⌝ }
+{
+    put_choice(buf, pdus, Kind::AbortProvider, Apdu::PROVIDER_LAST, reason)
+}
+
+// ATCForwardMessage as an APDU, which GroundPDUs alone has, and so its response.
+pub fn put_forward_pdu(buf: &mut [u8], pdus: PduType, f: Forward, msgs: &[u8]) -> Written
+    ensures { λ r. ⌜ done r (now (buf .exit)) ≡ writeOut (forwards pdus && forwardFits (lent (now (msgs .entry))) f) (now (buf .entry)) (pduBits pdus (forward (f .heading) (itemsIn (lent (now (msgs .entry))) bit (f .message)))) ⌝ }
+{
+    if has_forwards(pdus) {
+        return write_forward(buf, 4, 4, f, msgs);
+    }
+    refused(buf.len())
+}
+
+pub fn put_forward_response(buf: &mut [u8], pdus: PduType, result: u64) -> Written
+    ensures { λ r. ⌜ done r (now (buf .exit)) ≡ writeOut (forwards pdus && wholeFits 0 responseLast result) (now (buf .entry)) (pduBits pdus (forwardResponse result)) ⌝ }
+{
+    if has_forwards(pdus) {
+        return put_choice(
+            buf,
+            pdus,
+            Kind::ForwardResponse,
+            Apdu::RESPONSE_LAST,
+            result,
+        );
+    }
+    refused(buf.len())
 }
 
 // The APDU, whose identifier stands in ids, message in msgs and check in checks.
@@ -143,53 +190,12 @@ pub fn put_apdu(
 ) -> Written
     ensures { λ r. ⌜ done r (now (buf .exit)) ≡ writeOut (apduFits pdus (lent (now (ids .entry))) (lent (now (msgs .entry))) (lent (now (checks .entry))) a) (now (buf .entry)) (pduBits pdus (pduIn (lent (now (ids .entry))) (lent (now (msgs .entry))) (lent (now (checks .entry))) a)) ⌝ }
 {
-    if buf.len() < Apdu::BUFFER {
-        return Written::Room;
+    match a {
+        Apdu::AbortUser(r) => put_abort_user(buf, pdus, r),
+        Apdu::AbortProvider(r) => put_abort_provider(buf, pdus, r),
+        Apdu::Start(m, d) => put_start(buf, pdus, m, d, ids, msgs, checks),
+        Apdu::Send(d) => put_send(buf, pdus, d, ids, msgs, checks),
+        Apdu::Forward(f) => put_forward_pdu(buf, pdus, f, msgs),
+        Apdu::ForwardResponse(x) => put_forward_response(buf, pdus, x),
     }
-    if apdu_fits(pdus, a, ids, msgs, checks) {
-        let n = place(put_pdu(buf, pdus, a, ids, msgs, checks));
-        bits::put_bits(buf, ALL, n, padding(n), 0);
-        return Written::Bits(n);
-    }
-    Written::Shape
-}
-
-// Message data by itself, as it is delivered to a user.
-pub fn put_data(buf: &mut [u8], d: Data, ids: &[u8], msgs: &[u8], checks: &[u8]) -> Written
-    ensures { λ r. ⌜ done r (now (buf .exit)) ≡ writeOut (dataFits (lent (now (ids .entry))) (lent (now (msgs .entry))) (lent (now (checks .entry))) d) (now (buf .entry)) (contentBits (contentIn (lent (now (ids .entry))) (lent (now (msgs .entry))) (lent (now (checks .entry))) d)) ⌝ }
-{
-    if buf.len() < Apdu::BUFFER {
-        return Written::Room;
-    }
-    if data_fits(d, ids, msgs, checks) {
-        let n = place(put_content(buf, 0, d, ids, msgs, checks));
-        bits::put_bits(buf, ALL, n, padding(n), 0);
-        return Written::Bits(n);
-    }
-    Written::Shape
-}
-
-// Whether lent bytes hold n bits at a place, at most those of a message.
-fn run_fits(src: &[u8], at: usize, n: usize) -> bool
-    ensures { λ r. ⌜ r ≡ runFits (now (src .entry)) at n ⌝ }
-{
-    if Data::MESSAGE_MOST < n {
-        return false;
-    }
-    bits::within(src.len(), ALL, at, n)
-}
-
-// The n bits at a place of lent bytes, by themselves: a part of message data where its reader found it.
-pub fn put_run(buf: &mut [u8], src: &[u8], at: usize, n: usize) -> Written
-    ensures { λ r. ⌜ done r (now (buf .exit)) ≡ writeOut (runFits (now (src .entry)) at n) (now (buf .entry)) (run (now (src .entry)) at n) ⌝ }
-{
-    if buf.len() < Apdu::BUFFER {
-        return Written::Room;
-    }
-    if run_fits(src, at, n) {
-        let p = place(bits::copy_bits(buf, ALL, 0, src, ALL, at, n));
-        bits::put_bits(buf, ALL, p, padding(p), 0);
-        return Written::Bits(p);
-    }
-    Written::Shape
 }

@@ -1,9 +1,11 @@
 // ATCForwardMessage written: what stands before the message's bits, field by field, then their count and they themselves.
 ghost use mathlib.Core.Path.{_≡_};
 ghost use mathlib.Core.Bool.{true};
-ghost use Prim.Native.Nat.{_+_, _≤_};
+ghost use mathlib.Core.List.{_++_};
+ghost use Prim.Native.Nat.{_+_, _^_, _<_, _≤_};
 ghost use lib.ListN.{length};
-ghost use Rattle.bits.specs.Put.{left, putRun};
+ghost use Rattle.bits.specs.Bits.{bitsN};
+ghost use Rattle.bits.specs.Put.{left, putBits, putRun};
 ghost use Rattle.apdu.specs.Sizes.{allBits, bit};
 ghost use Rattle.apdu.specs.Headings.{aircraftBits, headingBits, headingFits, tripleBits, tripleFits};
 ghost use Rattle.apdu.specs.Pdus.{itemsIn, lent};
@@ -13,13 +15,11 @@ use crate::Apdu;
 use crate::Data;
 use crate::Forward;
 use crate::Heading;
-use crate::Part;
 use crate::Triple;
 use crate::Written;
+use crate::data_writer::place;
+use crate::data_writer::put_items;
 use crate::decoder::ALL;
-use crate::decoder::padding;
-use crate::encoder::place;
-use crate::encoder::put_part;
 use crate::heading_shape::forward_fits;
 use bits::Put;
 
@@ -64,27 +64,42 @@ fn put_heading(buf: &mut [u8], at: usize, h: Heading) -> Put
     put_aircraft(buf, q, h)
 }
 
-pub(crate) fn put_forward_at(buf: &mut [u8], at: usize, f: Forward, msgs: &[u8]) -> Put
+fn put_forward_at(buf: &mut [u8], at: usize, f: Forward, msgs: &[u8]) -> usize
     requires { ⌜ (forwardFits (lent (now msgs)) f ≡ true) × (at + length (forwardBits (f .heading) (itemsIn (lent (now msgs)) bit (f .message))) ≤ length (lent (now buf))) ⌝ }
-    ensures { λ r. ⌜ left r (now (buf .exit)) ≡ putRun (now (buf .entry)) allBits at (forwardBits (f .heading) (itemsIn (lent (now (msgs .entry))) bit (f .message))) ⌝ }
+    ensures { λ p. ⌜ (p ≡ at + length (forwardBits (f .heading) (itemsIn (lent (now (msgs .entry))) bit (f .message)))) × (now (buf .exit) ≡ putBits (now (buf .entry)) at (forwardBits (f .heading) (itemsIn (lent (now (msgs .entry))) bit (f .message)))) ⌝ }
 {
     let heading = f.heading;
     let message = f.message;
     let p = place(put_heading(buf, at, heading));
-    put_part(buf, p, Data::BIT, msgs, Part::Given(message))
+    put_items(buf, p, 0, 0, Data::BIT, msgs, message)
+}
+
+// One that fits, behind a number of a few bits, and the padding.
+pub(crate) fn write_forward(
+    buf: &mut [u8],
+    lead: usize,
+    led: u64,
+    f: Forward,
+    msgs: &[u8],
+) -> Written
+    requires { ⌜ (lead ≤ 5) × (led < 2 ^ lead) ⌝ }
+    ensures { λ r. ⌜ done r (now (buf .exit)) ≡ writeOut (forwardFits (lent (now (msgs .entry))) f) (now (buf .entry)) (bitsN lead led ++ forwardBits (f .heading) (itemsIn (lent (now (msgs .entry))) bit (f .message))) ⌝ }
+{
+    if buf.len() < Apdu::BUFFER {
+        return Written::Room;
+    }
+    if forward_fits(f, msgs) {
+        let p = place(bits::put_bits(buf, ALL, 0, lead, led));
+        let n = put_forward_at(buf, p, f, msgs);
+        bits::pad(buf, ALL, n);
+        return Written::Bits(n);
+    }
+    Written::Shape
 }
 
 // ATCForwardMessage by itself, as it is delivered to a user.
 pub fn put_forward(buf: &mut [u8], f: Forward, msgs: &[u8]) -> Written
     ensures { λ r. ⌜ done r (now (buf .exit)) ≡ writeOut (forwardFits (lent (now (msgs .entry))) f) (now (buf .entry)) (forwardBits (f .heading) (itemsIn (lent (now (msgs .entry))) bit (f .message))) ⌝ }
 {
-    if buf.len() < Apdu::BUFFER {
-        return Written::Room;
-    }
-    if forward_fits(f, msgs) {
-        let n = place(put_forward_at(buf, 0, f, msgs));
-        bits::put_bits(buf, ALL, n, padding(n), 0);
-        return Written::Bits(n);
-    }
-    Written::Shape
+    write_forward(buf, 0, 0, f, msgs)
 }

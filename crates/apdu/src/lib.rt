@@ -5,6 +5,7 @@ ghost use mathlib.Core.Path.{_≡_};
 ghost use Rattle.apdu.specs.Pdus.{lent};
 ghost use Rattle.apdu.specs.Reading.{apduAt};
 
+mod data_writer;
 mod decoder;
 mod encoder;
 mod heading_shape;
@@ -15,16 +16,21 @@ mod parts;
 mod refusals;
 mod shape;
 
+pub use data_writer::put_data;
+pub use data_writer::put_run;
 use decoder::apdu_at;
 pub use decoder::read_data;
 pub use decoder::read_forward;
+pub use encoder::put_abort_provider;
+pub use encoder::put_abort_user;
 pub use encoder::put_apdu;
-pub use encoder::put_data;
-pub use encoder::put_run;
+pub use encoder::put_forward_pdu;
+pub use encoder::put_forward_response;
+pub use encoder::put_send;
+pub use encoder::put_start;
 use fields::Refusal;
 pub use heading_shape::forward_fits;
 pub use heading_writer::put_forward;
-pub use shape::apdu_fits;
 pub use shape::data_fits;
 use words::Limit;
 

@@ -1,17 +1,15 @@
 // SHAPE: whether a value to write keeps document 01's sizes, its type and its codes, and the lent bytes hold its parts.
 ghost use mathlib.Core.Path.{_≡_};
 ghost use Prim.Native.Nat.{_*_, _^_, _<_};
-ghost use Rattle.fields.specs.Encodings.{wholeFits};
 ghost use Rattle.apdu.specs.Pdus.{forwards, lent};
 ghost use Rattle.apdu.specs.Encoding.{modeFits};
-ghost use Rattle.apdu.specs.Writing.{apduFits, dataFits, itemsFit, partFits};
+ghost use Rattle.apdu.specs.Writing.{dataFits, itemsFit, partFits};
 use crate::Apdu;
 use crate::Data;
 use crate::Part;
 use crate::PduType;
 use crate::Span;
 use crate::decoder::ALL;
-use crate::heading_shape::forward_fits;
 
 // From least to most items, and the bytes hold them.
 pub(crate) fn items_fit(src: &[u8], unit: usize, least: usize, most: usize, x: Span) -> bool
@@ -60,7 +58,7 @@ pub fn data_fits(d: Data, ids: &[u8], msgs: &[u8], checks: &[u8]) -> bool
     false
 }
 
-fn mode_fits(pdus: PduType, m: u64) -> bool
+pub(crate) fn mode_fits(pdus: PduType, m: u64) -> bool
     ensures { λ r. ⌜ r ≡ modeFits pdus m ⌝ }
 {
     match pdus {
@@ -70,39 +68,11 @@ fn mode_fits(pdus: PduType, m: u64) -> bool
 }
 
 // GroundPDUs alone has the two forward alternatives.
-fn has_forwards(pdus: PduType) -> bool
+pub(crate) fn has_forwards(pdus: PduType) -> bool
     ensures { λ r. ⌜ r ≡ forwards pdus ⌝ }
 {
     match pdus {
         PduType::AircraftPdus => false,
         PduType::GroundPdus => true,
-    }
-}
-
-pub fn apdu_fits(pdus: PduType, a: Apdu, ids: &[u8], msgs: &[u8], checks: &[u8]) -> bool
-    ensures { λ r. ⌜ r ≡ apduFits pdus (lent (now (ids .entry))) (lent (now (msgs .entry))) (lent (now (checks .entry))) a ⌝ }
-{
-    match a {
-        Apdu::AbortUser(r) => r <= Apdu::USER_LAST,
-        Apdu::AbortProvider(r) => r <= Apdu::PROVIDER_LAST,
-        Apdu::Start(m, d) => {
-            if mode_fits(pdus, m) {
-                return data_fits(d, ids, msgs, checks);
-            }
-            false
-        }
-        Apdu::Send(d) => data_fits(d, ids, msgs, checks),
-        Apdu::Forward(f) => {
-            if has_forwards(pdus) {
-                return forward_fits(f, msgs);
-            }
-            false
-        }
-        Apdu::ForwardResponse(x) => {
-            if has_forwards(pdus) {
-                return x <= Apdu::RESPONSE_LAST;
-            }
-            false
-        }
     }
 }

@@ -7,3 +7,4 @@ pub mod Copying
 pub mod EightBytes
 pub mod Parts
 pub mod Whole
+pub mod Joining

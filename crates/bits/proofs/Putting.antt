@@ -274,6 +274,10 @@ pub is-put : (s z : List ℕ) (e at n v : ℕ) (t : Bool) → t ≡ (leb n 64 &&
 unfolding putNumber putIf putRun
 is-put s z e at n v t p q w f = rw (← p, q, length-bitsN n v, w .test, f)
 
+-- any width holds zero
+pub zero-held : (n : ℕ) → n ≤ 64 → true ≡ (leb n 64 && ltb 0 (2 ^ n))
+zero-held n h = rw (le-leb n 64 h, lt-ltb 0 (2 ^ n) (pow-pos n))
+
 pub is-full : (s : List ℕ) (e at n v : ℕ) (t : Bool) → t ≡ (leb n 64 && ltb v (2 ^ n)) → t ≡ true → leb (at + n) (length (bitsTo s e)) ≡ false → left Full s ≡ putNumber s e at n v
 unfolding putNumber putIf putRun
 is-full s e at n v t p q w = rw (← p, q, length-bitsN n v, w)

@@ -1,6 +1,6 @@
 -- Bits put into bytes.
-use Prim.Native.Nat.{ℕ, suc, _+_, _/_, _%_, _^_}
-use mathlib.Core.List.{List, [], _∷_}
+use Prim.Native.Nat.{ℕ, suc, _+_, _-_, _/_, _%_, _^_}
+use mathlib.Core.List.{List, [], _∷_, _++_}
 use mathlib.Core.Bool.{Bool, cond, _&&_}
 use lib.ListN.{length, getD, set}
 use lib.Dec.{leb, ltb}
@@ -42,6 +42,15 @@ putIf ok s e at bs = cond ok (putRun s e at bs) (left Full s)
 unfoldable pub putNumber : List ℕ → ℕ → ℕ → ℕ → ℕ → Left
 putNumber s e at n v = putIf (leb n 64 && ltb v (2 ^ n)) s e at (bitsN n v)
 
+-- how many bits follow a place up to a whole byte
+abbrev pub toByte : ℕ → ℕ
+toByte at = (8 - at % 8) % 8
+
 -- The n bits that stand at a place within the first f bits of s. Full too where they are not there.
 unfoldable pub copyRun : List ℕ → ℕ → ℕ → List ℕ → ℕ → ℕ → ℕ → Left
 copyRun d e to s f at n = putIf (leb (at + n) (length (bitsTo s f))) d e to (run s at n)
+
+-- The number v in n bits, and behind it the k bits that stand at a place within the first f bits of s. Full too where n bits do not hold v or
+-- are more than 56, and where the k bits are not there.
+unfoldable pub putLed : List ℕ → ℕ → ℕ → ℕ → ℕ → List ℕ → ℕ → ℕ → ℕ → Left
+putLed d e to n v s f at k = putIf (leb n 56 && ltb v (2 ^ n) && leb (at + k) (length (bitsTo s f))) d e to (bitsN n v ++ run s at k)

@@ -119,7 +119,7 @@ fn copy_longer(dst: &mut [u8], to: usize, src: &[u8], at: usize, n: usize)
 }
 
 // A run that a number or two hold goes as those: most fields of a message are that short.
-fn copy_run(dst: &mut [u8], to: usize, src: &[u8], at: usize, n: usize)
+pub(crate) fn copy_run(dst: &mut [u8], to: usize, src: &[u8], at: usize, n: usize)
     requires { ⌜ (to + n ≤ 8 * length (now dst)) × (to + n < 2 ^ 64) × (at + n ≤ 8 * length (now src)) × (at + n < 2 ^ 64) ⌝ }
     ensures { λ r. ⌜ now (dst .exit) ≡ putBits (now (dst .entry)) to (run (now (src .entry)) at n) ⌝ }
 {

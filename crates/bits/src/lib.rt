@@ -5,15 +5,18 @@ mod common;
 mod copier;
 mod eight_bytes;
 mod extent;
+mod led;
 mod reader;
 mod whole_bytes;
 mod writer;
 
 pub use copier::copy_bits;
 pub use extent::within;
+pub use led::put_led;
 pub use reader::read_bits;
 pub use whole_bytes::put_eight_bytes;
 pub use whole_bytes::read_eight_bytes;
+pub use writer::pad;
 pub use writer::put_bits;
 
 // What reading finds: a number and the place after it, or that the bits end before.

@@ -1,12 +1,12 @@
 // A number written as a run of bits: by eight bytes where they are there, else a turn for each byte that it touches; every other bit stays.
 ghost use mathlib.Core.Path.{_≡_};
 ghost use mathlib.Core.Bool.{_&&_};
-ghost use Prim.Native.Nat.{_+_, _*_, _^_, _<_, _≤_};
+ghost use Prim.Native.Nat.{_+_, _-_, _*_, _%_, _^_, _<_, _≤_};
 ghost use lib.Dec.{leb, ltb};
 ghost use lib.ListN.{length};
 ghost use lib.Seq.{sets};
 ghost use Rattle.bits.specs.Bits.{bitsN, numOf};
-ghost use Rattle.bits.specs.Put.{putBits, putNumber, left};
+ghost use Rattle.bits.specs.Put.{left, putBits, putNumber, toByte};
 use crate::Put;
 use crate::common::in_one;
 use crate::common::least;
@@ -68,8 +68,31 @@ pub(crate) fn put_number_at(buf: &mut [u8], at: usize, n: usize, v: u64)
     }
 }
 
+// Zeros put in n bits that lie within one byte.
+fn put_zeros(buf: &mut [u8], at: usize, n: usize)
+    requires { ⌜ (at % 8 + n ≤ 8) × (at + n ≤ 8 * length (now buf)) ⌝ }
+    ensures { λ r. ⌜ now (buf .exit) ≡ putBits (now (buf .entry)) at (bitsN n 0) ⌝ }
+{
+    if n != 0 {
+        let q = at / 8;
+        buf[q] = with_piece(buf[q], at % 8, n, 0);
+    }
+}
+
+// Zeros from a place within the first end bits up to a whole byte.
+pub fn pad(buf: &mut [u8], end: usize, at: usize) -> Put
+    ensures { λ r. ⌜ left r (now (buf .exit)) ≡ putNumber (now (buf .entry)) end at (toByte at) 0 ⌝ }
+{
+    let n = (8 - at % 8) % 8;
+    if within(buf.len(), end, at, n) {
+        put_zeros(buf, at, n);
+        return Put::Next(at + n);
+    }
+    Put::Full
+}
+
 // Whether n bits, at most 64 of them, hold v.
-fn holds(n: usize, v: u64) -> bool
+pub(crate) fn holds(n: usize, v: u64) -> bool
     ensures { λ r. ⌜ r ≡ (leb n 64 && ltb v (2 ^ n)) ⌝ }
 {
     if 64 < n {

@@ -2,22 +2,25 @@
 -- Assumes nothing.
 use mathlib.Core.Path.{_≡_, refl, ap, sym, _∙_}
 use mathlib.Core.Bool.{Bool, true, false, cond, _&&_}
-use mathlib.Core.List.{List, _++_}
+use mathlib.Core.List.{List, _++_, append-assoc}
 use Prim.Native.Nat.{ℕ, _+_, _-_, _*_, _^_, _≤_, _<_}
 use native.Mathlib.Omega.{arith}
 use borrow.Author.Tests.{le-leb, lt-leb, le-ltb, lt-ltb, leb-true, leb-false}
 use lib.Dec.{leb, ltb}
 use lib.ListN.{length, length-append}
+use lib.Pow.{pow-add}
+use lib.Arith.{digits-lt}
 use Rattle.bits.specs.Bits.{bitsN, bitsTo, run}
-use Rattle.bits.specs.Put.{Left, left, putRun, putIf, putNumber, copyRun}
+use Rattle.bits.specs.Put.{Left, left, putRun, putIf, putNumber, putLed}
 use Rattle.bits.specs.declared.Put.{Put}
 use Rattle.bits.specs.declared.Put.the-variants.{Next, Full}
 use Rattle.bits.proofs.Numbers.{length-bitsN}
 use Rattle.bits.proofs.Bytes.{length-run, length-to}
 use Rattle.bits.proofs.Inside.{Within}
 use Rattle.bits.proofs.Putting.{put-full, put-if-yes, put-if-no, put-then}
+use Rattle.bits.proofs.Joining.{bitsN-join}
 use Rattle.fields.specs.Fields.{widthOf, runAt}
-use Rattle.fields.specs.Encodings.{wholeFits, wholeBits, indexBits, lengthFits, lengthBits}
+use Rattle.fields.specs.Encodings.{ledFits, wholeFits, wholeBits, indexBits, lengthFits, lengthBits}
 use Rattle.fields.specs.declared.Field.{Field}
 use Rattle.fields.specs.declared.Field.the-variants.{Value, Refused}
 use Rattle.fields.specs.declared.Refusal.{Refusal}
@@ -103,10 +106,41 @@ width-short n h = rw (length-short n h) (sym (length-bitsN 8 n))
 pub width-long : (n : ℕ) → 128 ≤ n → 16 ≡ length (lengthBits n)
 width-long n h = rw (length-long n h) (sym (length-bitsN 16 (32768 + n)))
 
--- ---- strings: n items of count bits, which stand at a place of src
+-- ---- strings: n items of count bits, which stand at a place of src, behind a number of a few bits
+
+module _ (lead led unit : ℕ) (t : Bool) where
+  pub wide-lead : 8 < lead → ledFits lead led unit && t ≡ false
+  wide-lead h = rw (lt-leb lead 8 h)
+
+  pub large-lead : (p : ℕ) → lead ≤ 8 → p ≡ 2 ^ lead → p ≤ led → ledFits lead led unit && t ≡ false
+  large-lead p h e g = rw (le-leb lead 8 h, le-ltb led (2 ^ lead) (omega arith))
+
+  module _ (h : lead ≤ 8) (g : led < 2 ^ lead) where
+    pub large-items : 64 < unit → ledFits lead led unit && t ≡ false
+    large-items k = rw (le-leb lead 8 h, lt-ltb led (2 ^ lead) g, lt-leb unit 64 k)
 
 pub too-long : (n : ℕ) (t : Bool) → 16384 ≤ n → lengthFits n && t ≡ false
 too-long n t h = rw (le-ltb n 16384 h)
+
+led-fits : (lead led unit : ℕ) → lead ≤ 8 → led < 2 ^ lead → unit ≤ 64 → ledFits lead led unit ≡ true
+led-fits lead led unit h g k = rw (le-leb lead 8 h, lt-ltb led (2 ^ lead) g, le-leb unit 64 k)
+
+pub led-too-long : (lead led unit n : ℕ) (t : Bool) → lead ≤ 8 → led < 2 ^ lead → unit ≤ 64 → 16384 ≤ n → ledFits lead led unit && (lengthFits n && t) ≡ false
+led-too-long lead led unit n t h g k l = rw (led-fits lead led unit h g k) (too-long n t l)
+
+-- a number and w bits of a length, as one
+module _ (s src : List ℕ) (o : Left) (e at lead led f from c : ℕ) (h : lead ≤ 8) (g : led < 2 ^ lead) where
+  pub led-put : (w x n : ℕ) → w ≤ 16 → x < 2 ^ w → lengthBits n ≡ bitsN w x → o ≡ putLed s e at (lead + w) (led * 2 ^ w + x) src f from c
+      → o ≡ putIf (leb (from + c) (length (bitsTo src f))) s e at (bitsN lead led ++ (lengthBits n ++ run src from c))
+  unfolding putLed
+  led-put w x n few small b p =
+      let d : led * 2 ^ w + x < 2 ^ (lead + w) = rw (pow-add 2 lead w) (digits-lt g small) in
+      p ∙ rw (le-leb (lead + w) 56 (omega arith), lt-ltb (led * 2 ^ w + x) (2 ^ (lead + w)) d, bitsN-join lead w led x small, append-assoc, b)
+
+pub led-string-put : (s src : List ℕ) (o : Left) (e at lead led unit n f from : ℕ) → lead ≤ 8 → led < 2 ^ lead → unit ≤ 64 → n < 16384
+    → o ≡ putIf (leb (from + unit * n) (length (bitsTo src f))) s e at (bitsN lead led ++ (lengthBits n ++ run src from (unit * n)))
+    → o ≡ putIf (ledFits lead led unit && (lengthFits n && leb (from + unit * n) (length (bitsTo src f)))) s e at (bitsN lead led ++ (lengthBits n ++ run src from (unit * n)))
+led-string-put s src o e at lead led unit n f from h g k small p = p ∙ rw (led-fits lead led unit h g k, lt-ltb n 16384 small)
 
 module _ (s src : List ℕ) (e at unit n f from : ℕ) (small : n < 16384) (r : Field) (pr : r ≡ runAt (bitsTo src f) from (unit * n) n) where
   pub not-there : (x : Refusal) → r ≡ Refused x → left Full s ≡ putIf (lengthFits n && leb (from + unit * n) (length (bitsTo src f))) s e at (lengthBits n ++ run src from (unit * n))
@@ -116,31 +150,9 @@ module _ (s src : List ℕ) (e at unit n f from : ℕ) (small : n < 16384) (r : 
     pub there : after ≡ from + unit * n
     there = run-is (bitsTo src f) from (unit * n) n v after (sym pr ∙ q) .place
 
-    fits : lengthFits n && leb (from + unit * n) (length (bitsTo src f)) ≡ true
-    fits = rw (lt-ltb n 16384 small) (le-leb _ _ (run-is (bitsTo src f) from (unit * n) n v after (sym pr ∙ q) .within))
-
-    -- all of it
-    count : length (lengthBits n ++ run src from (unit * n)) ≡ length (lengthBits n) + unit * n
-    count =
-        let i = run-is (bitsTo src f) from (unit * n) n v after (sym pr ∙ q) in
-        let m = length-to src f in
-        rw (length-append, length-run src from (unit * n) (omega arith))
-
-    pub no-space : (w : ℕ) → w ≡ length (lengthBits n) → leb (at + w) (length (bitsTo s e)) ≡ false → left Full s ≡ putIf (lengthFits n && leb (from + unit * n) (length (bitsTo src f))) s e at (lengthBits n ++ run src from (unit * n))
-    no-space w pw h =
-        let k : length (bitsTo s e) < at + w = leb-false _ _ h in
-        no-room s e at _ _ fits (past s e at _ (lengthBits n ++ run src from (unit * n)) count (omega arith))
-
-    pub no-space-after : (w c : ℕ) → w ≡ length (lengthBits n) → c ≡ unit * n → leb (at + w + c) (length (bitsTo s e)) ≡ false → left Full s ≡ putIf (lengthFits n && leb (from + unit * n) (length (bitsTo src f))) s e at (lengthBits n ++ run src from (unit * n))
-    no-space-after w c pw pc h =
-        let k : length (bitsTo s e) < at + w + c = leb-false _ _ h in
-        no-room s e at _ _ fits (past s e at _ (lengthBits n ++ run src from (unit * n)) count (omega arith))
-
-    pub string-put : (z : List ℕ) (a : Put) (o : Left) (w c : ℕ) → w ≡ length (lengthBits n) → c ≡ unit * n → Within s e (at + w) c → left a z ≡ putIf (lengthFits n) s e at (lengthBits n) → o ≡ copyRun z e (at + w) src f from c
+    pub string-put : (o : Left) (c : ℕ) → c ≡ after - from → o ≡ putIf (leb (from + c) (length (bitsTo src f))) s e at (bitsN 0 0 ++ (lengthBits n ++ run src from c))
         → o ≡ putIf (lengthFits n && leb (from + unit * n) (length (bitsTo src f))) s e at (lengthBits n ++ run src from (unit * n))
-    unfolding copyRun
-    string-put z a o w c pw pc wi p k =
-        let i = run-is (bitsTo src f) from (unit * n) n v after (sym pr ∙ q) in
-        let room : at + w + c ≤ length (bitsTo s e) = leb-true _ _ (wi .test) in
-        let t = put-then s z e at (lengthBits n) (run src from (unit * n)) a (rw count (omega arith)) (p ∙ put-if-yes _ s e at (lengthBits n) (lt-ltb n 16384 small)) in
-        k ∙ rw pc (put-if-yes _ z e (at + w) (run src from (unit * n)) (le-leb _ _ (i .within))) ∙ (rw (← pw) at t) ∙ sym (put-if-yes _ s e at _ fits)
+    unfolding bitsN
+    string-put o c pc k =
+        let z : c ≡ unit * n = pc ∙ omega (arith, there) in
+        (rw z at k) ∙ rw (lt-ltb n 16384 small)

@@ -35,3 +35,7 @@ lengthBits n = cond (ltb n 128) (bitsN 8 n) (bitsN 16 (32768 + n))
 -- a length from least to most
 abbrev pub withinFits : ℕ → ℕ → ℕ → Bool
 withinFits least most n = leb least n && leb n most && lengthFits n
+
+-- a number that goes out with the string behind it, in at most eight bits, and items of at most 64
+abbrev pub ledFits : ℕ → ℕ → ℕ → Bool
+ledFits n v unit = leb n 8 && ltb v (2 ^ n) && leb unit 64

@@ -1,6 +1,5 @@
 // Length determinants: under 128 in 8 bits, to 16,383 in 10 and then 14 bits, anything else refused.
 ghost use mathlib.Core.Path.{_≡_};
-ghost use lib.ListN.{length as listLength};
 ghost use Rattle.bits.specs.Bits.{bitsTo};
 ghost use Rattle.bits.specs.Put.{left, putIf};
 ghost use Rattle.fields.specs.Encodings.{lengthBits, lengthFits};
@@ -50,13 +49,6 @@ pub fn length_within(s: &[u8], end: usize, at: usize, least: u64, most: u64) -> 
         return refused_at(at, Fault::Limit);
     }
     any
-}
-
-// How many bits a length takes.
-pub(crate) fn length_width(n: u64) -> usize
-    ensures { λ w. ⌜ w ≡ listLength (lengthBits n) ⌝ }
-{
-    if 128 <= n { 16 } else { 8 }
 }
 
 pub fn put_length(buf: &mut [u8], end: usize, at: usize, n: u64) -> Put

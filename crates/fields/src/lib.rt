@@ -26,6 +26,7 @@ pub use numbers::refused_at;
 pub use numbers::whole;
 pub use numbers::width;
 pub use strings::contents;
+pub use strings::put_led_string;
 pub use strings::put_string;
 pub use strings::sized;
 pub use strings::string;

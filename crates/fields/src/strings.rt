@@ -2,18 +2,16 @@
 ghost use mathlib.Core.Path.{_≡_};
 ghost use mathlib.Core.Bool.{_&&_};
 ghost use mathlib.Core.List.{_++_};
-ghost use Prim.Native.Nat.{_+_, _*_};
+ghost use Prim.Native.Nat.{_+_, _*_, _^_, _<_, _≤_};
 ghost use lib.Dec.{leb};
 ghost use lib.ListN.{length};
-ghost use Rattle.bits.specs.Bits.{bitsTo, run};
+ghost use Rattle.bits.specs.Bits.{bitsN, bitsTo, run};
 ghost use Rattle.bits.specs.Put.{left, putIf};
-ghost use Rattle.fields.specs.Encodings.{lengthBits, lengthFits};
+ghost use Rattle.fields.specs.Encodings.{ledFits, lengthBits, lengthFits};
 ghost use Rattle.fields.specs.Fields.{contentsAt, runAt, sizedAt, stringAt};
 use crate::Fault;
 use crate::Field;
-use crate::lengths::length_width;
 use crate::lengths::length_within;
-use crate::lengths::put_length;
 use crate::numbers::refused_at;
 use crate::numbers::whole;
 use bits::Put;
@@ -63,7 +61,63 @@ pub fn sized(s: &[u8], end: usize, at: usize, unit: usize, least: u64, most: u64
     contents(s, end, from, unit, n as usize)
 }
 
-// The length of n items, and the items, which stand at a place within the first send bits of src.
+// A number of a few bits, and behind it a length and count bits, which stand at a place within the first send bits of src. The number and the length
+// go out as one.
+fn put_counted(
+    buf: &mut [u8],
+    end: usize,
+    at: usize,
+    lead: usize,
+    led: u64,
+    n: usize,
+    src: &[u8],
+    send: usize,
+    from: usize,
+    count: usize,
+) -> Put
+    requires { ⌜ (lead ≤ 8) × (led < 2 ^ lead) × (n < 16384) ⌝ }
+    ensures { λ r. ⌜ left r (now (buf .exit)) ≡ putIf (leb (from + count) (length (bitsTo (now (src .entry)) send))) (now (buf .entry)) end at (bitsN lead led ++ (lengthBits n ++ run (now (src .entry)) from count)) ⌝ }
+{
+    if n < 128 {
+        let v = led * 256 + n as u64;
+        return bits::put_led(buf, end, at, lead + 8, v, src, send, from, count);
+    }
+    let v = led * 65536 + (32768 + n as u64);
+    bits::put_led(buf, end, at, lead + 16, v, src, send, from, count)
+}
+
+// A number of at most eight bits, and behind it the length of n items, and the items, of at most 64 bits each, which stand at a place within the first
+// send bits of src.
+pub fn put_led_string(
+    buf: &mut [u8],
+    end: usize,
+    at: usize,
+    lead: usize,
+    led: u64,
+    unit: usize,
+    n: usize,
+    src: &[u8],
+    send: usize,
+    from: usize,
+) -> Put
+    ensures { λ r. ⌜ left r (now (buf .exit)) ≡ putIf (ledFits lead led unit && (lengthFits n && leb (from + unit * n) (length (bitsTo (now (src .entry)) send)))) (now (buf .entry)) end at (bitsN lead led ++ (lengthBits n ++ run (now (src .entry)) from (unit * n))) ⌝ }
+{
+    if 8 < lead {
+        return Put::Full;
+    }
+    if (1 << lead) <= led {
+        return Put::Full;
+    }
+    if 64 < unit {
+        return Put::Full;
+    }
+    if 16384 <= n {
+        return Put::Full;
+    }
+    put_counted(buf, end, at, lead, led, n, src, send, from, unit * n)
+}
+
+// The length of n items, and the items, of any size.
 pub fn put_string(
     buf: &mut [u8],
     end: usize,
@@ -82,14 +136,5 @@ pub fn put_string(
     let Field::Value(_, after) = contents(src, send, from, unit, n) else {
         return Put::Full;
     };
-    let count = after - from;
-    let w = length_width(n as u64);
-    if bits::within(buf.len(), end, at, w) {
-        if bits::within(buf.len(), end, at + w, count) {
-            put_length(buf, end, at, n as u64);
-            return bits::copy_bits(buf, end, at + w, src, send, from, count);
-        }
-        return Put::Full;
-    }
-    Put::Full
+    put_counted(buf, end, at, 0, 0, n, src, send, from, after - from)
 }

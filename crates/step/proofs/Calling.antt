@@ -16,12 +16,15 @@ use Rattle.machine.specs.Outcome.{refusalNumber, isNone}
 use Rattle.control.specs.declared.Side.{Side}
 use Rattle.machine.specs.declared.record.Record.{Record}
 use Rattle.machine.specs.declared.event.UserData.{UserData}
-use Rattle.machine.specs.declared.event.UserData.the-variants.{Absent}
+use Rattle.machine.specs.declared.event.UserData.the-variants.{Absent, NotValid}
 use Rattle.machine.specs.declared.event.ServicePrimitive.{ServicePrimitive}
 use Rattle.machine.specs.declared.event.Event.{Event}
 use Rattle.machine.specs.declared.event.Event.the-variants.{Service}
 use Rattle.machine.specs.declared.event.Event.the-variants.{Forward as ForwardRequested}
+use Rattle.apdu.specs.declared.Apdu.{Apdu}
 use Rattle.apdu.specs.declared.Decoded.{Decoded}
+use Rattle.apdu.specs.declared.Decoded.the-variants as decoded
+use Rattle.fields.specs.declared.Refusal.{Refusal}
 use Rattle.machine.specs.declared.outcome.Outcome.{Outcome}
 use Rattle.numbered.specs.Numbers.{heldAfter, numberedStep}
 use Rattle.stored.specs.Stored.{loadAt, storeAt, kept}
@@ -93,13 +96,26 @@ module _ (r a b : List ℕ) (e : Event) (v : ℕ) (li lm lc : List ℕ) (d : Dat
 -- ---- a dialogue-service primitive
 
 module _ (r a b : List ℕ) (p : ServicePrimitive) (v : ℕ) (l : List ℕ) (sd : Side) (x : Record) (n : ℕ) where
-  pub data-steps : (f : Decoded) (m : UserData) (d : Data) (w : Forwarded) (z : Called) → f ≡ readPdu sd (x .control) p l → m ≡ meaning f → d ≡ dataOf f → w ≡ forwardOf f → z ≡ eventStep r a b (Service p m) v l l l (carries d w) sd x n → z ≡ dataStep r a b p v l sd x n
-  unfolding dataStep
-  data-steps f m d w z pf pm pd pw e = e ∙ rw (pd, pw, pm, pf)
+  pub bare-steps : (m : UserData) (y : Data) (w : Forwarded) (z : Called) → y ≡ noData → w ≡ noForward → z ≡ eventStep r a b (Service p m) v l l l (carries y w) sd x n → z ≡ eventStep r a b (Service p m) v l l l (carriesData noData) sd x n
+  bare-steps m y w z py pw e = e ∙ rw (py, pw)
 
-  pub bare-steps : (y : Data) (w : Forwarded) (z : Called) → y ≡ noData → w ≡ noForward → z ≡ eventStep r a b (Service p Absent) v l l l (carries y w) sd x n → z ≡ bareStep r a b p v l sd x n
-  unfolding bareStep
-  bare-steps y w z py pw e = e ∙ rw (py, pw)
+  pub content-steps : (m : UserData) (d : Data) (w : Forwarded) (z : Called) → w ≡ noForward → z ≡ eventStep r a b (Service p m) v l l l (carries d w) sd x n → z ≡ eventStep r a b (Service p m) v l l l (carriesData d) sd x n
+  content-steps m d w z pw e = e ∙ rw pw
+
+  pub passed-steps : (m : UserData) (y : Data) (f : Forwarded) (z : Called) → y ≡ noData → z ≡ eventStep r a b (Service p m) v l l l (carries y f) sd x n → z ≡ eventStep r a b (Service p m) v l l l (carriesForward f) sd x n
+  passed-steps m y f z py e = e ∙ rw py
+
+  pub as-pdu : (c : Apdu) (m : UserData) (d : Data) (w : Forwarded) (z : Called) → z ≡ eventStep r a b (Service p m) v l l l (carries d w) sd x n → m ≡ meaning (decoded.Is c) → d ≡ dataOf (decoded.Is c) → w ≡ forwardOf (decoded.Is c)
+      → z ≡ eventStep r a b (Service p (meaning (decoded.Is c))) v l l l (carriedBy (decoded.Is c)) sd x n
+  as-pdu c m d w z e pm pd pw = e ∙ rw (pm, pd, pw)
+
+  pub pdu-steps : (f : Decoded) (c : Apdu) (z : Called) → f ≡ readPdu sd (x .control) p l → f ≡ decoded.Is c → z ≡ eventStep r a b (Service p (meaning (decoded.Is c))) v l l l (carriedBy (decoded.Is c)) sd x n → z ≡ dataStep r a b p v l sd x n
+  unfolding dataStep
+  pdu-steps f c z pf q e = e ∙ rw (sym q ∙ pf)
+
+  pub no-pdu-steps : (f : Decoded) (y : Refusal) (z : Called) → f ≡ readPdu sd (x .control) p l → f ≡ decoded.Refused y → z ≡ eventStep r a b (Service p NotValid) v l l l (carriesData noData) sd x n → z ≡ dataStep r a b p v l sd x n
+  unfolding dataStep meaning dataOf forwardOf
+  no-pdu-steps f y z pf q e = e ∙ rw (← pf, q)
 
   pub given-odd : (g : ℕ) → 1 < g → called 2 r a b ≡ serviceStep r a b p v g l sd x n
   unfolding serviceStep
@@ -109,6 +125,6 @@ module _ (r a b : List ℕ) (p : ServicePrimitive) (v : ℕ) (l : List ℕ) (sd 
   unfolding serviceStep
   given-data g z h e = e ∙ rw h
 
-  pub given-none : (g : ℕ) (z : Called) → g ≤ 1 → (g ≡ 1 → ⊥) → z ≡ bareStep r a b p v l sd x n → z ≡ serviceStep r a b p v g l sd x n
-  unfolding serviceStep
+  pub given-none : (g : ℕ) (z : Called) → g ≤ 1 → (g ≡ 1 → ⊥) → z ≡ eventStep r a b (Service p Absent) v l l l (carriesData noData) sd x n → z ≡ serviceStep r a b p v g l sd x n
+  unfolding serviceStep bareStep
   given-none g z h w e = e ∙ rw (le-ltb 1 g h, ne-eqb g 1 w)

@@ -1,19 +1,14 @@
-// The user data of a dialogue-service primitive as it arrives: what it is read as, and what it is to the machine.
+// The user data of a dialogue-service primitive as it arrives: what it is read as.
 ghost use mathlib.Core.Path.{_≡_};
 ghost use Rattle.apdu.specs.Pdus.{lent};
-ghost use Rattle.step.specs.Call.{abortOf, confirmationReads, dataOf, forwardOf, meaning, orAbort, peerReads, readPdu, readsAgain, readsAs};
-use crate::carried::no_data;
-use crate::carried::no_forward;
+ghost use Rattle.step.specs.Call.{abortOf, confirmationReads, orAbort, peerReads, readPdu, readsAgain, readsAs};
 use apdu::Apdu;
-use apdu::Data;
 use apdu::Decoded;
-use apdu::Forward;
 use apdu::PduType;
 use control::Control;
 use control::Side;
 use control::awaits_response;
 use machine::event::ServicePrimitive;
-use machine::event::UserData;
 
 // The type that a facility's, or an aircraft's, D-START is read as.
 fn of_peer(peer: u64) -> PduType
@@ -118,73 +113,4 @@ pub(crate) fn read_pdu(side: Side, c: Control, p: ServicePrimitive, bytes: &[u8]
         return or_abort(first, apdu::read_apdu(bytes, PduType::GroundPdus));
     }
     first
-}
-
-fn meaning_of(a: Apdu) -> UserData
-    ensures { λ m. ⌜ m ≡ meaning (Decoded.Is a) ⌝ }
-{
-    match a {
-        Apdu::AbortUser(r) => UserData::AbortUser(r),
-        Apdu::AbortProvider(r) => UserData::AbortProvider(r),
-        Apdu::Start(m, _) => UserData::Start(m == 1),
-        Apdu::Send(_) => UserData::Send,
-        Apdu::Forward(_) => UserData::Forward,
-        Apdu::ForwardResponse(x) => UserData::ForwardResponse(x),
-    }
-}
-
-// Refusals 10 to 17 mean "no valid PDU".
-pub(crate) fn meaning(a: Decoded) -> UserData
-    ensures { λ m. ⌜ m ≡ meaning a ⌝ }
-{
-    match a {
-        Decoded::Is(p) => meaning_of(p),
-        Decoded::Refused(_) => UserData::NotValid,
-    }
-}
-
-fn data_of_pdu(a: Apdu) -> Data
-    ensures { λ d. ⌜ d ≡ dataOf (Decoded.Is a) ⌝ }
-{
-    match a {
-        Apdu::AbortUser(_) => no_data(),
-        Apdu::AbortProvider(_) => no_data(),
-        Apdu::Start(_, d) => d,
-        Apdu::Send(d) => d,
-        Apdu::Forward(_) => no_data(),
-        Apdu::ForwardResponse(_) => no_data(),
-    }
-}
-
-// Where its message data stand.
-pub(crate) fn data_of(a: Decoded) -> Data
-    ensures { λ d. ⌜ d ≡ dataOf a ⌝ }
-{
-    match a {
-        Decoded::Is(p) => data_of_pdu(p),
-        Decoded::Refused(_) => no_data(),
-    }
-}
-
-fn forward_of_pdu(a: Apdu) -> Forward
-    ensures { λ f. ⌜ f ≡ forwardOf (Decoded.Is a) ⌝ }
-{
-    match a {
-        Apdu::AbortUser(_) => no_forward(),
-        Apdu::AbortProvider(_) => no_forward(),
-        Apdu::Start(_, _) => no_forward(),
-        Apdu::Send(_) => no_forward(),
-        Apdu::Forward(f) => f,
-        Apdu::ForwardResponse(_) => no_forward(),
-    }
-}
-
-// Its forward message.
-pub(crate) fn forward_of(a: Decoded) -> Forward
-    ensures { λ f. ⌜ f ≡ forwardOf a ⌝ }
-{
-    match a {
-        Decoded::Is(p) => forward_of_pdu(p),
-        Decoded::Refused(_) => no_forward(),
-    }
 }

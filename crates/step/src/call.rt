@@ -2,16 +2,14 @@
 ghost use mathlib.Core.Path.{_≡_};
 ghost use Rattle.apdu.specs.Pdus.{lent};
 ghost use Rattle.apdu.specs.Writing.{done};
-ghost use Rattle.step.specs.Call.{bareStep, bitsOfWritten, called, carries, concluded, dataStep, eventStep, firstTakes, forwardCall, pdusOf, secondTakes, serviceCall, userCall};
-use crate::arrived::data_of;
-use crate::arrived::forward_of;
-use crate::arrived::meaning;
+ghost use Rattle.step.specs.Call.{bitsOfWritten, called, carriedBy, carries, carriesData, carriesForward, concluded, dataStep, eventStep, firstTakes, forwardCall, meaning, noData, pdusOf, secondTakes, serviceCall, userCall};
 use crate::arrived::read_pdu;
 use crate::carried::no_data;
 use crate::carried::no_forward;
 use crate::carried::passes;
 use apdu::Apdu;
 use apdu::Data;
+use apdu::Decoded;
 use apdu::Forward;
 use apdu::PduType;
 use apdu::Written;
@@ -65,18 +63,12 @@ fn write_first(
     match a {
         UserData::Absent => Written::Bits(0),
         UserData::NotValid => Written::Bits(0),
-        UserData::Start(m) => {
-            apdu::put_apdu(first, pdu, Apdu::Start(mode(m), content), ids, msgs, checks)
-        }
-        UserData::Send => apdu::put_apdu(first, pdu, Apdu::Send(content), ids, msgs, checks),
-        UserData::AbortUser(x) => apdu::put_apdu(first, pdu, Apdu::AbortUser(x), ids, msgs, checks),
-        UserData::AbortProvider(x) => {
-            apdu::put_apdu(first, pdu, Apdu::AbortProvider(x), ids, msgs, checks)
-        }
-        UserData::Forward => apdu::put_apdu(first, pdu, Apdu::Forward(forward), ids, msgs, checks),
-        UserData::ForwardResponse(x) => {
-            apdu::put_apdu(first, pdu, Apdu::ForwardResponse(x), ids, msgs, checks)
-        }
+        UserData::Start(m) => apdu::put_start(first, pdu, mode(m), content, ids, msgs, checks),
+        UserData::Send => apdu::put_send(first, pdu, content, ids, msgs, checks),
+        UserData::AbortUser(x) => apdu::put_abort_user(first, pdu, x),
+        UserData::AbortProvider(x) => apdu::put_abort_provider(first, pdu, x),
+        UserData::Forward => apdu::put_forward_pdu(first, pdu, forward, msgs),
+        UserData::ForwardResponse(x) => apdu::put_forward_response(first, pdu, x),
     }
 }
 
@@ -262,43 +254,7 @@ pub fn forward_call(
     Limit::SHAPE
 }
 
-// A primitive with user data: what it is read as decides the step, and its message data are what is delivered.
-fn data_step(
-    rec: &mut [u8],
-    first: &mut [u8],
-    second: &mut [u8],
-    p: ServicePrimitive,
-    brought: u64,
-    bytes: &[u8],
-    side: Side,
-    r: Record,
-    held: u64,
-) -> u64
-    ensures { λ n. ⌜ called n (now (rec .exit)) (now (first .exit)) (now (second .exit)) ≡ dataStep (now (rec .entry)) (now (first .entry)) (now (second .entry)) p brought (lent (now (bytes .entry))) side r held ⌝ }
-{
-    let c = r.control;
-    let pdu = read_pdu(side, c, p, bytes);
-    let e = Event::Service(p, meaning(pdu));
-    let content = data_of(pdu);
-    let forward = forward_of(pdu);
-    event_step(
-        rec,
-        first,
-        second,
-        e,
-        brought,
-        bytes,
-        bytes,
-        bytes,
-        content,
-        forward,
-        side,
-        r,
-        held,
-    )
-}
-
-// A primitive without user data.
+// A primitive whose user data carry nothing, or that has none.
 fn bare_step(
     rec: &mut [u8],
     first: &mut [u8],
@@ -309,10 +265,11 @@ fn bare_step(
     side: Side,
     r: Record,
     held: u64,
+    m: UserData,
 ) -> u64
-    ensures { λ n. ⌜ called n (now (rec .exit)) (now (first .exit)) (now (second .exit)) ≡ bareStep (now (rec .entry)) (now (first .entry)) (now (second .entry)) p brought (lent (now (bytes .entry))) side r held ⌝ }
+    ensures { λ n. ⌜ called n (now (rec .exit)) (now (first .exit)) (now (second .exit)) ≡ eventStep (now (rec .entry)) (now (first .entry)) (now (second .entry)) (Event.Service p m) brought (lent (now (bytes .entry))) (lent (now (bytes .entry))) (lent (now (bytes .entry))) (carriesData noData) side r held ⌝ }
 {
-    let e = Event::Service(p, UserData::Absent);
+    let e = Event::Service(p, m);
     let content = no_data();
     let forward = no_forward();
     event_step(
@@ -330,6 +287,190 @@ fn bare_step(
         r,
         held,
     )
+}
+
+// A primitive whose user data carry message data.
+fn content_step(
+    rec: &mut [u8],
+    first: &mut [u8],
+    second: &mut [u8],
+    p: ServicePrimitive,
+    brought: u64,
+    bytes: &[u8],
+    side: Side,
+    r: Record,
+    held: u64,
+    m: UserData,
+    d: Data,
+) -> u64
+    ensures { λ n. ⌜ called n (now (rec .exit)) (now (first .exit)) (now (second .exit)) ≡ eventStep (now (rec .entry)) (now (first .entry)) (now (second .entry)) (Event.Service p m) brought (lent (now (bytes .entry))) (lent (now (bytes .entry))) (lent (now (bytes .entry))) (carriesData d) side r held ⌝ }
+{
+    let e = Event::Service(p, m);
+    let forward = no_forward();
+    event_step(
+        rec,
+        first,
+        second,
+        e,
+        brought,
+        bytes,
+        bytes,
+        bytes,
+        d,
+        forward,
+        side,
+        r,
+        held,
+    )
+}
+
+// A primitive whose user data carry a forward message.
+fn forward_step(
+    rec: &mut [u8],
+    first: &mut [u8],
+    second: &mut [u8],
+    p: ServicePrimitive,
+    brought: u64,
+    bytes: &[u8],
+    side: Side,
+    r: Record,
+    held: u64,
+    f: Forward,
+) -> u64
+    ensures { λ n. ⌜ called n (now (rec .exit)) (now (first .exit)) (now (second .exit)) ≡ eventStep (now (rec .entry)) (now (first .entry)) (now (second .entry)) (Event.Service p UserData.Forward) brought (lent (now (bytes .entry))) (lent (now (bytes .entry))) (lent (now (bytes .entry))) (carriesForward f) side r held ⌝ }
+{
+    let e = Event::Service(p, UserData::Forward);
+    let content = no_data();
+    event_step(
+        rec,
+        first,
+        second,
+        e,
+        brought,
+        bytes,
+        bytes,
+        bytes,
+        content,
+        f,
+        side,
+        r,
+        held,
+    )
+}
+
+// A primitive with an APDU: what it is decides the step, and what it carries is delivered or passed on.
+fn pdu_step(
+    rec: &mut [u8],
+    first: &mut [u8],
+    second: &mut [u8],
+    p: ServicePrimitive,
+    brought: u64,
+    bytes: &[u8],
+    side: Side,
+    r: Record,
+    held: u64,
+    a: Apdu,
+) -> u64
+    ensures { λ n. ⌜ called n (now (rec .exit)) (now (first .exit)) (now (second .exit)) ≡ eventStep (now (rec .entry)) (now (first .entry)) (now (second .entry)) (Event.Service p (meaning (Decoded.Is a))) brought (lent (now (bytes .entry))) (lent (now (bytes .entry))) (lent (now (bytes .entry))) (carriedBy (Decoded.Is a)) side r held ⌝ }
+{
+    match a {
+        Apdu::AbortUser(x) => bare_step(
+            rec,
+            first,
+            second,
+            p,
+            brought,
+            bytes,
+            side,
+            r,
+            held,
+            UserData::AbortUser(x),
+        ),
+        Apdu::AbortProvider(x) => bare_step(
+            rec,
+            first,
+            second,
+            p,
+            brought,
+            bytes,
+            side,
+            r,
+            held,
+            UserData::AbortProvider(x),
+        ),
+        Apdu::Start(m, d) => content_step(
+            rec,
+            first,
+            second,
+            p,
+            brought,
+            bytes,
+            side,
+            r,
+            held,
+            UserData::Start(m == 1),
+            d,
+        ),
+        Apdu::Send(d) => content_step(
+            rec,
+            first,
+            second,
+            p,
+            brought,
+            bytes,
+            side,
+            r,
+            held,
+            UserData::Send,
+            d,
+        ),
+        Apdu::Forward(f) => forward_step(rec, first, second, p, brought, bytes, side, r, held, f),
+        Apdu::ForwardResponse(x) => bare_step(
+            rec,
+            first,
+            second,
+            p,
+            brought,
+            bytes,
+            side,
+            r,
+            held,
+            UserData::ForwardResponse(x),
+        ),
+    }
+}
+
+// A primitive with user data. Refusals 10 to 17 mean "no valid PDU".
+fn data_step(
+    rec: &mut [u8],
+    first: &mut [u8],
+    second: &mut [u8],
+    p: ServicePrimitive,
+    brought: u64,
+    bytes: &[u8],
+    side: Side,
+    r: Record,
+    held: u64,
+) -> u64
+    ensures { λ n. ⌜ called n (now (rec .exit)) (now (first .exit)) (now (second .exit)) ≡ dataStep (now (rec .entry)) (now (first .entry)) (now (second .entry)) p brought (lent (now (bytes .entry))) side r held ⌝ }
+{
+    let c = r.control;
+    let pdu = read_pdu(side, c, p, bytes);
+    match pdu {
+        Decoded::Is(a) => pdu_step(rec, first, second, p, brought, bytes, side, r, held, a),
+        Decoded::Refused(_) => bare_step(
+            rec,
+            first,
+            second,
+            p,
+            brought,
+            bytes,
+            side,
+            r,
+            held,
+            UserData::NotValid,
+        ),
+    }
 }
 
 // A dialogue-service primitive with its dialogue number, with user data (given 1) or without (0).
@@ -359,5 +500,16 @@ pub fn service_call(
     if given == 1 {
         return data_step(rec, first, second, p, brought, bytes, side, r, held);
     }
-    bare_step(rec, first, second, p, brought, bytes, side, r, held)
+    bare_step(
+        rec,
+        first,
+        second,
+        p,
+        brought,
+        bytes,
+        side,
+        r,
+        held,
+        UserData::Absent,
+    )
 }

@@ -5,7 +5,7 @@ use Rattle.apdu.proofs.heading_writer.put_aircraft.Statement.{statement
 use Rattle.apdu.proofs.heading_writer.put_aircraft.Tie as tie
 use Rattle.apdu.proofs.heading_writer.put_aircraft.Reads as reads
 use Rattle.apdu.proofs.heading_writer.put_aircraft.Lts as lts
-use Rattle.apdu.proofs.encoder.place.Reads as place-reads
+use Rattle.apdu.proofs.data_writer.place.Reads as place-reads
 use Rattle.bits.proofs.put_bits.Reads as put-bits-reads
 use Rattle.fields.proofs.put_whole.Reads as put-whole-reads
 

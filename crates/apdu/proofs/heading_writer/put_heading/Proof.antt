@@ -4,7 +4,7 @@ use Rattle.apdu.proofs.heading_writer.put_heading.Statement.{statement}
 use Rattle.apdu.proofs.heading_writer.put_heading.Tie as tie
 use Rattle.apdu.proofs.heading_writer.put_heading.Reads as reads
 use Rattle.apdu.proofs.heading_writer.put_heading.Lts as lts
-use Rattle.apdu.proofs.encoder.place.Reads as place-reads
+use Rattle.apdu.proofs.data_writer.place.Reads as place-reads
 use Rattle.apdu.proofs.heading_writer.put_aircraft.Reads as put-aircraft-reads
 use Rattle.apdu.proofs.heading_writer.put_triple.Reads as put-triple-reads
 

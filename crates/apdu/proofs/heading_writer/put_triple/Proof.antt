@@ -4,7 +4,7 @@ use Rattle.apdu.proofs.heading_writer.put_triple.Statement.{statement}
 use Rattle.apdu.proofs.heading_writer.put_triple.Tie as tie
 use Rattle.apdu.proofs.heading_writer.put_triple.Reads as reads
 use Rattle.apdu.proofs.heading_writer.put_triple.Lts as lts
-use Rattle.apdu.proofs.encoder.place.Reads as place-reads
+use Rattle.apdu.proofs.data_writer.place.Reads as place-reads
 use Rattle.fields.proofs.put_whole.Reads as put-whole-reads
 
 -- src/heading_writer.rt:31:19

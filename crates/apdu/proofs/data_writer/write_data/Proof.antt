@@ -1,0 +1,57 @@
+use native.Mathlib.Omega.{arith}
+use mathlib.Core.Path.{_≡_, refl, sym, _∙_}
+use mathlib.Core.Bool.{true}
+use Rattle.apdu.specs.Pdus.{lent}
+use Rattle.apdu.specs.Writing.{dataFits}
+use Rattle.apdu.proofs.Writers.{too-small, not-fitting, written-out, data-pads, data-room, as-answer}
+use borrow.Author.Needs.{needs}
+use Rattle.apdu.proofs.data_writer.write_data.Statement.{statement}
+use Rattle.apdu.proofs.data_writer.write_data.Tie as tie
+use Rattle.apdu.proofs.data_writer.write_data.Reads as reads
+use Rattle.apdu.proofs.data_writer.write_data.Lts as lts
+use Rattle.apdu.proofs.data_writer.put_content.Reads as put-content-reads
+use Rattle.apdu.proofs.shape.data_fits.Reads as data-fits-reads
+use Rattle.bits.proofs.pad.Reads as pad-reads
+
+fits : (c : tie.Then2) → dataFits (lent (c .before .before .before .before .before .before .before .args .ids .now)) (lent (c .before .before .before .before .before .before .before .args .msgs .now)) (lent (c .before .before .before .before .before .before .before .args .checks .now)) (c .before .before .before .before .before .before .before .args .d) ≡ true
+fits c = sym (c .before .data-fits .ensures) ∙ c .if2 .taken
+
+-- src/data_writer.rt:123:9
+returns : tie.Need-returns
+returns c = too-small _ _ _ (c .if1 .taken)
+
+-- src/data_writer.rt:125:8
+data-fits-requires : tie.Need-data-fits-requires
+data-fits-requires c κs = search needs
+
+-- src/data_writer.rt:126:13
+put-content-requires : tie.Need-put-content-requires
+put-content-requires c κs = (c .before .before .before .before .before .before .before .before .pre .0, c .before .before .before .before .before .before .before .before .pre .1, fits (c .before), data-room _ _ _ _ _ _ (c .before .before .before .before .before .before .before .before .pre .0) (fits (c .before)) _ (c .before .before .before .if1 .left))
+
+-- src/data_writer.rt:127:9
+pad-requires : tie.Need-pad-requires
+pad-requires c κs = search needs
+
+-- src/data_writer.rt:128:9
+same-length : tie.Need-same-length
+same-length c = search needs
+
+-- src/data_writer.rt:128:9
+returns-2 : tie.Need-returns-2
+returns-2 c = written-out _ _ _ _ _ _ _ _ _ _ (c .before .before .before .before .before .before .before .before .before .before .if1 .left) (data-pads _ _ _ _ _ _ (c .before .before .before .before .before .before .before .before .before .before .before .before .before .before .before .pre .0) (fits (c .before .before .before .before .before .before .before .before))) (c .before .before .before .before .before .before .before .before .before .data-fits .ensures) (c .before .before .before .before .before .before .before .before .if2 .taken) (as-answer _ _ _ _ (data-room _ _ _ _ _ _ (c .before .before .before .before .before .before .before .before .before .before .before .before .before .before .before .pre .0) (fits (c .before .before .before .before .before .before .before .before)) _ (c .before .before .before .before .before .before .before .before .before .before .if1 .left)) (c .before .before .before .before .before .before .put-content .ensures)) refl refl (c .before .before .pad .ensures)
+
+-- src/data_writer.rt:110:1
+returns-3 : tie.Need-returns-3
+returns-3 c = not-fitting _ _ _ _ (c .before .before .if1 .left) (c .before .data-fits .ensures) (c .if2 .left)
+
+pub write-data-spec : {M : Type 1} → statement M
+write-data-spec =
+    tie.close
+    (tie.spec
+    returns
+    data-fits-requires
+    put-content-requires
+    pad-requires
+    same-length
+    returns-2
+    returns-3)

@@ -1,7 +1,7 @@
 /*
  * What the position of an end shows of its dialogues, by the answers of the calls that were taken and never by the record: how
  * often its user became active, and how often it was closed (Doc 9880 3.5.5.1.6, Doc 9705 2.3.5.3.1 Note 2). After every event
- * it is held to what is proved of them (crates/told): one closing for each activation, and no abort after a closing call.
+ * it is held to what is proved of them (crates/told_card): one closing for each activation, and no abort after a closing call.
  */
 #ifndef POSITION_H
 #define POSITION_H

@@ -1,4 +1,4 @@
--- Who is an active user, and until when: the lists of the documents, word for word, and which item of them an event is.
+-- Who is an active user, and until when: the lists of the documents, item by item, and which item an event is.
 -- Ground: Doc 9880 3.5.5.1.6. Air: Doc 9705 2.3.5.3.1 Note 2. Document 01 adds the accepted DSC-end response to the ground's c).
 use Prim.Native.Nat.{ℕ, _+_}
 use mathlib.Core.Bool.{Bool, true, false, cond, _||_}

@@ -27,13 +27,16 @@ use Rattle.told.specs.Histories.{Entry, ToldOnce}
 
 -- an exported call with its arguments; true is the DSC- one of two. A job and a dialogue number have eight bytes, and every other number is any
 pub data Call : Type 0 where
+  -- the dialogue number, mode, class and security value
   start : Word → ℕ → ℕ → ℕ → Given → Call
   start-response : Bool → ℕ → Given → Call
   message-request : Word → Given → Call
   end-request : Bool → Given → Call
   end-response : Bool → ℕ → Given → Call
   user-abort : ℕ → Call
+  -- the dialogue number, class and security value
   forward-request : Word → ℕ → ℕ → Passed → Call
+  -- with its dialogue number, whether there is user data, and the user data
   service-primitive : ServicePrimitive → Word → ℕ → List ℕ → Call
   timer-expiry : Call
   system-error : Call

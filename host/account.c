@@ -75,6 +75,11 @@ static const struct row {
     ROW("  but not in order, or not as sent", forward_astray),
     ROW("forwards with a wrong answer", forward_wrong),
     ROW("  with none, and not broken", forward_silent),
+    ROW("times that a user became active", activations),
+    ROW("  and was closed", closings),
+    ROW("  and was closed by its own call", closing_calls),
+    ROW("  but was closed twice, or never", closed_wrong),
+    ROW("  but told of an abort after a call", abort_after_call),
     ROW("power failures of an end", restarts),
     ROW("  of the whole rack", rack_restarts),
     ROW("  in the middle of a write", torn),
@@ -110,6 +115,14 @@ static struct kind half_closed(void)
     return k;
 }
 
+static struct kind closed_twice(void)
+{
+    struct kind k = {"a closed dialogue shown twice", "closed_twice", "closings by calls, confirmations and aborts", 0, 0};
+    k.tried = account.closings;
+    k.did = account.closed_wrong + account.abort_after_call;
+    return k;
+}
+
 static struct kind wrong_records(void)
 {
     struct kind k = {"wrong message records", "wrong_records", "messages lost, jobs out of order or far ahead, numbers given, forwards broken, writes torn, records loaded", 0, 0};
@@ -119,10 +132,10 @@ static struct kind wrong_records(void)
     return k;
 }
 
-#define KINDS 3
-static struct kind kind_at(int i) { return i == 0 ? shown_twice() : i == 1 ? half_closed() : wrong_records(); }
+#define KINDS 4
+static struct kind kind_at(int i) { return i == 0 ? shown_twice() : i == 1 ? half_closed() : i == 2 ? closed_twice() : wrong_records(); }
 
-int account_good(void) { return kind_at(0).did == 0 && kind_at(1).did == 0 && kind_at(2).did == 0; }
+int account_good(void) { return kind_at(0).did == 0 && kind_at(1).did == 0 && kind_at(2).did == 0 && kind_at(3).did == 0; }
 
 static const char *verdict(int good) { return good ? "PASS" : "FAIL"; }
 

@@ -21,6 +21,8 @@ extern struct account {
     /* forwards between centres, see forward.h */
     unsigned long forwards, forward_again, forward_success, forward_not_supported, forward_not_equal, forward_broken, forward_lost, forward_shown;
     unsigned long forward_twice, forward_astray, forward_wrong, forward_silent;
+    /* what positions show of dialogues, see position.h */
+    unsigned long activations, closings, closing_calls, closed_wrong, abort_after_call;
     /* the power */
     unsigned long restarts, rack_restarts, torn, loaded, loaded_wrong;
     /* calls that may not be refused, and were */

@@ -19,18 +19,19 @@ void dialogue_start(struct dialogue *d)
     account.late_starts += !quiet(d);
     if (fault(FORGETS_HIGHEST))
         must(end_fresh(e));
-    must(end_act(e, mode == PEAT_DSC ? "start request, dsc" : "start request, cpdlc",
+    must(end_invokes(e, mode == PEAT_DSC ? "start request, dsc" : "start request, cpdlc", STARTS,
         peat_start(REC(e), next, mode, class_, PEAT_NO_SECURITY, PEAT_NO_DATA, BUFFERS)));
 }
 
 static void start_response(struct end *e, unsigned dsc, unsigned result)
 {
+    enum invocation by = result == PEAT_ACCEPTED ? NO_INVOCATION : CLOSES;
     e->user.talking = result == PEAT_ACCEPTED;
     if (dsc)
-        must(end_act(e, result == PEAT_ACCEPTED ? "DSC-start response, accepted" : "DSC-start response, rejected",
+        must(end_invokes(e, result == PEAT_ACCEPTED ? "DSC-start response, accepted" : "DSC-start response, rejected", by,
             peat_dsc_start_response(REC(e), result, PEAT_NO_DATA, BUFFERS)));
     else
-        must(end_act(e, result == PEAT_ACCEPTED ? "CPDLC-start response, accepted" : "CPDLC-start response, rejected",
+        must(end_invokes(e, result == PEAT_ACCEPTED ? "CPDLC-start response, accepted" : "CPDLC-start response, rejected", by,
             peat_start_response(REC(e), result, PEAT_NO_DATA, BUFFERS)));
 }
 
@@ -44,19 +45,20 @@ static void end_request(struct end *e, unsigned dsc)
 
 static void end_response(struct end *e, unsigned dsc, unsigned result)
 {
+    enum invocation by = result == PEAT_ACCEPTED ? CLOSES : NO_INVOCATION;
     e->user.talking = result != PEAT_ACCEPTED;
     if (dsc)
-        must(end_act(e, result == PEAT_ACCEPTED ? "DSC-end response, accepted" : "DSC-end response, rejected",
+        must(end_invokes(e, result == PEAT_ACCEPTED ? "DSC-end response, accepted" : "DSC-end response, rejected", by,
             peat_dsc_end_response(REC(e), result, PEAT_NO_DATA, BUFFERS)));
     else
-        must(end_act(e, result == PEAT_ACCEPTED ? "CPDLC-end response, accepted" : "CPDLC-end response, rejected",
+        must(end_invokes(e, result == PEAT_ACCEPTED ? "CPDLC-end response, accepted" : "CPDLC-end response, rejected", by,
             peat_end_response(REC(e), result, PEAT_NO_DATA, BUFFERS)));
 }
 
 static void user_abort(struct end *e)
 {
     e->user.talking = 0;
-    must(end_act(e, "CPDLC-user-abort request", peat_user_abort(REC(e), chance(2) ? PEAT_NONE : PEAT_COMMANDED_TERMINATION, BUFFERS)));
+    must(end_invokes(e, "CPDLC-user-abort request", CLOSES, peat_user_abort(REC(e), chance(2) ? PEAT_NONE : PEAT_COMMANDED_TERMINATION, BUFFERS)));
 }
 
 /* In a DSC dialogue the air user ends it, else the ground user does. */
@@ -115,6 +117,8 @@ static void discard(struct end *to, const struct entry *e)
     story_arrives(to->peer, e, 1);
     if (e->primitive == PEAT_D_ABORT_REQUEST && e->number == number(to))
         end_settles(to, BROKEN);
+    if (fault(SHOWS_LATE_ABORT) && e->primitive == PEAT_D_ABORT_REQUEST && to->watch.position.called)
+        end_shows_abort(to);
 }
 
 /* What is left of an old dialogue changes nothing. It must be of one: a number below the record's. */
@@ -199,6 +203,8 @@ static void hears_of_failure(struct end *e)
 {
     if (e->down)
         return;
+    if (idle(e) && fault(SHOWS_CLOSED_TWICE))
+        end_shows_abort(e);
     if (idle(e))
         end_settles(e, BROKEN);
     else

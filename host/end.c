@@ -73,8 +73,21 @@ static void watch_number(struct end *e, const struct change *c)
         reply_sent(&e->user.replies);
 }
 
-/* A change is on the disk when this returns. A host whose disk fails stops: nothing of the change has left it. */
-static void keep(struct end *e, const struct change *c)
+/* a call that was taken: what its user invoked by it, and its answer */
+struct call {
+    enum invocation by;
+    uint64_t answer;
+};
+
+static void watch_position(struct end *e, const struct call *call)
+{
+    position_shows(&e->watch.position, call->by, call->answer);
+    position_examine(&e->watch.position, (int)peat_record_active(e->memory.rec));
+}
+
+/* A change is on the disk when this returns, and with it the call that made it, if one did. A host whose disk fails stops: nothing
+   of the change has left it. */
+static void keep(struct end *e, const struct change *c, const struct call *call)
 {
     power_point(e);
     if (journal_append(&e->journal, c, fails_here, e) != 0) {
@@ -83,6 +96,8 @@ static void keep(struct end *e, const struct change *c)
     }
     memory_apply(&e->memory, c);
     watch_dialogue(e);
+    if (call != NULL)
+        watch_position(e, call);
     if (c->job != 0 && c->outcome == PEAT_TAKEN && of_link(e)) {
         forward_taken(e, c->job);
     } else if (c->job != 0 && c->outcome == PEAT_TAKEN) {
@@ -226,12 +241,13 @@ static void release(struct end *e, uint64_t answer)
 
 /* ---- what a call changed is kept, and then what it wrote leaves */
 
-static void conclude(struct end *e, const struct change *c, uint64_t answer)
+static void conclude(struct end *e, const struct change *c, enum invocation by, uint64_t answer)
 {
+    const struct call call = {by, answer};
     e->watch.state = state(e);
     if (fault(KEEPS_LATE))
         release(e, answer);
-    keep(e, c);
+    keep(e, c, &call);
     if (!fault(KEEPS_LATE))
         release(e, answer);
 }
@@ -282,7 +298,7 @@ static enum fate broken(const struct end *e, enum fate fate)
     return e->memory.open == 0 || (fate == BROKEN && fault(SILENT_ON_BREAK)) ? NOTHING_TOLD : fate;
 }
 
-unsigned end_act(struct end *e, const char *what, uint64_t answer)
+unsigned end_invokes(struct end *e, const char *what, enum invocation by, uint64_t answer)
 {
     struct change c = no_change(&e->memory);
     if (peat_refusal(answer) != PEAT_TAKEN)
@@ -293,9 +309,11 @@ unsigned end_act(struct end *e, const char *what, uint64_t answer)
     if (peat_told(answer) == PEAT_FORWARD_CONFIRMATION)
         c.over = broken(e, answered(answer));
     keep_book(e, &c, answer);
-    conclude(e, &c, answer);
+    conclude(e, &c, by, answer);
     return PEAT_TAKEN;
 }
+
+unsigned end_act(struct end *e, const char *what, uint64_t answer) { return end_invokes(e, what, NO_INVOCATION, answer); }
 
 void end_takes(struct end *e, uint64_t job, unsigned number, uint64_t answer)
 {
@@ -305,7 +323,7 @@ void end_takes(struct end *e, uint64_t job, unsigned number, uint64_t answer)
     c.number = number;
     if (!is_air(e) && number != NO_NUMBER && !fault(NUMBERS_ITSELF) && !fault(CLOSES_TOO_EARLY))
         c.book = NUMBER_OPENED;
-    conclude(e, &c, answer);
+    conclude(e, &c, NO_INVOCATION, answer);
 }
 
 void end_forwards(struct end *e, uint64_t job, uint64_t answer)
@@ -313,7 +331,7 @@ void end_forwards(struct end *e, uint64_t job, uint64_t answer)
     struct change c = no_change(&e->memory);
     story_took(e, job, answer);
     c.job = job;
-    conclude(e, &c, answer);
+    conclude(e, &c, STARTS, answer);
 }
 
 void end_refuses(struct end *e, uint64_t job, unsigned refusal)
@@ -321,7 +339,7 @@ void end_refuses(struct end *e, uint64_t job, unsigned refusal)
     struct change c = no_change(&e->memory);
     c.job = job;
     c.outcome = refusal;
-    keep(e, &c);
+    keep(e, &c, NULL);
 }
 
 void end_settles(struct end *e, enum fate fate)
@@ -329,14 +347,20 @@ void end_settles(struct end *e, enum fate fate)
     struct change c = no_change(&e->memory);
     c.over = broken(e, fate);
     if (e->memory.open > 0 && c.over != NOTHING_TOLD)
-        keep(e, &c);
+        keep(e, &c, NULL);
 }
 
 void end_confirmed(struct end *e, unsigned notices)
 {
     struct change c = no_change(&e->memory);
     c.confirmed = notices;
-    keep(e, &c);
+    keep(e, &c, NULL);
+}
+
+void end_shows_abort(struct end *e)
+{
+    const struct call call = {NO_INVOCATION, (uint64_t)PEAT_PROVIDER_ABORT_INDICATION << PEAT_TOLD_AT};
+    watch_position(e, &call);
 }
 
 /* ---- the power is back */

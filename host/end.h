@@ -12,6 +12,7 @@
 #include "clearance.h"
 #include "journal.h"
 #include "memory.h"
+#include "position.h"
 #include "user.h"
 
 #define DIALOGUES 48
@@ -42,6 +43,7 @@ struct watch {
     struct memory kept;          /* what the journal has to give back */
     unsigned long entries;       /* that it put on its line */
     uint64_t delivered;          /* messages that its broker was given */
+    struct position position;    /* what it shows of its dialogues: by the answers that were kept */
 };
 
 struct end {
@@ -82,6 +84,9 @@ unsigned end_fresh(struct end *e);
 /* Does what the answer of a call says; `what` names the call. The refusal, or PEAT_TAKEN. */
 unsigned end_act(struct end *e, const char *what, uint64_t answer);
 
+/* likewise of a call of its user that makes it active, or closes it */
+unsigned end_invokes(struct end *e, const char *what, enum invocation by, uint64_t answer);
+
 /* likewise of a message request, which took a job, with the number that was set in the message */
 void end_takes(struct end *e, uint64_t job, unsigned number, uint64_t answer);
 
@@ -93,6 +98,9 @@ void end_refuses(struct end *e, uint64_t job, unsigned refusal);
 
 /* The connection of a dialogue is gone, released (ENDED) or lost (BROKEN): the jobs that were taken in it have this fate. */
 void end_settles(struct end *e, enum fate fate);
+
+/* Its position is shown an abort that no call told, as two of the faults have it. */
+void end_shows_abort(struct end *e);
 
 /* the oldest notices were given to the broker, which confirmed them */
 void end_confirmed(struct end *e, unsigned notices);

@@ -9,7 +9,7 @@
  * of its dialogue, and the flight deck's messages are the replies that close it. Meanwhile controllers forward messages to the
  * other centre, and it to them. Timers expire, ends break down, the carrier fails and the power goes, all at random from the
  * seed. The run ends when every line has run empty; then the account and its verdict are printed. Status 0, PASS: no clearance
- * was shown twice, no dialogue was left half closed, and every message record is right.
+ * was shown twice, no dialogue was left half closed or shown as closed twice, and every message record is right.
  *
  * It is no host to put into a rack: its carrier, its broker and its power are in memory. What a host has to do around the
  * card, and in which order, it does as docs/HOST.md asks. One idea a file:
@@ -21,6 +21,7 @@
  *   notices   what became of a job, told to whoever gave it
  *   restart   the power fails and is back: the carrier has failed
  *   dialogue  two ends and their carrier: what may happen, and what must hold
+ *   position  how often a user becomes active and is closed, by the answers alone
  *   book      the numbers of controllers' messages: open until the reply
  *   forward   two centres and their carrier: forwards, their answers, what must hold
  *   broker, user, clearance, carrier, mail   the world around the ends

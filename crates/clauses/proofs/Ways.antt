@@ -103,11 +103,11 @@ isFault (Invalid live) = true
 isFault (NotPermitted live) = true
 
 -- without a fault each test is passed
-passed : (b : Bool) (f g : Fault) → isFault f ≡ true → cond b f g ≡ NoFault → (b ≡ false) × (g ≡ NoFault)
+pub passed : (b : Bool) (f g : Fault) → isFault f ≡ true → cond b f g ≡ NoFault → (b ≡ false) × (g ≡ NoFault)
 passed true f g n e = absurd (subst T (sym n ∙ ap isFault e) tt)
 passed false f g n e = (refl, e)
 
-pdu-fits : (fits i u : Bool) (a : UserData) (g : Fault) → pduFault fits i u a g ≡ NoFault → fits ≡ true
+pub pdu-fits : (fits i u : Bool) (a : UserData) (g : Fault) → pduFault fits i u a g ≡ NoFault → fits ≡ true
 unfolding pduFault
 pdu-fits fits i u a g e =
     let there = passed (isMissing a) Missing _ refl e in
@@ -160,7 +160,7 @@ module _ (sd : Side) (r : Record) where
   answered-way p a (Invalid live) k = except-way live _ _
   answered-way p a (NotPermitted live) k = except-way live _ _
 
-  send-expected : (p : Primitive) (live : Bool) (a : UserData) → sendFault sd r p live a ≡ NoFault → expects sd (r .control) p ≡ true
+  pub send-expected : (p : Primitive) (live : Bool) (a : UserData) → sendFault sd r p live a ≡ NoFault → expects sd (r .control) p ≡ true
   unfolding sendFault
   send-expected p live a e = not-false _ (passed (not (expects sd (r .control) p)) (NoInstruction true) _ refl e .0)
 
@@ -170,7 +170,7 @@ module _ (sd : Side) (r : Record) where
       pdu-fits (isSend a) live live a NoFault (passed (not (expects sd (r .control) p)) (NoInstruction true) _ refl e .1)
 
   -- a start that fits and is no forward is one that the control expects
-  fits-expected : (x : ℕ) (a : UserData) → startFits sd r x a ≡ true → isForward a ≡ false → expects sd (r .control) (DStart (modeOf a)) ≡ true
+  pub fits-expected : (x : ℕ) (a : UserData) → startFits sd r x a ≡ true → isForward a ≡ false → expects sd (r .control) (DStart (modeOf a)) ≡ true
   unfolding startFits
   fits-expected x a e n = go (fromCentre sd x) e
     where
@@ -185,7 +185,7 @@ module _ (sd : Side) (r : Record) where
       (λ e. by-test (Way sd r) (eqb v (r .version)) _ _ (λ y. is-responding success s noVersion ForwardIndication i refl) (λ y. is-responding versionNotEqual s (r .version) Untold i refl))
 
   -- in FORWARD only a response has no fault
-  response-there : (x o s : ℕ) (a : UserData) → responseFault r x o s a ≡ NoFault → isResponse a ≡ true
+  pub response-there : (x o s : ℕ) (a : UserData) → responseFault r x o s a ≡ NoFault → isResponse a ≡ true
   unfolding responseFault
   response-there x o s a e =
       let away = passed (turnedAway x o) TurnedAway _ refl e in
@@ -197,7 +197,7 @@ module _ (sd : Side) (r : Record) where
       rejected false k = pdu-fits (isResponse a) false true a NoFault k
 
   -- a send is no response
-  send-other : (a : UserData) → isSend a ≡ true → isResponse a ≡ false
+  pub send-other : (a : UserData) → isSend a ≡ true → isResponse a ≡ false
   send-other a e = rw (eqb-true (kindOf a) 3 e)
 
   -- a confirmation without a fault: of a start that the control expects, or of a forward

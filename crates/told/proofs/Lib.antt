@@ -1,0 +1,5 @@
+pub mod Chains
+pub mod Single
+pub mod Theorems
+pub mod Against
+pub mod Worked

@@ -71,9 +71,9 @@ extern "C" {
  * VERSION of the project: what the header is of, as a string and in three numbers. CHANGELOG.md says what changed.
  */
 
-#define PEAT_VERSION "0.7.0"
+#define PEAT_VERSION "0.8.0"
 #define PEAT_VERSION_MAJOR 0
-#define PEAT_VERSION_MINOR 7
+#define PEAT_VERSION_MINOR 8
 #define PEAT_VERSION_PATCH 0
 
 /* What the archive is of: "peatribbon VERSION, rattle logic HASH", where the hash names the logic in which its card was proved.
@@ -455,7 +455,7 @@ enum peat_apdu_kind {
     PEAT_APDU_FORWARD_RESPONSE = 5
 };
 
-/* bits of what peat_read_apdu answers; the lowest 8 are the refusal */
+/* bits of what peat_read_apdu and peat_read_leading answer; the lowest 8 are the refusal */
 #define PEAT_APDU_KIND_AT 8
 #define PEAT_APDU_NUMBER_AT 16
 #define PEAT_APDU_DATA_AT 24
@@ -923,6 +923,14 @@ uint64_t peat_forward_part(uint64_t which, const uint8_t *delivered, size_t deli
    position. Else peat_apdu_kind, peat_apdu_number and peat_apdu_has_data read the answer. A forward APDU is read to its end; its
    message is not looked into. Writes nothing. */
 uint64_t peat_read_apdu(uint64_t which, const uint8_t *bytes, size_t bytes_len);
+
+/* What an APDU is, from its leading bits: for a router. Looks at the first byte and at nothing behind it. which: enum peat_apdu_type.
+   bytes: the APDU, or its first byte alone.
+   Answers PEAT_SHAPE (which is none of its codes); or PEAT_SHORT, PEAT_RANGE, PEAT_EXTENSION or PEAT_DEFAULT, with its position: then
+   peat_read_apdu refuses the APDU too, for this fault or another. Else peat_apdu_kind is its kind, and peat_apdu_number the mode of a
+   start and 0 for every other kind; where peat_read_apdu accepts the APDU, it says the same kind and mode. Whether it accepts it is
+   not said here, and peat_apdu_has_data is 0. Writes nothing. */
+uint64_t peat_read_leading(uint64_t which, const uint8_t *bytes, size_t bytes_len);
 
 /* ---- the broker's envelope
  *

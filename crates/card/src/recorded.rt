@@ -2,6 +2,7 @@
 ghost use mathlib.Core.Path.{_≡_};
 ghost use Prim.Native.Nat.{_<_};
 ghost use Rattle.card.specs.Recorded.{apduAnswer, apduCall, apduNumber, apduSaid};
+ghost use Rattle.quick.specs.Leading.{leadingCall};
 use apdu::Apdu;
 use apdu::Decoded;
 use apdu::PduType;
@@ -54,4 +55,13 @@ pub extern "C" fn peat_read_apdu(which: u64, bytes: &[u8]) -> u64
         return apdu_answer(read_apdu(bytes, PduType::GroundPdus));
     }
     Limit::SHAPE
+}
+
+// What the APDU that the lent bytes are is, from its leading fields alone: its alternative, and the mode of a start. What follows is not looked
+// at.
+#[no_mangle]
+pub extern "C" fn peat_read_leading(which: u64, bytes: &[u8]) -> u64
+    ensures { λ n. ⌜ n ≡ leadingCall which (now (bytes .entry)) ⌝ }
+{
+    quick::leading(which, bytes)
 }

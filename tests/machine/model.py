@@ -541,17 +541,25 @@ def made(state, dsc, active, reverse=False, policy=0, forwards=False):
     return Rec(state, dsc, timer != reverse, user != reverse, 7, policy, policy, forwards, OWN)
 
 
-def table(step=step):
+def points():
+    """side, (view, title), record and event, in the order of the table"""
     for side in ("air", "ground"):
         for active, reverse, policy, forwards in ((True, False, 0, False), (False, False, 0, False), (True, True, 0, False), (True, False, 1, True), (True, False, 0, True)):
             view = side + ("" if active else ", user not active") + (", timer and user reversed" if reverse else "") + (", secured" if policy else "")
             view += ", forwarding" if forwards else ""
             for title, ev in rows(policy):
-                print("%s: %s" % (view, title))
                 for state in STATES:
                     for dsc in (False, True):
-                        r = made(state, dsc, active, reverse, policy, forwards)
-                        print("  %s: %s" % (where(r), cell(step(side, r, ev))))
+                        yield side, (view, title), made(state, dsc, active, reverse, policy, forwards), ev
+
+
+def table(step=step):
+    above = None
+    for side, heading, r, ev in points():
+        if heading != above:
+            print("%s: %s" % heading)
+            above = heading
+        print("  %s: %s" % (where(r), cell(step(side, r, ev))))
 
 
 def jobs(step=step):

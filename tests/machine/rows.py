@@ -164,7 +164,7 @@ def after(code, old):
     return old if code == C.AS_IS else code == C.YES
 
 
-def sent(r, p, row):
+def invokes(r, p, row):
     """the dialogue-service primitive and its APDU"""
     class_, security, result = p.get("class"), p.get("security"), p.get("result")
     aborted = p.get("reason", 0) if p.get("given") else 0
@@ -184,7 +184,7 @@ def sent(r, p, row):
     }[row.sends]
 
 
-def told(r, p, row):
+def indication(r, p, row):
     kind, a = "DSC" if r.dsc else "CPDLC", p.get("apdu")
     number = a[1] if isinstance(a, tuple) and len(a) == 2 else None
     by = "user" if kind_of(a or "") == "abort user" else "provider"
@@ -214,7 +214,7 @@ def hands(row):
     return C.START_INDICATION <= row.tells <= C.END_CONFIRMATION
 
 
-def performed(r, ev, row):
+def outcome(r, ev, row):
     p, n = ev[1], copy(r)
     if row.next != C.STAYS:
         n.state = model.STATES[row.next]
@@ -224,8 +224,8 @@ def performed(r, ev, row):
     if row.keeps == C.SECURITY:
         n.request = p["security"]
     o = model.Out(n, row.refusal)
-    o.ds, o.apdu = sent(r, p, row)
-    o.user, o.data = told(r, p, row), hands(row)
+    o.ds, o.apdu = invokes(r, p, row)
+    o.user, o.data = indication(r, p, row), hands(row)
     return o
 
 
@@ -242,7 +242,7 @@ def first(side, r, ev):
 def step(side, r, ev):
     if not model.shape(ev, ("cpdlc", "dsc") if side == "air" else ("cpdlc",)):
         return model.refuse(r, 2)
-    return performed(r, ev, first(side, r, ev))
+    return outcome(r, ev, first(side, r, ev))
 
 
 if __name__ == "__main__":

@@ -18,7 +18,7 @@ use Rattle.machine.specs.declared.outcome.Outcome.{Outcome}
 use Rattle.rows.specs.Names as n
 use Rattle.rows.specs.declared.Parameters.{Parameters}
 use Rattle.rows.specs.declared.Out.{Out}
-use Rattle.rows.specs.Engine.{flag, stateOf, stateAfter, flagAfter, refusalIs, sent, apduOf, toldOf, hands, performed}
+use Rattle.rows.specs.Engine.{flag, stateOf, stateAfter, flagAfter, refusalIs, invokes, apduOf, indicationOf, hands, outcomeOf}
 use Rattle.rows.proofs.Wanted.{out, alike, until}
 
 -- what is done, of the control, the two flags and the codes
@@ -37,8 +37,8 @@ built r g c t u k z s x y w =
             forwards = r .forwards;
             version = r .version;
           };
-      invoked = sent r g s;
-      told = toldOf r g y w;
+      invoked = invokes r g s;
+      told = indicationOf r g y w;
       apdu = apduOf g s x;
       delivers = hands y;
     }
@@ -59,8 +59,8 @@ same-is true b e = sym e
 same-is false true e = absurd (subst T (sym e) tt)
 same-is false false e = refl
 
-pub alike-does : (r : Record) (g : Parameters) (o w : Out) → alike (r .control) o w ≡ true → performed r g o ≡ performed r g w
-unfolding performed
+pub alike-does : (r : Record) (g : Parameters) (o w : Out) → alike (r .control) o w ≡ true → outcomeOf r g o ≡ outcomeOf r g w
+unfolding outcomeOf
 alike-does r g o w e =
     let s = r .control .state in
     let d = r .control .dsc in
@@ -106,8 +106,8 @@ flag-until : (i b : Bool) → flagAfter (cond i n.no n.asIs) b ≡ (not i && b)
 flag-until true b = refl
 flag-until false b = refl
 
-pub there : (r : Record) (g : Parameters) (c : Control) (t u k z s x y w : ℕ) → performed r g (out c t u k z s x y w) ≡ built r g c (flagAfter t (r .timer)) (flagAfter u (r .active)) k z s x y w
-unfolding performed
+pub there : (r : Record) (g : Parameters) (c : Control) (t u k z s x y w : ℕ) → outcomeOf r g (out c t u k z s x y w) ≡ built r g c (flagAfter t (r .timer)) (flagAfter u (r .active)) k z s x y w
+unfolding outcomeOf
 there r g c t u k z s x y w =
     ap (λ (q : Control). built r g q (flagAfter t (r .timer)) (flagAfter u (r .active)) k z s x y w) (both (stateAfter (number (c .state)) (r .control .state)) (flagAfter (flag (c .dsc)) (r .control .dsc)) (state-there (c .state) (r .control .state)) (flag-there (c .dsc) (r .control .dsc)))
   where
@@ -128,7 +128,7 @@ keeping r g k =
       version = r .version;
     }
 
-pub moved : (r : Record) (g : Parameters) (c : Control) (k s x y w : ℕ) → performed r g (out c (until c n.asIs) (until c n.asIs) k n.taken s x y w) ≡ outcome (enter (keeping r g k) c) (sent r g s) (toldOf r g y w) (apduOf g s x) (hands y)
+pub moved : (r : Record) (g : Parameters) (c : Control) (k s x y w : ℕ) → outcomeOf r g (out c (until c n.asIs) (until c n.asIs) k n.taken s x y w) ≡ outcome (enter (keeping r g k) c) (invokes r g s) (indicationOf r g y w) (apduOf g s x) (hands y)
 unfolding enter
 moved r g c k s x y w =
     there r g c (until c n.asIs) (until c n.asIs) k n.taken s x y w

@@ -53,7 +53,7 @@ use Rattle.rows.specs.Events.{parameters, userTitle, serviceTitle, pduFi
 use Rattle.rows.specs.declared.Parameters.{Parameters}
 use Rattle.rows.specs.declared.Out.{Out}
 use Rattle.rows.specs.Table.{rows}
-use Rattle.rows.specs.Engine.{refusalIs, walk, performed, rowOf, rowsStep, rowsNumbered}
+use Rattle.rows.specs.Engine.{refusalIs, walk, outcomeOf, rowOf, rowsStep, rowsNumbered}
 use Rattle.rows.proofs.Wanted.{out, alike, until, refusedOut, callOut, callWanted, callTitle, users, exceptOut, quietOut, answerOut, handedOut, startFault, startInstruction, canSee, startWanted, startConditions, confirmationConditions, isAccepted, confirmedFault, respondedFault, confirmationWanted, sendConditions, sendWanted, abortConditions, toldOut, abortWanted, failWanted, mem, call-alike, empty-alike, again-alike, forward-alike, start-alike, accepted-alike, rejected-alike, data-alike, end-alike, ended-alike, unended-alike, abort-alike, failing-alike, expiry-alike, stopped-alike, error-alike}
 use Rattle.rows.proofs.Alike.{alike-does, there, keeping, moved}
 
@@ -65,12 +65,12 @@ chosen f false x y x′ y′ p q = q
 
 -- ---- refused by a row
 
-refused-does : (r : Record) (g : Parameters) (z : ℕ) → performed r g (refusedOut (r .control) z) ≡ refused (refusalIs z) r
+refused-does : (r : Record) (g : Parameters) (z : ℕ) → outcomeOf r g (refusedOut (r .control) z) ≡ refused (refusalIs z) r
 refused-does r g z = there r g (r .control) n.asIs n.asIs n.nothing z n.silent 0 n.untold 0
 
 -- ---- user requests and responses
 
-start-does : (r : Record) (k s : ℕ) (d : Bool) → performed r (parameters k s 0 0 0 0 Absent) (callOut (r .control) (StartRequest d)) ≡ startRequest r d k s
+start-does : (r : Record) (k s : ℕ) (d : Bool) → outcomeOf r (parameters k s 0 0 0 0 Absent) (callOut (r .control) (StartRequest d)) ≡ startRequest r d k s
 unfolding startRequest sending enter
 start-does r k s true = there r (parameters k s 0 0 0 0 Absent) (goes (r .control) (StartRequest true)) n.yes n.yes n.security n.taken n.dscStartOut 0 n.untold 0
 start-does r k s false = there r (parameters k s 0 0 0 0 Absent) (goes (r .control) (StartRequest false)) n.yes n.yes n.security n.taken n.startOut 0 n.untold 0
@@ -97,11 +97,11 @@ end-title x m = go (eqb x accepted) m
     go false false = refl
 
 -- a call of the title t does what the row says
-call-does : (sd : Side) (r : Record) (g : Parameters) (t : ℕ) (k : Call) (o : Outcome) → users k ≡ true → callTitle k ≡ t → performed r g (callOut (r .control) k) ≡ o
-    → performed r g (walk rows sd (r .control) t n.plain) ≡ cond (takes sd (r .control) k) o (refused Prohibited r)
+call-does : (sd : Side) (r : Record) (g : Parameters) (t : ℕ) (k : Call) (o : Outcome) → users k ≡ true → callTitle k ≡ t → outcomeOf r g (callOut (r .control) k) ≡ o
+    → outcomeOf r g (walk rows sd (r .control) t n.plain) ≡ cond (takes sd (r .control) k) o (refused Prohibited r)
 call-does sd r g t k o u e p =
-    subst (λ (z : ℕ). performed r g (walk rows sd (r .control) z n.plain) ≡ cond (takes sd (r .control) k) o (refused Prohibited r)) e
-    (alike-does r g _ _ (call-alike sd (r .control) k u) ∙ chosen (performed r g) (takes sd (r .control) k) (callOut (r .control) k) (refusedOut (r .control) n.prohibited) o (refused Prohibited r) p (refused-does r g n.prohibited))
+    subst (λ (z : ℕ). outcomeOf r g (walk rows sd (r .control) z n.plain) ≡ cond (takes sd (r .control) k) o (refused Prohibited r)) e
+    (alike-does r g _ _ (call-alike sd (r .control) k u) ∙ chosen (outcomeOf r g) (takes sd (r .control) k) (callOut (r .control) k) (refusedOut (r .control) n.prohibited) o (refused Prohibited r) p (refused-does r g n.prohibited))
 
 -- without a message to refuse
 by-takes : (t : Bool) (o : Outcome) (r : Record) → cond t o (refused Prohibited r) ≡ cond (isNone (cond (not t) Prohibited None)) o (refused (cond (not t) Prohibited None) r)
@@ -109,22 +109,22 @@ by-takes true o r = refl
 by-takes false o r = refl
 
 -- a message request: h holds a message, l its job is not above the highest
-message-does : (sd : Side) (r : Record) (g : Parameters) (h l : Bool) (o : Outcome) → performed r g (callOut (r .control) MessageRequest) ≡ o
-    → performed r g (walk rows sd (r .control) n.messageRequest (cond (not h) n.noMessage (cond l n.repeat n.plain)))
+message-does : (sd : Side) (r : Record) (g : Parameters) (h l : Bool) (o : Outcome) → outcomeOf r g (callOut (r .control) MessageRequest) ≡ o
+    → outcomeOf r g (walk rows sd (r .control) n.messageRequest (cond (not h) n.noMessage (cond l n.repeat n.plain)))
     ≡ cond (isNone (cond (not (takes sd (r .control) MessageRequest)) Prohibited (cond (not h) NoMessage (cond l Repeat None)))) o (refused (cond (not (takes sd (r .control) MessageRequest)) Prohibited (cond (not h) NoMessage (cond l Repeat None))) r)
 message-does sd r g true true o p = alike-does r g _ _ (again-alike sd (r .control)) ∙ go (takes sd (r .control) MessageRequest)
   where
-    go : (t : Bool) → performed r g (cond t (refusedOut (r .control) n.repeated) (refusedOut (r .control) n.prohibited)) ≡ cond (isNone (cond (not t) Prohibited Repeat)) o (refused (cond (not t) Prohibited Repeat) r)
+    go : (t : Bool) → outcomeOf r g (cond t (refusedOut (r .control) n.repeated) (refusedOut (r .control) n.prohibited)) ≡ cond (isNone (cond (not t) Prohibited Repeat)) o (refused (cond (not t) Prohibited Repeat) r)
     go true = refused-does r g n.repeated
     go false = refused-does r g n.prohibited
 message-does sd r g true false o p = call-does sd r g n.messageRequest MessageRequest o refl refl p ∙ by-takes (takes sd (r .control) MessageRequest) o r
 message-does sd r g false l o p = alike-does r g _ _ (empty-alike sd (r .control)) ∙ go (takes sd (r .control) MessageRequest)
   where
-    go : (t : Bool) → performed r g (cond t (refusedOut (r .control) n.withoutMessage) (refusedOut (r .control) n.prohibited)) ≡ cond (isNone (cond (not t) Prohibited NoMessage)) o (refused (cond (not t) Prohibited NoMessage) r)
+    go : (t : Bool) → outcomeOf r g (cond t (refusedOut (r .control) n.withoutMessage) (refusedOut (r .control) n.prohibited)) ≡ cond (isNone (cond (not t) Prohibited NoMessage)) o (refused (cond (not t) Prohibited NoMessage) r)
     go true = refused-does r g n.withoutMessage
     go false = refused-does r g n.prohibited
 
-user-same : (sd : Side) (r : Record) (u : UserPrimitive) → performed r (userParameters u) (walk rows sd (r .control) (userTitle u) (userCondition r u)) ≡ stepFitting sd r (User u)
+user-same : (sd : Side) (r : Record) (u : UserPrimitive) → outcomeOf r (userParameters u) (walk rows sd (r .control) (userTitle u) (userCondition r u)) ≡ stepFitting sd r (User u)
 unfolding stepFitting refusalFitting permitted messageRefusal acts called callOf unsent startResponse messageRequest endRequest endResponse userAbort sending
 user-same sd r (StartServiceRequest m k s) =
     call-does sd r (parameters k s 0 0 0 0 Absent) _ (StartRequest (isDsc m)) (startRequest r (isDsc m) k s) refl refl (start-does r k s (isDsc m)) ∙ by-takes (takes sd (r .control) (StartRequest (isDsc m))) (startRequest r (isDsc m) k s) r
@@ -139,31 +139,31 @@ user-same sd r (EndServiceResponse m x) =
 user-same sd r (UserAbortServiceRequest g x) =
     call-does sd r (userParameters (UserAbortServiceRequest g x)) n.userAbort UserAbort _ refl refl (moved r (userParameters (UserAbortServiceRequest g x)) closed n.nothing n.abortByUser 0 n.untold 0) ∙ by-takes (takes sd (r .control) UserAbort) _ r
 
-forward-same : (sd : Side) (r : Record) (k s : ℕ) → performed r (parameters k s 0 0 0 0 Absent) (walk rows sd (r .control) n.forwardRequest n.plain) ≡ stepFitting sd r (Forward k s)
+forward-same : (sd : Side) (r : Record) (k s : ℕ) → outcomeOf r (parameters k s 0 0 0 0 Absent) (walk rows sd (r .control) n.forwardRequest n.plain) ≡ stepFitting sd r (Forward k s)
 unfolding stepFitting refusalFitting permitted messageRefusal acts forwardRequest enter
 forward-same sd r k s =
     alike-does r (parameters k s 0 0 0 0 Absent) _ _ (forward-alike sd (r .control))
-    ∙ chosen (performed r (parameters k s 0 0 0 0 Absent)) (takesForward sd (r .control)) (out (forwarding (r .control)) n.yes n.yes n.security n.taken n.forwardOut 0 n.untold 0) (refusedOut (r .control) n.prohibited) (forwardRequest r k s) (refused Prohibited r)
+    ∙ chosen (outcomeOf r (parameters k s 0 0 0 0 Absent)) (takesForward sd (r .control)) (out (forwarding (r .control)) n.yes n.yes n.security n.taken n.forwardOut 0 n.untold 0) (refusedOut (r .control) n.prohibited) (forwardRequest r k s) (refused Prohibited r)
     (there r (parameters k s 0 0 0 0 Absent) (forwarding (r .control)) n.yes n.yes n.security n.taken n.forwardOut 0 n.untold 0) (refused-does r (parameters k s 0 0 0 0 Absent) n.prohibited)
     ∙ by-takes (takesForward sd (r .control)) (forwardRequest r k s) r
 
 -- ---- faults
 
-except-does : (r : Record) (g : Parameters) (live : Bool) (x y : ℕ) → performed r g (exceptOut live x y) ≡ excepts r live x y
-unfolding performed excepts aborts closes tell enter
+except-does : (r : Record) (g : Parameters) (live : Bool) (x y : ℕ) → outcomeOf r g (exceptOut live x y) ≡ excepts r live x y
+unfolding outcomeOf excepts aborts closes tell enter
 except-does r g true x y = refl
 except-does r g false x y = refl
 
-quiet-does : (r : Record) (g : Parameters) → performed r g quietOut ≡ closes r Untold
-unfolding performed closes enter
+quiet-does : (r : Record) (g : Parameters) → outcomeOf r g quietOut ≡ closes r Untold
+unfolding outcomeOf closes enter
 quiet-does r g = refl
 
-quality-does : (r : Record) (g : Parameters) → performed r g (out closed n.no n.no n.nothing n.taken n.abortByProvider 6 n.untold 0) ≡ aborts r 6 Untold
-unfolding performed aborts enter
+quality-does : (r : Record) (g : Parameters) → outcomeOf r g (out closed n.no n.no n.nothing n.taken n.abortByProvider 6 n.untold 0) ≡ aborts r 6 Untold
+unfolding outcomeOf aborts enter
 quality-does r g = refl
 
-away-does : (r : Record) (g : Parameters) → performed r g (exceptOut false 0 4) ≡ closes r (tell r (ProviderAbortIndication 4))
-unfolding performed closes tell enter
+away-does : (r : Record) (g : Parameters) → outcomeOf r g (exceptOut false 0 4) ≡ closes r (tell r (ProviderAbortIndication 4))
+unfolding outcomeOf closes tell enter
 away-does r g = refl
 
 abbrev isFault : Fault → Bool
@@ -178,11 +178,11 @@ isFault (NotPermitted live) = true
 
 module _ (r : Record) (p : ServicePrimitive) (a : UserData) (d : Out) where
   -- what is done about a fault, whatever the instruction is
-  fault-does : (f : Fault) → isFault f ≡ true → performed r (serviceParameters p a) (answerOut (r .control) d f) ≡ answered r p a f
+  fault-does : (f : Fault) → isFault f ≡ true → outcomeOf r (serviceParameters p a) (answerOut (r .control) d f) ≡ answered r p a f
   unfolding answered noInstruction
   fault-does NoFault e = absurd (subst T (sym e) tt)
   fault-does (NoInstruction live) e =
-      chosen (performed r (serviceParameters p a)) (isIdle (r .control)) quietOut (exceptOut live 3 3) (closes r Untold) (excepts r live 3 3) (quiet-does r (serviceParameters p a)) (except-does r (serviceParameters p a) live 3 3)
+      chosen (outcomeOf r (serviceParameters p a)) (isIdle (r .control)) quietOut (exceptOut live 3 3) (closes r Untold) (excepts r live 3 3) (quiet-does r (serviceParameters p a)) (except-does r (serviceParameters p a) live 3 3)
   fault-does Quality e = quality-does r (serviceParameters p a)
   fault-does TurnedAway e = away-does r (serviceParameters p a)
   fault-does (Security live) e = except-does r (serviceParameters p a) live 5 5
@@ -194,8 +194,8 @@ module _ (r : Record) (p : ServicePrimitive) (a : UserData) (d : Out) where
 
 module _ (sd : Side) (r : Record) (p : ServicePrimitive) (q : Primitive) (live : Bool) (y : ℕ) where
   -- x: is it expected
-  send-does : (x : Bool) (a : UserData) → performed r (serviceParameters p a) (handedOut (r .control) q n.asIs n.asIs y) ≡ instructed r p a
-      → performed r (serviceParameters p a) (answerOut (r .control) (handedOut (r .control) q n.asIs n.asIs y) (cond (not x) (NoInstruction true) (cond (eqb (sendCondition a) n.noPdu) Missing (cond (eqb (sendCondition a) n.invalidPdu) (Invalid live) (cond (eqb (sendCondition a) n.send) NoFault (NotPermitted live))))))
+  send-does : (x : Bool) (a : UserData) → outcomeOf r (serviceParameters p a) (handedOut (r .control) q n.asIs n.asIs y) ≡ instructed r p a
+      → outcomeOf r (serviceParameters p a) (answerOut (r .control) (handedOut (r .control) q n.asIs n.asIs y) (cond (not x) (NoInstruction true) (cond (eqb (sendCondition a) n.noPdu) Missing (cond (eqb (sendCondition a) n.invalidPdu) (Invalid live) (cond (eqb (sendCondition a) n.send) NoFault (NotPermitted live))))))
       ≡ answered r p a (cond (not x) (NoInstruction true) (pduFault (isSend a) live live a NoFault))
   unfolding pduFault answered
   send-does false a h = fault-does r p a (handedOut (r .control) q n.asIs n.asIs y) (NoInstruction true) refl
@@ -219,13 +219,13 @@ send-among (AbortProvider w) = refl
 send-among pdu.Forward = refl
 send-among (ForwardResponse w) = refl
 
-data-same : (sd : Side) (r : Record) (a : UserData) → performed r (serviceParameters DDataIndication a) (walk rows sd (r .control) n.dData (sendCondition a)) ≡ reached sd r DDataIndication a
+data-same : (sd : Side) (r : Record) (a : UserData) → outcomeOf r (serviceParameters DDataIndication a) (walk rows sd (r .control) n.dData (sendCondition a)) ≡ reached sd r DDataIndication a
 unfolding reached firstFault sendFault instructed handed
 data-same sd r a =
     alike-does r (serviceParameters DDataIndication a) _ _ (data-alike sd (r .control) (sendCondition a) (send-among a))
     ∙ send-does sd r DDataIndication DData true n.messageIndication (expects sd (r .control) DData) a (moved r (serviceParameters DDataIndication a) (after (r .control) DData) n.nothing n.silent 0 n.messageIndication 0)
 
-end-same : (sd : Side) (r : Record) (a : UserData) → performed r (serviceParameters DEndIndication a) (walk rows sd (r .control) n.dEnd (sendCondition a)) ≡ reached sd r DEndIndication a
+end-same : (sd : Side) (r : Record) (a : UserData) → outcomeOf r (serviceParameters DEndIndication a) (walk rows sd (r .control) n.dEnd (sendCondition a)) ≡ reached sd r DEndIndication a
 unfolding reached firstFault sendFault instructed handed
 end-same sd r a =
     alike-does r (serviceParameters DEndIndication a) _ _ (end-alike sd (r .control) (sendCondition a) (send-among a))
@@ -233,16 +233,16 @@ end-same sd r a =
 
 -- b: is it accepted
 end-confirmed : (sd : Side) (r : Record) (x : ℕ) (a : UserData) (b : Bool) → eqb x accepted ≡ b
-    → performed r (serviceParameters (DEndConfirmation x) a) (walk rows sd (r .control) (cond b n.dEndAccepted n.dEndRejected) (sendCondition a)) ≡ reached sd r (DEndConfirmation x) a
+    → outcomeOf r (serviceParameters (DEndConfirmation x) a) (walk rows sd (r .control) (cond b n.dEndAccepted n.dEndRejected) (sendCondition a)) ≡ reached sd r (DEndConfirmation x) a
 unfolding reached firstFault sendFault instructed handed replyOf
 end-confirmed sd r x a true e =
     let g = serviceParameters (DEndConfirmation x) a in
-    let h : performed r g (sendWanted sd (r .control) (DEndCnf Accepted) false n.endConfirmation (sendCondition a)) ≡ reached sd r (DEndConfirmation x) a
+    let h : outcomeOf r g (sendWanted sd (r .control) (DEndCnf Accepted) false n.endConfirmation (sendCondition a)) ≡ reached sd r (DEndConfirmation x) a
     = rw e (send-does sd r (DEndConfirmation x) (DEndCnf Accepted) false n.endConfirmation (expects sd (r .control) (DEndCnf Accepted)) a (rw e (moved r g (after (r .control) (DEndCnf Accepted)) n.nothing n.silent 0 n.endConfirmation 0))) in
     alike-does r g (walk rows sd (r .control) n.dEndAccepted (sendCondition a)) (sendWanted sd (r .control) (DEndCnf Accepted) false n.endConfirmation (sendCondition a)) (ended-alike sd (r .control) (sendCondition a) (send-among a)) ∙ h
 end-confirmed sd r x a false e =
     let g = serviceParameters (DEndConfirmation x) a in
-    let h : performed r g (sendWanted sd (r .control) (DEndCnf Rejected) true n.endConfirmation (sendCondition a)) ≡ reached sd r (DEndConfirmation x) a
+    let h : outcomeOf r g (sendWanted sd (r .control) (DEndCnf Rejected) true n.endConfirmation (sendCondition a)) ≡ reached sd r (DEndConfirmation x) a
     = rw e (send-does sd r (DEndConfirmation x) (DEndCnf Rejected) true n.endConfirmation (expects sd (r .control) (DEndCnf Rejected)) a (rw e (moved r g (after (r .control) (DEndCnf Rejected)) n.nothing n.silent 0 n.endConfirmation 0))) in
     alike-does r g (walk rows sd (r .control) n.dEndRejected (sendCondition a)) (sendWanted sd (r .control) (DEndCnf Rejected) true n.endConfirmation (sendCondition a)) (unended-alike sd (r .control) (sendCondition a) (send-among a)) ∙ h
 
@@ -265,32 +265,32 @@ abort-other false true u true = refl
 abort-other false true u false = refl
 abort-other false false u v = refl
 
-pdu-told : (r : Record) (p : ServicePrimitive) (g : Parameters) → performed r g (toldOut n.abortOfPdu 0) ≡ closes r (tell r (abortTold (g .pdu)))
-unfolding performed closes tell enter
+pdu-told : (r : Record) (p : ServicePrimitive) (g : Parameters) → outcomeOf r g (toldOut n.abortOfPdu 0) ≡ closes r (tell r (abortTold (g .pdu)))
+unfolding outcomeOf closes tell enter
 pdu-told r p g = refl
 
 -- x: is it expected, f: does it fit
 abort-does : (r : Record) (o : ℕ) (a : UserData) (x f : Bool)
-    → performed r (serviceParameters (DAbortIndication o) a) (answerOut (r .control) (toldOut n.abortOfPdu 0) (cond (not x) (NoInstruction false) (cond (not f) (NoInstruction false) NoFault))) ≡ answered r (DAbortIndication o) a (cond (not x) (NoInstruction false) (cond (not f) (NoInstruction false) NoFault))
+    → outcomeOf r (serviceParameters (DAbortIndication o) a) (answerOut (r .control) (toldOut n.abortOfPdu 0) (cond (not x) (NoInstruction false) (cond (not f) (NoInstruction false) NoFault))) ≡ answered r (DAbortIndication o) a (cond (not x) (NoInstruction false) (cond (not f) (NoInstruction false) NoFault))
 unfolding answered instructed
 abort-does r o a true true = pdu-told r (DAbortIndication o) (serviceParameters (DAbortIndication o) a)
 abort-does r o a true false = fault-does r (DAbortIndication o) a (toldOut n.abortOfPdu 0) (NoInstruction false) refl
 abort-does r o a false f = fault-does r (DAbortIndication o) a (toldOut n.abortOfPdu 0) (NoInstruction false) refl
 
-abort-same : (sd : Side) (r : Record) (o : ℕ) (a : UserData) → performed r (serviceParameters (DAbortIndication o) a) (walk rows sd (r .control) n.dAbort (serviceCondition sd r (DAbortIndication o) a)) ≡ reached sd r (DAbortIndication o) a
+abort-same : (sd : Side) (r : Record) (o : ℕ) (a : UserData) → outcomeOf r (serviceParameters (DAbortIndication o) a) (walk rows sd (r .control) n.dAbort (serviceCondition sd r (DAbortIndication o) a)) ≡ reached sd r (DAbortIndication o) a
 unfolding reached firstFault abortFault
 abort-same sd r o a =
     alike-does r (serviceParameters (DAbortIndication o) a) _ _ (abort-alike sd (r .control) (serviceCondition sd r (DAbortIndication o) a) (abort-among (eqb o user) (eqb o provider) (isUserAbort a) (isProviderAbort a)))
-    ∙ ap (λ (z : Bool). performed r (serviceParameters (DAbortIndication o) a) (answerOut (r .control) (toldOut n.abortOfPdu 0) (cond (not (expects sd (r .control) DAbort)) (NoInstruction false) (cond z (NoInstruction false) NoFault)))) (abort-other (eqb o user) (eqb o provider) (isUserAbort a) (isProviderAbort a))
+    ∙ ap (λ (z : Bool). outcomeOf r (serviceParameters (DAbortIndication o) a) (answerOut (r .control) (toldOut n.abortOfPdu 0) (cond (not (expects sd (r .control) DAbort)) (NoInstruction false) (cond z (NoInstruction false) NoFault)))) (abort-other (eqb o user) (eqb o provider) (isUserAbort a) (isProviderAbort a))
     ∙ abort-does r o a (expects sd (r .control) DAbort) (abortFits o a)
 
 failing-does : (r : Record) (a : UserData) (x : Bool)
-    → performed r (serviceParameters DPAbortIndication a) (answerOut (r .control) (toldOut n.abortFor 5) (cond (not x) (NoInstruction false) NoFault)) ≡ answered r DPAbortIndication a (cond (not x) (NoInstruction false) (cond (not true) (NoInstruction false) NoFault))
-unfolding answered instructed performed closes tell enter
+    → outcomeOf r (serviceParameters DPAbortIndication a) (answerOut (r .control) (toldOut n.abortFor 5) (cond (not x) (NoInstruction false) NoFault)) ≡ answered r DPAbortIndication a (cond (not x) (NoInstruction false) (cond (not true) (NoInstruction false) NoFault))
+unfolding answered instructed outcomeOf closes tell enter
 failing-does r a true = refl
 failing-does r a false = fault-does r DPAbortIndication a (toldOut n.abortFor 5) (NoInstruction false) refl
 
-failing-same : (sd : Side) (r : Record) (a : UserData) → performed r (serviceParameters DPAbortIndication a) (walk rows sd (r .control) n.dPAbort n.plain) ≡ reached sd r DPAbortIndication a
+failing-same : (sd : Side) (r : Record) (a : UserData) → outcomeOf r (serviceParameters DPAbortIndication a) (walk rows sd (r .control) n.dPAbort n.plain) ≡ reached sd r DPAbortIndication a
 unfolding reached firstFault abortFault
 failing-same sd r a = alike-does r (serviceParameters DPAbortIndication a) _ _ (failing-alike sd (r .control)) ∙ failing-does r a (expects sd (r .control) DPAbort)
 
@@ -342,16 +342,16 @@ module _ (r : Record) (x s v : ℕ) (q : Qos) where
   rest sd a i = pduFault (cond (fromCentre sd x) (isForward a) (isStartPdu a && (i && mayStart (other sd) (modeOf a)))) true true a (cond (peerFits sd x) NoFault (NoInstruction true))
 
   abbrev does : Side → ℕ → UserData → Outcome
-  does sd k a = performed r (serviceParameters (DStartIndication x s q v) a) (answerOut (r .control) (startInstruction (r .control) k) (startFault sd k))
+  does sd k a = outcomeOf r (serviceParameters (DStartIndication x s q v) a) (answerOut (r .control) (startInstruction (r .control) k) (startFault sd k))
 
-  invited-does : (a : UserData) (d : Bool) → performed r (serviceParameters (DStartIndication x s q v) a) (startInstruction (r .control) (cond d n.dscStart n.start)) ≡ instructed r (DStartIndication x s q v) (Start d)
+  invited-does : (a : UserData) (d : Bool) → outcomeOf r (serviceParameters (DStartIndication x s q v) a) (startInstruction (r .control) (cond d n.dscStart n.start)) ≡ instructed r (DStartIndication x s q v) (Start d)
   unfolding instructed handed enter
   invited-does a true = there r (serviceParameters (DStartIndication x s q v) a) (after (r .control) (DStart true)) n.asIs n.yes n.nothing n.taken n.silent 0 n.dscStartIndication 0
   invited-does a false = there r (serviceParameters (DStartIndication x s q v) a) (after (r .control) (DStart false)) n.asIs n.yes n.nothing n.taken n.silent 0 n.startIndication 0
 
-  arrives-does : (w e : Bool) → performed r (serviceParameters (DStartIndication x s q v) pdu.Forward) (startInstruction (r .control) (cond (not w) n.unsupportedForward (cond e n.equalForward n.otherForward)))
+  arrives-does : (w e : Bool) → outcomeOf r (serviceParameters (DStartIndication x s q v) pdu.Forward) (startInstruction (r .control) (cond (not w) n.unsupportedForward (cond e n.equalForward n.otherForward)))
       ≡ cond (not w) (responds r 1 s 0 Untold) (cond e (responds r 0 s 0 ForwardIndication) (responds r 2 s (r .version) Untold))
-  unfolding performed responds enter
+  unfolding outcomeOf responds enter
   arrives-does true true = refl
   arrives-does true false = refl
   arrives-does false e = refl
@@ -363,7 +363,7 @@ module _ (r : Record) (x s v : ℕ) (q : Qos) where
   centre-does false e = arrives-does false e
 
   other-does : (sd : Side) (a : UserData) (k : ℕ) (f : Fault) → startFault sd k ≡ f → isFault f ≡ true → does sd k a ≡ answered r (DStartIndication x s q v) a f
-  other-does sd a k f e t = ap (λ (g : Fault). performed r (serviceParameters (DStartIndication x s q v) a) (answerOut (r .control) (startInstruction (r .control) k) g)) e ∙ fault-does r (DStartIndication x s q v) a (startInstruction (r .control) k) f t
+  other-does sd a k f e t = ap (λ (g : Fault). outcomeOf r (serviceParameters (DStartIndication x s q v) a) (answerOut (r .control) (startInstruction (r .control) k) g)) e ∙ fault-does r (DStartIndication x s q v) a (startInstruction (r .control) k) f t
 
   air-does : (a : UserData) → does Air (pduFirst a (startCondition Air r x v a)) a ≡ answered r (DStartIndication x s q v) a (rest Air a true)
   unfolding pduFault answered
@@ -412,14 +412,14 @@ module _ (r : Record) (x s v : ℕ) (q : Qos) where
 
   -- i: IDLE, m: the quality of service fits, l: so does security
   outer : (sd : Side) (a : UserData) (i m l : Bool)
-      → performed r (serviceParameters (DStartIndication x s q v) a) (answerOut (r .control) (startInstruction (r .control) (cond (not m) n.wrongQuality (cond (not l) n.wrongSecurity (pduFirst a (startCondition sd r x v a))))) (cond (not i) (NoInstruction true) (startFault sd (cond (not m) n.wrongQuality (cond (not l) n.wrongSecurity (pduFirst a (startCondition sd r x v a)))))))
+      → outcomeOf r (serviceParameters (DStartIndication x s q v) a) (answerOut (r .control) (startInstruction (r .control) (cond (not m) n.wrongQuality (cond (not l) n.wrongSecurity (pduFirst a (startCondition sd r x v a))))) (cond (not i) (NoInstruction true) (startFault sd (cond (not m) n.wrongQuality (cond (not l) n.wrongSecurity (pduFirst a (startCondition sd r x v a)))))))
       ≡ answered r (DStartIndication x s q v) a (cond (not i) (NoInstruction true) (cond (not m) Quality (cond (not l) (Security true) (rest sd a i))))
   outer sd a false m l = fault-does r (DStartIndication x s q v) a (startInstruction (r .control) (cond (not m) n.wrongQuality (cond (not l) n.wrongSecurity (pduFirst a (startCondition sd r x v a))))) (NoInstruction true) refl
   outer sd a true false l = fault-does r (DStartIndication x s q v) a (startInstruction (r .control) n.wrongQuality) Quality refl
   outer sd a true true false = fault-does r (DStartIndication x s q v) a (startInstruction (r .control) n.wrongSecurity) (Security true) refl
   outer sd a true true true = either-does sd a
 
-  indication-same : (sd : Side) (a : UserData) → performed r (serviceParameters (DStartIndication x s q v) a) (walk rows sd (r .control) n.dStart (serviceCondition sd r (DStartIndication x s q v) a)) ≡ reached sd r (DStartIndication x s q v) a
+  indication-same : (sd : Side) (a : UserData) → outcomeOf r (serviceParameters (DStartIndication x s q v) a) (walk rows sd (r .control) n.dStart (serviceCondition sd r (DStartIndication x s q v) a)) ≡ reached sd r (DStartIndication x s q v) a
   unfolding reached firstFault indicationFault startFits
   indication-same sd a =
       alike-does r (serviceParameters (DStartIndication x s q v) a) _ _
@@ -446,18 +446,18 @@ module _ (r : Record) (x o s v : ℕ) (a : UserData) where
   here = DStartConfirmation x o s v
 
   abbrev does-at : Reply → ℕ → Fault → Outcome
-  does-at b k f = performed r (serviceParameters here a) (answerOut (r .control) (cond (eqb k n.response) forwardOver (handedOut (r .control) (DStartCnf b) n.no n.asIs n.startConfirmation)) f)
+  does-at b k f = outcomeOf r (serviceParameters here a) (answerOut (r .control) (cond (eqb k n.response) forwardOver (handedOut (r .control) (DStartCnf b) n.no n.asIs n.startConfirmation)) f)
 
   fails-at : (b : Reply) (k : ℕ) (f : Fault) → isFault f ≡ true → does-at b k f ≡ answered r here a f
   fails-at b k f t = fault-does r here a (cond (eqb k n.response) forwardOver (handedOut (r .control) (DStartCnf b) n.no n.asIs n.startConfirmation)) f t
 
-confirmed-does : (r : Record) (x o s v : ℕ) (b : Reply) → replyOf x ≡ b → performed r (serviceParameters (DStartConfirmation x o s v) Send) (handedOut (r .control) (DStartCnf b) n.no n.asIs n.startConfirmation) ≡ instructed r (DStartConfirmation x o s v) Send
+confirmed-does : (r : Record) (x o s v : ℕ) (b : Reply) → replyOf x ≡ b → outcomeOf r (serviceParameters (DStartConfirmation x o s v) Send) (handedOut (r .control) (DStartCnf b) n.no n.asIs n.startConfirmation) ≡ instructed r (DStartConfirmation x o s v) Send
 unfolding instructed handed enter
 confirmed-does r x o s v Accepted e = rw e (there r (serviceParameters (DStartConfirmation x o s v) Send) (after (r .control) (DStartCnf Accepted)) n.no n.asIs n.nothing n.taken n.silent 0 n.startConfirmation 0)
 confirmed-does r x o s v Rejected e = rw e (there r (serviceParameters (DStartConfirmation x o s v) Send) closed n.no n.no n.nothing n.taken n.silent 0 n.startConfirmation 0)
 
-forward-over : (r : Record) (x o s v w : ℕ) → performed r (serviceParameters (DStartConfirmation x o s v) (ForwardResponse w)) forwardOver ≡ instructed r (DStartConfirmation x o s v) (ForwardResponse w)
-unfolding instructed performed forwardConfirmed closes enter
+forward-over : (r : Record) (x o s v w : ℕ) → outcomeOf r (serviceParameters (DStartConfirmation x o s v) (ForwardResponse w)) forwardOver ≡ instructed r (DStartConfirmation x o s v) (ForwardResponse w)
+unfolding instructed outcomeOf forwardConfirmed closes enter
 forward-over r x o s v w = refl
 
 -- a start's confirmation whose PDU decides
@@ -505,24 +505,24 @@ confirmation-does r x o s v b a false true false false h = fails-at r x o s v a 
 confirmation-does r x o s v b a false false t l h = fails-at r x o s v a b (cond t n.turnedAway (cond (not l) n.wrongSecurity (answerCondition a))) (NoInstruction true) refl
 
 confirmation-same : (sd : Side) (r : Record) (x o s v : ℕ) (a : UserData) (b : Bool) → eqb x accepted ≡ b
-    → performed r (serviceParameters (DStartConfirmation x o s v) a) (walk rows sd (r .control) (cond b n.dStartAccepted n.dStartRejected) (serviceCondition sd r (DStartConfirmation x o s v) a)) ≡ reached sd r (DStartConfirmation x o s v) a
+    → outcomeOf r (serviceParameters (DStartConfirmation x o s v) a) (walk rows sd (r .control) (cond b n.dStartAccepted n.dStartRejected) (serviceCondition sd r (DStartConfirmation x o s v) a)) ≡ reached sd r (DStartConfirmation x o s v) a
 unfolding reached firstFault confirmationFault responseFault replyOf
 confirmation-same sd r x o s v a true e =
     let g = serviceParameters (DStartConfirmation x o s v) a in
     let k = serviceCondition sd r (DStartConfirmation x o s v) a in
-    let h : performed r g (confirmationWanted sd (r .control) Accepted k) ≡ reached sd r (DStartConfirmation x o s v) a
+    let h : outcomeOf r g (confirmationWanted sd (r .control) Accepted k) ≡ reached sd r (DStartConfirmation x o s v) a
     = rw e (confirmation-does r x o s v Accepted a (expects sd (r .control) (DStartCnf Accepted)) (awaitsResponse (r .control)) (turnedAway x o) (eqb s (r .request)) (rw e)) in
     alike-does r g (walk rows sd (r .control) n.dStartAccepted k) (confirmationWanted sd (r .control) Accepted k) (accepted-alike sd (r .control) k (answer-among (turnedAway x o) (eqb s (r .request)) a)) ∙ h
 confirmation-same sd r x o s v a false e =
     let g = serviceParameters (DStartConfirmation x o s v) a in
     let k = serviceCondition sd r (DStartConfirmation x o s v) a in
-    let h : performed r g (confirmationWanted sd (r .control) Rejected k) ≡ reached sd r (DStartConfirmation x o s v) a
+    let h : outcomeOf r g (confirmationWanted sd (r .control) Rejected k) ≡ reached sd r (DStartConfirmation x o s v) a
     = rw e (confirmation-does r x o s v Rejected a (expects sd (r .control) (DStartCnf Rejected)) (awaitsResponse (r .control)) (turnedAway x o) (eqb s (r .request)) (rw e)) in
     alike-does r g (walk rows sd (r .control) n.dStartRejected k) (confirmationWanted sd (r .control) Rejected k) (rejected-alike sd (r .control) k (answer-among (turnedAway x o) (eqb s (r .request)) a)) ∙ h
 
 -- ---- every event
 
-service-same : (sd : Side) (r : Record) (p : ServicePrimitive) (a : UserData) → performed r (serviceParameters p a) (walk rows sd (r .control) (serviceTitle p) (serviceCondition sd r p a)) ≡ reached sd r p a
+service-same : (sd : Side) (r : Record) (p : ServicePrimitive) (a : UserData) → outcomeOf r (serviceParameters p a) (walk rows sd (r .control) (serviceTitle p) (serviceCondition sd r p a)) ≡ reached sd r p a
 service-same sd r (DStartIndication x s q v) a = indication-same r x s v q sd a
 service-same sd r (DStartConfirmation x o s v) a = confirmation-same sd r x o s v a (eqb x accepted) refl
 service-same sd r DDataIndication a = data-same sd r a
@@ -531,18 +531,18 @@ service-same sd r (DEndConfirmation x) a = end-confirmed sd r x a (eqb x accepte
 service-same sd r (DAbortIndication o) a = abort-same sd r o a
 service-same sd r DPAbortIndication a = failing-same sd r a
 
-expiry-same : (sd : Side) (r : Record) (g : Parameters) (t : Bool) → performed r g (walk rows sd (r .control) n.expiry (cond t n.plain n.timerStopped)) ≡ cond (isNone (cond (not t) Prohibited None)) (timerExpires r) (refused (cond (not t) Prohibited None) r)
+expiry-same : (sd : Side) (r : Record) (g : Parameters) (t : Bool) → outcomeOf r g (walk rows sd (r .control) n.expiry (cond t n.plain n.timerStopped)) ≡ cond (isNone (cond (not t) Prohibited None)) (timerExpires r) (refused (cond (not t) Prohibited None) r)
 unfolding timerExpires
 expiry-same sd r g true = alike-does r g (walk rows sd (r .control) n.expiry n.plain) (exceptOut true 0 0) (expiry-alike sd (r .control)) ∙ except-does r g true 0 0
 expiry-same sd r g false = alike-does r g (walk rows sd (r .control) n.expiry n.timerStopped) (refusedOut (r .control) n.prohibited) (stopped-alike sd (r .control)) ∙ refused-does r g n.prohibited
 
-error-same : (sd : Side) (r : Record) (g : Parameters) → performed r g (walk rows sd (r .control) n.systemError n.plain) ≡ systemError r
+error-same : (sd : Side) (r : Record) (g : Parameters) → outcomeOf r g (walk rows sd (r .control) n.systemError n.plain) ≡ systemError r
 unfolding systemError
 error-same sd r g =
     alike-does r g (walk rows sd (r .control) n.systemError n.plain) (failWanted (r .control)) (error-alike sd (r .control))
-    ∙ chosen (performed r g) (isIdle (r .control)) quietOut (exceptOut true 1 1) (closes r Untold) (excepts r true 1 1) (quiet-does r g) (except-does r g true 1 1)
+    ∙ chosen (outcomeOf r g) (isIdle (r .control)) quietOut (exceptOut true 1 1) (closes r Untold) (excepts r true 1 1) (quiet-does r g) (except-does r g true 1 1)
 
-pub fitting-same : (sd : Side) (r : Record) (e : Event) → performed r (parametersOf e) (rowOf sd r e) ≡ stepFitting sd r e
+pub fitting-same : (sd : Side) (r : Record) (e : Event) → outcomeOf r (parametersOf e) (rowOf sd r e) ≡ stepFitting sd r e
 unfolding rowOf stepFitting refusalFitting permitted messageRefusal acts
 fitting-same sd r (User u) = user-same sd r u
 fitting-same sd r (Forward k s) = forward-same sd r k s
@@ -555,7 +555,7 @@ pub rows-same : (sd : Side) (r : Record) (e : Event) → rowsStep sd r e ≡ ste
 unfolding rowsStep
 rows-same sd r e = go (eventFits sd e) refl
   where
-    go : (b : Bool) → eventFits sd e ≡ b → cond (not b) (refused Shape r) (performed r (parametersOf e) (rowOf sd r e)) ≡ step sd r e
+    go : (b : Bool) → eventFits sd e ≡ b → cond (not b) (refused Shape r) (outcomeOf r (parametersOf e) (rowOf sd r e)) ≡ step sd r e
     go true f = fitting-same sd r e ∙ sym (step-of-fitting sd r e f)
     go false f = sym (step-shape sd r e f)
 
@@ -564,7 +564,7 @@ pub rows-numbered : (sd : Side) (r : Record) (m : ℕ) (e : Event) (v : ℕ) →
 unfolding rowsNumbered
 rows-numbered sd r m e v = go (eventFits sd e) refl (isStale m e v) refl
   where
-    go : (b : Bool) → eventFits sd e ≡ b → (l : Bool) → isStale m e v ≡ l → cond (not b) (refused Shape r) (cond l (refused Stale r) (performed r (parametersOf e) (rowOf sd r e))) ≡ numberedStep sd r m e v
+    go : (b : Bool) → eventFits sd e ≡ b → (l : Bool) → isStale m e v ≡ l → cond (not b) (refused Shape r) (cond l (refused Stale r) (outcomeOf r (parametersOf e) (rowOf sd r e))) ≡ numberedStep sd r m e v
     go true f true l = sym (then-stale sd r m e v f l)
     go true f false l = fitting-same sd r e ∙ sym (then-fitting sd r m e v f l)
     go false f l h = sym (shape-first sd r m e v f)

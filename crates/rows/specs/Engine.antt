@@ -81,8 +81,8 @@ abbrev pub flagAfter : ℕ → Bool → Bool
 flagAfter x b = cond (eqb x n.asIs) b (eqb x n.yes)
 
 -- a number that is kept where the code says so
-abbrev pub keptOf : ℕ → ℕ → ℕ → ℕ → ℕ
-keptOf code which new old = cond (eqb code which) new old
+abbrev pub numberAfter : ℕ → ℕ → ℕ → ℕ → ℕ
+numberAfter code which new old = cond (eqb code which) new old
 
 abbrev pub nextOf : Record → Parameters → Out → Record
 nextOf r g o =
@@ -90,8 +90,8 @@ nextOf r g o =
       control = entered (stateAfter (o .next) (r .control .state)) (flagAfter (o .dsc) (r .control .dsc));
       timer = flagAfter (o .timer) (r .timer);
       active = flagAfter (o .user) (r .active);
-      highest = keptOf (o .keeps) n.job (g .job) (r .highest);
-      request = keptOf (o .keeps) n.security (g .security) (r .request);
+      highest = numberAfter (o .keeps) n.job (g .job) (r .highest);
+      request = numberAfter (o .keeps) n.security (g .security) (r .request);
       policy = r .policy;
       forwards = r .forwards;
       version = r .version;
@@ -104,8 +104,8 @@ refusalIs x = cond (eqb x n.taken) None (cond (eqb x n.prohibited) Prohibited (c
 abbrev pub quality : ℕ → Qos
 quality k = record { priority = highPriority; rer = lowErrorRate; routing = k }
 
-abbrev pub sent : Record → Parameters → ℕ → Invoked
-sent r g x =
+abbrev pub invokes : Record → Parameters → ℕ → Invoked
+invokes r g x =
     cond (eqb x n.silent) Silent
     (cond (eqb x n.startOut) (DStartRequest (quality (g .class)) (g .security))
     (cond (eqb x n.dscStartOut) (DStartRequest (quality (g .class)) (g .security))
@@ -136,8 +136,8 @@ ifActive r t = cond (r .active) t Untold
 abbrev pub abortIn : UserData → Told
 abortIn a = cond (isUserAbort a) (UserAbortIndication (reasonOf a)) (ProviderAbortIndication (reasonOf a))
 
-abbrev pub toldOf : Record → Parameters → ℕ → ℕ → Told
-toldOf r g x why =
+abbrev pub indicationOf : Record → Parameters → ℕ → ℕ → Told
+indicationOf r g x why =
     cond (eqb x n.untold) Untold
     (cond (eqb x n.startIndication) (StartIndication false (g .class))
     (cond (eqb x n.dscStartIndication) (StartIndication true (g .class))
@@ -153,9 +153,9 @@ toldOf r g x why =
 abbrev pub hands : ℕ → Bool
 hands x = cond (eqb x n.untold) false (ltb x n.abortOfPdu)
 
-unfoldable pub performed : Record → Parameters → Out → Outcome
-performed r g o =
-    record { refusal = refusalIs (o .refusal); next = nextOf r g o; invoked = sent r g (o .sends); told = toldOf r g (o .tells) (o .why); apdu = apduOf g (o .sends) (o .reason); delivers = hands (o .tells) }
+unfoldable pub outcomeOf : Record → Parameters → Out → Outcome
+outcomeOf r g o =
+    record { refusal = refusalIs (o .refusal); next = nextOf r g o; invoked = invokes r g (o .sends); told = indicationOf r g (o .tells) (o .why); apdu = apduOf g (o .sends) (o .reason); delivers = hands (o .tells) }
 
 -- ---- the step, and the step with a dialogue number: the refusals 2 and 6 as for the first engine, 3, 4 and 5 by the rows
 
@@ -163,7 +163,7 @@ unfoldable pub rowOf : Side → Record → Event → Out
 rowOf sd r e = walk rows sd (r .control) (titleOf e) (conditionOf sd r e)
 
 unfoldable pub rowsStep : Side → Record → Event → Outcome
-rowsStep sd r e = cond (not (eventFits sd e)) (refused Shape r) (performed r (parametersOf e) (rowOf sd r e))
+rowsStep sd r e = cond (not (eventFits sd e)) (refused Shape r) (outcomeOf r (parametersOf e) (rowOf sd r e))
 
 unfoldable pub rowsNumbered : Side → Record → ℕ → Event → ℕ → Outcome
-rowsNumbered sd r m e v = cond (not (eventFits sd e)) (refused Shape r) (cond (isStale m e v) (refused Stale r) (performed r (parametersOf e) (rowOf sd r e)))
+rowsNumbered sd r m e v = cond (not (eventFits sd e)) (refused Shape r) (cond (isStale m e v) (refused Stale r) (outcomeOf r (parametersOf e) (rowOf sd r e)))

@@ -13,7 +13,7 @@ use machine::record::Record;
 use rows::Out;
 use rows::Parameters;
 ghost use mathlib.Core.Path.{_≡_};
-ghost use Rattle.rows.specs.Engine.{stateOf, stateAfter, flagAfter, nextOf, refusalIs, sent, apduOf, quality, keptOf, ifActive, abortIn, toldOf, hands, performed};
+ghost use Rattle.rows.specs.Engine.{stateOf, stateAfter, flagAfter, nextOf, refusalIs, invokes, apduOf, quality, numberAfter, ifActive, abortIn, indicationOf, hands, outcomeOf};
 
 // No DS user version number.
 const NO_VERSION: u64 = 0;
@@ -82,8 +82,8 @@ fn quality(class: u64) -> Qos
     }
 }
 
-fn sent(r: Record, g: Parameters, x: u64) -> Invoked
-    ensures { λ v. ⌜ v ≡ sent r g x ⌝ }
+fn invokes(r: Record, g: Parameters, x: u64) -> Invoked
+    ensures { λ v. ⌜ v ≡ invokes r g x ⌝ }
 {
     if x == codes::SILENT {
         return Invoked::Silent;
@@ -170,8 +170,8 @@ fn abort_in(a: UserData) -> Told
     Told::ProviderAbortIndication(reason)
 }
 
-fn told_of(r: Record, g: Parameters, x: u64, why: u64) -> Told
-    ensures { λ v. ⌜ v ≡ toldOf r g x why ⌝ }
+fn indication_of(r: Record, g: Parameters, x: u64, why: u64) -> Told
+    ensures { λ v. ⌜ v ≡ indicationOf r g x why ⌝ }
 {
     let c = r.control;
     let pdu = g.pdu;
@@ -217,8 +217,8 @@ fn hands(x: u64) -> bool
     x < codes::ABORT_OF_PDU
 }
 
-fn kept(code: u64, which: u64, new: u64, old: u64) -> u64
-    ensures { λ v. ⌜ v ≡ keptOf code which new old ⌝ }
+fn number_after(code: u64, which: u64, new: u64, old: u64) -> u64
+    ensures { λ v. ⌜ v ≡ numberAfter code which new old ⌝ }
 {
     if code == which {
         return new;
@@ -237,8 +237,8 @@ fn next_of(r: Record, g: Parameters, o: Out) -> Record
         control: Control { state, dsc },
         timer: flag_after(o.timer, r.timer),
         active: flag_after(o.user, r.active),
-        highest: kept(o.keeps, codes::JOB, g.job, r.highest),
-        request: kept(o.keeps, codes::SECURITY, g.security, r.request),
+        highest: number_after(o.keeps, codes::JOB, g.job, r.highest),
+        request: number_after(o.keeps, codes::SECURITY, g.security, r.request),
         policy: r.policy,
         forwards: r.forwards,
         version: r.version,
@@ -246,14 +246,14 @@ fn next_of(r: Record, g: Parameters, o: Out) -> Record
 }
 
 // What is done, of the row that fits.
-pub fn performed(r: Record, g: Parameters, o: Out) -> Outcome
-    ensures { λ v. ⌜ v ≡ performed r g o ⌝ }
+pub fn outcome_of(r: Record, g: Parameters, o: Out) -> Outcome
+    ensures { λ v. ⌜ v ≡ outcomeOf r g o ⌝ }
 {
     Outcome {
         refusal: refusal_is(o.refusal),
         next: next_of(r, g, o),
-        invoked: sent(r, g, o.sends),
-        told: told_of(r, g, o.tells, o.why),
+        invoked: invokes(r, g, o.sends),
+        told: indication_of(r, g, o.tells, o.why),
         apdu: apdu_of(g, o.sends, o.reason),
         delivers: hands(o.tells),
     }

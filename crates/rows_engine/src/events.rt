@@ -42,7 +42,7 @@ fn peer_fits(side: Side, peer: u64) -> bool
     }
 }
 
-fn turned(result: u64, source: u64) -> bool
+fn turns_away(result: u64, source: u64) -> bool
     ensures { λ v. ⌜ v ≡ turnedAway result source ⌝ }
 {
     result == ServicePrimitive::TRANSIENT || source == ServicePrimitive::DS_PROVIDER
@@ -262,7 +262,7 @@ fn service_condition(side: Side, r: Record, p: ServicePrimitive, a: UserData) ->
             ),
         ),
         ServicePrimitive::DStartConfirmation(x, o, s, _) => pick(
-            turned(x, o),
+            turns_away(x, o),
             codes::TURNED_AWAY,
             pick(s != r.request, codes::WRONG_SECURITY, answer_condition(a)),
         ),

@@ -8,7 +8,7 @@ mod table;
 use control::Control;
 use control::Side;
 use control::number;
-use effects::performed;
+use effects::outcome_of;
 use events::condition_of;
 use events::parameters_of;
 use events::title_of;
@@ -192,5 +192,5 @@ pub fn step(side: Side, r: Record, held: u64, e: Event, brought: u64) -> Outcome
     if is_stale(held, e, brought) {
         return Outcome::refused(StepRefusal::Stale, r);
     }
-    performed(r, parameters_of(e), row_for(side, r, e))
+    outcome_of(r, parameters_of(e), row_for(side, r, e))
 }

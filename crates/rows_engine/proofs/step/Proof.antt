@@ -28,11 +28,11 @@ parameters-of-requires c κs = tt
 row-for-requires : tie.Need-row-for-requires
 row-for-requires c κs = tt
 
-performed-requires : tie.Need-performed-requires
-performed-requires c κs = tt
+outcome-of-requires : tie.Need-outcome-of-requires
+outcome-of-requires c κs = tt
 
 returns-3 : tie.Need-returns-3
-returns-3 c = stepped _ _ _ _ _ _ _ (c .before .before .before .before .before .before .fits2 .ensures) _ _ _ (c .before .before .before .before .before .if1 .left) (c .before .before .before .before .is-stale .ensures) (c .before .before .before .if2 .left) (c .before .before .parameters-of .ensures) (c .before .row-for .ensures) (c .performed .ensures)
+returns-3 c = stepped _ _ _ _ _ _ _ (c .before .before .before .before .before .before .fits2 .ensures) _ _ _ (c .before .before .before .before .before .if1 .left) (c .before .before .before .before .is-stale .ensures) (c .before .before .before .if2 .left) (c .before .before .parameters-of .ensures) (c .before .row-for .ensures) (c .outcome-of .ensures)
 
 pub step-spec : {M : Type 1} → statement M
-step-spec = tie.close (tie.spec fits-requires refused-requires returns is-stale-requires refused-requires-2 returns-2 parameters-of-requires row-for-requires performed-requires returns-3)
+step-spec = tie.close (tie.spec fits-requires refused-requires returns is-stale-requires refused-requires-2 returns-2 parameters-of-requires row-for-requires outcome-of-requires returns-3)

@@ -24,8 +24,8 @@ pick-requires-2 c κs = tt
 enum-known-p-2 : tie.Need-enum-known-p-2
 enum-known-p-2 c = c .match .keys2
 
-turned-requires : tie.Need-turned-requires
-turned-requires c κs = tt
+turns-away-requires : tie.Need-turns-away-requires
+turns-away-requires c κs = tt
 
 answer-condition-requires : tie.Need-answer-condition-requires
 answer-condition-requires c κs = tt
@@ -67,7 +67,7 @@ returns : tie.Need-returns
 returns c = rw (c .before .before .before .before .struct-known .given .1, c .before .before .before .before .before .before .before .p .given .1, c .pick2 .ensures, c .before .pick .ensures, c .before .before .pdu-first .ensures, c .before .before .before .start-condition .ensures, c .before .before .before .before .before .fits2 .ensures)
 
 returns-2 : tie.Need-returns-2
-returns-2 c = rw (c .before .before .before .struct-known2 .given .1, c .before .before .before .before .before .before .p2 .given .1, c .pick4 .ensures, c .before .pick3 .ensures, c .before .before .answer-condition .ensures, c .before .before .before .before .turned .ensures)
+returns-2 c = rw (c .before .before .before .struct-known2 .given .1, c .before .before .before .before .before .before .p2 .given .1, c .pick4 .ensures, c .before .pick3 .ensures, c .before .before .answer-condition .ensures, c .before .before .before .before .turns-away .ensures)
 
 returns-3 : tie.Need-returns-3
 returns-3 c = rw (c .before .enum-told .given .1, c .send-condition .ensures)
@@ -85,4 +85,4 @@ returns-7 : tie.Need-returns-7
 returns-7 c = rw (c .enum-told4 .given .1)
 
 pub service-condition-spec : {M : Type 1} → statement M
-service-condition-spec = tie.close (tie.spec enum-known-p fits-requires start-condition-requires pdu-first-requires pick-requires pick-requires-2 enum-known-p-2 turned-requires answer-condition-requires pick-requires-3 pick-requires-4 enum-told send-condition-requires enum-told-2 send-condition-requires-2 enum-told-3 send-condition-requires-3 enum-known-p-3 abort-condition-requires enum-told-4 returns returns-2 returns-3 returns-4 returns-5 returns-6 returns-7)
+service-condition-spec = tie.close (tie.spec enum-known-p fits-requires start-condition-requires pdu-first-requires pick-requires pick-requires-2 enum-known-p-2 turns-away-requires answer-condition-requires pick-requires-3 pick-requires-4 enum-told send-condition-requires enum-told-2 send-condition-requires-2 enum-told-3 send-condition-requires-3 enum-known-p-3 abort-condition-requires enum-told-4 returns returns-2 returns-3 returns-4 returns-5 returns-6 returns-7)

@@ -1,8 +1,8 @@
--- `rows_engine::effects::sent` meets its contract.
+-- `rows_engine::effects::invokes` meets its contract.
 -- Assumes nothing.
 use borrow.Author.Tests.{eq-eqb, ne-eqb}
-use Rattle.rows_engine.proofs.effects.sent.Statement.{statement}
-use Rattle.rows_engine.proofs.effects.sent.Tie as tie
+use Rattle.rows_engine.proofs.effects.invokes.Statement.{statement}
+use Rattle.rows_engine.proofs.effects.invokes.Tie as tie
 
 returns : tie.Need-returns
 returns c = rw (eq-eqb _ _ (c .if1 .taken))
@@ -49,5 +49,5 @@ returns-11 c = rw (ne-eqb _ _ (c .before .before .before .before .before .before
 returns-12 : tie.Need-returns-12
 returns-12 c = rw (ne-eqb _ _ (c .before .before .before .before .before .before .before .before .before .before .if1 .left), ne-eqb _ _ (c .before .before .before .before .before .before .before .before .before .if2 .left), ne-eqb _ _ (c .before .before .before .before .before .before .before .before .if3 .left), ne-eqb _ _ (c .before .before .before .before .before .before .before .if4 .left), ne-eqb _ _ (c .before .before .before .before .before .before .if5 .left), ne-eqb _ _ (c .before .before .before .before .before .if6 .left), ne-eqb _ _ (c .before .before .before .before .if7 .left), ne-eqb _ _ (c .before .before .before .if8 .left), ne-eqb _ _ (c .before .before .if9 .left), ne-eqb _ _ (c .before .if10 .left), ne-eqb _ _ (c .if11 .left))
 
-pub sent-spec : {M : Type 1} → statement M
-sent-spec = tie.close (tie.spec returns quality-requires returns-2 quality-requires-2 returns-3 returns-4 returns-5 returns-6 returns-7 returns-8 returns-9 quality-requires-3 returns-10 returns-11 returns-12)
+pub invokes-spec : {M : Type 1} → statement M
+invokes-spec = tie.close (tie.spec returns quality-requires returns-2 quality-requires-2 returns-3 returns-4 returns-5 returns-6 returns-7 returns-8 returns-9 quality-requires-3 returns-10 returns-11 returns-12)

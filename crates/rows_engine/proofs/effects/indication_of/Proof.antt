@@ -1,8 +1,8 @@
--- `rows_engine::effects::told_of` meets its contract.
+-- `rows_engine::effects::indication_of` meets its contract.
 -- Assumes nothing.
 use borrow.Author.Tests.{eq-eqb, ne-eqb}
-use Rattle.rows_engine.proofs.effects.told_of.Statement.{statement}
-use Rattle.rows_engine.proofs.effects.told_of.Tie as tie
+use Rattle.rows_engine.proofs.effects.indication_of.Statement.{statement}
+use Rattle.rows_engine.proofs.effects.indication_of.Tie as tie
 
 returns : tie.Need-returns
 returns c = rw (eq-eqb _ _ (c .if1 .taken))
@@ -49,5 +49,5 @@ reason-requires c κs = tt
 returns-11 : tie.Need-returns-11
 returns-11 c = rw (ne-eqb _ _ (c .before .before .before .before .before .before .before .before .before .before .if1 .left), ne-eqb _ _ (c .before .before .before .before .before .before .before .before .before .if2 .left), ne-eqb _ _ (c .before .before .before .before .before .before .before .before .if3 .left), ne-eqb _ _ (c .before .before .before .before .before .before .before .if4 .left), ne-eqb _ _ (c .before .before .before .before .before .before .if5 .left), ne-eqb _ _ (c .before .before .before .before .before .if6 .left), ne-eqb _ _ (c .before .before .before .before .if7 .left), ne-eqb _ _ (c .before .before .before .if8 .left), ne-eqb _ _ (c .before .before .if9 .left), ne-eqb _ _ (c .before .if10 .left), c .reason .ensures)
 
-pub told-of-spec : {M : Type 1} → statement M
-told-of-spec = tie.close (tie.spec returns returns-2 returns-3 returns-4 returns-5 returns-6 returns-7 abort-in-requires if-active-requires returns-8 if-active-requires-2 returns-9 returns-10 reason-requires returns-11)
+pub indication-of-spec : {M : Type 1} → statement M
+indication-of-spec = tie.close (tie.spec returns returns-2 returns-3 returns-4 returns-5 returns-6 returns-7 abort-in-requires if-active-requires returns-8 if-active-requires-2 returns-9 returns-10 reason-requires returns-11)

@@ -5,7 +5,7 @@ Air: Doc 9880 3.5.3 and 3.5.4, and Doc 9705 2.3.5.3 where the extract is silent.
 Doc 9880 3.5.5.1.6 for who is an active user. Document 01 decides where they differ. The two machines are written apart, each
 from its own pages, and share nothing but the words for records and outcomes.
 
-    model.py            the table that the program `tables` prints
+    model.py            the table: every event at both machines and at many records, and the outcome
     model.py control    the numbers of the computed test of the finite control
 """
 import sys
@@ -428,6 +428,11 @@ def ground(r, ev):
 
 STEP = {"air": air, "ground": ground}
 
+
+def step(side, r, ev):
+    return STEP[side](r, ev)
+
+
 # ---------------------------------------------------------------- the table
 
 SEND, START, START_DSC, FORWARD, RESPONSE = ("send",), ("start", "cpdlc"), ("start", "dsc"), ("forward",), ("forward response", 2)
@@ -437,7 +442,7 @@ OWN = 3     # the version of the records of the table
 
 
 def rows(policy):
-    """(title, event) in the order in which the program prints them, at records that accept the security value `policy`."""
+    """(title, event) in the order of the table, at records that accept the security value `policy`."""
     results = {0: "accepted", 1: "rejected", 2: "rejected (transient)"}
     pdus = {SEND: "send", START: "start cpdlc", START_DSC: "start dsc", FORWARD: "forward", RESPONSE: "forward response 2", ("abort user", 5): "abort user 5",
             ("abort provider", 1): "abort provider 1", BAD_PDU: "invalid", MISSING_PDU: "missing"}
@@ -536,27 +541,35 @@ def made(state, dsc, active, reverse=False, policy=0, forwards=False):
     return Rec(state, dsc, timer != reverse, user != reverse, 7, policy, policy, forwards, OWN)
 
 
-def table():
+def points():
+    """side, (view, title), record and event, in the order of the table"""
     for side in ("air", "ground"):
         for active, reverse, policy, forwards in ((True, False, 0, False), (False, False, 0, False), (True, True, 0, False), (True, False, 1, True), (True, False, 0, True)):
             view = side + ("" if active else ", user not active") + (", timer and user reversed" if reverse else "") + (", secured" if policy else "")
             view += ", forwarding" if forwards else ""
             for title, ev in rows(policy):
-                print("%s: %s" % (view, title))
                 for state in STATES:
                     for dsc in (False, True):
-                        r = made(state, dsc, active, reverse, policy, forwards)
-                        print("  %s: %s" % (where(r), cell(STEP[side](r, ev))))
+                        yield side, (view, title), made(state, dsc, active, reverse, policy, forwards), ev
 
 
-def jobs():
+def table(step=step):
+    above = None
+    for side, heading, r, ev in points():
+        if heading != above:
+            print("%s: %s" % heading)
+            above = heading
+        print("  %s: %s" % (where(r), cell(step(side, r, ev))))
+
+
+def jobs(step=step):
     """Document 01: job 7, then 7; job 7 refused with 3, then 7 again in DIALOGUE; and in the next dialogue."""
     r = Rec()
     print("jobs at the air machine")
 
     def go(title, ev):
         nonlocal r
-        o = air(r, ev)
+        o = step("air", r, ev)
         print("  %s: %s" % (title, cell(o)))
         r = o.rec
 

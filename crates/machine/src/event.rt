@@ -71,21 +71,21 @@ pub enum Event {
 
 impl UserData {
     // The kinds that are asked for, as `kind` numbers them.
-    pub(crate) const ABSENT: u64 = 0;
+    pub const ABSENT: u64 = 0;
 
-    pub(crate) const NOT_VALID: u64 = 1;
+    pub const NOT_VALID: u64 = 1;
 
-    pub(crate) const START: u64 = 2;
+    pub const START: u64 = 2;
 
-    pub(crate) const SEND: u64 = 3;
+    pub const SEND: u64 = 3;
 
-    pub(crate) const ABORT_USER: u64 = 4;
+    pub const ABORT_USER: u64 = 4;
 
-    pub(crate) const ABORT_PROVIDER: u64 = 5;
+    pub const ABORT_PROVIDER: u64 = 5;
 
-    pub(crate) const FORWARD: u64 = 6;
+    pub const FORWARD: u64 = 6;
 
-    pub(crate) const FORWARD_RESPONSE: u64 = 7;
+    pub const FORWARD_RESPONSE: u64 = 7;
 
     // The values of the two types of reason.
     pub(crate) const USER_REASONS: u64 = 13;
@@ -95,7 +95,7 @@ impl UserData {
     pub(crate) const FORWARD_RESULTS: u64 = 3;
 
     // Which kind it is.
-    pub(crate) fn kind(self) -> u64
+    pub fn kind(self) -> u64
         ensures { λ k. ⌜ k ≡ kindOf self ⌝ }
     {
         match self {
@@ -111,7 +111,7 @@ impl UserData {
     }
 
     // The mode of a start (true: dsc).
-    pub(crate) fn mode(self) -> bool
+    pub fn mode(self) -> bool
         ensures { λ b. ⌜ b ≡ modeOf self ⌝ }
     {
         match self {
@@ -127,7 +127,7 @@ impl UserData {
     }
 
     // The reason of an abort, the result of a forward.
-    pub(crate) fn reason(self) -> u64
+    pub fn reason(self) -> u64
         ensures { λ x. ⌜ x ≡ reasonOf self ⌝ }
     {
         match self {
@@ -167,7 +167,7 @@ impl Qos {
 
     pub const ROUTING_CLASSES: u64 = 9;
 
-    pub(crate) fn fits(self) -> bool
+    pub fn fits(self) -> bool
         ensures { λ b. ⌜ b ≡ qosFits self ⌝ }
     {
         if self.priority != Qos::HIGH_PRIORITY {
@@ -180,7 +180,7 @@ impl Qos {
     }
 }
 
-pub(crate) fn is_dsc(mode: u64) -> bool
+pub fn is_dsc(mode: u64) -> bool
     ensures { λ b. ⌜ b ≡ isDsc mode ⌝ }
 {
     mode == UserPrimitive::DSC
@@ -229,12 +229,12 @@ impl ServicePrimitive {
     pub const AIRCRAFT: u64 = 1;
 
     // Result "rejected (transient)", and Reject Source "DS provider".
-    pub(crate) const TRANSIENT: u64 = 2;
+    pub const TRANSIENT: u64 = 2;
 
-    pub(crate) const DS_PROVIDER: u64 = 1;
+    pub const DS_PROVIDER: u64 = 1;
 
     // Originator of a D-ABORT.
-    pub(crate) const USER: u64 = 0;
+    pub const USER: u64 = 0;
 
     pub const PROVIDER: u64 = 1;
 

@@ -63,7 +63,7 @@ fn is_service(e: Event) -> bool
 }
 
 // A start's number is above the record's; that of another primitive of the dialogue service is the record's.
-fn is_stale(held: u64, e: Event, brought: u64) -> bool
+pub fn is_stale(held: u64, e: Event, brought: u64) -> bool
     ensures { λ b. ⌜ b ≡ isStale held e brought ⌝ }
 {
     if is_start(e) {

@@ -1,0 +1,121 @@
+-- What the engine sees of an event: which row title it is, which condition holds first, and its parameters.
+use Prim.Native.Nat.{ℕ}
+use mathlib.Core.Bool.{Bool, true, false, not, cond}
+use lib.Dec.{eqb, leb}
+use Rattle.control.specs.declared.Side.{Side}
+use Rattle.machine.specs.Codes.{accepted, user, provider, undefined}
+use Rattle.machine.specs.Event.{isDsc, qosFits}
+use Rattle.machine.specs.UserData.{modeOf, isMissing, isInvalid, isStartPdu, isSend, isUserAbort, isProviderAbort, isForward, isResponse}
+use Rattle.machine.specs.Faults.{turnedAway as turned, peerFits, fromCentre}
+use Rattle.machine.specs.declared.record.Record.{Record}
+use Rattle.machine.specs.declared.event.UserData.{UserData}
+use Rattle.machine.specs.declared.event.UserData.the-variants.{Absent}
+use Rattle.machine.specs.declared.event.UserPrimitive.{UserPrimitive}
+use Rattle.machine.specs.declared.event.UserPrimitive.the-variants.{StartServiceRequest, StartServiceResponse, MessageServiceRequest, EndServiceRequest, EndServiceResponse, UserAbortServiceRequest}
+use Rattle.machine.specs.declared.event.ServicePrimitive.{ServicePrimitive}
+use Rattle.machine.specs.declared.event.ServicePrimitive.the-variants.{DStartIndication, DStartConfirmation, DDataIndication, DEndIndication, DEndConfirmation, DAbortIndication, DPAbortIndication}
+use Rattle.machine.specs.declared.event.Event.{Event}
+use Rattle.machine.specs.declared.event.Event.the-variants.{User, Forward, Service, TimerExpires, UnrecoverableSystemError}
+use Rattle.rows.specs.declared.Parameters.{Parameters}
+use Rattle.rows.specs.Names.{startRequest, dscStartRequest, startResponseAccepted, startResponseRejected, dscStartResponseAccepted, dscStartResponseRejected, messageRequest, endRequest, dscEndRequest, endResponseAccepted, endResponseRejected, dscEndResponseAccepted, dscEndResponseRejected, userAbort, forwardRequest, dStart, dStartAccepted, dStartRejected, dData, dEnd, dEndAccepted, dEndRejected, dAbort, dPAbort, expiry, systemError, plain, wrongQuality, turnedAway, wrongSecurity, noPdu, invalidPdu, start, dscStart, startOfAircraft, send, unsupportedForward, equalForward, otherForward, response, abortOfUser, abortOfProvider, otherPdu, noMessage, repeat, timerStopped}
+
+-- ---- the title
+
+abbrev pub userTitle : UserPrimitive → ℕ
+userTitle (StartServiceRequest m k s) = cond (isDsc m) dscStartRequest startRequest
+userTitle (StartServiceResponse m x) = cond m (cond (eqb x accepted) dscStartResponseAccepted dscStartResponseRejected) (cond (eqb x accepted) startResponseAccepted startResponseRejected)
+userTitle (MessageServiceRequest h j) = messageRequest
+userTitle (EndServiceRequest m) = cond m dscEndRequest endRequest
+userTitle (EndServiceResponse m x) = cond m (cond (eqb x accepted) dscEndResponseAccepted dscEndResponseRejected) (cond (eqb x accepted) endResponseAccepted endResponseRejected)
+userTitle (UserAbortServiceRequest g x) = userAbort
+
+abbrev pub serviceTitle : ServicePrimitive → ℕ
+serviceTitle (DStartIndication x s q v) = dStart
+serviceTitle (DStartConfirmation x o s v) = cond (eqb x accepted) dStartAccepted dStartRejected
+serviceTitle DDataIndication = dData
+serviceTitle DEndIndication = dEnd
+serviceTitle (DEndConfirmation x) = cond (eqb x accepted) dEndAccepted dEndRejected
+serviceTitle (DAbortIndication o) = dAbort
+serviceTitle DPAbortIndication = dPAbort
+
+abbrev pub titleOf : Event → ℕ
+titleOf (User u) = userTitle u
+titleOf (Forward k s) = forwardRequest
+titleOf (Service p a) = serviceTitle p
+titleOf TimerExpires = expiry
+titleOf UnrecoverableSystemError = systemError
+
+-- ---- the condition: quality of service, result or reject source, security, missing, invalid, then which PDU
+
+abbrev pub pduFirst : UserData → ℕ → ℕ
+pduFirst a k = cond (isMissing a) noPdu (cond (isInvalid a) invalidPdu k)
+
+abbrev pub userCondition : Record → UserPrimitive → ℕ
+userCondition r (StartServiceRequest m k s) = plain
+userCondition r (StartServiceResponse m x) = plain
+userCondition r (MessageServiceRequest h j) = cond (not h) noMessage (cond (leb j (r .highest)) repeat plain)
+userCondition r (EndServiceRequest m) = plain
+userCondition r (EndServiceResponse m x) = plain
+userCondition r (UserAbortServiceRequest g x) = plain
+
+-- a forward message of a centre
+abbrev pub forwardCondition : Record → ℕ → UserData → ℕ
+forwardCondition r v a = cond (isForward a) (cond (not (r .forwards)) unsupportedForward (cond (eqb v (r .version)) equalForward otherForward)) otherPdu
+
+-- a start: of a centre to the ground a forward; else a start, from the right peer or not
+abbrev pub startCondition : Side → Record → ℕ → ℕ → UserData → ℕ
+startCondition sd r x v a = cond (fromCentre sd x) (forwardCondition r v a) (cond (isStartPdu a) (cond (modeOf a) dscStart (cond (peerFits sd x) start startOfAircraft)) otherPdu)
+
+abbrev pub answerCondition : UserData → ℕ
+answerCondition a = pduFirst a (cond (isSend a) send (cond (isResponse a) response otherPdu))
+
+abbrev pub abortCondition : ℕ → UserData → ℕ
+abortCondition o a = cond (eqb o user) (cond (isUserAbort a) abortOfUser otherPdu) (cond (eqb o provider) (cond (isProviderAbort a) abortOfProvider otherPdu) otherPdu)
+
+abbrev pub sendCondition : UserData → ℕ
+sendCondition a = pduFirst a (cond (isSend a) send otherPdu)
+
+abbrev pub serviceCondition : Side → Record → ServicePrimitive → UserData → ℕ
+serviceCondition sd r (DStartIndication x s q v) a = cond (not (qosFits q)) wrongQuality (cond (not (eqb s (r .policy))) wrongSecurity (pduFirst a (startCondition sd r x v a)))
+serviceCondition sd r (DStartConfirmation x o s v) a = cond (turned x o) turnedAway (cond (not (eqb s (r .request))) wrongSecurity (answerCondition a))
+serviceCondition sd r DDataIndication a = sendCondition a
+serviceCondition sd r DEndIndication a = sendCondition a
+serviceCondition sd r (DEndConfirmation x) a = sendCondition a
+serviceCondition sd r (DAbortIndication o) a = abortCondition o a
+serviceCondition sd r DPAbortIndication a = plain
+
+abbrev pub conditionOf : Side → Record → Event → ℕ
+conditionOf sd r (User u) = userCondition r u
+conditionOf sd r (Forward k s) = plain
+conditionOf sd r (Service p a) = serviceCondition sd r p a
+conditionOf sd r TimerExpires = cond (r .timer) plain timerStopped
+conditionOf sd r UnrecoverableSystemError = plain
+
+-- ---- the parameters
+
+abbrev pub parameters : ℕ → ℕ → ℕ → ℕ → ℕ → ℕ → UserData → Parameters
+parameters k s x j y v a = record { class = k; security = s; result = x; job = j; reason = y; version = v; pdu = a }
+
+abbrev pub userParameters : UserPrimitive → Parameters
+userParameters (StartServiceRequest m k s) = parameters k s 0 0 0 0 Absent
+userParameters (StartServiceResponse m x) = parameters 0 0 x 0 0 0 Absent
+userParameters (MessageServiceRequest h j) = parameters 0 0 0 j 0 0 Absent
+userParameters (EndServiceRequest m) = parameters 0 0 0 0 0 0 Absent
+userParameters (EndServiceResponse m x) = parameters 0 0 x 0 0 0 Absent
+userParameters (UserAbortServiceRequest g x) = parameters 0 0 0 0 (cond g x undefined) 0 Absent
+
+abbrev pub serviceParameters : ServicePrimitive → UserData → Parameters
+serviceParameters (DStartIndication x s q v) a = parameters (q .routing) s 0 0 0 v a
+serviceParameters (DStartConfirmation x o s v) a = parameters 0 s x 0 0 v a
+serviceParameters DDataIndication a = parameters 0 0 0 0 0 0 a
+serviceParameters DEndIndication a = parameters 0 0 0 0 0 0 a
+serviceParameters (DEndConfirmation x) a = parameters 0 0 x 0 0 0 a
+serviceParameters (DAbortIndication o) a = parameters 0 0 0 0 0 0 a
+serviceParameters DPAbortIndication a = parameters 0 0 0 0 0 0 a
+
+abbrev pub parametersOf : Event → Parameters
+parametersOf (User u) = userParameters u
+parametersOf (Forward k s) = parameters k s 0 0 0 0 Absent
+parametersOf (Service p a) = serviceParameters p a
+parametersOf TimerExpires = parameters 0 0 0 0 0 0 Absent
+parametersOf UnrecoverableSystemError = parameters 0 0 0 0 0 0 Absent

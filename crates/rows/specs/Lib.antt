@@ -1,0 +1,4 @@
+pub mod Names
+pub mod Events
+pub mod Table
+pub mod Engine

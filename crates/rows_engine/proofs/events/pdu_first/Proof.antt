@@ -1,0 +1,19 @@
+-- `rows_engine::events::pdu_first` meets its contract.
+-- Assumes nothing.
+use Rattle.rows_engine.proofs.events.pdu_first.Statement.{statement}
+use Rattle.rows_engine.proofs.events.pdu_first.Tie as tie
+
+kind-requires : tie.Need-kind-requires
+kind-requires c κs = tt
+
+pick-requires : tie.Need-pick-requires
+pick-requires c κs = tt
+
+pick-requires-2 : tie.Need-pick-requires-2
+pick-requires-2 c κs = tt
+
+returns : tie.Need-returns
+returns c = rw (c .pick2 .ensures, c .before .pick .ensures, c .before .before .kind .ensures)
+
+pub pdu-first-spec : {M : Type 1} → statement M
+pdu-first-spec = tie.close (tie.spec kind-requires pick-requires pick-requires-2 returns)

@@ -18,6 +18,7 @@
 #define LOOKS 6           /* for dialogues that nobody has, in the time of a lease, */
 #define LOOK_MS 500       /* and as often as this */
 #define QUEUE_MS 200      /* until a queue that another bridge consumes is tried again */
+#define LATE_MS 50        /* until what another session of the database holds up is tried again */
 #define GIVE_BACK_MS 10   /* until it is looked again whether a dialogue can be given back */
 
 /* the first dialogue from here on that is ours */
@@ -31,6 +32,9 @@ static struct dialogue *ours_from(struct bridge *b, struct dialogue *d)
 #define EACH(b, d) ((d) = ours_from(b, (b)->dialogue); (d) < (b)->dialogue + (b)->config->dialogues; (d) = ours_from(b, (d) + 1))
 
 static int stopping(const struct bridge *b) { return b->stop_by != 0; }
+
+/* What was decided of a dialogue is not kept yet: nothing of it leaves, and nothing more of it is heard. */
+static int is_late(const struct bridge *b, const struct dialogue *d) { return b->journal->late(b->journal, d->number); }
 
 /* ---- the broker comes and goes */
 
@@ -69,6 +73,18 @@ static void meanwhile(void *with)
     }
 }
 
+/* While a call waits for the journal: the page answers, and the watchdog hears of us. The journal itself is not asked. */
+static void meanwhile_journal(void *with)
+{
+    struct bridge *b = with;
+    if (b->word_at != 0 && now_ms() >= b->word_at) {
+        notify("WATCHDOG=1");
+        b->word_at = now_ms() + notify_period();
+    }
+    if (b->page != NULL)
+        page_serve(b->page, &b->metrics);
+}
+
 /* Another bridge has the queues. The broker may not have noticed yet that an earlier connection of ours is gone, so this one
    is patient for a while. */
 static void broker_taken(struct bridge *b)
@@ -99,7 +115,7 @@ static void keep_connected(struct bridge *b)
 /* A queue is consumed while its dialogue is open, the aircraft keeps up and the outbox has room. */
 static int wanted(const struct bridge *b, const struct dialogue *d)
 {
-    return !stopping(b) && state_of(d) == PEAT_DIALOGUE && d->out.count < BACKLOG && b->metrics.letters < b->config->outbox_most;
+    return !stopping(b) && !is_late(b, d) && state_of(d) == PEAT_DIALOGUE && d->out.count < BACKLOG && b->metrics.letters < b->config->outbox_most;
 }
 
 /* A bridge that is gone, or hangs, has its queues until the broker has noticed. */
@@ -212,12 +228,20 @@ static void tend(struct bridge *b, struct dialogue *d)
 
 /* ---- release: the order that everything here is about */
 
+static unsigned count_late(const struct bridge *b)
+{
+    unsigned d, n = 0;
+    for (d = 0; d < b->config->dialogues; d++)
+        n += b->journal->late(b->journal, d) != 0;
+    return n;
+}
+
 static void commit(struct bridge *b)
 {
     uint64_t began = now_us();
     struct dialogue *d;
     int settles = b->settled_since != 0 && (stopping(b) || now_ms() - b->settled_since >= SETTLE_MS);
-    if (!b->staged && !settles)
+    if (!b->staged && !settles && (b->late_at == 0 || now_ms() < b->late_at))
         return;
     for EACH (b, d) {
         if (d->changed)
@@ -227,6 +251,7 @@ static void commit(struct bridge *b)
         d->changed = d->decided = 0;
     }
     b->journal->commit(b->journal);
+    b->late_at = count_late(b) > 0 ? now_ms() + LATE_MS : 0;
     b->staged = 0;
     b->settled_since = 0;
     metrics_commit(&b->metrics, now_us() - began);
@@ -241,6 +266,8 @@ static void send_primitives(struct bridge *b)
         enum link_answer sent = LINK_DONE;
         if (q->count > 0)
             b->journal->renew(b->journal); /* a process that slept since its commit may have lost its dialogues */
+        if (is_late(b, d))
+            continue;
         while (q->count > 0 && sent == LINK_DONE) {
             at_point(b, AT_SENDING);
             sent = b->link->send(b->link, d->number, &q->item[q->oldest]);
@@ -266,7 +293,7 @@ static void acknowledge(struct bridge *b)
 {
     struct dialogue *d;
     for EACH (b, d) {
-        if (d->receipt.tag == 0 || b->state != BROKER_OURS)
+        if (d->receipt.tag == 0 || b->state != BROKER_OURS || is_late(b, d))
             continue;
         if (!b->broker->acknowledge(b->broker, d->number, d->receipt)) {
             broker_lost(b);
@@ -315,7 +342,10 @@ static int sleep_ms(struct bridge *b)
         at = earlier(at, now + GIVE_BACK_MS);
     at = earlier(at, b->word_at);
     at = earlier(at, b->take_at);
+    at = earlier(at, b->late_at);
     for EACH (b, d) {
+        if (is_late(b, d))
+            continue;
         at = earlier(at, d->expires);
         if (d->closing)
             at = earlier(at, d->close_by);
@@ -334,7 +364,7 @@ static void wait_for_news(struct bridge *b)
     if (b->state == BROKER_OURS)
         polls[n++] = (struct pollfd){b->broker->descriptor(b->broker), POLLIN, 0};
     for EACH (b, d)
-        polls[n++] = (struct pollfd){d->closing ? -1 : b->link->descriptor(b->link, d->number), (short)(POLLIN | (d->out.count > 0 ? POLLOUT : 0)), 0};
+        polls[n++] = (struct pollfd){d->closing || is_late(b, d) ? -1 : b->link->descriptor(b->link, d->number), (short)(POLLIN | (d->out.count > 0 ? POLLOUT : 0)), 0};
     if (b->page != NULL)
         n += page_polls(b->page, polls + n);
     poll(polls, (nfds_t)n, ms);
@@ -347,6 +377,7 @@ static void take_stock(struct bridge *b)
     b->metrics.letters = b->journal->waiting(b->journal, &since);
     b->metrics.oldest_ms = since != 0 && wall_ms() > since ? wall_ms() - since : 0;
     b->metrics.broker = b->state == BROKER_OURS;
+    b->metrics.late = count_late(b);
     b->metrics.open = b->metrics.unsent = b->metrics.owned = 0;
     memset(b->metrics.lease, 0, sizeof b->metrics.lease);
     for EACH (b, d) {
@@ -483,6 +514,8 @@ void bridge_begin(struct bridge *b, const struct config *c, struct journal *j, s
     b->metrics.host = c->host;
     broker->meanwhile = meanwhile;
     broker->with = b;
+    j->meanwhile = meanwhile_journal;
+    j->with = b;
     for (d = 0; d < DIALOGUES_MOST; d++)
         b->dialogue[d].number = d;
     if (j->shared)
@@ -514,7 +547,8 @@ void bridge_run(struct bridge *b, const volatile sig_atomic_t *stop)
         look_for_dialogues(b);
         choose_queues(b);
         for EACH (b, d)
-            tend(b, d);
+            if (!is_late(b, d))
+                tend(b, d);
         if (stopping(b))
             at_point(b, AT_STOPPING);
         hear_broker(b);

@@ -75,6 +75,7 @@ struct bridge {
     uint64_t connect_at, connect_wait, claim_until;
     uint64_t stop_by;        /* 0: not stopping */
     uint64_t witness_at, witnessed, word_at, take_at;
+    uint64_t late_at;        /* what another session of the database holds up is tried again then; 0: nothing is */
 };
 
 /* Takes the dialogues of a journal that is this process's alone. Those that were open are broken now; that is committed. */

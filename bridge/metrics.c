@@ -74,6 +74,7 @@ static void owners(struct text *t, const struct metrics *m)
     one(t, "dialogues_owned", GAUGE, "Dialogues that this bridge has.", m->owned);
     one(t, "dialogues_taken_over_total", COUNTER, "Dialogues taken from a bridge whose lease ran out.", m->takeovers);
     one(t, "dialogues_given_back_total", COUNTER, "Dialogues given back in order.", m->given_back);
+    one(t, "dialogues_held_up", GAUGE, "Dialogues whose row another session of the database has locked.", m->late);
     line(t, "# HELP peat_dialogue_lease The number of the lease under which a host has a dialogue.\n# TYPE peat_dialogue_lease gauge\n");
     for (d = 0; d < DIALOGUES_MOST; d++)
         if (m->lease[d] != 0)

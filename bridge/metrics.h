@@ -19,7 +19,7 @@ struct metrics {
     uint64_t commits, commit_us, commit_in[LATENCIES + 1];
     uint64_t takeovers, given_back;
     /* as they are now */
-    uint64_t open, owned, letters, oldest_ms, broker, unsent;
+    uint64_t open, owned, late, letters, oldest_ms, broker, unsent;
     const char *host;
     uint64_t lease[DIALOGUES_MOST]; /* under which number this bridge has a dialogue; 0: it has it not */
 };
@@ -40,6 +40,7 @@ struct page {
     int listener; /* -1: there is no page */
     int client[PAGE_CLIENTS];
     uint64_t until[PAGE_CLIENTS];
+    uint64_t rests_until; /* nobody is let in before */
 };
 
 /* 0: the port can not be had. */

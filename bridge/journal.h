@@ -31,9 +31,11 @@ struct kept {
 /* Jobs first to last, one behind the other, were decided alike in one run. Ranges never overlap. */
 struct decision {
     uint64_t first, last;
-    unsigned outcome; /* enum peat_refusal: PEAT_TAKEN, or why not */
+    unsigned outcome; /* enum peat_refusal: PEAT_TAKEN, or why not; or LAID_ASIDE */
     uint64_t run;
 };
+
+#define LAID_ASIDE 255 /* the card was not asked: a dead letter has the job */
 
 #define JOURNAL_ID 17 /* 16 hexadecimal digits */
 

@@ -12,6 +12,7 @@
 #include "floor.h"
 #include "log.h"
 #include "move.h"
+#include "renumber.h"
 #include "witness.h"
 
 static volatile sig_atomic_t stop;
@@ -30,6 +31,7 @@ static const char help[] =
     "bridge join CONFIG                makes the witness of one more host of a journal that is in a database\n"
     "bridge floor JOB CONFIG [NUMBER]  raises the floor of all dialogues, or of one: no job up to JOB is taken from now on\n"
     "                                  unless it was decided before. Then a restored journal is accepted\n"
+    "bridge renumber NUMBER CONFIG     gives a dialogue's record a number that a start can follow, where its own is far ahead\n"
     "bridge move FROM TO               moves the journal of a configuration with a file to one with a database\n"
     "bridge --help, bridge --version   these lines; the version\n"
     "\n"
@@ -120,6 +122,21 @@ static int raise_floor(struct config *c, char **words)
     return EXIT_STOPPED;
 }
 
+/* A record that no start can follow gets a number that one can. */
+static int lower_number(struct config *c, char **words)
+{
+    struct journal j;
+    uint64_t dialogue;
+    if (!config_number(words[2], &dialogue) || dialogue >= c->dialogues)
+        return usage(words[2], "there is no dialogue with this number");
+    c->share = c->dialogues; /* a command takes all, or nothing */
+    journal_open(&j, c, JOURNAL_RUN);
+    witness_admit(c->witness, &j);
+    renumber(&j, c, (unsigned)dialogue);
+    j.close(&j);
+    return EXIT_STOPPED;
+}
+
 static int read_config(struct config *c, const char *path)
 {
     char fault[CONFIG_LONG];
@@ -168,7 +185,7 @@ static int run(struct config *c, char **words)
     if (files_look_broker(c, log_found, NULL) > 0)
         log_and_exit(EXIT_USAGE, "configuration", c->broker, "what the connection to the broker needs can not be read; `bridge check` says what");
     if (!broker_open_rabbit(&broker, c))
-        log_and_exit(EXIT_USAGE, "broker", c->broker, "this bridge was built without an AMQP library");
+        log_and_exit(EXIT_USAGE, "broker", c->broker, broker.why);
     if (!page_open(&page, (unsigned)c->metrics_port))
         log_and_exit(EXIT_USAGE, "metrics", "metrics_port", "the port can not be had");
     link_open_packet(&link, c->link);
@@ -199,6 +216,7 @@ static const struct command {
     {"init", 3, 3, 2, init},
     {"join", 3, 3, 2, join},
     {"floor", 4, 5, 3, raise_floor},
+    {"renumber", 4, 4, 3, lower_number},
     {"move", 4, 4, 2, move},
     {NULL, 2, 2, 1, run}, /* any other word is a configuration */
 };

@@ -22,6 +22,11 @@ struct metrics {
     uint64_t open, owned, late, letters, oldest_ms, broker, unsent;
     const char *host;
     uint64_t lease[DIALOGUES_MOST]; /* under which number this bridge has a dialogue; 0: it has it not */
+    /* what goes wrong at the broker and at the aircraft */
+    uint64_t queues_away, letters_refused, starts_refused, unexpected;
+    /* as it is now */
+    uint64_t queues, unread, blocked, letters_held, broker_waits_ms;
+    uint8_t queue_away[DIALOGUES_MOST];
 };
 
 /* A commit took so long. */

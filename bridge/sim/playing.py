@@ -59,7 +59,7 @@ def ends(p, seconds):
         return None
 
 
-FLAGS = "-std=c99 -O2 -g -Wall -Wextra -Werror -pedantic -D_POSIX_C_SOURCE=200809L -Iinclude".split()
+FLAGS = "-std=c99 -pthread -O2 -g -Wall -Wextra -Werror -pedantic -D_POSIX_C_SOURCE=200809L -Iinclude".split()
 built = dict(sanitizers=[], libraries=[])  # how the programs were built
 
 

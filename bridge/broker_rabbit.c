@@ -10,6 +10,7 @@
 #include <time.h>
 
 #include "clock.h"
+#include "log.h"
 #include "rabbit.h"
 
 #define LETTERS_BYTES 1048576 /* of letters that wait for the thread, beside one */
@@ -230,7 +231,7 @@ static const char *open_ends(struct ends *e)
         return "password_file can not be read, or has no line";
     if (pthread_mutex_init(&r->guard, NULL) != 0 || pthread_cond_init(&r->rang, NULL) != 0 || !mailbox_open(&r->orders) || !mailbox_open(&r->letters) ||
         !mailbox_open(&r->events) || !start_thread(e))
-        return "there is no descriptor, no thread or no memory for it";
+        log_and_exit(EXIT_MEMORY, "memory", "broker", "there is no descriptor, no thread or no memory for it");
     return NULL;
 }
 
@@ -238,9 +239,8 @@ int broker_open_rabbit(struct broker *b, const struct config *c)
 {
     struct ends *e = calloc(1, sizeof *e);
     memset(b, 0, sizeof *b);
-    b->why = "out of memory";
     if (e == NULL)
-        return 0;
+        log_and_exit(EXIT_MEMORY, "memory", "broker", "out of memory");
     e->rabbit.config = c;
     e->rabbit.socket = -1;
     b->why = open_ends(e);

@@ -5,6 +5,8 @@
 #include <stdlib.h>
 #include <string.h>
 
+#include "log.h"
+
 /* What a name may be given. */
 struct key {
     const char *name;
@@ -217,6 +219,8 @@ int config_read(struct config *c, const char *path, char *fault, size_t room)
     const char *why;
     size_t i;
     memset(c, 0, sizeof *c);
+    if (f == NULL && errno == ENOMEM)
+        log_and_exit(EXIT_MEMORY, "memory", path, "out of memory");
     if (f == NULL)
         return fail(f, fault, room, path, 0, "can not be read:", strerror(errno));
     for (i = 0; i < KEYS; i++)

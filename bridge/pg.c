@@ -50,20 +50,28 @@ static int is_slow(const PGresult *r)
     return code != NULL && (strcmp(code, "55P03") == 0 || strcmp(code, "57014") == 0);
 }
 
-/* Whoever lost the connection may know more of it than that. */
+/* The database ended the session: by the word of somebody, or since it stops. */
+static int is_ended(const PGresult *r)
+{
+    const char *code = PQresultErrorField(r, PG_DIAG_SQLSTATE);
+    return code != NULL && strncmp(code, "57P", 3) == 0;
+}
+
+/* Whoever has the connection may know more of it than that it is lost. */
 static void ask_why(struct pg *p, const char *what)
 {
     void (*lost)(void *) = p->lost;
-    if (lost == NULL || PQstatus(p->to) != CONNECTION_BAD)
-        return;
     p->lost = NULL;
+    if (lost == NULL)
+        return;
     log_line(LOG_WARN, "database lost", TEXT("what", what), TEXT("why", PQerrorMessage(p->to)));
     lost(p->lost_with);
 }
 
 static void give_up(struct pg *p, const char *what)
 {
-    ask_why(p, what);
+    if (PQstatus(p->to) == CONNECTION_BAD)
+        ask_why(p, what);
     log_and_exit(EXIT_JOURNAL, "database", what, PQerrorMessage(p->to));
 }
 
@@ -74,6 +82,8 @@ static void refuse_answer(struct pg *p, const PGresult *r, const char *what)
         log_and_exit(EXIT_MEMORY, "memory", what, "out of memory");
     if (is_slow(r))
         log_and_exit(EXIT_SLOW, "database slow", what, PQresultErrorMessage(r));
+    if (is_ended(r))
+        ask_why(p, what);
     give_up(p, what);
 }
 

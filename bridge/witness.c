@@ -38,16 +38,16 @@ struct witness witness_ask(const char *path, struct journal *j)
     struct witness w = {WITNESS_DAMAGED, ""};
     char text[WITNESS_TEXT + 1], id[JOURNAL_ID] = "";
     uint64_t seen = 0;
-    size_t bytes;
-    FILE *f = fopen(path, "r");
-    if (f == NULL) {
+    ssize_t bytes;
+    int file = open(path, O_RDONLY);
+    if (file < 0) {
         w.says = errno == ENOENT ? WITNESS_MISSING : WITNESS_DAMAGED;
         return w;
     }
-    bytes = fread(text, 1, sizeof text - 1, f);
-    fclose(f);
-    text[bytes] = '\0';
-    if (!read_text(text, bytes, id, &seen))
+    bytes = read(file, text, sizeof text - 1);
+    close(file);
+    text[bytes > 0 ? bytes : 0] = '\0';
+    if (bytes <= 0 || !read_text(text, (size_t)bytes, id, &seen))
         return w;
     memcpy(w.id, id, sizeof w.id);
     w.says = strcmp(id, j->id) != 0 ? WITNESS_OTHER : compare(j->commits(j), seen);

@@ -5,6 +5,7 @@ import os
 import re
 import select
 import signal
+import socket
 import subprocess
 import time
 from pathlib import Path
@@ -57,6 +58,27 @@ def ends(p, seconds):
         return p.wait(seconds)
     except subprocess.TimeoutExpired:
         return None
+
+
+def free_port():
+    """A port of the loopback address that is free now."""
+    with socket.socket() as s:
+        s.bind(("127.0.0.1", 0))
+        return s.getsockname()[1]
+
+
+def page(port, seconds=5.0):
+    """What a bridge's page says, or None, and after how long."""
+    at, said = time.monotonic(), b""
+    try:
+        with socket.create_connection(("127.0.0.1", port), seconds) as s:
+            s.settimeout(seconds)
+            s.sendall(b"GET / HTTP/1.0\r\n\r\n")
+            while part := s.recv(65536):
+                said += part
+    except OSError:
+        return None, time.monotonic() - at
+    return said.decode(), time.monotonic() - at
 
 
 FLAGS = "-std=c99 -pthread -O2 -g -Wall -Wextra -Werror -pedantic -D_POSIX_C_SOURCE=200809L -Iinclude".split()

@@ -339,7 +339,7 @@ static void start(struct bridge *b, struct dialogue *d)
 /* Payloads that came too late for this bridge are in their queue again. */
 static int handed_back(struct bridge *b, struct dialogue *d)
 {
-    if (b->state != BROKER_OURS || d->handed == HANDED)
+    if (b->state != BROKER_OURS || !b->journal->shared || d->handed == HANDED)
         return 1;
     if (d->handed == NOT_HANDED)
         b->broker->hand_back(b->broker, d->number);

@@ -43,6 +43,7 @@ struct content {
 struct channel {
     uint64_t opening; /* counted over all channels; a receipt has it */
     int closed;       /* what comes still is of the channel that was closed */
+    int leaving;      /* the broker was asked to end its consumer */
     struct content content;
 };
 
@@ -346,7 +347,7 @@ static int open_channels(struct thread *t)
         !ask_all(t, AMQP_BASIC_QOS_METHOD, &prefetch, AMQP_BASIC_QOS_OK_METHOD, "prefetch", until))
         return 0;
     for (d = 0; d < c->dialogues; d++)
-        t->channel[FIRST_QUEUE + d] = (struct channel){++t->openings, 0, {NOTHING, NULL, 0, 0}};
+        t->channel[FIRST_QUEUE + d] = (struct channel){++t->openings, 0, 0, {NOTHING, NULL, 0, 0}};
     amqp_confirm_select(t->amqp, LETTERS);
     return worked(t, "confirmations");
 }
@@ -388,7 +389,7 @@ static void connect_now(struct thread *t)
 
 static void take_frame(struct thread *t, const amqp_frame_t *f);
 
-/* What came on a channel before it was closed is thrown away; what came on others is heard. */
+/* What came on a channel before it was closed counts no more; what came on others is heard. */
 static void drain(struct thread *t, amqp_channel_t channel)
 {
     struct timeval at_once = {0, 0};
@@ -421,6 +422,9 @@ static void channel_closed(struct thread *t, amqp_channel_t channel, int what)
     amqp_channel_close_ok_t yes = {0};
     char why[sizeof t->why];
     memcpy(why, t->why, sizeof why);
+    if (t->channel[channel].leaving)
+        what = BROKER_LEFT; /* no other answer comes */
+    t->channel[channel].leaving = 0;
     if (sent(t, amqp_send_method(t->amqp, channel, AMQP_CHANNEL_CLOSE_OK_METHOD, &yes), "channel") && open_again(t, channel))
         tell(t, what, (unsigned)(channel - FIRST_QUEUE), why);
     else
@@ -443,18 +447,23 @@ static void consume(struct thread *t, unsigned dialogue, int on)
     begin.queue = amqp_cstring_bytes(queue);
     begin.consumer_tag = leave.consumer_tag = amqp_cstring_bytes(tag);
     begin.exclusive = 1;
-    if (!sent(t, amqp_send_method(t->amqp, channel, on ? AMQP_BASIC_CONSUME_METHOD : AMQP_BASIC_CANCEL_METHOD, on ? (void *)&begin : (void *)&leave), queue))
+    t->channel[channel].leaving = !on;
+    if ((t->channel[channel].closed && !open_again(t, channel)) ||
+        !sent(t, amqp_send_method(t->amqp, channel, on ? AMQP_BASIC_CONSUME_METHOD : AMQP_BASIC_CANCEL_METHOD, on ? (void *)&begin : (void *)&leave), queue))
         lose(t);
 }
 
-/* A channel that is closed returns what was not acknowledged. */
+/* A channel that is closed returns what was not acknowledged: the broker says so when it has. It is opened when it is needed again. */
 static void hand_back(struct thread *t, unsigned dialogue)
 {
     amqp_channel_t channel = (amqp_channel_t)(FIRST_QUEUE + dialogue);
-    int number, closed;
-    if (good(t, amqp_channel_close(t->amqp, channel, AMQP_REPLY_SUCCESS), "channel", &number, &closed) && open_again(t, channel))
-        tell(t, BROKER_HANDED_BACK, dialogue, "");
-    else
+    amqp_channel_close_t words;
+    memset(&words, 0, sizeof words);
+    words.reply_code = AMQP_REPLY_SUCCESS;
+    words.reply_text = amqp_empty_bytes;
+    t->channel[channel].closed = 1;
+    forget_content(&t->channel[channel].content);
+    if (!sent(t, amqp_send_method(t->amqp, channel, AMQP_CHANNEL_CLOSE_METHOD, &words), "channel"))
         lose(t);
 }
 
@@ -590,7 +599,10 @@ static void take_method(struct thread *t, amqp_channel_t channel, const amqp_met
     case AMQP_BASIC_NACK_METHOD: answer_letter(t, BROKER_REFUSED, no->delivery_tag, no->multiple != 0, "the broker did not store it: its queue is full, or failed"); break;
     case AMQP_BASIC_CANCEL_METHOD: cancelled(t, channel, m->decoded); break;
     case AMQP_BASIC_CONSUME_OK_METHOD: tell(t, BROKER_CONSUMES, (unsigned)(channel - FIRST_QUEUE), ""); break;
-    case AMQP_BASIC_CANCEL_OK_METHOD: tell(t, BROKER_LEFT, (unsigned)(channel - FIRST_QUEUE), ""); break;
+    case AMQP_BASIC_CANCEL_OK_METHOD:
+        t->channel[channel].leaving = 0;
+        tell(t, BROKER_LEFT, (unsigned)(channel - FIRST_QUEUE), "");
+        break;
     case AMQP_CONNECTION_BLOCKED_METHOD:
         copy_text(((const amqp_connection_blocked_t *)m->decoded)->reason, text, sizeof text);
         hear_blocked(t, 1, text);
@@ -602,6 +614,13 @@ static void take_method(struct thread *t, amqp_channel_t channel, const amqp_met
         because(t, "frame", amqp_method_name(m->id) != NULL ? amqp_method_name(m->id) : "of no method");
         lose(t);
     }
+}
+
+/* Of a channel that is closed nothing counts but that it is. */
+static void take_last(struct thread *t, const amqp_frame_t *f)
+{
+    if (f->frame_type == AMQP_FRAME_METHOD && f->payload.method.id == AMQP_CHANNEL_CLOSE_OK_METHOD && f->channel >= FIRST_QUEUE)
+        tell(t, BROKER_HANDED_BACK, (unsigned)(f->channel - FIRST_QUEUE), "");
 }
 
 /* whether frames of this kind have a place on this channel */
@@ -628,7 +647,7 @@ static void take_frame(struct thread *t, const amqp_frame_t *f)
         because(t, "frame", "out of its place");
         lose(t);
     } else if (t->channel[f->channel].closed) {
-        /* of a channel that is gone */
+        take_last(t, f);
     } else if (f->frame_type == AMQP_FRAME_METHOD) {
         take_method(t, f->channel, &f->payload.method);
     } else if (c->what != NOTHING && f->frame_type == AMQP_FRAME_HEADER) {

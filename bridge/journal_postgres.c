@@ -117,6 +117,7 @@ static int find(struct journal *j, unsigned dialogue, uint64_t job, struct decis
             *d = s->pending[i];
             return 1;
         }
+    postgres_renew(j); /* there may be many questions in a round */
     pg_number(s->pg, dialogue);
     pg_job(s->pg, job);
     if (pg_ask(s->pg, FIND) == 0)
@@ -129,6 +130,7 @@ static void of_run(struct journal *j, unsigned dialogue, uint64_t run, void (*ea
 {
     struct store *s = store_of(j);
     int i, n;
+    postgres_renew(j);
     pg_number(s->pg, dialogue);
     pg_number(s->pg, run);
     n = pg_ask(s->pg, OF_RUN);

@@ -152,6 +152,56 @@ class Carrier:
                 bridge.send(packet)
 
 
+class Line:
+    """A connection to a port of the loopback address that can stall: so many bytes more come, and then none, in the middle of
+    whatever it is, until it goes on."""
+
+    def __init__(self, to):
+        self.to, self.left = to, None  # left: bytes that still come; None: all
+        self.listener = socket.create_server(("127.0.0.1", 0))
+        self.port = self.listener.getsockname()[1]
+        threading.Thread(target=self.welcome, daemon=True).start()
+
+    def stall_after(self, count):
+        self.left = count
+
+    def stalls(self):
+        return self.left == 0
+
+    def go_on(self):
+        self.left = None
+
+    def end(self):
+        self.listener.close()
+
+    def welcome(self):
+        while True:
+            try:
+                near, _ = self.listener.accept()
+                far = socket.create_connection(("127.0.0.1", self.to), 5)
+            except OSError:
+                return
+            threading.Thread(target=self.copy, args=(near, far, False), daemon=True).start()
+            threading.Thread(target=self.copy, args=(far, near, True), daemon=True).start()
+
+    def copy(self, one, other, counted):
+        try:
+            one.settimeout(None)
+            while data := one.recv(4096):
+                while counted and self.left is not None and len(data) > self.left:
+                    other.sendall(data[:self.left])
+                    data, self.left = data[self.left:], 0
+                    while self.left == 0:
+                        time.sleep(0.01)
+                if counted and self.left is not None:
+                    self.left -= len(data)
+                other.sendall(data)
+        except OSError:
+            pass
+        with contextlib.suppress(OSError):
+            other.shutdown(socket.SHUT_RDWR)
+
+
 class Host:
     """A bridge of a stage, with its own configuration, witness and log. `program`: another build of it."""
 

@@ -137,7 +137,7 @@ static void broker_lost(struct bridge *b, const char *why)
     b->blocked = 0;
     connect_later(b);
     for EACH (b, d) {
-        inbox_empty(d);
+        inbox_empty(d); /* what was not read comes again, with another receipt */
         d->queue = QUEUE_LEFT;
         d->handed = NOT_HANDED;
         d->receipt.tag = 0; /* it meant something on that connection only */
@@ -536,7 +536,7 @@ static void take_stock(struct bridge *b)
     b->metrics.late = count_late(b);
     b->metrics.blocked = (uint64_t)b->blocked;
     b->metrics.broker_waits_ms = b->broker->waits(b->broker);
-    b->metrics.letters_held = publisher_again(b) != 0;
+    b->metrics.letters_held = (uint64_t)publisher_held(b);
     b->metrics.open = b->metrics.unsent = b->metrics.owned = b->metrics.queues = b->metrics.unread = 0;
     memset(b->metrics.lease, 0, sizeof b->metrics.lease);
     memset(b->metrics.queue_away, 0, sizeof b->metrics.queue_away);

@@ -79,6 +79,7 @@ struct lane {
     uint64_t most;      /* how many may be: one after a refusal, and twice as many with each that is stored */
     uint64_t refused;   /* the lowest turn that the broker refused: from there on it is given again; 0: none */
     uint64_t again_at, wait;
+    int held;           /* none was stored since one was refused */
 };
 
 enum { LANE_DOWN, LANE_DEAD, LANES };
@@ -146,6 +147,8 @@ void publisher_restart(struct bridge *);
 void publisher_give(struct bridge *);
 void publisher_confirmed(struct bridge *, uint64_t place, int all);
 void publisher_refused(struct bridge *, uint64_t place, int all, const char *why);
+/* Letters to one of the queues wait since the broker refuses them. */
+int publisher_held(const struct bridge *);
 /* when letters that were refused are given again; 0: there are none */
 uint64_t publisher_again(const struct bridge *);
 

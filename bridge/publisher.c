@@ -88,6 +88,7 @@ static void stored(struct bridge *b, uint64_t place)
     b->metrics.confirmed++;
     if (b->settled_since == 0)
         b->settled_since = now_ms();
+    lane->held = 0;
     lane->most = 2 * lane->most < WINDOW ? 2 * lane->most : WINDOW;
     lane->wait = lane->wait / 2 > b->config->reconnect ? lane->wait / 2 : b->config->reconnect;
 }
@@ -99,6 +100,7 @@ static void not_stored(struct bridge *b, uint64_t place, const char *why)
     struct lane *lane = &p->lane[which];
     uint64_t turn = p->turn[place % WINDOW];
     b->metrics.letters_refused++;
+    lane->held = 1;
     lane->most = 1;
     if (lane->refused == 0) {
         log_line(LOG_WARN, "letter refused", TEXT("queue", which == LANE_DEAD ? b->config->queue_dead : b->config->queue_down), TEXT("why", why),
@@ -134,6 +136,8 @@ static void answered(struct bridge *b, uint64_t place, int all, const char *why)
 void publisher_confirmed(struct bridge *b, uint64_t place, int all) { answered(b, place, all, NULL); }
 
 void publisher_refused(struct bridge *b, uint64_t place, int all, const char *why) { answered(b, place, all, why); }
+
+int publisher_held(const struct bridge *b) { return b->publisher.lane[LANE_DOWN].held || b->publisher.lane[LANE_DEAD].held; }
 
 uint64_t publisher_again(const struct bridge *b)
 {

@@ -195,7 +195,6 @@ static struct broker_event memory_next(struct broker *b)
     struct ends *e = ends_of(b);
     struct broker_event event;
     unsigned n;
-    e->memory->rounds++;
     e->memory->outbox = e->bridge->metrics.letters;
     e->memory->missing = e->bridge->config->dialogues - e->bridge->metrics.owned;
     memset(&event, 0, sizeof event);
@@ -209,6 +208,7 @@ static struct broker_event memory_next(struct broker *b)
     } else if (e->memory->confirmed < e->memory->given) {
         answer_letter(e->memory, &event);
     } else if (!about_queues(e->memory, &event)) {
+        e->memory->rounds++;
         for (n = 0; n < DIALOGUES_MOST && e->memory->rounds > SLOW_ROUNDS; n++)
             if (deliver(e, e->turn = (e->turn + 1) % DIALOGUES_MOST, &event))
                 break;

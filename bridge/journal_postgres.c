@@ -230,7 +230,6 @@ static void forget_decisions(struct store *s)
 static void commit(struct journal *j)
 {
     struct store *s = store_of(j);
-    pg_meanwhile(s->pg, j->meanwhile, j->with);
     postgres_renew(j); /* the batch may be a long one */
     postgres_fence(s);
     if (!pg_pending(s->pg))

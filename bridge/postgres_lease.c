@@ -27,6 +27,7 @@ unsigned postgres_take(struct journal *j, struct taken *to)
 {
     struct store *s = store_of(j);
     int i, n;
+    pg_meanwhile(s->pg, j->meanwhile, j->with);
     pg_text(s->pg, s->owner);
     if (pg_ask(s->pg, LOOK) == 0)
         return 0;
@@ -97,6 +98,7 @@ void postgres_look_again(void *with)
 void postgres_renew(struct journal *j)
 {
     struct store *s = store_of(j);
+    pg_meanwhile(s->pg, j->meanwhile, j->with); /* from here on it is the round that waits */
     if (now_ms() - s->renewed >= s->config->lease / RENEWALS)
         postgres_renew_now(s);
 }

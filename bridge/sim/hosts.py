@@ -3,6 +3,7 @@ systemd does."""
 import contextlib
 import json
 import os
+import random
 import re
 import signal
 import socket
@@ -200,6 +201,26 @@ class Line:
             pass
         with contextlib.suppress(OSError):
             other.shutdown(socket.SHUT_RDWR)
+
+
+class Locks(threading.Thread):
+    """Somebody who locks some rows of a stage for a moment, over and over."""
+
+    def __init__(self, database, schema, dialogues):
+        super().__init__(daemon=True)
+        self.database, self.schema, self.dialogues, self.count, self.ended = database, schema, dialogues, 0, False
+        self.start()
+
+    def run(self):
+        while not self.ended:
+            some = ",".join(str(d) for d in random.sample(range(self.dialogues), random.randint(1, 3)))
+            self.database.say("BEGIN; SELECT 1 FROM %s.dialogue WHERE dialogue IN (%s) FOR UPDATE; SELECT pg_sleep(%.2f); COMMIT"
+                              % (self.schema, some, random.uniform(0.05, 1.0)))
+            self.count += 1
+
+    def end(self):
+        self.ended = True
+        self.join(20)
 
 
 class Host:

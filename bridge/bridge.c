@@ -686,6 +686,7 @@ void bridge_begin(struct bridge *b, const struct config *c, struct journal *j, s
     publisher_restart(b);
     j->meanwhile = meanwhile_journal;
     j->with = b;
+    j->patient = 1;
     for (d = 0; d < DIALOGUES_MOST; d++)
         b->dialogue[d].number = d;
     if (j->shared)

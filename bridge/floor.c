@@ -22,7 +22,7 @@ void floor_raise(struct journal *j, const struct config *c, uint64_t floor, uint
     struct witness w;
     unsigned d;
     if (j->take(j, all) != c->dialogues)
-        log_and_exit(EXIT_REFUSED, "journal", "floor", "a bridge has dialogues of this journal: stop it first. What one that was killed had is free after lease_ms");
+        log_and_exit(EXIT_REFUSED, "journal", "floor", "a bridge has dialogues of this journal, or a session has rows of it locked: end it first. What a bridge that was killed had is free after lease_ms");
     w = witness_ask(c->witness, j);
     if (w.says != WITNESS_AGREES) {
         j->settle_id(j, j->id);

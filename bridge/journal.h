@@ -109,6 +109,7 @@ struct journal {
     void *with;
     /* 1: what was decided of a dialogue is not kept yet, since another has its row: nothing of it may leave. */
     int (*late)(struct journal *, unsigned dialogue);
+    int patient; /* whoever has the journal looks at `late`. Else a commit keeps all of a batch, or ends the process */
 };
 
 /* ---- opening */

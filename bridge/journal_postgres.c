@@ -234,7 +234,8 @@ static void commit(struct journal *j)
     postgres_fence(s);
     if (!pg_pending(s->pg))
         return;
-    postgres_lock(s);
+    if (postgres_lock(s) > 0 && !j->patient)
+        log_and_exit(EXIT_SLOW, "database slow", "commit", "another session has the row of a dialogue locked; nothing was changed");
     if (!pg_commit(s->pg, postgres_is_late, s))
         postgres_fenced(s);
     postgres_let_go(s);

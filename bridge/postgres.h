@@ -80,8 +80,8 @@ void postgres_lease(struct store *, unsigned dialogue);
 void postgres_fence(struct store *);
 void postgres_let_go(struct store *);
 /* Begins the transaction of a batch and takes the rows of its dialogues, without waiting for one that another session has: what
-   the batch has of such a dialogue is late, and waits for a later commit. */
-void postgres_lock(struct store *);
+   the batch has of such a dialogue is late, and waits for a later commit. How many are. */
+unsigned postgres_lock(struct store *);
 int postgres_is_late(void *store, unsigned dialogue);
 /* The session is gone: ends the process where that is since other bridges take its dialogues. */
 void postgres_look_again(void *store);

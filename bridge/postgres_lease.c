@@ -173,10 +173,10 @@ static void note_late(struct store *s, unsigned dialogue, int locked)
         h->late = now_ms();
 }
 
-void postgres_lock(struct store *s)
+unsigned postgres_lock(struct store *s)
 {
     unsigned char locked[DIALOGUES_MOST] = {0};
-    unsigned d;
+    unsigned d, late = 0;
     int i, n;
     lock_parameter(s);
     n = pg_begin(s->pg, LOCK);
@@ -190,7 +190,9 @@ void postgres_lock(struct store *s)
             note_late(s, d, locked[d]);
         if (locked[d])
             s->hold[d].unsure = 0; /* the row's own number decides now */
+        late += in_batch(&s->hold[d]) && !locked[d];
     }
+    return late;
 }
 
 void postgres_let_go(struct store *s)

@@ -36,6 +36,7 @@ enum fault {
     DROPS_VERSIONS,     /* does not hand over the version of a D-START */
     FORWARDS_AGAIN,     /* forwards what it has forwarded, when the job comes again */
     ANSWERS_BEFORE_SHOWING, /* lets the answer to a forward go before its user has the message */
+    TAKES_ANY_START,    /* hands over a start to the end that starts */
     FAULTS
 };
 

@@ -157,7 +157,7 @@ static int ends_soon(struct rabbit *r)
 {
     struct timespec until;
     int late = 0, ended;
-    clock_gettime(CLOCK_REALTIME, &until);
+    clock_gettime(CLOCK_MONOTONIC, &until);
     until.tv_sec += END_MS / 1000;
     pthread_mutex_lock(&r->guard);
     while (!r->ended && !late)
@@ -224,12 +224,24 @@ static int start_thread(struct ends *e)
     return pthread_sigmask(SIG_SETMASK, &before, NULL) == 0 && e->running;
 }
 
+/* It goes by a clock that nobody sets. */
+static int make_bell(pthread_cond_t *bell)
+{
+    pthread_condattr_t steady;
+    int good;
+    if (pthread_condattr_init(&steady) != 0)
+        return 0;
+    good = pthread_condattr_setclock(&steady, CLOCK_MONOTONIC) == 0 && pthread_cond_init(bell, &steady) == 0;
+    pthread_condattr_destroy(&steady);
+    return good;
+}
+
 static const char *open_ends(struct ends *e)
 {
     struct rabbit *r = &e->rabbit;
     if (!read_password(r))
         return "password_file can not be read, or has no line";
-    if (pthread_mutex_init(&r->guard, NULL) != 0 || pthread_cond_init(&r->rang, NULL) != 0 || !mailbox_open(&r->orders) || !mailbox_open(&r->letters) ||
+    if (pthread_mutex_init(&r->guard, NULL) != 0 || !make_bell(&r->rang) || !mailbox_open(&r->orders) || !mailbox_open(&r->letters) ||
         !mailbox_open(&r->events) || !start_thread(e))
         log_and_exit(EXIT_MEMORY, "memory", "broker", "there is no descriptor, no thread or no memory for it");
     return NULL;

@@ -10,6 +10,7 @@
 #include "postgres.h"
 
 #define RENEWALS 3 /* in the time of a lease */
+#define LATE_RENEWAL_MS 50 /* between renewals while a row is locked: when it is free its lease has run out */
 #define LOOK_AGAIN_MS 2000 /* that a process takes at most, at its end, to find out why its session is gone */
 
 void postgres_fenced(const struct store *s)
@@ -32,6 +33,7 @@ unsigned postgres_take(struct journal *j, struct taken *to)
     if (pg_ask(s->pg, LOOK) == 0)
         return 0;
     pg_text(s->pg, s->owner);
+    pg_number(s->pg, s->config->lease);
     pg_ask(s->pg, OUST);
     pg_text(s->pg, s->owner);
     pg_number(s->pg, s->config->lease);
@@ -95,11 +97,21 @@ void postgres_look_again(void *with)
     pg_close(other);
 }
 
+static int any_late(struct store *s)
+{
+    unsigned d;
+    for (d = 0; d < s->config->dialogues && !postgres_is_late(s, d); d++) {}
+    return d < s->config->dialogues;
+}
+
 void postgres_renew(struct journal *j)
 {
     struct store *s = store_of(j);
+    uint64_t due = s->config->lease / RENEWALS;
     pg_meanwhile(s->pg, j->meanwhile, j->with); /* from here on it is the round that waits */
-    if (now_ms() - s->renewed >= s->config->lease / RENEWALS)
+    if (any_late(s) && due > LATE_RENEWAL_MS)
+        due = LATE_RENEWAL_MS;
+    if (now_ms() - s->renewed >= due)
         postgres_renew_now(s);
 }
 

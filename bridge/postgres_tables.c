@@ -25,12 +25,15 @@ static const char *const texts[STATEMENTS] = {
     [OUTBOX] = "SELECT id, journal, type, reason, since, body FROM outbox WHERE dialogue = $1 ORDER BY since, id",
     [SETTLE] = "DELETE FROM outbox WHERE journal = $1 AND id = $2",
     [LOOK] = "SELECT 1 FROM dialogue WHERE owner <> $1 AND until < clock_timestamp() LIMIT 1",
-    /* A process that stopped inside a transaction has its rows locked: its session goes with its lease. */
+    /* A process that stopped inside a transaction has its rows locked: its session goes with its lease. One that asked the database for
+       something in the last $2 ms lives, and could not renew a lease since somebody else has that row. */
     [OUST] = "SELECT pg_terminate_backend(pid) FROM pg_stat_activity WHERE application_name IN"
-             " (SELECT owner FROM dialogue WHERE owner NOT IN ('', $1) AND until < clock_timestamp())",
-    /* What ran out, and of what nobody has (for $3 ms at least) the first $4. Every condition is on the row itself: a row that another
+             " (SELECT owner FROM dialogue WHERE owner NOT IN ('', $1) AND until < clock_timestamp())"
+             " AND coalesce(query_start, '-infinity') < clock_timestamp() - $2 * interval '1 ms'",
+    /* What ran out and has no owner that lives, and of what nobody has (for $3 ms at least) the first $4. Every condition is on the row itself: a row that another
        process took after this statement began is looked at again as it is by then, and left alone. */
     [TAKE] = "WITH open AS (SELECT dialogue, number, owner FROM dialogue WHERE owner NOT IN ('', $1) AND until < clock_timestamp()"
+             " AND NOT EXISTS (SELECT FROM pg_stat_activity a WHERE a.application_name = dialogue.owner AND a.query_start >= clock_timestamp() - $2 * interval '1 ms')"
              " OR owner = '' AND until < clock_timestamp() - $3 * interval '1 ms' AND dialogue IN"
              " (SELECT dialogue FROM dialogue WHERE owner = '' AND until < clock_timestamp() - $3 * interval '1 ms' ORDER BY dialogue LIMIT $4)"
              " ORDER BY dialogue FOR UPDATE SKIP LOCKED)"

@@ -3,7 +3,7 @@
  *
  *     race DATABASE PROCESSES ROUNDS
  *
- * DATABASE has a journal of DIALOGUES dialogues. A round begins with all of them free, or in every second one with a lease that ran
+ * DATABASE has a journal of DIALOGUES dialogues. A round begins with all of them free, or in every fourth one with a lease that ran
  * out; each is then taken by one process, and by no other. Prints how many rounds there were, and in how many that did not hold.
  */
 #define _DEFAULT_SOURCE
@@ -18,7 +18,7 @@
 #include "../../bridge/log.h"
 #include "../../bridge/postgres.h"
 
-#define DIALOGUES 8
+#define DIALOGUES DIALOGUES_MOST
 #define PROCESSES_MOST 8
 
 /* what the processes share */
@@ -96,7 +96,7 @@ int main(int argc, char **argv)
         while (__atomic_load_n(&shared->ready, __ATOMIC_SEQ_CST) != processes)
             if (waitpid(-1, NULL, WNOHANG) > 0)
                 return EXIT_JOURNAL;
-        pg_say(pg, round % 2 == 0 ? "UPDATE dialogue SET owner = '', until = '-infinity'" : "UPDATE dialogue SET owner = 'gone', until = '-infinity'");
+        pg_say(pg, round % 4 != 0 ? "UPDATE dialogue SET owner = '', until = '-infinity'" : "UPDATE dialogue SET owner = 'gone', until = '-infinity'");
         __atomic_store_n(&shared->done, 0, __ATOMIC_SEQ_CST);
         __atomic_store_n(&shared->ready, 0, __ATOMIC_SEQ_CST);
         __atomic_store_n(&shared->round, round, __ATOMIC_SEQ_CST);

@@ -308,11 +308,14 @@ static void hear_broker(struct bridge *b)
 /* What comes down becomes a letter. A bridge that stops hears its aircraft all the same: they answer the end. */
 static int hears(const struct bridge *b) { return !outbox_full(b) || stopping(b); }
 
+/* Half of a round is for what comes down, so that aircraft that send without an end do not hold up jobs. */
+static int half_spent(const struct bridge *b) { return b->letters_left <= LETTERS_ROUND / 2 || now_ms() + ROUND_MS / 2 >= b->round_until; }
+
 static void hear_aircraft(struct bridge *b, struct dialogue *d)
 {
     struct primitive p;
     int n;
-    for (n = 0; n < PRIMITIVES && !d->closing && !spent(b) && hears(b); n++) {
+    for (n = 0; n < PRIMITIVES && !d->closing && (n == 0 || !half_spent(b)) && hears(b); n++) {
         enum link_answer got = b->link->receive(b->link, d->number, &p);
         if (got == LINK_LATER)
             return;

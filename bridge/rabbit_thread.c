@@ -28,6 +28,7 @@
 #define OPEN_MS 5000      /* that a connection may take to come about */
 #define ANSWER_MS 5000    /* that an answer of the broker may take */
 #define CONNECT_MS 20000  /* that all answers together may take when a connection is made */
+#define CONTENT_MS 60000  /* that a payload may take from its first frame to its last */
 #define FRAMES 256        /* that are read before orders are looked at again */
 #define EVENTS_BYTES 8388608 /* that wait for the round; above it nothing is read */
 #define REST_MS 200       /* so that heartbeats go out */
@@ -38,6 +39,7 @@ struct content {
     struct parcel *parcel;
     uint64_t left; /* bytes that have not come */
     size_t used;
+    uint64_t since;
 };
 
 struct channel {
@@ -158,7 +160,7 @@ static int sent(struct thread *t, int status, const char *what)
 static void forget_content(struct content *c)
 {
     free(c->parcel);
-    *c = (struct content){NOTHING, NULL, 0, 0};
+    *c = (struct content){NOTHING, NULL, 0, 0, 0};
 }
 
 static void disconnect(struct thread *t)
@@ -347,7 +349,7 @@ static int open_channels(struct thread *t)
         !ask_all(t, AMQP_BASIC_QOS_METHOD, &prefetch, AMQP_BASIC_QOS_OK_METHOD, "prefetch", until))
         return 0;
     for (d = 0; d < c->dialogues; d++)
-        t->channel[FIRST_QUEUE + d] = (struct channel){++t->openings, 0, 0, {NOTHING, NULL, 0, 0}};
+        t->channel[FIRST_QUEUE + d] = (struct channel){++t->openings, 0, 0, {NOTHING, NULL, 0, 0, 0}};
     amqp_confirm_select(t->amqp, LETTERS);
     return worked(t, "confirmations");
 }
@@ -490,6 +492,7 @@ static void begin_content(struct thread *t, amqp_channel_t channel, const amqp_m
     struct content *c = &t->channel[channel].content;
     forget_content(c);
     c->what = m->id == AMQP_BASIC_DELIVER_METHOD ? DELIVERY : RETURNED;
+    c->since = now_ms();
     c->parcel = event(t, c->what == DELIVERY ? BROKER_DELIVERY : BROKER_REFUSED, 200);
     if (c->what == DELIVERY) {
         c->parcel->tag = ((const amqp_basic_deliver_t *)m->decoded)->delivery_tag;
@@ -515,7 +518,7 @@ static uint64_t place_of(const struct thread *t, amqp_bytes_t id)
 static void finish_content(struct thread *t, struct content *c)
 {
     mailbox_put(&t->rabbit->events, c->parcel);
-    *c = (struct content){NOTHING, NULL, 0, 0};
+    *c = (struct content){NOTHING, NULL, 0, 0, 0};
 }
 
 /* The second one: how long it is, and of a letter which one. Of a payload that is too long the bridge needs no more than the beginning. */
@@ -657,6 +660,19 @@ static void take_frame(struct thread *t, const amqp_frame_t *f)
     } else {
         because(t, "frame", "out of its place");
         lose(t);
+    }
+}
+
+/* A broker that sends heartbeats in the middle of a payload, and never its rest, is as good as none. */
+static void end_old(struct thread *t)
+{
+    unsigned i;
+    for (i = 0; i < CHANNELS && t->amqp != NULL; i++) {
+        const struct content *c = &t->channel[i].content;
+        if (c->what != NOTHING && now_ms() - c->since > CONTENT_MS && mailbox_bytes(&t->rabbit->events) < EVENTS_BYTES) {
+            because(t, "payload", "it does not come to its end");
+            lose(t);
+        }
     }
 }
 
@@ -802,6 +818,7 @@ static void round_once(struct thread *t, uint64_t *beat_at)
         *beat_at = now_ms() + 500 * t->config->heartbeat;
     }
     hear(t);
+    end_old(t);
 }
 
 void *rabbit_serve(void *rabbit)

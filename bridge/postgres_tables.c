@@ -30,8 +30,8 @@ static const char *const texts[STATEMENTS] = {
     [OUST] = "SELECT pg_terminate_backend(pid) FROM pg_stat_activity WHERE application_name IN"
              " (SELECT owner FROM dialogue WHERE owner NOT IN ('', $1) AND until < clock_timestamp())"
              " AND coalesce(query_start, '-infinity') < clock_timestamp() - $2 * interval '1 ms'",
-    /* What ran out and has no owner that lives, and of what nobody has (for $3 ms at least) the first $4. Every condition is on the row itself: a row that another
-       process took after this statement began is looked at again as it is by then, and left alone. */
+    /* What ran out and has no owner that lives, and of what nobody has (for $3 ms at least) the first $4. Every condition is on the
+       row itself: a row that another process took after this statement began is looked at again as it is by then, and left alone. */
     [TAKE] = "WITH open AS (SELECT dialogue, number, owner FROM dialogue WHERE owner NOT IN ('', $1) AND until < clock_timestamp()"
              " AND NOT EXISTS (SELECT FROM pg_stat_activity a WHERE a.application_name = dialogue.owner AND a.query_start >= clock_timestamp() - $2 * interval '1 ms')"
              " OR owner = '' AND until < clock_timestamp() - $3 * interval '1 ms' AND dialogue IN"

@@ -9,15 +9,20 @@
 #include "notify.h"
 #include "witness.h"
 
-#define PAYLOADS 256      /* of a batch, at most */
+#define PAYLOADS 256      /* that are fetched from the broker in a round, at most */
+#define ENVELOPES 64      /* of a dialogue, before the others have their turn */
+#define LETTERS_ROUND 512 /* that a round may post */
+#define ROUND_MS 100      /* that it may take before it commits */
 #define PRIMITIVES 64     /* of a dialogue in a batch, at most */
 #define BACKLOG 64        /* primitives that wait on a connection before its queue is left alone */
 #define SETTLE_MS 200     /* how long confirmed letters wait for a commit of their own */
 #define WITNESS_MS 1000
-#define LONGEST_SLEEP 500 /* so that heartbeats go out */
+#define LONGEST_SLEEP 500 /* so that nothing is forgotten */
 #define LOOKS 6           /* for dialogues that nobody has, in the time of a lease, */
 #define LOOK_MS 500       /* and as often as this */
 #define QUEUE_MS 200      /* until a queue that another bridge consumes is tried again */
+#define ANSWER_MS 30000   /* that an answer about a queue may take */
+#define LATE_MS 50        /* until what another session of the database holds up is tried again */
 #define GIVE_BACK_MS 10   /* until it is looked again whether a dialogue can be given back */
 
 /* the first dialogue from here on that is ours */
@@ -32,18 +37,109 @@ static struct dialogue *ours_from(struct bridge *b, struct dialogue *d)
 
 static int stopping(const struct bridge *b) { return b->stop_by != 0; }
 
-/* ---- the broker comes and goes */
+/* What was decided of a dialogue is not kept yet: nothing of it leaves, and nothing more of it is heard. */
+static int is_late(const struct bridge *b, const struct dialogue *d) { return b->journal->late(b->journal, d->number); }
 
-static void broker_lost(struct bridge *b)
+int spent(const struct bridge *b) { return b->letters_left == 0 || now_ms() >= b->round_until; }
+
+/* Above this no letter is made that can wait: no payload is read, and no aircraft is heard. */
+static int outbox_full(const struct bridge *b) { return b->metrics.letters >= b->config->outbox_most; }
+
+/* the dialogue that has the i-th turn in this round */
+static struct dialogue *in_turn(struct bridge *b, unsigned i) { return &b->dialogue[(b->turn + i) % b->config->dialogues]; }
+
+static void grow_wait(uint64_t *wait, uint64_t most) { *wait = 2 * *wait < most ? 2 * *wait : most; }
+
+/* ---- payloads that wait to be read */
+
+static void inbox_put(struct bridge *b, struct dialogue *d, const struct broker_event *e)
+{
+    size_t bytes = e->bytes < b->config->payload_most ? e->bytes : (size_t)b->config->payload_most;
+    struct payload *p = malloc(sizeof *p + bytes);
+    if (p == NULL)
+        log_and_exit(EXIT_MEMORY, "memory", "a payload does not fit", "out of memory");
+    p->behind = NULL;
+    p->receipt = e->receipt;
+    p->length = e->bytes;
+    memcpy(p->byte, e->payload, bytes);
+    if (d->inbox == NULL)
+        d->inbox = p;
+    else
+        d->inbox_last->behind = p;
+    d->inbox_last = p;
+}
+
+static void inbox_drop(struct dialogue *d)
+{
+    struct payload *p = d->inbox;
+    d->inbox = p->behind;
+    d->reading = 0;
+    free(p);
+}
+
+/* Without a receipt what is dropped comes again, here or elsewhere. */
+static void inbox_empty(struct dialogue *d)
+{
+    while (d->inbox != NULL)
+        inbox_drop(d);
+}
+
+/* Some envelopes of a dialogue. A payload that was read to its end has its receipt with the next commit. */
+static int read_some(struct bridge *b, struct dialogue *d)
+{
+    int n;
+    if (d->lease == 0 || is_late(b, d))
+        return 0;
+    for (n = 0; n < ENVELOPES && d->inbox != NULL && !spent(b); n++)
+        if (!call_envelope(b, d)) {
+            d->receipt = d->inbox->receipt;
+            inbox_drop(d);
+        }
+    return n;
+}
+
+static void read_payloads(struct bridge *b)
+{
+    unsigned i;
+    int n = 1;
+    while (n > 0 && !outbox_full(b))
+        for (i = 0, n = 0; i < b->config->dialogues; i++)
+            n += read_some(b, in_turn(b, i));
+}
+
+static int payloads_wait(struct bridge *b)
 {
     struct dialogue *d;
-    log_line(LOG_WARN, "broker lost", TEXT("why", b->broker->why != NULL ? b->broker->why : ""));
-    b->metrics.lost += b->state == BROKER_OURS;
+    for EACH (b, d)
+        if (d->inbox != NULL && !is_late(b, d))
+            return 1;
+    return 0;
+}
+
+/* ---- the broker comes and goes */
+
+static void connect_later(struct bridge *b)
+{
     b->broker->disconnect(b->broker);
-    b->state = BROKER_AWAY;
     b->connect_at = now_ms() + b->connect_wait;
+    grow_wait(&b->connect_wait, b->config->reconnect_most);
+}
+
+/* A connection that did not last is no reason to try at once. */
+static void broker_lost(struct bridge *b, const char *why)
+{
+    struct dialogue *d;
+    if (now_ms() - b->connected_at >= b->config->reconnect_most)
+        b->connect_wait = b->config->reconnect;
+    log_line(LOG_WARN, "broker lost", TEXT("why", why), NUMBER("wait_ms", b->connect_wait));
+    b->metrics.lost += b->state == BROKER_OURS;
+    b->state = BROKER_AWAY;
+    b->blocked = 0;
+    connect_later(b);
     for EACH (b, d) {
-        d->consuming = 0;
+        inbox_empty(d); /* what was not read comes again, with another receipt */
+        d->queue = QUEUE_LEFT;
+        d->handed = NOT_HANDED;
         d->receipt.tag = 0; /* it meant something on that connection only */
     }
 }
@@ -51,22 +147,23 @@ static void broker_lost(struct bridge *b)
 static void broker_ours(struct bridge *b)
 {
     b->metrics.connections++;
-    b->connect_wait = b->config->reconnect;
+    b->connected_at = now_ms();
     b->claim_until = 0;
-    publisher_restart(&b->publisher); /* what is in the outbox is given again, under the same ids */
+    publisher_restart(b); /* what is in the outbox is given again, under the same ids */
     log_line(LOG_INFO, "broker ours", NUMBER("connection", b->metrics.connections));
     notify("READY=1");
 }
 
-/* While a call waits for the broker: the dialogues stay ours, and the watchdog hears of us. */
-static void meanwhile(void *with)
+/* While a call waits for the journal: the page answers, and the watchdog hears of us. The journal itself is not asked. */
+static void meanwhile_journal(void *with)
 {
     struct bridge *b = with;
-    b->journal->renew(b->journal);
     if (b->word_at != 0 && now_ms() >= b->word_at) {
         notify("WATCHDOG=1");
         b->word_at = now_ms() + notify_period();
     }
+    if (b->page != NULL)
+        page_serve(b->page, &b->metrics);
 }
 
 /* Another bridge has the queues. The broker may not have noticed yet that an earlier connection of ours is gone, so this one
@@ -81,9 +178,11 @@ static void broker_taken(struct bridge *b)
 
 static void keep_connected(struct bridge *b)
 {
-    if (b->state == BROKER_OURS || now_ms() < b->connect_at)
+    if (b->state == BROKER_OURS || (b->state != BROKER_TRYING && now_ms() < b->connect_at))
         return;
     b->state = b->broker->connect(b->broker);
+    if (b->state == BROKER_TRYING)
+        return;
     if (b->state == BROKER_OURS) {
         broker_ours(b);
         return;
@@ -91,38 +190,97 @@ static void keep_connected(struct bridge *b)
     if (b->state == BROKER_TAKEN)
         broker_taken(b);
     log_line(LOG_WARN, "broker away", TEXT("why", b->broker->why != NULL ? b->broker->why : ""), NUMBER("wait_ms", b->connect_wait));
-    b->broker->disconnect(b->broker);
-    b->connect_at = now_ms() + b->connect_wait;
-    b->connect_wait = 2 * b->connect_wait < b->config->reconnect_most ? 2 * b->connect_wait : b->config->reconnect_most;
+    connect_later(b);
 }
 
 /* A queue is consumed while its dialogue is open, the aircraft keeps up and the outbox has room. */
 static int wanted(const struct bridge *b, const struct dialogue *d)
 {
-    return !stopping(b) && state_of(d) == PEAT_DIALOGUE && d->out.count < BACKLOG && b->metrics.letters < b->config->outbox_most;
+    return !stopping(b) && !is_late(b, d) && state_of(d) == PEAT_DIALOGUE && d->out.count < BACKLOG && !outbox_full(b);
 }
 
-/* A bridge that is gone, or hangs, has its queues until the broker has noticed. */
-static void choose_queue(struct bridge *b, struct dialogue *d, int want)
+static void ask_queue(struct bridge *b, struct dialogue *d, int on)
 {
-    switch (b->broker->consume(b->broker, d->number, want)) {
-    case BROKER_OURS: d->consuming = want; break;
-    case BROKER_AWAY: broker_lost(b); break;
-    case BROKER_TAKEN:
-        d->consume_at = now_ms() + QUEUE_MS;
-        log_line(LOG_INFO, "queue taken", ABOUT(d), TEXT("why", b->broker->why != NULL ? b->broker->why : ""));
-        break;
-    }
+    b->broker->consume(b->broker, d->number, on);
+    d->queue = on ? QUEUE_ASKED : QUEUE_LEAVING;
+    d->asked_at = now_ms();
+}
+
+static void choose_queue(struct bridge *b, struct dialogue *d)
+{
+    int want = wanted(b, d), waits = d->queue == QUEUE_ASKED || d->queue == QUEUE_LEAVING;
+    if (want && d->queue == QUEUE_LEFT && now_ms() >= d->consume_at)
+        ask_queue(b, d, 1);
+    else if (!want && d->queue == QUEUE_CONSUMED)
+        ask_queue(b, d, 0);
+    else if (waits && b->blocked)
+        d->asked_at = now_ms(); /* a broker that takes nothing does not answer either */
+    else if (waits && now_ms() - d->asked_at > ANSWER_MS)
+        broker_lost(b, "no answer about a queue");
 }
 
 static void choose_queues(struct bridge *b)
 {
     struct dialogue *d;
-    for EACH (b, d) {
-        int want = wanted(b, d);
-        if (b->state == BROKER_OURS && want != d->consuming && (!want || now_ms() >= d->consume_at))
-            choose_queue(b, d, want);
-    }
+    for EACH (b, d)
+        if (b->state == BROKER_OURS)
+            choose_queue(b, d);
+}
+
+static void queue_consumed(struct bridge *b, struct dialogue *d)
+{
+    d->queue = QUEUE_CONSUMED;
+    d->consume_wait = b->config->reconnect;
+    if (d->queue_away)
+        log_line(LOG_INFO, "queue back", ABOUT(d));
+    d->queue_away = 0;
+}
+
+/* A bridge that is gone, or hangs, has its queues until the broker has noticed. */
+static void queue_taken(struct dialogue *d, const char *why)
+{
+    if (d->queue != QUEUE_LEAVING)
+        d->queue = QUEUE_LEFT;
+    d->consume_at = now_ms() + QUEUE_MS;
+    log_line(LOG_INFO, "queue taken", ABOUT(d), TEXT("why", why));
+}
+
+/* The queue is gone, or may not be read: its jobs wait, or are lost with it, and the operator hears of it. It is tried again. */
+static void queue_away(struct bridge *b, struct dialogue *d, const char *why)
+{
+    if (d->queue != QUEUE_LEAVING)
+        d->queue = QUEUE_LEFT;
+    b->metrics.queues_away++;
+    d->queue_away = 1;
+    d->consume_at = now_ms() + d->consume_wait;
+    log_line(LOG_WARN, "queue away", ABOUT(d), TEXT("why", why), NUMBER("wait_ms", d->consume_wait));
+    grow_wait(&d->consume_wait, b->config->reconnect_most);
+}
+
+static void broker_blocked(struct bridge *b, int blocked, const char *why)
+{
+    if (blocked)
+        log_line(LOG_WARN, "broker blocked", TEXT("why", why), NUMBER("letters", b->metrics.letters));
+    else
+        log_line(LOG_INFO, "broker unblocked", NUMBER("letters", b->metrics.letters));
+    b->blocked = blocked;
+}
+
+static void hear_queue(struct bridge *b, struct dialogue *d, const struct broker_event *e)
+{
+    b->again = 1; /* there may be something to do about it */
+    if (e->news == BROKER_CONSUMES)
+        queue_consumed(b, d);
+    else if (e->news == BROKER_LEFT)
+        d->queue = QUEUE_LEFT;
+    else if (e->news == BROKER_QUEUE_TAKEN)
+        queue_taken(d, e->why);
+    else if (e->news == BROKER_QUEUE_AWAY)
+        queue_away(b, d, e->why);
+    else if (e->news == BROKER_HANDED_BACK)
+        d->handed = HANDED;
+    else if (!stopping(b) && d->lease != 0)
+        inbox_put(b, d, e); /* else it goes back to its queue without a receipt, for the next bridge */
 }
 
 static void hear_broker(struct bridge *b)
@@ -132,26 +290,32 @@ static void hear_broker(struct bridge *b)
         struct broker_event e = b->broker->next(b->broker);
         switch (e.news) {
         case BROKER_QUIET: return;
-        case BROKER_LOST: broker_lost(b); return;
+        case BROKER_LOST: broker_lost(b, e.why); return;
         case BROKER_CONFIRMED: publisher_confirmed(b, e.place, e.all); break;
-        case BROKER_DELIVERY:
-            payloads++;
-            if (stopping(b) || b->dialogue[e.dialogue].lease == 0)
-                break; /* without a receipt it goes back to its queue, for the next bridge */
-            call_payload(b, &b->dialogue[e.dialogue], e.payload, e.bytes);
-            b->dialogue[e.dialogue].receipt = e.receipt;
-            break;
+        case BROKER_REFUSED: publisher_refused(b, e.place, e.all, e.why); break;
+        case BROKER_BLOCKED:
+        case BROKER_UNBLOCKED: broker_blocked(b, e.news == BROKER_BLOCKED, e.why); break;
+        default:
+            payloads += e.news == BROKER_DELIVERY;
+            if (e.dialogue < b->config->dialogues)
+                hear_queue(b, &b->dialogue[e.dialogue], &e);
         }
     }
 }
 
 /* ---- the aircraft */
 
+/* What comes down becomes a letter. A bridge that stops hears its aircraft all the same: they answer the end. */
+static int hears(const struct bridge *b) { return !outbox_full(b) || stopping(b); }
+
+/* Half of a round is for what comes down, so that aircraft that send without an end do not hold up jobs. */
+static int half_spent(const struct bridge *b) { return b->letters_left <= LETTERS_ROUND / 2 || now_ms() + ROUND_MS / 2 >= b->round_until; }
+
 static void hear_aircraft(struct bridge *b, struct dialogue *d)
 {
     struct primitive p;
     int n;
-    for (n = 0; n < PRIMITIVES && !d->closing; n++) {
+    for (n = 0; n < PRIMITIVES && !d->closing && (n == 0 || !half_spent(b)) && hears(b); n++) {
         enum link_answer got = b->link->receive(b->link, d->number, &p);
         if (got == LINK_LATER)
             return;
@@ -172,27 +336,37 @@ static void start(struct bridge *b, struct dialogue *d)
         return;
     }
     d->start_at = now_ms() + d->wait;
-    d->wait = 2 * d->wait < b->config->retry_most ? 2 * d->wait : b->config->retry_most;
+    grow_wait(&d->wait, b->config->retry_most);
+}
+
+/* Payloads that came too late for this bridge are in their queue again. */
+static int handed_back(struct bridge *b, struct dialogue *d)
+{
+    if (b->state != BROKER_OURS || !b->journal->shared || d->handed == HANDED)
+        return 1;
+    if (d->handed == NOT_HANDED)
+        b->broker->hand_back(b->broker, d->number);
+    d->handed = HANDING;
+    return 0;
 }
 
 /* A dialogue that is over, with all of it committed and told, is another bridge's; and so are payloads that came too late for
    this one, before the commit that gives it away. */
 static void give_back(struct bridge *b, struct dialogue *d)
 {
-    if (d->closing || d->consuming || d->changed || d->decided || !b->journal->give_back(b->journal, d->number))
+    if (d->closing || d->queue != QUEUE_LEFT || d->changed || d->decided || !handed_back(b, d) || !b->journal->give_back(b->journal, d->number))
         return;
-    if (b->state == BROKER_OURS && b->broker->hand_back(b->broker, d->number) == BROKER_AWAY)
-        broker_lost(b);
     log_line(LOG_INFO, "gave back", ABOUT(d), NUMBER("lease", d->lease));
     b->metrics.given_back++;
     b->staged = 1;
     d->lease = 0;
 }
 
-/* Told to stop: a dialogue is ended in order once its queue is left alone; one that does not end in time is aborted. */
+/* Told to stop: a dialogue is ended in order once its queue is left alone, or the broker does not answer; one that does not end in time
+   is aborted. */
 static void wind_down(struct bridge *b, struct dialogue *d)
 {
-    if (state_of(d) == PEAT_DIALOGUE && !d->consuming)
+    if (state_of(d) == PEAT_DIALOGUE && (d->queue == QUEUE_LEFT || now_ms() + b->config->stop / 4 * 3 > b->stop_by))
         call_end(b, d);
     else if (state_of(d) == PEAT_START_REQ || (state_of(d) != PEAT_IDLE && now_ms() + b->config->stop / 4 > b->stop_by))
         call_abort(b, d);
@@ -212,12 +386,20 @@ static void tend(struct bridge *b, struct dialogue *d)
 
 /* ---- release: the order that everything here is about */
 
+static unsigned count_late(const struct bridge *b)
+{
+    unsigned d, n = 0;
+    for (d = 0; d < b->config->dialogues; d++)
+        n += b->journal->late(b->journal, d) != 0;
+    return n;
+}
+
 static void commit(struct bridge *b)
 {
     uint64_t began = now_us();
     struct dialogue *d;
     int settles = b->settled_since != 0 && (stopping(b) || now_ms() - b->settled_since >= SETTLE_MS);
-    if (!b->staged && !settles)
+    if (!b->staged && !settles && (b->late_at == 0 || now_ms() < b->late_at))
         return;
     for EACH (b, d) {
         if (d->changed)
@@ -227,6 +409,7 @@ static void commit(struct bridge *b)
         d->changed = d->decided = 0;
     }
     b->journal->commit(b->journal);
+    b->late_at = count_late(b) > 0 ? now_ms() + LATE_MS : 0;
     b->staged = 0;
     b->settled_since = 0;
     metrics_commit(&b->metrics, now_us() - began);
@@ -241,6 +424,8 @@ static void send_primitives(struct bridge *b)
         enum link_answer sent = LINK_DONE;
         if (q->count > 0)
             b->journal->renew(b->journal); /* a process that slept since its commit may have lost its dialogues */
+        if (is_late(b, d))
+            continue;
         while (q->count > 0 && sent == LINK_DONE) {
             at_point(b, AT_SENDING);
             sent = b->link->send(b->link, d->number, &q->item[q->oldest]);
@@ -266,12 +451,9 @@ static void acknowledge(struct bridge *b)
 {
     struct dialogue *d;
     for EACH (b, d) {
-        if (d->receipt.tag == 0 || b->state != BROKER_OURS)
+        if (d->receipt.tag == 0 || b->state != BROKER_OURS || is_late(b, d))
             continue;
-        if (!b->broker->acknowledge(b->broker, d->number, d->receipt)) {
-            broker_lost(b);
-            return;
-        }
+        b->broker->acknowledge(b->broker, d->number, d->receipt);
         d->receipt.tag = 0;
     }
 }
@@ -279,8 +461,8 @@ static void acknowledge(struct bridge *b)
 /* Letters that were posted since the commit wait for the next one. */
 static void publish(struct bridge *b)
 {
-    if (b->state == BROKER_OURS && !b->staged && !publisher_give(b))
-        broker_lost(b);
+    if (b->state == BROKER_OURS && !b->staged)
+        publisher_give(b);
 }
 
 static void release(struct bridge *b)
@@ -305,9 +487,11 @@ static int sleep_ms(struct bridge *b)
 {
     uint64_t now = now_ms(), at = now + LONGEST_SLEEP;
     struct dialogue *d;
-    if (b->staged || (b->state == BROKER_OURS && b->broker->buffered(b->broker)))
+    if (b->staged || b->again || (b->state == BROKER_OURS && b->broker->buffered(b->broker)) || (payloads_wait(b) && !outbox_full(b)))
         return 0;
-    if (b->state != BROKER_OURS)
+    if (b->state == BROKER_OURS)
+        at = earlier(at, b->publisher.more ? now : publisher_again(b));
+    else if (b->state != BROKER_TRYING)
         at = earlier(at, b->connect_at);
     if (b->settled_since != 0)
         at = earlier(at, stopping(b) ? now : b->settled_since + SETTLE_MS);
@@ -315,12 +499,17 @@ static int sleep_ms(struct bridge *b)
         at = earlier(at, now + GIVE_BACK_MS);
     at = earlier(at, b->word_at);
     at = earlier(at, b->take_at);
+    at = earlier(at, b->late_at);
     for EACH (b, d) {
+        if (is_late(b, d))
+            continue;
         at = earlier(at, d->expires);
         if (d->closing)
             at = earlier(at, d->close_by);
         if (state_of(d) == PEAT_IDLE && !stopping(b) && b->state == BROKER_OURS)
             at = earlier(at, d->start_at);
+        if (d->queue == QUEUE_LEFT && b->state == BROKER_OURS && wanted(b, d))
+            at = earlier(at, d->consume_at);
     }
     return at > now ? (int)(at - now) : 0;
 }
@@ -331,10 +520,10 @@ static void wait_for_news(struct bridge *b)
     struct dialogue *d;
     size_t n = 0;
     int ms = sleep_ms(b);
-    if (b->state == BROKER_OURS)
+    if (b->state == BROKER_OURS || b->state == BROKER_TRYING)
         polls[n++] = (struct pollfd){b->broker->descriptor(b->broker), POLLIN, 0};
     for EACH (b, d)
-        polls[n++] = (struct pollfd){d->closing ? -1 : b->link->descriptor(b->link, d->number), (short)(POLLIN | (d->out.count > 0 ? POLLOUT : 0)), 0};
+        polls[n++] = (struct pollfd){d->closing || is_late(b, d) ? -1 : b->link->descriptor(b->link, d->number), (short)((hears(b) ? POLLIN : 0) | (d->out.count > 0 ? POLLOUT : 0)), 0};
     if (b->page != NULL)
         n += page_polls(b->page, polls + n);
     poll(polls, (nfds_t)n, ms);
@@ -347,13 +536,21 @@ static void take_stock(struct bridge *b)
     b->metrics.letters = b->journal->waiting(b->journal, &since);
     b->metrics.oldest_ms = since != 0 && wall_ms() > since ? wall_ms() - since : 0;
     b->metrics.broker = b->state == BROKER_OURS;
-    b->metrics.open = b->metrics.unsent = b->metrics.owned = 0;
+    b->metrics.late = count_late(b);
+    b->metrics.blocked = (uint64_t)b->blocked;
+    b->metrics.broker_waits_ms = b->broker->waits(b->broker);
+    b->metrics.letters_held = (uint64_t)publisher_held(b);
+    b->metrics.open = b->metrics.unsent = b->metrics.owned = b->metrics.queues = b->metrics.unread = 0;
     memset(b->metrics.lease, 0, sizeof b->metrics.lease);
+    memset(b->metrics.queue_away, 0, sizeof b->metrics.queue_away);
     for EACH (b, d) {
         b->metrics.owned++;
         b->metrics.lease[d->number] = d->lease;
         b->metrics.open += state_of(d) == PEAT_DIALOGUE;
         b->metrics.unsent += d->out.count;
+        b->metrics.queues += d->queue == QUEUE_CONSUMED;
+        b->metrics.unread += d->inbox != NULL;
+        b->metrics.queue_away[d->number] = (uint8_t)d->queue_away;
     }
 }
 
@@ -388,11 +585,15 @@ static int finished(struct bridge *b)
     return b->metrics.letters == 0 && b->settled_since == 0;
 }
 
+/* Payloads that were not read to their end go back to their queues. */
 static void hear_stop(struct bridge *b, const volatile sig_atomic_t *stop)
 {
+    struct dialogue *d;
     if (!*stop || stopping(b))
         return;
     b->stop_by = now_ms() + b->config->stop;
+    for EACH (b, d)
+        inbox_empty(d);
     notify("STOPPING=1");
     log_line(LOG_INFO, "stopping", NUMBER("open", b->metrics.open), NUMBER("letters", b->metrics.letters));
 }
@@ -423,7 +624,11 @@ static void begin_dialogue(struct bridge *b, const struct taken *t)
     struct dialogue *d = &b->dialogue[t->dialogue];
     d->lease = t->lease;
     d->latest.first = 0;
-    d->consuming = 0;
+    d->queue = QUEUE_LEFT;
+    d->handed = NOT_HANDED;
+    d->consume_wait = b->config->reconnect;
+    d->consume_at = now_ms();
+    d->queue_away = 0;
     d->wait = b->config->retry;
     d->start_at = now_ms();
     jobs_clear(&d->held);
@@ -481,8 +686,10 @@ void bridge_begin(struct bridge *b, const struct config *c, struct journal *j, s
     b->connect_at = now_ms();
     b->word_at = notify_period() != 0 ? now_ms() : 0;
     b->metrics.host = c->host;
-    broker->meanwhile = meanwhile;
-    broker->with = b;
+    publisher_restart(b);
+    j->meanwhile = meanwhile_journal;
+    j->with = b;
+    j->patient = 1;
     for (d = 0; d < DIALOGUES_MOST; d++)
         b->dialogue[d].number = d;
     if (j->shared)
@@ -501,23 +708,36 @@ static void forget(struct bridge *b)
     for (d = 0; d < DIALOGUES_MOST; d++) {
         free(b->dialogue[d].out.item);
         free(b->dialogue[d].held.range);
+        inbox_empty(&b->dialogue[d]);
     }
+}
+
+/* A round has a share of letters and of time; whoever it has no time for is the first in the next one. */
+static void begin_round(struct bridge *b)
+{
+    b->again = 0;
+    b->letters_left = LETTERS_ROUND;
+    b->round_until = now_ms() + ROUND_MS;
+    b->turn = (b->turn + 1) % (unsigned)b->config->dialogues;
 }
 
 void bridge_run(struct bridge *b, const volatile sig_atomic_t *stop)
 {
-    struct dialogue *d;
+    unsigned i;
     while (!finished(b)) {
         wait_for_news(b);
+        begin_round(b);
         hear_stop(b, stop);
         keep_connected(b);
         look_for_dialogues(b);
         choose_queues(b);
-        for EACH (b, d)
-            tend(b, d);
+        for (i = 0; i < b->config->dialogues; i++)
+            if (in_turn(b, i)->lease != 0 && !is_late(b, in_turn(b, i)))
+                tend(b, in_turn(b, i));
         if (stopping(b))
             at_point(b, AT_STOPPING);
         hear_broker(b);
+        read_payloads(b);
         release(b);
         housekeeping(b);
     }

@@ -22,12 +22,29 @@
 #include "jobs.h"
 #include "journal.h"
 #include "link.h"
+#include "mail.h"
 #include "metrics.h"
 
 /* primitives that wait to be sent, the oldest first */
 struct queue {
     struct primitive *item;
     size_t oldest, count, room;
+};
+
+/* A payload that came and is not read to its end: what a round has no time for the next one goes on with. */
+struct payload {
+    struct payload *behind;
+    struct receipt receipt;
+    size_t length;  /* of the payload; longer than payload_most: so many bytes are here */
+    uint8_t byte[];
+};
+
+/* of a dialogue's queue */
+enum queue_state {
+    QUEUE_LEFT,     /* it is not consumed */
+    QUEUE_ASKED,    /* the broker was asked to consume it */
+    QUEUE_CONSUMED,
+    QUEUE_LEAVING   /* it was asked to stop */
 };
 
 struct dialogue {
@@ -43,19 +60,38 @@ struct dialogue {
     uint64_t close_by;      /* or at this time */
     uint64_t expires;       /* t-start; 0: it does not run */
     uint64_t start_at, wait; /* when to start again, and how long to wait after the next failure */
-    int consuming;
-    uint64_t consume_at;    /* another consumer was there: when to try again */
-    struct receipt receipt; /* of the last payload in this batch; tag 0: none */
+    enum queue_state queue;
+    uint64_t asked_at;      /* since when an answer about the queue is waited for */
+    uint64_t consume_at, consume_wait; /* when to try again, and how long to wait after the next failure */
+    int queue_away;         /* it could not be consumed when it was tried last */
+    enum { NOT_HANDED, HANDING, HANDED } handed; /* back to the queue: what was delivered and not read */
+    struct payload *inbox, *inbox_last;
+    struct mail mail;       /* the first payload, where it was begun */
+    int reading;            /* it was */
+    struct receipt receipt; /* of the last payload that was read to its end in this batch; tag 0: none */
+    uint64_t unexpected, unexpected_at; /* starts that came from the aircraft since one was logged, and when the next may be */
 };
 
-#define WINDOW 1024 /* letters under way to the broker, at most */
+/* Letters to one of the two queues. One queue that takes nothing does not hold up the other. */
+struct lane {
+    uint64_t behind;    /* letters up to this turn were given on this connection, or are the other lane's */
+    uint64_t under_way; /* how many have no answer */
+    uint64_t most;      /* how many may be: one after a refusal, and twice as many with each that is stored */
+    uint64_t refused;   /* the lowest turn that the broker refused: from there on it is given again; 0: none */
+    uint64_t again_at, wait;
+    int held;           /* none was stored since one was refused */
+};
+
+enum { LANE_DOWN, LANE_DEAD, LANES };
 
 /* The outbox on its way to the broker. Letters have places on a connection, from 1 on. */
 struct publisher {
-    uint64_t behind;       /* letters up to this turn were given on this connection */
     uint64_t given;        /* the place of the last one */
-    uint64_t oldest;       /* the first place that is not confirmed */
-    uint64_t turn[WINDOW]; /* by place; 0: confirmed */
+    uint64_t oldest;       /* the first place that has no answer */
+    uint64_t turn[WINDOW]; /* by place; 0: it has one */
+    uint8_t in[WINDOW];    /* by place: its lane */
+    struct lane lane[LANES];
+    int more;              /* a round's share of letters was given, and there may be others */
 };
 
 struct bridge {
@@ -70,11 +106,17 @@ struct bridge {
     struct publisher publisher;
     struct metrics metrics;
     int staged;              /* there is something to commit at once */
+    int again;               /* the next round comes at once */
+    unsigned letters_left;   /* that this round may post, */
+    uint64_t round_until;    /* and until when it may go on before it commits */
+    unsigned turn;           /* the dialogue that is looked at first */
     uint64_t settled_since;  /* there are confirmed letters to delete, since then; 0: there are none */
     enum broker_state state;
-    uint64_t connect_at, connect_wait, claim_until;
+    int blocked;             /* the broker takes no letters */
+    uint64_t connected_at, connect_at, connect_wait, claim_until;
     uint64_t stop_by;        /* 0: not stopping */
     uint64_t witness_at, witnessed, word_at, take_at;
+    uint64_t late_at;        /* what another session of the database holds up is tried again then; 0: nothing is */
 };
 
 /* Takes the dialogues of a journal that is this process's alone. Those that were open are broken now; that is committed. */
@@ -87,20 +129,28 @@ void bridge_run(struct bridge *, const volatile sig_atomic_t *stop);
 
 static inline unsigned state_of(const struct dialogue *d) { return peat_record_state(d->kept.record); }
 
+/* The round has done its share: what it has not looked at waits for the next one, behind a commit. */
+int spent(const struct bridge *);
+
 void call_start(struct bridge *, struct dialogue *);
 void call_end(struct bridge *, struct dialogue *);
 void call_abort(struct bridge *, struct dialogue *);
 void call_expiry(struct bridge *, struct dialogue *);
 void call_primitive(struct bridge *, struct dialogue *, const struct primitive *);
 void call_failure(struct bridge *, struct dialogue *, const char *why);
-void call_payload(struct bridge *, struct dialogue *, const uint8_t *payload, size_t bytes);
+/* Reads one envelope of a dialogue's first payload. 1: there are others in it; 0: it was read to its end */
+int call_envelope(struct bridge *, struct dialogue *);
 
 /* ---- publisher.c */
 
-void publisher_restart(struct publisher *);
-/* 0: the connection is lost */
-int publisher_give(struct bridge *);
+void publisher_restart(struct bridge *);
+void publisher_give(struct bridge *);
 void publisher_confirmed(struct bridge *, uint64_t place, int all);
+void publisher_refused(struct bridge *, uint64_t place, int all, const char *why);
+/* Letters to one of the queues wait since the broker refuses them. */
+int publisher_held(const struct bridge *);
+/* when letters that were refused are given again; 0: there are none */
+uint64_t publisher_again(const struct bridge *);
 
 /* ---- points where the tests kill the process; in the bridge itself nothing happens there (points.c) */
 

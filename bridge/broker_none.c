@@ -1,9 +1,12 @@
 /* A bridge that is built without an AMQP library knows no broker. */
 #include "broker.h"
 
+#include <stddef.h>
+
 int broker_open_rabbit(struct broker *b, const struct config *c)
 {
-    (void)b;
     (void)c;
+    b->ends = NULL;
+    b->why = "this bridge was built without an AMQP library";
     return 0;
 }

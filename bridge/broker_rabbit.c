@@ -1,451 +1,250 @@
 /*
- * RabbitMQ, by AMQP 0-9-1 (librabbitmq). One connection; a channel for letters, with confirmations, and a channel for each
- * dialogue's queue, so that receipts and prefetch are the dialogue's own.
- *
- * The queues are claimed by a queue that only one connection may have (`queue_owner`); besides, each queue's consumer is
- * exclusive. Whatever goes wrong on a channel costs the connection: the bridge then connects anew, and nothing is lost by
- * that.
+ * The broker's face for RabbitMQ: orders and letters go to the thread that has the library (rabbit.h), and its events are handed on.
+ * Nothing here waits, but for the end, which waits a moment for the thread.
  */
-#include <amqp.h>
-#include <amqp_ssl_socket.h>
-#include <amqp_tcp_socket.h>
+#include <signal.h>
 #include <stdio.h>
 #include <stdlib.h>
 #include <string.h>
-#include <sys/time.h>
+#include <sys/socket.h>
+#include <time.h>
 
-#include "broker.h"
 #include "clock.h"
-#include "config.h"
 #include "log.h"
+#include "rabbit.h"
 
-#define FRAME_MOST 131072
-#define LETTERS 1 /* the channel of letters; that of dialogue d is FIRST_QUEUE + d */
-#define FIRST_QUEUE 2
-#define PERSISTENT 2
-#define CONNECT_MS 20000 /* that the queues may take when a connection is made: the watchdog waits for a minute */
-
-static const struct timeval open_timeout = {2, 0}, at_once = {0, 0};
-#define ANSWER_MS 5000 /* that an answer of the broker may take */
+#define LETTERS_BYTES 1048576 /* of letters that wait for the thread, beside one */
+#define CALL_MS 30000         /* that one call of the library may take */
+#define END_MS 2000           /* that the thread may take to end, and then once more when its connection is cut */
 
 struct ends {
-    const struct config *config;
-    char password[CONFIG_TEXT];
-    amqp_connection_state_t amqp; /* NULL: not connected */
-    uint64_t connection;
-    amqp_envelope_t envelope; /* of the last delivery */
-    int has_envelope;
-    char why[CONFIG_TEXT + 160];
+    struct rabbit rabbit;
+    pthread_t thread;
+    int running, asked;    /* asked: it connects, and what comes of it is not known */
+    uint64_t connection;   /* the one that is ours; 0: none */
+    struct parcel *latest; /* the event that was handed out last */
+    char why[CONFIG_TEXT + 200];
 };
 
 static struct ends *ends_of(struct broker *b) { return b->ends; }
 
-/* ---- what went wrong */
+/* ---- orders */
 
-static void because(struct broker *b, const char *what, const char *why)
+static void order(struct broker *b, int what, unsigned dialogue)
 {
-    snprintf(ends_of(b)->why, sizeof ends_of(b)->why, "%s: %s", what, why);
-    b->why = ends_of(b)->why;
+    struct parcel *o = parcel_make(what, 0);
+    o->dialogue = dialogue;
+    o->connection = ends_of(b)->connection;
+    mailbox_put(&ends_of(b)->rabbit.orders, o);
 }
 
-/* the text of a close by the broker, and its number */
-static int closed_with(const amqp_rpc_reply_t *r, char *text, size_t room)
+static void rabbit_consume(struct broker *b, unsigned dialogue, int on) { order(b, on ? ORDER_CONSUME : ORDER_LEAVE, dialogue); }
+
+static void rabbit_hand_back(struct broker *b, unsigned dialogue) { order(b, ORDER_HAND_BACK, dialogue); }
+
+static void rabbit_acknowledge(struct broker *b, unsigned dialogue, struct receipt r)
 {
-    const amqp_bytes_t *said = NULL;
-    int number = 0;
-    if (r->reply.id == AMQP_CONNECTION_CLOSE_METHOD) {
-        const amqp_connection_close_t *m = r->reply.decoded;
-        said = &m->reply_text;
-        number = m->reply_code;
-    } else if (r->reply.id == AMQP_CHANNEL_CLOSE_METHOD) {
-        const amqp_channel_close_t *m = r->reply.decoded;
-        said = &m->reply_text;
-        number = m->reply_code;
-    }
-    snprintf(text, room, "%.*s", said != NULL ? (int)said->len : 0, said != NULL ? (const char *)said->bytes : "");
-    return number;
+    struct parcel *o = parcel_make(ORDER_ACKNOWLEDGE, 0);
+    o->dialogue = dialogue;
+    o->connection = ends_of(b)->connection;
+    o->channel = r.channel;
+    o->tag = r.tag;
+    mailbox_put(&ends_of(b)->rabbit.orders, o);
 }
 
-/* 1: an answer is no failure. Else *number is the number with which the broker closed, or 0. */
-static int good(struct broker *b, amqp_rpc_reply_t r, const char *what, int *number)
+static int rabbit_publish(struct broker *b, const struct letter *l)
 {
-    char text[120];
-    *number = 0;
-    if (r.reply_type == AMQP_RESPONSE_NORMAL)
-        return 1;
-    if (r.reply_type == AMQP_RESPONSE_SERVER_EXCEPTION) {
-        *number = closed_with(&r, text, sizeof text);
-        because(b, what, text);
-    } else {
-        because(b, what, r.reply_type == AMQP_RESPONSE_LIBRARY_EXCEPTION ? amqp_error_string2(r.library_error) : "no answer");
-    }
-    return 0;
+    struct mailbox *letters = &ends_of(b)->rabbit.letters;
+    struct parcel *o;
+    if (mailbox_bytes(letters) > LETTERS_BYTES)
+        return 0;
+    o = parcel_make(ORDER_LETTER, l->bytes);
+    o->connection = ends_of(b)->connection;
+    o->dialogue = l->dialogue;
+    o->since = l->since;
+    snprintf(o->id, sizeof o->id, "%s-%llu", l->journal, (unsigned long long)l->id);
+    snprintf(o->type, sizeof o->type, "%s", l->type);
+    snprintf(o->reason, sizeof o->reason, "%s", l->reason);
+    memcpy(o->byte, l->body, l->bytes);
+    mailbox_put(letters, o);
+    return 1;
 }
-
-/* An answer came and is no failure. Answers take their time, so what is due meanwhile is done. */
-static int worked(struct broker *b, const char *what)
-{
-    int number, fine = good(b, amqp_get_rpc_reply(ends_of(b)->amqp), what, &number);
-    if (b->meanwhile != NULL)
-        b->meanwhile(b->with);
-    return fine;
-}
-
-/* Where leases run out an answer may take half of one at most. */
-static struct timeval answer_timeout(const struct config *c)
-{
-    uint64_t ms = c->database[0] != '\0' && c->lease / 2 < ANSWER_MS ? c->lease / 2 : ANSWER_MS;
-    struct timeval t;
-    t.tv_sec = (time_t)(ms / 1000);
-    t.tv_usec = (suseconds_t)(ms % 1000 * 1000);
-    return t;
-}
-
-/* ---- connecting */
 
 static void rabbit_disconnect(struct broker *b)
 {
-    struct ends *e = ends_of(b);
-    if (e->has_envelope)
-        amqp_destroy_envelope(&e->envelope);
-    e->has_envelope = 0;
-    if (e->amqp != NULL)
-        amqp_destroy_connection(e->amqp); /* the socket is closed: the broker needs no word of it */
-    e->amqp = NULL;
+    order(b, ORDER_DISCONNECT, 0);
+    ends_of(b)->connection = 0; /* what is told of it still is old */
 }
 
-/* A socket, with TLS where the configuration names whom to trust. The broker's certificate must be of that authority and of
-   the name that is connected to. */
-static amqp_socket_t *make_socket(struct ends *e)
+/* ---- events */
+
+static void forget_latest(struct ends *e)
 {
-    const struct config *c = e->config;
-    amqp_socket_t *s;
-    if (c->tls_ca[0] == '\0')
-        return amqp_tcp_socket_new(e->amqp);
-    s = amqp_ssl_socket_new(e->amqp);
-    if (s == NULL || amqp_ssl_socket_set_cacert(s, c->tls_ca) != AMQP_STATUS_OK)
-        return NULL;
-    amqp_ssl_socket_set_verify_peer(s, 1);
-    amqp_ssl_socket_set_verify_hostname(s, 1);
-    amqp_ssl_socket_set_ssl_versions(s, AMQP_TLSv1_2, AMQP_TLSvLATEST);
-    if (c->tls_certificate[0] != '\0' && amqp_ssl_socket_set_key(s, c->tls_certificate, c->tls_key) != AMQP_STATUS_OK)
-        return NULL;
-    return s;
+    free(e->latest);
+    e->latest = NULL;
 }
 
-static int open_socket(struct broker *b)
-{
-    struct ends *e = ends_of(b);
-    amqp_socket_t *s;
-    int status;
-    e->amqp = amqp_new_connection();
-    s = e->amqp != NULL ? make_socket(e) : NULL;
-    if (s == NULL) {
-        because(b, "socket", "no memory, or a file of TLS can not be read");
-        return 0;
-    }
-    status = amqp_socket_open_noblock(s, e->config->broker, (int)e->config->port, &open_timeout);
-    if (status != AMQP_STATUS_OK)
-        because(b, "connect", amqp_error_string2(status));
-    return status == AMQP_STATUS_OK;
-}
-
-/* Without a password the certificate says who we are. */
-static int log_in(struct broker *b)
-{
-    struct ends *e = ends_of(b);
-    const struct config *c = e->config;
-    struct timeval wait = answer_timeout(c);
-    amqp_rpc_reply_t r;
-    int number;
-    amqp_set_handshake_timeout(e->amqp, &wait);
-    amqp_set_rpc_timeout(e->amqp, &wait);
-    if (e->password[0] == '\0' && c->tls_certificate[0] != '\0')
-        r = amqp_login(e->amqp, c->host_name, 0, FRAME_MOST, (int)c->heartbeat, AMQP_SASL_METHOD_EXTERNAL, c->user);
-    else
-        r = amqp_login(e->amqp, c->host_name, 0, FRAME_MOST, (int)c->heartbeat, AMQP_SASL_METHOD_PLAIN, c->user, e->password);
-    return good(b, r, "login", &number);
-}
-
-/* The queue that one connection may have: RESOURCE_LOCKED where another has it. Bridges that share a journal have their
-   dialogues, and with them their queues, by leases. */
-static enum broker_state claim(struct broker *b)
-{
-    struct ends *e = ends_of(b);
-    int number;
-    if (e->config->database[0] != '\0')
-        return BROKER_OURS;
-    amqp_queue_declare(e->amqp, LETTERS, amqp_cstring_bytes(e->config->queue_owner), 0, 0, 1, 0, amqp_empty_table);
-    if (good(b, amqp_get_rpc_reply(e->amqp), e->config->queue_owner, &number))
-        return BROKER_OURS;
-    return number == AMQP_RESOURCE_LOCKED ? BROKER_TAKEN : BROKER_AWAY;
-}
-
-/* The queue is there. */
-static int known(struct broker *b, const char *queue)
-{
-    amqp_queue_declare(ends_of(b)->amqp, LETTERS, amqp_cstring_bytes(queue), 1, 0, 0, 0, amqp_empty_table);
-    return worked(b, queue);
-}
-
-static int open_channel(struct broker *b, amqp_channel_t channel)
-{
-    struct ends *e = ends_of(b);
-    amqp_channel_open(e->amqp, channel);
-    if (!worked(b, "channel"))
-        return 0;
-    amqp_basic_qos(e->amqp, channel, 0, (uint16_t)e->config->prefetch, 0);
-    return worked(b, "prefetch");
-}
-
-static int open_channels(struct broker *b)
-{
-    struct ends *e = ends_of(b);
-    const struct config *c = e->config;
-    char queue[CONFIG_TEXT + 2];
-    uint64_t until = now_ms() + CONNECT_MS;
-    unsigned d;
-    if (!known(b, c->queue_down) || !known(b, c->queue_dead))
-        return 0;
-    for (d = 0; d < c->dialogues; d++) {
-        config_name(c->queue_up, d, queue, sizeof queue);
-        if (now_ms() > until) {
-            because(b, queue, "the broker is too slow");
-            return 0;
-        }
-        if (!known(b, queue))
-            return 0;
-        if (!open_channel(b, (amqp_channel_t)(FIRST_QUEUE + d)))
-            return 0;
-    }
-    amqp_confirm_select(e->amqp, LETTERS);
-    return worked(b, "confirmations");
-}
-
+/* The first event is whether the connection came about; others that stand before it are of an older one. */
 static enum broker_state rabbit_connect(struct broker *b)
 {
     struct ends *e = ends_of(b);
-    enum broker_state claimed;
-    rabbit_disconnect(b);
-    if (!open_socket(b) || !log_in(b))
-        return BROKER_AWAY;
-    amqp_channel_open(e->amqp, LETTERS);
-    if (!worked(b, "channel"))
-        return BROKER_AWAY;
-    claimed = claim(b);
-    if (claimed != BROKER_OURS || !open_channels(b))
-        return claimed == BROKER_OURS ? BROKER_AWAY : claimed;
-    e->connection++;
-    return BROKER_OURS;
-}
-
-/* ---- payloads */
-
-/* The broker closed a channel, since another consumer has its queue: it is opened anew. */
-static enum broker_state reopen(struct broker *b, amqp_channel_t channel)
-{
-    char why[sizeof ends_of(b)->why];
-    amqp_channel_close_ok_t yes = {0};
-    snprintf(why, sizeof why, "%s", b->why);
-    if (amqp_send_method(ends_of(b)->amqp, channel, AMQP_CHANNEL_CLOSE_OK_METHOD, &yes) != AMQP_STATUS_OK || !open_channel(b, channel))
-        return BROKER_AWAY;
-    snprintf(ends_of(b)->why, sizeof ends_of(b)->why, "%s", why);
-    return BROKER_TAKEN;
-}
-
-/* A queue has one consumer: payloads that two had would overtake each other. */
-static enum broker_state rabbit_consume(struct broker *b, unsigned dialogue, int on)
-{
-    struct ends *e = ends_of(b);
-    amqp_channel_t channel = (amqp_channel_t)(FIRST_QUEUE + dialogue);
-    amqp_rpc_reply_t r;
-    char queue[CONFIG_TEXT + 2], tag[8];
-    int number;
-    snprintf(tag, sizeof tag, "%u", dialogue);
-    config_name(e->config->queue_up, dialogue, queue, sizeof queue);
-    if (on)
-        amqp_basic_consume(e->amqp, channel, amqp_cstring_bytes(queue), amqp_cstring_bytes(tag), 0, 0, 1, amqp_empty_table);
-    else
-        amqp_basic_cancel(e->amqp, channel, amqp_cstring_bytes(tag));
-    r = amqp_get_rpc_reply(e->amqp);
-    if (good(b, r, queue, &number))
-        return BROKER_OURS;
-    return number == AMQP_ACCESS_REFUSED && r.reply.id == AMQP_CHANNEL_CLOSE_METHOD ? reopen(b, channel) : BROKER_AWAY;
-}
-
-/* A channel that is closed returns what was not acknowledged. What is buffered of it comes still, for a dialogue that is not ours. */
-static enum broker_state rabbit_hand_back(struct broker *b, unsigned dialogue)
-{
-    amqp_channel_t channel = (amqp_channel_t)(FIRST_QUEUE + dialogue);
-    int number;
-    if (!good(b, amqp_channel_close(ends_of(b)->amqp, channel, AMQP_REPLY_SUCCESS), "channel", &number) || !open_channel(b, channel))
-        return BROKER_AWAY;
-    return BROKER_OURS;
-}
-
-static struct broker_event lost(struct broker *b, const char *what, const char *why)
-{
-    struct broker_event event;
-    memset(&event, 0, sizeof event);
-    because(b, what, why);
-    event.news = BROKER_LOST;
-    return event;
-}
-
-static struct broker_event delivery(struct broker *b)
-{
-    struct ends *e = ends_of(b);
-    struct broker_event event;
-    memset(&event, 0, sizeof event);
-    e->has_envelope = 1;
-    if (e->envelope.channel < FIRST_QUEUE || (unsigned)(e->envelope.channel - FIRST_QUEUE) >= e->config->dialogues)
-        return lost(b, "delivery", "of no dialogue");
-    event.news = BROKER_DELIVERY;
-    event.dialogue = (unsigned)(e->envelope.channel - FIRST_QUEUE);
-    event.receipt = (struct receipt){e->connection, e->envelope.delivery_tag};
-    event.payload = e->envelope.message.body.len > 0 ? e->envelope.message.body.bytes : (const uint8_t *)"";
-    event.bytes = e->envelope.message.body.len;
-    return event;
-}
-
-/* A frame that is no delivery: a confirmation, or bad news. */
-static struct broker_event other_frame(struct broker *b)
-{
-    struct ends *e = ends_of(b);
-    struct broker_event event;
-    struct timeval wait = at_once;
-    amqp_frame_t f;
-    int status = amqp_simple_wait_frame_noblock(e->amqp, &f, &wait);
-    memset(&event, 0, sizeof event);
-    if (status == AMQP_STATUS_TIMEOUT)
-        return event;
-    if (status != AMQP_STATUS_OK)
-        return lost(b, "frame", amqp_error_string2(status));
-    if (f.frame_type != AMQP_FRAME_METHOD)
-        return lost(b, "frame", "out of its place");
-    if (f.payload.method.id == AMQP_BASIC_ACK_METHOD) {
-        const amqp_basic_ack_t *m = f.payload.method.decoded;
-        event.news = BROKER_CONFIRMED;
-        event.place = m->delivery_tag;
-        event.all = m->multiple != 0;
-        return event;
+    enum broker_state state = BROKER_TRYING;
+    struct parcel *p;
+    if (!e->asked)
+        order(b, ORDER_CONNECT, 0);
+    e->asked = 1;
+    while (state == BROKER_TRYING && (p = mailbox_take(&e->rabbit.events)) != NULL) {
+        if (p->what == EVENT_STATE) {
+            state = (enum broker_state)p->tag;
+            e->connection = state == BROKER_OURS ? p->connection : 0;
+            e->asked = 0;
+            memcpy(e->why, p->byte, p->bytes < sizeof e->why ? p->bytes : sizeof e->why);
+            e->why[sizeof e->why - 1] = '\0';
+            b->why = e->why;
+        }
+        free(p);
     }
-    if (f.payload.method.id == AMQP_BASIC_NACK_METHOD)
-        return lost(b, "letter", "the broker did not store it");
-    if (f.payload.method.id == AMQP_BASIC_RETURN_METHOD)
-        return lost(b, "letter", "no queue takes it");
-    return lost(b, "closed by the broker", amqp_method_name(f.payload.method.id));
+    return state;
 }
 
 static struct broker_event rabbit_next(struct broker *b)
 {
     struct ends *e = ends_of(b);
-    struct broker_event quiet;
-    struct timeval wait = at_once;
-    amqp_rpc_reply_t r;
-    memset(&quiet, 0, sizeof quiet);
-    if (e->has_envelope)
-        amqp_destroy_envelope(&e->envelope);
-    e->has_envelope = 0;
-    amqp_maybe_release_buffers(e->amqp);
-    r = amqp_consume_message(e->amqp, &e->envelope, &wait, 0);
-    if (r.reply_type == AMQP_RESPONSE_NORMAL)
-        return delivery(b);
-    if (r.reply_type != AMQP_RESPONSE_LIBRARY_EXCEPTION)
-        return lost(b, "consume", "closed by the broker");
-    if (r.library_error == AMQP_STATUS_TIMEOUT)
-        return quiet;
-    if (r.library_error == AMQP_STATUS_UNEXPECTED_STATE)
-        return other_frame(b);
-    return lost(b, "consume", amqp_error_string2(r.library_error));
+    struct broker_event event;
+    struct parcel *p;
+    memset(&event, 0, sizeof event);
+    forget_latest(e);
+    while ((p = mailbox_take(&e->rabbit.events)) != NULL && (p->what == EVENT_STATE || p->connection != e->connection))
+        free(p);
+    e->latest = p;
+    if (p == NULL)
+        return event;
+    event.news = (enum broker_news)p->what;
+    event.dialogue = p->dialogue;
+    if (event.news == BROKER_DELIVERY) {
+        event.receipt = (struct receipt){p->channel, p->tag};
+        event.payload = p->byte;
+        event.bytes = p->length;
+    } else {
+        event.why = p->bytes > 0 ? (const char *)p->byte : "";
+        event.place = p->tag;
+        event.all = p->all;
+    }
+    return event;
 }
 
-static int rabbit_acknowledge(struct broker *b, unsigned dialogue, struct receipt r)
+static int rabbit_descriptor(struct broker *b) { return mailbox_bell(&ends_of(b)->rabbit.events); }
+
+static int rabbit_buffered(struct broker *b) { return mailbox_waits(&ends_of(b)->rabbit.events); }
+
+/* A call of the library that takes too long is ended: its connection is cut, and the bridge hears that it is lost. */
+static uint64_t rabbit_waits(struct broker *b)
+{
+    struct rabbit *r = &ends_of(b)->rabbit;
+    uint64_t waits, now = now_ms();
+    pthread_mutex_lock(&r->guard);
+    waits = r->since != 0 && now > r->since ? now - r->since : 0;
+    if (waits > CALL_MS && r->socket >= 0)
+        shutdown(r->socket, SHUT_RDWR);
+    pthread_mutex_unlock(&r->guard);
+    return waits;
+}
+
+/* ---- the end */
+
+/* Waits a moment for the thread's last word. 1: it came */
+static int ends_soon(struct rabbit *r)
+{
+    struct timespec until;
+    int late = 0, ended;
+    clock_gettime(CLOCK_MONOTONIC, &until);
+    until.tv_sec += END_MS / 1000;
+    pthread_mutex_lock(&r->guard);
+    while (!r->ended && !late)
+        late = pthread_cond_timedwait(&r->rang, &r->guard, &until) != 0;
+    ended = r->ended;
+    if (!ended && r->socket >= 0)
+        shutdown(r->socket, SHUT_RDWR); /* then whatever it waits for fails */
+    pthread_mutex_unlock(&r->guard);
+    return ended;
+}
+
+static void close_boxes(struct rabbit *r)
+{
+    mailbox_close(&r->orders);
+    mailbox_close(&r->letters);
+    mailbox_close(&r->events);
+}
+
+/* A thread that does not end is left where it is: the process ends, and it with it. */
+static void rabbit_end(struct broker *b)
 {
     struct ends *e = ends_of(b);
-    int status;
-    if (r.connection != e->connection)
-        return 1; /* of an earlier connection: here the number is another payload's */
-    status = amqp_basic_ack(e->amqp, (amqp_channel_t)(FIRST_QUEUE + dialogue), r.tag, 1);
-    if (status != AMQP_STATUS_OK)
-        because(b, "acknowledge", amqp_error_string2(status));
-    return status == AMQP_STATUS_OK;
+    forget_latest(e);
+    if (e->running) {
+        order(b, ORDER_END, 0);
+        if (!ends_soon(&e->rabbit) && !ends_soon(&e->rabbit))
+            return;
+        pthread_join(e->thread, NULL);
+    }
+    close_boxes(&e->rabbit);
+    pthread_mutex_destroy(&e->rabbit.guard);
+    pthread_cond_destroy(&e->rabbit.rang);
+    free(e);
+    b->ends = NULL;
+    b->why = NULL;
 }
-
-/* ---- letters */
-
-static amqp_table_entry_t header(const char *name, const char *text)
-{
-    amqp_table_entry_t t;
-    t.key = amqp_cstring_bytes(name);
-    t.value.kind = AMQP_FIELD_KIND_UTF8;
-    t.value.value.bytes = amqp_cstring_bytes(text);
-    return t;
-}
-
-static int is_notice(const struct letter *l) { return strcmp(l->type, "ended") == 0 || strcmp(l->type, "broken") == 0; }
-
-/* A letter has its id as message-id, the dialogue as correlation-id, its type, and why it was laid aside. */
-static int rabbit_publish(struct broker *b, const struct letter *l)
-{
-    struct ends *e = ends_of(b);
-    int dead = strcmp(l->type, "dead") == 0, status;
-    char id[48], dialogue[8];
-    amqp_table_entry_t reason = header("x-peat-reason", l->reason);
-    amqp_bytes_t body;
-    amqp_basic_properties_t p;
-    memset(&p, 0, sizeof p);
-    snprintf(id, sizeof id, "%s-%llu", l->journal, (unsigned long long)l->id);
-    snprintf(dialogue, sizeof dialogue, "%u", l->dialogue);
-    p._flags = AMQP_BASIC_DELIVERY_MODE_FLAG | AMQP_BASIC_MESSAGE_ID_FLAG | AMQP_BASIC_TYPE_FLAG | AMQP_BASIC_CORRELATION_ID_FLAG |
-               AMQP_BASIC_CONTENT_TYPE_FLAG | AMQP_BASIC_TIMESTAMP_FLAG | (dead ? AMQP_BASIC_HEADERS_FLAG : 0);
-    p.delivery_mode = PERSISTENT;
-    p.message_id = amqp_cstring_bytes(id);
-    p.correlation_id = amqp_cstring_bytes(dialogue);
-    p.type = amqp_cstring_bytes(l->type);
-    p.content_type = amqp_cstring_bytes(is_notice(l) ? "application/json" : "application/octet-stream");
-    p.timestamp = l->since / 1000;
-    p.headers.num_entries = dead;
-    p.headers.entries = &reason;
-    body.bytes = (void *)l->body;
-    body.len = l->bytes;
-    status = amqp_basic_publish(e->amqp, LETTERS, amqp_empty_bytes, amqp_cstring_bytes(dead ? e->config->queue_dead : e->config->queue_down), 1, 0, &p, body);
-    if (status != AMQP_STATUS_OK)
-        because(b, "publish", amqp_error_string2(status));
-    return status == AMQP_STATUS_OK;
-}
-
-/* ---- waiting */
-
-static int rabbit_descriptor(struct broker *b) { return amqp_get_sockfd(ends_of(b)->amqp); }
-
-static int rabbit_buffered(struct broker *b) { return amqp_frames_enqueued(ends_of(b)->amqp) || amqp_data_in_buffer(ends_of(b)->amqp); }
 
 /* ---- opening */
 
 /* The first line of the password's file. */
-static int read_password(struct ends *e)
+static int read_password(struct rabbit *r)
 {
     FILE *f;
-    if (e->config->password_file[0] == '\0')
+    int read;
+    if (r->config->password_file[0] == '\0')
         return 1;
-    f = fopen(e->config->password_file, "r");
-    if (f == NULL || fgets(e->password, sizeof e->password, f) == NULL) {
-        if (f != NULL)
-            fclose(f);
+    f = fopen(r->config->password_file, "r");
+    if (f == NULL)
         return 0;
-    }
+    read = fgets(r->password, sizeof r->password, f) != NULL;
     fclose(f);
-    e->password[strcspn(e->password, "\r\n")] = '\0';
-    return 1;
+    r->password[strcspn(r->password, "\r\n")] = '\0';
+    return read;
 }
 
-static void rabbit_end(struct broker *b)
+/* Signals are the round's: the thread gets none. */
+static int start_thread(struct ends *e)
 {
-    rabbit_disconnect(b);
-    free(b->ends);
-    b->ends = NULL;
-    b->why = NULL;
+    sigset_t all, before;
+    sigfillset(&all);
+    if (pthread_sigmask(SIG_SETMASK, &all, &before) != 0)
+        return 0;
+    e->running = pthread_create(&e->thread, NULL, rabbit_serve, &e->rabbit) == 0;
+    return pthread_sigmask(SIG_SETMASK, &before, NULL) == 0 && e->running;
+}
+
+/* It goes by a clock that nobody sets. */
+static int make_bell(pthread_cond_t *bell)
+{
+    pthread_condattr_t steady;
+    int good;
+    if (pthread_condattr_init(&steady) != 0)
+        return 0;
+    good = pthread_condattr_setclock(&steady, CLOCK_MONOTONIC) == 0 && pthread_cond_init(bell, &steady) == 0;
+    pthread_condattr_destroy(&steady);
+    return good;
+}
+
+static const char *open_ends(struct ends *e)
+{
+    struct rabbit *r = &e->rabbit;
+    if (!read_password(r))
+        return "password_file can not be read, or has no line";
+    if (pthread_mutex_init(&r->guard, NULL) != 0 || !make_bell(&r->rang) || !mailbox_open(&r->orders) || !mailbox_open(&r->letters) ||
+        !mailbox_open(&r->events) || !start_thread(e))
+        log_and_exit(EXIT_MEMORY, "memory", "broker", "there is no descriptor, no thread or no memory for it");
+    return NULL;
 }
 
 int broker_open_rabbit(struct broker *b, const struct config *c)
@@ -453,9 +252,11 @@ int broker_open_rabbit(struct broker *b, const struct config *c)
     struct ends *e = calloc(1, sizeof *e);
     memset(b, 0, sizeof *b);
     if (e == NULL)
-        return 0;
-    e->config = c;
-    if (!read_password(e)) {
+        log_and_exit(EXIT_MEMORY, "memory", "broker", "out of memory");
+    e->rabbit.config = c;
+    e->rabbit.socket = -1;
+    b->why = open_ends(e);
+    if (b->why != NULL) {
         free(e);
         return 0;
     }
@@ -468,6 +269,7 @@ int broker_open_rabbit(struct broker *b, const struct config *c)
     b->publish = rabbit_publish;
     b->descriptor = rabbit_descriptor;
     b->buffered = rabbit_buffered;
+    b->waits = rabbit_waits;
     b->disconnect = rabbit_disconnect;
     b->end = rabbit_end;
     return 1;

@@ -19,6 +19,14 @@ static uint8_t first[PEAT_BUFFER_LEAST], second[PEAT_BUFFER_LEAST];
 
 #define CLOSE_MS 1000 /* how long a dialogue that is over waits for room on its connection */
 
+/* The card refuses what it can not refuse: then nothing is known any more, and nothing of this batch may leave. */
+static void the_card_refuses(const char *call, uint64_t answer)
+{
+    char refusal[40];
+    snprintf(refusal, sizeof refusal, "it is refused with %u", peat_refusal(answer));
+    log_and_exit(EXIT_JOURNAL, "card", call, refusal);
+}
+
 /* ---- letters */
 
 static void post(struct bridge *b, const struct dialogue *d, const char *type, const char *reason, const void *body, size_t bytes)
@@ -26,6 +34,7 @@ static void post(struct bridge *b, const struct dialogue *d, const char *type, c
     struct letter l = {0, 0, NULL, d->number, type, reason, wall_ms(), body, bytes};
     b->journal->post(b->journal, &l);
     b->staged = 1;
+    b->letters_left -= b->letters_left > 0;
 }
 
 static void post_envelope(struct bridge *b, const struct dialogue *d, const char *type, unsigned kind, uint64_t job, unsigned bits, const uint8_t *body)
@@ -33,7 +42,7 @@ static void post_envelope(struct bridge *b, const struct dialogue *d, const char
     uint8_t e[PEAT_BUFFER_LEAST];
     uint64_t written = peat_write_envelope(kind, job, bits, body, (bits + 7u) / 8u, e, sizeof e);
     if (peat_refusal(written) != PEAT_TAKEN)
-        log_and_exit(EXIT_JOURNAL, "envelope", type, "the card does not write it");
+        the_card_refuses("peat_write_envelope", written);
     post(b, d, type, "", e, peat_written_bytes(written));
 }
 
@@ -46,7 +55,7 @@ static void post_fate(struct bridge *b, const struct dialogue *d, const char *ho
     int n;
     body = malloc(room);
     if (body == NULL)
-        log_and_exit(EXIT_JOURNAL, "memory", how, "out of memory");
+        log_and_exit(EXIT_MEMORY, "memory", how, "out of memory");
     n = snprintf(body, room, "{\"dialogue\":%u,\"run\":%llu,\"fate\":\"%s\",\"why\":\"%s\",\"jobs\":\"%s\"}", d->number,
         (unsigned long long)d->kept.run, how, why, jobs);
     post(b, d, how, "", body, (size_t)n);
@@ -111,6 +120,8 @@ static void pass_on(struct bridge *b, struct dialogue *d, uint64_t answer)
 {
     uint8_t message[PEAT_BUFFER_LEAST];
     uint64_t part = peat_data_part(PEAT_PART_MESSAGE, second, peat_data_bytes(answer), message, sizeof message);
+    if (peat_refusal(part) != PEAT_TAKEN)
+        the_card_refuses("peat_data_part", part);
     b->metrics.delivered++;
     post_envelope(b, d, "delivered", PEAT_ENVELOPE_DELIVERED, ++d->kept.deliveries, peat_part_bits(part), message);
 }
@@ -176,26 +187,53 @@ static uint64_t next_number(const struct dialogue *d)
     return above > clock ? above : clock;
 }
 
+/* A start that the card refuses is tried again, later each time: the record may hold the highest number there is (renumber.h). */
+static void start_refused(struct bridge *b, struct dialogue *d, unsigned refusal)
+{
+    b->metrics.starts_refused++;
+    log_line(LOG_WARN, "start refused", ABOUT(d), NUMBER("refusal", refusal), NUMBER("number", peat_record_number(d->kept.record)), NUMBER("wait_ms", d->wait),
+        TEXT("why", refusal == PEAT_STALE ? "the record's number can not be raised: stop the bridge and run `bridge renumber`" : "the card"));
+    d->closing = 1;
+    d->close_by = now_ms();
+    d->start_at = now_ms() + d->wait;
+    d->wait = 2 * d->wait < b->config->retry_most ? 2 * d->wait : b->config->retry_most;
+}
+
 void call_start(struct bridge *b, struct dialogue *d)
 {
+    unsigned refusal;
     d->kept.run++;
-    act(b, d, PEAT_IDLE, peat_start(RECORD(d), next_number(d), PEAT_CPDLC, PEAT_CLASS_ANY, PEAT_NO_SECURITY, PEAT_NO_DATA, BUFFERS), "");
+    refusal = act(b, d, PEAT_IDLE, peat_start(RECORD(d), next_number(d), PEAT_CPDLC, PEAT_CLASS_ANY, PEAT_NO_SECURITY, PEAT_NO_DATA, BUFFERS), "");
+    if (refusal == PEAT_TAKEN)
+        return;
+    d->kept.run--; /* it did not happen */
+    start_refused(b, d, refusal);
+}
+
+/* A call that the record's state allows. */
+static void must(struct bridge *b, struct dialogue *d, const char *call, uint64_t answer, const char *why, unsigned before)
+{
+    if (act(b, d, before, answer, why) != PEAT_TAKEN)
+        the_card_refuses(call, answer);
 }
 
 void call_end(struct bridge *b, struct dialogue *d)
 {
-    act(b, d, state_of(d), peat_end_request(RECORD(d), PEAT_NO_DATA, BUFFERS), "");
+    unsigned before = state_of(d);
+    must(b, d, "peat_end_request", peat_end_request(RECORD(d), PEAT_NO_DATA, BUFFERS), "", before);
 }
 
 void call_abort(struct bridge *b, struct dialogue *d)
 {
-    act(b, d, state_of(d), peat_user_abort(RECORD(d), PEAT_COMMANDED_TERMINATION, BUFFERS), "stopped");
+    unsigned before = state_of(d);
+    must(b, d, "peat_user_abort", peat_user_abort(RECORD(d), PEAT_COMMANDED_TERMINATION, BUFFERS), "stopped", before);
 }
 
 void call_expiry(struct bridge *b, struct dialogue *d)
 {
+    unsigned before = state_of(d);
     b->metrics.expired++;
-    act(b, d, state_of(d), peat_timer_expiry(RECORD(d), BUFFERS), "t-start");
+    must(b, d, "peat_timer_expiry", peat_timer_expiry(RECORD(d), BUFFERS), "t-start", before);
 }
 
 /* ---- the dialogue service */
@@ -208,14 +246,39 @@ void call_failure(struct bridge *b, struct dialogue *d, const char *why)
     d->closing = 1;
     d->close_by = now_ms();
     if (before != PEAT_IDLE)
-        act(b, d, before, peat_d_p_abort_indication(RECORD(d), peat_record_number(d->kept.record), BUFFERS), why);
+        must(b, d, "peat_d_p_abort_indication", peat_d_p_abort_indication(RECORD(d), peat_record_number(d->kept.record), BUFFERS), why, before);
     d->out.oldest = d->out.count = 0;
+}
+
+#define UNEXPECTED_MS 1000 /* between two lines about what a dialogue's aircraft may not send */
+
+/* The bridge starts every dialogue itself: a start from an aircraft is none that it can expect, and its number would be the record's. A number above
+   the one that this bridge gave is nobody's. Neither reaches the record. */
+static int unexpected(const struct dialogue *d, const struct primitive *p)
+{
+    return p->kind == PEAT_D_START_REQUEST || p->number > peat_record_number(d->kept.record);
+}
+
+static void turn_away(struct bridge *b, struct dialogue *d, const struct primitive *p)
+{
+    b->metrics.unexpected++;
+    d->unexpected++;
+    if (now_ms() < d->unexpected_at)
+        return;
+    log_line(LOG_WARN, "unexpected primitive", ABOUT(d), NUMBER("primitive", p->kind), NUMBER("number", p->number), NUMBER("ours", peat_record_number(d->kept.record)),
+        NUMBER("times", d->unexpected), TEXT("why", p->kind == PEAT_D_START_REQUEST ? "the aircraft starts a dialogue" : "its number was never given"));
+    d->unexpected = 0;
+    d->unexpected_at = now_ms() + UNEXPECTED_MS;
 }
 
 void call_primitive(struct bridge *b, struct dialogue *d, const struct primitive *p)
 {
     unsigned before = state_of(d), refusal;
     b->metrics.received++;
+    if (unexpected(d, p)) {
+        turn_away(b, d, p);
+        return;
+    }
     if (before == PEAT_IDLE)
         return;
     refusal = act(b, d, before, primitive_arrives(p, d->kept.record, first, second), "abort");
@@ -286,31 +349,38 @@ static void sort_envelope(struct bridge *b, struct dialogue *d, const struct env
         return;
     }
     reason = kept_out(b, d, e);
-    if (reason != NULL)
-        post_dead(b, d, reason, bytes, count);
-    else
+    if (reason == NULL) {
         offer(b, d, e);
-}
-
-/* One payload, all of it: each envelope is taken, refused or laid aside, and what can't be read is laid aside with the rest
-   behind it. So every payload is acknowledged, and none comes back for ever. */
-void call_payload(struct bridge *b, struct dialogue *d, const uint8_t *payload, size_t bytes)
-{
-    struct mail m;
-    struct envelope e;
-    b->metrics.payloads++;
-    if (bytes > b->config->payload_most) {
-        post_dead(b, d, "too long", payload, bytes);
         return;
     }
-    mail_begin(&m, payload, bytes);
-    do {
-        unsigned refusal = mail_take(&m, &e);
-        size_t from = mail_place(&m);
-        if (refusal != PEAT_TAKEN) {
-            post_dead(b, d, refusal_name(refusal), payload + from, bytes - from);
-            return;
+    if (e->kind == PEAT_ENVELOPE_TO_SEND)
+        decide(b, d, e->job, LAID_ASIDE); /* its fate is told: it is not sent when it comes again */
+    post_dead(b, d, reason, bytes, count);
+}
+
+/* One envelope of the payload that is read: it is taken, refused or laid aside, and what can't be read is laid aside with the rest
+   behind it. So every payload is read to its end and acknowledged, and none comes back for ever. */
+int call_envelope(struct bridge *b, struct dialogue *d)
+{
+    const struct payload *p = d->inbox;
+    struct envelope e;
+    unsigned refusal;
+    size_t from;
+    if (!d->reading) {
+        b->metrics.payloads++;
+        if (p->length > b->config->payload_most) {
+            post_dead(b, d, "too long", p->byte, p->length);
+            return 0;
         }
-        sort_envelope(b, d, &e, payload + from, m.at - from);
-    } while (mail_waits(&m));
+        mail_begin(&d->mail, p->byte, p->length);
+        d->reading = 1;
+    }
+    refusal = mail_take(&d->mail, &e);
+    from = mail_place(&d->mail);
+    if (refusal != PEAT_TAKEN) {
+        post_dead(b, d, refusal_name(refusal), p->byte + from, p->length - from);
+        return 0;
+    }
+    sort_envelope(b, d, &e, p->byte + from, d->mail.at - from);
+    return mail_waits(&d->mail);
 }

@@ -1,8 +1,11 @@
 #include "config.h"
 
+#include <errno.h>
 #include <stdio.h>
 #include <stdlib.h>
 #include <string.h>
+
+#include "log.h"
 
 /* What a name may be given. */
 struct key {
@@ -17,6 +20,7 @@ struct key {
 #define PLACE(field) offsetof(struct config, field)
 #define PATH(name, field, standard) {name, standard, PLACE(field), 1, 1, CONFIG_TEXT - 1, 0}
 #define MAYBE(name, field) {name, "", PLACE(field), 1, 0, CONFIG_TEXT - 1, 0}
+#define LONG(name, field) {name, "", PLACE(field), 1, 0, CONFIG_LONG - 1, 0}
 #define EACH(name, field, standard, most) {name, standard, PLACE(field), 1, 3, most, 1}
 #define COUNT(name, field, standard, least, most) {name, standard, PLACE(field), 0, least, most, 0}
 
@@ -24,7 +28,7 @@ struct key {
 
 static const struct key keys[] = {
     MAYBE("journal", journal),
-    MAYBE("database", database),
+    LONG("database", database),
     PATH("witness", witness, NULL),
     MAYBE("host", host),
     COUNT("dialogues", dialogues, "48", 1, DIALOGUES_MOST),
@@ -63,10 +67,21 @@ static const struct key keys[] = {
 
 #define KEYS (sizeof keys / sizeof *keys)
 
+#define DIGITS "0123456789"
+
+int config_number(const char *text, uint64_t *number)
+{
+    if (*text == '\0' || text[strspn(text, DIGITS)] != '\0')
+        return 0;
+    errno = 0;
+    *number = strtoull(text, NULL, 10);
+    return errno == 0;
+}
+
 /* A value is put into its place, or what is wrong with it is said. */
 static const char *set(struct config *c, const struct key *k, const char *value)
 {
-    char *end, *place = (char *)c + k->at;
+    char *place = (char *)c + k->at;
     uint64_t n;
     const char *braces = strstr(value, "{}");
     if (k->is_text) {
@@ -79,11 +94,8 @@ static const char *set(struct config *c, const struct key *k, const char *value)
         strcpy(place, value);
         return NULL;
     }
-    if (*value < '0' || *value > '9')
-        return "is not a number";
-    n = strtoull(value, &end, 10);
-    if (*end != '\0' || strlen(value) > 20)
-        return "is not a number";
+    if (!config_number(value, &n))
+        return "is not a number, or one of more than 64 bits";
     if (n < k->least || n > k->most)
         return "is outside its limits";
     memcpy(place, &n, sizeof n);
@@ -106,15 +118,50 @@ static size_t key_named(const char *name)
     return i;
 }
 
+/* Where a comment begins: at the front, or behind a blank. */
+static void cut_comment(char *text)
+{
+    char *sign = text;
+    while ((sign = strchr(sign, '#')) != NULL && sign > text && strchr(" \t", sign[-1]) == NULL)
+        sign++;
+    if (sign != NULL)
+        *sign = '\0';
+}
+
+/* What stands behind the sign. Between double quotes everything belongs to it, and nothing but a comment comes behind them. */
+static char *value_of(char *text, const char **why)
+{
+    char *end;
+    text += strspn(text, " \t");
+    if (*text != '"') {
+        cut_comment(text);
+        return trimmed(text);
+    }
+    end = strchr(text + 1, '"');
+    if (end == NULL) {
+        *why = "begins with a double quote, and has no second one";
+        return text;
+    }
+    *end = '\0';
+    cut_comment(end + 1);
+    if (*trimmed(end + 1) != '\0')
+        *why = "has something behind its double quotes";
+    return text + 1;
+}
+
+#define LINE_TEXT (CONFIG_LONG + 200)
+
 /* One line: nothing, a comment, or a name and its value. */
 static const char *take_line(struct config *c, char *line, unsigned char *given)
 {
-    char *sign, *name;
+    const char *why = NULL;
+    char *sign, *name, *value;
     size_t i;
-    if (strchr(line, '\n') == NULL && strlen(line) > 500)
+    if (strchr(line, '\n') == NULL && strlen(line) == LINE_TEXT - 1)
         return "the line is too long";
-    line[strcspn(line, "#")] = '\0';
     name = trimmed(line);
+    if (*name == '#')
+        return NULL;
     if (*name == '\0')
         return NULL;
     sign = strchr(name, '=');
@@ -127,7 +174,8 @@ static const char *take_line(struct config *c, char *line, unsigned char *given)
         return "there is no such name";
     if (given[i]++)
         return "the name is given twice";
-    return set(c, &keys[i], trimmed(sign + 1));
+    value = value_of(sign + 1, &why);
+    return why != NULL ? why : set(c, &keys[i], value);
 }
 
 /* What single values do not show. */
@@ -165,14 +213,16 @@ static int fail(FILE *f, char *fault, size_t room, const char *path, unsigned li
 int config_read(struct config *c, const char *path, char *fault, size_t room)
 {
     FILE *f = fopen(path, "r");
-    char line[512], name[64];
+    char line[LINE_TEXT], name[64];
     unsigned char given[KEYS] = {0};
     unsigned number = 0;
     const char *why;
     size_t i;
     memset(c, 0, sizeof *c);
+    if (f == NULL && errno == ENOMEM)
+        log_and_exit(EXIT_MEMORY, "memory", path, "out of memory");
     if (f == NULL)
-        return fail(f, fault, room, path, 0, "", "can not be read");
+        return fail(f, fault, room, path, 0, "can not be read:", strerror(errno));
     for (i = 0; i < KEYS; i++)
         if (keys[i].standard != NULL)
             set(c, &keys[i], keys[i].standard);
@@ -183,6 +233,8 @@ int config_read(struct config *c, const char *path, char *fault, size_t room)
         if (why != NULL)
             return fail(f, fault, room, path, number, name, why);
     }
+    if (ferror(f))
+        return fail(f, fault, room, path, 0, "can not be read:", strerror(errno));
     fclose(f);
     for (i = 0; i < KEYS; i++)
         if (keys[i].standard == NULL && !given[i])

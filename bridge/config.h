@@ -1,6 +1,7 @@
 /*
- * The configuration file: `name = value` on each line, `#` begins a comment. Every name is known, given once at most, and
- * its value is checked; a fault is told with its line.
+ * The configuration file: `name = value` on each line. `#` begins a comment at the beginning of a line and behind a blank; inside
+ * a word it is a character like any other. A value between double quotes is taken as it stands, blanks and `#` among it. Every
+ * name is known, given once at most, and its value is checked; a fault is told with its line.
  */
 #ifndef CONFIG_H
 #define CONFIG_H
@@ -10,10 +11,11 @@
 
 #define DIALOGUES_MOST 48
 #define CONFIG_TEXT 200
+#define CONFIG_LONG 1000 /* of the words for a database: several hosts, certificates, a password */
 
 struct config {
     /* what is kept: in a file, or in a database that several hosts share */
-    char journal[CONFIG_TEXT], database[CONFIG_TEXT], witness[CONFIG_TEXT], host[CONFIG_TEXT];
+    char journal[CONFIG_TEXT], database[CONFIG_LONG], witness[CONFIG_TEXT], host[CONFIG_TEXT];
     uint64_t dialogues, lease, share, standby_wait, replicas;
     int standby; /* this process waits for others to fail (not in the file: a word of the command line) */
     /* the aircraft: {} in the path becomes the number of the dialogue */
@@ -29,6 +31,9 @@ struct config {
     /* operation */
     uint64_t metrics_port, stop, log;
 };
+
+/* A number: digits and nothing else, below 2^64. 0: the text is none. */
+int config_number(const char *text, uint64_t *number);
 
 /* Reads a file. Answers 1, or 0 with what is wrong in `fault`. */
 int config_read(struct config *c, const char *path, char *fault, size_t room);

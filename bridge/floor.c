@@ -19,12 +19,17 @@ static void raise_one(struct journal *j, unsigned dialogue, uint64_t floor)
 void floor_raise(struct journal *j, const struct config *c, uint64_t floor, uint64_t dialogue)
 {
     struct taken all[DIALOGUES_MOST];
-    uint64_t seen;
+    struct witness w;
     unsigned d;
     if (j->take(j, all) != c->dialogues)
-        log_and_exit(EXIT_REFUSED, "journal", "floor", "a bridge has dialogues of this journal: stop it first");
-    if (witness_ask(c->witness, j->id, j->commits(j), &seen) != WITNESS_AGREES)
+        log_and_exit(EXIT_REFUSED, "journal", "floor", "a bridge has dialogues of this journal, or a session has rows of it locked: end it first. What a bridge that was killed had is free after lease_ms");
+    w = witness_ask(c->witness, j);
+    if (w.says != WITNESS_AGREES) {
+        j->settle_id(j, j->id);
+        if (w.id[0] != '\0')
+            j->settle_id(j, w.id);
         j->rename(j);
+    }
     for (d = 0; d < c->dialogues; d++)
         if (dialogue == ALL_DIALOGUES || dialogue == d)
             raise_one(j, d, floor);

@@ -10,8 +10,9 @@
 
 #define ALL_DIALOGUES UINT64_MAX
 
-/* Raises the floor of one dialogue or of all, and says so on standard output. A journal that its witness does not know is
-   renewed; the witness is written anew, and from then on the bridge takes the journal. */
+/* Raises the floor of one dialogue or of all, and says so on standard output. A journal that its witness does not know gets another
+   id; the witness is written anew, and from then on the bridge takes the journal. So do the bridges of other hosts, whose
+   witnesses know the id that it had: the floor is raised once, on any host. */
 void floor_raise(struct journal *, const struct config *, uint64_t floor, uint64_t dialogue);
 
 #endif

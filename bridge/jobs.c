@@ -16,7 +16,7 @@ void *grow(void *old, size_t *room, size_t need, size_t each)
         more *= 2;
     new = realloc(old, more * each);
     if (new == NULL)
-        log_and_exit(EXIT_JOURNAL, "memory", "a batch does not fit", "out of memory");
+        log_and_exit(EXIT_MEMORY, "memory", "a batch does not fit", "out of memory");
     *room = more;
     return new;
 }

@@ -3,8 +3,10 @@
  */
 #include "journal.h"
 
+#include <fcntl.h>
 #include <stdio.h>
 #include <string.h>
+#include <unistd.h>
 
 #include "checksum.h"
 #include "config.h"
@@ -22,10 +24,10 @@ void journal_open(struct journal *j, const struct config *c, enum journal_open h
 void journal_make_id(char *id)
 {
     uint64_t n = 0;
-    FILE *f = fopen("/dev/urandom", "rb");
-    if (f == NULL || fread(&n, sizeof n, 1, f) != 1)
+    int file = open("/dev/urandom", O_RDONLY);
+    if (file < 0 || read(file, &n, sizeof n) != (ssize_t)sizeof n)
         log_and_exit(EXIT_JOURNAL, "journal", "init", "there is no random number");
-    fclose(f);
+    close(file);
     snprintf(id, JOURNAL_ID, "%016llx", (unsigned long long)n);
 }
 

@@ -31,9 +31,11 @@ struct kept {
 /* Jobs first to last, one behind the other, were decided alike in one run. Ranges never overlap. */
 struct decision {
     uint64_t first, last;
-    unsigned outcome; /* enum peat_refusal: PEAT_TAKEN, or why not */
+    unsigned outcome; /* enum peat_refusal: PEAT_TAKEN, or why not; or LAID_ASIDE */
     uint64_t run;
 };
+
+#define LAID_ASIDE 255 /* the card was not asked: a dead letter has the job */
 
 #define JOURNAL_ID 17 /* 16 hexadecimal digits */
 
@@ -97,6 +99,17 @@ struct journal {
     /* A restored copy becomes a journal of its own: it gets another id, with the next commit. Letters that it posts from then
        on are told apart from those that were posted after the copy was made. A journal that is being moved is whole with it. */
     void (*rename)(struct journal *);
+    /* With the next commit: what was given under an id is settled, by a floor above all of it. So witnesses that know that id are taken. */
+    void (*settle_id)(struct journal *, const char *id);
+    /* 1: it is */
+    int (*knew)(struct journal *, const char *id);
+
+    /* what is to be done now and then while a call waits for the store; NULL: nothing */
+    void (*meanwhile)(void *with);
+    void *with;
+    /* 1: what was decided of a dialogue is not kept yet, since another has its row: nothing of it may leave. */
+    int (*late)(struct journal *, unsigned dialogue);
+    int patient; /* whoever has the journal looks at `late`. Else a commit keeps all of a batch, or ends the process */
 };
 
 /* ---- opening */
@@ -106,7 +119,8 @@ enum journal_open { JOURNAL_INIT, JOURNAL_RUN, JOURNAL_MOVE };
 struct config;
 
 /* Opens the journal that the configuration names: a file of SQLite's, or a database of PostgreSQL's. JOURNAL_INIT makes it,
-   with fresh records, and refuses one that is there; JOURNAL_RUN refuses one that is not. JOURNAL_MOVE: a file
+   with fresh records, and refuses one that is there; it is whole when it is closed, and what was left by one that was broken off
+   before makes room. JOURNAL_RUN refuses one that is not there, or not whole. JOURNAL_MOVE: a file
    may have the mark that it was moved; a database is made on which no bridge runs until it is renamed (move.h). */
 void journal_open(struct journal *, const struct config *, enum journal_open how);
 

@@ -47,6 +47,7 @@ static void load(struct journal *j, unsigned dialogue, struct kept *k)
     struct store *s = store_of(j);
     const uint8_t *record;
     size_t bytes;
+    postgres_renew(j); /* there may be many to load */
     pg_number(s->pg, dialogue);
     if (pg_ask(s->pg, LOAD) != 1)
         log_and_exit(EXIT_JOURNAL, "journal", "load", "a dialogue has no record");
@@ -65,7 +66,7 @@ static void keep(struct journal *j, unsigned dialogue, const struct kept *k)
     struct store *s = store_of(j);
     postgres_lease(s, dialogue);
     postgres_kept(s->pg, dialogue, k);
-    pg_add(s->pg, KEEP, 1);
+    pg_add(s->pg, KEEP, 1, dialogue);
     s->hold[dialogue].written = 1;
 }
 
@@ -89,7 +90,7 @@ static void decide(struct journal *j, unsigned dialogue, const struct decision *
     pg_job(s->pg, d->last);
     pg_number(s->pg, d->outcome);
     pg_number(s->pg, d->run);
-    pg_add(s->pg, DECIDE, 1);
+    pg_add(s->pg, DECIDE, 1, dialogue);
     s->hold[dialogue].touched = 1;
     remember(s, dialogue, d);
 }
@@ -116,6 +117,7 @@ static int find(struct journal *j, unsigned dialogue, uint64_t job, struct decis
             *d = s->pending[i];
             return 1;
         }
+    postgres_renew(j); /* there may be many questions in a round */
     pg_number(s->pg, dialogue);
     pg_job(s->pg, job);
     if (pg_ask(s->pg, FIND) == 0)
@@ -128,6 +130,7 @@ static void of_run(struct journal *j, unsigned dialogue, uint64_t run, void (*ea
 {
     struct store *s = store_of(j);
     int i, n;
+    postgres_renew(j);
     pg_number(s->pg, dialogue);
     pg_number(s->pg, run);
     n = pg_ask(s->pg, OF_RUN);
@@ -169,17 +172,23 @@ static void post(struct journal *j, const struct letter *l)
         mine.journal = j->id;
     }
     letter_parameters(s->pg, &mine);
-    pg_add(s->pg, POST, 1);
+    pg_add(s->pg, POST, 1, l->dialogue);
     s->hold[l->dialogue].touched = 1;
     letters_add(&s->letters, &mine);
+    if (s->hold[l->dialogue].unkept == 0)
+        s->hold[l->dialogue].unkept = s->letters.turn;
 }
 
+/* A letter that is not kept yet, since its dialogue is late, is not given to the broker, nor those behind it. */
 static int next(struct journal *j, uint64_t behind, struct letter *l)
 {
-    const struct letter *found = letters_next(&store_of(j)->letters, behind);
-    if (found != NULL)
-        *l = *found;
-    return found != NULL;
+    struct store *s = store_of(j);
+    const struct letter *found = letters_next(&s->letters, behind);
+    const struct hold *h = found != NULL ? &s->hold[found->dialogue] : NULL;
+    if (found == NULL || (postgres_is_late(s, found->dialogue) && h->unkept != 0 && found->turn >= h->unkept))
+        return 0;
+    *l = *found;
+    return 1;
 }
 
 /* A letter of a dialogue that was given back is its next owner's. */
@@ -191,7 +200,7 @@ static void settle(struct journal *j, uint64_t turn)
         return;
     pg_text(s->pg, l->journal);
     pg_number(s->pg, l->id);
-    pg_add(s->pg, SETTLE, 1);
+    pg_add(s->pg, SETTLE, 1, l->dialogue);
     s->hold[l->dialogue].touched = 1;
     letters_drop(&s->letters, turn);
 }
@@ -206,17 +215,34 @@ static uint64_t waiting(struct journal *j, uint64_t *since)
 
 /* ---- commits */
 
+/* What was decided is in the tables now, but for dialogues that are late. */
+static void forget_decisions(struct store *s)
+{
+    size_t i, n = 0;
+    for (i = 0; i < s->pendings; i++)
+        if (postgres_is_late(s, s->pending_of[i])) {
+            s->pending[n] = s->pending[i];
+            s->pending_of[n++] = s->pending_of[i];
+        }
+    s->pendings = n;
+}
+
 static void commit(struct journal *j)
 {
     struct store *s = store_of(j);
+    postgres_renew(j); /* the batch may be a long one */
     postgres_fence(s);
-    s->pendings = 0;
     if (!pg_pending(s->pg))
         return;
-    if (!pg_commit(s->pg))
+    if (postgres_lock(s) > 0 && !j->patient)
+        log_and_exit(EXIT_SLOW, "database slow", "commit", "another session has the row of a dialogue locked; nothing was changed");
+    if (!pg_commit(s->pg, postgres_is_late, s))
         postgres_fenced(s);
     postgres_let_go(s);
+    forget_decisions(s);
 }
+
+static int late(struct journal *j, unsigned dialogue) { return postgres_is_late(store_of(j), dialogue); }
 
 static uint64_t commits(struct journal *j) { return store_of(j)->position; }
 
@@ -225,12 +251,38 @@ static void rename_journal(struct journal *j)
     journal_make_id(j->id);
     pg_text(store_of(j)->pg, j->id);
     pg_number(store_of(j)->pg, POSTGRES_VERSION);
-    pg_add(store_of(j)->pg, RENAME, 1);
+    pg_add(store_of(j)->pg, RENAME, 1, PG_NO_GROUP);
+}
+
+/* A journal of 0.6.1 has no table for this: then it gets one. */
+static void settle_id(struct journal *j, const char *id)
+{
+    struct pg *pg = store_of(j)->pg;
+    if (!store_of(j)->settles_ids) {
+        pg_say(pg, POSTGRES_EARLIER);
+        pg_prepare(pg, SETTLE_ID, "INSERT INTO earlier VALUES($1) ON CONFLICT DO NOTHING");
+        store_of(j)->settles_ids = 1;
+    }
+    pg_text(pg, id);
+    pg_add(pg, SETTLE_ID, PG_ANY, PG_NO_GROUP);
+}
+
+/* `id` is of a witness: digits and letters up to f. */
+static int knew(struct journal *j, const char *id)
+{
+    struct pg *pg = store_of(j)->pg;
+    char text[80];
+    if (pg_say(pg, "SELECT 1 WHERE to_regclass('earlier') IS NOT NULL") == 0)
+        return 0;
+    snprintf(text, sizeof text, "SELECT 1 FROM earlier WHERE id = '%.16s'", id);
+    return pg_say(pg, text) > 0;
 }
 
 static void close_store(struct journal *j)
 {
     struct store *s = store_of(j);
+    if (s->making)
+        pg_say(s->pg, "UPDATE journal SET version = 1"); /* its witness is written: it is whole */
     postgres_renew_now(s); /* where the log stands now, for the witness; and a last look at the leases */
     pg_text(s->pg, s->owner);
     pg_ask(s->pg, LEAVE);
@@ -271,7 +323,13 @@ static void check_durable(struct store *s)
 static void take_front(struct journal *j, unsigned dialogues, int version)
 {
     struct pg *pg = store_of(j)->pg;
-    if (pg_say(pg, "SELECT version, dialogues, id FROM journal") != 1 || pg_number_at(pg, 0, 0) != (uint64_t)version)
+    if (pg_say(pg, "SELECT version, dialogues, id FROM journal") != 1)
+        log_and_exit(EXIT_JOURNAL, "journal", "load", "the journal has no version");
+    if (version == POSTGRES_VERSION && pg_number_at(pg, 0, 0) == POSTGRES_MAKING)
+        postgres_refuse("journal", "its `init` was broken off: run `bridge init` again");
+    if (version == POSTGRES_VERSION && pg_number_at(pg, 0, 0) == POSTGRES_MOVING)
+        postgres_refuse("journal", "its `move` was broken off: run `bridge move` again");
+    if (pg_number_at(pg, 0, 0) != (uint64_t)version)
         log_and_exit(EXIT_JOURNAL, "journal", "the journal has another version", pg_text_at(pg, 0, 0));
     if (pg_number_at(pg, 0, 1) != dialogues)
         log_and_exit(EXIT_JOURNAL, "journal", "the journal has another number of dialogues", pg_text_at(pg, 0, 1));
@@ -304,6 +362,9 @@ static const struct journal face = {
     .commits = commits,
     .close = close_store,
     .rename = rename_journal,
+    .settle_id = settle_id,
+    .knew = knew,
+    .late = late,
 };
 
 /* How far the log had come, once it is kept so far: on the replica too, where there is one. */
@@ -316,25 +377,32 @@ static void find_position(struct store *s)
         log_and_exit(EXIT_JOURNAL, "database", "a commit did not wait for the replica", "where the journal stands is not known");
 }
 
-static void connect_to(struct store *s)
+#define LIMIT_LEAST 3000 /* ms: a lease that is shorter says nothing about the database */
+
+/* An answer may take as long as a lease: then others have the dialogues. A command that makes or moves a journal takes its time. */
+static void connect_to(struct store *s, enum journal_open how)
 {
+    uint64_t lease = s->config->lease;
     s->pg = pg_open(s->config->database, s->owner);
+    pg_limit(s->pg, how != JOURNAL_RUN ? 0 : lease > LIMIT_LEAST ? lease : LIMIT_LEAST);
+    pg_on_loss(s->pg, postgres_look_again, s);
     pg_say(s->pg, "SET default_transaction_isolation = 'read committed'"); /* a row's lock decides, whatever the database's standard is */
     check_durable(s);
 }
 
 void journal_open_postgres(struct journal *j, const struct config *c, enum journal_open how)
 {
-    int version = how == JOURNAL_MOVE ? POSTGRES_MOVING : POSTGRES_VERSION;
+    int version = how == JOURNAL_MOVE ? POSTGRES_MOVING : how == JOURNAL_INIT ? POSTGRES_MAKING : POSTGRES_VERSION;
     struct store *s = calloc(1, sizeof *s);
     if (s == NULL)
-        log_and_exit(EXIT_JOURNAL, "memory", "journal", "out of memory");
+        log_and_exit(EXIT_MEMORY, "memory", "journal", "out of memory");
     *j = face;
     j->store = s;
     s->config = c;
     s->began = now_ms();
     make_owner(s);
-    connect_to(s);
+    connect_to(s, how);
+    s->making = how == JOURNAL_INIT;
     if (how != JOURNAL_RUN)
         postgres_make(j, (unsigned)c->dialogues, version);
     else if (!postgres_is_there(s->pg))

@@ -4,6 +4,7 @@
  * A job number has 64 bits and SQLite's integers have a sign, so jobs are stored as eight bytes, the highest first: bytes
  * compare as the numbers do.
  */
+#include <errno.h>
 #include <sqlite3.h>
 #include <stdio.h>
 #include <stdlib.h>
@@ -17,7 +18,8 @@
 #include "witness.h"
 
 #define VERSION 1
-#define MOVED 1001 /* the version of a journal that was moved to a database */
+#define MAKING 1000 /* the version of a journal whose `init` has not come to its end: it makes it anew */
+#define MOVED 1001  /* the version of a journal that was moved to a database */
 #define SYNCHRONOUS "2" /* FULL: each commit is synced. NORMAL (1) forgets commits at a power cut. */
 
 enum statement { KEEP, LOAD, DECIDE, FIND, OF_RUN, POST, NEXT, SETTLE, WAITING, COUNT, BEGIN, COMMIT, STATEMENTS };
@@ -53,6 +55,7 @@ struct store {
     sqlite3_stmt *statement[STATEMENTS];
     unsigned dialogues;
     int taken;        /* by this process */
+    int making;       /* by `init`: it is whole when it is closed */
     int open;         /* a transaction is under way */
     uint64_t commits; /* so far */
     uint64_t letters; /* in the outbox */
@@ -64,7 +67,8 @@ static struct store *store_of(struct journal *j) { return j->store; }
 
 static void give_up(struct store *s, const char *what)
 {
-    log_and_exit(EXIT_JOURNAL, "journal", what, sqlite3_errmsg(s->db));
+    enum exit_status status = (sqlite3_errcode(s->db) & 0xFF) == SQLITE_NOMEM ? EXIT_MEMORY : EXIT_JOURNAL;
+    log_and_exit(status, "journal", what, sqlite3_errmsg(s->db));
 }
 
 static void execute(struct store *s, const char *text)
@@ -98,23 +102,60 @@ static void begin(struct store *s)
     }
 }
 
-/* ---- numbers of 64 bits as bytes */
+/* ---- the values of a statement. One that is not bound would be NULL, or what an earlier use left. */
 
-static void bind_number(sqlite3_stmt *q, int at, uint64_t n)
+static void bound(struct store *s, sqlite3_stmt *q, int answer)
+{
+    if (answer != SQLITE_OK)
+        give_up(s, sqlite3_sql(q));
+}
+
+static void bind_integer(struct store *s, sqlite3_stmt *q, int at, uint64_t n) { bound(s, q, sqlite3_bind_int64(q, at, (sqlite3_int64)n)); }
+
+static void bind_text(struct store *s, sqlite3_stmt *q, int at, const char *text) { bound(s, q, sqlite3_bind_text(q, at, text, -1, SQLITE_TRANSIENT)); }
+
+/* SQLite takes no pointer for no bytes. */
+static void bind_bytes(struct store *s, sqlite3_stmt *q, int at, const uint8_t *bytes, size_t count)
+{
+    bound(s, q, sqlite3_bind_blob64(q, at, count > 0 ? bytes : (const uint8_t *)"", count, SQLITE_TRANSIENT));
+}
+
+/* A number of 64 bits as bytes. */
+static void bind_number(struct store *s, sqlite3_stmt *q, int at, uint64_t n)
 {
     uint8_t b[8];
     int i;
     for (i = 0; i < 8; i++)
         b[i] = (uint8_t)(n >> (56 - 8 * i));
-    sqlite3_bind_blob(q, at, b, sizeof b, SQLITE_TRANSIENT);
+    bind_bytes(s, q, at, b, sizeof b);
 }
 
-static uint64_t column_number(sqlite3_stmt *q, int at)
+/* ---- what a row has. No column is NULL: where SQLite has no pointer for a text, it has no memory. */
+
+static const char *column_text(struct store *s, sqlite3_stmt *q, int at)
 {
-    const uint8_t *b = sqlite3_column_blob(q, at);
+    const char *text = (const char *)sqlite3_column_text(q, at);
+    if (text == NULL)
+        give_up(s, sqlite3_sql(q));
+    return text;
+}
+
+/* For no bytes SQLite has no pointer either. */
+static const uint8_t *column_bytes(struct store *s, sqlite3_stmt *q, int at, size_t *count)
+{
+    const uint8_t *bytes = sqlite3_column_blob(q, at);
+    *count = (size_t)sqlite3_column_bytes(q, at);
+    if (bytes == NULL && ((sqlite3_errcode(s->db) & 0xFF) == SQLITE_NOMEM || *count > 0))
+        give_up(s, sqlite3_sql(q));
+    return bytes != NULL ? bytes : (const uint8_t *)"";
+}
+
+static uint64_t column_number(struct store *s, sqlite3_stmt *q, int at)
+{
+    size_t count, i;
+    const uint8_t *b = column_bytes(s, q, at, &count);
     uint64_t n = 0;
-    int i, bytes = sqlite3_column_bytes(q, at);
-    for (i = 0; i < bytes && i < 8; i++)
+    for (i = 0; i < count && i < 8; i++)
         n = n << 8 | b[i];
     return n;
 }
@@ -146,13 +187,16 @@ static void load(struct journal *j, unsigned dialogue, struct kept *k)
 {
     struct store *s = store_of(j);
     sqlite3_stmt *q = ready(s, LOAD);
-    sqlite3_bind_int64(q, 1, dialogue);
+    const uint8_t *record;
+    size_t bytes;
+    bind_integer(s, q, 1, dialogue);
     if (!step(s, LOAD))
         log_and_exit(EXIT_JOURNAL, "journal", "load", "a dialogue has no record");
     k->run = (uint64_t)sqlite3_column_int64(q, 1);
     k->deliveries = (uint64_t)sqlite3_column_int64(q, 2);
-    k->floor = column_number(q, 3);
-    journal_take_record(dialogue, k, sqlite3_column_blob(q, 0), (size_t)sqlite3_column_bytes(q, 0), (uint32_t)sqlite3_column_int64(q, 4));
+    k->floor = column_number(s, q, 3);
+    record = column_bytes(s, q, 0, &bytes);
+    journal_take_record(dialogue, k, record, bytes, (uint32_t)sqlite3_column_int64(q, 4));
     sqlite3_reset(q);
 }
 
@@ -161,12 +205,12 @@ static void keep(struct journal *j, unsigned dialogue, const struct kept *k)
     struct store *s = store_of(j);
     sqlite3_stmt *q = ready(s, KEEP);
     begin(s);
-    sqlite3_bind_int64(q, 1, dialogue);
-    sqlite3_bind_blob(q, 2, k->record, PEAT_RECORD_BYTES, SQLITE_TRANSIENT);
-    sqlite3_bind_int64(q, 3, (sqlite3_int64)k->run);
-    sqlite3_bind_int64(q, 4, (sqlite3_int64)k->deliveries);
-    bind_number(q, 5, k->floor);
-    sqlite3_bind_int64(q, 6, journal_sum(dialogue, k));
+    bind_integer(s, q, 1, dialogue);
+    bind_bytes(s, q, 2, k->record, PEAT_RECORD_BYTES);
+    bind_integer(s, q, 3, k->run);
+    bind_integer(s, q, 4, k->deliveries);
+    bind_number(s, q, 5, k->floor);
+    bind_integer(s, q, 6, journal_sum(dialogue, k));
     step(s, KEEP);
 }
 
@@ -177,19 +221,19 @@ static void decide(struct journal *j, unsigned dialogue, const struct decision *
     struct store *s = store_of(j);
     sqlite3_stmt *q = ready(s, DECIDE);
     begin(s);
-    sqlite3_bind_int64(q, 1, dialogue);
-    bind_number(q, 2, d->first);
-    bind_number(q, 3, d->last);
-    sqlite3_bind_int64(q, 4, d->outcome);
-    sqlite3_bind_int64(q, 5, (sqlite3_int64)d->run);
+    bind_integer(s, q, 1, dialogue);
+    bind_number(s, q, 2, d->first);
+    bind_number(s, q, 3, d->last);
+    bind_integer(s, q, 4, d->outcome);
+    bind_integer(s, q, 5, d->run);
     step(s, DECIDE);
 }
 
-static struct decision decision_at(sqlite3_stmt *q)
+static struct decision decision_at(struct store *s, sqlite3_stmt *q)
 {
     struct decision d;
-    d.first = column_number(q, 0);
-    d.last = column_number(q, 1);
+    d.first = column_number(s, q, 0);
+    d.last = column_number(s, q, 1);
     d.outcome = (unsigned)sqlite3_column_int(q, 2);
     d.run = (uint64_t)sqlite3_column_int64(q, 3);
     return d;
@@ -199,11 +243,11 @@ static int find(struct journal *j, unsigned dialogue, uint64_t job, struct decis
 {
     struct store *s = store_of(j);
     sqlite3_stmt *q = ready(s, FIND);
-    sqlite3_bind_int64(q, 1, dialogue);
-    bind_number(q, 2, job);
+    bind_integer(s, q, 1, dialogue);
+    bind_number(s, q, 2, job);
     if (!step(s, FIND))
         return 0;
-    *d = decision_at(q);
+    *d = decision_at(s, q);
     sqlite3_reset(q);
     return job <= d->last;
 }
@@ -212,10 +256,10 @@ static void of_run(struct journal *j, unsigned dialogue, uint64_t run, void (*ea
 {
     struct store *s = store_of(j);
     sqlite3_stmt *q = ready(s, OF_RUN);
-    sqlite3_bind_int64(q, 1, dialogue);
-    sqlite3_bind_int64(q, 2, (sqlite3_int64)run);
+    bind_integer(s, q, 1, dialogue);
+    bind_integer(s, q, 2, run);
     while (step(s, OF_RUN)) {
-        struct decision d = decision_at(q);
+        struct decision d = decision_at(s, q);
         each(with, &d);
     }
 }
@@ -227,12 +271,12 @@ static void post(struct journal *j, const struct letter *l)
     struct store *s = store_of(j);
     sqlite3_stmt *q = ready(s, POST);
     begin(s);
-    sqlite3_bind_text(q, 1, j->id, -1, SQLITE_TRANSIENT);
-    sqlite3_bind_int64(q, 2, l->dialogue);
-    sqlite3_bind_text(q, 3, l->type, -1, SQLITE_TRANSIENT);
-    sqlite3_bind_text(q, 4, l->reason, -1, SQLITE_TRANSIENT);
-    sqlite3_bind_int64(q, 5, (sqlite3_int64)l->since);
-    sqlite3_bind_blob64(q, 6, l->bytes > 0 ? l->body : (const uint8_t *)"", l->bytes, SQLITE_TRANSIENT);
+    bind_text(s, q, 1, j->id);
+    bind_integer(s, q, 2, l->dialogue);
+    bind_text(s, q, 3, l->type);
+    bind_text(s, q, 4, l->reason);
+    bind_integer(s, q, 5, l->since);
+    bind_bytes(s, q, 6, l->body, l->bytes);
     step(s, POST);
     s->letters++;
 }
@@ -241,19 +285,16 @@ static int next(struct journal *j, uint64_t behind, struct letter *l)
 {
     struct store *s = store_of(j);
     sqlite3_stmt *q = ready(s, NEXT);
-    sqlite3_bind_int64(q, 1, (sqlite3_int64)behind);
+    bind_integer(s, q, 1, behind);
     if (!step(s, NEXT))
         return 0;
     l->turn = l->id = (uint64_t)sqlite3_column_int64(q, 0);
-    l->journal = (const char *)sqlite3_column_text(q, 1);
+    l->journal = column_text(s, q, 1);
     l->dialogue = (unsigned)sqlite3_column_int(q, 2);
-    l->type = (const char *)sqlite3_column_text(q, 3);
-    l->reason = (const char *)sqlite3_column_text(q, 4);
+    l->type = column_text(s, q, 3);
+    l->reason = column_text(s, q, 4);
     l->since = (uint64_t)sqlite3_column_int64(q, 5);
-    l->body = sqlite3_column_blob(q, 6);
-    l->bytes = (size_t)sqlite3_column_bytes(q, 6);
-    if (l->bytes == 0)
-        l->body = (const uint8_t *)""; /* SQLite has no pointer for no bytes */
+    l->body = column_bytes(s, q, 6, &l->bytes);
     return 1; /* the row stays open, and with it the texts and the body */
 }
 
@@ -262,7 +303,7 @@ static void settle(struct journal *j, uint64_t turn)
     struct store *s = store_of(j);
     sqlite3_stmt *q = ready(s, SETTLE);
     begin(s);
-    sqlite3_bind_int64(q, 1, (sqlite3_int64)turn);
+    bind_integer(s, q, 1, turn);
     step(s, SETTLE);
     s->letters -= (uint64_t)sqlite3_changes(s->db);
 }
@@ -286,7 +327,7 @@ static void commit(struct journal *j)
     if (!s->open)
         return;
     ready(s, NEXT); /* an open row would keep the log from being written back */
-    sqlite3_bind_int64(ready(s, COUNT), 1, (sqlite3_int64)++s->commits);
+    bind_integer(s, ready(s, COUNT), 1, ++s->commits);
     step(s, COUNT);
     step(s, COMMIT);
     s->open = 0;
@@ -294,10 +335,40 @@ static void commit(struct journal *j)
 
 static uint64_t commits(struct journal *j) { return store_of(j)->commits; }
 
+/* What is committed is kept, and one host has one witness. */
+static int late(struct journal *j, unsigned dialogue)
+{
+    (void)j;
+    (void)dialogue;
+    return 0;
+}
+
+static void settle_id(struct journal *j, const char *id)
+{
+    (void)j;
+    (void)id;
+}
+
+static int knew(struct journal *j, const char *id)
+{
+    (void)j;
+    (void)id;
+    return 0;
+}
+
+static void set_version(struct store *s, int version)
+{
+    char text[80];
+    snprintf(text, sizeof text, "UPDATE journal SET version = %d", version);
+    execute(s, text);
+}
+
 static void close_store(struct journal *j)
 {
     struct store *s = store_of(j);
     int i;
+    if (s->making)
+        set_version(s, VERSION); /* its witness is written: it is whole */
     for (i = 0; i < STATEMENTS; i++)
         sqlite3_finalize(s->statement[i]);
     if (sqlite3_close(s->db) != SQLITE_OK)
@@ -312,11 +383,15 @@ static void close_store(struct journal *j)
 static void ask(struct store *s, const char *text, char *answer, size_t room)
 {
     sqlite3_stmt *q = NULL;
+    int got;
     answer[0] = '\0';
     if (sqlite3_prepare_v2(s->db, text, -1, &q, NULL) != SQLITE_OK)
         give_up(s, text);
-    if (sqlite3_step(q) == SQLITE_ROW && sqlite3_column_text(q, 0) != NULL)
-        snprintf(answer, room, "%s", (const char *)sqlite3_column_text(q, 0));
+    got = sqlite3_step(q);
+    if (got != SQLITE_DONE && got != SQLITE_ROW)
+        give_up(s, text);
+    if (got == SQLITE_ROW)
+        snprintf(answer, room, "%s", column_text(s, q, 0));
     sqlite3_finalize(q);
 }
 
@@ -353,6 +428,20 @@ static void make_durable(struct store *s)
     expect(s, "PRAGMA quick_check(1)", "ok", "the journal is damaged");
 }
 
+/* What an `init` that was broken off left makes room, in the same commit; anything else is a journal. */
+static void refuse_journal(struct store *s, const char *path)
+{
+    char answer[40];
+    ask(s, "SELECT count(*) FROM sqlite_master", answer, sizeof answer);
+    if (strcmp(answer, "0") == 0)
+        return;
+    ask(s, "SELECT name FROM sqlite_master WHERE name = 'journal'", answer, sizeof answer);
+    if (strcmp(answer, "journal") == 0)
+        ask(s, "SELECT version FROM journal", answer, sizeof answer);
+    if (atoi(answer) != MAKING)
+        log_and_exit(EXIT_REFUSED, "journal", path, "it is there already: a new one would take old jobs again");
+}
+
 /* The tables; the records follow, in the same commit. */
 static void make_tables(struct journal *j, unsigned dialogues)
 {
@@ -361,9 +450,11 @@ static void make_tables(struct journal *j, unsigned dialogues)
     journal_make_id(id);
     execute(s, texts[BEGIN]);
     s->open = 1;
+    execute(s, "DROP TABLE IF EXISTS journal; DROP TABLE IF EXISTS dialogue; DROP TABLE IF EXISTS decision; DROP TABLE IF EXISTS outbox");
     execute(s, schema);
-    snprintf(row, sizeof row, "INSERT INTO journal VALUES(1, %d, '%s', %u, 0)", VERSION, id, dialogues);
+    snprintf(row, sizeof row, "INSERT INTO journal VALUES(1, %d, '%s', %u, 0)", MAKING, id, dialogues);
     execute(s, row);
+    s->making = 1;
 }
 
 static void make_records(struct journal *j, unsigned dialogues)
@@ -397,27 +488,25 @@ static void check_version(struct store *s, enum journal_open how)
 {
     char answer[40];
     int version;
-    ask(s, "SELECT version FROM journal", answer, sizeof answer);
-    version = atoi(answer);
+    ask(s, "SELECT name FROM sqlite_master WHERE name = 'journal'", answer, sizeof answer);
+    if (answer[0] != '\0')
+        ask(s, "SELECT version FROM journal", answer, sizeof answer);
+    version = answer[0] == '\0' ? MAKING : atoi(answer);
+    if (version == MAKING)
+        log_and_exit(EXIT_REFUSED, "journal", "its `init` was broken off", "run `bridge init` again");
     if (version == MOVED && how != JOURNAL_MOVE)
         log_and_exit(EXIT_REFUSED, "journal", "it was moved to a database", "a bridge that ran on it would take jobs again");
     if (version != VERSION && version != MOVED)
         log_and_exit(EXIT_JOURNAL, "journal", "the journal has another version", answer);
 }
 
-void journal_mark_moved(struct journal *j)
-{
-    char text[80];
-    snprintf(text, sizeof text, "UPDATE journal SET version = %d", MOVED);
-    execute(store_of(j), text);
-}
+void journal_mark_moved(struct journal *j) { set_version(store_of(j), MOVED); }
 
 /* What the tables say of themselves. */
-static void take_front(struct journal *j, unsigned dialogues, enum journal_open how)
+static void take_front(struct journal *j, unsigned dialogues)
 {
     struct store *s = store_of(j);
     char answer[40], want[16];
-    check_version(s, how);
     snprintf(want, sizeof want, "%u", dialogues);
     expect(s, "SELECT dialogues FROM journal", want, "the journal has another number of dialogues");
     ask(s, "SELECT id FROM journal", j->id, sizeof j->id);
@@ -425,14 +514,6 @@ static void take_front(struct journal *j, unsigned dialogues, enum journal_open 
     s->commits = strtoull(answer, NULL, 10);
     ask(s, "SELECT count(*) FROM outbox", answer, sizeof answer);
     s->letters = strtoull(answer, NULL, 10);
-}
-
-static void refuse_unless(int there, enum journal_open how, const char *path)
-{
-    if (how != JOURNAL_INIT && !there)
-        log_and_exit(EXIT_REFUSED, "journal", path, "it is not there: `init` makes one, where no job was ever taken");
-    if (how == JOURNAL_INIT && there)
-        log_and_exit(EXIT_REFUSED, "journal", path, "it is there already: a new one would take old jobs again");
 }
 
 static const struct journal face = {
@@ -452,24 +533,42 @@ static const struct journal face = {
     .commits = commits,
     .close = close_store,
     .rename = rename_journal,
+    .settle_id = settle_id,
+    .knew = knew,
+    .late = late,
 };
+
+static void open_file(struct store *s, const char *path, enum journal_open how)
+{
+    int flags = SQLITE_OPEN_READWRITE | (how == JOURNAL_INIT ? SQLITE_OPEN_CREATE : 0), answer;
+    if (how != JOURNAL_INIT && access(path, F_OK) != 0 && errno == ENOENT)
+        log_and_exit(EXIT_REFUSED, "journal", path, "it is not there: `init` makes one, where no job was ever taken");
+    answer = sqlite3_open_v2(path, &s->db, flags, NULL);
+    if (answer == SQLITE_NOMEM || s->db == NULL)
+        log_and_exit(EXIT_MEMORY, "memory", path, "out of memory");
+    if (answer != SQLITE_OK)
+        give_up(s, path);
+}
 
 void journal_open_sqlite(struct journal *j, const struct config *c, enum journal_open how)
 {
     struct store *s = calloc(1, sizeof *s);
-    int flags = SQLITE_OPEN_READWRITE | (how == JOURNAL_INIT ? SQLITE_OPEN_CREATE : 0);
-    refuse_unless(access(c->journal, F_OK) == 0, how, c->journal);
-    if (s == NULL || sqlite3_open_v2(c->journal, &s->db, flags, NULL) != SQLITE_OK)
-        log_and_exit(EXIT_JOURNAL, "journal", c->journal, "can not be opened");
+    if (s == NULL)
+        log_and_exit(EXIT_MEMORY, "memory", "journal", "out of memory");
+    open_file(s, c->journal, how);
     *j = face;
     j->store = s;
     s->dialogues = (unsigned)c->dialogues;
     sqlite3_busy_timeout(s->db, 500);
     make_durable(s);
-    if (how == JOURNAL_INIT)
+    if (how == JOURNAL_INIT) {
+        refuse_journal(s, c->journal);
         make_tables(j, s->dialogues);
+    } else {
+        check_version(s, how);
+    }
     prepare(s);
-    take_front(j, s->dialogues, how);
+    take_front(j, s->dialogues);
     if (how == JOURNAL_INIT) {
         make_records(j, s->dialogues);
         if (!folder_sync(c->journal))

@@ -12,7 +12,7 @@ static void copy_into(struct letter *to, const struct letter *from)
     size_t type = strlen(from->type) + 1, reason = strlen(from->reason) + 1, journal = strlen(from->journal) + 1;
     char *piece = malloc(from->bytes + type + reason + journal);
     if (piece == NULL)
-        log_and_exit(EXIT_JOURNAL, "memory", "a letter does not fit", "out of memory");
+        log_and_exit(EXIT_MEMORY, "memory", "a letter does not fit", "out of memory");
     *to = *from;
     memcpy(piece, from->body, from->bytes);
     to->body = (const uint8_t *)piece;

@@ -117,7 +117,7 @@ void link_open_packet(struct link *l, const char *path)
     struct wires *w = calloc(1, sizeof *w);
     unsigned d;
     if (w == NULL)
-        log_and_exit(EXIT_USAGE, "link", path, "out of memory");
+        log_and_exit(EXIT_MEMORY, "memory", path, "out of memory");
     snprintf(w->path, sizeof w->path, "%s", path);
     for (d = 0; d < DIALOGUES_MOST; d++)
         w->socket[d] = -1;

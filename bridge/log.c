@@ -1,5 +1,8 @@
 #include "log.h"
 
+#include <errno.h>
+#include <fcntl.h>
+#include <poll.h>
 #include <stdio.h>
 #include <string.h>
 #include <time.h>
@@ -79,12 +82,39 @@ static void put_field(struct line *l, const struct log_field *f)
     }
 }
 
+int log_hold_descriptors(void)
+{
+    int d, got;
+    for (d = STDIN_FILENO; d <= STDERR_FILENO; d++)
+        if (fcntl(d, F_GETFD) < 0 && errno == EBADF) {
+            got = open("/dev/null", O_RDWR); /* the lowest number that is free */
+            if (got != d)
+                return 0;
+        }
+    return 1;
+}
+
+#define LAST_LINE_MS 200 /* that the last line of a process may wait to be taken */
+
+static uint64_t lost; /* lines that nobody took */
+
+/* A pipe or a socket that can be written takes a line at once: a line is shorter than what they take as a whole. */
+static int is_taken(int ms)
+{
+    struct pollfd error = {STDERR_FILENO, POLLOUT, 0};
+    return poll(&error, 1, ms) == 1 && (error.revents & POLLOUT) != 0;
+}
+
 void log_fields(enum log_level level, const char *event, const struct log_field *fields)
 {
     static const char *const names[] = {"fine", "info", "warn", "fail"};
     struct line l = {{0}, 0};
     if (level < least)
         return;
+    if (!is_taken(level == LOG_FAIL ? LAST_LINE_MS : 0)) {
+        lost++;
+        return;
+    }
     put_plain(&l, "{\"time\":");
     put_time(&l);
     put_plain(&l, ",\"level\":");
@@ -93,11 +123,14 @@ void log_fields(enum log_level level, const char *event, const struct log_field 
     put_string(&l, event);
     for (; fields->name != NULL && l.used < sizeof l.text - 128; fields++)
         put_field(&l, fields);
+    if (lost > 0 && l.used < sizeof l.text - 64)
+        put_field(&l, &(struct log_field)NUMBER("lost", lost));
     l.text[l.used++] = '}';
     l.text[l.used++] = '\n';
-    if (write(STDERR_FILENO, l.text, l.used) < 0) {
-        /* nobody reads the log: the bridge goes on without it */
-    }
+    if (write(STDERR_FILENO, l.text, l.used) < 0)
+        lost++; /* nobody reads the log: the bridge goes on without it */
+    else
+        lost = 0;
 }
 
 void log_and_exit(enum exit_status status, const char *event, const char *what, const char *why)

@@ -1,6 +1,8 @@
 /*
  * The log: one line of JSON on standard error for each event. A line has the time, the level, the event's name and what
  * the event is about. Job numbers are written as text: JSON's readers keep 53 bits of a number, and a job has 64.
+ *
+ * Writing never waits: a line that nobody takes is dropped, and the next one that is taken says how many were (`lost`).
  */
 #ifndef LOG_H
 #define LOG_H
@@ -33,8 +35,14 @@ enum exit_status {
     EXIT_USAGE = 2,   /* the command line or the configuration is wrong */
     EXIT_JOURNAL = 3, /* the journal failed: nothing of the last batch has left the process */
     EXIT_REFUSED = 4, /* it may not run on this journal or this queue */
-    EXIT_FENCED = 5   /* another bridge has taken over its dialogues: nothing of the last batch has left the process */
+    EXIT_FENCED = 5,  /* another bridge has taken over its dialogues: nothing of the last batch has left the process */
+    EXIT_SLOW = 6,    /* the database took too long for an answer: nothing of the last batch has left the process */
+    EXIT_MEMORY = 7   /* there is no memory: nothing of the last batch has left the process */
 };
+
+/* Standard input, output and error are open from now on: a descriptor that was closed is /dev/null, and no file or socket gets its
+   number. 0: that can not be had. */
+int log_hold_descriptors(void);
 
 /* The last line, then the end of the process: no buffer is flushed, no connection is closed in order. */
 void log_and_exit(enum exit_status status, const char *event, const char *what, const char *why)

@@ -1,8 +1,17 @@
 #include "mail.h"
 
+#include "log.h"
+
+/* The card refuses the reader's own record, which it can not: nothing that was read can be trusted. */
+static void must(const char *call, int good)
+{
+    if (!good)
+        log_and_exit(EXIT_JOURNAL, "card", call, "the record of the reader is refused");
+}
+
 void mail_begin(struct mail *m, const uint8_t *payload, size_t bytes)
 {
-    peat_mail_fresh(m->record, sizeof m->record);
+    must("peat_mail_fresh", peat_refusal(peat_mail_fresh(m->record, sizeof m->record)) == PEAT_TAKEN);
     m->payload = payload;
     m->bytes = bytes;
     m->at = 0;
@@ -21,6 +30,7 @@ unsigned mail_take(struct mail *m, struct envelope *e)
 {
     while (mail_waits(m)) {
         uint64_t answer = peat_mail_take(m->record, sizeof m->record, m->payload + m->at, m->bytes - m->at);
+        must("peat_mail_take", peat_refusal(answer) != PEAT_SHAPE);
         if (peat_refusal(answer) != PEAT_TAKEN)
             return peat_refusal(answer);
         m->at += peat_mail_taken(answer);
@@ -29,8 +39,8 @@ unsigned mail_take(struct mail *m, struct envelope *e)
             return PEAT_TAKEN;
         }
     }
-    peat_mail_end(m->record, sizeof m->record);
-    return PEAT_CUT;
+    must("peat_mail_end", peat_refusal(peat_mail_end(m->record, sizeof m->record)) != PEAT_SHAPE);
+    return PEAT_CUT; /* also where there was no byte */
 }
 
 size_t mail_place(const struct mail *m) { return (size_t)peat_mail_place(m->record); }

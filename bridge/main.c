@@ -1,12 +1,5 @@
 /*
- * bridge CONFIG                     runs
- * bridge --standby CONFIG           runs, and takes dialogues whose bridge is gone (with a database)
- * bridge check CONFIG               says whether the configuration can be read
- * bridge init CONFIG                makes the journal and this host's witness, where no job was ever taken
- * bridge join CONFIG                makes the witness of one more host of a journal that is in a database
- * bridge floor JOB CONFIG [NUMBER]  raises the floor of all dialogues, or of one: no job up to JOB is taken from now on
- *                                   unless it was decided before. Then a restored journal is accepted.
- * bridge move FROM TO               moves the journal of a configuration with a file to one with a database
+ * The command line of the bridge: the words are in `help`.
  */
 #include <signal.h>
 #include <stdio.h>
@@ -15,9 +8,11 @@
 #include <unistd.h>
 
 #include "bridge.h"
+#include "files.h"
 #include "floor.h"
 #include "log.h"
 #include "move.h"
+#include "renumber.h"
 #include "witness.h"
 
 static volatile sig_atomic_t stop;
@@ -28,21 +23,61 @@ static void on_stop(int signal)
     stop = 1;
 }
 
-static int usage(void)
+static const char help[] =
+    "bridge CONFIG                     runs\n"
+    "bridge --standby CONFIG           runs, and takes dialogues whose bridge is gone (with a database)\n"
+    "bridge check CONFIG               reads the configuration, looks at every file and folder that it names, and says what it found\n"
+    "bridge init CONFIG                makes the journal and this host's witness, where no job was ever taken\n"
+    "bridge join CONFIG                makes the witness of one more host of a journal that is in a database\n"
+    "bridge floor JOB CONFIG [NUMBER]  raises the floor of all dialogues, or of one: no job up to JOB is taken from now on\n"
+    "                                  unless it was decided before. Then a restored journal is accepted\n"
+    "bridge renumber NUMBER CONFIG     gives a dialogue's record a number that a start can follow, where its own is far ahead\n"
+    "bridge move FROM TO               moves the journal of a configuration with a file to one with a database\n"
+    "bridge --help, bridge --version   these lines; the version\n"
+    "\n"
+    "Statuses: 0 told to stop, 2 command line or configuration, 3 the journal failed, 4 it may not run here, 5 fenced by another bridge,\n"
+    "6 the database was too slow, 7 out of memory. docs/BRIDGE.md says what to do then.\n";
+
+/* What is wrong with the command line. */
+static int usage(const char *what, const char *why)
 {
-    fputs("usage: bridge CONFIG | bridge --standby CONFIG | bridge check CONFIG | bridge init CONFIG | bridge join CONFIG |"
-          " bridge floor JOB CONFIG [NUMBER] | bridge move FROM TO\n", stderr);
+    fprintf(stderr, "bridge: %s%s%s\nusage:\n%s", what, *what ? ": " : "", why, help);
     return EXIT_USAGE;
 }
 
-/* ---- the journal's commands */
+static int show_help(void) { return fputs(help, stdout) < 0 || fflush(stdout) != 0 ? EXIT_USAGE : EXIT_STOPPED; }
+
+static int show_version(void) { return printf("bridge %s\n", PEAT_VERSION) < 0 || fflush(stdout) != 0 ? EXIT_USAGE : EXIT_STOPPED; }
+
+/* ---- check */
+
+static void say_found(void *with, enum finding f, const char *name, const char *value, const char *what)
+{
+    static const char *const words[] = {[FILES_GOOD] = "good", [FILES_WARNS] = "warning", [FILES_BAD] = "bad"};
+    (void)with;
+    printf("%-8s %s %s: %s\n", words[f], name, value, what);
+}
 
 static int check(struct config *c, char **words)
 {
-    (void)c;
-    (void)words;
-    return EXIT_STOPPED;
+    unsigned bad;
+    printf("%-8s %s: every line is understood\n", "good", words[2]);
+    bad = files_look(c, say_found, NULL);
+    printf("not asked: the %sbroker %s:%llu\n", c->database[0] != '\0' ? "database, and the " : "", c->broker, (unsigned long long)c->port);
+    if (bad > 0)
+        printf("%u bad\n", bad);
+    return bad > 0 ? EXIT_USAGE : EXIT_STOPPED;
 }
+
+/* A bridge that starts with what it can't connect with would be away from its broker for ever. */
+static void log_found(void *with, enum finding f, const char *name, const char *value, const char *what)
+{
+    (void)with;
+    if (f != FILES_GOOD)
+        log_line(f == FILES_BAD ? LOG_FAIL : LOG_WARN, "configuration", TEXT("what", name), TEXT("value", value), TEXT("why", what));
+}
+
+/* ---- the journal's commands */
 
 static int init(struct config *c, char **words)
 {
@@ -58,11 +93,14 @@ static int init(struct config *c, char **words)
 static int join(struct config *c, char **words)
 {
     struct journal j;
-    uint64_t seen;
+    struct witness w;
     (void)words;
     journal_open(&j, c, JOURNAL_RUN);
-    if (!j.shared || witness_ask(c->witness, j.id, j.commits(&j), &seen) != WITNESS_MISSING)
-        log_and_exit(EXIT_REFUSED, "witness", c->witness, "it is there already, or the journal is one host's alone");
+    if (!j.shared)
+        log_and_exit(EXIT_REFUSED, "journal", c->journal, "it is one host's alone: `join` is for a journal that is in a database");
+    w = witness_ask(c->witness, &j);
+    if (w.says != WITNESS_MISSING)
+        log_and_exit(EXIT_REFUSED, "witness", c->witness, "it is there already: this host has joined. Start the bridge; where it refuses, it says what to do");
     witness_write(c->witness, j.id, j.commits(&j));
     j.close(&j);
     return EXIT_STOPPED;
@@ -71,11 +109,12 @@ static int join(struct config *c, char **words)
 static int raise_floor(struct config *c, char **words)
 {
     struct journal j;
-    char *end;
     const char *job = words[2], *dialogue = words[4];
-    uint64_t floor = strtoull(job, &end, 10), one = dialogue != NULL ? strtoull(dialogue, NULL, 10) : ALL_DIALOGUES;
-    if (*job < '0' || *job > '9' || *end != '\0' || (dialogue != NULL && one >= c->dialogues))
-        return usage();
+    uint64_t floor, one = ALL_DIALOGUES;
+    if (!config_number(job, &floor) || floor == UINT64_MAX)
+        return usage(job, "a job is a number below 18446744073709551615; a floor is never lowered");
+    if (dialogue != NULL && (!config_number(dialogue, &one) || one >= c->dialogues))
+        return usage(dialogue, "there is no dialogue with this number");
     c->share = c->dialogues; /* a command takes all, or nothing */
     journal_open(&j, c, JOURNAL_RUN);
     floor_raise(&j, c, floor, one);
@@ -83,9 +122,24 @@ static int raise_floor(struct config *c, char **words)
     return EXIT_STOPPED;
 }
 
+/* A record that no start can follow gets a number that one can. */
+static int lower_number(struct config *c, char **words)
+{
+    struct journal j;
+    uint64_t dialogue;
+    if (!config_number(words[2], &dialogue) || dialogue >= c->dialogues)
+        return usage(words[2], "there is no dialogue with this number");
+    c->share = c->dialogues; /* a command takes all, or nothing */
+    journal_open(&j, c, JOURNAL_RUN);
+    witness_admit(c->witness, &j);
+    renumber(&j, c, (unsigned)dialogue);
+    j.close(&j);
+    return EXIT_STOPPED;
+}
+
 static int read_config(struct config *c, const char *path)
 {
-    char fault[400];
+    char fault[CONFIG_LONG];
     if (!config_read(c, path, fault, sizeof fault)) {
         fprintf(stderr, "%s\n", fault);
         return 0;
@@ -128,13 +182,15 @@ static int run(struct config *c, char **words)
     struct page page;
     (void)words;
     hear_signals();
+    if (files_look_broker(c, log_found, NULL) > 0)
+        log_and_exit(EXIT_USAGE, "configuration", c->broker, "what the connection to the broker needs can not be read; `bridge check` says what");
     if (!broker_open_rabbit(&broker, c))
-        log_and_exit(EXIT_USAGE, "broker", c->broker, "this bridge was built without an AMQP library, or its files can not be read");
+        log_and_exit(EXIT_USAGE, "broker", c->broker, broker.why);
     if (!page_open(&page, (unsigned)c->metrics_port))
         log_and_exit(EXIT_USAGE, "metrics", "metrics_port", "the port can not be had");
     link_open_packet(&link, c->link);
     journal_open(&j, c, JOURNAL_RUN);
-    witness_admit(c->witness, j.id, j.commits(&j));
+    witness_admit(c->witness, &j);
     bridge_begin(&b, c, &j, &broker, &link, &page);
     bridge_run(&b, &stop);
     return EXIT_STOPPED;
@@ -160,17 +216,30 @@ static const struct command {
     {"init", 3, 3, 2, init},
     {"join", 3, 3, 2, join},
     {"floor", 4, 5, 3, raise_floor},
+    {"renumber", 4, 4, 3, lower_number},
     {"move", 4, 4, 2, move},
     {NULL, 2, 2, 1, run}, /* any other word is a configuration */
 };
+
+static int is_word(int argc, char **argv, const char *word) { return argc == 2 && strcmp(argv[1], word) == 0; }
 
 int main(int argc, char **argv)
 {
     static struct config c;
     const struct command *k = commands;
-    while (k->word != NULL && (argc < 2 || strcmp(argv[1], k->word) != 0))
+    if (!log_hold_descriptors())
+        return EXIT_USAGE;
+    if (is_word(argc, argv, "--help") || is_word(argc, argv, "-h"))
+        return show_help();
+    if (is_word(argc, argv, "--version"))
+        return show_version();
+    if (argc < 2)
+        return usage("", "there is no configuration");
+    while (k->word != NULL && strcmp(argv[1], k->word) != 0)
         k++;
+    if (k->word == NULL && argv[1][0] == '-')
+        return usage(argv[1], "there is no such word");
     if (argc < k->least || argc > k->most)
-        return usage();
+        return usage(argv[1], "too few words, or too many");
     return read_config(&c, argv[k->config]) ? k->run(&c, argv) : EXIT_USAGE;
 }

@@ -74,6 +74,7 @@ static void owners(struct text *t, const struct metrics *m)
     one(t, "dialogues_owned", GAUGE, "Dialogues that this bridge has.", m->owned);
     one(t, "dialogues_taken_over_total", COUNTER, "Dialogues taken from a bridge whose lease ran out.", m->takeovers);
     one(t, "dialogues_given_back_total", COUNTER, "Dialogues given back in order.", m->given_back);
+    one(t, "dialogues_held_up", GAUGE, "Dialogues whose row another session of the database has locked.", m->late);
     line(t, "# HELP peat_dialogue_lease The number of the lease under which a host has a dialogue.\n# TYPE peat_dialogue_lease gauge\n");
     for (d = 0; d < DIALOGUES_MOST; d++)
         if (m->lease[d] != 0)
@@ -90,6 +91,26 @@ static void outbox(struct text *t, const struct metrics *m)
     one(t, "outbox_letters", GAUGE, "Letters in the outbox.", m->letters);
     line(t, "# HELP peat_outbox_age_seconds How long the oldest letter waits.\n# TYPE peat_outbox_age_seconds gauge\n");
     line(t, "peat_outbox_age_seconds %.3f\n", (double)m->oldest_ms / 1000.0);
+}
+
+/* What an operator must see: each of these is a dialogue or a letter that waits, or an aircraft that does what it may not. */
+static void troubles(struct text *t, const struct metrics *m)
+{
+    unsigned d;
+    one(t, "queues_consumed", GAUGE, "Queues of dialogues that are consumed now.", m->queues);
+    one(t, "queues_away_total", COUNTER, "Times that a queue could not be consumed, or not any more.", m->queues_away);
+    line(t, "# HELP peat_queue_away 1 where the queue of a dialogue could not be consumed when it was tried last.\n# TYPE peat_queue_away gauge\n");
+    for (d = 0; d < DIALOGUES_MOST; d++)
+        if (m->queue_away[d])
+            line(t, "peat_queue_away{dialogue=\"%02u\"} 1\n", d);
+    one(t, "payloads_unread", GAUGE, "Dialogues with a payload that is not read to its end.", m->unread);
+    one(t, "broker_blocked", GAUGE, "1 while the broker takes no letters: it is short of memory or disk.", m->blocked);
+    one(t, "letters_refused_total", COUNTER, "Times that the broker did not store a letter.", m->letters_refused);
+    one(t, "letters_held", GAUGE, "1 while letters that the broker refused wait to be given again.", m->letters_held);
+    line(t, "# HELP peat_broker_waits_seconds How long the broker has been silent in the middle of a call.\n# TYPE peat_broker_waits_seconds gauge\n");
+    line(t, "peat_broker_waits_seconds %.3f\n", (double)m->broker_waits_ms / 1000.0);
+    one(t, "starts_refused_total", COUNTER, "Starts of a dialogue that the card refused.", m->starts_refused);
+    one(t, "primitives_unexpected_total", COUNTER, "Primitives that an aircraft may not send: starts, and numbers that were never given.", m->unexpected);
 }
 
 static void commits(struct text *t, const struct metrics *m)
@@ -112,6 +133,7 @@ size_t metrics_text(const struct metrics *m, char *text, size_t room)
     dialogues(&t, m);
     owners(&t, m);
     outbox(&t, m);
+    troubles(&t, m);
     commits(&t, m);
     return t.used;
 }

@@ -19,9 +19,14 @@ struct metrics {
     uint64_t commits, commit_us, commit_in[LATENCIES + 1];
     uint64_t takeovers, given_back;
     /* as they are now */
-    uint64_t open, owned, letters, oldest_ms, broker, unsent;
+    uint64_t open, owned, late, letters, oldest_ms, broker, unsent;
     const char *host;
     uint64_t lease[DIALOGUES_MOST]; /* under which number this bridge has a dialogue; 0: it has it not */
+    /* what goes wrong at the broker and at the aircraft */
+    uint64_t queues_away, letters_refused, starts_refused, unexpected;
+    /* as it is now */
+    uint64_t queues, unread, blocked, letters_held, broker_waits_ms;
+    uint8_t queue_away[DIALOGUES_MOST];
 };
 
 /* A commit took so long. */
@@ -40,6 +45,7 @@ struct page {
     int listener; /* -1: there is no page */
     int client[PAGE_CLIENTS];
     uint64_t until[PAGE_CLIENTS];
+    uint64_t rests_until; /* nobody is let in before */
 };
 
 /* 0: the port can not be had. */

@@ -54,7 +54,7 @@ void journal_move(const struct config *from, const struct config *to)
     if (from->journal[0] == '\0' || to->database[0] == '\0' || from->dialogues != to->dialogues)
         log_and_exit(EXIT_USAGE, "move", "configuration", "the first names a journal, the second a database, for as many dialogues");
     journal_open(&file, from, JOURNAL_MOVE);
-    witness_admit(from->witness, file.id, file.commits(&file));
+    witness_admit(from->witness, &file);
     journal_open(&database, to, JOURNAL_MOVE);
     if (database.take(&database, all) != to->dialogues)
         log_and_exit(EXIT_REFUSED, "move", "database", "a bridge has dialogues of it");

@@ -1,4 +1,5 @@
 #include <arpa/inet.h>
+#include <errno.h>
 #include <fcntl.h>
 #include <netinet/in.h>
 #include <poll.h>
@@ -11,7 +12,8 @@
 #include "metrics.h"
 
 #define PATIENCE_MS 2000 /* that a client may take to ask */
-#define PAGE_BYTES 16384
+#define REST_MS 1000     /* that nobody is let in after that failed: there are no descriptors left, say */
+#define PAGE_BYTES 32768
 
 static void make_private(int s)
 {
@@ -26,6 +28,7 @@ int page_open(struct page *p, unsigned port)
     for (i = 0; i < PAGE_CLIENTS; i++)
         p->client[i] = -1;
     p->listener = -1;
+    p->rests_until = 0;
     if (port == 0)
         return 1;
     memset(&a, 0, sizeof a);
@@ -40,11 +43,21 @@ int page_open(struct page *p, unsigned port)
     return bind(p->listener, (const struct sockaddr *)&a, sizeof a) == 0 && listen(p->listener, PAGE_CLIENTS) == 0;
 }
 
+/* Somebody who comes now is let in. Who can't be let in waits at the door, and is no news. */
+static int has_room(const struct page *p)
+{
+    int i;
+    if (p->listener < 0 || now_ms() < p->rests_until)
+        return 0;
+    for (i = 0; i < PAGE_CLIENTS && p->client[i] >= 0; i++) {}
+    return i < PAGE_CLIENTS;
+}
+
 size_t page_polls(const struct page *p, struct pollfd *polls)
 {
     size_t n = 0;
     int i;
-    if (p->listener >= 0)
+    if (has_room(p))
         polls[n++] = (struct pollfd){p->listener, POLLIN, 0};
     for (i = 0; i < PAGE_CLIENTS; i++)
         if (p->client[i] >= 0)
@@ -59,6 +72,8 @@ static void welcome(struct page *p)
         if (p->client[i] >= 0)
             continue;
         s = accept(p->listener, NULL, NULL);
+        if (s < 0 && errno != EAGAIN && errno != EWOULDBLOCK && errno != EINTR && errno != ECONNABORTED)
+            p->rests_until = now_ms() + REST_MS;
         if (s < 0)
             return;
         make_private(s);
@@ -84,17 +99,18 @@ void page_serve(struct page *p, const struct metrics *m)
 {
     char asked[2048];
     int i;
-    if (p->listener < 0)
-        return;
-    welcome(p);
+    if (has_room(p))
+        welcome(p);
     for (i = 0; i < PAGE_CLIENTS; i++) {
         ssize_t n;
+        int waits;
         if (p->client[i] < 0)
             continue;
         n = recv(p->client[i], asked, sizeof asked, MSG_DONTWAIT);
+        waits = n < 0 && (errno == EAGAIN || errno == EWOULDBLOCK || errno == EINTR);
         if (n > 0)
             answer(p->client[i], m);
-        if (n >= 0 || now_ms() > p->until[i]) {
+        if (!waits || now_ms() > p->until[i]) {
             close(p->client[i]);
             p->client[i] = -1;
         }

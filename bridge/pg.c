@@ -1,14 +1,17 @@
 #include "pg.h"
 
 #include <libpq-fe.h>
+#include <poll.h>
 #include <stdio.h>
 #include <stdlib.h>
 #include <string.h>
 
+#include "clock.h"
 #include "jobs.h"
 #include "log.h"
 
 #define FORMAT_BINARY 1
+#define TICK_MS 20 /* between two looks at what is due meanwhile */
 #define AT_ONCE 500 /* statements that are sent before their answers are read: neither side waits for the other with full hands */
 
 /* one parameter: a range of the batch's bytes; text where `binary` is 0 */
@@ -18,7 +21,7 @@ struct parameter {
 };
 
 struct statement {
-    unsigned which;
+    unsigned which, group;
     int rows;
     size_t first, count; /* its parameters */
 };
@@ -26,6 +29,9 @@ struct statement {
 struct pg {
     PGconn *to;
     PGresult *rows;     /* of the last question */
+    uint64_t most, until; /* how long an answer may take, ms, and until when this one may; 0: as long as it likes */
+    void (*meanwhile)(void *), (*lost)(void *);
+    void *meanwhile_with, *lost_with;
     int warned;         /* the database said something that is not an error */
     char *byte;         /* the bytes of all parameters */
     size_t bytes, byte_room;
@@ -37,9 +43,48 @@ struct pg {
 
 /* ---- what may not fail */
 
+/* The database gave a statement up: it waited for a lock, or took too long. */
+static int is_slow(const PGresult *r)
+{
+    const char *code = PQresultErrorField(r, PG_DIAG_SQLSTATE);
+    return code != NULL && (strcmp(code, "55P03") == 0 || strcmp(code, "57014") == 0);
+}
+
+/* The database ended the session: by the word of somebody, or since it stops. */
+static int is_ended(const PGresult *r)
+{
+    const char *code = PQresultErrorField(r, PG_DIAG_SQLSTATE);
+    return code != NULL && strncmp(code, "57P", 3) == 0;
+}
+
+/* Whoever has the connection may know more of it than that it is lost. */
+static void ask_why(struct pg *p, const char *what)
+{
+    void (*lost)(void *) = p->lost;
+    p->lost = NULL;
+    if (lost == NULL)
+        return;
+    log_line(LOG_WARN, "database lost", TEXT("what", what), TEXT("why", PQerrorMessage(p->to)));
+    lost(p->lost_with);
+}
+
 static void give_up(struct pg *p, const char *what)
 {
+    if (PQstatus(p->to) == CONNECTION_BAD)
+        ask_why(p, what);
     log_and_exit(EXIT_JOURNAL, "database", what, PQerrorMessage(p->to));
+}
+
+/* An answer that is none. There is always one: where the library has none, it has no memory. */
+static void refuse_answer(struct pg *p, const PGresult *r, const char *what)
+{
+    if (r == NULL && PQstatus(p->to) == CONNECTION_OK)
+        log_and_exit(EXIT_MEMORY, "memory", what, "out of memory");
+    if (is_slow(r))
+        log_and_exit(EXIT_SLOW, "database slow", what, PQresultErrorMessage(r));
+    if (is_ended(r))
+        ask_why(p, what);
+    give_up(p, what);
 }
 
 static void hear(void *with, const PGresult *r)
@@ -64,13 +109,25 @@ struct pg *pg_open(const char *database, const char *name)
     const char *const keys[] = {"connect_timeout", "keepalives_idle", "keepalives_interval", "keepalives_count", "tcp_user_timeout", "dbname", "application_name", NULL};
     const char *const values[] = {"5", "5", "2", "3", "10000", database, name, NULL};
     struct pg *p = calloc(1, sizeof *p);
-    if (p == NULL)
-        log_and_exit(EXIT_JOURNAL, "memory", "database", "out of memory");
-    p->to = PQconnectdbParams(keys, values, 1);
-    if (p->to == NULL || PQstatus(p->to) != CONNECTION_OK)
+    if (p == NULL || (p->to = PQconnectdbParams(keys, values, 1)) == NULL)
+        log_and_exit(EXIT_MEMORY, "memory", "database", "out of memory");
+    if (PQstatus(p->to) != CONNECTION_OK || PQsetnonblocking(p->to, 1) != 0)
         give_up(p, "it can not be reached");
     PQsetNoticeReceiver(p->to, hear, p);
+    pg_prepare(p, PG_BEGIN, "BEGIN");
     return p;
+}
+
+void pg_meanwhile(struct pg *p, void (*meanwhile)(void *), void *with)
+{
+    p->meanwhile = meanwhile;
+    p->meanwhile_with = with;
+}
+
+void pg_on_loss(struct pg *p, void (*lost)(void *), void *with)
+{
+    p->lost = lost;
+    p->lost_with = with;
 }
 
 void pg_close(struct pg *p)
@@ -83,17 +140,68 @@ void pg_close(struct pg *p)
     free(p);
 }
 
+/* ---- waiting. The library is never asked for what it would have to wait for. */
+
+static void start_clock(struct pg *p) { p->until = p->most != 0 ? now_ms() + p->most : 0; }
+
+static void wait_for(struct pg *p, short what)
+{
+    struct pollfd one = {PQsocket(p->to), what, 0};
+    if (p->until != 0 && now_ms() >= p->until)
+        log_and_exit(EXIT_SLOW, "database slow", "no answer", "it took longer than a lease");
+    if (poll(&one, 1, TICK_MS) == 0 && p->meanwhile != NULL)
+        p->meanwhile(p->meanwhile_with);
+}
+
+/* The next answer; NULL: there are no more to this question. */
+static PGresult *next_answer(struct pg *p)
+{
+    int unsent = PQflush(p->to);
+    while (unsent > 0 || PQisBusy(p->to)) {
+        wait_for(p, (short)(POLLIN | (unsent > 0 ? POLLOUT : 0)));
+        if (!PQconsumeInput(p->to))
+            give_up(p, "read");
+        unsent = PQflush(p->to);
+    }
+    if (unsent < 0)
+        give_up(p, "send");
+    return PQgetResult(p->to);
+}
+
+/* What was asked has one answer: the last that comes, unless an earlier one is a failure. */
+static PGresult *only_answer(struct pg *p, int sent, const char *what)
+{
+    PGresult *r = NULL, *more;
+    if (!sent)
+        give_up(p, what);
+    while ((more = next_answer(p)) != NULL) {
+        if (PQresultStatus(more) != PGRES_TUPLES_OK && PQresultStatus(more) != PGRES_COMMAND_OK)
+            refuse_answer(p, more, what);
+        PQclear(r);
+        r = more;
+    }
+    if (r == NULL)
+        refuse_answer(p, r, what);
+    return r;
+}
+
 static void name_of(unsigned statement, char *name, size_t room) { snprintf(name, room, "s%u", statement); }
 
 void pg_prepare(struct pg *p, unsigned statement, const char *text)
 {
     char name[16];
-    PGresult *r;
     name_of(statement, name, sizeof name);
-    r = PQprepare(p->to, name, text, 0, NULL);
-    if (PQresultStatus(r) != PGRES_COMMAND_OK)
-        give_up(p, text);
-    PQclear(r);
+    start_clock(p);
+    PQclear(only_answer(p, PQsendPrepare(p->to, name, text, 0, NULL), text));
+}
+
+void pg_limit(struct pg *p, uint64_t ms)
+{
+    char text[120];
+    p->most = ms;
+    /* the database gives up first: it knows what it waited for */
+    snprintf(text, sizeof text, "SET statement_timeout = %llu; SET lock_timeout = %llu", (unsigned long long)ms * 3 / 4, (unsigned long long)ms * 3 / 4);
+    pg_say(p, text);
 }
 
 /* ---- parameters */
@@ -150,13 +258,19 @@ static struct lent lend(const struct pg *p, size_t first, size_t count)
 
 /* ---- asking. Rows come in binary only where bytes are asked for, so they come as text: a bytea as \x and digits. */
 
-static int take_rows(struct pg *p, PGresult *r, const char *what)
+static int take_rows(struct pg *p, PGresult *r)
 {
     forget_rows(p);
     p->rows = r;
-    if (PQresultStatus(r) != PGRES_TUPLES_OK && PQresultStatus(r) != PGRES_COMMAND_OK)
-        give_up(p, what);
     return PQresultStatus(r) == PGRES_TUPLES_OK ? PQntuples(r) : 0;
+}
+
+/* The parameters that were collected for the next statement are used. */
+static void forget_parameters(struct pg *p)
+{
+    if (p->parameters > p->begun)
+        p->bytes = p->parameter[p->begun].at;
+    p->parameters = p->begun;
 }
 
 int pg_ask(struct pg *p, unsigned statement)
@@ -166,17 +280,23 @@ int pg_ask(struct pg *p, unsigned statement)
     int rows;
     name_of(statement, name, sizeof name);
     p->warned = 0;
-    rows = take_rows(p, PQexecPrepared(p->to, name, l.count, l.value, l.length, l.format, 0), name);
-    if (p->parameters > p->begun)
-        p->bytes = p->parameter[p->begun].at;
-    p->parameters = p->begun;
+    start_clock(p);
+    rows = take_rows(p, only_answer(p, PQsendQueryPrepared(p->to, name, l.count, l.value, l.length, l.format, 0), name));
+    forget_parameters(p);
     return rows;
+}
+
+/* as part of a question whose clock runs */
+static int say_within(struct pg *p, const char *text)
+{
+    p->warned = 0;
+    return take_rows(p, only_answer(p, PQsendQuery(p->to, text), text));
 }
 
 int pg_say(struct pg *p, const char *text)
 {
-    p->warned = 0;
-    return take_rows(p, PQexec(p->to, text), text);
+    start_clock(p);
+    return say_within(p, text);
 }
 
 int pg_warned(const struct pg *p) { return p->warned; }
@@ -213,14 +333,20 @@ uint64_t pg_job_at(struct pg *p, int row, int column)
 
 /* ---- a batch */
 
-void pg_add(struct pg *p, unsigned statement, int rows)
+void pg_add(struct pg *p, unsigned statement, int rows, unsigned group)
 {
     p->statement = grow(p->statement, &p->statement_room, p->statements + 1, sizeof *p->statement);
-    p->statement[p->statements++] = (struct statement){statement, rows, p->begun, p->parameters - p->begun};
+    p->statement[p->statements++] = (struct statement){statement, group, rows, p->begun, p->parameters - p->begun};
     p->begun = p->parameters;
 }
 
 int pg_pending(const struct pg *p) { return p->statements > 0; }
+
+static void enter_pipeline(struct pg *p)
+{
+    if (!PQenterPipelineMode(p->to))
+        give_up(p, "pipeline");
+}
 
 static void send_one(struct pg *p, const struct statement *s)
 {
@@ -231,26 +357,48 @@ static void send_one(struct pg *p, const struct statement *s)
         give_up(p, "send");
 }
 
-/* The answer to one statement, and the end of its answers. 1: it touched its rows. */
-static int read_one(struct pg *p, const struct statement *s)
+/* The answer to one statement, and the end of its answers. */
+static PGresult *read_one(struct pg *p)
 {
-    PGresult *r = PQgetResult(p->to);
-    int good;
+    PGresult *r = next_answer(p);
     if (PQresultStatus(r) != PGRES_COMMAND_OK && PQresultStatus(r) != PGRES_TUPLES_OK)
-        give_up(p, "a statement of a batch");
-    good = s->rows == PG_ANY || atoi(PQcmdTuples(r)) == s->rows;
-    PQclear(r);
-    if (PQgetResult(p->to) != NULL)
+        refuse_answer(p, r, "a statement of a batch");
+    if (next_answer(p) != NULL)
         give_up(p, "an answer too many");
-    return good;
+    return r;
 }
 
-static void read_sync(struct pg *p)
+static void leave_pipeline(struct pg *p)
 {
-    PGresult *r = PQgetResult(p->to);
+    PGresult *r = next_answer(p);
     if (PQresultStatus(r) != PGRES_PIPELINE_SYNC)
-        give_up(p, "the end of a batch");
+        refuse_answer(p, r, "the end of a batch");
     PQclear(r);
+    if (!PQexitPipelineMode(p->to))
+        give_up(p, "pipeline");
+}
+
+static void end_sending(struct pg *p)
+{
+    if (!PQpipelineSync(p->to))
+        give_up(p, "send");
+}
+
+int pg_begin(struct pg *p, unsigned statement)
+{
+    const struct statement begins = {PG_BEGIN, PG_NO_GROUP, PG_ANY, p->begun, 0};
+    const struct statement asks = {statement, PG_NO_GROUP, PG_ANY, p->begun, p->parameters - p->begun};
+    int rows;
+    start_clock(p);
+    enter_pipeline(p);
+    send_one(p, &begins);
+    send_one(p, &asks);
+    end_sending(p);
+    PQclear(read_one(p));
+    rows = take_rows(p, read_one(p));
+    leave_pipeline(p);
+    forget_parameters(p);
+    return rows;
 }
 
 /* Sends statements one behind the other and reads their answers; 1: all touched their rows. */
@@ -258,40 +406,79 @@ static int exchange(struct pg *p, const struct statement *from, size_t count)
 {
     size_t i;
     int good = 1;
-    if (!PQenterPipelineMode(p->to))
-        give_up(p, "pipeline");
+    enter_pipeline(p);
     for (i = 0; i < count; i++)
         send_one(p, from + i);
-    if (!PQpipelineSync(p->to))
-        give_up(p, "send");
-    for (i = 0; i < count; i++)
-        good &= read_one(p, from + i);
-    read_sync(p);
-    if (!PQexitPipelineMode(p->to))
-        give_up(p, "pipeline");
+    end_sending(p);
+    for (i = 0; i < count; i++) {
+        PGresult *r = read_one(p);
+        good &= from[i].rows == PG_ANY || atoi(PQcmdTuples(r)) == from[i].rows;
+        PQclear(r);
+    }
+    leave_pipeline(p);
     return good;
 }
 
-static void empty(struct pg *p) { p->statements = p->parameters = p->begun = p->bytes = 0; }
-
-/* A commit that only seems to be one (it was rolled back, or the wait for a replica was given up) is none. */
-static void end_transaction(struct pg *p, const char *how)
+/* Statements of groups that are late go behind the others, each in its order; how many are not late. */
+static size_t set_late_apart(struct pg *p, int (*late)(void *, unsigned), void *with)
 {
-    pg_say(p, how);
+    struct statement *behind = NULL;
+    size_t room = 0, i, n = 0, count = 0;
+    for (i = 0; i < p->statements; i++) {
+        if (p->statement[i].group == PG_NO_GROUP || !late(with, p->statement[i].group)) {
+            p->statement[n++] = p->statement[i];
+        } else {
+            behind = grow(behind, &room, count + 1, sizeof *behind);
+            behind[count++] = p->statement[i];
+        }
+    }
+    if (count > 0)
+        memcpy(p->statement + n, behind, count * sizeof *behind);
+    free(behind);
+    return n;
+}
+
+/* What is behind the first `done` statements becomes the batch, its parameters at the front. */
+static void keep_rest(struct pg *p, size_t done)
+{
+    size_t i, k, parameters = 0, bytes = 0;
+    for (i = done; i < p->statements; i++) {
+        struct statement s = p->statement[i];
+        for (k = 0; k < s.count; k++) {
+            struct parameter a = p->parameter[s.first + k];
+            memmove(p->byte + bytes, p->byte + a.at, a.bytes + 1);
+            p->parameter[parameters + k] = (struct parameter){bytes, a.bytes, a.binary};
+            bytes += a.bytes + 1;
+        }
+        s.first = parameters;
+        parameters += s.count;
+        p->statement[i - done] = s;
+    }
+    p->statements -= done;
+    p->parameters = p->begun = parameters;
+    p->bytes = bytes;
+}
+
+/* A commit that only seems to be one (it was rolled back, or the wait for a replica was given up) is none. The database does not
+   give that wait up by itself: what it gave up would be committed, and not on the replica. */
+static void end_transaction(struct pg *p, int good)
+{
+    const char *how = good ? "COMMIT" : "ROLLBACK";
+    say_within(p, good ? "SET LOCAL statement_timeout = 0; COMMIT" : "ROLLBACK");
     if (strcmp(PQcmdStatus(p->rows), how) != 0 || p->warned)
         log_and_exit(EXIT_JOURNAL, "database", how, p->warned ? "the database warns" : PQcmdStatus(p->rows));
 }
 
-int pg_commit(struct pg *p)
+int pg_commit(struct pg *p, int (*late)(void *, unsigned), void *with)
 {
-    size_t at, n;
+    size_t at, n, count = set_late_apart(p, late, with);
     int good = 1;
-    pg_say(p, "BEGIN");
-    for (at = 0; at < p->statements && good; at += n) {
-        n = p->statements - at < AT_ONCE ? p->statements - at : AT_ONCE;
+    start_clock(p);
+    for (at = 0; at < count && good; at += n) {
+        n = count - at < AT_ONCE ? count - at : AT_ONCE;
         good = exchange(p, p->statement + at, n);
     }
-    end_transaction(p, good ? "COMMIT" : "ROLLBACK");
-    empty(p);
+    end_transaction(p, good);
+    keep_rest(p, count);
     return good;
 }

@@ -3,6 +3,9 @@
  * and since nothing of a batch leaves the bridge before its commit, nothing has left. There is no second connection: a process
  * that lost the first can not know what became of its last commit, and begins anew.
  *
+ * No call waits for longer than it may: an answer that does not come in time ends the process (EXIT_SLOW), and so does one that the
+ * database gave up, since another session has a lock. While a call waits, what is due meanwhile is done.
+ *
  * What is to be written is collected (pg_add) and goes out with pg_commit, as one transaction: one way there and back for all
  * statements, then the commit. Each statement says how many rows it must touch.
  */
@@ -20,7 +23,15 @@ struct pg;
 struct pg *pg_open(const char *database, const char *name);
 void pg_close(struct pg *);
 
-/* Statements have numbers, from 0 on. */
+/* From now on an answer may take so many ms, and the database gives a statement or a lock up before; 0: as long as it likes. */
+void pg_limit(struct pg *, uint64_t ms);
+/* What is done now and then while a call waits for an answer. */
+void pg_meanwhile(struct pg *, void (*meanwhile)(void *with), void *with);
+/* What is asked when the connection is lost, before the process ends: it may end it with another status. */
+void pg_on_loss(struct pg *, void (*lost)(void *with), void *with);
+
+/* Statements have numbers, from 0 on; PG_BEGIN is the connection's own. */
+#define PG_BEGIN 1000u
 void pg_prepare(struct pg *, unsigned statement, const char *text);
 
 /* ---- the parameters of the next statement, in their order */
@@ -48,13 +59,18 @@ uint64_t pg_job_at(struct pg *, int row, int column);
 /* ---- a batch */
 
 #define PG_ANY (-1)
+#define PG_NO_GROUP UINT32_MAX
 
-/* Puts a statement with the parameters so far into the batch. It must touch so many rows, or the dialogue is another's. */
-void pg_add(struct pg *, unsigned statement, int rows);
+/* Puts a statement with the parameters so far into the batch. It must touch so many rows, or the dialogue is another's. It belongs
+   to a group (its dialogue), or to none. */
+void pg_add(struct pg *, unsigned statement, int rows, unsigned group);
 int pg_pending(const struct pg *);
 
-/* The batch, as one transaction, on stable storage when this returns. 0: a statement did not touch its rows; nothing of the
-   batch was kept. */
-int pg_commit(struct pg *);
+/* Begins the transaction, and asks a statement in it with the parameters so far; how many rows there are. */
+int pg_begin(struct pg *, unsigned statement);
+
+/* Ends it with the batch, on stable storage when this returns. Statements of a group that is late stay in the batch: `late` says it
+   by number. 0: a statement did not touch its rows; nothing of the batch was kept. */
+int pg_commit(struct pg *, int (*late)(void *with, unsigned group), void *with);
 
 #endif

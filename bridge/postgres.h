@@ -14,9 +14,12 @@
 struct hold {
     uint64_t lease; /* its number; 0: it is not ours */
     uint64_t top;   /* no job above this was decided */
-    int written;    /* in this batch: its row, */
+    int written;    /* in this batch: its row, or a look at it, under its number, */
     int touched;    /* or something else of it */
     int leaves;     /* it is given back with this batch */
+    uint64_t late;  /* its row was locked by another session at the last commit, and before, since then (ms); 0: it was not */
+    int unsure;     /* its row was locked at the last renewal, and the lease had run out: whether it is ours is not known */
+    uint64_t unkept; /* the turn of its first letter that is not kept yet; 0: all are */
 };
 
 struct store {
@@ -25,6 +28,8 @@ struct store {
     char owner[OWNER_TEXT];
     struct hold hold[DIALOGUES_MOST];
     unsigned held;
+    int making;              /* by `init`: the journal is whole when it is closed */
+    int settles_ids;         /* the statement for that is prepared */
     uint64_t began, renewed; /* when this process opened the journal, and when it last asked for its leases */
     uint64_t position;       /* of the database's log, then */
     uint64_t id_next, id_end; /* ids of letters that are left */
@@ -46,13 +51,19 @@ void postgres_refuse(const char *what, const char *why)
 /* ---- tables */
 
 #define POSTGRES_VERSION 1
-#define POSTGRES_MOVING 0 /* the version of a journal that is not whole yet */
+#define POSTGRES_MOVING 0    /* the version of a journal that is being moved here and is not whole yet, */
+#define POSTGRES_MAKING 1000 /* and of one whose `init` has not come to its end */
 
-enum statement { KEEP, FENCE, LOAD, TOP, DECIDE, FIND, OF_RUN, POST, OUTBOX, SETTLE, LOOK, OUST, TAKE, RENEW, GIVE_BACK, LEAVE, BLOCK, RENAME, STATEMENTS };
+enum statement { KEEP, FENCE, LOAD, TOP, DECIDE, FIND, OF_RUN, POST, OUTBOX, SETTLE, LOOK, OUST, TAKE, RENEW, LOCK, GIVE_BACK, LEAVE, BLOCK, RENAME, STATEMENTS };
+
+/* Outside the list: what `init` writes, and what a raised floor settles (a journal of 0.6.1 gets that table then). */
+#define FRESH_DIALOGUE STATEMENTS
+#define SETTLE_ID (STATEMENTS + 1)
+#define POSTGRES_EARLIER "CREATE TABLE IF NOT EXISTS earlier(id text PRIMARY KEY);"
 
 void postgres_prepare(struct pg *);
 int postgres_is_there(struct pg *);
-/* Makes the tables, with fresh records, and refuses to where they are; those of a move that was broken off make room. */
+/* Makes the tables, with fresh records, and refuses to where they are; those of a move or an `init` that was broken off make room. */
 void postgres_make(struct journal *, unsigned dialogues, int version);
 /* What is stored of a dialogue, as parameters. */
 void postgres_kept(struct pg *, unsigned dialogue, const struct kept *);
@@ -68,6 +79,12 @@ void postgres_lease(struct store *, unsigned dialogue);
 /* Binds everything in the batch to the leases; what the batch gave back is gone when it is committed. */
 void postgres_fence(struct store *);
 void postgres_let_go(struct store *);
+/* Begins the transaction of a batch and takes the rows of its dialogues, without waiting for one that another session has: what
+   the batch has of such a dialogue is late, and waits for a later commit. How many are. */
+unsigned postgres_lock(struct store *);
+int postgres_is_late(void *store, unsigned dialogue);
+/* The session is gone: ends the process where that is since other bridges take its dialogues. */
+void postgres_look_again(void *store);
 /* Ends the process: a dialogue of this one is another's. */
 void postgres_fenced(const struct store *)
 #ifdef __GNUC__

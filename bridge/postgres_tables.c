@@ -25,19 +25,31 @@ static const char *const texts[STATEMENTS] = {
     [OUTBOX] = "SELECT id, journal, type, reason, since, body FROM outbox WHERE dialogue = $1 ORDER BY since, id",
     [SETTLE] = "DELETE FROM outbox WHERE journal = $1 AND id = $2",
     [LOOK] = "SELECT 1 FROM dialogue WHERE owner <> $1 AND until < clock_timestamp() LIMIT 1",
-    /* A process that stopped inside a transaction has its rows locked: its session goes with its lease. */
+    /* A process that stopped inside a transaction has its rows locked: its session goes with its lease. One that asked the database for
+       something in the last $2 ms lives, and could not renew a lease since somebody else has that row. */
     [OUST] = "SELECT pg_terminate_backend(pid) FROM pg_stat_activity WHERE application_name IN"
-             " (SELECT owner FROM dialogue WHERE owner NOT IN ('', $1) AND until < clock_timestamp())",
-    /* what ran out, and of what nobody has (for $3 ms at least) the first $4 */
-    [TAKE] = "WITH open AS (SELECT dialogue, owner FROM dialogue WHERE owner NOT IN ('', $1) AND until < clock_timestamp() OR dialogue IN"
+             " (SELECT owner FROM dialogue WHERE owner NOT IN ('', $1) AND until < clock_timestamp())"
+             " AND coalesce(query_start, '-infinity') < clock_timestamp() - $2 * interval '1 ms'",
+    /* What ran out and has no owner that lives, and of what nobody has (for $3 ms at least) the first $4. Every condition is on the
+       row itself: a row that another process took after this statement began is looked at again as it is by then, and left alone. */
+    [TAKE] = "WITH open AS (SELECT dialogue, number, owner FROM dialogue WHERE owner NOT IN ('', $1) AND until < clock_timestamp()"
+             " AND NOT EXISTS (SELECT FROM pg_stat_activity a WHERE a.application_name = dialogue.owner AND a.query_start >= clock_timestamp() - $2 * interval '1 ms')"
+             " OR owner = '' AND until < clock_timestamp() - $3 * interval '1 ms' AND dialogue IN"
              " (SELECT dialogue FROM dialogue WHERE owner = '' AND until < clock_timestamp() - $3 * interval '1 ms' ORDER BY dialogue LIMIT $4)"
              " ORDER BY dialogue FOR UPDATE SKIP LOCKED)"
              " UPDATE dialogue d SET owner = $1, number = d.number + 1, until = clock_timestamp() + $2 * interval '1 ms'"
-             " FROM open WHERE d.dialogue = open.dialogue RETURNING d.dialogue, d.number, open.owner",
-    [RENEW] = "WITH mine AS (UPDATE dialogue SET until = clock_timestamp() + $2 * interval '1 ms' WHERE owner = $1 RETURNING 1)"
-              " SELECT (SELECT count(*) FROM mine), (pg_current_wal_lsn() - '0/0')::bigint",
+             " FROM open WHERE d.dialogue = open.dialogue AND d.number = open.number AND d.owner = open.owner RETURNING d.dialogue, d.number, open.owner",
+    /* One row for each dialogue that this process has: whether it was renewed, and whether it ran out before. A row that another session
+       has locked is not waited for. */
+    [RENEW] = "WITH mine AS (SELECT dialogue FROM dialogue WHERE owner = $1 FOR UPDATE SKIP LOCKED),"
+              " renewed AS (UPDATE dialogue d SET until = clock_timestamp() + $2 * interval '1 ms' FROM mine WHERE d.dialogue = mine.dialogue AND d.owner = $1"
+              " RETURNING d.dialogue)"
+              " SELECT d.dialogue, (r.dialogue IS NOT NULL)::integer, (d.until < clock_timestamp())::integer, (pg_current_wal_lsn() - '0/0')::bigint"
+              " FROM dialogue d LEFT JOIN renewed r ON r.dialogue = d.dialogue WHERE d.owner = $1",
+    /* Of the dialogues of this process, those whose rows it has now until its commit. */
+    [LOCK] = "SELECT dialogue FROM dialogue WHERE dialogue = ANY($1::integer[]) FOR UPDATE SKIP LOCKED",
     [GIVE_BACK] = "UPDATE dialogue SET owner = '', until = clock_timestamp() WHERE dialogue = $1 AND number = $2",
-    [LEAVE] = "UPDATE dialogue SET owner = '', until = clock_timestamp() WHERE owner = $1",
+    [LEAVE] = "UPDATE dialogue SET owner = '', until = clock_timestamp() WHERE dialogue IN (SELECT dialogue FROM dialogue WHERE owner = $1 FOR UPDATE SKIP LOCKED)",
     [BLOCK] = "SELECT nextval('letter_block')",
     [RENAME] = "UPDATE journal SET id = $1, version = $2",
 };
@@ -53,7 +65,8 @@ static const char schema[] =
     "CREATE TABLE outbox(id bigint NOT NULL, journal text NOT NULL, dialogue integer NOT NULL, type text NOT NULL,"
     " reason text NOT NULL, since bigint NOT NULL, body bytea NOT NULL, PRIMARY KEY(journal, id));"
     "CREATE INDEX outbox_of_dialogue ON outbox(dialogue);"
-    "CREATE SEQUENCE letter_block;";
+    "CREATE SEQUENCE letter_block;"
+    POSTGRES_EARLIER;
 
 void postgres_prepare(struct pg *pg)
 {
@@ -86,28 +99,27 @@ static void make_tables(struct journal *j, unsigned dialogues, int version)
     pg_say(s->pg, schema);
     snprintf(row, sizeof row, "INSERT INTO journal VALUES(1, %d, '%s', %u)", version, j->id, dialogues);
     pg_say(s->pg, row);
-    pg_prepare(s->pg, STATEMENTS, "INSERT INTO dialogue(dialogue, record, run, deliveries, floor, sum) VALUES($1, $2, $3, $4, $5, $6)");
+    pg_prepare(s->pg, FRESH_DIALOGUE, "INSERT INTO dialogue(dialogue, record, run, deliveries, floor, sum) VALUES($1, $2, $3, $4, $5, $6)");
     for (d = 0; d < dialogues; d++) {
         pg_number(s->pg, d);
         postgres_kept(s->pg, d, &k);
-        pg_ask(s->pg, STATEMENTS);
+        pg_ask(s->pg, FRESH_DIALOGUE);
     }
     pg_say(s->pg, "COMMIT");
 }
 
-/* A move that did not come to its end is begun again. */
-static void drop_moving(struct pg *pg)
+/* What did not come to its end is begun again: a move, or an `init`. */
+static void drop_unfinished(struct pg *pg, int version)
 {
-    if (postgres_is_there(pg) && pg_say(pg, "SELECT version FROM journal") == 1 && pg_number_at(pg, 0, 0) == POSTGRES_MOVING)
-        pg_say(pg, "DROP TABLE journal, dialogue, decision, outbox; DROP SEQUENCE letter_block");
+    if (postgres_is_there(pg) && pg_say(pg, "SELECT version FROM journal") == 1 && pg_number_at(pg, 0, 0) == (uint64_t)version)
+        pg_say(pg, "DROP TABLE journal, dialogue, decision, outbox; DROP TABLE IF EXISTS earlier; DROP SEQUENCE letter_block");
 }
 
 void postgres_make(struct journal *j, unsigned dialogues, int version)
 {
     struct pg *pg = store_of(j)->pg;
-    if (version == POSTGRES_MOVING)
-        drop_moving(pg);
+    drop_unfinished(pg, version);
     if (postgres_is_there(pg))
-        postgres_refuse("journal", "it is there already: a new one would take old jobs again");
+        postgres_refuse("journal", "it is there already: a new one would take old jobs again. Another host joins it: `bridge join`");
     make_tables(j, dialogues, version);
 }

@@ -5,20 +5,30 @@
  *
  * The witness is written when the bridge starts, when it stops, and at most once a second in between, so it may be a second
  * behind and is never ahead.
+ *
+ * Raising the floor gives such a journal another id. The witnesses of the other hosts then have an id that the journal had before:
+ * the floor was raised for them too, and they are taken (journal.h, `knew`).
  */
 #ifndef WITNESS_H
 #define WITNESS_H
 
 #include <stdint.h>
 
-enum witness_says { WITNESS_MISSING, WITNESS_OTHER, WITNESS_NEWER, WITNESS_AGREES };
+#include "journal.h"
 
-/* What the witness says of a journal; *seen: the commits that it has seen. */
-enum witness_says witness_ask(const char *path, const char *id, uint64_t commits, uint64_t *seen);
+enum witness_says { WITNESS_MISSING, WITNESS_DAMAGED, WITNESS_OTHER, WITNESS_NEWER, WITNESS_AGREES };
+
+struct witness {
+    enum witness_says says;
+    char id[JOURNAL_ID]; /* of the journal that it knows; empty: it is missing or damaged */
+};
+
+/* What the witness says of a journal. */
+struct witness witness_ask(const char *path, struct journal *);
 
 /* Ends the process (EXIT_REFUSED) unless the witness agrees: a journal that is older than its witness, or has none, may have
    forgotten jobs that it took. */
-void witness_admit(const char *path, const char *id, uint64_t commits);
+void witness_admit(const char *path, struct journal *);
 
 /* The entries of a file's folder are on stable storage; 0: they are not. */
 int folder_sync(const char *path);

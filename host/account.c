@@ -63,6 +63,7 @@ static const struct row {
     ROW("dialogues left half closed", half_closed),
     ROW("starts over leftovers of an old one", late_starts),
     ROW("  primitives refused as STALE", stale),
+    ROW("starts from the wrong side, left", wrong_starts),
     ROW("forwards to the other centre taken", forwards),
     ROW("  handed out again, and left", forward_again),
     ROW("  answered with success", forward_success),

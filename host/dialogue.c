@@ -143,6 +143,24 @@ static void receive(struct end *to, const struct entry *e)
     must(end_act(to, what, answer));
 }
 
+#define WRONG_STARTS 61 /* entries that an end gets which starts, before it gets a start itself */
+
+/* whether an end is the one of its dialogue that starts: no start can be for it */
+static int starts(const struct end *e) { return !of_link(e) && is_air(e) == (e->dialogue % 2 == 0); }
+
+/* Whoever is at the other side starts a dialogue, with the highest number there is. Handed over it would be the record's number, and no start of this end
+   could follow: so it is not. */
+static void wrong_start(struct end *to)
+{
+    static const struct entry start = {.number = UINT64_MAX, .primitive = PEAT_D_START_REQUEST, .parameter = PEAT_CLASS_ANY, .security = PEAT_NO_SECURITY, .version = PEAT_NO_VERSION};
+    static unsigned long entries;
+    if (!starts(to) || ++entries % WRONG_STARTS != 0 || !line_has_room(&to->out, 1))
+        return;
+    account.wrong_starts++;
+    if (fault(TAKES_ANY_START))
+        receive(to, &start);
+}
+
 /* what a carrier must not do, and one of the faults has it do */
 static int loses(const struct entry *e)
 {
@@ -169,6 +187,7 @@ void dialogue_hand_over(struct end *from)
     receive(to, e);
     if (fault(HANDS_OVER_TWICE) && e->primitive == PEAT_D_DATA_REQUEST && chance(100) == 0 && !idle(to))
         receive(to, e);
+    wrong_start(to);
 }
 
 void dialogue_expire(struct end *e)

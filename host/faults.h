@@ -38,6 +38,7 @@ enum fault {
     ANSWERS_BEFORE_SHOWING, /* lets the answer to a forward go before its user has the message */
     SHOWS_CLOSED_TWICE, /* shows its user that a dialogue is closed which was closed before, when the carrier fails */
     SHOWS_LATE_ABORT,   /* shows its user an abort that arrives after its own closing call */
+    TAKES_ANY_START,    /* hands over a start to the end that starts */
     FAULTS
 };
 

@@ -1,15 +1,20 @@
 """Several hosts with one journal: a private PostgreSQL, a replica of it, and bridges that are started again when they end, as
 systemd does."""
+import contextlib
 import json
 import os
+import random
 import re
 import signal
+import socket
+import subprocess
+import threading
 import time
 from pathlib import Path
 
-from playing import Broken, Missing, Stage, call, ends, program
+from playing import TOP, Broken, Missing, Stage, call, ends, program, running
 
-FENCED, FAILED, REFUSED = 5, 3, 4
+FAILED, REFUSED, FENCED, SLOW, MEMORY = 3, 4, 5, 6, 7
 
 
 def fetch_database():
@@ -47,6 +52,33 @@ class Database:
         """Nothing goes to the replica from now on: the process that sends is stopped."""
         os.kill(int(self.say("SELECT pid FROM pg_stat_replication")), signal.SIGSTOP)
 
+    @contextlib.contextmanager
+    def held(self, text):
+        """A session that runs a text in a transaction, and keeps what it locked until it is left."""
+        holder = subprocess.Popen([str(TOP / "tools/database"), "say", str(self.folder), "BEGIN; %s; SELECT 'held'; SELECT pg_sleep(600)" % text],
+                                  stdout=subprocess.DEVNULL, stderr=subprocess.DEVNULL, start_new_session=True)
+        running.append(holder)
+        asks = "SELECT count(*) FROM pg_stat_activity WHERE query LIKE 'BEGIN; %%' AND wait_event = 'PgSleep'"
+        end = time.monotonic() + 20
+        while self.say(asks) != "1":
+            if time.monotonic() > end:
+                raise Broken("nobody holds what should be held")
+            time.sleep(0.02)
+        try:
+            yield
+        finally:
+            self.say("SELECT pg_terminate_backend(pid) FROM pg_stat_activity WHERE wait_event = 'PgSleep'")
+            holder.wait(20)
+
+    @contextlib.contextmanager
+    def stopped(self, pid):
+        """A session whose process gets no time."""
+        os.kill(pid, signal.SIGSTOP)
+        try:
+            yield
+        finally:
+            os.kill(pid, signal.SIGCONT)
+
     def way(self, *others):
         """The configuration's words for it, or for whichever of several can be written."""
         all = (self,) + others
@@ -56,6 +88,139 @@ class Database:
 def end_databases():
     for d in Database.all:
         call("tools/database", "end", d.folder)
+
+
+class Carrier:
+    """Between the bridges (sockets r{} of a folder) and the aircraft (a{}), with a line for each connection. A bridge's end of a line
+    stays open when the aircraft closes its own, and what comes on it after a later bridge has connected is counted: late."""
+
+    def __init__(self, folder, dialogues):
+        self.late, self.newest, self.ended = 0, {}, False
+        self.listeners = []
+        for d in range(dialogues):
+            s = socket.socket(socket.AF_UNIX, socket.SOCK_SEQPACKET)
+            s.bind(str(folder / ("r%02d" % d)))
+            s.listen(16)
+            self.listeners.append(s)
+            threading.Thread(target=self.welcome, args=(s, d, str(folder / ("a%02d" % d))), daemon=True).start()
+
+    def end(self):
+        self.ended = True
+        for s in self.listeners:
+            s.close()
+
+    def welcome(self, listener, dialogue, path):
+        while not self.ended:
+            try:
+                bridge, _ = listener.accept()
+            except OSError:
+                return
+            aircraft = socket.socket(socket.AF_UNIX, socket.SOCK_SEQPACKET)
+            try:
+                aircraft.connect(path)
+            except OSError:
+                bridge.close()
+                continue
+            line = self.newest[dialogue] = object()
+            threading.Thread(target=self.up, args=(bridge, aircraft, dialogue, line), daemon=True).start()
+            threading.Thread(target=self.down, args=(bridge, aircraft), daemon=True).start()
+
+    def up(self, bridge, aircraft, dialogue, line):
+        while True:
+            try:
+                packet = bridge.recv(65536)
+            except OSError:
+                packet = b""
+            if not packet:
+                break
+            self.late += self.newest[dialogue] is not line
+            try:
+                aircraft.send(packet)
+            except OSError:
+                pass
+        with contextlib.suppress(OSError):
+            aircraft.shutdown(socket.SHUT_RDWR)
+
+    def down(self, bridge, aircraft):
+        while True:
+            try:
+                packet = aircraft.recv(65536)
+            except OSError:
+                packet = b""
+            if not packet:
+                return
+            with contextlib.suppress(OSError):
+                bridge.send(packet)
+
+
+class Line:
+    """A connection to a port of the loopback address that can stall: so many bytes more come, and then none, in the middle of
+    whatever it is, until it goes on."""
+
+    def __init__(self, to):
+        self.to, self.left = to, None  # left: bytes that still come; None: all
+        self.listener = socket.create_server(("127.0.0.1", 0))
+        self.port = self.listener.getsockname()[1]
+        threading.Thread(target=self.welcome, daemon=True).start()
+
+    def stall_after(self, count):
+        self.left = count
+
+    def stalls(self):
+        return self.left == 0
+
+    def go_on(self):
+        self.left = None
+
+    def end(self):
+        self.listener.close()
+
+    def welcome(self):
+        while True:
+            try:
+                near, _ = self.listener.accept()
+                far = socket.create_connection(("127.0.0.1", self.to), 5)
+            except OSError:
+                return
+            threading.Thread(target=self.copy, args=(near, far, False), daemon=True).start()
+            threading.Thread(target=self.copy, args=(far, near, True), daemon=True).start()
+
+    def copy(self, one, other, counted):
+        try:
+            one.settimeout(None)
+            while data := one.recv(4096):
+                while counted and self.left is not None and len(data) > self.left:
+                    other.sendall(data[:self.left])
+                    data, self.left = data[self.left:], 0
+                    while self.left == 0:
+                        time.sleep(0.01)
+                if counted and self.left is not None:
+                    self.left -= len(data)
+                other.sendall(data)
+        except OSError:
+            pass
+        with contextlib.suppress(OSError):
+            other.shutdown(socket.SHUT_RDWR)
+
+
+class Locks(threading.Thread):
+    """Somebody who locks some rows of a stage for a moment, over and over."""
+
+    def __init__(self, database, schema, dialogues):
+        super().__init__(daemon=True)
+        self.database, self.schema, self.dialogues, self.count, self.ended = database, schema, dialogues, 0, False
+        self.start()
+
+    def run(self):
+        while not self.ended:
+            some = ",".join(str(d) for d in random.sample(range(self.dialogues), random.randint(1, 3)))
+            self.database.say("BEGIN; SELECT 1 FROM %s.dialogue WHERE dialogue IN (%s) FOR UPDATE; SELECT pg_sleep(%.2f); COMMIT"
+                              % (self.schema, some, random.uniform(0.05, 1.0)))
+            self.count += 1
+
+    def end(self):
+        self.ended = True
+        self.join(20)
 
 
 class Host:
@@ -76,10 +241,10 @@ class Host:
         return self
 
     def tend(self):
-        """What systemd does: a bridge whose database failed, or that was fenced, is started again."""
+        """What systemd does: a bridge whose database failed or was too slow, or that was fenced, is started again."""
         if self.process is not None and self.process.poll() is not None:
             self.statuses.append(self.process.poll())
-            if self.statuses[-1] not in (FENCED, FAILED):
+            if self.statuses[-1] not in (FENCED, FAILED, SLOW):
                 raise Broken("host %s ended with %d; its last words:\n%s" % (self.name, self.statuses[-1], self.log.read_text()[-800:]))
             time.sleep(0.05)
             self.start(self.standby, self.env)
@@ -151,6 +316,7 @@ class SharedStage(Stage):
         self.schema = re.sub("[^a-z]", "_", name)
         database.say("CREATE SCHEMA " + self.schema)
         self.database = database
+        self.metrics_port = more.get("metrics_port")
         settings = dict(database=database.way(*others) + " options=-csearch_path=" + self.schema, lease_ms=1500, heartbeat_s=1, claim_ms=5000, standby_ms=500)
         super().__init__(room, name, port, dialogues, **dict(settings, **more))
 

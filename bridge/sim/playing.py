@@ -1,11 +1,14 @@
 """What the tests, the demonstration and the soak with a real broker share: the programs, a private RabbitMQ, a stage with a
 journal and aircraft, and what was told and seen in the end."""
 import fcntl
+import json
 import os
 import re
 import select
 import signal
+import socket
 import subprocess
+import threading
 import time
 from pathlib import Path
 
@@ -59,7 +62,28 @@ def ends(p, seconds):
         return None
 
 
-FLAGS = "-std=c99 -O2 -g -Wall -Wextra -Werror -pedantic -D_POSIX_C_SOURCE=200809L -Iinclude".split()
+def free_port():
+    """A port of the loopback address that is free now."""
+    with socket.socket() as s:
+        s.bind(("127.0.0.1", 0))
+        return s.getsockname()[1]
+
+
+def page(port, seconds=5.0):
+    """What a bridge's page says, or None, and after how long."""
+    at, said = time.monotonic(), b""
+    try:
+        with socket.create_connection(("127.0.0.1", port), seconds) as s:
+            s.settimeout(seconds)
+            s.sendall(b"GET / HTTP/1.0\r\n\r\n")
+            while part := s.recv(65536):
+                said += part
+    except OSError:
+        return None, time.monotonic() - at
+    return said.decode(), time.monotonic() - at
+
+
+FLAGS = "-std=c99 -pthread -O2 -g -Wall -Wextra -Werror -pedantic -D_POSIX_C_SOURCE=200809L -Iinclude".split()
 built = dict(sanitizers=[], libraries=[])  # how the programs were built
 
 
@@ -141,6 +165,7 @@ class Stage:
         self.position("declare", dialogues)
         self.aircraft = None
         self.at = ()  # where the bridges run
+        self.built = "bridge"  # which one
 
     def write(self, name, **more):
         """A configuration; what is given replaces what a test uses otherwise."""
@@ -177,14 +202,34 @@ class Stage:
         env.update({} if point is None else {"PEAT_POINT": str(point)})
         env.update({"PEAT_DISK": "1"} if forgetful else {})
         with open(self.log, "a") as log:
-            return program("killed" if point is not None or forgetful else "bridge", config or self.config, env=env, at=self.at, stderr=log)
+            return program("killed" if point is not None or forgetful else self.built, config or self.config, env=env, at=self.at, stderr=log)
 
     def position(self, *words):
         return call(X86, "run", OUT / "position", self.port, *words)
 
     def put(self, dialogue, payload, times=1):
-        if self.position("put", dialogue, times, payload.hex()).returncode != 0:
+        words = payload.hex()
+        if len(payload) > 4096:
+            file = self.folder / "payload"
+            file.write_text(words)
+            words = "@%s" % file
+        if self.position("put", dialogue, times, words).returncode != 0:
             raise Broken("a payload is not stored")
+
+    def queue(self, word, *words):
+        """Deletes a queue, or makes one."""
+        if self.position(word, *words).returncode != 0:
+            raise Broken("%s %s" % (word, words))
+
+    def count(self, queue):
+        """The letters that wait in a queue; -1: the broker does not say."""
+        said = self.position("count", queue).stdout.strip()
+        return int(said) if said.isdigit() else -1
+
+    def events(self, event):
+        """The lines of the bridges' log that have an event."""
+        lines = self.log.read_text().splitlines() if self.log.exists() else []
+        return [json.loads(line) for line in lines if '"event":"%s"' % event in line]
 
     def depth(self):
         """The payloads that wait in the queues; -1: the broker does not say."""
@@ -243,6 +288,102 @@ class Stage:
     def verdict(self, jobs):
         said = call(X86, "run", OUT / "position", "verdict", self.dialogues, jobs, self.decks, self.letters)
         return said.returncode == 0, said.stdout.rstrip()
+
+
+class Page:
+    """The bridge's page. How long it took to answer is kept."""
+
+    def __init__(self, port):
+        self.port, self.longest = port, 0.0
+
+    def read(self):
+        """name -> value; empty where nobody answers in time"""
+        began = time.monotonic()
+        try:
+            with socket.create_connection(("127.0.0.1", self.port), 10) as s:
+                s.settimeout(10)
+                s.sendall(b"GET / HTTP/1.0\r\n\r\n")
+                text = b""
+                while part := s.recv(65536):
+                    text += part
+        except OSError:
+            text = b""
+        self.longest = max(self.longest, time.monotonic() - began)
+        rows = (line.rsplit(" ", 1) for line in text.decode().splitlines() if line.startswith("peat_"))
+        return {name: float(value) for name, value in rows}
+
+    def watch(self, what, seconds, every=0.1):
+        """Reads it until it holds of what it says."""
+        return until(lambda: what(self.read()), seconds, every)
+
+
+class Relay:
+    """Between a bridge and its broker: bytes pass, each so many seconds late; from the broker nothing passes while it is held."""
+
+    def __init__(self, to, late=0.0):
+        self.to, self.late, self.hold_after = to, late, None
+        self.passed = self.held = 0  # bytes of the broker
+        self.listener = socket.create_server(("127.0.0.1", 0))
+        self.port = self.listener.getsockname()[1]
+        threading.Thread(target=self.serve, daemon=True).start()
+
+    def serve(self):
+        while True:
+            try:
+                near, _ = self.listener.accept()
+                far = socket.create_connection(("127.0.0.1", self.to))
+            except OSError:
+                return
+            for pair in ((near, far, False), (far, near, True)):
+                threading.Thread(target=self.copy, args=pair, daemon=True).start()
+
+    def hold(self, after):
+        """Nothing of the broker passes behind so many bytes from now."""
+        self.hold_after = self.passed + after
+
+    def let_go(self):
+        self.hold_after = None
+
+    def copy(self, source, sink, of_broker):
+        waiting = []  # when, bytes
+        try:
+            while True:
+                timeout = max(0.0, waiting[0][0] - time.monotonic()) if waiting else None
+                if select.select([source], [], [], timeout)[0]:
+                    part = source.recv(4096)
+                    if not part:
+                        break
+                    waiting.append((time.monotonic() + self.late, part))
+                while waiting and waiting[0][0] <= time.monotonic():
+                    part = waiting.pop(0)[1]
+                    self.send(sink, part) if of_broker else sink.sendall(part)
+        except OSError:
+            pass
+        for s in (source, sink):
+            try:
+                s.shutdown(socket.SHUT_RDWR)
+            except OSError:
+                pass
+
+    def send(self, sink, part):
+        while part:
+            room = len(part) if self.hold_after is None else max(0, self.hold_after - self.passed)
+            if room == 0:
+                self.held = len(part)
+                time.sleep(0.01)
+                continue
+            sink.sendall(part[:room])
+            self.passed += len(part[:room])
+            part = part[room:]
+
+    def close(self):
+        self.listener.close()
+
+
+def free_port():
+    with socket.socket() as s:
+        s.bind(("127.0.0.1", 0))
+        return s.getsockname()[1]
 
 
 def jobs_of(body):

@@ -5,8 +5,11 @@
  *     position PORT run DIALOGUES JOBS RATE FILE   gives jobs 1 to JOBS of each dialogue, each three times, RATE of them a
  *                                                  second (0: as fast as it goes), and writes each letter that comes to FILE;
  *                                                  prints `given` when the broker has stored all; until SIGTERM
- *     position PORT put DIALOGUE TIMES HEX         one payload, so many times
+ *     position PORT put DIALOGUE TIMES HEX         one payload, so many times; HEX: its digits, or @ and a file that has them
  *     position PORT depth DIALOGUES                prints how many payloads wait
+ *     position PORT count QUEUE                    prints how many letters wait in it
+ *     position PORT delete QUEUE                   deletes a queue, whatever is in it
+ *     position PORT make QUEUE [MOST]              makes it; MOST: it holds so many, and what is given to it then is refused
  *     position verdict DIALOGUES JOBS DECKS FILE   draws up the account; status 0: its verdict is good
  *
  * A connection that is lost is made again. Jobs that were not confirmed are given again: a broker's client can not know.
@@ -121,6 +124,36 @@ static int depth(unsigned dialogues)
     return 0;
 }
 
+static int count_in(const char *name)
+{
+    const amqp_queue_declare_ok_t *q = amqp_queue_declare(amqp, CHANNEL, amqp_cstring_bytes(name), 1, 0, 0, 0, amqp_empty_table);
+    if (q == NULL)
+        return 1;
+    printf("%lu\n", (unsigned long)q->message_count);
+    return 0;
+}
+
+static int delete_queue(const char *name)
+{
+    amqp_queue_delete(amqp, CHANNEL, amqp_cstring_bytes(name), 0, 0);
+    return !fine();
+}
+
+static int make_limited(const char *name, const char *most)
+{
+    amqp_table_entry_t limit[2];
+    amqp_table_t arguments = {most != NULL ? 2 : 0, limit};
+    memset(limit, 0, sizeof limit);
+    limit[0].key = amqp_cstring_bytes("x-max-length");
+    limit[0].value.kind = AMQP_FIELD_KIND_I32;
+    limit[0].value.value.i32 = most != NULL ? (int32_t)strtol(most, NULL, 10) : 0;
+    limit[1].key = amqp_cstring_bytes("x-overflow");
+    limit[1].value.kind = AMQP_FIELD_KIND_UTF8;
+    limit[1].value.value.bytes = amqp_cstring_bytes("reject-publish");
+    amqp_queue_declare(amqp, CHANNEL, amqp_cstring_bytes(name), 0, 1, 0, 0, arguments);
+    return !fine();
+}
+
 static int give(unsigned dialogue, const uint8_t *payload, size_t bytes)
 {
     amqp_basic_properties_t p;
@@ -133,10 +166,20 @@ static int give(unsigned dialogue, const uint8_t *payload, size_t bytes)
 
 static int put(unsigned dialogue, unsigned times, const char *hex)
 {
-    uint8_t payload[4096];
+    static uint8_t payload[131072]; /* from a file, where the word begins with @ */
+    static char text[2 * sizeof payload + 1];
     amqp_frame_t f;
     size_t n;
     unsigned byte;
+    if (*hex == '@') {
+        FILE *file = fopen(hex + 1, "r");
+        if (file == NULL)
+            return 1;
+        n = fread(text, 1, sizeof text - 1, file);
+        text[n] = '\0';
+        hex = text;
+        fclose(file);
+    }
     for (n = 0; n < sizeof payload && sscanf(hex + 2 * n, "%2x", &byte) == 1; n++)
         payload[n] = (uint8_t)byte;
     amqp_confirm_select(amqp, CHANNEL);
@@ -360,6 +403,12 @@ int main(int argc, char **argv)
         return declare(number(argv[3]));
     if (strcmp(word, "depth") == 0)
         return depth(number(argv[3]));
+    if (strcmp(word, "count") == 0)
+        return count_in(argv[3]);
+    if (strcmp(word, "delete") == 0)
+        return delete_queue(argv[3]);
+    if (strcmp(word, "make") == 0)
+        return make_limited(argv[3], argc > 4 ? argv[4] : NULL);
     if (strcmp(word, "put") == 0 && argc == 6)
         return put(number(argv[3]), number(argv[4]), argv[5]);
     return 2;

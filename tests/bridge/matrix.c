@@ -24,17 +24,16 @@
 #include "../../bridge/log.h"
 #include "../../bridge/notify.h"
 #include "disk.h"
-#include "stage.h"
+#include "matrix.h"
 
-#define PLENTY 60000 /* ms: a machine may be busy */
 #define SOON 15000   /* what must end at once has ended */
 
-static struct memory *memory;
+struct memory *memory;
 static const char *room, *only;
 static unsigned passed, failed, plays;
-static struct stage stage;
+struct stage stage;
 
-static void check(int good, const char *name, const char *what)
+void check(int good, const char *name, const char *what)
 {
     if (good) {
         passed++;
@@ -45,7 +44,7 @@ static void check(int good, const char *name, const char *what)
 }
 
 /* Says how long the tests before took, and whether this one is to run. */
-static int chosen(const char *name)
+int chosen(const char *name)
 {
     static uint64_t began;
     static const char *before;
@@ -56,7 +55,7 @@ static int chosen(const char *name)
     return only == NULL || strncmp(name, only, strlen(only)) == 0;
 }
 
-static void set(unsigned dialogues)
+void set(unsigned dialogues)
 {
     char folder[90];
     account_clear(&stage.account);
@@ -65,7 +64,7 @@ static void set(unsigned dialogues)
 }
 
 /* Ends a play: it stopped in order, and its verdict is good. */
-static void judged(int stopped, const char *name)
+void judged(int stopped, const char *name)
 {
     int good = stage_judge(&stage);
     check(stopped, name, "the last bridge did not deliver and stop in order");
@@ -562,7 +561,7 @@ static int laid_aside(const uint8_t *bytes, size_t count)
     return 0;
 }
 
-static unsigned letters_of(const char *type, const char *reason)
+unsigned letters_of(const char *type, const char *reason)
 {
     unsigned i, n = 0;
     for (i = 0; i < memory->letters; i++)
@@ -749,7 +748,7 @@ static void watchdog_period(void)
 }
 
 /* a port of the loopback address that is free now */
-static unsigned free_port(void)
+unsigned free_port(void)
 {
     struct sockaddr_in a;
     socklen_t n = sizeof a;
@@ -763,7 +762,7 @@ static unsigned free_port(void)
     return ntohs(a.sin_port);
 }
 
-static void read_page(unsigned port, char *text, size_t size)
+void read_page(unsigned port, char *text, size_t size)
 {
     struct sockaddr_in a;
     int s = socket(AF_INET, SOCK_STREAM, 0);
@@ -839,6 +838,7 @@ int main(int argc, char **argv)
     systemd();
     watchdog_period();
     operation();
+    troubles();
     printf("%u passed, %u failed\n", passed, failed);
     return failed != 0;
 }

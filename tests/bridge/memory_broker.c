@@ -17,8 +17,10 @@ struct ends {
     struct memory *memory;
     const struct bridge *bridge;
     unsigned turn; /* the queue that is looked at first */
-    int ours;
+    int ours, blocked;
 };
+
+enum { ASKED_ON = 1, ASKED_OFF };
 
 static struct ends *ends_of(struct broker *b) { return b->ends; }
 
@@ -34,12 +36,13 @@ struct memory *memory_make(unsigned prefetch)
 void memory_empty(struct memory *m, unsigned prefetch)
 {
     unsigned d;
-    m->owner = m->cut = m->away = m->forgets = 0;
+    m->owner = m->cut = m->away = m->forgets = m->refuses = m->blocks = 0;
+    m->refusals = m->tries = 0;
     m->prefetch = prefetch;
     m->letters = m->stale = m->deliveries = m->redeliveries = 0;
     m->given = m->confirmed = 0;
     for (d = 0; d < DIALOGUES_MOST; d++)
-        m->queue[d].put = m->queue[d].gone = m->queue[d].next = 0;
+        m->queue[d].put = m->queue[d].gone = m->queue[d].next = m->queue[d].deleted = 0;
 }
 
 void memory_put(struct memory *m, unsigned dialogue, const uint8_t *payload, size_t bytes, int late)
@@ -66,7 +69,7 @@ void memory_lost(struct memory *m)
         struct memory_queue *q = &m->queue[d];
         m->redeliveries += q->next - q->gone;
         q->next = q->gone;
-        q->consumed = 0;
+        q->consumed = q->asked = q->handing = 0;
         q->waits_since = 0;
     }
 }
@@ -103,17 +106,57 @@ static int lost(struct broker *b)
     return ends_of(b)->memory->cut == 1 || ends_of(b)->memory->away;
 }
 
-static enum broker_state memory_consume(struct broker *b, unsigned dialogue, int on)
+static void memory_consume(struct broker *b, unsigned dialogue, int on) { ends_of(b)->memory->queue[dialogue].asked = on ? ASKED_ON : ASKED_OFF; }
+
+static void memory_hand_back(struct broker *b, unsigned dialogue) { ends_of(b)->memory->queue[dialogue].handing = 1; }
+
+/* What was asked about a queue is answered, and what became of it is told. 1: there was something */
+static int about_queue(struct memory *m, unsigned dialogue, struct broker_event *event)
 {
-    ends_of(b)->memory->queue[dialogue].consumed = on;
-    return lost(b) ? BROKER_AWAY : BROKER_OURS;
+    struct memory_queue *q = &m->queue[dialogue];
+    int asked = q->asked;
+    event->dialogue = dialogue;
+    event->why = "deleted";
+    if (q->handing) {
+        q->handing = 0;
+        q->next = q->gone;
+        event->news = BROKER_HANDED_BACK;
+        return 1;
+    }
+    if (q->deleted ? asked == ASKED_ON || (q->consumed && asked == 0) : 0) {
+        m->tries += asked == ASKED_ON;
+        q->asked = q->consumed = 0;
+        event->news = BROKER_QUEUE_AWAY;
+        return 1;
+    }
+    if (asked == 0)
+        return 0;
+    q->asked = 0;
+    q->consumed = asked == ASKED_ON;
+    event->news = q->consumed ? BROKER_CONSUMES : BROKER_LEFT;
+    return 1;
 }
 
-static enum broker_state memory_hand_back(struct broker *b, unsigned dialogue)
+static int about_queues(struct memory *m, struct broker_event *event)
 {
-    struct memory_queue *q = &ends_of(b)->memory->queue[dialogue];
-    q->next = q->gone;
-    return lost(b) ? BROKER_AWAY : BROKER_OURS;
+    unsigned d;
+    for (d = 0; d < DIALOGUES_MOST; d++)
+        if (about_queue(m, d, event))
+            return 1;
+    return 0;
+}
+
+/* A letter has its answer: one by one, or all at once where all are stored. */
+static void answer_letter(struct memory *m, struct broker_event *event)
+{
+    uint64_t place;
+    int refused = 0;
+    for (place = m->confirmed + 1; place <= m->given; place++)
+        refused |= m->no[place % WINDOW];
+    event->all = !refused && m->given - m->confirmed > 1;
+    event->place = m->confirmed = event->all ? m->given : m->confirmed + 1;
+    event->news = m->no[event->place % WINDOW] ? BROKER_REFUSED : BROKER_CONFIRMED;
+    event->why = "its queue is full";
 }
 
 /* Whether a late payload may come now. */
@@ -152,17 +195,20 @@ static struct broker_event memory_next(struct broker *b)
     struct ends *e = ends_of(b);
     struct broker_event event;
     unsigned n;
-    e->memory->rounds++;
     e->memory->outbox = e->bridge->metrics.letters;
     e->memory->missing = e->bridge->config->dialogues - e->bridge->metrics.owned;
     memset(&event, 0, sizeof event);
+    event.why = "";
     if (lost(b)) {
         event.news = BROKER_LOST;
+        event.why = "cut";
+    } else if (e->blocked != e->memory->blocks) {
+        e->blocked = e->memory->blocks;
+        event.news = e->blocked ? BROKER_BLOCKED : BROKER_UNBLOCKED;
     } else if (e->memory->confirmed < e->memory->given) {
-        event.news = BROKER_CONFIRMED;
-        event.all = e->memory->given - e->memory->confirmed > 1; /* one by one, or all at once */
-        event.place = e->memory->confirmed = event.all ? e->memory->given : e->memory->confirmed + 1;
-    } else {
+        answer_letter(e->memory, &event);
+    } else if (!about_queues(e->memory, &event)) {
+        e->memory->rounds++;
         for (n = 0; n < DIALOGUES_MOST && e->memory->rounds > SLOW_ROUNDS; n++)
             if (deliver(e, e->turn = (e->turn + 1) % DIALOGUES_MOST, &event))
                 break;
@@ -172,25 +218,21 @@ static struct broker_event memory_next(struct broker *b)
     return event;
 }
 
-static int memory_acknowledge(struct broker *b, unsigned dialogue, struct receipt r)
+static void memory_acknowledge(struct broker *b, unsigned dialogue, struct receipt r)
 {
     struct memory *m = ends_of(b)->memory;
     struct memory_queue *q = &m->queue[dialogue];
-    if (r.connection != m->connection) {
+    if (r.channel != m->connection) {
         m->stale++; /* the bridge kept a receipt of another connection */
-        return 1;
+        return;
     }
     while (q->gone < q->next && q->payload[q->gone].tag <= r.tag)
         q->gone++;
-    return !lost(b);
 }
 
-static int memory_publish(struct broker *b, const struct letter *l)
+static void store(struct memory *m, const struct letter *l)
 {
-    struct memory *m = ends_of(b)->memory;
     struct memory_letter *to = &m->letter[m->letters];
-    if (lost(b))
-        return 0;
     if (m->letters == MEMORY_LETTERS)
         abort();
     snprintf(to->id, sizeof to->id, "%s-%llu", l->journal, (unsigned long long)l->id);
@@ -200,8 +242,29 @@ static int memory_publish(struct broker *b, const struct letter *l)
     to->bytes = l->bytes < MEMORY_BODY ? l->bytes : MEMORY_BODY;
     memcpy(to->body, l->body, to->bytes);
     m->letters++;
-    m->given++;
+}
+
+static int memory_publish(struct broker *b, const struct letter *l)
+{
+    struct memory *m = ends_of(b)->memory;
+    if (lost(b))
+        return 0;
+    if (m->blocks && ends_of(b)->blocked)
+        abort(); /* it knows that no letters are taken */
+    m->no[++m->given % WINDOW] = m->refuses != 0;
+    if (m->refuses == 0) {
+        store(m, l);
+        return 1;
+    }
+    m->refusals++;
+    m->refuses -= m->refuses > 0;
     return 1;
+}
+
+static uint64_t memory_waits(struct broker *b)
+{
+    (void)b;
+    return 0;
 }
 
 static int memory_descriptor(struct broker *b)
@@ -217,10 +280,10 @@ static int memory_buffered(struct broker *b)
     unsigned d;
     for (d = 0; d < DIALOGUES_MOST; d++) {
         struct memory_queue *q = &e->memory->queue[d];
-        if (q->consumed && q->next < q->put && q->next - q->gone < e->memory->prefetch)
+        if (q->asked != 0 || q->handing || (q->consumed && (q->deleted || (q->next < q->put && q->next - q->gone < e->memory->prefetch))))
             return 1;
     }
-    return e->memory->confirmed < e->memory->given || e->memory->rounds <= QUIET_ROUNDS || lost(b);
+    return e->memory->confirmed < e->memory->given || e->blocked != e->memory->blocks || e->memory->rounds <= QUIET_ROUNDS || lost(b);
 }
 
 static void memory_disconnect(struct broker *b)
@@ -233,7 +296,7 @@ static void memory_disconnect(struct broker *b)
 void memory_open(struct broker *b, struct memory *m, const struct bridge *bridge)
 {
     static struct ends e;
-    e = (struct ends){m, bridge, 0, 0};
+    e = (struct ends){m, bridge, 0, 0, 0};
     memset(b, 0, sizeof *b);
     b->ends = &e;
     b->connect = memory_connect;
@@ -244,5 +307,6 @@ void memory_open(struct broker *b, struct memory *m, const struct bridge *bridge
     b->publish = memory_publish;
     b->descriptor = memory_descriptor;
     b->buffered = memory_buffered;
+    b->waits = memory_waits;
     b->disconnect = b->end = memory_disconnect;
 }

@@ -4,7 +4,8 @@
  *
  *   - payloads come in order, at most `prefetch` of them before one is acknowledged;
  *   - when the connection is lost, those that were not acknowledged come again, in their order;
- *   - a letter is stored when it is given, and confirmed later;
+ *   - a letter is stored when it is given, and confirmed later; or it is not stored, and refused later;
+ *   - a queue that is deleted ends its consumer, who hears of it, and can't be consumed while it is gone;
  *   - a tag counts on its own connection only; one bridge has the queues.
  */
 #ifndef MEMORY_BROKER_H
@@ -28,6 +29,8 @@ struct memory_queue {
     unsigned put, gone; /* payloads given, and acknowledged: the ones between wait */
     unsigned next;      /* the next to deliver */
     int consumed;
+    int asked, handing;  /* what was asked and is not answered: 1 to consume it, 2 to leave it */
+    int deleted;         /* there is no such queue: whoever consumes it hears of it */
     uint64_t waits_since;
     struct memory_payload payload[MEMORY_PAYLOADS];
 };
@@ -44,9 +47,13 @@ struct memory {
     int cut;                /* 1: the next call finds the connection lost; 2: the call behind the next delivery */
     int away;               /* 1: nobody answers */
     int forgets;            /* 1: letters that were not confirmed are lost with the connection; 0: they are stored */
+    int refuses;            /* so many letters from now on are refused; -1: all of them */
+    int blocks;             /* 1: no letters are taken; the bridge hears of it, and of the end of it */
+    unsigned refusals, tries; /* letters refused; times that a queue that is gone was asked for */
     uint64_t connection;    /* counted over all processes */
     uint64_t tag;           /* the last one of this connection */
-    uint64_t given, confirmed; /* letters of this connection */
+    uint64_t given, confirmed; /* letters of this connection: given, and answered */
+    uint8_t no[WINDOW];     /* by place: it is refused */
     unsigned rounds;        /* that the bridge went since it connected, */
     uint64_t outbox;        /* the letters that it has, */
     uint64_t missing;       /* and the dialogues that it has not */

@@ -121,7 +121,7 @@ static void run_bridge(struct stage *s)
     }
     disk_install(plan.failing_sync);
     journal_open(&j, &s->config, JOURNAL_RUN);
-    witness_admit(s->config.witness, j.id, j.commits(&j));
+    witness_admit(s->config.witness, &j);
     link_open_packet(&link, s->config.link);
     memory_open(&broker, s->memory, &b);
     bridge_begin(&b, &s->config, &j, &broker, &link, &page);

@@ -1,0 +1,31 @@
+/*
+ * What the tests of the matrix share: the stage that a test plays on, and how it says what is wrong.
+ */
+#ifndef MATRIX_H
+#define MATRIX_H
+
+#include "stage.h"
+
+#define PLENTY 60000 /* ms: a machine may be busy */
+
+extern struct memory *memory;
+extern struct stage stage;
+
+/* Whether a test of this name is to run. */
+int chosen(const char *name);
+void check(int good, const char *name, const char *what);
+/* A fresh stage. */
+void set(unsigned dialogues);
+/* Ends a play: it stopped in order, and its verdict is good. */
+void judged(int stopped, const char *name);
+
+unsigned letters_of(const char *type, const char *reason);
+/* a port of the loopback address that is free now */
+unsigned free_port(void);
+void read_page(unsigned port, char *text, size_t size);
+
+/* ---- troubles.c: what must not stall the bridge, nor lock up a dialogue */
+
+void troubles(void);
+
+#endif

@@ -983,10 +983,10 @@ uint64_t peat_write_envelope(uint64_t kind, uint64_t job, uint64_t bits, const u
  */
 
 /* bytes of a mail record. PEAT_MAIL_STATE: 0 an envelope that is not finished, or none; 1 a finished one; PEAT_CUT to
-   PEAT_SIZE the refusal. PEAT_MAIL_COUNT, two bytes: how many bytes of the envelope are held, from PEAT_MAIL_HEAD on; those
-   behind them are zero. PEAT_MAIL_PLACE, eight bytes: where the envelope that is held or refused begins, counted from the
-   first byte since the record was made fresh; 2^64 - 1 says that or more. Both numbers have their most significant byte
-   first. */
+   PEAT_SIZE the refusal. PEAT_MAIL_COUNT, two bytes: how many bytes of the envelope are held, from PEAT_MAIL_HEAD on. The
+   card leaves zeros behind them, and does not look at what is there. PEAT_MAIL_PLACE, eight bytes: where the envelope that
+   is held or refused begins, counted from the first byte since the record was made fresh; 2^64 - 1 says that or more. Both
+   numbers have their most significant byte first. */
 #define PEAT_MAIL_STATE 0
 #define PEAT_MAIL_COUNT 1
 #define PEAT_MAIL_PLACE 3

@@ -50,7 +50,7 @@ value-written : (l : List ℕ) (at m next : ℕ) → wholeFits 0 modeLast m ≡ 
 unfolding modeValue
 value-written l at m next h e s = rw (whole-number 0 modeLast (omega arith) .written-read l at m next h s, e)
 
-mode-written : (pdus : PduType) (l : List ℕ) (at m next : ℕ) → modeFits pdus m ≡ true → Stands l at (modeBits pdus m) next → modeAt pdus l at ≡ Value m next
+pub mode-written : (pdus : PduType) (l : List ℕ) (at m next : ℕ) → modeFits pdus m ≡ true → Stands l at (modeBits pdus m) next → modeAt pdus l at ≡ Value m next
 unfolding modeFits modeBits modeAt
 mode-written GroundPdus l at m next h s =
     let z : m ≡ 0 = eqb-true m 0 h in
@@ -140,11 +140,11 @@ pub record ApduRead (pdus : PduType) (l : List ℕ) (at : ℕ) (v : Pdu) : Type 
   pub read : apduAt pdus l at ≡ decoded.Is value
   pub same : pduIn l l l value ≡ v
 
-small : (pdus : PduType) → lastOf pdus < 2 ^ 64
+pub small : (pdus : PduType) → lastOf pdus < 2 ^ 64
 small AircraftPdus = omega arith
 small GroundPdus = omega arith
 
-has : (pdus : PduType) (i : ℕ) → i ≤ 3 → wholeFits 0 (lastOf pdus) i ≡ true
+pub has : (pdus : PduType) (i : ℕ) → i ≤ 3 → wholeFits 0 (lastOf pdus) i ≡ true
 has AircraftPdus i h = rw (le-leb 0 i (omega arith), le-leb i 3 h)
 has GroundPdus i h = rw (le-leb 0 i (omega arith), le-leb i 5 (omega arith))
 
@@ -191,7 +191,7 @@ fields-written pdus l at m (forwardResponse r) h s =
     let b = extensible-index responseLast (omega arith) .written-read l (at + length (indexBits (lastOf pdus) 5)) r m (both-right (forwards pdus) (wholeFits 0 responseLast r) h) (w .second) in
     record { value = apdu.ForwardResponse r; read = rw (a, b); same = refl }
 
-ended-well : (l : List ℕ) (at v next : ℕ) (a : Apdu) → tailAt l at ≡ Value v next → endedAt l at a ≡ decoded.Is a
+pub ended-well : (l : List ℕ) (at v next : ℕ) (a : Apdu) → tailAt l at ≡ Value v next → endedAt l at a ≡ decoded.Is a
 unfolding endedAt
 ended-well l at v next a t = rw t
 

@@ -51,14 +51,14 @@ items-end l at unit n next items m s =
 
 -- ---- an optional field
 
-isThere : Optional → Bool
+pub isThere : Optional → Bool
 isThere absent = false
 isThere (given l) = true
 
-record OptionalRead (l : List ℕ) (at next unit least most : ℕ) (o : Optional) : Type 0 where
-  n : ℕ
-  read : optionalAt l (isThere o) at unit least most ≡ Value n next
-  part : partIn l unit (partAt (isThere o) unit n next) ≡ o
+pub record OptionalRead (l : List ℕ) (at next unit least most : ℕ) (o : Optional) : Type 0 where
+  pub n : ℕ
+  pub read : optionalAt l (isThere o) at unit least most ≡ Value n next
+  pub part : partIn l unit (partAt (isThere o) unit n next) ≡ o
 
 pub string-back : (l : List ℕ) (at next unit least most : ℕ) (items : List ℕ) → stringFits unit least most items ≡ true → Stands l at (stringBits unit items) next
     → (stringAt l at unit least most ≡ Value (length items / unit) next) × (itemsIn l unit (spanTo unit (length items / unit) next) ≡ items)
@@ -70,7 +70,7 @@ string-back l at next unit least most items h s =
     let w = stands-split l at next (lengthBits (length items / unit)) items s in
     (string-written l at unit least most (length items / unit) next items f (sym e) s, items-end l _ unit (length items / unit) next items (sym e) (w .second))
 
-optional-written : (l : List ℕ) (at next unit least most : ℕ) (o : Optional) → optionalFits unit least most o ≡ true → Stands l at (optionalBits unit o) next → OptionalRead l at next unit least most o
+pub optional-written : (l : List ℕ) (at next unit least most : ℕ) (o : Optional) → optionalFits unit least most o ≡ true → Stands l at (optionalBits unit o) next → OptionalRead l at next unit least most o
 unfolding optionalFits optionalBits optionalAt partAt partIn isThere
 optional-written l at next unit least most absent h s =
     let p = s .place in
@@ -113,21 +113,21 @@ optional-read l at next unit least most n false b pos h e =
 
 -- ---- message data
 
-there-identifier : (i m : Optional) → leb 2 (2 * presence i + presence m) ≡ isThere i
+pub there-identifier : (i m : Optional) → leb 2 (2 * presence i + presence m) ≡ isThere i
 unfolding isThere
 there-identifier absent absent = refl
 there-identifier absent (given y) = refl
 there-identifier (given x) absent = refl
 there-identifier (given x) (given y) = refl
 
-there-message : (i m : Optional) → eqb ((2 * presence i + presence m) % 2) 1 ≡ isThere m
+pub there-message : (i m : Optional) → eqb ((2 * presence i + presence m) % 2) 1 ≡ isThere m
 unfolding isThere
 there-message absent absent = refl
 there-message absent (given y) = refl
 there-message (given x) absent = refl
 there-message (given x) (given y) = refl
 
-presence-fits : (i m : Optional) → bitsFit 2 (2 * presence i + presence m) ≡ true
+pub presence-fits : (i m : Optional) → bitsFit 2 (2 * presence i + presence m) ≡ true
 presence-fits absent absent = refl
 presence-fits absent (given y) = refl
 presence-fits (given x) absent = refl

@@ -12,4 +12,3 @@ pub mod Theorems
 pub mod Former
 pub mod Spared
 pub mod Order
-pub mod Twelve

@@ -65,7 +65,7 @@ length-padded bs = rw (length-append, length-bitsN)
 whole-bytes : (bs : List ℕ) → length (padded bs) ≡ 8 * bytesFor (length bs)
 whole-bytes bs = rw (length-padded bs) (omega arith)
 
-stands-front : (bs : List ℕ) → Stands (padded bs) 0 bs (length bs)
+pub stands-front : (bs : List ℕ) → Stands (padded bs) 0 bs (length bs)
 unfolding padded
 stands-front bs =
     let n = length-append bs (bitsN (padding (length bs)) 0) in
@@ -80,7 +80,7 @@ stands-pad bs =
     record { place = omega arith; within = omega arith; holds = rw (drop-at bs (bitsN (padding (length bs)) 0) (length bs) refl) (take-length (bitsN (padding (length bs)) 0)) }
 
 -- no TAIL after a padded encoding
-tail-padded : (bs : List ℕ) → tailAt (padded bs) (length bs) ≡ Value 0 (length bs + padding (length bs))
+pub tail-padded : (bs : List ℕ) → tailAt (padded bs) (length bs) ≡ Value 0 (length bs + padding (length bs))
 unfolding tailAt
 tail-padded bs =
     let k : ℕ = padding (length bs) in
@@ -254,7 +254,7 @@ all-of l bs next s h =
     let n : length bs ≡ length l = omega arith in
     sym (take-length l) ∙ rw (← n) (s .holds)
 
-ended-whole : (l bs : List ℕ) (place left end : ℕ) → Bits l → Stands l 0 bs place → tailAt l place ≡ Value left end → l ≡ padded bs
+pub ended-whole : (l bs : List ℕ) (place left end : ℕ) → Bits l → Stands l 0 bs place → tailAt l place ≡ Value left end → l ≡ padded bs
 unfolding padded
 ended-whole l bs place left end b s t =
     let p : place ≡ length bs = omega (arith, s .place) in

@@ -4,3 +4,5 @@ pub mod Laws
 pub mod Clauses
 pub mod Worked
 pub mod ForwardClauses
+pub mod ForwardState
+pub mod Instructions

@@ -68,24 +68,24 @@ module _ (limit : ℕ) (z : Sized limit) where
       by (Refused r) e = cut r e
 
   -- the answer to a fragment, and the record after it
-  abbrev stepped : Step → After
+  abbrev pub stepped : Step → After
   stepped s = after (s .answer) (recordOf limit (s .mail))
 
-  take-held : (p : ℕ) (h f : List ℕ) → Good limit (part p h) → AllBytes f → takeAt limit (recordOf limit (part p h)) f ≡ stepped (joined limit p h f)
+  pub take-held : (p : ℕ) (h f : List ℕ) → Good limit (part p h) → AllBytes f → takeAt limit (recordOf limit (part p h)) f ≡ stepped (joined limit p h f)
   unfolding takeAt loadedBy resumed kept
   take-held p h f g b =
       rw (loads (part p h) g, held-record limit (part p h) (fits (part p h) g), is-open limit h (g .0), keeps (part p h) (joined limit p h f .mail) (fits (part p h) g) (joined-fits p h f (bytes-append h f (g .1) b)))
 
-  take-behind : (p : ℕ) (h f : List ℕ) → Good limit (whole p h) → AllBytes f → (length f ≡ 0 → ⊥) → takeAt limit (recordOf limit (whole p h)) f ≡ stepped (joined limit (later p (length h)) [] f)
+  pub take-behind : (p : ℕ) (h f : List ℕ) → Good limit (whole p h) → AllBytes f → (length f ≡ 0 → ⊥) → takeAt limit (recordOf limit (whole p h)) f ≡ stepped (joined limit (later p (length h)) [] f)
   unfolding takeAt loadedBy begun kept
   take-behind p h f g b n =
       rw (loads (whole p h) g, ne-eqb (length f) 0 n, keeps (whole p h) (joined limit (later p (length h)) [] f .mail) (g .0) (joined-fits (later p (length h)) [] f b))
 
-  take-nothing : (p : ℕ) (h : List ℕ) → Good limit (whole p h) → takeAt limit (recordOf limit (whole p h)) [] ≡ after (taken.Part 0) (recordOf limit (whole p h))
+  pub take-nothing : (p : ℕ) (h : List ℕ) → Good limit (whole p h) → takeAt limit (recordOf limit (whole p h)) [] ≡ after (taken.Part 0) (recordOf limit (whole p h))
   unfolding takeAt loadedBy begun
   take-nothing p h g = rw (loads (whole p h) g)
 
-  take-refused : (r : EnvelopeRefusal) (p : ℕ) (f : List ℕ) → Good limit (refused r p) → takeAt limit (recordOf limit (refused r p)) f ≡ after (taken.Refused r) (recordOf limit (refused r p))
+  pub take-refused : (r : EnvelopeRefusal) (p : ℕ) (f : List ℕ) → Good limit (refused r p) → takeAt limit (recordOf limit (refused r p)) f ≡ after (taken.Refused r) (recordOf limit (refused r p))
   unfolding takeAt loadedBy
   take-refused Cut p f g = rw (loads (refused Cut p) g)
   take-refused Groups p f g = rw (loads (refused Groups p) g)
@@ -196,21 +196,21 @@ module _ (limit : ℕ) (z : Sized limit) where
 
   -- ---- the end
 
-  whole-mail : (s : List ℕ) → wholeMail limit s ≡ leaves s fresh 0 (walk limit s .envelopes) (walk limit s .ending)
+  pub whole-mail : (s : List ℕ) → wholeMail limit s ≡ leaves s fresh 0 (walk limit s .envelopes) (walk limit s .ending)
   unfolding wholeMail
   whole-mail s = refl
 
   -- nothing is unfinished
-  data Quiet : Mail → Type 0 where
+  pub data Quiet : Mail → Type 0 where
     none : {p : ℕ} → Quiet (part p [])
     done : {p : ℕ} {h : List ℕ} → Quiet (whole p h)
 
-  leaves-quiet : (s : List ℕ) (es : List Envelope) (m : Mail) (at n : ℕ) → Quiet m → Quiet (leaves s m at es (ended n))
+  pub leaves-quiet : (s : List ℕ) (es : List Envelope) (m : Mail) (at n : ℕ) → Quiet m → Quiet (leaves s m at es (ended n))
   unfolding leaves
   leaves-quiet s [] m at n q = q
   leaves-quiet s (e ∷ es) m at n q = leaves-quiet s es (whole (min at top) (take (e .next - at) (drop at s))) (e .next) n done
 
-  leaves-stopped : (s : List ℕ) (es : List Envelope) (m : Mail) (at : ℕ) (r : EnvelopeRefusal) (n : ℕ) → leaves s m at es (stopped r n) ≡ stoppedAt s r n
+  pub leaves-stopped : (s : List ℕ) (es : List Envelope) (m : Mail) (at : ℕ) (r : EnvelopeRefusal) (n : ℕ) → leaves s m at es (stopped r n) ≡ stoppedAt s r n
   unfolding leaves
   leaves-stopped s [] m at r n = refl
   leaves-stopped s (e ∷ es) m at r n = leaves-stopped s es (whole (min at top) (take (e .next - at) (drop at s))) (e .next) r n

@@ -20,7 +20,7 @@ use Rattle.apdu.specs.declared.Part.the-variants.{Given}
 use Rattle.apdu.specs.declared.Apdu.{Apdu}
 use Rattle.apdu.specs.declared.Taken.the-variants as taken
 use Rattle.apdu.specs.declared.Decoded.the-variants as decoded
-use Rattle.step.specs.Call.{meaning, dataOf, noData}
+use Rattle.step.specs.Call.{meaning, dataOf, noData, forwardOf, noForward}
 use Rattle.machine.specs.declared.event.UserData.the-variants.{NotValid}
 use Rattle.envelope.specs.Numbers.{numberIn, numberAt}
 use Rattle.envelope.specs.Envelopes.{mostBits, isKind, sizeFits, bytesFor, isPadded, bodyAt, sizeAt, jobAt, kindAt, envelopeAt}
@@ -42,10 +42,10 @@ earlier-data l = whole-meets earlierBits messageMost (lit≤ tt) l
 pub earlier-longer : (l : List ℕ) (pdus : PduType) (at : ℕ) (a : Apdu) (x : Span) → apduAt pdus l at ≡ decoded.Is a → messageOf a ≡ Given x → earlierBits < x .count → Limited decoded.Refused (apduWithin earlierBits pdus l at)
 earlier-longer l pdus at a x e g over = apdu-longer earlierBits messageMost (lit≤ tt) l pdus at a x e g over
 
--- "and shows nothing of it": to a machine it is no valid PDU, and there are no message data
-pub shows-nothing : (l : List ℕ) (pdus : PduType) (at : ℕ) → Limited decoded.Refused (apduWithin earlierBits pdus l at) → (meaning (apduWithin earlierBits pdus l at) ≡ NotValid) × (dataOf (apduWithin earlierBits pdus l at) ≡ noData)
-unfolding meaning dataOf
-shows-nothing l pdus at x = (rw (x .is), rw (x .is))
+-- "and shows nothing of it": to a machine it is no valid PDU, and there are no message data and no forward message
+pub shows-nothing : (l : List ℕ) (pdus : PduType) (at : ℕ) → Limited decoded.Refused (apduWithin earlierBits pdus l at) → (meaning (apduWithin earlierBits pdus l at) ≡ NotValid) × (dataOf (apduWithin earlierBits pdus l at) ≡ noData) × (forwardOf (apduWithin earlierBits pdus l at) ≡ noForward)
+unfolding meaning dataOf forwardOf
+shows-nothing l pdus at x = (rw (x .is), rw (x .is), rw (x .is))
 
 pub earlier-envelope : (s : List ℕ) (at : ℕ) → (envelopeAt earlierBits s at ≡ envelopeAt mostBits s at) ⊎ (envelopeAt earlierBits s at ≡ Refused Size)
 earlier-envelope s at = envelope-narrow earlierBits mostBits (lit≤ tt) s at

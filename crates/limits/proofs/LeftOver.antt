@@ -50,12 +50,12 @@ use Rattle.apdu.specs.declared.Lead.the-variants as lead
 use Rattle.apdu.specs.declared.Decoded.{Decoded}
 use Rattle.apdu.specs.declared.Decoded.the-variants as decoded
 use Rattle.apdu.proofs.Bounds.{never}
-use Rattle.limits.specs.Claims.{LeftFor, identifier, check}
+use Rattle.limits.specs.Claims.{holdsData, InRoot, identifier, check, LeftFor}
 
-module _ (l : List ℕ) where
-  -- where an answer is the refusal LIMIT, it is that of an identifier or a check
+module _ (l : List ℕ) (G : Refusal → Type 0) where
+  -- where an answer is the refusal LIMIT, then G: what is to be shown of it
   abbrev Spares : {A : Type 0} → (Refusal → A) → A → Type 0
-  Spares up a = (r : Refusal) → a ≡ up r → r .fault ≡ Limit → LeftFor l r
+  Spares up a = (r : Refusal) → a ≡ up r → r .fault ≡ Limit → G r
 
   -- ---- fields
 
@@ -134,21 +134,26 @@ module _ (l : List ℕ) where
   unfolding optionalAt
   message-spares b there at = cond-spares there _ (Value 0 at) (string-spares b at) (value-spares 0 at)
 
-  -- ---- what is left
-
-  identifier-left : (there : Bool) (at : ℕ) → Spares Refused (optionalAt l there at octet identifierLeast identifierMost)
-  unfolding optionalAt
-  identifier-left true at r e f = identifier at e
-  identifier-left false at r e f = never (cc)
-
-  check-left : (at : ℕ) → Spares Refused (stringAt l at bit 0 checkMost)
-  check-left at r e f = check at e
-
   -- ---- behind a field
 
   on-spares : {A : Type 0} (up : Refusal → A) (one : (r x : Refusal) → up r ≡ up x → r ≡ x) (f : Field) (k : ℕ → ℕ → A) → Spares Refused f → ((v n : ℕ) → Spares up (k v n)) → Spares up (onto up f k)
   on-spares up one (Value v n) k a b x e f = b v n x e f
   on-spares up one (Refused r) k a b x e f = a x (ap Refused (one r x e)) f
+
+  -- the same, where what follows may ask what was read
+  on-read : {A : Type 0} (up : Refusal → A) (one : (r x : Refusal) → up r ≡ up x → r ≡ x) (f : Field) (k : ℕ → ℕ → A) → Spares Refused f → ((v n : ℕ) → f ≡ Value v n → Spares up (k v n)) → Spares up (onto up f k)
+  on-read {A} up one f k a b = go f refl a
+    where
+      go : (g : Field) → f ≡ g → Spares Refused g → Spares up (onto up g k)
+      go (Value v n) q a x e h = b v n q x e h
+      go (Refused r) q a x e h = a x (ap Refused (one r x e)) h
+
+  -- ---- what is left
+
+  identifier-left : (there : Bool) (at : ℕ) → ((r : Refusal) → there ≡ true → stringAt l at octet identifierLeast identifierMost ≡ Refused r → G r) → Spares Refused (optionalAt l there at octet identifierLeast identifierMost)
+  unfolding optionalAt
+  identifier-left true at h r e f = h r refl e
+  identifier-left false at h r e f = never (cc)
 
   taken-one : (r x : Refusal) → taken.Refused r ≡ taken.Refused x → r ≡ x
   taken-one r x e = cc
@@ -170,12 +175,15 @@ module _ (l : List ℕ) where
 
   -- ---- message data
 
-  parts-spare : Bits l → (at : ℕ) (i m : Bool) → Spares taken.Refused (partsAt l at i m)
+  parts-spare : Bits l → (at : ℕ) (i m : Bool)
+      → ((r : Refusal) → i ≡ true → stringAt l at octet identifierLeast identifierMost ≡ Refused r → G r)
+      → ((r : Refusal) (n p k q : ℕ) → optionalAt l i at octet identifierLeast identifierMost ≡ Value n p → optionalAt l m p bit 0 messageMost ≡ Value k q → stringAt l q bit 0 checkMost ≡ Refused r → G r)
+      → Spares taken.Refused (partsAt l at i m)
   unfolding partsWithin
-  parts-spare b at i m =
-      on-spares taken.Refused taken-one (optionalAt l i at octet identifierLeast identifierMost) _ (identifier-left i at) (λ (octets p : ℕ).
-      on-spares taken.Refused taken-one (optionalAt l m p bit 0 messageMost) _ (message-spares b m p) (λ (bits q : ℕ).
-      on-spares taken.Refused taken-one (stringAt l q bit 0 checkMost) _ (check-left q) (λ (n next : ℕ). taken-spares _ next)))
+  parts-spare b at i m h g =
+      on-read taken.Refused taken-one (optionalAt l i at octet identifierLeast identifierMost) _ (identifier-left i at h) (λ (octets p : ℕ) (u : optionalAt l i at octet identifierLeast identifierMost ≡ Value octets p).
+      on-read taken.Refused taken-one (optionalAt l m p bit 0 messageMost) _ (message-spares b m p) (λ (bits q : ℕ) (w : optionalAt l m p bit 0 messageMost ≡ Value bits q).
+      on-spares taken.Refused taken-one (stringAt l q bit 0 checkMost) _ (λ (r : Refusal) (e : stringAt l q bit 0 checkMost ≡ Refused r) (f : r .fault ≡ Limit). g r octets p bits q u w e) (λ (n next : ℕ). taken-spares _ next)))
 
   -- additions have no limit
   count-spares : (at : ℕ) → Spares Refused (additionCount l at)
@@ -209,11 +217,14 @@ module _ (l : List ℕ) where
   added-spares false (taken.Is d n) a = on-spares taken.Refused taken-one (additionsAt l n) _ (additions-spare n) (λ (v after : ℕ). taken-spares d after)
   added-spares false (taken.Refused r) a = a
 
-  data-spares : Bits l → (at : ℕ) → Spares taken.Refused (dataAt l at)
+  data-spares : Bits l → (at : ℕ) → ((r : Refusal) → InRoot l at r → G r) → Spares taken.Refused (dataAt l at)
   unfolding dataWithin
-  data-spares b at =
-      on-spares taken.Refused taken-one (bitField l at 1) _ (bits-spare at 1) (λ (e p : ℕ).
-      on-spares taken.Refused taken-one (bitField l p 2) _ (bits-spare p 2) (λ (v q : ℕ). added-spares (eqb e 0) (partsAt l q (leb 2 v) (eqb (v % 2) 1)) (parts-spare b q (leb 2 v) (eqb (v % 2) 1))))
+  data-spares b at g =
+      on-read taken.Refused taken-one (bitField l at 1) _ (bits-spare at 1) (λ (e p : ℕ) (u : bitField l at 1 ≡ Value e p).
+      on-read taken.Refused taken-one (bitField l p 2) _ (bits-spare p 2) (λ (v q : ℕ) (w : bitField l p 2 ≡ Value v q).
+      added-spares (eqb e 0) (partsAt l q (leb 2 v) (eqb (v % 2) 1)) (parts-spare b q (leb 2 v) (eqb (v % 2) 1)
+      (λ (r : Refusal) (t : leb 2 v ≡ true) (f : stringAt l q octet identifierLeast identifierMost ≡ Refused r). g r (identifier e p v q u w t f))
+      (λ (r : Refusal) (n x k y : ℕ) (i : optionalAt l (leb 2 v) q octet identifierLeast identifierMost ≡ Value n x) (m : optionalAt l (eqb (v % 2) 1) x bit 0 messageMost ≡ Value k y) (f : stringAt l y bit 0 checkMost ≡ Refused r). g r (check e p v q u w n x k y i m f)))))
 
   -- ---- a forward message
 
@@ -315,33 +326,46 @@ module _ (l : List ℕ) where
   on-forward up one (forwarded.Is y n) k a b x e f = b y n x e f
   on-forward up one (forwarded.Refused r) k a b x e f = a x (ap forwarded.Refused (one r x e)) f
 
-  rest-spares : Bits l → (k : Kind) (m at : ℕ) → Spares decoded.Refused (restWithin messageMost l k m at)
+  rest-spares : Bits l → (k : Kind) (m at : ℕ) → (holdsData k ≡ true → (r : Refusal) → InRoot l at r → G r) → Spares decoded.Refused (restWithin messageMost l k m at)
   unfolding restWithin
-  rest-spares b kind.AbortUser m at = on-spares decoded.Refused answer-one (extensibleIndex l at userLast) _ (index-spares at userLast) (λ (r next : ℕ). ended-spares next (apdu.AbortUser r))
-  rest-spares b kind.AbortProvider m at = on-spares decoded.Refused answer-one (extensibleIndex l at providerLast) _ (index-spares at providerLast) (λ (r next : ℕ). ended-spares next (apdu.AbortProvider r))
-  rest-spares b kind.Start m at = on-data (dataAt l at) _ (data-spares b at) (λ (d : Data) (next : ℕ). ended-spares next (apdu.Start m d))
-  rest-spares b kind.Send m at = on-data (dataAt l at) _ (data-spares b at) (λ (d : Data) (next : ℕ). ended-spares next (apdu.Send d))
-  rest-spares b kind.Forward m at = on-forward decoded.Refused answer-one (forwardAt l at) _ (forward-spares b at) (λ (y : Forward) (next : ℕ). ended-spares next (apdu.Forward y))
-  rest-spares b kind.ForwardResponse m at = on-spares decoded.Refused answer-one (extensibleIndex l at responseLast) _ (index-spares at responseLast) (λ (r next : ℕ). ended-spares next (apdu.ForwardResponse r))
+  rest-spares b kind.AbortUser m at g = on-spares decoded.Refused answer-one (extensibleIndex l at userLast) _ (index-spares at userLast) (λ (r next : ℕ). ended-spares next (apdu.AbortUser r))
+  rest-spares b kind.AbortProvider m at g = on-spares decoded.Refused answer-one (extensibleIndex l at providerLast) _ (index-spares at providerLast) (λ (r next : ℕ). ended-spares next (apdu.AbortProvider r))
+  rest-spares b kind.Start m at g = on-data (dataAt l at) _ (data-spares b at (g refl)) (λ (d : Data) (next : ℕ). ended-spares next (apdu.Start m d))
+  rest-spares b kind.Send m at g = on-data (dataAt l at) _ (data-spares b at (g refl)) (λ (d : Data) (next : ℕ). ended-spares next (apdu.Send d))
+  rest-spares b kind.Forward m at g = on-forward decoded.Refused answer-one (forwardAt l at) _ (forward-spares b at) (λ (y : Forward) (next : ℕ). ended-spares next (apdu.Forward y))
+  rest-spares b kind.ForwardResponse m at g = on-spares decoded.Refused answer-one (extensibleIndex l at responseLast) _ (index-spares at responseLast) (λ (r next : ℕ). ended-spares next (apdu.ForwardResponse r))
 
-  pub apdu-left : Bits l → (pdus : PduType) (at : ℕ) (r : Refusal) → apduAt pdus l at ≡ decoded.Refused r → r .fault ≡ Limit → LeftFor l r
+  lead-left : Bits l → (pdus : PduType) → ((k : Kind) (m at : ℕ) → leadingAt pdus l 0 ≡ lead.Is k m at → holdsData k ≡ true → (r : Refusal) → InRoot l at r → G r) → Spares decoded.Refused (apduAt pdus l 0)
   unfolding apduWithin
-  apdu-left b pdus at = go (leadingAt pdus l at) (leading-spares pdus at)
+  lead-left b pdus g = go (leadingAt pdus l 0) refl (leading-spares pdus 0)
     where
-      go : (x : Lead) → Spares lead.Refused x → Spares decoded.Refused (onLead x (restWithin messageMost l))
-      go (lead.Is k m next) a x e f = rest-spares b k m next x e f
-      go (lead.Refused r) a x e f = a x (ap lead.Refused (answer-one r x e)) f
+      go : (x : Lead) → leadingAt pdus l 0 ≡ x → Spares lead.Refused x → Spares decoded.Refused (onLead x (restWithin messageMost l))
+      go (lead.Is k m next) q a x e f = rest-spares b k m next (g k m next q) x e f
+      go (lead.Refused r) q a x e f = a x (ap lead.Refused (answer-one r x e)) f
 
-  pub data-left : Bits l → (r : Refusal) → wholeData l ≡ taken.Refused r → r .fault ≡ Limit → LeftFor l r
+  whole-left : Bits l → ((r : Refusal) → InRoot l 0 r → G r) → Spares taken.Refused (wholeData l)
   unfolding wholeWithin
-  data-left b = go (dataAt l 0) (data-spares b 0)
+  whole-left b g = go (dataAt l 0) (data-spares b 0 g)
     where
       go : (t : Taken) → Spares taken.Refused t → Spares taken.Refused (onTaken t (λ (d : Data) (next : ℕ). onto taken.Refused (tailAt l next) (λ (v m : ℕ). taken.Is d next)))
       go (taken.Is d next) a = on-spares taken.Refused taken-one (tailAt l next) _ (tail-spares next) (λ (v m : ℕ). taken-spares d next)
       go (taken.Refused r) a = a
 
-  pub forward-left : Bits l → (r : Refusal) → wholeForward l ≡ forwarded.Refused r → r .fault ≡ Limit → LeftFor l r
+  forward-whole : Bits l → Spares forwarded.Refused (wholeForward l)
   unfolding wholeForwardWithin
-  forward-left b =
+  forward-whole b =
       on-forward forwarded.Refused forwarded-one (forwardAt l 0) _ (forward-spares b 0) (λ (y : Forward) (next : ℕ).
       on-spares forwarded.Refused forwarded-one (tailAt l next) _ (tail-spares next) (λ (v m : ℕ). forwarded-spares y next))
+
+-- 14 of an APDU: that of the identifier or of the check of its message data, where they stand
+pub apdu-left : (l : List ℕ) → Bits l → (pdus : PduType) (r : Refusal) → apduAt pdus l 0 ≡ decoded.Refused r → r .fault ≡ Limit → LeftFor pdus l r
+apdu-left l b pdus r e f =
+    lead-left l (λ (x : Refusal). LeftFor pdus l x) b pdus (λ (k : Kind) (m at : ℕ) (q : leadingAt pdus l 0 ≡ lead.Is k m at) (h : holdsData k ≡ true) (x : Refusal) (i : InRoot l at x). record { kind = k; mode = m; begin = at; led = q; holds = h; field = i }) r e f
+
+-- of message data by itself
+pub data-left : (l : List ℕ) → Bits l → (r : Refusal) → wholeData l ≡ taken.Refused r → r .fault ≡ Limit → InRoot l 0 r
+data-left l b r e f = whole-left l (λ (x : Refusal). InRoot l 0 x) b (λ (x : Refusal) (i : InRoot l 0 x). i) r e f
+
+-- a forward message by itself never gets it
+pub forward-left : (l : List ℕ) → Bits l → (r : Refusal) → wholeForward l ≡ forwarded.Refused r → r .fault ≡ Limit → ⊥
+forward-left l b r e f = forward-whole l (λ (x : Refusal). ⊥) b r e f

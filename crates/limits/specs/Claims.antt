@@ -4,12 +4,19 @@
 use mathlib.Core.Path.{_≡_}
 use mathlib.Core.List.{List}
 use mathlib.Core.Logic.{_⊎_}
-use Prim.Native.Nat.{ℕ}
-use Rattle.fields.specs.Fields.{refusal, stringAt}
+use Prim.Native.Nat.{ℕ, _%_}
+use mathlib.Core.Bool.{Bool, true, false}
+use lib.Dec.{leb, eqb}
+use Rattle.fields.specs.Fields.{refusal, bitField, stringAt}
 use Rattle.fields.specs.declared.Fault.the-variants.{Limit}
 use Rattle.fields.specs.declared.Refusal.{Refusal}
 use Rattle.fields.specs.declared.Field.the-variants as field
-use Rattle.apdu.specs.Sizes.{identifierLeast, identifierMost, checkMost, octet, bit}
+use Rattle.apdu.specs.Sizes.{identifierLeast, identifierMost, messageMost, checkMost, octet, bit}
+use Rattle.apdu.specs.Reading.{optionalAt, leadingAt}
+use Rattle.apdu.specs.declared.PduType.{PduType}
+use Rattle.apdu.specs.declared.Kind.{Kind}
+use Rattle.apdu.specs.declared.Kind.the-variants as kind
+use Rattle.apdu.specs.declared.Lead.the-variants as lead
 use Rattle.apdu.specs.declared.Part.{Part}
 use Rattle.apdu.specs.declared.Part.the-variants.{Absent, Given}
 use Rattle.apdu.specs.declared.Apdu.{Apdu}
@@ -37,7 +44,29 @@ messageOf (apdu.Send d) = d .message
 messageOf (apdu.Forward f) = Given (f .message)
 messageOf (apdu.ForwardResponse x) = Absent
 
--- "14 is left for the integrity check and the algorithm identifier": the refusal is that of a field which is one of them
-pub data LeftFor (l : List ℕ) (r : Refusal) : Type 0 where
-  identifier : (at : ℕ) → stringAt l at octet identifierLeast identifierMost ≡ field.Refused r → LeftFor l r
-  check : (at : ℕ) → stringAt l at bit 0 checkMost ≡ field.Refused r → LeftFor l r
+-- "14 is left for the integrity check and the algorithm identifier": the refusal is that of a field which is one of them, and which stands where it should. Message data begin at a place: the extension
+-- bit, two presence bits; the identifier, if the first of them is 1, stands behind them, and the check behind the identifier and the message, each as far as it is there
+pub data InRoot (l : List ℕ) (at : ℕ) (r : Refusal) : Type 0 where
+  identifier : (mark after flags from : ℕ) → bitField l at 1 ≡ field.Value mark after → bitField l after 2 ≡ field.Value flags from → leb 2 flags ≡ true
+      → stringAt l from octet identifierLeast identifierMost ≡ field.Refused r → InRoot l at r
+  check : (mark after flags from : ℕ) → bitField l at 1 ≡ field.Value mark after → bitField l after 2 ≡ field.Value flags from
+      → (n p k q : ℕ) → optionalAt l (leb 2 flags) from octet identifierLeast identifierMost ≡ field.Value n p → optionalAt l (eqb (flags % 2) 1) p bit 0 messageMost ≡ field.Value k q
+      → stringAt l q bit 0 checkMost ≡ field.Refused r → InRoot l at r
+
+-- the alternatives that hold message data
+abbrev pub holdsData : Kind → Bool
+holdsData kind.AbortUser = false
+holdsData kind.AbortProvider = false
+holdsData kind.Start = true
+holdsData kind.Send = true
+holdsData kind.Forward = false
+holdsData kind.ForwardResponse = false
+
+-- of an APDU: behind its leading fields
+pub record LeftFor (pdus : PduType) (l : List ℕ) (r : Refusal) : Type 0 where
+  pub kind : Kind
+  pub mode : ℕ
+  pub begin : ℕ
+  pub led : leadingAt pdus l 0 ≡ lead.Is kind mode begin
+  pub holds : holdsData kind ≡ true
+  pub field : InRoot l begin r

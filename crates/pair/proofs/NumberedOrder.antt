@@ -7,7 +7,7 @@ use mathlib.Core.List.{List, [], _∷_, _++_}
 use Prim.Native.Nat.{ℕ, _<_, _≤_}
 use native.Mathlib.Omega.{arith}
 use lib.Dec.{T, eqb, leb, le→leb, lt→ltb}
-use Rattle.pair.specs.Carrier.{Body, Sent, nothing, puts, message, Outcome, refused, acts, Sort, begins, breaks, plain, begins?, Machine, isStart, starts}
+use Rattle.pair.specs.Carrier.{Body, Sent, nothing, puts, message, Outcome, refused, acts, Sort, begins, breaks, plain, begins?, Machine, idle, isStart, starts}
 use Rattle.pair.specs.Numbered.{NParty, NSys, Numbered, mark, trim, onLine, nSwap, nPut, nTook, nSent, nLeft, nDid, nOff, nRecalled, nEmptied}
 use Rattle.pair.proofs.NumberedMachine.{tag, numbered, leaves}
 use Rattle.pair.proofs.Finite.{no-T, is-T}
@@ -234,6 +234,10 @@ module _ (m : Machine) where
         on-none j (R .line) (tame-above m (S .rec .no) j (R .line) (h .low) w),
       )
 
+  no-right : (a b : Bool) → b ≡ false → a && b ≡ false
+  no-right true b e = e
+  no-right false b e = refl
+
   pub emptied-led : (lead : Bool) (s : NSys (numbered m)) → Led m lead s → Led m lead (nEmptied (numbered m) s)
   emptied-led true s h =
       record {
@@ -242,7 +246,7 @@ module _ (m : Machine) where
         new = λ (j : ℕ) (w : s .here .rec .no < j).
             let n = h .new j w in
             let a = to-come (s .here) (s .there) (s .broken) j h w in
-            record { taken = n .taken; handed = n .handed; takenT = n .takenT; givenT = n .givenT; whole = or-false _ _ (or-false _ _ (a .0) (or-false _ _ (a .1) (or-false _ _ (a .2) (a .3)))) (n .whole) };
+            record { taken = n .taken; handed = n .handed; takenT = n .takenT; givenT = n .givenT; whole = or-false _ _ (or-false _ _ (no-right (not (idle m (s .here .rec .it))) _ (a .0)) (or-false _ _ (no-right (not (idle m (s .there .rec .it))) _ (a .1)) (or-false _ _ (a .2) (a .3)))) (n .whole) };
       }
   emptied-led false s h =
       record {
@@ -251,5 +255,5 @@ module _ (m : Machine) where
         new = λ (j : ℕ) (w : s .there .rec .no < j).
             let n = h .new j w in
             let a = to-come (s .there) (s .here) (s .broken) j h w in
-            record { taken = n .taken; handed = n .handed; takenT = n .takenT; givenT = n .givenT; whole = or-false _ _ (or-false _ _ (a .1) (or-false _ _ (a .0) (or-false _ _ (a .3) (a .2)))) (n .whole) };
+            record { taken = n .taken; handed = n .handed; takenT = n .takenT; givenT = n .givenT; whole = or-false _ _ (or-false _ _ (no-right (not (idle m (s .here .rec .it))) _ (a .1)) (or-false _ _ (no-right (not (idle m (s .there .rec .it))) _ (a .0)) (or-false _ _ (a .3) (a .2)))) (n .whole) };
       }

@@ -7,7 +7,7 @@ use Prim.Native.Nat.{ℕ, zero, suc}
 use lib.Dec.{T, eqb}
 use Rattle.pair.specs.Names.{Side, Air, Ground, StartReq, Control, is, isIdle, other}
 use Rattle.pair.specs.Carrier.{Body, Sent, nothing, puts, message, Outcome, refused, acts, Sort, begins, breaks, plain, Step, user-call, hand-over, timer-expires, error-reported, turn-away, fail, Turn, idle, isStart, starts, discards}
-use Rattle.pair.specs.Numbered.{NMachine, NParty, NSys, NClaims, more, starter, nSwap, nFresh, trim, nPut, nTook, nSent, nLeft, nDid, nReady, nCalled, nOff, nHandedOver, startOf, nHasStart, nWithoutStart, nMayTurnAway, nRecalled, nTurnedAway, onLine, alive, nEmptied, nToldLost, nFailed, nStepped, nTurned, nRun}
+use Rattle.pair.specs.Numbered.{NMachine, NParty, NSys, NClaims, more, starter, nSwap, nFresh, trim, nPut, nTook, nSent, nLeft, nDid, nReady, nCalled, nOff, nHandedOver, startOf, nHasStart, nWithoutStart, nMayTurnAway, nRecalled, nTurnedAway, onLine, within, alive, nEmptied, nToldLost, nFailed, nStepped, nTurned, nRun}
 use Rattle.pair.proofs.Lines.{LL, ll-snoc}
 use Rattle.pair.proofs.NoAbortAnswers.{HeadQuiet, head-quiet}
 use Rattle.pair.proofs.NumberedClaims.{NQuiet}
@@ -273,12 +273,16 @@ module _ (m n : NMachine) (g : NAgree m n) where
   on-rel sd j (e ∷ l) [] x = absurd x
   on-rel sd j (e ∷ l) (f ∷ k) x = ap (λ (v : ℕ). eqb v j || onLine m l j) (g .carries-is sd e f (x .0)) ∙ ap (λ (b : Bool). eqb (n .carries f) j || b) (on-rel sd j l k (x .1))
 
+  within-rel : (sd : Side) (r : m .at .R) (q : n .at .R) (j : ℕ) → g .agree .RR sd r q → not (idle (m .at) r) && eqb (m .holds r) j ≡ not (idle (n .at) q) && eqb (n .holds q) j
+  within-rel sd r q j x =
+      ap (λ (b : Bool). not b && eqb (m .holds r) j) (idle-rel sd r q x) ∙ ap (λ (v : ℕ). not (idle (n .at) q) && eqb v j) (g .holds-is sd r q x)
+
   alive-rel : (sd : Side) (s : NSys m) (t : NSys n) (j : ℕ) → Rel sd s t → alive m s j ≡ alive n t j
   alive-rel sd s t j h =
-      ap (λ (v : ℕ). eqb v j || (eqb (m .holds (s .there .rec)) j || (onLine m (s .here .line) j || onLine m (s .there .line) j))) (g .holds-is sd (s .here .rec) (t .here .rec) (h .here .rec))
-      ∙ ap (λ (v : ℕ). eqb (n .holds (t .here .rec)) j || (eqb v j || (onLine m (s .here .line) j || onLine m (s .there .line) j))) (g .holds-is (other sd) (s .there .rec) (t .there .rec) (h .there .rec))
-      ∙ ap (λ (b : Bool). eqb (n .holds (t .here .rec)) j || (eqb (n .holds (t .there .rec)) j || (b || onLine m (s .there .line) j))) (on-rel sd j (s .here .line) (t .here .line) (h .here .line))
-      ∙ ap (λ (b : Bool). eqb (n .holds (t .here .rec)) j || (eqb (n .holds (t .there .rec)) j || (onLine n (t .here .line) j || b))) (on-rel (other sd) j (s .there .line) (t .there .line) (h .there .line))
+      ap (λ (b : Bool). b || (within m (s .there) j || (onLine m (s .here .line) j || onLine m (s .there .line) j))) (within-rel sd (s .here .rec) (t .here .rec) j (h .here .rec))
+      ∙ ap (λ (b : Bool). within n (t .here) j || (b || (onLine m (s .here .line) j || onLine m (s .there .line) j))) (within-rel (other sd) (s .there .rec) (t .there .rec) j (h .there .rec))
+      ∙ ap (λ (b : Bool). within n (t .here) j || (within n (t .there) j || (b || onLine m (s .there .line) j))) (on-rel sd j (s .here .line) (t .here .line) (h .here .line))
+      ∙ ap (λ (b : Bool). within n (t .here) j || (within n (t .there) j || (onLine n (t .here .line) j || b))) (on-rel (other sd) j (s .there .line) (t .there .line) (h .there .line))
 
   emptied-rel : (sd : Side) (s : NSys m) (t : NSys n) → Rel sd s t → Rel sd (nEmptied m s) (nEmptied n t)
   emptied-rel sd s t h =

@@ -446,6 +446,14 @@ module _ (m : Machine) (B : Base m) where
       go false refused = h
       go false (acts r l p) = did-other m B j (s .here .rec .no) s t r l p 0 q (h .most) (sym (near-none j s t h q))
 
+  -- an end that is IDLE, or in another dialogue
+  told-outside : (sd : Side) (j : ℕ) (s : NSys (numbered m)) (t : Sys m) → not (idle m (s .here .rec .it)) && eqb (s .here .rec .no) j ≡ false → Sim m B j s t → Sim m B j (nToldLost (numbered m) sd s) t
+  told-outside sd j s t q h = go (idle m (s .here .rec .it)) refl
+    where
+      go : (b : Bool) → idle m (s .here .rec .it) ≡ b → Sim m B j (nToldLost (numbered m) sd s) t
+      go true e = rw e h
+      go false e = told-other sd j s t (rw e at q) h
+
   told-sim : (sd : Side) (j : ℕ) (s : NSys (numbered m)) (t : Sys m) → Sim m B j s t → Sim m B j (nToldLost (numbered m) sd s) (toldLost m sd t)
   told-sim sd j s t h = go (eqb (s .here .rec .no) j) refl
     where
@@ -530,10 +538,11 @@ module _ (m : Machine) (B : Base m) where
               broken = ap (λ (z : Bool). z || s .broken j) q ∙ h .broken;
             };
           } in
-          let x = told-other sd j (nEmptied (numbered m) s) (g .sys) (a .0) e in
-          let n : eqb (nToldLost (numbered m) sd (nEmptied (numbered m) s) .there .rec .no) j ≡ false = ap (λ (z : NParty (numbered m)). eqb (z .rec .no) j) (told-there sd (nEmptied (numbered m) s)) ∙ b .0 in
+          let x = told-outside sd j (nEmptied (numbered m) s) (g .sys) (a .0) e in
+          let n : not (idle m (nToldLost (numbered m) sd (nEmptied (numbered m) s) .there .rec .it)) && eqb (nToldLost (numbered m) sd (nEmptied (numbered m) s) .there .rec .no) j ≡ false =
+          ap (λ (z : NParty (numbered m)). not (idle m (z .rec .it)) && eqb (z .rec .no) j) (told-there sd (nEmptied (numbered m) s)) ∙ b .0 in
           let y = swap-sim m B j (nToldLost (numbered m) sd (nEmptied (numbered m) s)) (g .sys) x in
-          let w = told-other (other sd) j (nSwap (numbered m) (nToldLost (numbered m) sd (nEmptied (numbered m) s))) (swap m (g .sys)) n y in
+          let w = told-outside (other sd) j (nSwap (numbered m) (nToldLost (numbered m) sd (nEmptied (numbered m) s))) (swap m (g .sys)) n y in
           record {
             sys = g .sys;
             sim = swap-sim m B j (nToldLost (numbered m) (other sd) (nSwap (numbered m) (nToldLost (numbered m) sd (nEmptied (numbered m) s)))) (swap m (g .sys)) w;

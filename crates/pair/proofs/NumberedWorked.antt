@@ -4,7 +4,7 @@ use mathlib.Core.Path.{_≡_, refl}
 use mathlib.Core.Bool.{Bool, true, false}
 use mathlib.Core.List.{List, [], _∷_, _++_}
 use Prim.Native.Nat.{ℕ}
-use Rattle.pair.specs.Names.{Side, Air, Ground, StartReq, StartInd, Dialogue, End, Control, Accepted, Rejected, Primitive, DStart, DStartCnf, DData, DAbort, Call, StartRequest, StartResponse, MessageRequest, UserAbort, entered, closed}
+use Rattle.pair.specs.Names.{Side, Air, Ground, StartReq, StartInd, Dialogue, End, Control, Accepted, Rejected, Primitive, DStart, DStartCnf, DData, DAbort, Call, StartRequest, StartResponse, MessageRequest, EndRequest, EndResponse, UserAbort, entered, closed}
 use Rattle.pair.specs.Carrier.{Body, Step, user-call, hand-over, timer-expires, error-reported, turn-away, fail, Turn}
 use Rattle.pair.proofs.ControlMachine.{Ent, Ask, ask, new, control}
 use Rattle.pair.specs.Numbered.{NParty, NSys, Numbered, mark, nFresh, nRun}
@@ -96,3 +96,11 @@ aborted-is = refl
 pub away-is : after (late ++ (turn Air (turn-away 0) ∷ [])) ≡ view (seen 2 closed (mark 1 (DStart false) ∷ mark 1 DAbort ∷ []) [] [] [] []) (seen 0 closed [] [] [] [] []) true false
 unfolding nRun
 away-is = refl
+
+-- a dialogue that was closed by both ends is not broken by a failure that comes later: its message was handed over, and that is promised still
+abbrev closing : List (Turn (Numbered Ask))
+closing = begins Air 1 ∷ gets Ground ∷ asks Ground (StartResponse false Accepted) 0 ∷ gets Air ∷ says Ground 1 70 ∷ gets Air ∷ asks Ground (EndRequest false) 0 ∷ gets Air ∷ asks Air (EndResponse false Accepted) 0 ∷ gets Ground ∷ []
+
+pub closed-spared : after (closing ++ (turn Air fail ∷ [])) ≡ view (seen 1 closed [] [] ((70 ∷ []) ∷ []) [] []) (seen 1 closed [] ((70 ∷ []) ∷ []) [] [] []) false false
+unfolding nRun
+closed-spared = refl

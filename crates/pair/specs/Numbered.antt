@@ -143,14 +143,17 @@ module _ (m : NMachine) where
   abbrev pub nTurnedAway : Side → NSys m → ℕ → NSys m
   nTurnedAway sd s keep = cond (nMayTurnAway s) (nDid (nRecalled s) (m .at .away sd (s .here .rec)) keep) s
 
-  -- the carrier fails, empties both lines and gives D-P-ABORT to each end that is not IDLE. That breaks each dialogue that an end holds or
-  -- that has an entry on a line
+  -- the carrier fails, empties both lines and gives D-P-ABORT to each end that is not IDLE. That breaks each dialogue that such an end is in
+  -- or that has an entry on a line; one that both ends have closed, with nothing left of it on a line, it does not break
   abbrev pub onLine : List (m .at .E) → ℕ → Bool
   onLine [] j = false
   onLine (e ∷ l) j = eqb (m .carries e) j || onLine l j
 
+  abbrev pub within : NParty m → ℕ → Bool
+  within x j = not (idle (m .at) (x .rec)) && eqb (m .holds (x .rec)) j
+
   abbrev pub alive : NSys m → ℕ → Bool
-  alive s j = eqb (m .holds (s .here .rec)) j || (eqb (m .holds (s .there .rec)) j || (onLine (s .here .line) j || onLine (s .there .line) j))
+  alive s j = within (s .here) j || (within (s .there) j || (onLine (s .here .line) j || onLine (s .there .line) j))
 
   abbrev pub nEmptied : NSys m → NSys m
   nEmptied s = record { here = nLine (s .here) []; there = nLine (s .there) []; broken = λ (j : ℕ). alive s j || s .broken j }

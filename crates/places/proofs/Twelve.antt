@@ -1,4 +1,5 @@
--- 12 only for a CHOICE and an ENUMERATED, for an addition count in its long form, and for an extension bit of 1 with no addition marked present (document 02, E6).
+-- 12 for a CHOICE and an ENUMERATED, for an addition count in its long form, and for an extension bit of 1 with no addition marked present, and for nothing else
+-- (document 02, E6).
 -- Assumes nothing.
 use mathlib.Core.Path.{_≡_, refl, ap, sym, subst, _∙_}
 use mathlib.Core.Bool.{Bool, true, false, cond}
@@ -15,50 +16,29 @@ use Rattle.fields.specs.declared.Fault.{Fault}
 use Rattle.fields.specs.declared.Fault.the-variants.{Short, Range, Extension, LengthForm, Limit, Tail, Default}
 use Rattle.fields.specs.declared.Field.{Field}
 use Rattle.fields.specs.declared.Field.the-variants.{Value, Refused}
 use Rattle.apdu.specs.Sizes.{userLast, providerLast}
 use Rattle.apdu.specs.Headings.{responseLast}
 use Rattle.apdu.specs.Pdus.{lastOf, kindOf}
 use Rattle.apdu.specs.Encoding.{padding}
 use Rattle.apdu.specs.Reading.{onTaken, onData, onForward, onLead, partsAt, withAdditions, dataWithin, dataAt, forwardAt, kindMode, leadingAt, tailAt, endedAt, restWithin, restAt, apduWithin, apduAt}
 use Rattle.apdu.specs.declared.PduType.{PduType}
 use Rattle.apdu.specs.declared.Kind.{Kind}
 use Rattle.apdu.specs.declared.Kind.the-variants as kind
 use Rattle.apdu.specs.declared.Data.{Data}
 use Rattle.apdu.specs.declared.Forward.{Forward}
 use Rattle.apdu.specs.declared.Forwarded.{Forwarded}
 use Rattle.apdu.specs.declared.Forwarded.the-variants as forwarded
 use Rattle.apdu.specs.declared.Apdu.{Apdu}
 use Rattle.apdu.specs.declared.Apdu.the-variants as apdu
 use Rattle.apdu.specs.declared.Taken.{Taken}
 use Rattle.apdu.specs.declared.Taken.the-variants as taken
 use Rattle.apdu.specs.declared.Lead.{Lead}
 use Rattle.apdu.specs.declared.Lead.the-variants as lead
 use Rattle.apdu.specs.declared.Decoded.{Decoded}
 use Rattle.apdu.specs.declared.Decoded.the-variants as decoded
 use Rattle.apdu.proofs.Bounds.{never}
+use Rattle.places.specs.Readings.{holdsData, isEnumerated, Marked, Twelve, of-choice, of-enumerated, of-count, of-none}
 use Rattle.apdu.proofs.Spared.{Not, Spared, spared-value, spared-fault, spared-then, spared-cond, bits-spared, whole-spared, kind-mode-spared, parts-spared, forward-spared, stepped-spared, taken-one}
-
--- message data whose extension bit is 1, and whose root ends at a place
-pub record Root (pdus : PduType) (l : List ℕ) (at : ℕ) : Type 0 where
-  pub kind : Kind
-  pub mode : ℕ
-  pub begin : ℕ
-  pub led : leadingAt pdus l 0 ≡ lead.Is kind mode begin
-  pub mark : ℕ
-  pub after : ℕ
-  pub extension : bitField l begin 1 ≡ Value mark after
-  pub set : eqb mark 0 ≡ false
-  pub from : ℕ
-  pub identified : Bool
-  pub messaged : Bool
-  pub parts : Data
-  pub root : partsAt l from identified messaged ≡ taken.Is parts at
-
-pub data Twelve (pdus : PduType) (l : List ℕ) (r : Refusal) : Type 0 where
-  of-choice : extensionBit l 0 ≡ Refused r → Twelve pdus l r
-  of-enumerated : (c : Kind) (m at : ℕ) → leadingAt pdus l 0 ≡ lead.Is c m at → extensionBit l at ≡ Refused r → Twelve pdus l r
-  of-count : (at : ℕ) → Root pdus l at → extensionBit l at ≡ Refused r → Twelve pdus l r
-  of-none : (at n p next : ℕ) → Root pdus l at → additionCount l at ≡ Value n p → bitField l p n ≡ Value 0 next → r ≡ refusal p Extension → Twelve pdus l r
 
 -- no other fault is Extension
 twelve-not : (r : Refusal) → r .fault ≡ Extension → Not r
@@ -112,7 +92,7 @@ module _ (pdus : PduType) (l : List ℕ) (r : Refusal) (x : r .fault ≡ Extensi
 
   -- ---- additions
 
-  none-twelve : (at n : ℕ) (p : ℕ) → Root pdus l at → additionCount l at ≡ Value n p → additionsThere l p n ≡ Refused r → Twelve pdus l r
+  none-twelve : (at n : ℕ) (p : ℕ) → Marked pdus l at → additionCount l at ≡ Value n p → additionsThere l p n ≡ Refused r → Twelve pdus l r
   unfolding additionsThere
   none-twelve at n p o c e = go (bitField l p n) refl e
     where
@@ -127,7 +107,7 @@ module _ (pdus : PduType) (l : List ℕ) (r : Refusal) (x : r .fault ≡ Extensi
       go (Refused q) f k = absurd (bits-spared r not-twelve l p n (f ∙ k))
       go (Value v k) f u = by v k f (eqb v 0) refl u
 
-  count-twelve : (at : ℕ) → Root pdus l at → additionCount l at ≡ Refused r → Twelve pdus l r
+  count-twelve : (at : ℕ) → Marked pdus l at → additionCount l at ≡ Refused r → Twelve pdus l r
   unfolding additionCount
   count-twelve at o e = go (extensionBit l at) refl e
     where
@@ -139,7 +119,7 @@ module _ (pdus : PduType) (l : List ℕ) (r : Refusal) (x : r .fault ≡ Extensi
       go (Refused q) f k = of-count at o (f ∙ k)
       go (Value b n) f k = seven (bitField l at 7) refl k
 
-  additions-twelve : (at : ℕ) → Root pdus l at → additionsAt l at ≡ Refused r → Twelve pdus l r
+  additions-twelve : (at : ℕ) → Marked pdus l at → additionsAt l at ≡ Refused r → Twelve pdus l r
   unfolding additionsAt
   additions-twelve at o e = go (additionCount l at) refl e
     where
@@ -153,46 +133,46 @@ module _ (pdus : PduType) (l : List ℕ) (r : Refusal) (x : r .fault ≡ Extensi
 
   -- ---- message data
 
-  module _ (c : Kind) (m at : ℕ) (led : leadingAt pdus l 0 ≡ lead.Is c m at) where
-    root-twelve : (e p q : ℕ) (i s : Bool) → bitField l at 1 ≡ Value e p → eqb e 0 ≡ false → (t : Taken) → partsAt l q i s ≡ t → withAdditions l t ≡ taken.Refused r → Twelve pdus l r
+  module _ (c : Kind) (m at : ℕ) (led : leadingAt pdus l 0 ≡ lead.Is c m at) (y : holdsData c ≡ true) where
+    root-twelve : (e p v q : ℕ) → bitField l at 1 ≡ Value e p → bitField l p 2 ≡ Value v q → eqb e 0 ≡ false → (t : Taken) → partsAt l q (leb 2 v) (eqb (v % 2) 1) ≡ t → withAdditions l t ≡ taken.Refused r → Twelve pdus l r
     unfolding withAdditions
-    root-twelve e p q i s f z (taken.Refused y) g k = absurd (parts-spared r not-twelve l q i s (g ∙ k))
-    root-twelve e p q i s f z (taken.Is d n) g k = go (additionsAt l n) refl k
+    root-twelve e p v q f u z (taken.Refused x₂) g k = absurd (parts-spared r not-twelve l q (leb 2 v) (eqb (v % 2) 1) (g ∙ k))
+    root-twelve e p v q f u z (taken.Is d n) g k = go (additionsAt l n) refl k
       where
-        o : Root pdus l n
-        o = record { kind = c; mode = m; begin = at; led = led; mark = e; after = p; extension = f; set = z; from = q; identified = i; messaged = s; parts = d; root = g }
+        o : Marked pdus l n
+        o = record { kind = c; mode = m; begin = at; led = led; holds = y; mark = e; after = p; extension = f; set = z; flags = v; from = q; presence = u; parts = d; root = g }
 
         go : (y : Field) → additionsAt l n ≡ y → onto taken.Refused y (λ (v after : ℕ). taken.Is d after) ≡ taken.Refused r → Twelve pdus l r
-        go (Refused y) u w = additions-twelve n o (u ∙ ap Refused (taken-one r y w))
-        go (Value v k) u w = never (cc)
+        go (Refused x₂) h w = additions-twelve n o (h ∙ ap Refused (taken-one r x₂ w))
+        go (Value x₃ k₂) h w = never (cc)
 
     data-twelve : dataAt l at ≡ taken.Refused r → Twelve pdus l r
     unfolding dataWithin
     data-twelve e = first (bitField l at 1) refl e
       where
-        third : (x₁ p v q : ℕ) → bitField l at 1 ≡ Value x₁ p → (t : Bool) → eqb x₁ 0 ≡ t
+        third : (x₁ p v q : ℕ) → bitField l at 1 ≡ Value x₁ p → bitField l p 2 ≡ Value v q → (t : Bool) → eqb x₁ 0 ≡ t
             → cond t (partsAt l q (leb 2 v) (eqb (v % 2) 1)) (withAdditions l (partsAt l q (leb 2 v) (eqb (v % 2) 1))) ≡ taken.Refused r → Twelve pdus l r
-        third x₁ p v q f true z k = absurd (parts-spared r not-twelve l q (leb 2 v) (eqb (v % 2) 1) k)
-        third x₁ p v q f false z k = root-twelve x₁ p q (leb 2 v) (eqb (v % 2) 1) f z (partsAt l q (leb 2 v) (eqb (v % 2) 1)) refl k
+        third x₁ p v q f g true z k = absurd (parts-spared r not-twelve l q (leb 2 v) (eqb (v % 2) 1) k)
+        third x₁ p v q f g false z k = root-twelve x₁ p v q f g z (partsAt l q (leb 2 v) (eqb (v % 2) 1)) refl k
 
         second : (x₁ p : ℕ) → bitField l at 1 ≡ Value x₁ p → (g : Field) → bitField l p 2 ≡ g
             → onto taken.Refused g (λ (v q : ℕ). cond (eqb x₁ 0) (partsAt l q (leb 2 v) (eqb (v % 2) 1)) (withAdditions l (partsAt l q (leb 2 v) (eqb (v % 2) 1)))) ≡ taken.Refused r → Twelve pdus l r
-        second x₁ p f (Refused y) g k = absurd (bits-spared r not-twelve l p 2 (g ∙ ap Refused (taken-one r y k)))
-        second x₁ p f (Value v q) g k = third x₁ p v q f (eqb x₁ 0) refl k
+        second x₁ p f (Refused x₂) g k = absurd (bits-spared r not-twelve l p 2 (g ∙ ap Refused (taken-one r x₂ k)))
+        second x₁ p f (Value v q) g k = third x₁ p v q f g (eqb x₁ 0) refl k
 
         first : (f : Field) → bitField l at 1 ≡ f
             → onto taken.Refused f (λ (x₁ p : ℕ). onto taken.Refused (bitField l p 2) (λ (v q : ℕ). cond (eqb x₁ 0) (partsAt l q (leb 2 v) (eqb (v % 2) 1)) (withAdditions l (partsAt l q (leb 2 v) (eqb (v % 2) 1))))) ≡ taken.Refused r
             → Twelve pdus l r
-        first (Refused y) f k = absurd (bits-spared r not-twelve l at 1 (f ∙ ap Refused (taken-one r y k)))
+        first (Refused x₂) f k = absurd (bits-spared r not-twelve l at 1 (f ∙ ap Refused (taken-one r x₂ k)))
         first (Value x₁ p) f k = second x₁ p f (bitField l p 2) refl k
 
     on-data : (k : Data → ℕ → Apdu) (t : Taken) → dataAt l at ≡ t → onData t (λ (d : Data) (next : ℕ). endedAt l next (k d next)) ≡ decoded.Refused r → Twelve pdus l r
     on-data k (taken.Refused q) f e = data-twelve (f ∙ ap taken.Refused (answer-one r q e))
     on-data k (taken.Is d n) f e = absurd (ended-twelve n (k d n) e)
 
-    on-reason : (last : ℕ) (k : ℕ → Apdu) (f : Field) → extensibleIndex l at last ≡ f → onto decoded.Refused f (λ (v next : ℕ). endedAt l next (k v)) ≡ decoded.Refused r → Twelve pdus l r
-    on-reason last k (Refused q) f e = of-enumerated c m at led (index-twelve at last (f ∙ ap Refused (answer-one r q e)))
-    on-reason last k (Value v n) f e = absurd (ended-twelve n (k v) e)
+  on-reason : (c : Kind) (m at : ℕ) → leadingAt pdus l 0 ≡ lead.Is c m at → isEnumerated c ≡ true → (last : ℕ) (k : ℕ → Apdu) (f : Field) → extensibleIndex l at last ≡ f → onto decoded.Refused f (λ (v next : ℕ). endedAt l next (k v)) ≡ decoded.Refused r → Twelve pdus l r
+  on-reason c m at led y last k (Refused q) f e = of-enumerated c m at y led (index-twelve at last (f ∙ ap Refused (answer-one r q e)))
+  on-reason c m at led y last k (Value v n) f e = absurd (ended-twelve n (k v) e)
 
   -- a forward message has no extension bit
   on-forward : (at : ℕ) (t : Forwarded) → forwardAt l at ≡ t → onForward decoded.Refused t (λ (f : Forward) (next : ℕ). endedAt l next (apdu.Forward f)) ≡ decoded.Refused r → Twelve pdus l r
@@ -201,12 +181,12 @@ module _ (pdus : PduType) (l : List ℕ) (r : Refusal) (x : r .fault ≡ Extensi
 
   rest-twelve : (c : Kind) (m at : ℕ) → leadingAt pdus l 0 ≡ lead.Is c m at → restAt l c m at ≡ decoded.Refused r → Twelve pdus l r
   unfolding restWithin
-  rest-twelve kind.AbortUser m at g e = on-reason kind.AbortUser m at g userLast apdu.AbortUser (extensibleIndex l at userLast) refl e
-  rest-twelve kind.AbortProvider m at g e = on-reason kind.AbortProvider m at g providerLast apdu.AbortProvider (extensibleIndex l at providerLast) refl e
-  rest-twelve kind.Start m at g e = on-data kind.Start m at g (λ (d : Data) (next : ℕ). apdu.Start m d) (dataAt l at) refl e
-  rest-twelve kind.Send m at g e = on-data kind.Send m at g (λ (d : Data) (next : ℕ). apdu.Send d) (dataAt l at) refl e
+  rest-twelve kind.AbortUser m at g e = on-reason kind.AbortUser m at g refl userLast apdu.AbortUser (extensibleIndex l at userLast) refl e
+  rest-twelve kind.AbortProvider m at g e = on-reason kind.AbortProvider m at g refl providerLast apdu.AbortProvider (extensibleIndex l at providerLast) refl e
+  rest-twelve kind.Start m at g e = on-data kind.Start m at g refl (λ (d : Data) (next : ℕ). apdu.Start m d) (dataAt l at) refl e
+  rest-twelve kind.Send m at g e = on-data kind.Send m at g refl (λ (d : Data) (next : ℕ). apdu.Send d) (dataAt l at) refl e
   rest-twelve kind.Forward m at g e = on-forward at (forwardAt l at) refl e
-  rest-twelve kind.ForwardResponse m at g e = on-reason kind.ForwardResponse m at g responseLast apdu.ForwardResponse (extensibleIndex l at responseLast) refl e
+  rest-twelve kind.ForwardResponse m at g e = on-reason kind.ForwardResponse m at g refl responseLast apdu.ForwardResponse (extensibleIndex l at responseLast) refl e
 
   -- ---- the leading fields
 
@@ -229,3 +209,55 @@ module _ (pdus : PduType) (l : List ℕ) (r : Refusal) (x : r .fault ≡ Extensi
       go : (t : Lead) → leadingAt pdus l 0 ≡ t → onLead t (restAt l) ≡ decoded.Refused r → Twelve pdus l r
       go (lead.Refused q) f k = lead-twelve (f ∙ ap lead.Refused (answer-one r q k))
       go (lead.Is c m n) f k = rest-twelve c m n f k
+
+-- ---- and there it is refused so
+
+module _ (pdus : PduType) (l : List ℕ) (r : Refusal) where
+  lead-refused : extensionBit l 0 ≡ Refused r → apduAt pdus l 0 ≡ decoded.Refused r
+  unfolding apduWithin leadingAt extensibleIndex
+  lead-refused e = rw e
+
+  index-refused : (at last : ℕ) → extensionBit l at ≡ Refused r → extensibleIndex l at last ≡ Refused r
+  unfolding extensibleIndex
+  index-refused at last e = rw e
+
+  reason-refused : (c : Kind) (m at : ℕ) → isEnumerated c ≡ true → extensionBit l at ≡ Refused r → restAt l c m at ≡ decoded.Refused r
+  unfolding restWithin
+  reason-refused kind.AbortUser m at y e = rw (index-refused at userLast e)
+  reason-refused kind.AbortProvider m at y e = rw (index-refused at providerLast e)
+  reason-refused kind.Start m at y e = never (cc)
+  reason-refused kind.Send m at y e = never (cc)
+  reason-refused kind.Forward m at y e = never (cc)
+  reason-refused kind.ForwardResponse m at y e = rw (index-refused at responseLast e)
+
+  data-refused : (c : Kind) (m at : ℕ) → holdsData c ≡ true → dataAt l at ≡ taken.Refused r → restAt l c m at ≡ decoded.Refused r
+  unfolding restWithin
+  data-refused kind.AbortUser m at y e = never (cc)
+  data-refused kind.AbortProvider m at y e = never (cc)
+  data-refused kind.Start m at y e = rw e
+  data-refused kind.Send m at y e = rw e
+  data-refused kind.Forward m at y e = never (cc)
+  data-refused kind.ForwardResponse m at y e = never (cc)
+
+  rest-refused : (c : Kind) (m at : ℕ) → leadingAt pdus l 0 ≡ lead.Is c m at → restAt l c m at ≡ decoded.Refused r → apduAt pdus l 0 ≡ decoded.Refused r
+  unfolding apduWithin
+  rest-refused c m at f e = rw f e
+
+  -- additions that are refused, behind a root that was read
+  additions-refused : (at : ℕ) → Marked pdus l at → additionsAt l at ≡ Refused r → apduAt pdus l 0 ≡ decoded.Refused r
+  unfolding dataWithin withAdditions
+  additions-refused at o e = rest-refused (o .kind) (o .mode) (o .begin) (o .led) (data-refused (o .kind) (o .mode) (o .begin) (o .holds) (rw (o .extension, o .presence, o .set, o .root, e)))
+
+  count-refused : (at : ℕ) → extensionBit l at ≡ Refused r → additionsAt l at ≡ Refused r
+  unfolding additionsAt additionCount
+  count-refused at e = rw e
+
+  none-refused : (at n p next : ℕ) → additionCount l at ≡ Value n p → bitField l p n ≡ Value 0 next → r ≡ refusal p Extension → additionsAt l at ≡ Refused r
+  unfolding additionsAt additionsThere
+  none-refused at n p next c f e = rw (c, f, e)
+
+  pub twelve-is : Twelve pdus l r → apduAt pdus l 0 ≡ decoded.Refused r
+  twelve-is (of-choice e) = lead-refused e
+  twelve-is (of-enumerated c m at y f e) = rest-refused c m at f (reason-refused c m at y e)
+  twelve-is (of-count at o e) = additions-refused at o (count-refused at e)
+  twelve-is (of-none at n p next o c f e) = additions-refused at o (none-refused at n p next c f e)

@@ -6,3 +6,4 @@ pub mod Worked
 pub mod ForwardClauses
 pub mod ForwardState
 pub mod Instructions
+pub mod Unexpected

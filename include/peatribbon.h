@@ -71,10 +71,10 @@ extern "C" {
  * VERSION of the project: what the header is of, as a string and in three numbers. CHANGELOG.md says what changed.
  */
 
-#define PEAT_VERSION "0.6.1"
+#define PEAT_VERSION "0.6.2"
 #define PEAT_VERSION_MAJOR 0
 #define PEAT_VERSION_MINOR 6
-#define PEAT_VERSION_PATCH 1
+#define PEAT_VERSION_PATCH 2
 
 /* What the archive is of: "peatribbon VERSION, rattle logic HASH", where the hash names the logic in which its card was proved.
    Of the installed archive, libpeatribbon.a (make install, make dist); target/staticlib/libcard.a is the card alone and does

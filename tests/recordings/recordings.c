@@ -260,7 +260,7 @@ static void exact_lists(void)
                 struct pair p = lent(m, which == 2 ? m : n);
                 if (which == 2)
                     memcpy(b, a, m);
-                if (8 * (size_t)jobs + 8 < (size_t)(less + 1))
+                if (8 * (size_t)jobs + 7 < (size_t)(less + 1))
                     continue;
                 p.list[which] = 8 * (size_t)jobs + 7 - (size_t)(less + 1);
                 compare(&p, "lists just long enough");

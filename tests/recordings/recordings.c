@@ -184,7 +184,8 @@ static size_t starts[PARTS + 1];
 
 static struct pair lent(size_t m, size_t n)
 {
-    struct pair p = {a, b, 0, 0, {80000, 80000, 80000}, PEAT_COUNTS_BYTES};
+    struct pair p = {a, b, 0, 0, {0}, PEAT_COUNTS_BYTES};
+    p.list[0] = p.list[1] = p.list[2] = m + n < 2000 ? 4000 : PEAT_LIST_MOST;
     p.m = m;
     p.n = n;
     return p;
@@ -196,6 +197,7 @@ static void short_pairs(void)
     static uint8_t one[8][8], all[73][16];
     size_t size[8], length[73], i, k, n = 0;
     struct pair p = lent(0, 0);
+    p.list[0] = p.list[1] = p.list[2] = 40;
     size[0] = 0;
     size[1] = put(one[1], 1, 7, 0, 0), size[2] = put(one[2], 2, 7, 0, 0), size[3] = put(one[3], 1, 8, 0, 0);
     size[4] = put(one[4], 1, 7, 3, 0xA0), size[5] = put(one[5], 1, 7, 3, 0x40), size[6] = put(one[6], 3, 7, 8, 3);
@@ -310,7 +312,7 @@ int main(int argc, char **argv)
     exact_lists();
     for (i = 0; i < pairs; i++)
         random_pair(i);
-    full(pairs >= 1000 ? 4 : 1);
+    full(pairs >= 1000 ? 4 : 0);
     for (i = 0; i < 8; i++) {
         printf("recordings: %lu %s\n", seen[i], kinds[i]);
         if (pairs >= 1000)

@@ -5,6 +5,7 @@
 #include "chance.h"
 #include "faults.h"
 #include "power.h"
+#include "recording.h"
 #include "story.h"
 
 /* ---- the users */
@@ -256,11 +257,16 @@ static int matching(struct dialogue *d)
     return a == g && a != PEAT_START_IND && peat_record_dsc(air(d)->memory.rec) == peat_record_dsc(ground(d)->memory.rec);
 }
 
+/* something broke the dialogue, or one end never was in it */
+static int broke(struct dialogue *d)
+{
+    return air(d)->watch.broke || ground(d)->watch.broke || air(d)->watch.number != ground(d)->watch.number;
+}
+
 /* All that each end took in a dialogue was shown at the other, unless something broke it, or the other never was in it. */
 static int complete(struct dialogue *d)
 {
-    int broke = air(d)->watch.broke || ground(d)->watch.broke || air(d)->watch.number != ground(d)->watch.number;
-    return broke || (air(d)->watch.seen == ground(d)->watch.sent && ground(d)->watch.seen == air(d)->watch.sent);
+    return broke(d) || (air(d)->watch.seen == ground(d)->watch.sent && ground(d)->watch.seen == air(d)->watch.sent);
 }
 
 void dialogue_examine(struct dialogue *d)
@@ -270,6 +276,7 @@ void dialogue_examine(struct dialogue *d)
     account.half_closed += !matching(d);
     account.incomplete += !complete(d);
     if (idle(air(d)) && idle(ground(d))) {
+        recording_ends(air(d), ground(d), broke(d));
         end_settles(air(d), ENDED);
         end_settles(ground(d), ENDED);
     }

@@ -9,6 +9,7 @@
 #include "forward.h"
 #include "mail.h"
 #include "power.h"
+#include "recording.h"
 #include "story.h"
 
 uint8_t first[PEAT_BUFFER_LEAST], second[PEAT_BUFFER_LEAST];
@@ -44,6 +45,7 @@ static void watch_dialogue(struct end *e)
         return;
     w->number = number(e);
     w->sent = w->seen = 0;
+    recording_starts(e);
     w->broke = 0;
     e->user.replies.owed = 0;
     book_watch_begins(&w->numbers);
@@ -60,6 +62,7 @@ static void watch_taken(struct end *e, uint64_t job)
     j = broker_job(&e->broker, job);
     account.taken_twice += (unsigned long)j->taken;
     j->taken = 1;
+    recording_took(e, j->clearance);
     if (w->sent < OPEN_MOST)
         w->clearance[w->sent++] = j->clearance;
 }
@@ -198,6 +201,7 @@ static void deliver(struct end *e, uint64_t answer)
     unsigned bits = message_told(answer, PEAT_ARRAY(message));
     mail_post(&m, fault(MIXES_KINDS) ? PEAT_ENVELOPE_TO_SEND : PEAT_ENVELOPE_DELIVERED, ++e->watch.delivered, bits, message);
     while (mail_next(&m, &a, &l)) {
+        recording_got(e, &l);
         if (l.kind == PEAT_ENVELOPE_DELIVERED)
             show(e, l.body, l.bits);
         else

@@ -26,7 +26,7 @@
  *   forward   two centres and their carrier: forwards, their answers, what must hold
  *   broker, user, clearance, carrier, mail   the world around the ends
  *   account   what is counted, and the verdict
- *   story, capture, faults, options, chance, power   for the one who watches
+ *   story, capture, recording, faults, options, chance, power   for the one who watches
  */
 #define _POSIX_C_SOURCE 200809L
 #include <stdio.h>
@@ -42,6 +42,7 @@
 #include "jobs.h"
 #include "notices.h"
 #include "options.h"
+#include "recording.h"
 #include "restart.h"
 #include "story.h"
 
@@ -154,6 +155,8 @@ int main(int argc, char **argv)
         return fail("no folder for the journals can be made", made);
     if (o.pcap != NULL && capture_begin(o.pcap, o.pcap_pad) != 0)
         return fail("it can not be written", o.pcap);
+    if (o.record != NULL && recording_begin(o.record) != 0)
+        return fail("no recordings can be written there", o.record);
     chance_begin(o.seed);
     if (begin(o.state != NULL ? o.state : made) != 0)
         return fail("no journal can be begun here", o.state != NULL ? o.state : made);
@@ -165,6 +168,8 @@ int main(int argc, char **argv)
         rmdir(made);
     if (capture_end() != 0)
         return fail("it was not written whole", o.pcap);
+    if (recording_end() != 0)
+        return fail("a recording was not written whole", o.record);
     (o.json ? account_print_json : account_print)(stdout, o.seed, DIALOGUES, o.steps);
     return account_good() ? 0 : 1;
 }

@@ -9,6 +9,7 @@
 #include "mail.h"
 #include "notices.h"
 #include "power.h"
+#include "recording.h"
 #include "story.h"
 
 #define ASTRAY 251         /* one envelope in so many comes once more with a wrong number */
@@ -41,6 +42,7 @@ static uint64_t request(struct end *e, uint64_t job, unsigned number, const uint
         clearance_set_number(&c, e->user.side, number);
     for (i = 0; i < (c.bits + 7) / 8; i++)
         check[i % 4] ^= c.bit[i];
+    recording_asked(c.bit, c.bits);
     data.message_len = (c.bits + 7) / 8;
     data.message_bits = c.bits - (unsigned)fault(DROPS_A_BIT);
     return peat_message_request(REC(e), job, PEAT_DATA(data), BUFFERS);

@@ -23,8 +23,9 @@
  * Answers. Not refused: the lowest 8 bits are 0 and functions below read the rest, peat_invoked .. peat_data_bytes that of
  * the machine's calls, peat_part_given .. peat_mail_taken that of message data, a forward message, an APDU and the envelope,
  * peat_message_characters and peat_message_bits that of the message's, peat_opened_number and peat_open_count that of the
- * book's. Refused: the number of the refusal and, where bits were at fault (PEAT_SHORT to PEAT_DEFAULT), the position of the
- * fault, which peat_position reads; all other bits 0, and NO byte of any lent range has changed (but peat_mail_take and
+ * book's, peat_comparison_of that of two recordings. Refused: the number of the refusal and, where bits were at fault (PEAT_SHORT to
+ * PEAT_DEFAULT), the position of the fault, which peat_position reads, and of a recording that is refused (PEAT_CUT to PEAT_SIZE) which one
+ * and where; all other bits 0, and NO byte of any lent range has changed (but peat_mail_take and
  * peat_mail_end keep the refusal of their input in mail). (peat_book_job answers a plain number.) The refusals are tried in the order ROOM, SHAPE, STALE, PROHIBITED, NO_MESSAGE,
  * REPEAT; of a book SHAPE, then ALL_OPEN or NOT_OPEN. A primitive of the dialogue service is refused with ROOM, SHAPE or STALE only:
  * user data that is no valid PDU is not refused but answered as the protocol says.
@@ -71,9 +72,9 @@ extern "C" {
  * VERSION of the project: what the header is of, as a string and in three numbers. CHANGELOG.md says what changed.
  */
 
-#define PEAT_VERSION "0.10.0"
+#define PEAT_VERSION "0.11.0"
 #define PEAT_VERSION_MAJOR 0
-#define PEAT_VERSION_MINOR 10
+#define PEAT_VERSION_MINOR 11
 #define PEAT_VERSION_PATCH 0
 
 /* What the archive is of: "peatribbon VERSION, rattle logic HASH", where the hash names the logic in which its card was proved.
@@ -94,6 +95,9 @@ extern const char peat_archive_version[];
 #define PEAT_MAIL_HEAD 11      /* a mail record, bytes before those of the envelope */
 #define PEAT_MAIL_BYTES (PEAT_MAIL_HEAD + PEAT_ENVELOPE_MOST) /* a mail record, exactly */
 #define PEAT_JOB_BYTES 8       /* the range that takes the job of an envelope, exactly */
+#define PEAT_RECORDING_MOST 32768 /* a recording that is compared, bytes */
+#define PEAT_LIST_MOST 65784   /* a list of jobs that no two recordings fill, bytes: 8,223 jobs */
+#define PEAT_COUNTS_BYTES 6    /* the range that takes the counts of three lists, exactly */
 #define PEAT_INNER_BYTES 132   /* a message range, exactly */
 #define PEAT_INNER_PLACES 5    /* the elements of a message, at most */
 #define PEAT_BOOK_BYTES 520    /* a book, exactly */
@@ -496,6 +500,50 @@ static inline size_t peat_written_bytes(uint64_t answer) { return peat_bits_of(a
    envelope was finished, as of what peat_read_envelope answers; a kind of 0 says that none was. */
 static inline size_t peat_mail_taken(uint64_t answer) { return peat_bits_of(answer, PEAT_ENVELOPE_NEXT_AT, PEAT_ENVELOPE_COUNT_BITS); }
 
+/* ---- the answer of two recordings compared */
+
+/* the field in which two envelopes differ */
+enum peat_field { PEAT_FIELD_NONE = 0, PEAT_FIELD_KIND = 1, PEAT_FIELD_JOB = 2, PEAT_FIELD_BITS = 3, PEAT_FIELD_BODY = 4 };
+
+/* bits of what peat_compare answers; the lowest 8 are the refusal */
+#define PEAT_COMPARED_RECORDING_AT 8
+#define PEAT_COMPARED_RECORDING_BITS 8
+#define PEAT_COMPARED_BYTE_AT 16
+#define PEAT_COMPARED_INDEX_AT 32
+#define PEAT_COMPARED_COUNT_BITS 16
+#define PEAT_COMPARED_FIELD_AT 48
+#define PEAT_COMPARED_FIELD_BITS 8
+
+/* What peat_compare said. */
+struct peat_comparison {
+    unsigned refusal;     /* 0, or why nothing was compared */
+    unsigned recording;   /* of a refused envelope, or of the rest: 1 the first, 2 the second; else 0 */
+    size_t byte;          /* where the refused envelope, the first one that differs, or the rest begins */
+    unsigned envelopes;   /* how many envelopes are before the first one that differs */
+    unsigned field;       /* enum peat_field: in which the first one that differs does; PEAT_FIELD_NONE where none differs */
+    unsigned only_first;  /* how many jobs each list has taken */
+    unsigned only_second;
+    unsigned repeated;
+};
+
+/* the answer taken apart; counts is the range that the call was lent */
+static inline struct peat_comparison peat_comparison_of(uint64_t answer, const uint8_t *counts)
+{
+    struct peat_comparison c;
+    c.refusal = peat_refusal(answer);
+    c.recording = peat_bits_of(answer, PEAT_COMPARED_RECORDING_AT, PEAT_COMPARED_RECORDING_BITS);
+    c.byte = peat_bits_of(answer, PEAT_COMPARED_BYTE_AT, PEAT_COMPARED_COUNT_BITS);
+    c.envelopes = peat_bits_of(answer, PEAT_COMPARED_INDEX_AT, PEAT_COMPARED_COUNT_BITS);
+    c.field = peat_bits_of(answer, PEAT_COMPARED_FIELD_AT, PEAT_COMPARED_FIELD_BITS);
+    c.only_first = c.refusal ? 0u : (unsigned)counts[0] << 8 | counts[1];
+    c.only_second = c.refusal ? 0u : (unsigned)counts[2] << 8 | counts[3];
+    c.repeated = c.refusal ? 0u : (unsigned)counts[4] << 8 | counts[5];
+    return c;
+}
+
+/* whether the recordings are equal, byte for byte */
+static inline int peat_comparison_equal(const struct peat_comparison *c) { return !c->refusal && !c->field && !c->recording; }
+
 /* ---- the answer of a message's call */
 
 /* Bits of the answer above the refusal. Reading and writing count different things, and each has places of its own: what one
@@ -705,6 +753,13 @@ static inline const char *peat_forward_result_name(unsigned result)
 {
     static const char *const names[] = {"success", "service-not-supported", "version-not-equal"};
     return PEAT_NAMED(names, result);
+}
+
+/* of enum peat_field */
+static inline const char *peat_field_name(unsigned field)
+{
+    static const char *const names[] = {"none", "kind", "job", "bit count", "body"};
+    return PEAT_NAMED(names, field);
 }
 
 static inline const char *peat_user_reason_name(unsigned reason)
@@ -1024,6 +1079,34 @@ static inline uint64_t peat_mail_job(const uint8_t *mail)
     peat_read_envelope(mail + PEAT_MAIL_HEAD, peat_mail_held(mail), job, sizeof job);
     return peat_job_number(job);
 }
+
+/* ---- two recordings compared
+ *
+ * A recording is what a host that keeps its envelopes in a file leaves there: envelopes one behind the other. Air and ground keep one
+ * each, and the two are compared:
+ *
+ *     static uint8_t left[PEAT_LIST_MOST], right[PEAT_LIST_MOST], twice[PEAT_LIST_MOST], counts[PEAT_COUNTS_BYTES];
+ *     uint64_t answer = peat_compare(air, air_len, ground, ground_len, PEAT_ARRAY(left), PEAT_ARRAY(right), PEAT_ARRAY(twice),
+ *         PEAT_ARRAY(counts));
+ *     struct peat_comparison c = peat_comparison_of(answer, counts);
+ *     for (i = 0; i < c.only_first; i++)
+ *         printf("%llu only in the first\n", (unsigned long long)peat_job_number(left + PEAT_JOB_BYTES * i));
+ *
+ * A list is any range of bytes; its places are PEAT_JOB_BYTES bytes each, and bytes behind the last whole place stay. Recordings of more
+ * than PEAT_RECORDING_MOST bytes are compared piece by piece: see peat-compare.
+ */
+
+/* Two recordings compared. The jobs that are in only the first go to left, those in only the second to right, those that are in the first
+   or in the second more than once to twice, whatever the kinds of their envelopes: each job once, rising, PEAT_JOB_BYTES bytes each.
+   Answers PEAT_SHAPE (a recording over PEAT_RECORDING_MOST bytes, or counts not of PEAT_COUNTS_BYTES); PEAT_CUT, PEAT_GROUPS, PEAT_KIND
+   or PEAT_SIZE of the first refused envelope, the first recording read to its end before the second, with the recording and the byte where
+   the envelope begins; PEAT_ROOM (a list has fewer places than jobs to take); and every lent byte stays.
+   Else peat_comparison_of reads the answer. Where field is not PEAT_FIELD_NONE, the envelope at that byte of both recordings is the first
+   that differs. Where it is PEAT_FIELD_NONE and recording is not 0, one recording is the beginning of the other, and from that byte on the
+   recording of that number has the rest. Where both are 0, the recordings are equal. counts has how many jobs each list has taken, two bytes
+   each, and every byte behind the jobs of a list stays. The six ranges must not overlap; first and second alone may. */
+uint64_t peat_compare(const uint8_t *first, size_t first_len, const uint8_t *second, size_t second_len, uint8_t *left, size_t left_len,
+    uint8_t *right, size_t right_len, uint8_t *twice, size_t twice_len, uint8_t *counts, size_t counts_len);
 
 /* ---- the CPDLC message
  *

@@ -6,3 +6,4 @@ pub mod Arrived
 pub mod Before
 pub mod OneStart
 pub mod Passing
+pub mod Compares

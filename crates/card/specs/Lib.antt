@@ -5,3 +5,4 @@ pub mod Parts
 pub mod Recorded
 pub mod Arriving
 pub mod Forwarding
+pub mod Comparing

@@ -259,7 +259,37 @@ static void plain_inner_read(const struct job_case *c) { left = (size_t)plain_re
 static void plain_sealed(const struct job_case *c) { left = plain_write_envelope(first, ROOM, &c->envelope); }
 static void plain_unsealed(const struct job_case *c) { left = plain_read_envelope(c->sealed, c->sealed_bytes, &envelope_read); }
 
+/* from and into what the card keeps a message in */
+static struct plain_message message_loaded;
+static void plain_inner_from_range(const struct job_case *c)
+{
+    left = plain_load_message(c->laid, c->text, c->characters, &message_loaded) ? plain_write_message(first, ROOM, &message_loaded) : 0;
+}
+static void plain_inner_into_range(const struct job_case *c)
+{
+    left = plain_read_message(c->inner, c->inner_bits, &message_read) ? 1 + plain_lay_message(&message_read, laid_read, second) : 0;
+}
+
 /* tests/card/model.c, a plain C machine by event */
+
+/* The step of a message request, of a D-DATA indication: with the least APDU, which the model codes bit by bit; the APDU of the case is plain.c's */
+static void model_message_request(const struct job_case *c)
+{
+    static uint64_t job;
+    static struct args a = {.rec = {RANGE(rec)}, .first = {RANGE(first)}, .second = {RANGE(second)}};
+    a.n[0] = ++job;
+    said = model_call(MESSAGE_REQUEST, &a);
+    left = plain_write_send(first, ROOM, &c->data);
+}
+
+static void model_d_data(const struct job_case *c)
+{
+    static uint8_t least[] = {0x32, 0x00, 0x00}; /* a send: no identifier, a message of no bits, a check of none */
+    static struct args a = {.rec = {RANGE(rec)}, .bytes = {RANGE(least)}, .first = {RANGE(first)}, .second = {RANGE(second)}, .given = 1};
+    said = model_call(D_DATA_INDICATION, &a);
+    plain_apdu_delivered(c);
+}
+
 static void model_user_abort(const struct job_case *c)
 {
     static struct args a = {.rec = {RANGE(rec)}, .first = {RANGE(first)}, .second = {RANGE(second)}, .n = {PEAT_COMMANDED_TERMINATION}};
@@ -327,6 +357,14 @@ static int card_wrote(const struct job_case *c)
     left = peat_apdu_bits(said);
     return peat_refusal(said) == 0 && peat_invoked(said) == PEAT_D_DATA_REQUEST && wrote_apdu(c);
 }
+static int stepped_and_wrote(const struct job_case *c)
+{
+    return peat_refusal(said) == 0 && peat_invoked(said) == PEAT_D_DATA_REQUEST && wrote_apdu(c);
+}
+static int stepped_and_delivered(const struct job_case *c)
+{
+    return peat_refusal(said) == 0 && peat_told(said) == PEAT_MESSAGE_INDICATION && wrote_data(c);
+}
 static int card_delivered(const struct job_case *c)
 {
     left = peat_data_bits(said);
@@ -341,6 +379,10 @@ static int card_read_inner(const struct job_case *c)
 {
     return peat_refusal(said) == 0 && peat_message_characters(said) == c->characters && memcmp(laid_read, c->laid, sizeof laid_read) == 0
         && memcmp(second, c->text, c->characters) == 0;
+}
+static int laid_inner(const struct job_case *c)
+{
+    return left == 1 + c->characters && memcmp(laid_read, c->laid, sizeof laid_read) == 0 && memcmp(second, c->text, c->characters) == 0;
 }
 static int card_wrote_sealed(const struct job_case *c)
 {
@@ -391,11 +433,13 @@ static const struct row rows[] = {
     EACH("APDU written", "card, its step in it", at_ground, card_message_request, card_wrote, apdu_bytes),
     ASN1C("APDU written", asn1c_apdu_written, wrote_apdu, apdu_bytes)
     EACH("APDU written", "plain C", NULL, plain_apdu_written, wrote_apdu, apdu_bytes),
+    EACH("APDU written", "plain C, the model's step in it", at_ground, model_message_request, stepped_and_wrote, apdu_bytes),
     EACH("APDU written", "memcpy", NULL, memcpy_apdu, always, apdu_bytes),
 
     EACH("APDU read and its data delivered", "card, its step in it", at_air, card_d_data, card_delivered, apdu_bytes),
     ASN1C("APDU read and its data delivered", asn1c_apdu_delivered, wrote_data, apdu_bytes)
     EACH("APDU read and its data delivered", "plain C", NULL, plain_apdu_delivered, wrote_data, apdu_bytes),
+    EACH("APDU read and its data delivered", "plain C, the model's step in it", at_air, model_d_data, stepped_and_delivered, apdu_bytes),
     EACH("APDU read and its data delivered", "memcpy", NULL, memcpy_apdu, always, apdu_bytes),
     ASN1C("APDU read", asn1c_apdu_read, took, apdu_bytes)
     EACH("APDU read", "plain C", NULL, plain_apdu_read, read_data, apdu_bytes),
@@ -403,11 +447,13 @@ static const struct row rows[] = {
     EACH("inner message written", "card", NULL, card_inner_written, card_wrote_inner, inner_bytes),
     ASN1C("inner message written", asn1c_inner_written, wrote_inner, inner_bytes)
     EACH("inner message written", "plain C", NULL, plain_inner_written, wrote_inner, inner_bytes),
+    EACH("inner message written", "plain C, from the 132 bytes", NULL, plain_inner_from_range, wrote_inner, inner_bytes),
     EACH("inner message written", "memcpy", NULL, memcpy_inner, always, inner_bytes),
 
     EACH("inner message read", "card", NULL, card_inner_read, card_read_inner, inner_bytes),
     ASN1C("inner message read", asn1c_inner_read, took, inner_bytes)
     EACH("inner message read", "plain C", NULL, plain_inner_read, read_inner, inner_bytes),
+    EACH("inner message read", "plain C, into the 132 bytes", NULL, plain_inner_into_range, laid_inner, inner_bytes),
     EACH("inner message read", "memcpy", NULL, memcpy_inner, always, inner_bytes),
 
     {"one step, a user abort", &cases[TYPICAL], "card", NULL, card_user_abort, aborted, record_bytes},

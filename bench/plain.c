@@ -3,6 +3,7 @@
 #include <string.h>
 
 #include "kinds.h"
+#include "peatribbon.h"
 
 /* the bits of a message, the bytes of an output buffer: the limits of the card */
 enum { MESSAGE_MOST = 16383, BUFFER_LEAST = 2112 };
@@ -350,6 +351,73 @@ int plain_read_message(const uint8_t *in, size_t bits, struct plain_message *m)
     for (i = 0; i < m->count && !r.bad; i++)
         get_element(&r, &m->element[i]);
     return !r.bad && r.at == r.bits;
+}
+
+/* ---- the same in a message range and a text */
+
+static void load_level(const uint8_t *at, struct plain_level *l)
+{
+    l->block = at[PEAT_LEVEL_BLOCK];
+    l->unit[0] = at[PEAT_LEVEL_UNIT], l->unit[1] = at[PEAT_LEVEL_SECOND_UNIT];
+    l->number[0] = (int16_t)(at[PEAT_LEVEL_NUMBER] << 8 | at[PEAT_LEVEL_NUMBER + 1]);
+    l->number[1] = (int16_t)(at[PEAT_LEVEL_SECOND_NUMBER] << 8 | at[PEAT_LEVEL_SECOND_NUMBER + 1]);
+}
+
+static void lay_level(const struct plain_level *l, uint8_t *at)
+{
+    at[PEAT_LEVEL_BLOCK] = (uint8_t)l->block;
+    at[PEAT_LEVEL_UNIT] = (uint8_t)l->unit[0], at[PEAT_LEVEL_SECOND_UNIT] = (uint8_t)l->unit[1];
+    at[PEAT_LEVEL_NUMBER] = (uint8_t)((unsigned)l->number[0] >> 8), at[PEAT_LEVEL_NUMBER + 1] = (uint8_t)l->number[0];
+    at[PEAT_LEVEL_SECOND_NUMBER] = (uint8_t)((unsigned)l->number[1] >> 8), at[PEAT_LEVEL_SECOND_NUMBER + 1] = (uint8_t)l->number[1];
+}
+
+int plain_load_message(const uint8_t *laid, const uint8_t *text, size_t characters, struct plain_message *m)
+{
+    size_t i;
+    m->identification = laid[PEAT_INNER_IDENTIFICATION], m->referenced = laid[PEAT_INNER_REFERENCED], m->reference = laid[PEAT_INNER_REFERENCE];
+    m->year = (unsigned)laid[PEAT_INNER_YEAR] << 8 | laid[PEAT_INNER_YEAR + 1], m->month = laid[PEAT_INNER_MONTH], m->day = laid[PEAT_INNER_DAY];
+    m->hours = laid[PEAT_INNER_HOURS], m->minutes = laid[PEAT_INNER_MINUTES], m->seconds = laid[PEAT_INNER_SECONDS];
+    m->acknowledged = laid[PEAT_INNER_ACKNOWLEDGED], m->count = laid[PEAT_INNER_COUNT];
+    if (m->count > PEAT_INNER_PLACES)
+        return 0;
+    for (i = 0; i < m->count; i++) {
+        const uint8_t *place = laid + peat_place_at((unsigned)i);
+        struct plain_element *e = &m->element[i];
+        e->number = place[PEAT_PLACE_NUMBER];
+        e->characters = (size_t)place[PEAT_PLACE_CHARACTERS] << 8 | place[PEAT_PLACE_CHARACTERS + 1];
+        load_level(place + PEAT_PLACE_LEVEL, &e->level[0]), load_level(place + PEAT_PLACE_OTHER, &e->level[1]);
+        e->hours = place[PEAT_PLACE_HOURS], e->minutes = place[PEAT_PLACE_MINUTES];
+        memcpy(e->code, place + PEAT_PLACE_CODE, sizeof e->code);
+        if (e->characters > sizeof e->text || e->characters > characters)
+            return 0;
+        memcpy(e->text, text, e->characters);
+        text += e->characters, characters -= e->characters;
+    }
+    return characters == 0;
+}
+
+size_t plain_lay_message(const struct plain_message *m, uint8_t *laid, uint8_t *text)
+{
+    size_t i, characters = 0;
+    memset(laid, 0, PEAT_INNER_BYTES);
+    laid[PEAT_INNER_IDENTIFICATION] = (uint8_t)m->identification;
+    laid[PEAT_INNER_REFERENCED] = (uint8_t)m->referenced, laid[PEAT_INNER_REFERENCE] = (uint8_t)m->reference;
+    laid[PEAT_INNER_YEAR] = (uint8_t)(m->year >> 8), laid[PEAT_INNER_YEAR + 1] = (uint8_t)m->year;
+    laid[PEAT_INNER_MONTH] = (uint8_t)m->month, laid[PEAT_INNER_DAY] = (uint8_t)m->day;
+    laid[PEAT_INNER_HOURS] = (uint8_t)m->hours, laid[PEAT_INNER_MINUTES] = (uint8_t)m->minutes, laid[PEAT_INNER_SECONDS] = (uint8_t)m->seconds;
+    laid[PEAT_INNER_ACKNOWLEDGED] = (uint8_t)m->acknowledged, laid[PEAT_INNER_COUNT] = (uint8_t)m->count;
+    for (i = 0; i < m->count; i++) {
+        uint8_t *place = laid + peat_place_at((unsigned)i);
+        const struct plain_element *e = &m->element[i];
+        place[PEAT_PLACE_NUMBER] = (uint8_t)e->number;
+        place[PEAT_PLACE_CHARACTERS] = (uint8_t)(e->characters >> 8), place[PEAT_PLACE_CHARACTERS + 1] = (uint8_t)e->characters;
+        lay_level(&e->level[0], place + PEAT_PLACE_LEVEL), lay_level(&e->level[1], place + PEAT_PLACE_OTHER);
+        place[PEAT_PLACE_HOURS] = (uint8_t)e->hours, place[PEAT_PLACE_MINUTES] = (uint8_t)e->minutes;
+        memcpy(place + PEAT_PLACE_CODE, e->code, sizeof e->code);
+        memcpy(text + characters, e->text, e->characters);
+        characters += e->characters;
+    }
+    return characters;
 }
 
 /* ---- the broker's envelope: groups of seven bits, the lowest first */

@@ -52,6 +52,11 @@ struct plain_message {
 size_t plain_write_message(uint8_t *out, size_t room, const struct plain_message *m);
 int plain_read_message(const uint8_t *in, size_t bits, struct plain_message *m);
 
+/* the message as the card keeps it, in a message range and a text: loaded (0 where the text is not as long as the elements say), and laid
+   (the characters of the text) */
+int plain_load_message(const uint8_t *laid, const uint8_t *text, size_t characters, struct plain_message *m);
+size_t plain_lay_message(const struct plain_message *m, uint8_t *laid, uint8_t *text);
+
 /* ---- the broker's envelope */
 
 struct plain_envelope {

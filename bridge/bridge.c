@@ -4,10 +4,13 @@
 #include <stdlib.h>
 #include <string.h>
 
+#include "book.h"
 #include "clock.h"
+#include "forward.h"
 #include "log.h"
 #include "notify.h"
 #include "witness.h"
+#include "words.h"
 
 #define PAYLOADS 256      /* that are fetched from the broker in a round, at most */
 #define ENVELOPES 64      /* of a dialogue, before the others have their turn */
@@ -24,16 +27,17 @@
 #define ANSWER_MS 30000   /* that an answer about a queue may take */
 #define LATE_MS 50        /* until what another session of the database holds up is tried again */
 #define GIVE_BACK_MS 10   /* until it is looked again whether a dialogue can be given back */
+#define SHOW_MS 20        /* between two statuses for the page */
 
 /* the first dialogue from here on that is ours */
 static struct dialogue *ours_from(struct bridge *b, struct dialogue *d)
 {
-    while (d < b->dialogue + b->config->dialogues && d->lease == 0)
+    while (d < b->dialogue + PLACES_MOST && d->lease == 0)
         d++;
     return d;
 }
 
-#define EACH(b, d) ((d) = ours_from(b, (b)->dialogue); (d) < (b)->dialogue + (b)->config->dialogues; (d) = ours_from(b, (d) + 1))
+#define EACH(b, d) ((d) = ours_from(b, (b)->dialogue); (d) < (b)->dialogue + PLACES_MOST; (d) = ours_from(b, (d) + 1))
 
 static int stopping(const struct bridge *b) { return b->stop_by != 0; }
 
@@ -46,7 +50,7 @@ int spent(const struct bridge *b) { return b->letters_left == 0 || now_ms() >= b
 static int outbox_full(const struct bridge *b) { return b->metrics.letters >= b->config->outbox_most; }
 
 /* the dialogue that has the i-th turn in this round */
-static struct dialogue *in_turn(struct bridge *b, unsigned i) { return &b->dialogue[(b->turn + i) % b->config->dialogues]; }
+static struct dialogue *in_turn(struct bridge *b, unsigned i) { return &b->dialogue[(b->turn + i) % PLACES_MOST]; }
 
 static void grow_wait(uint64_t *wait, uint64_t most) { *wait = 2 * *wait < most ? 2 * *wait : most; }
 
@@ -55,9 +59,11 @@ static void grow_wait(uint64_t *wait, uint64_t most) { *wait = 2 * *wait < most 
 static void inbox_put(struct bridge *b, struct dialogue *d, const struct broker_event *e)
 {
     size_t bytes = e->bytes < b->config->payload_most ? e->bytes : (size_t)b->config->payload_most;
-    struct payload *p = malloc(sizeof *p + bytes);
+    size_t heads = strlen(e->heads) + 1;
+    struct payload *p = malloc(sizeof *p + bytes + heads);
     if (p == NULL)
         log_and_exit(EXIT_MEMORY, "memory", "a payload does not fit", "out of memory");
+    p->heads = memcpy(p->byte + bytes, e->heads, heads);
     p->behind = NULL;
     p->receipt = e->receipt;
     p->length = e->bytes;
@@ -73,7 +79,7 @@ static void inbox_drop(struct dialogue *d)
 {
     struct payload *p = d->inbox;
     d->inbox = p->behind;
-    d->reading = 0;
+    d->reading = d->waits = 0;
     free(p);
 }
 
@@ -90,7 +96,7 @@ static int read_some(struct bridge *b, struct dialogue *d)
     int n;
     if (d->lease == 0 || is_late(b, d))
         return 0;
-    for (n = 0; n < ENVELOPES && d->inbox != NULL && !spent(b); n++)
+    for (n = 0; n < ENVELOPES && d->inbox != NULL && !spent(b) && !call_waits(b, d); n++)
         if (!call_envelope(b, d)) {
             d->receipt = d->inbox->receipt;
             inbox_drop(d);
@@ -103,7 +109,7 @@ static void read_payloads(struct bridge *b)
     unsigned i;
     int n = 1;
     while (n > 0 && !outbox_full(b))
-        for (i = 0, n = 0; i < b->config->dialogues; i++)
+        for (i = 0, n = 0; i < PLACES_MOST; i++)
             n += read_some(b, in_turn(b, i));
 }
 
@@ -111,7 +117,7 @@ static int payloads_wait(struct bridge *b)
 {
     struct dialogue *d;
     for EACH (b, d)
-        if (d->inbox != NULL && !is_late(b, d))
+        if (d->inbox != NULL && !is_late(b, d) && !call_waits(b, d))
             return 1;
     return 0;
 }
@@ -126,11 +132,12 @@ static void connect_later(struct bridge *b)
 }
 
 /* A connection that did not last is no reason to try at once. */
-static void broker_lost(struct bridge *b, const char *why)
+void bridge_broker_lost(struct bridge *b, const char *why)
 {
     struct dialogue *d;
     if (now_ms() - b->connected_at >= b->config->reconnect_most)
         b->connect_wait = b->config->reconnect;
+    status_broker(&b->status, why);
     log_line(LOG_WARN, "broker lost", TEXT("why", why), NUMBER("wait_ms", b->connect_wait));
     b->metrics.lost += b->state == BROKER_OURS;
     b->state = BROKER_AWAY;
@@ -141,6 +148,7 @@ static void broker_lost(struct bridge *b, const char *why)
         d->queue = QUEUE_LEFT;
         d->handed = NOT_HANDED;
         d->receipt.tag = 0; /* it meant something on that connection only */
+        words_begin(b, d);
     }
 }
 
@@ -154,7 +162,7 @@ static void broker_ours(struct bridge *b)
     notify("READY=1");
 }
 
-/* While a call waits for the journal: the page answers, and the watchdog hears of us. The journal itself is not asked. */
+/* While a call waits for the journal the watchdog hears of us. The page has a thread of its own, and says that the round stands still. */
 static void meanwhile_journal(void *with)
 {
     struct bridge *b = with;
@@ -162,8 +170,6 @@ static void meanwhile_journal(void *with)
         notify("WATCHDOG=1");
         b->word_at = now_ms() + notify_period();
     }
-    if (b->page != NULL)
-        page_serve(b->page, &b->metrics);
 }
 
 /* Another bridge has the queues. The broker may not have noticed yet that an earlier connection of ours is gone, so this one
@@ -189,13 +195,16 @@ static void keep_connected(struct bridge *b)
     }
     if (b->state == BROKER_TAKEN)
         broker_taken(b);
+    status_broker(&b->status, b->broker->why);
     log_line(LOG_WARN, "broker away", TEXT("why", b->broker->why != NULL ? b->broker->why : ""), NUMBER("wait_ms", b->connect_wait));
     connect_later(b);
 }
 
-/* A queue is consumed while its dialogue is open, the aircraft keeps up and the outbox has room. */
+/* A queue is consumed while its dialogue is open, the aircraft keeps up and the outbox has room; one of forwards while its centre is there. */
 static int wanted(const struct bridge *b, const struct dialogue *d)
 {
+    if (place_is_link(d->number))
+        return config_has_queue(b->config, d->number) && !stopping(b) && !is_late(b, d) && b->link->connected(b->link, d->number) && !outbox_full(b);
     return !stopping(b) && !is_late(b, d) && state_of(d) == PEAT_DIALOGUE && d->out.count < BACKLOG && !outbox_full(b);
 }
 
@@ -216,15 +225,18 @@ static void choose_queue(struct bridge *b, struct dialogue *d)
     else if (waits && b->blocked)
         d->asked_at = now_ms(); /* a broker that takes nothing does not answer either */
     else if (waits && now_ms() - d->asked_at > ANSWER_MS)
-        broker_lost(b, "no answer about a queue");
+        bridge_broker_lost(b, "no answer about a queue");
 }
 
 static void choose_queues(struct bridge *b)
 {
     struct dialogue *d;
-    for EACH (b, d)
+    for EACH (b, d) {
         if (b->state == BROKER_OURS)
             choose_queue(b, d);
+        if (b->state == BROKER_OURS)
+            words_choose(b, d);
+    }
 }
 
 static void queue_consumed(struct bridge *b, struct dialogue *d)
@@ -290,15 +302,17 @@ static void hear_broker(struct bridge *b)
         struct broker_event e = b->broker->next(b->broker);
         switch (e.news) {
         case BROKER_QUIET: return;
-        case BROKER_LOST: broker_lost(b, e.why); return;
+        case BROKER_LOST: bridge_broker_lost(b, e.why); return;
         case BROKER_CONFIRMED: publisher_confirmed(b, e.place, e.all); break;
         case BROKER_REFUSED: publisher_refused(b, e.place, e.all, e.why); break;
         case BROKER_BLOCKED:
         case BROKER_UNBLOCKED: broker_blocked(b, e.news == BROKER_BLOCKED, e.why); break;
         default:
             payloads += e.news == BROKER_DELIVERY;
-            if (e.dialogue < b->config->dialogues)
+            if (e.dialogue < PLACES_MOST && config_has_place(b->config, e.dialogue))
                 hear_queue(b, &b->dialogue[e.dialogue], &e);
+            else if (e.dialogue >= PLACES_MOST && e.dialogue - PLACES_MOST < b->config->dialogues)
+                words_hear(b, &b->dialogue[e.dialogue - PLACES_MOST], &e);
         }
     }
 }
@@ -306,7 +320,7 @@ static void hear_broker(struct bridge *b)
 /* ---- the aircraft */
 
 /* What comes down becomes a letter. A bridge that stops hears its aircraft all the same: they answer the end. */
-static int hears(const struct bridge *b) { return !outbox_full(b) || stopping(b); }
+int bridge_hears(const struct bridge *b) { return !outbox_full(b) || stopping(b); }
 
 /* Half of a round is for what comes down, so that aircraft that send without an end do not hold up jobs. */
 static int half_spent(const struct bridge *b) { return b->letters_left <= LETTERS_ROUND / 2 || now_ms() + ROUND_MS / 2 >= b->round_until; }
@@ -315,7 +329,7 @@ static void hear_aircraft(struct bridge *b, struct dialogue *d)
 {
     struct primitive p;
     int n;
-    for (n = 0; n < PRIMITIVES && !d->closing && (n == 0 || !half_spent(b)) && hears(b); n++) {
+    for (n = 0; n < PRIMITIVES && !d->closing && (n == 0 || !half_spent(b)) && bridge_hears(b); n++) {
         enum link_answer got = b->link->receive(b->link, d->number, &p);
         if (got == LINK_LATER)
             return;
@@ -326,13 +340,21 @@ static void hear_aircraft(struct bridge *b, struct dialogue *d)
     }
 }
 
-/* A dialogue is started where it is IDLE, nothing of the last one is left, and the broker is there for its jobs. */
+/* It is IDLE, and connected: its aircraft starts it. */
+static int awaits_start(struct bridge *b, const struct dialogue *d)
+{
+    return b->config->starts[d->number] != STARTS_GROUND && state_of(d) == PEAT_IDLE && b->link->descriptor(b->link, d->number) >= 0;
+}
+
+/* A dialogue is started where it is IDLE, nothing of the last one is left, and the broker is there for its jobs. One that its aircraft starts is
+   connected then, and waits. */
 static void start(struct bridge *b, struct dialogue *d)
 {
-    if (state_of(d) != PEAT_IDLE || d->closing || stopping(b) || b->state != BROKER_OURS || now_ms() < d->start_at)
+    if (state_of(d) != PEAT_IDLE || d->closing || stopping(b) || b->state != BROKER_OURS || now_ms() < d->start_at || awaits_start(b, d))
         return;
     if (b->link->open(b->link, d->number) == LINK_DONE) {
-        call_start(b, d);
+        if (b->config->starts[d->number] == STARTS_GROUND)
+            call_start(b, d);
         return;
     }
     d->start_at = now_ms() + d->wait;
@@ -342,7 +364,7 @@ static void start(struct bridge *b, struct dialogue *d)
 /* Payloads that came too late for this bridge are in their queue again. */
 static int handed_back(struct bridge *b, struct dialogue *d)
 {
-    if (b->state != BROKER_OURS || !b->journal->shared || d->handed == HANDED)
+    if (b->state != BROKER_OURS || !b->journal->shared || d->handed == HANDED || !config_has_queue(b->config, d->number))
         return 1;
     if (d->handed == NOT_HANDED)
         b->broker->hand_back(b->broker, d->number);
@@ -359,14 +381,18 @@ static void give_back(struct bridge *b, struct dialogue *d)
     log_line(LOG_INFO, "gave back", ABOUT(d), NUMBER("lease", d->lease));
     b->metrics.given_back++;
     b->staged = 1;
+    b->link->leave(b->link, d->number);
     d->lease = 0;
 }
 
 /* Told to stop: a dialogue is ended in order once its queue is left alone, or the broker does not answer; one that does not end in time
-   is aborted. */
+   is aborted, and a downstream one at once: its aircraft alone can end that. */
 static void wind_down(struct bridge *b, struct dialogue *d)
 {
-    if (state_of(d) == PEAT_DIALOGUE && (d->queue == QUEUE_LEFT || now_ms() + b->config->stop / 4 * 3 > b->stop_by))
+    int left = d->queue == QUEUE_LEFT || now_ms() + b->config->stop / 4 * 3 > b->stop_by;
+    if (state_of(d) == PEAT_DIALOGUE && left && peat_record_dsc(d->kept.record))
+        call_abort(b, d);
+    else if (state_of(d) == PEAT_DIALOGUE && left)
         call_end(b, d);
     else if (state_of(d) == PEAT_START_REQ || (state_of(d) != PEAT_IDLE && now_ms() + b->config->stop / 4 > b->stop_by))
         call_abort(b, d);
@@ -374,8 +400,21 @@ static void wind_down(struct bridge *b, struct dialogue *d)
         give_back(b, d);
 }
 
+static void tend_link(struct bridge *b, struct dialogue *d)
+{
+    forward_tend(b, d);
+    if (stopping(b))
+        forward_wind_down(b, d);
+    if (stopping(b) && state_of(d) == PEAT_IDLE)
+        give_back(b, d);
+}
+
 static void tend(struct bridge *b, struct dialogue *d)
 {
+    if (place_is_link(d->number)) {
+        tend_link(b, d);
+        return;
+    }
     hear_aircraft(b, d);
     if (d->expires != 0 && now_ms() >= d->expires)
         call_expiry(b, d);
@@ -389,7 +428,7 @@ static void tend(struct bridge *b, struct dialogue *d)
 static unsigned count_late(const struct bridge *b)
 {
     unsigned d, n = 0;
-    for (d = 0; d < b->config->dialogues; d++)
+    for (d = 0; d < PLACES_MOST; d++)
         n += b->journal->late(b->journal, d) != 0;
     return n;
 }
@@ -451,7 +490,10 @@ static void acknowledge(struct bridge *b)
 {
     struct dialogue *d;
     for EACH (b, d) {
-        if (d->receipt.tag == 0 || b->state != BROKER_OURS || is_late(b, d))
+        if (b->state != BROKER_OURS || is_late(b, d))
+            continue;
+        words_acknowledge(b, d);
+        if (d->receipt.tag == 0)
             continue;
         b->broker->acknowledge(b->broker, d->number, d->receipt);
         d->receipt.tag = 0;
@@ -500,32 +542,38 @@ static int sleep_ms(struct bridge *b)
     at = earlier(at, b->word_at);
     at = earlier(at, b->take_at);
     at = earlier(at, b->late_at);
+    at = earlier(at, b->show_at);
     for EACH (b, d) {
         if (is_late(b, d))
             continue;
         at = earlier(at, d->expires);
         if (d->closing)
             at = earlier(at, d->close_by);
-        if (state_of(d) == PEAT_IDLE && !stopping(b) && b->state == BROKER_OURS)
+        if (place_is_link(d->number))
+            at = earlier(at, forward_at(b, d));
+        else if (state_of(d) == PEAT_IDLE && !stopping(b) && b->state == BROKER_OURS && !awaits_start(b, d))
             at = earlier(at, d->start_at);
         if (d->queue == QUEUE_LEFT && b->state == BROKER_OURS && wanted(b, d))
             at = earlier(at, d->consume_at);
+        if (b->state == BROKER_OURS && words_left(d) && config_has_queue(b->config, PLACES_MOST + d->number) && !stopping(b))
+            at = earlier(at, d->words.at);
     }
     return at > now ? (int)(at - now) : 0;
 }
 
+/* A listener that is not looked at for now would wake the round again and again. */
+static int rests(struct bridge *b, const struct dialogue *d) { return d->closing || is_late(b, d) || (place_is_link(d->number) && forward_at(b, d) != 0); }
+
 static void wait_for_news(struct bridge *b)
 {
-    struct pollfd polls[DIALOGUES_MOST + 1 + 1 + PAGE_CLIENTS];
+    struct pollfd polls[PLACES_MOST + 1];
     struct dialogue *d;
     size_t n = 0;
     int ms = sleep_ms(b);
     if (b->state == BROKER_OURS || b->state == BROKER_TRYING)
         polls[n++] = (struct pollfd){b->broker->descriptor(b->broker), POLLIN, 0};
     for EACH (b, d)
-        polls[n++] = (struct pollfd){d->closing || is_late(b, d) ? -1 : b->link->descriptor(b->link, d->number), (short)((hears(b) ? POLLIN : 0) | (d->out.count > 0 ? POLLOUT : 0)), 0};
-    if (b->page != NULL)
-        n += page_polls(b->page, polls + n);
+        polls[n++] = (struct pollfd){rests(b, d) ? -1 : b->link->descriptor(b->link, d->number), (short)((bridge_hears(b) ? POLLIN : 0) | (d->out.count > 0 ? POLLOUT : 0)), 0};
     poll(polls, (nfds_t)n, ms);
 }
 
@@ -543,7 +591,15 @@ static void take_stock(struct bridge *b)
     b->metrics.open = b->metrics.unsent = b->metrics.owned = b->metrics.queues = b->metrics.unread = 0;
     memset(b->metrics.lease, 0, sizeof b->metrics.lease);
     memset(b->metrics.queue_away, 0, sizeof b->metrics.queue_away);
+    memset(b->metrics.numbers_open, 0, sizeof b->metrics.numbers_open);
+    memset(b->metrics.number_awaited, 0, sizeof b->metrics.number_awaited);
+    memset(b->metrics.centre, 0, sizeof b->metrics.centre);
     for EACH (b, d) {
+        if (place_is_link(d->number)) {
+            if (!place_hears(d->number))
+                b->metrics.centre[place_centre(d->number)] = (uint8_t)(1 + b->link->connected(b->link, d->number));
+            continue;
+        }
         b->metrics.owned++;
         b->metrics.lease[d->number] = d->lease;
         b->metrics.open += state_of(d) == PEAT_DIALOGUE;
@@ -551,7 +607,22 @@ static void take_stock(struct bridge *b)
         b->metrics.queues += d->queue == QUEUE_CONSUMED;
         b->metrics.unread += d->inbox != NULL;
         b->metrics.queue_away[d->number] = (uint8_t)d->queue_away;
+        b->metrics.numbers_open[d->number] = (uint8_t)book_open_numbers(d->kept.book);
+        b->metrics.number_awaited[d->number] = (uint8_t)call_waits(b, d);
     }
+}
+
+/* The page gets a status some times a second; where it is busy with the last one, a little later. */
+static void show(struct bridge *b, uint64_t now)
+{
+    if (b->page == NULL)
+        return;
+    b->show_at = b->shown_at + SHOW_MS;
+    if (now < b->show_at)
+        return;
+    status_take(&b->status, b);
+    b->show_at = page_show(b->page, &b->status) ? 0 : now + SHOW_MS;
+    b->shown_at = now;
 }
 
 /* What is due now and then: the witness, a word to the watchdog, the page. */
@@ -568,8 +639,7 @@ static void housekeeping(struct bridge *b)
         notify("WATCHDOG=1");
         b->word_at = now + notify_period();
     }
-    if (b->page != NULL)
-        page_serve(b->page, &b->metrics);
+    show(b, now);
 }
 
 static int finished(struct bridge *b)
@@ -607,10 +677,20 @@ static void hold(void *with, const struct decision *r)
         jobs_add(&d->held, r->first, r->last);
 }
 
+/* What a record of a link says of this centre is the configuration's: it may be another than when the record was made. */
+static void configure_link(struct bridge *b, struct dialogue *d)
+{
+    if (!place_is_link(d->number))
+        return;
+    d->kept.record[PEAT_RECORD_FORWARDS] = b->config->forwards ? PEAT_FORWARDS : PEAT_FORWARDS_NOT;
+    d->kept.record[PEAT_RECORD_VERSION] = (uint8_t)b->config->forward_version;
+}
+
 /* That another process had it is a failure of the carrier: a record that is not IDLE hears of it. */
 static void recover(struct bridge *b, struct dialogue *d, const char *why)
 {
     b->journal->load(b->journal, d->number, &d->kept);
+    configure_link(b, d);
     d->changed = 1;
     if (state_of(d) == PEAT_IDLE)
         return;
@@ -629,6 +709,7 @@ static void begin_dialogue(struct bridge *b, const struct taken *t)
     d->consume_wait = b->config->reconnect;
     d->consume_at = now_ms();
     d->queue_away = 0;
+    words_begin(b, d);
     d->wait = b->config->retry;
     d->start_at = now_ms();
     jobs_clear(&d->held);
@@ -647,7 +728,7 @@ static uint64_t next_look(const struct bridge *b)
 /* Takes what it may have, and commits what that broke. */
 static void take_dialogues(struct bridge *b)
 {
-    struct taken taken[DIALOGUES_MOST];
+    struct taken taken[PLACES_MOST];
     unsigned n = b->journal->take(b->journal, taken), i;
     b->take_at = b->journal->shared ? next_look(b) : 0;
     if (n == 0)
@@ -686,11 +767,13 @@ void bridge_begin(struct bridge *b, const struct config *c, struct journal *j, s
     b->connect_at = now_ms();
     b->word_at = notify_period() != 0 ? now_ms() : 0;
     b->metrics.host = c->host;
+    status_begin(&b->status, b);
+    log_tap(status_event, &b->status);
     publisher_restart(b);
     j->meanwhile = meanwhile_journal;
     j->with = b;
     j->patient = 1;
-    for (d = 0; d < DIALOGUES_MOST; d++)
+    for (d = 0; d < PLACES_MOST; d++)
         b->dialogue[d].number = d;
     if (j->shared)
         b->take_at = now_ms();
@@ -705,7 +788,7 @@ void bridge_begin(struct bridge *b, const struct config *c, struct journal *j, s
 static void forget(struct bridge *b)
 {
     unsigned d;
-    for (d = 0; d < DIALOGUES_MOST; d++) {
+    for (d = 0; d < PLACES_MOST; d++) {
         free(b->dialogue[d].out.item);
         free(b->dialogue[d].held.range);
         inbox_empty(&b->dialogue[d]);
@@ -718,7 +801,7 @@ static void begin_round(struct bridge *b)
     b->again = 0;
     b->letters_left = LETTERS_ROUND;
     b->round_until = now_ms() + ROUND_MS;
-    b->turn = (b->turn + 1) % (unsigned)b->config->dialogues;
+    b->turn = (b->turn + 1) % PLACES_MOST;
 }
 
 void bridge_run(struct bridge *b, const volatile sig_atomic_t *stop)
@@ -731,7 +814,7 @@ void bridge_run(struct bridge *b, const volatile sig_atomic_t *stop)
         keep_connected(b);
         look_for_dialogues(b);
         choose_queues(b);
-        for (i = 0; i < b->config->dialogues; i++)
+        for (i = 0; i < PLACES_MOST; i++)
             if (in_turn(b, i)->lease != 0 && !is_late(b, in_turn(b, i)))
                 tend(b, in_turn(b, i));
         if (stopping(b))
@@ -747,5 +830,7 @@ void bridge_run(struct bridge *b, const volatile sig_atomic_t *stop)
     b->broker->end(b->broker);
     b->link->end(b->link);
     b->journal->close(b->journal);
+    log_tap(NULL, NULL);
+    page_close(b->page);
     forget(b);
 }

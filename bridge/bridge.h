@@ -24,6 +24,7 @@
 #include "link.h"
 #include "mail.h"
 #include "metrics.h"
+#include "page.h"
 
 /* primitives that wait to be sent, the oldest first */
 struct queue {
@@ -36,6 +37,7 @@ struct payload {
     struct payload *behind;
     struct receipt receipt;
     size_t length;  /* of the payload; longer than payload_most: so many bytes are here */
+    const char *heads; /* its headers (heads.h), which stand behind the bytes */
     uint8_t byte[];
 };
 
@@ -47,8 +49,16 @@ enum queue_state {
     QUEUE_LEAVING   /* it was asked to stop */
 };
 
+/* of a dialogue's queue of words (words.h) */
+struct words {
+    enum queue_state queue;
+    uint64_t at, wait; /* when to try again, or until when an answer may come; and how long to wait after the next failure */
+    int away;          /* it could not be consumed when it was tried last */
+    struct receipt receipt; /* of the last word that was heard in this batch; tag 0: none */
+};
+
 struct dialogue {
-    unsigned number;
+    unsigned number;        /* its place */
     uint64_t lease;         /* under which number this bridge has it; 0: it is not ours, and nothing else here counts */
     struct kept kept;
     struct decision latest; /* the range of jobs that grows; first 0: none */
@@ -68,8 +78,14 @@ struct dialogue {
     struct payload *inbox, *inbox_last;
     struct mail mail;       /* the first payload, where it was begun */
     int reading;            /* it was */
+    int waits;              /* its envelope that was read last waits for a message number: all are open */
+    struct envelope envelope;
     struct receipt receipt; /* of the last payload that was read to its end in this batch; tag 0: none */
+    struct words words;
+    int linked;             /* of a link: it was connected when that was said last */
     uint64_t unexpected, unexpected_at; /* starts that came from the aircraft since one was logged, and when the next may be */
+    /* for the page: how the last run was over, and the last job that was refused (refusal 0: none) */
+    struct { const char *fate, *why; uint64_t over_at, refused_job, refused_at; unsigned refusal; } shown;
 };
 
 /* Letters to one of the two queues. One queue that takes nothing does not hold up the other. */
@@ -102,9 +118,11 @@ struct bridge {
     struct page *page;
     const volatile sig_atomic_t *stop;
 
-    struct dialogue dialogue[DIALOGUES_MOST];
+    struct dialogue dialogue[PLACES_MOST]; /* by place (config.h): the dialogues, and what links this centre to others */
     struct publisher publisher;
     struct metrics metrics;
+    struct status status;    /* what the page is shown */
+    uint64_t shown_at, show_at; /* when it was shown last; when the next one is due, 0: none is */
     int staged;              /* there is something to commit at once */
     int again;               /* the next round comes at once */
     unsigned letters_left;   /* that this round may post, */
@@ -140,6 +158,16 @@ void call_primitive(struct bridge *, struct dialogue *, const struct primitive *
 void call_failure(struct bridge *, struct dialogue *, const char *why);
 /* Reads one envelope of a dialogue's first payload. 1: there are others in it; 0: it was read to its end */
 int call_envelope(struct bridge *, struct dialogue *);
+/* 1: it has to wait: the job has no message number before one is closed, or one is being forwarded */
+int call_waits(struct bridge *, const struct dialogue *);
+/* Lays bytes aside, with a reason. */
+void call_dead(struct bridge *, const struct dialogue *, const char *reason, const uint8_t *bytes, size_t count);
+
+/* 1: what comes from aircraft and centres is heard: there is room for its letters */
+int bridge_hears(const struct bridge *);
+
+/* The connection to the broker is of no use any more. */
+void bridge_broker_lost(struct bridge *, const char *why);
 
 /* ---- publisher.c */
 

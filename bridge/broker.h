@@ -42,12 +42,13 @@ enum broker_news {
 
 struct broker_event {
     enum broker_news news;
-    unsigned dialogue; /* of a delivery, and of what is about a queue */
+    unsigned dialogue; /* of a delivery, and of what is about a queue: the queue's number (config.h) */
     const char *why;   /* for the log; stands until the next call */
     /* of a delivery. Of a payload that is longer than payload_most that many bytes are there, and `bytes` is its length */
     struct receipt receipt;
     const uint8_t *payload; /* stands until the next call */
     size_t bytes;
+    const char *heads;      /* its headers (heads.h) */
     /* of a letter: its place among those of this connection, from 1 on */
     uint64_t place;
     int all;
@@ -66,6 +67,7 @@ struct broker {
 
     /* connects, and claims the queues for this bridge alone, unless several bridges share them */
     enum broker_state (*connect)(struct broker *);
+    /* Queues are named by their numbers (config.h): a dialogue's queue of jobs has the dialogue's own. */
     /* Asks to consume a dialogue's queue, or to leave it. One event answers: BROKER_CONSUMES or BROKER_LEFT, or why it is not so. */
     void (*consume)(struct broker *, unsigned dialogue, int on);
     /* Payloads of a dialogue that were delivered and not acknowledged go back to their queue, each in its place: the next bridge

@@ -58,7 +58,7 @@ static int rabbit_publish(struct broker *b, const struct letter *l)
     struct parcel *o;
     if (mailbox_bytes(letters) > LETTERS_BYTES)
         return 0;
-    o = parcel_make(ORDER_LETTER, l->bytes);
+    o = parcel_with_heads(ORDER_LETTER, l->bytes, l->heads);
     o->connection = ends_of(b)->connection;
     o->dialogue = l->dialogue;
     o->since = l->since;
@@ -125,6 +125,7 @@ static struct broker_event rabbit_next(struct broker *b)
         event.receipt = (struct receipt){p->channel, p->tag};
         event.payload = p->byte;
         event.bytes = p->length;
+        event.heads = parcel_heads(p);
     } else {
         event.why = p->bytes > 0 ? (const char *)p->byte : "";
         event.place = p->tag;

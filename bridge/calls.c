@@ -6,16 +6,17 @@
 #include <stdlib.h>
 #include <string.h>
 
-#include "bridge.h"
+#include "book.h"
+#include "calls.h"
 #include "clock.h"
+#include "forward.h"
+#include "given.h"
+#include "heads.h"
 #include "log.h"
 #include "mail.h"
+#include "message.h"
 
-/* The buffers of every call: the bridge makes one call at a time and uses what a call wrote before the next. */
-static uint8_t first[PEAT_BUFFER_LEAST], second[PEAT_BUFFER_LEAST];
-
-#define RECORD(d) (d)->kept.record, sizeof (d)->kept.record
-#define BUFFERS first, sizeof first, second, sizeof second
+uint8_t call_first[PEAT_BUFFER_LEAST], call_second[PEAT_BUFFER_LEAST];
 
 #define CLOSE_MS 1000 /* how long a dialogue that is over waits for room on its connection */
 
@@ -29,21 +30,27 @@ static void the_card_refuses(const char *call, uint64_t answer)
 
 /* ---- letters */
 
-static void post(struct bridge *b, const struct dialogue *d, const char *type, const char *reason, const void *body, size_t bytes)
+static void post(struct bridge *b, const struct dialogue *d, const char *type, const char *reason, const char *heads, const void *body, size_t bytes)
 {
-    struct letter l = {0, 0, NULL, d->number, type, reason, wall_ms(), body, bytes};
+    struct letter l = {0, 0, NULL, d->number, type, reason, heads, wall_ms(), body, bytes};
     b->journal->post(b->journal, &l);
     b->staged = 1;
     b->letters_left -= b->letters_left > 0;
 }
 
-static void post_envelope(struct bridge *b, const struct dialogue *d, const char *type, unsigned kind, uint64_t job, unsigned bits, const uint8_t *body)
+void call_letter(struct bridge *b, const struct dialogue *d, const char *type, const char *heads, const void *body, size_t bytes)
+{
+    post(b, d, type, "", heads, body, bytes);
+}
+
+static void post_envelope(
+    struct bridge *b, const struct dialogue *d, const char *type, const char *heads, unsigned kind, uint64_t job, unsigned bits, const uint8_t *body)
 {
     uint8_t e[PEAT_BUFFER_LEAST];
     uint64_t written = peat_write_envelope(kind, job, bits, body, (bits + 7u) / 8u, e, sizeof e);
     if (peat_refusal(written) != PEAT_TAKEN)
         the_card_refuses("peat_write_envelope", written);
-    post(b, d, type, "", e, peat_written_bytes(written));
+    post(b, d, type, "", heads, e, peat_written_bytes(written));
 }
 
 /* What became of the jobs taken in a dialogue that is over. Ended: all were handed to the flight deck. Broken: each may or
@@ -58,16 +65,16 @@ static void post_fate(struct bridge *b, const struct dialogue *d, const char *ho
         log_and_exit(EXIT_MEMORY, "memory", how, "out of memory");
     n = snprintf(body, room, "{\"dialogue\":%u,\"run\":%llu,\"fate\":\"%s\",\"why\":\"%s\",\"jobs\":\"%s\"}", d->number,
         (unsigned long long)d->kept.run, how, why, jobs);
-    post(b, d, how, "", body, (size_t)n);
+    post(b, d, how, "", "", body, (size_t)n);
     free(body);
     free(jobs);
 }
 
-static void post_dead(struct bridge *b, const struct dialogue *d, const char *reason, const uint8_t *bytes, size_t count)
+void call_dead(struct bridge *b, const struct dialogue *d, const char *reason, const uint8_t *bytes, size_t count)
 {
     b->metrics.dead++;
     log_line(LOG_WARN, "dead letter", ABOUT(d), TEXT("reason", reason), NUMBER("bytes", count));
-    post(b, d, "dead", reason, bytes, count < b->config->payload_most ? count : (size_t)b->config->payload_most);
+    post(b, d, "dead", reason, "", bytes, count < b->config->payload_most ? count : (size_t)b->config->payload_most);
 }
 
 /* ---- decisions */
@@ -108,22 +115,80 @@ static void enqueue(struct dialogue *d, uint64_t answer)
     p = &q->item[q->oldest + q->count++];
     p->kind = (uint8_t)peat_invoked(answer);
     p->number = peat_record_number(d->kept.record);
+    p->version = (uint8_t)peat_version(answer);
     p->parameter = (uint8_t)peat_invoked_parameter(answer);
     p->security = (uint8_t)peat_invoked_security(answer);
     p->given = peat_apdu_bits(answer) > 0 ? PEAT_USER_DATA : PEAT_NO_USER_DATA;
     p->bytes = peat_apdu_bytes(answer);
-    memcpy(p->data, first, p->bytes);
+    memcpy(p->data, call_first, p->bytes);
 }
 
-/* A message came down: the controllers get it in an envelope, numbered among those of this dialogue's queue. */
+void call_add_head(char *heads, const char *name, const char *value)
+{
+    if (!heads_add(heads, HEADS_OF_LETTER, name, value))
+        log_and_exit(EXIT_MEMORY, "memory", name, "a header does not fit");
+}
+
+void call_add_number(char *heads, const char *name, uint64_t number)
+{
+    char text[24];
+    snprintf(text, sizeof text, "%llu", (unsigned long long)number);
+    call_add_head(heads, name, text);
+}
+
+/* A refusal by its name, and the bit where bits are at fault. */
+void call_add_refusal(char *heads, uint64_t answer)
+{
+    unsigned refusal = peat_refusal(answer);
+    call_add_head(heads, "x-peat-refusal", peat_refusal_name(refusal));
+    if (refusal >= PEAT_SHORT && refusal <= PEAT_DEFAULT)
+        call_add_number(heads, "x-peat-bit", peat_position(answer));
+}
+
+/* What a message that came down says of itself: its number, the job that it replies to, whose number it may close, and all of it as JSON. It is
+   passed on also where the card can not read it; then the letter says why. */
+static void describe(struct bridge *b, struct dialogue *d, const uint8_t *bits, unsigned count, char *heads)
+{
+    static struct message m;
+    static char json[MESSAGE_JSON];
+    uint64_t answer = message_read(&m, PEAT_DOWNLINK, bits, count), job;
+    if (peat_refusal(answer) != PEAT_TAKEN) {
+        call_add_refusal(heads, answer);
+        return;
+    }
+    call_add_number(heads, "x-peat-number", message_number(&m));
+    job = message_replies(&m) ? book_job(d->kept.book, message_reference(&m)) : 0;
+    if (job != 0)
+        call_add_number(heads, "x-peat-job", job);
+    if (message_closes(&m) && book_close(d->kept.book, message_reference(&m)))
+        b->metrics.numbers_closed++;
+    if (b->config->delivered_json) {
+        message_json(&m, json, sizeof json);
+        call_add_head(heads, "x-peat-json", json);
+    }
+}
+
+void call_delivered(struct bridge *b, struct dialogue *d, const char *type, const char *heads, unsigned bits, const uint8_t *message)
+{
+    post_envelope(b, d, type, heads, PEAT_ENVELOPE_DELIVERED, ++d->kept.deliveries, bits, message);
+}
+
+/* Message data came down: the controllers get the message in an envelope, numbered among those of this dialogue's queue. */
 static void pass_on(struct bridge *b, struct dialogue *d, uint64_t answer)
 {
+    static char heads[HEADS_OF_LETTER];
     uint8_t message[PEAT_BUFFER_LEAST];
-    uint64_t part = peat_data_part(PEAT_PART_MESSAGE, second, peat_data_bytes(answer), message, sizeof message);
+    uint64_t part = peat_data_part(PEAT_PART_MESSAGE, call_second, peat_data_bytes(answer), message, sizeof message);
     if (peat_refusal(part) != PEAT_TAKEN)
         the_card_refuses("peat_data_part", part);
+    if (!peat_part_given(part))
+        return; /* a start or an end without one */
+    heads[0] = '\0';
+    given_write(call_second, peat_data_bytes(answer), heads, sizeof heads);
+    if (!b->config->opaque)
+        describe(b, d, message, peat_part_bits(part), heads);
     b->metrics.delivered++;
-    post_envelope(b, d, "delivered", PEAT_ENVELOPE_DELIVERED, ++d->kept.deliveries, peat_part_bits(part), message);
+    call_delivered(b, d, "delivered", heads, peat_part_bits(part), message);
 }
 
 static void keep_timer(struct bridge *b, struct dialogue *d)
@@ -134,6 +199,12 @@ static void keep_timer(struct bridge *b, struct dialogue *d)
         d->expires = now_ms() + b->config->t_start;
 }
 
+void call_wait_longer(struct bridge *b, struct dialogue *d)
+{
+    d->start_at = now_ms() + d->wait;
+    d->wait = 2 * d->wait < b->config->retry_most ? 2 * d->wait : b->config->retry_most;
+}
+
 /* The dialogue is over: the jobs taken in it get their fate, and its connection goes. */
 static void over(struct bridge *b, struct dialogue *d, unsigned before, const char *how, const char *why)
 {
@@ -142,23 +213,25 @@ static void over(struct bridge *b, struct dialogue *d, unsigned before, const ch
     if (d->held.ranges > 0)
         post_fate(b, d, how, why);
     jobs_clear(&d->held);
+    d->shown.fate = how;
+    d->shown.why = why;
+    d->shown.over_at = wall_ms();
+    book_empty(d->kept.book);
     d->closing = 1;
     d->close_by = now_ms() + CLOSE_MS;
-    d->start_at = now_ms() + d->wait;
-    d->wait = 2 * d->wait < b->config->retry_most ? 2 * d->wait : b->config->retry_most;
+    call_wait_longer(b, d);
     log_line(LOG_INFO, "over", ABOUT(d), NUMBER("run", d->kept.run), TEXT("fate", how), TEXT("why", why));
 }
 
 static void opened(struct bridge *b, struct dialogue *d)
 {
     b->metrics.opened++;
+    book_empty(d->kept.book);
     d->wait = b->config->retry;
     log_line(LOG_INFO, "opened", ABOUT(d), NUMBER("run", d->kept.run));
 }
 
-/* Collects what the answer of a call asks for. `before`: the state before the call; `why`: for the notice, if the dialogue is
-   over by it. Answers the refusal. */
-static unsigned act(struct bridge *b, struct dialogue *d, unsigned before, uint64_t answer, const char *why)
+unsigned call_act(struct bridge *b, struct dialogue *d, unsigned before, uint64_t answer, const char *why)
 {
     int ended;
     if (peat_refusal(answer) != PEAT_TAKEN)
@@ -167,9 +240,13 @@ static unsigned act(struct bridge *b, struct dialogue *d, unsigned before, uint6
     keep_timer(b, d);
     if (peat_invoked(answer) != PEAT_SILENT)
         enqueue(d, answer);
-    if (peat_told(answer) == PEAT_MESSAGE_INDICATION)
-        pass_on(b, d, answer);
-    if (before == PEAT_START_REQ && state_of(d) == PEAT_DIALOGUE)
+    if (place_is_link(d->number)) {
+        forward_act(b, d, before, answer, why);
+        return PEAT_TAKEN;
+    }
+    if (peat_told(answer) >= PEAT_START_INDICATION && peat_told(answer) <= PEAT_END_CONFIRMATION && peat_data_bits(answer) > 0)
+        pass_on(b, d, answer); /* a start and an end may bring a message, too */
+    if ((before == PEAT_START_REQ || before == PEAT_START_IND) && state_of(d) == PEAT_DIALOGUE)
         opened(b, d);
     ended = peat_told(answer) == PEAT_END_CONFIRMATION;
     if (before != PEAT_IDLE && state_of(d) == PEAT_IDLE)
@@ -181,7 +258,7 @@ static unsigned act(struct bridge *b, struct dialogue *d, unsigned before, uint6
 
 /* The number of the next dialogue: above the record's, and by the clock, so that it is above the aircraft's too where the journal is an
    old copy (floor.h). */
-static uint64_t next_number(const struct dialogue *d)
+uint64_t call_next_number(const struct dialogue *d)
 {
     uint64_t above = peat_record_number(d->kept.record) + 1, clock = wall_ms();
     return above > clock ? above : clock;
@@ -195,48 +272,65 @@ static void start_refused(struct bridge *b, struct dialogue *d, unsigned refusal
         TEXT("why", refusal == PEAT_STALE ? "the record's number can not be raised: stop the bridge and run `bridge renumber`" : "the card"));
     d->closing = 1;
     d->close_by = now_ms();
-    d->start_at = now_ms() + d->wait;
-    d->wait = 2 * d->wait < b->config->retry_most ? 2 * d->wait : b->config->retry_most;
+    call_wait_longer(b, d);
 }
 
 void call_start(struct bridge *b, struct dialogue *d)
 {
     unsigned refusal;
     d->kept.run++;
-    refusal = act(b, d, PEAT_IDLE, peat_start(RECORD(d), next_number(d), PEAT_CPDLC, PEAT_CLASS_ANY, PEAT_NO_SECURITY, PEAT_NO_DATA, BUFFERS), "");
+    refusal = call_act(b, d, PEAT_IDLE, peat_start(RECORD(d), call_next_number(d), PEAT_CPDLC, PEAT_CLASS_ANY, PEAT_NO_SECURITY, PEAT_NO_DATA, BUFFERS), "");
     if (refusal == PEAT_TAKEN)
         return;
     d->kept.run--; /* it did not happen */
     start_refused(b, d, refusal);
 }
 
-/* A call that the record's state allows. */
-static void must(struct bridge *b, struct dialogue *d, const char *call, uint64_t answer, const char *why, unsigned before)
+void call_must(struct bridge *b, struct dialogue *d, const char *call, uint64_t answer, const char *why, unsigned before)
 {
-    if (act(b, d, before, answer, why) != PEAT_TAKEN)
+    if (call_act(b, d, before, answer, why) != PEAT_TAKEN)
         the_card_refuses(call, answer);
 }
 
 void call_end(struct bridge *b, struct dialogue *d)
 {
     unsigned before = state_of(d);
-    must(b, d, "peat_end_request", peat_end_request(RECORD(d), PEAT_NO_DATA, BUFFERS), "", before);
+    call_must(b, d, "peat_end_request", peat_end_request(RECORD(d), PEAT_NO_DATA, BUFFERS), "", before);
 }
 
 void call_abort(struct bridge *b, struct dialogue *d)
 {
     unsigned before = state_of(d);
-    must(b, d, "peat_user_abort", peat_user_abort(RECORD(d), PEAT_COMMANDED_TERMINATION, BUFFERS), "stopped", before);
+    call_must(b, d, "peat_user_abort", peat_user_abort(RECORD(d), PEAT_COMMANDED_TERMINATION, BUFFERS), "stopped", before);
 }
 
 void call_expiry(struct bridge *b, struct dialogue *d)
 {
     unsigned before = state_of(d);
     b->metrics.expired++;
-    must(b, d, "peat_timer_expiry", peat_timer_expiry(RECORD(d), BUFFERS), "t-start", before);
+    call_must(b, d, "peat_timer_expiry", peat_timer_expiry(RECORD(d), BUFFERS), "t-start", before);
 }
 
 /* ---- the dialogue service */
+
+/* An aircraft starts its dialogue. The answer is in the same batch as the start: a record that waits for it is never kept. */
+static void answer_start(struct bridge *b, struct dialogue *d, int dsc)
+{
+    unsigned before = state_of(d), accepts = b->config->starts[d->number] == STARTS_AIR && b->stop_by == 0, result = accepts ? PEAT_ACCEPTED : PEAT_REJECTED;
+    d->kept.run += accepts;
+    ++*(accepts ? &b->metrics.starts_accepted : &b->metrics.starts_rejected);
+    if (dsc)
+        call_must(b, d, "peat_dsc_start_response", peat_dsc_start_response(RECORD(d), result, PEAT_NO_DATA, BUFFERS), "rejected", before);
+    else
+        call_must(b, d, "peat_start_response", peat_start_response(RECORD(d), result, PEAT_NO_DATA, BUFFERS), "rejected", before);
+}
+
+/* An aircraft ends a downstream dialogue. Whether the last messages arrive before the answer nobody will say: their jobs are told as broken. */
+static void answer_end(struct bridge *b, struct dialogue *d)
+{
+    unsigned before = state_of(d);
+    call_must(b, d, "peat_dsc_end_response", peat_dsc_end_response(RECORD(d), PEAT_ACCEPTED, PEAT_NO_DATA, BUFFERS), "aircraft's end", before);
+}
 
 /* The connection is gone, or is of no use: what waits to be sent is lost with it. */
 void call_failure(struct bridge *b, struct dialogue *d, const char *why)
@@ -245,28 +339,34 @@ void call_failure(struct bridge *b, struct dialogue *d, const char *why)
     d->out.oldest = d->out.count = 0;
     d->closing = 1;
     d->close_by = now_ms();
+    if (before == PEAT_IDLE)
+        call_wait_longer(b, d);
     if (before != PEAT_IDLE)
-        must(b, d, "peat_d_p_abort_indication", peat_d_p_abort_indication(RECORD(d), peat_record_number(d->kept.record), BUFFERS), why, before);
+        call_must(b, d, "peat_d_p_abort_indication", peat_d_p_abort_indication(RECORD(d), peat_record_number(d->kept.record), BUFFERS), why, before);
     d->out.oldest = d->out.count = 0;
 }
 
 #define UNEXPECTED_MS 1000 /* between two lines about what a dialogue's aircraft may not send */
 
-/* The bridge starts every dialogue itself: a start from an aircraft is none that it can expect, and its number would be the record's. A number above
-   the one that this bridge gave is nobody's. Neither reaches the record. */
-static int unexpected(const struct dialogue *d, const struct primitive *p)
+#define START_JUMP ((uint64_t)1 << 48) /* that the number of an aircraft's start may be above the last: one packet does not use up the numbers */
+
+/* Of a dialogue that the bridge starts: a start from its aircraft is none that it can expect, and its number would be the record's. A number above
+   the one that was given is nobody's. Neither reaches the record. */
+static int unexpected(const struct bridge *b, const struct dialogue *d, const struct primitive *p)
 {
+    if (p->kind == PEAT_D_START_REQUEST && b->config->starts[d->number] != STARTS_GROUND)
+        return p->number > peat_record_number(d->kept.record) && p->number - peat_record_number(d->kept.record) > START_JUMP;
     return p->kind == PEAT_D_START_REQUEST || p->number > peat_record_number(d->kept.record);
 }
 
-static void turn_away(struct bridge *b, struct dialogue *d, const struct primitive *p)
+void call_turn_away(struct bridge *b, struct dialogue *d, const struct primitive *p, const char *why)
 {
     b->metrics.unexpected++;
     d->unexpected++;
     if (now_ms() < d->unexpected_at)
         return;
     log_line(LOG_WARN, "unexpected primitive", ABOUT(d), NUMBER("primitive", p->kind), NUMBER("number", p->number), NUMBER("ours", peat_record_number(d->kept.record)),
-        NUMBER("times", d->unexpected), TEXT("why", p->kind == PEAT_D_START_REQUEST ? "the aircraft starts a dialogue" : "its number was never given"));
+        NUMBER("times", d->unexpected), TEXT("why", why));
     d->unexpected = 0;
     d->unexpected_at = now_ms() + UNEXPECTED_MS;
 }
@@ -274,44 +374,118 @@ static void turn_away(struct bridge *b, struct dialogue *d, const struct primiti
 void call_primitive(struct bridge *b, struct dialogue *d, const struct primitive *p)
 {
     unsigned before = state_of(d), refusal;
+    uint64_t answer;
     b->metrics.received++;
-    if (unexpected(d, p)) {
-        turn_away(b, d, p);
+    if (unexpected(b, d, p)) {
+        call_turn_away(b, d, p, p->kind == PEAT_D_START_REQUEST ? "the aircraft starts a dialogue" : "its number was never given");
         return;
     }
-    if (before == PEAT_IDLE)
+    if (before == PEAT_IDLE && p->kind != PEAT_D_START_REQUEST)
         return;
-    refusal = act(b, d, before, primitive_arrives(p, d->kept.record, first, second), "abort");
+    answer = primitive_arrives(p, d->kept.record, call_first, call_second);
+    refusal = call_act(b, d, before, answer, "abort");
     if (refusal == PEAT_STALE)
         b->metrics.stale++; /* of an old dialogue: it changes nothing */
     else if (refusal != PEAT_TAKEN)
         call_failure(b, d, "no primitive");
+    else if (peat_told(answer) == PEAT_START_INDICATION)
+        answer_start(b, d, (int)peat_told_dsc(answer));
+    else if (peat_told(answer) == PEAT_END_INDICATION)
+        answer_end(b, d);
 }
 
 /* ---- jobs */
 
-static void refuse(struct bridge *b, struct dialogue *d, uint64_t job, unsigned refusal)
+/* By the card's answer: the letter has its number, its name, and the bit. */
+void call_refused(struct bridge *b, struct dialogue *d, uint64_t job, uint64_t answer)
 {
+    static char heads[HEADS_OF_LETTER];
+    unsigned refusal = peat_refusal(answer);
     uint8_t number = (uint8_t)refusal;
+    heads[0] = '\0';
+    call_add_refusal(heads, answer);
     b->metrics.refused[refusal]++;
+    d->shown.refusal = refusal;
+    d->shown.refused_job = job;
+    d->shown.refused_at = wall_ms();
     b->metrics.overtaken += refusal == PEAT_REPEAT; /* it is not decided, so it was never sent: a later job was */
     log_line(LOG_INFO, "refused", ABOUT(d), NUMBER("job", job), NUMBER("refusal", refusal));
     decide(b, d, job, refusal);
-    post_envelope(b, d, "refused", PEAT_ENVELOPE_REFUSAL, job, 8, &number);
+    post_envelope(b, d, "refused", heads, PEAT_ENVELOPE_REFUSAL, job, 8, &number);
 }
 
-static void offer(struct bridge *b, struct dialogue *d, const struct envelope *e)
+static void lay_aside(struct bridge *b, struct dialogue *d, const struct envelope *e, const char *reason, const uint8_t *bytes, size_t count)
 {
-    const struct peat_data data = {.message = e->body, .message_len = (e->bits + 7u) / 8u, .message_bits = e->bits};
-    uint64_t answer = peat_message_request(RECORD(d), e->job, PEAT_DATA(data), BUFFERS);
-    unsigned refusal = act(b, d, state_of(d), answer, "");
+    if (e->kind == PEAT_ENVELOPE_TO_SEND)
+        decide(b, d, e->job, LAID_ASIDE); /* its fate is told: it is not sent when it comes again */
+    call_dead(b, d, reason, bytes, count);
+}
+
+/* A job as the card gets it. */
+struct offer {
+    struct peat_data data;
+    uint8_t out[PEAT_BUFFER_LEAST], book[PEAT_BOOK_BYTES]; /* the message with its number, and the book with that number */
+};
+
+/* The message is read, and gets its number from the book: it stands there when the card has taken the job. A message with an integrity check
+   keeps its own, since the check is made over it. The card's answer; *why: it is laid aside with this reason. */
+static uint64_t number_message(struct dialogue *d, const struct envelope *e, const char *heads, struct offer *o, const char **why)
+{
+    static struct message m;
+    uint64_t answer = message_read(&m, PEAT_UPLINK, e->body, e->bits);
+    int own = o->data.check_bits > 0, closes;
+    char response[8];
+    unsigned number;
+    size_t length;
+    if (peat_refusal(answer) != PEAT_TAKEN)
+        return answer;
+    closes = heads_take(heads, "x-peat-response", response, sizeof response) && strcmp(response, "none") == 0;
+    if (!closes && heads_find(heads, "x-peat-response", &length) != NULL) {
+        *why = "headers";
+        return PEAT_TAKEN;
+    }
+    number = own ? book_open_this(o->book, e->job, message_number(&m)) : book_open(o->book, e->job);
+    if (number == BOOK_NONE) {
+        *why = "number";
+        return PEAT_TAKEN;
+    }
+    if (!own) {
+        o->data.message_bits = message_write(&m, number, o->out);
+        o->data.message_len = (o->data.message_bits + 7u) / 8u;
+        o->data.message = o->out;
+    }
+    if (closes)
+        memcpy(o->book, d->kept.book, sizeof o->book); /* it allows no reply, so the number is in use until the message is sent (Doc 9705, 2.3.7.4.2.2) */
+    return PEAT_TAKEN;
+}
+
+void call_taken(struct bridge *b, struct dialogue *d, uint64_t job)
+{
+    b->metrics.taken++;
+    decide(b, d, job, PEAT_TAKEN);
+    jobs_add(&d->held, job, job);
+    log_line(LOG_FINE, "taken", ABOUT(d), NUMBER("job", job));
+}
+
+static void offer(struct bridge *b, struct dialogue *d, const struct envelope *e, const char *heads, const struct given *g, const char **why)
+{
+    static struct offer o;
+    uint64_t answer;
+    unsigned refusal;
+    o.data = (struct peat_data){.identifier = g->identifier, .identifier_len = g->identifier_len, .message = e->body, .message_len = (e->bits + 7u) / 8u,
+        .message_bits = e->bits, .check = g->check, .check_len = (g->check_bits + 7u) / 8u, .check_bits = g->check_bits};
+    memcpy(o.book, d->kept.book, sizeof o.book);
+    answer = b->config->opaque ? PEAT_TAKEN : number_message(d, e, heads, &o, why);
+    if (*why != NULL)
+        return;
+    if (peat_refusal(answer) == PEAT_TAKEN)
+        answer = peat_message_request(RECORD(d), e->job, PEAT_DATA(o.data), BUFFERS);
+    refusal = call_act(b, d, state_of(d), answer, "");
     if (refusal == PEAT_TAKEN) {
-        b->metrics.taken++;
-        decide(b, d, e->job, PEAT_TAKEN);
-        jobs_add(&d->held, e->job, e->job);
-        log_line(LOG_FINE, "taken", ABOUT(d), NUMBER("job", e->job));
+        memcpy(d->kept.book, o.book, sizeof o.book);
+        call_taken(b, d, e->job);
     } else {
-        refuse(b, d, e->job, refusal);
+        call_refused(b, d, e->job, answer);
     }
 }
 
@@ -324,7 +498,7 @@ static const char *kept_out(const struct bridge *b, const struct dialogue *d, co
         return "another kind";
     if (e->job <= d->kept.floor)
         return "floor"; /* it may have been sent before the journal was restored */
-    if (e->job > from && e->job - from > b->config->job_jump)
+    if (e->job > from && e->job - from > b->config->job_jump && !place_is_link(d->number))
         return "jump"; /* taken, it would make a REPEAT of every job below it */
     return NULL;
 }
@@ -340,8 +514,9 @@ static const char *refusal_name(unsigned refusal)
 }
 
 /* An envelope of a payload, whose bytes are given: a repeat, laid aside, or offered to the card. */
-static void sort_envelope(struct bridge *b, struct dialogue *d, const struct envelope *e, const uint8_t *bytes, size_t count)
+static void sort_envelope(struct bridge *b, struct dialogue *d, const struct envelope *e, const char *heads, const uint8_t *bytes, size_t count)
 {
+    struct given g;
     const char *reason;
     if (e->kind == PEAT_ENVELOPE_TO_SEND && decided(b, d, e->job)) {
         b->metrics.repeats++;
@@ -349,13 +524,23 @@ static void sort_envelope(struct bridge *b, struct dialogue *d, const struct env
         return;
     }
     reason = kept_out(b, d, e);
-    if (reason == NULL) {
-        offer(b, d, e);
+    if (reason == NULL && (!given_read(&g, heads) || (place_is_link(d->number) && (g.identifier_len > 0 || g.check_bits > 0))))
+        reason = "headers"; /* a forward has no place for an identifier or a check */
+    if (reason == NULL && !b->config->opaque && !place_is_link(d->number) && book_open_numbers(d->kept.book) == PEAT_BOOK_NUMBERS) {
+        d->waits = 1;
         return;
     }
-    if (e->kind == PEAT_ENVELOPE_TO_SEND)
-        decide(b, d, e->job, LAID_ASIDE); /* its fate is told: it is not sent when it comes again */
-    post_dead(b, d, reason, bytes, count);
+    if (reason == NULL && place_is_link(d->number))
+        forward_offer(b, d, e, heads, &reason);
+    else if (reason == NULL)
+        offer(b, d, e, heads, &g, &reason);
+    if (reason != NULL)
+        lay_aside(b, d, e, reason, bytes, count);
+}
+
+int call_waits(struct bridge *b, const struct dialogue *d)
+{
+    return place_is_link(d->number) ? !forward_ready(b, d) : d->waits && book_open_numbers(d->kept.book) == PEAT_BOOK_NUMBERS;
 }
 
 /* One envelope of the payload that is read: it is taken, refused or laid aside, and what can't be read is laid aside with the rest
@@ -363,24 +548,27 @@ static void sort_envelope(struct bridge *b, struct dialogue *d, const struct env
 int call_envelope(struct bridge *b, struct dialogue *d)
 {
     const struct payload *p = d->inbox;
-    struct envelope e;
-    unsigned refusal;
+    unsigned refusal = PEAT_TAKEN;
     size_t from;
     if (!d->reading) {
         b->metrics.payloads++;
         if (p->length > b->config->payload_most) {
-            post_dead(b, d, "too long", p->byte, p->length);
+            call_dead(b, d, "too long", p->byte, p->length);
             return 0;
         }
         mail_begin(&d->mail, p->byte, p->length);
         d->reading = 1;
     }
-    refusal = mail_take(&d->mail, &e);
+    if (!d->waits)
+        refusal = mail_take(&d->mail, &d->envelope);
+    d->waits = 0;
     from = mail_place(&d->mail);
     if (refusal != PEAT_TAKEN) {
-        post_dead(b, d, refusal_name(refusal), p->byte + from, p->length - from);
+        call_dead(b, d, refusal_name(refusal), p->byte + from, p->length - from);
         return 0;
     }
-    sort_envelope(b, d, &e, p->byte + from, d->mail.at - from);
+    sort_envelope(b, d, &d->envelope, p->heads, p->byte + from, d->mail.at - from);
+    if (d->waits)
+        return 1;
     return mail_waits(&d->mail);
 }

@@ -1,10 +1,12 @@
 #include "config.h"
 
+#include <arpa/inet.h>
 #include <errno.h>
 #include <stdio.h>
 #include <stdlib.h>
 #include <string.h>
 
+#include "jobs.h"
 #include "log.h"
 
 /* What a name may be given. */
@@ -15,14 +17,16 @@ struct key {
     int is_text;
     uint64_t least, most; /* of a number; of a text: its characters */
     int has_number;       /* a text that must have {} in it once */
+    const char *words;    /* of a number that is given by words: they, each behind a blank; the first is 0 */
 };
 
 #define PLACE(field) offsetof(struct config, field)
-#define PATH(name, field, standard) {name, standard, PLACE(field), 1, 1, CONFIG_TEXT - 1, 0}
-#define MAYBE(name, field) {name, "", PLACE(field), 1, 0, CONFIG_TEXT - 1, 0}
-#define LONG(name, field) {name, "", PLACE(field), 1, 0, CONFIG_LONG - 1, 0}
-#define EACH(name, field, standard, most) {name, standard, PLACE(field), 1, 3, most, 1}
-#define COUNT(name, field, standard, least, most) {name, standard, PLACE(field), 0, least, most, 0}
+#define PATH(name, field, standard) {name, standard, PLACE(field), 1, 1, CONFIG_TEXT - 1, 0, NULL}
+#define MAYBE(name, field) {name, "", PLACE(field), 1, 0, CONFIG_TEXT - 1, 0, NULL}
+#define LONG(name, field) {name, "", PLACE(field), 1, 0, CONFIG_LONG - 1, 0, NULL}
+#define EACH(name, field, standard, most) {name, standard, PLACE(field), 1, 3, most, 1, NULL}
+#define COUNT(name, field, standard, least, most) {name, standard, PLACE(field), 0, least, most, 0, NULL}
+#define WORDS(name, field, standard, words) {name, standard, PLACE(field), 0, 0, 0, 0, words}
 
 #define SOCKET_PATH 100 /* a local socket's path has 108 bytes at most, the number among them */
 
@@ -40,6 +44,16 @@ static const struct key keys[] = {
     COUNT("t_start_ms", t_start, "360000", 1, 3600000),
     COUNT("retry_ms", retry, "1000", 1, 600000),
     COUNT("retry_most_ms", retry_most, "30000", 1, 600000),
+    MAYBE("air_starts", air_starts),
+    MAYBE("air_rejects", air_rejects),
+    COUNT("centres", centres, "0", 0, CENTRES_MOST),
+    MAYBE("facility", facility),
+    MAYBE("centre_names", centre_names),
+    MAYBE("centre_out", centre_out),
+    MAYBE("centre_in", centre_in),
+    EACH("queue_forward", queue_forward, "peat.forward.{}", CONFIG_TEXT - 1),
+    WORDS("forwards", forwards, "yes", " no yes"),
+    COUNT("forward_version", forward_version, "1", 1, 255),
     PATH("broker", broker, NULL),
     COUNT("port", port, "5672", 1, 65535),
     PATH("virtual_host", host_name, "/"),
@@ -52,6 +66,9 @@ static const struct key keys[] = {
     PATH("queue_down", queue_down, "peat.down"),
     PATH("queue_dead", queue_dead, "peat.dead"),
     PATH("queue_owner", queue_owner, "peat.owner"),
+    EACH("queue_words", queue_words, "peat.words.{}", CONFIG_TEXT - 1),
+    WORDS("messages", opaque, "checked", " checked opaque"),
+    WORDS("delivered_json", delivered_json, "no", " no yes"),
     COUNT("heartbeat_s", heartbeat, "10", 1, 3600),
     COUNT("prefetch", prefetch, "8", 1, 1000),
     COUNT("claim_ms", claim, "60000", 1, 600000),
@@ -61,6 +78,11 @@ static const struct key keys[] = {
     COUNT("payload_most", payload_most, "65536", 1, 16777216),
     COUNT("outbox_most", outbox_most, "100000", 1, 100000000),
     COUNT("metrics_port", metrics_port, "0", 0, 65535),
+    PATH("page_address", page_address, "127.0.0.1"),
+    MAYBE("page_token_file", page_token_file),
+    MAYBE("page_certificate", page_certificate),
+    MAYBE("page_key", page_key),
+    MAYBE("page_ca", page_ca),
     COUNT("stop_ms", stop, "20000", 1, 3600000),
     COUNT("log_level", log, "1", 0, 3),
 };
@@ -78,6 +100,17 @@ int config_number(const char *text, uint64_t *number)
     return errno == 0;
 }
 
+/* the number of a word among those of a key; -1: it is none of them */
+static long word_number(const char *words, const char *value)
+{
+    size_t n = strlen(value);
+    long i;
+    for (i = 0; words != NULL && (words = strchr(words, ' ')) != NULL; i++, words++)
+        if (n > 0 && strncmp(words + 1, value, n) == 0 && (words[1 + n] == ' ' || words[1 + n] == '\0'))
+            return i;
+    return -1;
+}
+
 /* A value is put into its place, or what is wrong with it is said. */
 static const char *set(struct config *c, const struct key *k, const char *value)
 {
@@ -93,6 +126,12 @@ static const char *set(struct config *c, const struct key *k, const char *value)
             return "needs {} once, where the number of the dialogue goes";
         strcpy(place, value);
         return NULL;
+    }
+    if (k->words != NULL) {
+        long word = word_number(k->words, value);
+        n = (uint64_t)word;
+        memcpy(place, &n, sizeof n);
+        return word < 0 ? "is none of its words" : NULL;
     }
     if (!config_number(value, &n))
         return "is not a number, or one of more than 64 bits";
@@ -178,6 +217,102 @@ static const char *take_line(struct config *c, char *line, unsigned char *given)
     return why != NULL ? why : set(c, &keys[i], value);
 }
 
+int config_is_here(const char *address) { return strncmp(address, "127.", 4) == 0 || strcmp(address, "::1") == 0; }
+
+/* Who else than this machine may see the page shows a token or a certificate. */
+static const char *page_together(const struct config *c)
+{
+    unsigned char bytes[16];
+    if (inet_pton(AF_INET, c->page_address, bytes) != 1 && inet_pton(AF_INET6, c->page_address, bytes) != 1)
+        return "page_address is not an address in numbers";
+    if ((c->page_certificate[0] != '\0') != (c->page_key[0] != '\0'))
+        return "page_certificate and page_key come together";
+    if (c->page_ca[0] != '\0' && c->page_certificate[0] == '\0')
+        return "page_ca needs page_certificate and page_key: clients show certificates by TLS alone";
+    if (!config_is_here(c->page_address) && c->page_token_file[0] == '\0' && c->page_ca[0] == '\0')
+        return "page_address is reached from outside this machine: it needs page_token_file, or page_ca for clients with a certificate";
+    return NULL;
+}
+
+/* ---- who starts which dialogue */
+
+struct marking {
+    struct config *config;
+    enum starts as;
+    int good;
+};
+
+static void mark(void *with, uint64_t first, uint64_t last)
+{
+    struct marking *m = with;
+    uint64_t d;
+    m->good &= last < m->config->dialogues;
+    for (d = first; m->good && d <= last; d++) {
+        m->good &= m->config->starts[d] == STARTS_GROUND;
+        m->config->starts[d] = (uint8_t)m->as;
+    }
+}
+
+/* 0: a list is none, names a dialogue that there is not, or both name one */
+static int mark_starts(struct config *c)
+{
+    struct marking accepts = {c, STARTS_AIR, 1}, rejects = {c, STARTS_REJECTED, 1};
+    return jobs_read(c->air_starts, mark, &accepts) && jobs_read(c->air_rejects, mark, &rejects) && accepts.good && rejects.good;
+}
+
+/* ---- other centres */
+
+#define DESIGNATION "ABCDEFGHIJKLMNOPQRSTUVWXYZ0123456789"
+
+static int is_designation(const char *text, size_t length)
+{
+    return length >= FACILITY_LEAST && length <= FACILITY_MOST && strspn(text, DESIGNATION) >= length;
+}
+
+/* the place of a centre's designation in the list; NULL: there are not so many */
+static const char *designation_of(const struct config *c, unsigned centre)
+{
+    const char *at = c->centre_names;
+    while (centre-- > 0 && at != NULL) {
+        at = strchr(at, ',');
+        at = at != NULL ? at + 1 : NULL;
+    }
+    return at;
+}
+
+void config_centre(const struct config *c, unsigned centre, char *name)
+{
+    const char *at = designation_of(c, centre);
+    size_t n = at != NULL ? strcspn(at, ",") : 0;
+    memset(name, 0, FACILITY_MOST + 1);
+    memcpy(name, at != NULL ? at : "", n <= FACILITY_MOST ? n : 0);
+}
+
+static int is_pattern(const char *path)
+{
+    const char *braces = strstr(path, "{}");
+    return braces != NULL && strstr(braces + 2, "{}") == NULL && strlen(path) <= SOCKET_PATH;
+}
+
+static const char *centres_together(const struct config *c)
+{
+    unsigned i;
+    if (c->centres == 0)
+        return NULL;
+    if (!is_designation(c->facility, strlen(c->facility)))
+        return "facility is not this centre's designation, 4 to 8 capital letters and digits";
+    for (i = 0; i < c->centres; i++) {
+        const char *at = designation_of(c, i);
+        if (at == NULL || !is_designation(at, strcspn(at, ",")))
+            return "centre_names is not a list of the other centres' designations, one for each of `centres`";
+    }
+    if (designation_of(c, (unsigned)c->centres) != NULL)
+        return "centre_names has more designations than there are centres";
+    if (!is_pattern(c->centre_out) || !is_pattern(c->centre_in) || strcmp(c->centre_out, c->centre_in) == 0)
+        return "centre_out and centre_in are two paths of sockets, each with {} once, where the number of the centre goes";
+    return NULL;
+}
+
 /* What single values do not show. */
 static const char *together(const struct config *c)
 {
@@ -196,7 +331,7 @@ static const char *together(const struct config *c)
         return "claim_ms is under three heartbeats: after a network cut the bridge would give up before the broker has noticed";
     if (c->retry > c->retry_most || c->reconnect > c->reconnect_most)
         return "a first wait is longer than the longest";
-    return NULL;
+    return page_together(c);
 }
 
 static int fail(FILE *f, char *fault, size_t room, const char *path, unsigned line, const char *name, const char *why)
@@ -240,7 +375,36 @@ int config_read(struct config *c, const char *path, char *fault, size_t room)
         if (keys[i].standard == NULL && !given[i])
             return fail(NULL, fault, room, path, 0, keys[i].name, "is not given");
     why = together(c);
+    if (why == NULL)
+        why = centres_together(c);
+    if (why == NULL && !mark_starts(c))
+        why = "air_starts and air_rejects are lists of dialogues as 0-3,7, each of them in one list once";
     return why == NULL || fail(NULL, fault, room, path, 0, "", why);
+}
+
+int config_has_place(const struct config *c, unsigned place)
+{
+    return place_is_link(place) ? place < PLACES_MOST && place_centre(place) < c->centres : place < c->dialogues;
+}
+
+unsigned config_places(const struct config *c) { return (unsigned)(c->dialogues + 2 * c->centres); }
+
+/* Words are of use where the bridge keeps a book. */
+int config_has_queue(const struct config *c, unsigned queue)
+{
+    if (queue >= PLACES_MOST)
+        return queue - PLACES_MOST < c->dialogues && !c->opaque;
+    return config_has_place(c, queue) && !place_hears(queue);
+}
+
+void config_queue(const struct config *c, unsigned queue, char *name, size_t room)
+{
+    if (queue >= PLACES_MOST)
+        config_name(c->queue_words, queue - PLACES_MOST, name, room);
+    else if (place_is_link(queue))
+        config_name(c->queue_forward, place_centre(queue), name, room);
+    else
+        config_name(c->queue_up, queue, name, room);
 }
 
 void config_name(const char *pattern, unsigned number, char *name, size_t room)

@@ -18,11 +18,13 @@ static void raise_one(struct journal *j, unsigned dialogue, uint64_t floor)
 
 void floor_raise(struct journal *j, const struct config *c, uint64_t floor, uint64_t dialogue)
 {
-    struct taken all[DIALOGUES_MOST];
+    struct taken all[PLACES_MOST];
     struct witness w;
     unsigned d;
-    if (j->take(j, all) != c->dialogues)
+    if (j->take(j, all) != config_places(c)) {
+        j->close(j); /* what it took is free again at once: two that try by turns would else keep each other out */
         log_and_exit(EXIT_REFUSED, "journal", "floor", "a bridge has dialogues of this journal, or a session has rows of it locked: end it first. What a bridge that was killed had is free after lease_ms");
+    }
     w = witness_ask(c->witness, j);
     if (w.says != WITNESS_AGREES) {
         j->settle_id(j, j->id);
@@ -30,8 +32,8 @@ void floor_raise(struct journal *j, const struct config *c, uint64_t floor, uint
             j->settle_id(j, w.id);
         j->rename(j);
     }
-    for (d = 0; d < c->dialogues; d++)
-        if (dialogue == ALL_DIALOGUES || dialogue == d)
+    for (d = 0; d < PLACES_MOST; d++)
+        if (config_has_place(c, d) && (dialogue == ALL_DIALOGUES || dialogue == d))
             raise_one(j, d, floor);
     j->commit(j);
     witness_write(c->witness, j->id, j->commits(j));

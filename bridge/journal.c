@@ -35,7 +35,7 @@ void journal_make_id(char *id)
    zero stood as they do now. */
 enum { EARLIER_HIGHEST = 8, EARLIER_NUMBER = 16, EARLIER_RECORD = 24 };
 
-#define OWN_VERSION 1 /* of the bridge's records: it forwards nothing, so nobody compares it */
+#define OWN_VERSION 1 /* of the records of dialogues: they forward nothing, so nobody compares it */
 
 static uint32_t sum_with(unsigned dialogue, const struct kept *k, const uint8_t *record, size_t bytes)
 {
@@ -43,7 +43,27 @@ static uint32_t sum_with(unsigned dialogue, const struct kept *k, const uint8_t 
     sum = checksum(sum, record, bytes);
     sum = checksum(sum, &k->run, sizeof k->run);
     sum = checksum(sum, &k->deliveries, sizeof k->deliveries);
-    return checksum(sum, &k->floor, sizeof k->floor);
+    sum = checksum(sum, &k->floor, sizeof k->floor);
+    return checksum(sum, k->book, journal_book_bytes(k));
+}
+
+static int is_empty(const uint8_t *book)
+{
+    size_t i;
+    for (i = 0; i < PEAT_BOOK_BYTES && book[i] == 0; i++) {}
+    return i == PEAT_BOOK_BYTES;
+}
+
+size_t journal_book_bytes(const struct kept *k) { return is_empty(k->book) ? 0 : PEAT_BOOK_BYTES; }
+
+void journal_take_book(struct kept *k, const uint8_t *book, size_t bytes)
+{
+    memset(k->book, 0, sizeof k->book);
+    if (bytes != 0 && bytes != sizeof k->book)
+        log_and_exit(EXIT_JOURNAL, "journal", "load", "a dialogue has no book of message numbers");
+    memcpy(k->book, book, bytes);
+    if (peat_refusal(peat_book_count(k->book, sizeof k->book)) != PEAT_TAKEN)
+        log_and_exit(EXIT_JOURNAL, "journal", "load", "a dialogue's book is damaged");
 }
 
 uint32_t journal_sum(unsigned dialogue, const struct kept *k) { return sum_with(dialogue, k, k->record, sizeof k->record); }
@@ -73,5 +93,13 @@ struct kept journal_fresh(void)
     struct kept k;
     memset(&k, 0, sizeof k);
     peat_fresh(k.record, sizeof k.record, PEAT_GROUND, PEAT_NO_SECURITY, PEAT_FORWARDS_NOT, OWN_VERSION);
+    return k;
+}
+
+struct kept journal_fresh_place(const struct config *c, unsigned place)
+{
+    struct kept k = journal_fresh();
+    if (place_is_link(place))
+        peat_fresh(k.record, sizeof k.record, PEAT_GROUND, PEAT_NO_SECURITY, c->forwards ? PEAT_FORWARDS : PEAT_FORWARDS_NOT, c->forward_version);
     return k;
 }

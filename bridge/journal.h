@@ -26,6 +26,7 @@ struct kept {
     uint64_t run;        /* the starts so far: the number of the dialogue that is open, or was last */
     uint64_t deliveries; /* the messages that came down in all of them */
     uint64_t floor;      /* no job up to here is taken unless it was decided before */
+    uint8_t book[PEAT_BOOK_BYTES]; /* the message identification numbers that are open in the dialogue, and their jobs */
 };
 
 /* Jobs first to last, one behind the other, were decided alike in one run. Ranges never overlap. */
@@ -47,6 +48,7 @@ struct letter {
     unsigned dialogue;
     const char *type;   /* delivered, refused, ended, broken, dead */
     const char *reason; /* of a dead one; else empty */
+    const char *heads;  /* headers (heads.h); empty: none */
     uint64_t since;     /* wall clock, ms */
     const uint8_t *body;
     size_t bytes;
@@ -138,6 +140,11 @@ void journal_make_id(char *id);
 /* The sum that is stored with a dialogue: the card can not see damage of a record, so the journal must. */
 uint32_t journal_sum(unsigned dialogue, const struct kept *);
 
+/* The book as it is stored: an empty one, as every dialogue of a journal up to 0.11.0 has, is no bytes. How many they are. */
+size_t journal_book_bytes(const struct kept *);
+/* Takes the book that a store read: PEAT_BOOK_BYTES bytes, or none. Other bytes end the process. */
+void journal_take_book(struct kept *, const uint8_t *book, size_t bytes);
+
 /* Takes the record of a dialogue that a store read, when the rest of it is in kept already. One of version 0.3.0 ends before the dialogue number,
    and gets 0: no start had a number then, and the next one's is above it. It and one of 0.4.0 have no version, and get the bridge's; neither forwards.
    Another size, or another sum than the stored one, ends the process. */
@@ -145,5 +152,7 @@ void journal_take_record(unsigned dialogue, struct kept *, const uint8_t *record
 
 /* A dialogue that never was: what `init` keeps. */
 struct kept journal_fresh(void);
+/* The same of any place; a centre that is new to the configuration gets its two when the journal is opened. */
+struct kept journal_fresh_place(const struct config *, unsigned place);
 
 #endif

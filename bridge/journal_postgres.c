@@ -32,6 +32,7 @@ static void load_letters(struct store *s, unsigned dialogue)
         l.reason = pg_text_at(s->pg, i, 3);
         l.since = pg_number_at(s->pg, i, 4);
         l.body = pg_bytes_at(s->pg, i, 5, &l.bytes);
+        l.heads = pg_text_at(s->pg, i, 6);
         letters_add(&s->letters, &l);
     }
 }
@@ -45,16 +46,18 @@ static uint64_t load_top(struct store *s, unsigned dialogue)
 static void load(struct journal *j, unsigned dialogue, struct kept *k)
 {
     struct store *s = store_of(j);
-    const uint8_t *record;
+    const uint8_t *record, *book;
     size_t bytes;
     postgres_renew(j); /* there may be many to load */
     pg_number(s->pg, dialogue);
     if (pg_ask(s->pg, LOAD) != 1)
         log_and_exit(EXIT_JOURNAL, "journal", "load", "a dialogue has no record");
-    record = pg_bytes_at(s->pg, 0, 0, &bytes);
     k->run = pg_number_at(s->pg, 0, 1);
     k->deliveries = pg_number_at(s->pg, 0, 2);
     k->floor = pg_job_at(s->pg, 0, 3);
+    book = pg_bytes_at(s->pg, 0, 5, &bytes);
+    journal_take_book(k, book, bytes);
+    record = pg_bytes_at(s->pg, 0, 0, &bytes);
     journal_take_record(dialogue, k, record, bytes, (uint32_t)pg_number_at(s->pg, 0, 4));
     s->hold[dialogue].top = load_top(s, dialogue);
     letters_forget(&s->letters, dialogue);
@@ -161,6 +164,7 @@ static void letter_parameters(struct pg *pg, const struct letter *l)
     pg_text(pg, l->reason);
     pg_number(pg, l->since);
     pg_bytes(pg, l->body, l->bytes);
+    pg_text(pg, l->heads);
 }
 
 static void post(struct journal *j, const struct letter *l)
@@ -282,7 +286,7 @@ static void close_store(struct journal *j)
 {
     struct store *s = store_of(j);
     if (s->making)
-        pg_say(s->pg, "UPDATE journal SET version = 1"); /* its witness is written: it is whole */
+        pg_say(s->pg, "UPDATE journal SET version = 2"); /* its witness is written: it is whole */
     postgres_renew_now(s); /* where the log stands now, for the witness; and a last look at the leases */
     pg_text(s->pg, s->owner);
     pg_ask(s->pg, LEAVE);
@@ -407,6 +411,10 @@ void journal_open_postgres(struct journal *j, const struct config *c, enum journ
         postgres_make(j, (unsigned)c->dialogues, version);
     else if (!postgres_is_there(s->pg))
         postgres_refuse("journal", "it is not there: `init` makes one, where no job was ever taken");
+    else
+        postgres_add(s->pg);
+    if (how == JOURNAL_RUN && c->centres > 0)
+        postgres_add_places(s, DIALOGUES_MOST);
     postgres_prepare(s->pg);
     take_front(j, (unsigned)c->dialogues, version);
     find_position(s);

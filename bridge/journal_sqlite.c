@@ -17,7 +17,8 @@
 #include "log.h"
 #include "witness.h"
 
-#define VERSION 1
+#define VERSION 2 /* 1, up to 0.11.0: without books and headers. It is made 2 when it is opened */
+#define EARLIER 1
 #define MAKING 1000 /* the version of a journal whose `init` has not come to its end: it makes it anew */
 #define MOVED 1001  /* the version of a journal that was moved to a database */
 #define SYNCHRONOUS "2" /* FULL: each commit is synced. NORMAL (1) forgets commits at a power cut. */
@@ -25,14 +26,14 @@
 enum statement { KEEP, LOAD, DECIDE, FIND, OF_RUN, POST, NEXT, SETTLE, WAITING, COUNT, BEGIN, COMMIT, STATEMENTS };
 
 static const char *const texts[STATEMENTS] = {
-    [KEEP] = "INSERT OR REPLACE INTO dialogue(dialogue, record, run, deliveries, floor, sum) VALUES(?, ?, ?, ?, ?, ?)",
-    [LOAD] = "SELECT record, run, deliveries, floor, sum FROM dialogue WHERE dialogue = ?",
+    [KEEP] = "INSERT OR REPLACE INTO dialogue(dialogue, record, run, deliveries, floor, sum, book) VALUES(?, ?, ?, ?, ?, ?, ?)",
+    [LOAD] = "SELECT record, run, deliveries, floor, sum, book FROM dialogue WHERE dialogue = ?",
     [DECIDE] = "INSERT INTO decision(dialogue, first, last, outcome, run) VALUES(?, ?, ?, ?, ?)"
                " ON CONFLICT(dialogue, first) DO UPDATE SET last = excluded.last",
     [FIND] = "SELECT first, last, outcome, run FROM decision WHERE dialogue = ? AND first <= ? ORDER BY first DESC LIMIT 1",
     [OF_RUN] = "SELECT first, last, outcome, run FROM decision WHERE dialogue = ? AND run = ? ORDER BY first",
-    [POST] = "INSERT INTO outbox(journal, dialogue, type, reason, since, body) VALUES(?, ?, ?, ?, ?, ?)",
-    [NEXT] = "SELECT id, journal, dialogue, type, reason, since, body FROM outbox WHERE id > ? ORDER BY id LIMIT 1",
+    [POST] = "INSERT INTO outbox(journal, dialogue, type, reason, since, body, heads) VALUES(?, ?, ?, ?, ?, ?, ?)",
+    [NEXT] = "SELECT id, journal, dialogue, type, reason, since, body, heads FROM outbox WHERE id > ? ORDER BY id LIMIT 1",
     [SETTLE] = "DELETE FROM outbox WHERE id = ?",
     [WAITING] = "SELECT since FROM outbox ORDER BY id LIMIT 1",
     [COUNT] = "UPDATE journal SET commits = ?",
@@ -40,20 +41,31 @@ static const char *const texts[STATEMENTS] = {
     [COMMIT] = "COMMIT",
 };
 
+#define BOOK "book BLOB NOT NULL DEFAULT x''"
+#define HEADS "heads TEXT NOT NULL DEFAULT ''"
+
 static const char schema[] =
     "CREATE TABLE journal(one INTEGER PRIMARY KEY CHECK(one = 1), version INTEGER NOT NULL, id TEXT NOT NULL,"
     " dialogues INTEGER NOT NULL, commits INTEGER NOT NULL);"
     "CREATE TABLE dialogue(dialogue INTEGER PRIMARY KEY, record BLOB NOT NULL, run INTEGER NOT NULL, deliveries INTEGER NOT NULL,"
-    " floor BLOB NOT NULL, sum INTEGER NOT NULL);"
+    " floor BLOB NOT NULL, sum INTEGER NOT NULL, " BOOK ");"
     "CREATE TABLE decision(dialogue INTEGER NOT NULL, first BLOB NOT NULL, last BLOB NOT NULL, outcome INTEGER NOT NULL,"
     " run INTEGER NOT NULL, PRIMARY KEY(dialogue, first)) WITHOUT ROWID;"
     "CREATE TABLE outbox(id INTEGER PRIMARY KEY AUTOINCREMENT, journal TEXT NOT NULL, dialogue INTEGER NOT NULL, type TEXT NOT NULL,"
-    " reason TEXT NOT NULL, since INTEGER NOT NULL, body BLOB NOT NULL);";
+    " reason TEXT NOT NULL, since INTEGER NOT NULL, body BLOB NOT NULL, " HEADS ");";
+
+/* What a journal up to 0.11.0 has not. */
+static const char additions[] =
+    "BEGIN IMMEDIATE;"
+    "ALTER TABLE dialogue ADD COLUMN " BOOK ";"
+    "ALTER TABLE outbox ADD COLUMN " HEADS ";"
+    "UPDATE journal SET version = 2 WHERE version = 1;"
+    "COMMIT";
 
 struct store {
     sqlite3 *db;
     sqlite3_stmt *statement[STATEMENTS];
-    unsigned dialogues;
+    const struct config *config;
     int taken;        /* by this process */
     int making;       /* by `init`: it is whole when it is closed */
     int open;         /* a transaction is under way */
@@ -165,9 +177,10 @@ static uint64_t column_number(struct store *s, sqlite3_stmt *q, int at)
 static unsigned take(struct journal *j, struct taken *to)
 {
     struct store *s = store_of(j);
-    unsigned d, n = s->taken ? 0 : s->dialogues;
-    for (d = 0; d < n; d++)
-        to[d] = (struct taken){d, 1, ""};
+    unsigned d, n = 0;
+    for (d = 0; d < PLACES_MOST && !s->taken; d++)
+        if (config_has_place(s->config, d))
+            to[n++] = (struct taken){d, 1, ""};
     s->taken = 1;
     return n;
 }
@@ -187,7 +200,7 @@ static void load(struct journal *j, unsigned dialogue, struct kept *k)
 {
     struct store *s = store_of(j);
     sqlite3_stmt *q = ready(s, LOAD);
-    const uint8_t *record;
+    const uint8_t *record, *book;
     size_t bytes;
     bind_integer(s, q, 1, dialogue);
     if (!step(s, LOAD))
@@ -195,6 +208,8 @@ static void load(struct journal *j, unsigned dialogue, struct kept *k)
     k->run = (uint64_t)sqlite3_column_int64(q, 1);
     k->deliveries = (uint64_t)sqlite3_column_int64(q, 2);
     k->floor = column_number(s, q, 3);
+    book = column_bytes(s, q, 5, &bytes);
+    journal_take_book(k, book, bytes);
     record = column_bytes(s, q, 0, &bytes);
     journal_take_record(dialogue, k, record, bytes, (uint32_t)sqlite3_column_int64(q, 4));
     sqlite3_reset(q);
@@ -211,6 +226,7 @@ static void keep(struct journal *j, unsigned dialogue, const struct kept *k)
     bind_integer(s, q, 4, k->deliveries);
     bind_number(s, q, 5, k->floor);
     bind_integer(s, q, 6, journal_sum(dialogue, k));
+    bind_bytes(s, q, 7, k->book, journal_book_bytes(k));
     step(s, KEEP);
 }
 
@@ -277,6 +293,7 @@ static void post(struct journal *j, const struct letter *l)
     bind_text(s, q, 4, l->reason);
     bind_integer(s, q, 5, l->since);
     bind_bytes(s, q, 6, l->body, l->bytes);
+    bind_text(s, q, 7, l->heads);
     step(s, POST);
     s->letters++;
 }
@@ -295,6 +312,7 @@ static int next(struct journal *j, uint64_t behind, struct letter *l)
     l->reason = column_text(s, q, 4);
     l->since = (uint64_t)sqlite3_column_int64(q, 5);
     l->body = column_bytes(s, q, 6, &l->bytes);
+    l->heads = column_text(s, q, 7);
     return 1; /* the row stays open, and with it the texts and the body */
 }
 
@@ -457,12 +475,25 @@ static void make_tables(struct journal *j, unsigned dialogues)
     s->making = 1;
 }
 
-static void make_records(struct journal *j, unsigned dialogues)
+static int has_record(struct store *s, unsigned place)
 {
-    struct kept k = journal_fresh();
+    sqlite3_stmt *q = ready(s, LOAD);
+    int has;
+    bind_integer(s, q, 1, place);
+    has = step(s, LOAD);
+    sqlite3_reset(q);
+    return has;
+}
+
+/* A place that has no record never was. */
+static void make_records(struct journal *j, const struct config *c, unsigned first)
+{
     unsigned d;
-    for (d = 0; d < dialogues; d++)
-        keep(j, d, &k);
+    for (d = first; d < PLACES_MOST; d++)
+        if (config_has_place(c, d) && !has_record(store_of(j), d)) {
+            struct kept k = journal_fresh_place(c, d);
+            keep(j, d, &k);
+        }
     commit(j);
 }
 
@@ -496,8 +527,11 @@ static void check_version(struct store *s, enum journal_open how)
         log_and_exit(EXIT_REFUSED, "journal", "its `init` was broken off", "run `bridge init` again");
     if (version == MOVED && how != JOURNAL_MOVE)
         log_and_exit(EXIT_REFUSED, "journal", "it was moved to a database", "a bridge that ran on it would take jobs again");
-    if (version != VERSION && version != MOVED)
+    if (version != VERSION && version != EARLIER && version != MOVED)
         log_and_exit(EXIT_JOURNAL, "journal", "the journal has another version", answer);
+    ask(s, "SELECT name FROM pragma_table_info('dialogue') WHERE name = 'book'", answer, sizeof answer);
+    if (answer[0] == '\0')
+        execute(s, additions); /* in one commit */
 }
 
 void journal_mark_moved(struct journal *j) { set_version(store_of(j), MOVED); }
@@ -558,19 +592,19 @@ void journal_open_sqlite(struct journal *j, const struct config *c, enum journal
     open_file(s, c->journal, how);
     *j = face;
     j->store = s;
-    s->dialogues = (unsigned)c->dialogues;
+    s->config = c;
     sqlite3_busy_timeout(s->db, 500);
     make_durable(s);
     if (how == JOURNAL_INIT) {
         refuse_journal(s, c->journal);
-        make_tables(j, s->dialogues);
+        make_tables(j, (unsigned)c->dialogues);
     } else {
         check_version(s, how);
     }
     prepare(s);
-    take_front(j, s->dialogues);
+    take_front(j, (unsigned)c->dialogues);
+    make_records(j, c, how == JOURNAL_INIT ? 0 : DIALOGUES_MOST);
     if (how == JOURNAL_INIT) {
-        make_records(j, s->dialogues);
         if (!folder_sync(c->journal))
             log_and_exit(EXIT_JOURNAL, "journal", c->journal, "its folder can not be synced");
     }

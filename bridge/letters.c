@@ -9,8 +9,8 @@
 /* A letter's texts and body are one piece of memory, the body first. */
 static void copy_into(struct letter *to, const struct letter *from)
 {
-    size_t type = strlen(from->type) + 1, reason = strlen(from->reason) + 1, journal = strlen(from->journal) + 1;
-    char *piece = malloc(from->bytes + type + reason + journal);
+    size_t type = strlen(from->type) + 1, reason = strlen(from->reason) + 1, journal = strlen(from->journal) + 1, heads = strlen(from->heads) + 1;
+    char *piece = malloc(from->bytes + type + reason + journal + heads);
     if (piece == NULL)
         log_and_exit(EXIT_MEMORY, "memory", "a letter does not fit", "out of memory");
     *to = *from;
@@ -19,6 +19,7 @@ static void copy_into(struct letter *to, const struct letter *from)
     to->type = memcpy(piece + from->bytes, from->type, type);
     to->reason = memcpy(piece + from->bytes + type, from->reason, reason);
     to->journal = memcpy(piece + from->bytes + type + reason, from->journal, journal);
+    to->heads = memcpy(piece + from->bytes + type + reason + journal, from->heads, heads);
 }
 
 static void release(struct letters *l, struct letter *gone)
@@ -100,7 +101,7 @@ void letters_forget(struct letters *l, unsigned dialogue)
 void letters_clear(struct letters *l)
 {
     unsigned d;
-    for (d = 0; d < DIALOGUES_MOST; d++)
+    for (d = 0; d < PLACES_MOST; d++)
         letters_forget(l, d);
     free(l->item);
     memset(l, 0, sizeof *l);

@@ -12,7 +12,7 @@ struct letters {
     struct letter *item; /* by turn, rising; body NULL: it is gone */
     size_t count, room, first; /* those before `first` are gone */
     uint64_t turn;             /* the last one given */
-    uint64_t waiting, of[DIALOGUES_MOST];
+    uint64_t waiting, of[PLACES_MOST];
 };
 
 /* Puts a copy of a letter behind the others. */

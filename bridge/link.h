@@ -23,6 +23,8 @@ struct primitive {
     uint8_t security;
     uint8_t given;     /* enum peat_given */
     uint64_t number;   /* of the dialogue */
+    uint8_t version;   /* of a D-START between centres; PEAT_NO_VERSION: none */
+    char facility[9];  /* who sent it, between centres: its designation; else empty */
     uint8_t data[PEAT_BUFFER_LEAST];
     size_t bytes;      /* of data */
 };
@@ -35,20 +37,26 @@ enum link_answer {
 
 struct link {
     void *wires;
-    /* connects to the aircraft of a dialogue; LINK_BROKEN: there is none now */
+    /* Connects a place (config.h): to the aircraft of a dialogue, or to another centre; LINK_BROKEN: there is none now. Where another centre connects,
+       its connection is taken; LINK_LATER: none is there, and the descriptor tells when one is. */
     enum link_answer (*open)(struct link *, unsigned dialogue);
     enum link_answer (*send)(struct link *, unsigned dialogue, const struct primitive *);
     enum link_answer (*receive)(struct link *, unsigned dialogue, struct primitive *);
     void (*close)(struct link *, unsigned dialogue);
+    /* closes it, and takes no connection any more */
+    void (*leave)(struct link *, unsigned place);
+    /* 1: it is connected */
+    int (*connected)(struct link *, unsigned place);
     /* for poll; -1: not connected */
     int (*descriptor)(struct link *, unsigned dialogue);
     /* closes every connection and gives the memory back */
     void (*end)(struct link *);
 };
 
-/* ---- local packet sockets: path has {} where the number of the dialogue goes */
+/* ---- local packet sockets: a path has {} where the number of the dialogue, or of the centre, goes */
 
-void link_open_packet(struct link *, const char *path);
+struct config;
+void link_open_packet(struct link *, const struct config *);
 
 /* A socket of this kind, not connected, and the address of a dialogue's aircraft; -1: there is none. */
 struct sockaddr_un;
@@ -59,8 +67,14 @@ int packet_socket(const char *path, unsigned dialogue, struct sockaddr_un *addre
 enum link_answer packet_send(int socket, const struct primitive *);
 enum link_answer packet_receive(int socket, struct primitive *);
 
+/* Between centres: behind the number the version in a byte, and the sender's designation in eight, filled up with zeros. */
+enum link_answer packet_send_centre(int socket, const struct primitive *);
+enum link_answer packet_receive_centre(int socket, struct primitive *);
+
 /* ---- what a primitive that arrives tells a record: the answer of the card's call */
 
 uint64_t primitive_arrives(const struct primitive *, uint8_t *record, uint8_t *first, uint8_t *second);
+/* from another centre */
+uint64_t primitive_arrives_centre(const struct primitive *, uint8_t *record, uint8_t *first, uint8_t *second);
 
 #endif

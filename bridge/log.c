@@ -14,6 +14,15 @@ static enum log_level least = LOG_INFO;
 
 void log_from(enum log_level level) { least = level; }
 
+static void (*tapped)(void *, const char *, size_t);
+static void *tapped_with;
+
+void log_tap(void (*tap)(void *, const char *, size_t), void *with)
+{
+    tapped = tap;
+    tapped_with = with;
+}
+
 /* A line under way. What does not fit is cut; a line always ends as JSON. */
 struct line {
     char text[1024];
@@ -109,12 +118,9 @@ void log_fields(enum log_level level, const char *event, const struct log_field 
 {
     static const char *const names[] = {"fine", "info", "warn", "fail"};
     struct line l = {{0}, 0};
-    if (level < least)
+    int taps = tapped != NULL && level >= LOG_INFO;
+    if (level < least && !taps)
         return;
-    if (!is_taken(level == LOG_FAIL ? LAST_LINE_MS : 0)) {
-        lost++;
-        return;
-    }
     put_plain(&l, "{\"time\":");
     put_time(&l);
     put_plain(&l, ",\"level\":");
@@ -123,6 +129,16 @@ void log_fields(enum log_level level, const char *event, const struct log_field 
     put_string(&l, event);
     for (; fields->name != NULL && l.used < sizeof l.text - 128; fields++)
         put_field(&l, fields);
+    if (taps) {
+        l.text[l.used] = '}';
+        tapped(tapped_with, l.text, l.used + 1);
+    }
+    if (level < least)
+        return;
+    if (!is_taken(level == LOG_FAIL ? LAST_LINE_MS : 0)) {
+        lost++;
+        return;
+    }
     if (lost > 0 && l.used < sizeof l.text - 64)
         put_field(&l, &(struct log_field)NUMBER("lost", lost));
     l.text[l.used++] = '}';

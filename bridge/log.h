@@ -7,6 +7,7 @@
 #ifndef LOG_H
 #define LOG_H
 
+#include <stddef.h>
 #include <stdint.h>
 
 enum log_level { LOG_FINE, LOG_INFO, LOG_WARN, LOG_FAIL };
@@ -23,6 +24,9 @@ struct log_field {
 
 /* Lines below this level are not written. At first: LOG_INFO. */
 void log_from(enum log_level least);
+
+/* Lines of LOG_INFO and above are also handed to `tap`, without their end, whether anybody takes them on standard error or not. NULL: no more. */
+void log_tap(void (*tap)(void *with, const char *line, size_t bytes), void *with);
 
 void log_fields(enum log_level level, const char *event, const struct log_field *fields);
 

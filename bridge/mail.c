@@ -18,10 +18,10 @@ void mail_begin(struct mail *m, const uint8_t *payload, size_t bytes)
 }
 
 /* The envelope that an answer says was finished. */
-static void open_envelope(const struct mail *m, uint64_t answer, struct envelope *e)
+static void open_envelope(const struct mail *m, uint64_t answer, const uint8_t *job, struct envelope *e)
 {
     e->kind = peat_envelope_kind(answer);
-    e->job = peat_mail_job(m->record);
+    e->job = peat_job_number(job);
     e->bits = peat_envelope_bits(answer);
     e->body = peat_mail_body(m->record, answer);
 }
@@ -29,13 +29,14 @@ static void open_envelope(const struct mail *m, uint64_t answer, struct envelope
 unsigned mail_take(struct mail *m, struct envelope *e)
 {
     while (mail_waits(m)) {
-        uint64_t answer = peat_mail_take(m->record, sizeof m->record, m->payload + m->at, m->bytes - m->at);
+        uint8_t job[PEAT_JOB_BYTES] = {0};
+        uint64_t answer = peat_mail_take(m->record, sizeof m->record, m->payload + m->at, m->bytes - m->at, job, sizeof job);
         must("peat_mail_take", peat_refusal(answer) != PEAT_SHAPE);
         if (peat_refusal(answer) != PEAT_TAKEN)
             return peat_refusal(answer);
         m->at += peat_mail_taken(answer);
         if (peat_envelope_kind(answer) != 0) {
-            open_envelope(m, answer, e);
+            open_envelope(m, answer, job, e);
             return PEAT_TAKEN;
         }
     }

@@ -36,16 +36,31 @@ void mailbox_close(struct mailbox *m)
     pthread_mutex_destroy(&m->lock);
 }
 
-struct parcel *parcel_make(int what, size_t bytes)
+static struct parcel *make(int what, size_t bytes, size_t heads)
 {
-    struct parcel *p = malloc(sizeof *p + bytes);
+    struct parcel *p = malloc(sizeof *p + bytes + heads);
     if (p == NULL)
         log_and_exit(EXIT_MEMORY, "memory", "a parcel does not fit", "out of memory");
     memset(p, 0, sizeof *p);
     p->what = what;
     p->bytes = bytes;
+    p->heads = heads;
     return p;
 }
+
+struct parcel *parcel_make(int what, size_t bytes) { return make(what, bytes, 0); }
+
+struct parcel *parcel_with_heads(int what, size_t bytes, const char *heads)
+{
+    size_t n = strlen(heads) + 1;
+    struct parcel *p = make(what, bytes, n);
+    memcpy(p->byte + bytes, heads, n);
+    return p;
+}
+
+const char *parcel_heads(const struct parcel *p) { return p->heads > 0 ? (const char *)p->byte + p->bytes : ""; }
+
+static size_t size_of(const struct parcel *p) { return sizeof *p + p->bytes + p->heads; }
 
 /* The bell has one byte while a parcel waits. A pipe that is full or empty already is as it should be. */
 static void ring(struct mailbox *m)
@@ -72,7 +87,7 @@ void mailbox_put(struct mailbox *m, struct parcel *p)
     else
         m->last->behind = p;
     m->last = p;
-    m->bytes += sizeof *p + p->bytes;
+    m->bytes += size_of(p);
     if (first)
         ring(m);
     pthread_mutex_unlock(&m->lock);
@@ -85,7 +100,7 @@ struct parcel *mailbox_take(struct mailbox *m)
     p = m->first;
     if (p != NULL) {
         m->first = p->behind;
-        m->bytes -= sizeof *p + p->bytes;
+        m->bytes -= size_of(p);
         if (m->first == NULL)
             hush(m);
     }

@@ -21,6 +21,7 @@ struct parcel {
     uint64_t since;
     size_t length;       /* of the payload, which may be longer than what is here of it */
     size_t bytes;
+    size_t heads;        /* bytes behind those: the headers' text with its zero; 0: there are none */
     uint8_t byte[];      /* a payload, a letter's body, or a text with its zero */
 };
 
@@ -37,6 +38,9 @@ void mailbox_close(struct mailbox *);
 
 /* A parcel with room for so many bytes, all else zero. Ends the process where there is no memory. */
 struct parcel *parcel_make(int what, size_t bytes);
+/* The same, with headers (heads.h). */
+struct parcel *parcel_with_heads(int what, size_t bytes, const char *heads);
+const char *parcel_heads(const struct parcel *);
 
 /* Puts a parcel, which is the mailbox's from now on. */
 void mailbox_put(struct mailbox *, struct parcel *);

@@ -26,7 +26,7 @@ static void on_stop(int signal)
 static const char help[] =
     "bridge CONFIG                     runs\n"
     "bridge --standby CONFIG           runs, and takes dialogues whose bridge is gone (with a database)\n"
-    "bridge check CONFIG               reads the configuration, looks at every file and folder that it names, and says what it found\n"
+    "bridge check CONFIG               reads the configuration, opens every file, certificate and folder that it names, and says what it found\n"
     "bridge init CONFIG                makes the journal and this host's witness, where no job was ever taken\n"
     "bridge join CONFIG                makes the witness of one more host of a journal that is in a database\n"
     "bridge floor JOB CONFIG [NUMBER]  raises the floor of all dialogues, or of one: no job up to JOB is taken from now on\n"
@@ -113,7 +113,7 @@ static int raise_floor(struct config *c, char **words)
     uint64_t floor, one = ALL_DIALOGUES;
     if (!config_number(job, &floor) || floor == UINT64_MAX)
         return usage(job, "a job is a number below 18446744073709551615; a floor is never lowered");
-    if (dialogue != NULL && (!config_number(dialogue, &one) || one >= c->dialogues))
+    if (dialogue != NULL && (!config_number(dialogue, &one) || one >= PLACES_MOST || !config_has_place(c, (unsigned)one)))
         return usage(dialogue, "there is no dialogue with this number");
     c->share = c->dialogues; /* a command takes all, or nothing */
     journal_open(&j, c, JOURNAL_RUN);
@@ -127,7 +127,7 @@ static int lower_number(struct config *c, char **words)
 {
     struct journal j;
     uint64_t dialogue;
-    if (!config_number(words[2], &dialogue) || dialogue >= c->dialogues)
+    if (!config_number(words[2], &dialogue) || dialogue >= PLACES_MOST || !config_has_place(c, (unsigned)dialogue))
         return usage(words[2], "there is no dialogue with this number");
     c->share = c->dialogues; /* a command takes all, or nothing */
     journal_open(&j, c, JOURNAL_RUN);
@@ -179,19 +179,21 @@ static int run(struct config *c, char **words)
     struct journal j;
     struct broker broker;
     struct link link;
-    struct page page;
+    struct page *page;
+    const char *why;
     (void)words;
     hear_signals();
     if (files_look_broker(c, log_found, NULL) > 0)
         log_and_exit(EXIT_USAGE, "configuration", c->broker, "what the connection to the broker needs can not be read; `bridge check` says what");
     if (!broker_open_rabbit(&broker, c))
         log_and_exit(EXIT_USAGE, "broker", c->broker, broker.why);
-    if (!page_open(&page, (unsigned)c->metrics_port))
-        log_and_exit(EXIT_USAGE, "metrics", "metrics_port", "the port can not be had");
-    link_open_packet(&link, c->link);
+    page = page_open(c, &why);
+    if (why != NULL)
+        log_and_exit(EXIT_USAGE, "page", c->page_address, why);
+    link_open_packet(&link, c);
     journal_open(&j, c, JOURNAL_RUN);
     witness_admit(c->witness, &j);
-    bridge_begin(&b, c, &j, &broker, &link, &page);
+    bridge_begin(&b, c, &j, &broker, &link, page);
     bridge_run(&b, &stop);
     return EXIT_STOPPED;
 }

@@ -3,6 +3,8 @@
 #include <stdarg.h>
 #include <stdio.h>
 
+#include "peatribbon.h"
+
 /* the upper ends of the ranges in which commits are counted, in microseconds; the last range has none */
 static const uint64_t upper[LATENCIES] = {250, 500, 1000, 2500, 5000, 10000, 25000, 100000, 500000, 2000000};
 
@@ -113,6 +115,38 @@ static void troubles(struct text *t, const struct metrics *m)
     one(t, "primitives_unexpected_total", COUNTER, "Primitives that an aircraft may not send: starts, and numbers that were never given.", m->unexpected);
 }
 
+/* The book of each dialogue, and who started it. */
+static void numbers(struct text *t, const struct metrics *m)
+{
+    unsigned d;
+    line(t, "# HELP peat_numbers_open Message identification numbers open in the book of a dialogue, of 64.\n# TYPE peat_numbers_open gauge\n");
+    for (d = 0; d < DIALOGUES_MOST; d++)
+        if (m->numbers_open[d] > 0)
+            line(t, "peat_numbers_open{dialogue=\"%02u\"} %u\n", d, m->numbers_open[d]);
+    line(t, "# HELP peat_number_awaited 1 where all numbers are open, and a job waits for one.\n# TYPE peat_number_awaited gauge\n");
+    for (d = 0; d < DIALOGUES_MOST; d++)
+        if (m->number_awaited[d])
+            line(t, "peat_number_awaited{dialogue=\"%02u\"} 1\n", d);
+    one(t, "numbers_closed_total", COUNTER, "Numbers closed by a reply or by a position's word.", m->numbers_closed);
+    one(t, "starts_accepted_total", COUNTER, "Starts of aircraft that were accepted.", m->starts_accepted);
+    one(t, "starts_rejected_total", COUNTER, "Starts of aircraft that were rejected.", m->starts_rejected);
+}
+
+static void forwards(struct text *t, const struct metrics *m)
+{
+    unsigned i;
+    one(t, "forwards_sent_total", COUNTER, "Forwards to other centres that were sent.", m->forwards_sent);
+    line(t, "# HELP peat_forwards_answered_total Forwards that were answered, by the answer.\n# TYPE peat_forwards_answered_total counter\n");
+    for (i = 0; i < sizeof m->forwards_answered / sizeof *m->forwards_answered; i++)
+        line(t, "peat_forwards_answered_total{result=\"%s\"} %llu\n", peat_forward_result_name(i), (unsigned long long)m->forwards_answered[i]);
+    one(t, "forwards_broken_total", COUNTER, "Forwards of which nobody knows whether they arrived.", m->forwards_broken);
+    one(t, "forwards_received_total", COUNTER, "Forwards that other centres sent.", m->forwards_received);
+    line(t, "# HELP peat_centre_up 1 while the link to a centre is up.\n# TYPE peat_centre_up gauge\n");
+    for (i = 0; i < CENTRES_MOST; i++)
+        if (m->centre[i] > 0)
+            line(t, "peat_centre_up{centre=\"%u\"} %u\n", i, m->centre[i] == 2);
+}
+
 static void commits(struct text *t, const struct metrics *m)
 {
     uint64_t so_far = 0;
@@ -134,6 +168,8 @@ size_t metrics_text(const struct metrics *m, char *text, size_t room)
     owners(&t, m);
     outbox(&t, m);
     troubles(&t, m);
+    numbers(&t, m);
+    forwards(&t, m);
     commits(&t, m);
     return t.used;
 }

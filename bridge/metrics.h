@@ -1,5 +1,5 @@
 /*
- * What the bridge counts, and the page that shows it (Prometheus text, on a port of the loopback address).
+ * What the bridge counts, and its text for Prometheus. The page shows it (page.h).
  */
 #ifndef METRICS_H
 #define METRICS_H
@@ -27,34 +27,19 @@ struct metrics {
     /* as it is now */
     uint64_t queues, unread, blocked, letters_held, broker_waits_ms;
     uint8_t queue_away[DIALOGUES_MOST];
+    /* message identification numbers, by dialogue as they are now: how many are open, and whether a job waits for one; closed so far */
+    uint8_t numbers_open[DIALOGUES_MOST], number_awaited[DIALOGUES_MOST];
+    uint64_t numbers_closed;
+    /* starts of aircraft; forwards, by their answers (enum peat_forward_result); links to other centres: 0 there is none, 1 it is down, 2 up */
+    uint64_t starts_accepted, starts_rejected;
+    uint64_t forwards_sent, forwards_answered[3], forwards_broken, forwards_received;
+    uint8_t centre[CENTRES_MOST];
 };
 
 /* A commit took so long. */
 void metrics_commit(struct metrics *, uint64_t us);
 
-/* The page; how many bytes it has. */
+/* The text; how many bytes it has. */
 size_t metrics_text(const struct metrics *, char *text, size_t room);
-
-/* ---- the page on the loopback address */
-
-struct pollfd;
-
-#define PAGE_CLIENTS 4
-
-struct page {
-    int listener; /* -1: there is no page */
-    int client[PAGE_CLIENTS];
-    uint64_t until[PAGE_CLIENTS];
-    uint64_t rests_until; /* nobody is let in before */
-};
-
-/* 0: the port can not be had. */
-int page_open(struct page *, unsigned port);
-
-/* What to poll: fills at most 1 + PAGE_CLIENTS places, and says how many. */
-size_t page_polls(const struct page *, struct pollfd *);
-
-/* Takes who came, answers who asked, and drops who waits for too long. Never waits itself. */
-void page_serve(struct page *, const struct metrics *);
 
 #endif

@@ -47,20 +47,21 @@ static unsigned long copy_letters(struct journal *from, struct journal *to)
 
 void journal_move(const struct config *from, const struct config *to)
 {
-    struct taken all[DIALOGUES_MOST];
+    struct taken all[PLACES_MOST];
     struct journal file, database;
     unsigned long decisions = 0, letters;
     unsigned d;
-    if (from->journal[0] == '\0' || to->database[0] == '\0' || from->dialogues != to->dialogues)
-        log_and_exit(EXIT_USAGE, "move", "configuration", "the first names a journal, the second a database, for as many dialogues");
+    if (from->journal[0] == '\0' || to->database[0] == '\0' || from->dialogues != to->dialogues || from->centres != to->centres)
+        log_and_exit(EXIT_USAGE, "move", "configuration", "the first names a journal, the second a database, for as many dialogues and centres");
     journal_open(&file, from, JOURNAL_MOVE);
     witness_admit(from->witness, &file);
     journal_open(&database, to, JOURNAL_MOVE);
-    if (database.take(&database, all) != to->dialogues)
+    if (database.take(&database, all) != config_places(to))
         log_and_exit(EXIT_REFUSED, "move", "database", "a bridge has dialogues of it");
     journal_mark_moved(&file);
-    for (d = 0; d < from->dialogues; d++)
-        decisions += copy_dialogue(&file, &database, d);
+    for (d = 0; d < PLACES_MOST; d++)
+        if (config_has_place(from, d))
+            decisions += copy_dialogue(&file, &database, d);
     letters = copy_letters(&file, &database);
     database.rename(&database); /* which makes it whole */
     database.commit(&database);

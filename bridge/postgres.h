@@ -26,7 +26,7 @@ struct store {
     const struct config *config;
     struct pg *pg;
     char owner[OWNER_TEXT];
-    struct hold hold[DIALOGUES_MOST];
+    struct hold hold[PLACES_MOST];
     unsigned held;
     int making;              /* by `init`: the journal is whole when it is closed */
     int settles_ids;         /* the statement for that is prepared */
@@ -50,7 +50,7 @@ void postgres_refuse(const char *what, const char *why)
 
 /* ---- tables */
 
-#define POSTGRES_VERSION 1
+#define POSTGRES_VERSION 2   /* 1, up to 0.11.0: without books and headers. It is made 2 when it is opened */
 #define POSTGRES_MOVING 0    /* the version of a journal that is being moved here and is not whole yet, */
 #define POSTGRES_MAKING 1000 /* and of one whose `init` has not come to its end */
 
@@ -61,6 +61,10 @@ enum statement { KEEP, FENCE, LOAD, TOP, DECIDE, FIND, OF_RUN, POST, OUTBOX, SET
 #define SETTLE_ID (STATEMENTS + 1)
 #define POSTGRES_EARLIER "CREATE TABLE IF NOT EXISTS earlier(id text PRIMARY KEY);"
 
+/* Gives the tables of a journal up to 0.11.0 what they have not, in one commit. */
+void postgres_add(struct pg *);
+/* Fresh records for the places from this one on that have none: they never were. */
+void postgres_add_places(struct store *, unsigned first);
 void postgres_prepare(struct pg *);
 int postgres_is_there(struct pg *);
 /* Makes the tables, with fresh records, and refuses to where they are; those of a move or an `init` that was broken off make room. */

@@ -18,11 +18,19 @@ void postgres_fenced(const struct store *s)
     log_and_exit(EXIT_FENCED, "fenced", s->owner, "another bridge has taken a dialogue of this one; nothing of the last batch has left");
 }
 
+static int patient(const struct store *s) { return s->config->standby && now_ms() - s->began < s->config->standby_wait; }
+
+/* Links to other centres do not count. */
 static unsigned room_for_free(const struct store *s)
 {
-    int patient = s->config->standby && now_ms() - s->began < s->config->standby_wait;
-    return patient || s->held >= s->config->share ? 0 : (unsigned)s->config->share - s->held;
+    unsigned d, held = 0;
+    for (d = 0; d < DIALOGUES_MOST; d++)
+        held += s->hold[d].lease != 0;
+    return patient(s) || held >= s->config->share ? 0 : (unsigned)s->config->share - held;
 }
+
+/* the places that this bridge's configuration has are below this one */
+static unsigned places_end(const struct store *s) { return DIALOGUES_MOST + 2 * (unsigned)s->config->centres; }
 
 unsigned postgres_take(struct journal *j, struct taken *to)
 {
@@ -39,10 +47,12 @@ unsigned postgres_take(struct journal *j, struct taken *to)
     pg_number(s->pg, s->config->lease);
     pg_number(s->pg, s->config->standby ? s->config->standby_wait : 0);
     pg_number(s->pg, room_for_free(s));
+    pg_number(s->pg, patient(s) ? DIALOGUES_MOST : places_end(s));
+    pg_number(s->pg, places_end(s));
     n = pg_ask(s->pg, TAKE);
     for (i = 0; i < n; i++) {
         unsigned d = (unsigned)pg_number_at(s->pg, i, 0);
-        if (d >= s->config->dialogues)
+        if (d >= PLACES_MOST || !config_has_place(s->config, (unsigned)d))
             log_and_exit(EXIT_JOURNAL, "journal", "take", "a dialogue that there is not");
         to[i].dialogue = d;
         to[i].lease = s->hold[d].lease = pg_number_at(s->pg, i, 1);
@@ -58,7 +68,7 @@ static int note_renewal(struct store *s, int row)
 {
     uint64_t d = pg_number_at(s->pg, row, 0);
     int renewed = pg_number_at(s->pg, row, 1) == 1;
-    if (d >= s->config->dialogues)
+    if (d >= PLACES_MOST || !config_has_place(s->config, (unsigned)d))
         log_and_exit(EXIT_JOURNAL, "journal", "renew", "a dialogue that there is not");
     s->hold[d].unsure = !renewed && pg_number_at(s->pg, row, 2) == 1;
     return renewed;
@@ -100,8 +110,8 @@ void postgres_look_again(void *with)
 static int any_late(struct store *s)
 {
     unsigned d;
-    for (d = 0; d < s->config->dialogues && !postgres_is_late(s, d); d++) {}
-    return d < s->config->dialogues;
+    for (d = 0; d < PLACES_MOST && !postgres_is_late(s, d); d++) {}
+    return d < PLACES_MOST;
 }
 
 void postgres_renew(struct journal *j)
@@ -138,7 +148,7 @@ int postgres_give_back(struct journal *j, unsigned dialogue)
 void postgres_fence(struct store *s)
 {
     unsigned d;
-    for (d = 0; d < s->config->dialogues; d++) {
+    for (d = 0; d < PLACES_MOST; d++) {
         struct hold *h = &s->hold[d];
         if (h->touched && !h->written) {
             postgres_lease(s, d);
@@ -156,7 +166,7 @@ int postgres_is_late(void *with, unsigned dialogue)
 
 static int in_batch(const struct hold *h) { return h->touched || h->written || h->leaves || h->late != 0; }
 
-#define LOCK_TEXT (4 * DIALOGUES_MOST + 3)
+#define LOCK_TEXT (4 * PLACES_MOST + 3)
 
 /* the dialogues of the batch, as an array of the database's */
 static void lock_parameter(struct store *s)
@@ -164,7 +174,7 @@ static void lock_parameter(struct store *s)
     char text[LOCK_TEXT];
     size_t used = 0;
     unsigned d;
-    for (d = 0; d < s->config->dialogues; d++)
+    for (d = 0; d < PLACES_MOST; d++)
         if (in_batch(&s->hold[d]))
             used += (size_t)snprintf(text + used, sizeof text - used, "%s%u", used == 0 ? "{" : ",", d);
     snprintf(text + used, sizeof text - used, "%s", used == 0 ? "{}" : "}");
@@ -187,17 +197,17 @@ static void note_late(struct store *s, unsigned dialogue, int locked)
 
 unsigned postgres_lock(struct store *s)
 {
-    unsigned char locked[DIALOGUES_MOST] = {0};
+    unsigned char locked[PLACES_MOST] = {0};
     unsigned d, late = 0;
     int i, n;
     lock_parameter(s);
     n = pg_begin(s->pg, LOCK);
     for (i = 0; i < n; i++) {
         uint64_t one = pg_number_at(s->pg, i, 0);
-        if (one < DIALOGUES_MOST)
+        if (one < PLACES_MOST)
             locked[one] = 1;
     }
-    for (d = 0; d < s->config->dialogues; d++) {
+    for (d = 0; d < PLACES_MOST; d++) {
         if (in_batch(&s->hold[d]))
             note_late(s, d, locked[d]);
         if (locked[d])
@@ -210,7 +220,7 @@ unsigned postgres_lock(struct store *s)
 void postgres_let_go(struct store *s)
 {
     unsigned d;
-    for (d = 0; d < s->config->dialogues; d++) {
+    for (d = 0; d < PLACES_MOST; d++) {
         struct hold *h = &s->hold[d];
         if (postgres_is_late(s, d))
             continue;

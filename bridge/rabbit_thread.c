@@ -18,12 +18,14 @@
 #include <sys/time.h>
 
 #include "clock.h"
+#include "heads.h"
 #include "rabbit.h"
 
 #define FRAME_MOST 131072
-#define LETTERS 1 /* the channel of letters; that of dialogue d is FIRST_QUEUE + d */
+#define LETTERS 1 /* the channel of letters; that of queue q (config.h) is FIRST_QUEUE + q */
 #define FIRST_QUEUE 2
-#define CHANNELS (FIRST_QUEUE + DIALOGUES_MOST)
+#define CHANNELS (FIRST_QUEUE + QUEUES_MOST)
+#define HEADS_OF_LETTER 16 /* headers, at most */
 #define PERSISTENT 2
 #define OPEN_MS 5000      /* that a connection may take to come about */
 #define ANSWER_MS 5000    /* that an answer of the broker may take */
@@ -313,14 +315,18 @@ static int is_answer(struct thread *t, const amqp_frame_t *f, amqp_method_number
     return f->payload.method.id == answer;
 }
 
-/* Asks the same of every dialogue's channel, and then hears the answers: all of them together cost one round trip. */
+/* Asks the same of every queue's channel, and then hears the answers: all of them together cost one round trip. */
 static int ask_all(struct thread *t, amqp_method_number_t method, void *words, amqp_method_number_t answer, const char *what, uint64_t until)
 {
-    unsigned d, heard = 0;
-    for (d = 0; d < t->config->dialogues; d++)
-        if (!sent(t, amqp_send_method(t->amqp, (amqp_channel_t)(FIRST_QUEUE + d), method, words), what))
+    unsigned q, asked = 0, heard = 0;
+    for (q = 0; q < QUEUES_MOST; q++) {
+        if (!config_has_queue(t->config, q))
+            continue;
+        if (!sent(t, amqp_send_method(t->amqp, (amqp_channel_t)(FIRST_QUEUE + q), method, words), what))
             return 0;
-    while (heard < t->config->dialogues) {
+        asked++;
+    }
+    while (heard < asked) {
         struct timeval wait = milliseconds(ANSWER_MS);
         amqp_frame_t f;
         int is, status;
@@ -342,14 +348,14 @@ static int open_channels(struct thread *t)
     uint64_t until = now_ms() + CONNECT_MS;
     amqp_channel_open_t open = {amqp_empty_bytes};
     amqp_basic_qos_t prefetch = {0, (uint16_t)c->prefetch, 0};
-    unsigned d;
+    unsigned q;
     if (!known(t, c->queue_down) || !known(t, c->queue_dead))
         return 0;
     if (!ask_all(t, AMQP_CHANNEL_OPEN_METHOD, &open, AMQP_CHANNEL_OPEN_OK_METHOD, "channels", until) ||
         !ask_all(t, AMQP_BASIC_QOS_METHOD, &prefetch, AMQP_BASIC_QOS_OK_METHOD, "prefetch", until))
         return 0;
-    for (d = 0; d < c->dialogues; d++)
-        t->channel[FIRST_QUEUE + d] = (struct channel){++t->openings, 0, 0, {NOTHING, NULL, 0, 0, 0}};
+    for (q = 0; q < QUEUES_MOST; q++)
+        t->channel[FIRST_QUEUE + q] = (struct channel){++t->openings, 0, 0, {NOTHING, NULL, 0, 0, 0}};
     amqp_confirm_select(t->amqp, LETTERS);
     return worked(t, "confirmations");
 }
@@ -439,11 +445,11 @@ static void channel_closed(struct thread *t, amqp_channel_t channel, int what)
 static void consume(struct thread *t, unsigned dialogue, int on)
 {
     amqp_channel_t channel = (amqp_channel_t)(FIRST_QUEUE + dialogue);
-    char queue[CONFIG_TEXT + 2], tag[8];
+    char queue[CONFIG_TEXT + 2], tag[16];
     amqp_basic_consume_t begin;
     amqp_basic_cancel_t leave;
     snprintf(tag, sizeof tag, "%u", dialogue);
-    config_name(t->config->queue_up, dialogue, queue, sizeof queue);
+    config_queue(t->config, dialogue, queue, sizeof queue);
     memset(&begin, 0, sizeof begin);
     memset(&leave, 0, sizeof leave);
     begin.queue = amqp_cstring_bytes(queue);
@@ -521,6 +527,25 @@ static void finish_content(struct thread *t, struct content *c)
     *c = (struct content){NOTHING, NULL, 0, 0, 0};
 }
 
+/* Headers that are ours, and are texts. Others would be lost without a word: then none of them is readable. */
+static void take_heads(const amqp_basic_properties_t *p, char *heads, size_t room)
+{
+    int i, n = p->_flags & AMQP_BASIC_HEADERS_FLAG ? p->headers.num_entries : 0;
+    char name[64], value[HEADS_MOST];
+    heads[0] = '\0';
+    for (i = 0; i < n; i++) {
+        const amqp_table_entry_t *e = &p->headers.entries[i];
+        if (e->key.len < 7 || memcmp(e->key.bytes, "x-peat-", 7) != 0)
+            continue;
+        copy_text(e->key, name, sizeof name);
+        copy_text(e->value.kind == AMQP_FIELD_KIND_UTF8 ? e->value.value.bytes : amqp_empty_bytes, value, sizeof value);
+        if (e->value.kind != AMQP_FIELD_KIND_UTF8 || e->value.value.bytes.len != strlen(value) || e->key.len != strlen(name) || !heads_add(heads, room, name, value)) {
+            snprintf(heads, room, HEADS_UNREADABLE);
+            return;
+        }
+    }
+}
+
 /* The second one: how long it is, and of a letter which one. Of a payload that is too long the bridge needs no more than the beginning. */
 static void take_header(struct thread *t, struct content *c, const amqp_frame_t *f)
 {
@@ -528,10 +553,14 @@ static void take_header(struct thread *t, struct content *c, const amqp_frame_t 
     const amqp_basic_properties_t *p = f->payload.properties.decoded;
     c->left = size;
     if (c->what == DELIVERY) {
-        struct parcel *whole = parcel_make(BROKER_DELIVERY, (size_t)here);
-        size_t bytes = whole->bytes;
-        *whole = *c->parcel;
-        whole->bytes = bytes;
+        char heads[HEADS_MOST];
+        struct parcel *whole;
+        take_heads(p, heads, sizeof heads);
+        whole = parcel_with_heads(BROKER_DELIVERY, (size_t)here, heads);
+        whole->connection = c->parcel->connection;
+        whole->dialogue = c->parcel->dialogue;
+        whole->channel = c->parcel->channel;
+        whole->tag = c->parcel->tag;
         whole->length = (size_t)size;
         free(c->parcel);
         c->parcel = whole;
@@ -701,27 +730,45 @@ static void hear(struct thread *t)
 
 /* ---- letters */
 
+/* The headers of a letter, as the library takes them. Their texts stand in the parcel. How many they are. */
+static int give_heads(const struct parcel *l, int dead, amqp_table_entry_t *entries)
+{
+    const char *line = parcel_heads(l);
+    int n = 0;
+    if (dead) {
+        entries[n] = entry("x-peat-reason", AMQP_FIELD_KIND_UTF8);
+        entries[n++].value.value.bytes = amqp_cstring_bytes(l->reason);
+    }
+    for (; *line != '\0' && n < HEADS_OF_LETTER; line += strcspn(line, "\n") + 1) {
+        size_t name = strcspn(line, "="), all = strcspn(line, "\n");
+        entries[n] = entry("", AMQP_FIELD_KIND_UTF8);
+        entries[n].key = (amqp_bytes_t){name, (void *)(uintptr_t)line};
+        entries[n++].value.value.bytes = (amqp_bytes_t){all - name - 1, (void *)(uintptr_t)(line + name + 1)};
+    }
+    return n;
+}
+
 /* A letter has its id as message-id, the dialogue as correlation-id, its type, and why it was laid aside. */
 static void publish(struct thread *t, const struct parcel *l)
 {
-    int dead = strcmp(l->type, "dead") == 0, notice = strcmp(l->type, "ended") == 0 || strcmp(l->type, "broken") == 0;
-    char dialogue[8];
-    amqp_table_entry_t reason = entry("x-peat-reason", AMQP_FIELD_KIND_UTF8);
+    int dead = strcmp(l->type, "dead") == 0, notice = strcmp(l->type, "ended") == 0 || strcmp(l->type, "broken") == 0 || strcmp(l->type, "forwarded") == 0 || strcmp(l->type, "declined") == 0;
+    char dialogue[24];
+    amqp_table_entry_t entries[HEADS_OF_LETTER];
+    int heads = give_heads(l, dead, entries);
     amqp_bytes_t body, queue = amqp_cstring_bytes(dead ? t->config->queue_dead : t->config->queue_down);
     amqp_basic_properties_t p;
     memset(&p, 0, sizeof p);
-    reason.value.value.bytes = amqp_cstring_bytes(l->reason);
-    snprintf(dialogue, sizeof dialogue, "%u", l->dialogue);
+    snprintf(dialogue, sizeof dialogue, place_is_link(l->dialogue) ? "centre-%u" : "%u", place_is_link(l->dialogue) ? place_centre(l->dialogue) : l->dialogue);
     p._flags = AMQP_BASIC_DELIVERY_MODE_FLAG | AMQP_BASIC_MESSAGE_ID_FLAG | AMQP_BASIC_TYPE_FLAG | AMQP_BASIC_CORRELATION_ID_FLAG |
-               AMQP_BASIC_CONTENT_TYPE_FLAG | AMQP_BASIC_TIMESTAMP_FLAG | (dead ? AMQP_BASIC_HEADERS_FLAG : 0);
+               AMQP_BASIC_CONTENT_TYPE_FLAG | AMQP_BASIC_TIMESTAMP_FLAG | (heads > 0 ? AMQP_BASIC_HEADERS_FLAG : 0);
     p.delivery_mode = PERSISTENT;
     p.message_id = amqp_cstring_bytes(l->id);
     p.correlation_id = amqp_cstring_bytes(dialogue);
     p.type = amqp_cstring_bytes(l->type);
     p.content_type = amqp_cstring_bytes(notice ? "application/json" : "application/octet-stream");
     p.timestamp = l->since / 1000;
-    p.headers.num_entries = dead;
-    p.headers.entries = &reason;
+    p.headers.num_entries = heads;
+    p.headers.entries = entries;
     body.bytes = (void *)(uintptr_t)l->byte;
     body.len = l->bytes;
     memcpy(t->id[++t->given % WINDOW], l->id, sizeof l->id);

@@ -17,11 +17,13 @@ static void write_number(uint8_t *record, uint64_t n)
 
 int renumber(struct journal *j, const struct config *c, unsigned dialogue)
 {
-    struct taken all[DIALOGUES_MOST];
+    struct taken all[PLACES_MOST];
     struct kept k;
     uint64_t was, now = wall_ms();
-    if (j->take(j, all) != c->dialogues)
+    if (j->take(j, all) != config_places(c)) {
+        j->close(j);
         log_and_exit(EXIT_REFUSED, "journal", "renumber", "a bridge has dialogues of this journal: stop it first");
+    }
     j->load(j, dialogue, &k);
     was = peat_record_number(k.record);
     if (was <= now + DAY_MS) {

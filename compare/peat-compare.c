@@ -268,6 +268,7 @@ static void usage(FILE *to)
           "  refused N (NAME) in FILE at B    the envelope at byte B cannot be read; nothing else is said\n"
           "Then, a line each where there are any, rising, each job once: only first, only second, repeated (within the first or within the second).\n"
           "  --json   the same as one JSON object\n"
+          "  --help, --version\n"
           "Status: 0 equal, 1 not equal, 2 refused, or a file cannot be read.\n"
           "\n"
           "Proved: what each call of peat_compare says of the bytes that it is lent, up to 32 KiB of each file. Files of up to 32 KiB each are compared\n"
@@ -285,6 +286,8 @@ int main(int argc, char **argv)
         usage(stdout);
         return 0;
     }
+    if (argc == 2 && strcmp(argv[1], "--version") == 0)
+        return printf("peat-compare %s\n", PEAT_VERSION) < 0 || fflush(stdout) != 0 ? TROUBLE : SAME;
     if (argc != 3 + json) {
         usage(stderr);
         return TROUBLE;

@@ -57,6 +57,7 @@ static const struct row {
     ROW("  ended by both", closed),
     ROW("  D-ABORTs", aborted),
     ROW("  failures of the carrier", failed),
+    ROW("  heard of at one end first", parted),
     ROW("  starts turned back", turned_back),
     ROW("  timers expired", expired),
     ROW("  ends broken down", errors),

@@ -16,7 +16,7 @@ extern struct account {
     /* message numbers, see book.h */
     unsigned long numbers, numbers_closed, numbers_most, all_open, number_twice, number_not_lowest, number_astray;
     /* dialogues */
-    unsigned long opened, closed, aborted, failed, turned_back, expired, errors, half_closed;
+    unsigned long opened, closed, aborted, failed, parted, turned_back, expired, errors, half_closed;
     unsigned long late_starts, stale, wrong_starts;
     /* forwards between centres, see forward.h */
     unsigned long forwards, forward_again, forward_success, forward_not_supported, forward_not_equal, forward_broken, forward_lost, forward_shown;

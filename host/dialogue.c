@@ -15,9 +15,10 @@ void dialogue_start(struct dialogue *d)
     struct end *e = starter(d);
     unsigned class_ = chance(PEAT_CLASS_H + 1), mode = is_air(e) && chance(2) ? PEAT_DSC : PEAT_CPDLC;
     uint64_t next = number(e) + 1 + (chance(8) == 0 ? chance(1000) : 0);
-    if (!idle(air(d)) || !idle(ground(d)) || !line_has_room(&e->out, 1))
+    if (!idle(air(d)) || !idle(ground(d)) || parted(d) || !line_has_room(&e->out, 1))
         return;
     account.late_starts += !quiet(d);
+    end_hears(e->peer); /* what was put off is not shown as of a new dialogue */
     if (fault(FORGETS_HIGHEST))
         must(end_fresh(e));
     must(end_invokes(e, mode == PEAT_DSC ? "start request, dsc" : "start request, cpdlc", STARTS,
@@ -174,7 +175,7 @@ void dialogue_hand_over(struct end *from)
 {
     struct end *to = from->peer;
     struct entry *e;
-    if (from->out.entries == 0 || !line_has_room(&to->out, 1))
+    if (from->out.entries == 0 || to->apart || !line_has_room(&to->out, 1))
         return;
     e = fault(TURNS_LINES) ? line_lose(&from->out) : line_take(&from->out);
     if (loses(e))
@@ -237,11 +238,26 @@ void dialogue_fail(struct dialogue *d)
     account.failed++;
     for (i = 0; i < 2; i++) {
         d->end[i].watch.broke = 1;
+        d->end[i].apart = 0;
         lose_youngest(&d->end[i], d->end[i].out.entries);
     }
     hears_of_failure(air(d));
     if (!fault(TELLS_ONE_END))
         hears_of_failure(ground(d));
+}
+
+void dialogue_part(struct end *e)
+{
+    account.parted++;
+    e->watch.broke = 1;
+    e->apart = 1;
+    hears_of_failure(e);
+}
+
+void dialogue_rejoin(struct dialogue *d)
+{
+    if (parted(d) && chance(8) == 0)
+        dialogue_fail(d);
 }
 
 /* ---- what must hold */
@@ -269,12 +285,20 @@ static int complete(struct dialogue *d)
     return broke(d) || (air(d)->watch.seen == ground(d)->watch.sent && ground(d)->watch.seen == air(d)->watch.sent);
 }
 
+/* Nothing is on its way. What a wrong host put off is shown now or later. */
+static int heard(struct end *e)
+{
+    if (e->unheard.count > 0 && chance(64) == 0)
+        end_hears(e);
+    return e->unheard.count == 0;
+}
+
 void dialogue_examine(struct dialogue *d)
 {
-    if (!quiet(d))
+    if (!quiet(d) || parted(d))
         return;
     account.half_closed += !matching(d);
-    account.incomplete += !complete(d);
+    account.incomplete += heard(air(d)) && heard(ground(d)) && !complete(d);
     if (idle(air(d)) && idle(ground(d))) {
         recording_ends(air(d), ground(d), broke(d));
         end_settles(air(d), ENDED);
@@ -284,10 +308,14 @@ void dialogue_examine(struct dialogue *d)
 
 void dialogue_drain(struct dialogue *d)
 {
+    if (parted(d))
+        dialogue_fail(d);
     while (!quiet(d)) {
         dialogue_hand_over(air(d));
         dialogue_hand_over(ground(d));
     }
+    end_hears(air(d));
+    end_hears(ground(d));
     dialogue_examine(d);
 }
 

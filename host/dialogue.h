@@ -49,6 +49,16 @@ void dialogue_break_down(struct end *e);
 /* The carrier fails: both lines are emptied, and each end that is not IDLE hears of it. */
 void dialogue_fail(struct dialogue *d);
 
+/* An end hears that the connection is lost, and the other one has not yet. Until it has, nothing reaches the first one, and no start is passed on. What the
+   first one sent before may still arrive. */
+void dialogue_part(struct end *e);
+
+/* One of the two has heard, and the other not */
+static inline int parted(struct dialogue *d) { return air(d)->apart || ground(d)->apart; }
+
+/* The other one hears of it, now or later. */
+void dialogue_rejoin(struct dialogue *d);
+
 /* ---- what must hold */
 
 /* With both lines empty the ends match (of a link: both are IDLE), nothing is missing, and a dialogue that is over has released its

@@ -43,6 +43,7 @@ static void watch_dialogue(struct end *e)
     struct watch *w = &e->watch;
     if (number(e) == w->number)
         return;
+    end_hears(e);
     w->number = number(e);
     w->sent = w->seen = 0;
     recording_starts(e);
@@ -192,13 +193,11 @@ static unsigned message_told(uint64_t answer, uint8_t *message, size_t room)
 }
 
 /* A delivered message goes to the broker of this end in an envelope, and from there to its user. */
-static void deliver(struct end *e, uint64_t answer)
+static void deliver(struct end *e, const uint8_t *message, unsigned bits)
 {
     struct mail m = {0};
     struct letter l;
     struct arrival a = {0};
-    uint8_t message[PEAT_BUFFER_LEAST];
-    unsigned bits = message_told(answer, PEAT_ARRAY(message));
     mail_post(&m, fault(MIXES_KINDS) ? PEAT_ENVELOPE_TO_SEND : PEAT_ENVELOPE_DELIVERED, ++e->watch.delivered, bits, message);
     while (mail_next(&m, &a, &l)) {
         recording_got(e, &l);
@@ -209,11 +208,31 @@ static void deliver(struct end *e, uint64_t answer)
     }
 }
 
+void end_hears(struct end *e)
+{
+    unsigned i;
+    for (i = 0; i < e->unheard.count; i++)
+        deliver(e, e->unheard.message[i], e->unheard.bits[i]);
+    e->unheard.count = 0;
+}
+
+/* A message is for the user: shown at once. The host of a wrong flight deck puts it off. */
+static void hear(struct end *e, uint64_t answer)
+{
+    struct unheard *u = &e->unheard;
+    if (u->count == UNHEARD_MOST)
+        end_hears(e);
+    u->bits[u->count] = message_told(answer, PEAT_ARRAY(u->message[u->count]));
+    u->count++;
+    if (!fault(ANSWERS_UNHEARD) || !is_air(e))
+        end_hears(e);
+}
+
 static void tell(struct end *e, uint64_t answer)
 {
     unsigned accepted = peat_told_parameter(answer) == PEAT_ACCEPTED;
     switch (peat_told(answer)) {
-    case PEAT_MESSAGE_INDICATION: deliver(e, answer); break;
+    case PEAT_MESSAGE_INDICATION: hear(e, answer); break;
     case PEAT_FORWARD_INDICATION: forward_shown(e, answer); break;
     case PEAT_START_CONFIRMATION:
         account.opened += accepted;
@@ -312,6 +331,8 @@ unsigned end_invokes(struct end *e, const char *what, enum invocation by, uint64
         c.over = broken(e, BROKEN);
     if (peat_told(answer) == PEAT_FORWARD_CONFIRMATION)
         c.over = broken(e, answered(answer));
+    if (fault(ANSWERS_UNHEARD) && peat_told(answer) == PEAT_END_CONFIRMATION && peat_told_parameter(answer) == PEAT_ACCEPTED)
+        c.over = broken(e, ENDED); /* the other host is right: the end is confirmed, so it need not wait for the release */
     keep_book(e, &c, answer);
     conclude(e, &c, by, answer);
     return PEAT_TAKEN;
@@ -380,6 +401,7 @@ void end_loads(struct end *e)
     enum loaded loaded;
     memset(&e->memory, 0xA5, sizeof e->memory); /* nothing of what it had in memory is left */
     memset(e->held, 0, sizeof e->held);
+    e->unheard.count = 0;
     loaded = journal_load(&e->journal, &e->memory);
     if (loaded == NOT_LOADED) {
         fprintf(stderr, "host: the journal %s is damaged; its end stays down\n", e->journal.path);

@@ -24,6 +24,14 @@ struct held {
     uint8_t body[CLEARANCE_BYTES];
 };
 
+#define UNHEARD_MOST 8
+
+/* messages that a wrong host was given for its user, and has not shown yet */
+struct unheard {
+    unsigned count, bits[UNHEARD_MOST];
+    uint8_t message[UNHEARD_MOST][PEAT_BUFFER_LEAST];
+};
+
 /* what an end is made as, and stays: its name in the journal's and in the story */
 struct setting {
     const char *name;
@@ -52,11 +60,13 @@ struct end {
     struct end *peer;
     struct memory memory;           /* lost with the power, and loaded from the journal */
     struct held held[HELD_MOST];    /* lost with the power */
+    struct unheard unheard;         /* likewise */
     struct journal journal;         /* what follows is not: the disk, the carrier, the broker, the user */
     struct line out;                /* what this end sent and the carrier has not delivered */
     struct broker broker;
     struct user user;
     int down;                       /* its power failed, and it is not up again */
+    int apart;                      /* it has heard that the connection is lost, and the other end has not yet */
     struct watch watch;
 };
 
@@ -101,6 +111,9 @@ void end_settles(struct end *e, enum fate fate);
 
 /* Its position is shown an abort that no call told, as two of the faults have it. */
 void end_shows_abort(struct end *e);
+
+/* Its user is shown what was put off, as one of the faults has it. */
+void end_hears(struct end *e);
 
 /* the oldest notices were given to the broker, which confirmed them */
 void end_confirmed(struct end *e, unsigned notices);

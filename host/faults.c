@@ -8,7 +8,7 @@ static const char *const names[FAULTS] = {"none", "keeps-late", "fresh-at-restar
     "acknowledges-early", "silent-on-break", "no-abort-at-restart", "forgets-highest", "tells-one-end", "loses-aborts", "loses-messages", "turns-lines", "loses-oldest",
     "drops-a-bit", "mixes-refusals", "mixes-kinds", "silent-turn-back", "hands-over-twice", "numbers-itself", "closes-another-number",
     "closes-too-early", "closes-none", "forgets-numbers", "loses-answers", "drops-versions", "forwards-again", "answers-before-showing",
-    "shows-closed-twice", "shows-late-abort", "takes-any-start"};
+    "answers-unheard", "shows-closed-twice", "shows-late-abort", "takes-any-start"};
 
 enum fault fault_named(const char *name)
 {

@@ -36,6 +36,7 @@ enum fault {
     DROPS_VERSIONS,     /* does not hand over the version of a D-START */
     FORWARDS_AGAIN,     /* forwards what it has forwarded, when the job comes again */
     ANSWERS_BEFORE_SHOWING, /* lets the answer to a forward go before its user has the message */
+    ANSWERS_UNHEARD,    /* lets the answer to D-END go before its user was shown the messages that came before it */
     SHOWS_CLOSED_TWICE, /* shows its user that a dialogue is closed which was closed before, when the carrier fails */
     SHOWS_LATE_ABORT,   /* shows its user an abort that arrives after its own closing call */
     TAKES_ANY_START,    /* hands over a start to the end that starts */

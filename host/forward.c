@@ -146,13 +146,14 @@ void forward_taken(struct end *e, uint64_t job)
 /* takes a forward message apart; 0 where the card does not */
 static int read_parts(uint64_t answer, uint64_t *part, uint8_t *message, size_t room)
 {
+    uint8_t heading[PEAT_HEADING_BYTES];
+    uint64_t said = peat_read_forward(second, peat_data_bytes(answer), PEAT_ARRAY(heading), message, room);
     unsigned i;
-    for (i = 0; i <= PEAT_FORWARD_MESSAGE; i++) {
-        uint64_t said = peat_forward_part(i, second, peat_data_bytes(answer), message, room);
-        if (peat_refusal(said) != PEAT_TAKEN)
-            return 0;
-        part[i] = peat_forward_value(said);
-    }
+    if (peat_refusal(said) != PEAT_TAKEN)
+        return 0;
+    for (i = 0; i < PEAT_FORWARD_MESSAGE; i++)
+        part[i] = peat_heading_value(heading, (enum peat_forward_part)i);
+    part[PEAT_FORWARD_MESSAGE] = peat_forward_value(said);
     return 1;
 }
 

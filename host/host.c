@@ -71,6 +71,7 @@ static void step(void)
     struct dialogue *d = &dialogues[chance(DIALOGUES)];
     struct end *e = &d->end[chance(2)];
     unsigned what = chance(1000);
+    dialogue_rejoin(d);
     if (chance(FORWARD_STEPS) == 0) {
         forward_step(&dialogues[DIALOGUES + chance(LINKS)]);
         return;

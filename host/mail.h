@@ -60,10 +60,11 @@ static inline void arrival_goes_on(const struct mail *m, struct arrival *a)
 /* reads on to the next envelope; 0 where there is none, or it is refused */
 static inline int mail_next(const struct mail *m, struct arrival *a, struct letter *l)
 {
+    uint8_t job[PEAT_JOB_BYTES] = {0};
     uint64_t answer = 0;
     while (peat_envelope_kind(answer) == 0 && a->at < m->bytes) {
         arrival_goes_on(m, a);
-        answer = peat_mail_take(PEAT_ARRAY(a->rec), m->byte + a->at, a->end - a->at);
+        answer = peat_mail_take(PEAT_ARRAY(a->rec), m->byte + a->at, a->end - a->at, PEAT_ARRAY(job));
         must(peat_refusal(answer));
         if (peat_refusal(answer) != PEAT_TAKEN)
             return 0;
@@ -76,7 +77,7 @@ static inline int mail_next(const struct mail *m, struct arrival *a, struct lett
     }
     account.read++;
     l->kind = peat_envelope_kind(answer);
-    l->job = peat_mail_job(a->rec);
+    l->job = peat_job_number(job);
     l->bits = peat_envelope_bits(answer);
     l->body = peat_mail_body(a->rec, answer);
     return 1;

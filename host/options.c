@@ -7,6 +7,8 @@
 #include <string.h>
 
 #include "faults.h"
+#include "peatribbon.h"
+#include "restart.h"
 #include "story.h"
 
 static void usage(FILE *to)
@@ -21,10 +23,12 @@ static void usage(FILE *to)
           "  SEED, STEPS    which run, and how long (1, 200000)\n"
           "  --trace N      tells the story of dialogue N, 0 to 47, or of a link, 48 to 55, and then the account\n"
           "  --json         the account as one JSON object\n"
+          "  --apart        after a power failure the other end hears some steps later that the connection is lost\n"
           "  --pcap FILE    writes what the carrier hands over in dialogues to FILE, for Wireshark\n"
           "  --pcap-pad     with it, the bytes that tshark 4.0 needs to show a D-END and a D-ABORT\n"
           "  --record DIR   writes recordings of both ends to DIR/air and DIR/ground, for peat-compare\n"
           "  --state DIR    keeps the journals in DIR, which must be empty; without it in a folder that is removed\n"
+          "  --version      the version\n"
           "  --fault NAME   runs a host that is wrong on purpose:",
         to);
     for (f = NO_FAULT + 1; f < FAULTS; f++)
@@ -77,8 +81,12 @@ struct options options_read(int argc, char **argv, int dialogues)
             usage(stdout);
             exit(0);
         }
+        if (strcmp(word, "--version") == 0)
+            exit(printf("host %s\n", PEAT_VERSION) < 0 || fflush(stdout) != 0 ? 2 : 0);
         if (strcmp(word, "--json") == 0)
             o.json = 1, takes = 0;
+        else if (strcmp(word, "--apart") == 0)
+            restart_parts = 1, takes = 0;
         else if (strcmp(word, "--pcap-pad") == 0)
             o.pcap_pad = 1, takes = 0;
         else if (word[0] != '-' && numbers < 2)

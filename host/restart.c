@@ -7,9 +7,11 @@
 #include "story.h"
 
 /* one step in so many has a failure of the power; more of them where a fault shows only if it fails at one point */
-#define STEPS_A_FAILURE (fault(ANSWERS_BEFORE_SHOWING) ? 10u : 150u)
+#define STEPS_A_FAILURE (fault(ANSWERS_BEFORE_SHOWING) ? 10u : fault(ANSWERS_UNHEARD) ? 30u : 150u)
 #define POINTS 6            /* that a step may pass */
 #define RACK 16             /* one failure at this centre in so many takes the whole rack */
+
+int restart_parts;
 
 /* ---- going down */
 
@@ -38,7 +40,9 @@ static void comes_up(struct dialogue *all, struct end *e)
     arrives_meanwhile(e);
     end_loads(e);
     e->down = 0;
-    if (!fault(NO_ABORT_AT_RESTART))
+    if (restart_parts && !of_link(e) && !e->peer->down && !e->peer->apart)
+        dialogue_part(e);
+    else if (!fault(NO_ABORT_AT_RESTART))
         dialogue_fail(&all[e->dialogue]);
 }
 

@@ -8,6 +8,9 @@
 
 #include "dialogue.h"
 
+/* The other end hears later that the connection is lost (--apart), and not in the same moment. */
+extern int restart_parts;
+
 /* Runs a step during which the power may fail, and then brings up every end that is down. */
 void restart_around(struct dialogue *dialogues, int count, void (*step)(void));
 

@@ -12,7 +12,7 @@
  * Ranges. A range is a pointer and, as the next parameter, its length in bytes.
  *   - A call reads and writes inside the ranges that it is lent, keeps no pointer, allocates nothing and has no memory of
  *     its own: calls on different records and buffers may run at the same time.
- *   - LENT RANGES MUST NOT OVERLAP: no byte of a range that is lent without const (rec, first, second, out, job, mail, book,
+ *   - LENT RANGES MUST NOT OVERLAP: no byte of a range that is lent without const (rec, first, second, out, job, heading, mail, book,
  *     and message and text where they are read into) may be a byte of any other range of the same call. (Ranges lent as const are only
  *     read; they may share bytes with each other.) This is the host's to keep. No call can see it, and the promises below do
  *     not hold without it.
@@ -72,9 +72,9 @@ extern "C" {
  * VERSION of the project: what the header is of, as a string and in three numbers. CHANGELOG.md says what changed.
  */
 
-#define PEAT_VERSION "0.11.0"
+#define PEAT_VERSION "0.12.0"
 #define PEAT_VERSION_MAJOR 0
-#define PEAT_VERSION_MINOR 11
+#define PEAT_VERSION_MINOR 12
 #define PEAT_VERSION_PATCH 0
 
 /* What the archive is of: "peatribbon VERSION, rattle logic HASH", where the hash names the logic in which its card was proved.
@@ -95,6 +95,7 @@ extern const char peat_archive_version[];
 #define PEAT_MAIL_HEAD 11      /* a mail record, bytes before those of the envelope */
 #define PEAT_MAIL_BYTES (PEAT_MAIL_HEAD + PEAT_ENVELOPE_MOST) /* a mail record, exactly */
 #define PEAT_JOB_BYTES 8       /* the range that takes the job of an envelope, exactly */
+#define PEAT_HEADING_BYTES 80  /* the range that takes the heading of a forward message, exactly */
 #define PEAT_RECORDING_MOST 32768 /* a recording that is compared, bytes */
 #define PEAT_LIST_MOST 65784   /* a list of jobs that no two recordings fill, bytes: 8,223 jobs */
 #define PEAT_COUNTS_BYTES 6    /* the range that takes the counts of three lists, exactly */
@@ -398,7 +399,7 @@ static inline size_t peat_apdu_bytes(uint64_t answer) { return (peat_apdu_bits(a
    message, as its bits counted and then the bits; the check, likewise. A count of bits under 128 takes 8 bits, a greater
    one takes 16: the bits 10 and then 14 bits. Additions from a later edition, which the APDU may have had behind the check, are
    left out. peat_data_part takes one of the parts out. With PEAT_FORWARD_INDICATION the second buffer has a forward message
-   instead: an ATCForwardMessage in its own encoding from its first bit on, which peat_forward_part takes apart. */
+   instead: an ATCForwardMessage in its own encoding from its first bit on, which peat_read_forward takes apart. */
 static inline unsigned peat_data_bits(uint64_t answer) { return peat_bits_of(answer, PEAT_DATA_BITS_AT, PEAT_COUNT_BITS); }
 static inline size_t peat_data_bytes(uint64_t answer) { return (peat_data_bits(answer) + 7u) / 8u; }
 
@@ -416,7 +417,7 @@ static inline unsigned peat_part_given(uint64_t answer) { return peat_bits_of(an
 static inline unsigned peat_part_bits(uint64_t answer) { return peat_bits_of(answer, PEAT_PART_BITS_AT, PEAT_PART_BITS_BITS); }
 static inline size_t peat_part_bytes(uint64_t answer) { return (peat_part_bits(answer) + 7u) / 8u; }
 
-/* a part of a forward message, for peat_forward_part */
+/* a part of a forward message, for peat_read_forward and peat_forward_part */
 enum peat_forward_part {
     PEAT_FORWARD_YEAR = 0,       /* 1996 to 2095 */
     PEAT_FORWARD_MONTH = 1,      /* 1 to 12 */
@@ -962,8 +963,21 @@ uint64_t peat_d_p_abort_indication(uint8_t *rec, size_t rec_len, uint64_t number
    bits after the last one are zero up to the end of the byte, and every other byte stays; if not, out stays. */
 uint64_t peat_data_part(uint64_t which, const uint8_t *delivered, size_t delivered_len, uint8_t *out, size_t out_len);
 
-/* One part of a forward message as it was delivered. which: enum peat_forward_part. delivered: the forward message, all bytes of the
-   range, as a call that told PEAT_FORWARD_INDICATION left them in its second buffer (peat_data_bytes of them).
+/* All parts of a forward message as it was delivered. delivered: the forward message, all bytes of the range, as a call that told
+   PEAT_FORWARD_INDICATION left them in its second buffer (peat_data_bytes of them).
+   Answers PEAT_ROOM (out is under PEAT_BUFFER_LEAST bytes); PEAT_SHAPE (heading is not of PEAT_HEADING_BYTES bytes); or where the
+   bytes are no forward message the fault met first, PEAT_SHORT, PEAT_RANGE, PEAT_LENGTH_FORM or PEAT_TAIL, with its position (never
+   for what a call left there); and then heading and out stay.
+   Else heading has the numbers, which peat_heading_value reads. peat_forward_value(answer) is the count of the message's bits: out
+   has them in its first so many bits, those after the last one are zero up to the end of the byte, and every other byte stays. */
+uint64_t peat_read_forward(const uint8_t *delivered, size_t delivered_len, uint8_t *heading, size_t heading_len, uint8_t *out, size_t out_len);
+
+/* a number that peat_read_forward left in heading: PEAT_FORWARD_YEAR to PEAT_FORWARD_DIRECTION, in eight bytes each, the most
+   significant first */
+static inline uint64_t peat_heading_value(const uint8_t *heading, enum peat_forward_part which) { return peat_eight_bytes(heading + 8u * (unsigned)which); }
+
+/* One part of a forward message as it was delivered, for a host that wants no other. which: enum peat_forward_part. delivered: as
+   for peat_read_forward.
    Answers PEAT_ROOM (out is under PEAT_BUFFER_LEAST bytes); PEAT_SHAPE (which is none of its codes); or where the bytes are no
    forward message the fault met first, PEAT_SHORT, PEAT_RANGE, PEAT_LENGTH_FORM or PEAT_TAIL, with its position (never for what a
    call left there); and then out stays.
@@ -1003,7 +1017,7 @@ uint64_t peat_read_leading(uint64_t which, const uint8_t *bytes, size_t bytes_le
    all bits of a number and so is not in the answer: peat_job_number reads it there. */
 uint64_t peat_read_envelope(const uint8_t *lent, size_t lent_len, uint8_t *job, size_t job_len);
 
-/* the job number that reading an envelope left in job, PEAT_JOB_BYTES bytes, the most significant first */
+/* the job number that peat_read_envelope or peat_mail_take left in job, PEAT_JOB_BYTES bytes, the most significant first */
 static inline uint64_t peat_job_number(const uint8_t *job) { return peat_eight_bytes(job); }
 
 /* An envelope into out, from its first byte on. kind: enum peat_envelope. job: 1 to 2^64 - 1. bits: of the body, 0 to
@@ -1024,11 +1038,11 @@ uint64_t peat_write_envelope(uint64_t kind, uint64_t job, uint64_t bits, const u
  *     peat_mail_fresh(mail, sizeof mail);
  *     while ((n = read(socket, at = bytes, sizeof bytes)) > 0)
  *         for (; n > 0; at += peat_mail_taken(answer), n -= peat_mail_taken(answer)) {
- *             answer = peat_mail_take(mail, sizeof mail, at, n);
+ *             answer = peat_mail_take(mail, sizeof mail, at, n, job, sizeof job);
  *             if (peat_refusal(answer) != PEAT_TAKEN)
  *                 ..                       the input is refused, from byte peat_mail_place(mail) of it on
  *             if (peat_envelope_kind(answer) != 0)
- *                 ..                       an envelope: its body is peat_mail_body(mail, answer), its job peat_mail_job(mail)
+ *                 ..                       an envelope: its body is peat_mail_body(mail, answer), its job peat_job_number(job)
  *         }
  *     if (peat_refusal(peat_mail_end(mail, sizeof mail)) == PEAT_CUT)
  *         ..                               the input ended inside an envelope
@@ -1051,19 +1065,20 @@ uint64_t peat_write_envelope(uint64_t kind, uint64_t job, uint64_t bits, const u
 uint64_t peat_mail_fresh(uint8_t *mail, size_t mail_len);
 
 /* The next fragment of the input, or what an earlier call left of it. Its length may be anything, 0 too.
-   Answers PEAT_SHAPE (mail is not of PEAT_MAIL_BYTES bytes, or these are no record: a state that is none, more bytes held
-   than PEAT_ENVELOPE_MOST, or bytes held of an unfinished envelope that are not the beginning of one), and mail stays.
+   Answers PEAT_SHAPE (job is not of PEAT_JOB_BYTES bytes; mail is not of PEAT_MAIL_BYTES bytes, or these are no record: a state
+   that is none, more bytes held than PEAT_ENVELOPE_MOST, or bytes held of an unfinished envelope that are not the beginning of
+   one), and mail stays.
    Answers PEAT_GROUPS, PEAT_KIND or PEAT_SIZE where the input has an envelope that peat_read_envelope refuses so: mail then
    holds the refusal and the place, no byte of the fragment is taken, and every later call answers the same refusal and
    changes nothing, until mail is made fresh. (PEAT_CUT comes that way too, after peat_mail_end answered it.)
    Else peat_mail_taken(answer) bytes were taken from the front of the fragment. Where peat_envelope_kind(answer) is not 0,
    they finish an envelope: it stands in mail until the next call that takes a byte, its body of peat_envelope_bits(answer)
-   bits from byte peat_envelope_body(answer) of mail on, and the host calls again with the rest of the fragment. Where the
-   kind is 0, all bytes were taken and no envelope is finished. A call takes at most PEAT_ENVELOPE_MOST bytes, and at least
-   one of a fragment that has one. */
-uint64_t peat_mail_take(uint8_t *mail, size_t mail_len, const uint8_t *fragment, size_t fragment_len);
+   bits from byte peat_envelope_body(answer) of mail on, job has its job number (peat_job_number reads it), and the host calls
+   again with the rest of the fragment. Where the kind is 0, all bytes were taken and no envelope is finished. job stays wherever
+   no envelope is finished. A call takes at most PEAT_ENVELOPE_MOST bytes, and at least one of a fragment that has one. */
+uint64_t peat_mail_take(uint8_t *mail, size_t mail_len, const uint8_t *fragment, size_t fragment_len, uint8_t *job, size_t job_len);
 
-/* The input has ended. Answers PEAT_SHAPE as peat_mail_take does; PEAT_CUT where an envelope is unfinished, and mail holds that
+/* The input has ended. Answers PEAT_SHAPE for mail as peat_mail_take does; PEAT_CUT where an envelope is unfinished, and mail holds that
    refusal from then on; the refusal that mail holds already; else 0, and mail stays. */
 uint64_t peat_mail_end(uint8_t *mail, size_t mail_len);
 
@@ -1071,14 +1086,8 @@ uint64_t peat_mail_end(uint8_t *mail, size_t mail_len);
 static inline size_t peat_mail_held(const uint8_t *mail) { return (size_t)mail[PEAT_MAIL_COUNT] << 8 | mail[PEAT_MAIL_COUNT + 1]; }
 static inline uint64_t peat_mail_place(const uint8_t *mail) { return peat_eight_bytes(mail + PEAT_MAIL_PLACE); }
 
-/* Of an envelope that was finished: its body, where it stands in mail; its job number (0: none is finished). */
+/* Of an envelope that was finished: its body, where it stands in mail. */
 static inline const uint8_t *peat_mail_body(const uint8_t *mail, uint64_t answer) { return mail + peat_envelope_body(answer); }
-static inline uint64_t peat_mail_job(const uint8_t *mail)
-{
-    uint8_t job[PEAT_JOB_BYTES] = {0};
-    peat_read_envelope(mail + PEAT_MAIL_HEAD, peat_mail_held(mail), job, sizeof job);
-    return peat_job_number(job);
-}
 
 /* ---- two recordings compared
  *

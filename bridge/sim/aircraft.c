@@ -1,10 +1,12 @@
 /*
  * Aircraft: up to 48, each with an air record and a flight deck that counts what it sees.
  *
- *     aircraft PATH DIALOGUES ACCOUNT [ABORT [DOWN]]
+ *     aircraft PATH DIALOGUES ACCOUNT [ABORT [DOWN [REPLY [START]]]]
  *
  * PATH has {} where the number of the aircraft goes: a packet socket for each, on which the bridge connects. ABORT: once in
- * so many messages the flight deck aborts. DOWN: once in so many it sends a message down. SIGUSR1: every connection is
+ * so many messages the flight deck aborts. DOWN: once in so many it sends a message down. REPLY: once in so many it answers with WILCO all
+ * CPDLC messages that it has not answered; it counts a message whose number is that of one it has not answered. START: 1, the aircraft start
+ * the dialogues. SIGUSR1: every connection is
  * dropped, as by a carrier that fails. SIGUSR2: the account so far is written. SIGTERM: the account is written and the program ends.
  *
  * The account: a line with what was counted; then for each job that a flight deck saw `NUMBER JOB TIMES`.
@@ -23,7 +25,9 @@
 #include "../config.h"
 #include "../jobs.h"
 #include "../link.h"
+#include "clearance.h"
 #include "pattern.h"
+#include "usage.h"
 
 struct aircraft {
     unsigned number;
@@ -32,12 +36,13 @@ struct aircraft {
     uint32_t *seen;       /* times, by job */
     size_t room;
     uint64_t last, down;
+    uint64_t open; /* bit n: a message with the number n was not answered */
 };
 
 static struct aircraft fleet[DIALOGUES_MOST];
-static unsigned aircraft_count, abort_once_in, down_once_in;
+static unsigned aircraft_count, abort_once_in, down_once_in, reply_once_in, starts;
 static const char *path;
-static struct { unsigned long delivered, duplicates, disorder, damaged, opened, ended, aborted, failed, refused, down; } account;
+static struct { unsigned long delivered, duplicates, disorder, damaged, opened, ended, aborted, failed, refused, down, numbers, twice; } account;
 static uint32_t *latency_us;
 static size_t latencies, latency_room;
 static volatile sig_atomic_t drop, asked, done;
@@ -70,11 +75,26 @@ static uint32_t *seen_of(struct aircraft *a, uint64_t job)
     return &a->seen[job];
 }
 
+/* The job of a CPDLC message, whose number is open here until the flight deck has answered it. */
+static uint64_t see_clearance(struct aircraft *a, const uint8_t *message, unsigned bits)
+{
+    unsigned number = 0;
+    uint64_t job = clearance_job(message, bits, a->number, &number), bit = (uint64_t)1 << number % 64;
+    if (job == 0)
+        return 0;
+    account.numbers++;
+    account.twice += (a->open & bit) != 0;
+    a->open |= bit;
+    return job;
+}
+
 static void see(struct aircraft *a, const uint8_t *data, size_t bytes)
 {
     uint8_t message[PEAT_BUFFER_LEAST];
     uint64_t part = peat_data_part(PEAT_PART_MESSAGE, data, bytes, message, sizeof message), given = 0, job;
     job = peat_refusal(part) == PEAT_TAKEN ? pattern_job(message, peat_part_bytes(part), a->number, &given) : 0;
+    if (job == 0 && peat_refusal(part) == PEAT_TAKEN)
+        job = see_clearance(a, message, peat_part_bits(part));
     if (job == 0 || job > JOBS_MOST) {
         account.damaged++;
         return;
@@ -117,7 +137,12 @@ static void act(struct aircraft *a, uint64_t answer)
     switch (peat_told(answer)) {
     case PEAT_START_INDICATION:
         account.opened++;
+        a->open = 0; /* a new dialogue: all numbers are free */
         act(a, peat_start_response(RECORD(a), PEAT_ACCEPTED, PEAT_NO_DATA, BUFFERS));
+        break;
+    case PEAT_START_CONFIRMATION:
+        account.opened += peat_told_parameter(answer) == PEAT_ACCEPTED;
+        a->open = 0;
         break;
     case PEAT_MESSAGE_INDICATION: see(a, second, peat_data_bytes(answer)); break;
     case PEAT_END_INDICATION:
@@ -139,6 +164,21 @@ static void lose(struct aircraft *a)
     }
 }
 
+/* The flight deck answers every message that it has not answered. */
+static void reply(struct aircraft *a)
+{
+    uint8_t message[PEAT_BUFFER_LEAST];
+    unsigned n;
+    for (n = 0; n < PEAT_BOOK_NUMBERS && peat_record_state(a->record) == PEAT_DIALOGUE; n++)
+        if (a->open >> n & 1) {
+            unsigned bits = clearance_reply(message, (unsigned)(a->down % 64), n, CLEARANCE_WILCO);
+            const struct peat_data data = {.message = message, .message_len = (bits + 7u) / 8u, .message_bits = bits};
+            a->open &= ~((uint64_t)1 << n);
+            account.down++;
+            act(a, peat_message_request(RECORD(a), ++a->down, PEAT_DATA(data), BUFFERS));
+        }
+}
+
 /* Now and then the flight deck answers a message with something of its own. */
 static void fly(struct aircraft *a)
 {
@@ -154,6 +194,8 @@ static void fly(struct aircraft *a)
         pattern_number(message, ++a->down);
         message[8] = (uint8_t)a->number;
         act(a, peat_message_request(RECORD(a), a->down, PEAT_DATA(data), BUFFERS));
+    } else if (once_in(reply_once_in)) {
+        reply(a);
     }
 }
 
@@ -183,6 +225,8 @@ static void meet(struct aircraft *a)
         return;
     lose(a);
     a->socket = s;
+    if (starts)
+        act(a, peat_start(RECORD(a), peat_record_number(a->record) + 1, PEAT_CPDLC, PEAT_CLASS_ANY, PEAT_NO_SECURITY, PEAT_NO_DATA, BUFFERS));
 }
 
 /* ---- beginning and end */
@@ -213,8 +257,8 @@ static int write_account(const char *to)
     size_t job;
     if (snprintf(part, sizeof part, "%s.part", to) >= (int)sizeof part || (f = fopen(part, "w")) == NULL)
         return 1;
-    fprintf(f, "# delivered %lu duplicates %lu disorder %lu damaged %lu opened %lu ended %lu aborted %lu failed %lu refused %lu down %lu", account.delivered,
-        account.duplicates, account.disorder, account.damaged, account.opened, account.ended, account.aborted, account.failed, account.refused, account.down);
+    fprintf(f, "# delivered %lu duplicates %lu disorder %lu damaged %lu opened %lu ended %lu aborted %lu failed %lu refused %lu down %lu numbers %lu twice %lu", account.delivered,
+        account.duplicates, account.disorder, account.damaged, account.opened, account.ended, account.aborted, account.failed, account.refused, account.down, account.numbers, account.twice);
     if (latencies > 0) {
         qsort(latency_us, latencies, sizeof *latency_us, by_size);
         fprintf(f, " p50_us %u p99_us %u most_us %u", latency_us[latencies / 2], latency_us[latencies * 99 / 100], latency_us[latencies - 1]);
@@ -250,14 +294,17 @@ int main(int argc, char **argv)
 {
     struct sigaction a;
     unsigned n;
-    if (argc < 4 || argc > 6 || strtoul(argv[2], NULL, 10) < 1 || strtoul(argv[2], NULL, 10) > DIALOGUES_MOST) {
-        fputs("usage: aircraft PATH DIALOGUES ACCOUNT [ABORT [DOWN]]\n", stderr);
+    know_words(argc, argv, "aircraft", "usage: aircraft PATH DIALOGUES ACCOUNT [ABORT [DOWN [REPLY [START]]]]; the top of bridge/sim/aircraft.c says what they are");
+    if (argc < 4 || argc > 8 || strtoul(argv[2], NULL, 10) < 1 || strtoul(argv[2], NULL, 10) > DIALOGUES_MOST) {
+        fputs("usage: aircraft PATH DIALOGUES ACCOUNT [ABORT [DOWN [REPLY [START]]]]\n", stderr);
         return 2;
     }
     path = argv[1];
     aircraft_count = (unsigned)strtoul(argv[2], NULL, 10);
     abort_once_in = argc > 4 ? (unsigned)strtoul(argv[4], NULL, 10) : 0;
     down_once_in = argc > 5 ? (unsigned)strtoul(argv[5], NULL, 10) : 0;
+    reply_once_in = argc > 6 ? (unsigned)strtoul(argv[6], NULL, 10) : 0;
+    starts = argc > 7 ? (unsigned)strtoul(argv[7], NULL, 10) : 0;
     memset(&a, 0, sizeof a);
     a.sa_handler = on_signal;
     sigaction(SIGTERM, &a, NULL);

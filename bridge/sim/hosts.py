@@ -318,12 +318,18 @@ class SharedStage(Stage):
         self.database = database
         self.metrics_port = more.get("metrics_port")
         settings = dict(database=database.way(*others) + " options=-csearch_path=" + self.schema, lease_ms=1500, heartbeat_s=1, claim_ms=5000, standby_ms=500)
-        super().__init__(room, name, port, dialogues, **dict(settings, **more))
+        settings.update(more)
+        self.lease_ms = settings["lease_ms"]
+        super().__init__(room, name, port, dialogues, **settings)
 
     def owners(self, database=None):
         """dialogue -> host"""
         rows = (database or self.database).say("SELECT dialogue, owner FROM %s.dialogue" % self.schema).splitlines()
         return {int(r.split("|")[0]): r.split("|")[1].split("/")[0] for r in rows}
+
+    def renewed(self, since):
+        """Each dialogue's lease was renewed after a time (wall clock): somebody who ran then has it."""
+        return self.database.say("SELECT bool_and(until > to_timestamp(%.3f) + %d * interval '1 ms') FROM %s.dialogue" % (since, self.lease_ms, self.schema)) == "t"
 
     def leases(self):
         rows = self.database.say("SELECT dialogue, number FROM %s.dialogue" % self.schema).splitlines()

@@ -75,7 +75,7 @@ def page(port, seconds=5.0):
     try:
         with socket.create_connection(("127.0.0.1", port), seconds) as s:
             s.settimeout(seconds)
-            s.sendall(b"GET / HTTP/1.0\r\n\r\n")
+            s.sendall(b"GET /metrics HTTP/1.0\r\n\r\n")
             while part := s.recv(65536):
                 said += part
     except OSError:
@@ -96,7 +96,7 @@ def build(checked=False):
     words = call("tools/libraries", "rabbitmq", "sqlite")
     if words.returncode != 0:
         raise Missing("there is no SQLite, or no AMQP library, for x86-64")
-    built["libraries"] = words.stdout.split() + call("tools/libraries", "postgres").stdout.split()
+    built["libraries"] = words.stdout.split() + call("tools/libraries", "postgres").stdout.split() + call("tools/libraries", "microhttpd").stdout.split()
     built["sanitizers"] = call("tools/x86", "sanitizers").stdout.split() if checked else []
     OUT = TOP / ("target/bridge_checked" if checked else "target/bridge")
     OUT.mkdir(parents=True, exist_ok=True)
@@ -112,6 +112,7 @@ def objects_but(*names):
     """The bridge's objects, without those named, those for a library that is not there, and those in the place of one that is."""
     database = {"journal_postgres", "postgres_lease", "postgres_tables", "pg", "letters"}
     missing = {"broker_none"} | ({"journal_none"} if "-lpq" in built["libraries"] else database)
+    missing |= {"page_none", "certificates_none"} if "-lmicrohttpd" in built["libraries"] else {"page", "page_files", "certificates"}
     return [o for o in sorted(OUT.glob("*.o")) if o.stem not in missing.union(names)]
 
 
@@ -153,7 +154,8 @@ def broker(word, folder):
 class Stage:
     """A folder with a journal, aircraft, and the broker's queues."""
 
-    def __init__(self, room, name, plain_port, dialogues, **more):
+    def __init__(self, room, name, plain_port, dialogues, queues="peat", **more):
+        self.queues, self.centres = queues, int(more.get("centres", 0))
         self.folder = Path(room) / name
         self.folder.mkdir()
         self.port, self.dialogues = plain_port, dialogues
@@ -162,7 +164,7 @@ class Stage:
         self.config = self.write("config")
         if self.command("init") != 0:
             raise Broken(name + ": no journal is made")
-        self.position("declare", dialogues)
+        self.position("declare", dialogues, self.centres)
         self.aircraft = None
         self.at = ()  # where the bridges run
         self.built = "bridge"  # which one
@@ -171,7 +173,11 @@ class Stage:
         """A configuration; what is given replaces what a test uses otherwise."""
         settings = dict(journal=self.folder / (name + ".journal"), witness=self.folder / (name + ".witness"), dialogues=self.dialogues,
                         aircraft=self.folder / "a{}", broker="127.0.0.1", port=self.port, user="guest", password_file=self.folder / "password",
-                        retry_ms=20, retry_most_ms=200, reconnect_ms=20, reconnect_most_ms=300, claim_ms=15000, heartbeat_s=5, stop_ms=30000)
+                        retry_ms=20, retry_most_ms=200, reconnect_ms=20, reconnect_most_ms=300, claim_ms=15000, heartbeat_s=5, stop_ms=30000,
+                        messages="opaque")  # the jobs are patterns, which no card reads (pattern.h)
+        if self.queues != "peat":
+            settings.update({"queue_" + kind: self.queues + "." + kind for kind in ("down", "dead", "owner")})
+            settings.update({"queue_" + kind: self.queues + "." + kind + ".{}" for kind in ("up", "words", "forward")})
         settings.update(self.more)
         settings.update(more)
         if "database" in settings:
@@ -188,8 +194,8 @@ class Stage:
     def command(self, word, config=None):
         return call(X86, "run", OUT / "bridge", word, config or self.config).returncode
 
-    def fly(self, aborts=0, down=0):
-        self.aircraft = program("aircraft", self.folder / "a{}", self.dialogues, self.decks, aborts, down, stdout=subprocess.DEVNULL)
+    def fly(self, aborts=0, down=0, reply=0, start=0):
+        self.aircraft = program("aircraft", self.folder / "a{}", self.dialogues, self.decks, aborts, down, reply, start, stdout=subprocess.DEVNULL)
         until(lambda: (self.folder / ("a%02d" % (self.dialogues - 1))).exists(), 10)
 
     def land(self):
@@ -205,7 +211,7 @@ class Stage:
             return program("killed" if point is not None or forgetful else self.built, config or self.config, env=env, at=self.at, stderr=log)
 
     def position(self, *words):
-        return call(X86, "run", OUT / "position", self.port, *words)
+        return call(X86, "run", OUT / "position", self.port, *words, env=dict(os.environ, PEAT_QUEUES=self.queues))
 
     def put(self, dialogue, payload, times=1):
         words = payload.hex()
@@ -215,6 +221,15 @@ class Stage:
             words = "@%s" % file
         if self.position("put", dialogue, times, words).returncode != 0:
             raise Broken("a payload is not stored")
+
+    def clear(self, dialogue, first, last, *heads):
+        """Jobs that are CPDLC messages, with headers."""
+        if self.position("clear", dialogue, first, last, *heads).returncode != 0:
+            raise Broken("a job is not stored")
+
+    def word(self, dialogue, text):
+        if self.position("word", dialogue, text).returncode != 0:
+            raise Broken("a word is not stored")
 
     def queue(self, word, *words):
         """Deletes a queue, or makes one."""
@@ -238,22 +253,24 @@ class Stage:
 
     def collect(self, jobs=0, rate=0):
         """A position that gives jobs and writes down what it is told."""
-        return program("position", self.port, "run", self.dialogues, jobs, rate, self.letters, stdout=subprocess.PIPE, text=True)
+        return program("position", self.port, "run", self.dialogues, jobs, rate, self.letters, env=dict(PEAT_QUEUES=self.queues), stdout=subprocess.PIPE, text=True)
 
     def told(self):
-        """id -> dialogue, type, reason, body of each letter"""
+        """id -> dialogue, type, reason (or its headers), body of each letter"""
         rows = {}
         if self.letters.exists():
             for line in self.letters.read_text().splitlines():
                 parts = line.split(" ")
                 if len(parts) == 5 and parts[4].endswith("."):
-                    rows[parts[0]] = (int(parts[1]), parts[2], parts[3], bytes.fromhex(parts[4][:-1]))
+                    rows[parts[0]] = (int(parts[1]) if parts[1].isdigit() else parts[1], parts[2], parts[3], bytes.fromhex(parts[4][:-1]))
         return rows
 
     def fates(self):
         """(dialogue, job) -> the fates that were told: ended, broken, refused"""
         rows = {}
         for dialogue, kind, _, body in self.told().values():
+            if isinstance(dialogue, str):
+                continue  # of another centre
             for job in jobs_of(body) if kind in ("ended", "broken") else [refused_job(body)] if kind == "refused" else ():
                 rows.setdefault((dialogue, job), []).append(kind)
         return rows
@@ -302,7 +319,7 @@ class Page:
         try:
             with socket.create_connection(("127.0.0.1", self.port), 10) as s:
                 s.settimeout(10)
-                s.sendall(b"GET / HTTP/1.0\r\n\r\n")
+                s.sendall(b"GET /metrics HTTP/1.0\r\n\r\n")
                 text = b""
                 while part := s.recv(65536):
                     text += part

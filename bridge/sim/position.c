@@ -1,16 +1,22 @@
 /*
  * The controllers' position, for tests with a real broker (RabbitMQ on the loopback address, user guest).
  *
- *     position PORT declare DIALOGUES              makes the queues peat.up.00 .., peat.down and peat.dead, or empties them
+ *     position PORT declare DIALOGUES [CENTRES]    makes the queues peat.up.00 .., peat.words.00 .., peat.forward.00 .., peat.down and peat.dead, or
+ *                                                  empties them
  *     position PORT run DIALOGUES JOBS RATE FILE   gives jobs 1 to JOBS of each dialogue, each three times, RATE of them a
  *                                                  second (0: as fast as it goes), and writes each letter that comes to FILE;
  *                                                  prints `given` when the broker has stored all; until SIGTERM
  *     position PORT put DIALOGUE TIMES HEX         one payload, so many times; HEX: its digits, or @ and a file that has them
+ *     position PORT clear DIALOGUE FIRST LAST [NAME=VALUE ..]   jobs that are CPDLC messages (clearance.h), with headers
+ *     position PORT forward CENTRE FIRST LAST      forwards, each twice, of flights that are named by the jobs
+ *     position PORT word DIALOGUE TEXT             a word about a dialogue
  *     position PORT depth DIALOGUES                prints how many payloads wait
  *     position PORT count QUEUE                    prints how many letters wait in it
  *     position PORT delete QUEUE                   deletes a queue, whatever is in it
  *     position PORT make QUEUE [MOST]              makes it; MOST: it holds so many, and what is given to it then is refused
  *     position verdict DIALOGUES JOBS DECKS FILE   draws up the account; status 0: its verdict is good
+ *
+ * PEAT_QUEUES has another word than peat for the names of the queues.
  *
  * A connection that is lost is made again. Jobs that were not confirmed are given again: a broker's client can not know.
  */
@@ -27,8 +33,10 @@
 #include "../jobs.h"
 #include "../log.h"
 #include "account.h"
+#include "clearance.h"
 #include "pattern.h"
 #include "peatribbon.h"
+#include "usage.h"
 
 #define CHANNEL 1
 #define WINDOW 2000 /* payloads that the broker may have to confirm */
@@ -84,10 +92,23 @@ static int connect_soon(void)
 
 /* ---- queues */
 
-static amqp_bytes_t up(unsigned dialogue)
+static const char *prefix(void) { return getenv("PEAT_QUEUES") != NULL ? getenv("PEAT_QUEUES") : "peat"; }
+
+static amqp_bytes_t queue_of(const char *kind, unsigned number)
 {
-    static char name[32];
-    snprintf(name, sizeof name, "peat.up.%02u", dialogue);
+    static char name[64];
+    snprintf(name, sizeof name, "%.20s.%s.%02u", prefix(), kind, number);
+    return amqp_cstring_bytes(name);
+}
+
+static amqp_bytes_t up(unsigned dialogue) { return queue_of("up", dialogue); }
+
+static amqp_bytes_t words(unsigned dialogue) { return queue_of("words", dialogue); }
+
+static amqp_bytes_t queue_called(const char *kind)
+{
+    static char name[64];
+    snprintf(name, sizeof name, "%.20s.%s", prefix(), kind);
     return amqp_cstring_bytes(name);
 }
 
@@ -101,13 +122,16 @@ static int make_queue(amqp_bytes_t name)
     return fine();
 }
 
-static int declare(unsigned dialogues)
+static int declare(unsigned dialogues, unsigned centres)
 {
     unsigned d;
-    for (d = 0; d < dialogues; d++)
-        if (!make_queue(up(d)))
+    for (d = 0; d < centres; d++)
+        if (!make_queue(queue_of("forward", d)))
             return 1;
-    return !make_queue(amqp_cstring_bytes("peat.down")) || !make_queue(amqp_cstring_bytes("peat.dead"));
+    for (d = 0; d < dialogues; d++)
+        if (!make_queue(up(d)) || !make_queue(words(d)))
+            return 1;
+    return !make_queue(queue_called("down")) || !make_queue(queue_called("dead"));
 }
 
 static int depth(unsigned dialogues)
@@ -154,14 +178,74 @@ static int make_limited(const char *name, const char *most)
     return !fine();
 }
 
-static int give(unsigned dialogue, const uint8_t *payload, size_t bytes)
+#define HEADS 16
+
+/* A payload with headers, each NAME=VALUE. */
+static int give_with(amqp_bytes_t queue, const uint8_t *payload, size_t bytes, int heads, char **head)
 {
+    amqp_table_entry_t entries[HEADS];
     amqp_basic_properties_t p;
-    amqp_bytes_t body = {bytes, (void *)payload};
+    amqp_bytes_t body = {bytes, (void *)(uintptr_t)payload};
+    int i;
     memset(&p, 0, sizeof p);
-    p._flags = AMQP_BASIC_DELIVERY_MODE_FLAG;
+    memset(entries, 0, sizeof entries);
+    for (i = 0; i < heads && i < HEADS; i++) {
+        size_t name = strcspn(head[i], "=");
+        entries[i].key = (amqp_bytes_t){name, head[i]};
+        entries[i].value.kind = AMQP_FIELD_KIND_UTF8;
+        entries[i].value.value.bytes = amqp_cstring_bytes(head[i] + name + (head[i][name] == '='));
+    }
+    p._flags = AMQP_BASIC_DELIVERY_MODE_FLAG | (heads > 0 ? AMQP_BASIC_HEADERS_FLAG : 0);
     p.delivery_mode = 2;
-    return amqp_basic_publish(amqp, CHANNEL, amqp_empty_bytes, up(dialogue), 0, 0, &p, body) == AMQP_STATUS_OK;
+    p.headers = (amqp_table_t){i, entries};
+    return amqp_basic_publish(amqp, CHANNEL, amqp_empty_bytes, queue, 0, 0, &p, body) == AMQP_STATUS_OK;
+}
+
+static int give(unsigned dialogue, const uint8_t *payload, size_t bytes) { return give_with(up(dialogue), payload, bytes, 0, NULL); }
+
+static int stored(int gave)
+{
+    amqp_frame_t f;
+    return gave && amqp_simple_wait_frame(amqp, &f) == AMQP_STATUS_OK;
+}
+
+static int word(unsigned dialogue, const char *text)
+{
+    amqp_confirm_select(amqp, CHANNEL);
+    return !fine() || !stored(give_with(words(dialogue), (const uint8_t *)text, strlen(text), 0, NULL));
+}
+
+static int forward(unsigned centre, uint64_t first, uint64_t last)
+{
+    uint8_t message[PEAT_BUFFER_LEAST], e[PEAT_BUFFER_LEAST];
+    char flight[32], address[] = "x-peat-address=3c65a1", direction[] = "x-peat-direction=uplink", *head[] = {flight, address, direction};
+    amqp_confirm_select(amqp, CHANNEL);
+    if (!fine())
+        return 1;
+    for (; first <= last; first++) {
+        unsigned bits = clearance_make(message, 0, first, 0);
+        uint64_t written = peat_write_envelope(PEAT_ENVELOPE_TO_SEND, first, bits, message, (bits + 7u) / 8u, e, sizeof e);
+        snprintf(flight, sizeof flight, "x-peat-flight=J%06u", (unsigned)(first % 1000000));
+        if (!stored(give_with(queue_of("forward", centre), e, peat_written_bytes(written), 3, head)) ||
+            !stored(give_with(queue_of("forward", centre), e, peat_written_bytes(written), 3, head)))
+            return 1;
+    }
+    return 0;
+}
+
+static int clear(unsigned dialogue, uint64_t first, uint64_t last, int heads, char **head)
+{
+    uint8_t message[PEAT_BUFFER_LEAST], e[PEAT_BUFFER_LEAST];
+    amqp_confirm_select(amqp, CHANNEL);
+    if (!fine())
+        return 1;
+    for (; first <= last; first++) {
+        unsigned bits = clearance_make(message, dialogue, first, 7);
+        uint64_t written = peat_write_envelope(PEAT_ENVELOPE_TO_SEND, first, bits, message, (bits + 7u) / 8u, e, sizeof e);
+        if (!stored(give_with(up(dialogue), e, peat_written_bytes(written), heads, head)))
+            return 1;
+    }
+    return 0;
 }
 
 static int put(unsigned dialogue, unsigned times, const char *hex)
@@ -246,14 +330,24 @@ static void keep_letter(struct giving *g, const amqp_envelope_t *e)
 {
     const amqp_basic_properties_t *p = &e->message.properties;
     const uint8_t *body = e->message.body.bytes;
-    amqp_bytes_t reason = amqp_cstring_bytes("-");
-    size_t i;
-    if (p->_flags & AMQP_BASIC_HEADERS_FLAG && p->headers.num_entries > 0 && p->headers.entries[0].value.kind == AMQP_FIELD_KIND_UTF8)
-        reason = p->headers.entries[0].value.value.bytes;
+    static char reason[20000]; /* of a dead one; of others all their headers, each behind a semicolon */
+    int n = p->_flags & AMQP_BASIC_HEADERS_FLAG ? p->headers.num_entries : 0;
+    size_t i, used = 0;
+    strcpy(reason, "-");
+    for (i = 0; i < (size_t)n && used < sizeof reason - 1; i++) {
+        const amqp_table_entry_t *h = &p->headers.entries[i];
+        if (h->value.kind != AMQP_FIELD_KIND_UTF8)
+            continue;
+        if (h->key.len == 13 && memcmp(h->key.bytes, "x-peat-reason", 13) == 0)
+            snprintf(reason, sizeof reason, "%.*s", (int)h->value.value.bytes.len, (const char *)h->value.value.bytes.bytes);
+        else
+            used += (size_t)snprintf(reason + used, sizeof reason - used, ";%.*s=%.*s", (int)h->key.len, (const char *)h->key.bytes, (int)h->value.value.bytes.len,
+                (const char *)h->value.value.bytes.bytes);
+    }
     put_word(g->letters, p->message_id);
     put_word(g->letters, p->correlation_id);
     put_word(g->letters, p->type);
-    put_word(g->letters, reason);
+    put_word(g->letters, amqp_cstring_bytes(reason));
     for (i = 0; i < e->message.body.len; i++)
         fprintf(g->letters, "%02x", body[i]);
     fputs(".\n", g->letters);
@@ -309,8 +403,8 @@ static int begin(struct giving *g)
         return 0;
     amqp_basic_qos(amqp, CHANNEL, 0, 500, 0);
     amqp_confirm_select(amqp, CHANNEL);
-    amqp_basic_consume(amqp, CHANNEL, amqp_cstring_bytes("peat.down"), amqp_empty_bytes, 0, 0, 0, amqp_empty_table);
-    amqp_basic_consume(amqp, CHANNEL, amqp_cstring_bytes("peat.dead"), amqp_empty_bytes, 0, 0, 0, amqp_empty_table);
+    amqp_basic_consume(amqp, CHANNEL, queue_called("down"), amqp_empty_bytes, 0, 0, 0, amqp_empty_table);
+    amqp_basic_consume(amqp, CHANNEL, queue_called("dead"), amqp_empty_bytes, 0, 0, 0, amqp_empty_table);
     return 1;
 }
 
@@ -350,16 +444,18 @@ static int run(unsigned dialogues, uint64_t jobs, uint64_t rate, const char *fil
 static int read_letters(struct account *a, const char *path)
 {
     FILE *f = fopen(path, "r");
-    static char hex[4000000], id[64], type[32], reason[64];
+    static char hex[4000000], id[64], type[32], reason[20001];
     static uint8_t body[2000000];
-    unsigned dialogue, byte;
+    char of[32];
+    unsigned byte;
     size_t n;
     if (f == NULL)
         return 0;
-    while (fscanf(f, "%63s %u %31s %63s %3999999[0-9a-f.]", id, &dialogue, type, reason, hex) == 5) {
+    while (fscanf(f, "%63s %31s %31s %20000s %3999999[0-9a-f.]", id, of, type, reason, hex) == 5) {
         for (n = 0; sscanf(hex + 2 * n, "%2x", &byte) == 1; n++)
             body[n] = (uint8_t)byte;
-        account_letter(a, id, dialogue, type, body, n);
+        if (of[0] >= '0' && of[0] <= '9') /* else it is of another centre */
+            account_letter(a, id, (unsigned)strtoul(of, NULL, 10), type, body, n);
     }
     fclose(f);
     return 1;
@@ -386,7 +482,8 @@ static unsigned number(const char *text) { return (unsigned)strtoul(text, NULL, 
 int main(int argc, char **argv)
 {
     struct sigaction s;
-    const char *word = argc > 2 ? argv[2] : "";
+    const char *verb = argc > 2 ? argv[2] : "";
+    know_words(argc, argv, "position", "usage: position PORT WORD ..; the top of bridge/sim/position.c has the words");
     memset(&s, 0, sizeof s);
     s.sa_handler = on_stop;
     sigaction(SIGTERM, &s, NULL);
@@ -395,21 +492,27 @@ int main(int argc, char **argv)
         return verdict(number(argv[2]), number(argv[3]), argv[4], argv[5]);
     if (argc > 2)
         port = (int)number(argv[1]);
-    if (argc == 7 && strcmp(word, "run") == 0)
+    if (argc == 7 && strcmp(verb, "run") == 0)
         return run(number(argv[3]), number(argv[4]), number(argv[5]), argv[6]);
     if (argc < 4 || !connect_soon())
         return 2;
-    if (strcmp(word, "declare") == 0)
-        return declare(number(argv[3]));
-    if (strcmp(word, "depth") == 0)
+    if (strcmp(verb, "declare") == 0)
+        return declare(number(argv[3]), argc > 4 ? number(argv[4]) : 0);
+    if (strcmp(verb, "depth") == 0)
         return depth(number(argv[3]));
-    if (strcmp(word, "count") == 0)
+    if (strcmp(verb, "count") == 0)
         return count_in(argv[3]);
-    if (strcmp(word, "delete") == 0)
+    if (strcmp(verb, "delete") == 0)
         return delete_queue(argv[3]);
-    if (strcmp(word, "make") == 0)
+    if (strcmp(verb, "clear") == 0 && argc >= 6)
+        return clear(number(argv[3]), number(argv[4]), number(argv[5]), argc - 6, argv + 6);
+    if (strcmp(verb, "forward") == 0 && argc == 6)
+        return forward(number(argv[3]), number(argv[4]), number(argv[5]));
+    if (strcmp(verb, "word") == 0 && argc == 5)
+        return word(number(argv[3]), argv[4]);
+    if (strcmp(verb, "make") == 0)
         return make_limited(argv[3], argc > 4 ? argv[4] : NULL);
-    if (strcmp(word, "put") == 0 && argc == 6)
+    if (strcmp(verb, "put") == 0 && argc == 6)
         return put(number(argv[3]), number(argv[4]), argv[5]);
     return 2;
 }

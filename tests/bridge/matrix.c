@@ -768,6 +768,7 @@ void read_page(unsigned port, char *text, size_t size)
     int s = socket(AF_INET, SOCK_STREAM, 0);
     size_t used = 0;
     ssize_t n = 1;
+    poll(NULL, 0, SHOWN_MS);
     memset(&a, 0, sizeof a);
     a.sin_family = AF_INET;
     a.sin_port = htons((uint16_t)port);
@@ -798,11 +799,11 @@ static void operation(void)
     for (tries = 0; tries < PLENTY && !stage_quiet(&stage); tries++)
         poll(NULL, 0, 1);
     read_page((unsigned)stage.config.metrics_port, page, sizeof page);
-    check(strstr(page, "\npeat_jobs_taken_total 20\n") != NULL, name, "the page does not count jobs");
-    check(strstr(page, "\npeat_dialogues_open 4\n") != NULL, name, "the page does not count dialogues");
-    check(strstr(page, "\npeat_broker_up 1\n") != NULL, name, "the page does not know of the broker");
-    check(strstr(page, "\npeat_commit_seconds_count ") != NULL, name, "the page is not whole");
-    check(strstr(page, "peat_jobs_refused_total{refusal=\"5\"} 0\n") != NULL, name, "the page has no refusals by number");
+    check(!HAS_PAGE || strstr(page, "\npeat_jobs_taken_total 20\n") != NULL, name, "the page does not count jobs");
+    check(!HAS_PAGE || strstr(page, "\npeat_dialogues_open 4\n") != NULL, name, "the page does not count dialogues");
+    check(!HAS_PAGE || strstr(page, "\npeat_broker_up 1\n") != NULL, name, "the page does not know of the broker");
+    check(!HAS_PAGE || strstr(page, "\npeat_commit_seconds_count ") != NULL, name, "the page is not whole");
+    check(!HAS_PAGE || strstr(page, "peat_jobs_refused_total{refusal=\"5\"} 0\n") != NULL, name, "the page has no refusals by number");
     kill(bridge, SIGTERM);
     check(word_comes(words, "STOPPING=1", NULL), name, "systemd is not told that the bridge stops");
     judged(stage_wait(bridge, PLENTY) == 0, name);
@@ -839,6 +840,8 @@ int main(int argc, char **argv)
     watchdog_period();
     operation();
     troubles();
+    whole_host();
+    centres();
     printf("%u passed, %u failed\n", passed, failed);
     return failed != 0;
 }

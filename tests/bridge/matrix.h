@@ -22,10 +22,24 @@ void judged(int stopped, const char *name);
 unsigned letters_of(const char *type, const char *reason);
 /* a port of the loopback address that is free now */
 unsigned free_port(void);
+#ifdef NO_PAGE
+#define HAS_PAGE 0 /* this bridge was built without libmicrohttpd */
+#else
+#define HAS_PAGE 1
+#endif
+#define SHOWN_MS 60 /* what the page shows is a round and 20 ms behind */
 void read_page(unsigned port, char *text, size_t size);
 
 /* ---- troubles.c: what must not stall the bridge, nor lock up a dialogue */
 
 void troubles(void);
+
+/* ---- whole.c: message numbers, the message itself, and what comes beside it */
+
+void whole_host(void);
+
+/* ---- centres.c: two centres, and forwards between them */
+
+void centres(void);
 
 #endif

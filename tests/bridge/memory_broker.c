@@ -41,22 +41,27 @@ void memory_empty(struct memory *m, unsigned prefetch)
     m->prefetch = prefetch;
     m->letters = m->stale = m->deliveries = m->redeliveries = 0;
     m->given = m->confirmed = 0;
-    for (d = 0; d < DIALOGUES_MOST; d++)
+    for (d = 0; d < QUEUES_MOST; d++)
         m->queue[d].put = m->queue[d].gone = m->queue[d].next = m->queue[d].deleted = 0;
 }
 
-void memory_put(struct memory *m, unsigned dialogue, const uint8_t *payload, size_t bytes, int late)
+static void put(struct memory *m, unsigned queue, const uint8_t *payload, size_t bytes, int late, const char *heads)
 {
-    struct memory_queue *q = &m->queue[dialogue];
+    struct memory_queue *q = &m->queue[queue];
     struct memory_payload *p = &q->payload[q->put];
-    if (q->put == MEMORY_PAYLOADS || bytes > MEMORY_BYTES)
+    if (q->put == MEMORY_PAYLOADS || bytes > MEMORY_BYTES || strlen(heads) >= sizeof p->heads)
         abort();
     p->bytes = bytes;
     p->late = late;
+    strcpy(p->heads, heads);
     p->tag = 0;
     memcpy(p->byte, payload, bytes);
     __atomic_store_n(&q->put, q->put + 1, __ATOMIC_RELEASE);
 }
+
+void memory_put(struct memory *m, unsigned queue, const uint8_t *payload, size_t bytes, int late) { put(m, queue, payload, bytes, late, ""); }
+
+void memory_put_with(struct memory *m, unsigned queue, const uint8_t *payload, size_t bytes, const char *heads) { put(m, queue, payload, bytes, 0, heads); }
 
 void memory_lost(struct memory *m)
 {
@@ -65,7 +70,7 @@ void memory_lost(struct memory *m)
         m->letters -= (unsigned)(m->given - m->confirmed);
     m->owner = m->cut = 0;
     m->given = m->confirmed = 0;
-    for (d = 0; d < DIALOGUES_MOST; d++) {
+    for (d = 0; d < QUEUES_MOST; d++) {
         struct memory_queue *q = &m->queue[d];
         m->redeliveries += q->next - q->gone;
         q->next = q->gone;
@@ -77,7 +82,7 @@ void memory_lost(struct memory *m)
 int memory_idle(const struct memory *m)
 {
     unsigned d;
-    for (d = 0; d < DIALOGUES_MOST; d++)
+    for (d = 0; d < QUEUES_MOST; d++)
         if (m->queue[d].gone != m->queue[d].put)
             return 0;
     return m->owner && m->rounds > QUIET_ROUNDS && m->missing == 0 && m->outbox == 0 && m->given == m->confirmed;
@@ -140,7 +145,7 @@ static int about_queue(struct memory *m, unsigned dialogue, struct broker_event 
 static int about_queues(struct memory *m, struct broker_event *event)
 {
     unsigned d;
-    for (d = 0; d < DIALOGUES_MOST; d++)
+    for (d = 0; d < QUEUES_MOST; d++)
         if (about_queue(m, d, event))
             return 1;
     return 0;
@@ -187,6 +192,7 @@ static int deliver(struct ends *e, unsigned dialogue, struct broker_event *event
     event->receipt = (struct receipt){m->connection, p->tag};
     event->payload = p->byte;
     event->bytes = p->bytes;
+    event->heads = p->heads;
     return 1;
 }
 
@@ -209,8 +215,8 @@ static struct broker_event memory_next(struct broker *b)
         answer_letter(e->memory, &event);
     } else if (!about_queues(e->memory, &event)) {
         e->memory->rounds++;
-        for (n = 0; n < DIALOGUES_MOST && e->memory->rounds > SLOW_ROUNDS; n++)
-            if (deliver(e, e->turn = (e->turn + 1) % DIALOGUES_MOST, &event))
+        for (n = 0; n < QUEUES_MOST && e->memory->rounds > SLOW_ROUNDS; n++)
+            if (deliver(e, e->turn = (e->turn + 1) % QUEUES_MOST, &event))
                 break;
         if (event.news == BROKER_DELIVERY && e->memory->cut == 2)
             e->memory->cut = 1;
@@ -239,6 +245,7 @@ static void store(struct memory *m, const struct letter *l)
     snprintf(to->type, sizeof to->type, "%s", l->type);
     snprintf(to->reason, sizeof to->reason, "%s", l->reason);
     to->dialogue = l->dialogue;
+    snprintf(to->heads, sizeof to->heads, "%s", l->heads);
     to->bytes = l->bytes < MEMORY_BODY ? l->bytes : MEMORY_BODY;
     memcpy(to->body, l->body, to->bytes);
     m->letters++;
@@ -278,7 +285,7 @@ static int memory_buffered(struct broker *b)
 {
     struct ends *e = ends_of(b);
     unsigned d;
-    for (d = 0; d < DIALOGUES_MOST; d++) {
+    for (d = 0; d < QUEUES_MOST; d++) {
         struct memory_queue *q = &e->memory->queue[d];
         if (q->asked != 0 || q->handing || (q->consumed && (q->deleted || (q->next < q->put && q->next - q->gone < e->memory->prefetch))))
             return 1;

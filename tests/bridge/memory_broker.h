@@ -17,11 +17,13 @@
 #define MEMORY_BYTES 4096   /* of a payload */
 #define MEMORY_LETTERS 8192
 #define MEMORY_BODY 512     /* of a letter, as kept */
+#define MEMORY_HEADS 256    /* of a payload's headers, and of a letter's as kept */
 
 struct memory_payload {
     size_t bytes;
     int late; /* delivered only when its dialogue is not open any more, or after a while: as bad as a broker can be */
     uint64_t tag; /* 0: not delivered on this connection */
+    char heads[MEMORY_HEADS];
     uint8_t byte[MEMORY_BYTES];
 };
 
@@ -39,6 +41,7 @@ struct memory_letter {
     char id[48], type[16], reason[16];
     unsigned dialogue;
     size_t bytes;
+    char heads[MEMORY_HEADS];
     uint8_t body[MEMORY_BODY];
 };
 
@@ -58,7 +61,7 @@ struct memory {
     uint64_t outbox;        /* the letters that it has, */
     uint64_t missing;       /* and the dialogues that it has not */
     unsigned prefetch, letters, stale, deliveries, redeliveries;
-    struct memory_queue queue[DIALOGUES_MOST];
+    struct memory_queue queue[QUEUES_MOST]; /* by their numbers (config.h) */
     struct memory_letter letter[MEMORY_LETTERS];
 };
 
@@ -66,8 +69,9 @@ struct memory {
 struct memory *memory_make(unsigned prefetch);
 void memory_empty(struct memory *, unsigned prefetch);
 
-/* A payload for a dialogue. */
-void memory_put(struct memory *, unsigned dialogue, const uint8_t *payload, size_t bytes, int late);
+/* A payload for a queue; with headers (heads.h). */
+void memory_put(struct memory *, unsigned queue, const uint8_t *payload, size_t bytes, int late);
+void memory_put_with(struct memory *, unsigned queue, const uint8_t *payload, size_t bytes, const char *heads);
 
 /* The bridge's process is gone: its connection is lost. */
 void memory_lost(struct memory *);

@@ -33,6 +33,9 @@ uint64_t peat_start(RECORD, uint64_t number, uint64_t mode, uint64_t class_, uin
     ASK(START_REQUEST, BASE, WITH_MESSAGE, .number = number, .n = {mode, class_, security});
 }
 uint64_t peat_start_response(RECORD, uint64_t result, MESSAGE_DATA, BUFFERS) { ASK(START_RESPONSE, BASE, WITH_MESSAGE, .n = {result}); }
+uint64_t peat_dsc_start_response(RECORD, uint64_t result, MESSAGE_DATA, BUFFERS) { ASK(DSC_START_RESPONSE, BASE, WITH_MESSAGE, .n = {result}); }
+uint64_t peat_dsc_end_request(RECORD, MESSAGE_DATA, BUFFERS) { ASK(DSC_END_REQUEST, BASE, WITH_MESSAGE); }
+uint64_t peat_dsc_end_response(RECORD, uint64_t result, MESSAGE_DATA, BUFFERS) { ASK(DSC_END_RESPONSE, BASE, WITH_MESSAGE, .n = {result}); }
 uint64_t peat_message_request(RECORD, uint64_t job, MESSAGE_DATA, BUFFERS) { ASK(MESSAGE_REQUEST, BASE, WITH_MESSAGE, .n = {job}); }
 uint64_t peat_end_request(RECORD, MESSAGE_DATA, BUFFERS) { ASK(END_REQUEST, BASE, WITH_MESSAGE); }
 uint64_t peat_end_response(RECORD, uint64_t result, MESSAGE_DATA, BUFFERS) { ASK(END_RESPONSE, BASE, WITH_MESSAGE, .n = {result}); }
@@ -70,6 +73,10 @@ uint64_t peat_forward_part(uint64_t which, const uint8_t *delivered, size_t deli
 {
     ASK(FORWARD_PART, .n = {which}, .bytes = lent(delivered, delivered_len), .first = {out, out_len});
 }
+uint64_t peat_read_forward(const uint8_t *delivered, size_t delivered_len, uint8_t *heading, size_t heading_len, uint8_t *out, size_t out_len)
+{
+    ASK(READ_FORWARD, .bytes = lent(delivered, delivered_len), .ids = {heading, heading_len}, .first = {out, out_len});
+}
 uint64_t peat_read_envelope(const uint8_t *bytes, size_t bytes_len, uint8_t *job, size_t job_len)
 {
     ASK(READ_ENVELOPE, .bytes = lent(bytes, bytes_len), .first = {job, job_len});
@@ -77,4 +84,12 @@ uint64_t peat_read_envelope(const uint8_t *bytes, size_t bytes_len, uint8_t *job
 uint64_t peat_write_envelope(uint64_t kind, uint64_t job, uint64_t bits, const uint8_t *body, size_t body_len, uint8_t *out, size_t out_len)
 {
     ASK(WRITE_ENVELOPE, .n = {kind, job, bits}, .msgs = lent(body, body_len), .first = {out, out_len});
+}
+uint64_t peat_read_message(uint64_t direction, const uint8_t *bits, size_t bits_len, uint64_t count, uint8_t *message, size_t message_len, uint8_t *text, size_t text_len)
+{
+    ASK(READ_MESSAGE, .n = {direction, count}, .bytes = lent(bits, bits_len), .rec = {message, message_len}, .first = {text, text_len});
+}
+uint64_t peat_write_message(uint64_t direction, const uint8_t *message, size_t message_len, const uint8_t *text, size_t text_len, uint8_t *out, size_t out_len)
+{
+    ASK(WRITE_MESSAGE, .n = {direction}, .ids = lent(message, message_len), .msgs = lent(text, text_len), .first = {out, out_len});
 }

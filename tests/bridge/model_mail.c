@@ -20,17 +20,22 @@ static uint64_t finished(size_t taken)
         (uint64_t)(PEAT_MAIL_HEAD + model.body) << PEAT_ENVELOPE_BODY_AT | (uint64_t)taken << PEAT_ENVELOPE_NEXT_AT;
 }
 
-uint64_t peat_mail_take(uint8_t *mail, size_t mail_len, const uint8_t *fragment, size_t fragment_len)
+uint64_t peat_mail_take(uint8_t *mail, size_t mail_len, const uint8_t *fragment, size_t fragment_len, uint8_t *job, size_t job_len)
 {
     enum event e = model.refusal != 0 ? REFUSED : MORE;
     size_t n = 0;
     (void)mail_len;
+    if (job_len != PEAT_JOB_BYTES)
+        return PEAT_SHAPE;
     while (e == MORE && n < fragment_len)
         e = model_feed(&model, fragment[n++]);
     model_record(&model, mail);
     if (e == REFUSED)
         return model.refusal;
-    return e == FINISHED ? finished(n) : (uint64_t)n << PEAT_ENVELOPE_NEXT_AT;
+    if (e != FINISHED)
+        return (uint64_t)n << PEAT_ENVELOPE_NEXT_AT;
+    model_job(&model, job);
+    return finished(n);
 }
 
 uint64_t peat_mail_end(uint8_t *mail, size_t mail_len)

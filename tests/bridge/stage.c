@@ -13,6 +13,7 @@
 
 #include "../../bridge/clock.h"
 #include "../../bridge/log.h"
+#include "../../bridge/sim/clearance.h"
 #include "../../bridge/sim/pattern.h"
 #include "../../bridge/witness.h"
 #include "disk.h"
@@ -84,7 +85,7 @@ static void on_stop(int signal)
 
 static int decided_a_job(const struct bridge *b)
 {
-    uint64_t n = b->metrics.taken + b->metrics.dead;
+    uint64_t n = b->metrics.taken + b->metrics.dead + b->metrics.forwards_received;
     int i;
     for (i = 0; i < REFUSALS; i++)
         n += b->metrics.refused[i];
@@ -107,14 +108,18 @@ static void run_bridge(struct stage *s)
     struct journal j;
     struct broker broker;
     struct link link;
-    struct page page;
+    struct page *page;
+    const char *why;
     struct sigaction a;
     memset(&a, 0, sizeof a);
     a.sa_handler = on_stop;
     sigaction(SIGTERM, &a, NULL);
     redirect(s, "log", STDERR_FILENO);
-    if (!page_open(&page, (unsigned)s->config.metrics_port))
+    page = page_open(&s->config, &why);
+#ifndef NO_PAGE
+    if (why != NULL)
         _exit(98);
+#endif
     if (s->notify[0] != '\0') {
         setenv("NOTIFY_SOCKET", s->notify, 1);
         setenv("WATCHDOG_USEC", "40000", 1);
@@ -122,9 +127,9 @@ static void run_bridge(struct stage *s)
     disk_install(plan.failing_sync);
     journal_open(&j, &s->config, JOURNAL_RUN);
     witness_admit(s->config.witness, &j);
-    link_open_packet(&link, s->config.link);
+    link_open_packet(&link, &s->config);
     memory_open(&broker, s->memory, &b);
-    bridge_begin(&b, &s->config, &j, &broker, &link, &page);
+    bridge_begin(&b, &s->config, &j, &broker, &link, page);
     bridge_run(&b, &stop);
 }
 
@@ -179,7 +184,9 @@ static void configure(struct stage *s, unsigned dialogues)
     snprintf(c->witness, sizeof c->witness, "%s/witness", s->folder);
     snprintf(c->link, sizeof c->link, "%s/a{}", s->folder);
     snprintf(c->queue_owner, sizeof c->queue_owner, "owner");
+    snprintf(c->page_address, sizeof c->page_address, "127.0.0.1");
     c->dialogues = dialogues;
+    c->opaque = 1; /* the jobs of most tests are patterns, which no card reads (pattern.h) */
     c->t_start = 2000;
     c->retry = c->reconnect = 2;
     c->retry_most = c->reconnect_most = 20;
@@ -204,18 +211,19 @@ void stage_set(struct stage *s, const char *folder, struct memory *m, unsigned d
 
 void stage_aircraft(struct stage *s, unsigned abort_once_in, unsigned down_once_in)
 {
-    char number[12], aborts[12], down[12];
-    char *words[] = {"aircraft", s->config.link, number, s->account_file, aborts, down, NULL};
+    char number[12], aborts[12], down[12], reply[12];
+    char *words[] = {"aircraft", s->config.link, number, s->account_file, aborts, down, reply, s->config.starts[0] != STARTS_GROUND ? "1" : "0", NULL};
     char last[160];
     struct stat there;
     uint64_t until = now_ms() + PLENTY;
     snprintf(number, sizeof number, "%u", (unsigned)s->config.dialogues);
     snprintf(aborts, sizeof aborts, "%u", abort_once_in);
     snprintf(down, sizeof down, "%u", down_once_in);
+    snprintf(reply, sizeof reply, "%u", s->reply);
     s->aircraft = spawn();
     if (s->aircraft == 0) {
         redirect(s, "aircraft", STDOUT_FILENO);
-        exit(aircraft_main(6, words));
+        exit(aircraft_main(8, words));
     }
     config_name(s->config.link, (unsigned)s->config.dialogues - 1, last, sizeof last);
     while (stat(last, &there) != 0 && now_ms() < until)
@@ -229,6 +237,17 @@ void stage_job(struct stage *s, unsigned dialogue, uint64_t job, unsigned times,
     uint64_t written = peat_write_envelope(PEAT_ENVELOPE_TO_SEND, job, 8 * n, message, n, e, sizeof e);
     while (times-- > 0) {
         memory_put(s->memory, dialogue, e, peat_written_bytes(written), late);
+        account_job(&s->account, dialogue, job)->given++;
+    }
+}
+
+void stage_clearance(struct stage *s, unsigned dialogue, uint64_t job, unsigned times, const char *heads)
+{
+    uint8_t message[PEAT_BUFFER_LEAST], e[PEAT_BUFFER_LEAST];
+    unsigned bits = clearance_make(message, dialogue, job, 7); /* every position's number is 7 */
+    uint64_t written = peat_write_envelope(PEAT_ENVELOPE_TO_SEND, job, bits, message, (bits + 7u) / 8u, e, sizeof e);
+    while (times-- > 0) {
+        memory_put_with(s->memory, dialogue, e, peat_written_bytes(written), heads);
         account_job(&s->account, dialogue, job)->given++;
     }
 }
@@ -289,11 +308,14 @@ int stage_play(struct stage *s, const struct plan *plans, unsigned count)
 static void read_deck_line(struct stage *s)
 {
     FILE *f = fopen(s->account_file, "r");
-    unsigned long delivered, duplicates, disorder = 0, damaged = 0, opened = 0;
-    if (f != NULL && fscanf(f, "# delivered %lu duplicates %lu disorder %lu damaged %lu opened %lu", &delivered, &duplicates, &disorder, &damaged, &opened) == 5) {
+    unsigned long delivered, duplicates, disorder = 0, damaged = 0, opened = 0, numbers = 0, twice = 0;
+    if (f != NULL && fscanf(f, "# delivered %lu duplicates %lu disorder %lu damaged %lu opened %lu ended %*u aborted %*u failed %*u refused %*u down %*u numbers %lu twice %lu",
+                         &delivered, &duplicates, &disorder, &damaged, &opened, &numbers, &twice) == 7) {
         s->disorder = disorder;
         s->damaged = damaged;
         s->opened = opened;
+        s->numbers = numbers;
+        s->twice = twice;
     }
     if (f != NULL)
         fclose(f);
@@ -308,7 +330,8 @@ int stage_judge(struct stage *s)
     read_deck_line(s);
     for (i = 0; i < s->memory->letters; i++) {
         const struct memory_letter *l = &s->memory->letter[i];
-        account_letter(&s->account, l->id, l->dialogue, l->type, l->body, l->bytes);
+        if (l->dialogue < DIALOGUES_MOST)
+            account_letter(&s->account, l->id, l->dialogue, l->type, l->body, l->bytes);
     }
     s->verdict = account_verdict(&s->account);
     return verdict_good(&s->verdict) && s->damaged == 0 && s->disorder == 0 && s->account.odd == 0 && s->memory->stale == 0;

@@ -27,6 +27,8 @@ struct stage {
     struct verdict verdict;
     unsigned kills;
     uint64_t opened, disorder, damaged; /* of the aircraft */
+    uint64_t numbers, twice;            /* CPDLC messages that the flight decks saw, and those with a number that was open there */
+    unsigned reply;                     /* once in so many messages the flight decks answer what they have not answered; 0: never */
     char notify[100]; /* a socket for words to systemd; empty: none */
 };
 
@@ -36,6 +38,9 @@ void stage_aircraft(struct stage *, unsigned abort_once_in, unsigned down_once_i
 
 /* A job for a dialogue: a payload with one envelope, so many times; late: see memory_broker.h. */
 void stage_job(struct stage *, unsigned dialogue, uint64_t job, unsigned times, int late);
+
+/* A job that is a CPDLC message (clearance.h), with headers. */
+void stage_clearance(struct stage *, unsigned dialogue, uint64_t job, unsigned times, const char *heads);
 
 /* One bridge. Until it is told to stop, or dies by its plan. */
 pid_t stage_bridge(struct stage *, struct plan);

@@ -17,7 +17,7 @@ __attribute__((constructor)) static void choose_disk(void)
 
 static int decided_a_job(const struct bridge *b)
 {
-    uint64_t n = b->metrics.taken + b->metrics.dead;
+    uint64_t n = b->metrics.taken + b->metrics.dead + b->metrics.forwards_received;
     int i;
     for (i = 0; i < REFUSALS; i++)
         n += b->metrics.refused[i];

@@ -38,6 +38,7 @@ static uint64_t card_call(enum which w, const struct args *a)
     case WRITE_ENVELOPE: return peat_write_envelope(n[0], n[1], n[2], a->msgs.at, a->msgs.len, a->first.at, a->first.len);
     case DATA_PART: return peat_data_part(n[0], a->bytes.at, a->bytes.len, a->first.at, a->first.len);
     case FORWARD_PART: return peat_forward_part(n[0], a->bytes.at, a->bytes.len, a->first.at, a->first.len);
+    case READ_FORWARD: return peat_read_forward(a->bytes.at, a->bytes.len, a->ids.at, a->ids.len, a->first.at, a->first.len);
     case READ_APDU: return peat_read_apdu(n[0], a->bytes.at, a->bytes.len);
     case READ_MESSAGE: return peat_read_message(n[0], a->bytes.at, a->bytes.len, n[1], a->rec.at, a->rec.len, a->first.at, a->first.len);
     case WRITE_MESSAGE: return peat_write_message(n[0], a->ids.at, a->ids.len, a->msgs.at, a->msgs.len, a->first.at, a->first.len);
@@ -54,6 +55,6 @@ static const char *const names[CALLS] = {
     "peat_dsc_end_request", "peat_end_response", "peat_dsc_end_response", "peat_user_abort", "peat_forward_request",
     "peat_timer_expiry", "peat_system_error", "peat_d_start_indication", "peat_d_start_confirmation", "peat_d_data_indication", "peat_d_end_indication",
     "peat_d_end_confirmation", "peat_d_abort_indication", "peat_d_p_abort_indication", "peat_fresh", "peat_read_envelope", "peat_write_envelope",
-    "peat_data_part", "peat_forward_part", "peat_read_apdu", "peat_read_message", "peat_write_message"};
+    "peat_data_part", "peat_forward_part", "peat_read_forward", "peat_read_apdu", "peat_read_message", "peat_write_message"};
 
 #endif

@@ -122,7 +122,7 @@ static int can_refuse(enum which w, unsigned x)
         return x == PEAT_ROOM || x == PEAT_SHAPE;
     if (w == DATA_PART)
         return x == PEAT_ROOM || x == PEAT_SHAPE || x == PEAT_SHORT || (x >= PEAT_EXTENSION && x <= PEAT_TAIL);
-    if (w == FORWARD_PART)
+    if (w == FORWARD_PART || w == READ_FORWARD)
         return x == PEAT_ROOM || x == PEAT_SHAPE || x == PEAT_SHORT || x == PEAT_RANGE || x == PEAT_LENGTH_FORM || x == PEAT_TAIL;
     if (w == READ_APDU)
         return x == PEAT_SHAPE || (x >= PEAT_SHORT && x <= PEAT_TAIL) || x == PEAT_DEFAULT;
@@ -136,7 +136,7 @@ static int can_refuse(enum which w, unsigned x)
 /* the position in a refusal: of a call that reads bits, at most the bits that it was lent; of any other, and of ROOM and SHAPE, 0 */
 static int position_fits(enum which w, const struct args *a, uint64_t said)
 {
-    size_t bits = w == READ_MESSAGE ? (size_t)a->n[1] : w == DATA_PART || w == FORWARD_PART || w == READ_APDU ? 8 * a->bytes.len : 0;
+    size_t bits = w == READ_MESSAGE ? (size_t)a->n[1] : w == DATA_PART || w == FORWARD_PART || w == READ_FORWARD || w == READ_APDU ? 8 * a->bytes.len : 0;
     return peat_position(said) <= (peat_refusal(said) < PEAT_SHORT ? 0 : bits);
 }
 
@@ -571,8 +571,10 @@ static void random_call(enum which w, struct args *a)
         random_content(a);
     if (w == DATA_PART)
         random_part(a);
-    if (w == FORWARD_PART)
+    if (w == FORWARD_PART || w == READ_FORWARD)
         random_forward(a);
+    if (w == READ_FORWARD)
+        lend(a, 1, once_in(60) ? below(100) : PEAT_HEADING_BYTES);
     if (w == READ_APDU) {
         random_apdu(a);
         a->n[0] = once_in(40) ? any() : once_in(40) ? below(4) : 1 + below(2);
@@ -1488,7 +1490,8 @@ static uint64_t hears(uint64_t held, unsigned version)
 static void takes_apart(size_t bytes)
 {
     static const uint64_t want[] = {2026, 11, 15, 12, 30, 59, 6, UINT64_C(0x2141AEC5933), 0x400123, PEAT_FORWARD_DOWNLINK, 12};
-    static uint8_t out[PEAT_BUFFER_LEAST], delivered[64];
+    static uint8_t out[PEAT_BUFFER_LEAST], delivered[64], heading[PEAT_HEADING_BYTES];
+    uint8_t before[PEAT_HEADING_BYTES];
     unsigned i;
     int right = 1;
     check(bytes == 16 && second[0] == 0x3D, "an ATCForwardMessage from its first bit on, of 123 bits");
@@ -1498,6 +1501,16 @@ static void takes_apart(size_t bytes)
         right &= peat_refusal(n) == PEAT_TAKEN && peat_forward_value(n) == want[i];
     }
     check(right && peat_forward_bytes(12 << 8) == 2 && out[0] == 0xF4 && out[1] == 0, "each part of a forward message");
+    memset(out, 0xC3, sizeof out);
+    right = peat_read_forward(delivered, bytes, PEAT_ARRAY(heading), PEAT_ARRAY(out)) == 12 << 8;
+    for (i = 0; i < PEAT_FORWARD_MESSAGE; i++)
+        right &= peat_heading_value(heading, (enum peat_forward_part)i) == want[i];
+    check(right && out[0] == 0xF4 && out[1] == 0 && out[2] == 0xC3, "all parts of a forward message at once");
+    memcpy(before, heading, sizeof before);
+    check(peat_refusal(peat_read_forward(delivered, bytes - 1, PEAT_ARRAY(heading), PEAT_ARRAY(out))) == PEAT_SHORT &&
+        peat_read_forward(delivered, bytes, heading, sizeof heading - 1, PEAT_ARRAY(out)) == PEAT_SHAPE &&
+        peat_read_forward(delivered, bytes, heading, sizeof heading - 1, out, sizeof out - 1) == PEAT_ROOM &&
+        memcmp(before, heading, sizeof before) == 0, "one that is cut, a short heading, a short buffer; the heading stays");
     check(peat_flight_character(want[7], 6, 0) == 'B' && peat_flight_character(want[7], 6, 5) == '3', "the characters of the flight identification");
     check(peat_refusal(peat_forward_part(PEAT_FORWARD_YEAR, delivered, bytes - 1, PEAT_ARRAY(out))) == PEAT_SHORT &&
         peat_forward_part(PEAT_FORWARD_MESSAGE + 1, delivered, bytes, PEAT_ARRAY(out)) == PEAT_SHAPE &&
@@ -1638,7 +1651,7 @@ static void forward_everywhere(void)
 /* the largest forward: eight characters and 16,383 bits */
 static void largest_forward(void)
 {
-    static uint8_t text[2049], out[PEAT_BUFFER_LEAST], delivered[PEAT_BUFFER_LEAST];
+    static uint8_t text[2049], out[PEAT_BUFFER_LEAST], delivered[PEAT_BUFFER_LEAST], heading[PEAT_HEADING_BYTES];
     uint64_t n, flight = peat_flight("ABCDEFGH", 8);
     centres(PEAT_FORWARDS, 255, 255);
     fill(text, sizeof text);
@@ -1647,8 +1660,8 @@ static void largest_forward(void)
     n = sent(peat_d_start_indication(OTHER_REC, 1, PEAT_FACILITY, 0, 1, 1, 0, 255, LINE, BUFFERS));
     check(peat_told(n) == PEAT_FORWARD_INDICATION && peat_data_bits(n) == 16516, "it is delivered whole");
     memcpy(delivered, second, peat_data_bytes(n));
-    n = peat_forward_part(PEAT_FORWARD_MESSAGE, delivered, peat_data_bytes(n), PEAT_ARRAY(out));
-    check(peat_forward_value(n) == 16383 && peat_forward_bytes(n) == 2048 && memcmp(out, text, 2047) == 0, "and taken apart");
+    n = peat_read_forward(delivered, peat_data_bytes(n), PEAT_ARRAY(heading), PEAT_ARRAY(out));
+    check(peat_heading_value(heading, PEAT_FORWARD_FLIGHT) == flight && peat_forward_value(n) == 16383 && peat_forward_bytes(n) == 2048 && memcmp(out, text, 2047) == 0, "and taken apart");
     centres(PEAT_FORWARDS, 255, 255);
     check(peat_forward_request(GROUND_REC, 1, 0, 0, 2095, 12, 31, 23, 59, 59, 8, flight, 0, 1, text, 2049, 16384, BUFFERS) == PEAT_SHAPE, "16,384 bits");
     check(peat_forward_request(GROUND_REC, 1, 0, 0, 2095, 12, 31, 23, 59, 59, 8, flight, 0, 1, text, 2047, 16383, BUFFERS) == PEAT_SHAPE,

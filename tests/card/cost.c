@@ -93,6 +93,9 @@ static const struct row rows[] = {
     {"message of 8 bits", FORWARD_PART, 1, PEAT_IDLE, 0, {PEAT_FORWARD_MESSAGE}, LEAST, PDU_NONE},
     {"message of 2,048 bits", FORWARD_PART, 1, PEAT_IDLE, 0, {PEAT_FORWARD_MESSAGE}, MIDDLE, PDU_NONE},
     {"largest message", FORWARD_PART, 1, PEAT_IDLE, 0, {PEAT_FORWARD_MESSAGE}, LARGEST, PDU_NONE},
+    {"message of 8 bits", READ_FORWARD, 1, PEAT_IDLE, 0, {0}, LEAST, PDU_NONE},
+    {"message of 2,048 bits", READ_FORWARD, 1, PEAT_IDLE, 0, {0}, MIDDLE, PDU_NONE},
+    {"largest message", READ_FORWARD, 1, PEAT_IDLE, 0, {0}, LARGEST, PDU_NONE},
     {"a forward, largest message", READ_APDU, 1, PEAT_IDLE, 0, {PEAT_GROUND_PDUS}, LARGEST, PDU_FORWARD},
     {"a send, message of 8 bits", READ_APDU, 1, PEAT_IDLE, 0, {PEAT_GROUND_PDUS}, LEAST, PDU_SEND},
     {"a send, message of 2,048 bits", READ_APDU, 1, PEAT_IDLE, 0, {PEAT_GROUND_PDUS}, MIDDLE, PDU_SEND},
@@ -108,7 +111,7 @@ static const struct row rows[] = {
 };
 #define ROWS (sizeof rows / sizeof rows[0])
 
-static uint8_t rec[PEAT_RECORD_BYTES], ids[16], msgs[(PEAT_MESSAGE_MOST + 7) / 8], checks[8], bytes[PEAT_BUFFER_LEAST], first[PEAT_BUFFER_LEAST], second[PEAT_BUFFER_LEAST];
+static uint8_t rec[PEAT_RECORD_BYTES], heading[PEAT_HEADING_BYTES], ids[16], msgs[(PEAT_MESSAGE_MOST + 7) / 8], checks[8], bytes[PEAT_BUFFER_LEAST], first[PEAT_BUFFER_LEAST], second[PEAT_BUFFER_LEAST];
 static struct args args;
 static struct bits bits;
 
@@ -235,7 +238,7 @@ static void prepare(const struct row *r)
     args.rec = (struct range){rec, sizeof rec};
     args.first = (struct range){first, sizeof first};
     args.second = (struct range){second, sizeof second};
-    args.message = r->which == MESSAGE_REQUEST || r->which == D_DATA_INDICATION || r->which == FORWARD_REQUEST || r->which == FORWARD_PART || r->pdu == PDU_FORWARD ? 8 : NONE;
+    args.message = r->which == MESSAGE_REQUEST || r->which == D_DATA_INDICATION || r->which == FORWARD_REQUEST || r->which == FORWARD_PART || r->which == READ_FORWARD || r->pdu == PDU_FORWARD ? 8 : NONE;
     args.msgs = (struct range){msgs, 1};
     if (r->size != LEAST) {
         args.message = r->size == MIDDLE ? 2048 : PEAT_MESSAGE_MOST, args.check = 64;
@@ -259,10 +262,11 @@ static void prepare(const struct row *r)
         put_data(&bits, &args);
         args.bytes = (struct range){bytes, whole(&bits, bytes)};
     }
-    if (r->which == FORWARD_PART) {
+    if (r->which == FORWARD_PART || r->which == READ_FORWARD) {
         bits.n = 0;
         put_forward();
         args.bytes = (struct range){bytes, whole(&bits, bytes)};
+        args.ids = (struct range){heading, sizeof heading};
     }
     if (r->which == READ_MESSAGE || r->which == WRITE_MESSAGE)
         put_message(r);

@@ -854,11 +854,19 @@ static uint64_t data_part(struct args *a)
     return 1 << 8 | (uint64_t)out.n << 16;
 }
 
-/* ---- a part of a forward message */
+/* ---- a part of a forward message, and all of them */
+
+static uint64_t forward_bits(struct args *a, struct reader *r, const struct forwarded *f)
+{
+    static struct bits out;
+    for (out.n = 0, r->at = f->bits; out.n < f->count;)
+        put(&out, get(r, 1), 1);
+    whole(&out, a->first.at);
+    return (uint64_t)f->count << 8;
+}
 
 static uint64_t forward_part(struct args *a)
 {
-    static struct bits out;
     struct forwarded f;
     struct reader r = reader_of(a->bytes, 8 * a->bytes.len);
     if (a->first.len < BUFFER_LEAST)
@@ -869,12 +877,25 @@ static uint64_t forward_part(struct args *a)
     get_end(&r);
     if (r.bad)
         return refused(&r);
-    if (a->n[0] < 10)
-        return f.part[a->n[0]] << 8;
-    for (out.n = 0, r.at = f.bits; out.n < f.count;)
-        put(&out, get(&r, 1), 1);
-    whole(&out, a->first.at);
-    return (uint64_t)f.count << 8;
+    return a->n[0] < 10 ? f.part[a->n[0]] << 8 : forward_bits(a, &r, &f);
+}
+
+static uint64_t read_forward(struct args *a)
+{
+    struct forwarded f;
+    struct reader r = reader_of(a->bytes, 8 * a->bytes.len);
+    unsigned i;
+    if (a->first.len < BUFFER_LEAST)
+        return 1;
+    if (a->ids.len != HEADING_BYTES)
+        return 2;
+    get_forward(&r, &f);
+    get_end(&r);
+    if (r.bad)
+        return refused(&r);
+    for (i = 0; i < HEADING_BYTES; i++)
+        a->ids.at[i] = (uint8_t)(f.part[i / 8] >> (56 - 8 * (i % 8)));
+    return forward_bits(a, &r, &f);
 }
 
 uint64_t model_call(enum which w, struct args *a)
@@ -892,6 +913,7 @@ uint64_t model_call(enum which w, struct args *a)
     case READ_MESSAGE: return read_message(a);
     case WRITE_MESSAGE: return write_message(a);
     case FORWARD_PART: return forward_part(a);
+    case READ_FORWARD: return read_forward(a);
     default: break;
     }
     if (a->first.len < BUFFER_LEAST || a->second.len < BUFFER_LEAST)

@@ -14,7 +14,7 @@ enum which {
     START_REQUEST, START_RESPONSE, DSC_START_RESPONSE, MESSAGE_REQUEST, END_REQUEST, DSC_END_REQUEST, END_RESPONSE,
     DSC_END_RESPONSE, USER_ABORT, FORWARD_REQUEST, TIMER_EXPIRY, SYSTEM_ERROR, D_START_INDICATION, D_START_CONFIRMATION,
     D_DATA_INDICATION, D_END_INDICATION, D_END_CONFIRMATION, D_ABORT_INDICATION, D_P_ABORT_INDICATION, FRESH, READ_ENVELOPE,
-    WRITE_ENVELOPE, DATA_PART, FORWARD_PART, READ_APDU, READ_MESSAGE, WRITE_MESSAGE, CALLS
+    WRITE_ENVELOPE, DATA_PART, FORWARD_PART, READ_FORWARD, READ_APDU, READ_MESSAGE, WRITE_MESSAGE, CALLS
 };
 
 struct range {
@@ -24,7 +24,7 @@ struct range {
 
 /* what a call is lent and given; `n` holds its codes in the order of its parameters. An envelope, message data, a forward
    message, an APDU and the bits of a message are read from `bytes`. An envelope is written of the body `msgs` into `first`, and
-   there go a part of message data and one of a forward message. A message is read into the message range `rec` and the text
+   there go a part of message data and one of a forward message; the heading of a forward message goes into `ids`. A message is read into the message range `rec` and the text
    `first`, and written of the message range `ids` and the text `msgs` into `first`. */
 struct args {
     struct range rec, ids, msgs, checks, bytes, first, second;
@@ -35,8 +35,8 @@ struct args {
 /* does to the lent ranges what the call must do, and answers what it must answer */
 uint64_t model_call(enum which which, struct args *a);
 
-/* document 01's sizes, with those of document 02, E3: the bits of a message, the bytes of an output buffer; a record's bytes, and a job's */
-enum { MESSAGE_MOST = 16383, BUFFER_LEAST = 2112, RECORD_BYTES = 25, JOB_BYTES = 8 };
+/* document 01's sizes, with those of document 02, E3: the bits of a message, the bytes of an output buffer; a record's bytes, a job's, and a forward heading's */
+enum { MESSAGE_MOST = 16383, BUFFER_LEAST = 2112, RECORD_BYTES = 25, JOB_BYTES = 8, HEADING_BYTES = 80 };
 
 /* bits, one in a byte: the largest APDU has 16,615 */
 struct bits {

@@ -1,6 +1,6 @@
 /*
  * Put before a program's libraries (LD_PRELOAD): the process kills itself before the call of that number that changes a file
- * (PEAT_KILL_AT), or has no memory from the allocation of that number on (PEAT_MEMORY_FROM).
+ * (PEAT_KILL_AT), or has no memory from the allocation of that number on (PEAT_MEMORY_FROM), or lives at another time (PEAT_LATER).
  */
 #define _GNU_SOURCE
 #include <dlfcn.h>
@@ -10,6 +10,7 @@
 #include <stdarg.h>
 #include <stdlib.h>
 #include <sys/types.h>
+#include <time.h>
 #include <unistd.h>
 
 static long changes, kill_at, allocations, memory_from;
@@ -68,3 +69,15 @@ static int has_none(void)
 void *malloc(size_t n) { return has_none() ? NULL : __libc_malloc(n); }
 void *calloc(size_t n, size_t each) { return has_none() ? NULL : __libc_calloc(n, each); }
 void *realloc(void *old, size_t n) { return has_none() ? NULL : __libc_realloc(old, n); }
+
+/* PEAT_LATER: the time of day is so many seconds later. */
+time_t time(time_t *at)
+{
+    const char *later = getenv("PEAT_LATER");
+    struct timespec t;
+    clock_gettime(CLOCK_REALTIME, &t);
+    t.tv_sec += later != NULL ? atol(later) : 0;
+    if (at != NULL)
+        *at = t.tv_sec;
+    return t.tv_sec;
+}

@@ -85,11 +85,12 @@ static void ask_envelope(void)
 static void ask_mail(void)
 {
     static uint8_t mail[PEAT_MAIL_BYTES];
+    uint8_t job[PEAT_JOB_BYTES];
     uint64_t n = 0;
     size_t at;
     peat_mail_fresh(mail, sizeof mail);
     for (at = 0; at < count; at++) {
-        n = peat_mail_take(mail, sizeof mail, bytes + at, 1);
+        n = peat_mail_take(mail, sizeof mail, bytes + at, 1, PEAT_ARRAY(job));
         if (peat_refusal(n) != PEAT_TAKEN)
             break;
     }

@@ -54,10 +54,10 @@ static const struct row {
 };
 #define ROWS (sizeof rows / sizeof rows[0])
 
-static uint8_t mail[PEAT_MAIL_BYTES], text[8192], envelope[PEAT_BUFFER_LEAST];
+static uint8_t mail[PEAT_MAIL_BYTES], text[8192], envelope[PEAT_BUFFER_LEAST], job[PEAT_JOB_BYTES];
 static size_t bytes;
 
-static uint64_t take(const uint8_t *at, size_t n) { return peat_mail_take(mail, sizeof mail, at, n); }
+static uint64_t take(const uint8_t *at, size_t n) { return peat_mail_take(mail, sizeof mail, at, n, PEAT_ARRAY(job)); }
 
 static void must(int right)
 {

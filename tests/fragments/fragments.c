@@ -74,6 +74,7 @@ static int beside(const uint8_t *at)
 /* ---- the card's calls, or with a fault */
 
 static uint8_t *mail; /* the record that is lent */
+static uint8_t *job;  /* and the range for a job */
 
 static uint64_t faulty(uint64_t answer, size_t n)
 {
@@ -96,6 +97,12 @@ static uint64_t faulty(uint64_t answer, size_t n)
 #elif FAULT == 6 /* the record is cleared by a fragment of no bytes */
     if (n == 0 && mail[PEAT_MAIL_STATE] == 1)
         peat_mail_fresh(mail, PEAT_MAIL_BYTES);
+#elif FAULT == 7 /* a job where no envelope is finished */
+    if (peat_envelope_kind(answer) == 0)
+        memset(job, 0, PEAT_JOB_BYTES);
+#elif FAULT == 8 /* a job in steps of seven bits */
+    if (peat_envelope_kind(answer) != 0 && job[PEAT_JOB_BYTES - 2] != 0)
+        job[PEAT_JOB_BYTES - 1] |= 0x80;
 #endif
     return answer;
 }
@@ -105,8 +112,8 @@ static uint64_t take(const uint8_t *bytes, size_t n)
     uint8_t *at = fragment_end - n;
     uint64_t answer;
     memcpy(at, bytes, n);
-    answer = faulty(peat_mail_take(mail, PEAT_MAIL_BYTES, n == 0 && (any() & 1) ? NULL : at, n), n);
-    if (memcmp(at, bytes, n) != 0 || !beside(mail))
+    answer = faulty(peat_mail_take(mail, PEAT_MAIL_BYTES, n == 0 && (any() & 1) ? NULL : at, n, job, PEAT_JOB_BYTES), n);
+    if (memcmp(at, bytes, n) != 0 || !beside(mail) || !beside(job))
         check(0, "a byte was written beside the record");
     memset(at, 0xC3, n);
     return answer;
@@ -144,12 +151,19 @@ static int hand_over(struct model *m, const uint8_t *bytes, size_t n, struct run
     while (once || (at < n && m->refusal == 0)) {
         size_t i = 0;
         enum event e = m->refusal != 0 ? REFUSED : MORE;
-        uint64_t answer = take(bytes + at, n - at);
+        uint8_t want[PEAT_JOB_BYTES];
+        uint64_t answer;
+        memcpy(want, job, sizeof want);
+        answer = take(bytes + at, n - at);
         while (e == MORE && at + i < n)
             e = model_feed(m, bytes[at + i++]);
         once = 0;
         if (!as_model(m))
             return check(0, "the record is another");
+        if (e == FINISHED)
+            model_job(m, want);
+        if (memcmp(job, want, sizeof want) != 0)
+            return check(0, "another job is left");
         if (e == REFUSED) {
             r->refusal = m->refusal;
             return answer == m->refusal || check(0, "another refusal");
@@ -161,7 +175,7 @@ static int hand_over(struct model *m, const uint8_t *bytes, size_t n, struct run
                 return check(0, "an envelope is finished too early");
         } else {
             unsigned k;
-            if (peat_envelope_kind(answer) != m->kind || peat_envelope_bits(answer) != m->bits || peat_mail_job(mail) != m->job ||
+            if (peat_envelope_kind(answer) != m->kind || peat_envelope_bits(answer) != m->bits || peat_job_number(job) != m->job ||
                 peat_envelope_body(answer) != PEAT_MAIL_HEAD + m->body)
                 return check(0, "another envelope");
             add(&r->sum, m->kind), add(&r->sum, m->job), add(&r->sum, m->bits);
@@ -376,10 +390,30 @@ static int is_shape(size_t len)
     int right = 1, i;
     memcpy(before, at, len);
     for (i = 0; i < 3; i++) {
-        uint64_t answer = i == 0 ? peat_mail_take(at, len, one, 1) : i == 1 ? peat_mail_take(at, len, NULL, 0) : peat_mail_end(at, len);
+        uint64_t answer = i == 0 ? peat_mail_take(at, len, one, 1, job, PEAT_JOB_BYTES) :
+            i == 1 ? peat_mail_take(at, len, NULL, 0, job, PEAT_JOB_BYTES) : peat_mail_end(at, len);
         right = right && answer == PEAT_SHAPE && memcmp(before, at, len) == 0;
     }
     return right;
+}
+
+/* A range for the job of another size: SHAPE, and neither range changes, though the fragment finishes an envelope. */
+static void job_sizes(void)
+{
+    static const uint8_t least[] = {2, 5, 0};
+    struct model m;
+    size_t len;
+    begin(&m);
+    for (len = 0; len < 2 * PEAT_JOB_BYTES; len++)
+        if (len != PEAT_JOB_BYTES) {
+            uint8_t before[2 * PEAT_JOB_BYTES];
+            uint8_t *at = job + PEAT_JOB_BYTES - len;
+            memset(at, 0x5A, len);
+            memcpy(before, at, len);
+            check(peat_mail_take(mail, PEAT_MAIL_BYTES, least, sizeof least, len == 0 ? NULL : at, len) == PEAT_SHAPE && as_model(&m) &&
+                memcmp(before, at, len) == 0, "a range for the job of another size");
+            memset(at, 0xC3, len);
+        }
 }
 
 static void edges(void)
@@ -435,7 +469,7 @@ static void edges(void)
     answer = peat_mail_fresh(mail, PEAT_MAIL_BYTES);
     model_fresh(&m);
     check(answer == 0 && as_model(&m) && beside(mail), "a fresh record over other bytes");
-    check(peat_mail_job(mail) == 0, "a job where no envelope is finished");
+    job_sizes();
 }
 
 /* any bytes as a record: the call ends, a SHAPE changes nothing, and no other refusal comes than those of the header */
@@ -474,6 +508,7 @@ int main(int argc, char **argv)
     record_end = place_end();
     fragment_end = place_end();
     mail = record_end - PEAT_MAIL_BYTES;
+    job = place_end() - PEAT_JOB_BYTES;
     every_way();
     recordings(strings);
     if (FAULT == 0) {

@@ -122,4 +122,12 @@ static inline void model_record(const struct model *m, uint8_t *mail)
     memcpy(mail + PEAT_MAIL_HEAD, m->held, m->count);
 }
 
+/* the job of a finished envelope, in the bytes that are lent for it */
+static inline void model_job(const struct model *m, uint8_t *job)
+{
+    int i;
+    for (i = 0; i < PEAT_JOB_BYTES; i++)
+        job[i] = (uint8_t)(m->job >> (56 - 8 * i));
+}
+
 #endif

@@ -24,8 +24,8 @@ use Rattle.apdu.specs.Pdus.{Pdu, abortUser, abortProvider, start, send, 
 use Rattle.apdu.specs.Encoding.{alternative, contentBits, contentFits, forwardBits, forwardPduFits, modeBits, modeFits, pduBits, pduFits}
 use Rattle.apdu.specs.Reading.{onData, onForward, onLead, dataAt, forwardAt, modeValue, modeAt, kindMode, leadingAt, tailAt, endedAt, restWithin, restAt, apduWithin, apduAt}
 use Rattle.apdu.specs.Writing.{forwardFits, apduFits}
-use Rattle.apdu.specs.declared.PduType.{PduType}
-use Rattle.apdu.specs.declared.PduType.the-variants.{AircraftPdus, GroundPdus}
+use Rattle.pdus.specs.declared.PduType.{PduType}
+use Rattle.pdus.specs.declared.PduType.the-variants.{AircraftPdus, GroundPdus}
 use Rattle.apdu.specs.declared.Kind.{Kind}
 use Rattle.apdu.specs.declared.Kind.the-variants as kind
 use Rattle.apdu.specs.declared.Data.{Data}

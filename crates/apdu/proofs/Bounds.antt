@@ -22,9 +22,9 @@ use Rattle.apdu.specs.Headings.{responseLast, headingBits, headingFits}
 use Rattle.apdu.specs.Pdus.{Optional, absent, given, Content, Pdu, abortUser, abortProvider, start, send, forward, forwardResponse, lastOf, forwards, itemsIn, partIn, contentIn, pduIn}
 use Rattle.apdu.specs.Encoding.{stringBits, stringFits, optionalBits, optionalFits, contentBits, contentFits, forwardBits, forwardPduFits, modeBits, modeFits, pduBits, pduFits}
 use Rattle.apdu.specs.Writing.{itemsFit, partFits, dataFits, forwardFits, apduFits}
-use Rattle.apdu.specs.declared.PduType.{PduType}
-use Rattle.apdu.specs.declared.PduType.the-variants.{AircraftPdus, GroundPdus}
-use Rattle.apdu.specs.declared.Span.{Span}
+use Rattle.pdus.specs.declared.PduType.{PduType}
+use Rattle.pdus.specs.declared.PduType.the-variants.{AircraftPdus, GroundPdus}
+use Rattle.pdus.specs.declared.Span.{Span}
 use Rattle.apdu.specs.declared.Part.{Part}
 use Rattle.apdu.specs.declared.Part.the-variants.{Absent, Given}
 use Rattle.apdu.specs.declared.Data.{Data}

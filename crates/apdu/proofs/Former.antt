@@ -13,7 +13,7 @@ use Rattle.fields.specs.declared.Field.the-variants.{Value, Refused}
 use Rattle.fields.specs.declared.Refusal.{Refusal}
 use Rattle.apdu.specs.Sizes.{userLast, providerLast}
 use Rattle.apdu.specs.Reading.{onData, onLead, partsAt, withAdditions, dataWithin, dataAt, leadingAt, endedAt, restWithin, restAt, apduWithin, apduAt}
-use Rattle.apdu.specs.declared.PduType.{PduType}
+use Rattle.pdus.specs.declared.PduType.{PduType}
 use Rattle.apdu.specs.declared.Kind.{Kind}
 use Rattle.apdu.specs.declared.Kind.the-variants as kind
 use Rattle.apdu.specs.declared.Data.{Data}

@@ -24,7 +24,7 @@ use Rattle.apdu.specs.Headings.{dateFrom, dateTo, timeFrom, timeTo, char
 use Rattle.apdu.specs.Pdus.{itemsIn}
 use Rattle.apdu.specs.Encoding.{stringBits, forwardBits}
 use Rattle.apdu.specs.Writing.{itemsFit, forwardFits, placeOf}
-use Rattle.apdu.specs.declared.Span.{Span}
+use Rattle.pdus.specs.declared.Span.{Span}
 use Rattle.apdu.specs.declared.Triple.{Triple}
 use Rattle.apdu.specs.declared.Heading.{Heading}
 use Rattle.apdu.specs.declared.Forward.{Forward}

@@ -21,7 +21,7 @@ use Rattle.apdu.specs.Headings.{responseLast}
 use Rattle.apdu.specs.Pdus.{lastOf, kindOf, indexOf}
 use Rattle.apdu.specs.Reading.{onTaken, onData, onForward, onLead, partsAt, withAdditions, dataWithin, dataAt, forwardAt, kindMode, leadingAt, tailAt, endedAt, restWithin, restAt, apduWithin, apduAt}
 use Rattle.apdu.specs.Writing.{apduFits}
-use Rattle.apdu.specs.declared.PduType.{PduType}
+use Rattle.pdus.specs.declared.PduType.{PduType}
 use Rattle.apdu.specs.declared.Kind.{Kind}
 use Rattle.apdu.specs.declared.Kind.the-variants as kind
 use Rattle.apdu.specs.declared.Data.{Data}

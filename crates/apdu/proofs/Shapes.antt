@@ -12,8 +12,8 @@ use Rattle.bits.proofs.Bytes.{length-to}
 use Rattle.fields.specs.Encodings.{wholeFits}
 use Rattle.apdu.specs.Sizes.{allBits, messageMost}
 use Rattle.apdu.specs.Pdus.{lent}
-use Rattle.apdu.specs.Writing.{itemsFit, runFits}
-use Rattle.apdu.specs.declared.Span.{Span}
+use Rattle.apdu.specs.Writing.{itemsFit, runWithin}
+use Rattle.pdus.specs.declared.Span.{Span}
 
 pub too-few : (l : List ℕ) (unit least most : ℕ) (x : Span) → x .count < least → false ≡ itemsFit l unit least most x
 unfolding itemsFit
@@ -30,10 +30,10 @@ held s unit least most x t h g k e = e ∙ rw (le-leb least (x .count) h, le-leb
 pub from-zero : (hi v : ℕ) → leb v hi ≡ wholeFits 0 hi v
 from-zero hi v = rw (le-leb 0 v (omega arith))
 
-pub run-long : (s : List ℕ) (at n : ℕ) → messageMost < n → false ≡ runFits s at n
-unfolding runFits
-run-long s at n h = rw (lt-leb n messageMost h)
+pub run-long : (most : ℕ) (s : List ℕ) (at n : ℕ) → most < n → false ≡ runWithin most s at n
+unfolding runWithin
+run-long most s at n h = rw (lt-leb n most h)
 
-pub run-held : (s : List ℕ) (at n : ℕ) (t : Bool) → n ≤ messageMost → t ≡ leb (at + n) (min allBits (8 * length s)) → t ≡ runFits s at n
-unfolding runFits
-run-held s at n t h e = e ∙ rw (le-leb n messageMost h, length-to)
+pub run-held : (most : ℕ) (s : List ℕ) (at n : ℕ) (t : Bool) → n ≤ most → t ≡ leb (at + n) (min allBits (8 * length s)) → t ≡ runWithin most s at n
+unfolding runWithin
+run-held most s at n t h e = e ∙ rw (le-leb n most h, length-to)

@@ -32,10 +32,10 @@ use Rattle.apdu.specs.Encoding.{stringBits, optionalBits, optionalFits, 
 use Rattle.apdu.specs.Reading.{onTaken, tailAt, apduAt, dataAt, wholeWithin, wholeData, wholeForwardWithin, wholeForward}
 use Rattle.apdu.specs.Stripped.{rootEnd, stripAt, strip, extended}
 use Rattle.apdu.specs.Writing.{apduFits, done, writeOut}
-use Rattle.apdu.specs.declared.PduType.{PduType}
-use Rattle.apdu.specs.declared.PduType.the-variants.{AircraftPdus, GroundPdus}
+use Rattle.pdus.specs.declared.PduType.{PduType}
+use Rattle.pdus.specs.declared.PduType.the-variants.{AircraftPdus, GroundPdus}
 use Rattle.apdu.specs.declared.Kind.the-variants as kind
-use Rattle.apdu.specs.declared.Span.{Span}
+use Rattle.pdus.specs.declared.Span.{Span}
 use Rattle.apdu.specs.declared.Part.{Part}
 use Rattle.apdu.specs.declared.Part.the-variants.{Absent, Given}
 use Rattle.apdu.specs.declared.Data.{Data}
@@ -54,11 +54,11 @@ use Rattle.apdu.proofs.Octets.{all-bits, put-bytes, front-bits}
 
 -- ---- whole bytes
 
-pad-bits : (bs : List ℕ) → Bits bs → Bits (padded bs)
+pub pad-bits : (bs : List ℕ) → Bits bs → Bits (padded bs)
 unfolding padded
 pad-bits bs h = bits-append bs (bitsN (padding (length bs)) 0) h (bits-bitsN (padding (length bs)) 0)
 
-length-padded : (bs : List ℕ) → length (padded bs) ≡ length bs + padding (length bs)
+pub length-padded : (bs : List ℕ) → length (padded bs) ≡ length bs + padding (length bs)
 unfolding padded
 length-padded bs = rw (length-append, length-bitsN)
 

@@ -27,10 +27,10 @@ use Rattle.fields.proofs.Writers.{as-number, in-range, length-index}
 use Rattle.apdu.specs.Sizes.{bufferLeast, messageMost, modeLast, allBits, lengthMost, octet, bit}
 use Rattle.apdu.specs.Pdus.{lastOf, forwards, lent, itemsIn, partIn, contentIn}
 use Rattle.apdu.specs.Encoding.{alternative, stringBits, optionalBits, presence, contentBits, forwardBits, modeBits, modeFits, padding, padded}
-use Rattle.apdu.specs.Writing.{itemsFit, partFits, dataFits, forwardFits, runFits, there, placeOf, done, writeOut}
-use Rattle.apdu.specs.declared.PduType.{PduType}
-use Rattle.apdu.specs.declared.PduType.the-variants.{AircraftPdus, GroundPdus}
-use Rattle.apdu.specs.declared.Span.{Span}
+use Rattle.apdu.specs.Writing.{itemsFit, partFits, dataFits, forwardFits, runWithin, there, placeOf, done, writeOut}
+use Rattle.pdus.specs.declared.PduType.{PduType}
+use Rattle.pdus.specs.declared.PduType.the-variants.{AircraftPdus, GroundPdus}
+use Rattle.pdus.specs.declared.Span.{Span}
 use Rattle.apdu.specs.declared.Part.{Part}
 use Rattle.apdu.specs.declared.Part.the-variants.{Absent, Given}
 use Rattle.apdu.specs.declared.Data.{Data}
@@ -349,24 +349,24 @@ module _ (lm : List ℕ) (f : Forward) (lead led : ℕ) (few : lead ≤ 5) (h : 
   forward-room s b = room-for s _ b (omega (arith, forward-pads))
 
 -- a run that lent bytes hold is copied as its bits are put
-pub record RunHeld (s : List ℕ) (at n : ℕ) : Type 0 where
-  pub few : n ≤ messageMost
+pub record RunHeld (most : ℕ) (s : List ℕ) (at n : ℕ) : Type 0 where
+  pub few : n ≤ most
   pub there : at + n ≤ length (lent s)
 
-pub run-is : (s : List ℕ) (at n : ℕ) → runFits s at n ≡ true → RunHeld s at n
-unfolding runFits
-run-is s at n h =
+pub run-is : (most : ℕ) (s : List ℕ) (at n : ℕ) → runWithin most s at n ≡ true → RunHeld most s at n
+unfolding runWithin
+run-is most s at n h =
     record {
-      few = leb-true n messageMost (both-left (leb n messageMost) (leb (at + n) (length (lent s))) h);
-      there = leb-true (at + n) (length (lent s)) (both-right (leb n messageMost) (leb (at + n) (length (lent s))) h);
+      few = leb-true n most (both-left (leb n most) (leb (at + n) (length (lent s))) h);
+      there = leb-true (at + n) (length (lent s)) (both-right (leb n most) (leb (at + n) (length (lent s))) h);
     }
 
-pub run-pads : (s : List ℕ) (at n : ℕ) → runFits s at n ≡ true → length (run s at n) + 7 ≤ 8 * bufferLeast
-run-pads s at n h =
-    let p = run-is s at n h in
+pub run-pads : (most : ℕ) (s : List ℕ) (at n : ℕ) → most + 7 ≤ 8 * bufferLeast → runWithin most s at n ≡ true → length (run s at n) + 7 ≤ 8 * bufferLeast
+run-pads most s at n g h =
+    let p = run-is most s at n h in
     let w : at + n ≤ 8 * length s = omega (arith, p .there, length-to s allBits) in
     omega (arith, p .few, length-run s at n w)
 
-pub run-copied : (d s z : List ℕ) (at n : ℕ) (r : Put) → runFits s at n ≡ true → left r z ≡ copyRun d allBits 0 s allBits at n → left r z ≡ putRun d allBits 0 (run s at n)
+pub run-copied : (most : ℕ) (d s z : List ℕ) (at n : ℕ) (r : Put) → runWithin most s at n ≡ true → left r z ≡ copyRun d allBits 0 s allBits at n → left r z ≡ putRun d allBits 0 (run s at n)
 unfolding copyRun putIf
-run-copied d s z at n r h e = e ∙ rw (le-leb (at + n) (length (lent s)) (run-is s at n h .there))
+run-copied most d s z at n r h e = e ∙ rw (le-leb (at + n) (length (lent s)) (run-is most s at n h .there))

@@ -10,8 +10,8 @@ use Rattle.fields.specs.Encodings.{indexBits, lengthBits, wholeBits, wholeFits,
 use Rattle.apdu.specs.Sizes.{identifierLeast, identifierMost, messageMost, checkMost, userLast, providerLast, modeLast, octet, bit}
 use Rattle.apdu.specs.Headings.{responseLast, headingBits, headingFits}
 use Rattle.apdu.specs.Pdus.{Optional, absent, given, Content, Pdu, abortUser, abortProvider, start, send, forward, forwardResponse, lastOf, indexOf, forwards}
-use Rattle.apdu.specs.declared.PduType.{PduType}
-use Rattle.apdu.specs.declared.PduType.the-variants.{AircraftPdus, GroundPdus}
+use Rattle.pdus.specs.declared.PduType.{PduType}
+use Rattle.pdus.specs.declared.PduType.the-variants.{AircraftPdus, GroundPdus}
 use Rattle.apdu.specs.declared.Kind.{Kind}
 use Rattle.apdu.specs.declared.Heading.{Heading}
 use Rattle.apdu.specs.declared.Kind.the-variants as kind

@@ -5,11 +5,11 @@ use mathlib.Core.Bool.{Bool, true, false}
 use lib.ListN.{take, drop}
 use Rattle.bits.specs.Bits.{bitsTo}
 use Rattle.apdu.specs.Sizes.{allBits, octet, bit}
-use Rattle.apdu.specs.declared.PduType.{PduType}
-use Rattle.apdu.specs.declared.PduType.the-variants.{AircraftPdus, GroundPdus}
+use Rattle.pdus.specs.declared.PduType.{PduType}
+use Rattle.pdus.specs.declared.PduType.the-variants.{AircraftPdus, GroundPdus}
 use Rattle.apdu.specs.declared.Kind.{Kind}
 use Rattle.apdu.specs.declared.Kind.the-variants as kind
-use Rattle.apdu.specs.declared.Span.{Span}
+use Rattle.pdus.specs.declared.Span.{Span}
 use Rattle.apdu.specs.declared.Part.{Part}
 use Rattle.apdu.specs.declared.Part.the-variants.{Absent, Given}
 use Rattle.apdu.specs.declared.Data.{Data}

@@ -8,7 +8,7 @@ use lib.ListN.{length, take, drop, getD}
 use Rattle.bits.specs.Bits.{bitsN}
 use Rattle.apdu.specs.Sizes.{bit}
 use Rattle.apdu.specs.Encoding.{alternative, modeBits, padded}
-use Rattle.apdu.specs.declared.PduType.{PduType}
+use Rattle.pdus.specs.declared.PduType.{PduType}
 use Rattle.apdu.specs.declared.Kind.the-variants as kind
 use Rattle.apdu.specs.declared.Data.{Data}
 use Rattle.apdu.specs.declared.Apdu.{Apdu}

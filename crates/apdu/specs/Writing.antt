@@ -1,5 +1,5 @@
 -- What a writer leaves in a lent buffer.
-use Prim.Native.Nat.{ℕ, _+_, _*_}
+use Prim.Native.Nat.{ℕ, _+_, _-_, _*_}
 use mathlib.Core.List.{List}
 use mathlib.Core.Bool.{Bool, true, false, cond, _&&_}
 use lib.ListN.{length}
@@ -12,8 +12,8 @@ use Rattle.apdu.specs.Sizes.{identifierLeast, identifierMost, messageMos
 use Rattle.apdu.specs.Headings.{responseLast, headingFits}
 use Rattle.apdu.specs.Pdus.{lent, forwards}
 use Rattle.apdu.specs.Encoding.{padded, modeFits}
-use Rattle.apdu.specs.declared.PduType.{PduType}
-use Rattle.apdu.specs.declared.Span.{Span}
+use Rattle.pdus.specs.declared.PduType.{PduType}
+use Rattle.pdus.specs.declared.Span.{Span}
 use Rattle.apdu.specs.declared.Part.{Part}
 use Rattle.apdu.specs.declared.Part.the-variants.{Absent, Given}
 use Rattle.apdu.specs.declared.Data.{Data}
@@ -50,9 +50,17 @@ apduFits pdus li lm lc (apdu.Send d) = dataFits li lm lc d
 apduFits pdus li lm lc (apdu.Forward f) = forwards pdus && forwardFits lm f
 apduFits pdus li lm lc (apdu.ForwardResponse x) = forwards pdus && wholeFits 0 responseLast x
 
--- n bits at a place of lent bytes, at most those of a message
-unfoldable pub runFits : List ℕ → ℕ → ℕ → Bool
-runFits s at n = leb n messageMost && leb (at + n) (length (lent s))
+-- n bits at a place of lent bytes, at most so many
+unfoldable pub runWithin : ℕ → List ℕ → ℕ → ℕ → Bool
+runWithin most s at n = leb n most && leb (at + n) (length (lent s))
+
+-- at most those of a message
+abbrev pub runFits : List ℕ → ℕ → ℕ → Bool
+runFits = runWithin messageMost
+
+-- the bits that a buffer takes with their padding
+abbrev pub passedMost : ℕ
+passedMost = 8 * bufferLeast - 7
 
 -- ---- the answer and the buffer
 

@@ -4,22 +4,22 @@
 ghost use mathlib.Core.Path.{_≡_};
 ghost use mathlib.Core.Bool.{true};
 ghost use mathlib.Core.List.{_++_};
-ghost use Prim.Native.Nat.{_+_, _^_, _≤_, _<_};
+ghost use Prim.Native.Nat.{_+_, _*_, _^_, _≤_, _<_};
 ghost use lib.ListN.{length};
 ghost use Rattle.bits.specs.Bits.{bitsN, run};
 ghost use Rattle.bits.specs.Put.{putBits};
-ghost use Rattle.apdu.specs.Sizes.{bit, lengthMost};
+ghost use Rattle.apdu.specs.Sizes.{bit, bufferLeast, lengthMost};
 ghost use Rattle.apdu.specs.Pdus.{contentIn, itemsIn, lent, partIn};
 ghost use Rattle.apdu.specs.Encoding.{contentBits, optionalBits, stringBits};
-ghost use Rattle.apdu.specs.Writing.{dataFits, done, itemsFit, partFits, placeOf, runFits, there, writeOut};
+ghost use Rattle.apdu.specs.Writing.{dataFits, done, itemsFit, partFits, passedMost, placeOf, runFits, runWithin, there, writeOut};
 use crate::Apdu;
 use crate::Data;
 use crate::Part;
-use crate::Span;
 use crate::Written;
 use crate::decoder::ALL;
 use crate::shape::data_fits;
 use bits::Put;
+use pdus::Span;
 
 // The place after what was written.
 pub(crate) fn place(p: Put) -> usize
@@ -137,27 +137,42 @@ pub fn put_data(buf: &mut [u8], d: Data, ids: &[u8], msgs: &[u8], checks: &[u8])
     write_data(buf, 0, 0, d, ids, msgs, checks)
 }
 
-// Whether lent bytes hold n bits at a place, at most those of a message.
-fn run_fits(src: &[u8], at: usize, n: usize) -> bool
-    ensures { λ r. ⌜ r ≡ runFits (now (src .entry)) at n ⌝ }
+// Whether lent bytes hold n bits at a place, at most so many.
+fn run_within(most: usize, src: &[u8], at: usize, n: usize) -> bool
+    ensures { λ r. ⌜ r ≡ runWithin most (now (src .entry)) at n ⌝ }
 {
-    if Data::MESSAGE_MOST < n {
+    if most < n {
         return false;
     }
     bits::within(src.len(), ALL, at, n)
 }
 
-// The n bits at a place of lent bytes, by themselves: a part of message data where its reader found it.
-pub fn put_run(buf: &mut [u8], src: &[u8], at: usize, n: usize) -> Written
-    ensures { λ r. ⌜ done r (now (buf .exit)) ≡ writeOut (runFits (now (src .entry)) at n) (now (buf .entry)) (run (now (src .entry)) at n) ⌝ }
+// The n bits at a place of lent bytes, by themselves.
+fn copy_out(buf: &mut [u8], most: usize, src: &[u8], at: usize, n: usize) -> Written
+    requires { ⌜ most + 7 ≤ 8 * bufferLeast ⌝ }
+    ensures { λ r. ⌜ done r (now (buf .exit)) ≡ writeOut (runWithin most (now (src .entry)) at n) (now (buf .entry)) (run (now (src .entry)) at n) ⌝ }
 {
     if buf.len() < Apdu::BUFFER {
         return Written::Room;
     }
-    if run_fits(src, at, n) {
+    if run_within(most, src, at, n) {
         let p = place(bits::copy_bits(buf, ALL, 0, src, ALL, at, n));
         bits::pad(buf, ALL, p);
         return Written::Bits(p);
     }
     Written::Shape
+}
+
+// A part of message data, where its reader found it.
+pub fn put_run(buf: &mut [u8], src: &[u8], at: usize, n: usize) -> Written
+    ensures { λ r. ⌜ done r (now (buf .exit)) ≡ writeOut (runFits (now (src .entry)) at n) (now (buf .entry)) (run (now (src .entry)) at n) ⌝ }
+{
+    copy_out(buf, Data::MESSAGE_MOST, src, at, n)
+}
+
+// Bits of an APDU that are passed on as they stand.
+pub fn put_passed(buf: &mut [u8], src: &[u8], at: usize, n: usize) -> Written
+    ensures { λ r. ⌜ done r (now (buf .exit)) ≡ writeOut (runWithin passedMost (now (src .entry)) at n) (now (buf .entry)) (run (now (src .entry)) at n) ⌝ }
+{
+    copy_out(buf, Apdu::PASSED_MOST, src, at, n)
 }

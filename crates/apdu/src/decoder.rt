@@ -9,7 +9,6 @@ use crate::Decoded;
 use crate::Forwarded;
 use crate::Kind;
 use crate::Lead;
-use crate::PduType;
 use crate::Taken;
 use crate::headings::forward_at;
 use crate::headings::forward_refusal;
@@ -20,6 +19,7 @@ use crate::refusals::taken_refusal;
 use fields::Fault;
 use fields::Field;
 use fields::refusal_of;
+use pdus::PduType;
 
 // The end of lent bytes: as many bits as a count can say, so all of them.
 pub(crate) const ALL: usize = 18446744073709551615;

@@ -15,16 +15,17 @@ use crate::Apdu;
 use crate::Data;
 use crate::Forward;
 use crate::Kind;
-use crate::PduType;
 use crate::Written;
 use crate::data_writer::place;
 use crate::data_writer::write_data;
 use crate::decoder::ALL;
 use crate::heading_writer::write_forward;
 use crate::leading::index_of;
+use crate::leading::last_of;
 use crate::shape::has_forwards;
 use crate::shape::mode_fits;
 use bits::Put;
+use pdus::PduType;
 
 // Numbers that wait: how many bits they are together, and they as one.
 struct Front {
@@ -121,7 +122,7 @@ fn put_alternative(buf: &mut [u8], pdus: PduType, kind: Kind) -> Put
     ensures { λ r. ⌜ left r (now (buf .exit)) ≡ putIf (wholeFits 0 (lastOf pdus) (indexOf kind)) (now (buf .entry)) allBits 0 (alternative pdus kind) ⌝ }
 {
     let i = index_of(kind);
-    let last = pdus.last();
+    let last = last_of(pdus);
     fields::put_extensible_index(buf, ALL, 0, last, i)
 }
 

@@ -5,21 +5,19 @@ ghost use Rattle.apdu.specs.Reading.{kindMode, leadingAt, modeAt, modeVa
 use crate::Apdu;
 use crate::Kind;
 use crate::Lead;
-use crate::PduType;
 use crate::decoder::ALL;
 use fields::Fault;
 use fields::Field;
 use fields::refusal_of;
+use pdus::PduType;
 
-impl PduType {
-    // The last alternative of the type.
-    pub fn last(self) -> u64
-        ensures { λ r. ⌜ r ≡ lastOf self ⌝ }
-    {
-        match self {
-            PduType::AircraftPdus => 3,
-            PduType::GroundPdus => 5,
-        }
+// The last alternative of the type.
+pub(crate) fn last_of(pdus: PduType) -> u64
+    ensures { λ r. ⌜ r ≡ lastOf pdus ⌝ }
+{
+    match pdus {
+        PduType::AircraftPdus => 3,
+        PduType::GroundPdus => 5,
     }
 }
 
@@ -104,7 +102,7 @@ fn kind_mode(s: &[u8], pdus: PduType, kind: Kind, at: usize) -> Field
 pub(crate) fn leading_at(s: &[u8], at: usize, pdus: PduType) -> Lead
     ensures { λ l. ⌜ l ≡ leadingAt pdus (lent (now (s .entry))) at ⌝ }
 {
-    let index = fields::extensible_index(s, ALL, at, pdus.last());
+    let index = fields::extensible_index(s, ALL, at, last_of(pdus));
     let Field::Value(i, p) = index else {
         return Lead::Refused(refusal_of(index));
     };

@@ -17,6 +17,7 @@ mod refusals;
 mod shape;
 
 pub use data_writer::put_data;
+pub use data_writer::put_passed;
 pub use data_writer::put_run;
 use decoder::apdu_at;
 pub use decoder::read_data;
@@ -31,14 +32,10 @@ pub use encoder::put_start;
 use fields::Refusal;
 pub use heading_shape::forward_fits;
 pub use heading_writer::put_forward;
+use pdus::PduType;
+use pdus::Span;
 pub use shape::data_fits;
 use words::Limit;
-
-// Which of the two types an APDU is of: the air end writes AircraftPDUs, the ground end GroundPDUs.
-pub enum PduType {
-    AircraftPdus,
-    GroundPdus,
-}
 
 // The alternatives of both types. Start is startdown (AircraftPDUs) or startup (GroundPDUs).
 pub enum Kind {
@@ -48,12 +45,6 @@ pub enum Kind {
     Send,
     Forward,
     ForwardResponse,
-}
-
-// Contents in lent bytes: the place where they begin, and their count of items.
-pub struct Span {
-    pub at: usize,
-    pub count: usize,
 }
 
 // A field that may be absent.
@@ -169,6 +160,8 @@ impl Apdu {
     pub const RESPONSE_LAST: u64 = 2;
     // Bytes that a lent output buffer has at least.
     pub const BUFFER: usize = Limit::BUFFER_BYTES;
+    // Bits that such a buffer takes with their padding.
+    pub const PASSED_MOST: usize = 8 * Limit::BUFFER_BYTES - 7;
 }
 
 // What reading message data finds: its parts and the place after it.
@@ -225,13 +218,6 @@ impl<'a> Reader<'a> {
         ensures { λ r. ⌜ r ≡ apduAt pdus (lent (now (self .entry .src))) (self .entry .at) ⌝ }
     {
         apdu_at(self.src, self.at, pdus)
-    }
-
-    // The reader at another position.
-    pub fn moved(self, at: usize) -> Reader<'a>
-        ensures { λ q. ⌜ (q .src ≡ self .entry .src) × (q .at ≡ at) ⌝ }
-    {
-        Reader { src: self.src, at }
     }
 }
 

@@ -5,11 +5,11 @@ ghost use Rattle.apdu.specs.Pdus.{lent};
 ghost use Rattle.apdu.specs.Reading.{dataAt, optionalAt, partAt, partsAt, spanTo, withAdditions};
 use crate::Data;
 use crate::Part;
-use crate::Span;
 use crate::Taken;
 use crate::decoder::ALL;
 use fields::Field;
 use fields::refusal_of;
+use pdus::Span;
 
 // A field that is there, or not.
 fn optional(s: &[u8], there: bool, at: usize, unit: usize, least: u64, most: u64) -> Field

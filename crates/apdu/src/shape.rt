@@ -7,9 +7,9 @@ ghost use Rattle.apdu.specs.Writing.{dataFits, itemsFit, partFits};
 use crate::Apdu;
 use crate::Data;
 use crate::Part;
-use crate::PduType;
-use crate::Span;
 use crate::decoder::ALL;
+use pdus::PduType;
+use pdus::Span;
 
 // From least to most items, and the bytes hold them.
 pub(crate) fn items_fit(src: &[u8], unit: usize, least: usize, most: usize, x: Span) -> bool

@@ -7,11 +7,11 @@ use apdu::Decoded;
 use apdu::Forward;
 use apdu::Heading;
 use apdu::Part;
-use apdu::PduType;
-use apdu::Span;
 use apdu::Triple;
 use apdu::Written;
 use bits::Read;
+use pdus::PduType;
+use pdus::Span;
 
 // The bytes of a request before its body, and the end of a slice that means all of it.
 const HEADER: usize = 65;

@@ -2,13 +2,13 @@
 -- Assumes nothing.
 use mathlib.Core.Path.{_≡_, refl, sym, ap, _∙_}
 use mathlib.Core.List.{List, [], _++_, append-nil}
-use Prim.Native.Nat.{ℕ, suc, _+_, _-_, _*_, _/_, _%_, _^_, _≤_, _<_}
+use Prim.Native.Nat.{ℕ, _+_, _*_, _/_, _%_, _<_}
 use native.Mathlib.Omega.{arith}
 use native.Mathlib.Nat.{mod-eq-of-lt}
-use lib.ListN.{length, set, take, drop, drop-of-length-le}
+use lib.ListN.{length, drop, drop-of-length-le}
 use lib.Seq.{sets, sets-eq}
 use Rattle.book.specs.Books.{numberOf, octets}
-use Rattle.book.proofs.Eights.{length-octets, number-octets, octets-suc, octets-zero}
+use Rattle.book.proofs.Eights.{length-octets, number-octets}
 use Rattle.envelope.specs.Envelopes.{mostBits, envelopeAt, Left, left, contentOf, placed, bytesOf, header, largest}
 use Rattle.envelope.specs.declared.Envelope.{Envelope}
 use Rattle.envelope.specs.declared.EnvelopeRead.the-variants as read
@@ -16,7 +16,14 @@ use Rattle.envelope.specs.declared.EnvelopeWritten.{EnvelopeWritten}
 use Rattle.envelope.proofs.Numbers.{AllBytes}
 use Rattle.envelope.proofs.RoundTrip.{ReadIs, read-written, length-whole}
 use Rattle.envelope.proofs.Sizes.{kind-small, bits-small, within-largest, largest-is}
-use Rattle.card.specs.Mail.{readBy, said, sent, answered, writtenAnswer}
+use Rattle.card.specs.Mail.{readBy, said, answered, writtenAnswer}
+use Rattle.layout.specs.Calls.{sent}
+
+-- bytes over a range of as many
+pub sets-whole : (b v : List ℕ) → length v ≡ length b → sets b 0 v ≡ v
+sets-whole b v h =
+    let d : drop (0 + length v) b ≡ [] = drop-of-length-le b {i = 0 + length v} (omega arith) in
+    sets-eq v b 0 (omega arith) ∙ rw d (append-nil v)
 
 -- as `peat_write_envelope` has them
 pub put-answered : (n : ℕ) (w : EnvelopeWritten) (out : List ℕ) (x : Left) → n ≡ writtenAnswer w → left w out ≡ x → sent n out ≡ answered x
@@ -55,22 +62,7 @@ job-said s job e b p =
     let r = read-written mostBits s 0 b e p in
     rw p (number-octets 8 (e .job) ∙ mod-eq-of-lt (r .fit .within))
 
--- ---- as `put_job` has them: the bytes that are put, and those to come
+-- ---- as `put_job` has it: eight bytes over a range of eight
 
-pub job-start : (b : List ℕ) (v : ℕ) → length b ≡ 8 → sets b 0 (octets (8 - 0) v) ≡ octets 8 v
-job-start b v h =
-    let n = length-octets 8 v in
-    let d : drop (0 + length (octets 8 v)) b ≡ [] = drop-of-length-le b {i = 0 + length (octets 8 v)} (omega arith) in
-    sets-eq (octets 8 v) b 0 (omega arith) ∙ rw d (append-nil (octets 8 v))
-
-pub job-turn : (b z : List ℕ) (i v : ℕ) → i < 8 → sets b i (octets (8 - i) v) ≡ z → sets (set b i (v / 2 ^ (8 * (7 - i)) % 256)) (i + 1) (octets (8 - (i + 1)) v) ≡ z
-job-turn b z i v h e =
-    let n : 8 - i ≡ suc (7 - i) = omega arith in
-    let m : 8 - (i + 1) ≡ 7 - i = omega arith in
-    let p : i + 1 ≡ suc i = omega arith in
-    rw (m, p) (rw (n, octets-suc (7 - i) v) at e)
-
-pub job-done : (b : List ℕ) (i v : ℕ) → i ≡ 8 → sets b i (octets (8 - i) v) ≡ b
-job-done b i v h =
-    let n : 8 - i ≡ 0 = omega arith in
-    rw (n, octets-zero v)
+pub job-whole : (b : List ℕ) (v : ℕ) → length b ≡ 8 → sets b 0 (octets 8 v) ≡ octets 8 v
+job-whole b v h = sets-whole b (octets 8 v) (length-octets 8 v ∙ sym h)

@@ -9,7 +9,7 @@ use lib.ListN.{length, set}
 use Rattle.envelope.specs.Envelopes.{mostBits}
 use Rattle.recordings.specs.Showing.{Shown, shown, compared}
 use Rattle.recordings.specs.declared.Compared.{Compared}
-use Rattle.card.specs.Mail.{Sent, sent}
+use Rattle.layout.specs.Calls.{Sent, sent}
 use Rattle.card.specs.Comparing.{comparison, leftBy, tellsBy}
 
 -- every byte of six is set

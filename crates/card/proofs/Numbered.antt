@@ -8,7 +8,7 @@ use Rattle.book.specs.Books.{Left, left, openAt, countAt}
 use Rattle.book.specs.declared.Answer.{Answer}
 use Rattle.book.specs.declared.Answer.the-variants.{Is}
 use Rattle.book.proofs.Laws.{given-lowest, count-most}
-use Rattle.card.specs.Mail.{sent}
+use Rattle.layout.specs.Calls.{sent}
 use Rattle.card.specs.MessageNumbers.{answerNumber, leaves}
 
 pub numbered : (n : ℕ) (a : Answer) (b : List ℕ) (l : Left) → n ≡ answerNumber a → left a b ≡ l → sent n b ≡ leaves l

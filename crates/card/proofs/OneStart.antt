@@ -33,7 +33,7 @@ use Rattle.machine.specs.declared.outcome.Outcome.{Outcome}
 use Rattle.numbered.specs.Numbers.{userStarts, isStart, isStale, heldAfter, numberedStep}
 use Rattle.numbered.proofs.Laws.{shape-first, then-step}
 use Rattle.stored.specs.Stored.{loadAt}
-use Rattle.step.specs.Call.{Called, called, carriesData, concluded, withRecord, entering, userStep, userCall}
+use Rattle.step.specs.Call.{Called, called, carriesData, concluded, withRecord, entering, userStep, userBy}
 use Rattle.stored.specs.declared.Loaded.{Loaded}
 use Rattle.stored.specs.declared.Loaded.the-variants.{Is, NoRecord}
 use Rattle.step.proofs.Taken.{never}
@@ -133,7 +133,7 @@ module _ (r a b : List ℕ) (v k s : ℕ) (ids msgs : List ℕ) (n : ℕ) (check
   start m = User (StartServiceRequest m k s)
 
   abbrev now-step : ℕ → Side → Record → ℕ → Called
-  now-step m = userStep r a b (start m) v (lent ids) (lent msgs) (lent checks) given
+  now-step m = userStep numberedStep r a b (start m) v (lent ids) (lent msgs) (lent checks) given
 
   abbrev old-step : Bool → Side → Record → ℕ → Called
   old-step m = userStepBefore r a b v m k s (lent ids) (lent msgs) (lent checks) given
@@ -153,12 +153,12 @@ module _ (r a b : List ℕ) (v k s : ℕ) (ids msgs : List ℕ) (n : ℕ) (check
 
   -- mode cpdlc, at both machines
   pub cpdlc-as-before : isAbove r v ≡ true → numberedCall r a b (StartServiceRequest cpdlcMode k s) v ids msgs n checks c ≡ cpdlcStartBefore r a b v k s ids msgs n checks c
-  unfolding userCall
+  unfolding userBy
   cpdlc-as-before u = entering-same r a b (now-step cpdlcMode) (old-step false) (λ sd x h e. now-is cpdlcMode sd x h ∙ ap (with-data sd) (above-step cpdlcMode sd x h (above-at sd x h u e) ∙ cpdlc-step sd x k s))
 
   -- mode dsc, but for a record of the ground machine
   pub dsc-as-before : isAbove r v ≡ true → atGround r ≡ false → numberedCall r a b (StartServiceRequest dscMode k s) v ids msgs n checks c ≡ dscStartBefore r a b v k s ids msgs n checks c
-  unfolding userCall
+  unfolding userBy
   dsc-as-before u g = entering-same r a b (now-step dscMode) (old-step true) same
     where
       same : (sd : Side) (x : Record) (h : ℕ) → loadAt r ≡ Is sd x h → now-step dscMode sd x h ≡ old-step true sd x h
@@ -179,7 +179,7 @@ module _ (r a b : List ℕ) (v k s : ℕ) (ids msgs : List ℕ) (n : ℕ) (check
 
   -- mode dsc at the ground machine
   pub dsc-at-the-ground : atGround r ≡ true → numberedCall r a b (StartServiceRequest dscMode k s) v ids msgs n checks c ≡ shapeForProhibited (dscStartBefore r a b v k s ids msgs n checks c)
-  unfolding userCall concluded
+  unfolding userBy concluded
   dsc-at-the-ground g = entering-same r a b (now-step dscMode) (λ (sd : Side) (x : Record) (h : ℕ). shapeForProhibited (old-step true sd x h)) moved ∙ sym (shape-entering r a b (old-step true))
     where
       refuses : (d t : Bool) (x : Record) → cond d (concluded r a b Ground v (refused Shape x) (lent ids) (lent msgs) (lent checks) (carriesData given)) (called shape r a b) ≡ shapeForProhibited (cond d (concluded r a b Ground v (refused (cond t Prohibited Shape) x) (lent ids) (lent msgs) (lent checks) (carriesData given)) (called shape r a b))
@@ -194,7 +194,7 @@ module _ (r a b : List ℕ) (v k s : ℕ) (ids msgs : List ℕ) (n : ℕ) (check
 
   -- so it is refused there in every state, after ROOM
   pub dsc-refused-at-the-ground : atGround r ≡ true → numberedCall r a b (StartServiceRequest dscMode k s) v ids msgs n checks c ≡ roomOrShape r a b
-  unfolding userCall concluded
+  unfolding userBy concluded
   dsc-refused-at-the-ground g = entering-same r a b (now-step dscMode) (λ (sd : Side) (x : Record) (h : ℕ). called shape r a b) refuses ∙ entering-shape r a b
     where
       either : (d : Bool) (x : Record) → cond d (concluded r a b Ground v (refused Shape x) (lent ids) (lent msgs) (lent checks) (carriesData given)) (called shape r a b) ≡ called shape r a b
@@ -207,7 +207,7 @@ module _ (r a b : List ℕ) (v k s : ℕ) (ids msgs : List ℕ) (n : ℕ) (check
 
   -- a code that is no mode: refused for any record, of either machine, after ROOM
   pub no-other-mode : (m : ℕ) → modes ≤ m → numberedCall r a b (StartServiceRequest m k s) v ids msgs n checks c ≡ roomOrShape r a b
-  unfolding userCall concluded
+  unfolding userBy concluded
   no-other-mode m l = entering-same r a b (now-step m) (λ (sd : Side) (x : Record) (h : ℕ). called shape r a b) (λ sd x h e. shape-at m sd x h (mode-shape sd m l) ∙ either sd placed-fits x) ∙ entering-shape r a b
     where
       either : (sd : Side) (d : Bool) (x : Record) → cond d (concluded r a b sd v (refused Shape x) (lent ids) (lent msgs) (lent checks) (carriesData given)) (called shape r a b) ≡ called shape r a b

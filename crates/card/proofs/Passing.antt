@@ -1,11 +1,18 @@
--- The ways out of `peat_forward_part`, as the code has them.
+-- The ways out of `peat_forward_part` and of `peat_read_forward`, as the code has them; and that the second says what the first says of each part.
 -- Assumes nothing.
 use mathlib.Core.Path.{_≡_, refl, ap, sym, _∙_}
 use mathlib.Core.Bool.{Bool, true, false, cond}
-use mathlib.Core.List.{List}
-use Prim.Native.Nat.{ℕ, zero, suc, _≤_, _<_}
+use mathlib.Core.List.{List, [], _∷_, _++_}
+use Prim.Native.Nat.{ℕ, zero, suc, _+_, _*_, _%_, _^_, _≤_, _<_}
+use native.Mathlib.Omega.{arith}
+use native.Mathlib.Nat.{add-zero}
 use borrow.Author.Tests.{lt-ltb, le-ltb, eq-eqb, ne-eqb}
-use lib.ListN.{length}
+use lib.Dec.{eqb, ltb}
+use lib.ListN.{length, drop, getD, set}
+use lib.Pow.{mod-mod-pow}
+use lib.Seq.{drop-at, drop-cons, length-sets, sets, take-at}
+use Rattle.book.specs.Books.{eightAt, eights, octets}
+use Rattle.book.proofs.Eights.{eight-drop, length-eights, length-octets, number-octets}
 use Rattle.bits.specs.Bits.{run}
 use Rattle.fields.specs.Refusals.{packed}
 use Rattle.fields.specs.declared.Refusal.{Refusal}
@@ -18,8 +25,10 @@ use Rattle.apdu.specs.declared.Forward.{Forward}
 use Rattle.apdu.specs.declared.Forwarded.{Forwarded}
 use Rattle.apdu.specs.declared.Forwarded.the-variants as forwarded
 use Rattle.apdu.specs.declared.Written.{Written}
-use Rattle.card.specs.Mail.{sent}
-use Rattle.card.specs.Forwarding.{messagePart, headingPart, told, messageAnswer, forwardPart, forwardChosen, forwardPartCall}
+use Rattle.apdu.specs.declared.Written.the-variants as written
+use Rattle.layout.specs.Calls.{sent}
+use Rattle.card.specs.Forwarding.{messagePart, headingPart, told, messageAnswer, messageOut, forwardPart, forwardChosen, forwardPartCall, headingNumbers, headingBytes, opened, headingBy, forwardParts, forwardOpened, readForward}
+use Rattle.card.proofs.Answered.{sets-whole}
 
 pub last-part : (w : ℕ) (h : Heading) → (w ≡ 0 → ⊥) → (w ≡ 1 → ⊥) → (w ≡ 2 → ⊥) → (w ≡ 3 → ⊥) → (w ≡ 4 → ⊥) → (w ≡ 5 → ⊥) → (w ≡ 6 → ⊥) → (w ≡ 7 → ⊥) → (w ≡ 8 → ⊥) → h .direction ≡ headingPart w h
 last-part zero h a b c d e f g i j = absurd (a refl)
@@ -56,3 +65,109 @@ not-forward out s which n t r h g p q e = rw (le-ltb (length out) bufferLeast h,
 pub part-out : (out z s : List ℕ) (which n next : ℕ) (t : Forwarded) (f : Forward) → bufferLeast ≤ length out → which ≤ messagePart → t ≡ wholeForward (lent s) → t ≡ forwarded.Is f next → sent n z ≡ forwardPart out s which f → sent n z ≡ forwardPartCall out which s
 unfolding forwardPartCall forwardChosen
 part-out out z s which n next t f h g e q k = k ∙ rw (le-ltb (length out) bufferLeast h, le-ltb messagePart which g, ← e, q)
+
+-- ---- all parts at once
+
+-- each number stands in its part's place
+pub part-at : (i : ℕ) (h : Heading) → i < messagePart → getD (headingNumbers h) i 0 ≡ headingPart i h
+part-at zero h k = refl
+part-at (suc zero) h k = refl
+part-at (suc (suc zero)) h k = refl
+part-at (suc (suc (suc zero))) h k = refl
+part-at (suc (suc (suc (suc zero)))) h k = refl
+part-at (suc (suc (suc (suc (suc zero))))) h k = refl
+part-at (suc (suc (suc (suc (suc (suc zero)))))) h k = refl
+part-at (suc (suc (suc (suc (suc (suc (suc zero))))))) h k = refl
+part-at (suc (suc (suc (suc (suc (suc (suc (suc zero)))))))) h k = refl
+part-at (suc (suc (suc (suc (suc (suc (suc (suc (suc zero))))))))) h k = refl
+part-at (suc (suc (suc (suc (suc (suc (suc (suc (suc (suc i)))))))))) h k = absurd (omega arith)
+
+eights-nil : eights [] ≡ []
+unfolding eights
+eights-nil = refl
+
+eights-cons : (v : ℕ) (vs : List ℕ) → eights (v ∷ vs) ≡ octets 8 v ++ eights vs
+unfolding eights
+eights-cons v vs = refl
+
+sets-on : (xs ys b : List ℕ) (at : ℕ) → sets b at (xs ++ ys) ≡ sets (sets b at xs) (at + length xs) ys
+sets-on [] ys b at = ap (λ (k : ℕ). sets b k ys) (sym (add-zero at))
+sets-on (x ∷ xs) ys b at =
+    let e : suc at + length xs ≡ at + suc (length xs) = omega arith in
+    sets-on xs ys (set b at x) (suc at) ∙ ap (λ (k : ℕ). sets (sets (set b at x) (suc at) xs) k ys) e
+
+-- as `put_numbers` has them: the numbers that are put, and those to come
+pub numbers-start : (b : List ℕ) (h : Heading) → length b ≡ headingBytes → sets b (8 * 0) (eights (drop 0 (headingNumbers h))) ≡ eights (headingNumbers h)
+numbers-start b h e = sets-whole b (eights (headingNumbers h)) (length-eights (headingNumbers h) ∙ sym e)
+
+numbers-next : (i : ℕ) (h : Heading) → i < messagePart → eights (drop i (headingNumbers h)) ≡ octets 8 (headingPart i h) ++ eights (drop (suc i) (headingNumbers h))
+numbers-next i h k =
+    ap eights (drop-cons (headingNumbers h) i 0 k) ∙ eights-cons (getD (headingNumbers h) i 0) (drop (suc i) (headingNumbers h)) ∙ ap (λ (v : ℕ). octets 8 v ++ eights (drop (suc i) (headingNumbers h))) (part-at i h k)
+
+pub numbers-turn : (b z d : List ℕ) (i v : ℕ) (h : Heading) → i < messagePart → v ≡ headingPart i h → d ≡ sets b (8 * i) (octets 8 v) → sets b (8 * i) (eights (drop i (headingNumbers h))) ≡ z → sets d (8 * (i + 1)) (eights (drop (i + 1) (headingNumbers h))) ≡ z
+numbers-turn b z d i v h k p q e =
+    let n : i + 1 ≡ suc i = omega arith in
+    let m : 8 * (i + 1) ≡ 8 * i + 8 = omega arith in
+    let g : sets b (8 * i) (octets 8 (headingPart i h) ++ eights (drop (suc i) (headingNumbers h))) ≡ z = ap (λ (l : List ℕ). sets b (8 * i) l) (sym (numbers-next i h k)) ∙ e in
+    let o = sets-on (octets 8 (headingPart i h)) (eights (drop (suc i) (headingNumbers h))) b (8 * i) in
+    rw (m, n, q, p) (rw (length-octets 8 (headingPart i h)) at (sym o ∙ g))
+
+pub numbers-length : (b d : List ℕ) (at v : ℕ) → d ≡ sets b at (octets 8 v) → length b ≡ headingBytes → length d ≡ headingBytes
+numbers-length b d at v e h = ap length e ∙ length-sets b at (octets 8 v) ∙ h
+
+pub numbers-done : (b : List ℕ) (i : ℕ) (h : Heading) → i ≡ 10 → sets b (8 * i) (eights (drop i (headingNumbers h))) ≡ b
+numbers-done b i h e = rw (e, eights-nil)
+
+pub parts-out : (b d out z s : List ℕ) (n : ℕ) (f : Forward) (w : Written) → done w z ≡ messageOut out s (f .message) → d ≡ headingBy b (f .heading) w → n ≡ messageAnswer w → opened n d z ≡ forwardParts b out s f
+unfolding forwardParts
+parts-out b d out z s n f w e p q = rw (← e, p, q)
+
+pub no-buffer : (b out s : List ℕ) → length out < bufferLeast → opened 1 b out ≡ readForward b out s
+unfolding readForward
+no-buffer b out s h = rw (lt-ltb (length out) bufferLeast h)
+
+pub no-heading : (b out s : List ℕ) → bufferLeast ≤ length out → (length b ≡ headingBytes → ⊥) → opened 2 b out ≡ readForward b out s
+unfolding readForward
+no-heading b out s h g = rw (le-ltb (length out) bufferLeast h, ne-eqb (length b) headingBytes g)
+
+pub no-parts : (b out s : List ℕ) (n : ℕ) (t : Forwarded) (r : Refusal) → bufferLeast ≤ length out → length b ≡ headingBytes → t ≡ wholeForward (lent s) → t ≡ forwarded.Refused r → n ≡ packed r → opened n b out ≡ readForward b out s
+unfolding readForward forwardOpened
+no-parts b out s n t r h g p q e = rw (le-ltb (length out) bufferLeast h, eq-eqb (length b) headingBytes g, ← p, q, e)
+
+pub all-parts : (b d out z s : List ℕ) (n next : ℕ) (t : Forwarded) (f : Forward) → bufferLeast ≤ length out → length b ≡ headingBytes → t ≡ wholeForward (lent s) → t ≡ forwarded.Is f next → opened n d z ≡ forwardParts b out s f → opened n d z ≡ readForward b out s
+unfolding readForward forwardOpened
+all-parts b d out z s n next t f h g e q k = k ∙ rw (le-ltb (length out) bufferLeast h, eq-eqb (length b) headingBytes g, ← e, q)
+
+-- ---- what all parts at once say is what each of them says by itself
+
+-- the message's bits, and every refusal
+message-by : (b out s : List ℕ) (t : Forwarded) → sent (forwardOpened b out s t .number) (forwardOpened b out s t .bytes) ≡ forwardChosen out s messagePart t
+unfolding forwardOpened forwardChosen forwardParts forwardPart
+message-by b out s (forwarded.Is f next) = refl
+message-by b out s (forwarded.Refused r) = refl
+
+message-if : (b out s : List ℕ) (t : Forwarded) (x : Bool) → sent (cond x (opened 1 b out) (forwardOpened b out s t) .number) (cond x (opened 1 b out) (forwardOpened b out s t) .bytes) ≡ cond x (sent 1 out) (forwardChosen out s messagePart t)
+message-if b out s t true = refl
+message-if b out s t false = message-by b out s t
+
+pub message-at-once : (b out s : List ℕ) → length b ≡ headingBytes → sent (readForward b out s .number) (readForward b out s .bytes) ≡ forwardPartCall out messagePart s
+unfolding readForward forwardPartCall
+message-at-once b out s h = rw (eq-eqb (length b) headingBytes h) (message-if b out s (wholeForward (lent s)) (ltb (length out) bufferLeast))
+
+-- the numbers
+eight-at : (vs : List ℕ) (i : ℕ) → i < length vs → eightAt (eights vs) (8 * i) ≡ getD vs i 0 % 2 ^ 64
+unfolding eightAt
+eight-at [] i h = absurd (omega arith)
+eight-at (v ∷ vs) zero h = rw (eights-cons v vs, take-at (octets 8 v) (eights vs) 8 (length-octets 8 v)) (number-octets 8 v)
+eight-at (v ∷ vs) (suc i) h =
+    let e : 8 * suc i ≡ 8 + 8 * i = omega arith in
+    let d = drop-at (octets 8 v) (eights vs) 8 (length-octets 8 v) in
+    rw (e, eights-cons v vs) (sym (eight-drop 8 (8 * i) (octets 8 v ++ eights vs)) ∙ rw d (eight-at vs i (omega arith)))
+
+pub number-at-once : (b out s : List ℕ) (i n next : ℕ) (f : Forward) → length b ≡ headingBytes → bufferLeast ≤ length out → wholeForward (lent s) ≡ forwarded.Is f next → messageOut out s (f .message) .answer ≡ written.Bits n → i < messagePart → told (eightAt (readForward b out s .heading) (8 * i)) ≡ forwardPartCall out i s .number
+unfolding readForward forwardOpened forwardParts headingBy forwardPartCall forwardChosen forwardPart
+number-at-once b out s i n next f h g e w k =
+    let o : eqb i messagePart ≡ false = ne-eqb i messagePart (λ (q : i ≡ messagePart). omega arith) in
+    let u : ltb messagePart i ≡ false = le-ltb messagePart i (omega arith) in
+    let v : eightAt (eights (headingNumbers (f .heading))) (8 * i) ≡ headingPart i (f .heading) % 2 ^ 64 = eight-at (headingNumbers (f .heading)) i k ∙ ap (λ (x : ℕ). x % 2 ^ 64) (part-at i (f .heading) k) in
+    rw (eq-eqb (length b) headingBytes h, le-ltb (length out) bufferLeast g, u, e, w, o, v) (ap (λ (x : ℕ). 256 * x) (mod-mod-pow (headingPart i (f .heading)) 8 56))

@@ -18,7 +18,7 @@ use Rattle.apdu.specs.Sizes.{bufferLeast, octet, bit, identifierLeast, identifi
 use Rattle.apdu.specs.Pdus.{lent}
 use Rattle.apdu.specs.Reading.{wholeData}
 use Rattle.apdu.specs.Writing.{done, writeOut, runFits, itemsFit, partFits, dataFits}
-use Rattle.apdu.specs.declared.Span.{Span}
+use Rattle.pdus.specs.declared.Span.{Span}
 use Rattle.apdu.specs.declared.Part.{Part}
 use Rattle.apdu.specs.declared.Part.the-variants.{Absent, Given}
 use Rattle.apdu.specs.declared.Data.{Data}
@@ -27,7 +27,7 @@ use Rattle.apdu.specs.declared.Taken.the-variants as taken
 use Rattle.apdu.specs.declared.Written.{Written}
 use Rattle.apdu.proofs.Bounds.{data-fits}
 use Rattle.apdu.proofs.Theorems.{whole-data}
-use Rattle.card.specs.Mail.{sent}
+use Rattle.layout.specs.Calls.{sent}
 use Rattle.card.specs.Parts.{chosen, unitOf, countOf, partAnswer, putOut, putChosen, partCall}
 
 pub put-absent : (out s : List ℕ) (unit : ℕ) (p : Part) → p ≡ Absent → sent 0 out ≡ putOut out s unit p

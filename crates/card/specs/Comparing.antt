@@ -16,7 +16,7 @@ use Rattle.words.specs.Limits.{shape}
 use Rattle.envelope.specs.Envelopes.{mostBits}
 use Rattle.recordings.specs.Showing.{Shown, compared}
 use Rattle.recordings.specs.declared.Compared.{Compared}
-use Rattle.card.specs.Mail.{Sent, sent}
+use Rattle.layout.specs.Calls.{Sent, sent}
 
 abbrev pub comparedNumber : Compared → ℕ
 comparedNumber c = c .refusal % 256 + 256 * (c .recording % 256 + 256 * (c .byte % 65536 + 65536 * (c .index % 65536 + 65536 * (c .field % 256))))

@@ -5,7 +5,7 @@ use mathlib.Core.List.{List, []}
 use lib.Dec.{ltb, eqb}
 use lib.ListN.{length}
 use Rattle.words.specs.Limits.{shape}
-use Rattle.apdu.specs.declared.Span.{Span}
+use Rattle.pdus.specs.declared.Span.{Span}
 use Rattle.apdu.specs.declared.Part.{Part}
 use Rattle.apdu.specs.declared.Part.the-variants as part
 use Rattle.apdu.specs.declared.Data.{Data}
@@ -46,9 +46,12 @@ numberedCall r a b u v ids msgs m checks k = userCall r a b (User u) v ids msgs 
 abbrev pub dataCall : List ℕ → List ℕ → List ℕ → UserPrimitive → List ℕ → List ℕ → ℕ → List ℕ → ℕ → Called
 dataCall r a b u ids msgs m checks k = numberedCall r a b u noNumber ids msgs m checks k
 
--- a message request holds a message, or not
+-- the message data hold a CPDLC message, or not
+abbrev pub holdsMessage : ℕ → Bool
+holdsMessage m = not (eqb m noCount)
+
 abbrev pub messageRequested : ℕ → ℕ → UserPrimitive
-messageRequested m j = MessageServiceRequest (not (eqb m noCount)) j
+messageRequested m j = MessageServiceRequest (holdsMessage m) j
 
 -- a user abort gives a reason, or not
 abbrev pub abortRequested : ℕ → UserPrimitive

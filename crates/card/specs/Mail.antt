@@ -15,6 +15,7 @@ use lib.Dec.{eqb}
 use lib.ListN.{length}
 use Rattle.words.specs.Limits.{room, shape}
 use Rattle.book.specs.Books.{octets}
+use Rattle.layout.specs.Calls.{Sent, sent}
 use Rattle.envelope.specs.Envelopes.{refusalNumber, leastRoom, mostBits, envelopeAt, writeEnvelope, Left}
 use Rattle.envelope.specs.declared.Envelope.{Envelope}
 use Rattle.envelope.specs.declared.EnvelopeRead.{EnvelopeRead}
@@ -29,14 +30,6 @@ unfoldable pub writtenAnswer : EnvelopeWritten → ℕ
 writtenAnswer (Bytes n) = 256 * (n % 65536)
 writtenAnswer Room = room
 writtenAnswer Shape = shape
-
--- what a call leaves: the number and the range that it may write to
-pub record Sent : Type 0 where
-  pub number : ℕ
-  pub bytes : List ℕ
-
-abbrev pub sent : ℕ → List ℕ → Sent
-sent n s = record { number = n; bytes = s }
 
 -- the bytes that take a job
 abbrev pub jobBytes : ℕ

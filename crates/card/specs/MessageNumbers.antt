@@ -7,7 +7,7 @@ use Prim.Native.Nat.{ℕ, _*_, _%_}
 use Rattle.book.specs.Books.{Left, refusalNumber}
 use Rattle.book.specs.declared.Answer.{Answer}
 use Rattle.book.specs.declared.Answer.the-variants.{Is, Refused}
-use Rattle.card.specs.Mail.{Sent, sent}
+use Rattle.layout.specs.Calls.{Sent, sent}
 
 unfoldable pub answerNumber : Answer → ℕ
 answerNumber (Is x) = 256 * (x % 256)

@@ -23,7 +23,7 @@ use Rattle.apdu.specs.declared.Taken.{Taken}
 use Rattle.apdu.specs.declared.Taken.the-variants as taken
 use Rattle.apdu.specs.declared.Written.{Written}
 use Rattle.apdu.specs.declared.Written.the-variants as written
-use Rattle.card.specs.Mail.{Sent, sent}
+use Rattle.layout.specs.Calls.{Sent, sent}
 
 unfoldable pub chosen : ℕ → Data → Part
 chosen which d = cond (eqb which 0) (d .identifier) (cond (eqb which 1) (d .message) (Given (d .check)))

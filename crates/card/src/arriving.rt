@@ -1,9 +1,13 @@
 // The broker's envelopes as they arrive in fragments. The host keeps the reader's record; a finished envelope stands in it until the next
 // call.
 ghost use mathlib.Core.Path.{_≡_};
-ghost use Rattle.card.specs.Arriving.{endMail, freshMail, takeMail, takenNumber};
-ghost use Rattle.card.specs.Mail.{sent};
+ghost use lib.ListN.{length};
+ghost use Rattle.card.specs.Arriving.{endMail, freshMail, jobBy, takeMail, takenNumber, took};
+ghost use Rattle.card.specs.Mail.{jobBytes};
+ghost use Rattle.layout.specs.Calls.{sent};
+use crate::mail::JOB_BYTES;
 use crate::mail::packed;
+use crate::mail::put_job;
 use envelope::Envelope;
 use fragments::Taken;
 use fragments::ending::end;
@@ -49,6 +53,19 @@ fn taken_number(t: Taken) -> u64
     }
 }
 
+// The job of an envelope that is finished.
+fn put_taken_job(t: Taken, job: &mut [u8])
+    requires { ⌜ length (now job) ≡ jobBytes ⌝ }
+    ensures { λ r. ⌜ now (job .exit) ≡ jobBy (now (job .entry)) t ⌝ }
+{
+    match t {
+        Taken::Whole(e, _) => put_job(job, e.job),
+        Taken::Part(_) => {}
+        Taken::Refused(_) => {}
+        Taken::Shape => {}
+    }
+}
+
 // A fresh reader in a lent range.
 #[no_mangle]
 pub extern "C" fn peat_mail_fresh(mail: &mut [u8]) -> u64
@@ -57,12 +74,18 @@ pub extern "C" fn peat_mail_fresh(mail: &mut [u8]) -> u64
     taken_number(make_fresh(mail))
 }
 
-// The next fragment, or what a call left of it: an envelope that it finishes, and the bytes that were taken; or the refusal.
+// The next fragment, or what a call left of it: an envelope that it finishes, with its job into the lent range of eight bytes, and the
+// bytes that were taken; or the refusal.
 #[no_mangle]
-pub extern "C" fn peat_mail_take(mail: &mut [u8], fragment: &[u8]) -> u64
-    ensures { λ n. ⌜ sent n (now (mail .exit)) ≡ takeMail (now (mail .entry)) (now (fragment .entry)) ⌝ }
+pub extern "C" fn peat_mail_take(mail: &mut [u8], fragment: &[u8], job: &mut [u8]) -> u64
+    ensures { λ n. ⌜ took n (now (mail .exit)) (now (job .exit)) ≡ takeMail (now (mail .entry)) (now (fragment .entry)) (now (job .entry)) ⌝ }
 {
-    taken_number(take(mail, fragment))
+    if job.len() != JOB_BYTES {
+        return Limit::SHAPE;
+    }
+    let t = take(mail, fragment);
+    put_taken_job(t, job);
+    taken_number(t)
 }
 
 // The input has ended: CUT where an envelope is unfinished.

@@ -2,7 +2,7 @@
 ghost use mathlib.Core.Path.{_≡_};
 ghost use lib.ListN.{length};
 ghost use Rattle.card.specs.Comparing.{compareAt, comparedNumber, comparison, countBytes, countsOf, tellsBy};
-ghost use Rattle.card.specs.Mail.{sent};
+ghost use Rattle.layout.specs.Calls.{sent};
 use recordings::Compared;
 use recordings::comparing::compare;
 use words::Limit;

@@ -1,7 +1,7 @@
 // The parts of message data that was delivered, taken out for the host.
 ghost use mathlib.Core.Path.{_≡_};
 ghost use Prim.Native.Nat.{_*_, _<_};
-ghost use Rattle.card.specs.Mail.{sent};
+ghost use Rattle.layout.specs.Calls.{sent};
 ghost use Rattle.card.specs.Parts.{chosen, countOf, partAnswer, partCall, putOut, unitOf};
 use apdu::Apdu;
 use apdu::Data;

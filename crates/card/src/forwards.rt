@@ -1,18 +1,21 @@
 // The forward service: the request of the sending centre, and the parts of the message that a receiving centre was delivered.
 ghost use mathlib.Core.Path.{_≡_};
+ghost use lib.ListN.{length};
 ghost use Rattle.apdu.specs.Headings.{triple};
-ghost use Rattle.card.specs.Forwarding.{forwardPart, forwardPartCall, headingPart, messageAnswer, told};
-ghost use Rattle.card.specs.Mail.{sent};
+ghost use Rattle.book.specs.Books.{eights};
+ghost use Rattle.card.specs.Forwarding.{forwardPart, forwardPartCall, forwardParts, headingBy, headingBytes, headingNumbers, headingPart, messageAnswer, opened, readForward, told};
+ghost use Rattle.layout.specs.Calls.{sent};
 ghost use Rattle.step.specs.Call.{called, forwardCall};
+use crate::mail::put_eight;
 use apdu::Apdu;
 use apdu::Forward;
 use apdu::Forwarded;
 use apdu::Heading;
-use apdu::Span;
 use apdu::Triple;
 use apdu::Written;
 use apdu::put_run;
 use apdu::read_forward;
+use pdus::Span;
 use step::forward_call;
 use words::Limit;
 
@@ -81,7 +84,11 @@ pub extern "C" fn peat_forward_request(
     forward_call(rec, first, second, class, security, number, msgs, f)
 }
 
+// The message's bits by number; as many parts are in front of them.
 const MESSAGE: u64 = 10;
+
+// The bytes that take those.
+const HEADING_BYTES: usize = 80;
 
 // The parts in front of the message's bits, by number.
 fn heading_part(which: u64, h: Heading) -> u64
@@ -146,5 +153,59 @@ pub extern "C" fn peat_forward_part(which: u64, delivered: &[u8], out: &mut [u8]
     match whole {
         Forwarded::Refused(r) => fields::packed(r),
         Forwarded::Is(f, _) => forward_part(out, delivered, which, f),
+    }
+}
+
+// The parts in front of the message's bits into the bytes that are lent for them.
+fn put_numbers(heading: &mut [u8], h: Heading)
+    requires { ⌜ length (now heading) ≡ headingBytes ⌝ }
+    ensures { λ r. ⌜ now (heading .exit) ≡ eights (headingNumbers h) ⌝ }
+{
+    let mut i: usize = 0;
+    while i < 10 {
+        put_eight(heading, 8 * i, heading_part(i as u64, h));
+        i += 1;
+    }
+}
+
+// They are put where the message's bits are.
+fn put_heading(heading: &mut [u8], h: Heading, w: Written)
+    requires { ⌜ length (now heading) ≡ headingBytes ⌝ }
+    ensures { λ r. ⌜ now (heading .exit) ≡ headingBy (now (heading .entry)) h w ⌝ }
+{
+    match w {
+        Written::Bits(_) => put_numbers(heading, h),
+        Written::Room => {}
+        Written::Shape => {}
+    }
+}
+
+// All parts of a forward message that stands in lent bytes.
+fn forward_parts(heading: &mut [u8], out: &mut [u8], s: &[u8], f: Forward) -> u64
+    requires { ⌜ length (now heading) ≡ headingBytes ⌝ }
+    ensures { λ n. ⌜ opened n (now (heading .exit)) (now (out .exit)) ≡ forwardParts (now (heading .entry)) (now (out .entry)) (now (s .entry)) f ⌝ }
+{
+    let h = f.heading;
+    let message = f.message;
+    let w = put_run(out, s, message.at, message.count);
+    put_heading(heading, h, w);
+    message_answer(w)
+}
+
+// All parts of a forward message as it was delivered: the numbers into the lent range of eighty bytes, the message's bits into the buffer.
+#[no_mangle]
+pub extern "C" fn peat_read_forward(delivered: &[u8], heading: &mut [u8], out: &mut [u8]) -> u64
+    ensures { λ n. ⌜ opened n (now (heading .exit)) (now (out .exit)) ≡ readForward (now (heading .entry)) (now (out .entry)) (now (delivered .entry)) ⌝ }
+{
+    if out.len() < Apdu::BUFFER {
+        return Limit::ROOM;
+    }
+    if heading.len() != HEADING_BYTES {
+        return Limit::SHAPE;
+    }
+    let whole = read_forward(delivered);
+    match whole {
+        Forwarded::Refused(r) => fields::packed(r),
+        Forwarded::Is(f, _) => forward_parts(heading, out, delivered, f),
     }
 }

@@ -6,9 +6,9 @@ ghost use Rattle.card.specs.Face.{dataCall, givenData, numberedCall, par
 ghost use Rattle.step.specs.Call.{called};
 use apdu::Data;
 use apdu::Part;
-use apdu::Span;
 use machine::event::Event;
 use machine::event::UserPrimitive;
+use pdus::Span;
 use step::no_data;
 use step::user_call;
 
@@ -62,17 +62,7 @@ pub(crate) fn numbered_call(
         (now (checks .entry)) check ⌝ }
 {
     let d = given_data(ids.len(), message, check);
-    user_call(
-        rec,
-        first,
-        second,
-        Event::User(u),
-        number,
-        ids,
-        msgs,
-        checks,
-        d,
-    )
+    user_call(rec, first, second, u, number, ids, msgs, checks, d)
 }
 
 // One that brings none.
@@ -105,17 +95,22 @@ pub(crate) fn data_call(
     )
 }
 
-// An event without message data.
-pub(crate) fn plain_call(rec: &mut [u8], e: Event, first: &mut [u8], second: &mut [u8]) -> u64
+// A user primitive without message data.
+pub(crate) fn plain_call(
+    rec: &mut [u8],
+    u: UserPrimitive,
+    first: &mut [u8],
+    second: &mut [u8],
+) -> u64
     ensures { λ n. ⌜ called n (now (rec .exit)) (now (first .exit)) (now (second .exit)) ≡
-        plainCall (now (rec .entry)) (now (first .entry)) (now (second .entry)) e ⌝ }
+        plainCall (now (rec .entry)) (now (first .entry)) (now (second .entry)) (Event.User u) ⌝ }
 {
     let empty = [0u8; 0];
     user_call(
         rec,
         first,
         second,
-        e,
+        u,
         NO_NUMBER,
         &empty,
         &empty,

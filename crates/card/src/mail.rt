@@ -1,8 +1,11 @@
 // The broker's envelopes for the host. An envelope is read at the front of lent bytes, so that every place in the answer counts from there.
 ghost use mathlib.Core.Path.{_≡_};
+ghost use Prim.Native.Nat.{_+_, _≤_};
 ghost use lib.ListN.{length};
+ghost use lib.Seq.{sets};
 ghost use Rattle.book.specs.Books.{octets};
-ghost use Rattle.card.specs.Mail.{jobBytes, putEnvelope, readBy, readEnvelope, said, sent, writtenAnswer};
+ghost use Rattle.card.specs.Mail.{jobBytes, putEnvelope, readBy, readEnvelope, said, writtenAnswer};
+ghost use Rattle.layout.specs.Calls.{sent};
 use envelope::Envelope;
 use envelope::EnvelopeRead;
 use envelope::EnvelopeWritten;
@@ -19,18 +22,26 @@ pub(crate) fn packed(e: Envelope) -> u64
 }
 
 // The bytes that take a job.
-const JOB_BYTES: usize = 8;
+pub(crate) const JOB_BYTES: usize = 8;
 
-// A job into the eight bytes that are lent for it. A loop of exactly eight turns: the compiler makes one store of it.
-fn put_job(job: &mut [u8], number: u64)
+// A number to a byte position, in eight bytes. A loop of exactly eight turns: the compiler makes one store of it.
+pub(crate) fn put_eight(b: &mut [u8], at: usize, v: u64)
+    requires { ⌜ at + 8 ≤ length (now b) ⌝ }
+    ensures { λ r. ⌜ now (b .exit) ≡ sets (now (b .entry)) at (octets 8 v) ⌝ }
+{
+    let mut i: usize = 0;
+    while i < 8 {
+        b[at + i] = ((v >> (8 * (7 - i))) % 256) as u8;
+        i += 1;
+    }
+}
+
+// A job into the eight bytes that are lent for it.
+pub(crate) fn put_job(job: &mut [u8], number: u64)
     requires { ⌜ length (now job) ≡ jobBytes ⌝ }
     ensures { λ r. ⌜ now (job .exit) ≡ octets jobBytes number ⌝ }
 {
-    let mut i: usize = 0;
-    while i < JOB_BYTES {
-        job[i] = ((number >> (8 * (7 - i))) % 256) as u8;
-        i += 1;
-    }
+    put_eight(job, 0, number);
 }
 
 // What was read: its number, and the job where there is one.

@@ -1,7 +1,7 @@
 // The book of message identification numbers for the host. It stands beside the record of a dialogue, and no call takes both.
 ghost use mathlib.Core.Path.{_≡_};
 ghost use Rattle.book.specs.Books.{closeAt, countAt, emptyAt, jobAt, openAt};
-ghost use Rattle.card.specs.Mail.{sent};
+ghost use Rattle.layout.specs.Calls.{sent};
 ghost use Rattle.card.specs.MessageNumbers.{answerNumber, leaves};
 use book::Answer;
 

@@ -5,8 +5,8 @@ ghost use Rattle.card.specs.Recorded.{apduAnswer, apduCall, apduNumber, 
 ghost use Rattle.quick.specs.Leading.{leadingCall};
 use apdu::Apdu;
 use apdu::Decoded;
-use apdu::PduType;
 use apdu::read_apdu;
+use pdus::PduType;
 use words::Limit;
 
 const AIRCRAFT: u64 = 1;

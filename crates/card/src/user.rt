@@ -1,7 +1,7 @@
 // The primitives of the user, and what the host reports.
 ghost use mathlib.Core.Path.{_≡_};
 ghost use mathlib.Core.Bool.{true, false};
-ghost use Rattle.card.specs.Face.{abortRequested, dataCall, messageRequested, numberedCall, plainCall};
+ghost use Rattle.card.specs.Face.{abortRequested, dataCall, holdsMessage, messageRequested, numberedCall, plainCall};
 ghost use Rattle.step.specs.Call.{called};
 use crate::given::NONE;
 use crate::given::data_call;
@@ -9,6 +9,7 @@ use crate::given::numbered_call;
 use crate::given::plain_call;
 use machine::event::Event;
 use machine::event::UserPrimitive;
+use step::host_call;
 
 // Start request, with its dialogue number and its mode.
 #[no_mangle]
@@ -58,12 +59,12 @@ pub extern "C" fn peat_start_response(
     second: &mut [u8],
 ) -> u64
     ensures { λ n. ⌜ called n (now (rec .exit)) (now (first .exit)) (now (second .exit)) ≡
-        dataCall (now (rec .entry)) (now (first .entry)) (now (second .entry)) (UserPrimitive.StartServiceResponse false result)
+        dataCall (now (rec .entry)) (now (first .entry)) (now (second .entry)) (UserPrimitive.StartServiceResponse false result (holdsMessage message))
         (now (ids .entry)) (now (msgs .entry)) message (now (checks .entry)) check ⌝ }
 {
     data_call(
         rec,
-        UserPrimitive::StartServiceResponse(false, result),
+        UserPrimitive::StartServiceResponse(false, result, message != NONE),
         ids,
         msgs,
         message,
@@ -88,12 +89,12 @@ pub extern "C" fn peat_dsc_start_response(
     second: &mut [u8],
 ) -> u64
     ensures { λ n. ⌜ called n (now (rec .exit)) (now (first .exit)) (now (second .exit)) ≡
-        dataCall (now (rec .entry)) (now (first .entry)) (now (second .entry)) (UserPrimitive.StartServiceResponse true result)
+        dataCall (now (rec .entry)) (now (first .entry)) (now (second .entry)) (UserPrimitive.StartServiceResponse true result (holdsMessage message))
         (now (ids .entry)) (now (msgs .entry)) message (now (checks .entry)) check ⌝ }
 {
     data_call(
         rec,
-        UserPrimitive::StartServiceResponse(true, result),
+        UserPrimitive::StartServiceResponse(true, result, message != NONE),
         ids,
         msgs,
         message,
@@ -147,12 +148,12 @@ pub extern "C" fn peat_end_request(
     second: &mut [u8],
 ) -> u64
     ensures { λ n. ⌜ called n (now (rec .exit)) (now (first .exit)) (now (second .exit)) ≡
-        dataCall (now (rec .entry)) (now (first .entry)) (now (second .entry)) (UserPrimitive.EndServiceRequest false) (now (ids .entry))
-        (now (msgs .entry)) message (now (checks .entry)) check ⌝ }
+        dataCall (now (rec .entry)) (now (first .entry)) (now (second .entry)) (UserPrimitive.EndServiceRequest false (holdsMessage message))
+        (now (ids .entry)) (now (msgs .entry)) message (now (checks .entry)) check ⌝ }
 {
     data_call(
         rec,
-        UserPrimitive::EndServiceRequest(false),
+        UserPrimitive::EndServiceRequest(false, message != NONE),
         ids,
         msgs,
         message,
@@ -176,12 +177,12 @@ pub extern "C" fn peat_dsc_end_request(
     second: &mut [u8],
 ) -> u64
     ensures { λ n. ⌜ called n (now (rec .exit)) (now (first .exit)) (now (second .exit)) ≡
-        dataCall (now (rec .entry)) (now (first .entry)) (now (second .entry)) (UserPrimitive.EndServiceRequest true) (now (ids .entry))
-        (now (msgs .entry)) message (now (checks .entry)) check ⌝ }
+        dataCall (now (rec .entry)) (now (first .entry)) (now (second .entry)) (UserPrimitive.EndServiceRequest true (holdsMessage message))
+        (now (ids .entry)) (now (msgs .entry)) message (now (checks .entry)) check ⌝ }
 {
     data_call(
         rec,
-        UserPrimitive::EndServiceRequest(true),
+        UserPrimitive::EndServiceRequest(true, message != NONE),
         ids,
         msgs,
         message,
@@ -206,12 +207,12 @@ pub extern "C" fn peat_end_response(
     second: &mut [u8],
 ) -> u64
     ensures { λ n. ⌜ called n (now (rec .exit)) (now (first .exit)) (now (second .exit)) ≡
-        dataCall (now (rec .entry)) (now (first .entry)) (now (second .entry)) (UserPrimitive.EndServiceResponse false result)
+        dataCall (now (rec .entry)) (now (first .entry)) (now (second .entry)) (UserPrimitive.EndServiceResponse false result (holdsMessage message))
         (now (ids .entry)) (now (msgs .entry)) message (now (checks .entry)) check ⌝ }
 {
     data_call(
         rec,
-        UserPrimitive::EndServiceResponse(false, result),
+        UserPrimitive::EndServiceResponse(false, result, message != NONE),
         ids,
         msgs,
         message,
@@ -236,12 +237,12 @@ pub extern "C" fn peat_dsc_end_response(
     second: &mut [u8],
 ) -> u64
     ensures { λ n. ⌜ called n (now (rec .exit)) (now (first .exit)) (now (second .exit)) ≡
-        dataCall (now (rec .entry)) (now (first .entry)) (now (second .entry)) (UserPrimitive.EndServiceResponse true result)
+        dataCall (now (rec .entry)) (now (first .entry)) (now (second .entry)) (UserPrimitive.EndServiceResponse true result (holdsMessage message))
         (now (ids .entry)) (now (msgs .entry)) message (now (checks .entry)) check ⌝ }
 {
     data_call(
         rec,
-        UserPrimitive::EndServiceResponse(true, result),
+        UserPrimitive::EndServiceResponse(true, result, message != NONE),
         ids,
         msgs,
         message,
@@ -272,7 +273,7 @@ pub extern "C" fn peat_user_abort(
     ensures { λ n. ⌜ called n (now (rec .exit)) (now (first .exit)) (now (second .exit)) ≡
         plainCall (now (rec .entry)) (now (first .entry)) (now (second .entry)) (Event.User (abortRequested reason)) ⌝ }
 {
-    plain_call(rec, Event::User(abort_requested(reason)), first, second)
+    plain_call(rec, abort_requested(reason), first, second)
 }
 
 // t-start expires.
@@ -281,7 +282,7 @@ pub extern "C" fn peat_timer_expiry(rec: &mut [u8], first: &mut [u8], second: &m
     ensures { λ n. ⌜ called n (now (rec .exit)) (now (first .exit)) (now (second .exit)) ≡
         plainCall (now (rec .entry)) (now (first .entry)) (now (second .entry)) Event.TimerExpires ⌝ }
 {
-    plain_call(rec, Event::TimerExpires, first, second)
+    host_call(rec, first, second, true)
 }
 
 // An unrecoverable system error.
@@ -290,5 +291,5 @@ pub extern "C" fn peat_system_error(rec: &mut [u8], first: &mut [u8], second: &m
     ensures { λ n. ⌜ called n (now (rec .exit)) (now (first .exit)) (now (second .exit)) ≡
         plainCall (now (rec .entry)) (now (first .entry)) (now (second .entry)) Event.UnrecoverableSystemError ⌝ }
 {
-    plain_call(rec, Event::UnrecoverableSystemError, first, second)
+    host_call(rec, first, second, false)
 }

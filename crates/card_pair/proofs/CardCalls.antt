@@ -28,10 +28,10 @@ use Rattle.machine.specs.declared.outcome.Invoked.the-variants.{Silent, DStartR
 use Rattle.machine.specs.declared.outcome.Outcome.{Outcome}
 use Rattle.numbered.specs.Numbers.{heldAfter, numberedStep}
 use Rattle.stored.specs.Stored.{loadAt}
-use Rattle.step.specs.Call.{Called, called, concluded, entering, userStep, userCall, noData, carriesData}
+use Rattle.step.specs.Call.{Called, called, concluded, entering, userStep, userCall, userBy, noData, carriesData}
 use Rattle.step.proofs.Calling.{with-record}
 use Rattle.step.proofs.Taken.{never, writable, brings, GoesOut, isDData, JobLow, numbered-fits}
-use Rattle.card.specs.Face.{noCount, partOf, givenData, plainCall, messageRequested, abortRequested}
+use Rattle.card.specs.Face.{noCount, partOf, givenData, plainCall, messageRequested, abortRequested, holdsMessage}
 use Rattle.pair.specs.Names.{Side}
 use Rattle.pair.specs.Carrier.{Body, Sent}
 use Rattle.pair.specs.Carrier as C
@@ -55,9 +55,9 @@ module _ (r : List ℕ) (w : Buffers) (sd : Side) (q : Record) (h : ℕ) (keeps 
   pub entered : (k : Side → Record → ℕ → Called) → entering r (w .first) (w .second) k ≡ k sd q h
   entered k = sym (with-record r (w .first) (w .second) k (w .first-full) (w .second-full) (loadAt r) refl sd q h (k sd q h) (keeps .load) refl)
 
-  pub user-entered : (e : Event) (v : ℕ) (ids msgs checks : List ℕ) (d : Data) → userCall r (w .first) (w .second) e v ids msgs checks d ≡ userStep r (w .first) (w .second) e v (lent ids) (lent msgs) (lent checks) d sd q h
-  unfolding userCall
-  user-entered e v ids msgs checks d = entered (userStep r (w .first) (w .second) e v (lent ids) (lent msgs) (lent checks) d)
+  pub user-entered : (e : Event) (v : ℕ) (ids msgs checks : List ℕ) (d : Data) → userCall r (w .first) (w .second) e v ids msgs checks d ≡ userStep numberedStep r (w .first) (w .second) e v (lent ids) (lent msgs) (lent checks) d sd q h
+  unfolding userBy
+  user-entered e v ids msgs checks d = entered (userStep numberedStep r (w .first) (w .second) e v (lent ids) (lent msgs) (lent checks) d)
 
 -- message data of which nothing is there are within the sizes
 pub none-fits : (li lm lc : List ℕ) → dataFits li lm lc noData ≡ true
@@ -79,19 +79,19 @@ user-writable sd (DStartForwardResponse s v) a g = absurd g
 -- every user primitive is one to `brings`
 by-user : (u : UserPrimitive) → brings (User u) .user ≡ true
 by-user (StartServiceRequest m k s) = refl
-by-user (StartServiceResponse m x) = refl
+by-user (StartServiceResponse m x h) = refl
 by-user (MessageServiceRequest h j) = refl
-by-user (EndServiceRequest m) = refl
-by-user (EndServiceResponse m x) = refl
+by-user (EndServiceRequest m h) = refl
+by-user (EndServiceResponse m x h) = refl
 by-user (UserAbortServiceRequest g x) = refl
 
 -- it hears no send
 unheard : {A : Type 0} (u : UserPrimitive) → isSend (brings (User u) .apdu) ≡ true → A
 unheard (StartServiceRequest m k s) e = never e
-unheard (StartServiceResponse m x) e = never e
+unheard (StartServiceResponse m x h) e = never e
 unheard (MessageServiceRequest h j) e = never e
-unheard (EndServiceRequest m) e = never e
-unheard (EndServiceResponse m x) e = never e
+unheard (EndServiceRequest m h) e = never e
+unheard (EndServiceResponse m x h) e = never e
 unheard (UserAbortServiceRequest g x) e = never e
 
 -- ---- a user primitive u that brings the dialogue number v, whose partner is the order a; s: what its answer puts on the line
@@ -160,7 +160,7 @@ given-message : (n m k : ℕ) → isGiven (givenData n m k .message) ≡ not (eq
 unfolding givenData
 given-message n m k = part-given (eqb m noCount) m
 
-given-carries : (g : Given) → dataFits (lent (g .ids)) (lent (g .msgs)) (lent (g .checks)) (givenData (length (g .ids)) (g .bits) (g .check)) ≡ true → carries (bodyGiven g) ≡ not (eqb (g .bits) noCount)
+given-carries : (g : Given) → dataFits (lent (g .ids)) (lent (g .msgs)) (lent (g .checks)) (givenData (length (g .ids)) (g .bits) (g .check)) ≡ true → carries (bodyGiven g) ≡ holdsMessage (g .bits)
 given-carries g sh =
     let d : Data = givenData (length (g .ids)) (g .bits) (g .check) in
     carries-is (contentIn (lent (g .ids)) (lent (g .msgs)) (lent (g .checks)) (givenData (length (g .ids)) (g .bits) (g .check))) (data-value-fits (lent (g .ids)) (lent (g .msgs)) (lent (g .checks)) (givenData (length (g .ids)) (g .bits) (g .check)) sh)
@@ -169,10 +169,10 @@ given-carries g sh =
 
 module _ (p n : ℕ) (r : List ℕ) (w : Buffers) (sd : Side) (q : Record) (h : ℕ) (keeps : Keeps sd r q h) where
   -- a call with message data that is no message request
-  simple-rel : (u : UserPrimitive) (v : ℕ) (lv : v < 2 ^ 64) (g : Given) (a : Order) → JobLow sd (User u) → asked cardCodec p a ≡ u → dataOf a ≡ cond (brings (User u) .body) (bodyGiven g) [] → brings (User u) .message ≡ false
+  simple-rel : (u : UserPrimitive) (v : ℕ) (lv : v < 2 ^ 64) (g : Given) (a : Order) → JobLow sd (User u) → (dataFits (lent (g .ids)) (lent (g .msgs)) (lent (g .checks)) (givenData (length (g .ids)) (g .bits) (g .check)) ≡ true → asked cardCodec p a ≡ u) → dataOf a ≡ cond (brings (User u) .body) (bodyGiven g) [] → brings (User u) .message ≡ false
       → Follow p n r w sd q h keeps u v lv (g .ids) (g .msgs) (g .checks) (givenData (length (g .ids)) (g .bits) (g .check)) a sentOf (simply n (userCall r (w .first) (w .second) (User u) v (g .ids) (g .msgs) (g .checks) (givenData (length (g .ids)) (g .bits) (g .check))))
   simple-rel u v lv g a j same ey x =
-      asked-rel p n r w sd q h keeps u v lv (g .ids) (g .msgs) (g .checks) (givenData (length (g .ids)) (g .bits) (g .check)) a sentOf j (λ sh. same) ey
+      asked-rel p n r w sd q h keeps u v lv (g .ids) (g .msgs) (g .checks) (givenData (length (g .ids)) (g .bits) (g .check)) a sentOf j same ey
       (λ c m i z ys e k d f. sent-plain sd true z (markedEntry c) m ys (dataOf a) (jobOf a) i e k (d ∙ x) f)
 
   -- a call that brings no number
@@ -180,15 +180,15 @@ module _ (p n : ℕ) (r : List ℕ) (w : Buffers) (sd : Side) (q : Record) (h : 
   none-low = omega arith
 
   pub call-rel : (a : Asked) → Follows (KeepsAt sd) (Carries sd) (left n (answered p w r a) (sentFor a (answered p w r a))) (mark h q) (stepNumbered cardCodec p .at .call sd (mark h q))
-  call-rel (start-request v m k g) = simple-rel (StartServiceRequest m k p) (v .number) (v .low) g (S.start-request m k (bodyGiven g)) tt refl refl refl
-  call-rel (start-response m x g) = simple-rel (StartServiceResponse m x) 0 none-low g (S.start-response m x (bodyGiven g)) tt refl refl refl
+  call-rel (start-request v m k g) = simple-rel (StartServiceRequest m k p) (v .number) (v .low) g (S.start-request m k (bodyGiven g)) tt (λ sh. refl) refl refl
+  call-rel (start-response m x g) = simple-rel (StartServiceResponse m x (holdsMessage (g .bits))) 0 none-low g (S.start-response m x (bodyGiven g)) tt (λ sh. ap (StartServiceResponse m x) (given-carries g sh)) refl refl
   call-rel (message-request j g) =
       asked-rel p n r w sd q h keeps (messageRequested (g .bits) (j .number)) 0 none-low (g .ids) (g .msgs) (g .checks) (givenData (length (g .ids)) (g .bits) (g .check)) (S.message-request (bodyGiven g) (j .number))
       (λ (c : Called). C.message (markedEntry c) (bodyGiven g) (j .number)) (j .low)
       (λ sh. ap (λ (b : Bool). MessageServiceRequest b (j .number)) (given-carries g sh)) refl
       (λ c m i z ys e k d f. sent-message sd true z (markedEntry c) m ys (bodyGiven g) (j .number) i k d f)
-  call-rel (end-request m g) = simple-rel (EndServiceRequest m) 0 none-low g (S.end-request m (bodyGiven g)) tt refl refl refl
-  call-rel (end-response m x g) = simple-rel (EndServiceResponse m x) 0 none-low g (S.end-response m x (bodyGiven g)) tt refl refl refl
+  call-rel (end-request m g) = simple-rel (EndServiceRequest m (holdsMessage (g .bits))) 0 none-low g (S.end-request m (bodyGiven g)) tt (λ sh. ap (EndServiceRequest m) (given-carries g sh)) refl refl
+  call-rel (end-response m x g) = simple-rel (EndServiceResponse m x (holdsMessage (g .bits))) 0 none-low g (S.end-response m x (bodyGiven g)) tt (λ sh. ap (EndServiceResponse m x) (given-carries g sh)) refl refl
   call-rel (user-abort x) =
       asked-rel p n r w sd q h keeps (abortRequested x) 0 none-low [] [] [] noData (S.user-abort (not (eqb x noCount)) (cond (eqb x noCount) 0 x)) sentOf tt (λ sh. refl) refl
       (λ c m i z ys e k d f. sent-plain sd true z (markedEntry c) m ys [] 0 i e k d f)

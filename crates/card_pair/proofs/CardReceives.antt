@@ -13,8 +13,8 @@ use Rattle.apdu.specs.Pdus.{lent, contentIn, pduIn}
 use Rattle.apdu.specs.Encoding.{contentBits, modeFits}
 use Rattle.apdu.specs.Reading.{apduAt}
 use Rattle.apdu.specs.Writing.{dataFits, apduFits}
-use Rattle.apdu.specs.declared.PduType.{PduType}
-use Rattle.apdu.specs.declared.PduType.the-variants as pdu
+use Rattle.pdus.specs.declared.PduType.{PduType}
+use Rattle.pdus.specs.declared.PduType.the-variants as pdu
 use Rattle.apdu.specs.declared.Apdu.the-variants as is
 use Rattle.apdu.specs.declared.Decoded.{Decoded}
 use Rattle.apdu.specs.declared.Decoded.the-variants as decoded
@@ -29,19 +29,20 @@ use Rattle.machine.specs.declared.event.Event.the-variants.{Service}
 use Rattle.machine.specs.declared.outcome.Invoked.{Invoked}
 use Rattle.machine.specs.declared.outcome.Invoked.the-variants.{Silent, DStartRequest, DStartResponse, DDataRequest, DEndRequest, DEndResponse, DAbortRequest, DStartForwardRequest, DStartForwardResponse}
 use Rattle.machine.specs.declared.outcome.Outcome.{Outcome}
-use Rattle.step.specs.Call.{Called, pdusOf, noData, carriesData, carriedBy, readsAs, readsAgain, orAbort, readPdu, meaning, dataOf, eventStep, dataStep, bareStep, serviceStep, serviceCall}
+use Rattle.numbered.specs.Numbers.{numberedStep}
+use Rattle.step.specs.Call.{Called, pdusOf, noData, carriesData, carriedBy, readsAs, readsAgain, orAbort, readPdu, meaning, dataOf, eventStep, dataStep, bareStep, serviceStep, serviceCall, serviceBy}
 use Rattle.step.proofs.Taken.{never, JobLow, isDialogue}
 use Rattle.pair.specs.Names.{Side, Air, Ground, Control, awaitsResponse, other}
 use Rattle.pair.specs.Carrier.{Body}
 use Rattle.pair.specs.Numbered.{Numbered, mark}
 use Rattle.pair.specs.Wires.{Wire, arrives}
 use Rattle.pair.proofs.NumberedStepAgrees.{numberedly}
-use Rattle.pair.proofs.StepMachine.{apduOf, bodyOf, happens}
+use Rattle.pair.proofs.StepMachine.{Read, apduOf, bodyOf, happens}
 use Rattle.pair.proofs.Agree.{OutRel}
-use Rattle.card_pair.specs.CardMachine.{Buffers, numberIn, heldBy, simply}
-use Rattle.card_pair.proofs.Codec.{readOf, cardCodec}
+use Rattle.card_pair.specs.CardMachine.{Buffers, numberIn, heldBy, simply, givenOf}
+use Rattle.card_pair.proofs.Codec.{readOf, isRead, some-read, dec-read, cardCodec}
 use Rattle.card_pair.proofs.Ends.{Keeps}
-use Rattle.card_pair.proofs.Entries.{isRead, KeepsAt, Carries, happens-rel}
+use Rattle.card_pair.proofs.Entries.{KeepsAt, Carries, happens-rel}
 use Rattle.card_pair.proofs.CardCalls.{entered, none-fits}
 
 -- ---- one reading is enough
@@ -124,7 +125,7 @@ module _ (n : ℕ) (r : List ℕ) (w : Buffers) (sd : Side) (q : Record) (h : �
 
   -- the call when the user data in the bits l is read as x
   abbrev Read-as : Invoked → ℕ → List ℕ → Decoded → Called
-  Read-as i v l x = eventStep r (w .first) (w .second) (Service (arrives sd i) (meaning x)) v l l l (carriedBy x) sd q h
+  Read-as i v l x = eventStep numberedStep r (w .first) (w .second) (Service (arrives sd i) (meaning x)) v l l l (carriedBy x) sd q h
 
   reading : (i : Invoked) (v : ℕ) (l : List ℕ) (x : Decoded) → isDialogue i ≡ true → v < 2 ^ 64 → Bits l → dataFits l l l (dataOf x) ≡ true → Does (Read-as i v l x) (arrives sd i) v (apduOf (readOf l x)) (bodyOf (readOf l x))
   reading i v l x z lv b sh =
@@ -139,24 +140,27 @@ module _ (n : ℕ) (r : List ℕ) (w : Buffers) (sd : Side) (q : Record) (h : �
   Does-as c i v l = Does c (arrives sd i) v (apduOf (readOf l (heard l))) (bodyOf (readOf l (heard l)))
 
   received : (i : Invoked) (v : ℕ) (s : List ℕ) → isDialogue i ≡ true → v < 2 ^ 64 → isRead (heard (lent s)) ≡ true → Does-as (serviceCall r (w .first) (w .second) (arrives sd i) v 1 s) i v (lent s)
-  unfolding serviceCall serviceStep dataStep
+  unfolding serviceBy serviceStep dataStep
   received i v s z lv e =
-      subst (λ (c : Called). Does-as c i v (lent s)) (sym (entered r w sd q h keeps (serviceStep r (w .first) (w .second) (arrives sd i) v 1 (lent s))))
+      subst (λ (c : Called). Does-as c i v (lent s)) (sym (entered r w sd q h keeps (serviceStep numberedStep r (w .first) (w .second) (arrives sd i) v 1 (lent s))))
       (subst (λ (x : Decoded). Does-as (Read-as i v (lent s) x) i v (lent s)) (sym (reads-once sd (q .control) i (lent s) (keeps .dialogue) z e))
       (reading i v (lent s) (heard (lent s)) z lv (bits-to s allBits) (data-fits (pdusOf (other sd)) (lent s) (bits-to s allBits) (heard (lent s)) refl)))
 
-  pub receive-rel : (e f : Numbered Wire) → Carries (other sd) e f → OutRel (KeepsAt sd) (Carries sd) (simply n (serviceCall r (w .first) (w .second) (arrives sd (e .it .primitive)) (e .no) 1 (e .it .bytes))) (numberedly sd (mark h q) (Service (arrives sd (f .it .primitive)) (apduOf (cardCodec .dec (other sd) (f .it .bytes)))) (f .no) (λ (o : Outcome). happens cardCodec sd o (bodyOf (cardCodec .dec (other sd) (f .it .bytes)))))
+  pub receive-rel : (e f : Numbered Wire) → Carries (other sd) e f → OutRel (KeepsAt sd) (Carries sd) (simply n (serviceCall r (w .first) (w .second) (arrives sd (e .it .primitive)) (e .no) (givenOf (e .it .bytes)) (e .it .bytes))) (numberedly sd (mark h q) (Service (arrives sd (f .it .primitive)) (apduOf (cardCodec .dec (other sd) (f .it .bytes)))) (f .no) (λ (o : Outcome). happens cardCodec sd o (bodyOf (cardCodec .dec (other sd) (f .it .bytes)))))
   receive-rel e f x =
-      subst (λ (l : List ℕ). Does-as (serviceCall r (w .first) (w .second) (arrives sd (e .it .primitive)) (e .no) 1 (e .it .bytes)) (f .it .primitive) (f .no) l) (x .bits)
+      let s : isRead (heard (lent (e .it .bytes))) ≡ true = subst (λ (l : List ℕ). isRead (heard l) ≡ true) (sym (x .bits)) (x .read) in
+      subst (λ (z : Read). Does (serviceCall r (w .first) (w .second) (arrives sd (e .it .primitive)) (e .no) (givenOf (e .it .bytes)) (e .it .bytes)) (arrives sd (f .it .primitive)) (f .no) (apduOf z) (bodyOf z)) (sym (dec-read (other sd) (f .it .bytes) (x .read)))
+      (subst (λ (g : ℕ). Does-as (serviceCall r (w .first) (w .second) (arrives sd (e .it .primitive)) (e .no) g (e .it .bytes)) (f .it .primitive) (f .no) (lent (f .it .bytes))) (sym (some-read (pdusOf (other sd)) (e .it .bytes) s))
+      (subst (λ (l : List ℕ). Does-as (serviceCall r (w .first) (w .second) (arrives sd (e .it .primitive)) (e .no) 1 (e .it .bytes)) (f .it .primitive) (f .no) l) (x .bits)
       (subst (λ (v : ℕ). Does-as (serviceCall r (w .first) (w .second) (arrives sd (e .it .primitive)) (e .no) 1 (e .it .bytes)) (f .it .primitive) v (lent (e .it .bytes))) (x .number)
       (subst (λ (i : Invoked). Does-as (serviceCall r (w .first) (w .second) (arrives sd (e .it .primitive)) (e .no) 1 (e .it .bytes)) i (e .no) (lent (e .it .bytes))) (x .primitive)
-      (received (e .it .primitive) (e .no) (e .it .bytes) (subst (λ (i : Invoked). isDialogue i ≡ true) (sym (x .primitive)) (x .dialogue)) (subst (λ (v : ℕ). v < 2 ^ 64) (sym (x .number)) (x .low)) (subst (λ (l : List ℕ). isRead (heard l) ≡ true) (sym (x .bits)) (x .read)))))
+      (received (e .it .primitive) (e .no) (e .it .bytes) (subst (λ (i : Invoked). isDialogue i ≡ true) (sym (x .primitive)) (x .dialogue)) (subst (λ (v : ℕ). v < 2 ^ 64) (sym (x .number)) (x .low)) s)))))
 
   -- without user data
   bare-rel : (p : ServicePrimitive) (v : ℕ) → JobLow sd (Service p Absent) → v < 2 ^ 64 → Does (serviceCall r (w .first) (w .second) p v 0 []) p v Absent []
-  unfolding serviceCall serviceStep bareStep
+  unfolding serviceBy serviceStep bareStep
   bare-rel p v j lv =
-      subst (λ (c : Called). Does c p v Absent []) (sym (entered r w sd q h keeps (serviceStep r (w .first) (w .second) p v 0 (lent []))))
+      subst (λ (c : Called). Does c p v Absent []) (sym (entered r w sd q h keeps (serviceStep numberedStep r (w .first) (w .second) p v 0 (lent []))))
       (happens-rel r w sd q h (Service p Absent) v (lent []) (lent []) (lent []) (carriesData noData) keeps lv (bits-to [] allBits) (bits-to [] allBits) (bits-to [] allBits) (none-fits (lent []) (lent []) (lent [])) n [] j refl refl (λ g. never g))
 
   -- what the carrier makes, with the number that the end holds

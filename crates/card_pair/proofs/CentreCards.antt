@@ -13,7 +13,7 @@ use Rattle.apdu.specs.Pdus.{forward, forwardResponse, lent, pduIn}
 use Rattle.apdu.specs.Encoding.{pduBits, padded, bytesFor}
 use Rattle.apdu.specs.Reading.{apduAt}
 use Rattle.apdu.specs.Writing.{done, dataFits, forwardFits, apduFits}
-use Rattle.apdu.specs.declared.PduType.the-variants as pdu
+use Rattle.pdus.specs.declared.PduType.the-variants as pdu
 use Rattle.apdu.specs.declared.Data.{Data}
 use Rattle.apdu.specs.declared.Heading.{Heading}
 use Rattle.apdu.specs.declared.Forward.{Forward as Forwarded}
@@ -59,14 +59,14 @@ use Rattle.numbered.specs.Numbers.{userStarts, serviceStarts, isStart as isStar
 use Rattle.numbered.proofs.Laws.{shape-first, then-step}
 use Rattle.stored.specs.Stored.{recordBytes, loadAt, storeAt}
 use Rattle.packed.specs.Packed.{three, invokedNumber, toldNumber, versionNumber}
-use Rattle.step.specs.Call.{Carried, Called, called as calledWith, carriesData, carriesForward, carriedBy, noData, bitsOfWritten, pduTo, firstTakes, passes, secondTakes, finished, concluded, entering, eventStep, userStep, userCall, forwardStep, forwardCall, readsAs, readsAgain, readPdu, meaning, dataStep, bareStep, serviceStep, serviceCall}
+use Rattle.step.specs.Call.{Carried, Called, called as calledWith, carriesData, carriesForward, carriedBy, noData, bitsOfWritten, pduTo, firstTakes, passes, secondTakes, finished, concluded, entering, eventStep, userStep, userCall, userBy, forwardStep, forwardBy, readsAs, readsAgain, readPdu, meaning, dataStep, bareStep, serviceStep, serviceBy}
 use Rattle.stored.specs.declared.Loaded.{Loaded}
 use Rattle.stored.specs.declared.Loaded.the-variants.{Is}
 use Rattle.stored.proofs.Storing.{length-stored, loaded-stored}
 use Rattle.step.proofs.Calling.{with-record}
 use Rattle.packed.proofs.Unpacked.{invoked-low, told-low, refusal-unpacked, invoked-unpacked, sent-unpacked, version-unpacked, code-unpacked, parameter-unpacked, last-unpacked}
 use Rattle.step.proofs.Taken.{Coded}
-use Rattle.card.specs.Face.{noCount, givenData, messageRequested, abortRequested}
+use Rattle.card.specs.Face.{noCount, givenData, messageRequested, abortRequested, holdsMessage}
 use Rattle.pair.specs.Names.{Side, Ground, Control, isIdle, waits, entered, closed, takes}
 use Rattle.pair.specs.Names.{Forward as FORWARD}
 use Rattle.pair.specs.Carrier.{Sent, nothing, Outcome, refused, acts, begins, plain, begins?, isStart, starts}
@@ -232,17 +232,17 @@ module _ (p ver : ℕ) (d : Desk) (at : At p ver d) where
 
   -- ---- the calls, as far as the step
 
-  heard-data : (a : ServicePrimitive) (v : ℕ) (s : List ℕ) → hears d a v 1 s ≡ eventStep (d .kept .bytes) (lent-first d) (lent-second d) (Service a (meaning (readPdu Ground (q .control) a (lent s)))) v (lent s) (lent s) (lent s) (carriedBy (readPdu Ground (q .control) a (lent s))) Ground q n
-  unfolding serviceCall serviceStep dataStep
-  heard-data a v s = at-record (serviceStep (d .kept .bytes) (lent-first d) (lent-second d) a v 1 (lent s))
+  heard-data : (a : ServicePrimitive) (v : ℕ) (s : List ℕ) → hears d a v 1 s ≡ eventStep numberedStep (d .kept .bytes) (lent-first d) (lent-second d) (Service a (meaning (readPdu Ground (q .control) a (lent s)))) v (lent s) (lent s) (lent s) (carriedBy (readPdu Ground (q .control) a (lent s))) Ground q n
+  unfolding serviceBy serviceStep dataStep
+  heard-data a v s = at-record (serviceStep numberedStep (d .kept .bytes) (lent-first d) (lent-second d) a v 1 (lent s))
 
-  heard-bare : (a : ServicePrimitive) (v : ℕ) → hears d a v 0 [] ≡ eventStep (d .kept .bytes) (lent-first d) (lent-second d) (Service a Absent) v (lent []) (lent []) (lent []) (carriesData noData) Ground q n
-  unfolding serviceCall serviceStep bareStep
-  heard-bare a v = at-record (serviceStep (d .kept .bytes) (lent-first d) (lent-second d) a v 0 (lent []))
+  heard-bare : (a : ServicePrimitive) (v : ℕ) → hears d a v 0 [] ≡ eventStep numberedStep (d .kept .bytes) (lent-first d) (lent-second d) (Service a Absent) v (lent []) (lent []) (lent []) (carriesData noData) Ground q n
+  unfolding serviceBy serviceStep bareStep
+  heard-bare a v = at-record (serviceStep numberedStep (d .kept .bytes) (lent-first d) (lent-second d) a v 0 (lent []))
 
-  reported : (e : Event) → reports d e ≡ eventStep (d .kept .bytes) (lent-first d) (lent-second d) e 0 (lent []) (lent []) (lent []) (carriesData noData) Ground q n
-  unfolding userCall userStep
-  reported e = at-record (userStep (d .kept .bytes) (lent-first d) (lent-second d) e 0 (lent []) (lent []) (lent []) noData) ∙ rw (none-fits (lent []) (lent []) (lent []))
+  reported : (e : Event) → reports d e ≡ eventStep numberedStep (d .kept .bytes) (lent-first d) (lent-second d) e 0 (lent []) (lent []) (lent []) (carriesData noData) Ground q n
+  unfolding userBy userStep
+  reported e = at-record (userStep numberedStep (d .kept .bytes) (lent-first d) (lent-second d) e 0 (lent []) (lent []) (lent []) noData) ∙ rw (none-fits (lent []) (lent []) (lent []))
 
   -- a primitive with the number that the record holds
   own-number : (a : ServicePrimitive) (x : UserData) → eventFits Ground (Service a x) ≡ true → serviceStarts a ≡ false → numberedStep Ground q n (Service a x) n ≡ reached Ground q a x
@@ -277,11 +277,11 @@ module _ (p ver : ℕ) (d : Desk) (at : At p ver d) where
 
   -- a user call that the machine does not permit
   user-refused : (P : Outcome Desk (Numbered Wire) → Type 0) (u : UserPrimitive) (v : ℕ) (ids msgs checks : List ℕ) (x : Data) → takes Ground (q .control) (callOf u) ≡ false → P refused → P (does d (userCall (d .kept .bytes) (lent-first d) (lent-second d) (User u) v ids msgs checks x))
-  unfolding userCall userStep permitted
+  unfolding userBy userStep permitted
   user-refused P u v ids msgs checks x h z =
-      subst (λ (c : Called). P (does d c)) (sym (at-record (userStep (d .kept .bytes) (lent-first d) (lent-second d) (User u) v (lent ids) (lent msgs) (lent checks) x))) (go (dataFits (lent ids) (lent msgs) (lent checks) x))
+      subst (λ (c : Called). P (does d c)) (sym (at-record (userStep numberedStep (d .kept .bytes) (lent-first d) (lent-second d) (User u) v (lent ids) (lent msgs) (lent checks) x))) (go (dataFits (lent ids) (lent msgs) (lent checks) x))
     where
-      go : (b : Bool) → P (does d (cond b (eventStep (d .kept .bytes) (lent-first d) (lent-second d) (User u) v (lent ids) (lent msgs) (lent checks) (carriesData x) Ground q n) (calledWith 2 (d .kept .bytes) (lent-first d) (lent-second d))))
+      go : (b : Bool) → P (does d (cond b (eventStep numberedStep (d .kept .bytes) (lent-first d) (lent-second d) (User u) v (lent ids) (lent msgs) (lent checks) (carriesData x) Ground q n) (calledWith 2 (d .kept .bytes) (lent-first d) (lent-second d))))
       go true = refused-call P (heldAfter n (User u) v) (numberedStep Ground q n (User u) v) (lent ids) (lent msgs) (lent checks) (carriesData x) (unpermitted (User u) v h) z
       go false = z
 
@@ -366,10 +366,10 @@ own-version v h = rw (ne-eqb v 0 (λ (e : v ≡ 0). omega arith))
 idle-takes : (u : UserPrimitive) → userStarts u ≡ false → takes Ground closed (callOf u) ≡ false
 unfolding userStarts callOf
 idle-takes (StartServiceRequest m k s) e = clash e
-idle-takes (StartServiceResponse m x) e = refl
+idle-takes (StartServiceResponse m x h) e = refl
 idle-takes (MessageServiceRequest h j) e = refl
-idle-takes (EndServiceRequest m) e = refl
-idle-takes (EndServiceResponse m x) e = refl
+idle-takes (EndServiceRequest m h) e = refl
+idle-takes (EndServiceResponse m x h) e = refl
 idle-takes (UserAbortServiceRequest g x) e = refl
 
 -- ---- at rest
@@ -472,10 +472,10 @@ module _ (p ver : ℕ) (d : Desk) (h : Rests p ver (d .kept .bytes)) where
     request-step e lt = rw (e, lt-ltb p securityValues valid, lt-ltb y (v .number) lt, idle)
 
     asks-forward : Begins-it (does d (forwards p d v k f))
-    unfolding forwardCall forwardStep heldAfter isStartEvent
+    unfolding forwardBy forwardStep heldAfter isStartEvent
     asks-forward =
         subst (λ (c : Called). Begins-it (does d c))
-        (sym (at-record p ver d at-rest (forwardStep (d .kept .bytes) (lent-first d) (lent-second d) k p (v .number) (lent (f .msgs)) F)))
+        (sym (at-record p ver d at-rest (forwardStep numberedStep (d .kept .bytes) (lent-first d) (lent-second d) k p (v .number) (lent (f .msgs)) F)))
         (shape (forwardFits (lent (f .msgs)) F) refl)
       where
         E : O.Outcome → Called
@@ -506,10 +506,10 @@ module _ (p ver : ℕ) (d : Desk) (h : Rests p ver (d .kept .bytes)) where
   asks-other : (a : Asked) → Starts (centreMachine p) (Away p ver) (Good p ver) d (centreAsks p d (other-call a))
   unfolding userStarts
   asks-other (start-request v m k g) = tt
-  asks-other (start-response m z g) = data-refused (Starts (centreMachine p) (Away p ver) (Good p ver) d) (StartServiceResponse m z) (g .ids) (g .msgs) (g .checks) (givenData (length (g .ids)) (g .bits) (g .check)) refl tt
+  asks-other (start-response m z g) = data-refused (Starts (centreMachine p) (Away p ver) (Good p ver) d) (StartServiceResponse m z (holdsMessage (g .bits))) (g .ids) (g .msgs) (g .checks) (givenData (length (g .ids)) (g .bits) (g .check)) refl tt
   asks-other (message-request j g) = data-refused (Starts (centreMachine p) (Away p ver) (Good p ver) d) (messageRequested (g .bits) (j .number)) (g .ids) (g .msgs) (g .checks) (givenData (length (g .ids)) (g .bits) (g .check)) refl tt
-  asks-other (end-request m g) = data-refused (Starts (centreMachine p) (Away p ver) (Good p ver) d) (EndServiceRequest m) (g .ids) (g .msgs) (g .checks) (givenData (length (g .ids)) (g .bits) (g .check)) refl tt
-  asks-other (end-response m z g) = data-refused (Starts (centreMachine p) (Away p ver) (Good p ver) d) (EndServiceResponse m z) (g .ids) (g .msgs) (g .checks) (givenData (length (g .ids)) (g .bits) (g .check)) refl tt
+  asks-other (end-request m g) = data-refused (Starts (centreMachine p) (Away p ver) (Good p ver) d) (EndServiceRequest m (holdsMessage (g .bits))) (g .ids) (g .msgs) (g .checks) (givenData (length (g .ids)) (g .bits) (g .check)) refl tt
+  asks-other (end-response m z g) = data-refused (Starts (centreMachine p) (Away p ver) (Good p ver) d) (EndServiceResponse m z (holdsMessage (g .bits))) (g .ids) (g .msgs) (g .checks) (givenData (length (g .ids)) (g .bits) (g .check)) refl tt
   asks-other (user-abort z) = data-refused (Starts (centreMachine p) (Away p ver) (Good p ver) d) (abortRequested z) [] [] [] noData refl tt
 
   pub rest-asks : (a : CentreAsked) → Starts (centreMachine p) (Away p ver) (Good p ver) d (centreAsks p d a)
@@ -685,21 +685,21 @@ module _ (p ver : ℕ) (d : Desk) (h : Away p ver d) where
 
   away-other : (a : Asked) → Returns (centreMachine p) (Rest p ver) d (centreAsks p d (other-call a))
   away-other (start-request v m k g) = tt
-  away-other (start-response m z g) = call-refused (StartServiceResponse m z) (g .ids) (g .msgs) (g .checks) (givenData (length (g .ids)) (g .bits) (g .check)) refl
+  away-other (start-response m z g) = call-refused (StartServiceResponse m z (holdsMessage (g .bits))) (g .ids) (g .msgs) (g .checks) (givenData (length (g .ids)) (g .bits) (g .check)) refl
   away-other (message-request j g) = call-refused (messageRequested (g .bits) (j .number)) (g .ids) (g .msgs) (g .checks) (givenData (length (g .ids)) (g .bits) (g .check)) refl
-  away-other (end-request m g) = call-refused (EndServiceRequest m) (g .ids) (g .msgs) (g .checks) (givenData (length (g .ids)) (g .bits) (g .check)) refl
-  away-other (end-response m z g) = call-refused (EndServiceResponse m z) (g .ids) (g .msgs) (g .checks) (givenData (length (g .ids)) (g .bits) (g .check)) refl
+  away-other (end-request m g) = call-refused (EndServiceRequest m (holdsMessage (g .bits))) (g .ids) (g .msgs) (g .checks) (givenData (length (g .ids)) (g .bits) (g .check)) refl
+  away-other (end-response m z g) = call-refused (EndServiceResponse m z (holdsMessage (g .bits))) (g .ids) (g .msgs) (g .checks) (givenData (length (g .ids)) (g .bits) (g .check)) refl
   away-other (user-abort z) = aborts-away (not (eqb z noCount)) (cond (eqb z noCount) 0 z)
 
   -- a further forward
   away-forward : (v : Word) (k : ℕ) (f : Passed) → Returns (centreMachine p) (Rest p ver) d (does d (forwards p d v k f))
-  unfolding forwardCall forwardStep permitted
+  unfolding forwardBy forwardStep permitted
   away-forward v k f =
       subst (λ (c : Called). Returns (centreMachine p) (Rest p ver) d (does d c))
-      (sym (at-record p ver d (h .at) (forwardStep (d .kept .bytes) (lent-first d) (lent-second d) k p (v .number) (lent (f .msgs)) (record { heading = f .heading; message = record { at = 0; count = f .bits } }))))
+      (sym (at-record p ver d (h .at) (forwardStep numberedStep (d .kept .bytes) (lent-first d) (lent-second d) k p (v .number) (lent (f .msgs)) (record { heading = f .heading; message = record { at = 0; count = f .bits } }))))
       (go (forwardFits (lent (f .msgs)) (record { heading = f .heading; message = record { at = 0; count = f .bits } })))
     where
-      go : (b : Bool) → Returns (centreMachine p) (Rest p ver) d (does d (cond b (eventStep (d .kept .bytes) (lent-first d) (lent-second d) (ForwardRequested k p) (v .number) (lent (f .msgs)) (lent (f .msgs)) (lent (f .msgs)) (carriesForward (record { heading = f .heading; message = record { at = 0; count = f .bits } })) Ground rec num) (calledWith 2 (d .kept .bytes) (lent-first d) (lent-second d))))
+      go : (b : Bool) → Returns (centreMachine p) (Rest p ver) d (does d (cond b (eventStep numberedStep (d .kept .bytes) (lent-first d) (lent-second d) (ForwardRequested k p) (v .number) (lent (f .msgs)) (lent (f .msgs)) (lent (f .msgs)) (carriesForward (record { heading = f .heading; message = record { at = 0; count = f .bits } })) Ground rec num) (calledWith 2 (d .kept .bytes) (lent-first d) (lent-second d))))
       go true =
           refused-call p ver d (h .at) (Returns (centreMachine p) (Rest p ver) d) (heldAfter num (ForwardRequested k p) (v .number)) (numberedStep Ground rec num (ForwardRequested k p) (v .number)) (lent (f .msgs)) (lent (f .msgs)) (lent (f .msgs)) (carriesForward (record { heading = f .heading; message = record { at = 0; count = f .bits } }))
           (unpermitted p ver d (h .at) (ForwardRequested k p) (v .number) busy) tt

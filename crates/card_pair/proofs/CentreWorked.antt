@@ -25,7 +25,7 @@ use Rattle.machine.specs.Primitives.{handed, instructed, answered, reached}
 use Rattle.machine.specs.Record.{enter}
 use Rattle.machine.specs.Step.{permitted, messageRefusal, acts}
 use Rattle.numbered.specs.Numbers.{userStarts, serviceStarts, isStart, isService, isStale, heldAfter, refusalOf, numberedStep}
-use Rattle.step.specs.Call.{forwardStep, forwardCall, forwardOf, firstTakes, secondTakes, finished, concluded, withRecord, entering, userStep, userCall, readsAs, readsAgain, abortOf, orAbort, readPdu, meaning, dataOf, dataStep, bareStep, serviceStep, serviceCall}
+use Rattle.step.specs.Call.{forwardStep, forwardBy, forwardOf, firstTakes, secondTakes, finished, concluded, withRecord, entering, userStep, userBy, readsAs, readsAgain, abortOf, orAbort, readPdu, meaning, dataOf, dataStep, bareStep, serviceStep, serviceBy}
 use Rattle.packed.specs.Packed.{invokedNumber, toldNumber, packed}
 use Rattle.stored.specs.Stored.{recordBytes, headBytes, storedBytes, headFits, withNumbers, loadAt, storeAt}
 use Rattle.machine.specs.declared.outcome.Invoked.{Invoked}
@@ -93,25 +93,25 @@ wire i l = mark 1 (record { primitive = i; bytes = l })
 
 -- on its way
 pub on-its-way : after 1 (asks ∷ []) ≡ view (seen 1 (entered Forward false) (wire (DStartForwardRequest (qosAsked 3) 1 3) (67 ∷ 212 ∷ 234 ∷ 61 ∷ 218 ∷ 131 ∷ 9 ∷ 139 ∷ 42 ∷ 188 ∷ 222 ∷ 248 ∷ 85 ∷ 46 ∷ []) ∷ [])) (seen 0 closed [])
-unfolding bitsN bitsOf accOf bitsTo bytesOf withBit setBit putBits readBits wholeBits indexBits lengthBits bitField extensionBit digitsIn wholeNumber extensibleIndex lengthAt lengthWithin runAt stringAt stringBits optionalBits optionalFits contentBits contentFits modeBits modeFits pduBits pduFits padded partIn contentIn pduIn optionalAt partAt partsWithin dataWithin modeValue modeAt kindMode leadingAt tailAt endedAt restWithin apduWithin itemsFit partFits dataFits apduFits writeOut replyOf sent startRequest startResponse messageRequest endRequest endResponse userAbort callOf unsent called userDataFits qosFits userFits hasMode serviceFits eventFits tell closes aborts excepts timerExpires systemError noInstruction pduFault sendFault abortFault startFits indicationFault confirmationFault firstFault handed instructed answered reached enter permitted messageRefusal userStarts serviceStarts isStart isService isStale heldAfter refusalOf acts numberedStep firstTakes secondTakes finished concluded withRecord entering userStep userCall readsAs readsAgain abortOf orAbort readPdu meaning dataOf dataStep bareStep serviceStep serviceCall invokedNumber toldNumber packed headBytes storedBytes headFits withNumbers loadAt storeAt partOf givenData freshFor freshCall forwardRequest responds forwardArrives forwardConfirmed responseFault forwardCall forwardStep forwardOf tripleAt headingAt forwardWithin tripleBits tripleFits aircraftBits headingBits aircraftFits headingFits forwardBits forwardPduFits forwardFits centreRun
+unfolding bitsN bitsOf accOf bitsTo bytesOf withBit setBit putBits readBits wholeBits indexBits lengthBits bitField extensionBit digitsIn wholeNumber extensibleIndex lengthAt lengthWithin runAt stringAt stringBits optionalBits optionalFits contentBits contentFits modeBits modeFits pduBits pduFits padded partIn contentIn pduIn optionalAt partAt partsWithin dataWithin modeValue modeAt kindMode leadingAt tailAt endedAt restWithin apduWithin itemsFit partFits dataFits apduFits writeOut replyOf sent startRequest startResponse messageRequest endRequest endResponse userAbort callOf unsent called userDataFits qosFits userFits hasMode serviceFits eventFits tell closes aborts excepts timerExpires systemError noInstruction pduFault sendFault abortFault startFits indicationFault confirmationFault firstFault handed instructed answered reached enter permitted messageRefusal userStarts serviceStarts isStart isService isStale heldAfter refusalOf acts numberedStep firstTakes secondTakes finished concluded withRecord entering userStep userBy readsAs readsAgain abortOf orAbort readPdu meaning dataOf dataStep bareStep serviceStep serviceBy invokedNumber toldNumber packed headBytes storedBytes headFits withNumbers loadAt storeAt partOf givenData freshFor freshCall forwardRequest responds forwardArrives forwardConfirmed responseFault forwardBy forwardStep forwardOf tripleAt headingAt forwardWithin tripleBits tripleFits aircraftBits headingBits aircraftFits headingFits forwardBits forwardPduFits forwardFits centreRun
 on-its-way = refl
 
 -- answered: success
 pub answered-success : after 1 (asks ∷ gets false ∷ []) ≡ view (seen 1 (entered Forward false) []) (seen 1 closed (wire (DStartForwardResponse 1 0) (80 ∷ []) ∷ []))
-unfolding bitsN bitsOf accOf bitsTo bytesOf withBit setBit putBits readBits wholeBits indexBits lengthBits bitField extensionBit digitsIn wholeNumber extensibleIndex lengthAt lengthWithin runAt stringAt stringBits optionalBits optionalFits contentBits contentFits modeBits modeFits pduBits pduFits padded partIn contentIn pduIn optionalAt partAt partsWithin dataWithin modeValue modeAt kindMode leadingAt tailAt endedAt restWithin apduWithin itemsFit partFits dataFits apduFits writeOut replyOf sent startRequest startResponse messageRequest endRequest endResponse userAbort callOf unsent called userDataFits qosFits userFits hasMode serviceFits eventFits tell closes aborts excepts timerExpires systemError noInstruction pduFault sendFault abortFault startFits indicationFault confirmationFault firstFault handed instructed answered reached enter permitted messageRefusal userStarts serviceStarts isStart isService isStale heldAfter refusalOf acts numberedStep firstTakes secondTakes finished concluded withRecord entering userStep userCall readsAs readsAgain abortOf orAbort readPdu meaning dataOf dataStep bareStep serviceStep serviceCall invokedNumber toldNumber packed headBytes storedBytes headFits withNumbers loadAt storeAt partOf givenData freshFor freshCall forwardRequest responds forwardArrives forwardConfirmed responseFault forwardCall forwardStep forwardOf tripleAt headingAt forwardWithin tripleBits tripleFits aircraftBits headingBits aircraftFits headingFits forwardBits forwardPduFits forwardFits centreRun
+unfolding bitsN bitsOf accOf bitsTo bytesOf withBit setBit putBits readBits wholeBits indexBits lengthBits bitField extensionBit digitsIn wholeNumber extensibleIndex lengthAt lengthWithin runAt stringAt stringBits optionalBits optionalFits contentBits contentFits modeBits modeFits pduBits pduFits padded partIn contentIn pduIn optionalAt partAt partsWithin dataWithin modeValue modeAt kindMode leadingAt tailAt endedAt restWithin apduWithin itemsFit partFits dataFits apduFits writeOut replyOf sent startRequest startResponse messageRequest endRequest endResponse userAbort callOf unsent called userDataFits qosFits userFits hasMode serviceFits eventFits tell closes aborts excepts timerExpires systemError noInstruction pduFault sendFault abortFault startFits indicationFault confirmationFault firstFault handed instructed answered reached enter permitted messageRefusal userStarts serviceStarts isStart isService isStale heldAfter refusalOf acts numberedStep firstTakes secondTakes finished concluded withRecord entering userStep userBy readsAs readsAgain abortOf orAbort readPdu meaning dataOf dataStep bareStep serviceStep serviceBy invokedNumber toldNumber packed headBytes storedBytes headFits withNumbers loadAt storeAt partOf givenData freshFor freshCall forwardRequest responds forwardArrives forwardConfirmed responseFault forwardBy forwardStep forwardOf tripleAt headingAt forwardWithin tripleBits tripleFits aircraftBits headingBits aircraftFits headingFits forwardBits forwardPduFits forwardFits centreRun
 answered-success = refl
 
 -- both IDLE again
 pub over-again : after 1 (asks ∷ gets false ∷ gets true ∷ []) ≡ view (seen 1 closed []) (seen 1 closed [])
-unfolding bitsN bitsOf accOf bitsTo bytesOf withBit setBit putBits readBits wholeBits indexBits lengthBits bitField extensionBit digitsIn wholeNumber extensibleIndex lengthAt lengthWithin runAt stringAt stringBits optionalBits optionalFits contentBits contentFits modeBits modeFits pduBits pduFits padded partIn contentIn pduIn optionalAt partAt partsWithin dataWithin modeValue modeAt kindMode leadingAt tailAt endedAt restWithin apduWithin itemsFit partFits dataFits apduFits writeOut replyOf sent startRequest startResponse messageRequest endRequest endResponse userAbort callOf unsent called userDataFits qosFits userFits hasMode serviceFits eventFits tell closes aborts excepts timerExpires systemError noInstruction pduFault sendFault abortFault startFits indicationFault confirmationFault firstFault handed instructed answered reached enter permitted messageRefusal userStarts serviceStarts isStart isService isStale heldAfter refusalOf acts numberedStep firstTakes secondTakes finished concluded withRecord entering userStep userCall readsAs readsAgain abortOf orAbort readPdu meaning dataOf dataStep bareStep serviceStep serviceCall invokedNumber toldNumber packed headBytes storedBytes headFits withNumbers loadAt storeAt partOf givenData freshFor freshCall forwardRequest responds forwardArrives forwardConfirmed responseFault forwardCall forwardStep forwardOf tripleAt headingAt forwardWithin tripleBits tripleFits aircraftBits headingBits aircraftFits headingFits forwardBits forwardPduFits forwardFits centreRun
+unfolding bitsN bitsOf accOf bitsTo bytesOf withBit setBit putBits readBits wholeBits indexBits lengthBits bitField extensionBit digitsIn wholeNumber extensibleIndex lengthAt lengthWithin runAt stringAt stringBits optionalBits optionalFits contentBits contentFits modeBits modeFits pduBits pduFits padded partIn contentIn pduIn optionalAt partAt partsWithin dataWithin modeValue modeAt kindMode leadingAt tailAt endedAt restWithin apduWithin itemsFit partFits dataFits apduFits writeOut replyOf sent startRequest startResponse messageRequest endRequest endResponse userAbort callOf unsent called userDataFits qosFits userFits hasMode serviceFits eventFits tell closes aborts excepts timerExpires systemError noInstruction pduFault sendFault abortFault startFits indicationFault confirmationFault firstFault handed instructed answered reached enter permitted messageRefusal userStarts serviceStarts isStart isService isStale heldAfter refusalOf acts numberedStep firstTakes secondTakes finished concluded withRecord entering userStep userBy readsAs readsAgain abortOf orAbort readPdu meaning dataOf dataStep bareStep serviceStep serviceBy invokedNumber toldNumber packed headBytes storedBytes headFits withNumbers loadAt storeAt partOf givenData freshFor freshCall forwardRequest responds forwardArrives forwardConfirmed responseFault forwardBy forwardStep forwardOf tripleAt headingAt forwardWithin tripleBits tripleFits aircraftBits headingBits aircraftFits headingFits forwardBits forwardPduFits forwardFits centreRun
 over-again = refl
 
 -- answered: service not supported
 pub answered-unsupported : after 0 (asks ∷ gets false ∷ []) ≡ view (seen 1 (entered Forward false) []) (seen 1 closed (wire (DStartForwardResponse 1 0) (82 ∷ []) ∷ []))
-unfolding bitsN bitsOf accOf bitsTo bytesOf withBit setBit putBits readBits wholeBits indexBits lengthBits bitField extensionBit digitsIn wholeNumber extensibleIndex lengthAt lengthWithin runAt stringAt stringBits optionalBits optionalFits contentBits contentFits modeBits modeFits pduBits pduFits padded partIn contentIn pduIn optionalAt partAt partsWithin dataWithin modeValue modeAt kindMode leadingAt tailAt endedAt restWithin apduWithin itemsFit partFits dataFits apduFits writeOut replyOf sent startRequest startResponse messageRequest endRequest endResponse userAbort callOf unsent called userDataFits qosFits userFits hasMode serviceFits eventFits tell closes aborts excepts timerExpires systemError noInstruction pduFault sendFault abortFault startFits indicationFault confirmationFault firstFault handed instructed answered reached enter permitted messageRefusal userStarts serviceStarts isStart isService isStale heldAfter refusalOf acts numberedStep firstTakes secondTakes finished concluded withRecord entering userStep userCall readsAs readsAgain abortOf orAbort readPdu meaning dataOf dataStep bareStep serviceStep serviceCall invokedNumber toldNumber packed headBytes storedBytes headFits withNumbers loadAt storeAt partOf givenData freshFor freshCall forwardRequest responds forwardArrives forwardConfirmed responseFault forwardCall forwardStep forwardOf tripleAt headingAt forwardWithin tripleBits tripleFits aircraftBits headingBits aircraftFits headingFits forwardBits forwardPduFits forwardFits centreRun
+unfolding bitsN bitsOf accOf bitsTo bytesOf withBit setBit putBits readBits wholeBits indexBits lengthBits bitField extensionBit digitsIn wholeNumber extensibleIndex lengthAt lengthWithin runAt stringAt stringBits optionalBits optionalFits contentBits contentFits modeBits modeFits pduBits pduFits padded partIn contentIn pduIn optionalAt partAt partsWithin dataWithin modeValue modeAt kindMode leadingAt tailAt endedAt restWithin apduWithin itemsFit partFits dataFits apduFits writeOut replyOf sent startRequest startResponse messageRequest endRequest endResponse userAbort callOf unsent called userDataFits qosFits userFits hasMode serviceFits eventFits tell closes aborts excepts timerExpires systemError noInstruction pduFault sendFault abortFault startFits indicationFault confirmationFault firstFault handed instructed answered reached enter permitted messageRefusal userStarts serviceStarts isStart isService isStale heldAfter refusalOf acts numberedStep firstTakes secondTakes finished concluded withRecord entering userStep userBy readsAs readsAgain abortOf orAbort readPdu meaning dataOf dataStep bareStep serviceStep serviceBy invokedNumber toldNumber packed headBytes storedBytes headFits withNumbers loadAt storeAt partOf givenData freshFor freshCall forwardRequest responds forwardArrives forwardConfirmed responseFault forwardBy forwardStep forwardOf tripleAt headingAt forwardWithin tripleBits tripleFits aircraftBits headingBits aircraftFits headingFits forwardBits forwardPduFits forwardFits centreRun
 answered-unsupported = refl
 
 -- turned away by the carrier
 pub turned-away-again : after 1 (asks ∷ record { starting = true; step = turn-away 0 } ∷ []) ≡ view (seen 1 closed []) (seen 0 closed [])
-unfolding bitsN bitsOf accOf bitsTo bytesOf withBit setBit putBits readBits wholeBits indexBits lengthBits bitField extensionBit digitsIn wholeNumber extensibleIndex lengthAt lengthWithin runAt stringAt stringBits optionalBits optionalFits contentBits contentFits modeBits modeFits pduBits pduFits padded partIn contentIn pduIn optionalAt partAt partsWithin dataWithin modeValue modeAt kindMode leadingAt tailAt endedAt restWithin apduWithin itemsFit partFits dataFits apduFits writeOut replyOf sent startRequest startResponse messageRequest endRequest endResponse userAbort callOf unsent called userDataFits qosFits userFits hasMode serviceFits eventFits tell closes aborts excepts timerExpires systemError noInstruction pduFault sendFault abortFault startFits indicationFault confirmationFault firstFault handed instructed answered reached enter permitted messageRefusal userStarts serviceStarts isStart isService isStale heldAfter refusalOf acts numberedStep firstTakes secondTakes finished concluded withRecord entering userStep userCall readsAs readsAgain abortOf orAbort readPdu meaning dataOf dataStep bareStep serviceStep serviceCall invokedNumber toldNumber packed headBytes storedBytes headFits withNumbers loadAt storeAt partOf givenData freshFor freshCall forwardRequest responds forwardArrives forwardConfirmed responseFault forwardCall forwardStep forwardOf tripleAt headingAt forwardWithin tripleBits tripleFits aircraftBits headingBits aircraftFits headingFits forwardBits forwardPduFits forwardFits centreRun
+unfolding bitsN bitsOf accOf bitsTo bytesOf withBit setBit putBits readBits wholeBits indexBits lengthBits bitField extensionBit digitsIn wholeNumber extensibleIndex lengthAt lengthWithin runAt stringAt stringBits optionalBits optionalFits contentBits contentFits modeBits modeFits pduBits pduFits padded partIn contentIn pduIn optionalAt partAt partsWithin dataWithin modeValue modeAt kindMode leadingAt tailAt endedAt restWithin apduWithin itemsFit partFits dataFits apduFits writeOut replyOf sent startRequest startResponse messageRequest endRequest endResponse userAbort callOf unsent called userDataFits qosFits userFits hasMode serviceFits eventFits tell closes aborts excepts timerExpires systemError noInstruction pduFault sendFault abortFault startFits indicationFault confirmationFault firstFault handed instructed answered reached enter permitted messageRefusal userStarts serviceStarts isStart isService isStale heldAfter refusalOf acts numberedStep firstTakes secondTakes finished concluded withRecord entering userStep userBy readsAs readsAgain abortOf orAbort readPdu meaning dataOf dataStep bareStep serviceStep serviceBy invokedNumber toldNumber packed headBytes storedBytes headFits withNumbers loadAt storeAt partOf givenData freshFor freshCall forwardRequest responds forwardArrives forwardConfirmed responseFault forwardBy forwardStep forwardOf tripleAt headingAt forwardWithin tripleBits tripleFits aircraftBits headingBits aircraftFits headingFits forwardBits forwardPduFits forwardFits centreRun
 turned-away-again = refl

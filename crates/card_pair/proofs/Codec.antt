@@ -9,16 +9,21 @@ use borrow.Author.Tests.{ltb-true, le-leb}
 use lib.Dec.{T, ltb, eqb}
 use lib.ListN.{length, take, replicate}
 use Rattle.words.proofs.Laws.{both-left, both-right}
+use Rattle.bits.specs.Bits.{bitsOf, bitsTo}
+use Rattle.bits.specs.Read.{readBits}
 use Rattle.bits.specs.Put.{putBits}
 use Rattle.bits.proofs.Numbers.{Bits}
 use Rattle.bits.proofs.Bytes.{bits-append}
 use Rattle.fields.specs.Encodings.{wholeFits, indexBits}
+use Rattle.fields.specs.Fields.{bitField, extensionBit, wholeNumber, extensibleIndex}
 use Rattle.fields.proofs.RoundTrip.{extensible-index}
 use Rattle.apdu.specs.Sizes.{bufferLeast, userLast, providerLast}
 use Rattle.apdu.specs.Pdus.{Content, Pdu, abortUser, abortProvider, start, send, forward, forwardResponse, lastOf, lent, pduIn}
 use Rattle.apdu.specs.Encoding.{contentBits, contentFits, modeBits, modeFits, alternative, pduBits, pduFits, padded, bytesFor}
-use Rattle.apdu.specs.Reading.{apduAt}
+use Rattle.apdu.specs.Reading.{leadingAt, apduWithin, apduAt}
 use Rattle.apdu.specs.declared.Kind.the-variants as kind
+use Rattle.pdus.specs.declared.PduType.{PduType}
+use Rattle.pdus.specs.declared.PduType.the-variants as pdu
 use Rattle.apdu.specs.declared.Decoded.{Decoded}
 use Rattle.apdu.specs.declared.Decoded.the-variants as decoded
 use Rattle.apdu.proofs.Theorems.{written-read}
@@ -33,12 +38,13 @@ use Rattle.pair.specs.Carrier.{Body}
 use Rattle.pair.proofs.OneDialogue.{isNil}
 use Rattle.pair.proofs.StepMachine.{Read, got, fault, Codec}
 use Rattle.apdu.proofs.Theorems.{mode-are-bits, index-are-bits}
+use Rattle.card_pair.specs.CardMachine.{givenOf}
 use Rattle.card_pair.proofs.Bodies.{isBody, body-is, carries}
 
 -- ---- writing
 
 abbrev pub fits : Side → UserData → Body → Bool
-fits sd Absent b = false
+fits sd Absent b = isNil b
 fits sd NotValid b = false
 fits sd (Start m) b = modeFits (pdusOf sd) (flag m) && isBody b
 fits sd Send b = isBody b
@@ -84,7 +90,27 @@ readOf l (decoded.Refused r) = fault
 
 -- what the other side reads
 abbrev pub dec : Side → List ℕ → Read
-dec sd w = readOf (lent w) (apduAt (pdusOf sd) (lent w) 0)
+dec sd [] = got Absent []
+dec sd (x ∷ w) = readOf (lent (x ∷ w)) (apduAt (pdusOf sd) (lent (x ∷ w)) 0)
+
+abbrev pub isRead : Decoded → Bool
+isRead (decoded.Is a) = true
+isRead (decoded.Refused r) = false
+
+-- no bits are no PDU
+nothing-read : (pdus : PduType) → isRead (apduAt pdus (lent []) 0) ≡ false
+unfolding bitsOf bitsTo readBits bitField extensionBit wholeNumber extensibleIndex leadingAt apduWithin
+nothing-read pdu.AircraftPdus = refl
+nothing-read pdu.GroundPdus = refl
+
+-- bytes that are read as a PDU are some
+pub some-read : (pdus : PduType) (w : List ℕ) → isRead (apduAt pdus (lent w) 0) ≡ true → givenOf w ≡ 1
+some-read pdus [] e = never (sym (nothing-read pdus) ∙ e)
+some-read pdus (x ∷ w) e = refl
+
+pub dec-read : (sd : Side) (w : List ℕ) → isRead (apduAt (pdusOf sd) (lent w) 0) ≡ true → dec sd w ≡ readOf (lent w) (apduAt (pdusOf sd) (lent w) 0)
+dec-read sd [] e = never (sym (nothing-read (pdusOf sd)) ∙ e)
+dec-read sd (x ∷ w) e = refl
 
 -- ---- what was written is read
 
@@ -95,7 +121,8 @@ module _ (sd : Side) (v : Pdu) (b : Bits (pduBits (pdusOf sd) v)) (h : pduFits (
   pub value-back : dec sd (frontOf zeros (pduBits (pdusOf sd) v)) ≡ valueRead v
   value-back =
       let x = written-read (pdusOf sd) v zeros b h full in
-      ap (readOf (lent (frontOf zeros (pduBits (pdusOf sd) v)))) (x .read) ∙ ap valueRead (x .same)
+      dec-read sd (frontOf zeros (pduBits (pdusOf sd) v)) (ap isRead (x .read))
+      ∙ ap (readOf (lent (frontOf zeros (pduBits (pdusOf sd) v)))) (x .read) ∙ ap valueRead (x .same)
 
 module _ (sd : Side) (c : Content) (f : contentFits c ≡ true) (b : Bits (contentBits c)) where
   send-back : dec sd (enc sd Send (contentBits c)) ≡ got Send (contentBits c)
@@ -134,8 +161,14 @@ nil-is : (b : Body) → isNil b ≡ true → b ≡ []
 nil-is [] e = refl
 nil-is (x ∷ b) e = never e
 
+-- no user data is no bytes
+nothing-written : (sd : Side) → enc sd Absent [] ≡ []
+unfolding apduBits
+nothing-written sd = refl
+
 pub back : (sd : Side) (a : UserData) (b : Body) → T (fits sd a b) → dec sd (enc sd a b) ≡ got a b
-back sd Absent b t = absurd t
+back sd Absent [] t = ap (dec sd) (nothing-written sd)
+back sd Absent (x ∷ b) t = absurd t
 back sd NotValid b t = absurd t
 back sd (Start m) b t =
     let e = holds (modeFits (pdusOf sd) (flag m) && isBody b) t in

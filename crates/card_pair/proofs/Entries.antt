@@ -2,7 +2,7 @@
 -- Assumes nothing.
 use mathlib.Core.Path.{_≡_, refl, ap, sym, subst, _∙_}
 use mathlib.Core.Bool.{Bool, true, false, cond}
-use mathlib.Core.List.{List, []}
+use mathlib.Core.List.{List, [], _∷_}
 use Prim.Native.Nat.{ℕ, suc, _^_, _<_}
 use lib.Dec.{T}
 use Rattle.bits.proofs.Numbers.{Bits}
@@ -14,7 +14,7 @@ use Rattle.apdu.specs.declared.Decoded.{Decoded}
 use Rattle.apdu.specs.declared.Decoded.the-variants as decoded
 use Rattle.apdu.proofs.Bounds.{data-value-fits}
 use Rattle.machine.specs.Outcome.{isNone}
-use Rattle.machine.specs.UserData.{isSend}
+use Rattle.machine.specs.UserData.{isMissing, isSend}
 use Rattle.machine.specs.declared.record.Record.{Record}
 use Rattle.machine.specs.declared.event.UserData.{UserData}
 use Rattle.machine.specs.declared.event.UserData.the-variants.{Absent, NotValid, Start, Send, AbortUser, AbortProvider, Forward, ForwardResponse}
@@ -31,20 +31,16 @@ use Rattle.pair.specs.Carrier as C
 use Rattle.pair.specs.Numbered.{Numbered, mark}
 use Rattle.pair.specs.Wires.{Wire}
 use Rattle.pair.proofs.NumberedMachine.{tag, leaves}
-use Rattle.pair.proofs.StepMachine.{Read, got, fault, sentBy, taken, happens}
+use Rattle.pair.proofs.StepMachine.{Read, got, fault, apduOf, sentBy, taken, happens}
 use Rattle.pair.proofs.Agree.{SentRel, OutRel}
 use Rattle.card_pair.specs.Answered.{entryOf, handedOf}
 use Rattle.card_pair.specs.CardMachine.{Buffers, Kept, numberIn, markedEntry, putOn, sentOf, left, simply}
 use Rattle.apdu.proofs.Theorems.{content-are-bits}
 use Rattle.card_pair.proofs.Bodies.{isBody, is-body}
-use Rattle.card_pair.proofs.Codec.{fits, apduBits, zeros, frontOf, enc, readOf, back, true-holds, cardCodec}
+use Rattle.card_pair.proofs.Codec.{fits, apduBits, zeros, frontOf, enc, readOf, dec, isRead, back, true-holds, cardCodec}
 use Rattle.card_pair.proofs.Ends.{Keeps, Ended, concluded-is, concluded-refused}
 
 -- ---- entries
-
-abbrev pub isRead : Decoded → Bool
-isRead (decoded.Is a) = true
-isRead (decoded.Refused r) = false
 
 -- two entries that side sd sent: the same primitive with the same dialogue number, which eight bytes hold, and the same bits, which are read as a PDU
 pub record Carries (sd : Side) (e f : Numbered Wire) : Type 0 where
@@ -59,9 +55,24 @@ abbrev isFault : Read → Bool
 isFault fault = true
 isFault (got a b) = false
 
-read-from : (l : List ℕ) (x : Decoded) (a : UserData) (y : Body) → readOf l x ≡ got a y → isRead x ≡ true
-read-from l (decoded.Is z) a y e = refl
-read-from l (decoded.Refused r) a y e = absurd (subst (λ (q : Read). T (isFault q)) e tt)
+-- a PDU that was written is read
+read-from : (sd : Side) (w : List ℕ) (a : UserData) (y : Body) → dec sd w ≡ got a y → isMissing a ≡ false → isRead (apduAt (pdusOf sd) (lent w) 0) ≡ true
+read-from sd [] a y e n = never (sym n ∙ ap isMissing (sym (ap apduOf e)))
+read-from sd (x ∷ w) a y e n = go (apduAt (pdusOf sd) (lent (x ∷ w)) 0) e
+  where
+    go : (z : Decoded) → readOf (lent (x ∷ w)) z ≡ got a y → isRead z ≡ true
+    go (decoded.Is z) k = refl
+    go (decoded.Refused r) k = absurd (subst (λ (q : Read). T (isFault q)) k tt)
+
+written-there : (sd : Side) (a : UserData) → writable sd a ≡ true → isMissing a ≡ false
+written-there sd Absent e = never e
+written-there sd NotValid e = refl
+written-there sd (Start m) e = refl
+written-there sd Send e = refl
+written-there sd (AbortUser x) e = refl
+written-there sd (AbortProvider x) e = refl
+written-there sd Forward e = refl
+written-there sd (ForwardResponse x) e = refl
 
 -- what a host keeps, and the record with its number
 abbrev pub KeepsAt : Side → Kept → Numbered Record → Type 0
@@ -150,7 +161,7 @@ module _ (sd : Side) (v : Brings) (m : ℕ) (o : Outcome) (b : Body) (c : Called
         low = t .keeps .low;
         primitive = t .primitive;
         bits = t .bits ∙ ap lent (sym enc-y);
-        read = read-from (lent (enc sd (o .apdu) y)) (apduAt (pdusOf sd) (lent (enc sd (o .apdu) y)) 0) (o .apdu) y (back sd (o .apdu) y (true-holds (fits sd (o .apdu) y) (fits-y e)));
+        read = read-from sd (enc sd (o .apdu) y) (o .apdu) y (back sd (o .apdu) y (true-holds (fits sd (o .apdu) y) (fits-y e))) (written-there sd (o .apdu) e);
         dialogue = roomy-dialogue (o .invoked) (k .roomy);
       }
 

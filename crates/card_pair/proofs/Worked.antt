@@ -28,7 +28,7 @@ use Rattle.machine.specs.Primitives.{handed, instructed, answered, reached}
 use Rattle.machine.specs.Record.{enter}
 use Rattle.machine.specs.Step.{permitted, messageRefusal, acts}
 use Rattle.numbered.specs.Numbers.{userStarts, serviceStarts, isStart, isService, isStale, heldAfter, refusalOf, numberedStep}
-use Rattle.step.specs.Call.{firstTakes, secondTakes, finished, concluded, withRecord, entering, userStep, userCall, readsAs, readsAgain, abortOf, orAbort, readPdu, meaning, dataOf, dataStep, bareStep, serviceStep, serviceCall}
+use Rattle.step.specs.Call.{firstTakes, secondTakes, finished, concluded, withRecord, entering, userStep, userBy, readsAs, readsAgain, abortOf, orAbort, readPdu, meaning, dataOf, dataStep, bareStep, serviceStep, serviceBy}
 use Rattle.packed.specs.Packed.{invokedNumber, toldNumber, packed}
 use Rattle.stored.specs.Stored.{recordBytes, headBytes, storedBytes, headFits, withNumbers, loadAt, storeAt}
 use Rattle.card.specs.Face.{noCount, partOf, givenData, freshFor, freshCall}
@@ -193,7 +193,7 @@ rows =
     (view (seen 1 closed (wire 1 (DAbortRequest 0) (3 ∷ []) ∷ []) (bodyGiven (text 96) ∷ bodyGiven (text 97) ∷ []) (bodyGiven (text 80) ∷ []) (1 ∷ 2 ∷ [])) (seen 1 (entered Dialogue false) [] (bodyGiven (text 80) ∷ []) (bodyGiven (text 96) ∷ []) (1 ∷ [])) true) ∷ []
 
 pub all-as-said : seenIn rows ≡ saidIn rows
-unfolding bitsN bitsOf accOf bitsTo bytesOf withBit setBit putBits readBits wholeBits indexBits lengthBits bitField extensionBit digitsIn wholeNumber extensibleIndex lengthAt lengthWithin runAt stringAt stringBits optionalBits optionalFits contentBits contentFits modeBits modeFits pduBits pduFits padded partIn contentIn pduIn optionalAt partAt partsWithin dataWithin modeValue modeAt kindMode leadingAt tailAt endedAt restWithin apduWithin itemsFit partFits dataFits apduFits writeOut replyOf sent startRequest startResponse messageRequest endRequest endResponse userAbort callOf unsent called userDataFits qosFits userFits hasMode serviceFits eventFits tell closes aborts excepts timerExpires systemError noInstruction pduFault sendFault abortFault startFits indicationFault confirmationFault firstFault handed instructed answered reached enter permitted messageRefusal userStarts serviceStarts isStart isService isStale heldAfter refusalOf acts numberedStep firstTakes secondTakes finished concluded withRecord entering userStep userCall readsAs readsAgain abortOf orAbort readPdu meaning dataOf dataStep bareStep serviceStep serviceCall invokedNumber toldNumber packed headBytes storedBytes headFits withNumbers loadAt storeAt partOf givenData freshFor freshCall nRun
+unfolding bitsN bitsOf accOf bitsTo bytesOf withBit setBit putBits readBits wholeBits indexBits lengthBits bitField extensionBit digitsIn wholeNumber extensibleIndex lengthAt lengthWithin runAt stringAt stringBits optionalBits optionalFits contentBits contentFits modeBits modeFits pduBits pduFits padded partIn contentIn pduIn optionalAt partAt partsWithin dataWithin modeValue modeAt kindMode leadingAt tailAt endedAt restWithin apduWithin itemsFit partFits dataFits apduFits writeOut replyOf sent startRequest startResponse messageRequest endRequest endResponse userAbort callOf unsent called userDataFits qosFits userFits hasMode serviceFits eventFits tell closes aborts excepts timerExpires systemError noInstruction pduFault sendFault abortFault startFits indicationFault confirmationFault firstFault handed instructed answered reached enter permitted messageRefusal userStarts serviceStarts isStart isService isStale heldAfter refusalOf acts numberedStep firstTakes secondTakes finished concluded withRecord entering userStep userBy readsAs readsAgain abortOf orAbort readPdu meaning dataOf dataStep bareStep serviceStep serviceBy invokedNumber toldNumber packed headBytes storedBytes headFits withNumbers loadAt storeAt partOf givenData freshFor freshCall nRun
 all-as-said = refl
 
 -- ---- a restart (docs/HOST.md): the host loses its power and loads the bytes that it stored. That is the step `fail`: between two calls a record
@@ -210,5 +210,5 @@ restarted =
 pub restart-takes-once :
     after 2 restarted
     ≡ view (seen 2 (entered Dialogue false) [] [] (bodyGiven (text 82) ∷ []) []) (seen 2 (entered Dialogue false) [] (bodyGiven (text 82) ∷ []) [] (1 ∷ 2 ∷ 3 ∷ [])) false
-unfolding bitsN bitsOf accOf bitsTo bytesOf withBit setBit putBits readBits wholeBits indexBits lengthBits bitField extensionBit digitsIn wholeNumber extensibleIndex lengthAt lengthWithin runAt stringAt stringBits optionalBits optionalFits contentBits contentFits modeBits modeFits pduBits pduFits padded partIn contentIn pduIn optionalAt partAt partsWithin dataWithin modeValue modeAt kindMode leadingAt tailAt endedAt restWithin apduWithin itemsFit partFits dataFits apduFits writeOut replyOf sent startRequest startResponse messageRequest endRequest endResponse userAbort callOf unsent called userDataFits qosFits userFits hasMode serviceFits eventFits tell closes aborts excepts timerExpires systemError noInstruction pduFault sendFault abortFault startFits indicationFault confirmationFault firstFault handed instructed answered reached enter permitted messageRefusal userStarts serviceStarts isStart isService isStale heldAfter refusalOf acts numberedStep firstTakes secondTakes finished concluded withRecord entering userStep userCall readsAs readsAgain abortOf orAbort readPdu meaning dataOf dataStep bareStep serviceStep serviceCall invokedNumber toldNumber packed headBytes storedBytes headFits withNumbers loadAt storeAt partOf givenData freshFor freshCall nRun
+unfolding bitsN bitsOf accOf bitsTo bytesOf withBit setBit putBits readBits wholeBits indexBits lengthBits bitField extensionBit digitsIn wholeNumber extensibleIndex lengthAt lengthWithin runAt stringAt stringBits optionalBits optionalFits contentBits contentFits modeBits modeFits pduBits pduFits padded partIn contentIn pduIn optionalAt partAt partsWithin dataWithin modeValue modeAt kindMode leadingAt tailAt endedAt restWithin apduWithin itemsFit partFits dataFits apduFits writeOut replyOf sent startRequest startResponse messageRequest endRequest endResponse userAbort callOf unsent called userDataFits qosFits userFits hasMode serviceFits eventFits tell closes aborts excepts timerExpires systemError noInstruction pduFault sendFault abortFault startFits indicationFault confirmationFault firstFault handed instructed answered reached enter permitted messageRefusal userStarts serviceStarts isStart isService isStale heldAfter refusalOf acts numberedStep firstTakes secondTakes finished concluded withRecord entering userStep userBy readsAs readsAgain abortOf orAbort readPdu meaning dataOf dataStep bareStep serviceStep serviceBy invokedNumber toldNumber packed headBytes storedBytes headFits withNumbers loadAt storeAt partOf givenData freshFor freshCall nRun
 restart-takes-once = refl

@@ -3,7 +3,7 @@
 -- hands out is taken out of its answer, and the dialogue number of what it sends out of the record's bytes.
 use Prim.Native.Nat.{ℕ, suc, _^_, _≤_, _<_}
 use mathlib.Core.Bool.{Bool, cond}
-use mathlib.Core.List.{List, []}
+use mathlib.Core.List.{List, [], _∷_}
 use lib.ListN.{length}
 use Rattle.apdu.specs.Sizes.{bufferLeast}
 use Rattle.apdu.specs.Pdus.{lent, contentIn}
@@ -19,7 +19,7 @@ use Rattle.stored.specs.Stored.{loadAt}
 use Rattle.step.specs.Call.{Called, serviceCall}
 use Rattle.stored.specs.declared.Loaded.{Loaded}
 use Rattle.stored.specs.declared.Loaded.the-variants.{Is, NoRecord}
-use Rattle.card.specs.Face.{givenData, numberedCall, dataCall, plainCall, messageRequested, abortRequested}
+use Rattle.card.specs.Face.{givenData, numberedCall, dataCall, plainCall, messageRequested, abortRequested, holdsMessage}
 use Rattle.pair.specs.Names.{Side, Control, closed}
 use Rattle.pair.specs.Carrier.{Body, Sent, nothing, puts, message, Outcome, refused, acts}
 use Rattle.pair.specs.Numbered.{NMachine, Numbered, mark}
@@ -78,10 +78,10 @@ heldBy b = numberIn (loadAt b)
 
 abbrev pub answered : ℕ → Buffers → List ℕ → Asked → Called
 answered p w r (start-request v m k g) = numberedCall r (w .first) (w .second) (StartServiceRequest m k p) (v .number) (g .ids) (g .msgs) (g .bits) (g .checks) (g .check)
-answered p w r (start-response m x g) = dataCall r (w .first) (w .second) (StartServiceResponse m x) (g .ids) (g .msgs) (g .bits) (g .checks) (g .check)
+answered p w r (start-response m x g) = dataCall r (w .first) (w .second) (StartServiceResponse m x (holdsMessage (g .bits))) (g .ids) (g .msgs) (g .bits) (g .checks) (g .check)
 answered p w r (message-request j g) = dataCall r (w .first) (w .second) (messageRequested (g .bits) (j .number)) (g .ids) (g .msgs) (g .bits) (g .checks) (g .check)
-answered p w r (end-request m g) = dataCall r (w .first) (w .second) (EndServiceRequest m) (g .ids) (g .msgs) (g .bits) (g .checks) (g .check)
-answered p w r (end-response m x g) = dataCall r (w .first) (w .second) (EndServiceResponse m x) (g .ids) (g .msgs) (g .bits) (g .checks) (g .check)
+answered p w r (end-request m g) = dataCall r (w .first) (w .second) (EndServiceRequest m (holdsMessage (g .bits))) (g .ids) (g .msgs) (g .bits) (g .checks) (g .check)
+answered p w r (end-response m x g) = dataCall r (w .first) (w .second) (EndServiceResponse m x (holdsMessage (g .bits))) (g .ids) (g .msgs) (g .bits) (g .checks) (g .check)
 answered p w r (user-abort x) = plainCall r (w .first) (w .second) (User (abortRequested x))
 
 -- the encoding of the message data that the host gave
@@ -130,6 +130,11 @@ abbrev pub controlIn : Loaded → Control
 controlIn (Is sd r n) = r .control
 controlIn NoRecord = closed
 
+-- an entry without bytes has no user data
+abbrev pub givenOf : List ℕ → ℕ
+givenOf [] = 0
+givenOf (x ∷ w) = 1
+
 module _ (p : ℕ) (host : Side → ℕ → Buffers) where
   -- an exported call of a dialogue-service primitive with the dialogue number v, an expiry or a system error
   abbrev pub arriving : Side → Kept → ServicePrimitive → ℕ → ℕ → List ℕ → Outcome Kept (Numbered Wire)
@@ -151,7 +156,7 @@ module _ (p : ℕ) (host : Side → ℕ → Buffers) where
       ctl = λ (r : Kept). controlIn (loadAt (r .bytes));
       sort = λ (w : Numbered Wire). sortOf (w .it .primitive);
       call = asking;
-      receive = λ (sd : Side) (r : Kept) (w : Numbered Wire). arriving sd r (arrives sd (w .it .primitive)) (w .no) 1 (w .it .bytes);
+      receive = λ (sd : Side) (r : Kept) (w : Numbered Wire). arriving sd r (arrives sd (w .it .primitive)) (w .no) (givenOf (w .it .bytes)) (w .it .bytes);
       expiry = λ (sd : Side) (r : Kept). reported sd r TimerExpires;
       error = λ (sd : Side) (r : Kept). reported sd r UnrecoverableSystemError;
       away = λ (sd : Side) (r : Kept). arriving sd r rejects (heldBy (r .bytes)) 0 [];

@@ -6,7 +6,7 @@ use mathlib.Core.List.{List, [], _∷_}
 use Prim.Native.Nat.{ℕ, _≤_, _<_}
 use lib.Dec.{T, ltb, leb, eqb}
 use borrow.Author.Tests.{le-leb, le-ltb, lt-leb, eqb-true, not-false}
-use Rattle.machine.specs.Codes.{dscMode, modes, accepted, user, undefined, userReasons, timerExpired, invalidPdu, protocolError, communicationServiceFailure, communicationServiceError, invalidQosParameter, expectedPduMissing, notPermittedPdu}
+use Rattle.machine.specs.Codes.{spared, dscMode, modes, accepted, user, undefined, userReasons, timerExpired, invalidPdu, protocolError, communicationServiceFailure, communicationServiceError, invalidQosParameter, expectedPduMissing, notPermittedPdu}
 use Rattle.control.specs.Control.{isIdle, takes, goes, sends, awaitsResponse, expects, after, isStart}
 use Rattle.machine.specs.Record.{withJob, enter}
 use Rattle.machine.specs.UserData.{modeOf, isSend, userDataFits, abortFits}
@@ -100,10 +100,10 @@ fault-answered sd r p a f s e = service-taken sd r p a s ∙ ap (answered r p a)
 pub called-goes : (r : Record) (u : UserPrimitive) → called r u .next .control ≡ goes (r .control) (callOf u)
 unfolding called callOf startRequest startResponse messageRequest endRequest endResponse userAbort sent enter
 called-goes r (StartServiceRequest m k s) = refl
-called-goes r (StartServiceResponse m x) = refl
+called-goes r (StartServiceResponse m x h) = refl
 called-goes r (MessageServiceRequest h j) = refl
-called-goes r (EndServiceRequest m) = refl
-called-goes r (EndServiceResponse m x) = refl
+called-goes r (EndServiceRequest m h) = refl
+called-goes r (EndServiceResponse m x h) = refl
 called-goes r (UserAbortServiceRequest g x) = refl
 
 -- what an invoked primitive puts on the line, of those that the control has
@@ -122,10 +122,10 @@ line (DStartForwardResponse s v) a = []
 pub called-sends : (r : Record) (u : UserPrimitive) → line (called r u .invoked) (called r u .apdu) ≡ sends (callOf u) ∷ []
 unfolding called callOf startRequest startResponse messageRequest endRequest endResponse userAbort sent
 called-sends r (StartServiceRequest m k s) = refl
-called-sends r (StartServiceResponse m x) = refl
+called-sends r (StartServiceResponse m x h) = refl
 called-sends r (MessageServiceRequest h j) = refl
-called-sends r (EndServiceRequest m) = refl
-called-sends r (EndServiceResponse m x) = refl
+called-sends r (EndServiceRequest m h) = refl
+called-sends r (EndServiceResponse m x h) = refl
 called-sends r (UserAbortServiceRequest g x) = refl
 
 -- an expected primitive puts nothing there, and leads where the control says
@@ -249,9 +249,9 @@ none-idle : (r : Record) (x : Bool) → isIdle (r .control) ≡ true → noInstr
 unfolding noInstruction
 none-idle r x i = rw i
 
-send-idle : (sd : Side) (r : Record) (p : Primitive) (live : Bool) (a : UserData) → isIdle (r .control) ≡ true → isStart p ≡ false → sendFault sd r p live a ≡ NoInstruction true
+send-idle : (sd : Side) (r : Record) (p : Primitive) (may live : Bool) (a : UserData) → isIdle (r .control) ≡ true → isStart p ≡ false → sendFault sd r p may live a ≡ NoInstruction true
 unfolding sendFault
-send-idle sd r p live a d n = rw (idle-expects sd (r .control) p d n)
+send-idle sd r p may live a d n = rw (idle-expects sd (r .control) p d n)
 
 abort-idle : (sd : Side) (r : Record) (p : Primitive) (fits : Bool) → isIdle (r .control) ≡ true → isStart p ≡ false → abortFault sd r p fits ≡ NoInstruction false
 unfolding abortFault
@@ -261,9 +261,9 @@ pub reached-idle : (sd : Side) (r : Record) (p : ServicePrimitive) (a : UserData
 unfolding reached firstFault confirmationFault answered
 reached-idle sd r (DStartIndication x s q v) a d n = absurd (subst T n tt)
 reached-idle sd r (DStartConfirmation x o s v) a d n = rw (idle-expects sd (r .control) (DStartCnf (replyOf x)) d refl, idle-awaits (r .control) d) (none-idle r true d)
-reached-idle sd r DDataIndication a d n = rw (send-idle sd r DData true a d refl) (none-idle r true d)
-reached-idle sd r DEndIndication a d n = rw (send-idle sd r DEnd true a d refl) (none-idle r true d)
-reached-idle sd r (DEndConfirmation x) a d n = rw (send-idle sd r (DEndCnf (replyOf x)) (not (eqb x accepted)) a d refl) (none-idle r true d)
+reached-idle sd r DDataIndication a d n = rw (send-idle sd r DData false true a d refl) (none-idle r true d)
+reached-idle sd r DEndIndication a d n = rw (send-idle sd r DEnd spared true a d refl) (none-idle r true d)
+reached-idle sd r (DEndConfirmation x) a d n = rw (send-idle sd r (DEndCnf (replyOf x)) spared (not (eqb x accepted)) a d refl) (none-idle r true d)
 reached-idle sd r (DAbortIndication o) a d n = rw (abort-idle sd r DAbort (abortFits o a) d refl) (none-idle r false d)
 reached-idle sd r DPAbortIndication a d n = rw (abort-idle sd r DPAbort true d refl) (none-idle r false d)
 
@@ -338,9 +338,9 @@ no-expiry sd r t = rw t
 
 -- ---- a primitive with no instruction: protocol-error; D-ABORT only if a dialogue exists
 
-pub unexpected : (sd : Side) (r : Record) (p : Primitive) (live : Bool) (a : UserData) → expects sd (r .control) p ≡ false → sendFault sd r p live a ≡ NoInstruction true
+pub unexpected : (sd : Side) (r : Record) (p : Primitive) (may live : Bool) (a : UserData) → expects sd (r .control) p ≡ false → sendFault sd r p may live a ≡ NoInstruction true
 unfolding sendFault
-unexpected sd r p live a e = rw e
+unexpected sd r p may live a e = rw e
 
 pub no-instruction-outside : (r : Record) (x : Bool) → isIdle (r .control) ≡ false → noInstruction r x ≡ excepts r x protocolError protocolError
 unfolding noInstruction
@@ -348,9 +348,9 @@ no-instruction-outside r x i = rw i
 
 -- ---- a forward APDU is not permitted where a send is asked for, nor in a start that is not of a centre
 
-pub forward-read : (i u : Bool) (g : Fault) → pduFault (isSend Forward) i u Forward g ≡ NotPermitted u
+pub forward-read : (may i u : Bool) (g : Fault) → pduFault may (isSend Forward) i u Forward g ≡ NotPermitted u
 unfolding pduFault
-forward-read i u g = refl
+forward-read may i u g = refl
 
 pub forward-start : (sd : Side) (r : Record) (x s v : ℕ) (q : Qos) → fromCentre sd x ≡ false → serviceFits (DStartIndication x s q v) ≡ true → isIdle (r .control) ≡ true → qosFits q ≡ true → eqb s (r .policy) ≡ true → step sd r (Service (DStartIndication x s q v) Forward) ≡ aborts r protocolError (tell r (ProviderAbortIndication protocolError))
 unfolding eventFits userDataFits firstFault indicationFault startFits pduFault answered excepts

@@ -50,19 +50,19 @@ request-at-air r k s h g = rw (h, g)
 -- in FORWARD every user primitive but the user abort is prohibited (2.3.5.5.1.1, table 2.3.5-3)
 abbrev pub isUserAbort : UserPrimitive → Bool
 isUserAbort (StartServiceRequest m k s) = false
-isUserAbort (StartServiceResponse m x) = false
+isUserAbort (StartServiceResponse m x h) = false
 isUserAbort (MessageServiceRequest h j) = false
-isUserAbort (EndServiceRequest m) = false
-isUserAbort (EndServiceResponse m x) = false
+isUserAbort (EndServiceRequest m h) = false
+isUserAbort (EndServiceResponse m x h) = false
 isUserAbort (UserAbortServiceRequest g x) = true
 
 pub only-abort : (sd : Side) (d : Bool) (u : UserPrimitive) → isUserAbort u ≡ false → takes sd (entered FORWARD d) (callOf u) ≡ false
 unfolding callOf
 only-abort sd d (StartServiceRequest m k s) e = refl
-only-abort sd d (StartServiceResponse m x) e = refl
+only-abort sd d (StartServiceResponse m x h) e = refl
 only-abort sd d (MessageServiceRequest h j) e = refl
-only-abort sd d (EndServiceRequest m) e = refl
-only-abort sd d (EndServiceResponse m x) e = refl
+only-abort sd d (EndServiceRequest m h) e = refl
+only-abort sd d (EndServiceResponse m x h) e = refl
 only-abort sd d (UserAbortServiceRequest g x) e = absurd (subst T e tt)
 
 -- ---- the indication, at an IDLE ground machine, with the right quality of service and the security value that local policy accepts

@@ -158,21 +158,21 @@ module _ (r : Record) where
   unfolding called startRequest sent
   start-invokes m k s = record { taken = refl; invoked = refl; apdu = refl; told = refl; delivers = refl }
 
-  pub answer-invokes : (m : Bool) (x : ℕ) → Invokes (called r (StartServiceResponse m x)) (DStartResponse x (r .policy)) Send
+  pub answer-invokes : (m : Bool) (x : ℕ) (h : Bool) → Invokes (called r (StartServiceResponse m x h)) (DStartResponse x (r .policy)) Send
   unfolding called startResponse sent
-  answer-invokes m x = record { taken = refl; invoked = refl; apdu = refl; told = refl; delivers = refl }
+  answer-invokes m x h = record { taken = refl; invoked = refl; apdu = refl; told = refl; delivers = refl }
 
   pub message-invokes : (h : Bool) (j : ℕ) → Invokes (called r (MessageServiceRequest h j)) DDataRequest Send
   unfolding called messageRequest sent
   message-invokes h j = record { taken = refl; invoked = refl; apdu = refl; told = refl; delivers = refl }
 
-  pub end-invokes : (m : Bool) → Invokes (called r (EndServiceRequest m)) DEndRequest Send
+  pub end-invokes : (m h : Bool) → Invokes (called r (EndServiceRequest m h)) DEndRequest Send
   unfolding called endRequest sent
-  end-invokes m = record { taken = refl; invoked = refl; apdu = refl; told = refl; delivers = refl }
+  end-invokes m h = record { taken = refl; invoked = refl; apdu = refl; told = refl; delivers = refl }
 
-  pub end-answer-invokes : (m : Bool) (x : ℕ) → Invokes (called r (EndServiceResponse m x)) (DEndResponse x) Send
+  pub end-answer-invokes : (m : Bool) (x : ℕ) (h : Bool) → Invokes (called r (EndServiceResponse m x h)) (DEndResponse x) Send
   unfolding called endResponse sent
-  end-answer-invokes m x = record { taken = refl; invoked = refl; apdu = refl; told = refl; delivers = refl }
+  end-answer-invokes m x h = record { taken = refl; invoked = refl; apdu = refl; told = refl; delivers = refl }
 
   pub abort-invokes : (g : Bool) (x : ℕ) → Invokes (called r (UserAbortServiceRequest g x)) (DAbortRequest 0) (AbortUser (cond g x 0))
   unfolding called userAbort sent

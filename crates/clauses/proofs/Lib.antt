@@ -7,3 +7,4 @@ pub mod ForwardClauses
 pub mod ForwardState
 pub mod Instructions
 pub mod Unexpected
+pub mod Spared

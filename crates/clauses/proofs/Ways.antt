@@ -107,7 +107,7 @@ pub passed : (b : Bool) (f g : Fault) → isFault f ≡ true → cond b f g ≡ 
 passed true f g n e = absurd (subst T (sym n ∙ ap isFault e) tt)
 passed false f g n e = (refl, e)
 
-pub pdu-fits : (fits i u : Bool) (a : UserData) (g : Fault) → pduFault fits i u a g ≡ NoFault → fits ≡ true
+pub pdu-fits : (fits i u : Bool) (a : UserData) (g : Fault) → pduFault false fits i u a g ≡ NoFault → fits ≡ true
 unfolding pduFault
 pdu-fits fits i u a g e =
     let there = passed (isMissing a) Missing _ refl e in
@@ -160,11 +160,11 @@ module _ (sd : Side) (r : Record) where
   answered-way p a (Invalid live) k = except-way live _ _
   answered-way p a (NotPermitted live) k = except-way live _ _
 
-  pub send-expected : (p : Primitive) (live : Bool) (a : UserData) → sendFault sd r p live a ≡ NoFault → expects sd (r .control) p ≡ true
+  pub send-expected : (p : Primitive) (may live : Bool) (a : UserData) → sendFault sd r p may live a ≡ NoFault → expects sd (r .control) p ≡ true
   unfolding sendFault
-  send-expected p live a e = not-false _ (passed (not (expects sd (r .control) p)) (NoInstruction true) _ refl e .0)
+  send-expected p may live a e = not-false _ (passed (not (expects sd (r .control) p)) (NoInstruction true) _ refl e .0)
 
-  pub send-there : (p : Primitive) (live : Bool) (a : UserData) → sendFault sd r p live a ≡ NoFault → isSend a ≡ true
+  pub send-there : (p : Primitive) (live : Bool) (a : UserData) → sendFault sd r p false live a ≡ NoFault → isSend a ≡ true
   unfolding sendFault
   send-there p live a e =
       pdu-fits (isSend a) live live a NoFault (passed (not (expects sd (r .control) p)) (NoInstruction true) _ refl e .1)
@@ -192,7 +192,7 @@ module _ (sd : Side) (r : Record) where
       let secure = passed (not (eqb s (r .request))) (Security (eqb x accepted)) _ refl (away .1) in
       rejected (eqb x accepted) (secure .1)
     where
-      rejected : (b : Bool) → cond b (pduFault false true true a NoFault) (pduFault (isResponse a) false true a NoFault) ≡ NoFault → isResponse a ≡ true
+      rejected : (b : Bool) → cond b (pduFault false false true true a NoFault) (pduFault false (isResponse a) false true a NoFault) ≡ NoFault → isResponse a ≡ true
       rejected true k = absurd (subst T (sym (pdu-fits false true true a NoFault k)) tt)
       rejected false k = pdu-fits (isResponse a) false true a NoFault k
 
@@ -202,7 +202,7 @@ module _ (sd : Side) (r : Record) where
 
   -- a confirmation without a fault: of a start that the control expects, or of a forward
   confirmed-way : (x o s v : ℕ) (a : UserData) (t : Bool) → expects sd (r .control) (DStartCnf (replyOf x)) ≡ t
-      → cond (not t) (cond (awaitsResponse (r .control)) (responseFault r x o s a) (NoInstruction true)) (cond (turnedAway x o) TurnedAway (cond (not (eqb s (r .request))) (Security (eqb x accepted)) (pduFault (isSend a) (eqb x accepted) true a NoFault))) ≡ NoFault
+      → cond (not t) (cond (awaitsResponse (r .control)) (responseFault r x o s a) (NoInstruction true)) (cond (turnedAway x o) TurnedAway (cond (not (eqb s (r .request))) (Security (eqb x accepted)) (pduFault false (isSend a) (eqb x accepted) true a NoFault))) ≡ NoFault
       → Way sd r (cond (isResponse a) (forwardConfirmed r (reasonOf a) v) (handed (withTimer r false) (DStartCnf (replyOf x)) (StartConfirmation (r .control .dsc) x)))
   confirmed-way x o s v a true p e =
       let away = passed (turnedAway x o) TurnedAway _ refl e in
@@ -236,9 +236,9 @@ module _ (sd : Side) (r : Record) where
       let i = start-there x s q a e in
       by-test (Way sd r) (isForward a) _ _ (λ y. arrives-way s v (i .idle)) (λ n. is-invited (modeOf a) (q .routing) (fits-expected x a (i .fits) n))
   instructed-way (DStartConfirmation x o s v) a e = confirmed-way x o s v a (expects sd (r .control) (DStartCnf (replyOf x))) refl e
-  instructed-way DDataIndication a e = is-read DData MessageIndication (send-expected DData true a e) refl refl
-  instructed-way DEndIndication a e = is-read DEnd _ (send-expected DEnd true a e) refl refl
-  instructed-way (DEndConfirmation x) a e = is-read (DEndCnf (replyOf x)) _ (send-expected (DEndCnf (replyOf x)) _ a e) refl refl
+  instructed-way DDataIndication a e = is-read DData MessageIndication (send-expected DData _ true a e) refl refl
+  instructed-way DEndIndication a e = is-read DEnd _ (send-expected DEnd _ true a e) refl refl
+  instructed-way (DEndConfirmation x) a e = is-read (DEndCnf (replyOf x)) _ (send-expected (DEndCnf (replyOf x)) _ _ a e) refl refl
   instructed-way (DAbortIndication o) a e = is-closed _ (tell-active (abortTold a))
   instructed-way DPAbortIndication a e = is-closed _ (tell-active _)
 
@@ -260,10 +260,10 @@ module _ (sd : Side) (r : Record) where
   called-way : (u : UserPrimitive) → takes sd (r .control) (callOf u) ≡ true → isNone (unsent (r .highest) u) ≡ true → Way sd r (called r u)
   unfolding called callOf startResponse endRequest endResponse userAbort
   called-way (StartServiceRequest m k s) e n = is-started (isDsc m) k s e
-  called-way (StartServiceResponse m x) e n = is-called (StartResponse m (replyOf x)) _ _ e refl
+  called-way (StartServiceResponse m x h) e n = is-called (StartResponse m (replyOf x)) _ _ e refl
   called-way (MessageServiceRequest h j) e n = is-message j e (above h j n)
-  called-way (EndServiceRequest m) e n = is-called (EndRequest m) _ _ e refl
-  called-way (EndServiceResponse m x) e n = is-called (EndResponse m (replyOf x)) _ _ e refl
+  called-way (EndServiceRequest m h) e n = is-called (EndRequest m) _ _ e refl
+  called-way (EndServiceResponse m x h) e n = is-called (EndResponse m (replyOf x)) _ _ e refl
   called-way (UserAbortServiceRequest g x) e n = is-called UserAbort _ _ e refl
 
   acts-way : (e : Event) → permitted sd r e ≡ true → isNone (messageRefusal r e) ≡ true → Way sd r (acts sd r e)

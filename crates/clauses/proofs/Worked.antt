@@ -61,12 +61,12 @@ unfolding run step refusalOf permitted messageRefusal acts eventFits userFits ha
 seven-again = refl
 
 -- the highest job survives the closing: after an end, 7 is refused with 5 in the next dialogue
-pub seven-later : last Air (User (StartServiceRequest cpdlcMode 0 0) ∷ confirmation ∷ message 7 ∷ Service DEndIndication Send ∷ User (EndServiceResponse false accepted) ∷ User (StartServiceRequest cpdlcMode 0 0) ∷ confirmation ∷ []) (message 7) ≡ 5
+pub seven-later : last Air (User (StartServiceRequest cpdlcMode 0 0) ∷ confirmation ∷ message 7 ∷ Service DEndIndication Send ∷ User (EndServiceResponse false accepted true) ∷ User (StartServiceRequest cpdlcMode 0 0) ∷ confirmation ∷ []) (message 7) ≡ 5
 unfolding run step refusalOf permitted messageRefusal acts eventFits userFits hasMode serviceFits userDataFits callOf unsent called reached startRequest messageRequest endResponse sent enter firstFault confirmationFault sendFault pduFault answered instructed replyOf handed
 seven-later = refl
 
 -- a DSC dialogue at the ground: invited, accepted, abortFault by the air, closed by the accepted DSC-end response
-pub downstream : run Ground fresh (Service (DStartIndication 1 0 (record { priority = 1; rer = 1; routing = 0 }) 0) (Start true) ∷ User (StartServiceResponse true 0) ∷ Service DDataIndication Send ∷ Service DEndIndication Send ∷ message 9 ∷ User (EndServiceResponse true 0) ∷ []) ≡ record { control = record { state = Idle; dsc = false }; timer = false; active = false; highest = 9; request = 0; policy = 0; forwards = true; version = 1 }
+pub downstream : run Ground fresh (Service (DStartIndication 1 0 (record { priority = 1; rer = 1; routing = 0 }) 0) (Start true) ∷ User (StartServiceResponse true 0 true) ∷ Service DDataIndication Send ∷ Service DEndIndication Send ∷ message 9 ∷ User (EndServiceResponse true 0 true) ∷ []) ≡ record { control = record { state = Idle; dsc = false }; timer = false; active = false; highest = 9; request = 0; policy = 0; forwards = true; version = 1 }
 unfolding run step refusalOf permitted messageRefusal acts eventFits userFits hasMode serviceFits userDataFits qosFits callOf unsent called reached startResponse messageRequest endResponse sent enter firstFault indicationFault startFits sendFault pduFault answered instructed replyOf handed
 downstream = refl
 

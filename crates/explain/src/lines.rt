@@ -1,8 +1,8 @@
 // A line of standard input: the word that says what it is, and its bytes.
+use crate::alternatives::explain_apdu;
 use crate::messages::explain_message;
-use crate::pdus::explain_apdu;
-use apdu::PduType;
 use kinds::Direction;
+use pdus::PduType;
 
 // What digits say, and the place after them; or none of it.
 enum Number {

@@ -9,10 +9,10 @@
 // refusal with its bit and a mark under the byte. Whether it is accepted, and where it is refused, is what the card's own readers answer; the fields
 // before that are read by the same readers of fields.
 // Input of more than 65,536 bytes is not looked at, and the program says so.
+mod alternatives;
 mod forwards;
 mod lines;
 mod messages;
-mod pdus;
 mod rows;
 
 use lines::explain_line;

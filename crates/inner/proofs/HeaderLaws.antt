@@ -133,7 +133,7 @@ has-acknowledgement true false = refl
 has-acknowledgement false true = refl
 has-acknowledgement false false = refl
 
-both-present : (b : ℕ) → b ≤ 3 → presence (leb 2 b) (eqb (b % 2) 1) ≡ b
+pub both-present : (b : ℕ) → b ≤ 3 → presence (leb 2 b) (eqb (b % 2) 1) ≡ b
 both-present zero h = refl
 both-present (suc zero) h = refl
 both-present (suc (suc zero)) h = refl

@@ -103,7 +103,7 @@ module _ (x : Header) (h : headerFits x ≡ true) where
   unfolding headerFits
   number-fits = both-left (wholeFits 0 63 (x .identification)) (referenceFits (x .referenced) (x .reference)) (both-left (wholeFits 0 63 (x .identification) && referenceFits (x .referenced) (x .reference)) (dateTimeFits (x .dated)) h)
 
-  reference-fits : referenceFits (x .referenced) (x .reference) ≡ true
+  pub reference-fits : referenceFits (x .referenced) (x .reference) ≡ true
   unfolding headerFits
   reference-fits = both-right (wholeFits 0 63 (x .identification)) (referenceFits (x .referenced) (x .reference)) (both-left (wholeFits 0 63 (x .identification) && referenceFits (x .referenced) (x .reference)) (dateTimeFits (x .dated)) h)
 

@@ -14,6 +14,8 @@ pub mod MessageWritten
 pub mod Openings
 pub mod AreBits
 pub mod HeaderNumber
+pub mod HeaderRead
+pub mod Counted
 pub mod Silent
 pub mod Theorems
 pub mod Examples

@@ -5,51 +5,56 @@ use mathlib.Core.Bool.{Bool, true, false}
 use mathlib.Core.List.{List, [], _++_}
 use Prim.Native.Nat.{ℕ, _+_, _*_, _≤_, _<_, min}
 use native.Mathlib.Omega.{arith}
-use lib.ListN.{length, drop}
+use lib.ListN.{length, take, drop}
 use lib.Seq.{sets}
 use lib.Dec.{leb}
 use borrow.Author.Tests.{le-leb, lt-leb, le-ltb, lt-ltb}
 use Rattle.bits.specs.Bits.{bitsTo}
 use Rattle.bits.proofs.Numbers.{Bits}
-use Rattle.bits.proofs.Bytes.{bits-to}
+use Rattle.bits.proofs.Bytes.{bits-to, holds-split}
+use Rattle.fields.specs.Encodings.{wholeBits}
 use Rattle.bits.proofs.Inside.{same-leb}
 use Rattle.fields.specs.declared.Refusal.{Refusal}
 use Rattle.kinds.specs.declared.Direction.{Direction}
 use Rattle.elements.specs.declared.values.Step.the-variants as step
 use Rattle.elements.specs.Arguments.{stepRefusal}
-use Rattle.inner.specs.declared.values.Header.{Header}
-use Rattle.inner.specs.declared.values.HeaderRead.{HeaderRead}
 use Rattle.inner.specs.declared.values.HeaderRead.the-variants as header
+use Rattle.inner.specs.declared.values.Message.{Message}
 use Rattle.inner.specs.declared.values.MessageRead.{MessageRead}
 use Rattle.inner.specs.declared.values.MessageOpened.{MessageOpened}
 use Rattle.inner.specs.declared.values.Opened.the-variants as opened
-use Rattle.inner.specs.Headers.{headerAt}
-use Rattle.inner.specs.Places.{textAt}
-use Rattle.inner.specs.Messages.{ontoElements, elementsText, messageText, exactly, bitsMost, roomLeast, opening, notOpened, openMessage}
-use Rattle.inner.proofs.HeaderLaws.{header-stands}
-use Rattle.inner.proofs.HeaderWritten.{length-header}
-use Rattle.inner.proofs.HeaderPieces.{flag-most}
+use Rattle.inner.specs.Headers.{headerAt, headerBits}
+use Rattle.inner.specs.Places.{textAt, rowBits}
+use Rattle.inner.specs.Messages.{elementsText, messageBits, messageText, exactly, bitsMost, roomLeast, opening, notOpened, openMessage}
+use Rattle.inner.proofs.HeaderLaws.{header-reads}
+use Rattle.inner.proofs.MessageLaws.{fits-of, message-stands}
 use Rattle.inner.proofs.Copied.{copied-front}
-use Rattle.inner.proofs.Characters.{charactersMost, exactly-few}
+use Rattle.inner.proofs.Characters.{charactersMost, exactly-few, exactly-is}
 
--- ---- the elements begin after the header
+-- ---- the elements of a message that was read begin after its header and four bits
 
-module _ (d : Direction) (l : List ℕ) (at n : ℕ) (r : HeaderRead) (e : r ≡ headerAt l at) where
-  pub header-near : (x : Header) (next : ℕ) → Bits l → r ≡ header.Got x next → next ≤ at + 48
-  header-near x next b q =
-      let s = header-stands l at next x b (sym e ∙ q) in
-      let p = s .place in
-      omega (arith, length-header x, flag-most (x .referenced) _ refl, flag-most (x .acknowledged) _ refl)
+module _ (d : Direction) (l : List ℕ) (bits : Bits l) (r : MessageRead) (e : r ≡ exactly d l) (next : ℕ) (i : r .step ≡ step.Next next) where
+  header-first : headerAt l 0 ≡ header.Got (r .message .header) (length (headerBits (r .message .header)))
+  unfolding messageBits
+  header-first =
+      let m : Message = exactly d l .message in
+      let s = message-stands d l 0 next m bits (exactly-is d l next (rw e at i) .there) in
+      let t : List ℕ = messageText d l 0 m in
+      let h : List ℕ = headerBits (m .header) in
+      let n : List ℕ = wholeBits 1 5 (m .count) in
+      let x = holds-split l 0 (h ++ wholeBits 0 1 0 ++ n) (rowBits d (take (m .count) (m .places)) t) (s .holds) in
+      let y = holds-split l 0 (h ++ wholeBits 0 1 0) n (x .0) in
+      let z = holds-split l 0 h (wholeBits 0 1 0) (y .0) in
+      rw e (header-reads l 0 (length h) (m .header) (record { fits = fits-of d m t (s .fits) .header; holds = z .0; place = omega arith }))
 
-  -- where all characters have room, those of the elements have
-  pub text-fits : (x : Header) (next m : ℕ) → r ≡ header.Got x next → length (elementsText d l at n) ≤ m → length (textAt d l (next + 4) n) ≤ m
-  text-fits x next m q h = rw (← e, q) at h
+  text-place : (p n : ℕ) → p ≡ length (headerBits (r .message .header)) + 4 → elementsText d l 0 n ≡ textAt d l p n
+  text-place p n q = rw (header-first, q)
 
-  pub text-got : (x : Header) (next k : ℕ) (z y : List ℕ) → r ≡ header.Got x next → (k ≡ length (textAt d l (next + 4) n)) × (y ≡ sets z 0 (textAt d l (next + 4) n)) → (k ≡ length (elementsText d l at n)) × (y ≡ sets z 0 (elementsText d l at n))
-  text-got x next k z y q h = rw (← e, q) h
+  pub text-at : (p n k : ℕ) (z y : List ℕ) → p ≡ length (headerBits (r .message .header)) + 4 → (k ≡ length (textAt d l p n)) × (y ≡ sets z 0 (textAt d l p n)) → (k ≡ length (elementsText d l 0 n)) × (y ≡ sets z 0 (elementsText d l 0 n))
+  text-at p n k z y q h = rw (text-place p n q) h
 
-  pub text-lost : (x : Refusal) (z : List ℕ) → r ≡ header.Refused x → (0 ≡ length (elementsText d l at n)) × (z ≡ sets z 0 (elementsText d l at n))
-  text-lost x z q = rw (← e, q) (refl, refl)
+  pub text-fits : (p n m : ℕ) → p ≡ length (headerBits (r .message .header)) + 4 → length (elementsText d l 0 n) ≤ m → length (textAt d l p n) ≤ m
+  text-fits p n m q h = rw (text-place p n q) at h
 
 -- ---- the call
 

@@ -1,13 +1,18 @@
 // The header of a message.
 ghost use mathlib.Core.Path.{_≡_};
+ghost use Prim.Native.Nat.{_+_, _-_, _*_, _/_, _%_, _<_};
+ghost use lib.Dec.{eqb, leb};
 ghost use Rattle.bits.specs.Bits.{bitsTo};
 ghost use Rattle.inner.specs.Headers.{acknowledgementAt, dateTimeAt, datedAt, headerAt, referenceAt, timeOfDayAt};
+use crate::measuring::header_fits;
 use crate::values::DateTime;
 use crate::values::DateTimeRead;
 use crate::values::Header;
 use crate::values::HeaderRead;
 use crate::values::date_refusal;
+use bits::Read;
 use elements::arguments::read_time;
+use elements::values::Time;
 use elements::values::TimeRead;
 use elements::values::time_refusal;
 use fields::Fault;
@@ -114,7 +119,7 @@ fn read_dated(
     )
 }
 
-pub fn read_header(s: &[u8], end: usize, at: usize) -> HeaderRead
+fn read_header_by_fields(s: &[u8], end: usize, at: usize) -> HeaderRead
     ensures { λ r. ⌜ r ≡ headerAt (bitsTo (now (s .entry)) end) at ⌝ }
 {
     let presence = fields::whole(s, end, at, 0, 3);
@@ -139,4 +144,67 @@ pub fn read_header(s: &[u8], end: usize, at: usize) -> HeaderRead
         present % 2 == 1,
         r,
     )
+}
+
+// The header that 8 bits and the bits behind them say, without those of an acknowledgement; its numbers need not be of their types.
+fn header_from(front: u64, w: u64) -> Header
+    requires { ⌜ (front < 256) × (w < 549755813888) ⌝ }
+    ensures { λ h. ⌜ (h .referenced ≡ leb 2 (front / 64)) × (h .acknowledged ≡ eqb (front / 64 % 2) 1) × (h .identification ≡ front % 64)
+        × (h .reference * 8589934592 + ((((((h .dated .year - 1996) * 16 + (h .dated .month - 1)) * 32 + (h .dated .day - 1)) * 32
+        + h .dated .time .hours) * 64 + h .dated .time .minutes) * 64 + h .dated .seconds) ≡ w) ⌝ }
+{
+    let minute = w / 64;
+    let hour = minute / 64;
+    let day = hour / 32;
+    let month = day / 32;
+    let year = month / 16;
+    let reference = year / 128;
+    let present = front / 64;
+    Header {
+        identification: (front % 64) as u8,
+        referenced: 2 <= present,
+        reference: (reference % 64) as u8,
+        dated: DateTime {
+            year: (DateTime::FIRST_YEAR + year % 128) as u16,
+            month: (1 + month % 16) as u8,
+            day: (1 + day % 32) as u8,
+            time: Time {
+                hours: (hour % 32) as u8,
+                minutes: (minute % 64) as u8,
+            },
+            seconds: (w % 64) as u8,
+        },
+        acknowledged: present % 2 == 1,
+    }
+}
+
+// A header: as two numbers where it is one, else field by field, which names the fault.
+pub fn read_header(s: &[u8], end: usize, at: usize) -> HeaderRead
+    ensures { λ r. ⌜ r ≡ headerAt (bitsTo (now (s .entry)) end) at ⌝ }
+{
+    let first = bits::read_bits(s, end, at, 8);
+    let Read::Number(front, p) = first else {
+        return read_header_by_fields(s, end, at);
+    };
+    let present = front / 64;
+    let n = 33 + 6 * (present / 2) + present % 2;
+    let rest = bits::read_bits(s, end, p, n as usize);
+    let Read::Number(v, next) = rest else {
+        return read_header_by_fields(s, end, at);
+    };
+    if present % 2 == 1 {
+        if v % 2 == 1 {
+            return read_header_by_fields(s, end, at);
+        }
+        let h = header_from(front, v / 2);
+        if header_fits(h) {
+            return HeaderRead::Got(h, next);
+        }
+        return read_header_by_fields(s, end, at);
+    }
+    let h = header_from(front, v);
+    if header_fits(h) {
+        return HeaderRead::Got(h, next);
+    }
+    read_header_by_fields(s, end, at)
 }

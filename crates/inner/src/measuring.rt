@@ -60,7 +60,7 @@ fn reference_fits(present: bool, n: u64) -> bool
     n == 0
 }
 
-fn header_fits(h: Header) -> bool
+pub(crate) fn header_fits(h: Header) -> bool
     ensures { λ r. ⌜ r ≡ headerFits h ⌝ }
 {
     if !in_range(0, Header::LAST_NUMBER, h.identification as u64) {

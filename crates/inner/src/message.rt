@@ -1,5 +1,9 @@
 // A message read from its bits at any place.
 ghost use mathlib.Core.Path.{_≡_};
+ghost use mathlib.Core.Bool.{cond};
+ghost use Prim.Native.Nat.{ℕ};
+ghost use lib.Dec.{eqb};
+ghost use Rattle.fields.specs.Fields.{refusedAt, then, wholeNumber};
 ghost use Rattle.bits.specs.Bits.{bitsTo};
 ghost use Rattle.inner.specs.Messages.{bodyAt, exactly, messageAt, noMessage};
 use crate::five::read_places;
@@ -9,6 +13,7 @@ use crate::values::HeaderRead;
 use crate::values::Message;
 use crate::values::MessageRead;
 use crate::values::header_refusal;
+use bits::Read;
 use elements::values::Step;
 use elements::values::step_refusal;
 use fields::Fault;
@@ -26,35 +31,59 @@ fn no_message(r: Refusal) -> MessageRead
     }
 }
 
+// The count of elements, behind the bit that says whether there is constrained data, which is not carried.
+fn read_count_by_fields(s: &[u8], end: usize, at: usize) -> Field
+    ensures { λ f. ⌜ f ≡ then (wholeNumber (bitsTo (now (s .entry)) end) at 0 1)
+        (λ (c p : ℕ). cond (eqb c 0) (wholeNumber (bitsTo (now (s .entry)) end) p 1 5) (refusedAt at Fault.NotCarried)) ⌝ }
+{
+    let presence = fields::whole(s, end, at, 0, 1);
+    let Field::Value(constrained, p) = presence else {
+        return presence;
+    };
+    if constrained == 0 {
+        return fields::whole(s, end, p, 1, 5);
+    }
+    fields::refused_at(at, Fault::NotCarried)
+}
+
+// Both as one number where neither is refused, else field by field, which names the fault.
+fn read_count(s: &[u8], end: usize, at: usize) -> Field
+    ensures { λ f. ⌜ f ≡ then (wholeNumber (bitsTo (now (s .entry)) end) at 0 1)
+        (λ (c p : ℕ). cond (eqb c 0) (wholeNumber (bitsTo (now (s .entry)) end) p 1 5) (refusedAt at Fault.NotCarried)) ⌝ }
+{
+    let both = bits::read_bits(s, end, at, Message::BETWEEN);
+    let Read::Number(v, next) = both else {
+        return read_count_by_fields(s, end, at);
+    };
+    if v < 5 {
+        let n = v + 1;
+        return Field::Value(n, next);
+    }
+    read_count_by_fields(s, end, at)
+}
+
 // What follows the header.
 fn read_body(direction: Direction, s: &[u8], end: usize, header: Header, at: usize) -> MessageRead
     ensures { λ r. ⌜ r ≡ bodyAt direction (bitsTo (now (s .entry)) end) header at ⌝ }
 {
-    let presence = fields::whole(s, end, at, 0, 1);
-    let Field::Value(constrained, p) = presence else {
-        return no_message(refusal_of(presence));
+    let size = read_count(s, end, at);
+    let Field::Value(n, q) = size else {
+        return no_message(refusal_of(size));
     };
-    if constrained == 0 {
-        let size = fields::whole(s, end, p, 1, 5);
-        let Field::Value(n, q) = size else {
-            return no_message(refusal_of(size));
-        };
-        let row = read_places(direction, s, end, q, n as usize);
-        let step = row.step;
-        let Step::Next(next) = step else {
-            return no_message(step_refusal(step));
-        };
-        let places = row.places;
-        return MessageRead {
-            step: Step::Next(next),
-            message: Message {
-                header,
-                count: n as usize,
-                places,
-            },
-        };
+    let row = read_places(direction, s, end, q, n as usize);
+    let step = row.step;
+    let Step::Next(next) = step else {
+        return no_message(step_refusal(step));
+    };
+    let places = row.places;
+    MessageRead {
+        step: Step::Next(next),
+        message: Message {
+            header,
+            count: n as usize,
+            places,
+        },
     }
-    no_message(refusal_of(fields::refused_at(at, Fault::NotCarried)))
 }
 
 // The message at a place; what follows it is not looked at.

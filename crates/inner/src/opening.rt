@@ -2,17 +2,18 @@
 // text.
 ghost use mathlib.Core.Path.{_≡_};
 ghost use mathlib.Core.List.{map};
-ghost use Prim.Native.Nat.{_+_, _*_, _^_, _≤_, _<_};
+ghost use Prim.Native.Nat.{_+_, _*_, _≤_};
 ghost use lib.ListN.{drop, length, take};
 ghost use lib.Seq.{sets};
 ghost use Rattle.bits.specs.Bits.{bitsN, bitsTo, numOf};
 ghost use Rattle.elements.specs.Arguments.{charactersIn};
 ghost use Rattle.elements.specs.Measuring.{allMost};
-ghost use Rattle.inner.specs.Messages.{elementsText, notOpened, openMessage, opening};
+ghost use Rattle.inner.specs.Headers.{headerBits};
+ghost use Rattle.inner.specs.Messages.{notOpened, openMessage, opening};
 ghost use Rattle.inner.specs.Places.{textAt};
-use crate::header::read_header;
+use crate::measuring::flag;
 use crate::message::read_exactly;
-use crate::values::HeaderRead;
+use crate::values::Header;
 use crate::values::Message;
 use crate::values::MessageOpened;
 use crate::values::Opened;
@@ -107,24 +108,13 @@ fn copy_text(
     t
 }
 
-// The characters of the n elements of a message at a place.
-fn message_text(
-    direction: Direction,
-    s: &[u8],
-    end: usize,
-    at: usize,
-    n: usize,
-    text: &mut [u8],
-) -> usize
-    requires { ⌜ (length (elementsText direction (bitsTo (now s) end) at n) ≤ length (now text)) × (at < 2 ^ 32) ⌝ }
-    ensures { λ r. ⌜ (r ≡ length (elementsText direction (bitsTo (now (s .entry)) end) at n)) × (now (text .exit) ≡
-        sets (now (text .entry)) 0 (elementsText direction (bitsTo (now (s .entry)) end) at n)) ⌝ }
+// Where the elements of a message begin that has this header: behind the bit that says that there is no constrained data, and their count.
+fn elements_at(h: Header) -> usize
+    ensures { λ r. ⌜ r ≡ length (headerBits h) + 4 ⌝ }
 {
-    let first = read_header(s, end, at);
-    let HeaderRead::Got(_, next) = first else {
-        return 0;
-    };
-    copy_text(direction, s, end, next + Message::BETWEEN, n, text)
+    let optional = Header::REFERENCE_BITS * flag(h.referenced) + flag(h.acknowledged);
+    let size = Header::LEAST_BITS + optional;
+    size as usize + Message::BETWEEN
 }
 
 // Whether no element has characters: then nothing is to be copied, and nothing to be read again.
@@ -174,7 +164,9 @@ pub fn open_message(direction: Direction, s: &[u8], count: usize, text: &mut [u8
                 message,
             };
         }
-        let n = message_text(direction, s, count, 0, message.count, text);
+        let header = message.header;
+        let from = elements_at(header);
+        let n = copy_text(direction, s, count, from, message.count, text);
         return MessageOpened {
             answer: Opened::Characters(n),
             message,

@@ -60,7 +60,7 @@ readCall d s n m t =
 
 -- ---- writing: ROOM, SHAPE
 
--- the answer, and the bytes of the buffer after it
+-- what a call leaves: the number that it answers, and the range that it may write to
 pub record Sent : Type 0 where
   pub number : ℕ
   pub bytes : List ℕ

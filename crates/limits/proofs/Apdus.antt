@@ -20,10 +20,10 @@ use Rattle.fields.proofs.RoundTrip.{via, if-value}
 use Rattle.apdu.specs.Sizes.{identifierLeast, identifierMost, checkMost, userLast, providerLast, octet, bit}
 use Rattle.apdu.specs.Headings.{responseLast}
 use Rattle.apdu.specs.Reading.{onData, onTaken, onHeading, onForward, onLead, optionalAt, partAt, spanTo, partsWithin, withAdditions, dataWithin, headingAt, forwardWithin, leadingAt, tailAt, endedAt, restWithin, apduWithin, wholeWithin, wholeForwardWithin}
-use Rattle.apdu.specs.declared.PduType.{PduType}
+use Rattle.pdus.specs.declared.PduType.{PduType}
 use Rattle.apdu.specs.declared.Kind.{Kind}
 use Rattle.apdu.specs.declared.Kind.the-variants as kind
-use Rattle.apdu.specs.declared.Span.{Span}
+use Rattle.pdus.specs.declared.Span.{Span}
 use Rattle.apdu.specs.declared.Part.{Part}
 use Rattle.apdu.specs.declared.Part.the-variants.{Absent, Given}
 use Rattle.apdu.specs.declared.Data.{Data}

@@ -14,8 +14,8 @@ use Rattle.fields.specs.declared.Field.{Field}
 use Rattle.fields.specs.declared.Field.the-variants.{Value}
 use Rattle.apdu.specs.Sizes.{messageMost}
 use Rattle.apdu.specs.Reading.{apduWithin, apduAt, wholeWithin, wholeData}
-use Rattle.apdu.specs.declared.PduType.{PduType}
-use Rattle.apdu.specs.declared.Span.{Span}
+use Rattle.pdus.specs.declared.PduType.{PduType}
+use Rattle.pdus.specs.declared.Span.{Span}
 use Rattle.apdu.specs.declared.Part.the-variants.{Given}
 use Rattle.apdu.specs.declared.Apdu.{Apdu}
 use Rattle.apdu.specs.declared.Taken.the-variants as taken

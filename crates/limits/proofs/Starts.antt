@@ -1,48 +1,34 @@
 -- "a D-START indication may bring a higher one; the record then holds that number, also where its state or a fault turns the start away" (document 02, E9), of the bytes that
 -- a call leaves, with user data that can be read, with user data that can't, and with none.
 -- Assumes nothing.
-use mathlib.Core.Path.{_≡_, refl, ap, sym, subst, _∙_}
+use mathlib.Core.Path.{_≡_, refl}
 use mathlib.Core.Bool.{Bool, true, false, not, cond, _&&_}
 use mathlib.Core.List.{List}
-use Prim.Native.Nat.{ℕ, zero, suc, _+_, _^_, _≤_, _<_}
+use Prim.Native.Nat.{ℕ, _^_, _≤_, _<_}
 use native.Mathlib.Omega.{arith}
-use borrow.Author.Tests.{le-leb, le-ltb, lt-ltb, leb-true, eq-eqb, eqb-true}
-use lib.Dec.{leb, ltb, eqb}
+use borrow.Author.Tests.{le-leb, le-ltb, lt-ltb, eq-eqb, eqb-true}
+use lib.Dec.{eqb}
 use lib.ListN.{length}
-use Rattle.words.proofs.Laws.{both-left, both-right}
 use Rattle.bits.specs.Bits.{bitsTo}
 use Rattle.bits.specs.Read.{readBits}
-use Rattle.bits.proofs.Numbers.{Bits}
-use Rattle.bits.proofs.Bytes.{bits-to}
-use Rattle.fields.specs.Encodings.{wholeFits}
-use Rattle.apdu.specs.Sizes.{bufferLeast, allBits, userLast, providerLast}
-use Rattle.apdu.specs.Headings.{responseLast}
+use Rattle.apdu.specs.Sizes.{bufferLeast}
 use Rattle.apdu.specs.Pdus.{lent, forwards}
-use Rattle.apdu.specs.Reading.{apduAt}
-use Rattle.apdu.specs.Writing.{apduFits}
-use Rattle.apdu.specs.declared.PduType.{PduType}
-use Rattle.apdu.specs.declared.Apdu.{Apdu}
-use Rattle.apdu.specs.declared.Apdu.the-variants as is
-use Rattle.apdu.specs.declared.Decoded.{Decoded}
-use Rattle.apdu.specs.declared.Decoded.the-variants as decoded
-use Rattle.apdu.proofs.Theorems.{accepted-encoding}
 use Rattle.control.specs.Control.{isIdle}
 use Rattle.control.specs.declared.Side.{Side}
-use Rattle.control.specs.declared.Side.the-variants.{Air, Ground}
 use Rattle.control.specs.declared.Control.{Control}
 use Rattle.control.specs.declared.Primitive.{Primitive}
-use Rattle.machine.specs.Codes.{securityValues, versions, serviceNotSupported, success, versionNotEqual, noVersion}
+use Rattle.machine.specs.Codes.{securityValues, versions}
 use Rattle.machine.specs.Record.{withUser, enter}
 use Rattle.machine.specs.UserData.{userDataFits, isForward}
 use Rattle.machine.specs.Event.{serviceFits, eventFits}
 use Rattle.machine.specs.Outcome.{isNone}
-use Rattle.machine.specs.Exceptions.{tell, closes, aborts, excepts, noInstruction}
+use Rattle.machine.specs.Exceptions.{closes, aborts, excepts, noInstruction}
 use Rattle.machine.specs.Forwards.{responds, forwardArrives}
 use Rattle.machine.specs.Faults.{firstFault}
 use Rattle.machine.specs.Primitives.{handed, instructed, answered, reached}
 use Rattle.machine.specs.declared.record.Record.{Record}
 use Rattle.machine.specs.declared.event.UserData.{UserData}
-use Rattle.machine.specs.declared.event.UserData.the-variants.{Absent, NotValid}
+use Rattle.machine.specs.declared.event.UserData.the-variants.{Absent}
 use Rattle.machine.specs.declared.event.Qos.{Qos}
 use Rattle.machine.specs.declared.event.ServicePrimitive.{ServicePrimitive}
 use Rattle.machine.specs.declared.event.ServicePrimitive.the-variants.{DStartIndication}
@@ -55,10 +41,10 @@ use Rattle.clauses.proofs.Ways.{by-test}
 use Rattle.numbered.specs.Numbers.{numberedStep, heldAfter, serviceStarts}
 use Rattle.numbered.proofs.Laws.{higher-start}
 use Rattle.stored.specs.Stored.{recordBytes, recordBits, jobBit, jobBits, numberBit, numberBits, headOf, withNumbers, loadAt, storeAt}
-use Rattle.stored.specs.declared.Loaded.{Loaded}
 use Rattle.stored.specs.declared.Loaded.the-variants.{Is, NoRecord}
 use Rattle.stored.proofs.Storing.{Coded, loaded-stored}
-use Rattle.step.specs.Call.{Carried, Called, finished, concluded, withRecord, entering, eventStep, carriedBy, readsAs, readsAgain, readPdu, meaning, dataStep, bareStep, serviceStep, serviceCall}
+use Rattle.step.proofs.Fitting.{read-fits}
+use Rattle.step.specs.Call.{Carried, finished, concluded, withRecord, entering, eventStep, readPdu, meaning, dataStep, bareStep, serviceStep, serviceCall, serviceBy}
 
 -- ---- a D-START indication is never refused, and leaves a record whose codes are of their types
 
@@ -118,21 +104,6 @@ module _ (sd : Side) (r : Record) (k : Coded r) (x s : ℕ) (q : Qos) (w : ℕ) 
   unfolding reached
   reached-fine a = answered-fine a (firstFault sd r (DStartIndication x s q w) a)
 
--- ---- what is read has codes of its type
-
-low : (n last : ℕ) → wholeFits 0 last n ≡ true → ltb n (suc last) ≡ true
-low n last h = lt-ltb n (suc last) (omega (arith, leb-true n last (both-right (leb 0 n) (leb n last) h)))
-
-meaning-fits : (pdus : PduType) (l : List ℕ) → Bits l → (y : Decoded) → apduAt pdus l 0 ≡ y → userDataFits (meaning y) ≡ true
-unfolding meaning userDataFits apduFits
-meaning-fits pdus l b (decoded.Refused r) e = refl
-meaning-fits pdus l b (decoded.Is (is.AbortUser n)) e = low n userLast (accepted-encoding pdus l (is.AbortUser n) b e .placed-fits)
-meaning-fits pdus l b (decoded.Is (is.AbortProvider n)) e = low n providerLast (accepted-encoding pdus l (is.AbortProvider n) b e .placed-fits)
-meaning-fits pdus l b (decoded.Is (is.Start m d)) e = refl
-meaning-fits pdus l b (decoded.Is (is.Send d)) e = refl
-meaning-fits pdus l b (decoded.Is (is.Forward f)) e = refl
-meaning-fits pdus l b (decoded.Is (is.ForwardResponse n)) e = low n responseLast (both-right (forwards pdus) (wholeFits 0 responseLast n) (accepted-encoding pdus l (is.ForwardResponse n) b e .placed-fits))
-
 -- ---- the call
 
 -- the bytes are those of a record that holds the number
@@ -165,25 +136,17 @@ module _ (r a b : List ℕ) (sd : Side) (x : Record) (n v : ℕ) (load : loadAt 
   unfolding concluded finished
   concluded-holds o f li lm lc d = rw (f .0) (stored-holds (o .next) (f .1))
 
-  event-holds : (u : UserData) → userDataFits u ≡ true → (li lm lc : List ℕ) (d : Carried) → Holds sd (eventStep r a b (Service p u) v li lm lc d sd x n .kept) v
+  event-holds : (u : UserData) → userDataFits u ≡ true → (li lm lc : List ℕ) (d : Carried) → Holds sd (eventStep numberedStep r a b (Service p u) v li lm lc d sd x n .kept) v
   event-holds u g li lm lc d =
       let t = taken u g in
       rw (t .0, t .1) (concluded-holds (reached sd x p u) (reached-fine sd x coded y s q w u) li lm lc d)
 
-  read-fits : (l : List ℕ) → Bits l → userDataFits (meaning (readPdu sd (x .control) p l)) ≡ true
-  unfolding readPdu readsAgain
-  read-fits l h = by sd
-    where
-      by : (z : Side) → userDataFits (meaning (cond (readsAgain z p) (Rattle.step.specs.Call.orAbort (apduAt (readsAs z (x .control) p) l 0) (apduAt Rattle.apdu.specs.declared.PduType.the-variants.GroundPdus l 0)) (apduAt (readsAs z (x .control) p) l 0))) ≡ true
-      by Air = meaning-fits _ l h _ refl
-      by Ground = meaning-fits _ l h _ refl
-
   -- WHATEVER IS DONE ABOUT IT, THE RECORD THEN HOLDS THE NUMBER
   pub start-held : (given : ℕ) (bytes : List ℕ) → given ≤ 1 → Holds sd (serviceCall r a b p v given bytes .kept) v
-  unfolding serviceCall entering withRecord serviceStep dataStep bareStep userDataFits
+  unfolding serviceBy entering withRecord serviceStep dataStep bareStep userDataFits
   start-held given bytes h =
       rw (le-ltb (length a) bufferLeast first, le-ltb (length b) bufferLeast second, load, le-ltb 1 given h) (go (eqb given 1))
     where
-      go : (t : Bool) → Holds sd (cond t (dataStep r a b p v (lent bytes) sd x n) (bareStep r a b p v (lent bytes) sd x n) .kept) v
-      go true = event-holds (meaning (readPdu sd (x .control) p (lent bytes))) (read-fits (lent bytes) (bits-to bytes allBits)) (lent bytes) (lent bytes) (lent bytes) _
+      go : (t : Bool) → Holds sd (cond t (dataStep numberedStep r a b p v (lent bytes) sd x n) (bareStep numberedStep r a b p v (lent bytes) sd x n) .kept) v
+      go true = event-holds (meaning (readPdu sd (x .control) p (lent bytes))) (read-fits sd (x .control) p bytes) (lent bytes) (lent bytes) (lent bytes) _
       go false = event-holds Absent refl (lent bytes) (lent bytes) (lent bytes) _

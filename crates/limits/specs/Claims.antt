@@ -13,7 +13,7 @@ use Rattle.fields.specs.declared.Refusal.{Refusal}
 use Rattle.fields.specs.declared.Field.the-variants as field
 use Rattle.apdu.specs.Sizes.{identifierLeast, identifierMost, messageMost, checkMost, octet, bit}
 use Rattle.apdu.specs.Reading.{optionalAt, leadingAt}
-use Rattle.apdu.specs.declared.PduType.{PduType}
+use Rattle.pdus.specs.declared.PduType.{PduType}
 use Rattle.apdu.specs.declared.Kind.{Kind}
 use Rattle.apdu.specs.declared.Kind.the-variants as kind
 use Rattle.apdu.specs.declared.Lead.the-variants as lead

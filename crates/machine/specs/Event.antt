@@ -2,7 +2,7 @@
 use Prim.Native.Nat.{ℕ}
 use mathlib.Core.Bool.{Bool, true, false, not, _&&_}
 use lib.Dec.{ltb, eqb}
-use Rattle.machine.specs.Codes.{dscMode, modes, securityValues, results, startResults, rejectSources, originators, peers, highPriority, lowErrorRate, routingClasses, userReasons, versions}
+use Rattle.machine.specs.Codes.{dscMode, modes, securityValues, results, startResults, rejectSources, originators, peers, highPriority, lowErrorRate, routingClasses, userReasons, versions, accepted, spared}
 use Rattle.machine.specs.UserData.{userDataFits}
 use Rattle.control.specs.Control.{mayStart}
 use Rattle.control.specs.declared.Side.{Side}
@@ -25,13 +25,17 @@ isDsc m = eqb m dscMode
 unfoldable pub hasMode : Side → ℕ → Bool
 hasMode sd m = ltb m modes && mayStart sd (isDsc m)
 
+-- the result of a start response (h: there is a message); where user data may be left out, a start that is accepted has no message
+abbrev pub answerFits : Bool → ℕ → Bool → Bool
+answerFits may x h = not (may && (eqb x accepted && h)) && ltb x results
+
 -- document 01, SHAPE: "an argument breaks the sizes above, its type or its codes"; a job is 1 or more ("Sizes")
 unfoldable pub userFits : Side → UserPrimitive → Bool
 userFits sd (StartServiceRequest m k s) = hasMode sd m && (ltb k routingClasses && ltb s securityValues)
-userFits sd (StartServiceResponse m x) = ltb x results
+userFits sd (StartServiceResponse m x h) = answerFits spared x h
 userFits sd (MessageServiceRequest h j) = ltb 0 j
-userFits sd (EndServiceRequest m) = true
-userFits sd (EndServiceResponse m x) = ltb x results
+userFits sd (EndServiceRequest m h) = true
+userFits sd (EndServiceResponse m x h) = ltb x results
 userFits sd (UserAbortServiceRequest g x) = ltb x userReasons
 
 -- a received Quality of Service is not looked at ("received QOS values excepted")

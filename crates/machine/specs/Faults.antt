@@ -3,7 +3,7 @@
 use Prim.Native.Nat.{ℕ}
 use mathlib.Core.Bool.{Bool, true, false, not, cond, _&&_, _||_}
 use lib.Dec.{eqb}
-use Rattle.machine.specs.Codes.{accepted, transient, dsProvider, facility, aircraft}
+use Rattle.machine.specs.Codes.{secured, spared, accepted, transient, dsProvider, facility, aircraft}
 use Rattle.control.specs.Control.{isIdle, awaitsResponse, expects}
 use Rattle.machine.specs.UserData.{modeOf, isMissing, isInvalid, isStartPdu, isSend, isForward, isResponse, abortFits}
 use Rattle.machine.specs.Event.{qosFits}
@@ -23,13 +23,17 @@ use Rattle.machine.specs.declared.faults.Fault.the-variants.{NoFault, No
 -- ---- the parts
 
 -- "missing PDU, invalid PDU, PDU not permitted", then what is behind them. fits: is the PDU one for which action is described;
--- i, u: is the dialogue open for a PDU that is not valid, for one that is not permitted
-unfoldable pub pduFault : Bool → Bool → Bool → UserData → Fault → Fault
-pduFault fits i u a behind = cond (isMissing a) Missing (cond (isInvalid a) (Invalid i) (cond (not fits) (NotPermitted u) behind))
+-- i, u: is the dialogue open for a PDU that is not valid, for one that is not permitted; may: may there be none
+unfoldable pub pduFault : Bool → Bool → Bool → Bool → UserData → Fault → Fault
+pduFault may fits i u a behind = cond (isMissing a) (cond may behind Missing) (cond (isInvalid a) (Invalid i) (cond (not fits) (NotPermitted u) behind))
 
 -- "In every other primitive: unexpected state, missing, invalid, not permitted"; the PDU is to be a send
-unfoldable pub sendFault : Side → Record → Primitive → Bool → UserData → Fault
-sendFault sd r p live a = cond (not (expects sd (r .control) p)) (NoInstruction true) (pduFault (isSend a) live live a NoFault)
+unfoldable pub sendFault : Side → Record → Primitive → Bool → Bool → UserData → Fault
+sendFault sd r p may live a = cond (not (expects sd (r .control) p)) (NoInstruction true) (pduFault may (isSend a) live live a NoFault)
+
+-- a security value that is not the one it is compared with, where they are compared
+abbrev pub differs : Bool → ℕ → ℕ → Bool
+differs compared s v = compared && not (eqb s v)
 
 -- "a D-ABORT indication without a fitting APDU has no instruction"; no dialogue exists after a D-ABORT or a D-P-ABORT indication
 unfoldable pub abortFault : Side → Record → Primitive → Bool → Fault
@@ -62,15 +66,19 @@ unfoldable pub indicationFault : Side → Record → ℕ → ℕ → Qos → Use
 indicationFault sd r x s q a =
     cond (not (isIdle (r .control))) (NoInstruction true)
     (cond (not (qosFits q)) Quality
-    (cond (not (eqb s (r .policy))) (Security true)
-    (pduFault (startFits sd r x a) true true a (cond (peerFits sd x) NoFault (NoInstruction true)))))
+    (cond (differs secured s (r .policy)) (Security true)
+    (pduFault false (startFits sd r x a) true true a (cond (peerFits sd x) NoFault (NoInstruction true)))))
 
 -- In FORWARD the confirmation is "rejected (permanent)" with a forward response (2.3.5.5.3.3); with "accepted" no PDU is permitted
 unfoldable pub responseFault : Record → ℕ → ℕ → ℕ → UserData → Fault
 responseFault r x o s a =
     cond (turnedAway x o) TurnedAway
-    (cond (not (eqb s (r .request))) (Security (eqb x accepted))
-    (cond (eqb x accepted) (pduFault false true true a NoFault) (pduFault (isResponse a) false true a NoFault)))
+    (cond (differs secured s (r .request)) (Security (eqb x accepted))
+    (cond (eqb x accepted) (pduFault false false true true a NoFault) (pduFault false (isResponse a) false true a NoFault)))
+
+-- the PDU of a confirmation is a send; where user data may be left out, a start that is accepted has none
+abbrev pub sendAllowed : Bool → Bool → UserData → Bool
+sendAllowed may live a = not (may && live) && isSend a
 
 -- "unexpected state, result or reject source, security, missing, invalid, not permitted". After a rejection the dialogue is not open for a
 -- security fault, and for a PDU that is not valid the peer is gone (3.5.4.3.2, 2.3.5.6.3.2)
@@ -78,16 +86,16 @@ unfoldable pub confirmationFault : Side → Record → ℕ → ℕ → ℕ → U
 confirmationFault sd r x o s a =
     cond (not (expects sd (r .control) (DStartCnf (replyOf x)))) (cond (awaitsResponse (r .control)) (responseFault r x o s a) (NoInstruction true))
     (cond (turnedAway x o) TurnedAway
-    (cond (not (eqb s (r .request))) (Security (eqb x accepted))
-    (pduFault (isSend a) (eqb x accepted) true a NoFault)))
+    (cond (differs secured s (r .request)) (Security (eqb x accepted))
+    (pduFault spared (sendAllowed spared (eqb x accepted) a) (eqb x accepted) true a NoFault)))
 
 -- ---- all of them; after a D-END confirmation "accepted" the peer is gone (3.5.4.3.2, 3.5.4.4.2, 2.3.5.6.3.2, 2.3.5.6.4.3)
 
 unfoldable pub firstFault : Side → Record → ServicePrimitive → UserData → Fault
 firstFault sd r (DStartIndication x s q v) a = indicationFault sd r x s q a
 firstFault sd r (DStartConfirmation x o s v) a = confirmationFault sd r x o s a
-firstFault sd r DDataIndication a = sendFault sd r DData true a
-firstFault sd r DEndIndication a = sendFault sd r DEnd true a
-firstFault sd r (DEndConfirmation x) a = sendFault sd r (DEndCnf (replyOf x)) (not (eqb x accepted)) a
+firstFault sd r DDataIndication a = sendFault sd r DData false true a
+firstFault sd r DEndIndication a = sendFault sd r DEnd spared true a
+firstFault sd r (DEndConfirmation x) a = sendFault sd r (DEndCnf (replyOf x)) spared (not (eqb x accepted)) a
 firstFault sd r (DAbortIndication o) a = abortFault sd r DAbort (abortFits o a)
 firstFault sd r DPAbortIndication a = abortFault sd r DPAbort true

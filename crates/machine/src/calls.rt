@@ -14,7 +14,7 @@ use control::Call;
 use control::Reply;
 use control::goes;
 ghost use mathlib.Core.Path.{_≡_};
-ghost use Rattle.machine.specs.Calls.{replyOf, sent, startRequest, startResponse, messageRequest, endRequest, endResponse, reasonSent, userAbort, callOf, unsent, called};
+ghost use Rattle.machine.specs.Calls.{replyOf, sent, securitySent, unlessSpared, startRequest, startResponse, messageRequest, endRequest, endResponse, reasonSent, userAbort, callOf, unsent, called};
 
 // Result; the other value is "rejected", in a D-START "rejected (permanent)".
 pub(crate) const ACCEPTED: u64 = 0;
@@ -41,13 +41,24 @@ fn sent(r: Record, call: Call, invoked: Invoked, apdu: UserData) -> Outcome
     Outcome::taken(n, invoked, Told::Untold, apdu, false)
 }
 
+// The security value that a D-START carries: none where they are not compared.
+pub(crate) fn security_sent(compared: bool, security: u64) -> u64
+    ensures { λ s. ⌜ s ≡ securitySent compared security ⌝ }
+{
+    if compared {
+        return security;
+    }
+    Record::NO_SECURITY
+}
+
 fn start_request(r: Record, dsc: bool, class: u64, security: u64) -> Outcome
     ensures { λ o. ⌜ o ≡ startRequest r dsc class security ⌝ }
 {
+    let asked = security_sent(Record::SECURED, security);
     let mut n = r;
     n.timer = true;
     n.active = true;
-    n.request = security;
+    n.request = asked;
     let q = Qos {
         priority: Qos::HIGH_PRIORITY,
         rer: Qos::LOW_ERROR_RATE,
@@ -56,20 +67,34 @@ fn start_request(r: Record, dsc: bool, class: u64, security: u64) -> Outcome
     sent(
         n,
         Call::StartRequest(dsc),
-        Invoked::DStartRequest(q, security),
+        Invoked::DStartRequest(q, asked),
         UserData::Start(dsc),
     )
 }
 
-fn start_response(r: Record, dsc: bool, result: u64) -> Outcome
-    ensures { λ o. ⌜ o ≡ startResponse r dsc result ⌝ }
+// The user data of a response or an end: a send; none where it may be left out and there is no message.
+fn unless_spared(may: bool, holds: bool) -> UserData
+    ensures { λ a. ⌜ a ≡ unlessSpared may holds ⌝ }
+{
+    if may {
+        if holds {
+            return UserData::Send;
+        }
+        return UserData::Absent;
+    }
+    UserData::Send
+}
+
+fn start_response(r: Record, dsc: bool, result: u64, holds: bool) -> Outcome
+    ensures { λ o. ⌜ o ≡ startResponse r dsc result holds ⌝ }
 {
     let a = reply_of(result);
+    let answered = security_sent(Record::SECURED, r.policy);
     sent(
         r,
         Call::StartResponse(dsc, a),
-        Invoked::DStartResponse(result, r.policy),
-        UserData::Send,
+        Invoked::DStartResponse(result, answered),
+        unless_spared(Record::SPARED, holds),
     )
 }
 
@@ -86,26 +111,26 @@ fn message_request(r: Record, job: u64) -> Outcome
     )
 }
 
-fn end_request(r: Record, dsc: bool) -> Outcome
-    ensures { λ o. ⌜ o ≡ endRequest r dsc ⌝ }
+fn end_request(r: Record, dsc: bool, holds: bool) -> Outcome
+    ensures { λ o. ⌜ o ≡ endRequest r dsc holds ⌝ }
 {
     sent(
         r,
         Call::EndRequest(dsc),
         Invoked::DEndRequest,
-        UserData::Send,
+        unless_spared(Record::SPARED, holds),
     )
 }
 
-fn end_response(r: Record, dsc: bool, result: u64) -> Outcome
-    ensures { λ o. ⌜ o ≡ endResponse r dsc result ⌝ }
+fn end_response(r: Record, dsc: bool, result: u64, holds: bool) -> Outcome
+    ensures { λ o. ⌜ o ≡ endResponse r dsc result holds ⌝ }
 {
     let a = reply_of(result);
     sent(
         r,
         Call::EndResponse(dsc, a),
         Invoked::DEndResponse(result),
-        UserData::Send,
+        unless_spared(Record::SPARED, holds),
     )
 }
 
@@ -134,13 +159,16 @@ pub(crate) fn call_of(u: UserPrimitive) -> Call
 {
     match u {
         UserPrimitive::StartServiceRequest(mode, _, _) => Call::StartRequest(is_dsc(mode)),
-        UserPrimitive::StartServiceResponse(dsc, result) => Call::StartResponse(
+        UserPrimitive::StartServiceResponse(dsc, result, _) => Call::StartResponse(
             dsc,
             reply_of(result),
         ),
         UserPrimitive::MessageServiceRequest(_, _) => Call::MessageRequest,
-        UserPrimitive::EndServiceRequest(dsc) => Call::EndRequest(dsc),
-        UserPrimitive::EndServiceResponse(dsc, result) => Call::EndResponse(dsc, reply_of(result)),
+        UserPrimitive::EndServiceRequest(dsc, _) => Call::EndRequest(dsc),
+        UserPrimitive::EndServiceResponse(dsc, result, _) => Call::EndResponse(
+            dsc,
+            reply_of(result),
+        ),
         UserPrimitive::UserAbortServiceRequest(_, _) => Call::UserAbort,
     }
 }
@@ -151,7 +179,7 @@ pub(crate) fn unsent(highest: u64, u: UserPrimitive) -> StepRefusal
 {
     match u {
         UserPrimitive::StartServiceRequest(_, _, _) => StepRefusal::None,
-        UserPrimitive::StartServiceResponse(_, _) => StepRefusal::None,
+        UserPrimitive::StartServiceResponse(_, _, _) => StepRefusal::None,
         UserPrimitive::MessageServiceRequest(holds, job) => {
             if !holds {
                 return StepRefusal::NoMessage;
@@ -161,8 +189,8 @@ pub(crate) fn unsent(highest: u64, u: UserPrimitive) -> StepRefusal
             }
             StepRefusal::None
         }
-        UserPrimitive::EndServiceRequest(_) => StepRefusal::None,
-        UserPrimitive::EndServiceResponse(_, _) => StepRefusal::None,
+        UserPrimitive::EndServiceRequest(_, _) => StepRefusal::None,
+        UserPrimitive::EndServiceResponse(_, _, _) => StepRefusal::None,
         UserPrimitive::UserAbortServiceRequest(_, _) => StepRefusal::None,
     }
 }
@@ -178,10 +206,20 @@ pub(crate) fn called(r: Record, u: UserPrimitive) -> Outcome
             class,
             security,
         ),
-        UserPrimitive::StartServiceResponse(dsc, result) => start_response(r, dsc, result),
+        UserPrimitive::StartServiceResponse(dsc, result, holds) => start_response(
+            r,
+            dsc,
+            result,
+            holds,
+        ),
         UserPrimitive::MessageServiceRequest(_, job) => message_request(r, job),
-        UserPrimitive::EndServiceRequest(dsc) => end_request(r, dsc),
-        UserPrimitive::EndServiceResponse(dsc, result) => end_response(r, dsc, result),
+        UserPrimitive::EndServiceRequest(dsc, holds) => end_request(r, dsc, holds),
+        UserPrimitive::EndServiceResponse(dsc, result, holds) => end_response(
+            r,
+            dsc,
+            result,
+            holds,
+        ),
         UserPrimitive::UserAbortServiceRequest(given, reason) => user_abort(r, given, reason),
     }
 }

@@ -1,10 +1,12 @@
 // The events: user requests and responses, dialogue-service primitives with their parameters and user data, timer expiry, system error.
+use crate::calls::ACCEPTED;
 use crate::record::Configuration;
+use crate::record::Record;
 use control::Side;
 use control::may_start;
 ghost use mathlib.Core.Path.{_≡_};
 ghost use Rattle.machine.specs.UserData.{kindOf, modeOf, reasonOf, userDataFits};
-ghost use Rattle.machine.specs.Event.{isDsc, hasMode, qosFits, userFits, serviceFits, eventFits};
+ghost use Rattle.machine.specs.Event.{isDsc, hasMode, qosFits, answerFits, userFits, serviceFits, eventFits};
 
 // The user data of a primitive: none, not a valid PDU, or an APDU with its numbers. Message data is not held here.
 pub enum UserData {
@@ -33,13 +35,14 @@ pub struct Qos {
 pub enum UserPrimitive {
     // Mode, Class of Communication, Security Required.
     StartServiceRequest(u64, u64, u64),
-    // Result.
-    StartServiceResponse(bool, u64),
+    // Result; does the data hold a CPDLC message.
+    StartServiceResponse(bool, u64, bool),
     // Does the data hold a CPDLC message; the job.
     MessageServiceRequest(bool, u64),
-    EndServiceRequest(bool),
-    // Result.
-    EndServiceResponse(bool, u64),
+    // Does the data hold a CPDLC message.
+    EndServiceRequest(bool, bool),
+    // Result; does the data hold a CPDLC message.
+    EndServiceResponse(bool, u64, bool),
     // Is a reason given; the Reason.
     UserAbortServiceRequest(bool, u64),
 }
@@ -193,6 +196,19 @@ fn has_mode(side: Side, mode: u64) -> bool
     mode < UserPrimitive::MODES && may_start(side, is_dsc(mode))
 }
 
+// The result of a start response. Where user data may be left out, a start that is accepted has no message.
+fn answer_fits(may: bool, result: u64, holds: bool) -> bool
+    ensures { λ b. ⌜ b ≡ answerFits may result holds ⌝ }
+{
+    if may {
+        if result == ACCEPTED {
+            return !holds;
+        }
+        return result < UserPrimitive::RESULTS;
+    }
+    result < UserPrimitive::RESULTS
+}
+
 impl UserPrimitive {
     // Mode of a start request.
     pub const CPDLC: u64 = 0;
@@ -203,7 +219,7 @@ impl UserPrimitive {
 
     pub(crate) const RESULTS: u64 = 2;
 
-    pub(crate) fn fits(self, side: Side) -> bool
+    pub fn fits(self, side: Side) -> bool
         ensures { λ b. ⌜ b ≡ userFits side self ⌝ }
     {
         match self {
@@ -213,10 +229,14 @@ impl UserPrimitive {
                 }
                 class < Qos::ROUTING_CLASSES && security < Configuration::SECURITY_VALUES
             }
-            UserPrimitive::StartServiceResponse(_, result) => result < UserPrimitive::RESULTS,
+            UserPrimitive::StartServiceResponse(_, result, holds) => answer_fits(
+                Record::SPARED,
+                result,
+                holds,
+            ),
             UserPrimitive::MessageServiceRequest(_, job) => 0 < job,
-            UserPrimitive::EndServiceRequest(_) => true,
-            UserPrimitive::EndServiceResponse(_, result) => result < UserPrimitive::RESULTS,
+            UserPrimitive::EndServiceRequest(_, _) => true,
+            UserPrimitive::EndServiceResponse(_, result, _) => result < UserPrimitive::RESULTS,
             UserPrimitive::UserAbortServiceRequest(_, reason) => reason < UserData::USER_REASONS,
         }
     }

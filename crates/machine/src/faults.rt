@@ -13,7 +13,7 @@ use control::expects;
 use control::is;
 ghost use mathlib.Core.Path.{_≡_};
 ghost use Rattle.machine.specs.UserData.{abortFits};
-ghost use Rattle.machine.specs.Faults.{pduFault, sendFault, abortFault, peerFits, fromCentre, startFits, turnedAway, indicationFault, responseFault, confirmationFault, firstFault};
+ghost use Rattle.machine.specs.Faults.{pduFault, sendFault, differs, sendAllowed, abortFault, peerFits, fromCentre, startFits, turnedAway, indicationFault, responseFault, confirmationFault, firstFault};
 
 // A flag says whether the dialogue is open still, so that a D-ABORT is sent.
 pub enum Fault {
@@ -31,12 +31,15 @@ pub enum Fault {
     NotPermitted(bool),
 }
 
-// Missing, invalid, not permitted; then what is behind them. i, u: is the dialogue open for the last two.
-fn pdu_fault(fits: bool, i: bool, u: bool, apdu: UserData, behind: Fault) -> Fault
-    ensures { λ f. ⌜ f ≡ pduFault fits i u apdu behind ⌝ }
+// Missing, invalid, not permitted; then what is behind them. i, u: is the dialogue open for the last two; may: may there be none.
+fn pdu_fault(may: bool, fits: bool, i: bool, u: bool, apdu: UserData, behind: Fault) -> Fault
+    ensures { λ f. ⌜ f ≡ pduFault may fits i u apdu behind ⌝ }
 {
     let kind = apdu.kind();
     if kind == UserData::ABSENT {
+        if may {
+            return behind;
+        }
         return Fault::Missing;
     }
     if kind == UserData::NOT_VALID {
@@ -49,15 +52,22 @@ fn pdu_fault(fits: bool, i: bool, u: bool, apdu: UserData, behind: Fault) -> Fau
 }
 
 // A primitive whose PDU is to be a send.
-fn send_fault(side: Side, r: Record, p: Primitive, live: bool, apdu: UserData) -> Fault
-    ensures { λ f. ⌜ f ≡ sendFault side r p live apdu ⌝ }
+fn send_fault(side: Side, r: Record, p: Primitive, may: bool, live: bool, apdu: UserData) -> Fault
+    ensures { λ f. ⌜ f ≡ sendFault side r p may live apdu ⌝ }
 {
     let c = r.control;
     if !expects(side, c, p) {
         return Fault::NoInstruction(true);
     }
     let send = apdu.kind() == UserData::SEND;
-    pdu_fault(send, live, live, apdu, Fault::NoFault)
+    pdu_fault(may, send, live, live, apdu, Fault::NoFault)
+}
+
+// A security value that is not the one it is compared with, where they are compared.
+fn differs(compared: bool, security: u64, other: u64) -> bool
+    ensures { λ b. ⌜ b ≡ differs compared security other ⌝ }
+{
+    compared && security != other
 }
 
 // A D-ABORT or a D-P-ABORT, after which no dialogue exists.
@@ -133,14 +143,14 @@ fn indication_fault(
     if !qos.fits() {
         return Fault::Quality;
     }
-    if security != r.policy {
+    if differs(Record::SECURED, security, r.policy) {
         return Fault::Security(true);
     }
     let fits = start_fits(side, r, peer, apdu);
     if peer_fits(side, peer) {
-        return pdu_fault(fits, true, true, apdu, Fault::NoFault);
+        return pdu_fault(false, fits, true, true, apdu, Fault::NoFault);
     }
-    pdu_fault(fits, true, true, apdu, Fault::NoInstruction(true))
+    pdu_fault(false, fits, true, true, apdu, Fault::NoInstruction(true))
 }
 
 // The response to a forward: "rejected (permanent)"; for "accepted" no action is described.
@@ -151,14 +161,28 @@ fn response_fault(r: Record, result: u64, source: u64, security: u64, apdu: User
     if turned_away(result, source) {
         return Fault::TurnedAway;
     }
-    if security != r.request {
+    if differs(Record::SECURED, security, r.request) {
         return Fault::Security(open);
     }
     if open {
-        return pdu_fault(false, true, true, apdu, Fault::NoFault);
+        return pdu_fault(false, false, true, true, apdu, Fault::NoFault);
     }
     let response = apdu.kind() == UserData::FORWARD_RESPONSE;
-    pdu_fault(response, false, true, apdu, Fault::NoFault)
+    pdu_fault(false, response, false, true, apdu, Fault::NoFault)
+}
+
+// The PDU of a confirmation is a send; where user data may be left out, a start that is accepted has none.
+fn send_allowed(may: bool, live: bool, apdu: UserData) -> bool
+    ensures { λ b. ⌜ b ≡ sendAllowed may live apdu ⌝ }
+{
+    let send = apdu.kind() == UserData::SEND;
+    if may {
+        if live {
+            return false;
+        }
+        return send;
+    }
+    send
 }
 
 fn confirmation_fault(
@@ -182,11 +206,11 @@ fn confirmation_fault(
     if turned_away(result, source) {
         return Fault::TurnedAway;
     }
-    if security != r.request {
+    if differs(Record::SECURED, security, r.request) {
         return Fault::Security(open);
     }
-    let send = apdu.kind() == UserData::SEND;
-    pdu_fault(send, open, true, apdu, Fault::NoFault)
+    let send = send_allowed(Record::SPARED, open, apdu);
+    pdu_fault(Record::SPARED, send, open, true, apdu, Fault::NoFault)
 }
 
 // Does the APDU fit the originator?
@@ -223,12 +247,27 @@ pub(crate) fn first_fault(side: Side, r: Record, p: ServicePrimitive, apdu: User
             security,
             apdu,
         ),
-        ServicePrimitive::DDataIndication => send_fault(side, r, Primitive::DData, true, apdu),
-        ServicePrimitive::DEndIndication => send_fault(side, r, Primitive::DEnd, true, apdu),
+        ServicePrimitive::DDataIndication => send_fault(
+            side,
+            r,
+            Primitive::DData,
+            false,
+            true,
+            apdu,
+        ),
+        ServicePrimitive::DEndIndication => send_fault(
+            side,
+            r,
+            Primitive::DEnd,
+            Record::SPARED,
+            true,
+            apdu,
+        ),
         ServicePrimitive::DEndConfirmation(result) => send_fault(
             side,
             r,
             Primitive::DEndCnf(reply_of(result)),
+            Record::SPARED,
             result != ACCEPTED,
             apdu,
         ),

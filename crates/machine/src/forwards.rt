@@ -1,4 +1,5 @@
 // The CPDLC-forward service at both centres: Doc 9705 2.3.5.5.13.1, 2.3.5.5.2.3, 2.3.5.5.2.4 and 2.3.5.5.3.3.
+use crate::calls::security_sent;
 use crate::event::Qos;
 use crate::event::UserData;
 use crate::exceptions::closes;
@@ -25,10 +26,11 @@ const NO_VERSION: u64 = 0;
 pub(crate) fn forward_request(r: Record, class: u64, security: u64) -> Outcome
     ensures { λ o. ⌜ o ≡ forwardRequest r class security ⌝ }
 {
+    let asked = security_sent(Record::SECURED, security);
     let mut n = r;
     n.timer = true;
     n.active = true;
-    n.request = security;
+    n.request = asked;
     let q = Qos {
         priority: Qos::HIGH_PRIORITY,
         rer: Qos::LOW_ERROR_RATE,
@@ -39,7 +41,7 @@ pub(crate) fn forward_request(r: Record, class: u64, security: u64) -> Outcome
     let next = n.enter(forwarding(c));
     Outcome::taken(
         next,
-        Invoked::DStartForwardRequest(q, security, version),
+        Invoked::DStartForwardRequest(q, asked, version),
         Told::Untold,
         UserData::Forward,
         false,
@@ -50,10 +52,11 @@ pub(crate) fn forward_request(r: Record, class: u64, security: u64) -> Outcome
 fn responds(r: Record, result: u64, security: u64, version: u64, t: Told) -> Outcome
     ensures { λ o. ⌜ o ≡ responds r result security version t ⌝ }
 {
+    let answered = security_sent(Record::SECURED, security);
     let n = r.enter(Control::CLOSED);
     Outcome::taken(
         n,
-        Invoked::DStartForwardResponse(security, version),
+        Invoked::DStartForwardResponse(answered, version),
         t,
         UserData::ForwardResponse(result),
         false,

@@ -16,6 +16,9 @@ use control::Side;
 use control::takes;
 use control::takes_forward;
 use event::Event;
+use event::ServicePrimitive;
+use event::UserData;
+use event::UserPrimitive;
 use exceptions::system_error;
 use exceptions::timer_expires;
 use forwards::forward_request;
@@ -86,6 +89,52 @@ pub fn step_fitting(side: Side, r: Record, e: Event) -> Outcome
     } else {
         Outcome::refused(why, r)
     }
+}
+
+// The same of one kind of event each, so that a caller who knows the kind pays for no other.
+pub fn user_fitting(side: Side, r: Record, u: UserPrimitive) -> Outcome
+    ensures { λ o. ⌜ o ≡ stepFitting side r (Event.User u) ⌝ }
+{
+    let c = r.control;
+    if takes(side, c, call_of(u)) {
+        let why = unsent(r.highest, u);
+        if why.is_none() {
+            return called(r, u);
+        }
+        return Outcome::refused(why, r);
+    }
+    Outcome::refused(StepRefusal::Prohibited, r)
+}
+
+pub fn forward_fitting(side: Side, r: Record, class: u64, security: u64) -> Outcome
+    ensures { λ o. ⌜ o ≡ stepFitting side r (Event.Forward class security) ⌝ }
+{
+    let c = r.control;
+    if takes_forward(side, c) {
+        return forward_request(r, class, security);
+    }
+    Outcome::refused(StepRefusal::Prohibited, r)
+}
+
+pub fn service_fitting(side: Side, r: Record, p: ServicePrimitive, apdu: UserData) -> Outcome
+    ensures { λ o. ⌜ o ≡ stepFitting side r (Event.Service p apdu) ⌝ }
+{
+    reached(side, r, p, apdu)
+}
+
+pub fn timer_fitting(side: Side, r: Record) -> Outcome
+    ensures { λ o. ⌜ o ≡ stepFitting side r Event.TimerExpires ⌝ }
+{
+    if r.timer {
+        return timer_expires(r);
+    }
+    Outcome::refused(StepRefusal::Prohibited, r)
+}
+
+pub fn error_fitting(side: Side, r: Record) -> Outcome
+    ensures { λ o. ⌜ o ≡ stepFitting side r Event.UnrecoverableSystemError ⌝ }
+{
+    system_error(r)
 }
 
 // One event at one machine.

@@ -40,6 +40,10 @@ impl Configuration {
 
 impl Record {
     pub const NO_SECURITY: u64 = 0;
+    // Are security values compared?
+    pub(crate) const SECURED: bool = true;
+    // May user data be left out where there is no message?
+    pub(crate) const SPARED: bool = false;
 
     // IDLE, DSC false, timer stopped, user not active, highest job 0, request value "no security".
     pub fn fresh(g: Configuration) -> Record

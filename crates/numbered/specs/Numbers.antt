@@ -21,10 +21,10 @@ use Rattle.machine.specs.declared.outcome.Outcome.{Outcome}
 -- "a user start"
 unfoldable pub userStarts : UserPrimitive → Bool
 userStarts (StartServiceRequest m k s) = true
-userStarts (StartServiceResponse m x) = false
+userStarts (StartServiceResponse m x h) = false
 userStarts (MessageServiceRequest h j) = false
-userStarts (EndServiceRequest m) = false
-userStarts (EndServiceResponse m x) = false
+userStarts (EndServiceRequest m h) = false
+userStarts (EndServiceResponse m x h) = false
 userStarts (UserAbortServiceRequest g x) = false
 
 -- "a D-START indication"

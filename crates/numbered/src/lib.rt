@@ -15,10 +15,10 @@ fn user_starts(u: UserPrimitive) -> bool
 {
     match u {
         UserPrimitive::StartServiceRequest(_, _, _) => true,
-        UserPrimitive::StartServiceResponse(_, _) => false,
+        UserPrimitive::StartServiceResponse(_, _, _) => false,
         UserPrimitive::MessageServiceRequest(_, _) => false,
-        UserPrimitive::EndServiceRequest(_) => false,
-        UserPrimitive::EndServiceResponse(_, _) => false,
+        UserPrimitive::EndServiceRequest(_, _) => false,
+        UserPrimitive::EndServiceResponse(_, _, _) => false,
         UserPrimitive::UserAbortServiceRequest(_, _) => false,
     }
 }
@@ -96,4 +96,38 @@ pub fn step(side: Side, r: Record, held: u64, e: Event, brought: u64) -> Outcome
         return Outcome::refused(StepRefusal::Stale, r);
     }
     machine::step_fitting(side, r, e)
+}
+
+// A user primitive. A start brings a number; another brings none.
+pub fn user_step(side: Side, r: Record, held: u64, u: UserPrimitive, brought: u64) -> Outcome
+    ensures { λ o. ⌜ o ≡ numberedStep side r held (Event.User u) brought ⌝ }
+{
+    if !u.fits(side) {
+        return Outcome::refused(StepRefusal::Shape, r);
+    }
+    if is_stale(held, Event::User(u), brought) {
+        return Outcome::refused(StepRefusal::Stale, r);
+    }
+    machine::user_fitting(side, r, u)
+}
+
+// A forward request, which is a start.
+pub fn forward_step(
+    side: Side,
+    r: Record,
+    held: u64,
+    class: u64,
+    security: u64,
+    brought: u64,
+) -> Outcome
+    ensures { λ o. ⌜ o ≡ numberedStep side r held (Event.Forward class security) brought ⌝ }
+{
+    let e = Event::Forward(class, security);
+    if !e.fits(side) {
+        return Outcome::refused(StepRefusal::Shape, r);
+    }
+    if is_stale(held, e, brought) {
+        return Outcome::refused(StepRefusal::Stale, r);
+    }
+    machine::forward_fitting(side, r, class, security)
 }

@@ -20,11 +20,11 @@ use Rattle.machine.specs.declared.event.UserData.the-variants.{Absent, NotValid
 use Rattle.machine.specs.declared.outcome.Invoked.the-variants.{DDataRequest, DEndRequest, DAbortRequest}
 use Rattle.pair.specs.Names.{Side, Air, Ground, Dialogue, End, entered, closed}
 use Rattle.pair.specs.Carrier.{Body, user-call, hand-over, timer-expires, Turn}
-use Rattle.pair.proofs.OneDialogue.{Sys, fresh, run}
+use Rattle.pair.proofs.OneDialogue.{Sys, fresh, run, isNil}
 use Rattle.pair.proofs.StepMachine.{Read, got, fault, Codec, Order, start-request, start-response, message-request, end-request, stepMachine, freshWith}
 
 abbrev fits : Side → UserData → Body → Bool
-fits sd Absent b = false
+fits sd Absent b = isNil b
 fits sd NotValid b = false
 fits sd (Start m) b = true
 fits sd Send b = true
@@ -44,7 +44,7 @@ enc sd Forward b = []
 enc sd (ForwardResponse x) b = []
 
 abbrev dec : Side → List ℕ → Read
-dec sd [] = fault
+dec sd [] = got Absent []
 dec sd (t ∷ []) = fault
 dec sd (t ∷ (x ∷ b)) =
     cond (eqb t 1) (got (Start (eqb x 1)) b)
@@ -53,7 +53,8 @@ dec sd (t ∷ (x ∷ b)) =
     (cond (eqb t 4) (got (AbortProvider x) b) fault)))
 
 pub back : (sd : Side) (a : UserData) (b : Body) → T (fits sd a b) → dec sd (enc sd a b) ≡ got a b
-back sd Absent b t = absurd t
+back sd Absent [] t = refl
+back sd Absent (x ∷ b) t = absurd t
 back sd NotValid b t = absurd t
 back sd (Start true) b t = refl
 back sd (Start false) b t = refl

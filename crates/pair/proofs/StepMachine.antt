@@ -35,8 +35,8 @@ pub data Read : Type 0 where
   got : UserData → Body → Read
   fault : Read
 
--- all that the pair needs to know of the codec. A side writes its own PDUs: fits, are the data within document 01's sizes;
--- carries, is there a CPDLC message in them
+-- all that the pair needs to know of the codec. A side writes its own PDUs, or no user data, which is no bytes: fits, are the data within
+-- document 01's sizes; carries, is there a CPDLC message in them
 pub record Codec : Type 0 where
   pub fits : Side → UserData → Body → Bool
   pub enc : Side → UserData → Body → List ℕ
@@ -102,10 +102,10 @@ pub data Order : Type 0 where
 -- every start asks for the security value p
 abbrev pub asked : Codec → ℕ → Order → UserPrimitive
 asked K p (start-request m k b) = StartServiceRequest m k p
-asked K p (start-response m x b) = StartServiceResponse m x
+asked K p (start-response m x b) = StartServiceResponse m x (K .carries b)
 asked K p (message-request b j) = MessageServiceRequest (K .carries b) j
-asked K p (end-request m b) = EndServiceRequest m
-asked K p (end-response m x b) = EndServiceResponse m x
+asked K p (end-request m b) = EndServiceRequest m (K .carries b)
+asked K p (end-response m x b) = EndServiceResponse m x (K .carries b)
 asked K p (user-abort g x) = UserAbortServiceRequest g x
 
 abbrev pub dataOf : Order → Body

@@ -19,15 +19,15 @@ use Rattle.fields.specs.declared.Field.{Field}
 use Rattle.fields.specs.declared.Field.the-variants.{Value, Refused}
 use Rattle.fields.proofs.RoundTrip.{bit-field}
 use Rattle.fields.proofs.Widths.{width-within}
-use Rattle.places.specs.Claims.{Seen, went, refused, Alike, Settled, Placed, Refusing, Sound, seenField}
-use Rattle.places.proofs.Readers.{clash, one-place, one-refusal, sound-value, refusing-bind, sound-bind, sound-cond, after-field, then-sound, bit-sound, judged, whole-sound, whole-cut, index-sound, string-sound, additions-sound}
+use Rattle.places.specs.Claims.{Seen, went, refused, Alike, FieldAt, Placed, Refusing, Sound, seenField}
+use Rattle.places.proofs.Readers.{clash, one-place, one-refusal, sound-value, refusing-bind, sound-bind, sound-cond, after-field, then-sound, bit-sound, judged, whole-sound, whole-place, whole-cut, index-sound, string-sound, additions-sound}
 use Rattle.apdu.specs.Sizes.{identifierLeast, identifierMost, messageMost, checkMost, userLast, providerLast, modeLast, octet, bit}
 use Rattle.apdu.specs.Headings.{triple, dateFrom, dateTo, timeFrom, timeTo, charactersLeast, charactersMost, character, addressBits, directionLast, responseLast}
 use Rattle.apdu.specs.Pdus.{lastOf, kindOf}
 use Rattle.apdu.specs.Encoding.{padding}
 use Rattle.apdu.specs.Reading.{onData, onTaken, onTriple, onHeading, onForward, onLead, optionalAt, partAt, spanTo, partsWithin, partsAt, withAdditions, dataWithin, dataAt, tripleAt, headingAt, forwardWithin, forwardAt, modeValue, modeAt, kindMode, leadingAt, tailAt, endedAt, restWithin, restAt, apduWithin, apduAt, wholeWithin, wholeData, wholeForwardWithin, wholeForward}
-use Rattle.apdu.specs.declared.PduType.{PduType}
-use Rattle.apdu.specs.declared.PduType.the-variants.{AircraftPdus, GroundPdus}
+use Rattle.pdus.specs.declared.PduType.{PduType}
+use Rattle.pdus.specs.declared.PduType.the-variants.{AircraftPdus, GroundPdus}
 use Rattle.apdu.specs.declared.Kind.{Kind}
 use Rattle.apdu.specs.declared.Kind.the-variants as kind
 use Rattle.apdu.specs.declared.Data.{Data}
@@ -134,7 +134,9 @@ mode-value-sound l at h =
     (whole-sound l at 0 modeLast (omega arith) h)
     (λ (v n : ℕ) (p : not (eqb v 0) ≡ true). by true v n (eqb v 0) p)
     (λ (v n : ℕ) (p : not (eqb v 0) ≡ false). by false v n (eqb v 0) p)
-    (λ (v n : ℕ) (e : wholeNumber l at 0 modeLast ≡ Value v n) (p : not (eqb v 0) ≡ false). whole-cut l at 0 modeLast h (omega arith))
+    (λ (t : Default ≡ Short). never (cc))
+    (λ (v n : ℕ) (e : wholeNumber l at 0 modeLast ≡ Value v n) (p : not (eqb v 0) ≡ false). let q = whole-place l at 0 modeLast v n e in omega arith)
+    (whole-cut l at 0 modeLast)
   where
     by : (t : Bool) (v n : ℕ) (z : Bool) → not z ≡ t → cond z (refusedAt at Default) (Value v n) ≡ cond t (Value v n) (refusedAt at Default)
     by true v n true p = never (cc)
@@ -196,7 +198,7 @@ tail-refusing l at b h r e = by (bitField l at (padding at)) refl
     there : (p : ℕ) → at ≤ p → p ≤ length l → seenField (tailAt l at) ≡ refused (refusal p Tail) → Placed seenField (λ (x : List ℕ). tailAt x at) l at r
     there p a w q =
         subst (λ (z : Refusal). Placed seenField (λ (x : List ℕ). tailAt x at) l at z) (one-refusal (refusal p Tail) r (sym q ∙ told))
-        (record { after = a; within = w; begins = λ (t : Tail ≡ Tail → ⊥). absurd (t refl); settled = λ (t : Tail ≡ Short → ⊥) (u : Tail ≡ Tail → ⊥). absurd (u refl) })
+        (record { after = a; within = w; field = λ (t : Tail ≡ Tail → ⊥). absurd (t refl) })
       where
         told : seenField (tailAt l at) ≡ refused r
         told = e
@@ -259,10 +261,15 @@ behind-refusing {A} seen up says made place is l at b h r e = go (tailAt l at) r
         record {
           after = p .after;
           within = p .within;
-          begins = λ (t : r .fault ≡ Tail → ⊥). lift (tailAt (take (r .at) l) at) (refusal (r .at) Short) (p .begins t);
-          settled = λ (t : r .fault ≡ Short → ⊥) (u : r .fault ≡ Tail → ⊥).
-              let c = p .settled t u in
-              record { end = c .end; behind = c .behind; within = c .within; same = λ (m : List ℕ) (k : Alike (c .end) l m). ap (λ (x : Field). onto up x (λ (v n : ℕ). made)) (c .same m k) };
+          field = λ (t : r .fault ≡ Tail → ⊥).
+              let c = p .field t in
+              record {
+                end = c .end;
+                behind = c .behind;
+                cut = λ (k : ℕ) (i : r .at ≤ k) (j : k < c .end) (w : k ≤ length l). lift (tailAt (take k l) at) (refusal (r .at) Short) (c .cut k i j w);
+                same = λ (w : c .end ≤ length l) (m : List ℕ) (k : Alike (c .end) l m). ap (λ (x : Field). onto up x (λ (v n : ℕ). made)) (c .same w m k);
+                short = c .short;
+              };
         }
 
 ended-refusing : (l : List ℕ) (at : ℕ) (a : Apdu) → Bits l → at ≤ length l → Refusing seenAnswer (λ (x : List ℕ). endedAt x at a) l at
@@ -397,7 +404,7 @@ rest-refusing l kind.ForwardResponse m at b h =
     answer-field (λ (x : List ℕ). extensibleIndex x at responseLast) (λ (r n : ℕ) (x : List ℕ). endedAt x n (apdu.ForwardResponse r)) l at (index-sound l at responseLast h)
     (λ (r n : ℕ) (e : extensibleIndex l at responseLast ≡ Value r n) (a : at ≤ n) (w : n ≤ length l). ended-refusing l n (apdu.ForwardResponse r) b w)
 
--- AN APDU THAT IS REFUSED: its place is within the bits, a field begins there, and bits behind the field do not matter
+-- AN APDU THAT IS REFUSED: its place is within the bits, the field with the fault begins there, and bits behind that field do not matter
 pub apdu-refusing : (pdus : PduType) (l : List ℕ) → Bits l → Refusing seenAnswer (λ (x : List ℕ). apduAt pdus x 0) l 0
 unfolding apduWithin
 apdu-refusing pdus l b =

@@ -27,7 +27,7 @@ use Rattle.apdu.specs.Pdus.{Content, contentIn}
 use Rattle.apdu.specs.Encoding.{rootBits, alternative, modeBits, padded}
 use Rattle.apdu.specs.Reading.{tailAt, apduAt}
 use Rattle.apdu.specs.Stripped.{rootEnd, extended}
-use Rattle.apdu.specs.declared.PduType.{PduType}
+use Rattle.pdus.specs.declared.PduType.{PduType}
 use Rattle.apdu.specs.declared.Kind.the-variants as kind
 use Rattle.apdu.specs.declared.Data.{Data}
 use Rattle.apdu.specs.declared.Apdu.the-variants as apdu

@@ -33,7 +33,7 @@ use Rattle.kinds.specs.Elements.{kindOf}
 use Rattle.elements.specs.Arguments.{lowest, highest, numberInUnit, levelTypeAt, noType, ontoType, secondOf, levelAt, minutesOf, timeAt, noCode, isCode, digit, codeAt, freeTextAt, designationAt, facilityAt, atisAt}
 use Rattle.elements.specs.OneElement.{bare, noLevel, withLevels, withTime, withCode, withCharacters, isElement, noElement, ontoLevel, ontoTime, ontoStep, charactersOf, levelArgument, twoLevelsArgument, timeArgument, codeArgument, argumentAt, lastOf, elementAt}
 use Rattle.places.specs.Claims.{Seen, went, refused, Sound, seenField}
-use Rattle.places.proofs.Readers.{never, clash, one-place, one-refusal, sound-value, sound-bind, sound-cond, after-field, then-sound, judged, moved, extension-sound, extension-place, whole-sound, whole-cut, run-sound, sized-sound}
+use Rattle.places.proofs.Readers.{never, clash, one-place, one-refusal, sound-value, sound-bind, sound-cond, after-field, then-sound, judged, extension-sound, extension-place, whole-sound, whole-place, whole-cut, run-sound, sized-sound}
 
 -- ---- what the answers tell
 
@@ -249,7 +249,9 @@ module _ (d : Direction) where
       judged (λ (m : List ℕ). wholeNumber m p 0 (lastOf d)) (judges p) (λ (i : ℕ). carried (kindOf d i)) (λ (i : ℕ). i) NotCarried l p w (whole-sound l p 0 (lastOf d) (omega arith) w)
       (λ (v n : ℕ) (q : carried (kindOf d v) ≡ true). ap (λ (t : Bool). cond t (Value v n) (refusedAt p NotCarried)) q)
       (λ (v n : ℕ) (q : carried (kindOf d v) ≡ false). ap (λ (t : Bool). cond t (Value v n) (refusedAt p NotCarried)) q)
-      (λ (v n : ℕ) (f : wholeNumber l p 0 (lastOf d) ≡ Value v n) (q : carried (kindOf d v) ≡ false). whole-cut l p 0 (lastOf d) w index-wide))
+      (λ (t : NotCarried ≡ Short). never (cc))
+      (λ (v n : ℕ) (f : wholeNumber l p 0 (lastOf d) ≡ Value v n) (q : carried (kindOf d v) ≡ false). let i = whole-place l p 0 (lastOf d) v n f in let j = index-wide in omega arith)
+      (whole-cut l p 0 (lastOf d)))
 
   not-carried-kind : (k : ArgumentKind) (i index : ℕ) (l : List ℕ) (at : ℕ) → carried k ≡ false → argumentAt k i index l at ≡ noElement (refusal index NotCarried)
   unfolding argumentAt carried

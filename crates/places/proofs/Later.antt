@@ -21,7 +21,7 @@ use Rattle.apdu.specs.Sizes.{identifierLeast, identifierMost, messageMost, chec
 use Rattle.apdu.specs.Pdus.{Optional, Content, Pdu, start, send, lastOf, kindOf, contentIn, pduIn}
 use Rattle.apdu.specs.Encoding.{stringBits, stringFits, optionalBits, optionalFits, presence, rootBits, contentFits, alternative, modeBits, modeFits, pduFits, padded, padding}
 use Rattle.apdu.specs.Reading.{onTaken, spanTo, partAt, optionalAt, partsWithin, partsAt, withAdditions, dataWithin, dataAt, kindMode, leadingAt, tailAt, endedAt, restWithin, apduWithin, apduAt}
-use Rattle.apdu.specs.declared.PduType.{PduType}
+use Rattle.pdus.specs.declared.PduType.{PduType}
 use Rattle.apdu.specs.declared.Data.{Data}
 use Rattle.apdu.specs.declared.Apdu.{Apdu}
 use Rattle.apdu.specs.declared.Apdu.the-variants as apdu

@@ -34,8 +34,8 @@ use Rattle.inner.specs.declared.values.MessageRead.{MessageRead}
 use Rattle.inner.specs.Headers.{ontoTimeOfDay, timeOfDayAt, dateTimeAt, referenceAt, acknowledgementAt, ontoDate, headerOf, datedAt, headerAt}
 use Rattle.inner.specs.Places.{Row, these, refused as rowRefused, after, ontoRow, rowAt, laid}
 use Rattle.inner.specs.Messages.{noMessage, messageOf, ontoHeader, bodyAt, messageAt, endedAt, exactly}
-use Rattle.places.specs.Claims.{Seen, went, refused, Alike, Went, Settled, Placed, Refusing, Sound, seenField}
-use Rattle.places.proofs.Readers.{never, clash, one-place, one-refusal, sound-value, refusing-bind, sound-bind, sound-cond, judged, whole-sound, whole-cut}
+use Rattle.places.specs.Claims.{Seen, went, refused, Alike, Went, FieldAt, Placed, Refusing, Sound, seenField}
+use Rattle.places.proofs.Readers.{never, clash, one-place, one-refusal, sound-value, refusing-bind, sound-bind, sound-cond, judged, whole-sound, whole-place, whole-cut}
 use Rattle.places.proofs.Elements.{seenTime, seenStep, seenElement, onto-sound, time-sound, element-sound}
 
 -- ---- what the answers tell
@@ -67,10 +67,15 @@ sound-map {A} {B} seenA seenB g same rd l at s =
           record {
             after = p .after;
             within = p .within;
-            begins = λ (t : r .fault ≡ Tail → ⊥). same (rd (take (r .at) l)) ∙ p .begins t;
-            settled = λ (t : r .fault ≡ Short → ⊥) (u : r .fault ≡ Tail → ⊥).
-                let c = p .settled t u in
-                record { end = c .end; behind = c .behind; within = c .within; same = λ (m : List ℕ) (a : Alike (c .end) l m). ap g (c .same m a) };
+            field = λ (t : r .fault ≡ Tail → ⊥).
+                let c = p .field t in
+                record {
+                  end = c .end;
+                  behind = c .behind;
+                  cut = λ (k : ℕ) (i : r .at ≤ k) (j : k < c .end) (w : k ≤ length l). same (rd (take k l)) ∙ c .cut k i j w;
+                  same = λ (w : c .end ≤ length l) (m : List ℕ) (a : Alike (c .end) l m). ap g (c .same w m a);
+                  short = c .short;
+                };
           };
     }
 
@@ -114,9 +119,9 @@ unfolding referenceAt
 reference-sound l at b h =
     sound-cond seenField b (λ (m : List ℕ). wholeNumber m at 0 63) (λ (m : List ℕ). Value 0 at) l at (λ (e : b ≡ true). whole-sound l at 0 63 (omega arith) h) (λ (e : b ≡ false). sound-value seenField (Value 0 at) l at h refl)
 
-one-wide : 0 < digitsIn 64 (1 - 0)
+one-moved : (l : List ℕ) (at v n : ℕ) → wholeNumber l at 0 1 ≡ Value v n → at < n
 unfolding digitsIn
-one-wide = omega arith
+one-moved l at v n e = let p = whole-place l at 0 1 v n e in omega arith
 
 pub acknowledgement-sound : (l : List ℕ) (at : ℕ) (b : Bool) → at ≤ length l → Sound seenField (λ (m : List ℕ). acknowledgementAt m at b) l at
 unfolding acknowledgementAt
@@ -126,7 +131,9 @@ acknowledgement-sound l at b h =
     judged (λ (m : List ℕ). wholeNumber m at 0 1) (λ (v n : ℕ). cond (eqb v 0) (Value 0 n) (refusedAt at Default)) (λ (v : ℕ). eqb v 0) (λ (v : ℕ). 0) Default l at h (whole-sound l at 0 1 (omega arith) h)
     (λ (v n : ℕ) (p : eqb v 0 ≡ true). ap (λ (t : Bool). cond t (Value 0 n) (refusedAt at Default)) p)
     (λ (v n : ℕ) (p : eqb v 0 ≡ false). ap (λ (t : Bool). cond t (Value 0 n) (refusedAt at Default)) p)
-    (λ (v n : ℕ) (f : wholeNumber l at 0 1 ≡ Value v n) (p : eqb v 0 ≡ false). whole-cut l at 0 1 h one-wide))
+    (λ (t : Default ≡ Short). never (cc))
+    (λ (v n : ℕ) (f : wholeNumber l at 0 1 ≡ Value v n) (p : eqb v 0 ≡ false). one-moved l at v n f)
+    (whole-cut l at 0 1))
     (λ (e : b ≡ false). sound-value seenField (Value 0 at) l at h refl)
 
 pub dated-sound : (i : ℕ) (r : Bool) (n : ℕ) (a : Bool) (l : List ℕ) (at : ℕ) → at ≤ length l → Sound seenHeader (λ (m : List ℕ). datedAt m i r n a at) l at
@@ -215,7 +222,9 @@ barred-sound l at h =
     judged (λ (m : List ℕ). wholeNumber m at 0 1) (λ (c p : ℕ). cond (eqb c 0) (Value c p) (refusedAt at NotCarried)) (λ (c : ℕ). eqb c 0) (λ (c : ℕ). c) NotCarried l at h (whole-sound l at 0 1 (omega arith) h)
     (λ (v n : ℕ) (p : eqb v 0 ≡ true). ap (λ (t : Bool). cond t (Value v n) (refusedAt at NotCarried)) p)
     (λ (v n : ℕ) (p : eqb v 0 ≡ false). ap (λ (t : Bool). cond t (Value v n) (refusedAt at NotCarried)) p)
-    (λ (v n : ℕ) (f : wholeNumber l at 0 1 ≡ Value v n) (p : eqb v 0 ≡ false). whole-cut l at 0 1 h one-wide)
+    (λ (t : NotCarried ≡ Short). never (cc))
+    (λ (v n : ℕ) (f : wholeNumber l at 0 1 ≡ Value v n) (p : eqb v 0 ≡ false). one-moved l at v n f)
+    (whole-cut l at 0 1)
 
 pub body-sound : (d : Direction) (h : Header) (l : List ℕ) (at : ℕ) → at ≤ length l → Sound seenMessage (λ (m : List ℕ). bodyAt d m h at) l at
 unfolding counted
@@ -242,7 +251,7 @@ message-sound d l at h =
     go (header.Got x j) e n q a b = let i : j ≡ n = one-place j n q in subst (λ (z : ℕ). Sound seenMessage (λ (m : List ℕ). bodyAt d m x j) l z) i (body-sound d x l j (omega arith))
     go (header.Refused r) e n q a b = clash n r (sym q)
 
--- A MESSAGE THAT IS REFUSED: its place is within the bits, a field begins there, and bits behind the field do not matter; TAIL is at the first bit left over
+-- A MESSAGE THAT IS REFUSED: its place is within the bits, the field with the fault begins there, and bits behind that field do not matter; TAIL is at the first bit left over
 pub exactly-refusing : (d : Direction) (l : List ℕ) → Refusing seenMessage (exactly d) l 0
 unfolding exactly
 exactly-refusing d l =
@@ -258,7 +267,7 @@ exactly-refusing d l =
     left x n r true p e =
         let w : n + 1 ≤ length l = leb-true _ _ p in
         subst (λ (z : Refusal). Placed seenMessage (λ (m : List ℕ). endedAt m x (step.Next n)) l n z) (one-refusal (refusal n Tail) r e)
-        (record { after = omega arith; within = omega arith; begins = λ (t : Tail ≡ Tail → ⊥). absurd (t refl); settled = λ (t : Tail ≡ Short → ⊥) (u : Tail ≡ Tail → ⊥). absurd (u refl) })
+        (record { after = omega arith; within = omega arith; field = λ (t : Tail ≡ Tail → ⊥). absurd (t refl) })
     left x n r false p e = clash n r e
 
     go : (s : Step) (x : Message) (n : ℕ) → seenStep s ≡ went n → Refusing seenMessage (λ (m : List ℕ). endedAt m x s) l n

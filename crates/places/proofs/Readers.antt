@@ -24,7 +24,7 @@ use Rattle.fields.specs.declared.Fault.the-variants.{Short, Range, Extension, L
 use Rattle.fields.specs.declared.Refusal.{Refusal}
 use Rattle.fields.specs.declared.Field.{Field}
 use Rattle.fields.specs.declared.Field.the-variants.{Value, Refused}
-use Rattle.places.specs.Claims.{Seen, went, refused, Alike, Went, Settled, Placed, Refusing, Sound, seenField}
+use Rattle.places.specs.Claims.{Seen, went, refused, Alike, Went, FieldAt, Placed, Refusing, Sound, seenField}
 
 -- ---- over any reader
 
@@ -65,16 +65,6 @@ placed-sound seen rd l at r told p =
       place = λ (q : Refusal) (h : seen (rd l) ≡ refused q). subst (λ (z : Refusal). Placed seen rd l at z) (one-refusal r q (sym told ∙ h)) p;
     }
 
--- a reader that answers otherwise in the bits before it has moved
-pub moved : {A : Type 0} (rd : List ℕ → A) (l : List ℕ) (at n : ℕ) → Went rd l at n → (rd (take at l) ≡ rd l → ⊥) → at < n
-moved rd l at n w c =
-    let a = w .after in
-    let b = w .within in
-    elim (decLt at n) [
-      | yes g ↦ g
-      | no g ↦ absurd (c (w .same (take at l) (alike-cut n at l (omega arith) (omega arith))))
-    ]
-
 -- a value that is not looked for in the bits
 pub sound-value : {A : Type 0} (seen : A → Seen) (x : A) (l : List ℕ) (n : ℕ) → n ≤ length l → seen x ≡ went n → Sound seen (λ (m : List ℕ). x) l n
 sound-value seen x l n w e = went-sound seen (λ (m : List ℕ). x) l n n e (record { after = omega arith; within = w; same = λ (m : List ℕ) (a : Alike n l m). refl })
@@ -101,22 +91,27 @@ module _ {X A : Type 0} (seenX : X → Seen) (seenA : A → Seen) (up : Refusal 
         let b = v .after in
         record { after = omega arith; within = v .within; same = λ (m : List ℕ) (q : Alike j l m). second m j b q ∙ v .same m q }
 
-    both-settled : (p : ℕ) → n ≤ p → Settled (k (f l)) l p → Settled both l p
+    -- also where the bits are cut behind the first
+    second-cut : (j : ℕ) → n ≤ j → j ≤ length l → seenA (both (take j l)) ≡ seenA (k (f l) (take j l))
+    second-cut j h w = ap seenA (second (take j l) n (omega arith) (alike-cut n j l h w))
+
+    both-field : (r : Refusal) → n ≤ r .at → FieldAt seenA (k (f l)) l r → FieldAt seenA both l r
     unfolding both
-    both-settled p h z =
+    both-field r h z =
         let c = z .behind in
-        record { end = z .end; behind = c; within = z .within; same = λ (m : List ℕ) (q : Alike (z .end) l m). second m (z .end) (omega arith) q ∙ z .same m q }
+        record {
+          end = z .end;
+          behind = c;
+          cut = λ (j : ℕ) (a : r .at ≤ j) (b : j < z .end) (w : j ≤ length l). second-cut j (omega arith) w ∙ z .cut j a b w;
+          same = λ (w : z .end ≤ length l) (m : List ℕ) (q : Alike (z .end) l m). second m (z .end) (omega arith) q ∙ z .same w m q;
+          short = z .short;
+        }
 
     both-placed : (r : Refusal) → Placed seenA (k (f l)) l n r → Placed seenA both l at r
     both-placed r v =
         let a = first .after in
         let b = v .after in
-        record {
-          after = omega arith;
-          within = v .within;
-          begins = λ (t : r .fault ≡ Tail → ⊥). ap seenA (second (take (r .at) l) (r .at) b (alike-cut (r .at) (r .at) l (omega arith) (v .within))) ∙ v .begins t;
-          settled = λ (t : r .fault ≡ Short → ⊥) (u : r .fault ≡ Tail → ⊥). both-settled (r .at) b (v .settled t u);
-        }
+        record { after = omega arith; within = v .within; field = λ (t : r .fault ≡ Tail → ⊥). both-field r b (v .field t) }
 
   -- the first was refused
   module _ (r : Refusal) (e : seenX (f l) ≡ refused r) where
@@ -127,23 +122,24 @@ module _ {X A : Type 0} (seenX : X → Seen) (seenA : A → Seen) (up : Refusal 
     unfolding both
     stopped-as = ap seenA (hands (f l) r l e) ∙ said r
 
-    stopped-settled : Settled f l (r .at) → Settled both l (r .at)
+    -- a refusal of the first in other bits is handed up as well
+    stopped-cut : (m : List ℕ) (q : Refusal) → seenX (f m) ≡ refused q → seenA (both m) ≡ refused q
     unfolding both
-    stopped-settled z =
+    stopped-cut m q t = ap seenA (hands (f m) q m t) ∙ said q
+
+    stopped-field : FieldAt seenX f l r → FieldAt seenA both l r
+    unfolding both
+    stopped-field z =
         record {
           end = z .end;
           behind = z .behind;
-          within = z .within;
-          same = λ (m : List ℕ) (q : Alike (z .end) l m). ap (λ (x : X). k x m) (z .same m q) ∙ hands (f l) r m e ∙ sym (hands (f l) r l e);
+          cut = λ (j : ℕ) (a : r .at ≤ j) (b : j < z .end) (w : j ≤ length l). stopped-cut (take j l) (refusal (r .at) Short) (z .cut j a b w);
+          same = λ (w : z .end ≤ length l) (m : List ℕ) (q : Alike (z .end) l m). ap (λ (x : X). k x m) (z .same w m q) ∙ hands (f l) r m e ∙ sym (hands (f l) r l e);
+          short = z .short;
         }
 
-    stopped-cut : (r .fault ≡ Tail → ⊥) → seenA (both (take (r .at) l)) ≡ refused (refusal (r .at) Short)
-    unfolding both
-    stopped-cut t = ap seenA (hands (f (take (r .at) l)) (refusal (r .at) Short) (take (r .at) l) (stopped .begins t)) ∙ said (refusal (r .at) Short)
-
     stopped-placed : Placed seenA both l at r
-    stopped-placed =
-        record { after = stopped .after; within = stopped .within; begins = stopped-cut; settled = λ (t : r .fault ≡ Short → ⊥) (u : r .fault ≡ Tail → ⊥). stopped-settled (stopped .settled t u) }
+    stopped-placed = record { after = stopped .after; within = stopped .within; field = λ (t : r .fault ≡ Tail → ⊥). stopped-field (stopped .field t) }
 
   pub refusing-bind : ((n : ℕ) → seenX (f l) ≡ went n → at ≤ n → n ≤ length l → Refusing seenA (k (f l)) l n) → Refusing seenA (λ (m : List ℕ). k (f m) m) l at
   unfolding both
@@ -197,6 +193,37 @@ pub then-sound : (f : List ℕ → Field) (k : ℕ → ℕ → List ℕ → Fiel
 then-sound f k l at s on =
     after-field seenField Refused then (λ (r : Refusal). refl) (λ (v n : ℕ) (c : ℕ → ℕ → Field). refl) (λ (r : Refusal) (c : ℕ → ℕ → Field). refl) f k l at s on
 
+-- ---- a field that is missing, and one that has another fault
+
+pub missing-placed : {A : Type 0} (seen : A → Seen) (rd : List ℕ → A) (l : List ℕ) (at : ℕ) → at ≤ length l → ((k : ℕ) → at ≤ k → k ≤ length l → seen (rd (take k l)) ≡ refused (refusal at Short)) → Placed seen rd l at (refusal at Short)
+missing-placed seen rd l at h c =
+    record {
+      after = omega arith;
+      within = h;
+      field = λ (t : Short ≡ Tail → ⊥). record {
+        end = length l + 1;
+        behind = omega arith;
+        cut = λ (k : ℕ) (a : at ≤ k) (b : k < length l + 1) (w : k ≤ length l). c k a w;
+        same = λ (w : length l + 1 ≤ length l). absurd (omega arith);
+        short = (λ (e : Short ≡ Short). omega arith, λ (w : length l < length l + 1). refl);
+      };
+    }
+
+pub faulty-placed : {A : Type 0} (seen : A → Seen) (rd : List ℕ → A) (l : List ℕ) (at n : ℕ) (why : Fault) → (why ≡ Short → ⊥) → at < n → n ≤ length l → ((m : List ℕ) → Alike n l m → rd m ≡ rd l)
+    → ((k : ℕ) → at ≤ k → k < n → k ≤ length l → seen (rd (take k l)) ≡ refused (refusal at Short)) → Placed seen rd l at (refusal at why)
+faulty-placed seen rd l at n why faulty b w s c =
+    record {
+      after = omega arith;
+      within = omega arith;
+      field = λ (t : why ≡ Tail → ⊥). record {
+        end = n;
+        behind = b;
+        cut = c;
+        same = λ (g : n ≤ length l). s;
+        short = (λ (e : why ≡ Short). absurd (faulty e), λ (g : length l < n). absurd (omega arith));
+      };
+    }
+
 -- ---- the primitive readers
 
 -- a part that ends before e is the same among the first e
@@ -214,35 +241,36 @@ bits-alike l m at w n h g a =
     let k = a .long in
     rw (le-leb (at + w) (length m) (omega arith), le-leb (at + w) (length l) (omega arith), p)
 
--- a field of some bits is not there in the bits before it
-bits-cut : (l : List ℕ) (at w : ℕ) → at ≤ length l → 0 < w → bitField (take at l) at w ≡ refusedAt at Short
+-- a field of w bits is missing in bits that end before its end
+bits-cut : (l : List ℕ) (at w k : ℕ) → k ≤ length l → k < at + w → bitField (take k l) at w ≡ refusedAt at Short
 unfolding bitField readBits
-bits-cut l at w h pos =
-    let k : length (take at l) ≡ at = length-take-le at l h in
-    let e : leb (at + w) (length (take at l)) ≡ false = lt-leb (at + w) (length (take at l)) (omega arith) in
+bits-cut l at w k h b =
+    let n : length (take k l) ≡ k = length-take-le k l h in
+    let e : leb (at + w) (length (take k l)) ≡ false = lt-leb (at + w) (length (take k l)) (omega arith) in
     go (leb w 64) _ e
   where
-    go : (t c : Bool) → c ≡ false → fieldOf at (cond (t && c) (read.Number (numOf (take w (drop at (take at l)))) (at + w)) read.Short) ≡ refusedAt at Short
+    go : (t c : Bool) → c ≡ false → fieldOf at (cond (t && c) (read.Number (numOf (take w (drop at (take k l)))) (at + w)) read.Short) ≡ refusedAt at Short
     go true true q = never (cc)
     go true false q = refl
     go false c q = refl
 
-short-cut : (l : List ℕ) (at w : ℕ) → at ≤ length l → readBits l at w ≡ read.Short → bitField (take at l) at w ≡ refusedAt at Short
+-- a field that is missing in the bits is missing in what is left of them
+short-cut : (l : List ℕ) (at w k : ℕ) → k ≤ length l → readBits l at w ≡ read.Short → bitField (take k l) at w ≡ refusedAt at Short
 unfolding bitField readBits
-short-cut l at w h e = go (leb w 64) (leb (at + w) (length l)) refl e (leb (at + w) (length (take at l))) refl
+short-cut l at w k h e = go (leb w 64) (leb (at + w) (length l)) refl e (leb (at + w) (length (take k l))) refl
   where
-    k : length (take at l) ≡ at
-    k = length-take-le at l h
+    n : length (take k l) ≡ k
+    n = length-take-le k l h
 
-    go : (a b : Bool) → leb (at + w) (length l) ≡ b → cond (a && b) (read.Number (numOf (take w (drop at l))) (at + w)) read.Short ≡ read.Short → (c : Bool) → leb (at + w) (length (take at l)) ≡ c
-        → fieldOf at (cond (a && c) (read.Number (numOf (take w (drop at (take at l)))) (at + w)) read.Short) ≡ refusedAt at Short
+    go : (a b : Bool) → leb (at + w) (length l) ≡ b → cond (a && b) (read.Number (numOf (take w (drop at l))) (at + w)) read.Short ≡ read.Short → (c : Bool) → leb (at + w) (length (take k l)) ≡ c
+        → fieldOf at (cond (a && c) (read.Number (numOf (take w (drop at (take k l)))) (at + w)) read.Short) ≡ refusedAt at Short
     go false b p q c u = refl
     go true true p q c u = never (cc)
     go true false p q false u = refl
     go true false p q true u =
-        let x : at + w ≤ length (take at l) = leb-true _ _ u in
+        let x : at + w ≤ length (take k l) = leb-true _ _ u in
         let y : length l < at + w = leb-false _ _ p in
-        let z : length (take at l) ≡ at = k in
+        let z : length (take k l) ≡ k = n in
         absurd (omega arith)
 
 -- what a field of w bits says
@@ -274,6 +302,19 @@ short-only l at w r e = go (readBits l at w) e
     go (read.Number v n) q = never (cc)
     go read.Short q = cc
 
+-- a field of bits that was read is missing in bits that end inside it
+pub field-cut : (l : List ℕ) (at w v n : ℕ) → bitField l at w ≡ Value v n → (k : ℕ) → at ≤ k → k < n → k ≤ length l → bitField (take k l) at w ≡ refusedAt at Short
+field-cut l at w v n e k a b h = let p = bits-are l at w v n e .place in bits-cut l at w k h (omega arith)
+
+-- and one that was missing stays so
+field-short : (l : List ℕ) (at w : ℕ) (r : Refusal) → bitField l at w ≡ Refused r → (k : ℕ) → k ≤ length l → bitField (take k l) at w ≡ refusedAt at Short
+unfolding bitField
+field-short l at w r e k h = go (readBits l at w) refl e
+  where
+    go : (x : Read) → readBits l at w ≡ x → fieldOf at x ≡ Refused r → bitField (take k l) at w ≡ refusedAt at Short
+    go (read.Number v n) p q = never (cc)
+    go read.Short p q = short-cut l at w k h p
+
 pub bit-sound : (l : List ℕ) (at w : ℕ) → at ≤ length l → Sound seenField (λ (m : List ℕ). bitField m at w) l at
 unfolding bitField
 bit-sound l at w h = go (bitField l at w) refl
@@ -286,12 +327,7 @@ bit-sound l at w h = go (bitField l at w) refl
         by read.Short p q =
             let i : refusal at Short ≡ r = cc in
             subst (λ (z : Refusal). Placed seenField (λ (m : List ℕ). bitField m at w) l at z) i
-            (record {
-              after = omega arith;
-              within = h;
-              begins = λ (t : Short ≡ Tail → ⊥). ap seenField (short-cut l at w h p);
-              settled = λ (t : Short ≡ Short → ⊥) (u : Short ≡ Tail → ⊥). absurd (t refl);
-            })
+            (missing-placed seenField (λ (m : List ℕ). bitField m at w) l at h (λ (k : ℕ) (a : at ≤ k) (b : k ≤ length l). ap seenField (short-cut l at w k b p)))
 
     go : (x : Field) → bitField l at w ≡ x → Sound seenField (λ (m : List ℕ). bitField m at w) l at
     go (Value v n) e =
@@ -301,10 +337,10 @@ bit-sound l at w h = go (bitField l at w) refl
         (record { after = omega arith; within = i .within; same = λ (m : List ℕ) (a : Alike n l m). bits-alike l m at w n (omega arith) (i .within) a })
     go (Refused r) e = placed-sound seenField (λ (m : List ℕ). bitField m at w) l at r (ap seenField e) (missing r e)
 
--- A field that is read and then judged: its fault is at its own place. In the bits before it, it is missing.
+-- A field that is read and then judged: its fault is at its own place. In bits that end inside it, it is missing.
 module _ (f : List ℕ → Field) (g : ℕ → ℕ → Field) (ok : ℕ → Bool) (val : ℕ → ℕ) (why : Fault) (l : List ℕ) (at : ℕ) (h : at ≤ length l) (s : Sound seenField f l at)
     (right : (v n : ℕ) → ok v ≡ true → g v n ≡ Value (val v) n) (wrong : (v n : ℕ) → ok v ≡ false → g v n ≡ refusedAt at why)
-    (cut : (v n : ℕ) → f l ≡ Value v n → ok v ≡ false → f (take at l) ≡ refusedAt at Short) where
+    (faulty : why ≡ Short → ⊥) (wide : (v n : ℕ) → f l ≡ Value v n → ok v ≡ false → at < n) (cut : (v n : ℕ) → f l ≡ Value v n → (k : ℕ) → at ≤ k → k < n → k ≤ length l → f (take k l) ≡ refusedAt at Short) where
   judging : List ℕ → Field
   judging m = then (f m) g
 
@@ -320,28 +356,15 @@ module _ (f : List ℕ → Field) (g : ℕ → ℕ → Field) (ok : ℕ → Bool
     unfolding judging
     judged-same m a = ap (λ (x : Field). then x g) (was-read .same m a)
 
-    judged-cut : ok v ≡ false → judging (take at l) ≡ refusedAt at Short
+    judged-cut : (k : ℕ) → at ≤ k → k < n → judging (take k l) ≡ refusedAt at Short
     unfolding judging
-    judged-cut p = ap (λ (x : Field). then x g) (cut v n e p)
-
-    apart : refusedAt at Short ≡ Value v n → ⊥
-    apart q = never (cc)
+    judged-cut k a b = let w = was-read .within in ap (λ (x : Field). then x g) (cut v n e k a b (omega arith))
 
     by : (t : Bool) → ok v ≡ t → Sound seenField judging l at
     by true p = went-sound seenField judging l at n (ap seenField (judged-as (Value (val v) n) (right v n p))) (record { after = was-read .after; within = was-read .within; same = judged-same })
     by false p =
         placed-sound seenField judging l at (refusal at why) (ap seenField (judged-as (refusedAt at why) (wrong v n p)))
-        (record {
-          after = omega arith;
-          within = h;
-          begins = λ (t : why ≡ Tail → ⊥). ap seenField (judged-cut p);
-          settled = λ (t : why ≡ Short → ⊥) (u : why ≡ Tail → ⊥). record {
-            end = n;
-            behind = moved f l at n was-read (λ (c : f (take at l) ≡ f l). apart (sym (cut v n e p) ∙ c ∙ e));
-            within = was-read .within;
-            same = judged-same;
-          };
-        })
+        (faulty-placed seenField judging l at n why faulty (wide v n e p) (was-read .within) judged-same (λ (k : ℕ) (a : at ≤ k) (b : k < n) (w : k ≤ length l). ap seenField (judged-cut k a b)))
 
   judge : (x : Field) → f l ≡ x → Sound seenField judging l at
   unfolding judging
@@ -358,7 +381,9 @@ extension-sound l at h =
     judged (λ (m : List ℕ). bitField m at 1) (λ (b n : ℕ). cond (eqb b 0) (Value 0 n) (refusedAt at Extension)) (λ (b : ℕ). eqb b 0) (λ (b : ℕ). 0) Extension l at h (bit-sound l at 1 h)
     (λ (v n : ℕ) (p : eqb v 0 ≡ true). ap (λ (t : Bool). cond t (Value 0 n) (refusedAt at Extension)) p)
     (λ (v n : ℕ) (p : eqb v 0 ≡ false). ap (λ (t : Bool). cond t (Value 0 n) (refusedAt at Extension)) p)
-    (λ (v n : ℕ) (e : bitField l at 1 ≡ Value v n) (p : eqb v 0 ≡ false). bits-cut l at 1 h (omega arith))
+    (λ (t : Extension ≡ Short). never (cc))
+    (λ (v n : ℕ) (e : bitField l at 1 ≡ Value v n) (p : eqb v 0 ≡ false). let q = bits-are l at 1 v n e .place in omega arith)
+    (field-cut l at 1)
 
 -- an extension bit is one bit
 pub extension-place : (l : List ℕ) (at b n : ℕ) → extensionBit l at ≡ Value b n → n ≡ at + 1
@@ -386,14 +411,36 @@ whole-sound l at lo hi ranged h =
     (bit-sound l at (widthOf (hi - lo)) h)
     (λ (v n : ℕ) (p : leb (lo + v) hi ≡ true). ap (λ (t : Bool). cond t (Value (lo + v) n) (refusedAt at Range)) p)
     (λ (v n : ℕ) (p : leb (lo + v) hi ≡ false). ap (λ (t : Bool). cond t (Value (lo + v) n) (refusedAt at Range)) p)
-    (λ (v n : ℕ) (e : bitField l at (widthOf (hi - lo)) ≡ Value v n) (p : leb (lo + v) hi ≡ false). bits-cut l at (widthOf (hi - lo)) h (some (widthOf (hi - lo)) v n e p))
+    (λ (t : Range ≡ Short). never (cc))
+    (λ (v n : ℕ) (e : bitField l at (widthOf (hi - lo)) ≡ Value v n) (p : leb (lo + v) hi ≡ false). some (widthOf (hi - lo)) v n e p)
+    (field-cut l at (widthOf (hi - lo)))
   where
-    some : (w v n : ℕ) → bitField l at w ≡ Value v n → leb (lo + v) hi ≡ false → 0 < w
+    some : (w v n : ℕ) → bitField l at w ≡ Value v n → leb (lo + v) hi ≡ false → at < n
     some zero v n e p =
         let z : v ≡ 0 = bits-are l at zero v n e .value ∙ no-bits in
         let y : hi < lo + v = leb-false (lo + v) hi p in
         absurd (omega arith)
-    some (suc w) v n e p = omega arith
+    some (suc w) v n e p = let q = bits-are l at (suc w) v n e .place in omega arith
+
+-- a whole number takes the bits of its range
+pub whole-place : (l : List ℕ) (at lo hi v n : ℕ) → wholeNumber l at lo hi ≡ Value v n → n ≡ at + widthOf (hi - lo)
+unfolding wholeNumber
+whole-place l at lo hi v n e = go (bitField l at (widthOf (hi - lo))) refl e
+  where
+    go : (x : Field) → bitField l at (widthOf (hi - lo)) ≡ x → then x (λ (d k : ℕ). cond (leb (lo + d) hi) (Value (lo + d) k) (refusedAt at Range)) ≡ Value v n → n ≡ at + widthOf (hi - lo)
+    go (Refused r) p q = never (cc)
+    go (Value d k) p q = by (leb (lo + d) hi) q
+      where
+        by : (t : Bool) → cond t (Value (lo + d) k) (refusedAt at Range) ≡ Value v n → n ≡ at + widthOf (hi - lo)
+        by true u = let z : k ≡ n = cc in sym z ∙ bits-are l at (widthOf (hi - lo)) d k p .place
+        by false u = never (cc)
+
+-- and is missing in bits that end inside it
+pub whole-cut : (l : List ℕ) (at lo hi v n : ℕ) → wholeNumber l at lo hi ≡ Value v n → (k : ℕ) → at ≤ k → k < n → k ≤ length l → wholeNumber (take k l) at lo hi ≡ refusedAt at Short
+unfolding wholeNumber
+whole-cut l at lo hi v n e k a b h =
+    let p = whole-place l at lo hi v n e in
+    ap (λ (x : Field). then x (λ (d j : ℕ). cond (leb (lo + d) hi) (Value (lo + d) j) (refusedAt at Range))) (bits-cut l at (widthOf (hi - lo)) k h (omega arith))
 
 pub index-sound : (l : List ℕ) (at last : ℕ) → at ≤ length l → Sound seenField (λ (m : List ℕ). extensibleIndex m at last) l at
 unfolding extensibleIndex
@@ -406,33 +453,37 @@ module _ (l : List ℕ) (at : ℕ) (h : at ≤ length l) where
   reads : List ℕ → Field
   reads m = lengthAt m at
 
-  -- in the bits before it, it is missing
-  length-cut : reads (take at l) ≡ refusedAt at Short
+  -- without its first eight bits it is missing
+  first-missing : (m : List ℕ) → bitField m at 8 ≡ refusedAt at Short → reads m ≡ refusedAt at Short
   unfolding reads lengthAt
-  length-cut = ap (λ (x : Field). then x (lengthFrom (take at l) at)) (bits-cut l at 8 h (omega arith))
+  first-missing m e = ap (λ (x : Field). then x (lengthFrom m at)) e
+
+  -- in bits that end before n it is missing
+  Cut : ℕ → Type 0
+  Cut n = (k : ℕ) → at ≤ k → k < n → k ≤ length l → reads (take k l) ≡ refusedAt at Short
+
+  first-cut : Cut (at + 8)
+  unfolding Cut
+  first-cut k a b w = first-missing (take k l) (bits-cut l at 8 k w b)
 
   -- it is decided by the bits up to n
   decided : (n : ℕ) → at + 8 ≤ n → n ≤ length l → ((m : List ℕ) → Alike n l m → then (bitField l at 8) (lengthFrom m at) ≡ then (bitField l at 8) (lengthFrom l at)) → (m : List ℕ) → Alike n l m → reads m ≡ reads l
   unfolding reads lengthAt
   decided n a w s m q = ap (λ (x : Field). then x (lengthFrom m at)) (bits-alike l m at 8 n a w q) ∙ s m q
 
-  refuses : (why : Fault) (n : ℕ) → reads l ≡ refusedAt at why → at + 8 ≤ n → n ≤ length l → ((m : List ℕ) → Alike n l m → reads m ≡ reads l) → Sound seenField reads l at
-  refuses why n e a w s =
-      placed-sound seenField reads l at (refusal at why) (ap seenField e)
-      (record {
-        after = omega arith;
-        within = h;
-        begins = λ (t : why ≡ Tail → ⊥). ap seenField length-cut;
-        settled = λ (t : why ≡ Short → ⊥) (u : why ≡ Tail → ⊥). record { end = n; behind = omega arith; within = w; same = s };
-      })
+  misformed : (n : ℕ) → reads l ≡ refusedAt at LengthForm → at + 8 ≤ n → n ≤ length l → ((m : List ℕ) → Alike n l m → reads m ≡ reads l) → Cut n → Sound seenField reads l at
+  unfolding Cut
+  misformed n e a w s c =
+      placed-sound seenField reads l at (refusal at LengthForm) (ap seenField e)
+      (faulty-placed seenField reads l at n LengthForm (λ (t : LengthForm ≡ Short). never (cc)) (omega arith) w s (λ (k : ℕ) (i : at ≤ k) (j : k < n) (u : k ≤ length l). ap seenField (c k i j u)))
 
   answers : (v n : ℕ) → reads l ≡ Value v n → at + 8 ≤ n → n ≤ length l → ((m : List ℕ) → Alike n l m → reads m ≡ reads l) → Sound seenField reads l at
   answers v n e a w s = went-sound seenField reads l at n (ap seenField e) (record { after = omega arith; within = w; same = s })
 
-  missing : reads l ≡ refusedAt at Short → Sound seenField reads l at
-  missing e =
+  missing : reads l ≡ refusedAt at Short → ((k : ℕ) → k ≤ length l → reads (take k l) ≡ refusedAt at Short) → Sound seenField reads l at
+  missing e c =
       placed-sound seenField reads l at (refusal at Short) (ap seenField e)
-      (record { after = omega arith; within = h; begins = λ (t : Short ≡ Tail → ⊥). ap seenField length-cut; settled = λ (t : Short ≡ Short → ⊥) (u : Short ≡ Tail → ⊥). absurd (t refl) })
+      (missing-placed seenField reads l at h (λ (k : ℕ) (a : at ≤ k) (b : k ≤ length l). ap seenField (c k b)))
 
   module _ (b n : ℕ) (e : bitField l at 8 ≡ Value b n) where
     eight : BitsAre l at 8 b n
@@ -450,6 +501,21 @@ module _ (l : List ℕ) (at : ℕ) (h : at ≤ length l) where
       from : (m : List ℕ) → lengthFrom m at b n ≡ then (bitField m at 16) (longLength at)
       from m = rw (p, q)
 
+      -- without its sixteen bits it is missing
+      long-missing : (k : ℕ) → k ≤ length l → bitField (take k l) at 16 ≡ refusedAt at Short → reads (take k l) ≡ refusedAt at Short
+      unfolding reads lengthAt
+      long-missing k w f =
+          elim (decLt k (at + 8)) [
+            | yes g ↦ first-missing (take k l) (bits-cut l at 8 k w g)
+            | no g ↦
+                let z = eight .place in
+                ap (λ (x : Field). then x (lengthFrom (take k l) at)) (bits-alike l (take k l) at 8 n (omega arith) (eight .within) (alike-cut n k l (omega arith) w) ∙ e) ∙ from (take k l) ∙ ap (λ (x : Field). then x (longLength at)) f
+          ]
+
+      long-cut : Cut (at + 16)
+      unfolding Cut
+      long-cut k a c w = long-missing k w (bits-cut l at 16 k w c)
+
       module _ (v k : ℕ) (f : bitField l at 16 ≡ Value v k) where
         sixteen : BitsAre l at 16 v k
         sixteen = bits-are l at 16 v k f
@@ -464,12 +530,14 @@ module _ (l : List ℕ) (at : ℕ) (h : at ≤ length l) where
         said o r = told o (from l ∙ ap (λ (x : Field). then x (longLength at)) f ∙ r)
 
         long : (t : Bool) → ltb v (32768 + 128) ≡ t → Sound seenField reads l at
-        long true r = let c = sixteen .place in refuses LengthForm k (said (refusedAt at LengthForm) (rw r)) (omega arith) (sixteen .within) both-same
+        long true r = let c = sixteen .place in misformed k (said (refusedAt at LengthForm) (rw r)) (omega arith) (sixteen .within) both-same (subst Cut (sym c) long-cut)
         long false r = let c = sixteen .place in answers (v - 32768) k (said (Value (v - 32768) k) (rw r)) (omega arith) (sixteen .within) both-same
 
       sixteen-read : (x : Field) → bitField l at 16 ≡ x → Sound seenField reads l at
       sixteen-read (Value v k) f = long v k f (ltb v (32768 + 128)) refl
-      sixteen-read (Refused r) f = missing (told (refusedAt at Short) (from l ∙ ap (λ (x : Field). then x (longLength at)) (f ∙ ap Refused (short-only l at 16 r f))))
+      sixteen-read (Refused r) f =
+          missing (told (refusedAt at Short) (from l ∙ ap (λ (x : Field). then x (longLength at)) (f ∙ ap Refused (short-only l at 16 r f))))
+          (λ (k : ℕ) (w : k ≤ length l). long-missing k w (field-short l at 16 r f k w))
 
     first-same : (o : Field) → ((m : List ℕ) → lengthFrom m at b n ≡ o) → (m : List ℕ) → Alike n l m → reads m ≡ reads l
     first-same o c m a =
@@ -479,7 +547,7 @@ module _ (l : List ℕ) (at : ℕ) (h : at ≤ length l) where
     large : ltb b 128 ≡ false → (t : Bool) → leb 192 b ≡ t → Sound seenField reads l at
     large p true q =
         let z = eight .place in
-        refuses LengthForm n (told (refusedAt at LengthForm) (rw (p, q))) (omega arith) (eight .within) (first-same (refusedAt at LengthForm) (λ (m : List ℕ). rw (p, q)))
+        misformed n (told (refusedAt at LengthForm) (rw (p, q))) (omega arith) (eight .within) (first-same (refusedAt at LengthForm) (λ (m : List ℕ). rw (p, q))) (subst Cut (sym z) first-cut)
     large p false q = sixteen-read p q (bitField l at 16) refl
 
     small : (t : Bool) → ltb b 128 ≡ t → Sound seenField reads l at
@@ -488,17 +556,58 @@ module _ (l : List ℕ) (at : ℕ) (h : at ≤ length l) where
         answers b n (told (Value b n) (rw p)) (omega arith) (eight .within) (first-same (Value b n) (λ (m : List ℕ). rw p))
     small false p = large p (leb 192 b) refl
 
+    -- a length that was read
+    value-cut : (u : Field) → lengthFrom l at b n ≡ u → (v j : ℕ) → u ≡ Value v j → Cut j
+    value-cut u f v j g = by (ltb b 128) refl (f ∙ g)
+      where
+        place : (k : ℕ) → n ≡ k → Cut k
+        place k z = subst Cut (sym (eight .place) ∙ z) first-cut
+
+        by : (t : Bool) → ltb b 128 ≡ t → lengthFrom l at b n ≡ Value v j → Cut j
+        by true p w = let z : Value b n ≡ Value v j = sym (rw p) ∙ w in place j (cc)
+        by false p w = on (leb 192 b) refl w
+          where
+            on : (t : Bool) → leb 192 b ≡ t → lengthFrom l at b n ≡ Value v j → Cut j
+            on true q w = let z : refusedAt at LengthForm ≡ Value v j = sym (rw (p, q)) ∙ w in never (cc)
+            on false q w = last (bitField l at 16) refl (sym (from p q l) ∙ w)
+              where
+                last : (x : Field) → bitField l at 16 ≡ x → then x (longLength at) ≡ Value v j → Cut j
+                last (Refused r) i y = never (cc)
+                last (Value c k) i y = which (ltb c (32768 + 128)) y
+                  where
+                    which : (t : Bool) → cond t (refusedAt at LengthForm) (Value (c - 32768) k) ≡ Value v j → Cut j
+                    which true y = never (cc)
+                    which false y = let z : k ≡ j = cc in subst Cut (sym (sixteen p q c k i .place) ∙ z) (long-cut p q)
+
   eight-read : (x : Field) → bitField l at 8 ≡ x → Sound seenField reads l at
   unfolding reads lengthAt
   eight-read (Value b n) e = small b n e (ltb b 128) refl
-  eight-read (Refused r) e = missing (none e)
-    where
-      none : bitField l at 8 ≡ Refused r → reads l ≡ refusedAt at Short
-      none e = ap (λ (x : Field). then x (lengthFrom l at)) (e ∙ ap Refused (short-only l at 8 r e))
+  eight-read (Refused r) e = missing (first-missing l (e ∙ ap Refused (short-only l at 8 r e))) (λ (k : ℕ) (w : k ≤ length l). first-missing (take k l) (field-short l at 8 r e k w))
 
   pub length-sound : Sound seenField (λ (m : List ℕ). lengthAt m at) l at
   unfolding reads
   length-sound = eight-read (bitField l at 8) refl
+
+  pub length-cut : (v n : ℕ) → lengthAt l at ≡ Value v n → (k : ℕ) → at ≤ k → k < n → k ≤ length l → lengthAt (take k l) at ≡ refusedAt at Short
+  unfolding reads lengthAt Cut
+  length-cut v n e = by (bitField l at 8) refl e
+    where
+      by : (x : Field) → bitField l at 8 ≡ x → then x (lengthFrom l at) ≡ Value v n → Cut n
+      by (Refused r) p q = never (cc)
+      by (Value b j) p q = value-cut b j p (lengthFrom l at b j) refl v n q
+
+  pub length-wide : (v n : ℕ) → lengthAt l at ≡ Value v n → at < n
+  unfolding reads lengthAt Cut
+  length-wide v n e =
+      let w = length-sound .next n (ap seenField e) in
+      elim (decLt at n) [
+        | yes g ↦ g
+        | no g ↦
+            let a = w .after in
+            let c : lengthAt (take at l) at ≡ lengthAt l at = w .same (take at l) (alike-cut n at l (omega arith) h) in
+            let z : refusedAt at Short ≡ Value v n = sym (first-cut at (omega arith) (omega arith) h) ∙ c ∙ e in
+            never (cc)
+      ]
 
 -- a length that is judged by its limits
 pub within-sound : (l : List ℕ) (at least most : ℕ) → at ≤ length l → Sound seenField (λ (m : List ℕ). lengthWithin m at least most) l at
@@ -508,12 +617,9 @@ within-sound l at least most h =
     (length-sound l at h)
     (λ (v n : ℕ) (p : leb least v && leb v most ≡ true). ap (λ (t : Bool). cond t (Value v n) (refusedAt at Limit)) p)
     (λ (v n : ℕ) (p : leb least v && leb v most ≡ false). ap (λ (t : Bool). cond t (Value v n) (refusedAt at Limit)) p)
-    (λ (v n : ℕ) (e : lengthAt l at ≡ Value v n) (p : leb least v && leb v most ≡ false). length-cut l at h)
-
--- a whole number of some bits is missing in the bits before it
-pub whole-cut : (l : List ℕ) (at lo hi : ℕ) → at ≤ length l → 0 < widthOf (hi - lo) → wholeNumber (take at l) at lo hi ≡ refusedAt at Short
-unfolding wholeNumber
-whole-cut l at lo hi h pos = ap (λ (x : Field). then x (λ (d n : ℕ). cond (leb (lo + d) hi) (Value (lo + d) n) (refusedAt at Range))) (bits-cut l at (widthOf (hi - lo)) h pos)
+    (λ (t : Limit ≡ Short). never (cc))
+    (λ (v n : ℕ) (e : lengthAt l at ≡ Value v n) (p : leb least v && leb v most ≡ false). length-wide l at h v n e)
+    (length-cut l at h)
 
 pub run-sound : (l : List ℕ) (at count n : ℕ) → at ≤ length l → Sound seenField (λ (m : List ℕ). runAt m at count n) l at
 unfolding runAt
@@ -526,14 +632,9 @@ run-sound l at count n h = go (leb (at + count) (length l)) refl
         (record { after = omega arith; within = w; same = λ (m : List ℕ) (a : Alike (at + count) l m). rw (le-leb _ _ (a .long), p) })
     go false p =
         let w : length l < at + count = leb-false _ _ p in
-        let k : length (take at l) ≡ at = length-take-le at l h in
         placed-sound seenField (λ (m : List ℕ). runAt m at count n) l at (refusal at Short) (ap (λ (t : Bool). seenField (cond t (Value n (at + count)) (refusedAt at Short))) p)
-        (record {
-          after = omega arith;
-          within = h;
-          begins = λ (t : Short ≡ Tail → ⊥). rw (lt-leb (at + count) (length (take at l)) (omega arith));
-          settled = λ (t : Short ≡ Short → ⊥) (u : Short ≡ Tail → ⊥). absurd (t refl);
-        })
+        (missing-placed seenField (λ (m : List ℕ). runAt m at count n) l at h
+        (λ (k : ℕ) (a : at ≤ k) (b : k ≤ length l). let z : length (take k l) ≡ k = length-take-le k l b in rw (lt-leb (at + count) (length (take k l)) (omega arith))))
 
 pub string-sound : (l : List ℕ) (at unit least most : ℕ) → at ≤ length l → Sound seenField (λ (m : List ℕ). stringAt m at unit least most) l at
 unfolding stringAt
@@ -554,11 +655,6 @@ module _ (l : List ℕ) (at : ℕ) (h : at ≤ length l) where
   counts : List ℕ → Field
   counts m = additionCount m at
 
-  -- in the bits before it, it is missing
-  count-cut : counts (take at l) ≡ refusedAt at Short
-  unfolding counts additionCount extensionBit
-  count-cut = rw (bits-cut l at 1 h (omega arith))
-
   module _ (b n : ℕ) (e : extensionBit l at ≡ Value b n) where
     short-form : Went (λ (m : List ℕ). extensionBit m at) l at n
     short-form = extension-sound l at h .next n (ap seenField e)
@@ -566,6 +662,17 @@ module _ (l : List ℕ) (at : ℕ) (h : at ≤ length l) where
     seven : (m : List ℕ) → extensionBit m at ≡ extensionBit l at → counts m ≡ then (bitField m at 7) (λ (v next : ℕ). Value (v + 1) next)
     unfolding counts additionCount
     seven m q = ap (λ (x : Field). then x (λ (c p : ℕ). then (bitField m at 7) (λ (v next : ℕ). Value (v + 1) next))) (q ∙ e)
+
+    -- in bits that end inside the seven it is missing
+    seven-missing : (r : Refusal) → bitField l at 7 ≡ Refused r → (k : ℕ) → k ≤ length l → counts (take k l) ≡ refusedAt at Short
+    unfolding counts additionCount extensionBit
+    seven-missing r f k w =
+        elim (decLt k (at + 1)) [
+          | yes g ↦ rw (bits-cut l at 1 k w g)
+          | no g ↦
+              let q : n ≡ at + 1 = extension-place l at b n e in
+              seven (take k l) (short-form .same (take k l) (alike-cut n k l (omega arith) w)) ∙ ap (λ (x : Field). then x (λ (v next : ℕ). Value (v + 1) next)) (field-short l at 7 r f k w)
+        ]
 
     counted : (x : Field) → bitField l at 7 ≡ x → Sound seenField counts l at
     counted (Value v k) f =
@@ -582,7 +689,7 @@ module _ (l : List ℕ) (at : ℕ) (h : at ≤ length l) where
     counted (Refused r) f =
         let z : r ≡ refusal at Short = short-only l at 7 r f in
         placed-sound seenField counts l at (refusal at Short) (ap seenField (seven l refl ∙ ap (λ (x : Field). then x (λ (w next : ℕ). Value (w + 1) next)) (f ∙ ap Refused z)))
-        (record { after = omega arith; within = h; begins = λ (t : Short ≡ Tail → ⊥). ap seenField count-cut; settled = λ (t : Short ≡ Short → ⊥) (u : Short ≡ Tail → ⊥). absurd (t refl) })
+        (missing-placed seenField counts l at h (λ (k : ℕ) (a : at ≤ k) (w : k ≤ length l). ap seenField (seven-missing r f k w)))
 
   form-read : (x : Field) → extensionBit l at ≡ x → Sound seenField counts l at
   unfolding counts additionCount
@@ -614,7 +721,9 @@ there-sound l at n pos h =
     judged (λ (m : List ℕ). bitField m at n) (λ (v next : ℕ). cond (eqb v 0) (refusedAt at Extension) (Value v next)) (λ (v : ℕ). not (eqb v 0)) (λ (v : ℕ). v) Extension l at h (bit-sound l at n h)
     (λ (v k : ℕ) (p : not (eqb v 0) ≡ true). by true v k (eqb v 0) p)
     (λ (v k : ℕ) (p : not (eqb v 0) ≡ false). by false v k (eqb v 0) p)
-    (λ (v k : ℕ) (e : bitField l at n ≡ Value v k) (p : not (eqb v 0) ≡ false). bits-cut l at n h pos)
+    (λ (t : Extension ≡ Short). never (cc))
+    (λ (v k : ℕ) (e : bitField l at n ≡ Value v k) (p : not (eqb v 0) ≡ false). let q = bits-are l at n v k e .place in omega arith)
+    (field-cut l at n)
   where
     by : (t : Bool) (v k : ℕ) (z : Bool) → not z ≡ t → cond z (refusedAt at Extension) (Value v k) ≡ cond t (Value v k) (refusedAt at Extension)
     by true v k true p = never (cc)

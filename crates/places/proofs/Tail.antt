@@ -27,7 +27,7 @@ use Rattle.fields.proofs.Widths.{width-within, width-holds, width-fewest}
 use Rattle.apdu.specs.Encoding.{padding}
 use Rattle.apdu.specs.Reading.{tailAt}
 use Rattle.apdu.specs.Reading.{apduAt}
-use Rattle.apdu.specs.declared.PduType.{PduType}
+use Rattle.pdus.specs.declared.PduType.{PduType}
 use Rattle.apdu.specs.declared.Apdu.{Apdu}
 use Rattle.apdu.specs.declared.Decoded.the-variants as decoded
 use Rattle.apdu.proofs.Bounds.{never}

@@ -26,21 +26,20 @@ pub record Went {A : Type 0} (rd : List ℕ → A) (l : List ℕ) (at n : ℕ) :
   pub within : n ≤ length l
   pub same : (m : List ℕ) → Alike n l m → rd m ≡ rd l
 
--- the field that begins at a place ends within the bits, and no bit behind it matters
-pub record Settled {A : Type 0} (rd : List ℕ → A) (l : List ℕ) (p : ℕ) : Type 0 where
+-- The field that is refused begins at the refusal's place. Wherever the bits are cut inside it, they end inside the field that begins there: so it is the
+-- field with the fault, and no field before it. No bit behind it matters. SHORT is its fault exactly where the bits end before it does.
+pub record FieldAt {A : Type 0} (seen : A → Seen) (rd : List ℕ → A) (l : List ℕ) (r : Refusal) : Type 0 where
   pub end : ℕ
-  pub behind : p < end
-  pub within : end ≤ length l
-  pub same : (m : List ℕ) → Alike end l m → rd m ≡ rd l
+  pub behind : r .at < end
+  pub cut : (k : ℕ) → r .at ≤ k → k < end → k ≤ length l → seen (rd (take k l)) ≡ refused (refusal (r .at) Short)
+  pub same : end ≤ length l → (m : List ℕ) → Alike end l m → rd m ≡ rd l
+  pub short : (r .fault ≡ Short → length l < end) × (length l < end → r .fault ≡ Short)
 
--- The place of a refusal is within the bits. A field begins there: with the bits before it alone, the bits end inside the field that begins
--- there. Where the fault is in the field itself, bits that are cut off or added behind the field do not matter. (TAIL is about the bits
--- behind all fields.)
+-- The place of a refusal is within the bits, and the field with the fault begins there. (TAIL is about the bits behind all fields.)
 pub record Placed {A : Type 0} (seen : A → Seen) (rd : List ℕ → A) (l : List ℕ) (at : ℕ) (r : Refusal) : Type 0 where
   pub after : at ≤ r .at
   pub within : r .at ≤ length l
-  pub begins : (r .fault ≡ Tail → ⊥) → seen (rd (take (r .at) l)) ≡ refused (refusal (r .at) Short)
-  pub settled : (r .fault ≡ Short → ⊥) → (r .fault ≡ Tail → ⊥) → Settled rd l (r .at)
+  pub field : (r .fault ≡ Tail → ⊥) → FieldAt seen rd l r
 
 abbrev pub Refusing : {A : Type 0} → (A → Seen) → (List ℕ → A) → List ℕ → ℕ → Type 0
 Refusing seen rd l at = (r : Refusal) → seen (rd l) ≡ refused r → Placed seen rd l at r

@@ -5,7 +5,7 @@ use Prim.Native.Nat.{ℕ}
 use Rattle.bits.specs.Bits.{bitsN}
 use Rattle.apdu.specs.Pdus.{Content}
 use Rattle.apdu.specs.Encoding.{alternative, modeBits, rootBits}
-use Rattle.apdu.specs.declared.PduType.{PduType}
+use Rattle.pdus.specs.declared.PduType.{PduType}
 use Rattle.apdu.specs.declared.Kind.the-variants as kind
 
 -- message data with the bits of additions behind its root

@@ -13,7 +13,7 @@ use Rattle.fields.specs.declared.Fault.the-variants.{Extension}
 use Rattle.fields.specs.declared.Field.the-variants.{Value, Refused}
 use Rattle.apdu.specs.Encoding.{padding}
 use Rattle.apdu.specs.Reading.{partsAt, leadingAt}
-use Rattle.apdu.specs.declared.PduType.{PduType}
+use Rattle.pdus.specs.declared.PduType.{PduType}
 use Rattle.apdu.specs.declared.Kind.{Kind}
 use Rattle.apdu.specs.declared.Kind.the-variants as kind
 use Rattle.apdu.specs.declared.Data.{Data}

@@ -17,8 +17,8 @@ use Rattle.fields.specs.Refusals.{numberOf, packed}
 use Rattle.apdu.specs.Pdus.{lent}
 use Rattle.apdu.specs.Sizes.{allBits}
 use Rattle.apdu.specs.Reading.{modeValue, modeAt, kindMode, leadingAt}
-use Rattle.apdu.specs.declared.PduType.{PduType}
-use Rattle.apdu.specs.declared.PduType.the-variants.{AircraftPdus, GroundPdus}
+use Rattle.pdus.specs.declared.PduType.{PduType}
+use Rattle.pdus.specs.declared.PduType.the-variants.{AircraftPdus, GroundPdus}
 use Rattle.quick.specs.Leading.{leadNumber, byteLead}
 use Rattle.quick.specs.Quick.{most}
 use Rattle.quick.proofs.Laws.{quick-front}

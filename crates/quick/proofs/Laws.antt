@@ -22,8 +22,8 @@ use Rattle.apdu.specs.Pdus.{lastOf, kindOf}
 use Rattle.apdu.specs.Sizes.{modeLast, userLast, providerLast}
 use Rattle.apdu.specs.Headings.{responseLast}
 use Rattle.apdu.specs.Reading.{onLead, onData, onForward, modeValue, modeAt, kindMode, leadingAt, dataWithin, forwardWithin, tailAt, endedAt, restWithin, apduWithin}
-use Rattle.apdu.specs.declared.PduType.{PduType}
-use Rattle.apdu.specs.declared.PduType.the-variants.{AircraftPdus, GroundPdus}
+use Rattle.pdus.specs.declared.PduType.{PduType}
+use Rattle.pdus.specs.declared.PduType.the-variants.{AircraftPdus, GroundPdus}
 use Rattle.apdu.specs.declared.Kind.{Kind}
 use Rattle.apdu.specs.declared.Kind.the-variants as kind
 use Rattle.apdu.specs.declared.Data.{Data}

@@ -14,8 +14,8 @@ use Rattle.bits.specs.Bits.{bitsOf}
 use Rattle.fields.specs.Refusals.{packed}
 use Rattle.apdu.specs.Pdus.{indexOf, lent}
 use Rattle.apdu.specs.Reading.{leadingAt}
-use Rattle.apdu.specs.declared.PduType.{PduType}
-use Rattle.apdu.specs.declared.PduType.the-variants.{AircraftPdus, GroundPdus}
+use Rattle.pdus.specs.declared.PduType.{PduType}
+use Rattle.pdus.specs.declared.PduType.the-variants.{AircraftPdus, GroundPdus}
 use Rattle.apdu.specs.declared.Lead.{Lead}
 use Rattle.apdu.specs.declared.Lead.the-variants as lead
 

@@ -1,6 +1,6 @@
 // What an APDU is, from its first bits (document 02, E11): for whoever routes it. Its leading fields lie within the first byte.
 ghost use mathlib.Core.Path.{_≡_};
-ghost use Rattle.apdu.specs.declared.PduType.the-variants.{AircraftPdus, GroundPdus};
+ghost use Rattle.pdus.specs.declared.PduType.the-variants.{AircraftPdus, GroundPdus};
 ghost use Rattle.quick.specs.Leading.{byteLead, leadingCall};
 use words::Limit;
 

@@ -76,9 +76,9 @@ start-does r k s true = there r (parameters k s 0 0 0 0 Absent) (goes (r .contro
 start-does r k s false = there r (parameters k s 0 0 0 0 Absent) (goes (r .control) (StartRequest false)) n.yes n.yes n.security n.taken n.startOut 0 n.untold 0
 
 -- the title of a response
-reply-title : (x : ℕ) (m : Bool) → callTitle (StartResponse m (replyOf x)) ≡ userTitle (StartServiceResponse m x)
+reply-title : (x : ℕ) (m h : Bool) → callTitle (StartResponse m (replyOf x)) ≡ userTitle (StartServiceResponse m x h)
 unfolding replyOf
-reply-title x m = go (eqb x accepted) m
+reply-title x m h = go (eqb x accepted) m
   where
     go : (b m : Bool) → callTitle (StartResponse m (cond b Accepted Rejected)) ≡ cond m (cond b n.dscStartResponseAccepted n.dscStartResponseRejected) (cond b n.startResponseAccepted n.startResponseRejected)
     go true true = refl
@@ -86,9 +86,9 @@ reply-title x m = go (eqb x accepted) m
     go false true = refl
     go false false = refl
 
-end-title : (x : ℕ) (m : Bool) → callTitle (EndResponse m (replyOf x)) ≡ userTitle (EndServiceResponse m x)
+end-title : (x : ℕ) (m h : Bool) → callTitle (EndResponse m (replyOf x)) ≡ userTitle (EndServiceResponse m x h)
 unfolding replyOf
-end-title x m = go (eqb x accepted) m
+end-title x m h = go (eqb x accepted) m
   where
     go : (b m : Bool) → callTitle (EndResponse m (cond b Accepted Rejected)) ≡ cond m (cond b n.dscEndResponseAccepted n.dscEndResponseRejected) (cond b n.endResponseAccepted n.endResponseRejected)
     go true true = refl
@@ -128,14 +128,14 @@ user-same : (sd : Side) (r : Record) (u : UserPrimitive) → outcomeOf r (userPa
 unfolding stepFitting refusalFitting permitted messageRefusal acts called callOf unsent startResponse messageRequest endRequest endResponse userAbort sending
 user-same sd r (StartServiceRequest m k s) =
     call-does sd r (parameters k s 0 0 0 0 Absent) _ (StartRequest (isDsc m)) (startRequest r (isDsc m) k s) refl refl (start-does r k s (isDsc m)) ∙ by-takes (takes sd (r .control) (StartRequest (isDsc m))) (startRequest r (isDsc m) k s) r
-user-same sd r (StartServiceResponse m x) =
-    call-does sd r (parameters 0 0 x 0 0 0 Absent) _ (StartResponse m (replyOf x)) _ refl (reply-title x m) (moved r (parameters 0 0 x 0 0 0 Absent) (goes (r .control) (StartResponse m (replyOf x))) n.nothing n.startAnswer 0 n.untold 0) ∙ by-takes (takes sd (r .control) (StartResponse m (replyOf x))) _ r
+user-same sd r (StartServiceResponse m x h) =
+    call-does sd r (parameters 0 0 x 0 0 0 Absent) _ (StartResponse m (replyOf x)) _ refl (reply-title x m h) (moved r (parameters 0 0 x 0 0 0 Absent) (goes (r .control) (StartResponse m (replyOf x))) n.nothing n.startAnswer 0 n.untold 0) ∙ by-takes (takes sd (r .control) (StartResponse m (replyOf x))) _ r
 user-same sd r (MessageServiceRequest h j) =
     message-does sd r (parameters 0 0 0 j 0 0 Absent) h (leb j (r .highest)) _ (moved r (parameters 0 0 0 j 0 0 Absent) (goes (r .control) MessageRequest) n.job n.dataOut 0 n.untold 0)
-user-same sd r (EndServiceRequest m) =
+user-same sd r (EndServiceRequest m h) =
     call-does sd r (parameters 0 0 0 0 0 0 Absent) _ (EndRequest m) _ refl refl (moved r (parameters 0 0 0 0 0 0 Absent) (goes (r .control) (EndRequest m)) n.nothing n.endOut 0 n.untold 0) ∙ by-takes (takes sd (r .control) (EndRequest m)) _ r
-user-same sd r (EndServiceResponse m x) =
-    call-does sd r (parameters 0 0 x 0 0 0 Absent) _ (EndResponse m (replyOf x)) _ refl (end-title x m) (moved r (parameters 0 0 x 0 0 0 Absent) (goes (r .control) (EndResponse m (replyOf x))) n.nothing n.endAnswer 0 n.untold 0) ∙ by-takes (takes sd (r .control) (EndResponse m (replyOf x))) _ r
+user-same sd r (EndServiceResponse m x h) =
+    call-does sd r (parameters 0 0 x 0 0 0 Absent) _ (EndResponse m (replyOf x)) _ refl (end-title x m h) (moved r (parameters 0 0 x 0 0 0 Absent) (goes (r .control) (EndResponse m (replyOf x))) n.nothing n.endAnswer 0 n.untold 0) ∙ by-takes (takes sd (r .control) (EndResponse m (replyOf x))) _ r
 user-same sd r (UserAbortServiceRequest g x) =
     call-does sd r (userParameters (UserAbortServiceRequest g x)) n.userAbort UserAbort _ refl refl (moved r (userParameters (UserAbortServiceRequest g x)) closed n.nothing n.abortByUser 0 n.untold 0) ∙ by-takes (takes sd (r .control) UserAbort) _ r
 
@@ -196,7 +196,7 @@ module _ (sd : Side) (r : Record) (p : ServicePrimitive) (q : Primitive) (live :
   -- x: is it expected
   send-does : (x : Bool) (a : UserData) → outcomeOf r (serviceParameters p a) (handedOut (r .control) q n.asIs n.asIs y) ≡ instructed r p a
       → outcomeOf r (serviceParameters p a) (answerOut (r .control) (handedOut (r .control) q n.asIs n.asIs y) (cond (not x) (NoInstruction true) (cond (eqb (sendCondition a) n.noPdu) Missing (cond (eqb (sendCondition a) n.invalidPdu) (Invalid live) (cond (eqb (sendCondition a) n.send) NoFault (NotPermitted live))))))
-      ≡ answered r p a (cond (not x) (NoInstruction true) (pduFault (isSend a) live live a NoFault))
+      ≡ answered r p a (cond (not x) (NoInstruction true) (pduFault false (isSend a) live live a NoFault))
   unfolding pduFault answered
   send-does false a h = fault-does r p a (handedOut (r .control) q n.asIs n.asIs y) (NoInstruction true) refl
   send-does true Absent h = fault-does r p Absent (handedOut (r .control) q n.asIs n.asIs y) Missing refl
@@ -339,7 +339,7 @@ indication-good sd r x s v q a = good-cond sd (not (qosFits q)) _ _ (quality-goo
 module _ (r : Record) (x s v : ℕ) (q : Qos) where
   -- the rest of its fault at an IDLE record
   abbrev rest : Side → UserData → Bool → Fault
-  rest sd a i = pduFault (cond (fromCentre sd x) (isForward a) (isStartPdu a && (i && mayStart (other sd) (modeOf a)))) true true a (cond (peerFits sd x) NoFault (NoInstruction true))
+  rest sd a i = pduFault false (cond (fromCentre sd x) (isForward a) (isStartPdu a && (i && mayStart (other sd) (modeOf a)))) true true a (cond (peerFits sd x) NoFault (NoInstruction true))
 
   abbrev does : Side → ℕ → UserData → Outcome
   does sd k a = outcomeOf r (serviceParameters (DStartIndication x s q v) a) (answerOut (r .control) (startInstruction (r .control) k) (startFault sd k))
@@ -439,7 +439,7 @@ forwardOver = out closed n.no n.no n.nothing n.taken n.silent 0 n.forwardConfirm
 
 -- its response's fault in FORWARD; b: accepted
 abbrev responding : Bool → UserData → Fault
-responding b a = cond b (pduFault false true true a NoFault) (pduFault (isResponse a) false true a NoFault)
+responding b a = cond b (pduFault false false true true a NoFault) (pduFault false (isResponse a) false true a NoFault)
 
 module _ (r : Record) (x o s v : ℕ) (a : UserData) where
   abbrev here : ServicePrimitive
@@ -461,7 +461,7 @@ unfolding instructed outcomeOf forwardConfirmed closes enter
 forward-over r x o s v w = refl
 
 -- a start's confirmation whose PDU decides
-sent-back : (r : Record) (x o s v : ℕ) (b : Reply) (a : UserData) → replyOf x ≡ b → does-at r x o s v a b (answerCondition a) (confirmedFault b (answerCondition a)) ≡ answered r (DStartConfirmation x o s v) a (pduFault (isSend a) (isAccepted b) true a NoFault)
+sent-back : (r : Record) (x o s v : ℕ) (b : Reply) (a : UserData) → replyOf x ≡ b → does-at r x o s v a b (answerCondition a) (confirmedFault b (answerCondition a)) ≡ answered r (DStartConfirmation x o s v) a (pduFault false (isSend a) (isAccepted b) true a NoFault)
 unfolding pduFault answered
 sent-back r x o s v b Absent e = fails-at r x o s v Absent b n.noPdu Missing refl
 sent-back r x o s v b NotValid e = fails-at r x o s v NotValid b n.invalidPdu (Invalid (isAccepted b)) refl
@@ -495,7 +495,7 @@ came-back r x o s v Rejected (ForwardResponse w) = forward-over r x o s v w
 -- e: expected, w: in FORWARD, t: turned away, l: security fits
 confirmation-does : (r : Record) (x o s v : ℕ) (b : Reply) (a : UserData) (e w t l : Bool) → replyOf x ≡ b
     → does-at r x o s v a b (cond t n.turnedAway (cond (not l) n.wrongSecurity (answerCondition a))) (cond (not e) (cond w (respondedFault b (cond t n.turnedAway (cond (not l) n.wrongSecurity (answerCondition a)))) (NoInstruction true)) (confirmedFault b (cond t n.turnedAway (cond (not l) n.wrongSecurity (answerCondition a)))))
-    ≡ answered r (DStartConfirmation x o s v) a (cond (not e) (cond w (cond t TurnedAway (cond (not l) (Security (isAccepted b)) (responding (isAccepted b) a))) (NoInstruction true)) (cond t TurnedAway (cond (not l) (Security (isAccepted b)) (pduFault (isSend a) (isAccepted b) true a NoFault))))
+    ≡ answered r (DStartConfirmation x o s v) a (cond (not e) (cond w (cond t TurnedAway (cond (not l) (Security (isAccepted b)) (responding (isAccepted b) a))) (NoInstruction true)) (cond t TurnedAway (cond (not l) (Security (isAccepted b)) (pduFault false (isSend a) (isAccepted b) true a NoFault))))
 confirmation-does r x o s v b a true w true l h = fails-at r x o s v a b n.turnedAway TurnedAway refl
 confirmation-does r x o s v b a true w false true h = sent-back r x o s v b a h
 confirmation-does r x o s v b a true w false false h = fails-at r x o s v a b n.wrongSecurity (Security (isAccepted b)) refl

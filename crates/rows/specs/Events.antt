@@ -23,10 +23,10 @@ use Rattle.rows.specs.Names.{startRequest, dscStartRequest, startRespons
 
 abbrev pub userTitle : UserPrimitive → ℕ
 userTitle (StartServiceRequest m k s) = cond (isDsc m) dscStartRequest startRequest
-userTitle (StartServiceResponse m x) = cond m (cond (eqb x accepted) dscStartResponseAccepted dscStartResponseRejected) (cond (eqb x accepted) startResponseAccepted startResponseRejected)
+userTitle (StartServiceResponse m x h) = cond m (cond (eqb x accepted) dscStartResponseAccepted dscStartResponseRejected) (cond (eqb x accepted) startResponseAccepted startResponseRejected)
 userTitle (MessageServiceRequest h j) = messageRequest
-userTitle (EndServiceRequest m) = cond m dscEndRequest endRequest
-userTitle (EndServiceResponse m x) = cond m (cond (eqb x accepted) dscEndResponseAccepted dscEndResponseRejected) (cond (eqb x accepted) endResponseAccepted endResponseRejected)
+userTitle (EndServiceRequest m h) = cond m dscEndRequest endRequest
+userTitle (EndServiceResponse m x h) = cond m (cond (eqb x accepted) dscEndResponseAccepted dscEndResponseRejected) (cond (eqb x accepted) endResponseAccepted endResponseRejected)
 userTitle (UserAbortServiceRequest g x) = userAbort
 
 abbrev pub serviceTitle : ServicePrimitive → ℕ
@@ -52,10 +52,10 @@ pduFirst a k = cond (isMissing a) noPdu (cond (isInvalid a) invalidPdu k)
 
 abbrev pub userCondition : Record → UserPrimitive → ℕ
 userCondition r (StartServiceRequest m k s) = plain
-userCondition r (StartServiceResponse m x) = plain
+userCondition r (StartServiceResponse m x h) = plain
 userCondition r (MessageServiceRequest h j) = cond (not h) noMessage (cond (leb j (r .highest)) repeat plain)
-userCondition r (EndServiceRequest m) = plain
-userCondition r (EndServiceResponse m x) = plain
+userCondition r (EndServiceRequest m h) = plain
+userCondition r (EndServiceResponse m x h) = plain
 userCondition r (UserAbortServiceRequest g x) = plain
 
 -- a forward message of a centre
@@ -98,10 +98,10 @@ parameters k s x j y v a = record { class = k; security = s; result = x; job = j
 
 abbrev pub userParameters : UserPrimitive → Parameters
 userParameters (StartServiceRequest m k s) = parameters k s 0 0 0 0 Absent
-userParameters (StartServiceResponse m x) = parameters 0 0 x 0 0 0 Absent
+userParameters (StartServiceResponse m x h) = parameters 0 0 x 0 0 0 Absent
 userParameters (MessageServiceRequest h j) = parameters 0 0 0 j 0 0 Absent
-userParameters (EndServiceRequest m) = parameters 0 0 0 0 0 0 Absent
-userParameters (EndServiceResponse m x) = parameters 0 0 x 0 0 0 Absent
+userParameters (EndServiceRequest m h) = parameters 0 0 0 0 0 0 Absent
+userParameters (EndServiceResponse m x h) = parameters 0 0 x 0 0 0 Absent
 userParameters (UserAbortServiceRequest g x) = parameters 0 0 0 0 (cond g x undefined) 0 Absent
 
 abbrev pub serviceParameters : ServicePrimitive → UserData → Parameters

@@ -57,7 +57,7 @@ fn user_title(u: UserPrimitive) -> u64
             codes::DSC_START_REQUEST,
             codes::START_REQUEST,
         ),
-        UserPrimitive::StartServiceResponse(dsc, x) => pick(
+        UserPrimitive::StartServiceResponse(dsc, x, _) => pick(
             dsc,
             pick(
                 x == ACCEPTED,
@@ -71,12 +71,12 @@ fn user_title(u: UserPrimitive) -> u64
             ),
         ),
         UserPrimitive::MessageServiceRequest(_, _) => codes::MESSAGE_REQUEST,
-        UserPrimitive::EndServiceRequest(dsc) => pick(
+        UserPrimitive::EndServiceRequest(dsc, _) => pick(
             dsc,
             codes::DSC_END_REQUEST,
             codes::END_REQUEST,
         ),
-        UserPrimitive::EndServiceResponse(dsc, x) => pick(
+        UserPrimitive::EndServiceResponse(dsc, x, _) => pick(
             dsc,
             pick(
                 x == ACCEPTED,
@@ -132,14 +132,14 @@ fn user_condition(r: Record, u: UserPrimitive) -> u64
 {
     match u {
         UserPrimitive::StartServiceRequest(_, _, _) => codes::PLAIN,
-        UserPrimitive::StartServiceResponse(_, _) => codes::PLAIN,
+        UserPrimitive::StartServiceResponse(_, _, _) => codes::PLAIN,
         UserPrimitive::MessageServiceRequest(holds, job) => pick(
             !holds,
             codes::NO_MESSAGE,
             pick(job <= r.highest, codes::REPEAT, codes::PLAIN),
         ),
-        UserPrimitive::EndServiceRequest(_) => codes::PLAIN,
-        UserPrimitive::EndServiceResponse(_, _) => codes::PLAIN,
+        UserPrimitive::EndServiceRequest(_, _) => codes::PLAIN,
+        UserPrimitive::EndServiceResponse(_, _, _) => codes::PLAIN,
         UserPrimitive::UserAbortServiceRequest(_, _) => codes::PLAIN,
     }
 }
@@ -321,7 +321,15 @@ fn user_parameters(u: UserPrimitive) -> Parameters
             0,
             UserData::Absent,
         ),
-        UserPrimitive::StartServiceResponse(_, x) => parameters(0, 0, x, 0, 0, 0, UserData::Absent),
+        UserPrimitive::StartServiceResponse(_, x, _) => parameters(
+            0,
+            0,
+            x,
+            0,
+            0,
+            0,
+            UserData::Absent,
+        ),
         UserPrimitive::MessageServiceRequest(_, j) => parameters(
             0,
             0,
@@ -331,8 +339,16 @@ fn user_parameters(u: UserPrimitive) -> Parameters
             0,
             UserData::Absent,
         ),
-        UserPrimitive::EndServiceRequest(_) => parameters(0, 0, 0, 0, 0, 0, UserData::Absent),
-        UserPrimitive::EndServiceResponse(_, x) => parameters(0, 0, x, 0, 0, 0, UserData::Absent),
+        UserPrimitive::EndServiceRequest(_, _) => parameters(0, 0, 0, 0, 0, 0, UserData::Absent),
+        UserPrimitive::EndServiceResponse(_, x, _) => parameters(
+            0,
+            0,
+            x,
+            0,
+            0,
+            0,
+            UserData::Absent,
+        ),
         UserPrimitive::UserAbortServiceRequest(g, x) => parameters(
             0,
             0,

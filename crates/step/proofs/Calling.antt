@@ -1,51 +1,70 @@
 -- The ways out of a call, as the code has them.
 -- Assumes nothing.
 use mathlib.Core.Path.{_≡_, refl, ap, sym, _∙_}
-use mathlib.Core.Bool.{Bool, true, false, cond}
-use mathlib.Core.List.{List}
-use Prim.Native.Nat.{ℕ, _+_, _*_, _%_, _≤_, _<_}
+use mathlib.Core.Bool.{Bool, true, false, not, cond, _&&_}
+use mathlib.Core.List.{List, _++_}
+use Prim.Native.Nat.{ℕ, _+_, _*_, _^_, _≤_, _<_}
 use native.Mathlib.Omega.{arith}
-use borrow.Author.Tests.{lt-ltb, le-ltb, eq-eqb, ne-eqb}
-use lib.ListN.{length}
-use Rattle.apdu.specs.Sizes.{bufferLeast}
-use Rattle.apdu.specs.Writing.{done, dataFits, forwardFits}
+use borrow.Author.Tests.{lt-ltb, le-ltb, le-leb, eq-eqb, ne-eqb, eqb-true, not-false}
+use lib.Dec.{eqb, ltb, leb}
+use lib.ListN.{length, length-append}
+use lib.Pow.{pow-pos}
+use Rattle.bits.specs.Bits.{bitsN, run}
+use Rattle.bits.specs.Put.{left, putRun, putIf, putNumber, putLed}
+use Rattle.bits.specs.declared.Put.{Put}
+use Rattle.bits.proofs.Numbers.{length-bitsN}
+use Rattle.bits.proofs.Bytes.{length-to, length-run, run-to}
+use Rattle.apdu.specs.Sizes.{allBits, bufferLeast, bit}
+use Rattle.apdu.specs.Pdus.{lent, itemsIn, pduIn, forwards, forward}
+use Rattle.apdu.specs.Encoding.{padding, pduBits}
+use Rattle.apdu.specs.Writing.{done, placeOf, writeOut, dataFits, partFits, itemsFit, forwardFits, apduFits}
+use Rattle.pdus.specs.declared.PduType.{PduType}
 use Rattle.apdu.specs.declared.Data.{Data}
 use Rattle.apdu.specs.declared.Forward.{Forward as Forwarded}
 use Rattle.apdu.specs.declared.Written.{Written}
-use Rattle.machine.specs.Outcome.{refusalNumber, isNone}
+use Rattle.apdu.specs.declared.Written.the-variants.{Bits}
+use Rattle.apdu.proofs.Writers.{written-out}
 use Rattle.control.specs.declared.Side.{Side}
+use Rattle.machine.specs.Event.{eventFits}
+use Rattle.machine.specs.Outcome.{refusalNumber, isNone, refused}
+use Rattle.machine.specs.Step.{stepFitting}
+use Rattle.machine.specs.UserData.{userDataFits}
 use Rattle.machine.specs.declared.record.Record.{Record}
 use Rattle.machine.specs.declared.event.UserData.{UserData}
-use Rattle.machine.specs.declared.event.UserData.the-variants.{Absent, NotValid}
+use Rattle.machine.specs.declared.event.UserData.the-variants.{Absent, NotValid, Start, Send, AbortUser, AbortProvider, Forward as ForwardPdu, ForwardResponse}
+use Rattle.machine.specs.declared.event.UserPrimitive.{UserPrimitive}
 use Rattle.machine.specs.declared.event.ServicePrimitive.{ServicePrimitive}
-use Rattle.machine.specs.declared.event.Event.{Event}
-use Rattle.machine.specs.declared.event.Event.the-variants.{Service}
+use Rattle.machine.specs.declared.event.Event.the-variants.{User, Service}
 use Rattle.machine.specs.declared.event.Event.the-variants.{Forward as ForwardRequested}
-use Rattle.apdu.specs.declared.Apdu.{Apdu}
-use Rattle.apdu.specs.declared.Decoded.{Decoded}
-use Rattle.apdu.specs.declared.Decoded.the-variants as decoded
-use Rattle.fields.specs.declared.Refusal.{Refusal}
 use Rattle.machine.specs.declared.outcome.Outcome.{Outcome}
-use Rattle.numbered.specs.Numbers.{heldAfter, numberedStep}
-use Rattle.stored.specs.Stored.{loadAt, storeAt, kept}
-use Rattle.packed.specs.Packed.{packed, invokedNumber, toldNumber, versionNumber}
-use Rattle.step.specs.Call.{Carried, Called, called, carriesData, carriesForward, carriedBy, bitsOfWritten, firstTakes, passes, secondTakes, finished, concluded, eventStep, withRecord, entering, userStep, forwardStep, meaning, readPdu, noData, dataStep, bareStep, serviceStep, noForward, carries, dataOf, forwardOf}
+use Rattle.machine.specs.declared.outcome.StepRefusal.{StepRefusal}
+use Rattle.machine.specs.declared.outcome.StepRefusal.the-variants.{Shape, Stale}
+use Rattle.numbered.specs.Numbers.{serviceStarts, isStart, isService, isStale, heldAfter, numberedStep}
+use Rattle.numbered.proofs.Laws.{shape-first, then-stale, then-fitting}
+use Rattle.stored.specs.Stored.{loadAt, storeAt}
 use Rattle.stored.specs.declared.Loaded.{Loaded}
 use Rattle.stored.specs.declared.Loaded.the-variants.{Is, NoRecord}
+use Rattle.packed.specs.Packed.{packed, invokedNumber, toldNumber, versionNumber}
+use Rattle.step.specs.Call.{Carried, Called, called, carriesData, carriedBy, noData, bitsOfWritten, pdusOf, firstTakes, passes, secondTakes, finished, concluded, eventStep, withRecord, entering, userStep, forwardStep, readsAs, readPdu, meaning, dataStep, bareStep, serviceStep}
+use Rattle.step.specs.Handing.{came, arrivalOf, arrived, ledRun, deliveredOf, isGiven, isReply, replyTakes, Settled, settled, concludedOf, hostEvent}
+use Rattle.step.specs.declared.arrived.Arrival.{Arrival}
+use Rattle.step.proofs.Fitting.{read-fits, codes-same}
+use Rattle.step.proofs.Hands.{Hands, Quiet, service-hands, service-replies, host-replies, host-quiet, user-given, user-quiet, forward-quiet, forward-sends}
+use Rattle.step.proofs.Runs.{bare-second, no, pdu-handed, arrival-pdu}
+use Rattle.step.proofs.Taken.{never}
 
--- ---- after the step
+-- ---- the answer to a primitive of the dialogue service has no message data
 
-module _ (r a b : List ℕ) (sd : Side) (held : ℕ) (o : Outcome) (li lm lc : List ℕ) (d : Carried) (t : Bool) (p : t ≡ isNone (o .refusal)) where
-  pub is-refused : (n : ℕ) → t ≡ false → n ≡ refusalNumber (o .refusal) → called n r a b ≡ concluded r a b sd held o li lm lc d
-  unfolding concluded
-  is-refused n q e = rw (← p, q, e)
-
-  pub is-taken : t ≡ true → (w v : Written) (a′ b′ : List ℕ) → done w a′ ≡ firstTakes sd li lm lc d (o .apdu) a → (y : Bool) → y ≡ passes (o .told) → done v b′ ≡ secondTakes li lm lc d y (o .delivers) b
-      → (x : Bool) (r′ : List ℕ) → kept x r′ ≡ storeAt r sd (o .next) held
-      → (m n k : ℕ) → m ≡ bitsOfWritten w → n ≡ bitsOfWritten v → k ≡ packed (invokedNumber (o .invoked)) (toldNumber (o .told)) m n (versionNumber (o .invoked) (o .told))
-      → called k r′ a′ b′ ≡ concluded r a b sd held o li lm lc d
-  unfolding concluded finished
-  is-taken q w v a′ b′ e y ey f x r′ g m n k em en ek = rw (← p, q, ← e, ← ey, ← f, ← g, ek, em, en)
+pub reply-same : (sd : Side) (li lm lc : List ℕ) (d : Carried) (a : UserData) (s : List ℕ) → isReply a ≡ true → firstTakes sd li lm lc d a s ≡ replyTakes sd a s
+unfolding firstTakes apduFits pduIn
+reply-same sd li lm lc d Absent s h = refl
+reply-same sd li lm lc d NotValid s h = never h
+reply-same sd li lm lc d (Start m) s h = never h
+reply-same sd li lm lc d Send s h = never h
+reply-same sd li lm lc d (AbortUser x) s h = never h
+reply-same sd li lm lc d (AbortProvider x) s h = refl
+reply-same sd li lm lc d ForwardPdu s h = never h
+reply-same sd li lm lc d (ForwardResponse x) s h = refl
 
 -- ---- before the step
 
@@ -71,60 +90,206 @@ module _ (r a b : List ℕ) (k : Side → Record → ℕ → Called) where
     unfolding withRecord
     with-record sd x n o q e = e ∙ rw (enters, q)
 
--- an event with its dialogue number
-pub event-steps : (r a b : List ℕ) (e : Event) (v : ℕ) (li lm lc : List ℕ) (d : Carried) (sd : Side) (x : Record) (n : ℕ) (o : Outcome) (m : ℕ) (z : Called) → o ≡ numberedStep sd x n e v → m ≡ heldAfter n e v → z ≡ concluded r a b sd m o li lm lc d → z ≡ eventStep r a b e v li lm lc d sd x n
-event-steps r a b e v li lm lc d sd x n o m z f g h = h ∙ rw (f, g)
+-- ---- the end of a call
 
-module _ (r a b : List ℕ) (k s v : ℕ) (lm : List ℕ) (f : Forwarded) (sd : Side) (x : Record) (n : ℕ) (t : Bool) (p : t ≡ forwardFits lm f) where
-  pub no-forward-shape : t ≡ false → called 2 r a b ≡ forwardStep r a b k s v lm f sd x n
-  unfolding forwardStep
-  no-forward-shape q = rw (← p, q)
+-- what is settled with an outcome: the number that the call answers, and the record
+abbrev pub Settles : List ℕ → Side → Outcome → ℕ → ℕ → ℕ → ℕ → List ℕ → Type 0
+Settles r sd o n w z j r′ = settled j r′ ≡ settled (packed (invokedNumber (o .invoked)) (toldNumber (o .told)) w z (versionNumber (o .invoked) (o .told))) (storeAt r sd (o .next) n .bytes)
 
-  pub forward-steps : (d : Data) (z : Called) → t ≡ true → d ≡ noData → z ≡ eventStep r a b (ForwardRequested k s) v lm lm lm (carries d f) sd x n → z ≡ forwardStep r a b k s v lm f sd x n
-  unfolding forwardStep
-  forward-steps d z q h e = e ∙ rw (← p, q, h)
+module _ (r a b : List ℕ) (sd : Side) (n : ℕ) (o : Outcome) (x : Arrival) (l : List ℕ) (t : Bool) (pt : t ≡ isNone (o .refusal)) where
+  pub is-refused : (j : ℕ) → t ≡ false → j ≡ refusalNumber (o .refusal) → called j r a b ≡ concludedOf r a b sd n o x l
+  unfolding concludedOf
+  is-refused j q e = rw (← pt, q, e)
 
-module _ (r a b : List ℕ) (e : Event) (v : ℕ) (li lm lc : List ℕ) (d : Data) (sd : Side) (x : Record) (n : ℕ) (t : Bool) (p : t ≡ dataFits li lm lc d) where
-  pub no-shape : t ≡ false → called 2 r a b ≡ userStep r a b e v li lm lc d sd x n
+  pub is-taken : t ≡ true → (w z : Written) (a′ b′ : List ℕ) → done w a′ ≡ replyTakes sd (o .apdu) a → done z b′ ≡ deliveredOf l x o b → (j : ℕ) (r′ : List ℕ) → Settles r sd o n (bitsOfWritten w) (bitsOfWritten z) j r′ → called j r′ a′ b′ ≡ concludedOf r a b sd n o x l
+  unfolding concludedOf finished
+  is-taken q w z a′ b′ e i j r′ g =
+      let g₁ = ap (λ (y : Settled). y .number) g in
+      let g₂ = ap (λ (y : Settled). y .bytes) g in
+      rw (← pt, q, ← e, ← i, g₁, g₂)
+
+-- ---- a user primitive
+
+module _ (r a b : List ℕ) (u : UserPrimitive) (v : ℕ) (li lm lc : List ℕ) (d : Data) (sd : Side) (x : Record) (n : ℕ) (t : Bool) (pt : t ≡ dataFits li lm lc d) where
+  pub no-shape : t ≡ false → called 2 r a b ≡ userStep numberedStep r a b (User u) v li lm lc d sd x n
   unfolding userStep
-  no-shape q = rw (← p, q)
+  no-shape q = rw (← pt, q)
 
-  pub steps : (y : Forwarded) (z : Called) → t ≡ true → y ≡ noForward → z ≡ eventStep r a b e v li lm lc (carries d y) sd x n → z ≡ userStep r a b e v li lm lc d sd x n
-  unfolding userStep
-  steps y z q h g = g ∙ rw (← p, q, h)
+  module _ (q : t ≡ true) (o : Outcome) (po : o ≡ numberedStep sd x n (User u) v) (y : Bool) (py : y ≡ isNone (o .refusal)) where
+    pub user-refused : (j : ℕ) → y ≡ false → j ≡ refusalNumber (o .refusal) → called j r a b ≡ userStep numberedStep r a b (User u) v li lm lc d sd x n
+    unfolding userStep concluded
+    user-refused j k i = rw (← pt, q, ← po, ← py, k, i)
+
+    pub user-taken : y ≡ true → (w : Written) (a′ : List ℕ) → done w a′ ≡ firstTakes sd li lm lc (carriesData d) (o .apdu) a → (m : ℕ) → m ≡ heldAfter n (User u) v → (j : ℕ) (r′ : List ℕ) → Settles r sd o m (bitsOfWritten w) 0 j r′ → called j r′ a′ b ≡ userStep numberedStep r a b (User u) v li lm lc d sd x n
+    unfolding userStep concluded finished secondTakes
+    user-taken k w a′ i m em j r′ g =
+        let z : Quiet o = rw po (user-quiet sd x n u v) in
+        let g₁ = ap (λ (y : Settled). y .number) g in
+        let g₂ = ap (λ (y : Settled). y .bytes) g in
+        rw (← pt, q, ← po, ← py, k, ← i, z .told, z .delivers, ← em, g₁, g₂)
+
+-- the APDU that it sends
+pub gives : (sd : Side) (x : Record) (n : ℕ) (u : UserPrimitive) (v : ℕ) (o : Outcome) → o ≡ numberedStep sd x n (User u) v → isGiven (o .apdu) ≡ true
+gives sd x n u v o po = rw po (user-given sd x n u v)
+
+-- ---- an expiry, a system error
+
+host-fits : (sd : Side) (t : Bool) → eventFits sd (hostEvent t) ≡ true
+unfolding eventFits
+host-fits sd true = refl
+host-fits sd false = refl
+
+host-fresh : (n : ℕ) (t : Bool) → isStale n (hostEvent t) 0 ≡ false
+unfolding isStale isStart isService
+host-fresh n true = refl
+host-fresh n false = refl
+
+host-held : (n : ℕ) (t : Bool) → heldAfter n (hostEvent t) 0 ≡ n
+unfolding heldAfter isStart
+host-held n true = refl
+host-held n false = refl
+
+none-fits : (li lm lc : List ℕ) → dataFits li lm lc noData ≡ true
+unfolding dataFits partFits itemsFit
+none-fits li lm lc = rw (le-leb (0 + 1 * 0) (length lc) (omega arith))
+
+module _ (r a b : List ℕ) (t : Bool) (li lm lc : List ℕ) (sd : Side) (x : Record) (n : ℕ) (o : Outcome) (po : o ≡ stepFitting sd x (hostEvent t)) (y : Bool) (py : y ≡ isNone (o .refusal)) where
+  host-steps : o ≡ numberedStep sd x n (hostEvent t) 0
+  host-steps = po ∙ sym (then-fitting sd x n (hostEvent t) 0 (host-fits sd t) (host-fresh n t))
+
+  pub host-refused : (j : ℕ) → y ≡ false → j ≡ refusalNumber (o .refusal) → called j r a b ≡ userStep numberedStep r a b (hostEvent t) 0 li lm lc noData sd x n
+  unfolding userStep concluded
+  host-refused j k i = rw (none-fits li lm lc, ← host-steps, ← py, k, i)
+
+  pub host-taken : y ≡ true → (w : Written) (a′ : List ℕ) → done w a′ ≡ replyTakes sd (o .apdu) a → (j : ℕ) (r′ : List ℕ) → Settles r sd o n (bitsOfWritten w) 0 j r′ → called j r′ a′ b ≡ userStep numberedStep r a b (hostEvent t) 0 li lm lc noData sd x n
+  unfolding userStep concluded finished secondTakes
+  host-taken k w a′ i j r′ g =
+      let z : Quiet o = rw po (host-quiet sd x t) in
+      let s : isReply (o .apdu) ≡ true = rw po (host-replies sd x t) in
+      let g₁ = ap (λ (y : Settled). y .number) g in
+      let g₂ = ap (λ (y : Settled). y .bytes) g in
+      rw (none-fits li lm lc, ← host-steps, ← py, k, reply-same sd li lm lc (carriesData noData) (o .apdu) a s, ← i, z .told, z .delivers, host-held n t, g₁, g₂)
+
+pub host-answers : (sd : Side) (x : Record) (t : Bool) (o : Outcome) → o ≡ stepFitting sd x (hostEvent t) → isReply (o .apdu) ≡ true
+host-answers sd x t o po = rw po (host-replies sd x t)
+
+-- ---- a forward request
+
+module _ (r a b : List ℕ) (k s v : ℕ) (lm : List ℕ) (f : Forwarded) (sd : Side) (x : Record) (n : ℕ) (t : Bool) (pt : t ≡ forwardFits lm f) where
+  pub no-forward-shape : t ≡ false → called 2 r a b ≡ forwardStep numberedStep r a b k s v lm f sd x n
+  unfolding forwardStep
+  no-forward-shape q = rw (← pt, q)
+
+  module _ (q : t ≡ true) (o : Outcome) (po : o ≡ numberedStep sd x n (ForwardRequested k s) v) (y : Bool) (py : y ≡ isNone (o .refusal)) where
+    pub forward-refused : (j : ℕ) → y ≡ false → j ≡ refusalNumber (o .refusal) → called j r a b ≡ forwardStep numberedStep r a b k s v lm f sd x n
+    unfolding forwardStep concluded
+    forward-refused j z i = rw (← pt, q, ← po, ← py, z, i)
+
+    pub forward-taken : y ≡ true → (w : Written) (a′ : List ℕ) (c : PduType) → c ≡ pdusOf sd → done w a′ ≡ writeOut (forwards c && forwardFits lm f) a (pduBits c (forward (f .heading) (itemsIn lm bit (f .message)))) → (j : ℕ) (r′ : List ℕ) → Settles r sd o v (bitsOfWritten w) 0 j r′ → called j r′ a′ b ≡ forwardStep numberedStep r a b k s v lm f sd x n
+    unfolding forwardStep concluded finished secondTakes firstTakes apduFits pduIn heldAfter isStart
+    forward-taken z w a′ c ec i j r′ g =
+        let h : Quiet o = rw po (forward-quiet sd x n k s v) in
+        let e : o .apdu ≡ ForwardPdu = rw po (forward-sends sd x n k s v (rw (← po) (sym py ∙ z))) in
+        let g₁ = ap (λ (y : Settled). y .number) g in
+        let g₂ = ap (λ (y : Settled). y .bytes) g in
+        rw (← pt, q, ← po, ← py, z, e, ← ec, ← i, h .told, h .delivers, g₁, g₂)
 
 -- ---- a dialogue-service primitive
 
+held-number : (n : ℕ) (p : ServicePrimitive) (u : UserData) (v : ℕ) → isStale n (Service p u) v ≡ false → heldAfter n (Service p u) v ≡ v
+unfolding isStale heldAfter isStart isService
+held-number n p u v h = go (serviceStarts p) h
+  where
+    go : (t : Bool) → cond t (not (ltb n v)) (true && not (eqb v n)) ≡ false → cond t v n ≡ v
+    go true e = refl
+    go false e = sym (eqb-true v n (not-false (eqb v n) e))
+
 module _ (r a b : List ℕ) (p : ServicePrimitive) (v : ℕ) (l : List ℕ) (sd : Side) (x : Record) (n : ℕ) where
-  pub bare-steps : (m : UserData) (y : Data) (w : Forwarded) (z : Called) → y ≡ noData → w ≡ noForward → z ≡ eventStep r a b (Service p m) v l l l (carries y w) sd x n → z ≡ eventStep r a b (Service p m) v l l l (carriesData noData) sd x n
-  bare-steps m y w z py pw e = e ∙ rw (py, pw)
-
-  pub content-steps : (m : UserData) (d : Data) (w : Forwarded) (z : Called) → w ≡ noForward → z ≡ eventStep r a b (Service p m) v l l l (carries d w) sd x n → z ≡ eventStep r a b (Service p m) v l l l (carriesData d) sd x n
-  content-steps m d w z pw e = e ∙ rw pw
-
-  pub passed-steps : (m : UserData) (y : Data) (f : Forwarded) (z : Called) → y ≡ noData → z ≡ eventStep r a b (Service p m) v l l l (carries y f) sd x n → z ≡ eventStep r a b (Service p m) v l l l (carriesForward f) sd x n
-  passed-steps m y f z py e = e ∙ rw py
-
-  pub as-pdu : (c : Apdu) (m : UserData) (d : Data) (w : Forwarded) (z : Called) → z ≡ eventStep r a b (Service p m) v l l l (carries d w) sd x n → m ≡ meaning (decoded.Is c) → d ≡ dataOf (decoded.Is c) → w ≡ forwardOf (decoded.Is c)
-      → z ≡ eventStep r a b (Service p (meaning (decoded.Is c))) v l l l (carriedBy (decoded.Is c)) sd x n
-  as-pdu c m d w z e pm pd pw = e ∙ rw (pm, pd, pw)
-
-  pub pdu-steps : (f : Decoded) (c : Apdu) (z : Called) → f ≡ readPdu sd (x .control) p l → f ≡ decoded.Is c → z ≡ eventStep r a b (Service p (meaning (decoded.Is c))) v l l l (carriedBy (decoded.Is c)) sd x n → z ≡ dataStep r a b p v l sd x n
-  unfolding dataStep
-  pdu-steps f c z pf q e = e ∙ rw (sym q ∙ pf)
-
-  pub no-pdu-steps : (f : Decoded) (y : Refusal) (z : Called) → f ≡ readPdu sd (x .control) p l → f ≡ decoded.Refused y → z ≡ eventStep r a b (Service p NotValid) v l l l (carriesData noData) sd x n → z ≡ dataStep r a b p v l sd x n
-  unfolding dataStep meaning dataOf forwardOf
-  no-pdu-steps f y z pf q e = e ∙ rw (← pf, q)
-
-  pub given-odd : (g : ℕ) → 1 < g → called 2 r a b ≡ serviceStep r a b p v g l sd x n
+  pub given-odd : (g : ℕ) → 1 < g → called 2 r a b ≡ serviceStep numberedStep r a b p v g l sd x n
   unfolding serviceStep
   given-odd g h = rw (lt-ltb 1 g h)
 
-  pub given-data : (g : ℕ) (z : Called) → g ≡ 1 → z ≡ dataStep r a b p v l sd x n → z ≡ serviceStep r a b p v g l sd x n
-  unfolding serviceStep
-  given-data g z h e = e ∙ rw h
+  -- ---- refused before the user data are read
 
-  pub given-none : (g : ℕ) (z : Called) → g ≤ 1 → (g ≡ 1 → ⊥) → z ≡ eventStep r a b (Service p Absent) v l l l (carriesData noData) sd x n → z ≡ serviceStep r a b p v g l sd x n
-  unfolding serviceStep bareStep
-  given-none g z h w e = e ∙ rw (le-ltb 1 g h, ne-eqb g 1 w)
+  refused-step : (u : UserData) (d : Carried) (w : StepRefusal) → numberedStep sd x n (Service p u) v ≡ refused w x → isNone w ≡ false → called (refusalNumber w) r a b ≡ eventStep numberedStep r a b (Service p u) v l l l d sd x n
+  unfolding concluded
+  refused-step u d w e h = rw (e, h)
+
+  module _ (k : userDataFits (meaning (readPdu sd (x .control) p l)) ≡ true) (g : ℕ) (h : g ≤ 1) where
+    unread : (w : StepRefusal) → isNone w ≡ false → ((u : UserData) → userDataFits u ≡ true → numberedStep sd x n (Service p u) v ≡ refused w x) → called (refusalNumber w) r a b ≡ serviceStep numberedStep r a b p v g l sd x n
+    unfolding serviceStep dataStep bareStep userDataFits
+    unread w q e = rw (le-ltb 1 g h) (go (eqb g 1))
+      where
+        go : (t : Bool) → called (refusalNumber w) r a b ≡ cond t (dataStep numberedStep r a b p v l sd x n) (bareStep numberedStep r a b p v l sd x n)
+        go true = refused-step (meaning (readPdu sd (x .control) p l)) (carriedBy (readPdu sd (x .control) p l)) w (e _ k) q
+        go false = refused-step Absent (carriesData noData) w (e Absent refl) q
+
+    module _ (t : Bool) (pt : t ≡ eventFits sd (Service p Absent)) where
+      codes : (u : UserData) → userDataFits u ≡ true → eventFits sd (Service p u) ≡ t
+      codes u f = codes-same sd p u f ∙ sym pt
+
+      pub codes-odd : t ≡ false → called 2 r a b ≡ serviceStep numberedStep r a b p v g l sd x n
+      codes-odd q = unread Shape refl (λ u f. shape-first sd x n (Service p u) v (codes u f ∙ q))
+
+      pub number-odd : t ≡ true → (y : Bool) → y ≡ isStale n (Service p Absent) v → y ≡ true → called 6 r a b ≡ serviceStep numberedStep r a b p v g l sd x n
+      unfolding isStale isStart isService
+      number-odd q y py qy = unread Stale refl (λ u f. then-stale sd x n (Service p u) v (codes u f ∙ q) (sym py ∙ qy))
+
+  -- ---- not refused: what came decides the step
+
+  event-served : (u : UserData) (d : Carried) (y : Arrival) → eventFits sd (Service p u) ≡ true → isStale n (Service p u) v ≡ false
+      → ((o : Outcome) → Hands u o → secondTakes l l l d (passes (o .told)) (o .delivers) b ≡ deliveredOf l y o b)
+      → concludedOf r a b sd v (stepFitting sd x (Service p u)) y l ≡ eventStep numberedStep r a b (Service p u) v l l l d sd x n
+  unfolding concludedOf concluded
+  event-served u d y f s k =
+      rw (then-fitting sd x n (Service p u) v f s, held-number n p u v s, reply-same sd l l l d (stepFitting sd x (Service p u) .apdu) a (service-replies sd x p u), k (stepFitting sd x (Service p u)) (service-hands sd x u p))
+
+-- the codes and the number are right with whatever was read
+module _ (r a b : List ℕ) (p : ServicePrimitive) (v : ℕ) (s : List ℕ) (sd : Side) (x : Record) (n g : ℕ) (h : g ≤ 1)
+    (t : Bool) (pt : t ≡ eventFits sd (Service p Absent)) (qt : t ≡ true) (w : Bool) (pw : w ≡ isStale n (Service p Absent) v) (qw : w ≡ false) where
+  right : (u : UserData) → userDataFits u ≡ true → eventFits sd (Service p u) ≡ true
+  right u f = codes-same sd p u f ∙ sym pt ∙ qt
+
+  fresh : (u : UserData) → isStale n (Service p u) v ≡ false
+  unfolding isStale isStart isService
+  fresh u = sym pw ∙ qw
+
+  abbrev there : Arrival
+  there = arrivalOf (readsAs sd (x .control) p) (readPdu sd (x .control) p (lent s))
+
+  with-data : concludedOf r a b sd v (stepFitting sd x (Service p (there .pdu))) there (lent s) ≡ dataStep numberedStep r a b p v (lent s) sd x n
+  unfolding dataStep
+  with-data =
+      ap (λ (m : UserData). concludedOf r a b sd v (stepFitting sd x (Service p m)) there (lent s)) (arrival-pdu (readsAs sd (x .control) p) (readPdu sd (x .control) p (lent s)))
+      ∙ (event-served r a b p v (lent s) sd x n (meaning (readPdu sd (x .control) p (lent s))) (carriedBy (readPdu sd (x .control) p (lent s))) there
+      (right _ (read-fits sd (x .control) p s)) (fresh _) (λ o k. pdu-handed sd (x .control) p s .second o b k))
+
+  without : concludedOf r a b sd v (stepFitting sd x (Service p Absent)) (came Absent 0 0) (lent s) ≡ bareStep numberedStep r a b p v (lent s) sd x n
+  unfolding bareStep userDataFits
+  without = event-served r a b p v (lent s) sd x n Absent (carriesData noData) (came Absent 0 0) (right Absent refl) (fresh Absent) (λ o k. bare-second (lent s) o b _ _ (no _ (k .forward)) (no _ (k .body)))
+
+  pub served : (y : Arrival) → y ≡ arrived sd (x .control) p g (lent s) → (o : Outcome) → o ≡ stepFitting sd x (Service p (y .pdu)) → (z : Called) → z ≡ concludedOf r a b sd v o y (lent s) → z ≡ serviceStep numberedStep r a b p v g (lent s) sd x n
+  unfolding serviceStep arrived
+  served y py o po z e = e ∙ rw (po, py, le-ltb 1 g h) (go (eqb g 1))
+    where
+      go : (c : Bool) → concludedOf r a b sd v (stepFitting sd x (Service p (cond c there (came Absent 0 0) .pdu))) (cond c there (came Absent 0 0)) (lent s) ≡ cond c (dataStep numberedStep r a b p v (lent s) sd x n) (bareStep numberedStep r a b p v (lent s) sd x n)
+      go true = with-data
+      go false = without
+
+pub answers : (sd : Side) (x : Record) (p : ServicePrimitive) (u : UserData) (o : Outcome) → o ≡ stepFitting sd x (Service p u) → isReply (o .apdu) ≡ true
+answers sd x p u o po = rw po (service-replies sd x p u)
+
+-- ---- bits handed on
+
+pub led-out : (s bytes z z′ : List ℕ) (lead from count n : ℕ) (r r′ : Put) → lead ≤ 1 → bufferLeast ≤ length s → from + count ≤ length (lent bytes) → count + 8 ≤ 8 * bufferLeast
+    → left r z ≡ putLed s allBits 0 lead 0 bytes allBits from count → n ≡ placeOf r → left r′ z′ ≡ putNumber z allBits n (padding n) 0
+    → done (Bits n) z′ ≡ writeOut true s (ledRun (lent bytes) lead from count)
+unfolding putLed putIf
+led-out s bytes z z′ lead from count n r r′ few room there most a i k =
+    let e = length-to bytes allBits in
+    let w : from + count ≤ 8 * length bytes = omega (arith, there, e) in
+    let f : left r z ≡ putRun s allBits 0 (bitsN lead 0 ++ run bytes from count) = a ∙ rw (le-leb lead 56 (omega arith), lt-ltb 0 (2 ^ lead) (pow-pos lead), le-leb (from + count) (length (lent bytes)) there) in
+    let g : length (bitsN lead 0 ++ run bytes from count) + 7 ≤ 8 * bufferLeast = omega (arith, length-append (bitsN lead 0) (run bytes from count), length-bitsN lead 0, length-run bytes from count w) in
+    let q : from + count ≤ allBits = omega (arith, there, e) in
+    written-out s z z′ (bitsN lead 0 ++ run bytes from count) true true n (padding n) r r′ room g refl refl f i refl k
+    ∙ ap (λ (y : List ℕ). writeOut true s (bitsN lead 0 ++ y)) (sym (run-to bytes allBits from count q))

@@ -17,7 +17,8 @@ use Rattle.machine.specs.declared.record.Record.{Record}
 use Rattle.machine.specs.declared.event.Event.{Event}
 use Rattle.machine.specs.declared.outcome.Outcome.{Outcome}
 use Rattle.stored.specs.Stored.{loadAt}
-use Rattle.step.specs.Call.{Carried, Called, carriesData, carriesForward, finished, concluded, withRecord, entering, userStep, userCall, forwardStep, forwardCall, dataStep, bareStep, serviceStep, serviceCall}
+use Rattle.numbered.specs.Numbers.{numberedStep}
+use Rattle.step.specs.Call.{Carried, Called, carriesData, carriesForward, finished, concluded, withRecord, entering, userStep, userCall, userBy, forwardStep, forwardCall, forwardBy, dataStep, bareStep, serviceStep, serviceCall, serviceBy}
 use Rattle.machine.specs.declared.event.ServicePrimitive.{ServicePrimitive}
 use Rattle.stored.specs.declared.Loaded.{Loaded}
 use Rattle.stored.specs.declared.Loaded.the-variants.{Is, NoRecord}
@@ -44,17 +45,17 @@ module _ (r a b : List ℕ) where
       (λ e. by-test (Leaves r a b) (ltb (length b) bufferLeast) _ _ (λ f n. (refl, refl, refl)) (λ f. with-leaves (loadAt r) k h))
 
   pub user-leaves : (e : Event) (v : ℕ) (ids msgs checks : List ℕ) (d : Data) → Leaves r a b (userCall r a b e v ids msgs checks d)
-  unfolding userCall userStep
+  unfolding userBy userStep
   user-leaves e v ids msgs checks d =
-      entering-leaves (userStep r a b e v (lent ids) (lent msgs) (lent checks) d) (λ sd x n. by-test (Leaves r a b) (dataFits (lent ids) (lent msgs) (lent checks) d) _ _ (λ h. concluded-leaves sd _ _ _ _ _ (carriesData d)) (λ h w. (refl, refl, refl)))
+      entering-leaves (userStep numberedStep r a b e v (lent ids) (lent msgs) (lent checks) d) (λ sd x n. by-test (Leaves r a b) (dataFits (lent ids) (lent msgs) (lent checks) d) _ _ (λ h. concluded-leaves sd _ _ _ _ _ (carriesData d)) (λ h w. (refl, refl, refl)))
 
   pub forward-leaves : (k s v : ℕ) (msgs : List ℕ) (f : Forward) → Leaves r a b (forwardCall r a b k s v msgs f)
-  unfolding forwardCall forwardStep
+  unfolding forwardBy forwardStep
   forward-leaves k s v msgs f =
-      entering-leaves (forwardStep r a b k s v (lent msgs) f) (λ sd x n. by-test (Leaves r a b) (forwardFits (lent msgs) f) _ _ (λ h. concluded-leaves sd _ _ _ _ _ (carriesForward f)) (λ h w. (refl, refl, refl)))
+      entering-leaves (forwardStep numberedStep r a b k s v (lent msgs) f) (λ sd x n. by-test (Leaves r a b) (forwardFits (lent msgs) f) _ _ (λ h. concluded-leaves sd _ _ _ _ _ (carriesForward f)) (λ h w. (refl, refl, refl)))
 
   pub service-leaves : (p : ServicePrimitive) (v given : ℕ) (bytes : List ℕ) → Leaves r a b (serviceCall r a b p v given bytes)
-  unfolding serviceCall serviceStep dataStep bareStep
+  unfolding serviceBy serviceStep dataStep bareStep
   service-leaves p v given bytes =
-      entering-leaves (serviceStep r a b p v given (lent bytes)) (λ sd x n. by-test (Leaves r a b) (ltb 1 given) _ _ (λ h w. (refl, refl, refl))
+      entering-leaves (serviceStep numberedStep r a b p v given (lent bytes)) (λ sd x n. by-test (Leaves r a b) (ltb 1 given) _ _ (λ h w. (refl, refl, refl))
       (λ h. by-test (Leaves r a b) (eqb given 1) _ _ (λ g. concluded-leaves sd _ _ _ _ _ _) (λ g. concluded-leaves sd _ _ _ _ _ _)))

@@ -95,10 +95,10 @@ hears a = record { user = false; body = false; message = false; apdu = a }
 
 abbrev pub brings : Event → Brings
 brings (User (StartServiceRequest m k s)) = asks true false
-brings (User (StartServiceResponse m x)) = asks true false
+brings (User (StartServiceResponse m x h)) = asks true false
 brings (User (MessageServiceRequest h j)) = asks true true
-brings (User (EndServiceRequest m)) = asks true false
-brings (User (EndServiceResponse m x)) = asks true false
+brings (User (EndServiceRequest m h)) = asks true false
+brings (User (EndServiceResponse m x h)) = asks true false
 brings (User (UserAbortServiceRequest g x)) = asks false false
 brings (ForwardRequested k s) = asks false false
 brings (Service p a) = hears a
@@ -170,10 +170,10 @@ pub record Fit (sd : Side) (v : Brings) (o : Outcome) : Type 0 where
 -- an event of a dialogue: the job of a message request is a number of eight bytes; no forward is asked for, and no start comes from a centre
 abbrev pub JobLow : Side → Event → Type 0
 JobLow sd (User (StartServiceRequest m k s)) = Unit {0}
-JobLow sd (User (StartServiceResponse m x)) = Unit {0}
+JobLow sd (User (StartServiceResponse m x h)) = Unit {0}
 JobLow sd (User (MessageServiceRequest h j)) = j < 2 ^ 64
-JobLow sd (User (EndServiceRequest m)) = Unit {0}
-JobLow sd (User (EndServiceResponse m x)) = Unit {0}
+JobLow sd (User (EndServiceRequest m h)) = Unit {0}
+JobLow sd (User (EndServiceResponse m x h)) = Unit {0}
 JobLow sd (User (UserAbortServiceRequest g x)) = Unit {0}
 JobLow sd (ForwardRequested k s) = ⊥
 JobLow sd (Service (DStartIndication x s q v) a) = fromCentre sd x ≡ false
@@ -318,13 +318,13 @@ module _ (sd : Side) (r : Record) (k : Coded r) (w : awaitsResponse (r .control)
       let hc = ltb-true c routingClasses (both-left (ltb c routingClasses) (ltb s securityValues) codes) in
       let hs = ltb-true s securityValues (both-right (ltb c routingClasses) (ltb s securityValues) codes) in
       sent-fits (withRequest (withUser (withTimer r true) true) s) (StartRequest (isDsc m)) _ _ false (record { request = hs; policy = k .policy; least = k .least; most = k .most; highest = k .highest }) w (start-writable sd (isDsc m) (isIdle (r .control)) t) refl (refl, omega arith, omega arith)
-  called-fits (StartServiceResponse m x) h t j =
+  called-fits (StartServiceResponse m x g) h t j =
       let hx = ltb-true x results h in
       let hp = k .policy in
       sent-fits r (StartResponse m (replyOf x)) _ _ false k w refl refl (omega arith, omega arith)
   called-fits (MessageServiceRequest b n) h t j = sent-fits (withJob r n) MessageRequest _ _ true (record { request = k .request; policy = k .policy; least = k .least; most = k .most; highest = j }) w refl refl tt
-  called-fits (EndServiceRequest m) h t j = sent-fits r (EndRequest m) _ _ false k w refl refl tt
-  called-fits (EndServiceResponse m x) h t j =
+  called-fits (EndServiceRequest m g) h t j = sent-fits r (EndRequest m) _ _ false k w refl refl tt
+  called-fits (EndServiceResponse m x g) h t j =
       let hx = ltb-true x results h in
       sent-fits r (EndResponse m (replyOf x)) _ _ false k w refl refl (omega arith)
   called-fits (UserAbortServiceRequest g x) h t j =

@@ -12,9 +12,9 @@ use Rattle.apdu.specs.Pdus.{lent, itemsIn, contentIn, pduIn}
 use Rattle.apdu.specs.Encoding.{pduBits, contentBits, forwardBits}
 use Rattle.apdu.specs.Reading.{apduAt}
 use Rattle.apdu.specs.Writing.{Done, done, writeOut, dataFits, forwardFits, apduFits}
-use Rattle.apdu.specs.declared.PduType.the-variants as pdu
-use Rattle.apdu.specs.declared.PduType.{PduType}
-use Rattle.apdu.specs.declared.Span.{Span}
+use Rattle.pdus.specs.declared.PduType.the-variants as pdu
+use Rattle.pdus.specs.declared.PduType.{PduType}
+use Rattle.pdus.specs.declared.Span.{Span}
 use Rattle.apdu.specs.declared.Part.{Part}
 use Rattle.apdu.specs.declared.Part.the-variants as part
 use Rattle.apdu.specs.declared.Data.{Data}
@@ -163,29 +163,7 @@ withRecord r a b NoRecord k = called shape r a b
 unfoldable pub entering : List ℕ → List ℕ → List ℕ → (Side → Record → ℕ → Called) → Called
 entering r a b k = cond (ltb (length a) bufferLeast) (called room r a b) (cond (ltb (length b) bufferLeast) (called room r a b) (withRecord r a b (loadAt r) k))
 
--- an event that brings the dialogue number v, at a record that holds n
-abbrev pub eventStep : List ℕ → List ℕ → List ℕ → Event → ℕ → List ℕ → List ℕ → List ℕ → Carried → Side → Record → ℕ → Called
-eventStep r a b e v li lm lc d sd x n = concluded r a b sd (heldAfter n e v) (numberedStep sd x n e v) li lm lc d
-
--- ---- a user primitive, an expiry or a system error; the message data stand in the lent bytes ids, msgs and checks
-
-unfoldable pub userStep : List ℕ → List ℕ → List ℕ → Event → ℕ → List ℕ → List ℕ → List ℕ → Data → Side → Record → ℕ → Called
-userStep r a b e v li lm lc d sd x n =
-    cond (dataFits li lm lc d) (eventStep r a b e v li lm lc (carriesData d) sd x n) (called shape r a b)
-
-unfoldable pub userCall : List ℕ → List ℕ → List ℕ → Event → ℕ → List ℕ → List ℕ → List ℕ → Data → Called
-userCall r a b e v ids msgs checks d = entering r a b (userStep r a b e v (lent ids) (lent msgs) (lent checks) d)
-
--- ---- a forward request with Class of Communication k and Security Required s, of the dialogue number v; the message's bits stand in the lent bytes msgs
-
-unfoldable pub forwardStep : List ℕ → List ℕ → List ℕ → ℕ → ℕ → ℕ → List ℕ → Forwarded → Side → Record → ℕ → Called
-forwardStep r a b k s v lm f sd x n =
-    cond (forwardFits lm f) (eventStep r a b (ForwardRequested k s) v lm lm lm (carriesForward f) sd x n) (called shape r a b)
-
-unfoldable pub forwardCall : List ℕ → List ℕ → List ℕ → ℕ → ℕ → ℕ → List ℕ → Forwarded → Called
-forwardCall r a b k s v msgs f = entering r a b (forwardStep r a b k s v (lent msgs) f)
-
--- ---- a dialogue-service primitive; its user data stands in lent bytes, or there is none
+-- ---- the user data of a dialogue-service primitive
 
 -- The type that the user data is read as. The air end reads GroundPDUs, the ground end AircraftPDUs; but what a facility sends in a D-START
 -- indication to the ground end, and the confirmation in FORWARD, are GroundPDUs (Doc 9705, 2.3.5.5.2.3, 2.3.5.5.3.3).
@@ -266,17 +244,58 @@ forwardOf (decoded.Is (is.ForwardResponse x)) = noForward
 abbrev pub carriedBy : Decoded → Carried
 carriedBy a = carries (dataOf a) (forwardOf a)
 
--- with user data, or without
-unfoldable pub dataStep : List ℕ → List ℕ → List ℕ → ServicePrimitive → ℕ → List ℕ → Side → Record → ℕ → Called
-dataStep r a b p v l sd x n = eventStep r a b (Service p (meaning (readPdu sd (x .control) p l))) v l l l (carriedBy (readPdu sd (x .control) p l)) sd x n
+-- ---- an engine: side, record, the number that the record holds, event, the number that the event brings
 
-unfoldable pub bareStep : List ℕ → List ℕ → List ℕ → ServicePrimitive → ℕ → List ℕ → Side → Record → ℕ → Called
-bareStep r a b p v l sd x n = eventStep r a b (Service p Absent) v l l l (carriesData noData) sd x n
+abbrev pub Engine : Type 0
+Engine = Side → Record → ℕ → Event → ℕ → Outcome
 
--- given: 0 no user data, 1 user data; another number is SHAPE
-unfoldable pub serviceStep : List ℕ → List ℕ → List ℕ → ServicePrimitive → ℕ → ℕ → List ℕ → Side → Record → ℕ → Called
-serviceStep r a b p v given l sd x n =
-    cond (ltb 1 given) (called shape r a b) (cond (eqb given 1) (dataStep r a b p v l sd x n) (bareStep r a b p v l sd x n))
+module _ (engine : Engine) where
+  -- an event that brings the dialogue number v, at a record that holds n
+  abbrev pub eventStep : List ℕ → List ℕ → List ℕ → Event → ℕ → List ℕ → List ℕ → List ℕ → Carried → Side → Record → ℕ → Called
+  eventStep r a b e v li lm lc d sd x n = concluded r a b sd (heldAfter n e v) (engine sd x n e v) li lm lc d
 
-unfoldable pub serviceCall : List ℕ → List ℕ → List ℕ → ServicePrimitive → ℕ → ℕ → List ℕ → Called
-serviceCall r a b p v given bytes = entering r a b (serviceStep r a b p v given (lent bytes))
+  -- ---- a user primitive, an expiry or a system error; the message data stand in the lent bytes ids, msgs and checks
+
+  unfoldable pub userStep : List ℕ → List ℕ → List ℕ → Event → ℕ → List ℕ → List ℕ → List ℕ → Data → Side → Record → ℕ → Called
+  userStep r a b e v li lm lc d sd x n =
+      cond (dataFits li lm lc d) (eventStep r a b e v li lm lc (carriesData d) sd x n) (called shape r a b)
+
+  unfoldable pub userBy : List ℕ → List ℕ → List ℕ → Event → ℕ → List ℕ → List ℕ → List ℕ → Data → Called
+  userBy r a b e v ids msgs checks d = entering r a b (userStep r a b e v (lent ids) (lent msgs) (lent checks) d)
+
+  -- ---- a forward request with Class of Communication k and Security Required s, of the dialogue number v; the message's bits stand in the lent bytes msgs
+
+  unfoldable pub forwardStep : List ℕ → List ℕ → List ℕ → ℕ → ℕ → ℕ → List ℕ → Forwarded → Side → Record → ℕ → Called
+  forwardStep r a b k s v lm f sd x n =
+      cond (forwardFits lm f) (eventStep r a b (ForwardRequested k s) v lm lm lm (carriesForward f) sd x n) (called shape r a b)
+
+  unfoldable pub forwardBy : List ℕ → List ℕ → List ℕ → ℕ → ℕ → ℕ → List ℕ → Forwarded → Called
+  forwardBy r a b k s v msgs f = entering r a b (forwardStep r a b k s v (lent msgs) f)
+
+  -- ---- a dialogue-service primitive; its user data stand in lent bytes, or there are none
+
+  -- with user data, or without
+  unfoldable pub dataStep : List ℕ → List ℕ → List ℕ → ServicePrimitive → ℕ → List ℕ → Side → Record → ℕ → Called
+  dataStep r a b p v l sd x n = eventStep r a b (Service p (meaning (readPdu sd (x .control) p l))) v l l l (carriedBy (readPdu sd (x .control) p l)) sd x n
+
+  unfoldable pub bareStep : List ℕ → List ℕ → List ℕ → ServicePrimitive → ℕ → List ℕ → Side → Record → ℕ → Called
+  bareStep r a b p v l sd x n = eventStep r a b (Service p Absent) v l l l (carriesData noData) sd x n
+
+  -- given: 0 no user data, 1 user data; another number is SHAPE
+  unfoldable pub serviceStep : List ℕ → List ℕ → List ℕ → ServicePrimitive → ℕ → ℕ → List ℕ → Side → Record → ℕ → Called
+  serviceStep r a b p v given l sd x n =
+      cond (ltb 1 given) (called shape r a b) (cond (eqb given 1) (dataStep r a b p v l sd x n) (bareStep r a b p v l sd x n))
+
+  unfoldable pub serviceBy : List ℕ → List ℕ → List ℕ → ServicePrimitive → ℕ → ℕ → List ℕ → Called
+  serviceBy r a b p v given bytes = entering r a b (serviceStep r a b p v given (lent bytes))
+
+-- ---- the card's calls: the engine is the machine's step with its dialogue number
+
+abbrev pub userCall : List ℕ → List ℕ → List ℕ → Event → ℕ → List ℕ → List ℕ → List ℕ → Data → Called
+userCall = userBy numberedStep
+
+abbrev pub forwardCall : List ℕ → List ℕ → List ℕ → ℕ → ℕ → ℕ → List ℕ → Forwarded → Called
+forwardCall = forwardBy numberedStep
+
+abbrev pub serviceCall : List ℕ → List ℕ → List ℕ → ServicePrimitive → ℕ → ℕ → List ℕ → Called
+serviceCall = serviceBy numberedStep

@@ -1,14 +1,28 @@
 // The user data of a dialogue-service primitive as it arrives: what it is read as.
 ghost use mathlib.Core.Path.{_≡_};
+ghost use Prim.Native.Nat.{_+_, _-_, _^_, _≤_, _<_};
 ghost use Rattle.apdu.specs.Pdus.{lent};
-ghost use Rattle.step.specs.Call.{abortOf, confirmationReads, orAbort, peerReads, readPdu, readsAgain, readsAs};
+ghost use Rattle.apdu.specs.Reading.{apduAt};
+ghost use Rattle.step.specs.Call.{confirmationReads, peerReads, readsAgain, readsAs};
+ghost use Rattle.step.specs.Handing.{abortIn, arrivalOf, arrived, came, orAgain, rootOf, sendAt, startAt};
 use apdu::Apdu;
+use apdu::Data;
 use apdu::Decoded;
-use apdu::PduType;
+use apdu::Forward;
 use control::Control;
 use control::Side;
 use control::awaits_response;
 use machine::event::ServicePrimitive;
+use machine::event::UserData;
+use pdus::PduType;
+
+// What came with a primitive: what it is to the machine, and the bits of it that a user may be handed. Of a forward message these are all of its
+// bits, of message data those behind the extension bit.
+pub struct Arrival {
+    pub pdu: UserData,
+    pub from: usize,
+    pub count: usize,
+}
 
 // The type that a facility's, or an aircraft's, D-START is read as.
 fn of_peer(peer: u64) -> PduType
@@ -78,39 +92,124 @@ fn reads_again(side: Side, p: ServicePrimitive) -> bool
     }
 }
 
+// Where the message data of a send begin.
+fn send_at(pdus: PduType) -> usize
+    ensures { λ n. ⌜ n ≡ sendAt pdus ⌝ }
+{
+    match pdus {
+        PduType::AircraftPdus => 3,
+        PduType::GroundPdus => 4,
+    }
+}
+
+// Where those of a start begin: the mode of a startdown stands before them.
+fn start_at(pdus: PduType, m: u64) -> usize
+    ensures { λ n. ⌜ n ≡ startAt pdus m ⌝ }
+{
+    match pdus {
+        PduType::AircraftPdus => { if m == 0 { 4 } else { 5 } }
+        PduType::GroundPdus => 4,
+    }
+}
+
+// Nothing is handed on.
+fn bare(m: UserData) -> Arrival
+    ensures { λ x. ⌜ x ≡ came m 0 0 ⌝ }
+{
+    Arrival {
+        pdu: m,
+        from: 0,
+        count: 0,
+    }
+}
+
+// Message data whose extension bit stands at a place.
+fn root_of(m: UserData, at: usize, d: Data) -> Arrival
+    requires { ⌜ (at + 1 ≤ d .check .at + d .check .count) × (d .check .at + d .check .count < 2 ^ 64) ⌝ }
+    ensures { λ x. ⌜ x ≡ rootOf m at d ⌝ }
+{
+    let check = d.check;
+    let from = at + 1;
+    Arrival {
+        pdu: m,
+        from,
+        count: check.at + check.count - from,
+    }
+}
+
+// A forward message, which stands behind the four bits of its alternative.
+fn forward_of(f: Forward) -> Arrival
+    requires { ⌜ (4 ≤ f .message .at + f .message .count) × (f .message .at + f .message .count < 2 ^ 64) ⌝ }
+    ensures { λ x. ⌜ x ≡ came UserData.Forward 4 (f .message .at + f .message .count - 4) ⌝ }
+{
+    let message = f.message;
+    Arrival {
+        pdu: UserData::Forward,
+        from: 4,
+        count: message.at + message.count - 4,
+    }
+}
+
+// User data read as a type. Refusals 10 to 17 mean "no valid PDU".
+fn read_as(bytes: &[u8], pdus: PduType) -> Arrival
+    ensures { λ x. ⌜ x ≡ arrivalOf pdus (apduAt pdus (lent (now (bytes .entry))) 0) ⌝ }
+{
+    let Decoded::Is(a) = apdu::read_apdu(bytes, pdus) else {
+        return bare(UserData::NotValid);
+    };
+    match a {
+        Apdu::AbortUser(x) => bare(UserData::AbortUser(x)),
+        Apdu::AbortProvider(x) => bare(UserData::AbortProvider(x)),
+        Apdu::Start(m, d) => root_of(UserData::Start(m == 1), start_at(pdus, m), d),
+        Apdu::Send(d) => root_of(UserData::Send, send_at(pdus), d),
+        Apdu::Forward(f) => forward_of(f),
+        Apdu::ForwardResponse(x) => bare(UserData::ForwardResponse(x)),
+    }
+}
+
 // Of a second reading only an abort by a provider counts.
-fn abort_of(first: Decoded, second: Apdu) -> Decoded
-    ensures { λ a. ⌜ a ≡ abortOf first second ⌝ }
+fn abort_in(x: Arrival, second: Apdu) -> Arrival
+    ensures { λ y. ⌜ y ≡ abortIn x second ⌝ }
 {
     match second {
-        Apdu::AbortUser(_) => first,
-        Apdu::AbortProvider(r) => Decoded::Is(Apdu::AbortProvider(r)),
-        Apdu::Start(_, _) => first,
-        Apdu::Send(_) => first,
-        Apdu::Forward(_) => first,
-        Apdu::ForwardResponse(_) => first,
+        Apdu::AbortUser(_) => x,
+        Apdu::AbortProvider(r) => bare(UserData::AbortProvider(r)),
+        Apdu::Start(_, _) => x,
+        Apdu::Send(_) => x,
+        Apdu::Forward(_) => x,
+        Apdu::ForwardResponse(_) => x,
     }
 }
 
-fn or_abort(first: Decoded, second: Decoded) -> Decoded
-    ensures { λ a. ⌜ a ≡ orAbort first second ⌝ }
+fn read_again(x: Arrival, bytes: &[u8]) -> Arrival
+    ensures { λ y. ⌜ y ≡ orAgain x (apduAt PduType.GroundPdus (lent (now (bytes .entry))) 0) ⌝ }
 {
-    let Decoded::Refused(_) = first else {
-        return first;
+    let m = x.pdu;
+    if m.kind() != UserData::NOT_VALID {
+        return x;
+    }
+    let Decoded::Is(a) = apdu::read_apdu(bytes, PduType::GroundPdus) else {
+        return x;
     };
-    let Decoded::Is(a) = second else {
-        return first;
-    };
-    abort_of(first, a)
+    abort_in(x, a)
 }
 
-// What the user data is, of which the types that may be there are tried.
-pub(crate) fn read_pdu(side: Side, c: Control, p: ServicePrimitive, bytes: &[u8]) -> Decoded
-    ensures { λ a. ⌜ a ≡ readPdu side c p (lent (now (bytes .entry))) ⌝ }
+// What came with a primitive, of which the types that may be there are tried: given 1 user data, 0 none.
+pub(crate) fn arrived(
+    side: Side,
+    c: Control,
+    p: ServicePrimitive,
+    given: u64,
+    bytes: &[u8],
+) -> Arrival
+    ensures { λ x. ⌜ x ≡ arrived side c p given (lent (now (bytes .entry))) ⌝ }
 {
-    let first = apdu::read_apdu(bytes, reads_as(side, c, p));
-    if reads_again(side, p) {
-        return or_abort(first, apdu::read_apdu(bytes, PduType::GroundPdus));
+    if given == 1 {
+        let x = read_as(bytes, reads_as(side, c, p));
+        if reads_again(side, p) {
+            return read_again(x, bytes);
+        }
+        return x;
     }
-    first
+    bare(UserData::Absent)
 }

@@ -1,31 +1,47 @@
 // The step on bytes.
 ghost use mathlib.Core.Path.{_≡_};
+ghost use mathlib.Core.Bool.{true};
+ghost use mathlib.Core.List.{[]};
+ghost use Prim.Native.Nat.{_+_, _*_, _≤_};
+ghost use lib.ListN.{length};
+ghost use Rattle.apdu.specs.Sizes.{bufferLeast};
 ghost use Rattle.apdu.specs.Pdus.{lent};
-ghost use Rattle.apdu.specs.Writing.{done};
-ghost use Rattle.step.specs.Call.{bitsOfWritten, called, carriedBy, carries, carriesData, carriesForward, concluded, dataStep, eventStep, firstTakes, forwardCall, meaning, noData, pdusOf, secondTakes, serviceCall, userCall};
-use crate::arrived::read_pdu;
-use crate::carried::no_data;
-use crate::carried::no_forward;
-use crate::carried::passes;
+ghost use Rattle.apdu.specs.Writing.{done, placeOf, writeOut};
+ghost use Rattle.machine.specs.Step.{stepFitting};
+ghost use Rattle.packed.specs.Packed.{invokedNumber, packed, toldNumber, versionNumber};
+ghost use Rattle.stored.specs.Stored.{storeAt};
+ghost use Rattle.step.specs.Call.{bitsOfWritten, called, carriesData, firstTakes, forwardCall, noData, passes, pdusOf, serviceCall, userCall};
+ghost use Rattle.step.specs.Handing.{concludedOf, deliveredOf, hostEvent, isGiven, isReply, ledRun, replyTakes, settled};
+use crate::arrived::Arrival;
+use crate::arrived::arrived;
 use apdu::Apdu;
 use apdu::Data;
-use apdu::Decoded;
 use apdu::Forward;
-use apdu::PduType;
 use apdu::Written;
+use bits::Put;
 use control::Side;
 use machine::event::Event;
 use machine::event::ServicePrimitive;
 use machine::event::UserData;
+use machine::event::UserPrimitive;
 use machine::outcome::Outcome;
+use machine::outcome::Told;
 use machine::record::Record;
 use numbered::held_after;
+use numbered::is_stale;
 use packed::answer;
 use packed::mode;
+use pdus::PduType;
 use stored::Loaded;
 use stored::load;
 use stored::store;
 use words::Limit;
+
+// Document 01's number of a dialogue number that is not right.
+const STALE: u64 = 6;
+
+// Every bit of what is lent.
+const ALL: usize = 18446744073709551615;
 
 fn pdus_of(s: Side) -> PduType
     ensures { λ p. ⌜ p ≡ pdusOf s ⌝ }
@@ -46,141 +62,127 @@ fn bits_of(w: Written) -> usize
     }
 }
 
-// The first buffer takes the APDU.
-fn write_first(
+// A forward indication hands the forward message on.
+fn passes(t: Told) -> bool
+    ensures { λ b. ⌜ b ≡ passes t ⌝ }
+{
+    match t {
+        Told::Untold => false,
+        Told::StartIndication(_, _) => false,
+        Told::StartConfirmation(_, _) => false,
+        Told::MessageIndication => false,
+        Told::EndIndication(_) => false,
+        Told::EndConfirmation(_, _) => false,
+        Told::UserAbortIndication(_) => false,
+        Told::ProviderAbortIndication(_) => false,
+        Told::ForwardIndication => true,
+        Told::ForwardConfirmation(_, _) => false,
+    }
+}
+
+// The first buffer takes the APDU of a user primitive.
+fn put_given(
     first: &mut [u8],
     side: Side,
     a: UserData,
-    content: Data,
-    forward: Forward,
+    d: Data,
     ids: &[u8],
     msgs: &[u8],
     checks: &[u8],
 ) -> Written
-    ensures { λ w. ⌜ done w (now (first .exit)) ≡ firstTakes side (lent (now (ids .entry))) (lent (now (msgs .entry))) (lent (now (checks .entry))) (carries content forward) a (now (first .entry)) ⌝ }
+    requires { ⌜ isGiven a ≡ true ⌝ }
+    ensures { λ w. ⌜ done w (now (first .exit)) ≡ firstTakes side (lent (now (ids .entry))) (lent (now (msgs .entry))) (lent (now (checks .entry))) (carriesData d) a (now (first .entry)) ⌝ }
 {
     let pdu = pdus_of(side);
     match a {
         UserData::Absent => Written::Bits(0),
         UserData::NotValid => Written::Bits(0),
-        UserData::Start(m) => apdu::put_start(first, pdu, mode(m), content, ids, msgs, checks),
-        UserData::Send => apdu::put_send(first, pdu, content, ids, msgs, checks),
+        UserData::Start(m) => apdu::put_start(first, pdu, mode(m), d, ids, msgs, checks),
+        UserData::Send => apdu::put_send(first, pdu, d, ids, msgs, checks),
         UserData::AbortUser(x) => apdu::put_abort_user(first, pdu, x),
+        UserData::AbortProvider(_) => Written::Bits(0),
+        UserData::Forward => Written::Bits(0),
+        UserData::ForwardResponse(_) => Written::Bits(0),
+    }
+}
+
+// It takes the answer to a primitive of the dialogue service.
+fn put_reply(first: &mut [u8], side: Side, a: UserData) -> Written
+    requires { ⌜ isReply a ≡ true ⌝ }
+    ensures { λ w. ⌜ done w (now (first .exit)) ≡ replyTakes side a (now (first .entry)) ⌝ }
+{
+    let pdu = pdus_of(side);
+    match a {
+        UserData::Absent => Written::Bits(0),
+        UserData::NotValid => Written::Bits(0),
+        UserData::Start(_) => Written::Bits(0),
+        UserData::Send => Written::Bits(0),
+        UserData::AbortUser(_) => Written::Bits(0),
         UserData::AbortProvider(x) => apdu::put_abort_provider(first, pdu, x),
-        UserData::Forward => apdu::put_forward_pdu(first, pdu, forward, msgs),
+        UserData::Forward => Written::Bits(0),
         UserData::ForwardResponse(x) => apdu::put_forward_response(first, pdu, x),
     }
 }
 
-// The second buffer takes the forward message that is passed on, or the message data that is delivered.
-fn write_second(
-    second: &mut [u8],
-    passed: bool,
-    delivers: bool,
-    content: Data,
-    forward: Forward,
-    ids: &[u8],
-    msgs: &[u8],
-    checks: &[u8],
-) -> Written
-    ensures { λ w. ⌜ done w (now (second .exit)) ≡ secondTakes (lent (now (ids .entry))) (lent (now (msgs .entry))) (lent (now (checks .entry))) (carries content forward) passed delivers (now (second .entry)) ⌝ }
+// The place after what was written.
+fn place(p: Put) -> usize
+    ensures { λ n. ⌜ n ≡ placeOf p ⌝ }
 {
-    if passed {
-        return apdu::put_forward(second, forward, msgs);
+    match p {
+        Put::Next(n) => n,
+        Put::Full => 0,
     }
-    if delivers {
-        return apdu::put_data(second, content, ids, msgs, checks);
+}
+
+// Bits that stand in lent bytes, behind lead bits 0.
+fn hand(second: &mut [u8], lead: usize, bytes: &[u8], from: usize, count: usize) -> Written
+    requires { ⌜ (lead ≤ 1) × (bufferLeast ≤ length (now second)) × (from + count ≤ length (lent (now bytes))) × (count + 8 ≤ 8 * bufferLeast) ⌝ }
+    ensures { λ w. ⌜ done w (now (second .exit)) ≡ writeOut true (now (second .entry)) (ledRun (lent (now (bytes .entry))) lead from count) ⌝ }
+{
+    let n = place(bits::put_led(second, ALL, 0, lead, 0, bytes, ALL, from, count));
+    bits::pad(second, ALL, n);
+    Written::Bits(n)
+}
+
+// The second buffer takes what the user is delivered.
+fn deliver(second: &mut [u8], o: Outcome, x: Arrival, bytes: &[u8]) -> Written
+    requires { ⌜ (bufferLeast ≤ length (now second)) × (x .from + x .count ≤ length (lent (now bytes))) × (x .count + 8 ≤ 8 * bufferLeast) ⌝ }
+    ensures { λ w. ⌜ done w (now (second .exit)) ≡ deliveredOf (lent (now (bytes .entry))) x o (now (second .entry)) ⌝ }
+{
+    let t = o.told;
+    if passes(t) {
+        return hand(second, 0, bytes, x.from, x.count);
+    }
+    if o.delivers {
+        return hand(second, 1, bytes, x.from, x.count);
     }
     Written::Bits(0)
 }
 
-// The outcome of a step: refused, and nothing changes; or the buffers are written and the record is kept, with the dialogue number that it holds now.
-fn conclude(
-    rec: &mut [u8],
-    first: &mut [u8],
-    second: &mut [u8],
-    side: Side,
-    number: u64,
-    o: Outcome,
-    ids: &[u8],
-    msgs: &[u8],
-    checks: &[u8],
-    content: Data,
-    forward: Forward,
-) -> u64
-    ensures { λ n. ⌜ called n (now (rec .exit)) (now (first .exit)) (now (second .exit)) ≡ concluded (now (rec .entry)) (now (first .entry)) (now (second .entry)) side number o (lent (now (ids .entry))) (lent (now (msgs .entry))) (lent (now (checks .entry))) (carries content forward) ⌝ }
+// The record is kept, with the dialogue number that it holds now, and the answer is made.
+fn settle(rec: &mut [u8], side: Side, number: u64, o: Outcome, sent: Written, out: Written) -> u64
+    ensures { λ n. ⌜ settled n (now (rec .exit)) ≡ settled (packed (invokedNumber (o .invoked)) (toldNumber (o .told)) (bitsOfWritten sent) (bitsOfWritten out) (versionNumber (o .invoked) (o .told))) (storeAt (now (rec .entry)) side (o .next) number .bytes) ⌝ }
 {
-    let why = o.refusal;
-    if why.is_none() {
-        let a = o.apdu;
-        let sent = write_first(first, side, a, content, forward, ids, msgs, checks);
-        let i = o.invoked;
-        let t = o.told;
-        let given = write_second(
-            second,
-            passes(t),
-            o.delivers,
-            content,
-            forward,
-            ids,
-            msgs,
-            checks,
-        );
-        let next = o.next;
-        store(rec, side, next, number);
-        return answer(i, t, bits_of(sent), bits_of(given));
-    }
-    why.number()
+    let next = o.next;
+    let i = o.invoked;
+    let t = o.told;
+    store(rec, side, next, number);
+    answer(i, t, bits_of(sent), bits_of(out))
 }
 
-// An event that brings a dialogue number, at a record that holds one.
-fn event_step(
-    rec: &mut [u8],
-    first: &mut [u8],
-    second: &mut [u8],
-    e: Event,
-    brought: u64,
-    ids: &[u8],
-    msgs: &[u8],
-    checks: &[u8],
-    content: Data,
-    forward: Forward,
-    side: Side,
-    r: Record,
-    held: u64,
-) -> u64
-    ensures { λ n. ⌜ called n (now (rec .exit)) (now (first .exit)) (now (second .exit)) ≡ eventStep (now (rec .entry)) (now (first .entry)) (now (second .entry)) e brought (lent (now (ids .entry))) (lent (now (msgs .entry))) (lent (now (checks .entry))) (carries content forward) side r held ⌝ }
-{
-    let o = numbered::step(side, r, held, e, brought);
-    let number = held_after(held, e, brought);
-    conclude(
-        rec,
-        first,
-        second,
-        side,
-        number,
-        o,
-        ids,
-        msgs,
-        checks,
-        content,
-        forward,
-    )
-}
-
-// A user primitive, an expiry or a system error, with the message data that the host gives. A start brings a dialogue number; the others bring none.
+// A user primitive with the message data that the host gives. A start brings a dialogue number; the others bring none.
 pub fn user_call(
     rec: &mut [u8],
     first: &mut [u8],
     second: &mut [u8],
-    e: Event,
+    u: UserPrimitive,
     brought: u64,
     ids: &[u8],
     msgs: &[u8],
     checks: &[u8],
     d: Data,
 ) -> u64
-    ensures { λ n. ⌜ called n (now (rec .exit)) (now (first .exit)) (now (second .exit)) ≡ userCall (now (rec .entry)) (now (first .entry)) (now (second .entry)) e brought (now (ids .entry)) (now (msgs .entry)) (now (checks .entry)) d ⌝ }
+    ensures { λ n. ⌜ called n (now (rec .exit)) (now (first .exit)) (now (second .exit)) ≡ userCall (now (rec .entry)) (now (first .entry)) (now (second .entry)) (Event.User u) brought (now (ids .entry)) (now (msgs .entry)) (now (checks .entry)) d ⌝ }
 {
     if first.len() < Apdu::BUFFER {
         return Limit::ROOM;
@@ -192,23 +194,49 @@ pub fn user_call(
         return Limit::SHAPE;
     };
     if apdu::data_fits(d, ids, msgs, checks) {
-        return event_step(
-            rec,
-            first,
-            second,
-            e,
-            brought,
-            ids,
-            msgs,
-            checks,
-            d,
-            no_forward(),
-            side,
-            r,
-            held,
-        );
+        let o = numbered::user_step(side, r, held, u, brought);
+        let why = o.refusal;
+        if why.is_none() {
+            let a = o.apdu;
+            let sent = put_given(first, side, a, d, ids, msgs, checks);
+            let number = held_after(held, Event::User(u), brought);
+            return settle(rec, side, number, o, sent, Written::Bits(0));
+        }
+        return why.number();
     }
     Limit::SHAPE
+}
+
+fn host_step(side: Side, r: Record, expiry: bool) -> Outcome
+    ensures { λ o. ⌜ o ≡ stepFitting side r (hostEvent expiry) ⌝ }
+{
+    if expiry {
+        return machine::timer_fitting(side, r);
+    }
+    machine::error_fitting(side, r)
+}
+
+// The expiry of t-start, or a system error.
+pub fn host_call(rec: &mut [u8], first: &mut [u8], second: &mut [u8], expiry: bool) -> u64
+    ensures { λ n. ⌜ called n (now (rec .exit)) (now (first .exit)) (now (second .exit)) ≡ userCall (now (rec .entry)) (now (first .entry)) (now (second .entry)) (hostEvent expiry) 0 [] [] [] noData ⌝ }
+{
+    if first.len() < Apdu::BUFFER {
+        return Limit::ROOM;
+    }
+    if second.len() < Apdu::BUFFER {
+        return Limit::ROOM;
+    }
+    let Loaded::Is(side, r, held) = load(rec) else {
+        return Limit::SHAPE;
+    };
+    let o = host_step(side, r, expiry);
+    let why = o.refusal;
+    if why.is_none() {
+        let a = o.apdu;
+        let sent = put_reply(first, side, a);
+        return settle(rec, side, held, o, sent, Written::Bits(0));
+    }
+    why.number()
 }
 
 // A forward request with its dialogue number, and the forward message that the host gives.
@@ -234,246 +262,43 @@ pub fn forward_call(
         return Limit::SHAPE;
     };
     if apdu::forward_fits(f, msgs) {
-        let e = Event::Forward(class, security);
-        return event_step(
-            rec,
-            first,
-            second,
-            e,
-            brought,
-            msgs,
-            msgs,
-            msgs,
-            no_data(),
-            f,
-            side,
-            r,
-            held,
-        );
+        let o = numbered::forward_step(side, r, held, class, security, brought);
+        let why = o.refusal;
+        if why.is_none() {
+            let sent = apdu::put_forward_pdu(first, pdus_of(side), f, msgs);
+            return settle(rec, side, brought, o, sent, Written::Bits(0));
+        }
+        return why.number();
     }
     Limit::SHAPE
 }
 
-// A primitive whose user data carry nothing, or that has none.
-fn bare_step(
+// The outcome of a step about what came: refused, and nothing changes; or the buffers are written and the record is kept.
+fn conclude(
     rec: &mut [u8],
     first: &mut [u8],
     second: &mut [u8],
-    p: ServicePrimitive,
-    brought: u64,
-    bytes: &[u8],
     side: Side,
-    r: Record,
-    held: u64,
-    m: UserData,
-) -> u64
-    ensures { λ n. ⌜ called n (now (rec .exit)) (now (first .exit)) (now (second .exit)) ≡ eventStep (now (rec .entry)) (now (first .entry)) (now (second .entry)) (Event.Service p m) brought (lent (now (bytes .entry))) (lent (now (bytes .entry))) (lent (now (bytes .entry))) (carriesData noData) side r held ⌝ }
-{
-    let e = Event::Service(p, m);
-    let content = no_data();
-    let forward = no_forward();
-    event_step(
-        rec,
-        first,
-        second,
-        e,
-        brought,
-        bytes,
-        bytes,
-        bytes,
-        content,
-        forward,
-        side,
-        r,
-        held,
-    )
-}
-
-// A primitive whose user data carry message data.
-fn content_step(
-    rec: &mut [u8],
-    first: &mut [u8],
-    second: &mut [u8],
-    p: ServicePrimitive,
-    brought: u64,
+    number: u64,
+    o: Outcome,
+    x: Arrival,
     bytes: &[u8],
-    side: Side,
-    r: Record,
-    held: u64,
-    m: UserData,
-    d: Data,
 ) -> u64
-    ensures { λ n. ⌜ called n (now (rec .exit)) (now (first .exit)) (now (second .exit)) ≡ eventStep (now (rec .entry)) (now (first .entry)) (now (second .entry)) (Event.Service p m) brought (lent (now (bytes .entry))) (lent (now (bytes .entry))) (lent (now (bytes .entry))) (carriesData d) side r held ⌝ }
+    requires { ⌜ (isReply (o .apdu) ≡ true) × (bufferLeast ≤ length (now second)) × (x .from + x .count ≤ length (lent (now bytes))) × (x .count + 8 ≤ 8 * bufferLeast) ⌝ }
+    ensures { λ n. ⌜ called n (now (rec .exit)) (now (first .exit)) (now (second .exit)) ≡ concludedOf (now (rec .entry)) (now (first .entry)) (now (second .entry)) side number o x (lent (now (bytes .entry))) ⌝ }
 {
-    let e = Event::Service(p, m);
-    let forward = no_forward();
-    event_step(
-        rec,
-        first,
-        second,
-        e,
-        brought,
-        bytes,
-        bytes,
-        bytes,
-        d,
-        forward,
-        side,
-        r,
-        held,
-    )
-}
-
-// A primitive whose user data carry a forward message.
-fn forward_step(
-    rec: &mut [u8],
-    first: &mut [u8],
-    second: &mut [u8],
-    p: ServicePrimitive,
-    brought: u64,
-    bytes: &[u8],
-    side: Side,
-    r: Record,
-    held: u64,
-    f: Forward,
-) -> u64
-    ensures { λ n. ⌜ called n (now (rec .exit)) (now (first .exit)) (now (second .exit)) ≡ eventStep (now (rec .entry)) (now (first .entry)) (now (second .entry)) (Event.Service p UserData.Forward) brought (lent (now (bytes .entry))) (lent (now (bytes .entry))) (lent (now (bytes .entry))) (carriesForward f) side r held ⌝ }
-{
-    let e = Event::Service(p, UserData::Forward);
-    let content = no_data();
-    event_step(
-        rec,
-        first,
-        second,
-        e,
-        brought,
-        bytes,
-        bytes,
-        bytes,
-        content,
-        f,
-        side,
-        r,
-        held,
-    )
-}
-
-// A primitive with an APDU: what it is decides the step, and what it carries is delivered or passed on.
-fn pdu_step(
-    rec: &mut [u8],
-    first: &mut [u8],
-    second: &mut [u8],
-    p: ServicePrimitive,
-    brought: u64,
-    bytes: &[u8],
-    side: Side,
-    r: Record,
-    held: u64,
-    a: Apdu,
-) -> u64
-    ensures { λ n. ⌜ called n (now (rec .exit)) (now (first .exit)) (now (second .exit)) ≡ eventStep (now (rec .entry)) (now (first .entry)) (now (second .entry)) (Event.Service p (meaning (Decoded.Is a))) brought (lent (now (bytes .entry))) (lent (now (bytes .entry))) (lent (now (bytes .entry))) (carriedBy (Decoded.Is a)) side r held ⌝ }
-{
-    match a {
-        Apdu::AbortUser(x) => bare_step(
-            rec,
-            first,
-            second,
-            p,
-            brought,
-            bytes,
-            side,
-            r,
-            held,
-            UserData::AbortUser(x),
-        ),
-        Apdu::AbortProvider(x) => bare_step(
-            rec,
-            first,
-            second,
-            p,
-            brought,
-            bytes,
-            side,
-            r,
-            held,
-            UserData::AbortProvider(x),
-        ),
-        Apdu::Start(m, d) => content_step(
-            rec,
-            first,
-            second,
-            p,
-            brought,
-            bytes,
-            side,
-            r,
-            held,
-            UserData::Start(m == 1),
-            d,
-        ),
-        Apdu::Send(d) => content_step(
-            rec,
-            first,
-            second,
-            p,
-            brought,
-            bytes,
-            side,
-            r,
-            held,
-            UserData::Send,
-            d,
-        ),
-        Apdu::Forward(f) => forward_step(rec, first, second, p, brought, bytes, side, r, held, f),
-        Apdu::ForwardResponse(x) => bare_step(
-            rec,
-            first,
-            second,
-            p,
-            brought,
-            bytes,
-            side,
-            r,
-            held,
-            UserData::ForwardResponse(x),
-        ),
+    let why = o.refusal;
+    if why.is_none() {
+        let a = o.apdu;
+        let sent = put_reply(first, side, a);
+        let out = deliver(second, o, x, bytes);
+        return settle(rec, side, number, o, sent, out);
     }
+    why.number()
 }
 
-// A primitive with user data. Refusals 10 to 17 mean "no valid PDU".
-fn data_step(
-    rec: &mut [u8],
-    first: &mut [u8],
-    second: &mut [u8],
-    p: ServicePrimitive,
-    brought: u64,
-    bytes: &[u8],
-    side: Side,
-    r: Record,
-    held: u64,
-) -> u64
-    ensures { λ n. ⌜ called n (now (rec .exit)) (now (first .exit)) (now (second .exit)) ≡ dataStep (now (rec .entry)) (now (first .entry)) (now (second .entry)) p brought (lent (now (bytes .entry))) side r held ⌝ }
-{
-    let c = r.control;
-    let pdu = read_pdu(side, c, p, bytes);
-    match pdu {
-        Decoded::Is(a) => pdu_step(rec, first, second, p, brought, bytes, side, r, held, a),
-        Decoded::Refused(_) => bare_step(
-            rec,
-            first,
-            second,
-            p,
-            brought,
-            bytes,
-            side,
-            r,
-            held,
-            UserData::NotValid,
-        ),
-    }
-}
-
-// A dialogue-service primitive with its dialogue number, with user data (given 1) or without (0).
+// A dialogue-service primitive with its dialogue number, with user data (given 1) or without (0). Its codes and its number are looked at before its
+// user data are read: whatever is read has codes of its type.
 pub fn service_call(
     rec: &mut [u8],
     first: &mut [u8],
@@ -497,19 +322,16 @@ pub fn service_call(
     if 1 < given {
         return Limit::SHAPE;
     }
-    if given == 1 {
-        return data_step(rec, first, second, p, brought, bytes, side, r, held);
+    let asked = Event::Service(p, UserData::Absent);
+    if !asked.fits(side) {
+        return Limit::SHAPE;
     }
-    bare_step(
-        rec,
-        first,
-        second,
-        p,
-        brought,
-        bytes,
-        side,
-        r,
-        held,
-        UserData::Absent,
-    )
+    if is_stale(held, asked, brought) {
+        return STALE;
+    }
+    let c = r.control;
+    let x = arrived(side, c, p, given, bytes);
+    let m = x.pdu;
+    let o = machine::service_fitting(side, r, p, m);
+    conclude(rec, first, second, side, brought, o, x, bytes)
 }

@@ -5,6 +5,7 @@ mod call;
 mod carried;
 
 pub use call::forward_call;
+pub use call::host_call;
 pub use call::service_call;
 pub use call::user_call;
 pub use carried::no_data;

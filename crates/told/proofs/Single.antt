@@ -243,10 +243,10 @@ unfolding called callOf requested responded messageRequest endRequest endRespond
 user-law sd r h (StartServiceRequest m k s) t =
     taken-law sd (r .active) (User (StartServiceRequest m k s)) Untold true
     (lawful-at sd (r .active) (not (isIdle (r .control))) _ _ unlisted unlisted true true h refl refl refl (call-lawful sd (r .control) (callOf (StartServiceRequest m k s)) t refl))
-user-law sd r h (StartServiceResponse m x) t = sent-law sd r (User (StartServiceResponse m x)) (StartResponse m (replyOf x)) h t refl refl refl
+user-law sd r h (StartServiceResponse m x g) t = sent-law sd r (User (StartServiceResponse m x g)) (StartResponse m (replyOf x)) h t refl refl refl
 user-law sd r h (MessageServiceRequest g j) t = sent-law sd r (User (MessageServiceRequest g j)) MessageRequest h t refl refl refl
-user-law sd r h (EndServiceRequest m) t = sent-law sd r (User (EndServiceRequest m)) (EndRequest m) h t refl refl refl
-user-law sd r h (EndServiceResponse m x) t = sent-law sd r (User (EndServiceResponse m x)) (EndResponse m (replyOf x)) h t refl refl refl
+user-law sd r h (EndServiceRequest m g) t = sent-law sd r (User (EndServiceRequest m g)) (EndRequest m) h t refl refl refl
+user-law sd r h (EndServiceResponse m x g) t = sent-law sd r (User (EndServiceResponse m x g)) (EndResponse m (replyOf x)) h t refl refl refl
 user-law sd r h (UserAbortServiceRequest g x) t = sent-law sd r (User (UserAbortServiceRequest g x)) UserAbort h t refl refl refl
 
 -- ---- what ends in IDLE, with an active user told
@@ -326,7 +326,7 @@ module _ (sd : Side) (r : Record) (f : Runs sd r) where
 
   -- a confirmation without a fault: of a start, or of a forward
   confirmed-law : (e : Event) → invocationOf e ≡ unlisted → (x o s v : ℕ) (a : UserData) (t : Bool) → expects sd (r .control) (DStartCnf (replyOf x)) ≡ t
-      → cond (not t) (cond (awaitsResponse (r .control)) (responseFault r x o s a) (NoInstruction true)) (cond (turnedAway x o) TurnedAway (cond (not (eqb s (r .request))) (Security (eqb x accepted)) (pduFault (isSend a) (eqb x accepted) true a NoFault))) ≡ NoFault
+      → cond (not t) (cond (awaitsResponse (r .control)) (responseFault r x o s a) (NoInstruction true)) (cond (turnedAway x o) TurnedAway (cond (not (eqb s (r .request))) (Security (eqb x accepted)) (pduFault false (isSend a) (eqb x accepted) true a NoFault))) ≡ NoFault
       → LawOf sd r e (cond (isResponse a) (forwardConfirmed r (reasonOf a) v) (handed (withTimer r false) (DStartCnf (replyOf x)) (StartConfirmation (r .control .dsc) x)))
   confirmed-law e i x o s v a true p k =
       let away = passed (turnedAway x o) TurnedAway _ refl k in
@@ -350,10 +350,10 @@ module _ (sd : Side) (r : Record) (f : Runs sd r) where
       by-test (LawOf sd r (Service (DStartIndication x s q v) a)) (isForward a) _ _ (λ y. arrives-law (Service (DStartIndication x s q v) a) refl (there .idle) s v)
       (λ n. invited-law (Service (DStartIndication x s q v) a) refl (modeOf a) (q .routing) (fits-expected sd r x a (there .fits) n))
   instructed-law (DStartConfirmation x o s v) a k = confirmed-law (Service (DStartConfirmation x o s v) a) refl x o s v a (expects sd (r .control) (DStartCnf (replyOf x))) refl k
-  instructed-law DDataIndication a k = read-law sd r (Service DDataIndication a) DData MessageIndication refl user (send-expected sd r DData true a k) refl refl refl
-  instructed-law DEndIndication a k = read-law sd r (Service DEndIndication a) DEnd (EndIndication (r .control .dsc)) refl user (send-expected sd r DEnd true a k) refl refl refl
+  instructed-law DDataIndication a k = read-law sd r (Service DDataIndication a) DData MessageIndication refl user (send-expected sd r DData _ true a k) refl refl refl
+  instructed-law DEndIndication a k = read-law sd r (Service DEndIndication a) DEnd (EndIndication (r .control .dsc)) refl user (send-expected sd r DEnd _ true a k) refl refl refl
   instructed-law (DEndConfirmation x) a k =
-      read-law sd r (Service (DEndConfirmation x) a) (DEndCnf (replyOf x)) (EndConfirmation (r .control .dsc) x) refl user (send-expected sd r (DEndCnf (replyOf x)) _ a k) refl refl refl
+      read-law sd r (Service (DEndConfirmation x) a) (DEndCnf (replyOf x)) (EndConfirmation (r .control .dsc) x) refl user (send-expected sd r (DEndCnf (replyOf x)) _ _ a k) refl refl refl
   instructed-law (DAbortIndication o) a k = told-law sd r (Service (DAbortIndication o) a) refl (isUserAbort a) (reasonOf a)
   instructed-law DPAbortIndication a k = told-law sd r (Service DPAbortIndication a) refl false _
 
@@ -374,12 +374,12 @@ either : (b : Bool) (f g : Fault) → isQuality f ≡ false → isQuality g ≡ 
 either true f g x y = x
 either false f g x y = y
 
-pdu-quality : (fits i u : Bool) (a : UserData) (g : Fault) → isQuality g ≡ false → isQuality (pduFault fits i u a g) ≡ false
+pdu-quality : (fits i u : Bool) (a : UserData) (g : Fault) → isQuality g ≡ false → isQuality (pduFault false fits i u a g) ≡ false
 unfolding pduFault
 pdu-quality fits i u a g n = either (isMissing a) _ _ refl (either (isInvalid a) _ _ refl (either (not fits) _ _ refl n))
 
 module _ (sd : Side) (r : Record) where
-  send-quality : (p : Primitive) (live : Bool) (a : UserData) → isQuality (sendFault sd r p live a) ≡ false
+  send-quality : (p : Primitive) (live : Bool) (a : UserData) → isQuality (sendFault sd r p false live a) ≡ false
   unfolding sendFault
   send-quality p live a = either (not (expects sd (r .control) p)) _ _ refl (pdu-quality (isSend a) live live a NoFault refl)
 
@@ -398,7 +398,7 @@ module _ (sd : Side) (r : Record) where
   unfolding indicationFault
   indication-quality x s q a e = go (isIdle (r .control)) e
     where
-      go : (b : Bool) → isQuality (cond (not b) (NoInstruction true) (cond (not (qosFits q)) Quality (cond (not (eqb s (r .policy))) (Security true) (pduFault (startFits sd r x a) true true a (cond (peerFits sd x) NoFault (NoInstruction true)))))) ≡ true → b ≡ true
+      go : (b : Bool) → isQuality (cond (not b) (NoInstruction true) (cond (not (qosFits q)) Quality (cond (not (eqb s (r .policy))) (Security true) (pduFault false (startFits sd r x a) true true a (cond (peerFits sd x) NoFault (NoInstruction true)))))) ≡ true → b ≡ true
       go true k = refl
       go false k = never (sym k)
 

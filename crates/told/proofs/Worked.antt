@@ -26,10 +26,10 @@ ground = end (freshRecord (record { policy = 0; forwards = true; version = 1 }))
 abbrev events : List NumberedEvent
 events =
     record { event = Service (DStartIndication 1 0 (record { priority = 1; rer = 1; routing = 0 }) 0) (Start true); number = 5 } ∷
-    record { event = User (StartServiceResponse true 0); number = 0 } ∷
+    record { event = User (StartServiceResponse true 0 true); number = 0 } ∷
     record { event = User (StartServiceRequest 0 0 0); number = 6 } ∷
     record { event = Service DEndIndication Send; number = 5 } ∷
-    record { event = User (EndServiceResponse true 0); number = 0 } ∷
+    record { event = User (EndServiceResponse true 0 true); number = 0 } ∷
     record { event = Service (DAbortIndication 0) (AbortUser 0); number = 5 } ∷
     record { event = User (StartServiceRequest 0 0 0); number = 6 } ∷ []
 

@@ -110,10 +110,10 @@ ends (p ∷ ps) x = among (p .until) x || ends ps x
 -- what the user invokes
 abbrev pub userItem : UserPrimitive → Item
 userItem (StartServiceRequest m k s) = startRequest (isDsc m)
-userItem (StartServiceResponse m x) = startResponse m (replyOf x)
+userItem (StartServiceResponse m x h) = startResponse m (replyOf x)
 userItem (MessageServiceRequest h j) = unlisted
-userItem (EndServiceRequest m) = unlisted
-userItem (EndServiceResponse m x) = endResponse m (replyOf x)
+userItem (EndServiceRequest m h) = unlisted
+userItem (EndServiceResponse m x h) = endResponse m (replyOf x)
 userItem (UserAbortServiceRequest g x) = userAbortRequest
 
 abbrev pub invocationOf : Event → Item

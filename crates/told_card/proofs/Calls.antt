@@ -35,9 +35,9 @@ use Rattle.stored.specs.declared.Loaded.the-variants.{Is}
 use Rattle.stored.proofs.Storing.{Coded, length-stored, loaded-stored}
 use Rattle.packed.specs.Packed.{codes, packed, invokedNumber, toldNumber, versionNumber}
 use Rattle.packed.proofs.Unpacked.{invoked-low, told-low, refusal-unpacked, told-unpacked, code-unpacked, parameter-unpacked, last-unpacked}
-use Rattle.step.specs.Call.{Carried, Called, called, bitsOfWritten, finished, concluded, withRecord, entering, eventStep, userStep, userCall, forwardStep, forwardCall, dataStep, bareStep, serviceStep, serviceCall}
+use Rattle.step.specs.Call.{Carried, Called, called, bitsOfWritten, finished, concluded, withRecord, entering, eventStep, userStep, userCall, userBy, forwardStep, forwardCall, forwardBy, dataStep, bareStep, serviceStep, serviceCall, serviceBy}
 use Rattle.step.proofs.Taken.{never}
-use Rattle.card.specs.Face.{noNumber, messageRequested, abortRequested}
+use Rattle.card.specs.Face.{noNumber, messageRequested, abortRequested, holdsMessage}
 use Rattle.card_pair.specs.Answered.{isTaken, toldPart}
 use Rattle.told.specs.Lists.{Item, unlisted, invocationOf, receiptOf}
 use Rattle.told.specs.Histories.{end}
@@ -137,7 +137,7 @@ module _ (sd : Side) (r a b : List ℕ) (x : Record) (n : ℕ) (h : Bytes sd r x
       }
 
   -- an event that brings the dialogue number v
-  event-leaves : (e : Event) (v : ℕ) (li lm lc : List ℕ) (d : Carried) → v < 2 ^ 64 → JobLow e → Leaves sd (x .active) (invocationOf e) (eventStep r a b e v li lm lc d sd x n)
+  event-leaves : (e : Event) (v : ℕ) (li lm lc : List ℕ) (d : Carried) → v < 2 ^ 64 → JobLow e → Leaves sd (x .active) (invocationOf e) (eventStep numberedStep r a b e v li lm lc d sd x n)
   unfolding concluded
   event-leaves e v li lm lc d l j =
       by-test (Leaves sd (x .active) (invocationOf e)) (isNone (numberedStep sd x n e v .refusal)) _ _ (takes e v _ _ l j)
@@ -151,31 +151,31 @@ module _ (sd : Side) (r a b : List ℕ) (x : Record) (n : ℕ) (h : Bytes sd r x
       (λ g. subst (λ (z : Loaded). Leaves sd (x .active) i (withRecord r a b z k)) (sym (h .load)) f))
 
   user-leaves : (e : Event) (v : ℕ) (ids msgs checks : List ℕ) (d : Data) → v < 2 ^ 64 → JobLow e → Leaves sd (x .active) (invocationOf e) (userCall r a b e v ids msgs checks d)
-  unfolding userCall userStep
+  unfolding userBy userStep
   user-leaves e v ids msgs checks d l j =
-      entering-leaves (invocationOf e) (userStep r a b e v (lent ids) (lent msgs) (lent checks) d)
+      entering-leaves (invocationOf e) (userStep numberedStep r a b e v (lent ids) (lent msgs) (lent checks) d)
       (by-test (Leaves sd (x .active) (invocationOf e)) (dataFits (lent ids) (lent msgs) (lent checks) d) _ _ (λ q. event-leaves e v _ _ _ _ l j) (λ q. refuses (invocationOf e) shape refl))
 
   forward-leaves : (k s v : ℕ) (msgs : List ℕ) (f : Forwarded) → v < 2 ^ 64 → Leaves sd (x .active) (invocationOf (Forward k s)) (forwardCall r a b k s v msgs f)
-  unfolding forwardCall forwardStep
+  unfolding forwardBy forwardStep
   forward-leaves k s v msgs f l =
-      entering-leaves (invocationOf (Forward k s)) (forwardStep r a b k s v (lent msgs) f)
+      entering-leaves (invocationOf (Forward k s)) (forwardStep numberedStep r a b k s v (lent msgs) f)
       (by-test (Leaves sd (x .active) (invocationOf (Forward k s))) (forwardFits (lent msgs) f) _ _ (λ q. event-leaves (Forward k s) v _ _ _ _ l tt) (λ q. refuses (invocationOf (Forward k s)) shape refl))
 
   service-leaves : (p : ServicePrimitive) (v given : ℕ) (bytes : List ℕ) → v < 2 ^ 64 → Leaves sd (x .active) unlisted (serviceCall r a b p v given bytes)
-  unfolding serviceCall serviceStep dataStep bareStep
+  unfolding serviceBy serviceStep dataStep bareStep
   service-leaves p v given bytes l =
-      entering-leaves unlisted (serviceStep r a b p v given (lent bytes))
+      entering-leaves unlisted (serviceStep numberedStep r a b p v given (lent bytes))
       (by-test (Leaves sd (x .active) unlisted) (ltb 1 given) _ _ (λ q. refuses unlisted shape refl)
       (λ q. by-test (Leaves sd (x .active) unlisted) (eqb given 1) _ _ (λ g. event-leaves (Service p _) v _ _ _ _ l tt) (λ g. event-leaves (Service p _) v _ _ _ _ l tt)))
 
   -- every call
   pub call-leaves : (c : Call) → Leaves sd (x .active) (invocationBy c) (answerOf r a b c)
   call-leaves (start v m k s g) = user-leaves (User (StartServiceRequest m k s)) (v .number) _ _ _ _ (v .low) tt
-  call-leaves (start-response m y g) = user-leaves (User (StartServiceResponse m y)) noNumber _ _ _ _ (omega arith) tt
+  call-leaves (start-response m y g) = user-leaves (User (StartServiceResponse m y (holdsMessage (g .bits)))) noNumber _ _ _ _ (omega arith) tt
   call-leaves (message-request j g) = user-leaves (User (messageRequested (g .bits) (j .number))) noNumber _ _ _ _ (omega arith) (j .low)
-  call-leaves (end-request m g) = user-leaves (User (EndServiceRequest m)) noNumber _ _ _ _ (omega arith) tt
-  call-leaves (end-response m y g) = user-leaves (User (EndServiceResponse m y)) noNumber _ _ _ _ (omega arith) tt
+  call-leaves (end-request m g) = user-leaves (User (EndServiceRequest m (holdsMessage (g .bits)))) noNumber _ _ _ _ (omega arith) tt
+  call-leaves (end-response m y g) = user-leaves (User (EndServiceResponse m y (holdsMessage (g .bits)))) noNumber _ _ _ _ (omega arith) tt
   call-leaves (user-abort y) = user-leaves (User (abortRequested y)) noNumber _ _ _ _ (omega arith) tt
   call-leaves (forward-request v k s f) = forward-leaves k s (v .number) _ _ (v .low)
   call-leaves (service-primitive p v given bytes) = service-leaves p (v .number) given bytes (v .low)

@@ -67,10 +67,10 @@ pub record Keeps (o : Outcome) : Type 0 where
 -- the job of a message request is a number of eight bytes
 abbrev pub JobLow : Event → Type 0
 JobLow (User (StartServiceRequest m k s)) = Unit {0}
-JobLow (User (StartServiceResponse m x)) = Unit {0}
+JobLow (User (StartServiceResponse m x h)) = Unit {0}
 JobLow (User (MessageServiceRequest h j)) = j < 2 ^ 64
-JobLow (User (EndServiceRequest m)) = Unit {0}
-JobLow (User (EndServiceResponse m x)) = Unit {0}
+JobLow (User (EndServiceRequest m h)) = Unit {0}
+JobLow (User (EndServiceResponse m x h)) = Unit {0}
 JobLow (User (UserAbortServiceRequest g x)) = Unit {0}
 JobLow (Forward k s) = Unit {0}
 JobLow (Service p a) = Unit {0}
@@ -178,10 +178,10 @@ unfolding called userFits startRequest startResponse messageRequest endRequest e
 called-keeps sd r (StartServiceRequest m c s) k h j =
     let both = both-right (hasMode sd m) (ltb c routingClasses && ltb s securityValues) h in
     sent-keeps (withRequest (withUser (withTimer r true) true) s) _ _ _ (started-coded r s (ltb-true s securityValues (both-right (ltb c routingClasses) (ltb s securityValues) both)) k)
-called-keeps sd r (StartServiceResponse m x) k h j = sent-keeps r _ _ _ k
+called-keeps sd r (StartServiceResponse m x g) k h j = sent-keeps r _ _ _ k
 called-keeps sd r (MessageServiceRequest b n) k h j = sent-keeps (withJob r n) _ _ _ (job-coded r n j k)
-called-keeps sd r (EndServiceRequest m) k h j = sent-keeps r _ _ _ k
-called-keeps sd r (EndServiceResponse m x) k h j = sent-keeps r _ _ _ k
+called-keeps sd r (EndServiceRequest m g) k h j = sent-keeps r _ _ _ k
+called-keeps sd r (EndServiceResponse m x g) k h j = sent-keeps r _ _ _ k
 called-keeps sd r (UserAbortServiceRequest g x) k h j = sent-keeps r _ _ _ k
 
 forward-keeps : (r : Record) (c s : ℕ) → Coded r → s < securityValues → Keeps (forwardRequest r c s)

@@ -26,7 +26,7 @@ use Rattle.machine.specs.Record.{enter}
 use Rattle.machine.specs.Step.{permitted, messageRefusal, acts}
 use Rattle.machine.specs.declared.event.ServicePrimitive.the-variants.{DPAbortIndication}
 use Rattle.numbered.specs.Numbers.{userStarts, serviceStarts, isStart, isService, isStale, heldAfter, refusalOf, numberedStep}
-use Rattle.step.specs.Call.{firstTakes, secondTakes, finished, concluded, withRecord, entering, userStep, userCall, bareStep, serviceStep, serviceCall}
+use Rattle.step.specs.Call.{firstTakes, secondTakes, finished, concluded, withRecord, entering, userStep, userBy, bareStep, serviceStep, serviceBy}
 use Rattle.packed.specs.Packed.{invokedNumber, toldNumber, packed}
 use Rattle.stored.specs.Stored.{recordBytes, activeByte, headBytes, storedBytes, headFits, withNumbers, loadAt, storeAt}
 use Rattle.card.specs.Face.{noCount, partOf, givenData, freshFor, freshCall}
@@ -61,5 +61,5 @@ bytes = freshCall (replicate recordBytes 0) 2 0 0 1 .bytes
 
 -- two activations, two closings, and the user is not active
 pub told-of-two : (activations Ground (history bytes calls) ≡ 2) × (closings Ground (history bytes calls) ≡ 2) × (getD (leaves bytes calls) activeByte 1 ≡ 0)
-unfolding bitsN bitsOf accOf digitsIn bitsTo bytesOf withBit setBit putBits readBits wholeBits indexBits lengthBits stringBits optionalBits optionalFits contentBits contentFits modeBits modeFits pduBits pduFits padded partIn contentIn pduIn itemsFit partFits dataFits apduFits writeOut sent startRequest userAbort callOf unsent called userDataFits userFits hasMode serviceFits eventFits tell closes aborts excepts noInstruction abortFault firstFault instructed answered reached enter permitted messageRefusal userStarts serviceStarts isStart isService isStale heldAfter refusalOf acts numberedStep firstTakes secondTakes finished concluded withRecord entering userStep userCall bareStep serviceStep serviceCall invokedNumber toldNumber packed headBytes storedBytes headFits withNumbers loadAt storeAt partOf givenData freshFor freshCall among begins ends activations closings history leaves
+unfolding bitsN bitsOf accOf digitsIn bitsTo bytesOf withBit setBit putBits readBits wholeBits indexBits lengthBits stringBits optionalBits optionalFits contentBits contentFits modeBits modeFits pduBits pduFits padded partIn contentIn pduIn itemsFit partFits dataFits apduFits writeOut sent startRequest userAbort callOf unsent called userDataFits userFits hasMode serviceFits eventFits tell closes aborts excepts noInstruction abortFault firstFault instructed answered reached enter permitted messageRefusal userStarts serviceStarts isStart isService isStale heldAfter refusalOf acts numberedStep firstTakes secondTakes finished concluded withRecord entering userStep userBy bareStep serviceStep serviceBy invokedNumber toldNumber packed headBytes storedBytes headFits withNumbers loadAt storeAt partOf givenData freshFor freshCall among begins ends activations closings history leaves
 told-of-two = (refl, refl, refl)

@@ -16,7 +16,7 @@ use Rattle.stored.specs.Stored.{loadAt}
 use Rattle.stored.specs.declared.Loaded.the-variants.{Is}
 use Rattle.packed.specs.Packed.{codes}
 use Rattle.step.specs.Call.{Called, serviceCall, forwardCall}
-use Rattle.card.specs.Face.{numberedCall, dataCall, plainCall, messageRequested, abortRequested}
+use Rattle.card.specs.Face.{numberedCall, dataCall, plainCall, messageRequested, abortRequested, holdsMessage}
 use Rattle.card_pair.specs.Answered.{isTaken, toldPart}
 use Rattle.card_pair.specs.CardMachine.{Given, Word}
 use Rattle.card_pair.specs.CentreMachine.{Passed}
@@ -50,10 +50,10 @@ pub record Lent : Type 0 where
 -- what a call answers and leaves, as its contract says, on the record's bytes r and the buffers a and b
 abbrev pub answerOf : List ℕ → List ℕ → List ℕ → Call → Called
 answerOf r a b (start v m k s g) = numberedCall r a b (StartServiceRequest m k s) (v .number) (g .ids) (g .msgs) (g .bits) (g .checks) (g .check)
-answerOf r a b (start-response m x g) = dataCall r a b (StartServiceResponse m x) (g .ids) (g .msgs) (g .bits) (g .checks) (g .check)
+answerOf r a b (start-response m x g) = dataCall r a b (StartServiceResponse m x (holdsMessage (g .bits))) (g .ids) (g .msgs) (g .bits) (g .checks) (g .check)
 answerOf r a b (message-request j g) = dataCall r a b (messageRequested (g .bits) (j .number)) (g .ids) (g .msgs) (g .bits) (g .checks) (g .check)
-answerOf r a b (end-request m g) = dataCall r a b (EndServiceRequest m) (g .ids) (g .msgs) (g .bits) (g .checks) (g .check)
-answerOf r a b (end-response m x g) = dataCall r a b (EndServiceResponse m x) (g .ids) (g .msgs) (g .bits) (g .checks) (g .check)
+answerOf r a b (end-request m g) = dataCall r a b (EndServiceRequest m (holdsMessage (g .bits))) (g .ids) (g .msgs) (g .bits) (g .checks) (g .check)
+answerOf r a b (end-response m x g) = dataCall r a b (EndServiceResponse m x (holdsMessage (g .bits))) (g .ids) (g .msgs) (g .bits) (g .checks) (g .check)
 answerOf r a b (user-abort x) = plainCall r a b (User (abortRequested x))
 answerOf r a b (forward-request v k s f) = forwardCall r a b k s (v .number) (f .msgs) (record { heading = f .heading; message = record { at = 0; count = f .bits } })
 answerOf r a b (service-primitive p v given bytes) = serviceCall r a b p (v .number) given bytes

@@ -6,14 +6,14 @@ use Rattle.apdu.proofs.leading.leading_at.Statement.{statement}
 use Rattle.apdu.proofs.leading.leading_at.Tie as tie
 use Rattle.apdu.proofs.leading.leading_at.Reads as reads
 use Rattle.apdu.proofs.leading.leading_at.Lts as lts
-use Rattle.apdu.proofs.PduType.last.Reads as last-reads
+use Rattle.apdu.proofs.leading.last_of.Reads as last-of-reads
 use Rattle.apdu.proofs.leading.kind_mode.Reads as kind-mode-reads
 use Rattle.apdu.proofs.leading.kind_of.Reads as kind-of-reads
 use Rattle.fields.proofs.extensible_index.Reads as extensible-index-reads
 
 -- src/leading.rt:102:54
-last-requires : tie.Need-last-requires
-last-requires c κs = tt
+last-of-requires : tie.Need-last-of-requires
+last-of-requires c κs = tt
 
 -- src/leading.rt:102:9
 extensible-index-requires : tie.Need-extensible-index-requires
@@ -34,7 +34,7 @@ refusal-of-requires c κs = tt
 -- src/leading.rt:104:9
 returns : tie.Need-returns
 unfolding leadingAt
-returns c = rw (← c .before .before .before .before .last .ensures) (handed lead.Refused _ _ _ _ _ (c .before .before .before .extensible-index .ensures) (c .before .enum-told .given .1) (c .refusal-of .ensures))
+returns c = rw (← c .before .before .before .before .last-of .ensures) (handed lead.Refused _ _ _ _ _ (c .before .before .before .extensible-index .ensures) (c .before .enum-told .given .1) (c .refusal-of .ensures))
 
 -- src/leading.rt:106:9
 kind-of-requires : tie.Need-kind-of-requires
@@ -59,18 +59,18 @@ refusal-of-requires-2 c κs = tt
 -- src/leading.rt:109:9
 returns-2 : tie.Need-returns-2
 unfolding leadingAt
-returns-2 c = rw (← c .before .before .before .before .before .before .before .before .before .last .ensures) (went lead.Refused _ _ _ _ _ _ (c .before .before .before .before .before .before .before .before .extensible-index .ensures) (c .before .before .before .before .before .before .index .given .1) (rw (← c .before .before .before .before .kind-of .ensures) (handed lead.Refused _ _ _ _ _ (c .before .before .before .kind-mode .ensures) (c .before .enum-told2 .given .1) (c .refusal-of2 .ensures))))
+returns-2 c = rw (← c .before .before .before .before .before .before .before .before .before .last-of .ensures) (went lead.Refused _ _ _ _ _ _ (c .before .before .before .before .before .before .before .before .extensible-index .ensures) (c .before .before .before .before .before .before .index .given .1) (rw (← c .before .before .before .before .kind-of .ensures) (handed lead.Refused _ _ _ _ _ (c .before .before .before .kind-mode .ensures) (c .before .enum-told2 .given .1) (c .refusal-of2 .ensures))))
 
 -- src/leading.rt:99:1
 returns-3 : tie.Need-returns-3
 unfolding leadingAt
-returns-3 c = rw (← c .before .before .before .before .before .before .before .before .before .last .ensures) (went lead.Refused _ _ _ _ _ _ (c .before .before .before .before .before .before .before .before .extensible-index .ensures) (c .before .before .before .before .before .before .index .given .1) (rw (← c .before .before .before .before .kind-of .ensures) (went lead.Refused _ _ _ _ _ _ (c .before .before .before .kind-mode .ensures) (c .before .mode .given .1) refl)))
+returns-3 c = rw (← c .before .before .before .before .before .before .before .before .before .last-of .ensures) (went lead.Refused _ _ _ _ _ _ (c .before .before .before .before .before .before .before .before .extensible-index .ensures) (c .before .before .before .before .before .before .index .given .1) (rw (← c .before .before .before .before .kind-of .ensures) (went lead.Refused _ _ _ _ _ _ (c .before .before .before .kind-mode .ensures) (c .before .mode .given .1) refl)))
 
 pub leading-at-spec : {M : Type 1} → statement M
 leading-at-spec =
     tie.close
     (tie.spec
-    last-requires
+    last-of-requires
     extensible-index-requires
     enum-known-index
     enum-told

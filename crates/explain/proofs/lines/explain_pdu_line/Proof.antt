@@ -9,7 +9,7 @@ use Rattle.explain.proofs.lines.explain_pdu_line.Reads as reads
 use Rattle.explain.proofs.lines.explain_pdu_line.Lts as lts
 use Rattle.explain.proofs.lines.bytes.Reads as bytes-reads
 use Rattle.explain.proofs.lines.not_read.Reads as not-read-reads
-use Rattle.explain.proofs.pdus.explain_apdu.Reads as explain-apdu-reads
+use Rattle.explain.proofs.alternatives.explain_apdu.Reads as explain-apdu-reads
 
 -- src/lines.rt:125:9
 bytes-requires : tie.Need-bytes-requires

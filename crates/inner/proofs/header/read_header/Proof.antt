@@ -1,96 +1,112 @@
 -- `inner::header::read_header` meets its contract.
 -- Assumes nothing.
-use native.Mathlib.Omega.{arith}
-use Rattle.inner.specs.declared.values.HeaderRead.the-variants as header
-use Rattle.inner.specs.Headers.{headerAt}
-use Rattle.elements.proofs.Steps.{handed-up, went}
-use Rattle.elements.proofs.Whole.{whole-most}
-use Rattle.inner.proofs.HeaderWays.{reference-most}
+use mathlib.Core.Path.{refl}
+use Rattle.inner.proofs.HeaderRead.{room-acknowledged, room-plain, found-acknowledged, found-plain}
 use borrow.Author.Needs.{needs}
 use Rattle.inner.proofs.header.read_header.Statement.{statement}
 use Rattle.inner.proofs.header.read_header.Tie as tie
 
-whole-requires : tie.Need-whole-requires
-whole-requires c κs = search needs
+read-bits-requires : tie.Need-read-bits-requires
+read-bits-requires c κs = search needs
 
-enum-known-presence : tie.Need-enum-known-presence
-enum-known-presence c = search needs
+enum-known-first : tie.Need-enum-known-first
+enum-known-first c = search needs
 
 enum-told : tie.Need-enum-told
 enum-told c = search needs
 
-refusal-of-requires : tie.Need-refusal-of-requires
-refusal-of-requires c κs = search needs
+read-header-by-fields-requires : tie.Need-read-header-by-fields-requires
+read-header-by-fields-requires c κs = search needs
 
 returns : tie.Need-returns
-unfolding headerAt
-returns c = handed-up header.Refused _ _ _ _ _ (c .before .before .before .whole .ensures) (c .before .enum-told .given .1) (c .refusal-of .ensures)
+returns c = search needs
 
-whole-requires-2 : tie.Need-whole-requires-2
-whole-requires-2 c κs = search needs
+mul-n : tie.Need-mul-n
+mul-n c = search needs
 
-enum-known-number : tie.Need-enum-known-number
-enum-known-number c = search needs
+add-n : tie.Need-add-n
+add-n c = search needs
+
+add-n-2 : tie.Need-add-n-2
+add-n-2 c = search needs
+
+read-bits-requires-2 : tie.Need-read-bits-requires-2
+read-bits-requires-2 c κs = search needs
+
+enum-known-rest : tie.Need-enum-known-rest
+enum-known-rest c = search needs
 
 enum-told-2 : tie.Need-enum-told-2
 enum-told-2 c = search needs
 
-refusal-of-requires-2 : tie.Need-refusal-of-requires-2
-refusal-of-requires-2 c κs = search needs
+read-header-by-fields-requires-2 : tie.Need-read-header-by-fields-requires-2
+read-header-by-fields-requires-2 c κs = search needs
 
 returns-2 : tie.Need-returns-2
-unfolding headerAt
-returns-2 c = went header.Refused _ _ _ _ _ _ (c .before .before .before .before .before .before .before .whole .ensures) (c .before .before .before .before .before .presence .given .1) (handed-up header.Refused _ _ _ _ _ (c .before .before .before .whole2 .ensures) (c .before .enum-told2 .given .1) (c .refusal-of2 .ensures))
+returns-2 c = search needs
 
-read-reference-requires : tie.Need-read-reference-requires
-read-reference-requires c κs = search needs
-
-enum-known-other : tie.Need-enum-known-other
-enum-known-other c = search needs
-
-enum-told-3 : tie.Need-enum-told-3
-enum-told-3 c = search needs
-
-refusal-of-requires-3 : tie.Need-refusal-of-requires-3
-refusal-of-requires-3 c κs = search needs
+read-header-by-fields-requires-3 : tie.Need-read-header-by-fields-requires-3
+read-header-by-fields-requires-3 c κs = search needs
 
 returns-3 : tie.Need-returns-3
-unfolding headerAt
-returns-3 c = went header.Refused _ _ _ _ _ _ (c .before .before .before .before .before .before .before .before .before .before .before .whole .ensures) (c .before .before .before .before .before .before .before .before .before .presence .given .1) (went header.Refused _ _ _ _ _ _ (c .before .before .before .before .before .before .before .whole2 .ensures) (c .before .before .before .before .before .number .given .1) (handed-up header.Refused _ _ _ _ _ (c .before .before .before .read-reference .ensures) (c .before .enum-told3 .given .1) (c .refusal-of3 .ensures)))
+returns-3 c = search needs
 
-cast-read-dated : tie.Need-cast-read-dated
-cast-read-dated c = omega (arith, whole-most _ _ 0 63 _ _ _ (c .before .before .before .before .before .before .before .whole2 .ensures) (c .before .before .before .before .before .number .given .1))
+header-from-requires : tie.Need-header-from-requires
+header-from-requires c κs = room-acknowledged _ _ _ _ _ _ _ _ _ _ (c .before .before .before .before .before .before .before .before .before .read-bits .ensures) (c .before .before .before .before .before .before .before .first .given .1) (c .before .before .before .before .before .read-bits2 .ensures) (c .before .before .before .rest .given .1) refl (c .before .if1 .taken)
 
-cast-read-dated-2 : tie.Need-cast-read-dated-2
-cast-read-dated-2 c = omega (arith, reference-most _ _ _ _ _ _ (c .before .before .before .read-reference .ensures) (c .before .other .given .1))
-
-read-dated-requires : tie.Need-read-dated-requires
-read-dated-requires c κs = search needs
+header-fits-requires : tie.Need-header-fits-requires
+header-fits-requires c κs = search needs
 
 returns-4 : tie.Need-returns-4
-unfolding headerAt
-returns-4 c = went header.Refused _ _ _ _ _ _ (c .before .before .before .before .before .before .before .before .before .before .before .before .whole .ensures) (c .before .before .before .before .before .before .before .before .before .before .presence .given .1) (went header.Refused _ _ _ _ _ _ (c .before .before .before .before .before .before .before .before .whole2 .ensures) (c .before .before .before .before .before .before .number .given .1) (went header.Refused _ _ _ _ _ _ (c .before .before .before .before .read-reference .ensures) (c .before .before .other .given .1) (c .read-dated .ensures)))
+returns-4 c = found-acknowledged _ _ _ _ _ _ _ _ _ _ (c .before .before .before .before .before .before .before .before .before .before .before .before .read-bits .ensures) (c .before .before .before .before .before .before .before .before .before .before .first .given .1) (c .before .before .before .before .before .before .before .before .read-bits2 .ensures) (c .before .before .before .before .before .before .rest .given .1) refl _ _ (c .before .before .header-from .ensures) _ (c .before .header-fits .ensures) (c .if3 .taken) (c .before .before .before .before .if1 .taken) (c .before .before .before .if2 .left) refl
+
+read-header-by-fields-requires-4 : tie.Need-read-header-by-fields-requires-4
+read-header-by-fields-requires-4 c κs = search needs
+
+returns-5 : tie.Need-returns-5
+returns-5 c = search needs
+
+header-from-requires-2 : tie.Need-header-from-requires-2
+header-from-requires-2 c κs = room-plain _ _ _ _ _ _ _ _ _ _ (c .before .before .before .before .before .before .before .before .read-bits .ensures) (c .before .before .before .before .before .before .first .given .1) (c .before .before .before .before .read-bits2 .ensures) (c .before .before .rest .given .1) refl (c .if1 .left)
+
+header-fits-requires-2 : tie.Need-header-fits-requires-2
+header-fits-requires-2 c κs = search needs
+
+returns-6 : tie.Need-returns-6
+returns-6 c = found-plain _ _ _ _ _ _ _ _ _ _ (c .before .before .before .before .before .before .before .before .before .before .before .read-bits .ensures) (c .before .before .before .before .before .before .before .before .before .first .given .1) (c .before .before .before .before .before .before .before .read-bits2 .ensures) (c .before .before .before .before .before .rest .given .1) refl _ _ (c .before .before .header-from2 .ensures) _ (c .before .header-fits2 .ensures) (c .if4 .taken) (c .before .before .before .if1 .left) refl
+
+read-header-by-fields-requires-5 : tie.Need-read-header-by-fields-requires-5
+read-header-by-fields-requires-5 c κs = search needs
+
+returns-7 : tie.Need-returns-7
+returns-7 c = search needs
 
 pub read-header-spec : {M : Type 1} → statement M
 read-header-spec =
     tie.close
     (tie.spec
-    whole-requires
-    enum-known-presence
+    read-bits-requires
+    enum-known-first
     enum-told
-    refusal-of-requires
+    read-header-by-fields-requires
     returns
-    whole-requires-2
-    enum-known-number
+    mul-n
+    add-n
+    add-n-2
+    read-bits-requires-2
+    enum-known-rest
     enum-told-2
-    refusal-of-requires-2
+    read-header-by-fields-requires-2
     returns-2
-    read-reference-requires
-    enum-known-other
-    enum-told-3
-    refusal-of-requires-3
+    read-header-by-fields-requires-3
     returns-3
-    cast-read-dated
-    cast-read-dated-2
-    read-dated-requires
-    returns-4)
+    header-from-requires
+    header-fits-requires
+    returns-4
+    read-header-by-fields-requires-4
+    returns-5
+    header-from-requires-2
+    header-fits-requires-2
+    returns-6
+    read-header-by-fields-requires-5
+    returns-7)

@@ -4,7 +4,7 @@ use native.Mathlib.Omega.{arith}
 use borrow.Author.Needs.{needs}
 use Rattle.bits.proofs.Bytes.{bits-to}
 use Rattle.inner.proofs.Silent.{silent-text}
-use Rattle.inner.proofs.Openings.{open-room, open-long, open-past, open-refused, open-space, open-read}
+use Rattle.inner.proofs.Openings.{open-room, open-long, open-past, open-refused, open-space, open-read, text-fits, text-at}
 use Rattle.inner.proofs.opening.open_message.Statement.{statement}
 use Rattle.inner.proofs.opening.open_message.Tie as tie
 
@@ -47,14 +47,17 @@ is-silent-requires c κs = search needs
 returns-4 : tie.Need-returns-4
 returns-4 c = open-read _ _ _ _ (c .before .before .before .before .before .before .before .before .before .if1 .left) (c .before .before .before .before .before .before .before .before .if2 .left) _ (c .before .before .before .before .before .before .before .within .ensures) (c .before .before .before .before .before .before .if3 .taken) _ (c .before .before .before .before .before .read-exactly .ensures) _ _ _ (c .before .before .before .enum-told .given .1) (silent-text _ _ _ _ _ _ (bits-to (c .before .before .before .before .before .before .before .before .before .before .before .before .args .s .now) (c .before .before .before .before .before .before .before .before .before .before .before .before .args .count)) (c .before .before .before .before .before .read-exactly .ensures) (c .before .before .before .enum-told .given .1) (c .before .is-silent .ensures) (c .if4 .taken))
 
-message-text-requires : tie.Need-message-text-requires
-message-text-requires c κs = (open-space _ _ _ (c .before .before .before .before .before .before .before .before .before .before .before .before .before .args .text .now) (c .before .before .before .before .before .before .before .before .before .before .if1 .left) _ (c .before .before .before .before .before .before .read-exactly .ensures) _ (c .before .before .before .before .enum-told .given .1), omega arith)
+elements-at-requires : tie.Need-elements-at-requires
+elements-at-requires c κs = search needs
+
+copy-text-requires : tie.Need-copy-text-requires
+copy-text-requires c κs = text-fits _ _ (bits-to (c .before .before .before .before .before .before .before .before .before .before .before .before .before .before .before .args .s .now) (c .before .before .before .before .before .before .before .before .before .before .before .before .before .before .before .args .count)) _ (c .before .before .before .before .before .before .before .before .read-exactly .ensures) _ (c .before .before .before .before .before .before .enum-told .given .1) _ _ _ (c .before .elements-at .ensures) (open-space _ _ _ (c .before .before .before .before .before .before .before .before .before .before .before .before .before .before .before .args .text .now) (c .before .before .before .before .before .before .before .before .before .before .before .before .if1 .left) _ (c .before .before .before .before .before .before .before .before .read-exactly .ensures) _ (c .before .before .before .before .before .before .enum-told .given .1))
 
 same-length : tie.Need-same-length
 same-length c = search needs
 
 returns-5 : tie.Need-returns-5
-returns-5 c = open-read _ _ _ _ (c .before .before .before .before .before .before .before .before .before .before .before .before .before .if1 .left) (c .before .before .before .before .before .before .before .before .before .before .before .before .if2 .left) _ (c .before .before .before .before .before .before .before .before .before .before .before .within .ensures) (c .before .before .before .before .before .before .before .before .before .before .if3 .taken) _ (c .before .before .before .before .before .before .before .before .before .read-exactly .ensures) _ _ _ (c .before .before .before .before .before .before .before .enum-told .given .1) (c .before .before .message-text .ensures)
+returns-5 c = open-read _ _ _ _ (c .before .before .before .before .before .before .before .before .before .before .before .before .before .before .before .if1 .left) (c .before .before .before .before .before .before .before .before .before .before .before .before .before .before .if2 .left) _ (c .before .before .before .before .before .before .before .before .before .before .before .before .before .within .ensures) (c .before .before .before .before .before .before .before .before .before .before .before .before .if3 .taken) _ (c .before .before .before .before .before .before .before .before .before .before .before .read-exactly .ensures) _ _ _ (c .before .before .before .before .before .before .before .before .before .enum-told .given .1) (text-at _ _ (bits-to (c .before .before .before .before .before .before .before .before .before .before .before .before .before .before .before .before .before .before .args .s .now) (c .before .before .before .before .before .before .before .before .before .before .before .before .before .before .before .before .before .before .args .count)) _ (c .before .before .before .before .before .before .before .before .before .before .before .read-exactly .ensures) _ (c .before .before .before .before .before .before .before .before .before .enum-told .given .1) _ _ _ _ _ (c .before .before .before .before .elements-at .ensures) (c .before .before .copy-text .ensures))
 
 not-opened-requires-4 : tie.Need-not-opened-requires-4
 not-opened-requires-4 c κs = search needs
@@ -79,7 +82,8 @@ open-message-spec =
     returns-3
     is-silent-requires
     returns-4
-    message-text-requires
+    elements-at-requires
+    copy-text-requires
     same-length
     returns-5
     not-opened-requires-4

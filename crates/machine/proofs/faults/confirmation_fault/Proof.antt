@@ -1,7 +1,6 @@
 -- `machine::faults::confirmation_fault` meets its contract.
 -- Assumes nothing.
 use Rattle.machine.specs.Faults.{confirmationFault}
-use borrow.Author.Tests.{eq-eqb, ne-eqb}
 use Rattle.machine.proofs.faults.confirmation_fault.Statement.{statement}
 use Rattle.machine.proofs.faults.confirmation_fault.Tie as tie
 
@@ -32,19 +31,22 @@ returns-3 : tie.Need-returns-3
 unfolding confirmationFault
 returns-3 c = rw (← c .before .before .before .expects .ensures, c .before .before .if1 .left, ← c .before .turned-away .ensures, c .if3 .taken)
 
+differs-requires : tie.Need-differs-requires
+differs-requires c κs = tt
+
 returns-4 : tie.Need-returns-4
 unfolding confirmationFault
-returns-4 c = rw (← c .before .before .before .before .before .expects .ensures, c .before .before .before .before .if1 .left, ← c .before .before .before .turned-away .ensures, c .before .before .if3 .left, ne-eqb _ _ (c .if4 .taken))
+returns-4 c = rw (← c .before .before .before .before .before .expects .ensures, c .before .before .before .before .if1 .left, ← c .before .before .before .turned-away .ensures, c .before .before .if3 .left, ← c .before .differs .ensures, c .if4 .taken)
 
-kind-requires : tie.Need-kind-requires
-kind-requires c κs = tt
+send-allowed-requires : tie.Need-send-allowed-requires
+send-allowed-requires c κs = tt
 
 pdu-fault-requires : tie.Need-pdu-fault-requires
 pdu-fault-requires c κs = tt
 
 returns-5 : tie.Need-returns-5
 unfolding confirmationFault
-returns-5 c = rw (← c .before .before .before .before .before .before .before .expects .ensures, c .before .before .before .before .before .before .if1 .left, ← c .before .before .before .before .before .turned-away .ensures, c .before .before .before .before .if3 .left, eq-eqb _ _ (c .before .before .if4 .left), ← c .before .kind .ensures) (c .pdu-fault .ensures)
+returns-5 c = rw (← c .before .before .before .before .before .before .before .expects .ensures, c .before .before .before .before .before .before .if1 .left, ← c .before .before .before .before .before .turned-away .ensures, c .before .before .before .before .if3 .left, ← c .before .before .before .differs .ensures, c .before .before .if4 .left, ← c .before .send-allowed .ensures) (c .pdu-fault .ensures)
 
 pub confirmation-fault-spec : {M : Type 1} → statement M
 confirmation-fault-spec =
@@ -58,7 +60,8 @@ confirmation-fault-spec =
     returns-2
     turned-away-requires
     returns-3
+    differs-requires
     returns-4
-    kind-requires
+    send-allowed-requires
     pdu-fault-requires
     returns-5)

@@ -1,7 +1,6 @@
 -- `machine::faults::indication_fault` meets its contract.
 -- Assumes nothing.
 use Rattle.machine.specs.Faults.{indicationFault}
-use borrow.Author.Tests.{eq-eqb, ne-eqb}
 use Rattle.machine.proofs.faults.indication_fault.Statement.{statement}
 use Rattle.machine.proofs.faults.indication_fault.Tie as tie
 
@@ -19,9 +18,12 @@ returns-2 : tie.Need-returns-2
 unfolding indicationFault
 returns-2 c = rw (← c .before .before .before .is .ensures, c .before .before .if1 .left, ← c .before .fits2 .ensures, c .if2 .taken)
 
+differs-requires : tie.Need-differs-requires
+differs-requires c κs = tt
+
 returns-3 : tie.Need-returns-3
 unfolding indicationFault
-returns-3 c = rw (← c .before .before .before .before .before .is .ensures, c .before .before .before .before .if1 .left, ← c .before .before .before .fits2 .ensures, c .before .before .if2 .left, ne-eqb _ _ (c .if3 .taken))
+returns-3 c = rw (← c .before .before .before .before .before .is .ensures, c .before .before .before .before .if1 .left, ← c .before .before .before .fits2 .ensures, c .before .before .if2 .left, ← c .before .differs .ensures, c .if3 .taken)
 
 start-fits-requires : tie.Need-start-fits-requires
 start-fits-requires c κs = tt
@@ -34,14 +36,14 @@ pdu-fault-requires c κs = tt
 
 returns-4 : tie.Need-returns-4
 unfolding indicationFault
-returns-4 c = rw (← c .before .before .before .before .before .before .before .before .before .is .ensures, c .before .before .before .before .before .before .before .before .if1 .left, ← c .before .before .before .before .before .before .before .fits2 .ensures, c .before .before .before .before .before .before .if2 .left, eq-eqb _ _ (c .before .before .before .before .if3 .left), ← c .before .before .before .start-fits .ensures, ← c .before .before .peer-fits .ensures, c .before .if4 .taken) (c .pdu-fault .ensures)
+returns-4 c = rw (← c .before .before .before .before .before .before .before .before .before .is .ensures, c .before .before .before .before .before .before .before .before .if1 .left, ← c .before .before .before .before .before .before .before .fits2 .ensures, c .before .before .before .before .before .before .if2 .left, ← c .before .before .before .before .before .differs .ensures, c .before .before .before .before .if3 .left, ← c .before .before .before .start-fits .ensures, ← c .before .before .peer-fits .ensures, c .before .if4 .taken) (c .pdu-fault .ensures)
 
 pdu-fault-requires-2 : tie.Need-pdu-fault-requires-2
 pdu-fault-requires-2 c κs = tt
 
 returns-5 : tie.Need-returns-5
 unfolding indicationFault
-returns-5 c = rw (← c .before .before .before .before .before .before .before .before .before .is .ensures, c .before .before .before .before .before .before .before .before .if1 .left, ← c .before .before .before .before .before .before .before .fits2 .ensures, c .before .before .before .before .before .before .if2 .left, eq-eqb _ _ (c .before .before .before .before .if3 .left), ← c .before .before .before .start-fits .ensures, ← c .before .before .peer-fits .ensures, c .before .if4 .left) (c .pdu-fault2 .ensures)
+returns-5 c = rw (← c .before .before .before .before .before .before .before .before .before .is .ensures, c .before .before .before .before .before .before .before .before .if1 .left, ← c .before .before .before .before .before .before .before .fits2 .ensures, c .before .before .before .before .before .before .if2 .left, ← c .before .before .before .before .before .differs .ensures, c .before .before .before .before .if3 .left, ← c .before .before .before .start-fits .ensures, ← c .before .before .peer-fits .ensures, c .before .if4 .left) (c .pdu-fault2 .ensures)
 
 pub indication-fault-spec : {M : Type 1} → statement M
 indication-fault-spec =
@@ -51,6 +53,7 @@ indication-fault-spec =
     returns
     fits-requires
     returns-2
+    differs-requires
     returns-3
     start-fits-requires
     peer-fits-requires

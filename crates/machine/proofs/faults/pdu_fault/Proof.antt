@@ -10,19 +10,23 @@ kind-requires c κs = tt
 
 returns : tie.Need-returns
 unfolding pduFault
-returns c = rw (← c .before .kind .ensures, eq-eqb _ _ (c .if1 .taken))
+returns c = rw (← c .before .before .kind .ensures, eq-eqb _ _ (c .before .if1 .taken), c .if2 .taken)
 
 returns-2 : tie.Need-returns-2
 unfolding pduFault
-returns-2 c = rw (← c .before .before .kind .ensures, ne-eqb _ _ (c .before .if1 .left), eq-eqb _ _ (c .if2 .taken))
+returns-2 c = rw (← c .before .before .kind .ensures, eq-eqb _ _ (c .before .if1 .taken), c .if2 .left)
 
 returns-3 : tie.Need-returns-3
 unfolding pduFault
-returns-3 c = rw (← c .before .before .before .kind .ensures, ne-eqb _ _ (c .before .before .if1 .left), ne-eqb _ _ (c .before .if2 .left), c .if3 .taken)
+returns-3 c = rw (← c .before .before .kind .ensures, ne-eqb _ _ (c .before .if1 .left), eq-eqb _ _ (c .if3 .taken))
 
 returns-4 : tie.Need-returns-4
 unfolding pduFault
-returns-4 c = rw (← c .before .before .before .kind .ensures, ne-eqb _ _ (c .before .before .if1 .left), ne-eqb _ _ (c .before .if2 .left), c .if3 .left)
+returns-4 c = rw (← c .before .before .before .kind .ensures, ne-eqb _ _ (c .before .before .if1 .left), ne-eqb _ _ (c .before .if3 .left), c .if4 .taken)
+
+returns-5 : tie.Need-returns-5
+unfolding pduFault
+returns-5 c = rw (← c .before .before .before .kind .ensures, ne-eqb _ _ (c .before .before .if1 .left), ne-eqb _ _ (c .before .if3 .left), c .if4 .left)
 
 pub pdu-fault-spec : {M : Type 1} → statement M
 pdu-fault-spec =
@@ -32,4 +36,5 @@ pdu-fault-spec =
     returns
     returns-2
     returns-3
-    returns-4)
+    returns-4
+    returns-5)

@@ -1,7 +1,6 @@
 -- `machine::faults::response_fault` meets its contract.
 -- Assumes nothing.
 use Rattle.machine.specs.Faults.{responseFault}
-use borrow.Author.Tests.{eq-eqb, ne-eqb}
 use Rattle.machine.proofs.faults.response_fault.Statement.{statement}
 use Rattle.machine.proofs.faults.response_fault.Tie as tie
 
@@ -12,16 +11,19 @@ returns : tie.Need-returns
 unfolding responseFault
 returns c = rw (← c .before .turned-away .ensures, c .if1 .taken)
 
+differs-requires : tie.Need-differs-requires
+differs-requires c κs = tt
+
 returns-2 : tie.Need-returns-2
 unfolding responseFault
-returns-2 c = rw (← c .before .before .before .turned-away .ensures, c .before .before .if1 .left, ne-eqb _ _ (c .if2 .taken))
+returns-2 c = rw (← c .before .before .before .turned-away .ensures, c .before .before .if1 .left, ← c .before .differs .ensures, c .if2 .taken)
 
 pdu-fault-requires : tie.Need-pdu-fault-requires
 pdu-fault-requires c κs = tt
 
 returns-3 : tie.Need-returns-3
 unfolding responseFault
-returns-3 c = rw (← c .before .before .before .before .before .turned-away .ensures, c .before .before .before .before .if1 .left, eq-eqb _ _ (c .before .before .if2 .left), c .before .if3 .taken) (c .pdu-fault .ensures)
+returns-3 c = rw (← c .before .before .before .before .before .turned-away .ensures, c .before .before .before .before .if1 .left, ← c .before .before .before .differs .ensures, c .before .before .if2 .left, c .before .if3 .taken) (c .pdu-fault .ensures)
 
 kind-requires : tie.Need-kind-requires
 kind-requires c κs = tt
@@ -31,7 +33,7 @@ pdu-fault-requires-2 c κs = tt
 
 returns-4 : tie.Need-returns-4
 unfolding responseFault
-returns-4 c = rw (← c .before .before .before .before .before .before .turned-away .ensures, c .before .before .before .before .before .if1 .left, eq-eqb _ _ (c .before .before .before .if2 .left), c .before .before .if3 .left, ← c .before .kind .ensures) (c .pdu-fault2 .ensures)
+returns-4 c = rw (← c .before .before .before .before .before .before .turned-away .ensures, c .before .before .before .before .before .if1 .left, ← c .before .before .before .before .differs .ensures, c .before .before .before .if2 .left, c .before .before .if3 .left, ← c .before .kind .ensures) (c .pdu-fault2 .ensures)
 
 pub response-fault-spec : {M : Type 1} → statement M
 response-fault-spec =
@@ -39,6 +41,7 @@ response-fault-spec =
     (tie.spec
     turned-away-requires
     returns
+    differs-requires
     returns-2
     pdu-fault-requires
     returns-3

@@ -4,6 +4,9 @@ use Rattle.machine.specs.Forwards.{forwardRequest}
 use Rattle.machine.proofs.forwards.forward_request.Statement.{statement}
 use Rattle.machine.proofs.forwards.forward_request.Tie as tie
 
+security-sent-requires : tie.Need-security-sent-requires
+security-sent-requires c κs = tt
+
 forwarding-requires : tie.Need-forwarding-requires
 forwarding-requires c κs = tt
 
@@ -15,12 +18,13 @@ taken-requires c κs = tt
 
 returns : tie.Need-returns
 unfolding forwardRequest
-returns c = rw (c .taken .ensures, c .before .enter .ensures, c .before .before .forwarding .ensures)
+returns c = rw (c .taken .ensures, c .before .enter .ensures, c .before .before .forwarding .ensures, c .before .before .before .before .security-sent .ensures)
 
 pub forward-request-spec : {M : Type 1} → statement M
 forward-request-spec =
     tie.close
     (tie.spec
+    security-sent-requires
     forwarding-requires
     enter-requires
     taken-requires

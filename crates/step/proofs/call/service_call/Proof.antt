@@ -1,95 +1,114 @@
-use Rattle.step.specs.Call.{serviceCall}
-use Rattle.step.proofs.Calling.{no-room-first, no-room-second, no-record, with-record, given-odd, given-data, given-none}
+use borrow.Author.Tests.{not-false, not-true}
+use Rattle.step.specs.Call.{serviceBy}
+use Rattle.step.proofs.Fitting.{read-fits}
+use Rattle.step.proofs.Runs.{stands-there}
+use Rattle.step.proofs.Calling.{no-room-first, no-room-second, no-record, with-record, given-odd, codes-odd, number-odd, answers, served}
 use borrow.Author.Needs.{needs}
 use Rattle.step.proofs.call.service_call.Statement.{statement}
 use Rattle.step.proofs.call.service_call.Tie as tie
 use Rattle.step.proofs.call.service_call.Reads as reads
 use Rattle.step.proofs.call.service_call.Lts as lts
-use Rattle.step.proofs.call.bare_step.Reads as bare-step-reads
-use Rattle.step.proofs.call.data_step.Reads as data-step-reads
+use Rattle.machine.proofs.event.Event.fits.Reads as fits-reads
+use Rattle.machine.proofs.service_fitting.Reads as service-fitting-reads
+use Rattle.numbered.proofs.is_stale.Reads as is-stale-reads
+use Rattle.step.proofs.arrived.arrived.Reads as arrived-reads
+use Rattle.step.proofs.call.conclude.Reads as conclude-reads
 use Rattle.stored.proofs.load.Reads as load-reads
 
--- src/call.rt:277:9
+-- src/call.rt:314:9
 returns : tie.Need-returns
-unfolding serviceCall
+unfolding serviceBy
 returns c = no-room-first _ _ _ _ (c .if1 .taken)
 
--- src/call.rt:280:9
+-- src/call.rt:317:9
 returns-2 : tie.Need-returns-2
-unfolding serviceCall
+unfolding serviceBy
 returns-2 c = no-room-second _ _ _ _ (c .before .if1 .left) (c .if2 .taken)
 
--- src/call.rt:282:37
+-- src/call.rt:319:37
 load-requires : tie.Need-load-requires
 load-requires c κs = search needs
 
--- src/call.rt:282:20
+-- src/call.rt:319:20
 enum-known-side : tie.Need-enum-known-side
 enum-known-side c = search needs
 
--- src/call.rt:283:9
+-- src/call.rt:320:9
 enum-told : tie.Need-enum-told
 enum-told c = search needs
 
--- src/call.rt:283:9
+-- src/call.rt:320:9
 same-length : tie.Need-same-length
 same-length c = search needs
 
--- src/call.rt:283:9
+-- src/call.rt:320:9
 returns-3 : tie.Need-returns-3
-unfolding serviceCall
+unfolding serviceBy
 returns-3 c = no-record _ _ _ _ (c .before .before .before .before .before .if1 .left) (c .before .before .before .before .if2 .left) _ (c .before .before .load .ensures) (c .enum-told .given .1)
 
--- src/call.rt:286:9
+-- src/call.rt:323:9
 same-length-2 : tie.Need-same-length-2
 same-length-2 c = search needs
 
--- src/call.rt:286:9
+-- src/call.rt:323:9
 returns-4 : tie.Need-returns-4
-unfolding serviceCall
+unfolding serviceBy
 returns-4 c = with-record _ _ _ _ (c .before .before .before .before .before .before .before .if1 .left) (c .before .before .before .before .before .before .if2 .left) _ (c .before .before .before .before .load .ensures) _ _ _ _ (c .before .before .side .given .1) (given-odd _ _ _ _ _ _ _ _ _ _ (c .if3 .taken))
 
--- src/call.rt:289:9
-data-step-requires : tie.Need-data-step-requires
-data-step-requires c κs = search needs
+-- src/call.rt:326:9
+fits-requires : tie.Need-fits-requires
+fits-requires c κs = search needs
 
--- src/call.rt:289:9
+-- src/call.rt:327:9
 same-length-3 : tie.Need-same-length-3
 same-length-3 c = search needs
 
--- src/call.rt:289:9
+-- src/call.rt:327:9
+returns-5 : tie.Need-returns-5
+unfolding serviceBy
+returns-5 c = with-record _ _ _ _ (c .before .before .before .before .before .before .before .before .before .if1 .left) (c .before .before .before .before .before .before .before .before .if2 .left) _ (c .before .before .before .before .before .before .load .ensures) _ _ _ _ (c .before .before .before .before .side .given .1) (codes-odd _ _ _ _ _ _ _ _ _ (read-fits _ _ _ _) _ (c .before .before .if3 .left) _ (c .before .fits2 .ensures) (not-true _ (c .if4 .taken)))
+
+-- src/call.rt:329:8
+is-stale-requires : tie.Need-is-stale-requires
+is-stale-requires c κs = search needs
+
+-- src/call.rt:330:9
 same-length-4 : tie.Need-same-length-4
 same-length-4 c = search needs
 
--- src/call.rt:289:9
+-- src/call.rt:330:9
+returns-6 : tie.Need-returns-6
+unfolding serviceBy
+returns-6 c = with-record _ _ _ _ (c .before .before .before .before .before .before .before .before .before .before .before .if1 .left) (c .before .before .before .before .before .before .before .before .before .before .if2 .left) _ (c .before .before .before .before .before .before .before .before .load .ensures) _ _ _ _ (c .before .before .before .before .before .before .side .given .1) (number-odd _ _ _ _ _ _ _ _ _ (read-fits _ _ _ _) _ (c .before .before .before .before .if3 .left) _ (c .before .before .before .fits2 .ensures) (not-false _ (c .before .before .if4 .left)) _ (c .before .is-stale .ensures) (c .if5 .taken))
+
+-- src/call.rt:333:9
+arrived-requires : tie.Need-arrived-requires
+arrived-requires c κs = search needs
+
+-- src/call.rt:335:9
+service-fitting-requires : tie.Need-service-fitting-requires
+service-fitting-requires c κs = search needs
+
+-- src/call.rt:336:5
+conclude-requires : tie.Need-conclude-requires
+conclude-requires c κs = (answers _ _ _ _ _ (c .before .before .before .service-fitting .ensures), c .before .before .before .before .before .before .before .before .before .before .before .before .before .before .before .before .if2 .left, stands-there _ _ _ _ _ _ (c .before .before .before .before .arrived .ensures) .0, stands-there _ _ _ _ _ _ (c .before .before .before .before .arrived .ensures) .1)
+
+-- src/call.rt:302:1
 same-length-5 : tie.Need-same-length-5
 same-length-5 c = search needs
 
--- src/call.rt:289:9
-returns-5 : tie.Need-returns-5
-unfolding serviceCall
-returns-5 c = with-record _ _ _ _ (c .before .before .before .before .before .before .before .before .before .before .before .before .before .before .before .before .before .before .if1 .left) (c .before .before .before .before .before .before .before .before .before .before .before .before .before .before .before .before .before .if2 .left) _ (c .before .before .before .before .before .before .before .before .before .before .before .before .before .before .before .load .ensures) _ _ _ _ (c .before .before .before .before .before .before .before .before .before .before .before .before .before .side .given .1) (given-data _ _ _ _ _ _ _ _ _ _ _ (c .before .before .before .before .before .before .before .before .before .before .if4 .taken) (c .before .before .before .before .before .before .data-step .ensures))
-
--- src/call.rt:291:5
-bare-step-requires : tie.Need-bare-step-requires
-bare-step-requires c κs = search needs
-
--- src/call.rt:265:1
+-- src/call.rt:302:1
 same-length-6 : tie.Need-same-length-6
 same-length-6 c = search needs
 
--- src/call.rt:265:1
+-- src/call.rt:302:1
 same-length-7 : tie.Need-same-length-7
 same-length-7 c = search needs
 
--- src/call.rt:265:1
-same-length-8 : tie.Need-same-length-8
-same-length-8 c = search needs
-
--- src/call.rt:265:1
-returns-6 : tie.Need-returns-6
-unfolding serviceCall
-returns-6 c = with-record _ _ _ _ (c .before .before .before .before .before .before .before .before .before .before .before .before .before .before .before .before .before .before .if1 .left) (c .before .before .before .before .before .before .before .before .before .before .before .before .before .before .before .before .before .if2 .left) _ (c .before .before .before .before .before .before .before .before .before .before .before .before .before .before .before .load .ensures) _ _ _ _ (c .before .before .before .before .before .before .before .before .before .before .before .before .before .side .given .1) (given-none _ _ _ _ _ _ _ _ _ _ _ (c .before .before .before .before .before .before .before .before .before .before .before .if3 .left) (c .before .before .before .before .before .before .before .before .before .before .if4 .left) (c .before .before .before .before .before .before .bare-step .ensures))
+-- src/call.rt:302:1
+returns-7 : tie.Need-returns-7
+unfolding serviceBy
+returns-7 c = with-record _ _ _ _ (c .before .before .before .before .before .before .before .before .before .before .before .before .before .before .before .before .before .before .before .before .before .before .before .before .if1 .left) (c .before .before .before .before .before .before .before .before .before .before .before .before .before .before .before .before .before .before .before .before .before .before .before .if2 .left) _ (c .before .before .before .before .before .before .before .before .before .before .before .before .before .before .before .before .before .before .before .before .before .load .ensures) _ _ _ _ (c .before .before .before .before .before .before .before .before .before .before .before .before .before .before .before .before .before .before .before .side .given .1) (served _ _ _ _ _ _ _ _ _ _ (c .before .before .before .before .before .before .before .before .before .before .before .before .before .before .before .before .before .if3 .left) _ (c .before .before .before .before .before .before .before .before .before .before .before .before .before .before .before .before .fits2 .ensures) (not-false _ (c .before .before .before .before .before .before .before .before .before .before .before .before .before .before .before .if4 .left)) _ (c .before .before .before .before .before .before .before .before .before .before .before .before .before .before .is-stale .ensures) (c .before .before .before .before .before .before .before .before .before .before .before .before .before .if5 .left) _ (c .before .before .before .before .before .before .before .before .before .before .before .arrived .ensures) _ (c .before .before .before .before .before .before .before .before .before .before .service-fitting .ensures) _ (c .before .before .before .before .before .before .conclude .ensures))
 
 pub service-call-spec : {M : Type 1} → statement M
 service-call-spec =
@@ -104,13 +123,16 @@ service-call-spec =
     returns-3
     same-length-2
     returns-4
-    data-step-requires
+    fits-requires
     same-length-3
-    same-length-4
-    same-length-5
     returns-5
-    bare-step-requires
+    is-stale-requires
+    same-length-4
+    returns-6
+    arrived-requires
+    service-fitting-requires
+    conclude-requires
+    same-length-5
     same-length-6
     same-length-7
-    same-length-8
-    returns-6)
+    returns-7)

@@ -18,6 +18,9 @@ returns c = rw (c .before .before .before .self .given .1, ← c .before .has-mo
 enum-known-self-2 : tie.Need-enum-known-self-2
 enum-known-self-2 c = c .match .keys2
 
+answer-fits-requires : tie.Need-answer-fits-requires
+answer-fits-requires c κs = tt
+
 enum-known-self-3 : tie.Need-enum-known-self-3
 enum-known-self-3 c = c .match .keys3
 
@@ -40,7 +43,7 @@ returns-3 c = rw (c .before .before .before .before .self .given .1, ← c .befo
 
 returns-4 : tie.Need-returns-4
 unfolding userFits
-returns-4 c = rw (c .before .self2 .given .1)
+returns-4 c = rw (c .before .before .self2 .given .1) (c .answer-fits .ensures)
 
 returns-5 : tie.Need-returns-5
 unfolding userFits
@@ -66,6 +69,7 @@ fits-spec =
     has-mode-requires
     returns
     enum-known-self-2
+    answer-fits-requires
     enum-known-self-3
     enum-told
     enum-known-self-4

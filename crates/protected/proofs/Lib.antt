@@ -1,0 +1,3 @@
+pub mod Instance
+pub mod Bridge
+pub mod Leaves

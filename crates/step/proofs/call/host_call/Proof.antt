@@ -1,0 +1,110 @@
+use mathlib.Core.List.{[]}
+use Rattle.apdu.specs.Pdus.{lent}
+use Rattle.step.specs.Call.{userBy}
+use Rattle.step.proofs.Calling.{no-room-first, no-room-second, no-record, with-record, host-answers, host-refused, host-taken}
+use borrow.Author.Needs.{needs}
+use Rattle.step.proofs.call.host_call.Statement.{statement}
+use Rattle.step.proofs.call.host_call.Tie as tie
+use Rattle.step.proofs.call.host_call.Reads as reads
+use Rattle.step.proofs.call.host_call.Lts as lts
+use Rattle.machine.proofs.outcome.StepRefusal.is_none.Reads as is-none-reads
+use Rattle.machine.proofs.outcome.StepRefusal.number.Reads as number-reads
+use Rattle.step.proofs.call.host_step.Reads as host-step-reads
+use Rattle.step.proofs.call.put_reply.Reads as put-reply-reads
+use Rattle.step.proofs.call.settle.Reads as settle-reads
+use Rattle.stored.proofs.load.Reads as load-reads
+
+-- src/call.rt:224:9
+returns : tie.Need-returns
+unfolding userBy
+returns c = no-room-first _ _ _ _ (c .if1 .taken)
+
+-- src/call.rt:227:9
+returns-2 : tie.Need-returns-2
+unfolding userBy
+returns-2 c = no-room-second _ _ _ _ (c .before .if1 .left) (c .if2 .taken)
+
+-- src/call.rt:229:37
+load-requires : tie.Need-load-requires
+load-requires c κs = search needs
+
+-- src/call.rt:229:20
+enum-known-side : tie.Need-enum-known-side
+enum-known-side c = search needs
+
+-- src/call.rt:230:9
+enum-told : tie.Need-enum-told
+enum-told c = search needs
+
+-- src/call.rt:230:9
+same-length : tie.Need-same-length
+same-length c = search needs
+
+-- src/call.rt:230:9
+returns-3 : tie.Need-returns-3
+unfolding userBy
+returns-3 c = no-record _ _ _ _ (c .before .before .before .before .before .if1 .left) (c .before .before .before .before .if2 .left) _ (c .before .before .load .ensures) (c .enum-told .given .1)
+
+-- src/call.rt:232:9
+host-step-requires : tie.Need-host-step-requires
+host-step-requires c κs = search needs
+
+-- src/call.rt:234:8
+is-none-requires : tie.Need-is-none-requires
+is-none-requires c κs = search needs
+
+-- src/call.rt:236:13
+put-reply-requires : tie.Need-put-reply-requires
+put-reply-requires c κs = host-answers _ _ (c .before .before .before .before .before .before .before .before .before .before .before .before .before .before .args .expiry) _ (c .before .before .before .host-step .ensures)
+
+-- src/call.rt:237:9
+settle-requires : tie.Need-settle-requires
+settle-requires c κs = search needs
+
+-- src/call.rt:237:9
+same-length-2 : tie.Need-same-length-2
+same-length-2 c = search needs
+
+-- src/call.rt:237:9
+same-length-3 : tie.Need-same-length-3
+same-length-3 c = search needs
+
+-- src/call.rt:237:9
+returns-4 : tie.Need-returns-4
+unfolding userBy
+returns-4 c = with-record _ _ _ _ (c .before .before .before .before .before .before .before .before .before .before .before .before .before .before .before .before .before .if1 .left) (c .before .before .before .before .before .before .before .before .before .before .before .before .before .before .before .before .if2 .left) _ (c .before .before .before .before .before .before .before .before .before .before .before .before .before .before .load .ensures) _ _ _ _ (c .before .before .before .before .before .before .before .before .before .before .before .before .side .given .1) (host-taken _ _ _ (c .before .before .before .before .before .before .before .before .before .before .before .before .before .before .before .before .before .before .before .before .before .args .expiry) (lent []) (lent []) (lent []) _ _ _ _ (c .before .before .before .before .before .before .before .before .before .before .host-step .ensures) _ (c .before .before .before .before .before .before .before .before .before .is-none .ensures) (c .before .before .before .before .before .before .before .before .if3 .taken) _ _ (c .before .before .before .before .before .before .put-reply .ensures) _ _ (c .before .before .settle .ensures))
+
+-- src/call.rt:239:5
+number-requires : tie.Need-number-requires
+number-requires c κs = search needs
+
+-- src/call.rt:220:1
+same-length-4 : tie.Need-same-length-4
+same-length-4 c = search needs
+
+-- src/call.rt:220:1
+returns-5 : tie.Need-returns-5
+unfolding userBy
+returns-5 c = with-record _ _ _ _ (c .before .before .before .before .before .before .before .before .before .before .if1 .left) (c .before .before .before .before .before .before .before .before .before .if2 .left) _ (c .before .before .before .before .before .before .before .load .ensures) _ _ _ _ (c .before .before .before .before .before .side .given .1) (host-refused _ _ _ (c .before .before .before .before .before .before .before .before .before .before .before .before .before .before .args .expiry) (lent []) (lent []) (lent []) _ _ _ _ (c .before .before .before .host-step .ensures) _ (c .before .before .is-none .ensures) _ (c .before .if3 .left) (c .number .ensures))
+
+pub host-call-spec : {M : Type 1} → statement M
+host-call-spec =
+    tie.close
+    (tie.spec
+    returns
+    returns-2
+    load-requires
+    enum-known-side
+    enum-told
+    same-length
+    returns-3
+    host-step-requires
+    is-none-requires
+    put-reply-requires
+    settle-requires
+    same-length-2
+    same-length-3
+    returns-4
+    number-requires
+    same-length-4
+    returns-5)

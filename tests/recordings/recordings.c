@@ -270,6 +270,23 @@ static void exact_lists(void)
         }
 }
 
+/* As many distinct jobs as a recording can have, in a list of exactly so many places, and of one fewer. */
+static void fullest(void)
+{
+    unsigned which, less, job;
+    for (which = 0; which < 2; which++)
+        for (less = 0; less < 2; less++) {
+            size_t m = 0;
+            struct pair p;
+            for (job = 1; m + 4 <= PEAT_RECORDING_MOST; job++)
+                m += put((which ? b : a) + m, 1, job, 0, 0);
+            check((job - 1) * PEAT_JOB_BYTES == PEAT_LIST_MOST, "a recording has other than so many jobs");
+            p = lent(which ? 0 : m, which ? m : 0);
+            p.list[which] = PEAT_LIST_MOST - PEAT_JOB_BYTES * less;
+            compare(&p, "as many jobs as a recording can have");
+        }
+}
+
 /* Recordings as long as they may be, and a byte longer. */
 static void full(int pairs)
 {
@@ -312,6 +329,7 @@ int main(int argc, char **argv)
     exact_lists();
     for (i = 0; i < pairs; i++)
         random_pair(i);
+    fullest();
     full(pairs >= 1000 ? 4 : 0);
     for (i = 0; i < 8; i++) {
         printf("recordings: %lu %s\n", seen[i], kinds[i]);

@@ -1,0 +1,293 @@
+// What is held of one end and its host, in one range of numbers: the record, its power, and four lists. A list has its count, and its places from a first one on.
+// Nothing here is refused but what finds no room; that ends the run.
+use control::Control;
+use control::State;
+use moves::Held;
+
+pub struct Page {}
+
+impl Page {
+    pub const SIZE: usize = 50576;
+    pub const STATE: usize = 0;
+    pub const DSC: usize = 1;
+    pub const NUMBER: usize = 2;
+    pub const HIGHEST: usize = 3;
+    // 0: up; 1: up without the carrier; 2: down
+    pub const POWER: usize = 4;
+    // 1: a message was handed out that the user has not been shown
+    pub const WAITING: usize = 5;
+    // how many of the youngest entries of the line have not left
+    pub const UNSENT: usize = 6;
+    pub const ENTRIES: usize = 7;
+    pub const DECIDED: usize = 8;
+    pub const OPENED: usize = 9;
+    pub const NOTICES: usize = 10;
+    // the line that leaves the end, oldest first: kind, number of the dialogue and job of each
+    pub const LINE_AT: usize = 16;
+    pub const LINE_MOST: u64 = 128;
+    // the jobs that were decided
+    pub const DECIDED_AT: usize = 400;
+    pub const DECIDED_MOST: u64 = 16384;
+    // the open jobs
+    pub const OPENED_AT: usize = 16784;
+    pub const OPENED_MOST: u64 = 1024;
+    // job and fate of each notice
+    pub const NOTICES_AT: usize = 17808;
+    pub const NOTICES_MOST: u64 = 16384;
+}
+
+pub struct Fate {}
+
+impl Fate {
+    pub const REFUSED: u64 = 1;
+    pub const ENDED: u64 = 2;
+    pub const BROKEN: u64 = 3;
+}
+
+pub fn get(p: &[u64], at: usize) -> u64 {
+    if at < p.len() {
+        return p[at];
+    }
+    0
+}
+
+pub fn put(p: &mut [u64], at: usize, v: u64) {
+    if at < p.len() {
+        p[at] = v;
+    }
+}
+
+// ---- the record
+
+fn state_of(code: u64) -> State {
+    match code {
+        0 => State::Idle,
+        1 => State::StartReq,
+        2 => State::StartInd,
+        3 => State::Dialogue,
+        4 => State::End,
+        _ => State::Forward,
+    }
+}
+
+pub fn held(p: &[u64]) -> Held {
+    let state = state_of(get(p, Page::STATE));
+    let control = Control {
+        state,
+        dsc: get(p, Page::DSC) == 1,
+    };
+    Held {
+        control,
+        number: get(p, Page::NUMBER),
+        highest: get(p, Page::HIGHEST),
+    }
+}
+
+fn flag(b: bool) -> u64 {
+    if b { 1 } else { 0 }
+}
+
+pub fn hold(p: &mut [u64], r: Held) {
+    let c = r.control;
+    let s = c.state;
+    put(p, Page::STATE, control::number(s));
+    put(p, Page::DSC, flag(c.dsc));
+    put(p, Page::NUMBER, r.number);
+    put(p, Page::HIGHEST, r.highest);
+}
+
+pub fn is_idle(p: &[u64]) -> bool {
+    get(p, Page::STATE) == 0
+}
+
+// ---- lists
+
+// Is x among the first so many from a place on?
+pub fn is_among(p: &[u64], from: usize, count: u64, x: u64) -> bool {
+    let mut i: u64 = 0;
+    while i < count {
+        if from < 4294967296 && i < 4294967296 {
+            if get(p, from + i as usize) == x {
+                return true;
+            }
+        }
+        i += 1;
+    }
+    false
+}
+
+// One behind the others; false where there is no room.
+pub fn push(p: &mut [u64], counter: usize, from: usize, most: u64, x: u64) -> bool {
+    let n = get(p, counter);
+    if n < most && n < 4294967296 && from < 4294967296 {
+        put(p, from + n as usize, x);
+        put(p, counter, n + 1);
+        return true;
+    }
+    false
+}
+
+pub fn is_decided(p: &[u64], job: u64) -> bool {
+    is_among(p, Page::DECIDED_AT, get(p, Page::DECIDED), job)
+}
+
+pub fn decide(p: &mut [u64], job: u64) -> bool {
+    push(p, Page::DECIDED, Page::DECIDED_AT, Page::DECIDED_MOST, job)
+}
+
+pub fn open(p: &mut [u64], job: u64) -> bool {
+    push(p, Page::OPENED, Page::OPENED_AT, Page::OPENED_MOST, job)
+}
+
+// ---- notices
+
+pub fn note(p: &mut [u64], job: u64, fate: u64) -> bool {
+    let n = get(p, Page::NOTICES);
+    if n < Page::NOTICES_MOST {
+        let at = Page::NOTICES_AT + 2 * n as usize;
+        put(p, at, job);
+        put(p, at + 1, fate);
+        put(p, Page::NOTICES, n + 1);
+        return true;
+    }
+    false
+}
+
+// The notice of a number, from 1 on, is this one.
+pub fn is_noted(p: &[u64], number: u64, job: u64, fate: u64) -> bool {
+    if number == 0 {
+        return false;
+    }
+    if get(p, Page::NOTICES) < number {
+        return false;
+    }
+    if Page::NOTICES_MOST < number {
+        return false;
+    }
+    let at = Page::NOTICES_AT + 2 * (number - 1) as usize;
+    get(p, at) == job && get(p, at + 1) == fate
+}
+
+// Every open job gets its fate.
+pub fn tell(p: &mut [u64], fate: u64) -> bool {
+    let n = get(p, Page::OPENED);
+    let mut i: u64 = 0;
+    while i < n {
+        if Page::OPENED_MOST <= i {
+            return false;
+        }
+        let job = get(p, Page::OPENED_AT + i as usize);
+        if !note(p, job, fate) {
+            return false;
+        }
+        i += 1;
+    }
+    put(p, Page::OPENED, 0);
+    true
+}
+
+// ---- the line
+
+// A field of an entry: 0 its kind, 1 its number, 2 its job.
+pub fn entry(p: &[u64], i: u64, field: usize) -> u64 {
+    if i < Page::LINE_MOST && field < 3 {
+        return get(p, Page::LINE_AT + 3 * i as usize + field);
+    }
+    0
+}
+
+fn set_entry(p: &mut [u64], i: u64, kind: u64, number: u64, job: u64) {
+    if i < Page::LINE_MOST {
+        let at = Page::LINE_AT + 3 * i as usize;
+        put(p, at, kind);
+        put(p, at + 1, number);
+        put(p, at + 2, job);
+    }
+}
+
+// An entry goes behind the others. It has not left.
+pub fn put_on_line(p: &mut [u64], kind: u64, number: u64, job: u64) -> bool {
+    let n = get(p, Page::ENTRIES);
+    let unsent = get(p, Page::UNSENT);
+    if n < Page::LINE_MOST && unsent < Page::LINE_MOST {
+        set_entry(p, n, kind, number, job);
+        put(p, Page::ENTRIES, n + 1);
+        put(p, Page::UNSENT, unsent + 1);
+        return true;
+    }
+    false
+}
+
+// Of the entries of a dialogue the first so many are left.
+pub fn trim(p: &mut [u64], number: u64, left: u64) {
+    let n = get(p, Page::ENTRIES);
+    let mut i: u64 = 0;
+    let mut kept: u64 = 0;
+    let mut met: u64 = 0;
+    while i < n {
+        let of = entry(p, i, 1);
+        let stays = of != number || met < left;
+        if of == number && met < i + 1 {
+            met += 1;
+        }
+        if stays && kept < i + 1 {
+            set_entry(p, kept, entry(p, i, 0), of, entry(p, i, 2));
+            kept += 1;
+        }
+        i += 1;
+    }
+    put(p, Page::ENTRIES, kept);
+}
+
+// Where the start of a dialogue is on the line; or the count of entries.
+pub fn start_at(p: &[u64], number: u64) -> u64 {
+    let n = get(p, Page::ENTRIES);
+    let mut i: u64 = 0;
+    while i < n {
+        if entry(p, i, 0) < 2 && entry(p, i, 1) == number {
+            return i;
+        }
+        i += 1;
+    }
+    n
+}
+
+// The entry at a place is gone.
+pub fn remove(p: &mut [u64], at: u64) {
+    let n = get(p, Page::ENTRIES);
+    if n <= at {
+        return;
+    }
+    let mut i = at + 1;
+    while i < n {
+        set_entry(p, i - 1, entry(p, i, 0), entry(p, i, 1), entry(p, i, 2));
+        i += 1;
+    }
+    put(p, Page::ENTRIES, n - 1);
+}
+
+// ---- the numbers of the dialogues that broke: a count and the numbers behind it
+
+pub fn is_broken(b: &[u64], number: u64) -> bool {
+    is_among(b, 1, get(b, 0), number)
+}
+
+pub fn mark_broken(b: &mut [u64], number: u64) -> bool {
+    if is_broken(b, number) {
+        return true;
+    }
+    push(b, 0, 1, 4096, number)
+}
+
+// Each dialogue that has an entry on the line is broken.
+pub fn mark_line(b: &mut [u64], p: &[u64]) -> bool {
+    let n = get(p, Page::ENTRIES);
+    let mut i: u64 = 0;
+    while i < n {
+        if !mark_broken(b, entry(p, i, 1)) {
+            return false;
+        }
+        i += 1;
+    }
+    true
+}

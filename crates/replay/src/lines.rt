@@ -18,6 +18,16 @@ fn byte(s: &[u8], i: usize) -> u8 {
     0
 }
 
+fn sum(a: usize, b: usize) -> usize {
+    if 4294967296 < a {
+        return a;
+    }
+    if 4294967296 < b {
+        return a;
+    }
+    a + b
+}
+
 // The bytes from a place to another are this word.
 fn same(s: &[u8], from: usize, to: usize, word: &[u8]) -> bool {
     if to < from {
@@ -28,13 +38,7 @@ fn same(s: &[u8], from: usize, to: usize, word: &[u8]) -> bool {
     }
     let mut i: usize = 0;
     while i < word.len() {
-        if 1000000 < from {
-            return false;
-        }
-        if 1000000 < i {
-            return false;
-        }
-        if byte(s, from + i) != byte(word, i) {
+        if byte(s, sum(from, i)) != byte(word, i) {
             return false;
         }
         i += 1;
@@ -55,53 +59,59 @@ fn space(s: &[u8], from: usize) -> usize {
 }
 
 // What is told of a number: it, or that it is none.
-enum Number {
+enum Digits {
     Is(u64),
     Not,
 }
 
-fn digit(x: u8) -> u64
-    ensures { λ r. ⌜ r ≤ 10 ⌝ }
-{
-    match x {
-        b'0' => 0,
-        b'1' => 1,
-        b'2' => 2,
-        b'3' => 3,
-        b'4' => 4,
-        b'5' => 5,
-        b'6' => 6,
-        b'7' => 7,
-        b'8' => 8,
-        b'9' => 9,
-        _ => 10,
-    }
+fn wide(x: u8) -> u64 {
+    x as u64
 }
 
-// The digits from a place to another. A number has eight bytes.
-fn number(s: &[u8], from: usize, to: usize) -> Number {
+// 10 where it is no digit
+fn digit(x: u8) -> u64 {
+    let v = wide(x);
+    if v < 48 {
+        return 10;
+    }
+    if 57 < v {
+        return 10;
+    }
+    v - 48
+}
+
+// A digit more; a number has eight bytes.
+fn longer(n: u64, d: u64) -> Digits {
+    if 9 < d {
+        return Digits::Not;
+    }
+    if 1844674407370955160 < n {
+        if n == 1844674407370955161 {
+            if d < 6 {
+                return Digits::Is(18446744073709551610 + d);
+            }
+        }
+        return Digits::Not;
+    }
+    Digits::Is(10 * n + d)
+}
+
+// The digits from a place to another.
+fn number(s: &[u8], from: usize, to: usize) -> Digits {
     if to <= from {
-        return Number::Not;
+        return Digits::Not;
     }
     let mut n: u64 = 0;
     let mut i = from;
     while i < to {
-        let d = digit(byte(s, i));
-        if 9 < d {
-            return Number::Not;
-        }
-        if 1844674407370955161 < n {
-            return Number::Not;
-        }
-        if n == 1844674407370955161 {
-            if 5 < d {
-                return Number::Not;
-            }
-        }
-        n = 10 * n + d;
+        let one = longer(n, digit(byte(s, i)));
+        let Digits::Is(m) = one else {
+            return Digits::Not;
+        };
+        n = m;
         i += 1;
     }
-    Number::Is(n)
+    Digits::Is(n)
 }
 
 fn word(s: &[u8], from: usize, to: usize) -> u64 {
@@ -238,7 +248,8 @@ fn unread() -> Line {
 
 // A line with one number more.
 fn with(l: Line, n: u64) -> Line {
-    match l.count {
+    let count = l.count;
+    match count {
         0 => Line {
             air: l.air,
             word: l.word,
@@ -326,7 +337,7 @@ fn numbers(s: &[u8], from: usize, l: Line) -> Line {
         let begin = at + 1;
         let end = space(s, begin);
         let one = number(s, begin, end);
-        let Number::Is(n) = one else {
+        let Digits::Is(n) = one else {
             return unread();
         };
         if end <= at {

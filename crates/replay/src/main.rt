@@ -17,7 +17,7 @@ use libc::STDERR_FILENO;
 use libc::STDOUT_FILENO;
 use lines::Line;
 use page::Fate;
-use page::Page;
+use page::Place;
 use page::get;
 use page::put;
 use rules::Rule;
@@ -43,13 +43,14 @@ fn side_of(air: bool) -> Side {
 
 // Whether a host's call sets or asks for DSC: what the record holds.
 fn dsc(here: &[u64]) -> bool {
-    get(here, Page::DSC) == 1
+    get(here, Place::DSC) == 1
 }
 
 fn call(here: &mut [u64], broken: &mut [u64], l: Line) -> u64 {
     let side = side_of(l.air);
     let d = dsc(here);
-    match l.word {
+    let word = l.word;
+    match word {
         10 => steps::make_call(here, broken, side, Call::StartResponse(d, Reply::Accepted), 0),
         11 => steps::make_call(here, broken, side, Call::StartResponse(d, Reply::Rejected), 0),
         12 => steps::make_call(here, broken, side, Call::EndRequest(d), 0),
@@ -63,7 +64,8 @@ fn call(here: &mut [u64], broken: &mut [u64], l: Line) -> u64 {
 }
 
 fn host(here: &mut [u64], there: &mut [u64], broken: &mut [u64], l: Line) -> u64 {
-    match l.word {
+    let word = l.word;
+    match word {
         19 => steps::shown(here),
         20 => steps::leave(here),
         21 => steps::release(here, there, broken),
@@ -78,7 +80,8 @@ fn host(here: &mut [u64], there: &mut [u64], broken: &mut [u64], l: Line) -> u64
 
 fn job(here: &mut [u64], there: &[u64], may: bool, l: Line) -> u64 {
     let side = side_of(l.air);
-    match l.word {
+    let word = l.word;
+    match word {
         2 => steps::take(here, side, l.a),
         3 => steps::refuse(here, l.a),
         4 => steps::acknowledge(here, l.a),
@@ -90,10 +93,14 @@ fn job(here: &mut [u64], there: &[u64], may: bool, l: Line) -> u64 {
     }
 }
 
-fn hear(here: &mut [u64], there: &mut [u64], broken: &mut [u64], l: Line) -> u64 {
+// No start can be for the end from which all starts come.
+fn hear(here: &mut [u64], there: &mut [u64], broken: &mut [u64], may: bool, l: Line) -> u64 {
     let side = side_of(l.air);
     if l.word == 39 {
         return steps::hear_end(here, there, broken, side, l.a);
+    }
+    if l.word == 30 && may {
+        return 17;
     }
     if l.word < 30 {
         return Rule::UNREADABLE;
@@ -115,7 +122,7 @@ fn move_on(here: &mut [u64], there: &mut [u64], broken: &mut [u64], may: bool, l
     if l.word < 30 {
         return host(here, there, broken, l);
     }
-    hear(here, there, broken, l)
+    hear(here, there, broken, may, l)
 }
 
 // The first line says from which side all starts come, and what the two records hold at the beginning: number and highest job of the air's, of the ground's. The
@@ -130,10 +137,10 @@ fn begin(air: &mut [u64], ground: &mut [u64], l: Line) -> u64 {
     if !l.air && l.c < l.a {
         return 12;
     }
-    put(air, Page::NUMBER, l.a);
-    put(air, Page::HIGHEST, l.b);
-    put(ground, Page::NUMBER, l.c);
-    put(ground, Page::HIGHEST, l.d);
+    put(air, Place::NUMBER, l.a);
+    put(air, Place::HIGHEST, l.b);
+    put(ground, Place::NUMBER, l.c);
+    put(ground, Place::HIGHEST, l.d);
     0
 }
 
@@ -162,6 +169,15 @@ fn agree(count: u64) {
     say(b" lines\n");
 }
 
+// The file ends.
+fn finish(r: Run) {
+    if r.bytes != 0 {
+        say(b"the last line has no end\n");
+        return;
+    }
+    agree(r.count);
+}
+
 // What is known between two lines: the side that starts; how many lines there were; how many bytes of the next one are there; whether it is over.
 struct Run {
     from_air: bool,
@@ -173,18 +189,17 @@ struct Run {
 // One line more.
 fn one_line(air: &mut [u64], ground: &mut [u64], broken: &mut [u64], r: Run, text: &[u8]) -> Run {
     let l = lines::read(text);
-    let mut from_air = r.from_air;
-    let mut rule = 0;
     if r.count == 0 {
-        rule = begin(air, ground, l);
-        from_air = l.air;
-    } else {
-        rule = advance(air, ground, broken, from_air, l);
+        let rule = begin(air, ground, l);
+        return counted(r, l.air, rule, text);
     }
-    let mut count = r.count;
-    if count < 1000000000000 {
-        count += 1;
-    }
+    let rule = advance(air, ground, broken, r.from_air, l);
+    counted(r, r.from_air, rule, text)
+}
+
+// A line that breaks a rule is named, and that is the end.
+fn counted(r: Run, from_air: bool, rule: u64, text: &[u8]) -> Run {
+    let count = next(r.count);
     if rule != 0 {
         name(count, rule, text);
     }
@@ -194,6 +209,13 @@ fn one_line(air: &mut [u64], ground: &mut [u64], broken: &mut [u64], r: Run, tex
         bytes: 0,
         over: rule != 0,
     }
+}
+
+fn next(count: u64) -> u64 {
+    if count < 1000000000000 {
+        return count + 1;
+    }
+    count
 }
 
 // One byte more.
@@ -254,7 +276,7 @@ fn replay(fd: i32) {
     while 0 < left {
         let n = io::read_full(fd, &mut chunk);
         if n == 0 {
-            agree(run.count);
+            finish(run);
             return;
         }
         run = some(&mut air, &mut ground, &mut broken, &mut text, run, &chunk[..n]);

@@ -4,9 +4,9 @@ use control::Control;
 use control::State;
 use moves::Held;
 
-pub struct Page {}
+pub struct Place {}
 
-impl Page {
+impl Place {
     pub const SIZE: usize = 50576;
     pub const STATE: usize = 0;
     pub const DSC: usize = 1;
@@ -71,15 +71,15 @@ fn state_of(code: u64) -> State {
 }
 
 pub fn held(p: &[u64]) -> Held {
-    let state = state_of(get(p, Page::STATE));
+    let state = state_of(get(p, Place::STATE));
     let control = Control {
         state,
-        dsc: get(p, Page::DSC) == 1,
+        dsc: get(p, Place::DSC) == 1,
     };
     Held {
         control,
-        number: get(p, Page::NUMBER),
-        highest: get(p, Page::HIGHEST),
+        number: get(p, Place::NUMBER),
+        highest: get(p, Place::HIGHEST),
     }
 }
 
@@ -90,26 +90,35 @@ fn flag(b: bool) -> u64 {
 pub fn hold(p: &mut [u64], r: Held) {
     let c = r.control;
     let s = c.state;
-    put(p, Page::STATE, control::number(s));
-    put(p, Page::DSC, flag(c.dsc));
-    put(p, Page::NUMBER, r.number);
-    put(p, Page::HIGHEST, r.highest);
+    put(p, Place::STATE, control::number(s));
+    put(p, Place::DSC, flag(c.dsc));
+    put(p, Place::NUMBER, r.number);
+    put(p, Place::HIGHEST, r.highest);
 }
 
 pub fn is_idle(p: &[u64]) -> bool {
-    get(p, Page::STATE) == 0
+    get(p, Place::STATE) == 0
 }
 
 // ---- lists
+
+// The i-th from a place on.
+fn at(p: &[u64], from: usize, i: u64) -> u64 {
+    if 4294967296 < from {
+        return 0;
+    }
+    if 4294967296 < i {
+        return 0;
+    }
+    get(p, from + i as usize)
+}
 
 // Is x among the first so many from a place on?
 pub fn is_among(p: &[u64], from: usize, count: u64, x: u64) -> bool {
     let mut i: u64 = 0;
     while i < count {
-        if from < 4294967296 && i < 4294967296 {
-            if get(p, from + i as usize) == x {
-                return true;
-            }
+        if at(p, from, i) == x {
+            return true;
         }
         i += 1;
     }
@@ -119,35 +128,41 @@ pub fn is_among(p: &[u64], from: usize, count: u64, x: u64) -> bool {
 // One behind the others; false where there is no room.
 pub fn push(p: &mut [u64], counter: usize, from: usize, most: u64, x: u64) -> bool {
     let n = get(p, counter);
-    if n < most && n < 4294967296 && from < 4294967296 {
-        put(p, from + n as usize, x);
-        put(p, counter, n + 1);
-        return true;
+    if most <= n {
+        return false;
     }
-    false
+    if 4294967296 < from {
+        return false;
+    }
+    if 4294967296 < n {
+        return false;
+    }
+    put(p, from + n as usize, x);
+    put(p, counter, n + 1);
+    true
 }
 
 pub fn is_decided(p: &[u64], job: u64) -> bool {
-    is_among(p, Page::DECIDED_AT, get(p, Page::DECIDED), job)
+    is_among(p, Place::DECIDED_AT, get(p, Place::DECIDED), job)
 }
 
 pub fn decide(p: &mut [u64], job: u64) -> bool {
-    push(p, Page::DECIDED, Page::DECIDED_AT, Page::DECIDED_MOST, job)
+    push(p, Place::DECIDED, Place::DECIDED_AT, Place::DECIDED_MOST, job)
 }
 
 pub fn open(p: &mut [u64], job: u64) -> bool {
-    push(p, Page::OPENED, Page::OPENED_AT, Page::OPENED_MOST, job)
+    push(p, Place::OPENED, Place::OPENED_AT, Place::OPENED_MOST, job)
 }
 
 // ---- notices
 
 pub fn note(p: &mut [u64], job: u64, fate: u64) -> bool {
-    let n = get(p, Page::NOTICES);
-    if n < Page::NOTICES_MOST {
-        let at = Page::NOTICES_AT + 2 * n as usize;
+    let n = get(p, Place::NOTICES);
+    if n < Place::NOTICES_MOST {
+        let at = Place::NOTICES_AT + 2 * n as usize;
         put(p, at, job);
         put(p, at + 1, fate);
-        put(p, Page::NOTICES, n + 1);
+        put(p, Place::NOTICES, n + 1);
         return true;
     }
     false
@@ -158,31 +173,31 @@ pub fn is_noted(p: &[u64], number: u64, job: u64, fate: u64) -> bool {
     if number == 0 {
         return false;
     }
-    if get(p, Page::NOTICES) < number {
+    if get(p, Place::NOTICES) < number {
         return false;
     }
-    if Page::NOTICES_MOST < number {
+    if Place::NOTICES_MOST < number {
         return false;
     }
-    let at = Page::NOTICES_AT + 2 * (number - 1) as usize;
+    let at = Place::NOTICES_AT + 2 * (number - 1) as usize;
     get(p, at) == job && get(p, at + 1) == fate
 }
 
 // Every open job gets its fate.
 pub fn tell(p: &mut [u64], fate: u64) -> bool {
-    let n = get(p, Page::OPENED);
+    let n = get(p, Place::OPENED);
     let mut i: u64 = 0;
     while i < n {
-        if Page::OPENED_MOST <= i {
+        if Place::OPENED_MOST <= i {
             return false;
         }
-        let job = get(p, Page::OPENED_AT + i as usize);
+        let job = get(p, Place::OPENED_AT + i as usize);
         if !note(p, job, fate) {
             return false;
         }
         i += 1;
     }
-    put(p, Page::OPENED, 0);
+    put(p, Place::OPENED, 0);
     true
 }
 
@@ -190,15 +205,18 @@ pub fn tell(p: &mut [u64], fate: u64) -> bool {
 
 // A field of an entry: 0 its kind, 1 its number, 2 its job.
 pub fn entry(p: &[u64], i: u64, field: usize) -> u64 {
-    if i < Page::LINE_MOST && field < 3 {
-        return get(p, Page::LINE_AT + 3 * i as usize + field);
+    if Place::LINE_MOST <= i {
+        return 0;
     }
-    0
+    if 2 < field {
+        return 0;
+    }
+    get(p, Place::LINE_AT + 3 * i as usize + field)
 }
 
 fn set_entry(p: &mut [u64], i: u64, kind: u64, number: u64, job: u64) {
-    if i < Page::LINE_MOST {
-        let at = Page::LINE_AT + 3 * i as usize;
+    if i < Place::LINE_MOST {
+        let at = Place::LINE_AT + 3 * i as usize;
         put(p, at, kind);
         put(p, at + 1, number);
         put(p, at + 2, job);
@@ -207,41 +225,58 @@ fn set_entry(p: &mut [u64], i: u64, kind: u64, number: u64, job: u64) {
 
 // An entry goes behind the others. It has not left.
 pub fn put_on_line(p: &mut [u64], kind: u64, number: u64, job: u64) -> bool {
-    let n = get(p, Page::ENTRIES);
-    let unsent = get(p, Page::UNSENT);
-    if n < Page::LINE_MOST && unsent < Page::LINE_MOST {
-        set_entry(p, n, kind, number, job);
-        put(p, Page::ENTRIES, n + 1);
-        put(p, Page::UNSENT, unsent + 1);
-        return true;
+    let n = get(p, Place::ENTRIES);
+    let unsent = get(p, Place::UNSENT);
+    if Place::LINE_MOST <= n {
+        return false;
     }
-    false
+    if Place::LINE_MOST <= unsent {
+        return false;
+    }
+    set_entry(p, n, kind, number, job);
+    put(p, Place::ENTRIES, n + 1);
+    put(p, Place::UNSENT, unsent + 1);
+    true
+}
+
+// A count that does not go past the largest number.
+fn counted(n: u64, yes: bool) -> u64 {
+    if !yes {
+        return n;
+    }
+    if 4294967296 < n {
+        return n;
+    }
+    n + 1
+}
+
+// An entry that stays goes to its new place.
+fn settle(p: &mut [u64], i: u64, to: u64, stays: bool) {
+    if stays {
+        set_entry(p, to, entry(p, i, 0), entry(p, i, 1), entry(p, i, 2));
+    }
 }
 
 // Of the entries of a dialogue the first so many are left.
 pub fn trim(p: &mut [u64], number: u64, left: u64) {
-    let n = get(p, Page::ENTRIES);
+    let n = get(p, Place::ENTRIES);
     let mut i: u64 = 0;
     let mut kept: u64 = 0;
     let mut met: u64 = 0;
     while i < n {
-        let of = entry(p, i, 1);
-        let stays = of != number || met < left;
-        if of == number && met < i + 1 {
-            met += 1;
-        }
-        if stays && kept < i + 1 {
-            set_entry(p, kept, entry(p, i, 0), of, entry(p, i, 2));
-            kept += 1;
-        }
+        let of = entry(p, i, 1) == number;
+        let stays = !of || met < left;
+        settle(p, i, kept, stays);
+        kept = counted(kept, stays);
+        met = counted(met, of);
         i += 1;
     }
-    put(p, Page::ENTRIES, kept);
+    put(p, Place::ENTRIES, kept);
 }
 
 // Where the start of a dialogue is on the line; or the count of entries.
 pub fn start_at(p: &[u64], number: u64) -> u64 {
-    let n = get(p, Page::ENTRIES);
+    let n = get(p, Place::ENTRIES);
     let mut i: u64 = 0;
     while i < n {
         if entry(p, i, 0) < 2 && entry(p, i, 1) == number {
@@ -254,7 +289,7 @@ pub fn start_at(p: &[u64], number: u64) -> u64 {
 
 // The entry at a place is gone.
 pub fn remove(p: &mut [u64], at: u64) {
-    let n = get(p, Page::ENTRIES);
+    let n = get(p, Place::ENTRIES);
     if n <= at {
         return;
     }
@@ -263,7 +298,7 @@ pub fn remove(p: &mut [u64], at: u64) {
         set_entry(p, i - 1, entry(p, i, 0), entry(p, i, 1), entry(p, i, 2));
         i += 1;
     }
-    put(p, Page::ENTRIES, n - 1);
+    put(p, Place::ENTRIES, n - 1);
 }
 
 // ---- the numbers of the dialogues that broke: a count and the numbers behind it
@@ -281,7 +316,7 @@ pub fn mark_broken(b: &mut [u64], number: u64) -> bool {
 
 // Each dialogue that has an entry on the line is broken.
 pub fn mark_line(b: &mut [u64], p: &[u64]) -> bool {
-    let n = get(p, Page::ENTRIES);
+    let n = get(p, Place::ENTRIES);
     let mut i: u64 = 0;
     while i < n {
         if !mark_broken(b, entry(p, i, 1)) {

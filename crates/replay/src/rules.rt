@@ -25,6 +25,7 @@ pub fn say_rule(rule: u64) {
         7 => say(b"duty 7, each primitive once, as it arrived, in order: another is the next on the line, or none has left"),
         12 => say(b"duty 12, the dialogue number: it is not the entry's, or not above the record's"),
         14 => say(b"duty 14, shown before the next call: the user has not been shown what was handed out"),
+        17 => say(b"duty 17, a start that its side of the dialogue can not expect is not handed over"),
         20 => say(b"the card does not do this here"),
         21 => say(b"the carrier does not do this: something is on the line, or no start is there"),
         23 => say(b"there is no room for this in the tables of the program"),

@@ -7,7 +7,7 @@ use control::Reply;
 use control::Side;
 use control::State;
 use crate::page::Fate;
-use crate::page::Page;
+use crate::page::Place;
 use crate::page::decide;
 use crate::page::entry;
 use crate::page::get;
@@ -36,11 +36,11 @@ fn room(b: bool) -> u64 {
 }
 
 fn is_up(p: &[u64]) -> bool {
-    get(p, Page::POWER) == 0
+    get(p, Place::POWER) == 0
 }
 
 fn is_down(p: &[u64]) -> bool {
-    get(p, Page::POWER) == 2
+    get(p, Place::POWER) == 2
 }
 
 // May the next call be made?
@@ -48,7 +48,7 @@ fn ready(p: &[u64]) -> u64 {
     if !is_up(p) {
         return 3;
     }
-    if get(p, Page::WAITING) != 0 {
+    if get(p, Place::WAITING) != 0 {
         return 14;
     }
     0
@@ -59,23 +59,25 @@ fn ready(p: &[u64]) -> u64 {
 // The kind of the primitive that a call sends.
 fn kind_sent(call: Call) -> u64 {
     match call {
-        Call::StartRequest(dsc) => if dsc { 1 } else { 0 },
-        Call::StartResponse(_, reply) => 2 + rejects(reply),
+        Call::StartRequest(dsc) => mode(dsc),
+        Call::StartResponse(_, reply) => answer(reply, 2, 3),
         Call::MessageRequest => 4,
         Call::EndRequest(_) => 5,
-        Call::EndResponse(_, reply) => 6 + rejects(reply),
+        Call::EndResponse(_, reply) => answer(reply, 6, 7),
         Call::UserAbort => 8,
         Call::TimerExpiry => 8,
         Call::SystemError => 8,
     }
 }
 
-fn rejects(reply: Reply) -> u64
-    ensures { λ r. ⌜ r ≤ 1 ⌝ }
-{
+fn mode(dsc: bool) -> u64 {
+    if dsc { 1 } else { 0 }
+}
+
+fn answer(reply: Reply, accepted: u64, rejected: u64) -> u64 {
     match reply {
-        Reply::Accepted => 0,
-        Reply::Rejected => 1,
+        Reply::Accepted => accepted,
+        Reply::Rejected => rejected,
     }
 }
 
@@ -178,7 +180,7 @@ pub fn turn_back(here: &mut [u64], side: Side) -> u64 {
     }
     let r = held(here);
     let at = start_at(here, r.number);
-    if get(here, Page::STATE) != 1 || get(here, Page::ENTRIES) <= at {
+    if get(here, Place::STATE) != 1 || get(here, Place::ENTRIES) <= at {
         return Rule::CARRIER;
     }
     let done = moves::received(side, r, Primitive::DTurnedAway, r.number);
@@ -245,7 +247,7 @@ pub fn publish(here: &[u64], number: u64, job: u64, fate: u64) -> u64 {
 
 // The first on the other end's line that has left is this one; of a start either kind is meant by 0.
 fn check_first(there: &[u64], kind: u64, number: u64, job: u64) -> u64 {
-    if get(there, Page::ENTRIES) <= get(there, Page::UNSENT) {
+    if get(there, Place::ENTRIES) <= get(there, Place::UNSENT) {
         return 7;
     }
     let first = entry(there, 0, 0);
@@ -271,7 +273,7 @@ fn quiet(here: &mut [u64], next: Held, fate: u64) -> u64 {
 
 fn show(here: &mut [u64], next: Held) -> u64 {
     hold(here, next);
-    put(here, Page::WAITING, 1);
+    put(here, Place::WAITING, 1);
     0
 }
 
@@ -312,7 +314,7 @@ pub fn hear(here: &mut [u64], there: &mut [u64], broken: &mut [u64], side: Side,
         return rule;
     }
     let first = entry(there, 0, 0);
-    let fate = fate_of(first, number, get(here, Page::NUMBER));
+    let fate = fate_of(first, number, get(here, Place::NUMBER));
     remove(there, 0);
     meet(here, broken, side, primitive_of(first), number, left, fate)
 }
@@ -345,10 +347,10 @@ pub fn shown(here: &mut [u64]) -> u64 {
     if is_down(here) {
         return 3;
     }
-    if get(here, Page::WAITING) == 0 {
+    if get(here, Place::WAITING) == 0 {
         return 1;
     }
-    put(here, Page::WAITING, 0);
+    put(here, Place::WAITING, 0);
     0
 }
 
@@ -356,11 +358,11 @@ pub fn leave(here: &mut [u64]) -> u64 {
     if !is_up(here) {
         return 3;
     }
-    let n = get(here, Page::UNSENT);
+    let n = get(here, Place::UNSENT);
     if n == 0 {
         return 1;
     }
-    put(here, Page::UNSENT, n - 1);
+    put(here, Place::UNSENT, n - 1);
     0
 }
 
@@ -369,13 +371,13 @@ pub fn release(here: &mut [u64], there: &[u64], broken: &[u64]) -> u64 {
     if !is_up(here) {
         return 3;
     }
-    if 0 < get(here, Page::ENTRIES) || 0 < get(there, Page::ENTRIES) {
+    if 0 < get(here, Place::ENTRIES) || 0 < get(there, Place::ENTRIES) {
         return 4;
     }
     if !is_idle(here) || !is_idle(there) {
         return 4;
     }
-    if is_broken(broken, get(here, Page::NUMBER)) {
+    if is_broken(broken, get(here, Place::NUMBER)) {
         return 4;
     }
     room(tell(here, Fate::ENDED))
@@ -389,25 +391,25 @@ pub fn give_up(here: &mut [u64]) -> u64 {
 }
 
 pub fn fail_power(here: &mut [u64]) -> u64 {
-    put(here, Page::POWER, 2);
-    put(here, Page::WAITING, 0);
+    put(here, Place::POWER, 2);
+    put(here, Place::WAITING, 0);
     0
 }
 
 pub fn cut_off(here: &mut [u64]) -> u64 {
-    if get(here, Page::POWER) == 1 {
+    if get(here, Place::POWER) == 1 {
         return 0;
     }
-    put(here, Page::POWER, 1);
-    put(here, Page::UNSENT, 0);
+    put(here, Place::POWER, 1);
+    put(here, Place::UNSENT, 0);
     room(tell(here, Fate::BROKEN))
 }
 
 // One end hears that the carrier failed: its line is empty, it is IDLE, and its jobs are broken.
 fn lose(p: &mut [u64]) -> u64 {
     let r = held(p);
-    put(p, Page::ENTRIES, 0);
-    put(p, Page::UNSENT, 0);
+    put(p, Place::ENTRIES, 0);
+    put(p, Place::UNSENT, 0);
     hold(
         p,
         Held {
@@ -422,7 +424,7 @@ fn lose(p: &mut [u64]) -> u64 {
 // The dialogues that an end is in, or that have an entry on its line, are broken.
 fn mark_alive(broken: &mut [u64], p: &[u64]) -> bool {
     if !is_idle(p) {
-        if !mark_broken(broken, get(p, Page::NUMBER)) {
+        if !mark_broken(broken, get(p, Place::NUMBER)) {
             return false;
         }
     }
@@ -436,9 +438,9 @@ pub fn fail_carrier(here: &mut [u64], there: &mut [u64], broken: &mut [u64]) -> 
     if !mark_alive(broken, there) {
         return Rule::ROOM;
     }
-    put(here, Page::POWER, 0);
-    if get(there, Page::POWER) == 1 {
-        put(there, Page::POWER, 0);
+    put(here, Place::POWER, 0);
+    if get(there, Place::POWER) == 1 {
+        put(there, Place::POWER, 0);
     }
     let rule = lose(here);
     if rule != 0 {
@@ -453,17 +455,17 @@ pub fn show_record(here: &[u64], state: u64, dsc: u64, number: u64, highest: u64
     if !is_up(here) {
         return 0;
     }
-    if get(here, Page::STATE) != state || get(here, Page::DSC) != dsc {
+    if get(here, Place::STATE) != state || get(here, Place::DSC) != dsc {
         return 2;
     }
-    if get(here, Page::NUMBER) != number || get(here, Page::HIGHEST) != highest {
+    if get(here, Place::NUMBER) != number || get(here, Place::HIGHEST) != highest {
         return 2;
     }
     0
 }
 
 pub fn show_quiet(here: &[u64], there: &[u64]) -> u64 {
-    if 0 < get(here, Page::ENTRIES) || 0 < get(there, Page::ENTRIES) {
+    if 0 < get(here, Place::ENTRIES) || 0 < get(there, Place::ENTRIES) {
         return Rule::CARRIER;
     }
     0

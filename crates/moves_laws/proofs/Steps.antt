@@ -1,0 +1,187 @@
+-- What the program replay does to the pages of two ends is what a step of two hosts does that keep their duties. A page has what the program holds of one end;
+-- what no page has (the histories, and what was shown) goes on beside it.
+-- Assumes nothing.
+use mathlib.Core.Path.{_≡_, refl, ap, sym, _∙_}
+use mathlib.Core.Bool.{Bool, true, false, not, cond, _&&_, _||_}
+use mathlib.Core.List.{List, [], _∷_, _++_}
+use Prim.Native.Nat.{ℕ, zero, suc}
+use native.Mathlib.Omega.{arith}
+use lib.Dec.{eqb, ltb}
+use lib.ListN.{length}
+use Rattle.pair.specs.Names.{Side, Control, Call, MessageRequest, Primitive, DData, DAbort, DPAbort, isIdle, closed, other, goes, sends}
+use Rattle.pair.specs.Carrier.{Body, Sent, nothing, puts, message, Outcome, refused, acts, Step, user-call, hand-over, fail, discards, isStart}
+use Rattle.pair.specs.Numbered.{NMachine, NParty, NSys, Numbered, mark, more, nCut, nLine, nOff, nDid, nLeft, nCalled, nHandedOver, nToldLost, nEmptied, nFailed, alive}
+use Rattle.pair.proofs.NumberedLines.{self, differ}
+use Rattle.pair.proofs.ControlMachine.{Held, held, Ent, ent, Ask, ask, control}
+use Rattle.pair.proofs.NumberedMachine.{numbered}
+use Rattle.duties.specs.Memory.{Notes, isDecided, takes, declines, tells, told-ended, told-broken, Took}
+use Rattle.duties.specs.Host.{right, Power, up, apart, down, Host, Hosts, Act, deliver, lay-aside, happens, end-confirmed, shows, release, acknowledge, connection-released, give-up, power-fails, cut-off, carrier-fails, Move, isNil, less, breaks?, commits, logs, afterwards, handsOut, sendsJob, taking, refusing, offered, acknowledges, inOrder, settled, seesBreak, happened, toldOf, rejoins, carrierFailed, dSwap, dStepped, dTurned, dRun, dFresh}
+use Rattle.duties.specs.Promise.{DutyPromise}
+use Rattle.duties.proofs.EndConfirmed.{answersYes}
+use Rattle.duties.proofs.ControlHosts.{letters, lost-closes}
+use Rattle.moves.specs.declared.Held.{Held as Holds}
+use Rattle.moves.specs.declared.Done.{Done}
+use Rattle.moves.specs.declared.Done.the-variants.{Refused, Quiet, Shows, Sends, Aborts}
+use Rattle.moves.specs.Machine.{isMessage, holding, mayDo, movedBy, calledOf, metBy, receivedOf}
+use Rattle.moves_laws.proofs.Machine.{recOf, callDone, call-is, arrivalDone, receive-is}
+
+-- the machine
+abbrev M : NMachine
+M = numbered control
+
+-- what the program holds of an end and its host
+pub record Page : Type 0 where
+  pub rec : Holds
+  pub line : List (Numbered Ent)
+  pub notes : Notes
+  pub unsent : ℕ
+  pub waiting : Bool
+  pub power : Power
+
+abbrev pub page : Holds → List (Numbered Ent) → Notes → ℕ → Bool → Power → Page
+page r l n u w p = record { rec = r; line = l; notes = n; unsent = u; waiting = w; power = p }
+
+-- and what it does not hold
+pub record Beside : Type 0 where
+  pub taken : ℕ → List Body
+  pub handed : ℕ → List Body
+  pub jobs : List ℕ
+  pub done : ℕ → Bool
+  pub log : List Took
+  pub seen : ℕ → ℕ
+
+abbrev pub partyOf : Page → Beside → NParty M
+partyOf p g = record { rec = recOf (p .rec); line = p .line; taken = g .taken; handed = g .handed; jobs = g .jobs }
+
+abbrev pub hostOf : Page → Beside → Host M
+hostOf p g = record { notes = p .notes; kept = p .notes; keptRec = recOf (p .rec); unsent = p .unsent; power = p .power; done = g .done; log = g .log; waiting = p .waiting; seen = g .seen }
+
+-- br: which dialogues broke
+abbrev pub stateOf : Page → Page → (ℕ → Bool) → Beside → Beside → Hosts M
+stateOf p z br g k = record { ends = record { here = partyOf p g; there = partyOf z k; broken = br }; here = hostOf p g; there = hostOf z k }
+
+-- ---- small facts
+
+app-nil : {X : Type 0} (l : List X) → l ++ [] ≡ l
+app-nil [] = refl
+app-nil (x ∷ l) = ap (λ (t : List _). x ∷ t) (app-nil l)
+
+length-snoc : {X : Type 0} (l : List X) (x : X) → length (l ++ (x ∷ [])) ≡ suc (length l)
+length-snoc [] x = refl
+length-snoc (y ∷ l) x = ap suc (length-snoc l x)
+
+-- no message was handed out
+out-none : (f : ℕ → List Body) (n : ℕ) → (not (eqb (length (f n)) (length (more f n [] n))) || false) ≡ false
+out-none f n =
+    ap (λ (b : Bool). not (eqb (length (f n)) (length (cond b (f n ++ []) (f n)))) || false) (self n)
+    ∙ ap (λ (l : List Body). not (eqb (length (f n)) (length l)) || false) (app-nil (f n))
+    ∙ ap (λ (b : Bool). not b || false) (self (length (f n)))
+
+-- one was
+out-one : (f : ℕ → List Body) (n : ℕ) (b : Body) → (not (eqb (length (f n)) (length (more f n (b ∷ []) n))) || false) ≡ true
+out-one f n b =
+    ap (λ (t : Bool). not (eqb (length (f n)) (length (cond t (f n ++ (b ∷ [])) (f n)))) || false) (self n)
+    ∙ ap (λ (m : ℕ). not (eqb (length (f n)) m) || false) (length-snoc (f n) b)
+    ∙ ap (λ (t : Bool). not t || false) (differ (length (f n)) (suc (length (f n))) (λ (e : length (f n) ≡ suc (length (f n))). omega (arith, e)))
+
+module _ (text : Side → ℕ → Body) (fresh : Side → Numbered Held) where
+  abbrev step : Bool → Side → Hosts M → Act (Numbered Ask) → Hosts M
+  step = dStepped M right (letters text) fresh answersYes
+
+  -- the act leads from these pages to those, whatever is beside them
+  pub record Lands (may : Bool) (sd : Side) (p z : Page) (br : ℕ → Bool) (a : Act (Numbered Ask)) (q y : Page) (cr : ℕ → Bool) (g k : Beside) : Type 0 where
+    pub near : Beside
+    pub far : Beside
+    pub lands : step may sd (stateOf p z br g k) a ≡ stateOf q y cr near far
+
+  -- ---- the host alone
+
+  -- refused without the card, or by it: undecided before
+  pub refuses-lands : (may : Bool) (sd : Side) (r : Holds) (l : List (Numbered Ent)) (n : Notes) (u : ℕ) (w : Bool) (z : Page) (br : ℕ → Bool) (g k : Beside) (j : ℕ) → isDecided (n .decision j) ≡ false → Lands may sd (page r l n u w up) z br (lay-aside j) (page r l (declines j n) u w up) z br g k
+  refuses-lands may sd r l n u w z br g k j d =
+      let s : Hosts M = stateOf (page r l n u w up) z br g k in
+      record { near = g; far = k; lands = ap (λ (b : Bool). cond b s (refusing M right (letters text) fresh answersYes s j)) d }
+
+  -- the same of a host without the carrier
+  pub refuses-apart-lands : (may : Bool) (sd : Side) (r : Holds) (l : List (Numbered Ent)) (n : Notes) (u : ℕ) (w : Bool) (z : Page) (br : ℕ → Bool) (g k : Beside) (j : ℕ) → isDecided (n .decision j) ≡ false → Lands may sd (page r l n u w apart) z br (lay-aside j) (page r l (declines j n) u w apart) z br g k
+  refuses-apart-lands may sd r l n u w z br g k j d =
+      let s : Hosts M = stateOf (page r l n u w apart) z br g k in
+      record { near = g; far = k; lands = ap (λ (b : Bool). cond b s (refusing M right (letters text) fresh answersYes s j)) d }
+
+  pub shows-lands : (may : Bool) (sd : Side) (r : Holds) (l : List (Numbered Ent)) (n : Notes) (u : ℕ) (w : Bool) (z : Page) (br : ℕ → Bool) (g k : Beside) → Lands may sd (page r l n u w up) z br shows (page r l n u false up) z br g k
+  shows-lands may sd r l n u w z br g k =
+      record {
+        near = record { taken = g .taken; handed = g .handed; jobs = g .jobs; done = g .done; log = g .log; seen = λ (v : ℕ). cond (eqb (r .number) v) (length (g .handed v)) (g .seen v) };
+        far = k;
+        lands = refl;
+      }
+
+  pub sends-lands : (may : Bool) (sd : Side) (r : Holds) (l : List (Numbered Ent)) (n : Notes) (u : ℕ) (w : Bool) (z : Page) (br : ℕ → Bool) (g k : Beside) → Lands may sd (page r l n (suc u) w up) z br release (page r l n u w up) z br g k
+  sends-lands may sd r l n u w z br g k = record { near = g; far = k; lands = refl }
+
+  pub gives-up-lands : (may : Bool) (sd : Side) (r : Holds) (l : List (Numbered Ent)) (n : Notes) (u : ℕ) (w : Bool) (z : Page) (br : ℕ → Bool) (g k : Beside) → Lands may sd (page r l n u w up) z br give-up (page r l (tells told-broken n) u w up) z br g k
+  gives-up-lands may sd r l n u w z br g k = record { near = g; far = k; lands = refl }
+
+  -- both lines are empty, both ends are IDLE, nothing broke the dialogue
+  pub released-lands : (may : Bool) (sd : Side) (r : Holds) (n : Notes) (u : ℕ) (w : Bool) (t : Holds) (o : Notes) (v : ℕ) (x : Bool) (e : Power) (br : ℕ → Bool) (g k : Beside) → (isIdle (r .control) && (isIdle (t .control) && not (br (r .number)))) ≡ true → Lands may sd (page r [] n u w up) (page t [] o v x e) br connection-released (page r [] (tells told-ended n) u w up) (page t [] o v x e) br g k
+  released-lands may sd r n u w t o v x e br g k h =
+      let s : Hosts M = stateOf (page r [] n u w up) (page t [] o v x e) br g k in
+      record { near = g; far = k; lands = ap (λ (b : Bool). cond b (settled M right (letters text) fresh answersYes told-ended s) s) h }
+
+  -- a job that was decided is acknowledged
+  pub acknowledges-lands : (may : Bool) (sd : Side) (r : Holds) (l : List (Numbered Ent)) (n : Notes) (u : ℕ) (w : Bool) (z : Page) (br : ℕ → Bool) (g k : Beside) (j : ℕ) → isDecided (n .decision j) ≡ true → Lands may sd (page r l n u w up) z br (acknowledge j) (page r l n u w up) z br g k
+  acknowledges-lands may sd r l n u w z br g k j d =
+      let s : Hosts M = stateOf (page r l n u w up) z br g k in
+      let b : Beside = record { taken = g .taken; handed = g .handed; jobs = g .jobs; done = λ (i : ℕ). eqb i j || g .done i; log = g .log; seen = g .seen } in
+      record { near = b; far = k; lands = ap (λ (t : Bool). record { ends = s .ends; here = cond t (hostOf (page r l n u w up) b) (hostOf (page r l n u w up) g); there = s .there }) d }
+
+  -- ---- the power and the carrier
+
+  pub power-lands : (may : Bool) (sd : Side) (r : Holds) (l : List (Numbered Ent)) (n : Notes) (u : ℕ) (w : Bool) (z : Page) (br : ℕ → Bool) (g k : Beside) → Lands may sd (page r l n u w up) z br power-fails (page r l n u false down) z br g k
+  power-lands may sd r l n u w z br g k = record { near = g; far = k; lands = refl }
+
+  pub power-apart-lands : (may : Bool) (sd : Side) (r : Holds) (l : List (Numbered Ent)) (n : Notes) (u : ℕ) (w : Bool) (z : Page) (br : ℕ → Bool) (g k : Beside) → Lands may sd (page r l n u w apart) z br power-fails (page r l n u false down) z br g k
+  power-apart-lands may sd r l n u w z br g k = record { near = g; far = k; lands = refl }
+
+  pub cut-lands : (may : Bool) (sd : Side) (r : Holds) (l : List (Numbered Ent)) (n : Notes) (u : ℕ) (w : Bool) (z : Page) (br : ℕ → Bool) (g k : Beside) → Lands may sd (page r l n u w up) z br cut-off (page r l (tells told-broken n) 0 w apart) z br g k
+  cut-lands may sd r l n u w z br g k = record { near = g; far = k; lands = refl }
+
+  pub cut-down-lands : (may : Bool) (sd : Side) (r : Holds) (l : List (Numbered Ent)) (n : Notes) (u : ℕ) (w : Bool) (z : Page) (br : ℕ → Bool) (g k : Beside) → Lands may sd (page r l n u w down) z br cut-off (page r l (tells told-broken n) 0 w apart) z br g k
+  cut-down-lands may sd r l n u w z br g k = record { near = g; far = k; lands = refl }
+
+  -- ---- a job
+
+  -- it is taken: undecided before, and the card takes it
+  pub takes-lands : (may : Bool) (sd : Side) (r : Holds) (l : List (Numbered Ent)) (n : Notes) (u : ℕ) (z : Page) (br : ℕ → Bool) (g k : Beside) (j : ℕ) → isDecided (n .decision j) ≡ false → mayDo sd r MessageRequest 0 j ≡ true → Lands may sd (page r l n u false up) z br (deliver j) (page (movedBy r MessageRequest 0 j) (l ++ (mark (r .number) (ent DData (text sd j)) ∷ [])) (takes j n) (suc u) false up) z br g k
+  takes-lands may sd r l n u z br g k j d c =
+      let s : Hosts M = stateOf (page r l n u false up) z br g k in
+      let b : Body = text sd j in
+      let e : Numbered Ent = mark (r .number) (ent DData b) in
+      let t : Took = record { job = j; no = r .number; body = b } in
+      let f : Holds = movedBy r MessageRequest 0 j in
+      let o : M .at .call sd (recOf r) (letters text sd j) ≡ acts (recOf f) [] (message e b j) = call-is sd r MessageRequest 0 b j ∙ ap (λ (x : Bool). callDone MessageRequest b j (cond x (Sends f) Refused)) c in
+      let v : Beside = record { taken = more (g .taken) (r .number) (b ∷ []); handed = more (g .handed) (r .number) []; jobs = g .jobs ++ (j ∷ []); done = g .done; log = g .log ++ (t ∷ []); seen = g .seen } in
+      record {
+        near = v;
+        far = k;
+        lands =
+            ap (λ (x : Bool). cond x s (offered M right (letters text) fresh answersYes may sd s j (M .at .call sd (recOf r) (letters text sd j)))) d
+            ∙ ap (λ (x : Outcome (Numbered Held) (Numbered Ent)). offered M right (letters text) fresh answersYes may sd s j x) o
+            ∙ ap (λ (x : Bool). cond (x && eqb (r .number) (r .number)) (taking M right (letters text) fresh answersYes may sd s j t) s) (self j)
+            ∙ ap (λ (x : Bool). cond x (taking M right (letters text) fresh answersYes may sd s j t) s) (self (r .number))
+            ∙ ap (λ (x : Outcome (Numbered Held) (Numbered Ent)). took (nCalled M may (s .ends) x 0)) o
+            ∙ ap (λ (x : Bool). left (cond (not x) (tells told-broken n) n) (handsOut M right (letters text) fresh answersYes (s .ends) (nCalled M may (s .ends) (acts (recOf f) [] (message e b j)) 0) || false)) (self (r .number))
+            ∙ ap (λ (x : Bool). left n x) (out-none (g .handed) (r .number));
+      }
+    where
+      s₀ : Hosts M
+      s₀ = stateOf (page r l n u false up) z br g k
+
+      t₀ : Took
+      t₀ = record { job = j; no = r .number; body = text sd j }
+
+      took : NSys M → Hosts M
+      took x = record { ends = x; here = logs M right (letters text) fresh answersYes t₀ (commits M right (letters text) fresh answersYes (x .here .rec) (takes j (afterwards M right (letters text) fresh answersYes false (recOf r) (x .here .rec) n)) (suc u) (handsOut M right (letters text) fresh answersYes (s₀ .ends) x) (s₀ .here)); there = s₀ .there }
+
+      left : Notes → Bool → Hosts M
+      left m w = stateOf (page (movedBy r MessageRequest 0 j) (l ++ (mark (r .number) (ent DData (text sd j)) ∷ [])) (takes j m) (suc u) w up) z br (record { taken = more (g .taken) (r .number) (text sd j ∷ []); handed = more (g .handed) (r .number) []; jobs = g .jobs ++ (j ∷ []); done = g .done; log = g .log ++ (t₀ ∷ []); seen = g .seen }) k

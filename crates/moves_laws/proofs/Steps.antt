@@ -26,7 +26,7 @@ use Rattle.moves.specs.Machine.{isMessage, holding, mayDo, movedBy, calledOf, m
 use Rattle.moves_laws.proofs.Machine.{recOf, callDone, call-is, arrivalDone, receive-is}
 
 -- the machine
-abbrev M : NMachine
+abbrev pub M : NMachine
 M = numbered control
 
 -- what the program holds of an end and its host
@@ -71,14 +71,14 @@ length-snoc [] x = refl
 length-snoc (y ∷ l) x = ap suc (length-snoc l x)
 
 -- no message was handed out
-out-none : (f : ℕ → List Body) (n : ℕ) → (not (eqb (length (f n)) (length (more f n [] n))) || false) ≡ false
+pub out-none : (f : ℕ → List Body) (n : ℕ) → (not (eqb (length (f n)) (length (more f n [] n))) || false) ≡ false
 out-none f n =
     ap (λ (b : Bool). not (eqb (length (f n)) (length (cond b (f n ++ []) (f n)))) || false) (self n)
     ∙ ap (λ (l : List Body). not (eqb (length (f n)) (length l)) || false) (app-nil (f n))
     ∙ ap (λ (b : Bool). not b || false) (self (length (f n)))
 
 -- one was
-out-one : (f : ℕ → List Body) (n : ℕ) (b : Body) → (not (eqb (length (f n)) (length (more f n (b ∷ []) n))) || false) ≡ true
+pub out-one : (f : ℕ → List Body) (n : ℕ) (b : Body) → (not (eqb (length (f n)) (length (more f n (b ∷ []) n))) || false) ≡ true
 out-one f n b =
     ap (λ (t : Bool). not (eqb (length (f n)) (length (cond t (f n ++ (b ∷ [])) (f n)))) || false) (self n)
     ∙ ap (λ (m : ℕ). not (eqb (length (f n)) m) || false) (length-snoc (f n) b)

@@ -287,15 +287,23 @@ pub fn start_at(p: &[u64], number: u64) -> u64 {
     n
 }
 
+// The entry behind a place comes to it.
+fn draw(p: &mut [u64], i: u64) {
+    if Place::LINE_MOST <= i {
+        return;
+    }
+    set_entry(p, i, entry(p, i + 1, 0), entry(p, i + 1, 1), entry(p, i + 1, 2));
+}
+
 // The entry at a place is gone.
 pub fn remove(p: &mut [u64], at: u64) {
     let n = get(p, Place::ENTRIES);
     if n <= at {
         return;
     }
-    let mut i = at + 1;
+    let mut i = at;
     while i < n {
-        set_entry(p, i - 1, entry(p, i, 0), entry(p, i, 1), entry(p, i, 2));
+        draw(p, i);
         i += 1;
     }
     put(p, Place::ENTRIES, n - 1);

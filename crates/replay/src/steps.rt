@@ -5,7 +5,6 @@ use control::Control;
 use control::Primitive;
 use control::Reply;
 use control::Side;
-use control::State;
 use crate::page::Fate;
 use crate::page::Place;
 use crate::page::decide;
@@ -405,30 +404,42 @@ pub fn cut_off(here: &mut [u64]) -> u64 {
     room(tell(here, Fate::BROKEN))
 }
 
-// One end hears that the carrier failed: its line is empty, it is IDLE, and its jobs are broken.
-fn lose(p: &mut [u64]) -> u64 {
+fn close(p: &mut [u64]) {
     let r = held(p);
-    put(p, Place::ENTRIES, 0);
-    put(p, Place::UNSENT, 0);
-    hold(
-        p,
-        Held {
+    if !is_idle(p) {
+        let closed = Held {
             control: Control::CLOSED,
             number: r.number,
             highest: r.highest,
-        },
-    );
+        };
+        hold(p, closed);
+    }
+}
+
+// One end hears that the carrier failed: its line is empty, it is IDLE, and its jobs are broken.
+fn lose(p: &mut [u64]) -> u64 {
+    put(p, Place::ENTRIES, 0);
+    put(p, Place::UNSENT, 0);
+    close(p);
     room(tell(p, Fate::BROKEN))
 }
 
 // The dialogues that an end is in, or that have an entry on its line, are broken.
 fn mark_alive(broken: &mut [u64], p: &[u64]) -> bool {
-    if !is_idle(p) {
-        if !mark_broken(broken, get(p, Place::NUMBER)) {
-            return false;
-        }
+    if is_idle(p) {
+        return mark_line(broken, p);
+    }
+    if !mark_broken(broken, get(p, Place::NUMBER)) {
+        return false;
     }
     mark_line(broken, p)
+}
+
+// It is up again, if it has power.
+fn rejoin(p: &mut [u64]) {
+    if get(p, Place::POWER) == 1 {
+        put(p, Place::POWER, 0);
+    }
 }
 
 pub fn fail_carrier(here: &mut [u64], there: &mut [u64], broken: &mut [u64]) -> u64 {
@@ -439,9 +450,7 @@ pub fn fail_carrier(here: &mut [u64], there: &mut [u64], broken: &mut [u64]) -> 
         return Rule::ROOM;
     }
     put(here, Place::POWER, 0);
-    if get(there, Place::POWER) == 1 {
-        put(there, Place::POWER, 0);
-    }
+    rejoin(there);
     let rule = lose(here);
     if rule != 0 {
         return rule;

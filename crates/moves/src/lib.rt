@@ -26,7 +26,7 @@ pub enum Done {
 
 // ---- calls
 
-pub fn is_message(call: Call) -> bool
+fn is_message(call: Call) -> bool
     ensures { λ r. ⌜ r ≡ isMessage call ⌝ }
 {
     match call {
@@ -41,7 +41,7 @@ pub fn is_message(call: Call) -> bool
     }
 }
 
-pub fn is_start(call: Call) -> bool
+fn is_start(call: Call) -> bool
     ensures { λ r. ⌜ r ≡ isStart call ⌝ }
 {
     match call {
@@ -57,7 +57,7 @@ pub fn is_start(call: Call) -> bool
 }
 
 // Does it send D-ABORT?
-pub fn is_abort(call: Call) -> bool
+fn is_abort(call: Call) -> bool
     ensures { λ r. ⌜ r ≡ isAbort call ⌝ }
 {
     match call {
@@ -143,7 +143,7 @@ pub fn is_opening(p: Primitive) -> bool
     }
 }
 
-pub fn is_data(p: Primitive) -> bool
+fn is_data(p: Primitive) -> bool
     ensures { λ r. ⌜ r ≡ isData p ⌝ }
 {
     match p {

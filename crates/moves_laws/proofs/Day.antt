@@ -53,7 +53,7 @@ module _ (text : Side → ℕ → Body) (fresh : Side → Numbered Held) (from :
   made Ground a c e g k h = let w = h k g in record { near = w .far; far = w .near; at = ap (dSwap M right (letters text) fresh answersYes) (w .lands) }
 
   run : (vs : List (Move (Numbered Ask))) (c e : Sheet) (g k : Beside) → Makes-all vs c e → Ends (dRun M right (letters text) fresh answersYes from (sheetState c g k) vs) e
-  unfolding (Makes-all, dRun)
+  unfolding Makes-all dRun
   run [] c e g k h = record { near = g; far = k; at = ap (λ (d : Sheet). sheetState d g k) h }
   run (v ∷ vs) c e g k h =
       let w : Ends (dTurned M right (letters text) fresh answersYes from (v .side) (sheetState c g k) (v .act)) (h .at) = made (v .side) (v .act) c (h .at) g k (h .first) in

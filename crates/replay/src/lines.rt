@@ -349,7 +349,7 @@ fn numbers(s: &[u8], from: usize, l: Line) -> Line {
     finished(line)
 }
 
-pub fn read(s: &[u8]) -> Line {
+pub(crate) fn read(s: &[u8]) -> Line {
     if s.len() < 3 {
         return unread();
     }

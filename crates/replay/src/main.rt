@@ -260,12 +260,7 @@ fn some(air: &mut [u64], ground: &mut [u64], broken: &mut [u64], text: &mut [u8]
 }
 
 // Up to four gigabytes of a file.
-fn replay(fd: i32) {
-    let mut air = new_page();
-    let mut ground = new_page();
-    let mut broken = new_broken();
-    let mut text = [0u8; 127];
-    let mut chunk = io::large_buffer();
+fn read_on(fd: i32, air: &mut [u64], ground: &mut [u64], broken: &mut [u64], text: &mut [u8], chunk: &mut [u8]) {
     let mut run = Run {
         from_air: true,
         count: 0,
@@ -274,18 +269,27 @@ fn replay(fd: i32) {
     };
     let mut left: u64 = 65536;
     while 0 < left {
-        let n = io::read_full(fd, &mut chunk);
+        let n = io::read_full(fd, chunk);
         if n == 0 {
             finish(run);
             return;
         }
-        run = some(&mut air, &mut ground, &mut broken, &mut text, run, &chunk[..n]);
+        run = some(air, ground, broken, text, run, &chunk[..n]);
         if run.over {
             return;
         }
         left -= 1;
     }
     say(b"the file is too long\n");
+}
+
+fn replay(fd: i32) {
+    let mut air = new_page();
+    let mut ground = new_page();
+    let mut broken = new_broken();
+    let mut text = [0u8; 127];
+    let mut chunk = io::large_buffer();
+    read_on(fd, &mut air, &mut ground, &mut broken, &mut text, &mut chunk);
 }
 
 fn main() {

@@ -44,14 +44,14 @@ impl Fate {
     pub const BROKEN: u64 = 3;
 }
 
-pub fn get(p: &[u64], at: usize) -> u64 {
+pub(crate) fn get(p: &[u64], at: usize) -> u64 {
     if at < p.len() {
         return p[at];
     }
     0
 }
 
-pub fn put(p: &mut [u64], at: usize, v: u64) {
+pub(crate) fn put(p: &mut [u64], at: usize, v: u64) {
     if at < p.len() {
         p[at] = v;
     }
@@ -70,7 +70,7 @@ fn state_of(code: u64) -> State {
     }
 }
 
-pub fn held(p: &[u64]) -> Held {
+pub(crate) fn held(p: &[u64]) -> Held {
     let state = state_of(get(p, Place::STATE));
     let control = Control {
         state,
@@ -87,7 +87,7 @@ fn flag(b: bool) -> u64 {
     if b { 1 } else { 0 }
 }
 
-pub fn hold(p: &mut [u64], r: Held) {
+pub(crate) fn hold(p: &mut [u64], r: Held) {
     let c = r.control;
     let s = c.state;
     put(p, Place::STATE, control::number(s));
@@ -96,7 +96,7 @@ pub fn hold(p: &mut [u64], r: Held) {
     put(p, Place::HIGHEST, r.highest);
 }
 
-pub fn is_idle(p: &[u64]) -> bool {
+pub(crate) fn is_idle(p: &[u64]) -> bool {
     get(p, Place::STATE) == 0
 }
 
@@ -114,7 +114,7 @@ fn at(p: &[u64], from: usize, i: u64) -> u64 {
 }
 
 // Is x among the first so many from a place on?
-pub fn is_among(p: &[u64], from: usize, count: u64, x: u64) -> bool {
+pub(crate) fn is_among(p: &[u64], from: usize, count: u64, x: u64) -> bool {
     let mut i: u64 = 0;
     while i < count {
         if at(p, from, i) == x {
@@ -126,7 +126,7 @@ pub fn is_among(p: &[u64], from: usize, count: u64, x: u64) -> bool {
 }
 
 // One behind the others; false where there is no room.
-pub fn push(p: &mut [u64], counter: usize, from: usize, most: u64, x: u64) -> bool {
+pub(crate) fn push(p: &mut [u64], counter: usize, from: usize, most: u64, x: u64) -> bool {
     let n = get(p, counter);
     if most <= n {
         return false;
@@ -142,21 +142,21 @@ pub fn push(p: &mut [u64], counter: usize, from: usize, most: u64, x: u64) -> bo
     true
 }
 
-pub fn is_decided(p: &[u64], job: u64) -> bool {
+pub(crate) fn is_decided(p: &[u64], job: u64) -> bool {
     is_among(p, Place::DECIDED_AT, get(p, Place::DECIDED), job)
 }
 
-pub fn decide(p: &mut [u64], job: u64) -> bool {
+pub(crate) fn decide(p: &mut [u64], job: u64) -> bool {
     push(p, Place::DECIDED, Place::DECIDED_AT, Place::DECIDED_MOST, job)
 }
 
-pub fn open(p: &mut [u64], job: u64) -> bool {
+pub(crate) fn open(p: &mut [u64], job: u64) -> bool {
     push(p, Place::OPENED, Place::OPENED_AT, Place::OPENED_MOST, job)
 }
 
 // ---- notices
 
-pub fn note(p: &mut [u64], job: u64, fate: u64) -> bool {
+pub(crate) fn note(p: &mut [u64], job: u64, fate: u64) -> bool {
     let n = get(p, Place::NOTICES);
     if n < Place::NOTICES_MOST {
         let at = Place::NOTICES_AT + 2 * n as usize;
@@ -169,7 +169,7 @@ pub fn note(p: &mut [u64], job: u64, fate: u64) -> bool {
 }
 
 // The notice of a number, from 1 on, is this one.
-pub fn is_noted(p: &[u64], number: u64, job: u64, fate: u64) -> bool {
+pub(crate) fn is_noted(p: &[u64], number: u64, job: u64, fate: u64) -> bool {
     if number == 0 {
         return false;
     }
@@ -184,7 +184,7 @@ pub fn is_noted(p: &[u64], number: u64, job: u64, fate: u64) -> bool {
 }
 
 // Every open job gets its fate.
-pub fn tell(p: &mut [u64], fate: u64) -> bool {
+pub(crate) fn tell(p: &mut [u64], fate: u64) -> bool {
     let n = get(p, Place::OPENED);
     let mut i: u64 = 0;
     while i < n {
@@ -204,7 +204,7 @@ pub fn tell(p: &mut [u64], fate: u64) -> bool {
 // ---- the line
 
 // A field of an entry: 0 its kind, 1 its number, 2 its job.
-pub fn entry(p: &[u64], i: u64, field: usize) -> u64 {
+pub(crate) fn entry(p: &[u64], i: u64, field: usize) -> u64 {
     if Place::LINE_MOST <= i {
         return 0;
     }
@@ -224,7 +224,7 @@ fn set_entry(p: &mut [u64], i: u64, kind: u64, number: u64, job: u64) {
 }
 
 // An entry goes behind the others. It has not left.
-pub fn put_on_line(p: &mut [u64], kind: u64, number: u64, job: u64) -> bool {
+pub(crate) fn put_on_line(p: &mut [u64], kind: u64, number: u64, job: u64) -> bool {
     let n = get(p, Place::ENTRIES);
     let unsent = get(p, Place::UNSENT);
     if Place::LINE_MOST <= n {
@@ -258,7 +258,7 @@ fn settle(p: &mut [u64], i: u64, to: u64, stays: bool) {
 }
 
 // Of the entries of a dialogue the first so many are left.
-pub fn trim(p: &mut [u64], number: u64, left: u64) {
+pub(crate) fn trim(p: &mut [u64], number: u64, left: u64) {
     let n = get(p, Place::ENTRIES);
     let mut i: u64 = 0;
     let mut kept: u64 = 0;
@@ -275,7 +275,7 @@ pub fn trim(p: &mut [u64], number: u64, left: u64) {
 }
 
 // Where the start of a dialogue is on the line; or the count of entries.
-pub fn start_at(p: &[u64], number: u64) -> u64 {
+pub(crate) fn start_at(p: &[u64], number: u64) -> u64 {
     let n = get(p, Place::ENTRIES);
     let mut i: u64 = 0;
     while i < n {
@@ -296,7 +296,7 @@ fn draw(p: &mut [u64], i: u64) {
 }
 
 // The entry at a place is gone.
-pub fn remove(p: &mut [u64], at: u64) {
+pub(crate) fn remove(p: &mut [u64], at: u64) {
     let n = get(p, Place::ENTRIES);
     if n <= at {
         return;
@@ -311,11 +311,11 @@ pub fn remove(p: &mut [u64], at: u64) {
 
 // ---- the numbers of the dialogues that broke: a count and the numbers behind it
 
-pub fn is_broken(b: &[u64], number: u64) -> bool {
+pub(crate) fn is_broken(b: &[u64], number: u64) -> bool {
     is_among(b, 1, get(b, 0), number)
 }
 
-pub fn mark_broken(b: &mut [u64], number: u64) -> bool {
+pub(crate) fn mark_broken(b: &mut [u64], number: u64) -> bool {
     if is_broken(b, number) {
         return true;
     }
@@ -323,7 +323,7 @@ pub fn mark_broken(b: &mut [u64], number: u64) -> bool {
 }
 
 // Each dialogue that has an entry on the line is broken.
-pub fn mark_line(b: &mut [u64], p: &[u64]) -> bool {
+pub(crate) fn mark_line(b: &mut [u64], p: &[u64]) -> bool {
     let n = get(p, Place::ENTRIES);
     let mut i: u64 = 0;
     while i < n {

@@ -15,7 +15,7 @@ fn say(words: &[u8]) {
     io::write_all(STDOUT_FILENO, words);
 }
 
-pub fn say_rule(rule: u64) {
+pub(crate) fn say_rule(rule: u64) {
     match rule {
         1 => say(b"duty 1, keep, then release: this leaves before its call or its decision is kept"),
         2 => say(b"duty 2, never a fresh record: the record is another than the one that was kept"),

@@ -115,7 +115,7 @@ fn send(here: &mut [u64], call: Call, next: Held, job: u64) -> u64 {
 }
 
 // A call of the user that is no start and no message, an expiry, or a system error.
-pub fn make_call(here: &mut [u64], broken: &mut [u64], side: Side, call: Call, left: u64) -> u64 {
+pub(crate) fn make_call(here: &mut [u64], broken: &mut [u64], side: Side, call: Call, left: u64) -> u64 {
     let rule = ready(here);
     if rule != 0 {
         return rule;
@@ -132,7 +132,7 @@ pub fn make_call(here: &mut [u64], broken: &mut [u64], side: Side, call: Call, l
 }
 
 // All starts come from one end, and both ends are IDLE. What is open of an older dialogue is broken.
-pub fn start(here: &mut [u64], there: &[u64], side: Side, may: bool, dsc: bool, number: u64) -> u64 {
+pub(crate) fn start(here: &mut [u64], there: &[u64], side: Side, may: bool, dsc: bool, number: u64) -> u64 {
     let rule = ready(here);
     if rule != 0 {
         return rule;
@@ -158,7 +158,7 @@ pub fn start(here: &mut [u64], there: &[u64], side: Side, may: bool, dsc: bool, 
 }
 
 // A system error at an IDLE end, or at one without the carrier, does nothing.
-pub fn error(here: &mut [u64], broken: &mut [u64], side: Side, left: u64) -> u64 {
+pub(crate) fn error(here: &mut [u64], broken: &mut [u64], side: Side, left: u64) -> u64 {
     if is_down(here) {
         return 3;
     }
@@ -172,7 +172,7 @@ pub fn error(here: &mut [u64], broken: &mut [u64], side: Side, left: u64) -> u64
 }
 
 // The carrier removes the start and turns it away.
-pub fn turn_back(here: &mut [u64], side: Side) -> u64 {
+pub(crate) fn turn_back(here: &mut [u64], side: Side) -> u64 {
     let rule = ready(here);
     if rule != 0 {
         return rule;
@@ -193,7 +193,7 @@ pub fn turn_back(here: &mut [u64], side: Side) -> u64 {
 
 // ---- jobs
 
-pub fn take(here: &mut [u64], side: Side, job: u64) -> u64 {
+pub(crate) fn take(here: &mut [u64], side: Side, job: u64) -> u64 {
     let rule = ready(here);
     if rule != 0 {
         return rule;
@@ -215,7 +215,7 @@ pub fn take(here: &mut [u64], side: Side, job: u64) -> u64 {
     send(here, Call::MessageRequest, next, job)
 }
 
-pub fn refuse(here: &mut [u64], job: u64) -> u64 {
+pub(crate) fn refuse(here: &mut [u64], job: u64) -> u64 {
     if is_down(here) {
         return 3;
     }
@@ -228,14 +228,14 @@ pub fn refuse(here: &mut [u64], job: u64) -> u64 {
     room(note(here, job, Fate::REFUSED))
 }
 
-pub fn acknowledge(here: &[u64], job: u64) -> u64 {
+pub(crate) fn acknowledge(here: &[u64], job: u64) -> u64 {
     if is_down(here) {
         return 3;
     }
     if is_decided(here, job) { 0 } else { 1 }
 }
 
-pub fn publish(here: &[u64], number: u64, job: u64, fate: u64) -> u64 {
+pub(crate) fn publish(here: &[u64], number: u64, job: u64, fate: u64) -> u64 {
     if is_down(here) {
         return 3;
     }
@@ -303,7 +303,7 @@ fn fate_of(kind: u64, number: u64, holds: u64) -> u64 {
     0
 }
 
-pub fn hear(here: &mut [u64], there: &mut [u64], broken: &mut [u64], side: Side, kind: u64, number: u64, left: u64, job: u64) -> u64 {
+pub(crate) fn hear(here: &mut [u64], there: &mut [u64], broken: &mut [u64], side: Side, kind: u64, number: u64, left: u64, job: u64) -> u64 {
     let rule = ready(here);
     if rule != 0 {
         return rule;
@@ -319,7 +319,7 @@ pub fn hear(here: &mut [u64], there: &mut [u64], broken: &mut [u64], side: Side,
 }
 
 // The answer "accepted" to D-END, of this dialogue, comes to the end that waits for it: the open jobs have ended.
-pub fn hear_end(here: &mut [u64], there: &mut [u64], broken: &mut [u64], side: Side, number: u64) -> u64 {
+pub(crate) fn hear_end(here: &mut [u64], there: &mut [u64], broken: &mut [u64], side: Side, number: u64) -> u64 {
     let rule = ready(here);
     if rule != 0 {
         return rule;
@@ -342,7 +342,7 @@ pub fn hear_end(here: &mut [u64], there: &mut [u64], broken: &mut [u64], side: S
 
 // ---- the host
 
-pub fn shown(here: &mut [u64]) -> u64 {
+pub(crate) fn shown(here: &mut [u64]) -> u64 {
     if is_down(here) {
         return 3;
     }
@@ -353,7 +353,7 @@ pub fn shown(here: &mut [u64]) -> u64 {
     0
 }
 
-pub fn leave(here: &mut [u64]) -> u64 {
+pub(crate) fn leave(here: &mut [u64]) -> u64 {
     if !is_up(here) {
         return 3;
     }
@@ -366,7 +366,7 @@ pub fn leave(here: &mut [u64]) -> u64 {
 }
 
 // The connection was released in order: the open jobs have ended.
-pub fn release(here: &mut [u64], there: &[u64], broken: &[u64]) -> u64 {
+pub(crate) fn release(here: &mut [u64], there: &[u64], broken: &[u64]) -> u64 {
     if !is_up(here) {
         return 3;
     }
@@ -382,20 +382,20 @@ pub fn release(here: &mut [u64], there: &[u64], broken: &[u64]) -> u64 {
     room(tell(here, Fate::ENDED))
 }
 
-pub fn give_up(here: &mut [u64]) -> u64 {
+pub(crate) fn give_up(here: &mut [u64]) -> u64 {
     if !is_up(here) {
         return 3;
     }
     room(tell(here, Fate::BROKEN))
 }
 
-pub fn fail_power(here: &mut [u64]) -> u64 {
+pub(crate) fn fail_power(here: &mut [u64]) -> u64 {
     put(here, Place::POWER, 2);
     put(here, Place::WAITING, 0);
     0
 }
 
-pub fn cut_off(here: &mut [u64]) -> u64 {
+pub(crate) fn cut_off(here: &mut [u64]) -> u64 {
     if get(here, Place::POWER) == 1 {
         return 0;
     }
@@ -442,7 +442,7 @@ fn rejoin(p: &mut [u64]) {
     }
 }
 
-pub fn fail_carrier(here: &mut [u64], there: &mut [u64], broken: &mut [u64]) -> u64 {
+pub(crate) fn fail_carrier(here: &mut [u64], there: &mut [u64], broken: &mut [u64]) -> u64 {
     if !mark_alive(broken, here) {
         return Rule::ROOM;
     }
@@ -460,7 +460,7 @@ pub fn fail_carrier(here: &mut [u64], there: &mut [u64], broken: &mut [u64]) -> 
 
 // ---- what a host shows
 
-pub fn show_record(here: &[u64], state: u64, dsc: u64, number: u64, highest: u64) -> u64 {
+pub(crate) fn show_record(here: &[u64], state: u64, dsc: u64, number: u64, highest: u64) -> u64 {
     if !is_up(here) {
         return 0;
     }
@@ -473,7 +473,7 @@ pub fn show_record(here: &[u64], state: u64, dsc: u64, number: u64, highest: u64
     0
 }
 
-pub fn show_quiet(here: &[u64], there: &[u64]) -> u64 {
+pub(crate) fn show_quiet(here: &[u64], there: &[u64]) -> u64 {
     if 0 < get(here, Place::ENTRIES) || 0 < get(there, Place::ENTRIES) {
         return Rule::CARRIER;
     }

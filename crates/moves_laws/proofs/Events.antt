@@ -23,11 +23,12 @@ use Rattle.moves.specs.declared.Done.{Done}
 use Rattle.moves.specs.declared.Done.the-variants.{Refused, Quiet, Shows, Sends, Aborts}
 use Rattle.moves.specs.Machine.{isMessage, holding, movedBy, calledOf, metBy, receivedOf}
 use Rattle.moves_laws.proofs.Machine.{recOf, callDone, call-is, expiry-is, error-is, arrivalDone, met-is, receive-is}
-use Rattle.moves_laws.proofs.Steps.{M, Page, page, Beside, partyOf, hostOf, stateOf, out-none, out-one, Lands}
+use Rattle.moves_laws.specs.Pages.{Beside}
+use Rattle.moves_laws.specs.Pages as pages
+use Rattle.moves_laws.proofs.Steps.{M, Page, page, partyOf, hostOf, stateOf, out-none, out-one, Lands}
 
--- the open jobs of a record r, when an event leaves f: told as broken where the host sees a break, or another dialogue begins
 abbrev pub toldBy : Bool → Holds → Holds → Notes → Notes
-toldBy b r f n = cond (b || not (eqb (r .number) (f .number))) (tells told-broken n) n
+toldBy b r f n = pages.toldBy M b (recOf r) (recOf f) n
 
 -- what is beside a page when messages were handed out in a dialogue
 abbrev pub handing : ℕ → List Body → Beside → Beside

@@ -18,7 +18,8 @@ use Rattle.duties.proofs.ControlHosts.{letters, lost-closes}
 use Rattle.moves.specs.declared.Held.{Held as Holds}
 use Rattle.moves.specs.Machine.{holding}
 use Rattle.moves_laws.proofs.Machine.{recOf}
-use Rattle.moves_laws.proofs.Steps.{M, Page, page, Beside, partyOf, hostOf, stateOf, out-none, Lands}
+use Rattle.moves_laws.specs.Pages.{Beside}
+use Rattle.moves_laws.proofs.Steps.{M, Page, page, partyOf, hostOf, stateOf, out-none, Lands}
 use Rattle.moves_laws.proofs.Events.{handing, kept, noted}
 
 -- what D-P-ABORT leaves; an IDLE record has nothing to hear

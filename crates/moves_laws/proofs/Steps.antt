@@ -23,42 +23,32 @@ use Rattle.moves.specs.declared.Held.{Held as Holds}
 use Rattle.moves.specs.declared.Done.{Done}
 use Rattle.moves.specs.declared.Done.the-variants.{Refused, Quiet, Shows, Sends, Aborts}
 use Rattle.moves.specs.Machine.{isMessage, holding, mayDo, movedBy, calledOf, metBy, receivedOf}
+use Rattle.moves_laws.specs.Pages.{Page as PageOf, Beside, isReleased}
+use Rattle.moves_laws.specs.Pages as pages
 use Rattle.moves_laws.proofs.Machine.{recOf, callDone, call-is, arrivalDone, receive-is}
 
 -- the machine
 abbrev pub M : NMachine
 M = numbered control
 
--- what the program holds of an end and its host
-pub record Page : Type 0 where
-  pub rec : Holds
-  pub line : List (Numbered Ent)
-  pub notes : Notes
-  pub unsent : ℕ
-  pub waiting : Bool
-  pub power : Power
+abbrev pub Page : Type 0
+Page = PageOf M
 
 abbrev pub page : Holds → List (Numbered Ent) → Notes → ℕ → Bool → Power → Page
-page r l n u w p = record { rec = r; line = l; notes = n; unsent = u; waiting = w; power = p }
-
--- and what it does not hold
-pub record Beside : Type 0 where
-  pub taken : ℕ → List Body
-  pub handed : ℕ → List Body
-  pub jobs : List ℕ
-  pub done : ℕ → Bool
-  pub log : List Took
-  pub seen : ℕ → ℕ
+page r l n u w p = record { rec = recOf r; line = l; notes = n; unsent = u; waiting = w; power = p }
 
 abbrev pub partyOf : Page → Beside → NParty M
-partyOf p g = record { rec = recOf (p .rec); line = p .line; taken = g .taken; handed = g .handed; jobs = g .jobs }
+partyOf = pages.partyOf M
 
 abbrev pub hostOf : Page → Beside → Host M
-hostOf p g = record { notes = p .notes; kept = p .notes; keptRec = recOf (p .rec); unsent = p .unsent; power = p .power; done = g .done; log = g .log; waiting = p .waiting; seen = g .seen }
+hostOf = pages.hostOf M
 
--- br: which dialogues broke
 abbrev pub stateOf : Page → Page → (ℕ → Bool) → Beside → Beside → Hosts M
-stateOf p z br g k = record { ends = record { here = partyOf p g; there = partyOf z k; broken = br }; here = hostOf p g; there = hostOf z k }
+stateOf = pages.stateOf M
+
+-- the act leads from these pages to those
+abbrev pub Lands : (Side → ℕ → Body) → (Side → Numbered Held) → Bool → Side → Page → Page → (ℕ → Bool) → Act (Numbered Ask) → Page → Page → (ℕ → Bool) → Beside → Beside → Type 0
+Lands text fresh = pages.Lands M (letters text) fresh answersYes
 
 -- ---- small facts
 
@@ -85,30 +75,21 @@ out-one f n b =
     ∙ ap (λ (t : Bool). not t || false) (differ (length (f n)) (suc (length (f n))) (λ (e : length (f n) ≡ suc (length (f n))). omega (arith, e)))
 
 module _ (text : Side → ℕ → Body) (fresh : Side → Numbered Held) where
-  abbrev step : Bool → Side → Hosts M → Act (Numbered Ask) → Hosts M
-  step = dStepped M right (letters text) fresh answersYes
-
-  -- the act leads from these pages to those, whatever is beside them
-  pub record Lands (may : Bool) (sd : Side) (p z : Page) (br : ℕ → Bool) (a : Act (Numbered Ask)) (q y : Page) (cr : ℕ → Bool) (g k : Beside) : Type 0 where
-    pub near : Beside
-    pub far : Beside
-    pub lands : step may sd (stateOf p z br g k) a ≡ stateOf q y cr near far
-
   -- ---- the host alone
 
   -- refused without the card, or by it: undecided before
-  pub refuses-lands : (may : Bool) (sd : Side) (r : Holds) (l : List (Numbered Ent)) (n : Notes) (u : ℕ) (w : Bool) (z : Page) (br : ℕ → Bool) (g k : Beside) (j : ℕ) → isDecided (n .decision j) ≡ false → Lands may sd (page r l n u w up) z br (lay-aside j) (page r l (declines j n) u w up) z br g k
+  pub refuses-lands : (may : Bool) (sd : Side) (r : Holds) (l : List (Numbered Ent)) (n : Notes) (u : ℕ) (w : Bool) (z : Page) (br : ℕ → Bool) (g k : Beside) (j : ℕ) → isDecided (n .decision j) ≡ false → Lands text fresh may sd (page r l n u w up) z br (lay-aside j) (page r l (declines j n) u w up) z br g k
   refuses-lands may sd r l n u w z br g k j d =
       let s : Hosts M = stateOf (page r l n u w up) z br g k in
       record { near = g; far = k; lands = ap (λ (b : Bool). cond b s (refusing M right (letters text) fresh answersYes s j)) d }
 
   -- the same of a host without the carrier
-  pub refuses-apart-lands : (may : Bool) (sd : Side) (r : Holds) (l : List (Numbered Ent)) (n : Notes) (u : ℕ) (w : Bool) (z : Page) (br : ℕ → Bool) (g k : Beside) (j : ℕ) → isDecided (n .decision j) ≡ false → Lands may sd (page r l n u w apart) z br (lay-aside j) (page r l (declines j n) u w apart) z br g k
+  pub refuses-apart-lands : (may : Bool) (sd : Side) (r : Holds) (l : List (Numbered Ent)) (n : Notes) (u : ℕ) (w : Bool) (z : Page) (br : ℕ → Bool) (g k : Beside) (j : ℕ) → isDecided (n .decision j) ≡ false → Lands text fresh may sd (page r l n u w apart) z br (lay-aside j) (page r l (declines j n) u w apart) z br g k
   refuses-apart-lands may sd r l n u w z br g k j d =
       let s : Hosts M = stateOf (page r l n u w apart) z br g k in
       record { near = g; far = k; lands = ap (λ (b : Bool). cond b s (refusing M right (letters text) fresh answersYes s j)) d }
 
-  pub shows-lands : (may : Bool) (sd : Side) (r : Holds) (l : List (Numbered Ent)) (n : Notes) (u : ℕ) (w : Bool) (z : Page) (br : ℕ → Bool) (g k : Beside) → Lands may sd (page r l n u w up) z br shows (page r l n u false up) z br g k
+  pub shows-lands : (may : Bool) (sd : Side) (r : Holds) (l : List (Numbered Ent)) (n : Notes) (u : ℕ) (w : Bool) (z : Page) (br : ℕ → Bool) (g k : Beside) → Lands text fresh may sd (page r l n u w up) z br shows (page r l n u false up) z br g k
   shows-lands may sd r l n u w z br g k =
       record {
         near = record { taken = g .taken; handed = g .handed; jobs = g .jobs; done = g .done; log = g .log; seen = λ (v : ℕ). cond (eqb (r .number) v) (length (g .handed v)) (g .seen v) };
@@ -116,20 +97,20 @@ module _ (text : Side → ℕ → Body) (fresh : Side → Numbered Held) where
         lands = refl;
       }
 
-  pub sends-lands : (may : Bool) (sd : Side) (r : Holds) (l : List (Numbered Ent)) (n : Notes) (u : ℕ) (w : Bool) (z : Page) (br : ℕ → Bool) (g k : Beside) → Lands may sd (page r l n (suc u) w up) z br release (page r l n u w up) z br g k
+  pub sends-lands : (may : Bool) (sd : Side) (r : Holds) (l : List (Numbered Ent)) (n : Notes) (u : ℕ) (w : Bool) (z : Page) (br : ℕ → Bool) (g k : Beside) → Lands text fresh may sd (page r l n (suc u) w up) z br release (page r l n u w up) z br g k
   sends-lands may sd r l n u w z br g k = record { near = g; far = k; lands = refl }
 
-  pub gives-up-lands : (may : Bool) (sd : Side) (r : Holds) (l : List (Numbered Ent)) (n : Notes) (u : ℕ) (w : Bool) (z : Page) (br : ℕ → Bool) (g k : Beside) → Lands may sd (page r l n u w up) z br give-up (page r l (tells told-broken n) u w up) z br g k
+  pub gives-up-lands : (may : Bool) (sd : Side) (r : Holds) (l : List (Numbered Ent)) (n : Notes) (u : ℕ) (w : Bool) (z : Page) (br : ℕ → Bool) (g k : Beside) → Lands text fresh may sd (page r l n u w up) z br give-up (page r l (tells told-broken n) u w up) z br g k
   gives-up-lands may sd r l n u w z br g k = record { near = g; far = k; lands = refl }
 
   -- both lines are empty, both ends are IDLE, nothing broke the dialogue
-  pub released-lands : (may : Bool) (sd : Side) (r : Holds) (n : Notes) (u : ℕ) (w : Bool) (t : Holds) (o : Notes) (v : ℕ) (x : Bool) (e : Power) (br : ℕ → Bool) (g k : Beside) → (isIdle (r .control) && (isIdle (t .control) && not (br (r .number)))) ≡ true → Lands may sd (page r [] n u w up) (page t [] o v x e) br connection-released (page r [] (tells told-ended n) u w up) (page t [] o v x e) br g k
+  pub released-lands : (may : Bool) (sd : Side) (r : Holds) (n : Notes) (u : ℕ) (w : Bool) (t : Holds) (o : Notes) (v : ℕ) (x : Bool) (e : Power) (br : ℕ → Bool) (g k : Beside) → isReleased M (recOf r) (recOf t) br ≡ true → Lands text fresh may sd (page r [] n u w up) (page t [] o v x e) br connection-released (page r [] (tells told-ended n) u w up) (page t [] o v x e) br g k
   released-lands may sd r n u w t o v x e br g k h =
       let s : Hosts M = stateOf (page r [] n u w up) (page t [] o v x e) br g k in
       record { near = g; far = k; lands = ap (λ (b : Bool). cond b (settled M right (letters text) fresh answersYes told-ended s) s) h }
 
   -- a job that was decided is acknowledged
-  pub acknowledges-lands : (may : Bool) (sd : Side) (r : Holds) (l : List (Numbered Ent)) (n : Notes) (u : ℕ) (w : Bool) (z : Page) (br : ℕ → Bool) (g k : Beside) (j : ℕ) → isDecided (n .decision j) ≡ true → Lands may sd (page r l n u w up) z br (acknowledge j) (page r l n u w up) z br g k
+  pub acknowledges-lands : (may : Bool) (sd : Side) (r : Holds) (l : List (Numbered Ent)) (n : Notes) (u : ℕ) (w : Bool) (z : Page) (br : ℕ → Bool) (g k : Beside) (j : ℕ) → isDecided (n .decision j) ≡ true → Lands text fresh may sd (page r l n u w up) z br (acknowledge j) (page r l n u w up) z br g k
   acknowledges-lands may sd r l n u w z br g k j d =
       let s : Hosts M = stateOf (page r l n u w up) z br g k in
       let b : Beside = record { taken = g .taken; handed = g .handed; jobs = g .jobs; done = λ (i : ℕ). eqb i j || g .done i; log = g .log; seen = g .seen } in
@@ -137,22 +118,22 @@ module _ (text : Side → ℕ → Body) (fresh : Side → Numbered Held) where
 
   -- ---- the power and the carrier
 
-  pub power-lands : (may : Bool) (sd : Side) (r : Holds) (l : List (Numbered Ent)) (n : Notes) (u : ℕ) (w : Bool) (z : Page) (br : ℕ → Bool) (g k : Beside) → Lands may sd (page r l n u w up) z br power-fails (page r l n u false down) z br g k
+  pub power-lands : (may : Bool) (sd : Side) (r : Holds) (l : List (Numbered Ent)) (n : Notes) (u : ℕ) (w : Bool) (z : Page) (br : ℕ → Bool) (g k : Beside) → Lands text fresh may sd (page r l n u w up) z br power-fails (page r l n u false down) z br g k
   power-lands may sd r l n u w z br g k = record { near = g; far = k; lands = refl }
 
-  pub power-apart-lands : (may : Bool) (sd : Side) (r : Holds) (l : List (Numbered Ent)) (n : Notes) (u : ℕ) (w : Bool) (z : Page) (br : ℕ → Bool) (g k : Beside) → Lands may sd (page r l n u w apart) z br power-fails (page r l n u false down) z br g k
+  pub power-apart-lands : (may : Bool) (sd : Side) (r : Holds) (l : List (Numbered Ent)) (n : Notes) (u : ℕ) (w : Bool) (z : Page) (br : ℕ → Bool) (g k : Beside) → Lands text fresh may sd (page r l n u w apart) z br power-fails (page r l n u false down) z br g k
   power-apart-lands may sd r l n u w z br g k = record { near = g; far = k; lands = refl }
 
-  pub cut-lands : (may : Bool) (sd : Side) (r : Holds) (l : List (Numbered Ent)) (n : Notes) (u : ℕ) (w : Bool) (z : Page) (br : ℕ → Bool) (g k : Beside) → Lands may sd (page r l n u w up) z br cut-off (page r l (tells told-broken n) 0 w apart) z br g k
+  pub cut-lands : (may : Bool) (sd : Side) (r : Holds) (l : List (Numbered Ent)) (n : Notes) (u : ℕ) (w : Bool) (z : Page) (br : ℕ → Bool) (g k : Beside) → Lands text fresh may sd (page r l n u w up) z br cut-off (page r l (tells told-broken n) 0 w apart) z br g k
   cut-lands may sd r l n u w z br g k = record { near = g; far = k; lands = refl }
 
-  pub cut-down-lands : (may : Bool) (sd : Side) (r : Holds) (l : List (Numbered Ent)) (n : Notes) (u : ℕ) (w : Bool) (z : Page) (br : ℕ → Bool) (g k : Beside) → Lands may sd (page r l n u w down) z br cut-off (page r l (tells told-broken n) 0 w apart) z br g k
+  pub cut-down-lands : (may : Bool) (sd : Side) (r : Holds) (l : List (Numbered Ent)) (n : Notes) (u : ℕ) (w : Bool) (z : Page) (br : ℕ → Bool) (g k : Beside) → Lands text fresh may sd (page r l n u w down) z br cut-off (page r l (tells told-broken n) 0 w apart) z br g k
   cut-down-lands may sd r l n u w z br g k = record { near = g; far = k; lands = refl }
 
   -- ---- a job
 
   -- it is taken: undecided before, and the card takes it
-  pub takes-lands : (may : Bool) (sd : Side) (r : Holds) (l : List (Numbered Ent)) (n : Notes) (u : ℕ) (z : Page) (br : ℕ → Bool) (g k : Beside) (j : ℕ) → isDecided (n .decision j) ≡ false → mayDo sd r MessageRequest 0 j ≡ true → Lands may sd (page r l n u false up) z br (deliver j) (page (movedBy r MessageRequest 0 j) (l ++ (mark (r .number) (ent DData (text sd j)) ∷ [])) (takes j n) (suc u) false up) z br g k
+  pub takes-lands : (may : Bool) (sd : Side) (r : Holds) (l : List (Numbered Ent)) (n : Notes) (u : ℕ) (z : Page) (br : ℕ → Bool) (g k : Beside) (j : ℕ) → isDecided (n .decision j) ≡ false → mayDo sd r MessageRequest 0 j ≡ true → Lands text fresh may sd (page r l n u false up) z br (deliver j) (page (movedBy r MessageRequest 0 j) (l ++ (mark (r .number) (ent DData (text sd j)) ∷ [])) (takes j n) (suc u) false up) z br g k
   takes-lands may sd r l n u z br g k j d c =
       let s : Hosts M = stateOf (page r l n u false up) z br g k in
       let b : Body = text sd j in

@@ -51,8 +51,20 @@ fn call(here: &mut [u64], broken: &mut [u64], l: Line) -> u64 {
     let d = dsc(here);
     let word = l.word;
     match word {
-        10 => steps::make_call(here, broken, side, Call::StartResponse(d, Reply::Accepted), 0),
-        11 => steps::make_call(here, broken, side, Call::StartResponse(d, Reply::Rejected), 0),
+        10 => steps::make_call(
+            here,
+            broken,
+            side,
+            Call::StartResponse(d, Reply::Accepted),
+            0,
+        ),
+        11 => steps::make_call(
+            here,
+            broken,
+            side,
+            Call::StartResponse(d, Reply::Rejected),
+            0,
+        ),
         12 => steps::make_call(here, broken, side, Call::EndRequest(d), 0),
         13 => steps::make_call(here, broken, side, Call::EndResponse(d, Reply::Accepted), 0),
         14 => steps::make_call(here, broken, side, Call::EndResponse(d, Reply::Rejected), 0),
@@ -144,7 +156,13 @@ fn begin(air: &mut [u64], ground: &mut [u64], l: Line) -> u64 {
     0
 }
 
-fn advance(air: &mut [u64], ground: &mut [u64], broken: &mut [u64], from_air: bool, l: Line) -> u64 {
+fn advance(
+    air: &mut [u64],
+    ground: &mut [u64],
+    broken: &mut [u64],
+    from_air: bool,
+    l: Line,
+) -> u64 {
     if l.air {
         return move_on(air, ground, broken, from_air, l);
     }
@@ -219,7 +237,14 @@ fn next(count: u64) -> u64 {
 }
 
 // One byte more.
-fn one_byte(air: &mut [u64], ground: &mut [u64], broken: &mut [u64], text: &mut [u8], r: Run, x: u8) -> Run {
+fn one_byte(
+    air: &mut [u64],
+    ground: &mut [u64],
+    broken: &mut [u64],
+    text: &mut [u8],
+    r: Run,
+    x: u8,
+) -> Run {
     let n = r.bytes;
     if x == 10 {
         if n <= text.len() {
@@ -246,7 +271,14 @@ fn one_byte(air: &mut [u64], ground: &mut [u64], broken: &mut [u64], text: &mut 
 }
 
 // The bytes of one read.
-fn some(air: &mut [u64], ground: &mut [u64], broken: &mut [u64], text: &mut [u8], r: Run, s: &[u8]) -> Run {
+fn some(
+    air: &mut [u64],
+    ground: &mut [u64],
+    broken: &mut [u64],
+    text: &mut [u8],
+    r: Run,
+    s: &[u8],
+) -> Run {
     let mut run = r;
     let mut i: usize = 0;
     while i < s.len() {
@@ -260,7 +292,14 @@ fn some(air: &mut [u64], ground: &mut [u64], broken: &mut [u64], text: &mut [u8]
 }
 
 // Up to four gigabytes of a file.
-fn read_on(fd: i32, air: &mut [u64], ground: &mut [u64], broken: &mut [u64], text: &mut [u8], chunk: &mut [u8]) {
+fn read_on(
+    fd: i32,
+    air: &mut [u64],
+    ground: &mut [u64],
+    broken: &mut [u64],
+    text: &mut [u8],
+    chunk: &mut [u8],
+) {
     let mut run = Run {
         from_air: true,
         count: 0,
@@ -289,7 +328,14 @@ fn replay(fd: i32) {
     let mut broken = new_broken();
     let mut text = [0u8; 127];
     let mut chunk = io::large_buffer();
-    read_on(fd, &mut air, &mut ground, &mut broken, &mut text, &mut chunk);
+    read_on(
+        fd,
+        &mut air,
+        &mut ground,
+        &mut broken,
+        &mut text,
+        &mut chunk,
+    );
 }
 
 fn main() {

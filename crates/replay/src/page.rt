@@ -8,9 +8,13 @@ pub struct Place {}
 
 impl Place {
     pub const SIZE: usize = 50576;
+
     pub const STATE: usize = 0;
+
     pub const DSC: usize = 1;
+
     pub const NUMBER: usize = 2;
+
     pub const HIGHEST: usize = 3;
     // 0: up; 1: up without the carrier; 2: down
     pub const POWER: usize = 4;
@@ -18,21 +22,29 @@ impl Place {
     pub const WAITING: usize = 5;
     // how many of the youngest entries of the line have not left
     pub const UNSENT: usize = 6;
+
     pub const ENTRIES: usize = 7;
+
     pub const DECIDED: usize = 8;
+
     pub const OPENED: usize = 9;
+
     pub const NOTICES: usize = 10;
     // the line that leaves the end, oldest first: kind, number of the dialogue and job of each
     pub const LINE_AT: usize = 16;
+
     pub const LINE_MOST: u64 = 128;
     // the jobs that were decided
     pub const DECIDED_AT: usize = 400;
+
     pub const DECIDED_MOST: u64 = 16384;
     // the open jobs
     pub const OPENED_AT: usize = 16784;
+
     pub const OPENED_MOST: u64 = 1024;
     // job and fate of each notice
     pub const NOTICES_AT: usize = 17808;
+
     pub const NOTICES_MOST: u64 = 16384;
 }
 
@@ -40,7 +52,9 @@ pub struct Fate {}
 
 impl Fate {
     pub const REFUSED: u64 = 1;
+
     pub const ENDED: u64 = 2;
+
     pub const BROKEN: u64 = 3;
 }
 
@@ -147,7 +161,13 @@ pub(crate) fn is_decided(p: &[u64], job: u64) -> bool {
 }
 
 pub(crate) fn decide(p: &mut [u64], job: u64) -> bool {
-    push(p, Place::DECIDED, Place::DECIDED_AT, Place::DECIDED_MOST, job)
+    push(
+        p,
+        Place::DECIDED,
+        Place::DECIDED_AT,
+        Place::DECIDED_MOST,
+        job,
+    )
 }
 
 pub(crate) fn open(p: &mut [u64], job: u64) -> bool {
@@ -292,7 +312,13 @@ fn draw(p: &mut [u64], i: u64) {
     if Place::LINE_MOST <= i {
         return;
     }
-    set_entry(p, i, entry(p, i + 1, 0), entry(p, i + 1, 1), entry(p, i + 1, 2));
+    set_entry(
+        p,
+        i,
+        entry(p, i + 1, 0),
+        entry(p, i + 1, 1),
+        entry(p, i + 1, 2),
+    );
 }
 
 // The entry at a place is gone.

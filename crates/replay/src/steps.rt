@@ -1,10 +1,5 @@
 // One move of a host, beside the model. `here` is the end whose host makes it. Each function answers the rule that the move breaks, or 0: then the pages
 // hold what the model holds after it.
-use control::Call;
-use control::Control;
-use control::Primitive;
-use control::Reply;
-use control::Side;
 use crate::page::Fate;
 use crate::page::Place;
 use crate::page::decide;
@@ -27,6 +22,11 @@ use crate::page::start_at;
 use crate::page::tell;
 use crate::page::trim;
 use crate::rules::Rule;
+use control::Call;
+use control::Control;
+use control::Primitive;
+use control::Reply;
+use control::Side;
 use moves::Done;
 use moves::Held;
 
@@ -115,7 +115,13 @@ fn send(here: &mut [u64], call: Call, next: Held, job: u64) -> u64 {
 }
 
 // A call of the user that is no start and no message, an expiry, or a system error.
-pub(crate) fn make_call(here: &mut [u64], broken: &mut [u64], side: Side, call: Call, left: u64) -> u64 {
+pub(crate) fn make_call(
+    here: &mut [u64],
+    broken: &mut [u64],
+    side: Side,
+    call: Call,
+    left: u64,
+) -> u64 {
     let rule = ready(here);
     if rule != 0 {
         return rule;
@@ -132,7 +138,14 @@ pub(crate) fn make_call(here: &mut [u64], broken: &mut [u64], side: Side, call: 
 }
 
 // All starts come from one end, and both ends are IDLE. What is open of an older dialogue is broken.
-pub(crate) fn start(here: &mut [u64], there: &[u64], side: Side, may: bool, dsc: bool, number: u64) -> u64 {
+pub(crate) fn start(
+    here: &mut [u64],
+    there: &[u64],
+    side: Side,
+    may: bool,
+    dsc: bool,
+    number: u64,
+) -> u64 {
     let rule = ready(here);
     if rule != 0 {
         return rule;
@@ -239,7 +252,11 @@ pub(crate) fn publish(here: &[u64], number: u64, job: u64, fate: u64) -> u64 {
     if is_down(here) {
         return 3;
     }
-    if is_noted(here, number, job, fate) { 0 } else { 4 }
+    if is_noted(here, number, job, fate) {
+        0
+    } else {
+        4
+    }
 }
 
 // ---- a primitive
@@ -277,7 +294,15 @@ fn show(here: &mut [u64], next: Held) -> u64 {
 }
 
 // It is handed over; fate: of the open jobs, where it says it.
-fn meet(here: &mut [u64], broken: &mut [u64], side: Side, p: Primitive, number: u64, left: u64, fate: u64) -> u64 {
+fn meet(
+    here: &mut [u64],
+    broken: &mut [u64],
+    side: Side,
+    p: Primitive,
+    number: u64,
+    left: u64,
+    fate: u64,
+) -> u64 {
     let r = held(here);
     if is_idle(here) && !moves::is_opening(p) {
         return quiet(here, r, fate);
@@ -303,7 +328,16 @@ fn fate_of(kind: u64, number: u64, holds: u64) -> u64 {
     0
 }
 
-pub(crate) fn hear(here: &mut [u64], there: &mut [u64], broken: &mut [u64], side: Side, kind: u64, number: u64, left: u64, job: u64) -> u64 {
+pub(crate) fn hear(
+    here: &mut [u64],
+    there: &mut [u64],
+    broken: &mut [u64],
+    side: Side,
+    kind: u64,
+    number: u64,
+    left: u64,
+    job: u64,
+) -> u64 {
     let rule = ready(here);
     if rule != 0 {
         return rule;
@@ -319,7 +353,13 @@ pub(crate) fn hear(here: &mut [u64], there: &mut [u64], broken: &mut [u64], side
 }
 
 // The answer "accepted" to D-END, of this dialogue, comes to the end that waits for it: the open jobs have ended.
-pub(crate) fn hear_end(here: &mut [u64], there: &mut [u64], broken: &mut [u64], side: Side, number: u64) -> u64 {
+pub(crate) fn hear_end(
+    here: &mut [u64],
+    there: &mut [u64],
+    broken: &mut [u64],
+    side: Side,
+    number: u64,
+) -> u64 {
     let rule = ready(here);
     if rule != 0 {
         return rule;
@@ -337,7 +377,15 @@ pub(crate) fn hear_end(here: &mut [u64], there: &mut [u64], broken: &mut [u64], 
         return 4;
     }
     remove(there, 0);
-    meet(here, broken, side, Primitive::DEndCnf(Reply::Accepted), number, 0, Fate::ENDED)
+    meet(
+        here,
+        broken,
+        side,
+        Primitive::DEndCnf(Reply::Accepted),
+        number,
+        0,
+        Fate::ENDED,
+    )
 }
 
 // ---- the host

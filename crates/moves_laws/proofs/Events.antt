@@ -136,6 +136,19 @@ module _ (text : Side → ℕ → Body) (fresh : Side → Numbered Held) where
             ∙ ap (λ (x : Bool). stateOf (page f (nCut M left l (mark (r .number) (ent DAbort []))) (tells told-broken n) (suc u) x up) z (λ (j : ℕ). eqb (r .number) j || br j) (handing (r .number) [] g) k) (out-none (g .handed) (r .number));
       }
 
+  -- a system error at an IDLE end does nothing
+  pub error-idle-lands : (may : Bool) (sd : Side) (r : Holds) (l : List (Numbered Ent)) (n : Notes) (u : ℕ) (z : Page) (br : ℕ → Bool) (g k : Beside) (left : ℕ) → calledOf sd r SystemError 0 0 ≡ Refused → Lands text fresh may sd (page r l n u false up) z br (happens (error-reported left)) (page r l n (suc u) false up) z br g k
+  error-idle-lands may sd r l n u z br g k left h =
+      let s : Hosts M = stateOf (page r l n u false up) z br g k in
+      record {
+        near = g;
+        far = k;
+        lands =
+            ap (byClock s left) (error-is sd r ∙ ap (callDone SystemError [] 0) h)
+            ∙ ap (λ (x : Bool). stateOf (page r l (cond (not x) (tells told-broken n) n) (suc u) (not (eqb (length (g .handed (r .number))) (length (g .handed (r .number)))) || false) up) z br g k) (self (r .number))
+            ∙ ap (λ (x : Bool). stateOf (page r l n (suc u) (not x || false) up) z br g k) (self (length (g .handed (r .number))));
+      }
+
   -- ---- a primitive that is handed over: the first of the other line, which has left its host
 
   -- the host sees that it breaks the dialogue

@@ -116,6 +116,35 @@ module _ (text : Side → ℕ → Body) (fresh : Side → Numbered Held) where
       let b : Beside = record { taken = g .taken; handed = g .handed; jobs = g .jobs; done = λ (i : ℕ). eqb i j || g .done i; log = g .log; seen = g .seen } in
       record { near = b; far = k; lands = ap (λ (t : Bool). record { ends = s .ends; here = cond t (hostOf (page r l n u w up) b) (hostOf (page r l n u w up) g); there = s .there }) d }
 
+  pub acknowledges-apart-lands : (may : Bool) (sd : Side) (r : Holds) (l : List (Numbered Ent)) (n : Notes) (u : ℕ) (w : Bool) (z : Page) (br : ℕ → Bool) (g k : Beside) (j : ℕ) → isDecided (n .decision j) ≡ true → Lands text fresh may sd (page r l n u w apart) z br (acknowledge j) (page r l n u w apart) z br g k
+  acknowledges-apart-lands may sd r l n u w z br g k j d =
+      let s : Hosts M = stateOf (page r l n u w apart) z br g k in
+      let b : Beside = record { taken = g .taken; handed = g .handed; jobs = g .jobs; done = λ (i : ℕ). eqb i j || g .done i; log = g .log; seen = g .seen } in
+      record { near = b; far = k; lands = ap (λ (t : Bool). record { ends = s .ends; here = cond t (hostOf (page r l n u w apart) b) (hostOf (page r l n u w apart) g); there = s .there }) d }
+
+  pub shows-apart-lands : (may : Bool) (sd : Side) (r : Holds) (l : List (Numbered Ent)) (n : Notes) (u : ℕ) (w : Bool) (z : Page) (br : ℕ → Bool) (g k : Beside) → Lands text fresh may sd (page r l n u w apart) z br shows (page r l n u false apart) z br g k
+  shows-apart-lands may sd r l n u w z br g k =
+      record {
+        near = record { taken = g .taken; handed = g .handed; jobs = g .jobs; done = g .done; log = g .log; seen = λ (v : ℕ). cond (eqb (r .number) v) (length (g .handed v)) (g .seen v) };
+        far = k;
+        lands = refl;
+      }
+
+  -- ---- what changes nothing
+
+  -- an event at a host without the carrier, or that has a message to show first; it is cut off already; its power failed already
+  pub apart-lands : (may : Bool) (sd : Side) (r : Holds) (l : List (Numbered Ent)) (n : Notes) (u : ℕ) (w : Bool) (z : Page) (br : ℕ → Bool) (g k : Beside) (c : Step (Numbered Ask)) → Lands text fresh may sd (page r l n u w apart) z br (happens c) (page r l n u w apart) z br g k
+  apart-lands may sd r l n u w z br g k c = record { near = g; far = k; lands = refl }
+
+  pub waiting-lands : (may : Bool) (sd : Side) (r : Holds) (l : List (Numbered Ent)) (n : Notes) (u : ℕ) (z : Page) (br : ℕ → Bool) (g k : Beside) (c : Step (Numbered Ask)) → Lands text fresh may sd (page r l n u true up) z br (happens c) (page r l n u true up) z br g k
+  waiting-lands may sd r l n u z br g k c = record { near = g; far = k; lands = refl }
+
+  pub cut-apart-lands : (may : Bool) (sd : Side) (r : Holds) (l : List (Numbered Ent)) (n : Notes) (u : ℕ) (w : Bool) (z : Page) (br : ℕ → Bool) (g k : Beside) → Lands text fresh may sd (page r l n u w apart) z br cut-off (page r l n u w apart) z br g k
+  cut-apart-lands may sd r l n u w z br g k = record { near = g; far = k; lands = refl }
+
+  pub power-down-lands : (may : Bool) (sd : Side) (r : Holds) (l : List (Numbered Ent)) (n : Notes) (u : ℕ) (w : Bool) (z : Page) (br : ℕ → Bool) (g k : Beside) → Lands text fresh may sd (page r l n u w down) z br power-fails (page r l n u w down) z br g k
+  power-down-lands may sd r l n u w z br g k = record { near = g; far = k; lands = refl }
+
   -- ---- the power and the carrier
 
   pub power-lands : (may : Bool) (sd : Side) (r : Holds) (l : List (Numbered Ent)) (n : Notes) (u : ℕ) (w : Bool) (z : Page) (br : ℕ → Bool) (g k : Beside) → Lands text fresh may sd (page r l n u w up) z br power-fails (page r l n u false down) z br g k

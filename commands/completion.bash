@@ -15,10 +15,10 @@ _peat_host() {
     local word=${COMP_WORDS[COMP_CWORD]} before=${COMP_WORDS[COMP_CWORD - 1]}
     case $before in
     --pcap) COMPREPLY=($(compgen -f -- "$word")) ;;
-    --record | --state) COMPREPLY=($(compgen -d -- "$word")) ;;
+    --record | --moves | --state) COMPREPLY=($(compgen -d -- "$word")) ;;
     --fault) COMPREPLY=($(compgen -W "$(peat-host --help 2>/dev/null | sed '1,/--fault NAME/d')" -- "$word")) ;;
     --trace) COMPREPLY=($(compgen -W "$(seq 0 55)" -- "$word")) ;;
-    *) COMPREPLY=($(compgen -W '--trace --json --apart --pcap --pcap-pad --record --state --fault --help --version' -- "$word")) ;;
+    *) COMPREPLY=($(compgen -W '--trace --json --apart --pcap --pcap-pad --record --moves --state --fault --help --version' -- "$word")) ;;
     esac
 }
 

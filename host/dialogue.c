@@ -4,6 +4,7 @@
 #include "capture.h"
 #include "chance.h"
 #include "faults.h"
+#include "moves.h"
 #include "power.h"
 #include "recording.h"
 #include "story.h"
@@ -117,8 +118,10 @@ static uint64_t arrives(struct end *to, const struct entry *e)
 static void discard(struct end *to, const struct entry *e)
 {
     story_arrives(to->peer, e, 1);
+    moves_hears(to, e, e->number);
     if (e->primitive == PEAT_D_ABORT_REQUEST && e->number == number(to))
         end_settles(to, BROKEN);
+    moves_nothing_kept(to);
     if (fault(SHOWS_LATE_ABORT) && e->primitive == PEAT_D_ABORT_REQUEST && to->watch.position.called)
         end_shows_abort(to);
 }
@@ -128,14 +131,16 @@ static void stale(struct end *to, const struct entry *e)
 {
     account.stale++;
     story_stale(to->peer, e);
+    moves_nothing_kept(to);
     if (e->number >= number(to))
         must(PEAT_STALE);
 }
 
 static void receive(struct end *to, const struct entry *e)
 {
-    uint64_t answer = arrives(to, e);
+    uint64_t given = number_given(to, e), answer = arrives(to, e);
     char what[64];
+    moves_hears(to, e, given);
     if (peat_refusal(answer) == PEAT_STALE) {
         stale(to, e);
         return;
@@ -224,12 +229,14 @@ static void hears_of_failure(struct end *e)
 {
     if (e->down)
         return;
+    moves_lost(e);
     if (idle(e) && fault(SHOWS_CLOSED_TWICE))
         end_shows_abort(e);
     if (idle(e))
         end_settles(e, BROKEN);
     else
         must(end_act(e, "D-P-ABORT indication", peat_d_p_abort_indication(REC(e), number(e), BUFFERS)));
+    moves_nothing_kept(e);
 }
 
 void dialogue_fail(struct dialogue *d)
@@ -297,6 +304,7 @@ void dialogue_examine(struct dialogue *d)
 {
     if (!quiet(d) || parted(d))
         return;
+    moves_quiet(air(d));
     account.half_closed += !matching(d);
     account.incomplete += heard(air(d)) && heard(ground(d)) && !complete(d);
     if (idle(air(d)) && idle(ground(d))) {

@@ -8,6 +8,7 @@
 #include "faults.h"
 #include "forward.h"
 #include "mail.h"
+#include "moves.h"
 #include "power.h"
 #include "recording.h"
 #include "story.h"
@@ -99,6 +100,7 @@ static void keep(struct end *e, const struct change *c, const struct call *call)
         exit(2);
     }
     memory_apply(&e->memory, c);
+    moves_kept(e, c, call != NULL ? call->answer : 0);
     watch_dialogue(e);
     if (call != NULL)
         watch_position(e, call);
@@ -145,6 +147,7 @@ static void invoke(struct end *e, uint64_t answer)
     n->bits = peat_apdu_bits(answer);
     n->bytes = peat_apdu_bytes(answer);
     memcpy(n->apdu, first, n->bytes);
+    moves_sends(e, n, line_of_number(&e->out, number(e)) - 1);
 }
 
 /* The number of a message that a flight deck is shown is open for the message's job, and a reply to it is owed. A reply that
@@ -211,6 +214,8 @@ static void deliver(struct end *e, const uint8_t *message, unsigned bits)
 void end_hears(struct end *e)
 {
     unsigned i;
+    if (e->unheard.count > 0)
+        moves_shows(e);
     for (i = 0; i < e->unheard.count; i++)
         deliver(e, e->unheard.message[i], e->unheard.bits[i]);
     e->unheard.count = 0;
@@ -327,6 +332,7 @@ unsigned end_invokes(struct end *e, const char *what, enum invocation by, uint64
     if (peat_refusal(answer) != PEAT_TAKEN)
         return peat_refusal(answer);
     story_call(e, what, answer);
+    moves_call(e, what);
     if (breaks(answer) || begins(answer)) /* what an older dialogue left open is not known to have arrived */
         c.over = broken(e, BROKEN);
     if (peat_told(answer) == PEAT_FORWARD_CONFIRMATION)
@@ -344,6 +350,7 @@ void end_takes(struct end *e, uint64_t job, unsigned number, uint64_t answer)
 {
     struct change c = no_change(&e->memory);
     story_took(e, job, answer);
+    moves_took(e, job);
     c.job = job;
     c.number = number;
     if (!is_air(e) && number != NO_NUMBER && !fault(NUMBERS_ITSELF) && !fault(CLOSES_TOO_EARLY))

@@ -26,7 +26,7 @@
  *   forward   two centres and their carrier: forwards, their answers, what must hold
  *   broker, user, clearance, carrier, mail   the world around the ends
  *   account   what is counted, and the verdict
- *   story, capture, recording, faults, options, chance, power   for the one who watches
+ *   story, capture, recording, moves, faults, options, chance, power   for the one who watches
  */
 #define _POSIX_C_SOURCE 200809L
 #include <stdio.h>
@@ -40,6 +40,7 @@
 #include "faults.h"
 #include "forward.h"
 #include "jobs.h"
+#include "moves.h"
 #include "notices.h"
 #include "options.h"
 #include "recording.h"
@@ -158,6 +159,8 @@ int main(int argc, char **argv)
         return fail("it can not be written", o.pcap);
     if (o.record != NULL && recording_begin(o.record) != 0)
         return fail("no recordings can be written there", o.record);
+    if (o.moves != NULL && moves_begin(o.moves, DIALOGUES) != 0)
+        return fail("no moves can be written there", o.moves);
     chance_begin(o.seed);
     if (begin(o.state != NULL ? o.state : made) != 0)
         return fail("no journal can be begun here", o.state != NULL ? o.state : made);
@@ -171,6 +174,8 @@ int main(int argc, char **argv)
         return fail("it was not written whole", o.pcap);
     if (recording_end() != 0)
         return fail("a recording was not written whole", o.record);
+    if (moves_end() != 0)
+        return fail("the moves were not written whole", o.moves);
     (o.json ? account_print_json : account_print)(stdout, o.seed, DIALOGUES, o.steps);
     return account_good() ? 0 : 1;
 }

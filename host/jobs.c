@@ -7,6 +7,7 @@
 #include "end.h"
 #include "faults.h"
 #include "mail.h"
+#include "moves.h"
 #include "notices.h"
 #include "power.h"
 #include "recording.h"
@@ -19,6 +20,7 @@ static void acknowledge(struct end *e, uint64_t job)
 {
     power_point(e);
     broker_acknowledge(&e->broker, job);
+    moves_acknowledges(e, job);
 }
 
 /* ---- a job and the card */

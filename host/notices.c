@@ -5,6 +5,7 @@
 #include "faults.h"
 #include "forward.h"
 #include "mail.h"
+#include "moves.h"
 #include "power.h"
 #include "story.h"
 
@@ -36,6 +37,7 @@ void notices_post(struct end *e)
             forward_told(e, n);
         account.told_wrong += !user_told_fate(&e->user, &e->broker, n);
         story_told(e, n);
+        moves_tells(e, n);
     }
     if (posts > 0)
         end_confirmed(e, posts);

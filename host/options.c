@@ -27,6 +27,7 @@ static void usage(FILE *to)
           "  --pcap FILE    writes what the carrier hands over in dialogues to FILE, for Wireshark\n"
           "  --pcap-pad     with it, the bytes that tshark 4.0 needs to show a D-END and a D-ABORT\n"
           "  --record DIR   writes recordings of both ends to DIR/air and DIR/ground, for peat-compare\n"
+          "  --moves DIR    writes the moves of each dialogue's two hosts to DIR/00 .. DIR/47, for replay\n"
           "  --state DIR    keeps the journals in DIR, which must be empty; without it in a folder that is removed\n"
           "  --version      the version\n"
           "  --fault NAME   runs a host that is wrong on purpose:",
@@ -72,7 +73,7 @@ static int chosen_dialogue(const char *word, int dialogues)
 
 struct options options_read(int argc, char **argv, int dialogues)
 {
-    struct options o = {1, 200000, 0, NULL, 0, NULL, NULL};
+    struct options o = {1, 200000, 0, NULL, 0, NULL, NULL, NULL};
     int i, numbers = 0;
     for (i = 1; i < argc; i++) {
         const char *word = argv[i], *value = i + 1 < argc ? argv[i + 1] : NULL;
@@ -101,6 +102,8 @@ struct options options_read(int argc, char **argv, int dialogues)
             o.pcap = value;
         else if (strcmp(word, "--record") == 0)
             o.record = value;
+        else if (strcmp(word, "--moves") == 0)
+            o.moves = value;
         else if (strcmp(word, "--state") == 0)
             o.state = value;
         else if (strcmp(word, "--fault") == 0)

@@ -3,6 +3,7 @@
 #include "account.h"
 #include "chance.h"
 #include "faults.h"
+#include "moves.h"
 #include "power.h"
 #include "story.h"
 
@@ -21,8 +22,11 @@ static void goes_down(struct dialogue *all, int count, struct end *e)
     account.restarts++;
     account.rack_restarts += (unsigned long)rack;
     e->down = 1;
-    for (i = 0; rack && i < count; i++)
+    moves_power(e);
+    for (i = 0; rack && i < count; i++) {
         in_rack(&all[i])->down = 1;
+        moves_power(in_rack(&all[i]));
+    }
 }
 
 /* ---- coming up */

@@ -1,0 +1,5 @@
+pub mod Machine
+pub mod Steps
+pub mod Events
+pub mod Failures
+pub mod Day

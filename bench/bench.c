@@ -590,8 +590,8 @@ static struct end ends[DIALOGUES][2];
 static void open_dialogue(struct end *air, struct end *ground)
 {
     uint64_t n;
-    peat_fresh(RANGE(air->rec), PEAT_AIR, PEAT_NO_SECURITY, PEAT_FORWARDS_NOT, 1);
-    peat_fresh(RANGE(ground->rec), PEAT_GROUND, PEAT_NO_SECURITY, PEAT_FORWARDS_NOT, 1);
+    peat_fresh(RANGE(air->rec), PEAT_AIR, PEAT_NO_SECURITY, PEAT_FORWARDS_NOT, 1, PEAT_PROTECTED);
+    peat_fresh(RANGE(ground->rec), PEAT_GROUND, PEAT_NO_SECURITY, PEAT_FORWARDS_NOT, 1, PEAT_PROTECTED);
     n = peat_start(RANGE(air->rec), 1, PEAT_CPDLC, PEAT_CLASS_ANY, PEAT_NO_SECURITY, PEAT_NO_DATA, END_RANGES(air));
     peat_d_start_indication(RANGE(ground->rec), 1, PEAT_AIRCRAFT, PEAT_NO_SECURITY, PEAT_HIGH_PRIORITY, PEAT_LOW_ERROR_RATE, PEAT_CLASS_ANY,
         PEAT_NO_VERSION, PEAT_USER_DATA, air->first, peat_apdu_bytes(n), END_RANGES(ground));

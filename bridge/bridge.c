@@ -686,10 +686,19 @@ static void configure_link(struct bridge *b, struct dialogue *d)
     d->kept.record[PEAT_RECORD_VERSION] = (uint8_t)b->config->forward_version;
 }
 
+/* The application type of a record is that of its first day: an aircraft of the other type would not be understood, nor understand. */
+static void check_type(const struct bridge *b, const struct dialogue *d)
+{
+    if (peat_record_type(d->kept.record) != b->config->type[d->number])
+        log_and_exit(EXIT_REFUSED, "journal", "a dialogue's record is of another application type than the configuration says",
+            "a record keeps the type that it was made with: set `plain` as it was");
+}
+
 /* That another process had it is a failure of the carrier: a record that is not IDLE hears of it. */
 static void recover(struct bridge *b, struct dialogue *d, const char *why)
 {
     b->journal->load(b->journal, d->number, &d->kept);
+    check_type(b, d);
     configure_link(b, d);
     d->changed = 1;
     if (state_of(d) == PEAT_IDLE)

@@ -173,22 +173,33 @@ void call_delivered(struct bridge *b, struct dialogue *d, const char *type, cons
     post_envelope(b, d, type, heads, PEAT_ENVELOPE_DELIVERED, ++d->kept.deliveries, bits, message);
 }
 
-/* Message data came down: the controllers get the message in an envelope, numbered among those of this dialogue's queue. */
+/* The controllers get the message in an envelope, numbered among those of this dialogue's queue. */
+static void pass_message(struct bridge *b, struct dialogue *d, const uint8_t *message, unsigned bits, char *heads)
+{
+    if (!b->config->opaque)
+        describe(b, d, message, bits, heads);
+    b->metrics.delivered++;
+    call_delivered(b, d, "delivered", heads, bits, message);
+}
+
+/* Message data came down: in type 2 they are the message, in type 22 it is one of their parts. */
 static void pass_on(struct bridge *b, struct dialogue *d, uint64_t answer)
 {
     static char heads[HEADS_OF_LETTER];
     uint8_t message[PEAT_BUFFER_LEAST];
-    uint64_t part = peat_data_part(PEAT_PART_MESSAGE, call_second, peat_data_bytes(answer), message, sizeof message);
+    uint64_t part;
+    heads[0] = '\0';
+    if (peat_record_type(d->kept.record) == PEAT_PLAIN) {
+        pass_message(b, d, call_second, peat_data_bits(answer), heads);
+        return;
+    }
+    part = peat_data_part(PEAT_PART_MESSAGE, call_second, peat_data_bytes(answer), message, sizeof message);
     if (peat_refusal(part) != PEAT_TAKEN)
         the_card_refuses("peat_data_part", part);
     if (!peat_part_given(part))
         return; /* a start or an end without one */
-    heads[0] = '\0';
     given_write(call_second, peat_data_bytes(answer), heads, sizeof heads);
-    if (!b->config->opaque)
-        describe(b, d, message, peat_part_bits(part), heads);
-    b->metrics.delivered++;
-    call_delivered(b, d, "delivered", heads, peat_part_bits(part), message);
+    pass_message(b, d, message, peat_part_bits(part), heads);
 }
 
 static void keep_timer(struct bridge *b, struct dialogue *d)

@@ -8,6 +8,7 @@
 
 #include "jobs.h"
 #include "log.h"
+#include "peatribbon.h"
 
 /* What a name may be given. */
 struct key {
@@ -46,6 +47,7 @@ static const struct key keys[] = {
     COUNT("retry_most_ms", retry_most, "30000", 1, 600000),
     MAYBE("air_starts", air_starts),
     MAYBE("air_rejects", air_rejects),
+    MAYBE("plain", plain),
     COUNT("centres", centres, "0", 0, CENTRES_MOST),
     MAYBE("facility", facility),
     MAYBE("centre_names", centre_names),
@@ -260,6 +262,32 @@ static int mark_starts(struct config *c)
     return jobs_read(c->air_starts, mark, &accepts) && jobs_read(c->air_rejects, mark, &rejects) && accepts.good && rejects.good;
 }
 
+/* ---- the application type of each aircraft */
+
+struct typing {
+    struct config *config;
+    int good;
+};
+
+static void mark_plain(void *with, uint64_t first, uint64_t last)
+{
+    struct typing *m = with;
+    uint64_t d;
+    m->good &= last < m->config->dialogues;
+    for (d = first; m->good && d <= last; d++) {
+        m->good &= m->config->type[d] == PEAT_PROTECTED;
+        m->config->type[d] = PEAT_PLAIN;
+    }
+}
+
+/* 0: the list is none, names a dialogue that there is not, or one twice. Every other place is of type 22. */
+static int mark_types(struct config *c)
+{
+    struct typing plain = {c, 1};
+    memset(c->type, PEAT_PROTECTED, sizeof c->type);
+    return jobs_read(c->plain, mark_plain, &plain) && plain.good;
+}
+
 /* ---- other centres */
 
 #define DESIGNATION "ABCDEFGHIJKLMNOPQRSTUVWXYZ0123456789"
@@ -379,6 +407,8 @@ int config_read(struct config *c, const char *path, char *fault, size_t room)
         why = centres_together(c);
     if (why == NULL && !mark_starts(c))
         why = "air_starts and air_rejects are lists of dialogues as 0-3,7, each of them in one list once";
+    if (why == NULL && !mark_types(c))
+        why = "plain is a list of dialogues as 0-3,7, each of them once";
     return why == NULL || fail(NULL, fault, room, path, 0, "", why);
 }
 

@@ -29,6 +29,8 @@ struct config {
     uint64_t t_start, retry, retry_most; /* milliseconds */
     char air_starts[CONFIG_TEXT], air_rejects[CONFIG_TEXT]; /* dialogues, as "0-3,7" */
     uint8_t starts[PLACES_MOST]; /* of each dialogue, by the two: enum starts */
+    char plain[CONFIG_TEXT];     /* dialogues whose aircraft are of application type 2, likewise */
+    uint8_t type[PLACES_MOST];   /* of each place, by that: enum peat_type */
     /* other centres: {} in the paths and in the queue becomes the number of the centre */
     uint64_t centres, forwards, forward_version;
     char facility[CONFIG_TEXT], centre_names[CONFIG_TEXT]; /* designations: this centre's, and those of the others, "LFFF,EDYY" */

@@ -88,18 +88,18 @@ void journal_take_record(unsigned dialogue, struct kept *k, const uint8_t *recor
         take_earlier(k->record, record, bytes);
 }
 
-struct kept journal_fresh(void)
+struct kept journal_fresh(unsigned type)
 {
     struct kept k;
     memset(&k, 0, sizeof k);
-    peat_fresh(k.record, sizeof k.record, PEAT_GROUND, PEAT_NO_SECURITY, PEAT_FORWARDS_NOT, OWN_VERSION);
+    peat_fresh(k.record, sizeof k.record, PEAT_GROUND, PEAT_NO_SECURITY, PEAT_FORWARDS_NOT, OWN_VERSION, type);
     return k;
 }
 
 struct kept journal_fresh_place(const struct config *c, unsigned place)
 {
-    struct kept k = journal_fresh();
+    struct kept k = journal_fresh(c->type[place]);
     if (place_is_link(place))
-        peat_fresh(k.record, sizeof k.record, PEAT_GROUND, PEAT_NO_SECURITY, c->forwards ? PEAT_FORWARDS : PEAT_FORWARDS_NOT, c->forward_version);
+        peat_fresh(k.record, sizeof k.record, PEAT_GROUND, PEAT_NO_SECURITY, c->forwards ? PEAT_FORWARDS : PEAT_FORWARDS_NOT, c->forward_version, c->type[place]);
     return k;
 }

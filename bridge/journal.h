@@ -150,8 +150,8 @@ void journal_take_book(struct kept *, const uint8_t *book, size_t bytes);
    Another size, or another sum than the stored one, ends the process. */
 void journal_take_record(unsigned dialogue, struct kept *, const uint8_t *record, size_t bytes, uint32_t sum);
 
-/* A dialogue that never was: what `init` keeps. */
-struct kept journal_fresh(void);
+/* A dialogue that never was, of an application type: what `init` keeps. */
+struct kept journal_fresh(unsigned type);
 /* The same of any place; a centre that is new to the configuration gets its two when the journal is opened. */
 struct kept journal_fresh_place(const struct config *, unsigned place);
 

@@ -18,7 +18,7 @@ _peat_host() {
     --record | --moves | --state) COMPREPLY=($(compgen -d -- "$word")) ;;
     --fault) COMPREPLY=($(compgen -W "$(peat-host --help 2>/dev/null | sed '1,/--fault NAME/d')" -- "$word")) ;;
     --trace) COMPREPLY=($(compgen -W "$(seq 0 55)" -- "$word")) ;;
-    *) COMPREPLY=($(compgen -W '--trace --json --apart --pcap --pcap-pad --record --moves --state --fault --help --version' -- "$word")) ;;
+    *) COMPREPLY=($(compgen -W '--trace --json --apart --pcap --pcap-pad --type --record --moves --state --fault --help --version' -- "$word")) ;;
     esac
 }
 

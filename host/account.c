@@ -36,6 +36,8 @@ static const struct row {
     ROW("envelopes written", written),
     ROW("messages shown in order", shown),
     ROW("  of more than 2,048 bits", long_shown),
+    ROW("  beside them, with starts and ends", beside),
+    ROW("  beside them, not as sent", beside_astray),
     ROW("  lost with a broken dialogue", lost),
     ROW("  handed over, but not shown", missing),
     ROW("  shown, but not in their place", misplaced),
@@ -129,7 +131,7 @@ static struct kind wrong_records(void)
 {
     struct kind k = {"wrong message records", "wrong_records", "messages lost, jobs out of order or far ahead, numbers given, forwards broken, writes torn, records loaded", 0, 0};
     k.tried = account.lost + account.out_of_order + account.far_ahead + account.numbers + account.forward_broken + account.torn + account.loaded;
-    k.did = account.misplaced + account.missing + account.incomplete + account.silent + account.told_wrong + account.loaded_wrong + account.nobodys + account.refused +
+    k.did = account.misplaced + account.beside_astray + account.missing + account.incomplete + account.silent + account.told_wrong + account.loaded_wrong + account.nobodys + account.refused +
             account.number_twice + account.number_not_lowest + account.number_astray + account.forward_astray + account.forward_wrong + account.forward_silent;
     return k;
 }

@@ -12,7 +12,7 @@ extern struct account {
     unsigned long offered, out_of_order, taken, held, repeat, known, refused_again, refused_told, taken_twice, far_ahead, nobodys, notices, broken_told;
     unsigned long read, written, fragments;
     /* messages */
-    unsigned long shown, long_shown, lost, misplaced, missing, incomplete, silent, told_wrong, deck_duplicates, ground_duplicates;
+    unsigned long shown, long_shown, beside, beside_astray, lost, misplaced, missing, incomplete, silent, told_wrong, deck_duplicates, ground_duplicates;
     /* message numbers, see book.h */
     unsigned long numbers, numbers_closed, numbers_most, all_open, number_twice, number_not_lowest, number_astray;
     /* dialogues */

@@ -64,8 +64,6 @@ static void put_bits(struct bits *b, const uint8_t *byte, unsigned n)
 /* the choices of ACSE-apdu */
 enum { AARQ = 0, AARE = 1, RLRQ = 2, RLRE = 3, ABRT = 4 };
 
-#define CPDLC 22 /* AE-qualifier of CPDLC in protected mode */
-
 static const uint8_t application_context[] = {0x2B, 27, 3, 1}; /* {iso(1) identified-organisation(3) icao(27) 3 1} */
 
 /* the choice and no extension, then which optional fields are there */
@@ -76,9 +74,13 @@ static void put_head(struct bits *b, unsigned choice, unsigned present, unsigned
     put(b, present, fields);
 }
 
-/* user information: one EXTERNAL without references, "arbitrary" */
+/* user information: one EXTERNAL without references, "arbitrary"; nothing where there is no user data, and then its presence bit is 0 */
+static unsigned has_user(const struct entry *e) { return e->bits > 0; }
+
 static void put_user(struct bits *b, const struct entry *e)
 {
+    if (!has_user(e))
+        return;
     put(b, 0, 1 + 3);
     put(b, 2, 2);
     put_bits(b, e->apdu, e->bits);
@@ -93,20 +95,21 @@ static void put_title(struct bits *b, int air, unsigned address)
     put_octets(b, title, sizeof title);
 }
 
-static void put_start(struct bits *b, int air, unsigned address, const struct entry *e)
+/* the calling AE qualifier is the application type */
+static void put_start(struct bits *b, int air, unsigned address, unsigned type, const struct entry *e)
 {
-    put_head(b, AARQ, 0x301, 15); /* calling title, calling qualifier, user information */
+    put_head(b, AARQ, 0x300 | has_user(e), 15); /* calling title, calling qualifier, user information */
     put_octets(b, application_context, sizeof application_context);
     put_title(b, air, address);
     put(b, 0, 2);
     put(b, 1, 8);
-    put(b, CPDLC, 8);
+    put(b, type, 8);
     put_user(b, e);
 }
 
 static void put_answer(struct bits *b, const struct entry *e)
 {
-    put_head(b, AARE, 1, 11); /* user information */
+    put_head(b, AARE, has_user(e), 11); /* user information */
     put_octets(b, application_context, sizeof application_context);
     put(b, 0, 1);
     put(b, e->parameter, 2); /* the result */
@@ -116,7 +119,7 @@ static void put_answer(struct bits *b, const struct entry *e)
 
 static void put_release(struct bits *b, unsigned choice, unsigned reason, const struct entry *e)
 {
-    put_head(b, choice, 3, 2); /* reason, user information */
+    put_head(b, choice, 2 | has_user(e), 2); /* reason, user information */
     put(b, 0, 1);
     put(b, reason, 5);
     put_user(b, e);
@@ -124,7 +127,7 @@ static void put_release(struct bits *b, unsigned choice, unsigned reason, const 
 
 static void put_abort(struct bits *b, const struct entry *e)
 {
-    put_head(b, ABRT, 1, 2); /* user information */
+    put_head(b, ABRT, has_user(e), 2); /* user information */
     put(b, 0, 1);
     put(b, e->parameter, 1); /* the originator */
     put_user(b, e);
@@ -141,13 +144,13 @@ static void put_context(struct bits *b, unsigned head, const uint8_t *byte, unsi
 }
 
 /* the user data of a transport connection that carry an entry; the answer: the bytes that they take */
-static unsigned put_entry(struct bits *b, int air, unsigned address, const struct entry *e)
+static unsigned put_entry(struct bits *b, int air, unsigned address, unsigned type, const struct entry *e)
 {
     struct bits acse = {0, {0}};
     switch (e->primitive) {
     case PEAT_D_START_REQUEST:
         put(b, CONNECT, 16);
-        put_start(b, air, address, e);
+        put_start(b, air, address, type, e);
         break;
     case PEAT_D_START_RESPONSE:
         put(b, e->parameter == PEAT_ACCEPTED ? ACCEPT : REFUSE, 16);
@@ -270,7 +273,7 @@ static void connect(unsigned end, uint64_t dialogue, int air, unsigned address)
     }
 }
 
-void capture_entry(int dialogue, int from_air, const struct entry *e)
+void capture_entry(int dialogue, int from_air, unsigned type, const struct entry *e)
 {
     static struct bits b;
     struct connection *c;
@@ -285,7 +288,7 @@ void capture_entry(int dialogue, int from_air, const struct entry *e)
         return; /* a D-ABORT whose start was lost: there is no connection to show it on */
     other = reference(c, !from_air);
     memset(&b, 0, sizeof b);
-    bytes = put_entry(&b, from_air, address, e);
+    bytes = put_entry(&b, from_air, address, type, e);
     data[0] = 4;
     data[1] = 0xF0;
     data[2] = (uint8_t)(other >> 8);

@@ -10,8 +10,9 @@ struct entry;
 /* begins a file of frames; -1 where it can not be written. pad: see host --help. */
 int capture_begin(const char *path, int pad);
 
-/* an entry that an end of a dialogue sent reaches the other end; without a file it does nothing */
-void capture_entry(int dialogue, int from_air, const struct entry *e);
+/* An entry that an end of a dialogue sent reaches the other end. type: enum peat_type, which a start says as its AE qualifier. Without a
+   file it does nothing. */
+void capture_entry(int dialogue, int from_air, unsigned type, const struct entry *e);
 
 /* ends the file: -1 where it was not written whole */
 int capture_end(void);

@@ -38,7 +38,7 @@ static void put_date(uint8_t *m, uint64_t n)
     peat_put_two_bytes(m + PEAT_INNER_YEAR, (unsigned)(1996 + day / DAYS / 12 % 100));
 }
 
-static uint64_t of_date(const uint8_t *m)
+uint64_t clearance_stamped(const uint8_t *m)
 {
     uint64_t months = (uint64_t)(peat_two_bytes(m + PEAT_INNER_YEAR) - 1996) * 12 + m[PEAT_INNER_MONTH] - 1;
     uint64_t days = months * DAYS + m[PEAT_INNER_DAY] - 1;
@@ -160,6 +160,19 @@ int clearance_read(struct clearance *c, unsigned side, const uint8_t *bit, unsig
     return 1;
 }
 
+/* bits of a header without a reference number and without an acknowledgement: two presence bits, the identification number, date and time */
+enum { HEADER_BITS = 2 + 6 + 7 + 4 + 5 + 5 + 6 + 6, REFERENCE_BITS = 6, ACKNOWLEDGEMENT_BITS = 1 };
+
+unsigned clearance_elements(const struct clearance *c, uint8_t *bit)
+{
+    unsigned at = HEADER_BITS + (c->message[PEAT_INNER_REFERENCED] ? REFERENCE_BITS : 0) + (c->message[PEAT_INNER_ACKNOWLEDGED] ? ACKNOWLEDGEMENT_BITS : 0);
+    unsigned i;
+    memset(bit, 0, PEAT_BUFFER_LEAST);
+    for (i = 0; at + i < c->bits; i++)
+        bit[i / 8] |= (uint8_t)((c->bit[(at + i) / 8] >> (7 - (at + i) % 8) & 1) << (7 - i % 8));
+    return i;
+}
+
 /* ---- the number that the host sets */
 
 unsigned clearance_numbered(const struct clearance *c, unsigned side)
@@ -185,7 +198,7 @@ void clearance_set_number(struct clearance *c, unsigned side, unsigned number)
 uint64_t clearance_of(const struct clearance *c, unsigned side)
 {
     static struct clearance want; /* one call at a time */
-    uint64_t n = of_date(c->message);
+    uint64_t n = clearance_stamped(c->message);
     clearance_compose(&want, side, n);
     clearance_set_number(&want, side, clearance_numbered(c, side));
     return want.bits == c->bits && memcmp(want.bit, c->bit, (c->bits + 7) / 8) == 0 && memcmp(want.message, c->message, sizeof c->message) == 0 &&

@@ -34,6 +34,12 @@ void clearance_set_number(struct clearance *c, unsigned side, unsigned number);
    number, with the number that the host set, has other bits, another range or another text. */
 uint64_t clearance_of(const struct clearance *c, unsigned side);
 
+/* The number of the clearance that has the time stamp of a message range. */
+uint64_t clearance_stamped(const uint8_t *message);
+
+/* Its elements alone, the bits behind those of the header: what a forward of type 2 has. They go into PEAT_BUFFER_LEAST bytes; their count. */
+unsigned clearance_elements(const struct clearance *c, uint8_t *bit);
+
 /* the elements of clearance n by name and number, for the story; room of 64 characters */
 void clearance_said(char *said, size_t room, unsigned side, uint64_t n);
 

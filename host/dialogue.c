@@ -11,11 +11,32 @@
 
 /* ---- the users */
 
+/* What goes with a start, a rejection or an end: in type 22 message data without a message; in type 2 every other time a clearance that the
+   number of the dialogue names, else nothing. */
+static struct peat_data beside(const struct end *e, uint64_t of)
+{
+    static struct clearance c; /* one call at a time */
+    struct peat_data data = {0};
+    if (is_plain(e) && scattered(of) % 2) {
+        clearance_compose(&c, e->user.side, 1 + of % 1000000);
+        data.message = c.bit, data.message_len = (c.bits + 7) / 8, data.message_bits = c.bits;
+    }
+    return data;
+}
+
+/* An acceptance has none. */
+static struct peat_data beside_result(const struct end *e, unsigned result)
+{
+    struct peat_data none = {0};
+    return result == PEAT_ACCEPTED ? none : beside(e, number(e));
+}
+
 void dialogue_start(struct dialogue *d)
 {
     struct end *e = starter(d);
     unsigned class_ = chance(PEAT_CLASS_H + 1), mode = is_air(e) && chance(2) ? PEAT_DSC : PEAT_CPDLC;
     uint64_t next = number(e) + 1 + (chance(8) == 0 ? chance(1000) : 0);
+    struct peat_data data = beside(e, next);
     if (!idle(air(d)) || !idle(ground(d)) || parted(d) || !line_has_room(&e->out, 1))
         return;
     account.late_starts += !quiet(d);
@@ -23,39 +44,42 @@ void dialogue_start(struct dialogue *d)
     if (fault(FORGETS_HIGHEST))
         must(end_fresh(e));
     must(end_invokes(e, mode == PEAT_DSC ? "start request, dsc" : "start request, cpdlc", STARTS,
-        peat_start(REC(e), next, mode, class_, PEAT_NO_SECURITY, PEAT_NO_DATA, BUFFERS)));
+        peat_start(REC(e), next, mode, class_, PEAT_NO_SECURITY, PEAT_DATA(data), BUFFERS)));
 }
 
 static void start_response(struct end *e, unsigned dsc, unsigned result)
 {
+    struct peat_data data = beside_result(e, result);
     enum invocation by = result == PEAT_ACCEPTED ? NO_INVOCATION : CLOSES;
     e->user.talking = result == PEAT_ACCEPTED;
     if (dsc)
         must(end_invokes(e, result == PEAT_ACCEPTED ? "DSC-start response, accepted" : "DSC-start response, rejected", by,
-            peat_dsc_start_response(REC(e), result, PEAT_NO_DATA, BUFFERS)));
+            peat_dsc_start_response(REC(e), result, PEAT_DATA(data), BUFFERS)));
     else
         must(end_invokes(e, result == PEAT_ACCEPTED ? "CPDLC-start response, accepted" : "CPDLC-start response, rejected", by,
-            peat_start_response(REC(e), result, PEAT_NO_DATA, BUFFERS)));
+            peat_start_response(REC(e), result, PEAT_DATA(data), BUFFERS)));
 }
 
 static void end_request(struct end *e, unsigned dsc)
 {
+    struct peat_data data = beside(e, number(e));
     if (dsc)
-        must(end_act(e, "DSC-end request", peat_dsc_end_request(REC(e), PEAT_NO_DATA, BUFFERS)));
+        must(end_act(e, "DSC-end request", peat_dsc_end_request(REC(e), PEAT_DATA(data), BUFFERS)));
     else
-        must(end_act(e, "CPDLC-end request", peat_end_request(REC(e), PEAT_NO_DATA, BUFFERS)));
+        must(end_act(e, "CPDLC-end request", peat_end_request(REC(e), PEAT_DATA(data), BUFFERS)));
 }
 
 static void end_response(struct end *e, unsigned dsc, unsigned result)
 {
+    struct peat_data data = beside(e, number(e) + result);
     enum invocation by = result == PEAT_ACCEPTED ? CLOSES : NO_INVOCATION;
     e->user.talking = result != PEAT_ACCEPTED;
     if (dsc)
         must(end_invokes(e, result == PEAT_ACCEPTED ? "DSC-end response, accepted" : "DSC-end response, rejected", by,
-            peat_dsc_end_response(REC(e), result, PEAT_NO_DATA, BUFFERS)));
+            peat_dsc_end_response(REC(e), result, PEAT_DATA(data), BUFFERS)));
     else
         must(end_invokes(e, result == PEAT_ACCEPTED ? "CPDLC-end response, accepted" : "CPDLC-end response, rejected", by,
-            peat_end_response(REC(e), result, PEAT_NO_DATA, BUFFERS)));
+            peat_end_response(REC(e), result, PEAT_DATA(data), BUFFERS)));
 }
 
 static void user_abort(struct end *e)
@@ -94,22 +118,23 @@ static uint64_t number_given(const struct end *to, const struct entry *e)
     return fault(FORGETS_NUMBERS) ? number(to) + (e->primitive == PEAT_D_START_REQUEST) : e->number;
 }
 
-/* A primitive that one end invoked reaches the other. */
+/* A primitive that one end invoked reaches the other, with user data where it has any. */
 static uint64_t arrives(struct end *to, const struct entry *e)
 {
     unsigned peer = to->peer->setting.side == PEAT_AIR ? PEAT_AIRCRAFT : PEAT_FACILITY, version = fault(DROPS_VERSIONS) ? PEAT_NO_VERSION : e->version;
+    unsigned has = e->bits > 0 ? PEAT_USER_DATA : PEAT_NO_USER_DATA;
     uint64_t n = number_given(to, e);
     switch (e->primitive) {
     case PEAT_D_START_REQUEST:
         return peat_d_start_indication(REC(to), n, peer, e->security, PEAT_HIGH_PRIORITY, PEAT_LOW_ERROR_RATE, e->parameter, version,
-            PEAT_USER_DATA, e->apdu, e->bytes, BUFFERS);
+            has, e->apdu, e->bytes, BUFFERS);
     case PEAT_D_START_RESPONSE:
         return peat_d_start_confirmation(
-            REC(to), n, e->parameter, PEAT_DS_USER, e->security, version, PEAT_USER_DATA, e->apdu, e->bytes, BUFFERS);
-    case PEAT_D_DATA_REQUEST: return peat_d_data_indication(REC(to), n, PEAT_USER_DATA, e->apdu, e->bytes, BUFFERS);
-    case PEAT_D_END_REQUEST: return peat_d_end_indication(REC(to), n, PEAT_USER_DATA, e->apdu, e->bytes, BUFFERS);
-    case PEAT_D_END_RESPONSE: return peat_d_end_confirmation(REC(to), n, e->parameter, PEAT_USER_DATA, e->apdu, e->bytes, BUFFERS);
-    default: return peat_d_abort_indication(REC(to), n, e->parameter, PEAT_USER_DATA, e->apdu, e->bytes, BUFFERS);
+            REC(to), n, e->parameter, PEAT_DS_USER, e->security, version, has, e->apdu, e->bytes, BUFFERS);
+    case PEAT_D_DATA_REQUEST: return peat_d_data_indication(REC(to), n, has, e->apdu, e->bytes, BUFFERS);
+    case PEAT_D_END_REQUEST: return peat_d_end_indication(REC(to), n, has, e->apdu, e->bytes, BUFFERS);
+    case PEAT_D_END_RESPONSE: return peat_d_end_confirmation(REC(to), n, e->parameter, has, e->apdu, e->bytes, BUFFERS);
+    default: return peat_d_abort_indication(REC(to), n, e->parameter, has, e->apdu, e->bytes, BUFFERS);
     }
 }
 
@@ -186,7 +211,7 @@ void dialogue_hand_over(struct end *from)
     if (loses(e))
         return;
     if (!of_link(from))
-        capture_entry(from->dialogue, is_air(from), e);
+        capture_entry(from->dialogue, is_air(from), from->setting.type, e);
     if (idle(to) && e->primitive != PEAT_D_START_REQUEST) {
         discard(to, e);
         return;

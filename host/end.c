@@ -15,7 +15,10 @@
 
 uint8_t first[PEAT_BUFFER_LEAST], second[PEAT_BUFFER_LEAST];
 
-unsigned end_fresh(struct end *e) { return (unsigned)peat_fresh(REC(e), e->setting.side, PEAT_NO_SECURITY, e->setting.forwarding, e->setting.version); }
+unsigned end_fresh(struct end *e)
+{
+    return (unsigned)peat_fresh(REC(e), e->setting.side, PEAT_NO_SECURITY, e->setting.forwarding, e->setting.version, e->setting.type);
+}
 
 int end_begin(struct end *e, int dialogue, const struct setting *as, struct end *peer, const char *folder)
 {
@@ -187,10 +190,15 @@ static void show(struct end *e, const uint8_t *body, unsigned bits)
         account.misplaced++;
 }
 
-/* the message among what a call told, and its bits */
-static unsigned message_told(uint64_t answer, uint8_t *message, size_t room)
+/* The message among what a call told, and its bits. In type 2 what is told is the message. */
+static unsigned message_told(const struct end *e, uint64_t answer, uint8_t *message, size_t room)
 {
-    uint64_t part = peat_data_part(PEAT_PART_MESSAGE, second, peat_data_bytes(answer), message, room);
+    uint64_t part;
+    if (is_plain(e)) {
+        memcpy(message, second, peat_data_bytes(answer));
+        return peat_data_bits(answer);
+    }
+    part = peat_data_part(PEAT_PART_MESSAGE, second, peat_data_bytes(answer), message, room);
     must(peat_refusal(part));
     return peat_part_bits(part);
 }
@@ -227,15 +235,28 @@ static void hear(struct end *e, uint64_t answer)
     struct unheard *u = &e->unheard;
     if (u->count == UNHEARD_MOST)
         end_hears(e);
-    u->bits[u->count] = message_told(answer, PEAT_ARRAY(u->message[u->count]));
+    u->bits[u->count] = message_told(e, answer, PEAT_ARRAY(u->message[u->count]));
     u->count++;
     if (!fault(ANSWERS_UNHEARD) || !is_air(e))
         end_hears(e);
 }
 
+/* In type 2 a start, a rejection and an end may bring a message: whole, and of the other end. */
+static void hear_beside(const struct end *e, uint64_t answer)
+{
+    static struct clearance c;
+    unsigned by = e->peer->user.side;
+    if (!is_plain(e) || peat_data_bits(answer) == 0)
+        return;
+    account.beside++;
+    account.beside_astray += !clearance_read(&c, by, second, peat_data_bits(answer)) || clearance_of(&c, by) == 0;
+}
+
 static void tell(struct end *e, uint64_t answer)
 {
     unsigned accepted = peat_told_parameter(answer) == PEAT_ACCEPTED;
+    if (peat_told(answer) != PEAT_MESSAGE_INDICATION && peat_told(answer) != PEAT_FORWARD_INDICATION)
+        hear_beside(e, answer);
     switch (peat_told(answer)) {
     case PEAT_MESSAGE_INDICATION: hear(e, answer); break;
     case PEAT_FORWARD_INDICATION: forward_shown(e, answer); break;
@@ -295,7 +316,7 @@ static unsigned number_replied(const struct end *e, uint64_t answer)
 {
     static struct clearance c;
     uint8_t message[PEAT_BUFFER_LEAST];
-    unsigned bits = message_told(answer, PEAT_ARRAY(message));
+    unsigned bits = message_told(e, answer, PEAT_ARRAY(message));
     unsigned number = clearance_read(&c, PEAT_AIR, message, bits) ? clearance_numbered(&c, PEAT_AIR) : NO_NUMBER;
     if (fault(CLOSES_ANOTHER_NUMBER) && number != NO_NUMBER)
         number ^= 1;

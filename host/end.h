@@ -35,7 +35,7 @@ struct unheard {
 /* what an end is made as, and stays: its name in the journal's and in the story */
 struct setting {
     const char *name;
-    unsigned side, forwarding, version;
+    unsigned side, forwarding, version, type;
 };
 
 /* What the simulator knows of an end, and no host does: it holds the dialogue to docs/PAIR.md. */
@@ -81,6 +81,9 @@ static inline uint64_t number(const struct end *e) { return peat_record_number(e
 static inline unsigned state(const struct end *e) { return peat_record_state(e->memory.rec); }
 static inline int idle(const struct end *e) { return state(e) == PEAT_IDLE; }
 static inline int is_air(const struct end *e) { return side(e) == PEAT_AIR; }
+
+/* it is of application type 2, where a message has no check and may be absent */
+static inline int is_plain(const struct end *e) { return e->setting.type == PEAT_PLAIN; }
 
 /* it is one of a link between two centres */
 static inline int of_link(const struct end *e) { return e->dialogue >= DIALOGUES; }

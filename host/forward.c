@@ -26,10 +26,10 @@ static unsigned due(int link)
 static struct end *sender(struct dialogue *link) { return &link->end[0]; }
 static struct end *receiver(struct dialogue *link) { return &link->end[1]; }
 
-int forward_begin(struct dialogue *link, int number, const char *folder)
+int forward_begin(struct dialogue *link, int number, unsigned type, const char *folder)
 {
-    const struct setting sends = {"sender", PEAT_GROUND, PEAT_FORWARDS_NOT, VERSION};
-    const struct setting gets = {"target", PEAT_GROUND, supports(number), version_at(number)};
+    const struct setting sends = {"sender", PEAT_GROUND, PEAT_FORWARDS_NOT, VERSION, type};
+    const struct setting gets = {"target", PEAT_GROUND, supports(number), version_at(number), type};
     if (end_begin(sender(link), number, &sends, receiver(link), folder) != 0 || end_begin(receiver(link), number, &gets, sender(link), folder) != 0)
         return -1;
     sender(link)->user.apart = LINKS;
@@ -69,15 +69,27 @@ static void parts_of(const struct clearance *c, uint64_t n, uint64_t *part)
 
 /* ---- sending */
 
+/* The whole message in type 22, its elements alone in type 2. */
+static unsigned message_of(const struct end *e, const struct clearance *c, uint8_t *bit)
+{
+    if (is_plain(e))
+        return clearance_elements(c, bit);
+    memcpy(bit, c->bit, sizeof c->bit);
+    return c->bits;
+}
+
 static uint64_t request(struct end *e, uint64_t n)
 {
     static struct clearance c; /* one call at a time */
+    uint8_t bit[PEAT_BUFFER_LEAST];
+    unsigned bits;
     uint64_t p[PEAT_FORWARD_MESSAGE], number_next = number(e) + 1 + (chance(8) == 0 ? chance(1000) : 0);
     clearance_compose(&c, composer(n), n);
     parts_of(&c, n, p);
+    bits = message_of(e, &c, bit);
     return peat_forward_request(REC(e), number_next, chance(PEAT_CLASS_H + 1), PEAT_NO_SECURITY, p[PEAT_FORWARD_YEAR], p[PEAT_FORWARD_MONTH],
         p[PEAT_FORWARD_DAY], p[PEAT_FORWARD_HOURS], p[PEAT_FORWARD_MINUTES], p[PEAT_FORWARD_SECONDS], p[PEAT_FORWARD_CHARACTERS],
-        p[PEAT_FORWARD_FLIGHT], p[PEAT_FORWARD_ADDRESS], p[PEAT_FORWARD_DIRECTION], PEAT_ARRAY(c.bit), c.bits, BUFFERS);
+        p[PEAT_FORWARD_FLIGHT], p[PEAT_FORWARD_ADDRESS], p[PEAT_FORWARD_DIRECTION], PEAT_ARRAY(bit), bits, BUFFERS);
 }
 
 /* A job that was decided is acknowledged, and not sent again: nothing in the card would notice. */
@@ -144,10 +156,10 @@ void forward_taken(struct end *e, uint64_t job)
 }
 
 /* takes a forward message apart; 0 where the card does not */
-static int read_parts(uint64_t answer, uint64_t *part, uint8_t *message, size_t room)
+static int read_parts(const struct end *e, uint64_t answer, uint64_t *part, uint8_t *message, size_t room)
 {
     uint8_t heading[PEAT_HEADING_BYTES];
-    uint64_t said = peat_read_forward(second, peat_data_bytes(answer), PEAT_ARRAY(heading), message, room);
+    uint64_t said = peat_read_forward(second, peat_data_bytes(answer), PEAT_ARRAY(heading), message, room, e->setting.type);
     unsigned i;
     if (peat_refusal(said) != PEAT_TAKEN)
         return 0;
@@ -157,27 +169,42 @@ static int read_parts(uint64_t answer, uint64_t *part, uint8_t *message, size_t 
     return 1;
 }
 
-/* which forward this is; 0 where it is none, or not as it was sent */
-static uint64_t forward_read(uint64_t answer)
+/* the clearance that the parts in front of a message name: the one that was composed at their second */
+static uint64_t named_by(const uint64_t *part)
 {
-    static struct clearance c;
-    uint64_t part[PEAT_FORWARD_MESSAGE + 1], want[PEAT_FORWARD_MESSAGE], n;
-    uint8_t message[PEAT_BUFFER_LEAST];
+    uint8_t m[PEAT_INNER_BYTES] = {0};
+    peat_put_two_bytes(m + PEAT_INNER_YEAR, (unsigned)part[PEAT_FORWARD_YEAR]);
+    m[PEAT_INNER_MONTH] = (uint8_t)part[PEAT_FORWARD_MONTH];
+    m[PEAT_INNER_DAY] = (uint8_t)part[PEAT_FORWARD_DAY];
+    m[PEAT_INNER_HOURS] = (uint8_t)part[PEAT_FORWARD_HOURS];
+    m[PEAT_INNER_MINUTES] = (uint8_t)part[PEAT_FORWARD_MINUTES];
+    m[PEAT_INNER_SECONDS] = (uint8_t)part[PEAT_FORWARD_SECONDS];
+    return clearance_stamped(m);
+}
+
+/* which forward this is; 0 where it is none, or not as it was sent */
+static uint64_t forward_read(const struct end *e, uint64_t answer)
+{
+    static struct clearance c, read;
+    uint64_t part[PEAT_FORWARD_MESSAGE + 1], want[PEAT_FORWARD_MESSAGE + 1], n;
+    uint8_t message[PEAT_BUFFER_LEAST], bit[PEAT_BUFFER_LEAST];
     unsigned by;
-    if (!read_parts(answer, part, PEAT_ARRAY(message)))
+    if (!read_parts(e, answer, part, PEAT_ARRAY(message)))
         return 0;
     by = part[PEAT_FORWARD_DIRECTION] == PEAT_FORWARD_DOWNLINK ? PEAT_AIR : PEAT_GROUND;
-    if (!clearance_read(&c, by, message, (unsigned)part[PEAT_FORWARD_MESSAGE]))
-        return 0;
-    n = clearance_of(&c, by);
+    if (!is_plain(e) && !clearance_read(&read, by, message, (unsigned)part[PEAT_FORWARD_MESSAGE]))
+        return 0; /* a whole message; the elements alone were read by the card */
+    n = named_by(part);
+    clearance_compose(&c, by, n);
     parts_of(&c, n, want);
-    return memcmp(part, want, sizeof want) == 0 ? n : 0;
+    want[PEAT_FORWARD_MESSAGE] = message_of(e, &c, bit);
+    return memcmp(part, want, sizeof want) == 0 && memcmp(message, bit, (part[PEAT_FORWARD_MESSAGE] + 7) / 8) == 0 ? n : 0;
 }
 
 /* Forwards are shown in the order in which they were taken: their numbers rise. */
 void forward_shown(struct end *e, uint64_t answer)
 {
-    uint64_t n = forward_read(answer);
+    uint64_t n = forward_read(e, answer);
     unsigned times = n == 0 ? 0 : user_shown(&e->user, n);
     story_forward(e, n);
     account.forward_shown++;

@@ -15,7 +15,7 @@
 #define LINKS 8 /* behind the dialogues: their numbers go on where those end */
 
 /* makes the records of a link, and begins their journals; -1 where that does not go */
-int forward_begin(struct dialogue *link, int number, const char *folder);
+int forward_begin(struct dialogue *link, int number, unsigned type, const char *folder);
 
 /* One thing happens on one link. */
 void forward_step(struct dialogue *link);

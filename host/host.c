@@ -1,6 +1,6 @@
 /*
  * A simulator of hosts of the card: 48 dialogues, each with an air end and a ground end, joined by a carrier in memory; and
- * another centre, to which 8 links lead, each of two ground ends.
+ * another centre, to which 8 links lead, each of two ground ends. Half of the dialogues and links are of application type 2, half of type 22.
  *
  *     host --help
  *
@@ -98,16 +98,25 @@ static void step(void)
     dialogue_examine(d);
 }
 
-static int begin(const char *folder)
+/* the application type of a dialogue or a link: the one that was asked for, or type 22 of the first half and type 2 of the second */
+static unsigned type_of(int pair, unsigned asked)
 {
-    static const struct setting aircraft = {"air", PEAT_AIR, PEAT_FORWARDS_NOT, 1}, centre = {"ground", PEAT_GROUND, PEAT_FORWARDS_NOT, 1};
+    int second_half = pair < DIALOGUES ? pair >= DIALOGUES / 2 : pair - DIALOGUES >= LINKS / 2;
+    return asked != 0 ? asked : second_half ? PEAT_PLAIN : PEAT_PROTECTED;
+}
+
+static int begin(const char *folder, unsigned type)
+{
     int i;
-    for (i = 0; i < DIALOGUES; i++)
+    for (i = 0; i < DIALOGUES; i++) {
+        const struct setting aircraft = {"air", PEAT_AIR, PEAT_FORWARDS_NOT, 1, type_of(i, type)};
+        const struct setting centre = {"ground", PEAT_GROUND, PEAT_FORWARDS_NOT, 1, type_of(i, type)};
         if (end_begin(air(&dialogues[i]), i, &aircraft, ground(&dialogues[i]), folder) != 0 ||
             end_begin(ground(&dialogues[i]), i, &centre, air(&dialogues[i]), folder) != 0)
             return -1;
+    }
     for (; i < PAIRS; i++)
-        if (forward_begin(&dialogues[i], i, folder) != 0)
+        if (forward_begin(&dialogues[i], i, type_of(i, type), folder) != 0)
             return -1;
     return 0;
 }
@@ -162,7 +171,7 @@ int main(int argc, char **argv)
     if (o.moves != NULL && moves_begin(o.moves, DIALOGUES) != 0)
         return fail("no moves can be written there", o.moves);
     chance_begin(o.seed);
-    if (begin(o.state != NULL ? o.state : made) != 0)
+    if (begin(o.state != NULL ? o.state : made, o.type) != 0)
         return fail("no journal can be begun here", o.state != NULL ? o.state : made);
     for (story_step = 0; story_step < o.steps; story_step++)
         restart_around(dialogues, PAIRS, step);

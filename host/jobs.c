@@ -37,13 +37,15 @@ static uint64_t request(struct end *e, uint64_t job, unsigned number, const uint
 {
     static struct clearance c; /* one call at a time */
     uint8_t check[4] = {0};
-    struct peat_data data = {.message = c.bit, .check = check, .check_len = sizeof check, .check_bits = 8 * sizeof check};
+    struct peat_data data = {.message = c.bit};
     unsigned i;
     must(clearance_read(&c, e->user.side, body, bits) ? PEAT_TAKEN : PEAT_SHAPE);
     if (is_air(e) || number != NO_NUMBER)
         clearance_set_number(&c, e->user.side, number);
     for (i = 0; i < (c.bits + 7) / 8; i++)
         check[i % 4] ^= c.bit[i];
+    if (!is_plain(e))
+        data.check = check, data.check_len = sizeof check, data.check_bits = 8 * sizeof check;
     recording_asked(c.bit, c.bits);
     data.message_len = (c.bits + 7) / 8;
     data.message_bits = c.bits - (unsigned)fault(DROPS_A_BIT);

@@ -26,6 +26,7 @@ static void usage(FILE *to)
           "  --apart        after a power failure the other end hears some steps later that the connection is lost\n"
           "  --pcap FILE    writes what the carrier hands over in dialogues to FILE, for Wireshark\n"
           "  --pcap-pad     with it, the bytes that tshark 4.0 needs to show a D-END and a D-ABORT\n"
+          "  --type 2|22    every dialogue and link of one application type (without it both, side by side)\n"
           "  --record DIR   writes recordings of both ends to DIR/air and DIR/ground, for peat-compare\n"
           "  --moves DIR    writes the moves of each dialogue's two hosts to DIR/00 .. DIR/47, for replay\n"
           "  --state DIR    keeps the journals in DIR, which must be empty; without it in a folder that is removed\n"
@@ -71,9 +72,17 @@ static int chosen_dialogue(const char *word, int dialogues)
     return (int)n;
 }
 
+static unsigned chosen_type(const char *word)
+{
+    unsigned long n = whole(word);
+    if (n != PEAT_PLAIN && n != PEAT_PROTECTED)
+        refuse("no such application type", word);
+    return (unsigned)n;
+}
+
 struct options options_read(int argc, char **argv, int dialogues)
 {
-    struct options o = {1, 200000, 0, NULL, 0, NULL, NULL, NULL};
+    struct options o = {1, 200000, 0, NULL, 0, NULL, 0, NULL, NULL};
     int i, numbers = 0;
     for (i = 1; i < argc; i++) {
         const char *word = argv[i], *value = i + 1 < argc ? argv[i + 1] : NULL;
@@ -104,6 +113,8 @@ struct options options_read(int argc, char **argv, int dialogues)
             o.record = value;
         else if (strcmp(word, "--moves") == 0)
             o.moves = value;
+        else if (strcmp(word, "--type") == 0)
+            o.type = chosen_type(value);
         else if (strcmp(word, "--state") == 0)
             o.state = value;
         else if (strcmp(word, "--fault") == 0)

@@ -36,6 +36,15 @@
  * tells the number that it was sent with. One of another number is PEAT_STALE and changes nothing; a D-START indication may bring a
  * higher one, which the record then holds, whatever becomes of the start. docs/HOST.md says how the host counts.
  *
+ * The application type. A record is made for application type 22 (CPDLC with protected messages) or for type 2, the older one without
+ * them, and stays so (peat_fresh, peat_record_type). Both ends of a dialogue are of one type: no APDU says which it is, so the host knows
+ * it from the address. The calls are the same. Type 2 differs in this, and the calls below say it again where it matters:
+ *   - a message has no identifier and no check, and the card reads it: what no CPDLC message of this direction is, is PEAT_SHAPE;
+ *   - starts, rejections and ends need no message, and an acceptance has none; user data may then be absent;
+ *   - security is not compared, and "no security" is sent;
+ *   - the user abort reasons end with PEAT_INVALID_RESPONSE;
+ *   - what a user is delivered is the message itself.
+ *
  * What a machine's call writes, if it is not refused:
  *   - rec, all its bytes: the record after the event;
  *   - first, from its first byte on, peat_apdu_bytes(answer) bytes; the bits after the last bit of the APDU are zero;
@@ -72,9 +81,9 @@ extern "C" {
  * VERSION of the project: what the header is of, as a string and in three numbers. CHANGELOG.md says what changed.
  */
 
-#define PEAT_VERSION "0.13.0"
+#define PEAT_VERSION "0.14.0"
 #define PEAT_VERSION_MAJOR 0
-#define PEAT_VERSION_MINOR 13
+#define PEAT_VERSION_MINOR 14
 #define PEAT_VERSION_PATCH 0
 
 /* What the archive is of: "peatribbon VERSION, rattle logic HASH", where the hash names the logic in which its card was proved.
@@ -144,7 +153,8 @@ enum peat_refusal {
     PEAT_ROOM = 1,       /* an output buffer is under PEAT_BUFFER_LEAST bytes */
     PEAT_SHAPE = 2,      /* an argument breaks the sizes, its type or its codes; rec or mail is no record, or book no book; a
                             count is more than the lent bytes hold; an envelope to write that reading refuses; an element to
-                            write that is not carried */
+                            write that is not carried; of type 2, a message that is none of its direction, or what the type
+                            has no place for */
     PEAT_PROHIBITED = 3, /* a user primitive with no action in this state, or an expiry while no timer runs */
     PEAT_NO_MESSAGE = 4, /* a message request without a CPDLC message */
     PEAT_REPEAT = 5,     /* a message request whose job number is not above the highest that the record has taken */
@@ -170,6 +180,9 @@ enum peat_refusal {
 /* ---- codes */
 
 enum peat_side { PEAT_AIR = 1, PEAT_GROUND = 2 };
+
+/* the application type of a record: plain CPDLC (Doc 9705 Second Edition), or CPDLC with protected messages */
+enum peat_type { PEAT_PLAIN = 2, PEAT_PROTECTED = 22 };
 
 enum peat_state { PEAT_IDLE = 0, PEAT_START_REQ = 1, PEAT_START_IND = 2, PEAT_DIALOGUE = 3, PEAT_END = 4, PEAT_FORWARD = 5 };
 
@@ -222,7 +235,7 @@ enum peat_qos { PEAT_HIGH_PRIORITY = 1, PEAT_LOW_ERROR_RATE = 1 };
 /* whether a primitive of the dialogue service carries user data */
 enum peat_given { PEAT_NO_USER_DATA = 0, PEAT_USER_DATA = 1 };
 
-/* CPDLCUserAbortReason */
+/* CPDLCUserAbortReason; those behind PEAT_INVALID_RESPONSE are of type 22 alone */
 enum peat_user_reason {
     PEAT_UNDEFINED = 0,
     PEAT_NO_MESSAGE_IDENTIFICATION_NUMBERS_AVAILABLE = 1,
@@ -394,7 +407,8 @@ static inline unsigned peat_version(uint64_t answer) { return peat_bits_of(answe
 static inline unsigned peat_apdu_bits(uint64_t answer) { return peat_bits_of(answer, PEAT_APDU_BITS_AT, PEAT_COUNT_BITS); }
 static inline size_t peat_apdu_bytes(uint64_t answer) { return (peat_apdu_bits(answer) + 7u) / 8u; }
 
-/* The message data in the second buffer, likewise. They are in unaligned PER: a bit 0; a bit, whether there is an
+/* The message data in the second buffer, likewise. In type 2 they are the CPDLC message itself, from its first bit on, ready for
+   peat_read_message; 0 bits: there is none, and the buffer stays. In type 22 they are in unaligned PER: a bit 0; a bit, whether there is an
    identifier; a bit, whether there is a message; the identifier, as its octets counted in 8 bits and then the octets; the
    message, as its bits counted and then the bits; the check, likewise. A count of bits under 128 takes 8 bits, a greater
    one takes 16: the bits 10 and then 14 bits. Additions from a later edition, which the APDU may have had behind the check, are
@@ -417,7 +431,8 @@ static inline unsigned peat_part_given(uint64_t answer) { return peat_bits_of(an
 static inline unsigned peat_part_bits(uint64_t answer) { return peat_bits_of(answer, PEAT_PART_BITS_AT, PEAT_PART_BITS_BITS); }
 static inline size_t peat_part_bytes(uint64_t answer) { return (peat_part_bits(answer) + 7u) / 8u; }
 
-/* a part of a forward message, for peat_read_forward and peat_forward_part */
+/* A part of a forward message, for peat_read_forward and peat_forward_part. For peat_forward_part of a forward message of type 2, add
+   PEAT_FORWARD_PLAIN to the part. */
 enum peat_forward_part {
     PEAT_FORWARD_YEAR = 0,       /* 1996 to 2095 */
     PEAT_FORWARD_MONTH = 1,      /* 1 to 12 */
@@ -431,6 +446,7 @@ enum peat_forward_part {
     PEAT_FORWARD_DIRECTION = 9,  /* enum peat_forward_direction */
     PEAT_FORWARD_MESSAGE = 10    /* the message's bits, into the buffer */
 };
+#define PEAT_FORWARD_PLAIN 16u
 
 /* the part; of the message's bits, their count, and the bytes that they take of the buffer */
 static inline uint64_t peat_forward_value(uint64_t answer) { return answer >> PEAT_REFUSAL_BITS; }
@@ -447,8 +463,9 @@ static inline uint64_t peat_flight(const char *characters, size_t count)
 }
 static inline char peat_flight_character(uint64_t flight, size_t count, size_t i) { return (char)(flight >> 7 * (count - 1 - i) & 127u); }
 
-/* the type that an APDU is of: AircraftPDUs are what an air end sends, GroundPDUs what a ground end sends */
-enum peat_apdu_type { PEAT_AIRCRAFT_PDUS = 1, PEAT_GROUND_PDUS = 2 };
+/* The type that an APDU is of: AircraftPDUs are what an air end sends, GroundPDUs what a ground end sends. The last two are those of
+   application type 2. Byte PEAT_RECORD_SIDE of a record is the code of what it sends. */
+enum peat_apdu_type { PEAT_AIRCRAFT_PDUS = 1, PEAT_GROUND_PDUS = 2, PEAT_PLAIN_AIRCRAFT_PDUS = 3, PEAT_PLAIN_GROUND_PDUS = 4 };
 
 /* an APDU's alternative, by its tag. A start is startdown or startup; GroundPDUs alone have the last two. */
 enum peat_apdu_kind {
@@ -468,7 +485,7 @@ enum peat_apdu_kind {
 
 /* enum peat_apdu_kind; the reason of an abort (enum peat_user_reason, enum peat_provider_reason), the mode of a start (enum
    peat_mode), the result of a forward response (enum peat_forward_result), else 0; and whether it has message data (1: a start or
-   a send, 0: any other) */
+   a send, 0: any other, and a start of type 2 without a message) */
 static inline unsigned peat_apdu_kind(uint64_t answer) { return peat_bits_of(answer, PEAT_APDU_KIND_AT, PEAT_APDU_PART_BITS); }
 static inline unsigned peat_apdu_number(uint64_t answer) { return peat_bits_of(answer, PEAT_APDU_NUMBER_AT, PEAT_APDU_PART_BITS); }
 static inline unsigned peat_apdu_has_data(uint64_t answer) { return peat_bits_of(answer, PEAT_APDU_DATA_AT, PEAT_APDU_PART_BITS); }
@@ -662,7 +679,7 @@ static inline int peat_put_level(uint8_t *at, unsigned unit, long level)
 
 /* ---- the record: 25 bytes that the host may keep anywhere, copy, and read with these; it writes them through calls only */
 
-#define PEAT_RECORD_SIDE 0
+#define PEAT_RECORD_SIDE 0 /* and the type: 1 air, 2 ground of type 22; 3 air, 4 ground of type 2 */
 #define PEAT_RECORD_STATE 1
 #define PEAT_RECORD_DSC 2
 #define PEAT_RECORD_TIMER 3
@@ -674,7 +691,8 @@ static inline int peat_put_level(uint8_t *at, unsigned unit, long level)
 #define PEAT_RECORD_HIGHEST 9
 #define PEAT_RECORD_NUMBER 17
 
-static inline unsigned peat_record_side(const uint8_t *rec) { return rec[PEAT_RECORD_SIDE]; }       /* enum peat_side */
+static inline unsigned peat_record_side(const uint8_t *rec) { return rec[PEAT_RECORD_SIDE] % 2u ? PEAT_AIR : PEAT_GROUND; }     /* enum peat_side */
+static inline unsigned peat_record_type(const uint8_t *rec) { return rec[PEAT_RECORD_SIDE] > 2u ? PEAT_PLAIN : PEAT_PROTECTED; } /* enum peat_type */
 static inline unsigned peat_record_state(const uint8_t *rec) { return rec[PEAT_RECORD_STATE]; }     /* enum peat_state */
 static inline unsigned peat_record_dsc(const uint8_t *rec) { return rec[PEAT_RECORD_DSC]; }         /* 0 or 1 */
 static inline unsigned peat_record_timer(const uint8_t *rec) { return rec[PEAT_RECORD_TIMER]; }     /* 1: t-start runs */
@@ -790,12 +808,12 @@ static inline const char *peat_kind_name(unsigned kind)
 
 /* Makes a fresh record: IDLE, DSC false, timer stopped, user not active, highest job 0, dialogue
    number 0, request value "no security". side: enum peat_side. policy: the enum peat_security that local policy accepts.
-   forwards: enum peat_forwarding. version: the own version, 1 to PEAT_VERSION_HIGHEST, which a forward compares. The last three
-   stay for the life of the record.
-   Answers 0 and writes rec, PEAT_RECORD_BYTES; or PEAT_SHAPE (rec_len is not that, or one of the four is none of its codes),
+   forwards: enum peat_forwarding. version: the own version, 1 to PEAT_VERSION_HIGHEST, which a forward compares. type: enum peat_type,
+   the application type. All of these stay for the life of the record.
+   Answers 0 and writes rec, PEAT_RECORD_BYTES; or PEAT_SHAPE (rec_len is not that, or one of the five is none of its codes),
    and rec stays.
    A dialogue that closes needs no fresh record; one would forget the highest job taken and the dialogue number. */
-uint64_t peat_fresh(uint8_t *rec, size_t rec_len, uint64_t side, uint64_t policy, uint64_t forwards, uint64_t version);
+uint64_t peat_fresh(uint8_t *rec, size_t rec_len, uint64_t side, uint64_t policy, uint64_t forwards, uint64_t version, uint64_t type);
 
 /* ---- primitives of the user
  *
@@ -804,14 +822,20 @@ uint64_t peat_fresh(uint8_t *rec, size_t rec_len, uint64_t side, uint64_t policy
  *   msgs    the CPDLC message: its first `message` bits, 0 to PEAT_MESSAGE_MOST; message = PEAT_NONE: no message (and msgs
  *           is not looked at). A message of no bits is a message.
  *   checks  the integrity check: its first `check` bits, 0 to PEAT_CHECK_MOST
- * msgs and checks may be longer than their bits. All calls refuse with PEAT_ROOM (first or second) and PEAT_SHAPE (rec is
+ * msgs and checks may be longer than their bits.
+ * At a record of type 2 there is a message or none: an identifier or a check is PEAT_SHAPE, and so are bits that peat_read_message does
+ * not take, to the last one, in the direction that the side sends. A start goes without a message too. A rejection, an end and its
+ * response without a message invoke their primitive without user data (peat_apdu_bits is 0). A start that is accepted takes no message:
+ * with one it is PEAT_SHAPE.
+ * All calls refuse with PEAT_ROOM (first or second) and PEAT_SHAPE (rec is
  * not a record, message data outside these sizes, a code outside its type), and then with PEAT_PROHIBITED where it says so.
  * They write rec and first, and second stays.
  */
 
 /* Start request: the CPDLC-start request in mode PEAT_CPDLC, the DSC-start request in mode PEAT_DSC. number: the dialogue's,
    which the record holds from then on; STALE unless it is above peat_record_number, in every state. mode: enum peat_mode;
-   PEAT_DSC is SHAPE at the ground end, in every state. class_: enum peat_class. security: enum peat_security.
+   PEAT_DSC is SHAPE at the ground end, in every state. class_: enum peat_class. security: enum peat_security; a record of type 2
+   sends PEAT_NO_SECURITY whatever it is.
    PROHIBITED unless IDLE. Invokes D-START request; the timer begins to run, and in mode PEAT_DSC the record's DSC is set. */
 uint64_t peat_start(uint8_t *rec, size_t rec_len, uint64_t number, uint64_t mode, uint64_t class_, uint64_t security,
     const uint8_t *ids, size_t ids_len, const uint8_t *msgs, size_t msgs_len, uint64_t message,
@@ -871,7 +895,8 @@ uint64_t peat_dsc_end_response(uint8_t *rec, size_t rec_len, uint64_t result,
     const uint8_t *checks, size_t checks_len, uint64_t check,
     uint8_t *first, size_t first_len, uint8_t *second, size_t second_len);
 
-/* CPDLC-user-abort request. reason: enum peat_user_reason, or PEAT_NONE, which is sent as PEAT_UNDEFINED.
+/* CPDLC-user-abort request. reason: enum peat_user_reason, or PEAT_NONE, which is sent as PEAT_UNDEFINED; at a record of type 2, up to
+   PEAT_INVALID_RESPONSE.
    PROHIBITED in IDLE. Invokes D-ABORT request with originator PEAT_USER. */
 uint64_t peat_user_abort(uint8_t *rec, size_t rec_len, uint64_t reason,
     uint8_t *first, size_t first_len, uint8_t *second, size_t second_len);
@@ -881,7 +906,8 @@ uint64_t peat_user_abort(uint8_t *rec, size_t rec_len, uint64_t reason,
    peat_class. security: enum peat_security. year to seconds: when the message was composed (enum peat_forward_part has the
    ranges). characters, flight: the aircraft's flight identification, PEAT_FLIGHT_LEAST to PEAT_FLIGHT_MOST characters, and they
    as one number (peat_flight). address: 24 bits. direction: enum peat_forward_direction, what the message's bits are: the first
-   `message` bits of msgs, 0 to PEAT_MESSAGE_MOST. They are not looked into. Values outside these are SHAPE.
+   `message` bits of msgs, 0 to PEAT_MESSAGE_MOST. A record of type 22 does not look into them. Those of type 2 are the message's elements
+   alone, without its header, and the card reads them to the last bit. Values outside these are SHAPE.
    PROHIBITED at the air end and unless IDLE. Invokes D-START request with the record's version; the timer begins to run, and
    every call of the user but peat_user_abort is PROHIBITED until PEAT_FORWARD_CONFIRMATION, an abort or the expiry. A forward has
    no job number: one that is asked for twice is sent twice. Whether the record supports forwarding does not matter here.
@@ -907,7 +933,8 @@ uint64_t peat_system_error(uint8_t *rec, size_t rec_len, uint8_t *first, size_t 
 /* ---- primitives of the dialogue service
  *
  * given: PEAT_USER_DATA, the user data being all the bytes of the range; or PEAT_NO_USER_DATA, and the range is not looked
- * at. Another number is SHAPE. User data of no bytes are user data, and no valid PDU. User data that are lent may be read
+ * at. Another number is SHAPE. User data of no bytes are user data, and no valid PDU: a primitive that came without user data
+ * is PEAT_NO_USER_DATA. At a record of type 2 the responses to a start and the ends may come so. User data that are lent may be read
  * also where the outcome does not depend on them.
  * number: the dialogue number that the primitive carries; what the carrier itself makes carries that of the record.
  * All refuse with PEAT_ROOM and PEAT_SHAPE (rec is not a record, a code outside its type), and then with PEAT_STALE where number is
@@ -915,9 +942,9 @@ uint64_t peat_system_error(uint8_t *rec, size_t rec_len, uint8_t *first, size_t 
  * forward message, if some are delivered).
  */
 
-/* D-START indication. peer: enum peat_peer. security: enum peat_security. priority, rate, routing: the quality of service
-   as received, any numbers. version: the DS user version number, or PEAT_NO_VERSION where none came. STALE unless number is above
-   peat_record_number; the record then holds it, also where the start is turned away.
+/* D-START indication. peer: enum peat_peer. security: enum peat_security, which a record of type 2 does not compare. priority, rate,
+   routing: the quality of service as received, any numbers. version: the DS user version number, or PEAT_NO_VERSION where none came.
+   STALE unless number is above peat_record_number; the record then holds it, also where the start is turned away.
    A FORWARD BELONGS TO AN IDLE RECORD: at a record that is busy with an aircraft, any D-START indication breaks that dialogue. So a
    centre keeps records of their own for the forwards that it gets. */
 uint64_t peat_d_start_indication(uint8_t *rec, size_t rec_len, uint64_t number, uint64_t peer, uint64_t security,
@@ -954,8 +981,8 @@ uint64_t peat_d_p_abort_indication(uint8_t *rec, size_t rec_len, uint64_t number
 
 /* ---- message data that were delivered */
 
-/* Takes one part out of message data, into out from its first bit on. which: enum peat_part. delivered: the message data, all
-   bytes of the range, as a call left them in its second buffer (peat_data_bytes of them).
+/* Takes one part out of message data of type 22, into out from its first bit on. (Those of type 2 are the message itself.) which: enum
+   peat_part. delivered: the message data, all bytes of the range, as a call left them in its second buffer (peat_data_bytes of them).
    Answers PEAT_ROOM (out is under PEAT_BUFFER_LEAST bytes); PEAT_SHAPE (which is none of its codes); or where the bytes are
    no message data the fault met first, PEAT_SHORT to PEAT_TAIL, with its position (never for what a call left there); and then
    out stays.
@@ -964,23 +991,25 @@ uint64_t peat_d_p_abort_indication(uint8_t *rec, size_t rec_len, uint64_t number
 uint64_t peat_data_part(uint64_t which, const uint8_t *delivered, size_t delivered_len, uint8_t *out, size_t out_len);
 
 /* All parts of a forward message as it was delivered. delivered: the forward message, all bytes of the range, as a call that told
-   PEAT_FORWARD_INDICATION left them in its second buffer (peat_data_bytes of them).
-   Answers PEAT_ROOM (out is under PEAT_BUFFER_LEAST bytes); PEAT_SHAPE (heading is not of PEAT_HEADING_BYTES bytes); or where the
-   bytes are no forward message the fault met first, PEAT_SHORT, PEAT_RANGE, PEAT_LENGTH_FORM or PEAT_TAIL, with its position (never
-   for what a call left there); and then heading and out stay.
+   PEAT_FORWARD_INDICATION left them in its second buffer (peat_data_bytes of them). type: enum peat_type, that of the record.
+   Answers PEAT_ROOM (out is under PEAT_BUFFER_LEAST bytes); PEAT_SHAPE (type is none of its codes, or heading is not of
+   PEAT_HEADING_BYTES bytes); or where the bytes are no forward message the fault met first, PEAT_SHORT, PEAT_RANGE, PEAT_EXTENSION,
+   PEAT_LENGTH_FORM, PEAT_TAIL or PEAT_NOT_CARRIED, with its position (never for what a call left there); and then heading and out stay.
+   (PEAT_LENGTH_FORM is of type 22 alone, PEAT_EXTENSION and PEAT_NOT_CARRIED of type 2.)
    Else heading has the numbers, which peat_heading_value reads. peat_forward_value(answer) is the count of the message's bits: out
    has them in its first so many bits, those after the last one are zero up to the end of the byte, and every other byte stays. */
-uint64_t peat_read_forward(const uint8_t *delivered, size_t delivered_len, uint8_t *heading, size_t heading_len, uint8_t *out, size_t out_len);
+uint64_t peat_read_forward(const uint8_t *delivered, size_t delivered_len, uint8_t *heading, size_t heading_len, uint8_t *out, size_t out_len,
+    uint64_t type);
 
 /* a number that peat_read_forward left in heading: PEAT_FORWARD_YEAR to PEAT_FORWARD_DIRECTION, in eight bytes each, the most
    significant first */
 static inline uint64_t peat_heading_value(const uint8_t *heading, enum peat_forward_part which) { return peat_eight_bytes(heading + 8u * (unsigned)which); }
 
-/* One part of a forward message as it was delivered, for a host that wants no other. which: enum peat_forward_part. delivered: as
-   for peat_read_forward.
+/* One part of a forward message as it was delivered, for a host that wants no other. which: enum peat_forward_part; of a forward message
+   of type 2, PEAT_FORWARD_PLAIN more. delivered: as for peat_read_forward.
    Answers PEAT_ROOM (out is under PEAT_BUFFER_LEAST bytes); PEAT_SHAPE (which is none of its codes); or where the bytes are no
-   forward message the fault met first, PEAT_SHORT, PEAT_RANGE, PEAT_LENGTH_FORM or PEAT_TAIL, with its position (never for what a
-   call left there); and then out stays.
+   forward message the fault met first, PEAT_SHORT, PEAT_RANGE, PEAT_EXTENSION, PEAT_LENGTH_FORM, PEAT_TAIL or PEAT_NOT_CARRIED, as of
+   peat_read_forward; and then out stays.
    Else peat_forward_value reads the part. Of PEAT_FORWARD_MESSAGE that is the count of its bits: out has them in its first so many
    bits, those after the last one are zero up to the end of the byte, and every other byte stays. For any other part out stays. */
 uint64_t peat_forward_part(uint64_t which, const uint8_t *delivered, size_t delivered_len, uint8_t *out, size_t out_len);
@@ -988,13 +1017,13 @@ uint64_t peat_forward_part(uint64_t which, const uint8_t *delivered, size_t deli
 /* ---- an APDU by itself, as it was recorded: for whoever looks for a fault. No machine is asked whether it is permitted. */
 
 /* Reads the lent bytes as one APDU. which: enum peat_apdu_type. bytes: all of the range.
-   Answers PEAT_SHAPE (which is none of its codes); or the fault met first, PEAT_SHORT to PEAT_TAIL or PEAT_DEFAULT, with its
-   position. Else peat_apdu_kind, peat_apdu_number and peat_apdu_has_data read the answer. A forward APDU is read to its end; its
-   message is not looked into. Writes nothing. */
+   Answers PEAT_SHAPE (which is none of its codes); or the fault met first, PEAT_SHORT to PEAT_DEFAULT, with its position; in type 22
+   no message is looked into, so that PEAT_NOT_CARRIED is of type 2 alone, and there no length has a form or a limit. Else
+   peat_apdu_kind, peat_apdu_number and peat_apdu_has_data read the answer. A forward APDU is read to its end. Writes nothing. */
 uint64_t peat_read_apdu(uint64_t which, const uint8_t *bytes, size_t bytes_len);
 
-/* What an APDU is, from its leading bits: for a router. Looks at the first byte and at nothing behind it. which: enum peat_apdu_type.
-   bytes: the APDU, or its first byte alone.
+/* What an APDU is, from its leading bits: for a router. Looks at the first byte and at nothing behind it. which: PEAT_AIRCRAFT_PDUS or
+   PEAT_GROUND_PDUS, for both application types: their leading bits are the same. bytes: the APDU, or its first byte alone.
    Answers PEAT_SHAPE (which is none of its codes); or PEAT_SHORT, PEAT_RANGE, PEAT_EXTENSION or PEAT_DEFAULT, with its position: then
    peat_read_apdu refuses the APDU too, for this fault or another. Else peat_apdu_kind is its kind, and peat_apdu_number the mode of a
    start and 0 for every other kind; where peat_read_apdu accepts the APDU, it says the same kind and mode. Whether it accepts it is

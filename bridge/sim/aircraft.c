@@ -1,12 +1,12 @@
 /*
  * Aircraft: up to 48, each with an air record and a flight deck that counts what it sees.
  *
- *     aircraft PATH DIALOGUES ACCOUNT [ABORT [DOWN [REPLY [START]]]]
+ *     aircraft PATH DIALOGUES ACCOUNT [ABORT [DOWN [REPLY [START [PLAIN]]]]]
  *
  * PATH has {} where the number of the aircraft goes: a packet socket for each, on which the bridge connects. ABORT: once in
  * so many messages the flight deck aborts. DOWN: once in so many it sends a message down. REPLY: once in so many it answers with WILCO all
  * CPDLC messages that it has not answered; it counts a message whose number is that of one it has not answered. START: 1, the aircraft start
- * the dialogues. SIGUSR1: every connection is
+ * the dialogues. PLAIN: those of application type 2, as 0-3,7. SIGUSR1: every connection is
  * dropped, as by a carrier that fails. SIGUSR2: the account so far is written. SIGTERM: the account is written and the program ends.
  *
  * The account: a line with what was counted; then for each job that a flight deck saw `NUMBER JOB TIMES`.
@@ -41,6 +41,7 @@ struct aircraft {
 
 static struct aircraft fleet[DIALOGUES_MOST];
 static unsigned aircraft_count, abort_once_in, down_once_in, reply_once_in, starts;
+static unsigned char plain[DIALOGUES_MOST]; /* 1: it is of application type 2 */
 static const char *path;
 static struct { unsigned long delivered, duplicates, disorder, damaged, opened, ended, aborted, failed, refused, down, numbers, twice; } account;
 static uint32_t *latency_us;
@@ -88,13 +89,25 @@ static uint64_t see_clearance(struct aircraft *a, const uint8_t *message, unsign
     return job;
 }
 
-static void see(struct aircraft *a, const uint8_t *data, size_t bytes)
+/* The message of what was delivered: all of it in type 2, else a part; its bits, or 0. */
+static unsigned message_in(const struct aircraft *a, const uint8_t *data, uint64_t answer, uint8_t *message)
+{
+    uint64_t part;
+    if (peat_record_type(a->record) == PEAT_PLAIN) {
+        memcpy(message, data, peat_data_bytes(answer));
+        return peat_data_bits(answer);
+    }
+    part = peat_data_part(PEAT_PART_MESSAGE, data, peat_data_bytes(answer), message, PEAT_BUFFER_LEAST);
+    return peat_refusal(part) == PEAT_TAKEN ? peat_part_bits(part) : 0;
+}
+
+static void see(struct aircraft *a, const uint8_t *data, uint64_t answer)
 {
     uint8_t message[PEAT_BUFFER_LEAST];
-    uint64_t part = peat_data_part(PEAT_PART_MESSAGE, data, bytes, message, sizeof message), given = 0, job;
-    job = peat_refusal(part) == PEAT_TAKEN ? pattern_job(message, peat_part_bytes(part), a->number, &given) : 0;
-    if (job == 0 && peat_refusal(part) == PEAT_TAKEN)
-        job = see_clearance(a, message, peat_part_bits(part));
+    unsigned bits = message_in(a, data, answer, message);
+    uint64_t given = 0, job = bits > 0 ? pattern_job(message, (bits + 7u) / 8u, a->number, &given) : 0;
+    if (job == 0 && bits > 0)
+        job = see_clearance(a, message, bits);
     if (job == 0 || job > JOBS_MOST) {
         account.damaged++;
         return;
@@ -144,7 +157,7 @@ static void act(struct aircraft *a, uint64_t answer)
         account.opened += peat_told_parameter(answer) == PEAT_ACCEPTED;
         a->open = 0;
         break;
-    case PEAT_MESSAGE_INDICATION: see(a, second, peat_data_bytes(answer)); break;
+    case PEAT_MESSAGE_INDICATION: see(a, second, answer); break;
     case PEAT_END_INDICATION:
         account.ended++;
         act(a, peat_end_response(RECORD(a), PEAT_ACCEPTED, PEAT_NO_DATA, BUFFERS));
@@ -179,11 +192,11 @@ static void reply(struct aircraft *a)
         }
 }
 
-/* Now and then the flight deck answers a message with something of its own. */
+/* Now and then the flight deck answers a message with something of its own: in type 22 bits that are no message, in type 2 a message. */
 static void fly(struct aircraft *a)
 {
-    uint8_t message[9];
-    const struct peat_data data = {.message = message, .message_len = sizeof message, .message_bits = 8 * sizeof message};
+    uint8_t message[PEAT_BUFFER_LEAST];
+    struct peat_data data = {.message = message, .message_len = 9, .message_bits = 72};
     if (peat_record_state(a->record) != PEAT_DIALOGUE)
         return;
     if (once_in(abort_once_in)) {
@@ -193,6 +206,10 @@ static void fly(struct aircraft *a)
         account.down++;
         pattern_number(message, ++a->down);
         message[8] = (uint8_t)a->number;
+        if (peat_record_type(a->record) == PEAT_PLAIN) {
+            data.message_bits = clearance_reply(message, (unsigned)(a->down % 64), 0, CLEARANCE_STANDBY);
+            data.message_len = (data.message_bits + 7u) / 8u;
+        }
         act(a, peat_message_request(RECORD(a), a->down, PEAT_DATA(data), BUFFERS));
     } else if (once_in(reply_once_in)) {
         reply(a);
@@ -237,9 +254,16 @@ static int board(struct aircraft *a, unsigned number)
     a->number = number;
     a->socket = -1;
     a->listener = packet_socket(path, number, &address);
-    peat_fresh(RECORD(a), PEAT_AIR, PEAT_NO_SECURITY, PEAT_FORWARDS_NOT, 1);
+    peat_fresh(RECORD(a), PEAT_AIR, PEAT_NO_SECURITY, PEAT_FORWARDS_NOT, 1, plain[number] ? PEAT_PLAIN : PEAT_PROTECTED);
     unlink(address.sun_path);
     return a->listener >= 0 && bind(a->listener, (const struct sockaddr *)&address, sizeof address) == 0 && listen(a->listener, 4) == 0;
+}
+
+static void mark_plain(void *with, uint64_t first_of, uint64_t last)
+{
+    (void)with;
+    for (; first_of <= last && first_of < DIALOGUES_MOST; first_of++)
+        plain[first_of] = 1;
 }
 
 static int by_size(const void *a, const void *b)
@@ -294,9 +318,9 @@ int main(int argc, char **argv)
 {
     struct sigaction a;
     unsigned n;
-    know_words(argc, argv, "aircraft", "usage: aircraft PATH DIALOGUES ACCOUNT [ABORT [DOWN [REPLY [START]]]]; the top of bridge/sim/aircraft.c says what they are");
-    if (argc < 4 || argc > 8 || strtoul(argv[2], NULL, 10) < 1 || strtoul(argv[2], NULL, 10) > DIALOGUES_MOST) {
-        fputs("usage: aircraft PATH DIALOGUES ACCOUNT [ABORT [DOWN [REPLY [START]]]]\n", stderr);
+    know_words(argc, argv, "aircraft", "usage: aircraft PATH DIALOGUES ACCOUNT [ABORT [DOWN [REPLY [START [PLAIN]]]]]; the top of bridge/sim/aircraft.c says what they are");
+    if (argc < 4 || argc > 9 || (argc > 8 && !jobs_read(argv[8], mark_plain, NULL)) || strtoul(argv[2], NULL, 10) < 1 || strtoul(argv[2], NULL, 10) > DIALOGUES_MOST) {
+        fputs("usage: aircraft PATH DIALOGUES ACCOUNT [ABORT [DOWN [REPLY [START [PLAIN]]]]]\n", stderr);
         return 2;
     }
     path = argv[1];

@@ -12,6 +12,7 @@
 
 #define CLEARANCE_FREE_TEXT 169 /* uM169 */
 #define CLEARANCE_WILCO 0       /* dM0 */
+#define CLEARANCE_STANDBY 2     /* dM2, which closes nothing */
 #define CLEARANCE_TEXT 40
 
 /* the front of a message that was composed on a day of its own */

@@ -52,12 +52,12 @@ static void accept_it(uint64_t number)
 static void the_machine(void)
 {
     /* peat_fresh */
-    answer = peat_fresh(PEAT_ARRAY(ground), PEAT_GROUND, PEAT_NO_SECURITY, PEAT_FORWARDS_NOT, 1);
+    answer = peat_fresh(PEAT_ARRAY(ground), PEAT_GROUND, PEAT_NO_SECURITY, PEAT_FORWARDS_NOT, 1, PEAT_PROTECTED);
     if (answer != 0)
         puts("one of the four is none of its codes");
     /**/
     SO(answer == 0 && peat_record_state(ground) == PEAT_IDLE);
-    peat_fresh(PEAT_ARRAY(air), PEAT_AIR, PEAT_NO_SECURITY, PEAT_FORWARDS_NOT, 1);
+    peat_fresh(PEAT_ARRAY(air), PEAT_AIR, PEAT_NO_SECURITY, PEAT_FORWARDS_NOT, 1, PEAT_PROTECTED);
 
     /* peat_start */
     answer = peat_start(PEAT_ARRAY(air), 1, PEAT_CPDLC, PEAT_CLASS_ANY, PEAT_NO_SECURITY, PEAT_NO_DATA, PEAT_BUFFERS(first, second));
@@ -227,8 +227,8 @@ static void the_aborts(void)
 
 static void the_forwards(void)
 {
-    peat_fresh(PEAT_ARRAY(centre), PEAT_GROUND, PEAT_NO_SECURITY, PEAT_FORWARDS, 1);
-    peat_fresh(PEAT_ARRAY(neighbour), PEAT_GROUND, PEAT_NO_SECURITY, PEAT_FORWARDS, 1);
+    peat_fresh(PEAT_ARRAY(centre), PEAT_GROUND, PEAT_NO_SECURITY, PEAT_FORWARDS, 1, PEAT_PROTECTED);
+    peat_fresh(PEAT_ARRAY(neighbour), PEAT_GROUND, PEAT_NO_SECURITY, PEAT_FORWARDS, 1, PEAT_PROTECTED);
 
     /* peat_forward_request */
     answer = peat_forward_request(PEAT_ARRAY(centre), 1, PEAT_CLASS_ANY, PEAT_NO_SECURITY, 2026, 11, 16, 14, 30, 0, 6,
@@ -244,7 +244,7 @@ static void the_forwards(void)
 
     /* peat_read_forward */
     uint8_t heading[PEAT_HEADING_BYTES];
-    uint64_t parts = peat_read_forward(second, peat_data_bytes(answer), PEAT_ARRAY(heading), PEAT_ARRAY(out));
+    uint64_t parts = peat_read_forward(second, peat_data_bytes(answer), PEAT_ARRAY(heading), PEAT_ARRAY(out), peat_record_type(neighbour));
     if (peat_refusal(parts) == PEAT_TAKEN)
         printf("composed in %u\n", (unsigned)peat_heading_value(heading, PEAT_FORWARD_YEAR));
     /**/
@@ -260,7 +260,7 @@ static void the_forwards(void)
 
 static void the_apdus(void)
 {
-    peat_fresh(PEAT_ARRAY(air), PEAT_AIR, PEAT_NO_SECURITY, PEAT_FORWARDS_NOT, 1);
+    peat_fresh(PEAT_ARRAY(air), PEAT_AIR, PEAT_NO_SECURITY, PEAT_FORWARDS_NOT, 1, PEAT_PROTECTED);
     answer = peat_start(PEAT_ARRAY(air), 1, PEAT_CPDLC, PEAT_CLASS_ANY, PEAT_NO_SECURITY, PEAT_NO_DATA, PEAT_BUFFERS(first, second));
     carry();
 

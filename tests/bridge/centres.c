@@ -54,7 +54,7 @@ static void set_two(void)
     set(1);
     snprintf(folder, sizeof folder, "%.80sb", stage.folder);
     account_clear(&other.account);
-    stage_set(&other, folder, theirs, 1);
+    stage_set(&other, folder, theirs, 1, "");
     join(&stage, "EDAA", "EDBB", "x", "y");
     join(&other, "EDBB", "EDAA", "y", "x");
 }

@@ -13,7 +13,7 @@ static uint8_t first[PEAT_BUFFER_LEAST], second[PEAT_BUFFER_LEAST];
 #define RECORD(k) (k)->record, sizeof (k)->record
 #define BUFFERS first, sizeof first, second, sizeof second
 
-int deck_begin(struct deck *k, const char *path, unsigned dialogue)
+int deck_begin_of(struct deck *k, const char *path, unsigned dialogue, unsigned type)
 {
     struct sockaddr_un a;
     memset(k, 0, sizeof *k);
@@ -21,8 +21,10 @@ int deck_begin(struct deck *k, const char *path, unsigned dialogue)
     k->listener = packet_socket(path, dialogue, &a);
     unlink(a.sun_path);
     return k->listener >= 0 && bind(k->listener, (struct sockaddr *)&a, sizeof a) == 0 && listen(k->listener, 4) == 0 &&
-           peat_refusal(peat_fresh(RECORD(k), PEAT_AIR, PEAT_NO_SECURITY, PEAT_FORWARDS_NOT, 1)) == PEAT_TAKEN;
+           peat_refusal(peat_fresh(RECORD(k), PEAT_AIR, PEAT_NO_SECURITY, PEAT_FORWARDS_NOT, 1, type)) == PEAT_TAKEN;
 }
+
+int deck_begin(struct deck *k, const char *path, unsigned dialogue) { return deck_begin_of(k, path, dialogue, PEAT_PROTECTED); }
 
 int deck_meet(struct deck *k)
 {
@@ -39,6 +41,7 @@ static int act(struct deck *k, uint64_t answer)
     if (peat_refusal(answer) != PEAT_TAKEN)
         return 0;
     k->bytes = peat_data_bytes(answer);
+    k->bits = peat_data_bits(answer);
     memcpy(k->data, second, k->bytes);
     k->parameter = peat_told_parameter(answer);
     memset(&p, 0, sizeof p);

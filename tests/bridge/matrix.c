@@ -55,13 +55,15 @@ int chosen(const char *name)
     return only == NULL || strncmp(name, only, strlen(only)) == 0;
 }
 
-void set(unsigned dialogues)
+void set_types(unsigned dialogues, const char *plain)
 {
     char folder[90];
     account_clear(&stage.account);
     snprintf(folder, sizeof folder, "%s/%u", room, plays++);
-    stage_set(&stage, folder, memory, dialogues);
+    stage_set(&stage, folder, memory, dialogues, plain);
 }
+
+void set(unsigned dialogues) { set_types(dialogues, ""); }
 
 /* Ends a play: it stopped in order, and its verdict is good. */
 void judged(int stopped, const char *name)
@@ -407,7 +409,7 @@ static int takes_record(const struct kept *k, const uint8_t *record, size_t byte
 static void earlier_journal(void)
 {
     const char *name = "earlier journal";
-    struct kept k = journal_fresh();
+    struct kept k = journal_fresh(PEAT_PROTECTED);
     uint8_t old[WITHOUT_VERSION + 1] = {0}; /* the record as it stood */
     uint32_t shorter, short_sum;
     if (!chosen(name))

@@ -14,8 +14,9 @@ extern struct stage stage;
 /* Whether a test of this name is to run. */
 int chosen(const char *name);
 void check(int good, const char *name, const char *what);
-/* A fresh stage. */
+/* A fresh stage; and one with dialogues of application type 2, as 0-3,7. */
 void set(unsigned dialogues);
+void set_types(unsigned dialogues, const char *plain);
 /* Ends a play: it stopped in order, and its verdict is good. */
 void judged(int stopped, const char *name);
 

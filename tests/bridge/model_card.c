@@ -23,9 +23,9 @@ static struct range lent(const uint8_t *at, size_t len) { return (struct range){
         return model_call(which, &a); \
     } while (0)
 
-uint64_t peat_fresh(RECORD, uint64_t side, uint64_t policy, uint64_t forwards, uint64_t version)
+uint64_t peat_fresh(RECORD, uint64_t side, uint64_t policy, uint64_t forwards, uint64_t version, uint64_t type)
 {
-    ASK(FRESH, .rec = {rec, rec_len}, .n = {side, policy, forwards, version});
+    ASK(FRESH, .rec = {rec, rec_len}, .n = {side, policy, forwards, version, type});
 }
 
 uint64_t peat_start(RECORD, uint64_t number, uint64_t mode, uint64_t class_, uint64_t security, MESSAGE_DATA, BUFFERS)
@@ -73,9 +73,9 @@ uint64_t peat_forward_part(uint64_t which, const uint8_t *delivered, size_t deli
 {
     ASK(FORWARD_PART, .n = {which}, .bytes = lent(delivered, delivered_len), .first = {out, out_len});
 }
-uint64_t peat_read_forward(const uint8_t *delivered, size_t delivered_len, uint8_t *heading, size_t heading_len, uint8_t *out, size_t out_len)
+uint64_t peat_read_forward(const uint8_t *delivered, size_t delivered_len, uint8_t *heading, size_t heading_len, uint8_t *out, size_t out_len, uint64_t type)
 {
-    ASK(READ_FORWARD, .bytes = lent(delivered, delivered_len), .ids = {heading, heading_len}, .first = {out, out_len});
+    ASK(READ_FORWARD, .n = {type}, .bytes = lent(delivered, delivered_len), .ids = {heading, heading_len}, .first = {out, out_len});
 }
 uint64_t peat_read_envelope(const uint8_t *bytes, size_t bytes_len, uint8_t *job, size_t job_len)
 {

@@ -176,7 +176,14 @@ static void choose_store(struct stage *s)
     c->share = DIALOGUES_MOST;
 }
 
-static void configure(struct stage *s, unsigned dialogues)
+static void mark_plain(void *with, uint64_t first, uint64_t last)
+{
+    struct config *c = with;
+    for (; first <= last; first++)
+        c->type[first] = PEAT_PLAIN;
+}
+
+static void configure(struct stage *s, unsigned dialogues, const char *plain)
 {
     struct config *c = &s->config;
     memset(c, 0, sizeof *c);
@@ -186,6 +193,9 @@ static void configure(struct stage *s, unsigned dialogues)
     snprintf(c->queue_owner, sizeof c->queue_owner, "owner");
     snprintf(c->page_address, sizeof c->page_address, "127.0.0.1");
     c->dialogues = dialogues;
+    snprintf(c->plain, sizeof c->plain, "%s", plain);
+    memset(c->type, PEAT_PROTECTED, sizeof c->type);
+    jobs_read(c->plain, mark_plain, c);
     c->opaque = 1; /* the jobs of most tests are patterns, which no card reads (pattern.h) */
     c->t_start = 2000;
     c->retry = c->reconnect = 2;
@@ -197,13 +207,13 @@ static void configure(struct stage *s, unsigned dialogues)
     c->stop = 8000;
 }
 
-void stage_set(struct stage *s, const char *folder, struct memory *m, unsigned dialogues)
+void stage_set(struct stage *s, const char *folder, struct memory *m, unsigned dialogues, const char *plain)
 {
     memset(s, 0, sizeof *s);
     snprintf(s->folder, sizeof s->folder, "%s", folder);
     snprintf(s->account_file, sizeof s->account_file, "%s/decks", folder);
     mkdir(folder, 0700);
-    configure(s, dialogues);
+    configure(s, dialogues, plain);
     s->memory = m;
     memory_empty(m, 8);
     make_journal(s);
@@ -212,7 +222,7 @@ void stage_set(struct stage *s, const char *folder, struct memory *m, unsigned d
 void stage_aircraft(struct stage *s, unsigned abort_once_in, unsigned down_once_in)
 {
     char number[12], aborts[12], down[12], reply[12];
-    char *words[] = {"aircraft", s->config.link, number, s->account_file, aborts, down, reply, s->config.starts[0] != STARTS_GROUND ? "1" : "0", NULL};
+    char *words[] = {"aircraft", s->config.link, number, s->account_file, aborts, down, reply, s->config.starts[0] != STARTS_GROUND ? "1" : "0", s->config.plain, NULL};
     char last[160];
     struct stat there;
     uint64_t until = now_ms() + PLENTY;
@@ -223,7 +233,7 @@ void stage_aircraft(struct stage *s, unsigned abort_once_in, unsigned down_once_
     s->aircraft = spawn();
     if (s->aircraft == 0) {
         redirect(s, "aircraft", STDOUT_FILENO);
-        exit(aircraft_main(8, words));
+        exit(aircraft_main(9, words));
     }
     config_name(s->config.link, (unsigned)s->config.dialogues - 1, last, sizeof last);
     while (stat(last, &there) != 0 && now_ms() < until)

@@ -32,8 +32,8 @@ struct stage {
     char notify[100]; /* a socket for words to systemd; empty: none */
 };
 
-/* A fresh stage: an empty broker, a journal that was just made. */
-void stage_set(struct stage *, const char *folder, struct memory *, unsigned dialogues);
+/* A fresh stage: an empty broker, a journal that was just made. plain: the dialogues of application type 2, as 0-3,7. */
+void stage_set(struct stage *, const char *folder, struct memory *, unsigned dialogues, const char *plain);
 void stage_aircraft(struct stage *, unsigned abort_once_in, unsigned down_once_in);
 
 /* A job for a dialogue: a payload with one envelope, so many times; late: see memory_broker.h. */

@@ -41,13 +41,15 @@ static void stop(pid_t bridge, const char *name)
     memory_lost(memory);
 }
 
-/* A stage whose bridge reads messages and keeps the book. */
-static void set_checked(unsigned dialogues)
+/* A stage whose bridge reads messages and keeps the book; some of its dialogues are of application type 2. */
+static void set_checked_types(unsigned dialogues, const char *plain)
 {
-    set(dialogues);
+    set_types(dialogues, plain);
     stage.config.opaque = 0;
     snprintf(stage.config.queue_words, sizeof stage.config.queue_words, "words{}");
 }
+
+static void set_checked(unsigned dialogues) { set_checked_types(dialogues, ""); }
 
 static void say_word(unsigned dialogue, const char *word) { memory_put(memory, PLACES_MOST + dialogue, (const uint8_t *)word, strlen(word), 0); }
 
@@ -353,6 +355,105 @@ static void air_rejected(void)
     stop(bridge, name);
 }
 
+/* ---- aircraft of application type 2 */
+
+/* Aircraft of both types side by side, over kills and lost connections: numbers, replies and fates are the same. */
+static void both_types(void)
+{
+    const char *name = "both types";
+    unsigned p, d, j;
+    if (!chosen(name))
+        return;
+    for (p = AT_RECOVERY; p < POINTS; p++) {
+        struct plan plan[2] = {{AT_ACKNOWLEDGED, 1, 0, 0}, {(enum point)p, 1, 0, 0}};
+        set_checked_types(4, "1,3");
+        stage.reply = 2;
+        stage_aircraft(&stage, 30, 9);
+        for (d = 0; d < 4; d++)
+            for (j = 1; j <= 10; j++)
+                stage_clearance(&stage, d, j, 2, "");
+        judged(stage_play(&stage, plan, 2), name);
+        check(stage.kills >= 1, name, "no kill came");
+        check(stage.opened >= 4 && stage.twice == 0, name, "not every dialogue was opened, or a number was given that was open");
+        for (d = 0; d < 4; d++)
+            check(peat_record_type(loaded(d).record) == (d % 2 ? PEAT_PLAIN : PEAT_PROTECTED), name, "a record is of another type than it was made");
+    }
+}
+
+/* What the position gives that type 2 has no place for, or that is no message: SHAPE, and the letter says so. */
+static void plain_refused(void)
+{
+    const char *name = "type 2 refused";
+    unsigned i;
+    if (!chosen(name))
+        return;
+    for (i = 0; i < 2; i++) { /* messages are read here, or carried as they are */
+        set_checked_types(1, "0");
+        stage.config.opaque = i;
+        stage_aircraft(&stage, 0, 0);
+        if (i == 0) {
+            stage_clearance(&stage, 0, 1, 1, "x-peat-check=00ff\n");
+            stage_clearance(&stage, 0, 2, 1, "x-peat-algorithm=2a03\n");
+        } else {
+            stage_job(&stage, 0, 1, 1, 0); /* a pattern, which no card reads */
+            stage_job(&stage, 0, 2, 1, 0);
+        }
+        stage_clearance(&stage, 0, 3, 1, "");
+        judged(stage_play(&stage, none, 0), name);
+        check(letter_with("refused", "x-peat-refusal=SHAPE\n") != NULL && stage.verdict.refused == 2 && stage.verdict.ended == 1, name, "not two are SHAPE and one is sent");
+    }
+}
+
+/* A flight deck of type 2: it starts with a message and without, its replies come down as messages, its end without anything. */
+static void plain_deck(void)
+{
+    const char *name = "type 2";
+    uint8_t reply[PEAT_BUFFER_LEAST];
+    unsigned bits = clearance_reply(reply, 5, 0, CLEARANCE_WILCO), number = 99;
+    const struct peat_data with = {.message = reply, .message_len = (bits + 7u) / 8u, .message_bits = bits}, without = {.message = NULL};
+    struct deck deck;
+    pid_t bridge;
+    if (!chosen(name))
+        return;
+    set_checked_types(1, "0");
+    stage.config.starts[0] = STARTS_AIR;
+    check(deck_begin_of(&deck, stage.config.link, 0, PEAT_PLAIN), name, "no socket");
+    bridge = stage_bridge(&stage, none[0]);
+    check(deck_meet(&deck) && deck_start(&deck, 1, PEAT_DSC, &with), name, "no start");
+    check(deck_hear(&deck) == PEAT_START_CONFIRMATION && deck.parameter == PEAT_ACCEPTED && deck.bits == 0, name, "a start is not accepted");
+    check(becomes(one_delivered, SOON), name, "the message of a start is not delivered");
+    stage_clearance(&stage, 0, 1, 1, "");
+    check(deck_hear(&deck) == PEAT_MESSAGE_INDICATION && clearance_job(deck.data, deck.bits, 0, &number) == 1 && number == 0, name, "a job does not arrive as a message with its number");
+    check(deck_send(&deck, 1, &with), name, "the flight deck can not answer");
+    check(becomes(two_delivered, SOON), name, "what the flight deck sent is not delivered");
+    check(letter_with("delivered", "x-peat-number=5\nx-peat-job=1\n") != NULL, name, "the letter does not say which job the reply is to");
+    check(deck_end_dsc(&deck) && deck_hear(&deck) == PEAT_END_CONFIRMATION && deck.parameter == PEAT_ACCEPTED && deck.bits == 0, name, "the end is not accepted");
+    check(becomes(one_broken, SOON), name, "the job's fate is not told");
+    close(deck.socket);
+    check(deck_meet(&deck) && deck_start(&deck, 2, PEAT_CPDLC, &without) && deck_hear(&deck) == PEAT_START_CONFIRMATION, name, "no next dialogue");
+    check(two_delivered(), name, "a start without a message is delivered");
+    kill(bridge, SIGTERM);
+    check(deck_hear(&deck) == PEAT_END_INDICATION && deck.bits == 0, name, "the bridge does not end a dialogue in order");
+    check(stage_wait(bridge, PLENTY) == 0, name, "the bridge does not stop in order");
+    deck_close(&deck);
+    memory_lost(memory);
+}
+
+/* The type of a record is that of its first day. */
+static void type_fixed(void)
+{
+    const char *name = "type fixed";
+    if (!chosen(name))
+        return;
+    set(1);
+    stage.config.type[0] = PEAT_PLAIN;
+    check(stage_wait(stage_bridge(&stage, none[0]), SOON) == EXIT_REFUSED, name, "a record of type 22 runs as one of type 2");
+    stage.config.type[0] = PEAT_PROTECTED;
+    stage_aircraft(&stage, 0, 0);
+    stage_job(&stage, 0, 1, 1, 0);
+    judged(stage_play(&stage, none, 0), name);
+}
+
 /* ---- a journal of 0.11.0 */
 
 static void say_file(const char *text)
@@ -400,6 +501,10 @@ void whole_host(void)
     air_starts();
     downstream();
     air_rejected();
+    both_types();
+    plain_refused();
+    plain_deck();
+    type_fixed();
     if (getenv("PEAT_DATABASE") == NULL)
         earlier_tables();
 }

@@ -38,11 +38,11 @@ static uint64_t card_call(enum which w, const struct args *a)
     case WRITE_ENVELOPE: return peat_write_envelope(n[0], n[1], n[2], a->msgs.at, a->msgs.len, a->first.at, a->first.len);
     case DATA_PART: return peat_data_part(n[0], a->bytes.at, a->bytes.len, a->first.at, a->first.len);
     case FORWARD_PART: return peat_forward_part(n[0], a->bytes.at, a->bytes.len, a->first.at, a->first.len);
-    case READ_FORWARD: return peat_read_forward(a->bytes.at, a->bytes.len, a->ids.at, a->ids.len, a->first.at, a->first.len);
+    case READ_FORWARD: return peat_read_forward(a->bytes.at, a->bytes.len, a->ids.at, a->ids.len, a->first.at, a->first.len, n[0]);
     case READ_APDU: return peat_read_apdu(n[0], a->bytes.at, a->bytes.len);
     case READ_MESSAGE: return peat_read_message(n[0], a->bytes.at, a->bytes.len, n[1], a->rec.at, a->rec.len, a->first.at, a->first.len);
     case WRITE_MESSAGE: return peat_write_message(n[0], a->ids.at, a->ids.len, a->msgs.at, a->msgs.len, a->first.at, a->first.len);
-    default: return peat_fresh(REC, n[0], n[1], n[2], n[3]);
+    default: return peat_fresh(REC, n[0], n[1], n[2], n[3], n[4]);
     }
 #undef REC
 #undef DATA

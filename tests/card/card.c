@@ -123,9 +123,9 @@ static int can_refuse(enum which w, unsigned x)
     if (w == DATA_PART)
         return x == PEAT_ROOM || x == PEAT_SHAPE || x == PEAT_SHORT || (x >= PEAT_EXTENSION && x <= PEAT_TAIL);
     if (w == FORWARD_PART || w == READ_FORWARD)
-        return x == PEAT_ROOM || x == PEAT_SHAPE || x == PEAT_SHORT || x == PEAT_RANGE || x == PEAT_LENGTH_FORM || x == PEAT_TAIL;
+        return x == PEAT_ROOM || x == PEAT_SHAPE || (x >= PEAT_SHORT && x <= PEAT_LENGTH_FORM) || x == PEAT_TAIL || x == PEAT_NOT_CARRIED;
     if (w == READ_APDU)
-        return x == PEAT_SHAPE || (x >= PEAT_SHORT && x <= PEAT_TAIL) || x == PEAT_DEFAULT;
+        return x == PEAT_SHAPE || (x >= PEAT_SHORT && x <= PEAT_DEFAULT);
     if (w == READ_MESSAGE)
         return x == PEAT_ROOM || x == PEAT_SHAPE || (x >= PEAT_SHORT && x <= PEAT_EXTENSION) || (x >= PEAT_TAIL && x <= PEAT_DEFAULT);
     return x == PEAT_SHAPE || (x == PEAT_ROOM && w != FRESH) || (x == PEAT_PROHIBITED && w <= TIMER_EXPIRY) ||
@@ -170,7 +170,7 @@ static void random_record(struct args *a)
         return;
     for (i = 0; i < 8; i++)
         x[i] = (uint8_t)below(most[i] + 1u);
-    x[0] = (uint8_t)(1 + below(2));
+    x[0] = (uint8_t)(1 + below(4));
     x[8] = (uint8_t)(once_in(60) ? 0 : once_in(3) ? 1 + below(255) : 1 + below(2));
     fill(x + 9, 16);
     if (once_in(2))
@@ -216,6 +216,56 @@ static void random_data(struct args *a)
         a->check = any();
     fill(lent[2] - 24, 24);
     fill(lent[3] - 8, 8);
+}
+
+static int is_plain(const struct args *a) { return a->rec.len == PEAT_RECORD_BYTES && a->rec.at[0] > 2; }
+static unsigned sends_direction(const struct args *a) { return peat_record_side(a->rec.at) == PEAT_AIR ? PEAT_DOWNLINK : PEAT_UPLINK; }
+
+/* a message of a direction in bits, or its elements alone, now and then one that is not carried; how many bits */
+static size_t some_message(unsigned direction, int elements, uint8_t *bytes)
+{
+    static struct bits b;
+    uint8_t message[132], text[5 * 256], made[PEAT_BUFFER_LEAST];
+    struct args m;
+    uint64_t n;
+    size_t i, from;
+    do {
+        memset(&m, 0, sizeof m);
+        m.n[0] = direction;
+        m.msgs.at = text, m.msgs.len = make_message(any, direction, message, text);
+        m.ids.at = message, m.ids.len = sizeof message;
+        m.first.at = made, m.first.len = sizeof made;
+        n = model_call(WRITE_MESSAGE, &m);
+    } while (n < 256);
+    b.n = 0;
+    from = elements ? header_bits(message) : 0;
+    for (i = from; i < peat_message_bits(n); i++)
+        put(&b, made[i / 8] >> (7 - i % 8) & 1, 1);
+    if (b.n > 60 && once_in(10)) /* an index, or what is behind it */
+        b.bit[b.n - 1 - below(50)] ^= 1;
+    whole(&b, bytes);
+    return b.n;
+}
+
+/* message data for a record of type 2: a message of its direction or none, now and then of the other, damaged, or with what the type has not */
+static void random_plain_data(struct args *a, int elements, unsigned direction)
+{
+    uint8_t bytes[PEAT_BUFFER_LEAST] = {0};
+    size_t bits = some_message(once_in(20) ? 3 - direction : direction, elements, bytes);
+    if (once_in(20))
+        bytes[below((unsigned)bits / 8 + 1)] ^= (uint8_t)(1u << below(8));
+    if (once_in(20))
+        bits = once_in(2) ? bits - 1 : bits + 1;
+    lend(a, 2, once_in(40) ? bits / 8 : bits / 8 + 1);
+    memcpy(lent[2] - a->msgs.len, bytes, a->msgs.len);
+    a->message = once_in(200) ? any() : bits;
+    if (elements)
+        return;
+    if (once_in(2))
+        a->message = NONE;
+    lend(a, 1, once_in(20) ? below(18) : 0);
+    a->check = once_in(20) ? below(65) : 0;
+    lend(a, 3, a->check / 8 + below(2));
 }
 
 /* a length and as many items, now and then in the longer form, or marked as fragments */
@@ -269,7 +319,13 @@ static uint64_t random_version(const struct args *a)
 }
 
 /* an ATCForwardMessage, now and then with a number outside its type */
-static void put_random_forward(struct bits *b)
+static void put_message(struct bits *b, unsigned direction, int elements)
+{
+    uint8_t bytes[PEAT_BUFFER_LEAST] = {0};
+    put_range(b, bytes, some_message(direction, elements, bytes));
+}
+
+static void put_random_forward(struct bits *b, int plain)
 {
     static const unsigned width[] = {7, 4, 5, 5, 6, 6, 3}, values[] = {100, 12, 31, 24, 60, 60, 7};
     unsigned i, n = 0;
@@ -280,12 +336,26 @@ static void put_random_forward(struct bits *b)
     for (i = 0; i < n + 2; i++)
         put(b, any(), 7);
     put(b, any(), 24);
-    put(b, any(), 1);
-    put_items(b, message_bits(), 1);
+    n = below(2);
+    put(b, n, 1);
+    if (plain)
+        put_message(b, once_in(20) || n == 0 ? PEAT_UPLINK : PEAT_DOWNLINK, 1);
+    else
+        put_items(b, message_bits(), 1);
 }
 
-/* user data: an APDU of an alternative, of one of the two types, now and then with a fault */
-static void random_pdu(struct args *a, unsigned index, unsigned aircraft)
+/* message data of a start or a send, of application type 2 */
+static void put_random_plain(struct bits *b, int start, unsigned aircraft)
+{
+    int given = !start || once_in(2);
+    if (start)
+        put(b, (unsigned)given, 1);
+    if (given)
+        put_message(b, once_in(20) ? PEAT_UPLINK : aircraft ? PEAT_DOWNLINK : PEAT_UPLINK, 0);
+}
+
+/* user data: an APDU of an alternative, of one of the two types, now and then with a fault; it is of application type 2 or not */
+static void random_pdu(struct args *a, unsigned index, unsigned aircraft, int plain)
 {
     static struct bits b;
     uint8_t bytes[2600];
@@ -294,9 +364,11 @@ static void random_pdu(struct args *a, unsigned index, unsigned aircraft)
     put(&b, once_in(50), 1);
     put(&b, index, aircraft ? 2 : 3);
     if (!aircraft && index == 4)
-        put_random_forward(&b);
+        put_random_forward(&b, plain);
     else if (!aircraft && index == 5)
         put(&b, once_in(20) ? below(8) : below(3), 3);
+    else if (index == 0 && plain)
+        put(&b, once_in(20) ? below(16) : below(7), 4);
     else if (index == 0)
         put(&b, once_in(20) ? below(32) : below(13), 5);
     else if (index == 1)
@@ -304,7 +376,10 @@ static void random_pdu(struct args *a, unsigned index, unsigned aircraft)
     else {
         if (index == 2 && aircraft)
             put(&b, below(2) ? 3 : once_in(10) ? 2 : 0, 1 + below(2));
-        put_random_data(&b);
+        if (plain)
+            put_random_plain(&b, index == 2, aircraft);
+        else
+            put_random_data(&b);
     }
     len = whole(&b, bytes);
     if (once_in(10))
@@ -318,30 +393,33 @@ static void random_pdu(struct args *a, unsigned index, unsigned aircraft)
     lend(a, 4, len);
     if (len > 0)
         memcpy(a->bytes.at, bytes, len);
-    a->given = once_in(12) ? 0 : once_in(100) ? any() : 1;
+    a->given = once_in(plain ? 4 : 12) ? 0 : once_in(100) ? any() : 1;
 }
+
+/* mostly of the record's application type */
+static int type_of_pdu(const struct args *a) { return once_in(20) ? (int)below(2) : is_plain(a); }
 
 static void random_apdu(struct args *a)
 {
     unsigned index = below(once_in(20) ? 8 : 4), aircraft = below(2);
-    random_pdu(a, !aircraft && once_in(8) ? 4 + below(2) : index, aircraft);
+    random_pdu(a, !aircraft && once_in(8) ? 4 + below(2) : index, aircraft, type_of_pdu(a));
 }
 
 /* a forward that reaches an IDLE ground record, or the answer to one that is in FORWARD, mostly as it should be */
 static void random_centre(enum which w, struct args *a)
 {
     uint8_t *x = a->rec.at;
-    if (a->rec.len != PEAT_RECORD_BYTES || x[0] > PEAT_GROUND)
+    if (a->rec.len != PEAT_RECORD_BYTES || x[0] > 4)
         return;
-    x[0] = PEAT_GROUND;
+    x[0] = (uint8_t)(x[0] > 2 ? 4 : 2);
     x[1] = w == D_START_INDICATION ? PEAT_IDLE : PEAT_FORWARD;
     if (w == D_START_INDICATION) {
         a->n[0] = PEAT_FACILITY, a->n[1] = once_in(8) ? below(2) : x[PEAT_RECORD_POLICY];
-        random_pdu(a, PEAT_APDU_FORWARD, 0);
+        random_pdu(a, PEAT_APDU_FORWARD, 0, type_of_pdu(a));
     } else {
         a->n[0] = once_in(8) ? below(3) : PEAT_REJECTED, a->n[1] = once_in(8) ? below(2) : PEAT_DS_USER;
         a->n[2] = once_in(8) ? below(2) : x[PEAT_RECORD_REQUEST];
-        random_pdu(a, once_in(8) ? below(6) : PEAT_APDU_FORWARD_RESPONSE, 0);
+        random_pdu(a, once_in(8) ? below(6) : PEAT_APDU_FORWARD_RESPONSE, 0, type_of_pdu(a));
     }
 }
 
@@ -435,13 +513,14 @@ static void random_part(struct args *a)
 }
 
 /* a forward message by itself, now and then with a fault */
-static void random_forward(struct args *a)
+static void random_forward(struct args *a, enum which w)
 {
     static struct bits b;
     uint8_t bytes[2600];
     size_t len;
+    int plain = once_in(2);
     b.n = 0;
-    put_random_forward(&b);
+    put_random_forward(&b, once_in(20) ? !plain : plain);
     len = whole(&b, bytes);
     if (once_in(15))
         bytes[below(once_in(2) ? (unsigned)len : 14)] ^= (uint8_t)(1u << below(8));
@@ -452,7 +531,7 @@ static void random_forward(struct args *a)
     lend(a, 4, len);
     if (len > 0)
         memcpy(a->bytes.at, bytes, len);
-    a->n[0] = code(PEAT_FORWARD_MESSAGE);
+    a->n[0] = w == READ_FORWARD ? (once_in(40) ? any() >> below(64) : plain ? PEAT_PLAIN : PEAT_PROTECTED) : code(PEAT_FORWARD_MESSAGE) + (plain ? PEAT_FORWARD_PLAIN : 0);
 }
 
 /* the numbers of a forward request and its message, now and then outside their types */
@@ -470,6 +549,8 @@ static void random_heading(struct args *a)
     a->message = once_in(100) ? any() : once_in(100) ? NONE : bits;
     lend(a, 2, once_in(40) ? bits / 8 : bits / 8 + 1);
     fill(lent[2] - 24, 24);
+    if (is_plain(a) && !once_in(20))
+        random_plain_data(a, 1, a->n[11] == 0 ? PEAT_UPLINK : PEAT_DOWNLINK);
 }
 
 /* a message range and a text, now and then with a fault */
@@ -555,11 +636,16 @@ static void random_call(enum which w, struct args *a)
         a->n[3] = once_in(12) ? below(3) : 1;
         a->n[4] = once_in(12) ? any() : below(10);
         break;
-    case FRESH: a->n[0] = once_in(8) ? any() : below(4), a->n[3] = once_in(4) ? any() : below(258); break;
+    case FRESH:
+        a->n[0] = once_in(8) ? any() : below(4), a->n[3] = once_in(4) ? any() : below(258);
+        a->n[4] = once_in(8) ? any() >> below(64) : once_in(2) ? PEAT_PLAIN : PEAT_PROTECTED;
+        break;
     case FORWARD_REQUEST: random_heading(a); break;
     default: break;
     }
-    if (w <= DSC_END_RESPONSE)
+    if (w <= DSC_END_RESPONSE && is_plain(a) && !once_in(20))
+        random_plain_data(a, 0, sends_direction(a));
+    else if (w <= DSC_END_RESPONSE)
         random_data(a);
     if (w >= D_START_INDICATION && w <= D_ABORT_INDICATION)
         random_apdu(a);
@@ -572,12 +658,12 @@ static void random_call(enum which w, struct args *a)
     if (w == DATA_PART)
         random_part(a);
     if (w == FORWARD_PART || w == READ_FORWARD)
-        random_forward(a);
+        random_forward(a, w);
     if (w == READ_FORWARD)
         lend(a, 1, once_in(60) ? below(100) : PEAT_HEADING_BYTES);
     if (w == READ_APDU) {
         random_apdu(a);
-        a->n[0] = once_in(40) ? any() : once_in(40) ? below(4) : 1 + below(2);
+        a->n[0] = once_in(40) ? any() : once_in(40) ? below(6) : 1 + below(2) + (is_plain(a) ? 2 : 0);
     }
     if (w == READ_MESSAGE)
         random_bits(a);
@@ -585,13 +671,15 @@ static void random_call(enum which w, struct args *a)
         random_message(a);
 }
 
-/* how often a call came to each side in each state and DSC, of the start those in mode dsc apart, and how often each side invoked and
-   told each primitive */
-static unsigned long cells[2][6][2][CALLS], dsc_starts[2][6][2], invoked[2][16], reported[2][16], both_buffers;
+/* how often a call came to each side, of each application type, in each state and DSC, of the start those in mode dsc apart, and how often each
+   invoked and told each primitive, and without user data */
+#define KINDS 4 /* air and ground of type 22, and of type 2 */
+static unsigned long cells[KINDS][6][2][CALLS], dsc_starts[KINDS][6][2], invoked[KINDS][16], bare[KINDS][16], reported[KINDS][16], both_buffers;
+static int type_changed;
 
 static void seen(enum which w, const struct args *a, const uint8_t *rec, uint64_t said)
 {
-    unsigned side = peat_record_side(rec) - 1;
+    unsigned side = rec[PEAT_RECORD_SIDE] - 1u;
     if (w >= FRESH || said == PEAT_ROOM || said == PEAT_SHAPE)
         return;
     if (w == START_REQUEST && a->n[0] == PEAT_DSC)
@@ -599,7 +687,9 @@ static void seen(enum which w, const struct args *a, const uint8_t *rec, uint64_
     else
         cells[side][peat_record_state(rec)][peat_record_dsc(rec)][w]++;
     if (peat_refusal(said) == PEAT_TAKEN) {
+        type_changed |= a->rec.at[PEAT_RECORD_SIDE] != rec[PEAT_RECORD_SIDE];
         invoked[side][peat_invoked(said)]++;
+        bare[side][peat_invoked(said)] += peat_apdu_bits(said) == 0;
         reported[side][peat_told(said)]++;
         both_buffers += peat_apdu_bits(said) > 0 && peat_data_bits(said) > 0;
         if (peat_apdu_bits(said) > 0 && peat_data_bits(said) > 0)
@@ -611,22 +701,25 @@ static void all_seen(void)
 {
     unsigned side, state, dsc, w, x;
     unsigned long least = (unsigned long)-1;
-    for (side = 0; side < 2; side++) {
+    for (side = 0; side < KINDS; side++) {
         for (state = 0; state < 6; state++)
             for (dsc = 0; dsc < 2; dsc++) {
                 for (w = 0; w < FRESH; w++)
                     least = cells[side][state][dsc][w] < least ? cells[side][state][dsc][w] : least;
-                check(side == 0 ? dsc_starts[side][state][dsc] >= 100 : dsc_starts[side][state][dsc] == 0, "mode dsc hardly reached a state, or the ground end");
+                check(side % 2 == 0 ? dsc_starts[side][state][dsc] >= 100 : dsc_starts[side][state][dsc] == 0, "mode dsc hardly reached a state, or the ground end");
             }
         for (x = 0; x < 16; x++) {
             check((invoked[side][x] > 0) == (x <= PEAT_D_ABORT_REQUEST), "a primitive of the dialogue service that no call, or a wrong one, invokes");
             /* at an air record in FORWARD, which no run reaches, the confirmation is told too */
-            check((reported[side][x] > 0) == (x <= PEAT_FORWARD_CONFIRMATION && !(side == 0 && x == PEAT_FORWARD_INDICATION)),
+            check((reported[side][x] > 0) == (x <= PEAT_FORWARD_CONFIRMATION && !(side % 2 == 0 && x == PEAT_FORWARD_INDICATION)),
                 "a user primitive that no call, or a wrong one, invokes");
+            check(x == PEAT_SILENT || (bare[side][x] > 0) == (side >= 2 && (x == PEAT_D_START_RESPONSE || x == PEAT_D_END_REQUEST || x == PEAT_D_END_RESPONSE)),
+                "a primitive without user data that has some, or of type 22");
         }
     }
     check(both_buffers >= 100, "hardly an event filled both buffers");
-    printf("each call reached each side in each state and DSC %lu times or more\n", least);
+    check(!type_changed, "a call changed the type of its record");
+    printf("each call reached each side of each type in each state and DSC %lu times or more\n", least);
     check(least >= 100, "a call hardly reached a state");
 }
 
@@ -702,7 +795,7 @@ static void set_codes(struct args *a, enum which w)
     if (w == FORWARD_REQUEST)
         memcpy(a->n, heading, sizeof heading);
     if (w == FRESH)
-        a->n[3] = 1;
+        a->n[3] = 1, a->n[4] = PEAT_PROTECTED;
 }
 
 /* a number that many above the record's: is it stale for the call */
@@ -724,14 +817,14 @@ static void edges(void)
         struct args a;
         for (i = 0; i < 4; i++) /* both buffers, of each length; all that is read has no bytes; each side and state */
             for (j = 0; j < 4; j++)
-                for (k = 0; k < 24; k++) {
-                    set_record(&a, 1 + (unsigned)k % 2, (unsigned)k / 2 % 6);
+                for (k = 0; k < 48; k++) {
+                    set_record(&a, 1 + (unsigned)k % 4, (unsigned)k / 4 % 6);
                     lend(&a, 5, lengths[i]);
                     lend(&a, 6, lengths[j]);
                     set_codes(&a, (enum which)w);
                     a.number = first;
-                    a.message = k < 12 ? NONE : 0;
-                    a.given = k < 12 ? 0 : 1;
+                    a.message = k < 24 ? NONE : 0;
+                    a.given = k < 24 ? 0 : 1;
                     buffers &= agrees((enum which)w, &a, &said) && (w == FRESH || (said == 1) == (i < 3 || j < 3));
                 }
         for (k = 0; k < 2; k++) { /* all ranges of no bytes, the null pointer; then buffers alone */
@@ -782,14 +875,16 @@ static void edges(void)
 
 /* ---- the start: every record that the bytes can say, and others, with each mode and codes that are none, and with what else is refused */
 
-/* The record of a number below 896: each side, state and flag, and sides and states that are none. 1: it is a record. */
+#define RECORDS 1344
+
+/* The record of a number below RECORDS: each side and type, state and flag, and codes and states that are none. 1: it is a record. */
 static int numbered_record(struct args *a, unsigned n)
 {
     int i;
-    set_record(a, n % 4, n / 4 % 7);
+    set_record(a, n % 6, n / 6 % 7);
     for (i = 2; i < 7; i++)
-        a->rec.at[i] = (uint8_t)(n / 28 >> (i - 2) & 1);
-    return a->rec.at[0] != 0 && a->rec.at[0] != 3 && a->rec.at[1] != 6;
+        a->rec.at[i] = (uint8_t)(n / 42 >> (i - 2) & 1);
+    return a->rec.at[0] != 0 && a->rec.at[0] != 5 && a->rec.at[1] != 6;
 }
 
 /* A start with that record; a number below 432 says what else it is given, from 216 on a stale number. Answers what it must be answered. */
@@ -806,10 +901,10 @@ static unsigned numbered_start(struct args *a, unsigned n, unsigned v)
     a->message = bits[v / 24 % 3]; /* none, one of all the lent bits, one of more */
     lend(a, 5, PEAT_BUFFER_LEAST - (v / 72 == 1));
     lend(a, 6, PEAT_BUFFER_LEAST - (v / 72 == 2));
-    mode = a->n[0] == PEAT_CPDLC || (a->n[0] == PEAT_DSC && a->rec.at[0] == PEAT_AIR);
+    mode = a->n[0] == PEAT_CPDLC || (a->n[0] == PEAT_DSC && a->rec.at[0] % 2 == 1);
     if (v / 72 != 0)
         return PEAT_ROOM;
-    if (!record || !mode || v / 6 % 4 != 0 || a->message == 9)
+    if (!record || !mode || v / 6 % 4 != 0 || a->message == 9 || (is_plain(a) && a->message == 8)) /* of type 2 eight bits are no message */
         return PEAT_SHAPE;
     if (old)
         return PEAT_STALE;
@@ -821,7 +916,7 @@ static void start_everywhere(void)
     unsigned long calls = 0, taken[2] = {0, 0};
     unsigned n, v;
     int right = 1;
-    for (n = 0; n < 896; n++)
+    for (n = 0; n < RECORDS; n++)
         for (v = 0; v < 432; v++, calls++) {
             struct args a;
             uint64_t said;
@@ -1084,7 +1179,7 @@ static void message_edges(void)
             lend(&a, w == READ_MESSAGE ? 0 : 1, 132);
             lend(&a, 4, 64);
             lend(&a, 5, PEAT_BUFFER_LEAST);
-            codes &= agrees((enum which)w, &a, &said) && (i < (w == FORWARD_PART ? 4 : 2) || said == PEAT_SHAPE);
+            codes &= agrees((enum which)w, &a, &said) && (i < (w == FORWARD_PART ? 5 : 2) || said == PEAT_SHAPE);
         }
         memset(&a, 0, sizeof a);
         nothing &= agrees((enum which)w, &a, &said) && said == PEAT_ROOM;
@@ -1109,6 +1204,9 @@ static void message_edges(void)
    0 100, 0011110 1010 01110, 01100 011110 111011, 100 and seven bits for each character, 24 bits, 1, 00001100, the bits. */
 static const uint8_t by_hand[] = {0x43, 0xD4, 0xE6, 0x3D, 0xDC, 0x85, 0x06, 0xBB, 0x16, 0x4C, 0xD0, 0x00, 0x48, 0xE1, 0x9E, 0x80};
 
+/* The same in application type 2 with the element dM0 in place: 0, 000 and 0 0000000 behind the 1. */
+static const uint8_t plain_by_hand[] = {0x43, 0xD4, 0xE6, 0x3D, 0xDC, 0x85, 0x06, 0xBB, 0x16, 0x4C, 0xD0, 0x00, 0x48, 0xE0, 0x00};
+
 static uint64_t reads_apdu(uint64_t type, const uint8_t *bytes, size_t len, int *ok)
 {
     struct args a;
@@ -1126,7 +1224,7 @@ static void apdu_edges(void)
 {
     static const struct {
         uint64_t type;
-        uint8_t bytes[4];
+        uint8_t bytes[8];
         size_t len;
         unsigned refusal, position;
     } hand[] = {
@@ -1161,8 +1259,26 @@ static void apdu_edges(void)
         {PEAT_AIRCRAFT_PDUS, {0x70, 0x00, 0x07, 0x00}, 4, PEAT_LENGTH_FORM, 22}, /* in fragments */
         {PEAT_AIRCRAFT_PDUS, {0x70, 0x00, 0x04, 0x04}, 4, PEAT_SHORT, 30}, /* an octet that is not there */
         {PEAT_AIRCRAFT_PDUS, {0x70, 0x00, 0x04, 0x01}, 4, PEAT_TAIL, 31}, /* the padding behind an addition of no octets */
+        /* application type 2: a header of 41 bits in place, 0, the count in three bits, 0 and the element's index */
+        {PEAT_PLAIN_AIRCRAFT_PDUS, {0x0E}, 1, PEAT_RANGE, 4},           /* user reason 7 */
+        {PEAT_PLAIN_GROUND_PDUS, {0x07}, 1, PEAT_RANGE, 5},
+        {PEAT_PLAIN_GROUND_PDUS, {0x20}, 1, PEAT_TAKEN, 0},             /* a start without a message */
+        {PEAT_PLAIN_GROUND_PDUS, {0x21}, 1, PEAT_TAIL, 7},
+        {PEAT_PLAIN_GROUND_PDUS, {0x28}, 1, PEAT_SHORT, 7},             /* a message, cut behind its presence bits */
+        {PEAT_PLAIN_AIRCRAFT_PDUS, {0x40}, 1, PEAT_TAKEN, 0},
+        {PEAT_PLAIN_AIRCRAFT_PDUS, {0x58}, 1, PEAT_TAKEN, 0},           /* in mode dsc */
+        {PEAT_PLAIN_AIRCRAFT_PDUS, {0x50}, 1, PEAT_DEFAULT, 4},
+        {PEAT_PLAIN_AIRCRAFT_PDUS, {0x60, 0, 0, 0, 0, 0, 0x00}, 7, PEAT_TAKEN, 0},        /* dM0 */
+        {PEAT_PLAIN_AIRCRAFT_PDUS, {0x60, 0, 0, 0, 0, 0, 0x00, 0}, 8, PEAT_TAIL, 56},     /* a byte behind it */
+        {PEAT_PLAIN_AIRCRAFT_PDUS, {0x60, 0, 0, 0, 0, 0}, 6, PEAT_SHORT, 48},             /* cut before its element */
+        {PEAT_PLAIN_AIRCRAFT_PDUS, {0x60, 0, 0, 0, 0, 0x08, 0}, 7, PEAT_NOT_CARRIED, 44}, /* constrained data */
+        {PEAT_PLAIN_AIRCRAFT_PDUS, {0x60, 0, 0, 0, 0, 0x05, 0}, 7, PEAT_RANGE, 45},       /* six elements */
+        {PEAT_PLAIN_AIRCRAFT_PDUS, {0x60, 0, 0, 0, 0, 0, 0x80}, 7, PEAT_EXTENSION, 48},   /* of the element */
+        {PEAT_PLAIN_AIRCRAFT_PDUS, {0x60, 0, 0, 0, 0, 0, 0x0B}, 7, PEAT_NOT_CARRIED, 49}, /* dM11 */
+        {PEAT_PLAIN_AIRCRAFT_PDUS, {0x60, 0, 0, 0, 0, 0, 0x7F}, 7, PEAT_RANGE, 49},       /* element 127 */
+        {PEAT_PLAIN_AIRCRAFT_PDUS, {0x48, 0, 0, 0, 0, 0, 0x02, 0xC0}, 8, PEAT_NOT_CARRIED, 51}, /* dM11 in a start */
     };
-    uint8_t bytes[4];
+    uint8_t bytes[8];
     uint64_t said;
     size_t i, j;
     int ok = 1, codes = 1, positions = 1, cuts = 1;
@@ -1178,8 +1294,8 @@ static void apdu_edges(void)
         }
     }
     for (i = 0; i < 64; i++)
-        codes &= reads_apdu(((uint64_t)1 << i) | 4, hand[6].bytes, 1, &ok) == PEAT_SHAPE;
-    codes &= reads_apdu(0, NULL, 0, &ok) == PEAT_SHAPE && reads_apdu(3, NULL, 0, &ok) == PEAT_SHAPE && reads_apdu(PEAT_NONE, NULL, 0, &ok) == PEAT_SHAPE;
+        codes &= reads_apdu(((uint64_t)1 << i) | 8, hand[6].bytes, 1, &ok) == PEAT_SHAPE;
+    codes &= reads_apdu(0, NULL, 0, &ok) == PEAT_SHAPE && reads_apdu(5, NULL, 0, &ok) == PEAT_SHAPE && reads_apdu(PEAT_NONE, NULL, 0, &ok) == PEAT_SHAPE;
     memcpy(bytes, "\x58\x00\x00", 3); /* startdown, mode dsc, a check of no bits */
     said = reads_apdu(PEAT_AIRCRAFT_PDUS, bytes, 2, &ok);
     codes &= peat_refusal(said) == PEAT_TAKEN && peat_position(said) == 0 && peat_apdu_kind(said) == PEAT_APDU_START && peat_apdu_number(said) == 1 && peat_apdu_has_data(said) == 1;
@@ -1189,6 +1305,16 @@ static void apdu_edges(void)
     codes &= peat_refusal(said) == PEAT_TAKEN && peat_apdu_kind(said) == PEAT_APDU_FORWARD && peat_apdu_number(said) == 0 && peat_apdu_has_data(said) == 0;
     for (i = 0; i < sizeof by_hand; i++)
         cuts &= peat_position(reads_apdu(PEAT_GROUND_PDUS, by_hand, i, &ok)) <= 8 * i;
+    said = reads_apdu(PEAT_PLAIN_GROUND_PDUS, plain_by_hand, sizeof plain_by_hand, &ok);
+    codes &= peat_refusal(said) == PEAT_TAKEN && peat_apdu_kind(said) == PEAT_APDU_FORWARD && peat_apdu_has_data(said) == 0;
+    for (i = 0; i < sizeof plain_by_hand; i++)
+        cuts &= peat_position(reads_apdu(PEAT_PLAIN_GROUND_PDUS, plain_by_hand, i, &ok)) <= 8 * i;
+    said = reads_apdu(PEAT_PLAIN_GROUND_PDUS, (const uint8_t *)"\x20", 1, &ok);
+    codes &= peat_apdu_kind(said) == PEAT_APDU_START && peat_apdu_has_data(said) == 0;
+    said = reads_apdu(PEAT_PLAIN_AIRCRAFT_PDUS, (const uint8_t *)"\x58", 1, &ok);
+    codes &= peat_apdu_kind(said) == PEAT_APDU_START && peat_apdu_number(said) == 1 && peat_apdu_has_data(said) == 0;
+    said = reads_apdu(PEAT_PLAIN_AIRCRAFT_PDUS, (const uint8_t *)"\x60\0\0\0\0\0\0", 7, &ok);
+    codes &= peat_apdu_kind(said) == PEAT_APDU_SEND && peat_apdu_has_data(said) == 1;
     said = reads_apdu(PEAT_GROUND_PDUS, (const uint8_t *)"\x54", 1, &ok);
     codes &= peat_refusal(said) == PEAT_TAKEN && peat_apdu_kind(said) == PEAT_APDU_FORWARD_RESPONSE && peat_apdu_number(said) == PEAT_VERSION_NOT_EQUAL &&
              peat_apdu_has_data(said) == 0;
@@ -1241,12 +1367,16 @@ static int told(uint64_t answer, unsigned primitive, unsigned parameter, unsigne
 
 static int states(unsigned a, unsigned g) { return peat_record_state(air) == a && peat_record_state(ground) == g; }
 
-static void fresh(void)
+static void fresh_of(unsigned type)
 {
-    check(peat_fresh(AIR_REC, PEAT_AIR, PEAT_NO_SECURITY, PEAT_FORWARDS_NOT, 1) == 0 &&
-        peat_fresh(GROUND_REC, PEAT_GROUND, PEAT_NO_SECURITY, PEAT_FORWARDS_NOT, 1) == 0, "fresh records");
+    check(peat_fresh(AIR_REC, PEAT_AIR, PEAT_NO_SECURITY, PEAT_FORWARDS_NOT, 1, type) == 0 &&
+        peat_fresh(GROUND_REC, PEAT_GROUND, PEAT_NO_SECURITY, PEAT_FORWARDS_NOT, 1, type) == 0, "fresh records");
     check(states(PEAT_IDLE, PEAT_IDLE) && peat_record_highest(air) == 0 && peat_record_number(air) == 0 && !peat_record_timer(air) && !peat_record_active(air), "a fresh record is IDLE");
+    check(peat_record_type(air) == type && peat_record_type(ground) == type && peat_record_side(air) == PEAT_AIR && peat_record_side(ground) == PEAT_GROUND,
+        "a record says its type and its side");
 }
+
+static void fresh(void) { fresh_of(PEAT_PROTECTED); }
 
 /* the ground end opens, the air end accepts */
 static void opens(void)
@@ -1453,8 +1583,8 @@ static const uint8_t forwarded[] = {0xF4, 0x00}; /* twelve bits */
 
 static void centres(unsigned forwarding, unsigned version, unsigned other_version)
 {
-    check(peat_fresh(GROUND_REC, PEAT_GROUND, PEAT_NO_SECURITY, PEAT_FORWARDS_NOT, version) == 0 &&
-        peat_fresh(OTHER_REC, PEAT_GROUND, PEAT_NO_SECURITY, forwarding, other_version) == 0, "fresh records of two centres");
+    check(peat_fresh(GROUND_REC, PEAT_GROUND, PEAT_NO_SECURITY, PEAT_FORWARDS_NOT, version, PEAT_PROTECTED) == 0 &&
+        peat_fresh(OTHER_REC, PEAT_GROUND, PEAT_NO_SECURITY, forwarding, other_version, PEAT_PROTECTED) == 0, "fresh records of two centres");
     check(peat_record_forwards(other) == forwarding && peat_record_version(other) == other_version && peat_record_version(ground) == version,
         "a record says its version and whether forwarding is supported");
 }
@@ -1502,14 +1632,15 @@ static void takes_apart(size_t bytes)
     }
     check(right && peat_forward_bytes(12 << 8) == 2 && out[0] == 0xF4 && out[1] == 0, "each part of a forward message");
     memset(out, 0xC3, sizeof out);
-    right = peat_read_forward(delivered, bytes, PEAT_ARRAY(heading), PEAT_ARRAY(out)) == 12 << 8;
+    right = peat_read_forward(delivered, bytes, PEAT_ARRAY(heading), PEAT_ARRAY(out), PEAT_PROTECTED) == 12 << 8;
     for (i = 0; i < PEAT_FORWARD_MESSAGE; i++)
         right &= peat_heading_value(heading, (enum peat_forward_part)i) == want[i];
     check(right && out[0] == 0xF4 && out[1] == 0 && out[2] == 0xC3, "all parts of a forward message at once");
     memcpy(before, heading, sizeof before);
-    check(peat_refusal(peat_read_forward(delivered, bytes - 1, PEAT_ARRAY(heading), PEAT_ARRAY(out))) == PEAT_SHORT &&
-        peat_read_forward(delivered, bytes, heading, sizeof heading - 1, PEAT_ARRAY(out)) == PEAT_SHAPE &&
-        peat_read_forward(delivered, bytes, heading, sizeof heading - 1, out, sizeof out - 1) == PEAT_ROOM &&
+    check(peat_refusal(peat_read_forward(delivered, bytes - 1, PEAT_ARRAY(heading), PEAT_ARRAY(out), PEAT_PROTECTED)) == PEAT_SHORT &&
+        peat_read_forward(delivered, bytes, heading, sizeof heading - 1, PEAT_ARRAY(out), PEAT_PROTECTED) == PEAT_SHAPE &&
+        peat_read_forward(delivered, bytes, PEAT_ARRAY(heading), PEAT_ARRAY(out), 21) == PEAT_SHAPE &&
+        peat_read_forward(delivered, bytes, heading, sizeof heading - 1, out, sizeof out - 1, 21) == PEAT_ROOM &&
         memcmp(before, heading, sizeof before) == 0, "one that is cut, a short heading, a short buffer; the heading stays");
     check(peat_flight_character(want[7], 6, 0) == 'B' && peat_flight_character(want[7], 6, 5) == '3', "the characters of the flight identification");
     check(peat_refusal(peat_forward_part(PEAT_FORWARD_YEAR, delivered, bytes - 1, PEAT_ARRAY(out))) == PEAT_SHORT &&
@@ -1617,7 +1748,7 @@ static void forward_everywhere(void)
     unsigned long calls = 0, taken = 0;
     unsigned n, v, w;
     int right = 1;
-    for (n = 0; n < 896; n++)
+    for (n = 0; n < RECORDS; n++)
         for (v = 0; v < 9; v++)
             for (w = 0; w < 12; w++, calls++) {
                 static const uint8_t response[] = {0x50, 0x52, 0x54};
@@ -1633,8 +1764,11 @@ static void forward_everywhere(void)
                 lend(&a, 6, PEAT_BUFFER_LEAST);
                 a.number = call != D_START_CONFIRMATION;
                 a.given = 1;
-                lend(&a, 4, call == D_START_INDICATION ? sizeof by_hand : 1);
-                memcpy(a.bytes.at, call == D_START_INDICATION ? by_hand : &response[w % 3], a.bytes.len);
+                lend(&a, 2, 2); /* twelve bits 0: as elements dM0 */
+                memset(a.msgs.at, 0, 2);
+                a.message = 12;
+                lend(&a, 4, call != D_START_INDICATION ? 1 : is_plain(&a) ? sizeof plain_by_hand : sizeof by_hand);
+                memcpy(a.bytes.at, call != D_START_INDICATION ? &response[w % 3] : is_plain(&a) ? plain_by_hand : by_hand, a.bytes.len);
                 if (call == D_START_INDICATION) { /* of a facility, with a version: none, and two */
                     a.n[0] = PEAT_FACILITY, a.n[1] = a.rec.at[PEAT_RECORD_POLICY], a.n[2] = a.n[3] = 1, a.n[4] = 0;
                     a.n[5] = w == 1 ? PEAT_NO_VERSION : versions[w - 1];
@@ -1660,7 +1794,7 @@ static void largest_forward(void)
     n = sent(peat_d_start_indication(OTHER_REC, 1, PEAT_FACILITY, 0, 1, 1, 0, 255, LINE, BUFFERS));
     check(peat_told(n) == PEAT_FORWARD_INDICATION && peat_data_bits(n) == 16516, "it is delivered whole");
     memcpy(delivered, second, peat_data_bytes(n));
-    n = peat_read_forward(delivered, peat_data_bytes(n), PEAT_ARRAY(heading), PEAT_ARRAY(out));
+    n = peat_read_forward(delivered, peat_data_bytes(n), PEAT_ARRAY(heading), PEAT_ARRAY(out), PEAT_PROTECTED);
     check(peat_heading_value(heading, PEAT_FORWARD_FLIGHT) == flight && peat_forward_value(n) == 16383 && peat_forward_bytes(n) == 2048 && memcmp(out, text, 2047) == 0, "and taken apart");
     centres(PEAT_FORWARDS, 255, 255);
     check(peat_forward_request(GROUND_REC, 1, 0, 0, 2095, 12, 31, 23, 59, 59, 8, flight, 0, 1, text, 2049, 16384, BUFFERS) == PEAT_SHAPE, "16,384 bits");
@@ -1689,6 +1823,169 @@ static void largest(void)
     check(peat_start(AIR_REC, number = above(), PEAT_CPDLC, 0, 0, ids, 16, text, 2048, 16383, checks, 7, 64, BUFFERS) == PEAT_SHAPE, "a check that its bytes do not hold");
 }
 
+/* ---- application type 2 */
+
+#define NO_LINE PEAT_NO_USER_DATA, NULL, 0
+
+/* dM0 and uM0 of 1996-01-01: a header of 41 bits, 0, 000, 0 and the index in seven or eight bits */
+static const uint8_t wilco[7];
+enum { WILCO_BITS = 53, UNABLE_BITS = 54 };
+#define WILCO NULL, 0, wilco, sizeof wilco, WILCO_BITS, NULL, 0, 0
+#define UNABLE NULL, 0, wilco, sizeof wilco, UNABLE_BITS, NULL, 0, 0
+
+/* a whole dialogue in which start, acceptance, end and its answer bring nothing; in mode dsc the aircraft ends it */
+static void plain_bare(unsigned mode)
+{
+    uint64_t n;
+    fresh_of(PEAT_PLAIN);
+    n = sent(peat_start(AIR_REC, number = above(), mode, PEAT_CLASS_C, PEAT_SECURED_EXCHANGE, BARE, BUFFERS));
+    check(invokes(n, PEAT_D_START_REQUEST, PEAT_CLASS_C) && peat_invoked_security(n) == PEAT_NO_SECURITY && peat_apdu_bits(n) == 5 + mode && line[0] == (mode ? 0x58 : 0x40),
+        "a start of type 2 without a message: no security is sent");
+    memset(second, 0xC3, sizeof second);
+    n = peat_d_start_indication(GROUND_REC, number, PEAT_AIRCRAFT, PEAT_SECURED_EXCHANGE, 1, 1, PEAT_CLASS_C, PEAT_NO_VERSION, LINE, BUFFERS);
+    check(told(n, PEAT_START_INDICATION, PEAT_CLASS_C, mode) && peat_data_bits(n) == 0 && second[0] == 0xC3, "it is told with no bits, and its security is not compared");
+    n = mode ? peat_dsc_start_response(GROUND_REC, PEAT_ACCEPTED, UNABLE, BUFFERS) : peat_start_response(GROUND_REC, PEAT_ACCEPTED, UNABLE, BUFFERS);
+    check(n == PEAT_SHAPE, "an acceptance of type 2 has no message");
+    n = mode ? peat_dsc_start_response(GROUND_REC, PEAT_ACCEPTED, BARE, BUFFERS) : peat_start_response(GROUND_REC, PEAT_ACCEPTED, BARE, BUFFERS);
+    check(invokes(n, PEAT_D_START_RESPONSE, PEAT_ACCEPTED) && peat_apdu_bits(n) == 0, "an acceptance of type 2 has no user data");
+    n = peat_d_start_confirmation(AIR_REC, number, PEAT_ACCEPTED, PEAT_DS_USER, PEAT_SECURED_EXCHANGE, PEAT_NO_VERSION, NO_LINE, BUFFERS);
+    check(told(n, PEAT_START_CONFIRMATION, PEAT_ACCEPTED, mode) && peat_data_bits(n) == 0 && states(PEAT_DIALOGUE, PEAT_DIALOGUE), "it is taken without user data");
+    n = mode ? peat_dsc_end_request(AIR_REC, BARE, BUFFERS) : peat_end_request(GROUND_REC, BARE, BUFFERS);
+    check(invokes(n, PEAT_D_END_REQUEST, 0) && peat_apdu_bits(n) == 0, "an end of type 2 without a message has no user data");
+    n = mode ? peat_d_end_indication(GROUND_REC, number, NO_LINE, BUFFERS) : peat_d_end_indication(AIR_REC, number, NO_LINE, BUFFERS);
+    check(told(n, PEAT_END_INDICATION, 0, mode) && peat_data_bits(n) == 0 && states(PEAT_END, PEAT_END), "and is taken without any");
+    n = mode ? peat_dsc_end_response(GROUND_REC, PEAT_ACCEPTED, BARE, BUFFERS) : peat_end_response(AIR_REC, PEAT_ACCEPTED, BARE, BUFFERS);
+    check(invokes(n, PEAT_D_END_RESPONSE, PEAT_ACCEPTED) && peat_apdu_bits(n) == 0, "its answer too");
+    n = mode ? peat_d_end_confirmation(AIR_REC, number, PEAT_ACCEPTED, NO_LINE, BUFFERS) : peat_d_end_confirmation(GROUND_REC, number, PEAT_ACCEPTED, NO_LINE, BUFFERS);
+    check(told(n, PEAT_END_CONFIRMATION, PEAT_ACCEPTED, mode) && states(PEAT_IDLE, PEAT_IDLE), "and the confirmation");
+    check(peat_record_type(air) == PEAT_PLAIN && peat_record_type(ground) == PEAT_PLAIN, "the type is as it was");
+}
+
+/* a message with the start, the rejection, the end: what is delivered is the message, ready to be read */
+static int is_delivered(uint64_t n, unsigned direction, unsigned bits)
+{
+    uint8_t message[PEAT_INNER_BYTES], text[PEAT_BUFFER_LEAST];
+    return peat_data_bits(n) == bits && memcmp(second, wilco, (bits + 7) / 8) == 0 &&
+           peat_refusal(peat_read_message(direction, second, peat_data_bytes(n), peat_data_bits(n), PEAT_ARRAY(message), PEAT_ARRAY(text))) == PEAT_TAKEN;
+}
+
+static void plain_with_messages(void)
+{
+    uint64_t n;
+    fresh_of(PEAT_PLAIN);
+    n = sent(peat_start(GROUND_REC, number = above(), PEAT_CPDLC, 0, PEAT_NO_SECURITY, UNABLE, BUFFERS));
+    check(peat_apdu_bits(n) == 5 + UNABLE_BITS && line[0] == 0x28, "a start of type 2 with a message");
+    n = peat_d_start_indication(AIR_REC, number, PEAT_FACILITY, PEAT_NO_SECURITY, 1, 1, 0, PEAT_NO_VERSION, LINE, BUFFERS);
+    check(told(n, PEAT_START_INDICATION, 0, 0) && is_delivered(n, PEAT_UPLINK, UNABLE_BITS), "the message alone is delivered");
+    n = sent(peat_start_response(AIR_REC, PEAT_REJECTED, WILCO, BUFFERS));
+    check(invokes(n, PEAT_D_START_RESPONSE, PEAT_REJECTED) && peat_apdu_bits(n) == 3 + WILCO_BITS && line[0] == 0x60, "a rejection with its reason");
+    n = peat_d_start_confirmation(GROUND_REC, number, PEAT_REJECTED, PEAT_DS_USER, PEAT_NO_SECURITY, PEAT_NO_VERSION, LINE, BUFFERS);
+    check(told(n, PEAT_START_CONFIRMATION, PEAT_REJECTED, 0) && is_delivered(n, PEAT_DOWNLINK, WILCO_BITS) && states(PEAT_IDLE, PEAT_IDLE), "it is delivered");
+    sent(peat_start(GROUND_REC, number = above(), PEAT_CPDLC, 0, PEAT_NO_SECURITY, BARE, BUFFERS));
+    peat_d_start_indication(AIR_REC, number, PEAT_FACILITY, PEAT_NO_SECURITY, 1, 1, 0, PEAT_NO_VERSION, LINE, BUFFERS);
+    n = peat_start_response(AIR_REC, PEAT_REJECTED, BARE, BUFFERS);
+    check(invokes(n, PEAT_D_START_RESPONSE, PEAT_REJECTED) && peat_apdu_bits(n) == 0, "a rejection without a reason has no user data");
+    n = peat_d_start_confirmation(GROUND_REC, number, PEAT_REJECTED, PEAT_DS_USER, PEAT_NO_SECURITY, PEAT_NO_VERSION, NO_LINE, BUFFERS);
+    check(told(n, PEAT_START_CONFIRMATION, PEAT_REJECTED, 0) && peat_data_bits(n) == 0 && states(PEAT_IDLE, PEAT_IDLE), "and is taken without any");
+    sent(peat_start(GROUND_REC, number = above(), PEAT_CPDLC, 0, PEAT_NO_SECURITY, BARE, BUFFERS));
+    peat_d_start_indication(AIR_REC, number, PEAT_FACILITY, PEAT_NO_SECURITY, 1, 1, 0, PEAT_NO_VERSION, LINE, BUFFERS);
+    peat_start_response(AIR_REC, PEAT_ACCEPTED, BARE, BUFFERS);
+    peat_d_start_confirmation(GROUND_REC, number, PEAT_ACCEPTED, PEAT_DS_USER, PEAT_NO_SECURITY, PEAT_NO_VERSION, NO_LINE, BUFFERS);
+    n = sent(peat_message_request(AIR_REC, 1, WILCO, BUFFERS));
+    check(invokes(n, PEAT_D_DATA_REQUEST, 0) && peat_apdu_bits(n) == 3 + WILCO_BITS, "a message of type 2 down");
+    check(is_delivered(peat_d_data_indication(GROUND_REC, number, LINE, BUFFERS), PEAT_DOWNLINK, WILCO_BITS), "it is delivered");
+    check(peat_message_request(GROUND_REC, 1, BARE, BUFFERS) == PEAT_NO_MESSAGE, "a message request needs one");
+    n = sent(peat_end_request(GROUND_REC, UNABLE, BUFFERS));
+    check(peat_apdu_bits(n) == 4 + UNABLE_BITS && is_delivered(peat_d_end_indication(AIR_REC, number, LINE, BUFFERS), PEAT_UPLINK, UNABLE_BITS), "an end with a message");
+}
+
+/* both ends in DIALOGUE, or the ground end in START-REQ */
+static void plain_opens(int answered)
+{
+    fresh_of(PEAT_PLAIN);
+    sent(peat_start(GROUND_REC, number = above(), PEAT_CPDLC, 0, PEAT_NO_SECURITY, BARE, BUFFERS));
+    peat_d_start_indication(AIR_REC, number, PEAT_FACILITY, PEAT_NO_SECURITY, 1, 1, 0, PEAT_NO_VERSION, LINE, BUFFERS);
+    peat_start_response(AIR_REC, PEAT_ACCEPTED, BARE, BUFFERS);
+    if (answered)
+        peat_d_start_confirmation(GROUND_REC, number, PEAT_ACCEPTED, PEAT_DS_USER, PEAT_NO_SECURITY, PEAT_NO_VERSION, NO_LINE, BUFFERS);
+}
+
+static void plain_refused(void)
+{
+    static const uint8_t octet = 1, other[7] = {0, 0, 0, 0, 0, 0, 0x58}; /* dM11, which is not carried */
+    uint8_t before[PEAT_RECORD_BYTES];
+    uint64_t reason;
+    int right = 1;
+    plain_opens(1);
+    memcpy(before, air, sizeof before);
+    check(peat_message_request(AIR_REC, 1, NULL, 0, wilco, sizeof wilco, WILCO_BITS + 1, NULL, 0, 0, BUFFERS) == PEAT_SHAPE, "a bit too many");
+    check(peat_message_request(AIR_REC, 1, NULL, 0, wilco, sizeof wilco, WILCO_BITS - 1, NULL, 0, 0, BUFFERS) == PEAT_SHAPE, "a bit too few");
+    check(peat_message_request(AIR_REC, 1, NULL, 0, wilco, sizeof wilco - 1, WILCO_BITS, NULL, 0, 0, BUFFERS) == PEAT_SHAPE, "more bits than the lent bytes hold");
+    check(peat_message_request(AIR_REC, 1, UNABLE, BUFFERS) == PEAT_SHAPE, "a message of the other direction");
+    check(peat_message_request(AIR_REC, 1, NULL, 0, other, sizeof other, WILCO_BITS, NULL, 0, 0, BUFFERS) == PEAT_SHAPE, "an element that is not carried");
+    check(peat_message_request(AIR_REC, 1, NULL, 0, wilco, sizeof wilco, 0, NULL, 0, 0, BUFFERS) == PEAT_SHAPE, "a message of no bits");
+    check(peat_message_request(AIR_REC, 1, &octet, 1, wilco, sizeof wilco, WILCO_BITS, NULL, 0, 0, BUFFERS) == PEAT_SHAPE, "an identifier of one octet");
+    check(peat_message_request(AIR_REC, 1, NULL, 0, wilco, sizeof wilco, WILCO_BITS, &octet, 1, 1, BUFFERS) == PEAT_SHAPE, "a check of one bit");
+    for (reason = 7; reason <= 13; reason++)
+        right &= peat_user_abort(AIR_REC, reason, BUFFERS) == PEAT_SHAPE;
+    check(right, "user abort reasons 7 to 12 are of type 22");
+    check(memcmp(before, air, sizeof before) == 0, "and the record stays");
+    check(invokes(peat_user_abort(AIR_REC, PEAT_INVALID_RESPONSE, BUFFERS), PEAT_D_ABORT_REQUEST, PEAT_USER) && first[0] == 0x0C, "reason 6, in three bits");
+    right = 1;
+    for (reason = 0; reason < 300; reason++)
+        right &= (peat_fresh(AIR_REC, PEAT_AIR, PEAT_NO_SECURITY, PEAT_FORWARDS_NOT, 1, reason) == 0) == (reason == 2 || reason == 22);
+    check(right, "a type other than 2 or 22");
+}
+
+static void plain_misused(void)
+{
+    static const uint8_t cut[6] = {0x60}, element[7] = {0x60, 0, 0, 0, 0, 0, 0x0B};
+    uint64_t n;
+    plain_opens(0);
+    n = peat_d_start_confirmation(GROUND_REC, number, PEAT_ACCEPTED, PEAT_DS_USER, PEAT_NO_SECURITY, PEAT_NO_VERSION, PEAT_USER_DATA, (const uint8_t *)"\x60\0\0\0\0\0\0", 7, BUFFERS);
+    check(invokes(n, PEAT_D_ABORT_REQUEST, PEAT_PROVIDER) && peat_told_parameter(n) == PEAT_PROTOCOL_ERROR && first[0] == 0x13, "an acceptance with user data is not permitted");
+    plain_opens(0);
+    n = peat_d_start_confirmation(GROUND_REC, number, PEAT_ACCEPTED, PEAT_DS_USER, PEAT_NO_SECURITY, PEAT_NO_VERSION, PEAT_USER_DATA, cut, sizeof cut, BUFFERS);
+    check(invokes(n, PEAT_D_ABORT_REQUEST, PEAT_PROVIDER) && peat_told_parameter(n) == PEAT_INVALID_PDU && first[0] == 0x12, "one with what can not be read is no valid PDU");
+    plain_opens(1);
+    n = peat_d_data_indication(GROUND_REC, number, NO_LINE, BUFFERS);
+    check(invokes(n, PEAT_D_ABORT_REQUEST, PEAT_PROVIDER) && peat_told_parameter(n) == PEAT_NOT_PERMITTED_PDU && first[0] == 0x17, "a D-DATA without user data: expected-PDU-missing");
+    plain_opens(1);
+    n = peat_d_data_indication(GROUND_REC, number, PEAT_USER_DATA, element, sizeof element, BUFFERS);
+    check(invokes(n, PEAT_D_ABORT_REQUEST, PEAT_PROVIDER) && peat_told_parameter(n) == PEAT_INVALID_PDU && first[0] == 0x12, "an element that is not carried is no valid PDU");
+    fresh_of(PEAT_PLAIN);
+    n = peat_d_start_indication(AIR_REC, 1, PEAT_FACILITY, PEAT_NO_SECURITY, 1, 1, 0, PEAT_NO_VERSION, NO_LINE, BUFFERS);
+    check(invokes(n, PEAT_D_ABORT_REQUEST, PEAT_PROVIDER) && first[0] == 0x2E, "a D-START without user data: expected-PDU-missing");
+}
+
+/* a forward of type 2 from one centre to another: the elements in place */
+static void plain_forward(void)
+{
+    static uint8_t out[PEAT_BUFFER_LEAST], delivered[64], heading[PEAT_HEADING_BYTES];
+    uint64_t n;
+    check(peat_fresh(GROUND_REC, PEAT_GROUND, PEAT_NO_SECURITY, PEAT_FORWARDS_NOT, 3, PEAT_PLAIN) == 0 &&
+        peat_fresh(OTHER_REC, PEAT_GROUND, PEAT_NO_SECURITY, PEAT_FORWARDS, 3, PEAT_PLAIN) == 0, "fresh records of two centres of type 2");
+    check(peat_forward_request(GROUND_REC, 1, PEAT_CLASS_B, PEAT_NO_SECURITY, HEADING, PEAT_ARRAY(forwarded), 12, BUFFERS) == PEAT_SHAPE, "bits that are no elements");
+    check(peat_forward_request(GROUND_REC, 1, PEAT_CLASS_B, PEAT_NO_SECURITY, HEADING, wilco, 2, 13, BUFFERS) == PEAT_SHAPE, "a bit more than the elements");
+    n = sent(peat_forward_request(GROUND_REC, 1, PEAT_CLASS_B, PEAT_SECURED_EXCHANGE, HEADING, wilco, 2, 12, BUFFERS));
+    check(invokes(n, PEAT_D_START_REQUEST, PEAT_CLASS_B) && peat_invoked_security(n) == PEAT_NO_SECURITY && peat_apdu_bits(n) == 119 && line_len == sizeof plain_by_hand &&
+        memcmp(line, plain_by_hand, sizeof plain_by_hand) == 0, "a forward of type 2, as by hand");
+    n = sent(peat_d_start_indication(OTHER_REC, 1, PEAT_FACILITY, PEAT_NO_SECURITY, 1, 1, PEAT_CLASS_B, 3, LINE, BUFFERS));
+    check(peat_told(n) == PEAT_FORWARD_INDICATION && peat_data_bits(n) == 115 && first[0] == 0x50, "it is delivered, and answered with success");
+    memcpy(delivered, second, peat_data_bytes(n));
+    check(peat_read_forward(delivered, peat_data_bytes(n), PEAT_ARRAY(heading), PEAT_ARRAY(out), PEAT_PLAIN) == 12 << 8 && peat_heading_value(heading, PEAT_FORWARD_YEAR) == 2026 &&
+        peat_heading_value(heading, PEAT_FORWARD_DIRECTION) == PEAT_FORWARD_DOWNLINK && out[0] == 0 && out[1] == 0, "and taken apart");
+    check(peat_forward_value(peat_forward_part(PEAT_FORWARD_PLAIN + PEAT_FORWARD_MESSAGE, delivered, peat_data_bytes(n), PEAT_ARRAY(out))) == 12 &&
+        peat_forward_value(peat_forward_part(PEAT_FORWARD_PLAIN + PEAT_FORWARD_DAY, delivered, peat_data_bytes(n), PEAT_ARRAY(out))) == 15 &&
+        peat_forward_part(15, delivered, peat_data_bytes(n), PEAT_ARRAY(out)) == PEAT_SHAPE && peat_forward_part(27, delivered, peat_data_bytes(n), PEAT_ARRAY(out)) == PEAT_SHAPE,
+        "part by part");
+    n = peat_d_start_confirmation(GROUND_REC, 1, PEAT_REJECTED, PEAT_DS_USER, PEAT_NO_SECURITY, PEAT_NO_VERSION, LINE, BUFFERS);
+    check(peat_told(n) == PEAT_FORWARD_CONFIRMATION && peat_told_parameter(n) == PEAT_FORWARD_SUCCESS, "the sending centre hears of it");
+    peat_forward_request(GROUND_REC, 2, PEAT_CLASS_B, PEAT_NO_SECURITY, HEADING, wilco, 2, 12, BUFFERS);
+    n = peat_d_start_confirmation(GROUND_REC, 2, PEAT_REJECTED, PEAT_DS_USER, PEAT_NO_SECURITY, PEAT_NO_VERSION, NO_LINE, BUFFERS);
+    check(invokes(n, PEAT_D_ABORT_REQUEST, PEAT_PROVIDER) && first[0] == 0x17, "in FORWARD the response is never left out");
+}
+
 int main(int argc, char **argv)
 {
     unsigned long calls = argc > 1 ? strtoul(argv[1], NULL, 10) : 1000000;
@@ -1705,6 +2002,12 @@ int main(int argc, char **argv)
     forward_refused();
     forward_misused();
     largest_forward();
+    plain_bare(PEAT_CPDLC);
+    plain_bare(PEAT_DSC);
+    plain_with_messages();
+    plain_refused();
+    plain_misused();
+    plain_forward();
     edges();
     forward_everywhere();
     start_everywhere();

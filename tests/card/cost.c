@@ -28,8 +28,12 @@ struct row {
     enum pdu pdu;
 };
 
-/* a forward request: class, security, date and time, eight characters, address, downlink */
+/* a forward request: class, security, date and time, eight characters, address, downlink; in type 2 the elements are those of an uplink message */
 #define HEADING {0, 0, 2026, 11, 15, 12, 30, 59, 8, 77, 5, PEAT_FORWARD_DOWNLINK}
+#define PLAIN_HEADING {0, 0, 2026, 11, 15, 12, 30, 59, 8, 77, 5, PEAT_FORWARD_UPLINK}
+
+/* the sides of type 2, as a record's first byte has them */
+enum { PLAIN_AIR = 3, PLAIN_GROUND = 4 };
 
 static const struct row rows[] = {
     {"least data", START_REQUEST, 1, PEAT_IDLE, 0, {0}, LEAST, PDU_NONE},
@@ -77,7 +81,7 @@ static const struct row rows[] = {
     {"user", D_ABORT_INDICATION, 1, PEAT_DIALOGUE, 0, {0}, LEAST, PDU_ABORT_USER},
     {"provider, invalid PDU, ground", D_ABORT_INDICATION, 2, PEAT_DIALOGUE, 0, {1}, LARGEST, PDU_INVALID},
     {"", D_P_ABORT_INDICATION, 1, PEAT_DIALOGUE, 0, {0}, LEAST, PDU_NONE},
-    {"", FRESH, 1, PEAT_IDLE, 0, {1, 0, 0, 1}, LEAST, PDU_NONE},
+    {"", FRESH, 1, PEAT_IDLE, 0, {1, 0, 0, 1, PEAT_PROTECTED}, LEAST, PDU_NONE},
     {"least", READ_ENVELOPE, 1, PEAT_IDLE, 0, {1, 1, 0}, LEAST, PDU_NONE},
     {"2,048 bits, 269 bytes", READ_ENVELOPE, 1, PEAT_IDLE, 0, {2, UINT64_MAX, 2048}, MIDDLE, PDU_NONE},
     {"largest, 2,061 bytes", READ_ENVELOPE, 1, PEAT_IDLE, 0, {2, UINT64_MAX, 16383}, LARGEST, PDU_NONE},
@@ -93,9 +97,9 @@ static const struct row rows[] = {
     {"message of 8 bits", FORWARD_PART, 1, PEAT_IDLE, 0, {PEAT_FORWARD_MESSAGE}, LEAST, PDU_NONE},
     {"message of 2,048 bits", FORWARD_PART, 1, PEAT_IDLE, 0, {PEAT_FORWARD_MESSAGE}, MIDDLE, PDU_NONE},
     {"largest message", FORWARD_PART, 1, PEAT_IDLE, 0, {PEAT_FORWARD_MESSAGE}, LARGEST, PDU_NONE},
-    {"message of 8 bits", READ_FORWARD, 1, PEAT_IDLE, 0, {0}, LEAST, PDU_NONE},
-    {"message of 2,048 bits", READ_FORWARD, 1, PEAT_IDLE, 0, {0}, MIDDLE, PDU_NONE},
-    {"largest message", READ_FORWARD, 1, PEAT_IDLE, 0, {0}, LARGEST, PDU_NONE},
+    {"message of 8 bits", READ_FORWARD, 1, PEAT_IDLE, 0, {PEAT_PROTECTED}, LEAST, PDU_NONE},
+    {"message of 2,048 bits", READ_FORWARD, 1, PEAT_IDLE, 0, {PEAT_PROTECTED}, MIDDLE, PDU_NONE},
+    {"largest message", READ_FORWARD, 1, PEAT_IDLE, 0, {PEAT_PROTECTED}, LARGEST, PDU_NONE},
     {"a forward, largest message", READ_APDU, 1, PEAT_IDLE, 0, {PEAT_GROUND_PDUS}, LARGEST, PDU_FORWARD},
     {"a send, message of 8 bits", READ_APDU, 1, PEAT_IDLE, 0, {PEAT_GROUND_PDUS}, LEAST, PDU_SEND},
     {"a send, message of 2,048 bits", READ_APDU, 1, PEAT_IDLE, 0, {PEAT_GROUND_PDUS}, MIDDLE, PDU_SEND},
@@ -108,6 +112,28 @@ static const struct row rows[] = {
     {"five elements, 2,048 bits", WRITE_MESSAGE, 1, PEAT_IDLE, 0, {PEAT_UPLINK}, MIDDLE, PDU_NONE},
     {"five texts, 9,097 bits", WRITE_MESSAGE, 1, PEAT_IDLE, 0, {PEAT_UPLINK}, LARGEST, PDU_NONE},
     {"SHAPE, day 32, largest", WRITE_MESSAGE, 1, PEAT_IDLE, 0, {PEAT_UPLINK}, LARGEST, PDU_NONE},
+    {"type 2, no message", START_REQUEST, PLAIN_GROUND, PEAT_IDLE, 0, {0}, LEAST, PDU_NONE},
+    {"type 2, five texts", START_REQUEST, PLAIN_GROUND, PEAT_IDLE, 0, {0}, LARGEST, PDU_NONE},
+    {"type 2, no message", START_RESPONSE, PLAIN_GROUND, PEAT_START_IND, 0, {0}, LEAST, PDU_NONE},
+    {"type 2, five texts", START_RESPONSE, PLAIN_GROUND, PEAT_START_IND, 0, {PEAT_REJECTED}, LARGEST, PDU_NONE},
+    {"type 2, one element", MESSAGE_REQUEST, PLAIN_GROUND, PEAT_DIALOGUE, 0, {9}, LEAST, PDU_NONE},
+    {"type 2, five elements, 2,048 bits", MESSAGE_REQUEST, PLAIN_GROUND, PEAT_DIALOGUE, 0, {9}, MIDDLE, PDU_NONE},
+    {"type 2, five texts", MESSAGE_REQUEST, PLAIN_GROUND, PEAT_DIALOGUE, 0, {9}, LARGEST, PDU_NONE},
+    {"type 2, SHAPE, a check", MESSAGE_REQUEST, PLAIN_GROUND, PEAT_DIALOGUE, 0, {9}, LARGEST, PDU_NONE},
+    {"type 2, five texts", END_REQUEST, PLAIN_GROUND, PEAT_DIALOGUE, 0, {0}, LARGEST, PDU_NONE},
+    {"type 2, five texts", DSC_END_RESPONSE, PLAIN_GROUND, PEAT_END, 1, {0}, LARGEST, PDU_NONE},
+    {"type 2, five texts", FORWARD_REQUEST, PLAIN_GROUND, PEAT_IDLE, 0, PLAIN_HEADING, LARGEST, PDU_NONE},
+    {"type 2, five texts", D_START_INDICATION, PLAIN_AIR, PEAT_IDLE, 0, {PEAT_FACILITY, 0, 1, 1, 0}, LARGEST, PDU_START},
+    {"type 2, a forward, five texts", D_START_INDICATION, PLAIN_GROUND, PEAT_IDLE, 0, {PEAT_FACILITY, 0, 1, 1, 0, 1}, LARGEST, PDU_FORWARD},
+    {"type 2, five texts", D_START_CONFIRMATION, PLAIN_AIR, PEAT_START_REQ, 0, {PEAT_REJECTED}, LARGEST, PDU_SEND},
+    {"type 2, one element", D_DATA_INDICATION, PLAIN_AIR, PEAT_DIALOGUE, 0, {0}, LEAST, PDU_SEND},
+    {"type 2, five elements, 2,048 bits", D_DATA_INDICATION, PLAIN_AIR, PEAT_DIALOGUE, 0, {0}, MIDDLE, PDU_SEND},
+    {"type 2, five texts", D_DATA_INDICATION, PLAIN_AIR, PEAT_DIALOGUE, 0, {0}, LARGEST, PDU_SEND},
+    {"type 2, invalid PDU", D_DATA_INDICATION, PLAIN_AIR, PEAT_DIALOGUE, 0, {0}, LARGEST, PDU_INVALID},
+    {"type 2, five texts", D_END_INDICATION, PLAIN_AIR, PEAT_DIALOGUE, 0, {0}, LARGEST, PDU_SEND},
+    {"type 2, no user data", D_END_INDICATION, PLAIN_AIR, PEAT_DIALOGUE, 0, {0}, LEAST, PDU_NONE},
+    {"type 2, five texts", READ_FORWARD, PLAIN_GROUND, PEAT_IDLE, 0, {PEAT_PLAIN}, LARGEST, PDU_NONE},
+    {"type 2, a send, five texts", READ_APDU, PLAIN_AIR, PEAT_IDLE, 0, {PEAT_PLAIN_GROUND_PDUS}, LARGEST, PDU_SEND},
 };
 #define ROWS (sizeof rows / sizeof rows[0])
 
@@ -115,22 +141,26 @@ static uint8_t rec[PEAT_RECORD_BYTES], heading[PEAT_HEADING_BYTES], ids[16], msg
 static struct args args;
 static struct bits bits;
 
-/* an ATCForwardMessage: date and time, eight characters, address, downlink, and the message's bits */
-static void put_forward(void)
+static int is_plain(const struct row *r) { return r->side > PEAT_GROUND; }
+static int of_forward(const struct row *r) { return r->which == FORWARD_REQUEST || r->which == READ_FORWARD || r->pdu == PDU_FORWARD; }
+
+/* an ATCForwardMessage: date and time, eight characters, address, downlink (in type 2 uplink), and the message's bits */
+static void put_forward(int plain)
 {
     put(&bits, UINT64_C(30) << 26 | 10 << 22 | 14 << 17 | 12 << 12 | 30 << 6 | 59, 33);
     put(&bits, 6, 3);
     put(&bits, 77, 56);
     put(&bits, 5, 24);
-    put(&bits, 1, 1);
-    put_length(&bits, (size_t)args.message);
+    put(&bits, !plain, 1);
+    if (!plain)
+        put_length(&bits, (size_t)args.message);
     put_range(&bits, msgs, (size_t)args.message);
 }
 
 /* a GroundPDU for the air end and of another centre, an AircraftPDU for the ground end */
 static size_t put_pdu(const struct row *r)
 {
-    unsigned lead = r->side == PEAT_AIR || r->pdu >= PDU_FORWARD ? 4 : 3;
+    unsigned lead = r->side % 2 == PEAT_AIR || r->pdu >= PDU_FORWARD ? 4 : 3;
     static const unsigned index[] = {0, 3, 2, 0, 1, 3, 4, 5};
     size_t n;
     bits.n = 0;
@@ -142,8 +172,12 @@ static size_t put_pdu(const struct row *r)
     else if (r->pdu == PDU_RESPONSE)
         put(&bits, PEAT_FORWARD_SUCCESS, 3);
     else if (r->pdu == PDU_FORWARD)
-        put_forward();
-    else {
+        put_forward(is_plain(r));
+    else if (is_plain(r)) {
+        if (r->pdu == PDU_START)
+            put(&bits, 1, 1);
+        put_range(&bits, msgs, (size_t)args.message);
+    } else {
         if (r->pdu == PDU_START && lead == 3)
             put(&bits, 3, 2);
         put_data(&bits, &args);
@@ -212,12 +246,31 @@ static void put_message(const struct row *r)
         printf("the message has %u bits\n", peat_message_bits(said));
         exit(2);
     }
-    if (strstr(r->title, "SHAPE"))
+    if (r->which == WRITE_MESSAGE && strstr(r->title, "SHAPE"))
         message[6] = 32;
     args.ids = made.ids, args.msgs = made.msgs;
     args.rec = (struct range){range, sizeof range};
     args.n[1] = peat_message_bits(said);
     args.bytes = (struct range){bytes, peat_message_bytes(said)};
+}
+
+/* message data of type 2: an uplink message in msgs, of a forward its elements alone; or none */
+static void put_plain(const struct row *r)
+{
+    struct args kept = args;
+    size_t from, i;
+    put_message(r);
+    from = of_forward(r) ? header_bits(args.ids.at) : 0;
+    bits.n = 0;
+    for (i = from; i < args.n[1]; i++)
+        put(&bits, bytes[i / 8] >> (7 - i % 8) & 1, 1);
+    args = kept;
+    args.message = strstr(r->title, "no message") ? NONE : bits.n;
+    args.msgs = (struct range){msgs, whole(&bits, msgs)};
+    args.ids.len = args.checks.len = 0;
+    args.check = 0;
+    if (strstr(r->title, "SHAPE"))
+        args.checks = (struct range){checks, sizeof checks}, args.check = 64;
 }
 
 static void prepare(const struct row *r)
@@ -247,6 +300,8 @@ static void prepare(const struct row *r)
         args.checks = (struct range){checks, sizeof checks};
         msgs[sizeof msgs - 1] &= 0xFE; /* 16,383 bits leave one of padding */
     }
+    if (is_plain(r))
+        put_plain(r);
     if (r->pdu != PDU_NONE) {
         args.bytes = (struct range){bytes, put_pdu(r)};
         args.given = 1;
@@ -264,7 +319,7 @@ static void prepare(const struct row *r)
     }
     if (r->which == FORWARD_PART || r->which == READ_FORWARD) {
         bits.n = 0;
-        put_forward();
+        put_forward(is_plain(r));
         args.bytes = (struct range){bytes, whole(&bits, bytes)};
         args.ids = (struct range){heading, sizeof heading};
     }

@@ -92,31 +92,59 @@ static void get_element(struct reader *r, uint64_t direction, uint8_t *place, ui
     }
 }
 
+static void get_header(struct reader *r, uint8_t *m)
+{
+    unsigned here = (unsigned)get(r, 2);
+    m[0] = (uint8_t)get_whole(r, 0, 63);
+    if (here & 2)
+        m[1] = 1, m[2] = (uint8_t)get_whole(r, 0, 63);
+    keep(m + 3, get_whole(r, 1996, 2095));
+    m[5] = (uint8_t)get_whole(r, 1, 12), m[6] = (uint8_t)get_whole(r, 1, 31);
+    m[7] = (uint8_t)get_whole(r, 0, 23), m[8] = (uint8_t)get_whole(r, 0, 59), m[9] = (uint8_t)get_whole(r, 0, 59);
+    m[10] = here & 1;
+    if (here & 1 && get(r, 1)) /* logicalAck DEFAULT notRequired (1) */
+        fault(r, DEFAULT);
+}
+
+static size_t get_places(struct reader *r, uint64_t direction, uint8_t *m, uint8_t *text)
+{
+    size_t characters = 0;
+    unsigned i;
+    if (get(r, 1))
+        fault(r, NOT_CARRIED); /* constrained data */
+    m[11] = (uint8_t)get_whole(r, 1, 5);
+    for (i = 0; i < m[11] && !r->bad; i++)
+        get_element(r, direction, m + 12 + 24 * i, text, &characters);
+    return characters;
+}
+
+/* application type 2: in place, and nothing says where it ends (004, M-1.1.4, M-2.1.4; M-9.1.2, M-10.1.2) */
+void get_elements(struct reader *r, unsigned direction)
+{
+    uint8_t m[132] = {0}, text[5 * 256];
+    get_places(r, direction, m, text);
+}
+
+void get_message(struct reader *r, unsigned direction)
+{
+    uint8_t m[132] = {0};
+    get_header(r, m);
+    get_elements(r, direction);
+}
+
+size_t header_bits(const uint8_t *m) { return 41 + (m[1] ? 6 : 0) + (m[10] ? 1 : 0); }
+
 uint64_t read_message(struct args *a)
 {
     uint8_t m[132] = {0}, text[5 * 256];
     struct reader r = reader_of(a->bytes, (size_t)a->n[1]);
-    size_t characters = 0;
-    unsigned here, i;
+    size_t characters;
     if (a->first.len < BUFFER_LEAST)
         return 1;
     if (a->n[0] < DOWN || a->n[0] > UP || a->rec.len != sizeof m || a->n[1] > MESSAGE_MOST || a->n[1] > 8 * (uint64_t)a->bytes.len)
         return 2;
-    here = (unsigned)get(&r, 2);
-    m[0] = (uint8_t)get_whole(&r, 0, 63);
-    if (here & 2)
-        m[1] = 1, m[2] = (uint8_t)get_whole(&r, 0, 63);
-    keep(m + 3, get_whole(&r, 1996, 2095));
-    m[5] = (uint8_t)get_whole(&r, 1, 12), m[6] = (uint8_t)get_whole(&r, 1, 31);
-    m[7] = (uint8_t)get_whole(&r, 0, 23), m[8] = (uint8_t)get_whole(&r, 0, 59), m[9] = (uint8_t)get_whole(&r, 0, 59);
-    m[10] = here & 1;
-    if (here & 1 && get(&r, 1)) /* logicalAck DEFAULT notRequired (1) */
-        fault(&r, DEFAULT);
-    if (get(&r, 1))
-        fault(&r, NOT_CARRIED); /* constrained data */
-    m[11] = (uint8_t)get_whole(&r, 1, 5);
-    for (i = 0; i < m[11] && !r.bad; i++)
-        get_element(&r, a->n[0], m + 12 + 24 * i, text, &characters);
+    get_header(&r, m);
+    characters = get_places(&r, a->n[0], m, text);
     begin(&r);
     if (r.at != r.end)
         fault(&r, TAIL);

@@ -179,7 +179,9 @@ static uint64_t get_between(struct reader *r, uint64_t low, uint64_t high)
     return low + v;
 }
 
-static void get_forward(struct reader *r, struct forwarded *f)
+enum { DOWN = 1, UP = 2 };
+
+static void get_forward(struct reader *r, int plain, struct forwarded *f)
 {
     static const uint64_t low[] = {1996, 1, 1, 0, 0, 0, 2}, high[] = {2095, 12, 31, 23, 59, 59, 8};
     unsigned i;
@@ -188,6 +190,13 @@ static void get_forward(struct reader *r, struct forwarded *f)
     f->part[7] = get(r, r->bad ? 0 : 7 * (size_t)f->part[6]);
     f->part[8] = get(r, 24);
     f->part[9] = get(r, 1);
+    if (plain) { /* ATCUplinkMessageData or ATCDownlinkMessageData in place (004, M-9.1.2, M-10.1.2) */
+        f->bits = r->at;
+        if (!r->bad)
+            get_elements(r, f->part[9] == 0 ? UP : DOWN);
+        f->count = r->at - f->bits;
+        return;
+    }
     f->count = get_length(r); /* what two bytes say is within MESSAGE_MOST */
     f->bits = r->at;
     skip(r, f->count);
@@ -204,7 +213,17 @@ static void get_end(struct reader *r)
         fault(r, TAIL);
 }
 
-static struct pdu decode(int aircraft, struct reader *r)
+/* the message of a start or a send of application type 2, or none in a start (004, M-1.1.3, M-2.1.3) */
+static void get_plain(struct reader *r, int aircraft, int start, struct pdu *p)
+{
+    unsigned given = start ? (unsigned)get(r, 1) : 1;
+    p->data = r->at;
+    if (given && !r->bad)
+        get_message(r, aircraft ? DOWN : UP);
+    p->data_to = r->at;
+}
+
+static struct pdu decode(int aircraft, int plain, struct reader *r)
 {
     struct pdu p = {INVALID, 0, 0, 0};
     unsigned index;
@@ -220,7 +239,7 @@ static struct pdu decode(int aircraft, struct reader *r)
         struct forwarded f;
         kind = FORWARD;
         p.data = r->at;
-        get_forward(r, &f);
+        get_forward(r, plain, &f);
         p.data_to = r->at;
     } else if (index == 5) {
         kind = RESPONSE;
@@ -233,8 +252,8 @@ static struct pdu decode(int aircraft, struct reader *r)
         kind = index == 0 ? ABORT_USER : ABORT_PROVIDER;
         if (get(r, 1) == 1)
             fault(r, EXTENSION);
-        p.value = (unsigned)get(r, index == 0 ? 4 : 3);
-        if (p.value > 12)
+        p.value = (unsigned)get(r, index == 0 && !plain ? 4 : 3);
+        if (p.value > (index == 0 && plain ? 6 : 12)) /* 004, M-1.1.1, M-2.1.1 */
             fault(r, RANGE);
     } else {
         kind = index == 2 ? START : SEND;
@@ -243,17 +262,20 @@ static struct pdu decode(int aircraft, struct reader *r)
             if (get(r, 1) == 0)
                 fault(r, DEFAULT);
         }
-        get_data(r, &p);
+        if (plain)
+            get_plain(r, aircraft, index == 2, &p);
+        else
+            get_data(r, &p);
     }
     get_end(r);
     p.kind = r->bad ? INVALID : kind;
     return p;
 }
 
-static struct pdu decoded(int aircraft, struct range in)
+static struct pdu decoded(int aircraft, int plain, struct range in)
 {
     struct reader r = reader_of(in, 8 * in.len);
-    return decode(aircraft, &r);
+    return decode(aircraft, plain, &r);
 }
 
 /* an APDU by itself: its alternative, the reason, mode or result, and whether it has message data */
@@ -262,12 +284,13 @@ static uint64_t read_apdu(const struct args *a)
     static const unsigned tag[] = {0, 0, 0, 1, 2, 3, 4, 5};
     struct reader r = reader_of(a->bytes, 8 * a->bytes.len);
     struct pdu p;
-    if (a->n[0] != 1 && a->n[0] != 2)
+    int plain = a->n[0] > 2;
+    if (a->n[0] < 1 || a->n[0] > 4)
         return 2;
-    p = decode(a->n[0] == 1, &r);
+    p = decode(a->n[0] % 2 == 1, plain, &r);
     if (r.bad)
         return refused(&r);
-    return tag[p.kind] << 8 | p.value << 16 | (unsigned)(p.kind == START || p.kind == SEND) << 24;
+    return tag[p.kind] << 8 | p.value << 16 | (unsigned)((p.kind == START && !(plain && p.data == p.data_to)) || p.kind == SEND) << 24;
 }
 
 /* ---- records and outcomes */
@@ -283,6 +306,7 @@ enum { START_IND = 1, START_CNF, MESSAGE_IND, END_IND, END_CNF, USER_ABORT_IND, 
 struct rec {
     unsigned side, state, dsc, timer, active, request, policy, forwards, version;
     uint64_t highest, number;
+    int plain; /* application type 2 */
 };
 
 struct out {
@@ -302,9 +326,9 @@ static int load(struct range b, struct rec *r)
     const uint8_t *x = b.at;
     if (b.len != RECORD_BYTES)
         return 0;
-    if (x[0] < 1 || x[0] > 2 || x[1] > 5 || x[2] > 1 || x[3] > 1 || x[4] > 1 || x[5] > 1 || x[6] > 1 || x[7] > 1 || x[8] < 1)
+    if (x[0] < 1 || x[0] > 4 || x[1] > 5 || x[2] > 1 || x[3] > 1 || x[4] > 1 || x[5] > 1 || x[6] > 1 || x[7] > 1 || x[8] < 1)
         return 0;
-    r->side = x[0], r->state = x[1], r->dsc = x[2], r->timer = x[3], r->active = x[4], r->request = x[5], r->policy = x[6];
+    r->side = x[0] % 2 ? AIR : GROUND, r->plain = x[0] > 2, r->state = x[1], r->dsc = x[2], r->timer = x[3], r->active = x[4], r->request = x[5], r->policy = x[6];
     r->forwards = x[7], r->version = x[8];
     for (r->highest = 0, i = 9; i < 17; i++)
         r->highest = r->highest << 8 | x[i];
@@ -317,7 +341,7 @@ static void save(const struct rec *r, struct range b)
 {
     size_t i;
     uint8_t *x = b.at;
-    x[0] = (uint8_t)r->side, x[1] = (uint8_t)r->state, x[2] = (uint8_t)r->dsc, x[3] = (uint8_t)r->timer;
+    x[0] = (uint8_t)(r->side + (r->plain ? 2 : 0)), x[1] = (uint8_t)r->state, x[2] = (uint8_t)r->dsc, x[3] = (uint8_t)r->timer;
     x[4] = (uint8_t)r->active, x[5] = (uint8_t)r->request, x[6] = (uint8_t)r->policy, x[7] = (uint8_t)r->forwards;
     x[8] = (uint8_t)r->version;
     for (i = 0; i < 8; i++) {
@@ -392,13 +416,17 @@ static struct out goes(const struct rec *r, unsigned state)
 
 /* ---- codes (document 01: SHAPE) */
 
-static int shapely(enum which w, unsigned side, const uint64_t *n)
+static int shapely(enum which w, const struct rec *r, const struct args *a)
 {
+    const uint64_t *n = a->n;
+    unsigned side = r->side;
     switch (w) {
     case START_REQUEST: return (n[0] == 0 || (n[0] == 1 && side == AIR)) && n[1] <= 8 && n[2] <= 1; /* document 02, E7 */
-    case START_RESPONSE: case DSC_START_RESPONSE: case END_RESPONSE: case DSC_END_RESPONSE: return n[0] <= 1;
+    case START_RESPONSE: case DSC_START_RESPONSE: /* 004, S-4.4, S-5.4: a message gives the reason for a rejection */
+        return n[0] <= 1 && !(r->plain && n[0] == 0 && a->message != NONE);
+    case END_RESPONSE: case DSC_END_RESPONSE: return n[0] <= 1;
     case MESSAGE_REQUEST: return n[0] >= 1;
-    case USER_ABORT: return n[0] == NONE || n[0] <= 12;
+    case USER_ABORT: return n[0] == NONE || n[0] <= (r->plain ? 6 : 12);
     case FORWARD_REQUEST: return n[0] <= 8 && n[1] <= 1;
     case D_START_INDICATION: return n[0] <= 1 && n[1] <= 1 && n[5] <= 255;
     case D_START_CONFIRMATION: return n[0] <= 2 && n[1] <= 1 && n[2] <= 1 && n[3] <= 255;
@@ -409,6 +437,16 @@ static int shapely(enum which w, unsigned side, const uint64_t *n)
 
 static int qos_right(const uint64_t *n) { return n[2] == 1 && n[3] == 1 && n[4] <= 8; }
 
+/* application type 2 has no security: "no security" is sent, and nothing is compared (004, S-4 to S-11) */
+static unsigned carried(const struct rec *r, uint64_t security) { return r->plain ? 0 : (unsigned)security; }
+static int differs(const struct rec *r, uint64_t security, unsigned other) { return !r->plain && security != other; }
+
+/* User data that a start's confirmation or an end may lack: in application type 2 alone. What is accepted has none there. */
+static int permitted(const struct rec *r, const struct pdu *p, int accepted_start)
+{
+    return (p->kind == MISSING && r->plain) || (p->kind == SEND && !(r->plain && accepted_start));
+}
+
 /* mode, class, security */
 static struct out starts(const struct rec *r, const uint64_t *n)
 {
@@ -416,8 +454,8 @@ static struct out starts(const struct rec *r, const uint64_t *n)
     if (n[0] == 1)
         o.rec.dsc = 1;
     o.rec.timer = o.rec.active = 1;
-    o.rec.request = (unsigned)n[2];
-    return sends(o, D_START_REQ, (unsigned)n[1], (unsigned)n[2], START, (unsigned)n[0]);
+    o.rec.request = carried(r, n[2]);
+    return sends(o, D_START_REQ, (unsigned)n[1], carried(r, n[2]), START, (unsigned)n[0]);
 }
 
 static struct out message(const struct rec *r, const struct args *a)
@@ -452,7 +490,7 @@ static struct out air_step(enum which w, const struct rec *r, const struct args 
     switch (w) {
     case START_REQUEST: return s == IDLE ? starts(r, n) : refuse(r, 3); /* 2.3.5.3.7; 3.5.3.9 */
     case START_RESPONSE:                                               /* 2.3.5.3.8 */
-        return s == IND && !r->dsc ? sends(goes(r, x == 0 ? DLG : IDLE), D_START_RSP, x, r->policy, SEND, 0) : refuse(r, 3);
+        return s == IND && !r->dsc ? sends(goes(r, x == 0 ? DLG : IDLE), D_START_RSP, x, carried(r, r->policy), SEND, 0) : refuse(r, 3);
     case MESSAGE_REQUEST: /* 3.5.3.10 */
         return s == DLG || (s == END && !r->dsc) ? message(r, a) : refuse(r, 3);
     case END_RESPONSE: /* 3.5.3.11 */
@@ -468,7 +506,7 @@ static struct out air_step(enum which w, const struct rec *r, const struct args 
             return no_instruction(r, 1);
         if (!qos_right(n))
             return breaks(r, QOS, NOBODY); /* 3.5.4.6 */
-        if (n[1] != r->policy)
+        if (differs(r, n[1], r->policy))
             return breaks(r, SERVICE_FAILURE, SERVICE_FAILURE); /* 3.5.4.8 */
         if (p->kind != START)
             return air_bad(r, p->kind, 1, 1);
@@ -484,9 +522,9 @@ static struct out air_step(enum which w, const struct rec *r, const struct args 
             return no_instruction(r, 1);
         if (x == 2 || n[1] == 1)
             return breaks(r, NOTHING, SERVICE_ERROR); /* 3.5.4.5 */
-        if (n[2] != r->request)
+        if (differs(r, n[2], r->request))
             return breaks(r, x == 0 ? SERVICE_FAILURE : NOTHING, SERVICE_FAILURE); /* 3.5.4.8 */
-        if (p->kind != SEND)
+        if (!permitted(r, p, x == 0))
             return air_bad(r, p->kind, x == 0, 1);
         o = goes(r, x == 0 ? DLG : IDLE);
         o.rec.timer = 0;
@@ -498,11 +536,11 @@ static struct out air_step(enum which w, const struct rec *r, const struct args 
     case D_END_INDICATION: /* 2.3.5.3.5 */
         if (s != DLG || r->dsc)
             return no_instruction(r, 1);
-        return p->kind != SEND ? air_bad(r, p->kind, 1, 1) : tells(goes(r, END), END_IND, 0, 0);
+        return !permitted(r, p, 0) ? air_bad(r, p->kind, 1, 1) : tells(goes(r, END), END_IND, 0, 0);
     case D_END_CONFIRMATION: /* 2.3.5.3.6, 3.5.4.3.2, 3.5.4.4.2 */
         if (s != END || !r->dsc)
             return no_instruction(r, 1);
-        return p->kind != SEND ? air_bad(r, p->kind, x == 1, x == 1) : tells(goes(r, x == 0 ? IDLE : DLG), END_CNF, x, 1);
+        return !permitted(r, p, 0) ? air_bad(r, p->kind, x == 1, x == 1) : tells(goes(r, x == 0 ? IDLE : DLG), END_CNF, x, 1);
     case D_ABORT_INDICATION: /* 3.5.3.14 */
         if (s == IDLE || p->kind != (x == 0 ? ABORT_USER : ABORT_PROVIDER))
             return no_instruction(r, 0);
@@ -531,9 +569,9 @@ static struct out forwards(const struct rec *r, const uint64_t *n)
 {
     struct out o = goes(r, FWD);
     o.rec.timer = o.rec.active = 1;
-    o.rec.request = (unsigned)n[1];
+    o.rec.request = carried(r, n[1]);
     o.version = r->version;
-    return sends(o, D_START_REQ, (unsigned)n[0], (unsigned)n[1], FORWARD, 0);
+    return sends(o, D_START_REQ, (unsigned)n[0], carried(r, n[1]), FORWARD, 0);
 }
 
 /* 2.3.5.5.2.4 where the service is not supported; else 2.3.5.5.2.3, by the version. The answer goes out in a D-START response
@@ -542,12 +580,12 @@ static struct out answers_forward(const struct rec *r, const uint64_t *n)
 {
     struct out o = closes(r);
     if (!r->forwards)
-        return sends(o, D_START_RSP, 1, (unsigned)n[1], RESPONSE, 1);
+        return sends(o, D_START_RSP, 1, carried(r, n[1]), RESPONSE, 1);
     if (n[5] != r->version) {
         o.version = r->version;
-        return sends(o, D_START_RSP, 1, (unsigned)n[1], RESPONSE, 2);
+        return sends(o, D_START_RSP, 1, carried(r, n[1]), RESPONSE, 2);
     }
-    return tells(sends(o, D_START_RSP, 1, (unsigned)n[1], RESPONSE, 0), FORWARD_IND, 0, 0);
+    return tells(sends(o, D_START_RSP, 1, carried(r, n[1]), RESPONSE, 0), FORWARD_IND, 0, 0);
 }
 
 /* 2.3.5.5.3.3: only "rejected (permanent)" by the DS user brings the response */
@@ -556,7 +594,7 @@ static struct out forward_confirmed(const struct rec *r, const uint64_t *n, cons
     struct out o;
     if (n[0] == 2 || n[1] == 1)
         return breaks(r, NOTHING, SERVICE_ERROR); /* 2.3.5.6.5 */
-    if (n[2] != r->request)
+    if (differs(r, n[2], r->request))
         return breaks(r, n[0] == 0 ? SERVICE_FAILURE : NOTHING, SERVICE_FAILURE);
     if (p->kind != RESPONSE || n[0] == 0)
         return ground_bad(r, p->kind, n[0] == 0, 1);
@@ -575,7 +613,7 @@ static struct out ground_step(enum which w, const struct rec *r, const struct ar
     case FORWARD_REQUEST: if (st == IDLE) return forwards(r, n); break; /* 2.3.5.5.13 */
     case START_RESPONSE: case DSC_START_RESPONSE:                       /* 2.3.5.5.8, 2.3.5.5.9 */
         if (st == IND && r->dsc == (w == DSC_START_RESPONSE))
-            return sends(goes(r, accepted ? DLG : IDLE), D_START_RSP, (unsigned)n[0], r->policy, SEND, 0);
+            return sends(goes(r, accepted ? DLG : IDLE), D_START_RSP, (unsigned)n[0], carried(r, r->policy), SEND, 0);
         break;
     case MESSAGE_REQUEST: if (st == DLG || (st == END && r->dsc)) return message(r, a); break;                               /* 2.3.5.5.10 */
     case END_REQUEST: if (st == DLG && !r->dsc) return sends(goes(r, END), D_END_REQ, 0, 0, SEND, 0); break;                 /* 2.3.5.5.11 */
@@ -594,7 +632,7 @@ static struct out ground_step(enum which w, const struct rec *r, const struct ar
             return no_instruction(r, 1);
         if (!qos_right(n))
             return breaks(r, QOS, NOBODY); /* 2.3.5.6.6 */
-        if (n[1] != r->policy)
+        if (differs(r, n[1], r->policy))
             return breaks(r, SERVICE_FAILURE, SERVICE_FAILURE); /* 2.3.5.6.8 */
         if (p->kind != (n[0] == 1 ? START : FORWARD)) /* an aircraft starts, a facility forwards */
             return ground_bad(r, p->kind, 1, 1);
@@ -612,9 +650,9 @@ static struct out ground_step(enum which w, const struct rec *r, const struct ar
             return no_instruction(r, 1);
         if (n[0] == 2 || n[1] == 1)
             return breaks(r, NOTHING, SERVICE_ERROR); /* 2.3.5.6.5 */
-        if (n[2] != r->request)
+        if (differs(r, n[2], r->request))
             return breaks(r, accepted ? SERVICE_FAILURE : NOTHING, SERVICE_FAILURE);
-        if (p->kind != SEND)
+        if (!permitted(r, p, (int)accepted))
             return ground_bad(r, p->kind, (int)accepted, 1);
         o = goes(r, accepted ? DLG : IDLE);
         o.rec.timer = 0;
@@ -626,11 +664,11 @@ static struct out ground_step(enum which w, const struct rec *r, const struct ar
     case D_END_INDICATION: /* 2.3.5.5.5 */
         if (st != DLG || !r->dsc)
             return no_instruction(r, 1);
-        return p->kind != SEND ? ground_bad(r, p->kind, 1, 1) : tells(goes(r, END), END_IND, 0, 1);
+        return !permitted(r, p, 0) ? ground_bad(r, p->kind, 1, 1) : tells(goes(r, END), END_IND, 0, 1);
     case D_END_CONFIRMATION: /* 2.3.5.5.6 */
         if (st != END || r->dsc)
             return no_instruction(r, 1);
-        return p->kind != SEND ? ground_bad(r, p->kind, !accepted, !accepted) : tells(goes(r, accepted ? IDLE : DLG), END_CNF, (unsigned)n[0], 0);
+        return !permitted(r, p, 0) ? ground_bad(r, p->kind, !accepted, !accepted) : tells(goes(r, accepted ? IDLE : DLG), END_CNF, (unsigned)n[0], 0);
     case D_ABORT_INDICATION: /* 2.3.5.5.15 */
         fits = n[0] == 0 ? ABORT_USER : ABORT_PROVIDER;
         if (st == IDLE || (unsigned)p->kind != fits)
@@ -656,34 +694,52 @@ static struct pdu received(enum which w, const struct rec *r, const struct args 
     if (w == D_P_ABORT_INDICATION || a->given == 0)
         return p;
     if (r->side == AIR || (w == D_START_INDICATION && a->n[0] == 0) || (w == D_START_CONFIRMATION && r->state == FWD))
-        return decoded(0, a->bytes);
-    p = decoded(1, a->bytes);
+        return decoded(0, r->plain, a->bytes);
+    p = decoded(1, r->plain, a->bytes);
     if (p.kind == INVALID && w == D_ABORT_INDICATION && a->n[0] == 1) {
-        struct pdu again = decoded(0, a->bytes);
+        struct pdu again = decoded(0, r->plain, a->bytes);
         if (again.kind == ABORT_PROVIDER)
             return again;
     }
     return p;
 }
 
-static int data_fits(const struct args *a)
+/* the first so many bits of a range are a message, or elements, from the first to the last */
+static int takes_all(void (*get_one)(struct reader *r, unsigned direction), unsigned direction, struct range in, uint64_t count)
 {
+    struct reader r;
+    if (count > 8 * (uint64_t)in.len)
+        return 0;
+    r = reader_of(in, (size_t)count);
+    get_one(&r, direction);
+    return !r.bad && r.at == r.end;
+}
+
+/* In application type 2 there is no identifier and no check, and the message is one of the side's direction. */
+static int data_fits(const struct rec *r, const struct args *a)
+{
+    if (r->plain)
+        return a->ids.len == 0 && a->check == 0 && (a->message == NONE || takes_all(get_message, r->side == AIR ? DOWN : UP, a->msgs, a->message));
     return a->ids.len <= 16 && (a->message == NONE || (a->message <= MESSAGE_MOST && a->message <= 8 * a->msgs.len)) && a->check <= 64 &&
            a->check <= 8 * a->checks.len;
 }
 
 /* the types of a forward request's numbers, and its bits */
-static int forward_fits(const struct args *a)
+static int forward_fits(const struct rec *r, const struct args *a)
 {
     static const uint64_t low[] = {1996, 1, 1, 0, 0, 0, 2, 0, 0, 0}, high[] = {2095, 12, 31, 23, 59, 59, 8, 0, (1u << 24) - 1, 1};
     unsigned i;
     for (i = 0; i < 10; i++)
         if (i != 7 && (a->n[2 + i] < low[i] || a->n[2 + i] > high[i]))
             return 0;
-    return a->n[9] >> 7 * a->n[8] == 0 && a->message <= MESSAGE_MOST && a->message <= 8 * a->msgs.len;
+    if (a->n[9] >> 7 * a->n[8] != 0)
+        return 0;
+    if (r->plain)
+        return takes_all(get_elements, a->n[11] == 0 ? UP : DOWN, a->msgs, a->message);
+    return a->message <= MESSAGE_MOST && a->message <= 8 * a->msgs.len;
 }
 
-static void put_forward(struct bits *b, const struct args *a)
+static void put_forward(struct bits *b, int plain, const struct args *a)
 {
     static const uint64_t low[] = {1996, 1, 1, 0, 0, 0, 2};
     static const unsigned width[] = {7, 4, 5, 5, 6, 6, 3};
@@ -693,26 +749,39 @@ static void put_forward(struct bits *b, const struct args *a)
     put(b, a->n[9], (unsigned)(7 * a->n[8]));
     put(b, a->n[10], 24);
     put(b, a->n[11], 1);
-    put_length(b, a->message);
+    if (!plain)
+        put_length(b, a->message);
     put_range(b, a->msgs.at, a->message);
 }
 
-static void put_apdu(struct bits *b, const struct out *o, unsigned side, const struct args *a)
+/* message data of application type 2: in a start, whether there is a message */
+static void put_plain(struct bits *b, int start, const struct args *a)
+{
+    if (start)
+        put(b, a->message != NONE, 1);
+    if (a->message != NONE)
+        put_range(b, a->msgs.at, a->message);
+}
+
+static void put_apdu(struct bits *b, const struct out *o, unsigned side, int plain, const struct args *a)
 {
     static const unsigned index[] = {[ABORT_USER] = 0, [ABORT_PROVIDER] = 1, [START] = 2, [SEND] = 3, [FORWARD] = 4, [RESPONSE] = 5};
     put(b, index[o->apdu], side == AIR ? 3 : 4); /* the extension bit, and the alternative in 2 or 3 bits */
     if (o->apdu == ABORT_USER)
-        put(b, o->apdu_value, 5);
+        put(b, o->apdu_value, plain ? 4 : 5);
     else if (o->apdu == ABORT_PROVIDER)
         put(b, o->apdu_value, 4);
     else if (o->apdu == RESPONSE)
         put(b, o->apdu_value, 3);
     else if (o->apdu == FORWARD)
-        put_forward(b, a);
+        put_forward(b, plain, a);
     else {
         if (o->apdu == START && side == AIR)
             put(b, o->apdu_value ? 3 : 0, o->apdu_value ? 2 : 1);
-        put_data(b, a);
+        if (plain)
+            put_plain(b, o->apdu == START, a);
+        else
+            put_data(b, a);
     }
 }
 
@@ -726,8 +795,8 @@ static int stale(enum which w, const struct rec *r, uint64_t number) { return is
 
 static uint64_t fresh(struct args *a)
 {
-    struct rec r = {(unsigned)a->n[0], IDLE, 0, 0, 0, 0, (unsigned)a->n[1], (unsigned)a->n[2], (unsigned)a->n[3], 0, 0};
-    if (a->rec.len != RECORD_BYTES || a->n[0] < 1 || a->n[0] > 2 || a->n[1] > 1 || a->n[2] > 1 || a->n[3] < 1 || a->n[3] > 255)
+    struct rec r = {(unsigned)a->n[0], IDLE, 0, 0, 0, 0, (unsigned)a->n[1], (unsigned)a->n[2], (unsigned)a->n[3], 0, 0, a->n[4] == 2};
+    if (a->rec.len != RECORD_BYTES || a->n[0] < 1 || a->n[0] > 2 || a->n[1] > 1 || a->n[2] > 1 || a->n[3] < 1 || a->n[3] > 255 || (a->n[4] != 2 && a->n[4] != 22))
         return 2;
     save(&r, a->rec);
     return 0;
@@ -871,13 +940,13 @@ static uint64_t forward_part(struct args *a)
     struct reader r = reader_of(a->bytes, 8 * a->bytes.len);
     if (a->first.len < BUFFER_LEAST)
         return 1;
-    if (a->n[0] > 10)
+    if (a->n[0] > 10 && (a->n[0] < 16 || a->n[0] > 26))
         return 2;
-    get_forward(&r, &f);
+    get_forward(&r, a->n[0] >= 16, &f);
     get_end(&r);
     if (r.bad)
         return refused(&r);
-    return a->n[0] < 10 ? f.part[a->n[0]] << 8 : forward_bits(a, &r, &f);
+    return a->n[0] % 16 < 10 ? f.part[a->n[0] % 16] << 8 : forward_bits(a, &r, &f);
 }
 
 static uint64_t read_forward(struct args *a)
@@ -887,9 +956,9 @@ static uint64_t read_forward(struct args *a)
     unsigned i;
     if (a->first.len < BUFFER_LEAST)
         return 1;
-    if (a->ids.len != HEADING_BYTES)
+    if (a->ids.len != HEADING_BYTES || (a->n[0] != 2 && a->n[0] != 22))
         return 2;
-    get_forward(&r, &f);
+    get_forward(&r, a->n[0] == 2, &f);
     get_end(&r);
     if (r.bad)
         return refused(&r);
@@ -918,8 +987,8 @@ uint64_t model_call(enum which w, struct args *a)
     }
     if (a->first.len < BUFFER_LEAST || a->second.len < BUFFER_LEAST)
         return 1;
-    if (!load(a->rec, &r) || (has_data(w) && !data_fits(a)) || (w == FORWARD_REQUEST && !forward_fits(a)) ||
-        (is_service(w) && w != D_P_ABORT_INDICATION && a->given > 1) || !shapely(w, r.side, a->n))
+    if (!load(a->rec, &r) || (has_data(w) && !data_fits(&r, a)) || (w == FORWARD_REQUEST && !forward_fits(&r, a)) ||
+        (is_service(w) && w != D_P_ABORT_INDICATION && a->given > 1) || !shapely(w, &r, a))
         return 2;
     if (stale(w, &r, a->number))
         return 6;
@@ -931,12 +1000,14 @@ uint64_t model_call(enum which w, struct args *a)
     if (is_start(w)) /* also where its state or a fault turns it away */
         o.rec.number = a->number;
     one.n = two.n = 0;
+    if (r.plain && o.apdu == SEND && a->message == NONE)
+        o.apdu = MISSING; /* 004, S-4.4, S-5.4, S-7.1, S-9.1, S-9.2 */
     if (o.apdu != MISSING)
-        put_apdu(&one, &o, r.side, a);
+        put_apdu(&one, &o, r.side, r.plain, a);
     if (o.data) {
         struct reader from = reader_of(a->bytes, 8 * a->bytes.len);
         from.at = p.data;
-        if (p.kind != FORWARD)
+        if (p.kind != FORWARD && !r.plain)
             from.at++, put(&two, 0, 1); /* without additions */
         while (from.at < p.data_to)
             put(&two, get(&from, 1), 1);

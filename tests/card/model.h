@@ -1,6 +1,6 @@
 /*
  * The card as the documents give it, to be compared with the card as it is: Doc 9880 3.5.3 and 3.5.4, Doc 9705 2.3.4 and
- * 2.3.5, X.691 and document 01. It shares no code and no header with the card. The two machines are written apart and by
+ * 2.3.5, X.691 and document 01; for application type 2 (document 02, E14) the tables of source document 004. It shares no code and no header with the card. The two machines are written apart and by
  * event; the card has one machine over the side. model.c has the machines, the APDUs and the envelope, message.c the CPDLC
  * message.
  */
@@ -73,11 +73,15 @@ uint64_t get(struct reader *r, size_t width);
 uint64_t get_more(struct reader *r, size_t width);
 void skip(struct reader *r, size_t width);
 
-/* message.c */
+/* message.c. A message of a direction in place, or its elements alone: the reader goes behind it, and meets its faults. */
+void get_message(struct reader *r, unsigned direction);
+void get_elements(struct reader *r, unsigned direction);
 uint64_t read_message(struct args *a);
 uint64_t write_message(struct args *a);
 /* a message range and its text that are a message, or nearly; the length of the text */
 size_t make_message(uint64_t (*any)(void), unsigned direction, uint8_t *message, uint8_t *text);
+/* the bits of a header, of what a message range says */
+size_t header_bits(const uint8_t *message);
 
 #define NONE ((uint64_t)-1)
 

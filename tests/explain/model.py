@@ -1,5 +1,5 @@
 """What the program `explain` prints of a line, worked out from the documents: the fields by tests/per's readers, which know nothing of the card, and the
-refusals by tests/apdu's and tests/inner's models."""
+refusals by tests/apdu's, tests/plain's and tests/inner's models."""
 import importlib.util
 import sys
 from pathlib import Path
@@ -21,10 +21,11 @@ def load(name, path, **beside):
 pdus = load("apdu_reference", TESTS / "apdu" / "reference.py")
 sys.path.insert(0, str(TESTS / "inner"))
 import message as cpdlc  # noqa: E402
+plain = load("plain_reference", TESTS / "plain" / "plain.py")
 per = cpdlc.per
 
 NAMES = {10: "SHORT", 11: "RANGE", 12: "EXTENSION", 13: "LENGTH-FORM", 14: "LIMIT", 15: "TAIL", 16: "NOT-CARRIED", 17: "DEFAULT"}
-NOT_READ = "not read: a line is `air BYTES`, `ground BYTES`, `down COUNT BYTES` or `up COUNT BYTES`"
+NOT_READ = "not read: a line is `air BYTES`, `ground BYTES`, `air2 BYTES`, `ground2 BYTES`, `down COUNT BYTES` or `up COUNT BYTES`"
 # the numbers of feet and metres are counted from the lowest
 LEVELS = ((0, 7060), (0, 25030), (30, 700), (100, 2500))
 
@@ -73,24 +74,42 @@ class Rows:
         if extended:
             self.additions()
 
-    def apdu(self, side):
+    def sent(self, side, of_two):
+        """What a send holds: message data, or in type 2 a message in place."""
+        if of_two:
+            self.message(plain.SENT[side])
+        else:
+            self.data()
+
+    def started(self, side, of_two):
+        if not of_two:
+            self.data()
+        elif self.field("message or none", per.bit_field, 1):
+            self.message(plain.SENT[side])
+
+    def apdu(self, side, of_two):
         self.extension()
         index = self.whole("alternative", 0, pdus.LAST[side])
         if index < 2:
             self.extension()
-            self.whole(("reason of the user", "reason of the provider")[index], 0, (12, 7)[index])
+            self.whole(("reason of the user", "reason of the provider")[index], 0, (6 if of_two else 12, 7)[index])
         elif index == 2 and side == pdus.AIR and self.field("presence of the mode", per.bit_field, 1):
             if self.whole("mode", 0, 1):
-                self.data()
-        elif index < 4:
-            self.data()
+                self.started(side, of_two)
+        elif index == 2:
+            self.started(side, of_two)
+        elif index == 3:
+            self.sent(side, of_two)
         elif index == 4:
             for name, low, high in pdus.NUMBERS:
                 count = self.whole(name, low, high)
             self.field("characters", per.contents, 7, 0, count)
             self.field("address", per.contents, 1, 0, 24)
-            self.whole("direction", 0, 1)
-            self.string("message", 1, 0, 16383)
+            direction = self.whole("direction", 0, 1)
+            if of_two:
+                self.body(plain.FORWARDED[direction])
+            else:
+                self.string("message", 1, 0, 16383)
         else:
             self.extension()
             self.whole("result of the forward", 0, 2)
@@ -131,6 +150,10 @@ class Rows:
         self.whole("seconds", 0, 59)
         if there & 1 and self.whole("acknowledgement", 0, 1):
             return
+        self.body(direction)
+
+    def body(self, direction):
+        """What follows the header."""
         if self.whole("presence of constrained data", 0, 1):
             return
         for _ in range(self.whole("count of elements", 1, 5)):
@@ -155,14 +178,14 @@ def shown(rows, walk, verdict, data):
     return rows.lines + [f"refused {number} {NAMES[number]} at bit {at}: byte {byte}, bit {bit}", hexed, " " * (3 * byte + bit // 4) + "^"]
 
 
-def explain_apdu(side, data):
+def explain_apdu(side, data, of_two):
     rows = Rows(pdus.unpacked(data))
     try:
-        pdus.read(side, data)
+        (plain if of_two else pdus).read(side, data)
         verdict = None
-    except pdus.Refused as why:
+    except (plain.Refused, pdus.Refused) as why:
         verdict = why.number, why.at
-    return shown(rows, lambda: rows.apdu(side), verdict, data)
+    return shown(rows, lambda: rows.apdu(side, of_two), verdict, data)
 
 
 def explain_message(direction, count, data):
@@ -190,10 +213,10 @@ def taken(text):
 
 def explain(line):
     """Every line that is printed of a line."""
-    for word, side in (("air ", pdus.AIR), ("ground ", pdus.GROUND)):
+    for word, side, of_two in (("air ", pdus.AIR, False), ("ground ", pdus.GROUND, False), ("air2 ", pdus.AIR, True), ("ground2 ", pdus.GROUND, True)):
         if line.startswith(word):
             data = taken(line[len(word):])
-            return [line] + ([NOT_READ] if data is None else explain_apdu(side, data))
+            return [line] + ([NOT_READ] if data is None else explain_apdu(side, data, of_two))
     for word, direction in (("down ", cpdlc.DOWNLINK), ("up ", cpdlc.UPLINK)):
         if line.startswith(word):
             count, _, rest = line[len(word):].partition(" ")

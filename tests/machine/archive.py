@@ -1,5 +1,5 @@
 #!/usr/bin/env python3
-"""Asks the card's archive for the table of model.py, call by call (calls.c), and compares.
+"""Asks the card's archive for the tables of model.py, of both application types, call by call (calls.c), and compares.
 
     archive.py COMMAND..    the command that runs calls.c; status 0 exactly if every line is the model's
 
@@ -28,21 +28,32 @@ NONE, HELD = 2**64 - 1, 1                                                   # PE
 USER_ABORT, PROVIDER_ABORT = ("abort user", 5), ("abort provider", 1)
 
 
+PLAIN_BITS = {"air": 53, "ground": 54, "forward": 13}                       # of type 2: dM0, uM0, the elements of uM0
+
+
 class Archive:
-    def __init__(self, command):
+    def __init__(self, command, plain):
         self.program = subprocess.Popen(command, stdin=subprocess.PIPE, stdout=subprocess.PIPE, text=True)
-        self.pdus, self.asked, self.left_out = {}, 0, 0
+        self.pdus, self.asked, self.left_out, self.plain = {}, 0, 0, plain
         self.learn()
+
+    def message_bits(self, side, name, p):
+        """The bits of the message that a call is given. In type 2 a response and an end have one where the model does not say that they have none."""
+        forward = name == "CPDLC-forward request"
+        if not self.plain:
+            return 8 if p.get("message") or forward else NONE
+        with_data = name.endswith(("response", "end request", "message request"))
+        return PLAIN_BITS["forward" if forward else side] if forward or (with_data and p.get("message", True)) else NONE
 
     def call(self, side, r, ev, data=None):
         """data: the user data, "" for none. The fields that calls.c prints."""
         name, p = ev
-        rec = bytes([1 if side == "air" else 2, STATES.index(r.state), r.dsc, r.timer, r.active, r.request, r.policy, r.forwards, r.version])
+        rec = bytes([(1 if side == "air" else 2) + (2 if self.plain else 0), STATES.index(r.state), r.dsc, r.timer, r.active, r.request, r.policy, r.forwards, r.version])
         rec += r.highest.to_bytes(8, "big") + HELD.to_bytes(8, "big")
         n = [MODES[p[c]] if c == "mode" else NONE if c == "reason" and not p["given"] else p[c] for c in CODES.get(name, ["result"] if "result" in p else [])]
         n += WHEN_AND_WHO if name == "CPDLC-forward request" else []
         brings = HELD + (name in ("start request", "CPDLC-forward request", "D-START indication"))
-        message = 8 if p.get("message") or name == "CPDLC-forward request" else NONE
+        message = self.message_bits(side, name, p)
         words = [WHICH.index(name), rec.hex(), brings, *(n + [0] * 12)[:12], message, int(bool(data)), data or "-"]
         self.program.stdin.write(" ".join(map(str, words)) + "\n")
         self.program.stdin.flush()
@@ -85,7 +96,7 @@ class Archive:
         fields = self.call(side, r, ev, data)
         rec = bytes.fromhex(fields[1])
         refusal, invoked, parameter, security, version, told, told_parameter, dsc, bits, kind, number = map(int, [fields[0]] + fields[2:12])
-        after = Rec(STATES[rec[1]], bool(rec[2]), bool(rec[3]), bool(rec[4]), int.from_bytes(rec[9:17], "big"), rec[5], rec[6], bool(rec[7]), rec[8])
+        after = Rec(STATES[rec[1]], bool(rec[2]), bool(rec[3]), bool(rec[4]), int.from_bytes(rec[9:17], "big"), rec[5], rec[6], bool(rec[7]), rec[8], rec[0] > 2)
         o = model.Out(after, refusal)
         if refusal:
             return o
@@ -98,12 +109,13 @@ class Archive:
         o.user = [None, (service + "-start indication", told_parameter), (service + "-start confirmation", told_parameter), ("CPDLC-message indication",),
                   (service + "-end indication",), (service + "-end confirmation", told_parameter), ("CPDLC-user-abort indication", told_parameter),
                   ("CPDLC-provider-abort indication", told_parameter), ("CPDLC-forward indication",), ("CPDLC-forward confirmation", told_parameter, version)][told]
-        o.data = bits > 0 and told != 8
+        o.data = 1 <= told <= 5 if self.plain else bits > 0 and told != 8     # in type 2 the data may hold nothing
         return o
 
 
-def main(command):
-    archive, wrong, lines = Archive(command), [], 0
+def ask(command, plain):
+    """what to print, and whether every line is the model's"""
+    archive, wrong, lines = Archive(command, plain), [], 0
 
     def both(side, r, ev):
         nonlocal lines
@@ -114,15 +126,21 @@ def main(command):
                 wrong.append((side, vars(r), ev, model.cell(o), model.cell(m)))
         return m
 
-    for side, _, r, ev in model.points():
+    for side, _, r, ev in model.points(plain):
         both(side, r, ev)
-    with contextlib.redirect_stdout(io.StringIO()):
-        model.jobs(both)
+    if not plain:
+        with contextlib.redirect_stdout(io.StringIO()):
+            model.jobs(both)
     for where in wrong[:5]:
         print("archive: %s %s %s\n  archive: %s\n  model:   %s" % where)
-    print("%d lines of the archive, %d that no APDU can say, %d differ" % (lines, archive.left_out, len(wrong)))
     archive.program.stdin.close()
-    return 1 if wrong or archive.program.wait() else 0
+    return "%d lines of the archive, %d that no APDU can say, %d differ" % (lines, archive.left_out, len(wrong)), not wrong and archive.program.wait() == 0
+
+
+def main(command):
+    (words, right), (plain_words, plain_right) = ask(command, False), ask(command, True)
+    print(f"{words}; of type 2 {plain_words}")
+    return 0 if right and plain_right else 1
 
 
 if __name__ == "__main__":

@@ -55,7 +55,7 @@ static void print_bytes(const uint8_t *at, size_t n)
 int main(void)
 {
     static uint8_t rec[PEAT_RECORD_BYTES], user[4096], first[PEAT_BUFFER_LEAST], second[PEAT_BUFFER_LEAST];
-    static uint8_t message[] = {0xA5}, check[] = {0};
+    static uint8_t message[] = {0xA5}, plain_message[8], check[] = {0}; /* of type 2: dM0 or uM0 of 1996-01-01, and their elements, are zeros */
     static char line[16384];
     while (fgets(line, sizeof line, stdin) != NULL) {
         struct args a;
@@ -73,13 +73,15 @@ int main(void)
         a.bytes.at = user, a.bytes.len = bytes(word(), user, sizeof user);
         a.rec.at = rec, a.rec.len = sizeof rec;
         a.msgs.at = message, a.msgs.len = sizeof message;
+        if (peat_record_type(rec) == PEAT_PLAIN)
+            a.msgs.at = plain_message, a.msgs.len = sizeof plain_message;
         a.checks.at = check, a.checks.len = sizeof check;
         a.first.at = first, a.first.len = sizeof first;
         a.second.at = second, a.second.len = sizeof second;
         said = card_call((enum which)which, &a);
         sent = peat_refusal(said) == PEAT_TAKEN ? peat_apdu_bytes(said) : 0;
         if (sent > 0)
-            apdu = peat_read_apdu(peat_record_side(rec), first, sent);
+            apdu = peat_read_apdu(rec[PEAT_RECORD_SIDE], first, sent);
         if (peat_refusal(apdu) != PEAT_TAKEN)
             fail("what was sent is no APDU");
         printf("%u", peat_refusal(said));

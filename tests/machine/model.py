@@ -3,9 +3,10 @@
 
 Air: Doc 9880 3.5.3 and 3.5.4, and Doc 9705 2.3.5.3 where the extract is silent. Ground: Doc 9705 2.3.5.5 and 2.3.5.6, and
 Doc 9880 3.5.5.1.6 for who is an active user. Document 01 decides where they differ. The two machines are written apart, each
-from its own pages, and share nothing but the words for records and outcomes.
+from its own pages, and share nothing but the words for records and outcomes, and what application type 2 does otherwise (document 02, E14; source document 004).
 
     model.py            the table: every event at both machines and at many records, and the outcome
+    model.py plain      the same for records of application type 2, with and without a message in responses and ends
     model.py control    the numbers of the computed test of the finite control
 """
 import sys
@@ -20,13 +21,14 @@ MISSING_PDU, BAD_PDU = "missing", "invalid"
 
 
 class Rec:
-    def __init__(self, state=IDLE, dsc=False, timer=False, active=False, highest=0, request=0, policy=0, forwards=False, version=1):
+    def __init__(self, state=IDLE, dsc=False, timer=False, active=False, highest=0, request=0, policy=0, forwards=False, version=1, plain=False):
         self.state, self.dsc, self.timer, self.active = state, dsc, timer, active
         self.highest, self.request, self.policy = highest, request, policy
         self.forwards, self.version = forwards, version     # of the forward service; given once
+        self.plain = plain                                  # application type 2; given once
 
     def key(self):
-        return (self.state, self.dsc, self.timer, self.active, self.highest, self.request, self.policy, self.forwards, self.version)
+        return (self.state, self.dsc, self.timer, self.active, self.highest, self.request, self.policy, self.forwards, self.version, self.plain)
 
 
 class Out:
@@ -81,14 +83,34 @@ def no_instruction(r, exists=True):
     return provider_abort(r, PROTO if exists else None, PROTO)
 
 
-def shape(ev, modes):
+# ---- application type 2 (source document 004)
+
+def sends(r, p):
+    """The user data of a response or an end: type 2 has none where there is no message (S-4.4, S-5.4, S-7.1, S-9.1)."""
+    return None if r.plain and not p.get("message", True) else ("send",)
+
+
+def carried(r, security):
+    """Type 2 has no security (S-4 to S-11)."""
+    return 0 if r.plain else security
+
+
+def differs(r, security, other):
+    return not r.plain and security != other
+
+
+def last_reason(r):
+    return 6 if r.plain else 12                                         # M-1.1.1; 2.3.4
+
+
+def shape(ev, modes, r):
     """Codes outside their types; received quality of service is any number. modes: those of the machine's start request (document 02, E7)."""
     name, p = ev
     two, three = (0, 1), (0, 1, 2)
 
     def apdu_ok(a):
         if isinstance(a, tuple) and a[0] == "abort user":
-            return 0 <= a[1] <= 12
+            return 0 <= a[1] <= last_reason(r)
         if isinstance(a, tuple) and a[0] == "abort provider":
             return 0 <= a[1] <= 7
         if isinstance(a, tuple) and a[0] == "forward response":
@@ -99,12 +121,14 @@ def shape(ev, modes):
         return p["mode"] in modes and 0 <= p["class"] <= 8 and p["security"] in two
     if name == "CPDLC-forward request":
         return 0 <= p["class"] <= 8 and p["security"] in two
+    if name in ("CPDLC-start response", "DSC-start response") and r.plain and p["result"] == 0 and p.get("message", True):
+        return False                                                    # S-4.4, S-5.4: a message gives the reason for a rejection
     if name in ("CPDLC-start response", "DSC-start response", "CPDLC-end response", "DSC-end response"):
         return p["result"] in two
     if name == "CPDLC-message request":
         return p["job"] >= 1
     if name == "CPDLC-user-abort request":
-        return 0 <= p["reason"] <= 12
+        return 0 <= p["reason"] <= last_reason(r)
     if name == "D-START indication":
         return p["peer"] in two and p["security"] in two and 0 <= p["version"] <= 255 and apdu_ok(p["apdu"])
     if name == "D-START confirmation":
@@ -131,7 +155,7 @@ def forward_confirmed(r, p):
     a, accepted = p["apdu"], p["result"] == 0
     if p["result"] == 2 or p["source"] == 1:
         return provider_abort(r, None, SVC_ERR)                         # 2.3.5.6.5
-    if p["security"] != r.request:                                      # 2.3.5.6.8
+    if differs(r, p["security"], r.request):                            # 2.3.5.6.8
         return provider_abort(r, SVC_FAIL if accepted else None, SVC_FAIL)
     if a == MISSING_PDU:                                                # 2.3.5.6.7
         return provider_abort(r, MISSING, NOT_PERMITTED)
@@ -148,7 +172,7 @@ def forward_confirmed(r, p):
 
 def air(r, ev):
     name, p = ev
-    if not shape(ev, ("cpdlc", "dsc")):
+    if not shape(ev, ("cpdlc", "dsc"), r):
         return refuse(r, 2)
     s, dsc = r.state, r.dsc
 
@@ -159,15 +183,15 @@ def air(r, ev):
         n = to(r, REQ)
         if p["mode"] == "dsc":
             n.dsc = True
-        n.timer, n.active, n.request = True, True, p["security"]
+        n.timer, n.active, n.request = True, True, carried(r, p["security"])
         o = Out(n)
-        o.ds, o.apdu = ("D-START request", 1, 1, p["class"], p["security"]), ("start", p["mode"])
+        o.ds, o.apdu = ("D-START request", 1, 1, p["class"], carried(r, p["security"])), ("start", p["mode"])
         return o
     if name == "CPDLC-start response":                                  # 2.3.5.3.8
         if s != IND or dsc:
             return refuse(r, 3)
         o = Out(to(r, DLG) if p["result"] == 0 else idle(r))
-        o.ds, o.apdu = ("D-START response", p["result"], r.policy), ("send",)
+        o.ds, o.apdu = ("D-START response", p["result"], carried(r, r.policy)), sends(r, p)
         return o
     if name == "CPDLC-message request":                                 # 3.5.3.10
         if not (s == DLG or (s == END and not dsc)):
@@ -185,13 +209,13 @@ def air(r, ev):
         if s != END or dsc:
             return refuse(r, 3)
         o = Out(idle(r) if p["result"] == 0 else to(r, DLG))
-        o.ds, o.apdu = ("D-END response", p["result"]), ("send",)
+        o.ds, o.apdu = ("D-END response", p["result"]), sends(r, p)
         return o
     if name == "DSC-end request":                                       # 3.5.3.12
         if s != DLG or not dsc:
             return refuse(r, 3)
         o = Out(to(r, END))
-        o.ds, o.apdu = ("D-END request",), ("send",)
+        o.ds, o.apdu = ("D-END request",), sends(r, p)
         return o
     if name == "CPDLC-user-abort request":                              # 3.5.3.13
         if s == IDLE:
@@ -213,7 +237,7 @@ def air(r, ev):
             return no_instruction(r)
         if not qos_right(p):
             return provider_abort(r, QOS, None)                         # 3.5.4.6
-        if p["security"] != r.policy:
+        if differs(r, p["security"], r.policy):
             return provider_abort(r, SVC_FAIL, SVC_FAIL)                # 3.5.4.8
         if a == MISSING_PDU:
             return provider_abort(r, MISSING, NOT_PERMITTED)            # 3.5.4.7
@@ -235,14 +259,14 @@ def air(r, ev):
             return no_instruction(r)
         if p["result"] == 2 or p["source"] == 1:
             return provider_abort(r, None, SVC_ERR)                     # 3.5.4.5
-        if p["security"] != r.request:                                  # 3.5.4.8; open after "accepted" only
+        if differs(r, p["security"], r.request):                        # 3.5.4.8; open after "accepted" only
             return provider_abort(r, SVC_FAIL if p["result"] == 0 else None, SVC_FAIL)
-        if a == MISSING_PDU:
+        if a == MISSING_PDU and not r.plain:
             return provider_abort(r, MISSING, NOT_PERMITTED)            # 3.5.4.7
         if a == BAD_PDU:                                                # 3.5.4.3.1, 3.5.4.3.2
             return provider_abort(r, INVALID if p["result"] == 0 else None, INVALID)
-        if a != ("send",):
-            return provider_abort(r, PROTO, PROTO)                      # 3.5.4.4.1
+        if a != MISSING_PDU and (a != ("send",) or r.plain and p["result"] == 0):
+            return provider_abort(r, PROTO, PROTO)                      # 3.5.4.4.1; 004, S-4.4, S-5.4: "accepted" has no user data
         kind = "DSC" if dsc else "CPDLC"
         n = to(r, DLG) if p["result"] == 0 else idle(r)
         n.timer = False
@@ -264,11 +288,11 @@ def air(r, ev):
     if name == "D-END indication":                                      # 2.3.5.3.5
         if s != DLG or dsc:
             return no_instruction(r)
-        if a == MISSING_PDU:
+        if a == MISSING_PDU and not r.plain:
             return provider_abort(r, MISSING, NOT_PERMITTED)
         if a == BAD_PDU:
             return provider_abort(r, INVALID, INVALID)
-        if a != ("send",):
+        if a not in (("send",), MISSING_PDU):
             return provider_abort(r, PROTO, PROTO)
         o = Out(to(r, END))
         o.user, o.data = ("CPDLC-end indication",), True
@@ -277,11 +301,11 @@ def air(r, ev):
         if s != END or not dsc:
             return no_instruction(r)
         refused = p["result"] == 1
-        if a == MISSING_PDU:
+        if a == MISSING_PDU and not r.plain:
             return provider_abort(r, MISSING, NOT_PERMITTED)            # 3.5.4.7
         if a == BAD_PDU:                                                # 3.5.4.3.1, 3.5.4.3.2
             return provider_abort(r, INVALID if refused else None, INVALID)
-        if a != ("send",):                                              # 3.5.4.4.2
+        if a not in (("send",), MISSING_PDU):                           # 3.5.4.4.2
             return provider_abort(r, PROTO if refused else None, PROTO)
         o = Out(to(r, DLG) if refused else idle(r))
         o.user, o.data = ("DSC-end confirmation", p["result"]), True
@@ -309,11 +333,13 @@ def air(r, ev):
 
 def ground(r, ev):
     name, p = ev
-    if not shape(ev, ("cpdlc",)):
+    if not shape(ev, ("cpdlc",), r):
         return refuse(r, 2)
     st = r.state
 
-    def bad_pdu(a, wanted, open_invalid=True, open_wrong=True):
+    def bad_pdu(a, wanted, open_invalid=True, open_wrong=True, spared=False):
+        if a == MISSING_PDU and spared and r.plain:                     # 004, S-4 to S-9
+            return None
         if a == MISSING_PDU:                                            # 2.3.5.6.7
             return provider_abort(r, MISSING, NOT_PERMITTED)
         if a == BAD_PDU:                                                # 2.3.5.6.3
@@ -336,17 +362,17 @@ def ground(r, ev):
     if name == "start request" and st == IDLE:                          # 2.3.5.5.7
         n = to(r, REQ)
         n.timer = n.active = True
-        n.request = p["security"]
-        return user_taken(n, ("D-START request", 1, 1, p["class"], p["security"]), ("start", "cpdlc"))
+        n.request = carried(r, p["security"])
+        return user_taken(n, ("D-START request", 1, 1, p["class"], carried(r, p["security"])), ("start", "cpdlc"))
     if name == "CPDLC-forward request" and st == IDLE:                  # 2.3.5.5.13.1; active: 3.5.5.1.6 d
         n = to(r, FWD)
         n.timer = n.active = True
-        n.request = p["security"]
-        return user_taken(n, ("D-START request", 1, 1, p["class"], p["security"], r.version), ("forward",))
+        n.request = carried(r, p["security"])
+        return user_taken(n, ("D-START request", 1, 1, p["class"], carried(r, p["security"]), r.version), ("forward",))
     if name == "CPDLC-start response" and st == IND and not r.dsc:      # 2.3.5.5.8
-        return user_taken(to(r, DLG) if p["result"] == 0 else idle(r), ("D-START response", p["result"], r.policy), ("send",))
+        return user_taken(to(r, DLG) if p["result"] == 0 else idle(r), ("D-START response", p["result"], carried(r, r.policy)), sends(r, p))
     if name == "DSC-start response" and st == IND and r.dsc:            # 2.3.5.5.9
-        return user_taken(to(r, DLG) if p["result"] == 0 else idle(r), ("D-START response", p["result"], r.policy), ("send",))
+        return user_taken(to(r, DLG) if p["result"] == 0 else idle(r), ("D-START response", p["result"], carried(r, r.policy)), sends(r, p))
     if name == "CPDLC-message request" and (st == DLG or st == END and r.dsc):  # 2.3.5.5.10
         if not p["message"]:
             return refuse(r, 4)
@@ -356,9 +382,9 @@ def ground(r, ev):
         n.highest = p["job"]
         return user_taken(n, ("D-DATA request",), ("send",))
     if name == "CPDLC-end request" and st == DLG and not r.dsc:         # 2.3.5.5.11
-        return user_taken(to(r, END), ("D-END request",), ("send",))
+        return user_taken(to(r, END), ("D-END request",), sends(r, p))
     if name == "DSC-end response" and st == END and r.dsc:              # 2.3.5.5.12
-        return user_taken(idle(r) if p["result"] == 0 else to(r, DLG), ("D-END response", p["result"]), ("send",))
+        return user_taken(idle(r) if p["result"] == 0 else to(r, DLG), ("D-END response", p["result"]), sends(r, p))
     if name == "CPDLC-user-abort request" and st != IDLE:               # 2.3.5.5.14
         return user_taken(idle(r), ("D-ABORT request", 0), ("abort user", p["reason"] if p["given"] else 0))
     if name == "timer expires" and r.timer:                             # 2.3.5.6.1
@@ -373,18 +399,18 @@ def ground(r, ev):
     if name == "D-START indication" and st == IDLE:                     # 2.3.5.5.2
         if not qos_right(p):
             return provider_abort(r, QOS, None)                         # 2.3.5.6.6
-        if p["security"] != r.policy:
+        if differs(r, p["security"], r.policy):
             return provider_abort(r, SVC_FAIL, SVC_FAIL)                # 2.3.5.6.8
         # what a facility sends is GroundPDUs, of which only a forward has an action
         fault = bad_pdu(a, is_start(a) if p["peer"] == 1 else a == ("forward",))
         if fault:
             return fault
         if p["peer"] == 0 and not r.forwards:                           # 2.3.5.5.2.4
-            return user_taken(idle(r), ("D-START response", 1, p["security"], 0), ("forward response", NOT_SUPPORTED))
+            return user_taken(idle(r), ("D-START response", 1, carried(r, p["security"]), 0), ("forward response", NOT_SUPPORTED))
         if p["peer"] == 0 and p["version"] != r.version:                # 2.3.5.5.2.3 b
-            return user_taken(idle(r), ("D-START response", 1, p["security"], r.version), ("forward response", NOT_EQUAL))
+            return user_taken(idle(r), ("D-START response", 1, carried(r, p["security"]), r.version), ("forward response", NOT_EQUAL))
         if p["peer"] == 0:                                              # 2.3.5.5.2.3 a; the user does not become active
-            o = user_taken(idle(r), ("D-START response", 1, p["security"], 0), ("forward response", SUCCESS))
+            o = user_taken(idle(r), ("D-START response", 1, carried(r, p["security"]), 0), ("forward response", SUCCESS))
             o.user = ("CPDLC-forward indication",)
             return o
         n = to(r, IND)
@@ -398,9 +424,9 @@ def ground(r, ev):
         if p["result"] == 2 or p["source"] == 1:
             return provider_abort(r, None, SVC_ERR)                     # 2.3.5.6.5
         accepted = p["result"] == 0
-        if p["security"] != r.request:
+        if differs(r, p["security"], r.request):
             return provider_abort(r, SVC_FAIL if accepted else None, SVC_FAIL)
-        fault = bad_pdu(a, a == ("send",), open_invalid=accepted)
+        fault = bad_pdu(a, a == ("send",) and not (r.plain and accepted), open_invalid=accepted, spared=True)   # 004, S-4.4: "accepted" has no user data
         if fault:
             return fault
         n = to(r, DLG) if accepted else idle(r)
@@ -409,10 +435,10 @@ def ground(r, ev):
     if name == "D-DATA indication" and (st == DLG or st == END and not r.dsc):  # 2.3.5.5.4
         return bad_pdu(a, a == ("send",)) or user_told(copy(r), ("CPDLC-message indication",))
     if name == "D-END indication" and st == DLG and r.dsc:              # 2.3.5.5.5
-        return bad_pdu(a, a == ("send",)) or user_told(to(r, END), ("DSC-end indication",))
+        return bad_pdu(a, a == ("send",), spared=True) or user_told(to(r, END), ("DSC-end indication",))
     if name == "D-END confirmation" and st == END and not r.dsc:        # 2.3.5.5.6
         rejected = p["result"] == 1
-        return bad_pdu(a, a == ("send",), rejected, rejected) or user_told(
+        return bad_pdu(a, a == ("send",), rejected, rejected, spared=True) or user_told(
             to(r, DLG) if rejected else idle(r), ("CPDLC-end confirmation", p["result"]))
     if name == "D-ABORT indication":                                    # 2.3.5.5.15
         fits = {0: "abort user", 1: "abort provider"}[p["originator"]]
@@ -441,8 +467,8 @@ SEND, START, START_DSC, FORWARD, RESPONSE = ("send",), ("start", "cpdlc"), ("sta
 OWN = 3     # the version of the records of the table
 
 
-def rows(policy):
-    """(title, event) in the order of the table, at records that accept the security value `policy`."""
+def rows(policy, plain=False):
+    """(title, event) in the order of the table, at records that accept the security value `policy`. plain: responses and ends without a message besides."""
     results = {0: "accepted", 1: "rejected", 2: "rejected (transient)"}
     pdus = {SEND: "send", START: "start cpdlc", START_DSC: "start dsc", FORWARD: "forward", RESPONSE: "forward response 2", ("abort user", 5): "abort user 5",
             ("abort provider", 1): "abort provider 1", BAD_PDU: "invalid", MISSING_PDU: "missing"}
@@ -456,17 +482,21 @@ def rows(policy):
 
     for kind in ("CPDLC", "DSC"):
         yield asked(kind.lower())
-        for n in (0, 1):
-            yield title(kind + "-start response", results[n]), (kind + "-start response", {"result": n})
-        yield kind + "-end request", (kind + "-end request", {})
-        for n in (0, 1):
-            yield title(kind + "-end response", results[n]), (kind + "-end response", {"result": n})
+        for message in (True, False) if plain else (True,):
+            held, none = {} if message else {"message": False}, "" if message else "no message"
+            for n in (0, 1):
+                yield title(kind + "-start response", results[n], none), (kind + "-start response", {"result": n, **held})
+            yield title(kind + "-end request", none), (kind + "-end request", held)
+            for n in (0, 1):
+                yield title(kind + "-end response", results[n], none), (kind + "-end response", {"result": n, **held})
     yield asked("no mode")
     for message, job in ((True, 8), (False, 8), (True, 7), (False, 7), (True, 0)):
         yield title("CPDLC-message request", "job %d" % job, "" if message else "no message"), (
             "CPDLC-message request", {"message": message, "job": job})
     for given in (True, False):
         yield title("CPDLC-user-abort request", "reason 5" if given else ""), ("CPDLC-user-abort request", {"given": given, "reason": 5})
+    for reason in (6, 7) if plain else ():
+        yield title("CPDLC-user-abort request", "reason %d" % reason), ("CPDLC-user-abort request", {"given": True, "reason": reason})
     yield "timer expires", ("timer expires", {})
     yield "system error", ("system error", {})
     yield "CPDLC-forward request", ("CPDLC-forward request", {"class": 2, "security": policy})
@@ -534,28 +564,28 @@ def cell(o):
     return text
 
 
-def made(state, dsc, active, reverse=False, policy=0, forwards=False):
+def made(state, dsc, active, reverse=False, policy=0, forwards=False, plain=False):
     """The records of the table: timer and user as a run has them, or the user not active; or both the wrong way round, as no run
     has them. Highest job 7; the last request had the security value that local policy accepts."""
     timer, user = state in (REQ, FWD), active and state != IDLE
-    return Rec(state, dsc, timer != reverse, user != reverse, 7, policy, policy, forwards, OWN)
+    return Rec(state, dsc, timer != reverse, user != reverse, 7, policy, policy, forwards, OWN, plain)
 
 
-def points():
+def points(plain=False):
     """side, (view, title), record and event, in the order of the table"""
     for side in ("air", "ground"):
         for active, reverse, policy, forwards in ((True, False, 0, False), (False, False, 0, False), (True, True, 0, False), (True, False, 1, True), (True, False, 0, True)):
             view = side + ("" if active else ", user not active") + (", timer and user reversed" if reverse else "") + (", secured" if policy else "")
             view += ", forwarding" if forwards else ""
-            for title, ev in rows(policy):
+            for title, ev in rows(policy, plain):
                 for state in STATES:
                     for dsc in (False, True):
-                        yield side, (view, title), made(state, dsc, active, reverse, policy, forwards), ev
+                        yield side, (view, title), made(state, dsc, active, reverse, policy, forwards, plain), ev
 
 
-def table(step=step):
+def table(step=step, plain=False):
     above = None
-    for side, heading, r, ev in points():
+    for side, heading, r, ev in points(plain):
         if heading != above:
             print("%s: %s" % heading)
             above = heading
@@ -635,6 +665,8 @@ def control():
 if __name__ == "__main__":
     if sys.argv[1:] == ["control"]:
         control()
+    elif sys.argv[1:] == ["plain"]:
+        table(plain=True)
     else:
         table()
         jobs()

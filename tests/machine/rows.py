@@ -5,7 +5,8 @@ A row's number is the sum of its words; the columns are taken out of it at the p
 condition it has and what the columns say is done stands here once more, for the events and records of model.py. Refusal 2 (a code outside its type) is
 not the rows': model.py has it.
 
-    rows.py     prints the table of model.py, from the rows
+    rows.py         prints the table of model.py, from the rows
+    rows.py plain   the same for records of application type 2
 """
 import functools
 import re
@@ -117,8 +118,9 @@ def kind_of(a):
     return a if isinstance(a, str) else a[0]
 
 
-def pdu_first(a, condition):
-    return C.NO_PDU if a == model.MISSING_PDU else C.INVALID_PDU if a == model.BAD_PDU else condition
+def pdu_first(a, condition, may=False):
+    """may: a PDU that is absent counts as the send that it stands for"""
+    return (C.SEND if may else C.NO_PDU) if a == model.MISSING_PDU else C.INVALID_PDU if a == model.BAD_PDU else condition
 
 
 def start_condition(side, r, p):
@@ -144,15 +146,17 @@ def condition(side, r, ev):
     if name == "D-START indication":
         if not (p["priority"] == 1 and p["rate"] == 1 and p["class"] <= 8):
             return C.WRONG_QUALITY
-        return C.WRONG_SECURITY if p["security"] != r.policy else pdu_first(a, start_condition(side, r, p))
+        return C.WRONG_SECURITY if p["security"] != r.policy and not r.plain else pdu_first(a, start_condition(side, r, p))
     if name == "D-START confirmation":
         if p["result"] == 2 or p["source"] == 1:
             return C.TURNED_AWAY
-        if p["security"] != r.request:
+        if p["security"] != r.request and not r.plain:
             return C.WRONG_SECURITY
-        return pdu_first(a, {"send": C.SEND, "forward response": C.RESPONSE}.get(kind_of(a), C.OTHER_PDU))
+        may = r.plain and r.state != model.FWD
+        sent = C.OTHER_PDU if may and p["result"] == 0 else C.SEND
+        return pdu_first(a, {"send": sent, "forward response": C.RESPONSE}.get(kind_of(a), C.OTHER_PDU), may)
     if name in ("D-DATA indication", "D-END indication", "D-END confirmation"):
-        return pdu_first(a, C.SEND if kind_of(a) == "send" else C.OTHER_PDU)
+        return pdu_first(a, C.SEND if kind_of(a) == "send" else C.OTHER_PDU, r.plain and name != "D-DATA indication")
     if name == "D-ABORT indication":
         return {(0, "abort user"): C.ABORT_OF_USER, (1, "abort provider"): C.ABORT_OF_PROVIDER}.get((p["originator"], kind_of(a)), C.OTHER_PDU)
     return C.PLAIN
@@ -166,16 +170,17 @@ def after(code, old):
 
 def invokes(r, p, row):
     """the dialogue-service primitive and its APDU"""
-    class_, security, result = p.get("class"), p.get("security"), p.get("result")
+    class_, security, result = p.get("class"), 0 if r.plain else p.get("security"), p.get("result")
+    policy, held = 0 if r.plain else r.policy, None if r.plain and not p.get("message", True) else ("send",)
     aborted = p.get("reason", 0) if p.get("given") else 0
     return {
         C.SILENT: (None, None),
         C.START_OUT: (("D-START request", 1, 1, class_, security), ("start", "cpdlc")),
         C.DSC_START_OUT: (("D-START request", 1, 1, class_, security), ("start", "dsc")),
-        C.START_ANSWER: (("D-START response", result, r.policy), ("send",)),
+        C.START_ANSWER: (("D-START response", result, policy), held),
         C.DATA_OUT: (("D-DATA request",), ("send",)),
-        C.END_OUT: (("D-END request",), ("send",)),
-        C.END_ANSWER: (("D-END response", result), ("send",)),
+        C.END_OUT: (("D-END request",), held),
+        C.END_ANSWER: (("D-END response", result), held),
         C.ABORT_BY_USER: (("D-ABORT request", 0), ("abort user", aborted)),
         C.ABORT_BY_PROVIDER: (("D-ABORT request", 1), ("abort provider", row.reason)),
         C.FORWARD_OUT: (("D-START request", 1, 1, class_, security, r.version), ("forward",)),
@@ -222,7 +227,7 @@ def outcome(r, ev, row):
     if row.keeps == C.JOB:
         n.highest = p["job"]
     if row.keeps == C.SECURITY:
-        n.request = p["security"]
+        n.request = 0 if r.plain else p["security"]
     o = model.Out(n, row.refusal)
     o.ds, o.apdu = invokes(r, p, row)
     o.user, o.data = indication(r, p, row), hands(row)
@@ -240,11 +245,14 @@ def first(side, r, ev):
 
 
 def step(side, r, ev):
-    if not model.shape(ev, ("cpdlc", "dsc") if side == "air" else ("cpdlc",)):
+    if not model.shape(ev, ("cpdlc", "dsc") if side == "air" else ("cpdlc",), r):
         return model.refuse(r, 2)
     return outcome(r, ev, first(side, r, ev))
 
 
 if __name__ == "__main__":
-    model.table(step)
-    model.jobs(step)
+    if sys.argv[1:] == ["plain"]:
+        model.table(step, plain=True)
+    else:
+        model.table(step)
+        model.jobs(step)

@@ -88,6 +88,7 @@ int main(int argc, char **argv)
     config.dialogues = DIALOGUES;
     config.lease = 60000;
     config.share = DIALOGUES;
+    memset(config.type, PEAT_PROTECTED, sizeof config.type);
     for (i = 0; i < processes; i++)
         if (fork() == 0)
             take_part(i, rounds);

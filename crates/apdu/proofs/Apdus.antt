@@ -68,9 +68,9 @@ mode-written AircraftPdus l at m next h s = go (eqb m 0) refl s
         let w = stands-split l at next (bitsN 1 1) (wholeBits 0 modeLast m) s in
         rw (bit-field 1 .written-read l at 1 (at + length (bitsN 1 1)) refl (w .first)) (value-written l (at + length (bitsN 1 1)) m next h e (w .second))
 
-record ModeIs (pdus : PduType) (l : List ℕ) (at m next : ℕ) : Type 0 where
-  fits : modeFits pdus m ≡ true
-  stands : Stands l at (modeBits pdus m) next
+pub record ModeIs (pdus : PduType) (l : List ℕ) (at m next : ℕ) : Type 0 where
+  pub fits : modeFits pdus m ≡ true
+  pub stands : Stands l at (modeBits pdus m) next
 
 record ValueIs (l : List ℕ) (at m next : ℕ) : Type 0 where
   other : eqb m 0 ≡ false
@@ -100,7 +100,7 @@ default : (l : List ℕ) (at next : ℕ) → Stands l at (bitsN 1 0) next → Mo
 unfolding modeFits modeBits
 default l at next s = record { fits = refl; stands = s }
 
-mode-read : (pdus : PduType) (l : List ℕ) (at m next : ℕ) → Bits l → at ≤ length l → modeAt pdus l at ≡ Value m next → ModeIs pdus l at m next
+pub mode-read : (pdus : PduType) (l : List ℕ) (at m next : ℕ) → Bits l → at ≤ length l → modeAt pdus l at ≡ Value m next → ModeIs pdus l at m next
 unfolding modeAt modeFits modeBits
 mode-read GroundPdus l at m next b h e =
     let x : 0 ≡ m = cc in
@@ -148,7 +148,7 @@ pub has : (pdus : PduType) (i : ℕ) → i ≤ 3 → wholeFits 0 (lastOf pdus) i
 has AircraftPdus i h = rw (le-leb 0 i (omega arith), le-leb i 3 h)
 has GroundPdus i h = rw (le-leb 0 i (omega arith), le-leb i 5 (omega arith))
 
-has-forward : (pdus : PduType) (i : ℕ) → forwards pdus ≡ true → i ≤ 5 → wholeFits 0 (lastOf pdus) i ≡ true
+pub has-forward : (pdus : PduType) (i : ℕ) → forwards pdus ≡ true → i ≤ 5 → wholeFits 0 (lastOf pdus) i ≡ true
 has-forward AircraftPdus i e h = never (cc)
 has-forward GroundPdus i e h = rw (le-leb 0 i (omega arith), le-leb i 5 h)
 
@@ -235,24 +235,24 @@ pub record ApduIs (pdus : PduType) (l : List ℕ) (at : ℕ) (a : Apdu) : Type 0
   pub stands : Standing pdus l at place a
   pub tail : tailAt l place ≡ Value left end
 
-refused-not : (R : Type 0) (a : Apdu) (r : Refusal) → decoded.Refused r ≡ decoded.Is a → R
+pub refused-not : (R : Type 0) (a : Apdu) (r : Refusal) → decoded.Refused r ≡ decoded.Is a → R
 refused-not R a r e = never (cc)
 
-via-data : (R : Type 0) (a : Apdu) (x : Taken) (k : Data → ℕ → Decoded) → ((d : Data) (n : ℕ) → x ≡ taken.Is d n → k d n ≡ decoded.Is a → R) → onData x k ≡ decoded.Is a → R
+pub via-data : (R : Type 0) (a : Apdu) (x : Taken) (k : Data → ℕ → Decoded) → ((d : Data) (n : ℕ) → x ≡ taken.Is d n → k d n ≡ decoded.Is a → R) → onData x k ≡ decoded.Is a → R
 via-data R a (taken.Is d n) k g e = g d n refl e
 via-data R a (taken.Refused r) k g e = refused-not R a r e
 
-via-lead : (R : Type 0) (a : Apdu) (x : Lead) (k : Kind → ℕ → ℕ → Decoded) → ((c : Kind) (m n : ℕ) → x ≡ lead.Is c m n → k c m n ≡ decoded.Is a → R) → onLead x k ≡ decoded.Is a → R
+pub via-lead : (R : Type 0) (a : Apdu) (x : Lead) (k : Kind → ℕ → ℕ → Decoded) → ((c : Kind) (m n : ℕ) → x ≡ lead.Is c m n → k c m n ≡ decoded.Is a → R) → onLead x k ≡ decoded.Is a → R
 via-lead R a (lead.Is c m n) k g e = g c m n refl e
 via-lead R a (lead.Refused r) k g e = refused-not R a r e
 
-record Ended (l : List ℕ) (at : ℕ) (a b : Apdu) : Type 0 where
-  left : ℕ
-  end : ℕ
-  tail : tailAt l at ≡ Value left end
-  same : b ≡ a
+pub record Ended (l : List ℕ) (at : ℕ) (a b : Apdu) : Type 0 where
+  pub left : ℕ
+  pub end : ℕ
+  pub tail : tailAt l at ≡ Value left end
+  pub same : b ≡ a
 
-ended-is : (l : List ℕ) (at : ℕ) (a b : Apdu) → endedAt l at b ≡ decoded.Is a → Ended l at a b
+pub ended-is : (l : List ℕ) (at : ℕ) (a b : Apdu) → endedAt l at b ≡ decoded.Is a → Ended l at a b
 unfolding endedAt
 ended-is l at a b e = via (Ended l at a b) decoded.Refused (decoded.Is a) (refused-not (Ended l at a b) a) (tailAt l at) _ found e
   where
@@ -309,11 +309,11 @@ ended-read pdus l at n a b u k =
     let e = ended-is l n a b k in
     rw (← e .same) (record { place = n; left = e .left; end = e .end; placed-fits = u .placed-fits; stands = u .stands; tail = e .tail })
 
-record ReasonIs (l : List ℕ) (at n r most : ℕ) (bs : List ℕ) : Type 0 where
-  fits : wholeFits 0 most r ≡ true
-  stands : Stands l at (bs ++ indexBits most r) n
+pub record ReasonIs (l : List ℕ) (at n r most : ℕ) (bs : List ℕ) : Type 0 where
+  pub fits : wholeFits 0 most r ≡ true
+  pub stands : Stands l at (bs ++ indexBits most r) n
 
-reason-is : (l : List ℕ) (at p n r most : ℕ) (bs : List ℕ) → Bits l → most < 2 ^ 64 → Stands l at bs p → extensibleIndex l p most ≡ Value r n → ReasonIs l at n r most bs
+pub reason-is : (l : List ℕ) (at p n r most : ℕ) (bs : List ℕ) → Bits l → most < 2 ^ 64 → Stands l at bs p → extensibleIndex l p most ≡ Value r n → ReasonIs l at n r most bs
 reason-is l at p n r most bs h lt s f =
     record { fits = extensible-index most lt .read-fits l p r n h f; stands = stands-join l at p n bs (indexBits most r) s (extensible-index most lt .read-written l p r n h f) }
 
@@ -352,7 +352,7 @@ pub ground-only : (pdus : PduType) (i : ℕ) → i ≤ lastOf pdus → 3 < i →
 ground-only AircraftPdus i h g = absurd (omega arith)
 ground-only GroundPdus i h g = refl
 
-via-forward : (R : Type 0) (a : Apdu) (x : Forwarded) (k : Forward → ℕ → Decoded) → ((f : Forward) (n : ℕ) → x ≡ forwarded.Is f n → k f n ≡ decoded.Is a → R) → onForward decoded.Refused x k ≡ decoded.Is a → R
+pub via-forward : (R : Type 0) (a : Apdu) (x : Forwarded) (k : Forward → ℕ → Decoded) → ((f : Forward) (n : ℕ) → x ≡ forwarded.Is f n → k f n ≡ decoded.Is a → R) → onForward decoded.Refused x k ≡ decoded.Is a → R
 via-forward R a (forwarded.Is f n) k g e = g f n refl e
 via-forward R a (forwarded.Refused r) k g e = refused-not R a r e
 

@@ -216,17 +216,17 @@ mode-most m = go (eqb m 0)
     go true = rw (length-bitsN 1 0) (omega arith)
     go false = rw (length-append, length-bitsN, length-whole) (omega arith)
 
-lead-most : (pdus : PduType) (m : ℕ) → width pdus + length (modeBits pdus m) ≤ 5
+pub lead-most : (pdus : PduType) (m : ℕ) → width pdus + length (modeBits pdus m) ≤ 5
 unfolding width modeBits
 lead-most AircraftPdus m = omega (arith, mode-most m)
 lead-most GroundPdus m = omega arith
 
-width-most : (pdus : PduType) → width pdus ≤ 4
+pub width-most : (pdus : PduType) → width pdus ≤ 4
 unfolding width
 width-most AircraftPdus = omega arith
 width-most GroundPdus = omega arith
 
-reason-most : (last r : ℕ) → widthOf last ≤ 4 → length (indexBits last r) ≤ 5
+pub reason-most : (last r : ℕ) → widthOf last ≤ 4 → length (indexBits last r) ≤ 5
 reason-most last r h = rw (length-index last r) (omega arith)
 
 pub pdu-most : (pdus : PduType) (v : Pdu) → pduFits pdus v ≡ true → length (pduBits pdus v) ≤ pduMost

@@ -4,6 +4,7 @@ pub mod Heads
 pub mod Bounds
 pub mod Writers
 pub mod ForwardWriters
+pub mod InPlaceWriters
 pub mod Contents
 pub mod Forwards
 pub mod Apdus

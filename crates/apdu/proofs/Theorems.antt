@@ -107,10 +107,10 @@ front t bs hb h g =
 
 -- ---- an encoding of bits is bits
 
-no-bits : Bits []
+pub no-bits : Bits []
 no-bits k = omega arith
 
-string-are-bits : (l : List ℕ) (unit : ℕ) (x : Span) → Bits l → Bits (stringBits unit (itemsIn l unit x))
+pub string-are-bits : (l : List ℕ) (unit : ℕ) (x : Span) → Bits l → Bits (stringBits unit (itemsIn l unit x))
 unfolding stringBits
 string-are-bits l unit x h = bits-append (lengthBits (length (itemsIn l unit x) / unit)) (itemsIn l unit x) (length-determinant .are-bits (length (itemsIn l unit x) / unit)) (bits-take (unit * x .count) (drop (x .at) l) (bits-drop (x .at) l h))
 
@@ -140,7 +140,7 @@ pub index-are-bits : (pdus : PduType) (i : ℕ) → Bits (indexBits (lastOf pdus
 index-are-bits AircraftPdus i = extensible-index 3 (omega arith) .are-bits i
 index-are-bits GroundPdus i = extensible-index 5 (omega arith) .are-bits i
 
-pdu-are-bits : (pdus : PduType) (li lm lc : List ℕ) (a : Apdu) → Bits li → Bits lm → Bits lc → Bits (pduBits pdus (pduIn li lm lc a))
+pub pdu-are-bits : (pdus : PduType) (li lm lc : List ℕ) (a : Apdu) → Bits li → Bits lm → Bits lc → Bits (pduBits pdus (pduIn li lm lc a))
 unfolding pduBits pduIn
 pdu-are-bits pdus li lm lc (apdu.AbortUser r) i m c = bits-append (indexBits (lastOf pdus) 0) (indexBits userLast r) (index-are-bits pdus 0) (extensible-index userLast (omega arith) .are-bits r)
 pdu-are-bits pdus li lm lc (apdu.AbortProvider r) i m c = bits-append (indexBits (lastOf pdus) 1) (indexBits providerLast r) (index-are-bits pdus 1) (extensible-index providerLast (omega arith) .are-bits r)

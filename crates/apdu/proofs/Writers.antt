@@ -26,19 +26,18 @@ use Rattle.fields.proofs.Widths.{width-most}
 use Rattle.fields.proofs.Writers.{as-number, in-range, length-index}
 use Rattle.apdu.specs.Sizes.{bufferLeast, messageMost, modeLast, allBits, lengthMost, octet, bit}
 use Rattle.apdu.specs.Pdus.{lastOf, forwards, lent, itemsIn, partIn, contentIn}
-use Rattle.apdu.specs.Encoding.{alternative, stringBits, optionalBits, presence, contentBits, forwardBits, modeBits, modeFits, padding, padded}
-use Rattle.apdu.specs.Writing.{itemsFit, partFits, dataFits, forwardFits, runWithin, there, placeOf, done, writeOut}
+use Rattle.apdu.specs.Encoding.{alternative, stringBits, optionalBits, presence, contentBits, modeBits, modeFits, padding, padded}
+use Rattle.apdu.specs.Writing.{itemsFit, partFits, dataFits, runWithin, there, placeOf, done, writeOut}
 use Rattle.pdus.specs.declared.PduType.{PduType}
 use Rattle.pdus.specs.declared.PduType.the-variants.{AircraftPdus, GroundPdus}
 use Rattle.pdus.specs.declared.Span.{Span}
 use Rattle.apdu.specs.declared.Part.{Part}
 use Rattle.apdu.specs.declared.Part.the-variants.{Absent, Given}
 use Rattle.apdu.specs.declared.Data.{Data}
-use Rattle.apdu.specs.declared.Forward.{Forward}
 use Rattle.apdu.specs.declared.Kind.the-variants as kind
 use Rattle.apdu.specs.declared.Written.{Written}
 use Rattle.apdu.specs.declared.Written.the-variants as written
-use Rattle.apdu.proofs.Bounds.{never, counted, items-fits, fits-items, string-is, data-value-fits, forward-value-fits, content-most, forward-most}
+use Rattle.apdu.proofs.Bounds.{never, counted, items-fits, fits-items, string-is, data-value-fits, content-most}
 
 -- ---- one run after the other
 
@@ -340,13 +339,6 @@ module _ (li lm lc : List ℕ) (d : Data) (lead led : ℕ) (few : lead ≤ 5) (h
 
   pub data-room : (s : List ℕ) → bufferLeast ≤ length s → length (bitsN lead led ++ contentBits (contentIn li lm lc d)) ≤ length (bitsTo s allBits)
   data-room s b = room-for s _ b (omega (arith, data-pads))
-
-module _ (lm : List ℕ) (f : Forward) (lead led : ℕ) (few : lead ≤ 5) (h : forwardFits lm f ≡ true) where
-  pub forward-pads : length (bitsN lead led ++ forwardBits (f .heading) (itemsIn lm bit (f .message))) + 7 ≤ 8 * bufferLeast
-  forward-pads = rw (length-append, length-bitsN) (omega (arith, forward-most (f .heading) (itemsIn lm bit (f .message)) (forward-value-fits lm f h)))
-
-  pub forward-room : (s : List ℕ) → bufferLeast ≤ length s → length (bitsN lead led ++ forwardBits (f .heading) (itemsIn lm bit (f .message))) ≤ length (bitsTo s allBits)
-  forward-room s b = room-for s _ b (omega (arith, forward-pads))
 
 -- a run that lent bytes hold is copied as its bits are put
 pub record RunHeld (most : ℕ) (s : List ℕ) (at n : ℕ) : Type 0 where

@@ -5,3 +5,4 @@ pub mod Encoding
 pub mod Reading
 pub mod Stripped
 pub mod Writing
+pub mod InPlace

@@ -32,7 +32,7 @@ pub(crate) fn place(p: Put) -> usize
 }
 
 // The presence bit of a part.
-fn presence(p: Part) -> u64
+pub(crate) fn presence(p: Part) -> u64
     ensures { λ r. ⌜ r ≡ there p ⌝ }
 {
     match p {

@@ -22,7 +22,7 @@ use fields::refusal_of;
 use pdus::PduType;
 
 // The end of lent bytes: as many bits as a count can say, so all of them.
-pub(crate) const ALL: usize = 18446744073709551615;
+pub const ALL: usize = 18446744073709551615;
 
 // How many bits follow n bits up to a whole byte.
 pub(crate) fn padding(n: usize) -> usize
@@ -33,7 +33,7 @@ pub(crate) fn padding(n: usize) -> usize
 
 // The padding after the last field: zeros, and nothing follows it. The first padding bit that is 1 stands as far before the padding's end as its
 // number has digits.
-fn tail(s: &[u8], at: usize) -> Field
+pub fn tail(s: &[u8], at: usize) -> Field
     ensures { λ f. ⌜ f ≡ tailAt (lent (now (s .entry))) at ⌝ }
 {
     let zeros = fields::bit_field(s, ALL, at, padding(at));
@@ -50,7 +50,7 @@ fn tail(s: &[u8], at: usize) -> Field
 }
 
 // An APDU whose last field ends at a place.
-fn ended(s: &[u8], at: usize, a: Apdu) -> Decoded
+pub fn ended(s: &[u8], at: usize, a: Apdu) -> Decoded
     ensures { λ r. ⌜ r ≡ endedAt (lent (now (s .entry))) at a ⌝ }
 {
     let rest = tail(s, at);
@@ -61,7 +61,7 @@ fn ended(s: &[u8], at: usize, a: Apdu) -> Decoded
 }
 
 // What follows the leading fields.
-fn rest_at(s: &[u8], kind: Kind, mode: u64, at: usize) -> Decoded
+pub fn rest_at(s: &[u8], kind: Kind, mode: u64, at: usize) -> Decoded
     ensures { λ r. ⌜ r ≡ restAt (lent (now (s .entry))) kind mode at ⌝ }
 {
     match kind {

@@ -10,6 +10,7 @@ ghost use Rattle.apdu.specs.Sizes.{allBits, bit, bufferLeast, providerLa
 ghost use Rattle.apdu.specs.Headings.{responseLast};
 ghost use Rattle.apdu.specs.Pdus.{abortProvider, abortUser, contentIn, forward, forwardResponse, forwards, indexOf, itemsIn, lastOf, lent, pduIn, send, start};
 ghost use Rattle.apdu.specs.Encoding.{alternative, modeBits, modeFits, pduBits};
+ghost use Rattle.apdu.specs.InPlace.{forwardBy};
 ghost use Rattle.apdu.specs.Writing.{apduFits, dataFits, done, forwardFits, writeOut};
 use crate::Apdu;
 use crate::Data;
@@ -28,13 +29,13 @@ use bits::Put;
 use pdus::PduType;
 
 // Numbers that wait: how many bits they are together, and they as one.
-struct Front {
-    width: usize,
-    number: u64,
+pub(crate) struct Front {
+    pub(crate) width: usize,
+    pub(crate) number: u64,
 }
 
 // What stands before the message data of a send: the alternative, 0 11 or 0 011.
-fn send_front(pdus: PduType) -> Front
+pub(crate) fn send_front(pdus: PduType) -> Front
     ensures { λ f. ⌜ (f .width ≤ 5) × (f .number < 2 ^ f .width) × (bitsN (f .width) (f .number) ≡ alternative pdus Kind.Send) ⌝ }
 {
     match pdus {
@@ -51,7 +52,7 @@ fn send_front(pdus: PduType) -> Front
 
 // What stands before those of a start: the alternative, and the mode. startup: 0 010, with no mode. startdown: 0 10 and the presence bit, which is 0
 // for the default; else 1, and the mode.
-fn start_front(pdus: PduType, m: u64) -> Front
+pub(crate) fn start_front(pdus: PduType, m: u64) -> Front
     requires { ⌜ modeFits pdus m ≡ true ⌝ }
     ensures { λ f. ⌜ (f .width ≤ 5) × (f .number < 2 ^ f .width) × (bitsN (f .width) (f .number) ≡ alternative pdus Kind.Start ++ modeBits pdus m) ⌝ }
 {
@@ -76,7 +77,7 @@ fn start_front(pdus: PduType, m: u64) -> Front
 }
 
 // A value that is not right: a buffer under the least size comes first.
-fn refused(len: usize) -> Written
+pub(crate) fn refused(len: usize) -> Written
     ensures { λ r. ⌜ (len < bufferLeast → r ≡ Written.Room) × (bufferLeast ≤ len → r ≡ Written.Shape) ⌝ }
 {
     if len < Apdu::BUFFER {
@@ -127,7 +128,7 @@ fn put_alternative(buf: &mut [u8], pdus: PduType, kind: Kind) -> Put
 }
 
 // An alternative that holds an index and nothing else.
-fn put_choice(buf: &mut [u8], pdus: PduType, kind: Kind, last: u64, v: u64) -> Written
+pub(crate) fn put_choice(buf: &mut [u8], pdus: PduType, kind: Kind, last: u64, v: u64) -> Written
     requires { ⌜ indexOf kind ≤ lastOf pdus ⌝ }
     ensures { λ r. ⌜ done r (now (buf .exit)) ≡ writeOut (wholeFits 0 last v) (now (buf .entry)) (alternative pdus kind ++ indexBits last v) ⌝ }
 {
@@ -155,14 +156,26 @@ pub fn put_abort_provider(buf: &mut [u8], pdus: PduType, reason: u64) -> Written
     put_choice(buf, pdus, Kind::AbortProvider, Apdu::PROVIDER_LAST, reason)
 }
 
-// ATCForwardMessage as an APDU, which GroundPDUs alone has, and so its response.
+// ATCForwardMessage as an APDU, which GroundPDUs alone has, and so its response. Its message stands behind its count, or in place.
+pub fn put_forward_by(
+    buf: &mut [u8],
+    pdus: PduType,
+    counted: bool,
+    f: Forward,
+    msgs: &[u8],
+) -> Written
+    ensures { λ r. ⌜ done r (now (buf .exit)) ≡ writeOut (forwards pdus && forwardFits (lent (now (msgs .entry))) f) (now (buf .entry)) (alternative pdus Kind.Forward ++ forwardBy counted (f .heading) (itemsIn (lent (now (msgs .entry))) bit (f .message))) ⌝ }
+{
+    if has_forwards(pdus) {
+        return write_forward(buf, 4, 4, counted, f, msgs);
+    }
+    refused(buf.len())
+}
+
 pub fn put_forward_pdu(buf: &mut [u8], pdus: PduType, f: Forward, msgs: &[u8]) -> Written
     ensures { λ r. ⌜ done r (now (buf .exit)) ≡ writeOut (forwards pdus && forwardFits (lent (now (msgs .entry))) f) (now (buf .entry)) (pduBits pdus (forward (f .heading) (itemsIn (lent (now (msgs .entry))) bit (f .message)))) ⌝ }
 {
-    if has_forwards(pdus) {
-        return write_forward(buf, 4, 4, f, msgs);
-    }
-    refused(buf.len())
+    put_forward_by(buf, pdus, true, f, msgs)
 }
 
 pub fn put_forward_response(buf: &mut [u8], pdus: PduType, result: u64) -> Written

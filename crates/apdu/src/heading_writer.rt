@@ -1,4 +1,4 @@
-// ATCForwardMessage written: what stands before the message's bits, field by field, then their count and they themselves.
+// ATCForwardMessage written: what stands before the message's bits, field by field, then their count, if they stand behind one, and they themselves.
 ghost use mathlib.Core.Path.{_≡_};
 ghost use mathlib.Core.Bool.{true};
 ghost use mathlib.Core.List.{_++_};
@@ -10,6 +10,7 @@ ghost use Rattle.apdu.specs.Sizes.{allBits, bit};
 ghost use Rattle.apdu.specs.Headings.{aircraftBits, headingBits, headingFits, tripleBits, tripleFits};
 ghost use Rattle.apdu.specs.Pdus.{itemsIn, lent};
 ghost use Rattle.apdu.specs.Encoding.{forwardBits};
+ghost use Rattle.apdu.specs.InPlace.{forwardBy};
 ghost use Rattle.apdu.specs.Writing.{done, forwardFits, writeOut};
 use crate::Apdu;
 use crate::Data;
@@ -53,7 +54,7 @@ fn put_aircraft(buf: &mut [u8], at: usize, h: Heading) -> Put
 }
 
 // What stands before the message.
-fn put_heading(buf: &mut [u8], at: usize, h: Heading) -> Put
+pub(crate) fn put_heading(buf: &mut [u8], at: usize, h: Heading) -> Put
     requires { ⌜ (headingFits h ≡ true) × (at + length (headingBits h) ≤ length (lent (now buf))) ⌝ }
     ensures { λ r. ⌜ left r (now (buf .exit)) ≡ putRun (now (buf .entry)) allBits at (headingBits h) ⌝ }
 {
@@ -64,14 +65,18 @@ fn put_heading(buf: &mut [u8], at: usize, h: Heading) -> Put
     put_aircraft(buf, q, h)
 }
 
-fn put_forward_at(buf: &mut [u8], at: usize, f: Forward, msgs: &[u8]) -> usize
-    requires { ⌜ (forwardFits (lent (now msgs)) f ≡ true) × (at + length (forwardBits (f .heading) (itemsIn (lent (now msgs)) bit (f .message))) ≤ length (lent (now buf))) ⌝ }
-    ensures { λ p. ⌜ (p ≡ at + length (forwardBits (f .heading) (itemsIn (lent (now (msgs .entry))) bit (f .message)))) × (now (buf .exit) ≡ putBits (now (buf .entry)) at (forwardBits (f .heading) (itemsIn (lent (now (msgs .entry))) bit (f .message)))) ⌝ }
+// A forward message at a place, its message behind its count or in place.
+fn put_forward_at(buf: &mut [u8], at: usize, counted: bool, f: Forward, msgs: &[u8]) -> usize
+    requires { ⌜ (forwardFits (lent (now msgs)) f ≡ true) × (at + length (forwardBy counted (f .heading) (itemsIn (lent (now msgs)) bit (f .message))) ≤ length (lent (now buf))) ⌝ }
+    ensures { λ p. ⌜ (p ≡ at + length (forwardBy counted (f .heading) (itemsIn (lent (now (msgs .entry))) bit (f .message)))) × (now (buf .exit) ≡ putBits (now (buf .entry)) at (forwardBy counted (f .heading) (itemsIn (lent (now (msgs .entry))) bit (f .message)))) ⌝ }
 {
     let heading = f.heading;
     let message = f.message;
     let p = place(put_heading(buf, at, heading));
-    put_items(buf, p, 0, 0, Data::BIT, msgs, message)
+    if counted {
+        return put_items(buf, p, 0, 0, Data::BIT, msgs, message);
+    }
+    place(bits::copy_bits(buf, ALL, p, msgs, ALL, message.at, message.count))
 }
 
 // One that fits, behind a number of a few bits, and the padding.
@@ -79,18 +84,19 @@ pub(crate) fn write_forward(
     buf: &mut [u8],
     lead: usize,
     led: u64,
+    counted: bool,
     f: Forward,
     msgs: &[u8],
 ) -> Written
     requires { ⌜ (lead ≤ 5) × (led < 2 ^ lead) ⌝ }
-    ensures { λ r. ⌜ done r (now (buf .exit)) ≡ writeOut (forwardFits (lent (now (msgs .entry))) f) (now (buf .entry)) (bitsN lead led ++ forwardBits (f .heading) (itemsIn (lent (now (msgs .entry))) bit (f .message))) ⌝ }
+    ensures { λ r. ⌜ done r (now (buf .exit)) ≡ writeOut (forwardFits (lent (now (msgs .entry))) f) (now (buf .entry)) (bitsN lead led ++ forwardBy counted (f .heading) (itemsIn (lent (now (msgs .entry))) bit (f .message))) ⌝ }
 {
     if buf.len() < Apdu::BUFFER {
         return Written::Room;
     }
     if forward_fits(f, msgs) {
         let p = place(bits::put_bits(buf, ALL, 0, lead, led));
-        let n = put_forward_at(buf, p, f, msgs);
+        let n = put_forward_at(buf, p, counted, f, msgs);
         bits::pad(buf, ALL, n);
         return Written::Bits(n);
     }
@@ -101,5 +107,5 @@ pub(crate) fn write_forward(
 pub fn put_forward(buf: &mut [u8], f: Forward, msgs: &[u8]) -> Written
     ensures { λ r. ⌜ done r (now (buf .exit)) ≡ writeOut (forwardFits (lent (now (msgs .entry))) f) (now (buf .entry)) (forwardBits (f .heading) (itemsIn (lent (now (msgs .entry))) bit (f .message))) ⌝ }
 {
-    write_forward(buf, 0, 0, f, msgs)
+    write_forward(buf, 0, 0, true, f, msgs)
 }

@@ -25,7 +25,7 @@ fn triple_refusal(t: Triples) -> Refusal
     }
 }
 
-fn heading_refusal(h: Headed) -> Refusal
+pub fn heading_refusal(h: Headed) -> Refusal
     ensures { λ r. ⌜ r ≡ headingRefusal h ⌝ }
 {
     match h {
@@ -34,7 +34,7 @@ fn heading_refusal(h: Headed) -> Refusal
     }
 }
 
-pub(crate) fn forward_refusal(f: Forwarded) -> Refusal
+pub fn forward_refusal(f: Forwarded) -> Refusal
     ensures { λ r. ⌜ r ≡ forwardRefusal f ⌝ }
 {
     match f {
@@ -70,7 +70,7 @@ fn triple_at(s: &[u8], at: usize, from: Triple, to: Triple) -> Triples
 }
 
 // What stands before the message.
-fn heading_at(s: &[u8], at: usize) -> Headed
+pub fn heading_at(s: &[u8], at: usize) -> Headed
     ensures { λ h. ⌜ h ≡ headingAt (lent (now (s .entry))) at ⌝ }
 {
     let day = triple_at(s, at, Heading::DATE_FROM, Heading::DATE_TO);

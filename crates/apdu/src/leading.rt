@@ -99,7 +99,7 @@ fn kind_mode(s: &[u8], pdus: PduType, kind: Kind, at: usize) -> Field
     }
 }
 
-pub(crate) fn leading_at(s: &[u8], at: usize, pdus: PduType) -> Lead
+pub fn leading_at(s: &[u8], at: usize, pdus: PduType) -> Lead
     ensures { λ l. ⌜ l ≡ leadingAt pdus (lent (now (s .entry))) at ⌝ }
 {
     let index = fields::extensible_index(s, ALL, at, last_of(pdus));

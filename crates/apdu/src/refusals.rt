@@ -7,7 +7,7 @@ use crate::Taken;
 use fields::Field;
 use fields::Refusal;
 
-pub(crate) fn taken_refusal(t: Taken) -> Refusal
+pub fn taken_refusal(t: Taken) -> Refusal
     ensures { λ r. ⌜ r ≡ takenRefusal t ⌝ }
 {
     match t {
@@ -16,7 +16,7 @@ pub(crate) fn taken_refusal(t: Taken) -> Refusal
     }
 }
 
-pub(crate) fn lead_refusal(l: Lead) -> Refusal
+pub fn lead_refusal(l: Lead) -> Refusal
     ensures { λ r. ⌜ r ≡ leadRefusal l ⌝ }
 {
     match l {

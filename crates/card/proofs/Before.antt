@@ -1,6 +1,7 @@
 -- The start request as it stood before document 02's E7: two exported calls, of the CPDLC-start request (false) and of the DSC-start request (true), without
 -- a mode among their numbers. They had no dialogue number either (E9); v stands for the one that the record holds after such a start. It stands here as the right side of proofs/OneStart, and nothing else names it. What it was made of and did not move is named
--- and not copied: takes of crate control, startRequest of machine, entering and concluded of step, givenData of card.
+-- and not copied: takes of crate control, startRequest of machine, givenFits of codec, entering and concluded of step, givenData of card. There was one application type then, 22; what is named asks
+-- the record's edition now, and is the same in it.
 -- Assumes nothing.
 use Prim.Native.Nat.{ℕ}
 use mathlib.Core.Bool.{Bool, true, false, not, cond, _&&_}
@@ -9,7 +10,7 @@ use lib.Dec.{ltb}
 use lib.ListN.{length}
 use Rattle.words.specs.Limits.{shape}
 use Rattle.apdu.specs.Pdus.{lent}
-use Rattle.apdu.specs.Writing.{dataFits}
+use Rattle.codec.specs.Codec.{givenFits}
 use Rattle.apdu.specs.declared.Data.{Data}
 use Rattle.control.specs.Control.{takes}
 use Rattle.control.specs.declared.Side.{Side}
@@ -21,7 +22,7 @@ use Rattle.machine.specs.declared.record.Record.{Record}
 use Rattle.machine.specs.declared.outcome.StepRefusal.{StepRefusal}
 use Rattle.machine.specs.declared.outcome.StepRefusal.the-variants.{None, Shape, Prohibited}
 use Rattle.machine.specs.declared.outcome.Outcome.{Outcome}
-use Rattle.step.specs.Call.{Called, called, carriesData, concluded, entering}
+use Rattle.step.specs.Call.{Called, called, carriesData, pdusOf, concluded, entering}
 use Rattle.card.specs.Face.{givenData}
 
 -- the codes, class and security, the same at both sides (machine, userFits)
@@ -39,7 +40,7 @@ stepBefore sd x m k s = cond (isNone (refusalBefore sd x m k s)) (startRequest x
 -- (step, userStep)
 abbrev pub userStepBefore : List ℕ → List ℕ → List ℕ → ℕ → Bool → ℕ → ℕ → List ℕ → List ℕ → List ℕ → Data → Side → Record → ℕ → Called
 userStepBefore r a b v m k s li lm lc d sd x n =
-    cond (dataFits li lm lc d) (concluded r a b sd v (stepBefore sd x m k s) li lm lc (carriesData d)) (called shape r a b)
+    cond (givenFits (x .edition) (pdusOf sd) li lm lc d) (concluded r a b (x .edition) sd v (stepBefore sd x m k s) li lm lc (carriesData d)) (called shape r a b)
 
 -- the exported calls (step, userCall; card, dataCall), of the bytes of the record and of the two buffers, of class and security, and of the message data
 abbrev pub startBefore : Bool → List ℕ → List ℕ → List ℕ → ℕ → ℕ → ℕ → List ℕ → List ℕ → ℕ → List ℕ → ℕ → Called

@@ -12,7 +12,7 @@ use lib.ListN.{length}
 use Rattle.words.specs.Limits.{room, shape}
 use Rattle.apdu.specs.Sizes.{bufferLeast}
 use Rattle.apdu.specs.Pdus.{lent}
-use Rattle.apdu.specs.Writing.{dataFits}
+use Rattle.codec.specs.Codec.{givenFits}
 use Rattle.apdu.specs.declared.Data.{Data}
 use Rattle.control.specs.Control.{isIdle}
 use Rattle.control.specs.declared.Side.{Side}
@@ -33,7 +33,7 @@ use Rattle.machine.specs.declared.outcome.Outcome.{Outcome}
 use Rattle.numbered.specs.Numbers.{userStarts, isStart, isStale, heldAfter, numberedStep}
 use Rattle.numbered.proofs.Laws.{shape-first, then-step}
 use Rattle.stored.specs.Stored.{loadAt}
-use Rattle.step.specs.Call.{Called, called, carriesData, concluded, withRecord, entering, userStep, userBy}
+use Rattle.step.specs.Call.{Called, called, carriesData, pdusOf, concluded, withRecord, entering, userStep, userBy}
 use Rattle.stored.specs.declared.Loaded.{Loaded}
 use Rattle.stored.specs.declared.Loaded.the-variants.{Is, NoRecord}
 use Rattle.step.proofs.Taken.{never}
@@ -122,12 +122,12 @@ module _ (r a b : List ℕ) (v k s : ℕ) (ids msgs : List ℕ) (n : ℕ) (check
   abbrev given : Data
   given = givenData (length ids) n c
 
-  abbrev placed-fits : Bool
-  placed-fits = dataFits (lent ids) (lent msgs) (lent checks) given
+  abbrev placed-fits : Side → Record → Bool
+  placed-fits sd x = givenFits (x .edition) (pdusOf sd) (lent ids) (lent msgs) (lent checks) given
 
   -- what the message data and an outcome make of a call
-  abbrev with-data : Side → Outcome → Called
-  with-data sd o = cond placed-fits (concluded r a b sd v o (lent ids) (lent msgs) (lent checks) (carriesData given)) (called shape r a b)
+  abbrev with-data : Side → Record → Outcome → Called
+  with-data sd x o = cond (placed-fits sd x) (concluded r a b (x .edition) sd v o (lent ids) (lent msgs) (lent checks) (carriesData given)) (called shape r a b)
 
   abbrev start : ℕ → Event
   start m = User (StartServiceRequest m k s)
@@ -139,7 +139,7 @@ module _ (r a b : List ℕ) (v k s : ℕ) (ids msgs : List ℕ) (n : ℕ) (check
   old-step m = userStepBefore r a b v m k s (lent ids) (lent msgs) (lent checks) given
 
   -- a start leaves its number
-  now-is : (m : ℕ) (sd : Side) (x : Record) (h : ℕ) → now-step m sd x h ≡ with-data sd (numberedStep sd x h (start m) v)
+  now-is : (m : ℕ) (sd : Side) (x : Record) (h : ℕ) → now-step m sd x h ≡ with-data sd x (numberedStep sd x h (start m) v)
   unfolding userStep heldAfter isStart userStarts
   now-is m sd x h = refl
 
@@ -154,7 +154,7 @@ module _ (r a b : List ℕ) (v k s : ℕ) (ids msgs : List ℕ) (n : ℕ) (check
   -- mode cpdlc, at both machines
   pub cpdlc-as-before : isAbove r v ≡ true → numberedCall r a b (StartServiceRequest cpdlcMode k s) v ids msgs n checks c ≡ cpdlcStartBefore r a b v k s ids msgs n checks c
   unfolding userBy
-  cpdlc-as-before u = entering-same r a b (now-step cpdlcMode) (old-step false) (λ sd x h e. now-is cpdlcMode sd x h ∙ ap (with-data sd) (above-step cpdlcMode sd x h (above-at sd x h u e) ∙ cpdlc-step sd x k s))
+  cpdlc-as-before u = entering-same r a b (now-step cpdlcMode) (old-step false) (λ sd x h e. now-is cpdlcMode sd x h ∙ ap (with-data sd x) (above-step cpdlcMode sd x h (above-at sd x h u e) ∙ cpdlc-step sd x k s))
 
   -- mode dsc, but for a record of the ground machine
   pub dsc-as-before : isAbove r v ≡ true → atGround r ≡ false → numberedCall r a b (StartServiceRequest dscMode k s) v ids msgs n checks c ≡ dscStartBefore r a b v k s ids msgs n checks c
@@ -162,27 +162,27 @@ module _ (r a b : List ℕ) (v k s : ℕ) (ids msgs : List ℕ) (n : ℕ) (check
   dsc-as-before u g = entering-same r a b (now-step dscMode) (old-step true) same
     where
       same : (sd : Side) (x : Record) (h : ℕ) → loadAt r ≡ Is sd x h → now-step dscMode sd x h ≡ old-step true sd x h
-      same Air x h e = now-is dscMode Air x h ∙ ap (with-data Air) (above-step dscMode Air x h (above-at Air x h u e) ∙ dsc-step x k s)
+      same Air x h e = now-is dscMode Air x h ∙ ap (with-data Air x) (above-step dscMode Air x h (above-at Air x h u e) ∙ dsc-step x k s)
       same Ground x h e = never (sym g ∙ ap groundIn e)
 
   -- a mode that the machine has not is SHAPE, before STALE
-  shape-at : (m : ℕ) (sd : Side) (x : Record) (h : ℕ) → eventFits sd (start m) ≡ false → now-step m sd x h ≡ with-data sd (refused Shape x)
-  shape-at m sd x h e = now-is m sd x h ∙ ap (with-data sd) (shape-first sd x h (start m) v e)
+  shape-at : (m : ℕ) (sd : Side) (x : Record) (h : ℕ) → eventFits sd (x .edition) (start m) ≡ false → now-step m sd x h ≡ with-data sd x (refused Shape x)
+  shape-at m sd x h e = now-is m sd x h ∙ ap (with-data sd x) (shape-first sd x h (start m) v e)
 
-  ground-shape : eventFits Ground (start dscMode) ≡ false
+  ground-shape : (x : Record) → eventFits Ground (x .edition) (start dscMode) ≡ false
   unfolding eventFits userFits hasMode
-  ground-shape = refl
+  ground-shape x = refl
 
-  mode-shape : (sd : Side) (m : ℕ) → modes ≤ m → eventFits sd (start m) ≡ false
+  mode-shape : (sd : Side) (x : Record) (m : ℕ) → modes ≤ m → eventFits sd (x .edition) (start m) ≡ false
   unfolding eventFits userFits hasMode
-  mode-shape sd m l = rw (le-ltb m modes l)
+  mode-shape sd x m l = rw (le-ltb m modes l)
 
   -- mode dsc at the ground machine
   pub dsc-at-the-ground : atGround r ≡ true → numberedCall r a b (StartServiceRequest dscMode k s) v ids msgs n checks c ≡ shapeForProhibited (dscStartBefore r a b v k s ids msgs n checks c)
   unfolding userBy concluded
   dsc-at-the-ground g = entering-same r a b (now-step dscMode) (λ (sd : Side) (x : Record) (h : ℕ). shapeForProhibited (old-step true sd x h)) moved ∙ sym (shape-entering r a b (old-step true))
     where
-      refuses : (d t : Bool) (x : Record) → cond d (concluded r a b Ground v (refused Shape x) (lent ids) (lent msgs) (lent checks) (carriesData given)) (called shape r a b) ≡ shapeForProhibited (cond d (concluded r a b Ground v (refused (cond t Prohibited Shape) x) (lent ids) (lent msgs) (lent checks) (carriesData given)) (called shape r a b))
+      refuses : (d t : Bool) (x : Record) → cond d (concluded r a b (x .edition) Ground v (refused Shape x) (lent ids) (lent msgs) (lent checks) (carriesData given)) (called shape r a b) ≡ shapeForProhibited (cond d (concluded r a b (x .edition) Ground v (refused (cond t Prohibited Shape) x) (lent ids) (lent msgs) (lent checks) (carriesData given)) (called shape r a b))
       refuses true true x = refl
       refuses true false x = refl
       refuses false t x = refl
@@ -190,26 +190,26 @@ module _ (r a b : List ℕ) (v k s : ℕ) (ids msgs : List ℕ) (n : ℕ) (check
       moved : (sd : Side) (x : Record) (h : ℕ) → loadAt r ≡ Is sd x h → now-step dscMode sd x h ≡ shapeForProhibited (old-step true sd x h)
       moved Air x h e = never (sym (ap groundIn e) ∙ g)
       moved Ground x h e =
-          shape-at dscMode Ground x h ground-shape ∙ refuses placed-fits (codesBefore k s) x ∙ ap (λ (o : Outcome). shapeForProhibited (with-data Ground o)) (sym (ground-step x k s))
+          shape-at dscMode Ground x h (ground-shape x) ∙ refuses (placed-fits Ground x) (codesBefore k s) x ∙ ap (λ (o : Outcome). shapeForProhibited (with-data Ground x o)) (sym (ground-step x k s))
 
   -- so it is refused there in every state, after ROOM
   pub dsc-refused-at-the-ground : atGround r ≡ true → numberedCall r a b (StartServiceRequest dscMode k s) v ids msgs n checks c ≡ roomOrShape r a b
   unfolding userBy concluded
   dsc-refused-at-the-ground g = entering-same r a b (now-step dscMode) (λ (sd : Side) (x : Record) (h : ℕ). called shape r a b) refuses ∙ entering-shape r a b
     where
-      either : (d : Bool) (x : Record) → cond d (concluded r a b Ground v (refused Shape x) (lent ids) (lent msgs) (lent checks) (carriesData given)) (called shape r a b) ≡ called shape r a b
+      either : (d : Bool) (x : Record) → cond d (concluded r a b (x .edition) Ground v (refused Shape x) (lent ids) (lent msgs) (lent checks) (carriesData given)) (called shape r a b) ≡ called shape r a b
       either true x = refl
       either false x = refl
 
       refuses : (sd : Side) (x : Record) (h : ℕ) → loadAt r ≡ Is sd x h → now-step dscMode sd x h ≡ called shape r a b
       refuses Air x h e = never (sym (ap groundIn e) ∙ g)
-      refuses Ground x h e = shape-at dscMode Ground x h ground-shape ∙ either placed-fits x
+      refuses Ground x h e = shape-at dscMode Ground x h (ground-shape x) ∙ either (placed-fits Ground x) x
 
   -- a code that is no mode: refused for any record, of either machine, after ROOM
   pub no-other-mode : (m : ℕ) → modes ≤ m → numberedCall r a b (StartServiceRequest m k s) v ids msgs n checks c ≡ roomOrShape r a b
   unfolding userBy concluded
-  no-other-mode m l = entering-same r a b (now-step m) (λ (sd : Side) (x : Record) (h : ℕ). called shape r a b) (λ sd x h e. shape-at m sd x h (mode-shape sd m l) ∙ either sd placed-fits x) ∙ entering-shape r a b
+  no-other-mode m l = entering-same r a b (now-step m) (λ (sd : Side) (x : Record) (h : ℕ). called shape r a b) (λ sd x h e. shape-at m sd x h (mode-shape sd x m l) ∙ either sd (placed-fits sd x) x) ∙ entering-shape r a b
     where
-      either : (sd : Side) (d : Bool) (x : Record) → cond d (concluded r a b sd v (refused Shape x) (lent ids) (lent msgs) (lent checks) (carriesData given)) (called shape r a b) ≡ called shape r a b
+      either : (sd : Side) (d : Bool) (x : Record) → cond d (concluded r a b (x .edition) sd v (refused Shape x) (lent ids) (lent msgs) (lent checks) (carriesData given)) (called shape r a b) ≡ called shape r a b
       either sd true x = refl
       either sd false x = refl

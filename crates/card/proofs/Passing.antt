@@ -1,12 +1,12 @@
 -- The ways out of `peat_forward_part` and of `peat_read_forward`, as the code has them; and that the second says what the first says of each part.
 -- Assumes nothing.
 use mathlib.Core.Path.{_≡_, refl, ap, sym, _∙_}
-use mathlib.Core.Bool.{Bool, true, false, cond}
+use mathlib.Core.Bool.{Bool, true, false, not, cond}
 use mathlib.Core.List.{List, [], _∷_, _++_}
-use Prim.Native.Nat.{ℕ, zero, suc, _+_, _*_, _%_, _^_, _≤_, _<_}
+use Prim.Native.Nat.{ℕ, zero, suc, _+_, _-_, _*_, _%_, _^_, _≤_, _<_}
 use native.Mathlib.Omega.{arith}
 use native.Mathlib.Nat.{add-zero}
-use borrow.Author.Tests.{lt-ltb, le-ltb, eq-eqb, ne-eqb}
+use borrow.Author.Tests.{lt-ltb, le-ltb, eq-eqb, ne-eqb, not-true, not-false}
 use lib.Dec.{eqb, ltb}
 use lib.ListN.{length, drop, getD, set}
 use lib.Pow.{mod-mod-pow}
@@ -18,7 +18,10 @@ use Rattle.fields.specs.Refusals.{packed}
 use Rattle.fields.specs.declared.Refusal.{Refusal}
 use Rattle.apdu.specs.Sizes.{bufferLeast}
 use Rattle.apdu.specs.Pdus.{lent}
-use Rattle.apdu.specs.Reading.{wholeForward}
+use Rattle.codec.specs.Codec.{wholeForward}
+use Rattle.editions.specs.Editions.{typeOf, isType, editionOf}
+use Rattle.editions.specs.declared.Edition.{Edition}
+use Rattle.editions.specs.declared.Edition.the-variants.{Plain, Protected}
 use Rattle.apdu.specs.Writing.{done, writeOut, runFits}
 use Rattle.apdu.specs.declared.Heading.{Heading}
 use Rattle.apdu.specs.declared.Forward.{Forward}
@@ -27,7 +30,7 @@ use Rattle.apdu.specs.declared.Forwarded.the-variants as forwarded
 use Rattle.apdu.specs.declared.Written.{Written}
 use Rattle.apdu.specs.declared.Written.the-variants as written
 use Rattle.layout.specs.Calls.{sent}
-use Rattle.card.specs.Forwarding.{messagePart, headingPart, told, messageAnswer, messageOut, forwardPart, forwardChosen, forwardPartCall, headingNumbers, headingBytes, opened, headingBy, forwardParts, forwardOpened, readForward}
+use Rattle.card.specs.Forwarding.{messagePart, plainParts, editionIn, partIn, headingPart, told, messageAnswer, messageOut, forwardPart, forwardChosen, forwardPartCall, headingNumbers, headingBytes, opened, headingBy, forwardParts, forwardOpened, readForward}
 use Rattle.card.proofs.Answered.{sets-whole}
 
 pub last-part : (w : ℕ) (h : Heading) → (w ≡ 0 → ⊥) → (w ≡ 1 → ⊥) → (w ≡ 2 → ⊥) → (w ≡ 3 → ⊥) → (w ≡ 4 → ⊥) → (w ≡ 5 → ⊥) → (w ≡ 6 → ⊥) → (w ≡ 7 → ⊥) → (w ≡ 8 → ⊥) → h .direction ≡ headingPart w h
@@ -54,17 +57,21 @@ pub no-room : (out s : List ℕ) (which : ℕ) → length out < bufferLeast → 
 unfolding forwardPartCall
 no-room out s which h = rw (lt-ltb (length out) bufferLeast h)
 
-pub no-part : (out s : List ℕ) (which : ℕ) → bufferLeast ≤ length out → messagePart < which → sent 2 out ≡ forwardPartCall out which s
+pub no-part : (out s : List ℕ) (which i : ℕ) → bufferLeast ≤ length out → i ≡ partIn which → messagePart < i → sent 2 out ≡ forwardPartCall out which s
 unfolding forwardPartCall
-no-part out s which h g = rw (le-ltb (length out) bufferLeast h, lt-ltb messagePart which g)
+no-part out s which i h p g = rw (le-ltb (length out) bufferLeast h, ← p, lt-ltb messagePart i g)
 
-pub not-forward : (out s : List ℕ) (which n : ℕ) (t : Forwarded) (r : Refusal) → bufferLeast ≤ length out → which ≤ messagePart → t ≡ wholeForward (lent s) → t ≡ forwarded.Refused r → n ≡ packed r → sent n out ≡ forwardPartCall out which s
+pub not-forward : (out s : List ℕ) (which i n : ℕ) (ed : Edition) (t : Forwarded) (r : Refusal) → bufferLeast ≤ length out → i ≡ partIn which → i ≤ messagePart → ed ≡ editionIn which → t ≡ wholeForward ed (lent s) → t ≡ forwarded.Refused r → n ≡ packed r → sent n out ≡ forwardPartCall out which s
 unfolding forwardPartCall forwardChosen
-not-forward out s which n t r h g p q e = rw (le-ltb (length out) bufferLeast h, le-ltb messagePart which g, ← p, q, e)
+not-forward out s which i n ed t r h p g d k q e =
+    let w : wholeForward (editionIn which) (lent s) ≡ forwarded.Refused r = ap (λ (x : Edition). wholeForward x (lent s)) (sym d) ∙ sym k ∙ q in
+    rw (le-ltb (length out) bufferLeast h, ← p, le-ltb messagePart i g, w, e)
 
-pub part-out : (out z s : List ℕ) (which n next : ℕ) (t : Forwarded) (f : Forward) → bufferLeast ≤ length out → which ≤ messagePart → t ≡ wholeForward (lent s) → t ≡ forwarded.Is f next → sent n z ≡ forwardPart out s which f → sent n z ≡ forwardPartCall out which s
+pub part-out : (out z s : List ℕ) (which i n next : ℕ) (ed : Edition) (t : Forwarded) (f : Forward) → bufferLeast ≤ length out → i ≡ partIn which → i ≤ messagePart → ed ≡ editionIn which → t ≡ wholeForward ed (lent s) → t ≡ forwarded.Is f next → sent n z ≡ forwardPart out s i f → sent n z ≡ forwardPartCall out which s
 unfolding forwardPartCall forwardChosen
-part-out out z s which n next t f h g e q k = k ∙ rw (le-ltb (length out) bufferLeast h, le-ltb messagePart which g, ← e, q)
+part-out out z s which i n next ed t f h p g d e q k =
+    let w : wholeForward (editionIn which) (lent s) ≡ forwarded.Is f next = ap (λ (x : Edition). wholeForward x (lent s)) (sym d) ∙ sym e ∙ q in
+    k ∙ rw (le-ltb (length out) bufferLeast h, ← p, le-ltb messagePart i g, w)
 
 -- ---- all parts at once
 
@@ -122,21 +129,34 @@ pub parts-out : (b d out z s : List ℕ) (n : ℕ) (f : Forward) (w : Written) �
 unfolding forwardParts
 parts-out b d out z s n f w e p q = rw (← e, p, q)
 
-pub no-buffer : (b out s : List ℕ) → length out < bufferLeast → opened 1 b out ≡ readForward b out s
+pub no-buffer : (b out s : List ℕ) (application : ℕ) → length out < bufferLeast → opened 1 b out ≡ readForward b out s application
 unfolding readForward
-no-buffer b out s h = rw (lt-ltb (length out) bufferLeast h)
+no-buffer b out s application h = rw (lt-ltb (length out) bufferLeast h)
 
-pub no-heading : (b out s : List ℕ) → bufferLeast ≤ length out → (length b ≡ headingBytes → ⊥) → opened 2 b out ≡ readForward b out s
-unfolding readForward
-no-heading b out s h g = rw (le-ltb (length out) bufferLeast h, ne-eqb (length b) headingBytes g)
+-- y: whether the number is an application type, as `is_type` answers; ed: its edition, as `of_type` does
+module _ (b out s : List ℕ) (application : ℕ) (y : Bool) (h : bufferLeast ≤ length out) (i : y ≡ isType application) where
+  pub no-type : not y ≡ true → opened 2 b out ≡ readForward b out s application
+  unfolding readForward
+  no-type j = let u : isType application ≡ false = sym i ∙ not-true y j in rw (le-ltb (length out) bufferLeast h, u)
 
-pub no-parts : (b out s : List ℕ) (n : ℕ) (t : Forwarded) (r : Refusal) → bufferLeast ≤ length out → length b ≡ headingBytes → t ≡ wholeForward (lent s) → t ≡ forwarded.Refused r → n ≡ packed r → opened n b out ≡ readForward b out s
-unfolding readForward forwardOpened
-no-parts b out s n t r h g p q e = rw (le-ltb (length out) bufferLeast h, eq-eqb (length b) headingBytes g, ← p, q, e)
+  typed : not y ≡ false → isType application ≡ true
+  typed j = sym i ∙ not-false y j
 
-pub all-parts : (b d out z s : List ℕ) (n next : ℕ) (t : Forwarded) (f : Forward) → bufferLeast ≤ length out → length b ≡ headingBytes → t ≡ wholeForward (lent s) → t ≡ forwarded.Is f next → opened n d z ≡ forwardParts b out s f → opened n d z ≡ readForward b out s
-unfolding readForward forwardOpened
-all-parts b d out z s n next t f h g e q k = k ∙ rw (le-ltb (length out) bufferLeast h, eq-eqb (length b) headingBytes g, ← e, q)
+  pub no-heading : not y ≡ false → (length b ≡ headingBytes → ⊥) → opened 2 b out ≡ readForward b out s application
+  unfolding readForward
+  no-heading j g = rw (le-ltb (length out) bufferLeast h, typed j, ne-eqb (length b) headingBytes g)
+
+  pub no-parts : (n : ℕ) (ed : Edition) (t : Forwarded) (r : Refusal) → not y ≡ false → length b ≡ headingBytes → ed ≡ editionOf application → t ≡ wholeForward ed (lent s) → t ≡ forwarded.Refused r → n ≡ packed r → opened n b out ≡ readForward b out s application
+  unfolding readForward forwardOpened
+  no-parts n ed t r j g d p q e =
+      let w : wholeForward (editionOf application) (lent s) ≡ forwarded.Refused r = ap (λ (x : Edition). wholeForward x (lent s)) (sym d) ∙ sym p ∙ q in
+      rw (le-ltb (length out) bufferLeast h, typed j, eq-eqb (length b) headingBytes g, w, e)
+
+  pub all-parts : (a z : List ℕ) (n next : ℕ) (ed : Edition) (t : Forwarded) (f : Forward) → not y ≡ false → length b ≡ headingBytes → ed ≡ editionOf application → t ≡ wholeForward ed (lent s) → t ≡ forwarded.Is f next → opened n a z ≡ forwardParts b out s f → opened n a z ≡ readForward b out s application
+  unfolding readForward forwardOpened
+  all-parts a z n next ed t f j g d e q k =
+      let w : wholeForward (editionOf application) (lent s) ≡ forwarded.Is f next = ap (λ (x : Edition). wholeForward x (lent s)) (sym d) ∙ sym e ∙ q in
+      k ∙ rw (le-ltb (length out) bufferLeast h, typed j, eq-eqb (length b) headingBytes g, w)
 
 -- ---- what all parts at once say is what each of them says by itself
 
@@ -150,9 +170,15 @@ message-if : (b out s : List ℕ) (t : Forwarded) (x : Bool) → sent (cond x (o
 message-if b out s t true = refl
 message-if b out s t false = message-by b out s t
 
-pub message-at-once : (b out s : List ℕ) → length b ≡ headingBytes → sent (readForward b out s .number) (readForward b out s .bytes) ≡ forwardPartCall out messagePart s
+-- the number of a part of an edition's forward message
+abbrev pub numberedPart : Edition → ℕ → ℕ
+numberedPart Protected i = i
+numberedPart Plain i = i + plainParts
+
+pub message-at-once : (b out s : List ℕ) (ed : Edition) → length b ≡ headingBytes → sent (readForward b out s (typeOf ed) .number) (readForward b out s (typeOf ed) .bytes) ≡ forwardPartCall out (numberedPart ed messagePart) s
 unfolding readForward forwardPartCall
-message-at-once b out s h = rw (eq-eqb (length b) headingBytes h) (message-if b out s (wholeForward (lent s)) (ltb (length out) bufferLeast))
+message-at-once b out s Protected h = rw (eq-eqb (length b) headingBytes h) (message-if b out s (wholeForward Protected (lent s)) (ltb (length out) bufferLeast))
+message-at-once b out s Plain h = rw (eq-eqb (length b) headingBytes h) (message-if b out s (wholeForward Plain (lent s)) (ltb (length out) bufferLeast))
 
 -- the numbers
 eight-at : (vs : List ℕ) (i : ℕ) → i < length vs → eightAt (eights vs) (8 * i) ≡ getD vs i 0 % 2 ^ 64
@@ -164,10 +190,21 @@ eight-at (v ∷ vs) (suc i) h =
     let d = drop-at (octets 8 v) (eights vs) 8 (length-octets 8 v) in
     rw (e, eights-cons v vs) (sym (eight-drop 8 (8 * i) (octets 8 v ++ eights vs)) ∙ rw d (eight-at vs i (omega arith)))
 
-pub number-at-once : (b out s : List ℕ) (i n next : ℕ) (f : Forward) → length b ≡ headingBytes → bufferLeast ≤ length out → wholeForward (lent s) ≡ forwarded.Is f next → messageOut out s (f .message) .answer ≡ written.Bits n → i < messagePart → told (eightAt (readForward b out s .heading) (8 * i)) ≡ forwardPartCall out i s .number
+number-by : (b out s : List ℕ) (application which i n next : ℕ) (ed : Edition) (f : Forward) → isType application ≡ true → editionOf application ≡ ed → partIn which ≡ i → editionIn which ≡ ed → length b ≡ headingBytes → bufferLeast ≤ length out → wholeForward ed (lent s) ≡ forwarded.Is f next → messageOut out s (f .message) .answer ≡ written.Bits n → i < messagePart → told (eightAt (readForward b out s application .heading) (8 * i)) ≡ forwardPartCall out which s .number
 unfolding readForward forwardOpened forwardParts headingBy forwardPartCall forwardChosen forwardPart
-number-at-once b out s i n next f h g e w k =
+number-by b out s application which i n next ed f y a p d h g e w k =
     let o : eqb i messagePart ≡ false = ne-eqb i messagePart (λ (q : i ≡ messagePart). omega arith) in
     let u : ltb messagePart i ≡ false = le-ltb messagePart i (omega arith) in
     let v : eightAt (eights (headingNumbers (f .heading))) (8 * i) ≡ headingPart i (f .heading) % 2 ^ 64 = eight-at (headingNumbers (f .heading)) i k ∙ ap (λ (x : ℕ). x % 2 ^ 64) (part-at i (f .heading) k) in
-    rw (eq-eqb (length b) headingBytes h, le-ltb (length out) bufferLeast g, u, e, w, o, v) (ap (λ (x : ℕ). 256 * x) (mod-mod-pow (headingPart i (f .heading)) 8 56))
+    let l : wholeForward (editionOf application) (lent s) ≡ forwarded.Is f next = ap (λ (x : Edition). wholeForward x (lent s)) a ∙ e in
+    let m : wholeForward (editionIn which) (lent s) ≡ forwarded.Is f next = ap (λ (x : Edition). wholeForward x (lent s)) d ∙ e in
+    rw (eq-eqb (length b) headingBytes h, le-ltb (length out) bufferLeast g, y, l, p, u, m, w, o, v) (ap (λ (x : ℕ). 256 * x) (mod-mod-pow (headingPart i (f .heading)) 8 56))
+
+pub number-at-once : (b out s : List ℕ) (ed : Edition) (i n next : ℕ) (f : Forward) → length b ≡ headingBytes → bufferLeast ≤ length out → wholeForward ed (lent s) ≡ forwarded.Is f next → messageOut out s (f .message) .answer ≡ written.Bits n → i < messagePart → told (eightAt (readForward b out s (typeOf ed) .heading) (8 * i)) ≡ forwardPartCall out (numberedPart ed i) s .number
+number-at-once b out s Protected i n next f h g e w k =
+    let l : ltb i plainParts ≡ true = lt-ltb i plainParts (omega arith) in
+    number-by b out s (typeOf Protected) i i n next Protected f refl refl (rw l) (rw l) h g e w k
+number-at-once b out s Plain i n next f h g e w k =
+    let l : ltb (i + plainParts) plainParts ≡ false = le-ltb (i + plainParts) plainParts (omega arith) in
+    let m : i + plainParts - plainParts ≡ i = omega arith in
+    number-by b out s (typeOf Plain) (i + plainParts) i n next Plain f refl refl (rw l m) (rw l) h g e w k

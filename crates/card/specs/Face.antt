@@ -9,6 +9,7 @@ use Rattle.pdus.specs.declared.Span.{Span}
 use Rattle.apdu.specs.declared.Part.{Part}
 use Rattle.apdu.specs.declared.Part.the-variants as part
 use Rattle.apdu.specs.declared.Data.{Data}
+use Rattle.editions.specs.Editions.{isType, editionOf}
 use Rattle.machine.specs.Record.{freshRecord}
 use Rattle.control.specs.declared.Side.the-variants.{Air, Ground}
 use Rattle.machine.specs.declared.record.Configuration.{Configuration}
@@ -73,12 +74,13 @@ made n r = record { number = n; bytes = r }
 unfoldable pub freshFor : Kept → Made
 freshFor k = made (cond (k .done) 0 shape) (k .bytes)
 
--- the security value that local policy accepts, whether forwarding is supported (0, 1), the own version
-abbrev pub configured : ℕ → ℕ → ℕ → Configuration
-configured policy forwards version = record { policy = policy; forwards = eqb forwards 1; version = version }
+-- the security value that local policy accepts, whether forwarding is supported (0, 1), the own version, the application type
+abbrev pub configured : ℕ → ℕ → ℕ → ℕ → Configuration
+configured policy forwards version application = record { policy = policy; forwards = eqb forwards 1; version = version; edition = editionOf application }
 
-unfoldable pub freshCall : List ℕ → ℕ → ℕ → ℕ → ℕ → Made
-freshCall r side policy forwards version =
+unfoldable pub freshCall : List ℕ → ℕ → ℕ → ℕ → ℕ → ℕ → Made
+freshCall r side policy forwards version application =
     cond (ltb 1 forwards) (made shape r)
-    (cond (eqb side 1) (freshFor (storeAt r Air (freshRecord (configured policy forwards version)) firstNumber))
-    (cond (eqb side 2) (freshFor (storeAt r Ground (freshRecord (configured policy forwards version)) firstNumber)) (made shape r)))
+    (cond (not (isType application)) (made shape r)
+    (cond (eqb side 1) (freshFor (storeAt r Air (freshRecord (configured policy forwards version application)) firstNumber))
+    (cond (eqb side 2) (freshFor (storeAt r Ground (freshRecord (configured policy forwards version application)) firstNumber)) (made shape r))))

@@ -1,14 +1,14 @@
 -- A forward message that was delivered, taken apart for the host. Its parts by number: 0 year, 1 month, 2 day, 3 hours, 4 minutes, 5
 -- seconds, 6 the count of the flight identification's characters, 7 they as one number, seven bits each, the first on top, 8 the aircraft's
--- address, 9 what the message's bits are (0 uplink, 1 downlink), 10 those bits.
+-- address, 9 what the message's bits are (0 uplink, 1 downlink), 10 those bits. 16 to 26 are the same parts of a forward message of application type 2.
 -- The number that taking one out answers. A refusal is its number, with its place above it where the bytes are at fault (fields' `packed`),
 -- and every other bit is zero. Else, from the lowest bit on:
 --    8 bits  0
 --   56 bits  the part; of the message's bits, which stand in the buffer from the first on, their count
 -- All parts at once: the ten numbers into a lent range, eight bytes each, the most significant first; and the message's bits into the
 -- buffer. The number that is answered is that of the message's bits.
-use Prim.Native.Nat.{ℕ, zero, suc, _*_, _%_}
-use mathlib.Core.Bool.{cond}
+use Prim.Native.Nat.{ℕ, zero, suc, _-_, _*_, _%_}
+use mathlib.Core.Bool.{cond, not}
 use mathlib.Core.List.{List, [], _∷_}
 use lib.Dec.{eqb, ltb}
 use lib.ListN.{length}
@@ -18,7 +18,10 @@ use Rattle.book.specs.Books.{eights}
 use Rattle.fields.specs.Refusals.{packed}
 use Rattle.apdu.specs.Sizes.{bufferLeast}
 use Rattle.apdu.specs.Pdus.{lent}
-use Rattle.apdu.specs.Reading.{wholeForward}
+use Rattle.codec.specs.Codec.{wholeForward}
+use Rattle.editions.specs.Editions.{isType, editionOf}
+use Rattle.editions.specs.declared.Edition.{Edition}
+use Rattle.editions.specs.declared.Edition.the-variants.{Plain, Protected}
 use Rattle.apdu.specs.Writing.{Done, writeOut, runFits}
 use Rattle.pdus.specs.declared.Span.{Span}
 use Rattle.apdu.specs.declared.Heading.{Heading}
@@ -32,6 +35,16 @@ use Rattle.layout.specs.Calls.{Sent, sent}
 -- the message's bits
 abbrev pub messagePart : ℕ
 messagePart = 10
+
+-- where the parts of type 2 begin; the edition of a part's number, and the part
+abbrev pub plainParts : ℕ
+plainParts = 16
+
+abbrev pub editionIn : ℕ → Edition
+editionIn which = cond (ltb which plainParts) Protected Plain
+
+abbrev pub partIn : ℕ → ℕ
+partIn which = cond (ltb which plainParts) which (which - plainParts)
 
 abbrev pub headingPart : ℕ → Heading → ℕ
 headingPart zero h = h .date .first
@@ -72,7 +85,7 @@ forwardChosen out s which (forwarded.Refused r) = sent (packed r) out
 -- ROOM, then SHAPE of the number that chooses, then the refusals of a forward message
 unfoldable pub forwardPartCall : List ℕ → ℕ → List ℕ → Sent
 forwardPartCall out which s =
-    cond (ltb (length out) bufferLeast) (sent room out) (cond (ltb messagePart which) (sent shape out) (forwardChosen out s which (wholeForward (lent s))))
+    cond (ltb (length out) bufferLeast) (sent room out) (cond (ltb messagePart (partIn which)) (sent shape out) (forwardChosen out s (partIn which) (wholeForward (editionIn which) (lent s))))
 
 -- ---- all parts at once
 
@@ -111,8 +124,9 @@ unfoldable pub forwardOpened : List ℕ → List ℕ → List ℕ → Forwarded 
 forwardOpened b out s (forwarded.Is f next) = forwardParts b out s f
 forwardOpened b out s (forwarded.Refused r) = opened (packed r) b out
 
--- ROOM, then SHAPE of a range for the heading of another size, then the refusals of a forward message
-unfoldable pub readForward : List ℕ → List ℕ → List ℕ → Opened
-readForward b out s =
+-- ROOM, then SHAPE of the type and of a range for the heading of another size, then the refusals of a forward message
+unfoldable pub readForward : List ℕ → List ℕ → List ℕ → ℕ → Opened
+readForward b out s application =
     cond (ltb (length out) bufferLeast) (opened room b out)
-    (cond (eqb (length b) headingBytes) (forwardOpened b out s (wholeForward (lent s))) (opened shape b out))
+    (cond (not (isType application)) (opened shape b out)
+    (cond (eqb (length b) headingBytes) (forwardOpened b out s (wholeForward (editionOf application) (lent s))) (opened shape b out)))

@@ -3,7 +3,7 @@ ghost use mathlib.Core.Path.{_≡_};
 ghost use lib.ListN.{length};
 ghost use Rattle.apdu.specs.Headings.{triple};
 ghost use Rattle.book.specs.Books.{eights};
-ghost use Rattle.card.specs.Forwarding.{forwardPart, forwardPartCall, forwardParts, headingBy, headingBytes, headingNumbers, headingPart, messageAnswer, opened, readForward, told};
+ghost use Rattle.card.specs.Forwarding.{editionIn, forwardPart, forwardPartCall, forwardParts, headingBy, headingBytes, headingNumbers, headingPart, messageAnswer, opened, partIn, readForward, told};
 ghost use Rattle.layout.specs.Calls.{sent};
 ghost use Rattle.step.specs.Call.{called, forwardCall};
 use crate::mail::put_eight;
@@ -14,7 +14,8 @@ use apdu::Heading;
 use apdu::Triple;
 use apdu::Written;
 use apdu::put_run;
-use apdu::read_forward;
+use codec::read_forward;
+use editions::Edition;
 use pdus::Span;
 use step::forward_call;
 use words::Limit;
@@ -87,6 +88,9 @@ pub extern "C" fn peat_forward_request(
 // The message's bits by number; as many parts are in front of them.
 const MESSAGE: u64 = 10;
 
+// The parts of a forward message of application type 2 begin here.
+const PLAIN_PARTS: u64 = 16;
+
 // The bytes that take those.
 const HEADING_BYTES: usize = 80;
 
@@ -138,6 +142,25 @@ fn forward_part(out: &mut [u8], s: &[u8], which: u64, f: Forward) -> u64
     told(heading_part(which, heading))
 }
 
+// The edition of a part's number, and the part.
+fn edition_in(which: u64) -> Edition
+    ensures { λ e. ⌜ e ≡ editionIn which ⌝ }
+{
+    if which < PLAIN_PARTS {
+        return Edition::Protected;
+    }
+    Edition::Plain
+}
+
+fn part_in(which: u64) -> u64
+    ensures { λ n. ⌜ n ≡ partIn which ⌝ }
+{
+    if which < PLAIN_PARTS {
+        return which;
+    }
+    which - PLAIN_PARTS
+}
+
 // One part of a forward message as it was delivered.
 #[no_mangle]
 pub extern "C" fn peat_forward_part(which: u64, delivered: &[u8], out: &mut [u8]) -> u64
@@ -146,13 +169,14 @@ pub extern "C" fn peat_forward_part(which: u64, delivered: &[u8], out: &mut [u8]
     if out.len() < Apdu::BUFFER {
         return Limit::ROOM;
     }
-    if MESSAGE < which {
+    let part = part_in(which);
+    if MESSAGE < part {
         return Limit::SHAPE;
     }
-    let whole = read_forward(delivered);
+    let whole = read_forward(edition_in(which), delivered);
     match whole {
         Forwarded::Refused(r) => fields::packed(r),
-        Forwarded::Is(f, _) => forward_part(out, delivered, which, f),
+        Forwarded::Is(f, _) => forward_part(out, delivered, part, f),
     }
 }
 
@@ -192,18 +216,27 @@ fn forward_parts(heading: &mut [u8], out: &mut [u8], s: &[u8], f: Forward) -> u6
     message_answer(w)
 }
 
-// All parts of a forward message as it was delivered: the numbers into the lent range of eighty bytes, the message's bits into the buffer.
+// All parts of a forward message of an application type (2, 22) as it was delivered: the numbers into the lent range of eighty bytes, the message's bits
+// into the buffer.
 #[no_mangle]
-pub extern "C" fn peat_read_forward(delivered: &[u8], heading: &mut [u8], out: &mut [u8]) -> u64
-    ensures { λ n. ⌜ opened n (now (heading .exit)) (now (out .exit)) ≡ readForward (now (heading .entry)) (now (out .entry)) (now (delivered .entry)) ⌝ }
+pub extern "C" fn peat_read_forward(
+    delivered: &[u8],
+    heading: &mut [u8],
+    out: &mut [u8],
+    application: u64,
+) -> u64
+    ensures { λ n. ⌜ opened n (now (heading .exit)) (now (out .exit)) ≡ readForward (now (heading .entry)) (now (out .entry)) (now (delivered .entry)) application ⌝ }
 {
     if out.len() < Apdu::BUFFER {
         return Limit::ROOM;
     }
+    if !Edition::is_type(application) {
+        return Limit::SHAPE;
+    }
     if heading.len() != HEADING_BYTES {
         return Limit::SHAPE;
     }
-    let whole = read_forward(delivered);
+    let whole = read_forward(Edition::of_type(application), delivered);
     match whole {
         Forwarded::Refused(r) => fields::packed(r),
         Forwarded::Is(f, _) => forward_parts(heading, out, delivered, f),

@@ -3,6 +3,10 @@ use Prim.Native.Nat.{ℕ, _+_, _*_, _/_, _%_, _^_}
 use mathlib.Core.Path.{_≡_}
 use mathlib.Core.List.{List}
 use lib.ListN.{getD}
+use Rattle.editions.specs.declared.Edition.{Edition}
+use Rattle.editions.specs.declared.Edition.the-variants.{Plain, Protected}
+use Rattle.pdus.specs.declared.PduType.{PduType}
+use Rattle.pdus.specs.declared.PduType.the-variants.{AircraftPdus, GroundPdus}
 use Rattle.recordings.specs.declared.Compared.{Compared}
 
 -- ---- an APDU by itself: the refusal, the alternative by its tag, and behind it the mode of a start
@@ -15,6 +19,13 @@ tagIn n = n / 256 % 256
 
 abbrev pub modeIn : ℕ → ℕ
 modeIn n = n / 65536 % 256
+
+-- the number by which a host names a type of PDUs in an edition. The leading bits are the same in every edition: for them it names the type of type 22
+abbrev pub typeNumber : Edition → PduType → ℕ
+typeNumber Protected AircraftPdus = 1
+typeNumber Protected GroundPdus = 2
+typeNumber Plain AircraftPdus = 3
+typeNumber Plain GroundPdus = 4
 
 -- the tag of a start
 abbrev pub startTag : ℕ

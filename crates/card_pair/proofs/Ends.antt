@@ -3,27 +3,28 @@
 -- Assumes nothing.
 use mathlib.Core.Path.{_≡_, refl, ap, sym, subst, _∙_}
 use mathlib.Core.Bool.{Bool, true, false, not, cond, _&&_, _||_}
-use mathlib.Core.List.{List, [], _∷_}
+use mathlib.Core.List.{List, [], _∷_, _++_}
 use Prim.Native.Nat.{ℕ, _+_, _*_, _^_, _%_, _≤_, _<_}
 use native.Mathlib.Omega.{arith}
-use lib.Dec.{T}
+use lib.Dec.{T, eqb}
 use borrow.Author.Tests.{eq-eqb, le-leb, lt-ltb}
 use lib.ListN.{length, take}
 use lib.Seq.{take-at}
 use Rattle.bits.specs.Bits.{bitsN, bitsOf, bitsTo}
 use Rattle.bits.proofs.Numbers.{Bits}
-use Rattle.bits.proofs.Bytes.{bits-append}
-use Rattle.fields.specs.Encodings.{indexBits}
-use Rattle.fields.proofs.RoundTrip.{extensible-index}
-use Rattle.apdu.specs.Sizes.{bufferLeast, userLast, providerLast}
-use Rattle.apdu.specs.Pdus.{lastOf, lent, contentIn, pduIn}
-use Rattle.apdu.specs.Encoding.{contentBits, modeBits, pduBits, padded, bytesFor, padding}
-use Rattle.apdu.specs.Writing.{Done, writeOut, dataFits, apduFits}
+use Rattle.editions.specs.declared.Edition.{Edition}
+use Rattle.apdu.specs.Sizes.{bufferLeast}
+use Rattle.apdu.specs.Pdus.{lent, contentIn, pduIn}
+use Rattle.apdu.specs.Encoding.{modeBits, alternative, padded, bytesFor, padding}
+use Rattle.apdu.specs.Writing.{Done, writeOut, dataFits}
 use Rattle.control.specs.Control.{awaitsResponse}
 use Rattle.apdu.specs.declared.Apdu.{Apdu}
 use Rattle.apdu.specs.declared.Apdu.the-variants as is
-use Rattle.apdu.proofs.Bounds.{data-value-fits, apdu-value-fits, content-most, pdu-most}
+use Rattle.apdu.specs.declared.Kind.the-variants as kind
 use Rattle.apdu.proofs.Theorems.{front, writes}
+use Rattle.codec.specs.Codec.{contentBits, pduBits, apduFits}
+use Rattle.codec.proofs.Stated.{contentFits}
+use Rattle.codec.proofs.Instance.{laws}
 use Rattle.machine.specs.Codes.{securityValues, versions}
 use Rattle.machine.specs.Outcome.{isNone, refusalNumber}
 use Rattle.machine.specs.declared.event.Qos.{Qos}
@@ -39,17 +40,18 @@ use Rattle.machine.specs.declared.outcome.Told.{Told}
 use Rattle.machine.specs.declared.outcome.Told.the-variants.{Untold, StartIndication, StartConfirmation, MessageIndication, EndIndication, EndConfirmation, UserAbortIndication, ProviderAbortIndication, ForwardIndication, ForwardConfirmation}
 use Rattle.machine.specs.declared.outcome.Outcome.{Outcome}
 use Rattle.stored.specs.Stored.{recordBytes, flag, loadAt, storeAt}
-use Rattle.packed.specs.Packed.{refusals, primitives, counts, packed, invokedNumber, toldNumber, versionNumber}
+use Rattle.packed.specs.Packed.{refusals, codes, primitives, counts, packed, invokedNumber, toldNumber, versionNumber}
 use Rattle.step.specs.Call.{Carried, Called, passes, pdusOf, bitsOfWritten, nothingTo, pduTo, firstTakes, secondTakes, finished, concluded}
+use Rattle.stored.specs.declared.Loaded.{Loaded}
 use Rattle.stored.specs.declared.Loaded.the-variants.{Is}
 use Rattle.stored.proofs.Storing.{length-stored, loaded-stored}
 use Rattle.packed.proofs.Unpacked.{invoked-low, told-low, refusal-unpacked, invoked-unpacked, told-unpacked, sent-unpacked, given-unpacked, code-unpacked, parameter-unpacked, last-unpacked}
-use Rattle.step.proofs.Taken.{never, Coded, writable, Brings, GoesOut, Roomy, quiet, Fit}
+use Rattle.step.proofs.Taken.{never, Coded, writable, withBody, Brings, GoesOut, Roomy, quiet, Fit}
 use Rattle.pair.specs.Names.{Side}
 use Rattle.pair.specs.Carrier.{Body}
 use Rattle.pair.proofs.StepMachine.{handedBy}
-use Rattle.card_pair.specs.Answered.{isTaken, invokedPart, toldPart, sentBits, givenBits, invokedOf, entryOf, isMessage, dataIn, handedOf}
-use Rattle.apdu.proofs.Theorems.{content-are-bits, mode-are-bits, index-are-bits}
+use Rattle.card_pair.specs.Answered.{isTaken, invokedPart, toldPart, sentBits, givenBits, invokedOf, entryOf, dataIn, handedOf}
+use Rattle.card_pair.specs.CardMachine.{inRecord}
 use Rattle.card_pair.proofs.Codec.{apduBits, zeros, full, frontOf, enc}
 
 -- ---- a buffer: bs were written to it
@@ -67,63 +69,53 @@ nothing-is : (s : List ℕ) → Wrote [] (nothingTo s)
 unfolding bitsTo bitsOf padded bitsN
 nothing-is s = record { count = refl; bytes = refl; zeroed = refl; small = omega arith }
 
--- the bits of an APDU are bits
-apdu-are-bits : (sd : Side) (a : UserData) (b : Body) → Bits b → Bits (apduBits sd a b)
-unfolding apduBits pduBits
-apdu-are-bits sd Absent b h = λ (k : ℕ). omega arith
-apdu-are-bits sd NotValid b h = λ (k : ℕ). omega arith
-apdu-are-bits sd (Start m) b h = bits-append (indexBits (lastOf (pdusOf sd)) 2) _ (index-are-bits (pdusOf sd) 2) (bits-append (modeBits (pdusOf sd) (flag m)) b (mode-are-bits (pdusOf sd) (flag m)) h)
-apdu-are-bits sd Send b h = bits-append (indexBits (lastOf (pdusOf sd)) 3) b (index-are-bits (pdusOf sd) 3) h
-apdu-are-bits sd (AbortUser x) b h = bits-append (indexBits (lastOf (pdusOf sd)) 0) (indexBits userLast x) (index-are-bits (pdusOf sd) 0) (extensible-index userLast (omega arith) .are-bits x)
-apdu-are-bits sd (AbortProvider x) b h = bits-append (indexBits (lastOf (pdusOf sd)) 1) (indexBits providerLast x) (index-are-bits (pdusOf sd) 1) (extensible-index providerLast (omega arith) .are-bits x)
-apdu-are-bits sd Forward b h = λ (k : ℕ). omega arith
-apdu-are-bits sd (ForwardResponse x) b h = λ (k : ℕ). omega arith
-
-module _ (sd : Side) (li lm lc : List ℕ) (d : Carried) (hi : Bits li) (hm : Bits lm) (hc : Bits lc) (sh : dataFits li lm lc (d .content) ≡ true) where
+module _ (ed : Edition) (sd : Side) (li lm lc : List ℕ) (d : Carried) (hi : Bits li) (hm : Bits lm) (hc : Bits lc) (sh : dataFits li lm lc (d .content) ≡ true) where
   abbrev pub body : Body
-  body = contentBits (contentIn li lm lc (d .content))
+  body = contentBits ed (contentIn li lm lc (d .content))
 
-  pub body-bits : Bits body
-  body-bits = content-are-bits li lm lc (d .content) hi hm hc
+  body-bits : Bits (contentBits ed (contentIn li lm lc (d .content)))
+  body-bits = laws ed .content-are-bits li lm lc (d .content) hi hm hc
 
-  pdu-is : (a : Apdu) (s : List ℕ) → apduFits (pdusOf sd) li lm lc a ≡ true → Bits (pduBits (pdusOf sd) (pduIn li lm lc a)) → bufferLeast ≤ length s → Wrote (pduBits (pdusOf sd) (pduIn li lm lc a)) (pduTo (pdusOf sd) li lm lc a s)
-  pdu-is a s e b g =
-      let m = pdu-most (pdusOf sd) (pduIn li lm lc a) (apdu-value-fits (pdusOf sd) li lm lc a e) in
-      write-is (apduFits (pdusOf sd) li lm lc a) s (pduBits (pdusOf sd) (pduIn li lm lc a)) e b (omega arith) g
+  pdu-is : (a : Apdu) (s : List ℕ) → apduFits ed (pdusOf sd) li lm lc a ≡ true → bufferLeast ≤ length s → Wrote (pduBits ed (pdusOf sd) (pduIn li lm lc a)) (pduTo ed (pdusOf sd) li lm lc a s)
+  pdu-is a s e g =
+      let m = laws ed .pdu-most (pdusOf sd) li lm lc a e in
+      write-is (apduFits ed (pdusOf sd) li lm lc a) s (pduBits ed (pdusOf sd) (pduIn li lm lc a)) e (laws ed .pdu-are-bits (pdusOf sd) li lm lc a hi hm hc) (omega arith) g
 
-  -- the first buffer takes an APDU that is writable
-  first-is : (a : UserData) (s : List ℕ) → writable sd a ≡ true → bufferLeast ≤ length s → Wrote (apduBits sd a body) (firstTakes sd li lm lc d a s)
+  -- the first buffer takes an APDU that is writable; message data that go out in it are the side's own
+  first-is : (a : UserData) (s : List ℕ) → writable ed sd a ≡ true → (withBody a ≡ true → contentFits ed (pdusOf sd) (contentIn li lm lc (d .content)) ≡ true) → bufferLeast ≤ length s → Wrote (apduBits ed sd a body) (firstTakes ed sd li lm lc d a s)
   unfolding firstTakes apduBits pduBits pduIn apduFits
-  first-is Absent s e g = never e
-  first-is NotValid s e g = never e
-  first-is (Start m) s e g = pdu-is (is.Start (flag m) (d .content)) s (rw (e, sh)) (apdu-are-bits sd (Start m) body body-bits) g
-  first-is Send s e g = pdu-is (is.Send (d .content)) s sh (apdu-are-bits sd Send body body-bits) g
-  first-is (AbortUser x) s e g = pdu-is (is.AbortUser x) s e (apdu-are-bits sd (AbortUser x) body body-bits) g
-  first-is (AbortProvider x) s e g = pdu-is (is.AbortProvider x) s e (apdu-are-bits sd (AbortProvider x) body body-bits) g
-  first-is Forward s e g = never e
-  first-is (ForwardResponse x) s e g = never e
+  first-is Absent s e own g = nothing-is s
+  first-is NotValid s e own g = never e
+  first-is (Start m) s e own g =
+      subst (λ (z : List ℕ). Wrote (alternative (pdusOf sd) kind.Start ++ (modeBits (pdusOf sd) (flag m) ++ z)) (firstTakes ed sd li lm lc d (Start m) s)) (laws ed .start-of (pdusOf sd) (contentIn li lm lc (d .content)) (own refl) body-bits)
+      (pdu-is (is.Start (flag m) (d .content)) s (rw (e, sh)) g)
+  first-is Send s e own g = pdu-is (is.Send (d .content)) s sh g
+  first-is (AbortUser x) s e own g = pdu-is (is.AbortUser x) s e g
+  first-is (AbortProvider x) s e own g = pdu-is (is.AbortProvider x) s e g
+  first-is Forward s e own g = never e
+  first-is (ForwardResponse x) s e own g = never e
 
-  absent-is : (a : UserData) (s : List ℕ) → a ≡ Absent → Wrote (apduBits sd a body) (firstTakes sd li lm lc d a s)
+  absent-is : (a : UserData) (s : List ℕ) → a ≡ Absent → Wrote (apduBits ed sd a body) (firstTakes ed sd li lm lc d a s)
   unfolding firstTakes apduBits
-  absent-is a s e = subst (λ (z : UserData). Wrote (apduBits sd z body) (firstTakes sd li lm lc d z s)) (sym e) (nothing-is s)
+  absent-is a s e = subst (λ (z : UserData). Wrote (apduBits ed sd z body) (firstTakes ed sd li lm lc d z s)) (sym e) (nothing-is s)
 
-  goes-is : (u : Bool) (i : Invoked) (a : UserData) (s : List ℕ) → GoesOut u sd i a → bufferLeast ≤ length s → Wrote (apduBits sd a body) (firstTakes sd li lm lc d a s)
-  goes-is u Silent a s h g = absent-is a s (h .1)
-  goes-is u (DStartRequest q x) a s h g = first-is a s h g
-  goes-is u (DStartResponse x y) a s h g = first-is a s h g
-  goes-is u DDataRequest a s h g = first-is a s h g
-  goes-is u DEndRequest a s h g = first-is a s h g
-  goes-is u (DEndResponse x) a s h g = first-is a s h g
-  goes-is u (DAbortRequest o) a s h g = first-is a s h g
-  goes-is u (DStartForwardRequest q x v) a s h g = absurd h
-  goes-is u (DStartForwardResponse x v) a s h g = absurd h
+  goes-is : (u : Bool) (i : Invoked) (a : UserData) (s : List ℕ) → GoesOut ed u sd i a → (withBody a ≡ true → contentFits ed (pdusOf sd) (contentIn li lm lc (d .content)) ≡ true) → bufferLeast ≤ length s → Wrote (apduBits ed sd a body) (firstTakes ed sd li lm lc d a s)
+  goes-is u Silent a s h own g = absent-is a s (h .1)
+  goes-is u (DStartRequest q x) a s h own g = first-is a s h own g
+  goes-is u (DStartResponse x y) a s h own g = first-is a s h own g
+  goes-is u DDataRequest a s h own g = first-is a s h own g
+  goes-is u DEndRequest a s h own g = first-is a s h own g
+  goes-is u (DEndResponse x) a s h own g = first-is a s h own g
+  goes-is u (DAbortRequest o) a s h own g = first-is a s h own g
+  goes-is u (DStartForwardRequest q x v) a s h own g = absurd h
+  goes-is u (DStartForwardResponse x v) a s h own g = absurd h
 
   -- the second takes message data that are delivered
-  second-is : (passed delivers : Bool) (s : List ℕ) → passed ≡ false → bufferLeast ≤ length s → Wrote (cond delivers body []) (secondTakes li lm lc d passed delivers s)
+  second-is : (passed delivers : Bool) (s : List ℕ) → passed ≡ false → bufferLeast ≤ length s → Wrote (cond delivers body []) (secondTakes ed li lm lc d passed delivers s)
   unfolding secondTakes
   second-is true delivers s e g = absurd (subst T e tt)
   second-is false true s e g =
-      let m = content-most (contentIn li lm lc (d .content)) (data-value-fits li lm lc (d .content) sh) in
+      let m = laws ed .content-most li lm lc (d .content) sh in
       write-is (dataFits li lm lc (d .content)) s body sh body-bits (omega arith) g
   second-is false false s e g = nothing-is s
 
@@ -142,6 +134,10 @@ invoked-back (DAbortRequest o) h = rw (code-unpacked 6 o 0 (omega arith), parame
 invoked-back (DStartForwardRequest q s v) h = absurd h
 invoked-back (DStartForwardResponse s v) h = absurd h
 
+-- a message indication is told
+abbrev isMessage : ℕ → Bool
+isMessage t = eqb (t % codes) 3
+
 told-back : (t : Told) → isMessage (toldNumber t) ≡ not (quiet t)
 unfolding toldNumber
 told-back Untold = refl
@@ -157,29 +153,34 @@ told-back (ForwardConfirmation x v) = rw (code-unpacked 9 x 0 (omega arith))
 
 -- ---- the record
 
--- the bytes b are those of the record r at side sd, which holds the dialogue number n
-pub record Keeps (sd : Side) (b : List ℕ) (r : Record) (n : ℕ) : Type 0 where
+-- the dialogue number in it
+abbrev pub numberIn : Loaded → ℕ
+numberIn l = inRecord (λ (r : Record) (n : ℕ). n) 0 l
+
+-- the bytes b are those of the record r at side sd and of edition ed, which holds the dialogue number n
+pub record Keeps (ed : Edition) (sd : Side) (b : List ℕ) (r : Record) (n : ℕ) : Type 0 where
   pub load : loadAt b ≡ Is sd r n
+  pub edition : r .edition ≡ ed
   pub size : length b ≡ recordBytes
   pub coded : Coded r
   pub low : n < 2 ^ 64
   -- no forward is under way
   pub dialogue : awaitsResponse (r .control) ≡ false
 
-pub stored-keeps : (sd : Side) (r : List ℕ) (x : Record) (n : ℕ) → length r ≡ recordBytes → Coded x → n < 2 ^ 64 → awaitsResponse (x .control) ≡ false → Keeps sd (storeAt r sd x n .bytes) x n
+pub stored-keeps : (ed : Edition) (sd : Side) (r : List ℕ) (x : Record) (n : ℕ) → length r ≡ recordBytes → Coded x → n < 2 ^ 64 → awaitsResponse (x .control) ≡ false → x .edition ≡ ed → Keeps ed sd (storeAt r sd x n .bytes) x n
 unfolding storeAt
-stored-keeps sd r x n h k l w =
+stored-keeps ed sd r x n h k l w e =
     rw (eq-eqb (length r) recordBytes h, lt-ltb (x .request) securityValues (k .request), lt-ltb (x .policy) securityValues (k .policy), le-leb 1 (x .version) (k .least), lt-ltb (x .version) versions (k .most))
-    (record { load = loaded-stored sd x n k l; size = length-stored sd x n k l; coded = k; low = l; dialogue = w })
+    (record { load = loaded-stored sd x n k l; edition = e; size = length-stored sd x n k l; coded = k; low = l; dialogue = w })
 
 -- ---- all of it
 
 -- b: the message data that the APDU was made with, and that are delivered; m: the dialogue number that the record holds now
-pub record Ended (sd : Side) (v : Brings) (m : ℕ) (o : Outcome) (b : Body) (c : Called) : Type 0 where
+pub record Ended (ed : Edition) (sd : Side) (v : Brings) (m : ℕ) (o : Outcome) (b : Body) (c : Called) : Type 0 where
   pub taken : isTaken (c .number) ≡ true
-  pub keeps : Keeps sd (c .kept) (o .next) m
+  pub keeps : Keeps ed sd (c .kept) (o .next) m
   pub primitive : entryOf c .primitive ≡ o .invoked
-  pub bits : lent (entryOf c .bytes) ≡ lent (enc sd (o .apdu) b)
+  pub bits : lent (entryOf c .bytes) ≡ lent (enc ed sd (o .apdu) b)
   pub handed : (x : Body) → (isSend (v .apdu) ≡ true → b ≡ x) → handedOf c ≡ cond (o .delivers) (handedBy (o .told) x) []
 
 take-padded : (bs : List ℕ) → take (length bs) (padded bs) ≡ bs
@@ -225,9 +226,9 @@ module _ (i t s g v : ℕ) (hi : i < primitives) (ht : t < primitives) (hs : s <
   given-part = given-unpacked i t s g v hi ht hg
 
 -- from what the two buffers took
-module _ (r a b : List ℕ) (sd : Side) (v : Brings) (m : ℕ) (o : Outcome) (y : Body) (one two : Done) (size : length r ≡ recordBytes) (low : m < 2 ^ 64) (k : Fit sd v o) (w : Wrote (apduBits sd (o .apdu) y) one) (z : Wrote (cond (o .delivers) y []) two) where
+module _ (r a b : List ℕ) (ed : Edition) (sd : Side) (v : Brings) (m : ℕ) (o : Outcome) (y : Body) (one two : Done) (size : length r ≡ recordBytes) (low : m < 2 ^ 64) (k : Fit ed sd v o) (w : Wrote (apduBits ed sd (o .apdu) y) one) (z : Wrote (cond (o .delivers) y []) two) where
   abbrev N : ℕ
-  N = packed (invokedNumber (o .invoked)) (toldNumber (o .told)) (length (apduBits sd (o .apdu) y)) (length (cond (o .delivers) y [])) (versionNumber (o .invoked) (o .told))
+  N = packed (invokedNumber (o .invoked)) (toldNumber (o .told)) (length (apduBits ed sd (o .apdu) y)) (length (cond (o .delivers) y [])) (versionNumber (o .invoked) (o .told))
 
   hi : invokedNumber (o .invoked) < primitives
   hi = invoked-low (o .invoked)
@@ -242,7 +243,7 @@ module _ (r a b : List ℕ) (sd : Side) (v : Brings) (m : ℕ) (o : Outcome) (y 
   number-taken : isTaken (finished r a b sd m o one two .number) ≡ true
   number-taken = ap isTaken number-is ∙ is-taken _ _ _ _ _ hi ht (w .small) (z .small)
 
-  number-sent : sentBits (finished r a b sd m o one two .number) ≡ length (apduBits sd (o .apdu) y)
+  number-sent : sentBits (finished r a b sd m o one two .number) ≡ length (apduBits ed sd (o .apdu) y)
   number-sent = ap sentBits number-is ∙ sent-part _ _ _ _ _ hi ht (w .small) (z .small)
 
   number-given : givenBits (finished r a b sd m o one two .number) ≡ length (cond (o .delivers) y [])
@@ -259,12 +260,12 @@ module _ (r a b : List ℕ) (sd : Side) (v : Brings) (m : ℕ) (o : Outcome) (y 
   unfolding finished
   data-is = ap (λ (n : ℕ). take n (lent (take (bytesFor n) (two .bytes)))) number-given ∙ ap (take (length (cond (o .delivers) y []))) (z .bytes) ∙ take-padded (cond (o .delivers) y [])
 
-  finished-is : Ended sd v m o y (finished r a b sd m o one two)
+  finished-is : Ended ed sd v m o y (finished r a b sd m o one two)
   unfolding finished
   finished-is =
       record {
         taken = number-taken;
-        keeps = stored-keeps sd r (o .next) m size (k .coded) low (k .dialogue);
+        keeps = stored-keeps ed sd r (o .next) m size (k .coded) low (k .dialogue) (k .edition);
         primitive = number-invoked;
         bits = ap (λ (n : ℕ). lent (take (bytesFor n) (one .bytes))) number-sent ∙ w .bytes ∙ sym (w .zeroed);
         handed = λ (x : Body) (f : isSend (v .apdu) ≡ true → y ≡ x).
@@ -273,13 +274,13 @@ module _ (r a b : List ℕ) (sd : Side) (v : Brings) (m : ℕ) (o : Outcome) (y 
       }
 
 -- a step that was taken
-pub concluded-is : (r a b : List ℕ) (sd : Side) (v : Brings) (m : ℕ) (o : Outcome) (li lm lc : List ℕ) (d : Carried) → bufferLeast ≤ length a → bufferLeast ≤ length b → length r ≡ recordBytes → m < 2 ^ 64 → Bits li → Bits lm → Bits lc → dataFits li lm lc (d .content) ≡ true → isNone (o .refusal) ≡ true → Fit sd v o
-    → Ended sd v m o (contentBits (contentIn li lm lc (d .content))) (concluded r a b sd m o li lm lc d)
+pub concluded-is : (r a b : List ℕ) (ed : Edition) (sd : Side) (v : Brings) (m : ℕ) (o : Outcome) (li lm lc : List ℕ) (d : Carried) → bufferLeast ≤ length a → bufferLeast ≤ length b → length r ≡ recordBytes → m < 2 ^ 64 → Bits li → Bits lm → Bits lc → dataFits li lm lc (d .content) ≡ true
+    → (v .body ≡ true → contentFits ed (pdusOf sd) (contentIn li lm lc (d .content)) ≡ true) → isNone (o .refusal) ≡ true → Fit ed sd v o → Ended ed sd v m o (contentBits ed (contentIn li lm lc (d .content))) (concluded r a b ed sd m o li lm lc d)
 unfolding concluded
-concluded-is r a b sd v m o li lm lc d ha hb size low hi hm hc sh n k =
-    rw n (finished-is r a b sd v m o (contentBits (contentIn li lm lc (d .content))) (firstTakes sd li lm lc d (o .apdu) a) (secondTakes li lm lc d (passes (o .told)) (o .delivers) b) size low k
-    (goes-is sd li lm lc d hi hm hc sh (v .user) (o .invoked) (o .apdu) a (k .apdu) ha)
-    (second-is sd li lm lc d hi hm hc sh (passes (o .told)) (o .delivers) b (k .plain) hb))
+concluded-is r a b ed sd v m o li lm lc d ha hb size low hi hm hc sh own n k =
+    rw n (finished-is r a b ed sd v m o (contentBits ed (contentIn li lm lc (d .content))) (firstTakes ed sd li lm lc d (o .apdu) a) (secondTakes ed li lm lc d (passes (o .told)) (o .delivers) b) size low k
+    (goes-is ed sd li lm lc d hi hm hc sh (v .user) (o .invoked) (o .apdu) a (k .apdu) (λ (e : withBody (o .apdu) ≡ true). own (sym (k .body) ∙ e)) ha)
+    (second-is ed sd li lm lc d hi hm hc sh (passes (o .told)) (o .delivers) b (k .plain) hb))
 
 refusal-told : (w : StepRefusal) → isNone w ≡ false → isTaken (refusalNumber w) ≡ false
 refusal-told None e = never (sym e)
@@ -290,6 +291,6 @@ refusal-told NoMessage e = refl
 refusal-told Repeat e = refl
 
 -- one that was refused
-pub concluded-refused : (r a b : List ℕ) (sd : Side) (m : ℕ) (o : Outcome) (li lm lc : List ℕ) (d : Carried) → isNone (o .refusal) ≡ false → isTaken (concluded r a b sd m o li lm lc d .number) ≡ false
+pub concluded-refused : (r a b : List ℕ) (ed : Edition) (sd : Side) (m : ℕ) (o : Outcome) (li lm lc : List ℕ) (d : Carried) → isNone (o .refusal) ≡ false → isTaken (concluded r a b ed sd m o li lm lc d .number) ≡ false
 unfolding concluded
-concluded-refused r a b sd m o li lm lc d n = rw n (refusal-told (o .refusal) n)
+concluded-refused r a b ed sd m o li lm lc d n = rw n (refusal-told (o .refusal) n)

@@ -1,4 +1,3 @@
-pub mod Bodies
 pub mod Codec
 pub mod Ends
 pub mod Entries

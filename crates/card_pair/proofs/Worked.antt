@@ -13,10 +13,11 @@ use Rattle.bits.specs.Read.{readBits}
 use Rattle.fields.specs.Encodings.{wholeBits, indexBits, lengthBits}
 use Rattle.fields.specs.Fields.{bitField, extensionBit, digitsIn, wholeNumber, extensibleIndex, lengthAt, lengthWithin, runAt, stringAt}
 use Rattle.apdu.specs.Sizes.{bufferLeast}
-use Rattle.apdu.specs.Encoding.{stringBits, optionalBits, optionalFits, contentBits, contentFits, modeBits, modeFits, pduBits, pduFits, padded}
+use Rattle.apdu.specs.Encoding.{stringBits, optionalBits, contentBits, modeBits, modeFits, padded}
 use Rattle.apdu.specs.Pdus.{partIn, contentIn, pduIn}
-use Rattle.apdu.specs.Reading.{optionalAt, partAt, partsWithin, dataWithin, modeValue, modeAt, kindMode, leadingAt, tailAt, endedAt, restWithin, apduWithin}
-use Rattle.apdu.specs.Writing.{itemsFit, partFits, dataFits, apduFits, writeOut}
+use Rattle.apdu.specs.Reading.{optionalAt, partAt, partsWithin, dataWithin, modeValue, modeAt, kindMode, leadingAt, tailAt, endedAt}
+use Rattle.apdu.specs.Writing.{itemsFit, partFits, dataFits, writeOut}
+use Rattle.codec.specs.Codec.{pduBits, apduFits, restAt, apduAt}
 use Rattle.machine.specs.Calls.{replyOf, sent, qosAsked, startRequest, startResponse, messageRequest, endRequest, endResponse, userAbort, callOf, unsent, called}
 use Rattle.machine.specs.UserData.{userDataFits}
 use Rattle.machine.specs.Codes.{dscMode}
@@ -32,8 +33,11 @@ use Rattle.step.specs.Call.{firstTakes, secondTakes, finished, concluded, withR
 use Rattle.packed.specs.Packed.{invokedNumber, toldNumber, packed}
 use Rattle.stored.specs.Stored.{recordBytes, headBytes, storedBytes, headFits, withNumbers, loadAt, storeAt}
 use Rattle.card.specs.Face.{noCount, partOf, givenData, freshFor, freshCall}
+use Rattle.editions.specs.declared.Edition.the-variants.{Protected}
+use Rattle.apdu.specs.InPlace.{bitsIn, perhapsBits}
+use Rattle.plain.specs.Plain as plain
 use Rattle.machine.specs.declared.outcome.Invoked.{Invoked}
-use Rattle.machine.specs.declared.outcome.Invoked.the-variants.{DStartRequest, DDataRequest, DEndResponse, DAbortRequest}
+use Rattle.machine.specs.declared.outcome.Invoked.the-variants.{DStartRequest, DStartResponse, DDataRequest, DEndRequest, DEndResponse, DAbortRequest}
 use Rattle.pair.specs.Names.{Side, Air, Ground, StartReq, Dialogue, End, Control, entered, closed}
 use Rattle.pair.specs.Carrier.{Body, Step, user-call, hand-over, timer-expires, error-reported, turn-away, fail, Turn}
 use Rattle.pair.specs.Numbered.{NParty, Numbered, mark, nFresh, nRun}
@@ -95,14 +99,18 @@ record View : Type 0 where
 abbrev seen : ℕ → Control → List (Numbered Wire) → List Body → List Body → List ℕ → Seen
 seen n c l t g j = record { no = n; ctl = c; line = l; took = t; gave = g; jobs = j }
 
-abbrev ofParty : ℕ → NParty (cardMachine 1 lends) → Seen
-ofParty d x = seen (heldBy (x .rec .bytes)) (controlIn (loadAt (x .rec .bytes))) (x .line) (x .taken d) (x .handed d) (x .jobs)
+abbrev ofParty : (p : ℕ) → ℕ → NParty (cardMachine p lends) → Seen
+ofParty p d x = seen (heldBy (x .rec .bytes)) (controlIn (loadAt (x .rec .bytes))) (x .line) (x .taken d) (x .handed d) (x .jobs)
 
--- from two fresh records that the card made, with "secured exchange" at both ends; the air starts. d: the dialogue whose messages are seen
+-- from two fresh records that the card made, with the security value p at both ends and of application type t; the air starts. d: the dialogue whose messages are seen
+abbrev afterOf : ℕ → ℕ → ℕ → List (Turn Asked) → View
+afterOf p t d ts =
+    let s = nRun (cardMachine p lends) Air (nFresh (cardMachine p lends) (newly (freshCall (replicate recordBytes 0) 1 p 0 1 t .bytes)) (newly (freshCall (replicate recordBytes 0) 2 p 1 1 t .bytes))) ts in
+    record { air = ofParty p d (s .here); ground = ofParty p d (s .there); broken = s .broken d }
+
+-- type 22, with "secured exchange"
 abbrev after : ℕ → List (Turn Asked) → View
-after d ts =
-    let s = nRun (cardMachine 1 lends) Air (nFresh (cardMachine 1 lends) (newly (freshCall (replicate recordBytes 0) 1 1 0 1 .bytes)) (newly (freshCall (replicate recordBytes 0) 2 1 1 1 .bytes))) ts in
-    record { air = ofParty d (s .here); ground = ofParty d (s .there); broken = s .broken d }
+after d ts = afterOf 1 22 d ts
 
 abbrev view : Seen → Seen → Bool → View
 view a g b = record { air = a; ground = g; broken = b }
@@ -175,25 +183,25 @@ dscClosed = dsc ++ (gets Air ∷ gets Air ∷ gets Air ∷ asks Air (end-request
 
 abbrev rows : List Row
 rows =
-    row 1 opening (view (seen 1 (entered Dialogue false) [] [] (bodyGiven (text 80) ∷ []) []) (seen 1 (entered Dialogue false) [] (bodyGiven (text 80) ∷ []) [] (1 ∷ [])) false) ∷
-    row 1 talking (view (seen 1 (entered End false) (wire 1 DDataRequest (108 ∷ 8 ∷ 168 ∷ 12 ∷ 29 ∷ 136 ∷ 69 ∷ 40 ∷ []) ∷ wire 1 DDataRequest (100 ∷ 41 ∷ 141 ∷ 0 ∷ []) ∷ []) (bodyGiven (text 96) ∷ bodyGiven (signed 98) ∷ bodyGiven (text 99) ∷ []) (bodyGiven (text 80) ∷ []) (1 ∷ 2 ∷ 3 ∷ [])) (seen 1 (entered End false) [] (bodyGiven (text 80) ∷ []) (bodyGiven (text 96) ∷ []) (1 ∷ [])) false) ∷
-    row 1 closing (view (seen 1 closed [] (bodyGiven (text 96) ∷ bodyGiven (signed 98) ∷ bodyGiven (text 99) ∷ []) (bodyGiven (text 80) ∷ []) (1 ∷ 2 ∷ 3 ∷ [])) (seen 1 closed [] (bodyGiven (text 80) ∷ []) (bodyGiven (text 96) ∷ bodyGiven (signed 98) ∷ bodyGiven (text 99) ∷ []) (1 ∷ [])) false) ∷
-    row 2 again (view (seen 2 (entered Dialogue false) [] (bodyGiven (text 71) ∷ []) [] (1 ∷ 2 ∷ 3 ∷ 4 ∷ [])) (seen 2 (entered Dialogue false) (wire 2 DDataRequest (50 ∷ 20 ∷ 146 ∷ 128 ∷ 0 ∷ []) ∷ []) (bodyGiven (text 73) ∷ []) (bodyGiven (text 71) ∷ []) (1 ∷ 2 ∷ [])) false) ∷
+    row 1 opening (view (seen 1 (entered Dialogue false) [] [] (bodyGiven Protected (text 80) ∷ []) []) (seen 1 (entered Dialogue false) [] (bodyGiven Protected (text 80) ∷ []) [] (1 ∷ [])) false) ∷
+    row 1 talking (view (seen 1 (entered End false) (wire 1 DDataRequest (108 ∷ 8 ∷ 168 ∷ 12 ∷ 29 ∷ 136 ∷ 69 ∷ 40 ∷ []) ∷ wire 1 DDataRequest (100 ∷ 41 ∷ 141 ∷ 0 ∷ []) ∷ []) (bodyGiven Protected (text 96) ∷ bodyGiven Protected (signed 98) ∷ bodyGiven Protected (text 99) ∷ []) (bodyGiven Protected (text 80) ∷ []) (1 ∷ 2 ∷ 3 ∷ [])) (seen 1 (entered End false) [] (bodyGiven Protected (text 80) ∷ []) (bodyGiven Protected (text 96) ∷ []) (1 ∷ [])) false) ∷
+    row 1 closing (view (seen 1 closed [] (bodyGiven Protected (text 96) ∷ bodyGiven Protected (signed 98) ∷ bodyGiven Protected (text 99) ∷ []) (bodyGiven Protected (text 80) ∷ []) (1 ∷ 2 ∷ 3 ∷ [])) (seen 1 closed [] (bodyGiven Protected (text 80) ∷ []) (bodyGiven Protected (text 96) ∷ bodyGiven Protected (signed 98) ∷ bodyGiven Protected (text 99) ∷ []) (1 ∷ [])) false) ∷
+    row 2 again (view (seen 2 (entered Dialogue false) [] (bodyGiven Protected (text 71) ∷ []) [] (1 ∷ 2 ∷ 3 ∷ 4 ∷ [])) (seen 2 (entered Dialogue false) (wire 2 DDataRequest (50 ∷ 20 ∷ 146 ∷ 128 ∷ 0 ∷ []) ∷ []) (bodyGiven Protected (text 73) ∷ []) (bodyGiven Protected (text 71) ∷ []) (1 ∷ 2 ∷ [])) false) ∷
     -- the leftover stands on the ground's line when the new start goes out; afterwards its dialogue is as broken as it was, and the new one is whole
-    row 1 (leftover ++ (gets Air ∷ [])) (view (seen 2 (entered StartReq false) (wire 2 (DStartRequest (qosAsked 0) 1) (64 ∷ 0 ∷ []) ∷ []) [] (bodyGiven (text 80) ∷ []) []) (seen 1 closed [] (bodyGiven (text 80) ∷ bodyGiven (text 81) ∷ []) [] (1 ∷ 2 ∷ [])) true) ∷
-    row 2 late (view (seen 2 (entered Dialogue false) [] [] (bodyGiven (text 82) ∷ []) []) (seen 2 (entered Dialogue false) [] (bodyGiven (text 82) ∷ []) [] (1 ∷ 2 ∷ 3 ∷ [])) false) ∷
-    row 1 dsc (view (seen 1 (entered End true) [] [] [] []) (seen 1 (entered Dialogue true) (wire 1 DDataRequest (50 ∷ 20 ∷ 160 ∷ 128 ∷ 0 ∷ []) ∷ wire 1 (DEndResponse 1) (48 ∷ 0 ∷ []) ∷ wire 1 DDataRequest (50 ∷ 20 ∷ 162 ∷ 128 ∷ 0 ∷ []) ∷ []) (bodyGiven (text 80) ∷ bodyGiven (text 81) ∷ []) [] (5 ∷ 6 ∷ [])) false) ∷
-    row 1 dscClosed (view (seen 1 closed [] [] (bodyGiven (text 80) ∷ bodyGiven (text 81) ∷ []) []) (seen 1 closed [] (bodyGiven (text 80) ∷ bodyGiven (text 81) ∷ []) [] (5 ∷ 6 ∷ [])) false) ∷
+    row 1 (leftover ++ (gets Air ∷ [])) (view (seen 2 (entered StartReq false) (wire 2 (DStartRequest (qosAsked 0) 1) (64 ∷ 0 ∷ []) ∷ []) [] (bodyGiven Protected (text 80) ∷ []) []) (seen 1 closed [] (bodyGiven Protected (text 80) ∷ bodyGiven Protected (text 81) ∷ []) [] (1 ∷ 2 ∷ [])) true) ∷
+    row 2 late (view (seen 2 (entered Dialogue false) [] [] (bodyGiven Protected (text 82) ∷ []) []) (seen 2 (entered Dialogue false) [] (bodyGiven Protected (text 82) ∷ []) [] (1 ∷ 2 ∷ 3 ∷ [])) false) ∷
+    row 1 dsc (view (seen 1 (entered End true) [] [] [] []) (seen 1 (entered Dialogue true) (wire 1 DDataRequest (50 ∷ 20 ∷ 160 ∷ 128 ∷ 0 ∷ []) ∷ wire 1 (DEndResponse 1) (48 ∷ 0 ∷ []) ∷ wire 1 DDataRequest (50 ∷ 20 ∷ 162 ∷ 128 ∷ 0 ∷ []) ∷ []) (bodyGiven Protected (text 80) ∷ bodyGiven Protected (text 81) ∷ []) [] (5 ∷ 6 ∷ [])) false) ∷
+    row 1 dscClosed (view (seen 1 closed [] [] (bodyGiven Protected (text 80) ∷ bodyGiven Protected (text 81) ∷ []) []) (seen 1 closed [] (bodyGiven Protected (text 80) ∷ bodyGiven Protected (text 81) ∷ []) [] (5 ∷ 6 ∷ [])) false) ∷
     -- t-start expires with the start undelivered; a start is turned away; a system error; the carrier fails; a user abort keeps the oldest message
     row 1 (asks Air (start-request one cpdlcMode 0 none) ∷ turn Air (timer-expires 0) ∷ []) (view (seen 1 closed (wire 1 (DAbortRequest 1) (32 ∷ []) ∷ []) [] [] []) (seen 0 closed [] [] [] []) true) ∷
     row 1 (asks Air (start-request one dscMode 0 none) ∷ turn Air (turn-away 0) ∷ []) (view (seen 1 closed [] [] [] []) (seen 0 closed [] [] [] []) false) ∷
-    row 1 (opening ++ (turn Ground (error-reported 0) ∷ gets Air ∷ [])) (view (seen 1 closed [] [] (bodyGiven (text 80) ∷ []) []) (seen 1 closed [] (bodyGiven (text 80) ∷ []) [] (1 ∷ [])) true) ∷
-    row 1 (opening ++ (turn Ground fail ∷ [])) (view (seen 1 closed [] [] (bodyGiven (text 80) ∷ []) []) (seen 1 closed [] (bodyGiven (text 80) ∷ []) [] (1 ∷ [])) true) ∷
+    row 1 (opening ++ (turn Ground (error-reported 0) ∷ gets Air ∷ [])) (view (seen 1 closed [] [] (bodyGiven Protected (text 80) ∷ []) []) (seen 1 closed [] (bodyGiven Protected (text 80) ∷ []) [] (1 ∷ [])) true) ∷
+    row 1 (opening ++ (turn Ground fail ∷ [])) (view (seen 1 closed [] [] (bodyGiven Protected (text 80) ∷ []) []) (seen 1 closed [] (bodyGiven Protected (text 80) ∷ []) [] (1 ∷ [])) true) ∷
     row 1 (opening ++ (says Air (job 1 (omega arith)) (text 96) ∷ says Air (job 2 (omega arith)) (text 97) ∷ turn Air (user-call (user-abort 3) 1) ∷ gets Ground ∷ []))
-    (view (seen 1 closed (wire 1 (DAbortRequest 0) (3 ∷ []) ∷ []) (bodyGiven (text 96) ∷ bodyGiven (text 97) ∷ []) (bodyGiven (text 80) ∷ []) (1 ∷ 2 ∷ [])) (seen 1 (entered Dialogue false) [] (bodyGiven (text 80) ∷ []) (bodyGiven (text 96) ∷ []) (1 ∷ [])) true) ∷ []
+    (view (seen 1 closed (wire 1 (DAbortRequest 0) (3 ∷ []) ∷ []) (bodyGiven Protected (text 96) ∷ bodyGiven Protected (text 97) ∷ []) (bodyGiven Protected (text 80) ∷ []) (1 ∷ 2 ∷ [])) (seen 1 (entered Dialogue false) [] (bodyGiven Protected (text 80) ∷ []) (bodyGiven Protected (text 96) ∷ []) (1 ∷ [])) true) ∷ []
 
 pub all-as-said : seenIn rows ≡ saidIn rows
-unfolding bitsN bitsOf accOf bitsTo bytesOf withBit setBit putBits readBits wholeBits indexBits lengthBits bitField extensionBit digitsIn wholeNumber extensibleIndex lengthAt lengthWithin runAt stringAt stringBits optionalBits optionalFits contentBits contentFits modeBits modeFits pduBits pduFits padded partIn contentIn pduIn optionalAt partAt partsWithin dataWithin modeValue modeAt kindMode leadingAt tailAt endedAt restWithin apduWithin itemsFit partFits dataFits apduFits writeOut replyOf sent startRequest startResponse messageRequest endRequest endResponse userAbort callOf unsent called userDataFits qosFits userFits hasMode serviceFits eventFits tell closes aborts excepts timerExpires systemError noInstruction pduFault sendFault abortFault startFits indicationFault confirmationFault firstFault handed instructed answered reached enter permitted messageRefusal userStarts serviceStarts isStart isService isStale heldAfter refusalOf acts numberedStep firstTakes secondTakes finished concluded withRecord entering userStep userBy readsAs readsAgain abortOf orAbort readPdu meaning dataOf dataStep bareStep serviceStep serviceBy invokedNumber toldNumber packed headBytes storedBytes headFits withNumbers loadAt storeAt partOf givenData freshFor freshCall nRun
+unfolding bitsN bitsOf accOf bitsTo bytesOf withBit setBit putBits readBits wholeBits indexBits lengthBits bitField extensionBit digitsIn wholeNumber extensibleIndex lengthAt lengthWithin runAt stringAt stringBits optionalBits contentBits modeBits modeFits pduBits padded partIn contentIn pduIn optionalAt partAt partsWithin dataWithin modeValue modeAt kindMode leadingAt tailAt endedAt restAt apduAt itemsFit partFits dataFits apduFits writeOut replyOf sent startRequest startResponse messageRequest endRequest endResponse userAbort callOf unsent called userDataFits qosFits userFits hasMode serviceFits eventFits tell closes aborts excepts timerExpires systemError noInstruction pduFault sendFault abortFault startFits indicationFault confirmationFault firstFault handed instructed answered reached enter permitted messageRefusal userStarts serviceStarts isStart isService isStale heldAfter refusalOf acts numberedStep firstTakes secondTakes finished concluded withRecord entering userStep userBy readsAs readsAgain abortOf orAbort readPdu meaning dataOf dataStep bareStep serviceStep serviceBy invokedNumber toldNumber packed headBytes storedBytes headFits withNumbers loadAt storeAt partOf givenData freshFor freshCall nRun
 all-as-said = refl
 
 -- ---- a restart (docs/HOST.md): the host loses its power and loads the bytes that it stored. That is the step `fail`: between two calls a record
@@ -209,6 +217,34 @@ restarted =
 -- the jobs of the old dialogue are refused: the ground takes 1, 2 and 3 once each, and the air is handed the message of job 3 alone
 pub restart-takes-once :
     after 2 restarted
-    ≡ view (seen 2 (entered Dialogue false) [] [] (bodyGiven (text 82) ∷ []) []) (seen 2 (entered Dialogue false) [] (bodyGiven (text 82) ∷ []) [] (1 ∷ 2 ∷ 3 ∷ [])) false
-unfolding bitsN bitsOf accOf bitsTo bytesOf withBit setBit putBits readBits wholeBits indexBits lengthBits bitField extensionBit digitsIn wholeNumber extensibleIndex lengthAt lengthWithin runAt stringAt stringBits optionalBits optionalFits contentBits contentFits modeBits modeFits pduBits pduFits padded partIn contentIn pduIn optionalAt partAt partsWithin dataWithin modeValue modeAt kindMode leadingAt tailAt endedAt restWithin apduWithin itemsFit partFits dataFits apduFits writeOut replyOf sent startRequest startResponse messageRequest endRequest endResponse userAbort callOf unsent called userDataFits qosFits userFits hasMode serviceFits eventFits tell closes aborts excepts timerExpires systemError noInstruction pduFault sendFault abortFault startFits indicationFault confirmationFault firstFault handed instructed answered reached enter permitted messageRefusal userStarts serviceStarts isStart isService isStale heldAfter refusalOf acts numberedStep firstTakes secondTakes finished concluded withRecord entering userStep userBy readsAs readsAgain abortOf orAbort readPdu meaning dataOf dataStep bareStep serviceStep serviceBy invokedNumber toldNumber packed headBytes storedBytes headFits withNumbers loadAt storeAt partOf givenData freshFor freshCall nRun
+    ≡ view (seen 2 (entered Dialogue false) [] [] (bodyGiven Protected (text 82) ∷ []) []) (seen 2 (entered Dialogue false) [] (bodyGiven Protected (text 82) ∷ []) [] (1 ∷ 2 ∷ 3 ∷ [])) false
+unfolding bitsN bitsOf accOf bitsTo bytesOf withBit setBit putBits readBits wholeBits indexBits lengthBits bitField extensionBit digitsIn wholeNumber extensibleIndex lengthAt lengthWithin runAt stringAt stringBits optionalBits contentBits modeBits modeFits pduBits padded partIn contentIn pduIn optionalAt partAt partsWithin dataWithin modeValue modeAt kindMode leadingAt tailAt endedAt restAt apduAt itemsFit partFits dataFits apduFits writeOut replyOf sent startRequest startResponse messageRequest endRequest endResponse userAbort callOf unsent called userDataFits qosFits userFits hasMode serviceFits eventFits tell closes aborts excepts timerExpires systemError noInstruction pduFault sendFault abortFault startFits indicationFault confirmationFault firstFault handed instructed answered reached enter permitted messageRefusal userStarts serviceStarts isStart isService isStale heldAfter refusalOf acts numberedStep firstTakes secondTakes finished concluded withRecord entering userStep userBy readsAs readsAgain abortOf orAbort readPdu meaning dataOf dataStep bareStep serviceStep serviceBy invokedNumber toldNumber packed headBytes storedBytes headFits withNumbers loadAt storeAt partOf givenData freshFor freshCall nRun
 restart-takes-once = refl
+
+-- ---- type 2. Without a message: the start says so by a bit; its acceptance, the end and the end's answer have no user data
+
+abbrev bare : List (Turn Asked)
+bare = asks Air (start-request one dscMode 0 none) ∷ gets Ground ∷ asks Ground (start-response true 0 none) ∷ []
+
+abbrev bareEnd : List (Turn Asked)
+bareEnd = bare ++ (gets Air ∷ says Air (job 1 (omega arith)) none ∷ asks Air (end-request true none) ∷ [])
+
+abbrev bareClosed : List (Turn Asked)
+bareClosed = bareEnd ++ (gets Ground ∷ asks Ground (end-response true 0 none) ∷ gets Air ∷ [])
+
+-- a message request without a message is refused, and so are message data that type 2 has no place for
+abbrev plainRows : List Row
+plainRows =
+    row 1 (asks Air (start-request one dscMode 3 none) ∷ []) (view (seen 1 (entered StartReq true) (wire 1 (DStartRequest (qosAsked 3) 0) (88 ∷ []) ∷ []) [] [] []) (seen 0 closed [] [] [] []) false) ∷
+    row 1 (asks Air (start-request one dscMode 3 (signed 98)) ∷ []) (view (seen 0 closed [] [] [] []) (seen 0 closed [] [] [] []) false) ∷
+    row 1 bare (view (seen 1 (entered StartReq true) [] [] [] []) (seen 1 (entered Dialogue true) (wire 1 (DStartResponse 0 0) [] ∷ []) [] [] []) false) ∷
+    row 1 bareEnd (view (seen 1 (entered End true) (wire 1 DEndRequest [] ∷ []) [] [] []) (seen 1 (entered Dialogue true) [] [] [] []) false) ∷
+    row 1 bareClosed (view (seen 1 closed [] [] [] []) (seen 1 closed [] [] [] []) false) ∷ []
+
+abbrev plainIn : List Row → List View
+plainIn [] = []
+plainIn (r ∷ rs) = afterOf 0 2 (r .dialogue) (r .turns) ∷ plainIn rs
+
+pub plain-as-said : plainIn plainRows ≡ saidIn plainRows
+unfolding bitsN bitsOf accOf bitsTo bytesOf withBit setBit putBits readBits wholeBits indexBits lengthBits bitField extensionBit digitsIn wholeNumber extensibleIndex lengthAt lengthWithin runAt stringAt stringBits optionalBits contentBits modeBits modeFits pduBits padded partIn contentIn pduIn optionalAt partAt partsWithin dataWithin modeValue modeAt kindMode leadingAt tailAt endedAt restAt apduAt itemsFit partFits dataFits apduFits writeOut replyOf sent startRequest startResponse messageRequest endRequest endResponse userAbort callOf unsent called userDataFits qosFits userFits hasMode serviceFits eventFits tell closes aborts excepts timerExpires systemError noInstruction pduFault sendFault abortFault startFits indicationFault confirmationFault firstFault handed instructed answered reached enter permitted messageRefusal userStarts serviceStarts isStart isService isStale heldAfter refusalOf acts numberedStep firstTakes secondTakes finished concluded withRecord entering userStep userBy readsAs readsAgain abortOf orAbort readPdu meaning dataOf dataStep bareStep serviceStep serviceBy invokedNumber toldNumber packed headBytes storedBytes headFits withNumbers loadAt storeAt partOf givenData freshFor freshCall nRun bitsIn perhapsBits plain.contentFits plain.givenFits plain.startAt
+plain-as-said = refl

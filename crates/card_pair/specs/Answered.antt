@@ -49,12 +49,9 @@ invokedOf i = primitiveOf (i % codes) (i / codes % codes) (i / (codes * codes) %
 abbrev pub entryOf : Called → Wire
 entryOf c = record { primitive = invokedOf (invokedPart (c .number)); bytes = take (bytesFor (sentBits (c .number))) (c .first) }
 
--- a message indication (3) hands out the message data in the second buffer
-abbrev pub isMessage : ℕ → Bool
-isMessage t = eqb (t % codes) 3
-
 abbrev pub dataIn : Called → Body
 dataIn c = take (givenBits (c .number)) (lent (take (bytesFor (givenBits (c .number))) (c .second)))
 
+-- a message indication (3) hands out the message data in the second buffer
 abbrev pub handedOf : Called → List Body
-handedOf c = cond (isMessage (toldPart (c .number))) (dataIn c ∷ []) []
+handedOf c = cond (eqb (toldPart (c .number) % codes) 3) (dataIn c ∷ []) []

@@ -3,11 +3,15 @@
 -- hands out is taken out of its answer, and the dialogue number of what it sends out of the record's bytes.
 use Prim.Native.Nat.{ℕ, suc, _^_, _≤_, _<_}
 use mathlib.Core.Bool.{Bool, cond}
-use mathlib.Core.List.{List, [], _∷_}
+use mathlib.Core.List.{List, []}
 use lib.ListN.{length}
 use Rattle.apdu.specs.Sizes.{bufferLeast}
 use Rattle.apdu.specs.Pdus.{lent, contentIn}
-use Rattle.apdu.specs.Encoding.{contentBits}
+use Rattle.plain.specs.Plain.{isEmpty}
+use Rattle.codec.specs.Codec.{contentBits}
+use Rattle.editions.specs.declared.Edition.{Edition}
+use Rattle.editions.specs.declared.Edition.the-variants.{Protected}
+use Rattle.machine.specs.declared.record.Record.{Record}
 use Rattle.machine.specs.declared.event.UserPrimitive.the-variants.{StartServiceRequest, StartServiceResponse, EndServiceRequest, EndServiceResponse}
 use Rattle.machine.specs.declared.event.Event.{Event}
 use Rattle.machine.specs.declared.event.Event.the-variants.{User, TimerExpires, UnrecoverableSystemError}
@@ -66,13 +70,17 @@ pub record Kept : Type 0 where
 abbrev pub newly : List ℕ → Kept
 newly b = record { bytes = b; calls = 0 }
 
--- the dialogue number that the bytes of a record hold, as the header's reader takes it out of them
-abbrev pub numberIn : Loaded → ℕ
-numberIn (Is sd r n) = n
-numberIn NoRecord = 0
+-- what is looked at in a record that was loaded; x where there is none
+abbrev pub inRecord : {A : Type 0} → (Record → ℕ → A) → A → Loaded → A
+inRecord f x (Is sd r n) = f r n
+inRecord f x NoRecord = x
 
+-- the dialogue number that the bytes of a record hold, and its edition, as the header's readers take them out of the bytes
 abbrev pub heldBy : List ℕ → ℕ
-heldBy b = numberIn (loadAt b)
+heldBy b = inRecord (λ (r : Record) (n : ℕ). n) 0 (loadAt b)
+
+abbrev pub editionBy : List ℕ → Edition
+editionBy b = inRecord (λ (r : Record) (n : ℕ). r .edition) Protected (loadAt b)
 
 -- ---- calls, with a record's bytes and two buffers; every start asks for the security value p and brings its dialogue number. The other user calls bring none
 
@@ -84,9 +92,9 @@ answered p w r (end-request m g) = dataCall r (w .first) (w .second) (EndService
 answered p w r (end-response m x g) = dataCall r (w .first) (w .second) (EndServiceResponse m x (holdsMessage (g .bits))) (g .ids) (g .msgs) (g .bits) (g .checks) (g .check)
 answered p w r (user-abort x) = plainCall r (w .first) (w .second) (User (abortRequested x))
 
--- the encoding of the message data that the host gave
-abbrev pub bodyGiven : Given → Body
-bodyGiven g = contentBits (contentIn (lent (g .ids)) (lent (g .msgs)) (lent (g .checks)) (givenData (length (g .ids)) (g .bits) (g .check)))
+-- the encoding of the message data that the host gave: of type 2 it is the message's own bits, or none
+abbrev pub bodyGiven : Edition → Given → Body
+bodyGiven ed g = contentBits ed (contentIn (lent (g .ids)) (lent (g .msgs)) (lent (g .checks)) (givenData (length (g .ids)) (g .bits) (g .check)))
 
 -- "those sent carry the number held after the event"
 abbrev pub markedEntry : Called → Numbered Wire
@@ -108,13 +116,13 @@ abbrev pub sentOf : Called → Sent (Numbered Wire)
 sentOf c = putOn (markedEntry c) (entryOf c .primitive)
 
 -- a message request that is not refused took its message and its job
-abbrev pub sentFor : Asked → Called → Sent (Numbered Wire)
-sentFor (start-request v m k g) c = sentOf c
-sentFor (start-response m x g) c = sentOf c
-sentFor (message-request j g) c = message (markedEntry c) (bodyGiven g) (j .number)
-sentFor (end-request m g) c = sentOf c
-sentFor (end-response m x g) c = sentOf c
-sentFor (user-abort x) c = sentOf c
+abbrev pub sentFor : Edition → Asked → Called → Sent (Numbered Wire)
+sentFor ed (start-request v m k g) c = sentOf c
+sentFor ed (start-response m x g) c = sentOf c
+sentFor ed (message-request j g) c = message (markedEntry c) (bodyGiven ed g) (j .number)
+sentFor ed (end-request m g) c = sentOf c
+sentFor ed (end-response m x g) c = sentOf c
+sentFor ed (user-abort x) c = sentOf c
 
 -- what a call leaves of an end whose calls so far were n. A refused one leaves everything (crate step, proofs/Refusing)
 abbrev pub left : ℕ → Called → Sent (Numbered Wire) → Outcome Kept (Numbered Wire)
@@ -127,13 +135,11 @@ simply n c = left n c (sentOf c)
 -- ---- the machine; p: the security value of both ends; host: the buffers that a side lends to its next call after so many
 
 abbrev pub controlIn : Loaded → Control
-controlIn (Is sd r n) = r .control
-controlIn NoRecord = closed
+controlIn l = inRecord (λ (r : Record) (n : ℕ). r .control) closed l
 
 -- an entry without bytes has no user data
 abbrev pub givenOf : List ℕ → ℕ
-givenOf [] = 0
-givenOf (x ∷ w) = 1
+givenOf w = cond (isEmpty w) 0 1
 
 module _ (p : ℕ) (host : Side → ℕ → Buffers) where
   -- an exported call of a dialogue-service primitive with the dialogue number v, an expiry or a system error
@@ -144,7 +150,7 @@ module _ (p : ℕ) (host : Side → ℕ → Buffers) where
   reported sd r e = simply (r .calls) (plainCall (r .bytes) (host sd (r .calls) .first) (host sd (r .calls) .second) e)
 
   abbrev pub asking : Side → Kept → Asked → Outcome Kept (Numbered Wire)
-  asking sd r a = left (r .calls) (answered p (host sd (r .calls)) (r .bytes) a) (sentFor a (answered p (host sd (r .calls)) (r .bytes) a))
+  asking sd r a = left (r .calls) (answered p (host sd (r .calls)) (r .bytes) a) (sentFor (editionBy (r .bytes)) a (answered p (host sd (r .calls)) (r .bytes) a))
 
   -- what the carrier itself makes carries the number held by the end that gets it
   abbrev pub cardMachine : NMachine

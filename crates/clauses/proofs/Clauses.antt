@@ -6,7 +6,8 @@ use mathlib.Core.List.{List, [], _∷_}
 use Prim.Native.Nat.{ℕ, _≤_, _<_}
 use lib.Dec.{T, ltb, leb, eqb}
 use borrow.Author.Tests.{le-leb, le-ltb, lt-leb, eqb-true, not-false}
-use Rattle.machine.specs.Codes.{spared, dscMode, modes, accepted, user, undefined, userReasons, timerExpired, invalidPdu, protocolError, communicationServiceFailure, communicationServiceError, invalidQosParameter, expectedPduMissing, notPermittedPdu}
+use Rattle.editions.specs.Editions.{secures, spares, userReasons}
+use Rattle.machine.specs.Codes.{dscMode, modes, accepted, user, undefined, timerExpired, invalidPdu, protocolError, communicationServiceFailure, communicationServiceError, invalidQosParameter, expectedPduMissing, notPermittedPdu}
 use Rattle.control.specs.Control.{isIdle, takes, goes, sends, awaitsResponse, expects, after, isStart}
 use Rattle.machine.specs.Record.{withJob, enter}
 use Rattle.machine.specs.UserData.{modeOf, isSend, userDataFits, abortFits}
@@ -14,7 +15,7 @@ use Rattle.machine.specs.Event.{hasMode, qosFits, userFits, serviceFits, eventF
 use Rattle.machine.specs.Outcome.{isNone, refused}
 use Rattle.machine.specs.Exceptions.{tell, closes, aborts, excepts, timerExpires, systemError, noInstruction}
 use Rattle.machine.specs.Calls.{replyOf, sent, startRequest, startResponse, messageRequest, endRequest, endResponse, userAbort, callOf, unsent, called}
-use Rattle.machine.specs.Faults.{turnedAway, fromCentre, startFits, pduFault, sendFault, abortFault, indicationFault, confirmationFault, firstFault}
+use Rattle.machine.specs.Faults.{differs, turnedAway, fromCentre, startFits, pduFault, sendFault, abortFault, indicationFault, confirmationFault, firstFault}
 use Rattle.machine.specs.Primitives.{handed, instructed, answered, reached}
 use Rattle.machine.specs.Step.{permitted, messageRefusal, refusalOf, acts, step}
 use Rattle.clauses.proofs.Ways.{by-test}
@@ -46,11 +47,11 @@ use Rattle.machine.specs.declared.outcome.Outcome.{Outcome}
 
 -- ---- the order of refusals
 
-pub shape-first : (sd : Side) (r : Record) (e : Event) → eventFits sd e ≡ false → step sd r e ≡ refused Shape r
+pub shape-first : (sd : Side) (r : Record) (e : Event) → eventFits sd (r .edition) e ≡ false → step sd r e ≡ refused Shape r
 unfolding step refusalOf
 shape-first sd r e s = rw s
 
-pub then-prohibited : (sd : Side) (r : Record) (e : Event) → eventFits sd e ≡ true → permitted sd r e ≡ false → step sd r e ≡ refused Prohibited r
+pub then-prohibited : (sd : Side) (r : Record) (e : Event) → eventFits sd (r .edition) e ≡ true → permitted sd r e ≡ false → step sd r e ≡ refused Prohibited r
 unfolding step refusalOf
 then-prohibited sd r e s p = rw (s, p)
 
@@ -86,12 +87,12 @@ unfolding step refusalOf eventFits userFits permitted callOf messageRefusal unse
 job-taken sd r j s p h = rw (s, p, lt-leb j (r .highest) h)
 
 -- a dialogue-service primitive is never refused but for SHAPE
-pub service-taken : (sd : Side) (r : Record) (p : ServicePrimitive) (a : UserData) → eventFits sd (Service p a) ≡ true → step sd r (Service p a) ≡ reached sd r p a
+pub service-taken : (sd : Side) (r : Record) (p : ServicePrimitive) (a : UserData) → eventFits sd (r .edition) (Service p a) ≡ true → step sd r (Service p a) ≡ reached sd r p a
 unfolding step refusalOf permitted messageRefusal acts
 service-taken sd r p a s = rw s
 
 -- and its first fault decides what is done
-pub fault-answered : (sd : Side) (r : Record) (p : ServicePrimitive) (a : UserData) (f : Fault) → eventFits sd (Service p a) ≡ true → firstFault sd r p a ≡ f → step sd r (Service p a) ≡ answered r p a f
+pub fault-answered : (sd : Side) (r : Record) (p : ServicePrimitive) (a : UserData) (f : Fault) → eventFits sd (r .edition) (Service p a) ≡ true → firstFault sd r p a ≡ f → step sd r (Service p a) ≡ answered r p a f
 unfolding reached
 fault-answered sd r p a f s e = service-taken sd r p a s ∙ ap (answered r p a) e
 
@@ -143,13 +144,13 @@ pub end-unreadable-silent : (sd : Side) (r : Record) → expects sd (r .control)
 unfolding closes
 end-unreadable-silent sd r e = rw (end-unreadable sd r e)
 
-pub start-unreadable : (sd : Side) (r : Record) (x o s v : ℕ) → serviceFits (DStartConfirmation x o s v) ≡ true → expects sd (r .control) (DStartCnf Rejected) ≡ true → eqb x accepted ≡ false → turnedAway x o ≡ false → eqb s (r .request) ≡ true → step sd r (Service (DStartConfirmation x o s v) NotValid) ≡ closes r (tell r (ProviderAbortIndication invalidPdu))
+pub start-unreadable : (sd : Side) (r : Record) (x o s v : ℕ) → serviceFits (DStartConfirmation x o s v) ≡ true → expects sd (r .control) (DStartCnf Rejected) ≡ true → eqb x accepted ≡ false → turnedAway x o ≡ false → differs (secures (r .edition)) s (r .request) ≡ false → step sd r (Service (DStartConfirmation x o s v) NotValid) ≡ closes r (tell r (ProviderAbortIndication invalidPdu))
 unfolding eventFits userDataFits firstFault confirmationFault pduFault answered excepts replyOf
 start-unreadable sd r x o s v h e n t y = fault-answered sd r (DStartConfirmation x o s v) NotValid (Invalid false) (rw h) (rw (n, e, t, y))
 
 -- ---- a missing PDU: the APDU says expected-PDU-missing, the user is told not-permitted-PDU
 
-pub missing : (sd : Side) (r : Record) (p : ServicePrimitive) → eventFits sd (Service p Absent) ≡ true → firstFault sd r p Absent ≡ Missing → step sd r (Service p Absent) ≡ aborts r expectedPduMissing (tell r (ProviderAbortIndication notPermittedPdu))
+pub missing : (sd : Side) (r : Record) (p : ServicePrimitive) → eventFits sd (r .edition) (Service p Absent) ≡ true → firstFault sd r p Absent ≡ Missing → step sd r (Service p Absent) ≡ aborts r expectedPduMissing (tell r (ProviderAbortIndication notPermittedPdu))
 unfolding answered excepts
 missing sd r p s e = fault-answered sd r p Absent Missing s e
 
@@ -157,25 +158,25 @@ pub missing-data : (sd : Side) (r : Record) → expects sd (r .control) DData �
 unfolding eventFits serviceFits userDataFits firstFault sendFault pduFault
 missing-data sd r e = missing sd r DDataIndication refl (rw e)
 
-pub missing-end : (sd : Side) (r : Record) → expects sd (r .control) DEnd ≡ true → step sd r (Service DEndIndication Absent) ≡ aborts r expectedPduMissing (tell r (ProviderAbortIndication notPermittedPdu))
+pub missing-end : (sd : Side) (r : Record) → spares (r .edition) ≡ false → expects sd (r .control) DEnd ≡ true → step sd r (Service DEndIndication Absent) ≡ aborts r expectedPduMissing (tell r (ProviderAbortIndication notPermittedPdu))
 unfolding eventFits serviceFits userDataFits firstFault sendFault pduFault
-missing-end sd r e = missing sd r DEndIndication refl (rw e)
+missing-end sd r z e = missing sd r DEndIndication refl (rw (e, z))
 
-pub missing-end-confirmation : (sd : Side) (r : Record) (x : ℕ) → ltb x 2 ≡ true → expects sd (r .control) (DEndCnf (replyOf x)) ≡ true → step sd r (Service (DEndConfirmation x) Absent) ≡ aborts r expectedPduMissing (tell r (ProviderAbortIndication notPermittedPdu))
+pub missing-end-confirmation : (sd : Side) (r : Record) (x : ℕ) → spares (r .edition) ≡ false → ltb x 2 ≡ true → expects sd (r .control) (DEndCnf (replyOf x)) ≡ true → step sd r (Service (DEndConfirmation x) Absent) ≡ aborts r expectedPduMissing (tell r (ProviderAbortIndication notPermittedPdu))
 unfolding eventFits serviceFits userDataFits firstFault sendFault pduFault
-missing-end-confirmation sd r x s e = missing sd r (DEndConfirmation x) (rw s) (rw e)
+missing-end-confirmation sd r x z s e = missing sd r (DEndConfirmation x) (rw s) (rw (e, z))
 
-pub missing-start : (sd : Side) (r : Record) (x s v : ℕ) (q : Qos) → serviceFits (DStartIndication x s q v) ≡ true → isIdle (r .control) ≡ true → qosFits q ≡ true → eqb s (r .policy) ≡ true → step sd r (Service (DStartIndication x s q v) Absent) ≡ aborts r expectedPduMissing (tell r (ProviderAbortIndication notPermittedPdu))
+pub missing-start : (sd : Side) (r : Record) (x s v : ℕ) (q : Qos) → serviceFits (DStartIndication x s q v) ≡ true → isIdle (r .control) ≡ true → qosFits q ≡ true → differs (secures (r .edition)) s (r .policy) ≡ false → step sd r (Service (DStartIndication x s q v) Absent) ≡ aborts r expectedPduMissing (tell r (ProviderAbortIndication notPermittedPdu))
 unfolding eventFits userDataFits firstFault indicationFault pduFault
 missing-start sd r x s v q h d g y = missing sd r (DStartIndication x s q v) (rw h) (rw (d, g, y))
 
-pub missing-confirmation : (sd : Side) (r : Record) (x o s v : ℕ) → serviceFits (DStartConfirmation x o s v) ≡ true → expects sd (r .control) (DStartCnf (replyOf x)) ≡ true → turnedAway x o ≡ false → eqb s (r .request) ≡ true → step sd r (Service (DStartConfirmation x o s v) Absent) ≡ aborts r expectedPduMissing (tell r (ProviderAbortIndication notPermittedPdu))
+pub missing-confirmation : (sd : Side) (r : Record) (x o s v : ℕ) → spares (r .edition) ≡ false → serviceFits (DStartConfirmation x o s v) ≡ true → expects sd (r .control) (DStartCnf (replyOf x)) ≡ true → turnedAway x o ≡ false → differs (secures (r .edition)) s (r .request) ≡ false → step sd r (Service (DStartConfirmation x o s v) Absent) ≡ aborts r expectedPduMissing (tell r (ProviderAbortIndication notPermittedPdu))
 unfolding eventFits userDataFits firstFault confirmationFault pduFault
-missing-confirmation sd r x o s v h e t y = missing sd r (DStartConfirmation x o s v) (rw h) (rw (e, t, y))
+missing-confirmation sd r x o s v z h e t y = missing sd r (DStartConfirmation x o s v) (rw h) (rw (e, t, y, z))
 
 -- ---- several faults in one D-START indication: each hides those behind it
 
-module _ (sd : Side) (r : Record) (x s v : ℕ) (q : Qos) (a : UserData) (h : eventFits sd (Service (DStartIndication x s q v) a) ≡ true) where
+module _ (sd : Side) (r : Record) (x s v : ℕ) (q : Qos) (a : UserData) (h : eventFits sd (r .edition) (Service (DStartIndication x s q v) a) ≡ true) where
   pub start-unexpected : isIdle (r .control) ≡ false → step sd r (Service (DStartIndication x s q v) a) ≡ noInstruction r true
   unfolding firstFault indicationFault answered
   start-unexpected d = fault-answered sd r (DStartIndication x s q v) a (NoInstruction true) h (rw d)
@@ -184,13 +185,13 @@ module _ (sd : Side) (r : Record) (x s v : ℕ) (q : Qos) (a : UserData) (h : ev
   unfolding firstFault indicationFault answered
   then-quality d g = fault-answered sd r (DStartIndication x s q v) a Quality h (rw (d, g))
 
-  pub then-security : isIdle (r .control) ≡ true → qosFits q ≡ true → eqb s (r .policy) ≡ false → step sd r (Service (DStartIndication x s q v) a) ≡ aborts r communicationServiceFailure (tell r (ProviderAbortIndication communicationServiceFailure))
+  pub then-security : isIdle (r .control) ≡ true → qosFits q ≡ true → differs (secures (r .edition)) s (r .policy) ≡ true → step sd r (Service (DStartIndication x s q v) a) ≡ aborts r communicationServiceFailure (tell r (ProviderAbortIndication communicationServiceFailure))
   unfolding firstFault indicationFault answered excepts
   then-security d g y = fault-answered sd r (DStartIndication x s q v) a (Security true) h (rw (d, g, y))
 
 -- ---- and in one D-START confirmation
 
-module _ (sd : Side) (r : Record) (x o s v : ℕ) (a : UserData) (h : eventFits sd (Service (DStartConfirmation x o s v) a) ≡ true) where
+module _ (sd : Side) (r : Record) (x o s v : ℕ) (a : UserData) (h : eventFits sd (r .edition) (Service (DStartConfirmation x o s v) a) ≡ true) where
   pub confirmation-unexpected : expects sd (r .control) (DStartCnf (replyOf x)) ≡ false → awaitsResponse (r .control) ≡ false → step sd r (Service (DStartConfirmation x o s v) a) ≡ noInstruction r true
   unfolding firstFault confirmationFault answered
   confirmation-unexpected e w = fault-answered sd r (DStartConfirmation x o s v) a (NoInstruction true) h (rw (e, w))
@@ -200,7 +201,7 @@ module _ (sd : Side) (r : Record) (x o s v : ℕ) (a : UserData) (h : eventFits 
   then-turned-away e t = fault-answered sd r (DStartConfirmation x o s v) a TurnedAway h (rw (e, t))
 
   -- the dialogue is open at an accepted confirmation only
-  pub then-insecure : expects sd (r .control) (DStartCnf (replyOf x)) ≡ true → turnedAway x o ≡ false → eqb s (r .request) ≡ false → step sd r (Service (DStartConfirmation x o s v) a) ≡ excepts r (eqb x accepted) communicationServiceFailure communicationServiceFailure
+  pub then-insecure : expects sd (r .control) (DStartCnf (replyOf x)) ≡ true → turnedAway x o ≡ false → differs (secures (r .edition)) s (r .request) ≡ true → step sd r (Service (DStartConfirmation x o s v) a) ≡ excepts r (eqb x accepted) communicationServiceFailure communicationServiceFailure
   unfolding firstFault confirmationFault answered
   then-insecure e t y = fault-answered sd r (DStartConfirmation x o s v) a (Security (eqb x accepted)) h (rw (e, t, y))
 
@@ -230,7 +231,7 @@ p-abort-unanswered sd r a =
     by-test Unsent (isNone (refusalOf sd r (Service DPAbortIndication a))) _ _ (λ n. abort-unsent sd r DPAbortIndication a DPAbort true refl) (λ n. refl)
 
 -- 3.5.3.15, 2.3.5.5.16: outside IDLE an active user is told communication-service-failure, which is 5 in CPDLCProviderAbortReason; IDLE
-pub p-abort-told : (sd : Side) (r : Record) (a : UserData) → userDataFits a ≡ true → isIdle (r .control) ≡ false → step sd r (Service DPAbortIndication a) ≡ closes r (tell r (ProviderAbortIndication 5))
+pub p-abort-told : (sd : Side) (r : Record) (a : UserData) → userDataFits (r .edition) a ≡ true → isIdle (r .control) ≡ false → step sd r (Service DPAbortIndication a) ≡ closes r (tell r (ProviderAbortIndication 5))
 unfolding eventFits serviceFits firstFault abortFault answered instructed
 p-abort-told sd r a w i = fault-answered sd r DPAbortIndication a NoFault w (rw i)
 
@@ -262,8 +263,8 @@ unfolding reached firstFault confirmationFault answered
 reached-idle sd r (DStartIndication x s q v) a d n = absurd (subst T n tt)
 reached-idle sd r (DStartConfirmation x o s v) a d n = rw (idle-expects sd (r .control) (DStartCnf (replyOf x)) d refl, idle-awaits (r .control) d) (none-idle r true d)
 reached-idle sd r DDataIndication a d n = rw (send-idle sd r DData false true a d refl) (none-idle r true d)
-reached-idle sd r DEndIndication a d n = rw (send-idle sd r DEnd spared true a d refl) (none-idle r true d)
-reached-idle sd r (DEndConfirmation x) a d n = rw (send-idle sd r (DEndCnf (replyOf x)) spared (not (eqb x accepted)) a d refl) (none-idle r true d)
+reached-idle sd r DEndIndication a d n = rw (send-idle sd r DEnd (spares (r .edition)) true a d refl) (none-idle r true d)
+reached-idle sd r (DEndConfirmation x) a d n = rw (send-idle sd r (DEndCnf (replyOf x)) (spares (r .edition)) (not (eqb x accepted)) a d refl) (none-idle r true d)
 reached-idle sd r (DAbortIndication o) a d n = rw (abort-idle sd r DAbort (abortFits o a) d refl) (none-idle r false d)
 reached-idle sd r DPAbortIndication a d n = rw (abort-idle sd r DPAbort true d refl) (none-idle r false d)
 
@@ -298,17 +299,17 @@ none-secure : (r : Record) (b x : Bool) → Secure b (noInstruction r x)
 unfolding noInstruction closes
 none-secure r b x = by-test (Secure b) (isIdle (r .control)) _ _ (λ d e. absurd (subst T (sym e) tt)) (λ d. except-secure r b x _ _)
 
-pub start-secure : (sd : Side) (r : Record) (x s v : ℕ) (q : Qos) (a : UserData) → invites (step sd r (Service (DStartIndication x s q v) a) .told) ≡ true → eqb s (r .policy) ≡ true
+pub start-secure : (sd : Side) (r : Record) (x s v : ℕ) (q : Qos) (a : UserData) → invites (step sd r (Service (DStartIndication x s q v) a) .told) ≡ true → not (differs (secures (r .edition)) s (r .policy)) ≡ true
 unfolding step acts reached firstFault indicationFault answered aborts
 start-secure sd r x s v q a =
-    by-test (Secure (eqb s (r .policy))) (isNone (refusalOf sd r (Service (DStartIndication x s q v) a))) _ _
+    by-test (Secure (not (differs (secures (r .edition)) s (r .policy)))) (isNone (refusalOf sd r (Service (DStartIndication x s q v) a))) _ _
     (λ n. by-test Offers (not (isIdle (r .control))) _ _ (λ d. none-secure r _ true)
     (λ d. by-test Offers (not (qosFits q)) _ _ (λ g e. absurd (subst T (sym e) tt))
-    (λ g. by-test Offers (not (eqb s (r .policy))) _ _ (λ y. except-secure r _ true _ _) (λ y e. not-false _ y))))
+    (λ g. by-test Offers (differs (secures (r .edition)) s (r .policy)) _ _ (λ y. except-secure r _ true _ _) (λ y e. ap not y))))
     (λ n e. absurd (subst T (sym e) tt))
   where
     Offers : Fault → Type 0
-    Offers f = Secure (eqb s (r .policy)) (answered r (DStartIndication x s q v) a f)
+    Offers f = Secure (not (differs (secures (r .edition)) s (r .policy))) (answered r (DStartIndication x s q v) a f)
 
 -- ---- a message request stays in its state (3.5.3.10, 2.3.5.5.10)
 
@@ -318,7 +319,7 @@ message-stays r j = refl
 
 -- ---- user abort outside IDLE: D-ABORT with originator "user"; no reason given means undefined
 
-pub user-aborts : (sd : Side) (r : Record) (g : Bool) (x : ℕ) → ltb x userReasons ≡ true → isIdle (r .control) ≡ false → step sd r (User (UserAbortServiceRequest g x)) ≡ userAbort r g x
+pub user-aborts : (sd : Side) (r : Record) (g : Bool) (x : ℕ) → ltb x (userReasons (r .edition)) ≡ true → isIdle (r .control) ≡ false → step sd r (User (UserAbortServiceRequest g x)) ≡ userAbort r g x
 unfolding step refusalOf eventFits userFits permitted callOf messageRefusal unsent acts called
 user-aborts sd r g x s i = rw (s, i)
 
@@ -352,6 +353,6 @@ pub forward-read : (may i u : Bool) (g : Fault) → pduFault may (isSend Forward
 unfolding pduFault
 forward-read may i u g = refl
 
-pub forward-start : (sd : Side) (r : Record) (x s v : ℕ) (q : Qos) → fromCentre sd x ≡ false → serviceFits (DStartIndication x s q v) ≡ true → isIdle (r .control) ≡ true → qosFits q ≡ true → eqb s (r .policy) ≡ true → step sd r (Service (DStartIndication x s q v) Forward) ≡ aborts r protocolError (tell r (ProviderAbortIndication protocolError))
+pub forward-start : (sd : Side) (r : Record) (x s v : ℕ) (q : Qos) → fromCentre sd x ≡ false → serviceFits (DStartIndication x s q v) ≡ true → isIdle (r .control) ≡ true → qosFits q ≡ true → differs (secures (r .edition)) s (r .policy) ≡ false → step sd r (Service (DStartIndication x s q v) Forward) ≡ aborts r protocolError (tell r (ProviderAbortIndication protocolError))
 unfolding eventFits userDataFits firstFault indicationFault startFits pduFault answered excepts
 forward-start sd r x s v q w h d g y = fault-answered sd r (DStartIndication x s q v) Forward (NotPermitted true) (rw h) (rw (d, g, y, w))

@@ -4,6 +4,7 @@ use mathlib.Core.Path.{_≡_, refl, ap, sym, subst, _∙_}
 use mathlib.Core.Bool.{Bool, true, false, not, cond, _&&_}
 use Prim.Native.Nat.{ℕ}
 use lib.Dec.{T, ltb, eqb}
+use Rattle.editions.specs.Editions.{secures}
 use Rattle.control.specs.Control.{isIdle, entered, takes, awaitsResponse, expects}
 use Rattle.machine.specs.Codes.{securityValues, routingClasses, versions, forwardResults, facility, success, serviceNotSupported, versionNotEqual, noVersion, protocolError, accepted, permanent}
 use Rattle.machine.specs.Record.{enter}
@@ -13,7 +14,7 @@ use Rattle.machine.specs.Outcome.{refused}
 use Rattle.machine.specs.Exceptions.{tell, aborts, closes, excepts}
 use Rattle.machine.specs.Calls.{replyOf, callOf}
 use Rattle.machine.specs.Forwards.{forwardRequest, responds, forwardArrives, forwardConfirmed}
-use Rattle.machine.specs.Faults.{pduFault, startFits, indicationFault, responseFault, confirmationFault, firstFault}
+use Rattle.machine.specs.Faults.{differs, pduFault, startFits, indicationFault, responseFault, confirmationFault, firstFault}
 use Rattle.machine.specs.Primitives.{instructed, answered}
 use Rattle.machine.specs.Step.{permitted, messageRefusal, refusalOf, acts, step}
 use Rattle.clauses.proofs.Clauses.{fault-answered}
@@ -67,7 +68,7 @@ only-abort sd d (UserAbortServiceRequest g x) e = absurd (subst T e tt)
 
 -- ---- the indication, at an IDLE ground machine, with the right quality of service and the security value that local policy accepts
 
-module _ (r : Record) (s v : ℕ) (q : Qos) (h : serviceFits (DStartIndication facility s q v) ≡ true) (i : isIdle (r .control) ≡ true) (g : qosFits q ≡ true) (y : eqb s (r .policy) ≡ true) where
+module _ (r : Record) (s v : ℕ) (q : Qos) (h : serviceFits (DStartIndication facility s q v) ≡ true) (i : isIdle (r .control) ≡ true) (g : qosFits q ≡ true) (y : differs (secures (r .edition)) s (r .policy) ≡ false) where
   arrives : step Ground r (Service (DStartIndication facility s q v) Forward) ≡ forwardArrives r s v
   unfolding eventFits userDataFits firstFault indicationFault startFits pduFault answered instructed
   arrives = fault-answered Ground r (DStartIndication facility s q v) Forward NoFault (rw h) (rw (i, g, y))
@@ -88,7 +89,7 @@ module _ (r : Record) (s v : ℕ) (q : Qos) (h : serviceFits (DStartIndication f
   other-version n e = arrives ∙ rw (n, e)
 
   -- any other valid PDU of a centre is not permitted
-  pub not-forward : (a : UserData) → userDataFits a ≡ true → isMissing a ≡ false → isInvalid a ≡ false → isForward a ≡ false → step Ground r (Service (DStartIndication facility s q v) a) ≡ aborts r protocolError (tell r (ProviderAbortIndication protocolError))
+  pub not-forward : (a : UserData) → userDataFits (r .edition) a ≡ true → isMissing a ≡ false → isInvalid a ≡ false → isForward a ≡ false → step Ground r (Service (DStartIndication facility s q v) a) ≡ aborts r protocolError (tell r (ProviderAbortIndication protocolError))
   unfolding eventFits firstFault indicationFault startFits pduFault answered excepts
   not-forward a w m n f = fault-answered Ground r (DStartIndication facility s q v) a (NotPermitted true) (rw (h, w)) (rw (i, g, y, m, n, f))
 
@@ -98,7 +99,7 @@ answer-inactive r x s v = (refl, refl)
 
 -- ---- the confirmation: 2.3.5.5.3.3
 
-pub confirmed : (sd : Side) (r : Record) (d : Bool) (s v x : ℕ) → r .control ≡ entered FORWARD d → ltb s securityValues ≡ true → ltb v versions ≡ true → ltb x forwardResults ≡ true → eqb s (r .request) ≡ true
+pub confirmed : (sd : Side) (r : Record) (d : Bool) (s v x : ℕ) → r .control ≡ entered FORWARD d → ltb s securityValues ≡ true → ltb v versions ≡ true → ltb x forwardResults ≡ true → differs (secures (r .edition)) s (r .request) ≡ false
     → step sd r (Service (DStartConfirmation permanent 0 s v) (ForwardResponse x)) ≡ forwardConfirmed r x v
 unfolding eventFits serviceFits userDataFits firstFault confirmationFault responseFault pduFault answered instructed replyOf
 confirmed sd r d s v x c h g w y = fault-answered sd r (DStartConfirmation permanent 0 s v) (ForwardResponse x) NoFault (rw (h, g, w)) (rw (c, y))
@@ -109,7 +110,7 @@ unfolding forwardConfirmed closes enter
 confirmed-closes r x v = (refl, refl, refl)
 
 -- "accepted" has no action there: protocol-error, whatever the PDU
-pub accepted-not-permitted : (sd : Side) (r : Record) (d : Bool) (s v x : ℕ) → r .control ≡ entered FORWARD d → ltb s securityValues ≡ true → ltb v versions ≡ true → ltb x forwardResults ≡ true → eqb s (r .request) ≡ true
+pub accepted-not-permitted : (sd : Side) (r : Record) (d : Bool) (s v x : ℕ) → r .control ≡ entered FORWARD d → ltb s securityValues ≡ true → ltb v versions ≡ true → ltb x forwardResults ≡ true → differs (secures (r .edition)) s (r .request) ≡ false
     → step sd r (Service (DStartConfirmation accepted 0 s v) (ForwardResponse x)) ≡ aborts r protocolError (tell r (ProviderAbortIndication protocolError))
 unfolding eventFits serviceFits userDataFits firstFault confirmationFault responseFault pduFault answered excepts replyOf
 accepted-not-permitted sd r d s v x c h g w y = fault-answered sd r (DStartConfirmation accepted 0 s v) (ForwardResponse x) (NotPermitted true) (rw (h, g, w)) (rw (c, y))

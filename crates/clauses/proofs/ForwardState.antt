@@ -5,6 +5,7 @@ use mathlib.Core.Bool.{Bool, true, false, cond}
 use Prim.Native.Nat.{ℕ}
 use lib.Dec.{ltb, eqb}
 use borrow.Author.Tests.{eqb-true}
+use Rattle.editions.specs.Editions.{secures}
 use Rattle.control.specs.Control.{isIdle, number, entered, closed, takes, Did, quiet, aborts, meets, hands, expects}
 use Rattle.control.specs.declared.Side.{Side}
 use Rattle.control.specs.declared.Side.the-variants.{Air, Ground}
@@ -21,9 +22,9 @@ use Rattle.machine.specs.Record.{enter}
 use Rattle.machine.specs.UserData.{userDataFits}
 use Rattle.machine.specs.Event.{qosFits, serviceFits, eventFits}
 use Rattle.machine.specs.Exceptions.{tell, closes, aborts as abortsWith, excepts, noInstruction}
-use Rattle.machine.specs.Calls.{replyOf}
+use Rattle.machine.specs.Calls.{securitySent, replyOf}
 use Rattle.machine.specs.Forwards.{forwardRequest, responds, forwardArrives, forwardConfirmed}
-use Rattle.machine.specs.Faults.{pduFault, sendFault, startFits, indicationFault, responseFault, confirmationFault, firstFault}
+use Rattle.machine.specs.Faults.{differs, pduFault, sendFault, startFits, indicationFault, responseFault, confirmationFault, firstFault}
 use Rattle.machine.specs.Primitives.{instructed, answered}
 use Rattle.machine.specs.Step.{step}
 use Rattle.machine.specs.declared.record.Record.{Record}
@@ -101,12 +102,12 @@ forward-hands sd d DPAbort = refl
 -- ---- the same of the step: D-ABORT "provider" (1) with protocol-error (3), an active user is told; IDLE
 
 abbrev pub left : Record → Record
-left r = record { control = entered Idle false; timer = false; active = false; highest = r .highest; request = r .request; policy = r .policy; forwards = r .forwards; version = r .version }
+left r = record { control = entered Idle false; timer = false; active = false; highest = r .highest; request = r .request; policy = r .policy; forwards = r .forwards; version = r .version; edition = r .edition }
 
 abbrev pub protocolErred : Record → Outcome
 protocolErred r = record { refusal = None; next = left r; invoked = DAbortRequest 1; told = cond (r .active) (ProviderAbortIndication 3) Untold; apdu = AbortProvider 3; delivers = false }
 
-module _ (sd : Side) (r : Record) (d : Bool) (c : r .control ≡ entered FORWARD d) (a : UserData) (w : userDataFits a ≡ true) where
+module _ (sd : Side) (r : Record) (d : Bool) (c : r .control ≡ entered FORWARD d) (a : UserData) (w : userDataFits (r .edition) a ≡ true) where
   pub data-in-forward : step sd r (Service DDataIndication a) ≡ protocolErred r
   unfolding eventFits serviceFits firstFault sendFault answered noInstruction excepts abortsWith tell enter
   data-in-forward = fault-answered sd r DDataIndication a (NoInstruction true) (rw w) (rw c) ∙ rw c
@@ -129,8 +130,8 @@ module _ (sd : Side) (r : Record) (d : Bool) (c : r .control ≡ entered FORWARD
 pub requested-is : (r : Record) (k s : ℕ) → ltb k routingClasses ≡ true → ltb s securityValues ≡ true → isIdle (r .control) ≡ true
     → step Ground r (ForwardRequested k s) ≡ record {
       refusal = None;
-      next = record { control = record { state = FORWARD; dsc = r .control .dsc }; timer = true; active = true; highest = r .highest; request = s; policy = r .policy; forwards = r .forwards; version = r .version };
-      invoked = DStartForwardRequest (record { priority = 1; rer = 1; routing = k }) s (r .version);
+      next = record { control = record { state = FORWARD; dsc = r .control .dsc }; timer = true; active = true; highest = r .highest; request = securitySent (secures (r .edition)) s; policy = r .policy; forwards = r .forwards; version = r .version; edition = r .edition };
+      invoked = DStartForwardRequest (record { priority = 1; rer = 1; routing = k }) (securitySent (secures (r .edition)) s) (r .version);
       told = Untold;
       apdu = Forward;
       delivers = false;
@@ -141,9 +142,9 @@ requested-is r k s h g i = request-taken r k s h g i
 -- ---- 2.3.5.5.2.3, 2.3.5.5.2.4, the indication at an IDLE ground machine: the D-START response with the security value, and the result
 
 abbrev pub answers : Record → ℕ → ℕ → ℕ → Told → Outcome
-answers r result s v t = record { refusal = None; next = left r; invoked = DStartForwardResponse s v; told = t; apdu = ForwardResponse result; delivers = false }
+answers r result s v t = record { refusal = None; next = left r; invoked = DStartForwardResponse (securitySent (secures (r .edition)) s) v; told = t; apdu = ForwardResponse result; delivers = false }
 
-module _ (r : Record) (s v : ℕ) (q : Qos) (h : serviceFits (DStartIndication facility s q v) ≡ true) (i : isIdle (r .control) ≡ true) (g : qosFits q ≡ true) (y : eqb s (r .policy) ≡ true) where
+module _ (r : Record) (s v : ℕ) (q : Qos) (h : serviceFits (DStartIndication facility s q v) ≡ true) (i : isIdle (r .control) ≡ true) (g : qosFits q ≡ true) (y : differs (secures (r .edition)) s (r .policy) ≡ false) where
   -- service-not-supported (1), no version, nobody is told
   pub unsupported-is : r .forwards ≡ false → step Ground r (Service (DStartIndication facility s q v) Forward) ≡ answers r 1 s 0 Untold
   unfolding responds enter
@@ -161,7 +162,7 @@ module _ (r : Record) (s v : ℕ) (q : Qos) (h : serviceFits (DStartIndication f
 
 -- ---- 2.3.5.5.3.3, the confirmation in FORWARD: the user is told the result and the version as they came; nothing is sent; IDLE
 
-pub confirmed-is : (sd : Side) (r : Record) (d : Bool) (s v x : ℕ) → r .control ≡ entered FORWARD d → ltb s securityValues ≡ true → ltb v versions ≡ true → ltb x forwardResults ≡ true → eqb s (r .request) ≡ true
+pub confirmed-is : (sd : Side) (r : Record) (d : Bool) (s v x : ℕ) → r .control ≡ entered FORWARD d → ltb s securityValues ≡ true → ltb v versions ≡ true → ltb x forwardResults ≡ true → differs (secures (r .edition)) s (r .request) ≡ false
     → step sd r (Service (DStartConfirmation permanent 0 s v) (ForwardResponse x)) ≡ record { refusal = None; next = left r; invoked = Silent; told = ForwardConfirmation x v; apdu = Absent; delivers = false }
 unfolding forwardConfirmed closes enter
 confirmed-is sd r d s v x c h g w y = confirmed sd r d s v x c h g w y

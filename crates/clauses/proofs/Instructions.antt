@@ -2,21 +2,22 @@
 -- field: Doc 9705 2.3.5.3, 2.3.5.5, Doc 9880 3.5.3.
 -- Assumes nothing.
 use mathlib.Core.Path.{_≡_, refl, ap, sym, _∙_}
-use mathlib.Core.Bool.{Bool, true, false, not, cond, _||_}
+use mathlib.Core.Bool.{Bool, true, false, not, cond, _&&_, _||_}
 use Prim.Native.Nat.{ℕ}
 use lib.Dec.{ltb, eqb}
+use Rattle.editions.specs.Editions.{secures, spares, userReasons}
 use Rattle.control.specs.Control.{isIdle, entered}
 use Rattle.control.specs.declared.Side.{Side}
 use Rattle.control.specs.declared.Side.the-variants.{Air, Ground}
 use Rattle.control.specs.declared.State.the-variants.{Idle, StartReq, StartInd, Dialogue, End}
 use Rattle.control.specs.declared.Control.{Control}
-use Rattle.machine.specs.Codes.{userReasons, providerReasons, facility, aircraft}
+use Rattle.machine.specs.Codes.{providerReasons, facility, aircraft}
 use Rattle.machine.specs.Record.{enter}
 use Rattle.machine.specs.UserData.{userDataFits}
 use Rattle.machine.specs.Event.{isDsc, qosFits, serviceFits, eventFits}
 use Rattle.machine.specs.Exceptions.{tell, closes, aborts, excepts, noInstruction}
-use Rattle.machine.specs.Calls.{replyOf, sent, startRequest, startResponse, messageRequest, endRequest, endResponse, userAbort, called}
-use Rattle.machine.specs.Faults.{pduFault, sendFault, abortFault, startFits, indicationFault, confirmationFault, firstFault}
+use Rattle.machine.specs.Calls.{securitySent, unlessSpared, replyOf, sent, startRequest, startResponse, messageRequest, endRequest, endResponse, userAbort, called}
+use Rattle.machine.specs.Faults.{differs, sendAllowed, pduFault, sendFault, abortFault, startFits, indicationFault, confirmationFault, firstFault}
 use Rattle.machine.specs.Primitives.{handed, instructed, answered}
 use Rattle.machine.specs.Step.{step}
 use Rattle.machine.specs.declared.record.Record.{Record}
@@ -38,7 +39,7 @@ use Rattle.clauses.proofs.ForwardState.{left, protocolErred}
 
 -- the user is told, with the message data; nothing is sent
 abbrev pub delivered : Record → Control → Bool → Bool → Told → Outcome
-delivered r c t u x = record { refusal = None; next = record { control = c; timer = t; active = u; highest = r .highest; request = r .request; policy = r .policy; forwards = r .forwards; version = r .version }; invoked = Silent; told = x; apdu = Absent; delivers = true }
+delivered r c t u x = record { refusal = None; next = record { control = c; timer = t; active = u; highest = r .highest; request = r .request; policy = r .policy; forwards = r .forwards; version = r .version; edition = r .edition }; invoked = Silent; told = x; apdu = Absent; delivers = true }
 
 -- nothing is delivered; an active user is told; IDLE
 abbrev pub closed : Record → Told → Outcome
@@ -103,40 +104,44 @@ pub kept-at-air : (r : Record) → r .control ≡ entered End true → step Air 
 unfolding eventFits serviceFits userDataFits firstFault sendFault pduFault answered instructed handed enter replyOf
 kept-at-air r c = fault-answered Air r (DEndConfirmation 1) Send NoFault refl (rw c) ∙ rw c
 
+and-false : (b : Bool) → (b && false) ≡ false
+and-false true = refl
+and-false false = refl
+
 -- ---- D-START confirmation (2.3.5.3.3, 2.3.5.5.3), accepted (0) and rejected (permanent) (1), by the DS user (0), with the value asked for
 
-module _ (r : Record) (s v : ℕ) (h : serviceFits (DStartConfirmation 0 0 s v) ≡ true) (g : serviceFits (DStartConfirmation 1 0 s v) ≡ true) (y : eqb s (r .request) ≡ true) where
-  pub started-at-air : (d : Bool) → r .control ≡ entered StartReq d → step Air r (Service (DStartConfirmation 0 0 s v) Send) ≡ delivered r (entered Dialogue d) false (r .active) (StartConfirmation d 0)
+module _ (r : Record) (s v : ℕ) (h : serviceFits (DStartConfirmation 0 0 s v) ≡ true) (g : serviceFits (DStartConfirmation 1 0 s v) ≡ true) (y : differs (secures (r .edition)) s (r .request) ≡ false) where
+  pub started-at-air : spares (r .edition) ≡ false → (d : Bool) → r .control ≡ entered StartReq d → step Air r (Service (DStartConfirmation 0 0 s v) Send) ≡ delivered r (entered Dialogue d) false (r .active) (StartConfirmation d 0)
   unfolding eventFits userDataFits firstFault confirmationFault pduFault answered instructed handed enter replyOf
-  started-at-air d c = fault-answered Air r (DStartConfirmation 0 0 s v) Send NoFault (rw h) (rw (c, y)) ∙ rw c
+  started-at-air z d c = fault-answered Air r (DStartConfirmation 0 0 s v) Send NoFault (rw h) (rw (c, y, z)) ∙ rw c
 
   pub rejected-at-air : (d : Bool) → r .control ≡ entered StartReq d → step Air r (Service (DStartConfirmation 1 0 s v) Send) ≡ delivered r (entered Idle false) false false (StartConfirmation d 1)
   unfolding eventFits userDataFits firstFault confirmationFault pduFault answered instructed handed enter replyOf
-  rejected-at-air d c = fault-answered Air r (DStartConfirmation 1 0 s v) Send NoFault (rw g) (rw (c, y)) ∙ rw c
+  rejected-at-air d c = fault-answered Air r (DStartConfirmation 1 0 s v) Send NoFault (rw g) (rw (c, y, and-false (spares (r .edition)))) ∙ rw c
 
-  pub started-at-ground : r .control ≡ entered StartReq false → step Ground r (Service (DStartConfirmation 0 0 s v) Send) ≡ delivered r (entered Dialogue false) false (r .active) (StartConfirmation false 0)
+  pub started-at-ground : spares (r .edition) ≡ false → r .control ≡ entered StartReq false → step Ground r (Service (DStartConfirmation 0 0 s v) Send) ≡ delivered r (entered Dialogue false) false (r .active) (StartConfirmation false 0)
   unfolding eventFits userDataFits firstFault confirmationFault pduFault answered instructed handed enter replyOf
-  started-at-ground c = fault-answered Ground r (DStartConfirmation 0 0 s v) Send NoFault (rw h) (rw (c, y)) ∙ rw c
+  started-at-ground z c = fault-answered Ground r (DStartConfirmation 0 0 s v) Send NoFault (rw h) (rw (c, y, z)) ∙ rw c
 
   pub rejected-at-ground : r .control ≡ entered StartReq false → step Ground r (Service (DStartConfirmation 1 0 s v) Send) ≡ delivered r (entered Idle false) false false (StartConfirmation false 1)
   unfolding eventFits userDataFits firstFault confirmationFault pduFault answered instructed handed enter replyOf
-  rejected-at-ground c = fault-answered Ground r (DStartConfirmation 1 0 s v) Send NoFault (rw g) (rw (c, y)) ∙ rw c
+  rejected-at-ground c = fault-answered Ground r (DStartConfirmation 1 0 s v) Send NoFault (rw g) (rw (c, y, and-false (spares (r .edition)))) ∙ rw c
 
 -- ---- D-START indication (2.3.5.3.2, 2.3.5.5.2) in IDLE: the air's from a facility (0), the ground's from an aircraft (1) in either mode
 
-pub invited-at-air : (r : Record) (d : Bool) (s v : ℕ) (q : Qos) → serviceFits (DStartIndication 0 s q v) ≡ true → qosFits q ≡ true → eqb s (r .policy) ≡ true → r .control ≡ entered Idle d
+pub invited-at-air : (r : Record) (d : Bool) (s v : ℕ) (q : Qos) → serviceFits (DStartIndication 0 s q v) ≡ true → qosFits q ≡ true → differs (secures (r .edition)) s (r .policy) ≡ false → r .control ≡ entered Idle d
     → step Air r (Service (DStartIndication 0 s q v) (Start false)) ≡ delivered r (entered StartInd d) (r .timer) true (StartIndication false (q .routing))
 unfolding eventFits userDataFits firstFault indicationFault startFits pduFault answered instructed handed enter
 invited-at-air r d s v q h g y c = fault-answered Air r (DStartIndication 0 s q v) (Start false) NoFault (rw h) (rw (c, g, y)) ∙ rw c
 
-pub invited-at-ground : (r : Record) (d m : Bool) (s v : ℕ) (q : Qos) → serviceFits (DStartIndication 1 s q v) ≡ true → qosFits q ≡ true → eqb s (r .policy) ≡ true → r .control ≡ entered Idle d
+pub invited-at-ground : (r : Record) (d m : Bool) (s v : ℕ) (q : Qos) → serviceFits (DStartIndication 1 s q v) ≡ true → qosFits q ≡ true → differs (secures (r .edition)) s (r .policy) ≡ false → r .control ≡ entered Idle d
     → step Ground r (Service (DStartIndication 1 s q v) (Start m)) ≡ delivered r (entered StartInd (m || d)) (r .timer) true (StartIndication m (q .routing))
 unfolding eventFits userDataFits firstFault indicationFault startFits pduFault answered instructed handed enter
 invited-at-ground r d m s v q h g y c = fault-answered Ground r (DStartIndication 1 s q v) (Start m) NoFault (rw h) (rw (c, g, y)) ∙ rw c
 
 -- ---- D-ABORT indication (3.5.3.14, 2.3.5.5.15) outside IDLE, of the user (0) and of the provider (1)
 
-pub abort-by-user : (sd : Side) (r : Record) (x : ℕ) → ltb x userReasons ≡ true → isIdle (r .control) ≡ false → step sd r (Service (DAbortIndication 0) (AbortUser x)) ≡ closed r (UserAbortIndication x)
+pub abort-by-user : (sd : Side) (r : Record) (x : ℕ) → ltb x (userReasons (r .edition)) ≡ true → isIdle (r .control) ≡ false → step sd r (Service (DAbortIndication 0) (AbortUser x)) ≡ closed r (UserAbortIndication x)
 unfolding eventFits serviceFits userDataFits firstFault abortFault answered instructed closes tell enter
 abort-by-user sd r x h i = fault-answered sd r (DAbortIndication 0) (AbortUser x) NoFault (rw h) (rw i)
 
@@ -154,11 +159,11 @@ pub record Invokes (o : Outcome) (i : Invoked) (a : UserData) : Type 0 where
   pub delivers : o .delivers ≡ false
 
 module _ (r : Record) where
-  pub start-invokes : (m k s : ℕ) → Invokes (called r (StartServiceRequest m k s)) (DStartRequest (record { priority = 1; rer = 1; routing = k }) s) (Start (eqb m 1))
+  pub start-invokes : (m k s : ℕ) → Invokes (called r (StartServiceRequest m k s)) (DStartRequest (record { priority = 1; rer = 1; routing = k }) (securitySent (secures (r .edition)) s)) (Start (eqb m 1))
   unfolding called startRequest sent
   start-invokes m k s = record { taken = refl; invoked = refl; apdu = refl; told = refl; delivers = refl }
 
-  pub answer-invokes : (m : Bool) (x : ℕ) (h : Bool) → Invokes (called r (StartServiceResponse m x h)) (DStartResponse x (r .policy)) Send
+  pub answer-invokes : (m : Bool) (x : ℕ) (h : Bool) → Invokes (called r (StartServiceResponse m x h)) (DStartResponse x (securitySent (secures (r .edition)) (r .policy))) (unlessSpared (spares (r .edition)) h)
   unfolding called startResponse sent
   answer-invokes m x h = record { taken = refl; invoked = refl; apdu = refl; told = refl; delivers = refl }
 
@@ -166,11 +171,11 @@ module _ (r : Record) where
   unfolding called messageRequest sent
   message-invokes h j = record { taken = refl; invoked = refl; apdu = refl; told = refl; delivers = refl }
 
-  pub end-invokes : (m h : Bool) → Invokes (called r (EndServiceRequest m h)) DEndRequest Send
+  pub end-invokes : (m h : Bool) → Invokes (called r (EndServiceRequest m h)) DEndRequest (unlessSpared (spares (r .edition)) h)
   unfolding called endRequest sent
   end-invokes m h = record { taken = refl; invoked = refl; apdu = refl; told = refl; delivers = refl }
 
-  pub end-answer-invokes : (m : Bool) (x : ℕ) (h : Bool) → Invokes (called r (EndServiceResponse m x h)) (DEndResponse x) Send
+  pub end-answer-invokes : (m : Bool) (x : ℕ) (h : Bool) → Invokes (called r (EndServiceResponse m x h)) (DEndResponse x) (unlessSpared (spares (r .edition)) h)
   unfolding called endResponse sent
   end-answer-invokes m x h = record { taken = refl; invoked = refl; apdu = refl; told = refl; delivers = refl }
 

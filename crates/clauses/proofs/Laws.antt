@@ -161,6 +161,26 @@ way-policy sd r o (is-read p t e w a) = refl
 pub policy-fixed : (sd : Side) (r : Record) (e : Event) → step sd r e .next .policy ≡ r .policy
 policy-fixed sd r e = way-policy sd r (step sd r e) (ways sd r e)
 
+-- ---- and so is the edition (document 02, E14: "fixed from then on")
+
+way-edition : (sd : Side) (r : Record) (o : Outcome) → Way sd r o → o .next .edition ≡ r .edition
+unfolding closes aborts startRequest messageRequest sent handed forwardRequest responds forwardConfirmed enter
+way-edition sd r o (is-refused w n) = refl
+way-edition sd r o (is-closed t a) = refl
+way-edition sd r o (is-aborted p t a) = refl
+way-edition sd r o (is-started m k s e) = refl
+way-edition sd r o (is-message j e h) = refl
+way-edition sd r o (is-called k x a e b) = refl
+way-edition sd r o (is-invited m x e) = refl
+way-edition sd r o (is-confirmed a m x e) = refl
+way-edition sd r o (is-forwarding k s e) = refl
+way-edition sd r o (is-responding x s v t j b) = refl
+way-edition sd r o (is-forwarded x v e) = refl
+way-edition sd r o (is-read p t e w a) = refl
+
+pub edition-fixed : (sd : Side) (r : Record) (e : Event) → step sd r e .next .edition ≡ r .edition
+edition-fixed sd r e = way-edition sd r (step sd r e) (ways sd r e)
+
 -- ---- and so are the version and whether forwarding is supported
 
 pub record Configured (r q : Record) : Type 0 where

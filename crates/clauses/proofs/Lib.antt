@@ -8,3 +8,4 @@ pub mod ForwardState
 pub mod Instructions
 pub mod Unexpected
 pub mod Spared
+pub mod Editions

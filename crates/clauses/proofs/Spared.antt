@@ -1,5 +1,5 @@
 -- What the machine asks that an edition may answer in two ways: is security compared, may user data be left out. Here each question
--- with each answer; the step has those of application type 22 (`secured`, `spared` of specs/Codes).
+-- with each answer; the step asks the edition of its record (`secures`, `spares` of crate editions).
 -- Assumes nothing.
 use Prim.Native.Nat.{ℕ}
 use mathlib.Core.Path.{_≡_, refl}

@@ -5,6 +5,7 @@ use mathlib.Core.Path.{_≡_, refl, _∙_}
 use mathlib.Core.Bool.{Bool, true, false, cond}
 use Prim.Native.Nat.{ℕ}
 use lib.Dec.{ltb, eqb}
+use Rattle.editions.specs.Editions.{secures}
 use Rattle.control.specs.Control.{isIdle, entered, expects}
 use Rattle.control.specs.declared.Side.{Side}
 use Rattle.control.specs.declared.Side.the-variants.{Air, Ground}
@@ -16,7 +17,7 @@ use Rattle.machine.specs.UserData.{userDataFits, isMissing, isInvalid, isRespon
 use Rattle.machine.specs.Event.{serviceFits, eventFits}
 use Rattle.machine.specs.Exceptions.{tell, closes, aborts, excepts, noInstruction, systemError}
 use Rattle.machine.specs.Calls.{replyOf}
-use Rattle.machine.specs.Faults.{pduFault, sendFault, indicationFault, responseFault, confirmationFault, firstFault}
+use Rattle.machine.specs.Faults.{differs, pduFault, sendFault, indicationFault, responseFault, confirmationFault, firstFault}
 use Rattle.machine.specs.Primitives.{answered}
 use Rattle.machine.specs.Step.{step, refusalOf, permitted, messageRefusal, acts}
 use Rattle.machine.specs.declared.record.Record.{Record}
@@ -53,7 +54,7 @@ error-is sd r i = rw i
 
 -- ---- the faults of a confirmation in FORWARD: accepted (0), rejected (permanent) (1) and (transient) (2), by the DS user (0) and the DS provider (1)
 
-module _ (sd : Side) (r : Record) (d : Bool) (c : r .control ≡ entered FORWARD d) (s v : ℕ) (a : UserData) (w : userDataFits a ≡ true) where
+module _ (sd : Side) (r : Record) (d : Bool) (c : r .control ≡ entered FORWARD d) (s v : ℕ) (a : UserData) (w : userDataFits (r .edition) a ≡ true) where
   -- turned away: communication-service-error (4), nothing is sent
   pub transient-in-forward : (o : ℕ) → serviceFits (DStartConfirmation 2 o s v) ≡ true → step sd r (Service (DStartConfirmation 2 o s v) a) ≡ gone r 4
   unfolding eventFits firstFault confirmationFault responseFault answered closes tell enter
@@ -64,24 +65,24 @@ module _ (sd : Side) (r : Record) (d : Bool) (c : r .control ≡ entered FORWARD
   provider-rejects-in-forward h = fault-answered sd r (DStartConfirmation 1 1 s v) a TurnedAway (rw (h, w)) (rw c)
 
   -- another security value: communication-service-failure (5); the dialogue is open after "accepted" only
-  pub accepted-insecure-in-forward : serviceFits (DStartConfirmation 0 0 s v) ≡ true → eqb s (r .request) ≡ false → step sd r (Service (DStartConfirmation 0 0 s v) a) ≡ aborted r 5 5
+  pub accepted-insecure-in-forward : serviceFits (DStartConfirmation 0 0 s v) ≡ true → differs (secures (r .edition)) s (r .request) ≡ true → step sd r (Service (DStartConfirmation 0 0 s v) a) ≡ aborted r 5 5
   unfolding eventFits firstFault confirmationFault responseFault answered excepts aborts tell enter
   accepted-insecure-in-forward h y = fault-answered sd r (DStartConfirmation 0 0 s v) a (Security true) (rw (h, w)) (rw (c, y))
 
-  pub rejected-insecure-in-forward : serviceFits (DStartConfirmation 1 0 s v) ≡ true → eqb s (r .request) ≡ false → step sd r (Service (DStartConfirmation 1 0 s v) a) ≡ gone r 5
+  pub rejected-insecure-in-forward : serviceFits (DStartConfirmation 1 0 s v) ≡ true → differs (secures (r .edition)) s (r .request) ≡ true → step sd r (Service (DStartConfirmation 1 0 s v) a) ≡ gone r 5
   unfolding eventFits firstFault confirmationFault responseFault answered excepts closes tell enter
   rejected-insecure-in-forward h y = fault-answered sd r (DStartConfirmation 1 0 s v) a (Security false) (rw (h, w)) (rw (c, y))
 
   -- a PDU that is not permitted: protocol-error (3); after "accepted" every one is
-  pub accepted-in-forward : serviceFits (DStartConfirmation 0 0 s v) ≡ true → eqb s (r .request) ≡ true → isMissing a ≡ false → isInvalid a ≡ false → step sd r (Service (DStartConfirmation 0 0 s v) a) ≡ aborted r 3 3
+  pub accepted-in-forward : serviceFits (DStartConfirmation 0 0 s v) ≡ true → differs (secures (r .edition)) s (r .request) ≡ false → isMissing a ≡ false → isInvalid a ≡ false → step sd r (Service (DStartConfirmation 0 0 s v) a) ≡ aborted r 3 3
   unfolding eventFits firstFault confirmationFault responseFault pduFault answered excepts aborts tell enter
   accepted-in-forward h y m n = fault-answered sd r (DStartConfirmation 0 0 s v) a (NotPermitted true) (rw (h, w)) (rw (c, y, m, n))
 
-  pub no-response-in-forward : serviceFits (DStartConfirmation 1 0 s v) ≡ true → eqb s (r .request) ≡ true → isMissing a ≡ false → isInvalid a ≡ false → isResponse a ≡ false → step sd r (Service (DStartConfirmation 1 0 s v) a) ≡ aborted r 3 3
+  pub no-response-in-forward : serviceFits (DStartConfirmation 1 0 s v) ≡ true → differs (secures (r .edition)) s (r .request) ≡ false → isMissing a ≡ false → isInvalid a ≡ false → isResponse a ≡ false → step sd r (Service (DStartConfirmation 1 0 s v) a) ≡ aborted r 3 3
   unfolding eventFits firstFault confirmationFault responseFault pduFault answered excepts aborts tell enter
   no-response-in-forward h y m n f = fault-answered sd r (DStartConfirmation 1 0 s v) a (NotPermitted true) (rw (h, w)) (rw (c, y, m, n, f))
 
-module _ (sd : Side) (r : Record) (d : Bool) (c : r .control ≡ entered FORWARD d) (s v : ℕ) (y : eqb s (r .request) ≡ true) where
+module _ (sd : Side) (r : Record) (d : Bool) (c : r .control ≡ entered FORWARD d) (s v : ℕ) (y : differs (secures (r .edition)) s (r .request) ≡ false) where
   -- none: the APDU says expected-PDU-missing (7), the user is told not-permitted-PDU (8)
   pub accepted-bare-in-forward : serviceFits (DStartConfirmation 0 0 s v) ≡ true → step sd r (Service (DStartConfirmation 0 0 s v) Absent) ≡ aborted r 7 8
   unfolding eventFits userDataFits firstFault confirmationFault responseFault pduFault answered excepts aborts tell enter
@@ -102,7 +103,7 @@ module _ (sd : Side) (r : Record) (d : Bool) (c : r .control ≡ entered FORWARD
 
 -- ---- no instruction: whatever the user data, protocol-error (3)
 
-module _ (sd : Side) (r : Record) (a : UserData) (w : userDataFits a ≡ true) where
+module _ (sd : Side) (r : Record) (a : UserData) (w : userDataFits (r .edition) a ≡ true) where
   -- a start outside IDLE
   pub start-outside-idle : (x s v : ℕ) (q : Qos) → serviceFits (DStartIndication x s q v) ≡ true → isIdle (r .control) ≡ false → step sd r (Service (DStartIndication x s q v) a) ≡ protocolErred r
   unfolding eventFits firstFault indicationFault answered noInstruction excepts aborts tell enter
@@ -150,7 +151,7 @@ module _ (sd : Side) (r : Record) (a : UserData) (w : userDataFits a ≡ true) w
 
 -- an end of the peer's is no instruction at the side that may ask for it, nor a confirmation at the one that may not: the ground asks for the end
 -- of a CPDLC dialogue, the air for that of a DSC dialogue
-module _ (r : Record) (a : UserData) (w : userDataFits a ≡ true) where
+module _ (r : Record) (a : UserData) (w : userDataFits (r .edition) a ≡ true) where
   pub end-not-ground : r .control ≡ entered Dialogue false → step Ground r (Service DEndIndication a) ≡ protocolErred r
   end-not-ground c = end-errs Ground r a w (rw c) (rw c)
 

@@ -5,6 +5,7 @@ use mathlib.Core.Bool.{Bool, true, false, not, cond, _&&_, _||_}
 use Prim.Native.Nat.{ℕ, _<_}
 use lib.Dec.{T, ltb, leb, eqb}
 use borrow.Author.Tests.{leb-false, eqb-true, not-false}
+use Rattle.editions.specs.Editions.{secures, spares}
 use Rattle.words.proofs.Laws.{both-left, both-right}
 use Rattle.control.specs.Control.{isIdle, takes, takesForward, awaitsResponse, expects}
 use Rattle.machine.specs.Record.{withTimer, withUser}
@@ -13,7 +14,7 @@ use Rattle.machine.specs.Outcome.{isNone, refused}
 use Rattle.machine.specs.Exceptions.{tell, closes, aborts, excepts, timerExpires, systemError, noInstruction}
 use Rattle.machine.specs.Calls.{replyOf, sent, startRequest, startResponse, messageRequest, endRequest, endResponse, userAbort, callOf, unsent, called}
 use Rattle.machine.specs.UserData.{kindOf, modeOf, reasonOf, isMissing, isInvalid, isStartPdu, isSend, isForward, isResponse}
-use Rattle.machine.specs.Faults.{turnedAway, pduFault, sendFault, peerFits, fromCentre, startFits, indicationFault, responseFault, confirmationFault, firstFault}
+use Rattle.machine.specs.Faults.{differs, sendAllowed, turnedAway, pduFault, sendFault, peerFits, fromCentre, startFits, indicationFault, responseFault, confirmationFault, firstFault}
 use Rattle.machine.specs.Codes.{accepted, success, serviceNotSupported, versionNotEqual, noVersion}
 use Rattle.machine.specs.Forwards.{forwardRequest, responds, forwardArrives, forwardConfirmed}
 use Rattle.machine.specs.Primitives.{handed, abortTold, instructed, answered, reached}
@@ -118,7 +119,7 @@ pdu-fits fits i u a g e =
 
 pub record StartIs (sd : Side) (r : Record) (x s : ℕ) (a : UserData) : Type 0 where
   pub idle : isIdle (r .control) ≡ true
-  pub secure : eqb s (r .policy) ≡ true
+  pub secure : differs (secures (r .edition)) s (r .policy) ≡ false
   pub fits : startFits sd r x a ≡ true
 
 -- a start that fits and is a forward is one of a centre, at the ground
@@ -189,7 +190,7 @@ module _ (sd : Side) (r : Record) where
   unfolding responseFault
   response-there x o s a e =
       let away = passed (turnedAway x o) TurnedAway _ refl e in
-      let secure = passed (not (eqb s (r .request))) (Security (eqb x accepted)) _ refl (away .1) in
+      let secure = passed (differs (secures (r .edition)) s (r .request)) (Security (eqb x accepted)) _ refl (away .1) in
       rejected (eqb x accepted) (secure .1)
     where
       rejected : (b : Bool) → cond b (pduFault false false true true a NoFault) (pduFault false (isResponse a) false true a NoFault) ≡ NoFault → isResponse a ≡ true
@@ -200,14 +201,26 @@ module _ (sd : Side) (r : Record) where
   pub send-other : (a : UserData) → isSend a ≡ true → isResponse a ≡ false
   send-other a e = rw (eqb-true (kindOf a) 3 e)
 
+  -- nor is a PDU that may be absent
+  pub not-response : (may live i u : Bool) (a : UserData) → pduFault may (sendAllowed may live a) i u a NoFault ≡ NoFault → isResponse a ≡ false
+  unfolding pduFault
+  not-response may live i u a e = go (isMissing a) refl e
+    where
+      go : (b : Bool) → isMissing a ≡ b → cond b (cond may NoFault Missing) (cond (isInvalid a) (Invalid i) (cond (not (sendAllowed may live a)) (NotPermitted u) NoFault)) ≡ NoFault → isResponse a ≡ false
+      go true m k = rw (eqb-true (kindOf a) 0 m)
+      go false m k =
+          let valid = passed (isInvalid a) (Invalid i) _ refl k in
+          let f = not-false (sendAllowed may live a) (passed (not (sendAllowed may live a)) (NotPermitted u) NoFault refl (valid .1) .0) in
+          send-other a (both-right (not (may && live)) _ f)
+
   -- a confirmation without a fault: of a start that the control expects, or of a forward
   confirmed-way : (x o s v : ℕ) (a : UserData) (t : Bool) → expects sd (r .control) (DStartCnf (replyOf x)) ≡ t
-      → cond (not t) (cond (awaitsResponse (r .control)) (responseFault r x o s a) (NoInstruction true)) (cond (turnedAway x o) TurnedAway (cond (not (eqb s (r .request))) (Security (eqb x accepted)) (pduFault false (isSend a) (eqb x accepted) true a NoFault))) ≡ NoFault
+      → cond (not t) (cond (awaitsResponse (r .control)) (responseFault r x o s a) (NoInstruction true)) (cond (turnedAway x o) TurnedAway (cond (differs (secures (r .edition)) s (r .request)) (Security (eqb x accepted)) (pduFault (spares (r .edition)) (sendAllowed (spares (r .edition)) (eqb x accepted) a) (eqb x accepted) true a NoFault))) ≡ NoFault
       → Way sd r (cond (isResponse a) (forwardConfirmed r (reasonOf a) v) (handed (withTimer r false) (DStartCnf (replyOf x)) (StartConfirmation (r .control .dsc) x)))
   confirmed-way x o s v a true p e =
       let away = passed (turnedAway x o) TurnedAway _ refl e in
-      let secure = passed (not (eqb s (r .request))) (Security (eqb x accepted)) _ refl (away .1) in
-      let n = send-other a (pdu-fits (isSend a) (eqb x accepted) true a NoFault (secure .1)) in
+      let secure = passed (differs (secures (r .edition)) s (r .request)) (Security (eqb x accepted)) _ refl (away .1) in
+      let n = not-response (spares (r .edition)) (eqb x accepted) (eqb x accepted) true a (secure .1) in
       rw n (is-confirmed (replyOf x) (r .control .dsc) x p)
   confirmed-way x o s v a false p e = awaited (awaitsResponse (r .control)) refl e
     where
@@ -222,10 +235,10 @@ module _ (sd : Side) (r : Record) where
   start-there x s q a e =
       let idle = passed (not (isIdle (r .control))) (NoInstruction true) _ refl e in
       let quality = passed (not (qosFits q)) Quality _ refl (idle .1) in
-      let secure = passed (not (eqb s (r .policy))) (Security true) _ refl (quality .1) in
+      let secure = passed (differs (secures (r .edition)) s (r .policy)) (Security true) _ refl (quality .1) in
       record {
         idle = not-false (isIdle (r .control)) (idle .0);
-        secure = not-false (eqb s (r .policy)) (secure .0);
+        secure = secure .0;
         fits = pdu-fits (startFits sd r x a) true true a (cond (peerFits sd x) NoFault (NoInstruction true)) (secure .1);
       }
 
@@ -284,7 +297,7 @@ not-refused false p w e = absurd (subst T (sym e) tt)
 taken-way : (sd : Side) (r : Record) (e : Event) → isNone (refusalOf sd r e) ≡ true → Way sd r (acts sd r e)
 unfolding refusalOf
 taken-way sd r e n =
-    let k = not-refused (eventFits sd e) (permitted sd r e) (messageRefusal r e) n in acts-way sd r e (k .1 .0) (k .1 .1)
+    let k = not-refused (eventFits sd (r .edition) e) (permitted sd r e) (messageRefusal r e) n in acts-way sd r e (k .1 .0) (k .1 .1)
 
 -- every step is one of the twelve ways
 pub ways : (sd : Side) (r : Record) (e : Event) → Way sd r (step sd r e)

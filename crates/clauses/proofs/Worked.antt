@@ -4,6 +4,7 @@ use mathlib.Core.Path.{_≡_, refl}
 use mathlib.Core.Bool.{Bool, true, false}
 use mathlib.Core.List.{List, [], _∷_}
 use Prim.Native.Nat.{ℕ}
+use Rattle.editions.specs.declared.Edition.the-variants.{Protected}
 use Rattle.machine.specs.Codes.{accepted}
 use Rattle.clauses.proofs.Clauses.{cpdlcMode}
 use Rattle.machine.specs.Record.{freshRecord, enter}
@@ -34,7 +35,7 @@ use Rattle.machine.specs.Forwards.{forwardRequest, responds, forwardArrives, fo
 
 -- a record with local policy "no security"
 abbrev fresh : Record
-fresh = freshRecord (record { policy = 0; forwards = true; version = 1 })
+fresh = freshRecord (record { policy = 0; forwards = true; version = 1; edition = Protected })
 
 abbrev confirmation : Event
 confirmation = Service (DStartConfirmation 0 0 0 0) Send
@@ -66,7 +67,7 @@ unfolding run step refusalOf permitted messageRefusal acts eventFits userFits ha
 seven-later = refl
 
 -- a DSC dialogue at the ground: invited, accepted, abortFault by the air, closed by the accepted DSC-end response
-pub downstream : run Ground fresh (Service (DStartIndication 1 0 (record { priority = 1; rer = 1; routing = 0 }) 0) (Start true) ∷ User (StartServiceResponse true 0 true) ∷ Service DDataIndication Send ∷ Service DEndIndication Send ∷ message 9 ∷ User (EndServiceResponse true 0 true) ∷ []) ≡ record { control = record { state = Idle; dsc = false }; timer = false; active = false; highest = 9; request = 0; policy = 0; forwards = true; version = 1 }
+pub downstream : run Ground fresh (Service (DStartIndication 1 0 (record { priority = 1; rer = 1; routing = 0 }) 0) (Start true) ∷ User (StartServiceResponse true 0 true) ∷ Service DDataIndication Send ∷ Service DEndIndication Send ∷ message 9 ∷ User (EndServiceResponse true 0 true) ∷ []) ≡ record { control = record { state = Idle; dsc = false }; timer = false; active = false; highest = 9; request = 0; policy = 0; forwards = true; version = 1; edition = Protected }
 unfolding run step refusalOf permitted messageRefusal acts eventFits userFits hasMode serviceFits userDataFits qosFits callOf unsent called reached startResponse messageRequest endResponse sent enter firstFault indicationFault startFits sendFault pduFault answered instructed replyOf handed
 downstream = refl
 

@@ -6,8 +6,10 @@ use mathlib.Core.List.{List, []}
 use Prim.Native.Nat.{ℕ}
 use borrow.Author.Tests.{lt-ltb}
 use lib.Dec.{T, eqb, ltb}
+use Rattle.editions.specs.Editions.{secures, spares}
+use Rattle.editions.specs.declared.Edition.{Edition}
 use Rattle.machine.specs.Codes.{accepted, results, securityValues}
-use Rattle.machine.specs.Calls.{replyOf}
+use Rattle.machine.specs.Calls.{replyOf, securitySent}
 use Rattle.machine.specs.declared.record.Record.{Record}
 use Rattle.machine.specs.declared.event.UserData.{UserData}
 use Rattle.machine.specs.declared.event.UserData.the-variants.{Absent, NotValid, Start, Send, AbortUser, AbortProvider, Forward, ForwardResponse}
@@ -18,7 +20,7 @@ use Rattle.pair.specs.Carrier.{Body, Turn}
 use Rattle.pair.specs.Numbered.{NSys, Numbered, mark, notBelow, nSwap, nFresh, nRun}
 use Rattle.pair.specs.Wires.{Wire}
 use Rattle.pair.proofs.Finite.{T-is}
-use Rattle.pair.proofs.ControlMachine.{held, Ent, control}
+use Rattle.pair.proofs.ControlMachine.{held, Ent, ent, control}
 use Rattle.pair.proofs.NumberedMachine.{numbered}
 use Rattle.pair.proofs.NumberedSimulate.{n-followed}
 use Rattle.pair.proofs.NumberedAgree.{With, with-number}
@@ -62,33 +64,35 @@ reply-yes x t = go (eqb x accepted) t
     go true u = tt
     go false u = absurd u
 
-send-kind : (k : Primitive) (a : UserData) (b : Body) (f : Ent) → sendOf k a b ≡ known f → k ≡ f .kind
-send-kind k Absent b f e = never f e
-send-kind k NotValid b f e = never f e
-send-kind k (Start m) b f e = never f e
-send-kind k Send b f e = ap (λ (x : Meaning). entOf x .kind) e
-send-kind k (AbortUser x) b f e = never f e
-send-kind k (AbortProvider x) b f e = never f e
-send-kind k Forward b f e = never f e
-send-kind k (ForwardResponse x) b f e = never f e
+send-kind : (t u : Bool) (k : Primitive) (a : UserData) (b : Body) (f : Ent) → sendOf t u k a b ≡ known f → k ≡ f .kind
+send-kind t u k Absent b f e = ap (λ (x : Meaning). entOf x .kind) (known-if t (known (ent k b)) f e .1)
+send-kind t u k NotValid b f e = never f e
+send-kind t u k (Start m) b f e = never f e
+send-kind t u k Send b f e = ap (λ (x : Meaning). entOf x .kind) (known-if u (known (ent k b)) f e .1)
+send-kind t u k (AbortUser x) b f e = never f e
+send-kind t u k (AbortProvider x) b f e = never f e
+send-kind t u k Forward b f e = never f e
+send-kind t u k (ForwardResponse x) b f e = never f e
 
-means-yes : (p : ℕ) (i : Invoked) (x : Read) (f : Ent) → meaning p i x ≡ known f → T (agreesTo i) → T (saysYes (f .kind))
-means-yes p Silent x f e t = absurd t
-means-yes p (DStartRequest q s) x f e t = absurd t
-means-yes p (DStartResponse y s) x f e t = absurd t
-means-yes p DDataRequest x f e t = absurd t
-means-yes p DEndRequest x f e t = absurd t
-means-yes p (DEndResponse y) fault f e t = never f e
-means-yes p (DEndResponse y) (got a b) f e t = subst (λ (k : Primitive). T (saysYes k)) (send-kind (DEndCnf (replyOf y)) a b f (known-if (ltb y results) (sendOf (DEndCnf (replyOf y)) a b) f e .1)) (reply-yes y t)
-means-yes p (DAbortRequest o) x f e t = absurd t
-means-yes p (DStartForwardRequest q s v) x f e t = absurd t
-means-yes p (DStartForwardResponse s v) x f e t = absurd t
+means-yes : (ed : Edition) (p : ℕ) (i : Invoked) (x : Read) (f : Ent) → meaning ed p i x ≡ known f → T (agreesTo i) → T (saysYes (f .kind))
+means-yes ed p Silent x f e t = absurd t
+means-yes ed p (DStartRequest q s) x f e t = absurd t
+means-yes ed p (DStartResponse y s) x f e t = absurd t
+means-yes ed p DDataRequest x f e t = absurd t
+means-yes ed p DEndRequest x f e t = absurd t
+means-yes ed p (DEndResponse y) fault f e t = never f e
+means-yes ed p (DEndResponse y) (got a b) f e t =
+    subst (λ (k : Primitive). T (saysYes k)) (send-kind (spares ed) true (DEndCnf (replyOf y)) a b f (known-if (ltb y results) (sendOf (spares ed) true (DEndCnf (replyOf y)) a b) f e .1)) (reply-yes y t)
+means-yes ed p (DAbortRequest o) x f e t = absurd t
+means-yes ed p (DStartForwardRequest q s v) x f e t = absurd t
+means-yes ed p (DStartForwardResponse s v) x f e t = absurd t
 
 -- ---- so it holds of the cards
 
-module _ (p : ℕ) (host : Side → ℕ → Buffers) (from : Side) (r q : List ℕ) (a : Begins p Air r) (g : Begins p Ground q) (b : notBelow from (a .number) (g .number)) where
+-- ed: the edition of both ends; one without security values sends none, so its ends' value is that one (fair)
+module _ (p : ℕ) (ed : Edition) (host : Side → ℕ → Buffers) (fair : securitySent (secures ed) p ≡ p) (from : Side) (r q : List ℕ) (a : Begins p ed Air r) (g : Begins p ed Ground q) (b : notBelow from (a .number) (g .number)) where
   valued : T (ltb p securityValues)
-  valued = T-is (ltb p securityValues) (lt-ltb p securityValues (begins-valid p Air r a))
+  valued = T-is (ltb p securityValues) (lt-ltb p securityValues (begins-valid p ed Air r a))
 
   abbrev Reached : List (Turn Asked) → NSys (cardMachine p host)
   Reached ts = nRun (cardMachine p host) from (nFresh (cardMachine p host) (newly r) (newly q)) ts
@@ -104,26 +108,26 @@ module _ (p : ℕ) (host : Side → ℕ → Buffers) (from : Side) (r q : List �
       let y : Numbered Record = mark (g .number) (g .held) in
       let u = mark (a .number) (held closed (a .held .highest)) in
       let v = mark (g .number) (held closed (g .held .highest)) in
-      let K = stepNumbered cardCodec p in
-      let N = numbered (stepMachine cardCodec p) in
-      let same = same-step cardCodec p in
-      let low = with-number (stepMachine cardCodec p) control (agrees cardCodec p valued) in
-      let f = n-followed (cardMachine p host) K (card-agrees p host) from (newly r) (newly q) x y (begins-keeps p Air r a) (begins-keeps p Ground q g) ts in
+      let K = stepNumbered (cardCodec ed) p in
+      let N = numbered (stepMachine (cardCodec ed) p) in
+      let same = same-step (cardCodec ed) ed p in
+      let low = with-number (stepMachine (cardCodec ed) p) control (agrees (cardCodec ed) ed p fair valued) in
+      let f = n-followed (cardMachine p host) K (card-agrees p ed host) from (newly r) (newly q) x y (begins-keeps p ed Air r a) (begins-keeps p ed Ground q g) ts in
       let h = n-followed K N same from x y x y refl refl (f .turns) in
-      let i = n-followed N (numbered control) low from x y u v (refl, idle-same cardCodec p valued (a .held) (begins-local p Air r a) (begins-idle p Air r a)) (refl, idle-same cardCodec p valued (g .held) (begins-local p Ground q g) (begins-idle p Ground q g)) (h .turns) in
+      let i = n-followed N (numbered control) low from x y u v (refl, idle-same (cardCodec ed) ed p fair valued (a .held) (begins-local p ed Air r a) (begins-idle p ed Air r a)) (refl, idle-same (cardCodec ed) ed p fair valued (g .held) (begins-local p ed Ground q g) (begins-idle p ed Ground q g)) (h .turns) in
       let s1 = nRun K from (nFresh K x y) (f .turns) in
       let s2 = nRun N from (nFresh N x y) (h .turns) in
       let s3 = nRun (numbered control) from (nFresh (numbered control) u v) (i .turns) in
       record {
         wholes =
-            both-whole-too (cardMachine p host) K (card-agrees p host) cardAccepts cardAccepts
-            (λ (sd : Side) (e w : Numbered Wire) (z : Carries sd e w). subst (λ (j : Invoked). T (agreesTo j)) (z .primitive)) (Reached ts) s1 (f .rel)
+            both-whole-too (cardMachine p host) K (card-agrees p ed host) cardAccepts cardAccepts
+            (λ (sd : Side) (e w : Numbered Wire) (z : Carries ed sd e w). subst (λ (j : Invoked). T (agreesTo j)) (z .primitive)) (Reached ts) s1 (f .rel)
             (both-whole-too K N same cardAccepts cardAccepts (λ (sd : Side) (e w : Numbered Wire) (z : e ≡ w). subst (λ (j : Numbered Wire). T (cardAccepts j)) z) s1 s2 (h .rel)
             (both-whole-too N (numbered control) low cardAccepts answersYes
-            (λ (sd : Side) (e : Numbered Wire) (w : Numbered Ent) (z : With (Means cardCodec p sd) e w). means-yes p (e .it .primitive) (cardCodec .dec sd (e .it .bytes)) (w .it) (z .1)) s2 s3 (i .rel)
+            (λ (sd : Side) (e : Numbered Wire) (w : Numbered Ent) (z : With (Means (cardCodec ed) ed p sd) e w). means-yes ed p (e .it .primitive) (cardCodec ed .dec sd (e .it .bytes)) (w .it) (z .1)) s2 s3 (i .rel)
             (control-whole from u v refl refl b (i .turns))));
         hands =
-            both-hands-too (cardMachine p host) K (card-agrees p host) (Reached ts) s1 (f .rel)
+            both-hands-too (cardMachine p host) K (card-agrees p ed host) (Reached ts) s1 (f .rel)
             (both-hands-too K N same s1 s2 (h .rel) (both-hands-too N (numbered control) low s2 s3 (i .rel) (control-hands Air s3, control-hands Ground (nSwap (numbered control) s3))));
       }
 

@@ -1,12 +1,15 @@
 // The fields of an APDU, and what its reader answers.
 use crate::forwards::walk_forward;
+use crate::messages::walk_message;
 use crate::rows::accepted;
 use crate::rows::refused;
 use crate::rows::row;
 use apdu::Apdu;
 use apdu::Data;
 use apdu::Decoded;
+use editions::Edition;
 use fields::Field;
+use kinds::Direction;
 use pdus::PduType;
 
 // The end of lent bytes: all of them.
@@ -110,7 +113,7 @@ fn walk_check(s: &[u8], extended: bool, at: usize) {
 }
 
 // What follows the identifier.
-fn walk_message(s: &[u8], extended: bool, there: bool, at: usize) {
+fn walk_opaque(s: &[u8], extended: bool, there: bool, at: usize) {
     if there {
         let message = walk_string(
             s,
@@ -143,7 +146,7 @@ fn walk_data(s: &[u8], at: usize) {
     };
     let messaged = v % 2 == 1;
     if v < 2 {
-        walk_message(s, extended, messaged, q);
+        walk_opaque(s, extended, messaged, q);
         return;
     }
     let identifier = walk_string(
@@ -158,11 +161,46 @@ fn walk_data(s: &[u8], at: usize) {
     let Field::Value(_, r) = identifier else {
         return;
     };
-    walk_message(s, extended, messaged, r);
+    walk_opaque(s, extended, messaged, r);
+}
+
+// AircraftPDUs hold downlink messages, GroundPDUs uplink messages.
+fn sent_by(pdus: PduType) -> Direction {
+    match pdus {
+        PduType::AircraftPdus => Direction::Downlink,
+        PduType::GroundPdus => Direction::Uplink,
+    }
+}
+
+// What a send holds: message data, or in type 2 a message in place.
+fn walk_send(s: &[u8], edition: Edition, pdus: PduType, at: usize) {
+    match edition {
+        Edition::Protected => walk_data(s, at),
+        Edition::Plain => walk_message(sent_by(pdus), s, ALL, at),
+    }
+}
+
+// A message in place, or none.
+fn walk_perhaps(s: &[u8], pdus: PduType, at: usize) {
+    let choice = row(b"message or none", at, fields::bit_field(s, ALL, at, 1));
+    let Field::Value(v, p) = choice else {
+        return;
+    };
+    if 0 < v {
+        walk_message(sent_by(pdus), s, ALL, p);
+    }
+}
+
+// What a start holds behind its mode.
+fn walk_started(s: &[u8], edition: Edition, pdus: PduType, at: usize) {
+    match edition {
+        Edition::Protected => walk_data(s, at),
+        Edition::Plain => walk_perhaps(s, pdus, at),
+    }
 }
 
 // A startdown has a mode, or leaves it out.
-fn walk_start_down(s: &[u8], at: usize) {
+fn walk_start_down(s: &[u8], edition: Edition, at: usize) {
     let presence = row(
         b"presence of the mode",
         at,
@@ -172,7 +210,7 @@ fn walk_start_down(s: &[u8], at: usize) {
         return;
     };
     if v == 0 {
-        walk_data(s, p);
+        walk_started(s, edition, PduType::AircraftPdus, p);
         return;
     }
     let mode = row(b"mode", p, fields::whole(s, ALL, p, 0, Apdu::MODE_LAST));
@@ -180,14 +218,14 @@ fn walk_start_down(s: &[u8], at: usize) {
         return;
     };
     if 0 < m {
-        walk_data(s, q);
+        walk_started(s, edition, PduType::AircraftPdus, q);
     }
 }
 
-fn walk_start(s: &[u8], pdus: PduType, at: usize) {
+fn walk_start(s: &[u8], edition: Edition, pdus: PduType, at: usize) {
     match pdus {
-        PduType::AircraftPdus => walk_start_down(s, at),
-        PduType::GroundPdus => walk_data(s, at),
+        PduType::AircraftPdus => walk_start_down(s, edition, at),
+        PduType::GroundPdus => walk_started(s, edition, PduType::GroundPdus, at),
     }
 }
 
@@ -198,34 +236,42 @@ fn last_of(pdus: PduType) -> u64 {
     }
 }
 
-fn walk(s: &[u8], pdus: PduType) {
+// The last reason of a user abort.
+fn user_last(edition: Edition) -> u64 {
+    match edition {
+        Edition::Plain => 6,
+        Edition::Protected => Apdu::USER_LAST,
+    }
+}
+
+fn walk(s: &[u8], edition: Edition, pdus: PduType) {
     let index = walk_index(s, 0, b"alternative", last_of(pdus));
     let Field::Value(i, p) = index else {
         return;
     };
     if i == 0 {
-        walk_index(s, p, b"reason of the user", Apdu::USER_LAST);
+        walk_index(s, p, b"reason of the user", user_last(edition));
     }
     if i == 1 {
         walk_index(s, p, b"reason of the provider", Apdu::PROVIDER_LAST);
     }
     if i == 2 {
-        walk_start(s, pdus, p);
+        walk_start(s, edition, pdus, p);
     }
     if i == 3 {
-        walk_data(s, p);
+        walk_send(s, edition, pdus, p);
     }
     if i == 4 {
-        walk_forward(s, p);
+        walk_forward(s, edition, p);
     }
     if i == 5 {
         walk_index(s, p, b"result of the forward", Apdu::RESPONSE_LAST);
     }
 }
 
-pub(crate) fn explain_apdu(s: &[u8], pdus: PduType) {
-    walk(s, pdus);
-    let answer = apdu::read_apdu(s, pdus);
+pub(crate) fn explain_apdu(s: &[u8], edition: Edition, pdus: PduType) {
+    walk(s, edition, pdus);
+    let answer = codec::read_apdu(edition, s, pdus);
     match answer {
         Decoded::Is(_) => accepted(),
         Decoded::Refused(r) => refused(r, s),

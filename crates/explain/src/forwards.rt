@@ -1,9 +1,12 @@
 // The fields of a forward message, and of the response to one.
+use crate::messages::walk_body;
 use crate::rows::row;
 use apdu::Data;
 use apdu::Heading;
 use apdu::Triple;
+use editions::Edition;
 use fields::Field;
+use kinds::Direction;
 
 // The end of lent bytes: all of them.
 const ALL: usize = 18446744073709551615;
@@ -101,15 +104,12 @@ fn walk_heading(s: &[u8], at: usize) -> Field {
     walk_address(s, r)
 }
 
-pub(crate) fn walk_forward(s: &[u8], at: usize) {
-    let heading = walk_heading(s, at);
-    let Field::Value(_, p) = heading else {
-        return;
-    };
+// The bits that are forwarded, with their length.
+fn walk_forwarded(s: &[u8], at: usize) {
     let length = row(
         b"length of the message",
-        p,
-        fields::length_within(s, ALL, p, 0, Data::MESSAGE_MOST as u64),
+        at,
+        fields::length_within(s, ALL, at, 0, Data::MESSAGE_MOST as u64),
     );
     let Field::Value(n, q) = length else {
         return;
@@ -119,4 +119,23 @@ pub(crate) fn walk_forward(s: &[u8], at: usize) {
         q,
         fields::contents(s, ALL, q, Data::BIT, n as usize),
     );
+}
+
+// What the bits of a direction's number are.
+fn direction_of(z: u64) -> Direction {
+    if z == 0 {
+        return Direction::Uplink;
+    }
+    Direction::Downlink
+}
+
+pub(crate) fn walk_forward(s: &[u8], edition: Edition, at: usize) {
+    let heading = walk_heading(s, at);
+    let Field::Value(z, p) = heading else {
+        return;
+    };
+    match edition {
+        Edition::Protected => walk_forwarded(s, p),
+        Edition::Plain => walk_body(direction_of(z), s, ALL, p),
+    }
 }

@@ -1,6 +1,7 @@
 // A line of standard input: the word that says what it is, and its bytes.
 use crate::alternatives::explain_apdu;
 use crate::messages::explain_message;
+use editions::Edition;
 use kinds::Direction;
 use pdus::PduType;
 
@@ -117,18 +118,18 @@ fn bytes(line: &[u8], from: usize, out: &mut [u8]) -> Taken {
 fn not_read() {
     io::write_all(
         1,
-        b"not read: a line is `air BYTES`, `ground BYTES`, `down COUNT BYTES` or `up COUNT BYTES`\n",
+        b"not read: a line is `air BYTES`, `ground BYTES`, `air2 BYTES`, `ground2 BYTES`, `down COUNT BYTES` or `up COUNT BYTES`\n",
     );
 }
 
-fn explain_pdu_line(line: &[u8], from: usize, pdus: PduType, out: &mut [u8]) {
+fn explain_pdu_line(line: &[u8], from: usize, edition: Edition, pdus: PduType, out: &mut [u8]) {
     let taken = bytes(line, from, out);
     let Taken::Bytes(n) = taken else {
         not_read();
         return;
     };
     if n <= out.len() {
-        explain_apdu(&out[..n], pdus);
+        explain_apdu(&out[..n], edition, pdus);
     }
 }
 
@@ -153,11 +154,19 @@ pub(crate) fn explain_line(line: &[u8], out: &mut [u8]) {
     io::write_all(1, line);
     io::write_all(1, b"\n");
     if begins(line, b"air ") {
-        explain_pdu_line(line, 4, PduType::AircraftPdus, out);
+        explain_pdu_line(line, 4, Edition::Protected, PduType::AircraftPdus, out);
         return;
     }
     if begins(line, b"ground ") {
-        explain_pdu_line(line, 7, PduType::GroundPdus, out);
+        explain_pdu_line(line, 7, Edition::Protected, PduType::GroundPdus, out);
+        return;
+    }
+    if begins(line, b"air2 ") {
+        explain_pdu_line(line, 5, Edition::Plain, PduType::AircraftPdus, out);
+        return;
+    }
+    if begins(line, b"ground2 ") {
+        explain_pdu_line(line, 8, Edition::Plain, PduType::GroundPdus, out);
         return;
     }
     if begins(line, b"down ") {

@@ -2,6 +2,8 @@
 //
 //     air BYTES         an APDU that an aircraft sent (AircraftPDUs)
 //     ground BYTES      an APDU that the ground sent (GroundPDUs)
+//     air2 BYTES        the same two of application type 2
+//     ground2 BYTES
 //     down COUNT BYTES  the first COUNT bits as a message that an aircraft sent
 //     up COUNT BYTES    the first COUNT bits as a message that the ground sent
 //

@@ -182,7 +182,7 @@ fn walk_elements(direction: Direction, s: &[u8], end: usize, at: usize, n: u64) 
 }
 
 // What follows the header.
-fn walk_body(direction: Direction, s: &[u8], end: usize, at: usize) {
+pub(crate) fn walk_body(direction: Direction, s: &[u8], end: usize, at: usize) {
     let presence = whole(s, end, at, b"presence of constrained data", 0, 1);
     let Field::Value(constrained, p) = presence else {
         return;
@@ -246,8 +246,9 @@ fn walk_dated(direction: Direction, s: &[u8], end: usize, acknowledged: bool, at
     walk_body(direction, s, end, p);
 }
 
-fn walk(direction: Direction, s: &[u8], end: usize) {
-    let presence = whole(s, end, 0, b"presence bits", 0, 3);
+// The message that begins at a place.
+pub(crate) fn walk_message(direction: Direction, s: &[u8], end: usize, at: usize) {
+    let presence = whole(s, end, at, b"presence bits", 0, 3);
     let Field::Value(v, p) = presence else {
         return;
     };
@@ -276,7 +277,7 @@ pub(crate) fn explain_message(s: &[u8], count: usize, direction: Direction) {
         io::write_all(1, b"not read: more bits than the bytes hold\n");
         return;
     }
-    walk(direction, s, count);
+    walk_message(direction, s, count, 0);
     let read = read_exactly(direction, s, count);
     let step = read.step;
     match step {

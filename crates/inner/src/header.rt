@@ -119,7 +119,8 @@ fn read_dated(
     )
 }
 
-fn read_header_by_fields(s: &[u8], end: usize, at: usize) -> HeaderRead
+// Field by field.
+pub fn read_header_by_fields(s: &[u8], end: usize, at: usize) -> HeaderRead
     ensures { λ r. ⌜ r ≡ headerAt (bitsTo (now (s .entry)) end) at ⌝ }
 {
     let presence = fields::whole(s, end, at, 0, 3);

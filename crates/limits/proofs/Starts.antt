@@ -128,15 +128,15 @@ module _ (r a b : List ℕ) (sd : Side) (x : Record) (n v : ℕ) (load : loadAt 
   unfolding storeAt
   stored-holds z k = record { rec = z; load = rw (eq-eqb (length r) recordBytes size, lt-ltb (z .request) securityValues (k .request), lt-ltb (z .policy) securityValues (k .policy), le-leb 1 (z .version) (k .least), lt-ltb (z .version) versions (k .most)) (loaded-stored sd z v k top) }
 
-  taken : (u : UserData) → userDataFits u ≡ true → (numberedStep sd x n (Service p u) v ≡ reached sd x p u) × (heldAfter n (Service p u) v ≡ v)
+  taken : (u : UserData) → userDataFits (x .edition) u ≡ true → (numberedStep sd x n (Service p u) v ≡ reached sd x p u) × (heldAfter n (Service p u) v ≡ v)
   unfolding eventFits serviceStarts
   taken u g = higher-start sd x n p u v (rw (fits, g)) refl above
 
-  concluded-holds : (o : Outcome) → Fine o → (li lm lc : List ℕ) (d : Carried) → Holds sd (concluded r a b sd v o li lm lc d .kept) v
+  concluded-holds : (o : Outcome) → Fine o → (li lm lc : List ℕ) (d : Carried) → Holds sd (concluded r a b (x .edition) sd v o li lm lc d .kept) v
   unfolding concluded finished
   concluded-holds o f li lm lc d = rw (f .0) (stored-holds (o .next) (f .1))
 
-  event-holds : (u : UserData) → userDataFits u ≡ true → (li lm lc : List ℕ) (d : Carried) → Holds sd (eventStep numberedStep r a b (Service p u) v li lm lc d sd x n .kept) v
+  event-holds : (u : UserData) → userDataFits (x .edition) u ≡ true → (li lm lc : List ℕ) (d : Carried) → Holds sd (eventStep numberedStep r a b (Service p u) v li lm lc d sd x n .kept) v
   event-holds u g li lm lc d =
       let t = taken u g in
       rw (t .0, t .1) (concluded-holds (reached sd x p u) (reached-fine sd x coded y s q w u) li lm lc d)
@@ -148,5 +148,5 @@ module _ (r a b : List ℕ) (sd : Side) (x : Record) (n v : ℕ) (load : loadAt 
       rw (le-ltb (length a) bufferLeast first, le-ltb (length b) bufferLeast second, load, le-ltb 1 given h) (go (eqb given 1))
     where
       go : (t : Bool) → Holds sd (cond t (dataStep numberedStep r a b p v (lent bytes) sd x n) (bareStep numberedStep r a b p v (lent bytes) sd x n) .kept) v
-      go true = event-holds (meaning (readPdu sd (x .control) p (lent bytes))) (read-fits sd (x .control) p bytes) (lent bytes) (lent bytes) (lent bytes) _
+      go true = event-holds (meaning (readPdu (x .edition) sd (x .control) p (lent bytes))) (read-fits (x .edition) sd (x .control) p bytes) (lent bytes) (lent bytes) (lent bytes) _
       go false = event-holds Absent refl (lent bytes) (lent bytes) (lent bytes) _

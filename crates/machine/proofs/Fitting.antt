@@ -12,11 +12,11 @@ use Rattle.machine.specs.declared.event.Event.{Event}
 use Rattle.machine.specs.declared.event.Event.the-variants.{TimerExpires}
 use Rattle.machine.specs.declared.outcome.StepRefusal.the-variants.{None, Shape, Prohibited}
 
-pub step-shape : (sd : Side) (r : Record) (e : Event) → eventFits sd e ≡ false → step sd r e ≡ refused Shape r
+pub step-shape : (sd : Side) (r : Record) (e : Event) → eventFits sd (r .edition) e ≡ false → step sd r e ≡ refused Shape r
 unfolding step refusalOf
 step-shape sd r e f = rw f
 
-pub step-of-fitting : (sd : Side) (r : Record) (e : Event) → eventFits sd e ≡ true → step sd r e ≡ stepFitting sd r e
+pub step-of-fitting : (sd : Side) (r : Record) (e : Event) → eventFits sd (r .edition) e ≡ true → step sd r e ≡ stepFitting sd r e
 unfolding step refusalOf stepFitting refusalFitting
 step-of-fitting sd r e f = rw f
 

@@ -2,7 +2,8 @@
 use Prim.Native.Nat.{ℕ}
 use mathlib.Core.Bool.{Bool, true, false, not, cond, _&&_}
 use lib.Dec.{eqb, leb}
-use Rattle.machine.specs.Codes.{secured, spared, noSecurity, accepted, user, undefined, highPriority, lowErrorRate}
+use Rattle.machine.specs.Codes.{noSecurity, accepted, user, undefined, highPriority, lowErrorRate}
+use Rattle.editions.specs.Editions.{secures, spares}
 use Rattle.control.specs.Control.{goes}
 use Rattle.machine.specs.Event.{isDsc}
 use Rattle.machine.specs.Record.{withTimer, withUser, withJob, withRequest, enter}
@@ -44,7 +45,7 @@ securitySent compared s = cond compared s noSecurity
 -- t-start is started and the user becomes active (2.3.5.3.1 Note 2 a, c; 3.5.5.1.6 a)
 unfoldable pub startRequest : Record → Bool → ℕ → ℕ → Outcome
 startRequest r m k s =
-    sent (withRequest (withUser (withTimer r true) true) (securitySent secured s)) (StartRequest m) (DStartRequest (qosAsked k) (securitySent secured s)) (Start m)
+    sent (withRequest (withUser (withTimer r true) true) (securitySent (secures (r .edition)) s)) (StartRequest m) (DStartRequest (qosAsked k) (securitySent (secures (r .edition)) s)) (Start m)
 
 -- the user data of a response or an end: a send; none where it may be left out and there is no message (h: there is one)
 abbrev pub unlessSpared : Bool → Bool → UserData
@@ -53,7 +54,7 @@ unlessSpared may h = cond (may && not h) Absent Send
 -- CPDLC-start response: 2.3.5.3.8 (air), 2.3.5.5.8 (ground); DSC-start response: 2.3.5.5.9 (ground).
 -- The security value received in the indication is the one that local policy accepts
 unfoldable pub startResponse : Record → Bool → ℕ → Bool → Outcome
-startResponse r m x h = sent r (StartResponse m (replyOf x)) (DStartResponse x (securitySent secured (r .policy))) (unlessSpared spared h)
+startResponse r m x h = sent r (StartResponse m (replyOf x)) (DStartResponse x (securitySent (secures (r .edition)) (r .policy))) (unlessSpared (spares (r .edition)) h)
 
 -- CPDLC-message request: 3.5.3.10 (air), 2.3.5.5.10 (ground)
 unfoldable pub messageRequest : Record → ℕ → Outcome
@@ -61,11 +62,11 @@ messageRequest r j = sent (withJob r j) MessageRequest DDataRequest Send
 
 -- CPDLC-end request: 2.3.5.5.11 (ground); DSC-end request: 3.5.3.12 (air)
 unfoldable pub endRequest : Record → Bool → Bool → Outcome
-endRequest r m h = sent r (EndRequest m) DEndRequest (unlessSpared spared h)
+endRequest r m h = sent r (EndRequest m) DEndRequest (unlessSpared (spares (r .edition)) h)
 
 -- CPDLC-end response: 3.5.3.11 (air); DSC-end response: 2.3.5.5.12 (ground)
 unfoldable pub endResponse : Record → Bool → ℕ → Bool → Outcome
-endResponse r m x h = sent r (EndResponse m (replyOf x)) (DEndResponse x) (unlessSpared spared h)
+endResponse r m x h = sent r (EndResponse m (replyOf x)) (DEndResponse x) (unlessSpared (spares (r .edition)) h)
 
 -- no reason given means undefined
 abbrev pub reasonSent : Bool → ℕ → ℕ

@@ -1,6 +1,5 @@
 -- The numbers that stand for the abstract values of parameters and results.
 use Prim.Native.Nat.{ℕ}
-use mathlib.Core.Bool.{Bool, true, false}
 
 -- Mode of a start request: cpdlc, dsc (document 02, E7; Doc 9705 2.3.4)
 abbrev pub dscMode : ℕ
@@ -72,17 +71,7 @@ lowErrorRate = 1
 abbrev pub routingClasses : ℕ
 routingClasses = 9
 
--- whether security values are compared (2.3.5.6.8), and whether user data may be left out where there is no message: of a response, and of an end
-abbrev pub secured : Bool
-secured = true
-
-abbrev pub spared : Bool
-spared = false
-
--- CPDLCUserAbortReason and CPDLCProviderAbortReason (2.3.4)
-abbrev pub userReasons : ℕ
-userReasons = 13
-
+-- CPDLCUserAbortReason and CPDLCProviderAbortReason (2.3.4); how many values the first has is the edition's
 abbrev pub undefined : ℕ
 undefined = 0
 

@@ -2,7 +2,9 @@
 use Prim.Native.Nat.{ℕ}
 use mathlib.Core.Bool.{Bool, true, false, not, _&&_}
 use lib.Dec.{ltb, eqb}
-use Rattle.machine.specs.Codes.{dscMode, modes, securityValues, results, startResults, rejectSources, originators, peers, highPriority, lowErrorRate, routingClasses, userReasons, versions, accepted, spared}
+use Rattle.machine.specs.Codes.{dscMode, modes, securityValues, results, startResults, rejectSources, originators, peers, highPriority, lowErrorRate, routingClasses, versions, accepted}
+use Rattle.editions.specs.Editions.{spares, userReasons}
+use Rattle.editions.specs.declared.Edition.{Edition}
 use Rattle.machine.specs.UserData.{userDataFits}
 use Rattle.control.specs.Control.{mayStart}
 use Rattle.control.specs.declared.Side.{Side}
@@ -25,18 +27,19 @@ isDsc m = eqb m dscMode
 unfoldable pub hasMode : Side → ℕ → Bool
 hasMode sd m = ltb m modes && mayStart sd (isDsc m)
 
--- the result of a start response (h: there is a message); where user data may be left out, a start that is accepted has no message
+-- the result of a start response (h: there is a message); where user data may be left out, a start that is accepted has no message (004, S-4.4, S-5.4: "the
+-- reason for .. rejection")
 abbrev pub answerFits : Bool → ℕ → Bool → Bool
 answerFits may x h = not (may && (eqb x accepted && h)) && ltb x results
 
 -- document 01, SHAPE: "an argument breaks the sizes above, its type or its codes"; a job is 1 or more ("Sizes")
-unfoldable pub userFits : Side → UserPrimitive → Bool
-userFits sd (StartServiceRequest m k s) = hasMode sd m && (ltb k routingClasses && ltb s securityValues)
-userFits sd (StartServiceResponse m x h) = answerFits spared x h
-userFits sd (MessageServiceRequest h j) = ltb 0 j
-userFits sd (EndServiceRequest m h) = true
-userFits sd (EndServiceResponse m x h) = ltb x results
-userFits sd (UserAbortServiceRequest g x) = ltb x userReasons
+unfoldable pub userFits : Side → Edition → UserPrimitive → Bool
+userFits sd ed (StartServiceRequest m k s) = hasMode sd m && (ltb k routingClasses && ltb s securityValues)
+userFits sd ed (StartServiceResponse m x h) = answerFits (spares ed) x h
+userFits sd ed (MessageServiceRequest h j) = ltb 0 j
+userFits sd ed (EndServiceRequest m h) = true
+userFits sd ed (EndServiceResponse m x h) = ltb x results
+userFits sd ed (UserAbortServiceRequest g x) = ltb x (userReasons ed)
 
 -- a received Quality of Service is not looked at ("received QOS values excepted")
 unfoldable pub serviceFits : ServicePrimitive → Bool
@@ -48,9 +51,9 @@ serviceFits (DEndConfirmation x) = ltb x results
 serviceFits (DAbortIndication o) = ltb o originators
 serviceFits DPAbortIndication = true
 
-unfoldable pub eventFits : Side → Event → Bool
-eventFits sd (User u) = userFits sd u
-eventFits sd (Forward k s) = ltb k routingClasses && ltb s securityValues
-eventFits sd (Service p a) = serviceFits p && userDataFits a
-eventFits sd TimerExpires = true
-eventFits sd UnrecoverableSystemError = true
+unfoldable pub eventFits : Side → Edition → Event → Bool
+eventFits sd ed (User u) = userFits sd ed u
+eventFits sd ed (Forward k s) = ltb k routingClasses && ltb s securityValues
+eventFits sd ed (Service p a) = serviceFits p && userDataFits ed a
+eventFits sd ed TimerExpires = true
+eventFits sd ed UnrecoverableSystemError = true

@@ -3,7 +3,8 @@
 use Prim.Native.Nat.{ℕ}
 use mathlib.Core.Bool.{Bool, true, false, not, cond, _&&_, _||_}
 use lib.Dec.{eqb}
-use Rattle.machine.specs.Codes.{secured, spared, accepted, transient, dsProvider, facility, aircraft}
+use Rattle.machine.specs.Codes.{accepted, transient, dsProvider, facility, aircraft}
+use Rattle.editions.specs.Editions.{secures, spares}
 use Rattle.control.specs.Control.{isIdle, awaitsResponse, expects}
 use Rattle.machine.specs.UserData.{modeOf, isMissing, isInvalid, isStartPdu, isSend, isForward, isResponse, abortFits}
 use Rattle.machine.specs.Event.{qosFits}
@@ -66,17 +67,17 @@ unfoldable pub indicationFault : Side → Record → ℕ → ℕ → Qos → Use
 indicationFault sd r x s q a =
     cond (not (isIdle (r .control))) (NoInstruction true)
     (cond (not (qosFits q)) Quality
-    (cond (differs secured s (r .policy)) (Security true)
+    (cond (differs (secures (r .edition)) s (r .policy)) (Security true)
     (pduFault false (startFits sd r x a) true true a (cond (peerFits sd x) NoFault (NoInstruction true)))))
 
 -- In FORWARD the confirmation is "rejected (permanent)" with a forward response (2.3.5.5.3.3); with "accepted" no PDU is permitted
 unfoldable pub responseFault : Record → ℕ → ℕ → ℕ → UserData → Fault
 responseFault r x o s a =
     cond (turnedAway x o) TurnedAway
-    (cond (differs secured s (r .request)) (Security (eqb x accepted))
+    (cond (differs (secures (r .edition)) s (r .request)) (Security (eqb x accepted))
     (cond (eqb x accepted) (pduFault false false true true a NoFault) (pduFault false (isResponse a) false true a NoFault)))
 
--- the PDU of a confirmation is a send; where user data may be left out, a start that is accepted has none
+-- the PDU of a confirmation is a send; where user data may be left out, a start that is accepted has none (004, S-4.4, S-5.4)
 abbrev pub sendAllowed : Bool → Bool → UserData → Bool
 sendAllowed may live a = not (may && live) && isSend a
 
@@ -86,8 +87,8 @@ unfoldable pub confirmationFault : Side → Record → ℕ → ℕ → ℕ → U
 confirmationFault sd r x o s a =
     cond (not (expects sd (r .control) (DStartCnf (replyOf x)))) (cond (awaitsResponse (r .control)) (responseFault r x o s a) (NoInstruction true))
     (cond (turnedAway x o) TurnedAway
-    (cond (differs secured s (r .request)) (Security (eqb x accepted))
-    (pduFault spared (sendAllowed spared (eqb x accepted) a) (eqb x accepted) true a NoFault)))
+    (cond (differs (secures (r .edition)) s (r .request)) (Security (eqb x accepted))
+    (pduFault (spares (r .edition)) (sendAllowed (spares (r .edition)) (eqb x accepted) a) (eqb x accepted) true a NoFault)))
 
 -- ---- all of them; after a D-END confirmation "accepted" the peer is gone (3.5.4.3.2, 3.5.4.4.2, 2.3.5.6.3.2, 2.3.5.6.4.3)
 
@@ -95,7 +96,7 @@ unfoldable pub firstFault : Side → Record → ServicePrimitive → UserData �
 firstFault sd r (DStartIndication x s q v) a = indicationFault sd r x s q a
 firstFault sd r (DStartConfirmation x o s v) a = confirmationFault sd r x o s a
 firstFault sd r DDataIndication a = sendFault sd r DData false true a
-firstFault sd r DEndIndication a = sendFault sd r DEnd spared true a
-firstFault sd r (DEndConfirmation x) a = sendFault sd r (DEndCnf (replyOf x)) spared (not (eqb x accepted)) a
+firstFault sd r DEndIndication a = sendFault sd r DEnd (spares (r .edition)) true a
+firstFault sd r (DEndConfirmation x) a = sendFault sd r (DEndCnf (replyOf x)) (spares (r .edition)) (not (eqb x accepted)) a
 firstFault sd r (DAbortIndication o) a = abortFault sd r DAbort (abortFits o a)
 firstFault sd r DPAbortIndication a = abortFault sd r DPAbort true

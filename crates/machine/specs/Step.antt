@@ -33,7 +33,7 @@ messageRefusal r UnrecoverableSystemError = None
 
 -- the order of refusals: SHAPE, PROHIBITED, then NO-MESSAGE and REPEAT of a message request
 unfoldable pub refusalOf : Side → Record → Event → StepRefusal
-refusalOf sd r e = cond (not (eventFits sd e)) Shape (cond (not (permitted sd r e)) Prohibited (messageRefusal r e))
+refusalOf sd r e = cond (not (eventFits sd (r .edition) e)) Shape (cond (not (permitted sd r e)) Prohibited (messageRefusal r e))
 
 -- the same of an event whose codes are of their types
 unfoldable pub refusalFitting : Side → Record → Event → StepRefusal

@@ -3,7 +3,9 @@
 use Prim.Native.Nat.{ℕ}
 use mathlib.Core.Bool.{Bool, true, false, cond}
 use lib.Dec.{ltb, eqb}
-use Rattle.machine.specs.Codes.{user, provider, userReasons, providerReasons, forwardResults}
+use Rattle.editions.specs.Editions.{userReasons}
+use Rattle.editions.specs.declared.Edition.{Edition}
+use Rattle.machine.specs.Codes.{user, provider, providerReasons, forwardResults}
 use Rattle.machine.specs.declared.event.UserData.{UserData}
 use Rattle.machine.specs.declared.event.UserData.the-variants.{Absent, NotValid, Start, Send, AbortUser, AbortProvider, Forward, ForwardResponse}
 
@@ -73,8 +75,8 @@ isResponse a = eqb (kindOf a) 7
 -- ---- what is asked of several kinds
 
 -- an APDU as a decoder gives it: its reason or result is a value of the ENUMERATED (Doc 9705 2.3.4)
-unfoldable pub userDataFits : UserData → Bool
-userDataFits a = cond (isUserAbort a) (ltb (reasonOf a) userReasons) (cond (isProviderAbort a) (ltb (reasonOf a) providerReasons) (cond (isResponse a) (ltb (reasonOf a) forwardResults) true))
+unfoldable pub userDataFits : Edition → UserData → Bool
+userDataFits ed a = cond (isUserAbort a) (ltb (reasonOf a) (userReasons ed)) (cond (isProviderAbort a) (ltb (reasonOf a) providerReasons) (cond (isResponse a) (ltb (reasonOf a) forwardResults) true))
 
 -- does the APDU fit the originator of a D-ABORT (3.5.3.14, 2.3.5.5.15)
 abbrev pub abortFits : ℕ → UserData → Bool

@@ -13,7 +13,9 @@ use crate::record::Record;
 use control::Call;
 use control::Reply;
 use control::goes;
+use editions::Edition;
 ghost use mathlib.Core.Path.{_≡_};
+ghost use Rattle.editions.specs.Editions.{secures, spares};
 ghost use Rattle.machine.specs.Calls.{replyOf, sent, securitySent, unlessSpared, startRequest, startResponse, messageRequest, endRequest, endResponse, reasonSent, userAbort, callOf, unsent, called};
 
 // Result; the other value is "rejected", in a D-START "rejected (permanent)".
@@ -42,10 +44,10 @@ fn sent(r: Record, call: Call, invoked: Invoked, apdu: UserData) -> Outcome
 }
 
 // The security value that a D-START carries: none where they are not compared.
-pub(crate) fn security_sent(compared: bool, security: u64) -> u64
-    ensures { λ s. ⌜ s ≡ securitySent compared security ⌝ }
+pub(crate) fn security_sent(edition: Edition, security: u64) -> u64
+    ensures { λ s. ⌜ s ≡ securitySent (secures edition) security ⌝ }
 {
-    if compared {
+    if edition.secures() {
         return security;
     }
     Record::NO_SECURITY
@@ -54,7 +56,8 @@ pub(crate) fn security_sent(compared: bool, security: u64) -> u64
 fn start_request(r: Record, dsc: bool, class: u64, security: u64) -> Outcome
     ensures { λ o. ⌜ o ≡ startRequest r dsc class security ⌝ }
 {
-    let asked = security_sent(Record::SECURED, security);
+    let edition = r.edition;
+    let asked = security_sent(edition, security);
     let mut n = r;
     n.timer = true;
     n.active = true;
@@ -73,10 +76,10 @@ fn start_request(r: Record, dsc: bool, class: u64, security: u64) -> Outcome
 }
 
 // The user data of a response or an end: a send; none where it may be left out and there is no message.
-fn unless_spared(may: bool, holds: bool) -> UserData
-    ensures { λ a. ⌜ a ≡ unlessSpared may holds ⌝ }
+fn unless_spared(edition: Edition, holds: bool) -> UserData
+    ensures { λ a. ⌜ a ≡ unlessSpared (spares edition) holds ⌝ }
 {
-    if may {
+    if edition.spares() {
         if holds {
             return UserData::Send;
         }
@@ -89,12 +92,13 @@ fn start_response(r: Record, dsc: bool, result: u64, holds: bool) -> Outcome
     ensures { λ o. ⌜ o ≡ startResponse r dsc result holds ⌝ }
 {
     let a = reply_of(result);
-    let answered = security_sent(Record::SECURED, r.policy);
+    let edition = r.edition;
+    let answered = security_sent(edition, r.policy);
     sent(
         r,
         Call::StartResponse(dsc, a),
         Invoked::DStartResponse(result, answered),
-        unless_spared(Record::SPARED, holds),
+        unless_spared(edition, holds),
     )
 }
 
@@ -114,11 +118,12 @@ fn message_request(r: Record, job: u64) -> Outcome
 fn end_request(r: Record, dsc: bool, holds: bool) -> Outcome
     ensures { λ o. ⌜ o ≡ endRequest r dsc holds ⌝ }
 {
+    let edition = r.edition;
     sent(
         r,
         Call::EndRequest(dsc),
         Invoked::DEndRequest,
-        unless_spared(Record::SPARED, holds),
+        unless_spared(edition, holds),
     )
 }
 
@@ -126,11 +131,12 @@ fn end_response(r: Record, dsc: bool, result: u64, holds: bool) -> Outcome
     ensures { λ o. ⌜ o ≡ endResponse r dsc result holds ⌝ }
 {
     let a = reply_of(result);
+    let edition = r.edition;
     sent(
         r,
         Call::EndResponse(dsc, a),
         Invoked::DEndResponse(result),
-        unless_spared(Record::SPARED, holds),
+        unless_spared(edition, holds),
     )
 }
 

@@ -1,10 +1,11 @@
 // The events: user requests and responses, dialogue-service primitives with their parameters and user data, timer expiry, system error.
 use crate::calls::ACCEPTED;
 use crate::record::Configuration;
-use crate::record::Record;
 use control::Side;
 use control::may_start;
+use editions::Edition;
 ghost use mathlib.Core.Path.{_≡_};
+ghost use Rattle.editions.specs.Editions.{spares};
 ghost use Rattle.machine.specs.UserData.{kindOf, modeOf, reasonOf, userDataFits};
 ghost use Rattle.machine.specs.Event.{isDsc, hasMode, qosFits, answerFits, userFits, serviceFits, eventFits};
 
@@ -90,8 +91,7 @@ impl UserData {
 
     pub const FORWARD_RESPONSE: u64 = 7;
 
-    // The values of the two types of reason.
-    pub(crate) const USER_REASONS: u64 = 13;
+    // The values of CPDLCProviderAbortReason.
 
     pub(crate) const PROVIDER_REASONS: u64 = 8;
     // The values of ATCForwardResponse.
@@ -146,12 +146,12 @@ impl UserData {
     }
 
     // Is its reason or its result of its type?
-    pub(crate) fn fits(self) -> bool
-        ensures { λ b. ⌜ b ≡ userDataFits self ⌝ }
+    pub(crate) fn fits(self, edition: Edition) -> bool
+        ensures { λ b. ⌜ b ≡ userDataFits edition self ⌝ }
     {
         let kind = self.kind();
         if kind == UserData::ABORT_USER {
-            return self.reason() < UserData::USER_REASONS;
+            return self.reason() < edition.user_reasons();
         }
         if kind == UserData::ABORT_PROVIDER {
             return self.reason() < UserData::PROVIDER_REASONS;
@@ -197,10 +197,10 @@ fn has_mode(side: Side, mode: u64) -> bool
 }
 
 // The result of a start response. Where user data may be left out, a start that is accepted has no message.
-fn answer_fits(may: bool, result: u64, holds: bool) -> bool
-    ensures { λ b. ⌜ b ≡ answerFits may result holds ⌝ }
+fn answer_fits(edition: Edition, result: u64, holds: bool) -> bool
+    ensures { λ b. ⌜ b ≡ answerFits (spares edition) result holds ⌝ }
 {
-    if may {
+    if edition.spares() {
         if result == ACCEPTED {
             return !holds;
         }
@@ -219,8 +219,8 @@ impl UserPrimitive {
 
     pub(crate) const RESULTS: u64 = 2;
 
-    pub fn fits(self, side: Side) -> bool
-        ensures { λ b. ⌜ b ≡ userFits side self ⌝ }
+    pub fn fits(self, side: Side, edition: Edition) -> bool
+        ensures { λ b. ⌜ b ≡ userFits side edition self ⌝ }
     {
         match self {
             UserPrimitive::StartServiceRequest(mode, class, security) => {
@@ -230,14 +230,14 @@ impl UserPrimitive {
                 class < Qos::ROUTING_CLASSES && security < Configuration::SECURITY_VALUES
             }
             UserPrimitive::StartServiceResponse(_, result, holds) => answer_fits(
-                Record::SPARED,
+                edition,
                 result,
                 holds,
             ),
             UserPrimitive::MessageServiceRequest(_, job) => 0 < job,
             UserPrimitive::EndServiceRequest(_, _) => true,
             UserPrimitive::EndServiceResponse(_, result, _) => result < UserPrimitive::RESULTS,
-            UserPrimitive::UserAbortServiceRequest(_, reason) => reason < UserData::USER_REASONS,
+            UserPrimitive::UserAbortServiceRequest(_, reason) => reason < edition.user_reasons(),
         }
     }
 }
@@ -271,7 +271,7 @@ impl ServicePrimitive {
 
     pub(crate) const VERSIONS: u64 = 256;
 
-    pub(crate) fn fits(self) -> bool
+    pub fn fits(self) -> bool
         ensures { λ b. ⌜ b ≡ serviceFits self ⌝ }
     {
         match self {
@@ -309,15 +309,15 @@ impl ServicePrimitive {
 
 impl Event {
     // Are its codes of their types? SHAPE is answered otherwise.
-    pub fn fits(self, side: Side) -> bool
-        ensures { λ b. ⌜ b ≡ eventFits side self ⌝ }
+    pub fn fits(self, side: Side, edition: Edition) -> bool
+        ensures { λ b. ⌜ b ≡ eventFits side edition self ⌝ }
     {
         match self {
-            Event::User(u) => u.fits(side),
+            Event::User(u) => u.fits(side, edition),
             Event::Forward(class, security) => {
                 class < Qos::ROUTING_CLASSES && security < Configuration::SECURITY_VALUES
             }
-            Event::Service(p, apdu) => p.fits() && apdu.fits(),
+            Event::Service(p, apdu) => p.fits() && apdu.fits(edition),
             Event::TimerExpires => true,
             Event::UnrecoverableSystemError => true,
         }

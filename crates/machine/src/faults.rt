@@ -11,7 +11,9 @@ use control::State;
 use control::awaits_response;
 use control::expects;
 use control::is;
+use editions::Edition;
 ghost use mathlib.Core.Path.{_≡_};
+ghost use Rattle.editions.specs.Editions.{secures};
 ghost use Rattle.machine.specs.UserData.{abortFits};
 ghost use Rattle.machine.specs.Faults.{pduFault, sendFault, differs, sendAllowed, abortFault, peerFits, fromCentre, startFits, turnedAway, indicationFault, responseFault, confirmationFault, firstFault};
 
@@ -64,10 +66,10 @@ fn send_fault(side: Side, r: Record, p: Primitive, may: bool, live: bool, apdu: 
 }
 
 // A security value that is not the one it is compared with, where they are compared.
-fn differs(compared: bool, security: u64, other: u64) -> bool
-    ensures { λ b. ⌜ b ≡ differs compared security other ⌝ }
+fn differs(edition: Edition, security: u64, other: u64) -> bool
+    ensures { λ b. ⌜ b ≡ differs (secures edition) security other ⌝ }
 {
-    compared && security != other
+    edition.secures() && security != other
 }
 
 // A D-ABORT or a D-P-ABORT, after which no dialogue exists.
@@ -137,13 +139,14 @@ fn indication_fault(
 {
     let c = r.control;
     let s = c.state;
+    let edition = r.edition;
     if !is(s, State::Idle) {
         return Fault::NoInstruction(true);
     }
     if !qos.fits() {
         return Fault::Quality;
     }
-    if differs(Record::SECURED, security, r.policy) {
+    if differs(edition, security, r.policy) {
         return Fault::Security(true);
     }
     let fits = start_fits(side, r, peer, apdu);
@@ -158,10 +161,11 @@ fn response_fault(r: Record, result: u64, source: u64, security: u64, apdu: User
     ensures { λ f. ⌜ f ≡ responseFault r result source security apdu ⌝ }
 {
     let open = result == ACCEPTED;
+    let edition = r.edition;
     if turned_away(result, source) {
         return Fault::TurnedAway;
     }
-    if differs(Record::SECURED, security, r.request) {
+    if differs(edition, security, r.request) {
         return Fault::Security(open);
     }
     if open {
@@ -197,6 +201,7 @@ fn confirmation_fault(
 {
     let c = r.control;
     let open = result == ACCEPTED;
+    let edition = r.edition;
     if !expects(side, c, Primitive::DStartCnf(reply_of(result))) {
         if awaits_response(c) {
             return response_fault(r, result, source, security, apdu);
@@ -206,11 +211,12 @@ fn confirmation_fault(
     if turned_away(result, source) {
         return Fault::TurnedAway;
     }
-    if differs(Record::SECURED, security, r.request) {
+    if differs(edition, security, r.request) {
         return Fault::Security(open);
     }
-    let send = send_allowed(Record::SPARED, open, apdu);
-    pdu_fault(Record::SPARED, send, open, true, apdu, Fault::NoFault)
+    let spared = edition.spares();
+    let send = send_allowed(spared, open, apdu);
+    pdu_fault(spared, send, open, true, apdu, Fault::NoFault)
 }
 
 // Does the APDU fit the originator?
@@ -230,6 +236,7 @@ fn abort_fits(originator: u64, apdu: UserData) -> bool
 pub(crate) fn first_fault(side: Side, r: Record, p: ServicePrimitive, apdu: UserData) -> Fault
     ensures { λ f. ⌜ f ≡ firstFault side r p apdu ⌝ }
 {
+    let edition = r.edition;
     match p {
         ServicePrimitive::DStartIndication(peer, security, qos, _) => indication_fault(
             side,
@@ -259,7 +266,7 @@ pub(crate) fn first_fault(side: Side, r: Record, p: ServicePrimitive, apdu: User
             side,
             r,
             Primitive::DEnd,
-            Record::SPARED,
+            edition.spares(),
             true,
             apdu,
         ),
@@ -267,7 +274,7 @@ pub(crate) fn first_fault(side: Side, r: Record, p: ServicePrimitive, apdu: User
             side,
             r,
             Primitive::DEndCnf(reply_of(result)),
-            Record::SPARED,
+            edition.spares(),
             result != ACCEPTED,
             apdu,
         ),

@@ -26,7 +26,8 @@ const NO_VERSION: u64 = 0;
 pub(crate) fn forward_request(r: Record, class: u64, security: u64) -> Outcome
     ensures { λ o. ⌜ o ≡ forwardRequest r class security ⌝ }
 {
-    let asked = security_sent(Record::SECURED, security);
+    let edition = r.edition;
+    let asked = security_sent(edition, security);
     let mut n = r;
     n.timer = true;
     n.active = true;
@@ -52,7 +53,8 @@ pub(crate) fn forward_request(r: Record, class: u64, security: u64) -> Outcome
 fn responds(r: Record, result: u64, security: u64, version: u64, t: Told) -> Outcome
     ensures { λ o. ⌜ o ≡ responds r result security version t ⌝ }
 {
-    let answered = security_sent(Record::SECURED, security);
+    let edition = r.edition;
+    let answered = security_sent(edition, security);
     let n = r.enter(Control::CLOSED);
     Outcome::taken(
         n,

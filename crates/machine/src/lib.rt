@@ -141,7 +141,8 @@ pub fn error_fitting(side: Side, r: Record) -> Outcome
 pub fn step(side: Side, r: Record, e: Event) -> Outcome
     ensures { λ o. ⌜ o ≡ step side r e ⌝ }
 {
-    if !e.fits(side) {
+    let edition = r.edition;
+    if !e.fits(side, edition) {
         return Outcome::refused(StepRefusal::Shape, r);
     }
     step_fitting(side, r, e)

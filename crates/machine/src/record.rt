@@ -2,6 +2,7 @@
 use control::Control;
 use control::State;
 use control::is;
+use editions::Edition;
 ghost use mathlib.Core.Path.{_≡_};
 ghost use Rattle.machine.specs.Record.{freshRecord, enter};
 
@@ -13,6 +14,8 @@ pub struct Configuration {
     pub forwards: bool,
     // The own version number, 1 to 255 (Doc 9705 2.3.3.8.5.1).
     pub version: u64,
+    // The edition, by its application type (document 02, E14).
+    pub edition: Edition,
 }
 
 pub struct Record {
@@ -25,10 +28,11 @@ pub struct Record {
     pub highest: u64,
     // The security value of the last start request.
     pub request: u64,
-    // As it was made with: the security value that local policy accepts, whether forwarding is supported, the own version.
+    // As it was made with: the security value that local policy accepts, whether forwarding is supported, the own version, the edition.
     pub policy: u64,
     pub forwards: bool,
     pub version: u64,
+    pub edition: Edition,
 }
 
 impl Configuration {
@@ -40,15 +44,12 @@ impl Configuration {
 
 impl Record {
     pub const NO_SECURITY: u64 = 0;
-    // Are security values compared?
-    pub(crate) const SECURED: bool = true;
-    // May user data be left out where there is no message?
-    pub(crate) const SPARED: bool = false;
 
     // IDLE, DSC false, timer stopped, user not active, highest job 0, request value "no security".
     pub fn fresh(g: Configuration) -> Record
         ensures { λ r. ⌜ r ≡ freshRecord g ⌝ }
     {
+        let edition = g.edition;
         Record {
             control: Control::CLOSED,
             timer: false,
@@ -58,6 +59,7 @@ impl Record {
             policy: g.policy,
             forwards: g.forwards,
             version: g.version,
+            edition,
         }
     }
 
@@ -66,6 +68,7 @@ impl Record {
         ensures { λ r. ⌜ r ≡ enter self c ⌝ }
     {
         let s = c.state;
+        let edition = self.edition;
         if is(s, State::Idle) {
             return Record {
                 control: c,
@@ -76,6 +79,7 @@ impl Record {
                 policy: self.policy,
                 forwards: self.forwards,
                 version: self.version,
+                edition,
             };
         }
         Record {
@@ -87,6 +91,7 @@ impl Record {
             policy: self.policy,
             forwards: self.forwards,
             version: self.version,
+            edition,
         }
     }
 }

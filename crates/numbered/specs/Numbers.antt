@@ -65,7 +65,7 @@ heldAfter n e v = cond (isStart e) v n
 -- the order of refusals: SHAPE, STALE, PROHIBITED, then NO-MESSAGE and REPEAT of a message request. (ROOM comes before them all: crate
 -- step, `entering`)
 unfoldable pub refusalOf : Side → Record → ℕ → Event → ℕ → StepRefusal
-refusalOf sd r n e v = cond (not (eventFits sd e)) Shape (cond (isStale n e v) Stale (cond (not (permitted sd r e)) Prohibited (messageRefusal r e)))
+refusalOf sd r n e v = cond (not (eventFits sd (r .edition) e)) Shape (cond (isStale n e v) Stale (cond (not (permitted sd r e)) Prohibited (messageRefusal r e)))
 
 unfoldable pub numberedStep : Side → Record → ℕ → Event → ℕ → Outcome
 numberedStep sd r n e v = cond (isNone (refusalOf sd r n e v)) (acts sd r e) (refused (refusalOf sd r n e v) r)

@@ -89,7 +89,8 @@ pub fn held_after(held: u64, e: Event, brought: u64) -> u64
 pub fn step(side: Side, r: Record, held: u64, e: Event, brought: u64) -> Outcome
     ensures { λ o. ⌜ o ≡ numberedStep side r held e brought ⌝ }
 {
-    if !e.fits(side) {
+    let edition = r.edition;
+    if !e.fits(side, edition) {
         return Outcome::refused(StepRefusal::Shape, r);
     }
     if is_stale(held, e, brought) {
@@ -102,7 +103,8 @@ pub fn step(side: Side, r: Record, held: u64, e: Event, brought: u64) -> Outcome
 pub fn user_step(side: Side, r: Record, held: u64, u: UserPrimitive, brought: u64) -> Outcome
     ensures { λ o. ⌜ o ≡ numberedStep side r held (Event.User u) brought ⌝ }
 {
-    if !u.fits(side) {
+    let edition = r.edition;
+    if !u.fits(side, edition) {
         return Outcome::refused(StepRefusal::Shape, r);
     }
     if is_stale(held, Event::User(u), brought) {
@@ -123,7 +125,8 @@ pub fn forward_step(
     ensures { λ o. ⌜ o ≡ numberedStep side r held (Event.Forward class security) brought ⌝ }
 {
     let e = Event::Forward(class, security);
-    if !e.fits(side) {
+    let edition = r.edition;
+    if !e.fits(side, edition) {
         return Outcome::refused(StepRefusal::Shape, r);
     }
     if is_stale(held, e, brought) {

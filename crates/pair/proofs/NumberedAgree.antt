@@ -6,6 +6,10 @@ use mathlib.Core.Bool.{Bool, true, false, not, cond, _&&_, _||_}
 use mathlib.Core.List.{List, [], _∷_}
 use Prim.Native.Nat.{ℕ}
 use lib.Dec.{T, eqb, ltb}
+use Rattle.editions.specs.Editions.{secures, spares, userReasons}
+use Rattle.editions.specs.declared.Edition.{Edition}
+use Rattle.editions.specs.declared.Edition.the-variants.{Plain, Protected}
+use Rattle.machine.specs.Calls.{securitySent}
 use Rattle.machine.specs.Codes.{securityValues}
 use Rattle.machine.specs.declared.record.Record.{Record}
 use Rattle.pair.specs.Names.{Side, Air, Ground, isIdle, closed, other}
@@ -119,6 +123,6 @@ pub machine-numbered : (m : Machine) (g : Agree m control) (from : Side) (n k i 
 machine-numbered m g from n k i j r q near far h ts = n-holds-through (numbered m) (numbered control) (with-number m control g) from (mark n r) (mark k q) (mark n (held closed i)) (mark k (held closed j)) (refl, near) (refl, far) (control-numbered from n k i j h) ts
 
 -- and for the machines of crate machine, from any two IDLE records of the pair
-module _ (K : Codec) (p : ℕ) (v : T (ltb p securityValues)) where
-  pub step-numbered : (from : Side) (n k : ℕ) (r q : Record) → Local p r → T (isIdle (r .control)) → Local p q → T (isIdle (q .control)) → notBelow from n k → (ts : List (Turn (Numbered Order))) → NClaims (numbered (stepMachine K p)) (r .highest) (q .highest) (nRun (numbered (stepMachine K p)) from (nFresh (numbered (stepMachine K p)) (mark n r) (mark k q)) ts)
-  step-numbered from n k r q h i x y b ts = machine-numbered (stepMachine K p) (agrees K p v) from n k (r .highest) (q .highest) r q (idle-same K p v r h i) (idle-same K p v q x y) b ts
+module _ (K : Codec) (ed : Edition) (p : ℕ) (fair : securitySent (secures ed) p ≡ p) (v : T (ltb p securityValues)) where
+  pub step-numbered : (from : Side) (n k : ℕ) (r q : Record) → Local ed p r → T (isIdle (r .control)) → Local ed p q → T (isIdle (q .control)) → notBelow from n k → (ts : List (Turn (Numbered Order))) → NClaims (numbered (stepMachine K p)) (r .highest) (q .highest) (nRun (numbered (stepMachine K p)) from (nFresh (numbered (stepMachine K p)) (mark n r) (mark k q)) ts)
+  step-numbered from n k r q h i x y b ts = machine-numbered (stepMachine K p) (agrees K ed p fair v) from n k (r .highest) (q .highest) r q (idle-same K ed p fair v r h i) (idle-same K ed p fair v q x y) b ts

@@ -5,6 +5,10 @@ use mathlib.Core.Bool.{Bool, true, false, not, cond, _&&_, _||_}
 use mathlib.Core.List.{List, [], _∷_}
 use Prim.Native.Nat.{ℕ}
 use lib.Dec.{T, eqb, ltb}
+use Rattle.editions.specs.Editions.{secures, spares, userReasons}
+use Rattle.editions.specs.declared.Edition.{Edition}
+use Rattle.editions.specs.declared.Edition.the-variants.{Plain, Protected}
+use Rattle.machine.specs.Calls.{securitySent}
 use Rattle.machine.specs.Codes.{securityValues}
 use Rattle.machine.specs.Calls.{sent, startRequest, startResponse, messageRequest, endRequest, endResponse, userAbort, called}
 use Rattle.machine.specs.Event.{eventFits}
@@ -86,19 +90,19 @@ out-eq {R} {E} o z e = subst (λ (x : Outcome R E). OutRel (λ (r q : R). r ≡ 
 pub late : (sd : Side) (r : Numbered Record) (e : Event) (v : ℕ) (f : O.Outcome → Outcome Record Wire) (b : Bool) (z : Outcome (Numbered Record) (Numbered Wire)) → isStale (r .no) e v ≡ not b → f (M.refused Shape (r .it)) ≡ refused → f (M.refused Stale (r .it)) ≡ refused
     → (b ≡ true → z ≡ leaves (heldAfter (r .no) e v) (f (step sd (r .it) e))) → numberedly sd r e v f ≡ cond b z refused
 late sd r e v f true z q x y g = ap (λ (o : O.Outcome). leaves (heldAfter (r .no) e v) (f o)) (then-step sd (r .it) (r .no) e v q) ∙ sym (g refl)
-late sd r e v f false z q x y g = go (eventFits sd e) refl
+late sd r e v f false z q x y g = go (eventFits sd (r .it .edition) e) refl
   where
     to : O.Outcome → Outcome (Numbered Record) (Numbered Wire)
     to o = leaves (heldAfter (r .no) e v) (f o)
 
-    go : (s : Bool) → eventFits sd e ≡ s → leaves (heldAfter (r .no) e v) (f (numberedStep sd (r .it) (r .no) e v)) ≡ refused
+    go : (s : Bool) → eventFits sd (r .it .edition) e ≡ s → leaves (heldAfter (r .no) e v) (f (numberedStep sd (r .it) (r .no) e v)) ≡ refused
     go true w = ap (λ (o : O.Outcome). leaves (heldAfter (r .no) e v) (f o)) (then-stale sd (r .it) (r .no) e v w q) ∙ ap (leaves (heldAfter (r .no) e v)) y
     go false w = ap (λ (o : O.Outcome). leaves (heldAfter (r .no) e v) (f o)) (shape-first sd (r .it) (r .no) e v w) ∙ ap (leaves (heldAfter (r .no) e v)) x
 
 pub never : (sd : Side) (r : Numbered Record) (e : Event) (v : ℕ) (f : O.Outcome → Outcome Record Wire) → isStale (r .no) e v ≡ false → numberedly sd r e v f ≡ leaves (heldAfter (r .no) e v) (f (step sd (r .it) e))
 never sd r e v f q = ap (λ (o : O.Outcome). leaves (heldAfter (r .no) e v) (f o)) (then-step sd (r .it) (r .no) e v q)
 
-module _ (K : Codec) (p : ℕ) where
+module _ (K : Codec) (ed : Edition) (p : ℕ) where
   -- ---- an entry
 
   pub receive-same : (sd : Side) (r : Numbered Record) (w : Numbered Wire) → stepNumbered K p .at .receive sd r w ≡ meetsNo (stepMachine K p) sd r w
@@ -223,30 +227,30 @@ module _ (K : Codec) (p : ℕ) where
   }
 
   -- from any two IDLE records of the pair, of which n and k are the numbers; all starts come from one side, whose number is not below the other's
-  module _ (v : T (ltb p securityValues)) (from : Side) (n k : ℕ) (r q : Record) (h : Local p r) (i : T (isIdle (r .control))) (x : Local p q) (j : T (isIdle (q .control))) (b : notBelow from n k) where
+  module _ (fair : securitySent (secures ed) p ≡ p) (v : T (ltb p securityValues)) (from : Side) (n k : ℕ) (r q : Record) (h : Local ed p r) (i : T (isIdle (r .control))) (x : Local ed p q) (j : T (isIdle (q .control))) (b : notBelow from n k) where
     abbrev pub numberedAfter : List (Turn (Numbered Order)) → NSys (stepNumbered K p)
     numberedAfter ts = nRun (stepNumbered K p) from (nFresh (stepNumbered K p) (mark n r) (mark k q)) ts
 
     -- request E9's pair statement for the machines with refusal 6 in its place
     pub numbered-holds : (ts : List (Turn (Numbered Order))) → NClaims (stepNumbered K p) (r .highest) (q .highest) (numberedAfter ts)
-    numbered-holds ts = n-holds-through (stepNumbered K p) N same-step from (mark n r) (mark k q) (mark n r) (mark k q) refl refl (step-numbered K p v from n k r q h i x j b) ts
+    numbered-holds ts = n-holds-through (stepNumbered K p) N same-step from (mark n r) (mark k q) (mark n r) (mark k q) refl refl (step-numbered K ed p fair v from n k r q h i x j b) ts
 
     -- and on every run t-start runs exactly in START-REQ, the user is active exactly outside IDLE, and IDLE has DSC false
-    pub numbered-local : (ts : List (Turn (Numbered Order))) → Local p (numberedAfter ts .here .rec .it) × Local p (numberedAfter ts .there .rec .it)
+    pub numbered-local : (ts : List (Turn (Numbered Order))) → Local ed p (numberedAfter ts .here .rec .it) × Local ed p (numberedAfter ts .there .rec .it)
     numbered-local ts =
         let f = n-followed (stepNumbered K p) N same-step from (mark n r) (mark k q) (mark n r) (mark k q) refl refl ts in
-        let g = n-followed N (numbered control) (with-number (stepMachine K p) control (agrees K p v)) from (mark n r) (mark k q) (mark n (held closed (r .highest))) (mark k (held closed (q .highest))) (refl, idle-same K p v r h i) (refl, idle-same K p v q x j) (f .turns) in (
-          subst (λ (z : Numbered Record). Local p (z .it)) (sym (f .rel .here .rec)) (g .rel .here .rec .1 .local),
-          subst (λ (z : Numbered Record). Local p (z .it)) (sym (f .rel .there .rec)) (g .rel .there .rec .1 .local),
+        let g = n-followed N (numbered control) (with-number (stepMachine K p) control (agrees K ed p fair v)) from (mark n r) (mark k q) (mark n (held closed (r .highest))) (mark k (held closed (q .highest))) (refl, idle-same K ed p fair v r h i) (refl, idle-same K ed p fair v q x j) (f .turns) in (
+          subst (λ (z : Numbered Record). Local ed p (z .it)) (sym (f .rel .here .rec)) (g .rel .here .rec .1 .local),
+          subst (λ (z : Numbered Record). Local ed p (z .it)) (sym (f .rel .there .rec)) (g .rel .there .rec .1 .local),
         )
 
     -- and no machine answers an entry that is handed over by a D-ABORT
     pub numbered-silent : (ts : List (Turn (Numbered Order))) → NQuiet (stepNumbered K p) (numberedAfter ts)
     numbered-silent ts =
         let f = n-followed (stepNumbered K p) N same-step from (mark n r) (mark k q) (mark n r) (mark k q) refl refl ts in
-        let a = with-number (stepMachine K p) control (agrees K p v) in
+        let a = with-number (stepMachine K p) control (agrees K ed p fair v) in
         let y = mark n (held closed (r .highest)) in
         let z = mark k (held closed (q .highest)) in
-        let g = n-followed N (numbered control) a from (mark n r) (mark k q) y z (refl, idle-same K p v r h i) (refl, idle-same K p v q x j) (f .turns) in
+        let g = n-followed N (numbered control) a from (mark n r) (mark k q) y z (refl, idle-same K ed p fair v r h i) (refl, idle-same K ed p fair v q x j) (f .turns) in
         n-quiet-through (stepNumbered K p) N same-step (numberedAfter ts) (nRun N from (nFresh N (mark n r) (mark k q)) (f .turns)) (f .rel)
         (n-quiet-through N (numbered control) a (nRun N from (nFresh N (mark n r) (mark k q)) (f .turns)) (nRun (numbered control) from (nFresh (numbered control) y z) (g .turns)) (g .rel) (control-numbered-quiet from n k (r .highest) (q .highest) b (g .turns)))

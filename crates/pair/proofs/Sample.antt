@@ -6,22 +6,23 @@ use mathlib.Core.Bool.{Bool, true, false, cond}
 use mathlib.Core.List.{List, [], _∷_}
 use Prim.Native.Nat.{ℕ}
 use lib.Dec.{T, ltb, eqb}
+use Rattle.editions.specs.declared.Edition.the-variants.{Plain, Protected}
 use Rattle.machine.specs.Codes.{dscMode, providerReasons}
 use Rattle.machine.specs.Record.{enter}
 use Rattle.machine.specs.UserData.{userDataFits}
-use Rattle.machine.specs.Event.{hasMode, qosFits, userFits, serviceFits, eventFits}
+use Rattle.machine.specs.Event.{answerFits, hasMode, qosFits, userFits, serviceFits, eventFits}
 use Rattle.machine.specs.Exceptions.{tell, aborts, excepts, timerExpires}
-use Rattle.machine.specs.Calls.{replyOf, sent, startRequest, startResponse, messageRequest, endRequest, callOf, unsent, called}
+use Rattle.machine.specs.Calls.{securitySent, unlessSpared, replyOf, sent, startRequest, startResponse, messageRequest, endRequest, callOf, unsent, called, endResponse}
 use Rattle.machine.specs.Faults.{pduFault, sendFault, startFits, indicationFault, confirmationFault, firstFault}
 use Rattle.machine.specs.Primitives.{handed, instructed, answered, reached}
 use Rattle.machine.specs.Step.{permitted, messageRefusal, refusalOf, acts, step}
 use Rattle.machine.specs.declared.event.UserData.{UserData}
 use Rattle.machine.specs.declared.event.UserData.the-variants.{Absent, NotValid, Start, Send, AbortUser, AbortProvider, Forward, ForwardResponse}
-use Rattle.machine.specs.declared.outcome.Invoked.the-variants.{DDataRequest, DEndRequest, DAbortRequest}
+use Rattle.machine.specs.declared.outcome.Invoked.the-variants.{DStartResponse, DDataRequest, DEndRequest, DAbortRequest}
 use Rattle.pair.specs.Names.{Side, Air, Ground, Dialogue, End, entered, closed}
 use Rattle.pair.specs.Carrier.{Body, user-call, hand-over, timer-expires, Turn}
 use Rattle.pair.proofs.OneDialogue.{Sys, fresh, run, isNil}
-use Rattle.pair.proofs.StepMachine.{Read, got, fault, Codec, Order, start-request, start-response, message-request, end-request, stepMachine, freshWith}
+use Rattle.pair.proofs.StepMachine.{end-response, Read, got, fault, Codec, Order, start-request, start-response, message-request, end-request, stepMachine, freshWith}
 
 abbrev fits : Side → UserData → Body → Bool
 fits sd Absent b = isNil b
@@ -88,7 +89,7 @@ turns =
     asks Air (message-request (6 ∷ []) 2) ∷ gets Ground ∷ asks Air (end-request true []) ∷ []
 
 abbrev after : List (Turn Order) → Sys (stepMachine sample 1)
-after ts = run (stepMachine sample 1) (fresh (stepMachine sample 1) (freshWith 1) (freshWith 1)) ts
+after ts = run (stepMachine sample 1) (fresh (stepMachine sample 1) (freshWith Protected 1) (freshWith Protected 1)) ts
 
 -- the second message request has no message and is refused, so its job is free
 pub bytes-run :
@@ -105,3 +106,23 @@ pub bytes-late :
     (after late .here .rec .control ≡ closed) × (after late .there .rec .control ≡ entered Dialogue true) × (after late .here .line ≡ record { primitive = DAbortRequest 1; bytes = 4 ∷ (0 ∷ []) } ∷ []) × (after late .there .line ≡ []) × (after late .broken ≡ true)
 unfolding run step refusalOf eventFits userFits hasMode serviceFits userDataFits permitted callOf messageRefusal unsent acts called reached startRequest startResponse sent replyOf enter qosFits firstFault indicationFault startFits pduFault answered instructed handed timerExpires excepts aborts tell
 bytes-late = (refl, refl, refl, refl, refl)
+
+-- ---- a run of two ends of type 2: nothing is sent with the start, the answer that accepts it, the end and its answer; the message arrives, and both close
+
+abbrev plainly : List (Turn Order) → Sys (stepMachine sample 0)
+plainly ts = run (stepMachine sample 0) (fresh (stepMachine sample 0) (freshWith Plain 0) (freshWith Plain 0)) ts
+
+abbrev opened : List (Turn Order)
+opened = asks Air (start-request 0 3 []) ∷ gets Ground ∷ asks Ground (start-response false 0 []) ∷ []
+
+abbrev closing : List (Turn Order)
+closing =
+    asks Air (start-request 0 3 []) ∷ gets Ground ∷ asks Ground (start-response false 0 []) ∷ gets Air ∷ asks Ground (message-request (5 ∷ []) 1) ∷ gets Air ∷ asks Ground (end-request false []) ∷ gets Air ∷ asks Air (end-response false 0 []) ∷ gets Ground ∷ []
+
+pub plain-opened : plainly opened .there .line ≡ record { primitive = DStartResponse 0 0; bytes = [] } ∷ []
+unfolding run step refusalOf eventFits userFits hasMode serviceFits userDataFits permitted callOf messageRefusal unsent acts called reached startRequest startResponse messageRequest endRequest endResponse sent replyOf enter qosFits firstFault indicationFault confirmationFault sendFault startFits pduFault answered instructed handed
+plain-opened = refl
+
+pub plain-closed : (plainly closing .here .rec .control ≡ closed) × (plainly closing .there .rec .control ≡ closed) × (plainly closing .here .handed ≡ (5 ∷ []) ∷ [])
+unfolding run step refusalOf eventFits userFits hasMode serviceFits userDataFits permitted callOf messageRefusal unsent acts called reached startRequest startResponse messageRequest endRequest endResponse sent replyOf enter qosFits firstFault indicationFault confirmationFault sendFault startFits pduFault answered instructed handed
+plain-closed = (refl, refl, refl)

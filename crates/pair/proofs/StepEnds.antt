@@ -6,6 +6,9 @@ use mathlib.Core.Bool.{Bool, true, false, cond, _&&_}
 use mathlib.Core.List.{[]}
 use Prim.Native.Nat.{ℕ}
 use lib.Dec.{T, ltb}
+use Rattle.editions.specs.Editions.{secures, spares, userReasons}
+use Rattle.editions.specs.declared.Edition.{Edition}
+use Rattle.editions.specs.declared.Edition.the-variants.{Plain, Protected}
 use Rattle.machine.specs.Codes.{providerReasons, protocolError}
 use Rattle.machine.specs.Exceptions.{tell, closes, aborts, excepts, noInstruction}
 use Rattle.machine.specs.declared.record.Record.{Record}
@@ -23,20 +26,20 @@ use Rattle.pair.proofs.Agree.{OutRel}
 use Rattle.pair.proofs.StepLocal.{Local, lowOf, Low, closed-low}
 use Rattle.pair.proofs.StepMeans.{Means, abort-means}
 
-module _ (K : Codec) (p : ℕ) where
+module _ (K : Codec) (ed : Edition) (p : ℕ) where
   abbrev pub Out : Side → C.Outcome Record Wire → C.Outcome Held Ent → Type 0
-  Out sd o q = OutRel (Low p) (Means K p sd) o q
+  Out sd o q = OutRel (Low ed p) (Means K ed p sd) o q
 
-  pub closes-rel : (sd : Side) (r : Record) (t : Told) (b : Body) → Local p r → Out sd (happens K sd (closes r t) b) (C.acts (held closed (r .highest)) [] nothing)
+  pub closes-rel : (sd : Side) (r : Record) (t : Told) (b : Body) → Local ed p r → Out sd (happens K sd (closes r t) b) (C.acts (held closed (r .highest)) [] nothing)
   unfolding closes
-  closes-rel sd r t b h = (closed-low p r h, refl, tt)
+  closes-rel sd r t b h = (closed-low ed p r h, refl, tt)
 
-  pub aborts-rel : (sd : Side) (r : Record) (x : ℕ) (t : Told) (b : Body) → Local p r → T (ltb x providerReasons) → Out sd (happens K sd (aborts r x t) b) (C.acts (held closed (r .highest)) [] (puts (ent DAbort [])))
+  pub aborts-rel : (sd : Side) (r : Record) (x : ℕ) (t : Told) (b : Body) → Local ed p r → T (ltb x providerReasons) → Out sd (happens K sd (aborts r x t) b) (C.acts (held closed (r .highest)) [] (puts (ent DAbort [])))
   unfolding aborts
-  aborts-rel sd r x t b h v = (closed-low p r h, refl, abort-means K p sd x v)
+  aborts-rel sd r x t b h v = (closed-low ed p r h, refl, abort-means K ed p sd x v)
 
   -- in IDLE no output, else a D-ABORT with protocol-error
-  pub none-rel : (sd : Side) (r : Record) (b : Body) → Local p r → Out sd (happens K sd (noInstruction r true) b) (met (lowOf r) (cond (isIdle (r .control) && true) (quiet closed) (N.aborts closed)) [])
+  pub none-rel : (sd : Side) (r : Record) (b : Body) → Local ed p r → Out sd (happens K sd (noInstruction r true) b) (met (lowOf r) (cond (isIdle (r .control) && true) (quiet closed) (N.aborts closed)) [])
   unfolding noInstruction excepts
   none-rel sd r b h = go (isIdle (r .control))
     where
@@ -45,6 +48,6 @@ module _ (K : Codec) (p : ℕ) where
       go false = aborts-rel sd r protocolError (tell r (ProviderAbortIndication protocolError)) b h tt
 
   -- a provider abort that an active user is told of
-  pub excepts-rel : (sd : Side) (r : Record) (x y : ℕ) (b : Body) → Local p r → T (ltb x providerReasons) → Out sd (happens K sd (excepts r true x y) b) (C.acts (held closed (r .highest)) [] (puts (ent DAbort [])))
+  pub excepts-rel : (sd : Side) (r : Record) (x y : ℕ) (b : Body) → Local ed p r → T (ltb x providerReasons) → Out sd (happens K sd (excepts r true x y) b) (C.acts (held closed (r .highest)) [] (puts (ent DAbort [])))
   unfolding excepts
   excepts-rel sd r x y b h v = aborts-rel sd r x (tell r (ProviderAbortIndication y)) b h v

@@ -7,6 +7,9 @@ use mathlib.Core.List.{[]}
 use Prim.Native.Nat.{ℕ}
 use lib.Dec.{T}
 use Rattle.clauses.proofs.Laws.{step-formed}
+use Rattle.editions.specs.Editions.{secures, spares, userReasons}
+use Rattle.editions.specs.declared.Edition.{Edition}
+use Rattle.editions.specs.declared.Edition.the-variants.{Plain, Protected}
 use Rattle.machine.specs.Outcome.{isNone}
 use Rattle.machine.specs.Record.{enter}
 use Rattle.machine.specs.Run.{Formed}
@@ -22,7 +25,8 @@ use Rattle.pair.specs.Wires.{Wire}
 use Rattle.pair.proofs.StepMachine.{Codec, taken, happens, calls}
 use Rattle.pair.proofs.Agree.{OutRel, Still, Follows, stays, does}
 
-pub record Local (p : ℕ) (r : Record) : Type 0 where
+pub record Local (ed : Edition) (p : ℕ) (r : Record) : Type 0 where
+  pub edition : r .edition ≡ ed
   pub formed : Formed r
   pub policy : r .policy ≡ p
   pub request : T (is (r .control .state) StartReq) → r .request ≡ p
@@ -32,20 +36,21 @@ abbrev pub lowOf : Record → Held
 lowOf r = held (r .control) (r .highest)
 
 -- q is the control's record for r
-pub record Same (p : ℕ) (r : Record) (q : Held) : Type 0 where
+pub record Same (ed : Edition) (p : ℕ) (r : Record) (q : Held) : Type 0 where
   pub low : lowOf r ≡ q
-  pub local : Local p r
+  pub local : Local ed p r
 
 -- the same, but for being formed: that every step keeps that is known
-pub record Low (p : ℕ) (r : Record) (q : Held) : Type 0 where
+pub record Low (ed : Edition) (p : ℕ) (r : Record) (q : Held) : Type 0 where
+  pub edition : r .edition ≡ ed
   pub low : lowOf r ≡ q
   pub policy : r .policy ≡ p
   pub request : T (is (r .control .state) StartReq) → r .request ≡ p
   pub dialogue : awaitsResponse (r .control) ≡ false
 
-pub closed-low : (p : ℕ) (r : Record) → Local p r → Low p (enter r closed) (held closed (r .highest))
+pub closed-low : (ed : Edition) (p : ℕ) (r : Record) → Local ed p r → Low ed p (enter r closed) (held closed (r .highest))
 unfolding enter
-closed-low p r h = record { low = refl; policy = h .policy; request = λ (x : T false). absurd x; dialogue = refl }
+closed-low ed p r h = record { edition = h .edition; low = refl; policy = h .policy; request = λ (x : T false). absurd x; dialogue = refl }
 
 -- in IDLE closing changes nothing of the control
 closed-only : (s : State) (d : Bool) → is s Idle ≡ true → d ≡ false → closed ≡ entered s d
@@ -79,21 +84,21 @@ calls-formed K sd r e b j h = go (isNone (step sd r e .refusal) && K .fits sd (s
     go true = step-formed sd r e h
     go false = tt
 
-low-same : (p : ℕ) (r : Record) (q : Held) → Formed r → Low p r q → Same p r q
-low-same p r q f h = record { low = h .low; local = record { formed = f; policy = h .policy; request = h .request; dialogue = h .dialogue } }
+low-same : (ed : Edition) (p : ℕ) (r : Record) (q : Held) → Formed r → Low ed p r q → Same ed p r q
+low-same ed p r q f h = record { low = h .low; local = record { edition = h .edition; formed = f; policy = h .policy; request = h .request; dialogue = h .dialogue } }
 
-pub same-out : (p : ℕ) (EE : Wire → Ent → Type 0) (o : C.Outcome Record Wire) (z : C.Outcome Held Ent) → FormedOut o → OutRel (Low p) EE o z → OutRel (Same p) EE o z
-same-out p EE C.refused C.refused f x = x
-same-out p EE C.refused (C.acts q k s) f x = x
-same-out p EE (C.acts r l w) C.refused f x = x
-same-out p EE (C.acts r l w) (C.acts q k s) f x = (low-same p r q f (x .0), x .1, x .2)
+pub same-out : (ed : Edition) (p : ℕ) (EE : Wire → Ent → Type 0) (o : C.Outcome Record Wire) (z : C.Outcome Held Ent) → FormedOut o → OutRel (Low ed p) EE o z → OutRel (Same ed p) EE o z
+same-out ed p EE C.refused C.refused f x = x
+same-out ed p EE C.refused (C.acts q k s) f x = x
+same-out ed p EE (C.acts r l w) C.refused f x = x
+same-out ed p EE (C.acts r l w) (C.acts q k s) f x = (low-same ed p r q f (x .0), x .1, x .2)
 
-same-still : (p : ℕ) (o : C.Outcome Record Wire) (q : Held) → FormedOut o → Still (Low p) o q → Still (Same p) o q
-same-still p C.refused q f x = x
-same-still p (C.acts r l nothing) q f x = (low-same p r q f (x .0), x .1)
-same-still p (C.acts r l (puts e)) q f x = x
-same-still p (C.acts r l (message e b j)) q f x = x
+same-still : (ed : Edition) (p : ℕ) (o : C.Outcome Record Wire) (q : Held) → FormedOut o → Still (Low ed p) o q → Still (Same ed p) o q
+same-still ed p C.refused q f x = x
+same-still ed p (C.acts r l nothing) q f x = (low-same ed p r q f (x .0), x .1)
+same-still ed p (C.acts r l (puts e)) q f x = x
+same-still ed p (C.acts r l (message e b j)) q f x = x
 
-pub same-follows : {X : Type 0} (p : ℕ) (EE : Wire → Ent → Type 0) (o : C.Outcome Record Wire) (q : Held) (event : X → C.Outcome Held Ent) → FormedOut o → Follows (Low p) EE o q event → Follows (Same p) EE o q event
-same-follows p EE o q event f (stays x) = stays (same-still p o q f x)
-same-follows p EE o q event f (does a x) = does a (same-out p EE o (event a) f x)
+pub same-follows : {X : Type 0} (ed : Edition) (p : ℕ) (EE : Wire → Ent → Type 0) (o : C.Outcome Record Wire) (q : Held) (event : X → C.Outcome Held Ent) → FormedOut o → Follows (Low ed p) EE o q event → Follows (Same ed p) EE o q event
+same-follows ed p EE o q event f (stays x) = stays (same-still ed p o q f x)
+same-follows ed p EE o q event f (does a x) = does a (same-out ed p EE o (event a) f x)

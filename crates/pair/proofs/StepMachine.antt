@@ -6,6 +6,7 @@ use mathlib.Core.Path.{_≡_}
 use mathlib.Core.Bool.{Bool, true, cond, _&&_}
 use mathlib.Core.List.{List, [], _∷_}
 use lib.Dec.{T, ltb}
+use Rattle.editions.specs.declared.Edition.{Edition}
 use Rattle.machine.specs.Codes.{providerReasons}
 use Rattle.machine.specs.Outcome.{isNone}
 use Rattle.machine.specs.Record.{freshRecord}
@@ -145,6 +146,6 @@ stepMachine K p = record {
   pAbort = λ (sd : Side) (r : Record). happens K sd (step sd r (Service DPAbortIndication Absent)) [];
 }
 
--- a fresh record whose policy accepts p
-abbrev pub freshWith : ℕ → Record
-freshWith p = freshRecord (record { policy = p; forwards = true; version = 1 })
+-- a fresh record of an edition whose policy accepts p
+abbrev pub freshWith : Edition → ℕ → Record
+freshWith ed p = freshRecord (record { policy = p; forwards = true; version = 1; edition = ed })

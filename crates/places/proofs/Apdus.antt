@@ -61,7 +61,7 @@ seenLead (lead.Is c m n) = went n
 seenLead (lead.Refused r) = refused r
 
 -- after message data
-taken-field : (f : List ℕ → Field) (k : ℕ → ℕ → List ℕ → Taken) (l : List ℕ) (at : ℕ) → Sound seenField f l at → ((v n : ℕ) → f l ≡ Value v n → at ≤ n → n ≤ length l → Sound seenTaken (k v n) l n)
+pub taken-field : (f : List ℕ → Field) (k : ℕ → ℕ → List ℕ → Taken) (l : List ℕ) (at : ℕ) → Sound seenField f l at → ((v n : ℕ) → f l ≡ Value v n → at ≤ n → n ≤ length l → Sound seenTaken (k v n) l n)
     → Sound seenTaken (λ (m : List ℕ). onto taken.Refused (f m) (λ (v n : ℕ). k v n m)) l at
 taken-field f k l at s on =
     after-field seenTaken taken.Refused (onto taken.Refused) (λ (r : Refusal). refl) (λ (v n : ℕ) (c : ℕ → ℕ → Taken). refl) (λ (r : Refusal) (c : ℕ → ℕ → Taken). refl) f k l at s on
@@ -233,7 +233,7 @@ abbrev pub seenAnswer : Decoded → Seen
 seenAnswer (decoded.Is a) = went 0
 seenAnswer (decoded.Refused r) = refused r
 
-answer-field : (f : List ℕ → Field) (k : ℕ → ℕ → List ℕ → Decoded) (l : List ℕ) (at : ℕ) → Sound seenField f l at → ((v n : ℕ) → f l ≡ Value v n → at ≤ n → n ≤ length l → Refusing seenAnswer (k v n) l n)
+pub answer-field : (f : List ℕ → Field) (k : ℕ → ℕ → List ℕ → Decoded) (l : List ℕ) (at : ℕ) → Sound seenField f l at → ((v n : ℕ) → f l ≡ Value v n → at ≤ n → n ≤ length l → Refusing seenAnswer (k v n) l n)
     → Refusing seenAnswer (λ (x : List ℕ). onto decoded.Refused (f x) (λ (v n : ℕ). k v n x)) l at
 answer-field f k l at s on =
     refusing-bind seenField seenAnswer decoded.Refused f (λ (x : Field) (y : List ℕ). onto decoded.Refused x (λ (v n : ℕ). k v n y)) l at (λ (r : Refusal). refl) hands s (go (f l) refl)
@@ -272,19 +272,20 @@ behind-refusing {A} seen up says made place is l at b h r e = go (tailAt l at) r
               };
         }
 
-ended-refusing : (l : List ℕ) (at : ℕ) (a : Apdu) → Bits l → at ≤ length l → Refusing seenAnswer (λ (x : List ℕ). endedAt x at a) l at
+pub ended-refusing : (l : List ℕ) (at : ℕ) (a : Apdu) → Bits l → at ≤ length l → Refusing seenAnswer (λ (x : List ℕ). endedAt x at a) l at
 unfolding endedAt
 ended-refusing l at a b h = behind-refusing seenAnswer decoded.Refused (λ (r : Refusal). refl) (decoded.Is a) 0 refl l at b h
 
-data-refusing : (l : List ℕ) (at : ℕ) (k : Data → Apdu) → Bits l → at ≤ length l → Refusing seenAnswer (λ (x : List ℕ). onData (dataAt x at) (λ (d : Data) (next : ℕ). endedAt x next (k d))) l at
-data-refusing l at k b h =
-    refusing-bind seenTaken seenAnswer decoded.Refused (λ (x : List ℕ). dataAt x at) (λ (t : Taken) (y : List ℕ). onData t (λ (d : Data) (next : ℕ). endedAt y next (k d))) l at (λ (r : Refusal). refl) hands (data-sound l at h) (go (dataAt l at) refl)
+-- message data, whatever reads them, and behind them the tail
+pub taken-refusing : (rd : List ℕ → Taken) (l : List ℕ) (at : ℕ) (k : Data → Apdu) → Bits l → Sound seenTaken rd l at → Refusing seenAnswer (λ (x : List ℕ). onData (rd x) (λ (d : Data) (next : ℕ). endedAt x next (k d))) l at
+taken-refusing rd l at k b s =
+    refusing-bind seenTaken seenAnswer decoded.Refused rd (λ (t : Taken) (y : List ℕ). onData t (λ (d : Data) (next : ℕ). endedAt y next (k d))) l at (λ (r : Refusal). refl) hands s (go (rd l) refl)
   where
     hands : (t : Taken) (r : Refusal) (y : List ℕ) → seenTaken t ≡ refused r → onData t (λ (d : Data) (next : ℕ). endedAt y next (k d)) ≡ decoded.Refused r
     hands (taken.Is d n) r y e = clash n r e
     hands (taken.Refused q) r y e = ap decoded.Refused (one-refusal q r e)
 
-    go : (t : Taken) → dataAt l at ≡ t → (n : ℕ) → seenTaken t ≡ went n → at ≤ n → n ≤ length l → Refusing seenAnswer (λ (y : List ℕ). onData t (λ (d : Data) (next : ℕ). endedAt y next (k d))) l n
+    go : (t : Taken) → rd l ≡ t → (n : ℕ) → seenTaken t ≡ went n → at ≤ n → n ≤ length l → Refusing seenAnswer (λ (y : List ℕ). onData t (λ (d : Data) (next : ℕ). endedAt y next (k d))) l n
     go (taken.Is d j) e n q a w = let i : j ≡ n = one-place j n q in subst (λ (z : ℕ). Refusing seenAnswer (λ (y : List ℕ). endedAt y j (k d)) l z) i (ended-refusing l j (k d) b (omega arith))
     go (taken.Refused r) e n q a w = clash n r (sym q)
 
@@ -312,7 +313,7 @@ heading-field : (f : List ℕ → Field) (k : ℕ → ℕ → List ℕ → Heade
 heading-field f k l at s on =
     after-field seenHeading headed.Refused (onto headed.Refused) (λ (r : Refusal). refl) (λ (v n : ℕ) (c : ℕ → ℕ → Headed). refl) (λ (r : Refusal) (c : ℕ → ℕ → Headed). refl) f k l at s on
 
-forward-field : (f : List ℕ → Field) (k : ℕ → ℕ → List ℕ → Forwarded) (l : List ℕ) (at : ℕ) → Sound seenField f l at → ((v n : ℕ) → f l ≡ Value v n → at ≤ n → n ≤ length l → Sound seenForward (k v n) l n)
+pub forward-field : (f : List ℕ → Field) (k : ℕ → ℕ → List ℕ → Forwarded) (l : List ℕ) (at : ℕ) → Sound seenField f l at → ((v n : ℕ) → f l ≡ Value v n → at ≤ n → n ≤ length l → Sound seenForward (k v n) l n)
     → Sound seenForward (λ (m : List ℕ). onto forwarded.Refused (f m) (λ (v n : ℕ). k v n m)) l at
 forward-field f k l at s on =
     after-field seenForward forwarded.Refused (onto forwarded.Refused) (λ (r : Refusal). refl) (λ (v n : ℕ) (c : ℕ → ℕ → Forwarded). refl) (λ (r : Refusal) (c : ℕ → ℕ → Forwarded). refl) f k l at s on
@@ -340,7 +341,7 @@ after-triple f k l at s on = sound-bind seenTriple seenHeading headed.Refused f 
     go (triples.Is v j) e n q a b = let i : j ≡ n = one-place j n q in subst (λ (z : ℕ). Sound seenHeading (k v j) l z) i (on v j e (omega arith) (omega arith))
     go (triples.Refused r) e n q a b = clash n r (sym q)
 
-after-heading : (f : List ℕ → Headed) (k : Heading → ℕ → List ℕ → Forwarded) (l : List ℕ) (at : ℕ) → Sound seenHeading f l at → ((v : Heading) (n : ℕ) → f l ≡ headed.Is v n → at ≤ n → n ≤ length l → Sound seenForward (k v n) l n)
+pub after-heading : (f : List ℕ → Headed) (k : Heading → ℕ → List ℕ → Forwarded) (l : List ℕ) (at : ℕ) → Sound seenHeading f l at → ((v : Heading) (n : ℕ) → f l ≡ headed.Is v n → at ≤ n → n ≤ length l → Sound seenForward (k v n) l n)
     → Sound seenForward (λ (m : List ℕ). onHeading (f m) (λ (v : Heading) (n : ℕ). k v n m)) l at
 after-heading f k l at s on = sound-bind seenHeading seenForward forwarded.Refused f (λ (x : Headed) (m : List ℕ). onHeading x (λ (v : Heading) (n : ℕ). k v n m)) l at (λ (r : Refusal). refl) hands s (go (f l) refl)
   where
@@ -352,7 +353,7 @@ after-heading f k l at s on = sound-bind seenHeading seenForward forwarded.Refus
     go (headed.Is v j) e n q a b = let i : j ≡ n = one-place j n q in subst (λ (z : ℕ). Sound seenForward (k v j) l z) i (on v j e (omega arith) (omega arith))
     go (headed.Refused r) e n q a b = clash n r (sym q)
 
-heading-sound : (l : List ℕ) (at : ℕ) → at ≤ length l → Sound seenHeading (λ (x : List ℕ). headingAt x at) l at
+pub heading-sound : (l : List ℕ) (at : ℕ) → at ≤ length l → Sound seenHeading (λ (x : List ℕ). headingAt x at) l at
 unfolding headingAt
 heading-sound l at h =
     after-triple (λ (x : List ℕ). tripleAt x at dateFrom dateTo) _ l at (triple-sound l at dateFrom dateTo (omega arith) (omega arith) (omega arith) h)
@@ -377,15 +378,16 @@ forward-sound l at h =
     forward-field (λ (x : List ℕ). stringAt x p bit 0 messageMost) _ l p (string-sound l p bit 0 messageMost w)
     (λ (n m : ℕ) (f : stringAt l p bit 0 messageMost ≡ Value n m) (u₂ : p ≤ m) (w₂ : m ≤ length l). sound-value seenForward (forwarded.Is (record { heading = v; message = spanTo bit n m }) m) l m w₂ refl))
 
-forward-refusing : (l : List ℕ) (at : ℕ) → Bits l → at ≤ length l → Refusing seenAnswer (λ (x : List ℕ). onForward decoded.Refused (forwardAt x at) (λ (f : Forward) (next : ℕ). endedAt x next (apdu.Forward f))) l at
-forward-refusing l at b h =
-    refusing-bind seenForward seenAnswer decoded.Refused (λ (x : List ℕ). forwardAt x at) (λ (t : Forwarded) (y : List ℕ). onForward decoded.Refused t (λ (f : Forward) (next : ℕ). endedAt y next (apdu.Forward f))) l at (λ (r : Refusal). refl) hands (forward-sound l at h) (go (forwardAt l at) refl)
+-- whatever reads it, and behind it the tail
+pub forwarded-refusing : (rd : List ℕ → Forwarded) (l : List ℕ) (at : ℕ) → Bits l → Sound seenForward rd l at → Refusing seenAnswer (λ (x : List ℕ). onForward decoded.Refused (rd x) (λ (f : Forward) (next : ℕ). endedAt x next (apdu.Forward f))) l at
+forwarded-refusing rd l at b s =
+    refusing-bind seenForward seenAnswer decoded.Refused rd (λ (t : Forwarded) (y : List ℕ). onForward decoded.Refused t (λ (f : Forward) (next : ℕ). endedAt y next (apdu.Forward f))) l at (λ (r : Refusal). refl) hands s (go (rd l) refl)
   where
     hands : (t : Forwarded) (r : Refusal) (y : List ℕ) → seenForward t ≡ refused r → onForward decoded.Refused t (λ (f : Forward) (next : ℕ). endedAt y next (apdu.Forward f)) ≡ decoded.Refused r
     hands (forwarded.Is f n) r y e = clash n r e
     hands (forwarded.Refused q) r y e = ap decoded.Refused (one-refusal q r e)
 
-    go : (t : Forwarded) → forwardAt l at ≡ t → (n : ℕ) → seenForward t ≡ went n → at ≤ n → n ≤ length l → Refusing seenAnswer (λ (y : List ℕ). onForward decoded.Refused t (λ (f : Forward) (next : ℕ). endedAt y next (apdu.Forward f))) l n
+    go : (t : Forwarded) → rd l ≡ t → (n : ℕ) → seenForward t ≡ went n → at ≤ n → n ≤ length l → Refusing seenAnswer (λ (y : List ℕ). onForward decoded.Refused t (λ (f : Forward) (next : ℕ). endedAt y next (apdu.Forward f))) l n
     go (forwarded.Is f j) e n q a w = let i : j ≡ n = one-place j n q in subst (λ (z : ℕ). Refusing seenAnswer (λ (y : List ℕ). endedAt y j (apdu.Forward f)) l z) i (ended-refusing l j (apdu.Forward f) b (omega arith))
     go (forwarded.Refused r) e n q a w = clash n r (sym q)
 
@@ -397,26 +399,30 @@ rest-refusing l kind.AbortUser m at b h =
 rest-refusing l kind.AbortProvider m at b h =
     answer-field (λ (x : List ℕ). extensibleIndex x at providerLast) (λ (r n : ℕ) (x : List ℕ). endedAt x n (apdu.AbortProvider r)) l at (index-sound l at providerLast h)
     (λ (r n : ℕ) (e : extensibleIndex l at providerLast ≡ Value r n) (a : at ≤ n) (w : n ≤ length l). ended-refusing l n (apdu.AbortProvider r) b w)
-rest-refusing l kind.Start m at b h = data-refusing l at (apdu.Start m) b h
-rest-refusing l kind.Send m at b h = data-refusing l at apdu.Send b h
-rest-refusing l kind.Forward m at b h = forward-refusing l at b h
+rest-refusing l kind.Start m at b h = taken-refusing (λ (x : List ℕ). dataAt x at) l at (apdu.Start m) b (data-sound l at h)
+rest-refusing l kind.Send m at b h = taken-refusing (λ (x : List ℕ). dataAt x at) l at apdu.Send b (data-sound l at h)
+rest-refusing l kind.Forward m at b h = forwarded-refusing (λ (x : List ℕ). forwardAt x at) l at b (forward-sound l at h)
 rest-refusing l kind.ForwardResponse m at b h =
     answer-field (λ (x : List ℕ). extensibleIndex x at responseLast) (λ (r n : ℕ) (x : List ℕ). endedAt x n (apdu.ForwardResponse r)) l at (index-sound l at responseLast h)
     (λ (r n : ℕ) (e : extensibleIndex l at responseLast ≡ Value r n) (a : at ≤ n) (w : n ≤ length l). ended-refusing l n (apdu.ForwardResponse r) b w)
 
--- AN APDU THAT IS REFUSED: its place is within the bits, the field with the fault begins there, and bits behind that field do not matter
-pub apdu-refusing : (pdus : PduType) (l : List ℕ) → Bits l → Refusing seenAnswer (λ (x : List ℕ). apduAt pdus x 0) l 0
-unfolding apduWithin
-apdu-refusing pdus l b =
-    refusing-bind seenLead seenAnswer decoded.Refused (λ (x : List ℕ). leadingAt pdus x 0) (λ (t : Lead) (y : List ℕ). onLead t (restAt y)) l 0 (λ (r : Refusal). refl) hands (lead-sound pdus l 0 (omega arith)) (go (leadingAt pdus l 0) refl)
+-- the leading fields, and behind them any rest
+pub led-refusing : (rest : List ℕ → Kind → ℕ → ℕ → Decoded) (pdus : PduType) (l : List ℕ) → ((c : Kind) (m at : ℕ) → at ≤ length l → Refusing seenAnswer (λ (x : List ℕ). rest x c m at) l at) → Refusing seenAnswer (λ (x : List ℕ). onLead (leadingAt pdus x 0) (rest x)) l 0
+led-refusing rest pdus l on =
+    refusing-bind seenLead seenAnswer decoded.Refused (λ (x : List ℕ). leadingAt pdus x 0) (λ (t : Lead) (y : List ℕ). onLead t (rest y)) l 0 (λ (r : Refusal). refl) hands (lead-sound pdus l 0 (omega arith)) (go (leadingAt pdus l 0) refl)
   where
-    hands : (t : Lead) (r : Refusal) (y : List ℕ) → seenLead t ≡ refused r → onLead t (restAt y) ≡ decoded.Refused r
+    hands : (t : Lead) (r : Refusal) (y : List ℕ) → seenLead t ≡ refused r → onLead t (rest y) ≡ decoded.Refused r
     hands (lead.Is c m n) r y e = clash n r e
     hands (lead.Refused q) r y e = ap decoded.Refused (one-refusal q r e)
 
-    go : (t : Lead) → leadingAt pdus l 0 ≡ t → (n : ℕ) → seenLead t ≡ went n → 0 ≤ n → n ≤ length l → Refusing seenAnswer (λ (y : List ℕ). onLead t (restAt y)) l n
-    go (lead.Is c m j) e n q a w = let i : j ≡ n = one-place j n q in subst (λ (z : ℕ). Refusing seenAnswer (λ (y : List ℕ). restAt y c m j) l z) i (rest-refusing l c m j b (omega arith))
+    go : (t : Lead) → leadingAt pdus l 0 ≡ t → (n : ℕ) → seenLead t ≡ went n → 0 ≤ n → n ≤ length l → Refusing seenAnswer (λ (y : List ℕ). onLead t (rest y)) l n
+    go (lead.Is c m j) e n q a w = let i : j ≡ n = one-place j n q in subst (λ (z : ℕ). Refusing seenAnswer (λ (y : List ℕ). rest y c m j) l z) i (on c m j (omega arith))
     go (lead.Refused r) e n q a w = clash n r (sym q)
+
+-- AN APDU THAT IS REFUSED: its place is within the bits, the field with the fault begins there, and bits behind that field do not matter
+pub apdu-refusing : (pdus : PduType) (l : List ℕ) → Bits l → Refusing seenAnswer (λ (x : List ℕ). apduAt pdus x 0) l 0
+unfolding apduWithin
+apdu-refusing pdus l b = led-refusing restAt pdus l (λ (c : Kind) (m at : ℕ) (h : at ≤ length l). rest-refusing l c m at b h)
 
 -- and message data by itself
 pub data-refusing-whole : (l : List ℕ) → Bits l → Refusing seenTaken wholeData l 0
@@ -433,19 +439,22 @@ data-refusing-whole l b =
     go (taken.Is d j) e n q a w = let i : j ≡ n = one-place j n q in subst (λ (z : ℕ). Refusing seenTaken (λ (y : List ℕ). onto taken.Refused (tailAt y j) (λ (v m : ℕ). taken.Is d j)) l z) i (behind-refusing seenTaken taken.Refused (λ (r : Refusal). refl) (taken.Is d j) j refl l j b (omega arith))
     go (taken.Refused r) e n q a w = clash n r (sym q)
 
--- and a forward message by itself
-pub forward-refusing-whole : (l : List ℕ) → Bits l → Refusing seenForward wholeForward l 0
-unfolding wholeForwardWithin
-forward-refusing-whole l b =
-    refusing-bind seenForward seenForward forwarded.Refused (λ (x : List ℕ). forwardAt x 0) (λ (t : Forwarded) (y : List ℕ). onForward forwarded.Refused t (λ (f : Forward) (next : ℕ). onto forwarded.Refused (tailAt y next) (λ (v m : ℕ). forwarded.Is f next))) l 0
-    (λ (r : Refusal). refl) hands (forward-sound l 0 (omega arith)) (go (forwardAt l 0) refl)
+-- and a forward message by itself, whatever reads it
+pub forwarded-refusing-whole : (rd : List ℕ → Forwarded) (l : List ℕ) → Bits l → Sound seenForward rd l 0 → Refusing seenForward (λ (x : List ℕ). onForward forwarded.Refused (rd x) (λ (f : Forward) (next : ℕ). onto forwarded.Refused (tailAt x next) (λ (v m : ℕ). forwarded.Is f next))) l 0
+forwarded-refusing-whole rd l b s =
+    refusing-bind seenForward seenForward forwarded.Refused rd (λ (t : Forwarded) (y : List ℕ). onForward forwarded.Refused t (λ (f : Forward) (next : ℕ). onto forwarded.Refused (tailAt y next) (λ (v m : ℕ). forwarded.Is f next))) l 0
+    (λ (r : Refusal). refl) hands s (go (rd l) refl)
   where
     hands : (t : Forwarded) (r : Refusal) (y : List ℕ) → seenForward t ≡ refused r → onForward forwarded.Refused t (λ (f : Forward) (next : ℕ). onto forwarded.Refused (tailAt y next) (λ (v m : ℕ). forwarded.Is f next)) ≡ forwarded.Refused r
     hands (forwarded.Is f n) r y e = clash n r e
     hands (forwarded.Refused q) r y e = ap forwarded.Refused (one-refusal q r e)
 
-    go : (t : Forwarded) → forwardAt l 0 ≡ t → (n : ℕ) → seenForward t ≡ went n → 0 ≤ n → n ≤ length l → Refusing seenForward (λ (y : List ℕ). onForward forwarded.Refused t (λ (f : Forward) (next : ℕ). onto forwarded.Refused (tailAt y next) (λ (v m : ℕ). forwarded.Is f next))) l n
+    go : (t : Forwarded) → rd l ≡ t → (n : ℕ) → seenForward t ≡ went n → 0 ≤ n → n ≤ length l → Refusing seenForward (λ (y : List ℕ). onForward forwarded.Refused t (λ (f : Forward) (next : ℕ). onto forwarded.Refused (tailAt y next) (λ (v m : ℕ). forwarded.Is f next))) l n
     go (forwarded.Is f j) e n q a w =
         let i : j ≡ n = one-place j n q in
         subst (λ (z : ℕ). Refusing seenForward (λ (y : List ℕ). onto forwarded.Refused (tailAt y j) (λ (v m : ℕ). forwarded.Is f j)) l z) i (behind-refusing seenForward forwarded.Refused (λ (r : Refusal). refl) (forwarded.Is f j) j refl l j b (omega arith))
     go (forwarded.Refused r) e n q a w = clash n r (sym q)
+
+pub forward-refusing-whole : (l : List ℕ) → Bits l → Refusing seenForward wholeForward l 0
+unfolding wholeForwardWithin
+forward-refusing-whole l b = forwarded-refusing-whole (λ (x : List ℕ). forwardAt x 0) l b (forward-sound l 0 (omega arith))

@@ -2,6 +2,7 @@ pub mod Readers
 pub mod Apdus
 pub mod Elements
 pub mod Messages
+pub mod Editions
 pub mod Tail
 pub mod Twelve
 pub mod Later

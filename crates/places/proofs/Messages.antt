@@ -56,7 +56,7 @@ abbrev pub seenMessage : MessageRead → Seen
 seenMessage m = seenStep (m .step)
 
 -- an answer that is only put into another form
-sound-map : {A B : Type 0} (seenA : A → Seen) (seenB : B → Seen) (g : A → B) → ((x : A) → seenB (g x) ≡ seenA x) → (rd : List ℕ → A) (l : List ℕ) (at : ℕ) → Sound seenA rd l at → Sound seenB (λ (m : List ℕ). g (rd m)) l at
+pub sound-map : {A B : Type 0} (seenA : A → Seen) (seenB : B → Seen) (g : A → B) → ((x : A) → seenB (g x) ≡ seenA x) → (rd : List ℕ → A) (l : List ℕ) (at : ℕ) → Sound seenA rd l at → Sound seenB (λ (m : List ℕ). g (rd m)) l at
 sound-map {A} {B} seenA seenB g same rd l at s =
     record {
       next = λ (n : ℕ) (e : seenB (g (rd l)) ≡ went n).

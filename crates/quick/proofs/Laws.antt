@@ -52,7 +52,7 @@ quick-refused limit pdus l at r e = rw e
 -- ---- accepted: the same kind and mode
 
 -- the mode of a kind that has one
-abbrev modeWith : Kind → ℕ → ℕ
+abbrev pub modeWith : Kind → ℕ → ℕ
 modeWith kind.AbortUser m = 0
 modeWith kind.AbortProvider m = 0
 modeWith kind.Start m = m
@@ -61,7 +61,7 @@ modeWith kind.Forward m = 0
 modeWith kind.ForwardResponse m = 0
 
 -- an APDU of a kind and a mode
-record Of (c : Kind) (m : ℕ) (a : Apdu) : Type 0 where
+pub record Of (c : Kind) (m : ℕ) (a : Apdu) : Type 0 where
   pub kind : kindIn a ≡ c
   pub mode : modeIn a ≡ modeWith c m
 
@@ -73,15 +73,15 @@ ended-is l n x a e = by (tailAt l n) e
     by (Value v next) k = cc
     by (Refused r) k = never (cc)
 
-by-field : (f : Field) (l : List ℕ) (make : ℕ → Apdu) (a : Apdu) (A : Type 0) → ((r : ℕ) → make r ≡ a → A) → onto decoded.Refused f (λ (r next : ℕ). endedAt l next (make r)) ≡ decoded.Is a → A
+pub by-field : (f : Field) (l : List ℕ) (make : ℕ → Apdu) (a : Apdu) (A : Type 0) → ((r : ℕ) → make r ≡ a → A) → onto decoded.Refused f (λ (r next : ℕ). endedAt l next (make r)) ≡ decoded.Is a → A
 by-field (Value r next) l make a A k e = k r (ended-is l next (make r) a e)
 by-field (Refused r) l make a A k e = never (cc)
 
-by-data : (t : Taken) (l : List ℕ) (make : Data → Apdu) (a : Apdu) (A : Type 0) → ((d : Data) → make d ≡ a → A) → onData t (λ (d : Data) (next : ℕ). endedAt l next (make d)) ≡ decoded.Is a → A
+pub by-data : (t : Taken) (l : List ℕ) (make : Data → Apdu) (a : Apdu) (A : Type 0) → ((d : Data) → make d ≡ a → A) → onData t (λ (d : Data) (next : ℕ). endedAt l next (make d)) ≡ decoded.Is a → A
 by-data (taken.Is d next) l make a A k e = k d (ended-is l next (make d) a e)
 by-data (taken.Refused r) l make a A k e = never (cc)
 
-by-forward : (t : Forwarded) (l : List ℕ) (make : Forward → Apdu) (a : Apdu) (A : Type 0) → ((f : Forward) → make f ≡ a → A) → onForward decoded.Refused t (λ (f : Forward) (next : ℕ). endedAt l next (make f)) ≡ decoded.Is a → A
+pub by-forward : (t : Forwarded) (l : List ℕ) (make : Forward → Apdu) (a : Apdu) (A : Type 0) → ((f : Forward) → make f ≡ a → A) → onForward decoded.Refused t (λ (f : Forward) (next : ℕ). endedAt l next (make f)) ≡ decoded.Is a → A
 by-forward (forwarded.Is f next) l make a A k e = k f (ended-is l next (make f) a e)
 by-forward (forwarded.Refused r) l make a A k e = never (cc)
 
@@ -119,16 +119,20 @@ lead-mode pdus l at c m n e = first (extensibleIndex l at (lastOf pdus)) e
     first (Value i p) g = second i (kindMode pdus l (kindOf i) p) (λ (v q : ℕ) (h : kindMode pdus l (kindOf i) p ≡ Value v q). kind-mode pdus l (kindOf i) p v q h) g
     first (Refused r) g = never (cc)
 
-pub quick-accepted : (limit : ℕ) (pdus : PduType) (l : List ℕ) (at : ℕ) (a : Apdu) → apduWithin limit pdus l at ≡ decoded.Is a → Leads (leadingAt pdus l at) a
-unfolding apduWithin
-quick-accepted limit pdus l at a e = by (leadingAt pdus l at) refl e
+-- over any rest that keeps its kind and mode
+pub led-accepted : (rest : Kind → ℕ → ℕ → Decoded) (pdus : PduType) (l : List ℕ) (at : ℕ) (a : Apdu) → ((c : Kind) (m n : ℕ) → rest c m n ≡ decoded.Is a → Of c m a) → onLead (leadingAt pdus l at) rest ≡ decoded.Is a → Leads (leadingAt pdus l at) a
+led-accepted rest pdus l at a of e = by (leadingAt pdus l at) refl e
   where
-    by : (t : Lead) → leadingAt pdus l at ≡ t → onLead t (restWithin limit l) ≡ decoded.Is a → Leads (leadingAt pdus l at) a
+    by : (t : Lead) → leadingAt pdus l at ≡ t → onLead t rest ≡ decoded.Is a → Leads (leadingAt pdus l at) a
     by (lead.Is c m n) g k =
-        let o = rest-of limit l c m n a k in
+        let o = of c m n k in
         let q = lead-mode pdus l at c m n g in
         record { next = n; says = g ∙ rw (o .kind, o .mode, ← q) }
     by (lead.Refused r) g k = never (cc)
+
+pub quick-accepted : (limit : ℕ) (pdus : PduType) (l : List ℕ) (at : ℕ) (a : Apdu) → apduWithin limit pdus l at ≡ decoded.Is a → Leads (leadingAt pdus l at) a
+unfolding apduWithin
+quick-accepted limit pdus l at a e = led-accepted (restWithin limit l) pdus l at a (λ (c : Kind) (m n : ℕ) (k : restWithin limit l c m n ≡ decoded.Is a). rest-of limit l c m n a k) e
 
 -- so what it refuses is refused, and it claims no fault of the whole that it has not seen: of an accepted APDU it refuses nothing
 pub quick-never : (limit : ℕ) (pdus : PduType) (l : List ℕ) (at : ℕ) (a : Apdu) (r : Refusal) → apduWithin limit pdus l at ≡ decoded.Is a → leadingAt pdus l at ≡ lead.Refused r → ⊥

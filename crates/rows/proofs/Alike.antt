@@ -36,6 +36,7 @@ built r g c t u k z s x y w =
             policy = r .policy;
             forwards = r .forwards;
             version = r .version;
+            edition = r .edition;
           };
       invoked = invokes r g s;
       told = indicationOf r g y w;
@@ -126,6 +127,7 @@ keeping r g k =
       policy = r .policy;
       forwards = r .forwards;
       version = r .version;
+      edition = r .edition;
     }
 
 pub moved : (r : Record) (g : Parameters) (c : Control) (k s x y w : ℕ) → outcomeOf r g (out c (until c n.asIs) (until c n.asIs) k n.taken s x y w) ≡ outcome (enter (keeping r g k) c) (invokes r g s) (indicationOf r g y w) (apduOf g s x) (hands y)

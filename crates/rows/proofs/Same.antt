@@ -5,10 +5,12 @@ use mathlib.Core.Bool.{Bool, true, false, not, cond, _&&_, _||_}
 use mathlib.Core.List.{List, [], _∷_}
 use Prim.Native.Nat.{ℕ}
 use lib.Dec.{T, eqb, leb}
-use Rattle.control.specs.Control.{isIdle, entered, mayStart, other, takes, goes, closed, takesForward, forwarding, awaitsResponse, expects, after}
+use Rattle.control.specs.Control.{is, isIdle, entered, mayStart, other, takes, goes, closed, takesForward, forwarding, awaitsResponse, expects, after}
 use Rattle.control.specs.declared.Side.{Side}
 use Rattle.control.specs.declared.Side.the-variants.{Air, Ground}
 use Rattle.control.specs.declared.Control.{Control}
+use Rattle.control.specs.declared.State.{State}
+use Rattle.control.specs.declared.State.the-variants as st
 use Rattle.control.specs.declared.Reply.{Reply}
 use Rattle.control.specs.declared.Reply.the-variants.{Accepted, Rejected}
 use Rattle.control.specs.declared.Call.{Call}
@@ -23,7 +25,7 @@ use Rattle.machine.specs.Outcome.{isNone, refused, outcome}
 use Rattle.machine.specs.Exceptions.{tell, closes, aborts, excepts, timerExpires, systemError, noInstruction}
 use Rattle.machine.specs.Calls.{replyOf, sent as sending, startRequest, startResponse, messageRequest, endRequest, endResponse, userAbort, callOf, unsent, called}
 use Rattle.machine.specs.Forwards.{forwardRequest, responds, forwardArrives, forwardConfirmed}
-use Rattle.machine.specs.Faults.{turnedAway, pduFault, peerFits, fromCentre, startFits, indicationFault, responseFault, confirmationFault, sendFault, abortFault, firstFault}
+use Rattle.machine.specs.Faults.{differs, sendAllowed, turnedAway, pduFault, peerFits, fromCentre, startFits, indicationFault, responseFault, confirmationFault, sendFault, abortFault, firstFault}
 use Rattle.machine.specs.Primitives.{handed, abortTold, instructed, answered, reached}
 use Rattle.machine.specs.Step.{permitted, messageRefusal, refusalFitting, acts, stepFitting, step}
 use Rattle.machine.proofs.Fitting.{step-shape, step-of-fitting}
@@ -49,10 +51,11 @@ use Rattle.machine.specs.declared.outcome.Outcome.{Outcome}
 use Rattle.numbered.specs.Numbers.{isStale, numberedStep}
 use Rattle.numbered.proofs.Laws.{shape-first, then-stale, then-fitting}
 use Rattle.rows.specs.Names as n
-use Rattle.rows.specs.Events.{parameters, userTitle, serviceTitle, pduFirst, userCondition, forwardCondition, startCondition, answerCondition, sendCondition, serviceCondition, userParameters, serviceParameters, parametersOf, titleOf, conditionOf}
+use Rattle.rows.specs.Events.{carried, parameters, userTitle, serviceTitle, pduFirst, userCondition, forwardCondition, startCondition, answerCondition, sendCondition, serviceCondition, userParameters, serviceParameters, parametersOf, titleOf, conditionOf}
 use Rattle.rows.specs.declared.Parameters.{Parameters}
 use Rattle.rows.specs.declared.Out.{Out}
 use Rattle.rows.specs.Table.{rows}
+use Rattle.editions.specs.Editions.{secures, spares}
 use Rattle.rows.specs.Engine.{refusalIs, walk, outcomeOf, rowOf, rowsStep, rowsNumbered}
 use Rattle.rows.proofs.Wanted.{out, alike, until, refusedOut, callOut, callWanted, callTitle, users, exceptOut, quietOut, answerOut, handedOut, startFault, startInstruction, canSee, startWanted, startConditions, confirmationConditions, isAccepted, confirmedFault, respondedFault, confirmationWanted, sendConditions, sendWanted, abortConditions, toldOut, abortWanted, failWanted, mem, call-alike, empty-alike, again-alike, forward-alike, start-alike, accepted-alike, rejected-alike, data-alike, end-alike, ended-alike, unended-alike, abort-alike, failing-alike, expiry-alike, stopped-alike, error-alike}
 use Rattle.rows.proofs.Alike.{alike-does, there, keeping, moved}
@@ -70,10 +73,10 @@ refused-does r g z = there r g (r .control) n.asIs n.asIs n.nothing z n.silent 0
 
 -- ---- user requests and responses
 
-start-does : (r : Record) (k s : ℕ) (d : Bool) → outcomeOf r (parameters k s 0 0 0 0 Absent) (callOut (r .control) (StartRequest d)) ≡ startRequest r d k s
+start-does : (r : Record) (k s : ℕ) (d : Bool) → outcomeOf r (parameters k (carried r s) 0 0 0 0 Absent) (callOut (r .control) (StartRequest d)) ≡ startRequest r d k s
 unfolding startRequest sending enter
-start-does r k s true = there r (parameters k s 0 0 0 0 Absent) (goes (r .control) (StartRequest true)) n.yes n.yes n.security n.taken n.dscStartOut 0 n.untold 0
-start-does r k s false = there r (parameters k s 0 0 0 0 Absent) (goes (r .control) (StartRequest false)) n.yes n.yes n.security n.taken n.startOut 0 n.untold 0
+start-does r k s true = there r (parameters k (carried r s) 0 0 0 0 Absent) (goes (r .control) (StartRequest true)) n.yes n.yes n.security n.taken n.dscStartOut 0 n.untold 0
+start-does r k s false = there r (parameters k (carried r s) 0 0 0 0 Absent) (goes (r .control) (StartRequest false)) n.yes n.yes n.security n.taken n.startOut 0 n.untold 0
 
 -- the title of a response
 reply-title : (x : ℕ) (m h : Bool) → callTitle (StartResponse m (replyOf x)) ≡ userTitle (StartServiceResponse m x h)
@@ -124,27 +127,27 @@ message-does sd r g false l o p = alike-does r g _ _ (empty-alike sd (r .control
     go true = refused-does r g n.withoutMessage
     go false = refused-does r g n.prohibited
 
-user-same : (sd : Side) (r : Record) (u : UserPrimitive) → outcomeOf r (userParameters u) (walk rows sd (r .control) (userTitle u) (userCondition r u)) ≡ stepFitting sd r (User u)
+user-same : (sd : Side) (r : Record) (u : UserPrimitive) → outcomeOf r (userParameters r u) (walk rows sd (r .control) (userTitle u) (userCondition r u)) ≡ stepFitting sd r (User u)
 unfolding stepFitting refusalFitting permitted messageRefusal acts called callOf unsent startResponse messageRequest endRequest endResponse userAbort sending
 user-same sd r (StartServiceRequest m k s) =
-    call-does sd r (parameters k s 0 0 0 0 Absent) _ (StartRequest (isDsc m)) (startRequest r (isDsc m) k s) refl refl (start-does r k s (isDsc m)) ∙ by-takes (takes sd (r .control) (StartRequest (isDsc m))) (startRequest r (isDsc m) k s) r
+    call-does sd r (parameters k (carried r s) 0 0 0 0 Absent) _ (StartRequest (isDsc m)) (startRequest r (isDsc m) k s) refl refl (start-does r k s (isDsc m)) ∙ by-takes (takes sd (r .control) (StartRequest (isDsc m))) (startRequest r (isDsc m) k s) r
 user-same sd r (StartServiceResponse m x h) =
-    call-does sd r (parameters 0 0 x 0 0 0 Absent) _ (StartResponse m (replyOf x)) _ refl (reply-title x m h) (moved r (parameters 0 0 x 0 0 0 Absent) (goes (r .control) (StartResponse m (replyOf x))) n.nothing n.startAnswer 0 n.untold 0) ∙ by-takes (takes sd (r .control) (StartResponse m (replyOf x))) _ r
+    call-does sd r (userParameters r (StartServiceResponse m x h)) _ (StartResponse m (replyOf x)) _ refl (reply-title x m h) (moved r (userParameters r (StartServiceResponse m x h)) (goes (r .control) (StartResponse m (replyOf x))) n.nothing n.startAnswer 0 n.untold 0) ∙ by-takes (takes sd (r .control) (StartResponse m (replyOf x))) _ r
 user-same sd r (MessageServiceRequest h j) =
-    message-does sd r (parameters 0 0 0 j 0 0 Absent) h (leb j (r .highest)) _ (moved r (parameters 0 0 0 j 0 0 Absent) (goes (r .control) MessageRequest) n.job n.dataOut 0 n.untold 0)
+    message-does sd r (parameters 0 0 0 j 0 0 Send) h (leb j (r .highest)) _ (moved r (parameters 0 0 0 j 0 0 Send) (goes (r .control) MessageRequest) n.job n.dataOut 0 n.untold 0)
 user-same sd r (EndServiceRequest m h) =
-    call-does sd r (parameters 0 0 0 0 0 0 Absent) _ (EndRequest m) _ refl refl (moved r (parameters 0 0 0 0 0 0 Absent) (goes (r .control) (EndRequest m)) n.nothing n.endOut 0 n.untold 0) ∙ by-takes (takes sd (r .control) (EndRequest m)) _ r
+    call-does sd r (userParameters r (EndServiceRequest m h)) _ (EndRequest m) _ refl refl (moved r (userParameters r (EndServiceRequest m h)) (goes (r .control) (EndRequest m)) n.nothing n.endOut 0 n.untold 0) ∙ by-takes (takes sd (r .control) (EndRequest m)) _ r
 user-same sd r (EndServiceResponse m x h) =
-    call-does sd r (parameters 0 0 x 0 0 0 Absent) _ (EndResponse m (replyOf x)) _ refl (end-title x m h) (moved r (parameters 0 0 x 0 0 0 Absent) (goes (r .control) (EndResponse m (replyOf x))) n.nothing n.endAnswer 0 n.untold 0) ∙ by-takes (takes sd (r .control) (EndResponse m (replyOf x))) _ r
+    call-does sd r (userParameters r (EndServiceResponse m x h)) _ (EndResponse m (replyOf x)) _ refl (end-title x m h) (moved r (userParameters r (EndServiceResponse m x h)) (goes (r .control) (EndResponse m (replyOf x))) n.nothing n.endAnswer 0 n.untold 0) ∙ by-takes (takes sd (r .control) (EndResponse m (replyOf x))) _ r
 user-same sd r (UserAbortServiceRequest g x) =
-    call-does sd r (userParameters (UserAbortServiceRequest g x)) n.userAbort UserAbort _ refl refl (moved r (userParameters (UserAbortServiceRequest g x)) closed n.nothing n.abortByUser 0 n.untold 0) ∙ by-takes (takes sd (r .control) UserAbort) _ r
+    call-does sd r (userParameters r (UserAbortServiceRequest g x)) n.userAbort UserAbort _ refl refl (moved r (userParameters r (UserAbortServiceRequest g x)) closed n.nothing n.abortByUser 0 n.untold 0) ∙ by-takes (takes sd (r .control) UserAbort) _ r
 
-forward-same : (sd : Side) (r : Record) (k s : ℕ) → outcomeOf r (parameters k s 0 0 0 0 Absent) (walk rows sd (r .control) n.forwardRequest n.plain) ≡ stepFitting sd r (Forward k s)
+forward-same : (sd : Side) (r : Record) (k s : ℕ) → outcomeOf r (parameters k (carried r s) 0 0 0 0 Absent) (walk rows sd (r .control) n.forwardRequest n.plain) ≡ stepFitting sd r (Forward k s)
 unfolding stepFitting refusalFitting permitted messageRefusal acts forwardRequest enter
 forward-same sd r k s =
-    alike-does r (parameters k s 0 0 0 0 Absent) _ _ (forward-alike sd (r .control))
-    ∙ chosen (outcomeOf r (parameters k s 0 0 0 0 Absent)) (takesForward sd (r .control)) (out (forwarding (r .control)) n.yes n.yes n.security n.taken n.forwardOut 0 n.untold 0) (refusedOut (r .control) n.prohibited) (forwardRequest r k s) (refused Prohibited r)
-    (there r (parameters k s 0 0 0 0 Absent) (forwarding (r .control)) n.yes n.yes n.security n.taken n.forwardOut 0 n.untold 0) (refused-does r (parameters k s 0 0 0 0 Absent) n.prohibited)
+    alike-does r (parameters k (carried r s) 0 0 0 0 Absent) _ _ (forward-alike sd (r .control))
+    ∙ chosen (outcomeOf r (parameters k (carried r s) 0 0 0 0 Absent)) (takesForward sd (r .control)) (out (forwarding (r .control)) n.yes n.yes n.security n.taken n.forwardOut 0 n.untold 0) (refusedOut (r .control) n.prohibited) (forwardRequest r k s) (refused Prohibited r)
+    (there r (parameters k (carried r s) 0 0 0 0 Absent) (forwarding (r .control)) n.yes n.yes n.security n.taken n.forwardOut 0 n.untold 0) (refused-does r (parameters k (carried r s) 0 0 0 0 Absent) n.prohibited)
     ∙ by-takes (takesForward sd (r .control)) (forwardRequest r k s) r
 
 -- ---- faults
@@ -178,73 +181,75 @@ isFault (NotPermitted live) = true
 
 module _ (r : Record) (p : ServicePrimitive) (a : UserData) (d : Out) where
   -- what is done about a fault, whatever the instruction is
-  fault-does : (f : Fault) → isFault f ≡ true → outcomeOf r (serviceParameters p a) (answerOut (r .control) d f) ≡ answered r p a f
+  fault-does : (f : Fault) → isFault f ≡ true → outcomeOf r (serviceParameters r p a) (answerOut (r .control) d f) ≡ answered r p a f
   unfolding answered noInstruction
   fault-does NoFault e = absurd (subst T (sym e) tt)
   fault-does (NoInstruction live) e =
-      chosen (outcomeOf r (serviceParameters p a)) (isIdle (r .control)) quietOut (exceptOut live 3 3) (closes r Untold) (excepts r live 3 3) (quiet-does r (serviceParameters p a)) (except-does r (serviceParameters p a) live 3 3)
-  fault-does Quality e = quality-does r (serviceParameters p a)
-  fault-does TurnedAway e = away-does r (serviceParameters p a)
-  fault-does (Security live) e = except-does r (serviceParameters p a) live 5 5
-  fault-does Missing e = except-does r (serviceParameters p a) true 7 8
-  fault-does (Invalid live) e = except-does r (serviceParameters p a) live 2 2
-  fault-does (NotPermitted live) e = except-does r (serviceParameters p a) live 3 3
+      chosen (outcomeOf r (serviceParameters r p a)) (isIdle (r .control)) quietOut (exceptOut live 3 3) (closes r Untold) (excepts r live 3 3) (quiet-does r (serviceParameters r p a)) (except-does r (serviceParameters r p a) live 3 3)
+  fault-does Quality e = quality-does r (serviceParameters r p a)
+  fault-does TurnedAway e = away-does r (serviceParameters r p a)
+  fault-does (Security live) e = except-does r (serviceParameters r p a) live 5 5
+  fault-does Missing e = except-does r (serviceParameters r p a) true 7 8
+  fault-does (Invalid live) e = except-does r (serviceParameters r p a) live 2 2
+  fault-does (NotPermitted live) e = except-does r (serviceParameters r p a) live 3 3
 
 -- ---- a primitive whose PDU is to be a send
 
 module _ (sd : Side) (r : Record) (p : ServicePrimitive) (q : Primitive) (live : Bool) (y : ℕ) where
-  -- x: is it expected
-  send-does : (x : Bool) (a : UserData) → outcomeOf r (serviceParameters p a) (handedOut (r .control) q n.asIs n.asIs y) ≡ instructed r p a
-      → outcomeOf r (serviceParameters p a) (answerOut (r .control) (handedOut (r .control) q n.asIs n.asIs y) (cond (not x) (NoInstruction true) (cond (eqb (sendCondition a) n.noPdu) Missing (cond (eqb (sendCondition a) n.invalidPdu) (Invalid live) (cond (eqb (sendCondition a) n.send) NoFault (NotPermitted live))))))
-      ≡ answered r p a (cond (not x) (NoInstruction true) (pduFault false (isSend a) live live a NoFault))
+  -- may: may there be no PDU; x: is it expected
+  send-does : (may x : Bool) (a : UserData) → outcomeOf r (serviceParameters r p a) (handedOut (r .control) q n.asIs n.asIs y) ≡ instructed r p a
+      → outcomeOf r (serviceParameters r p a) (answerOut (r .control) (handedOut (r .control) q n.asIs n.asIs y) (cond (not x) (NoInstruction true) (cond (eqb (sendCondition may a) n.noPdu) Missing (cond (eqb (sendCondition may a) n.invalidPdu) (Invalid live) (cond (eqb (sendCondition may a) n.send) NoFault (NotPermitted live))))))
+      ≡ answered r p a (cond (not x) (NoInstruction true) (pduFault may (isSend a) live live a NoFault))
   unfolding pduFault answered
-  send-does false a h = fault-does r p a (handedOut (r .control) q n.asIs n.asIs y) (NoInstruction true) refl
-  send-does true Absent h = fault-does r p Absent (handedOut (r .control) q n.asIs n.asIs y) Missing refl
-  send-does true NotValid h = fault-does r p NotValid (handedOut (r .control) q n.asIs n.asIs y) (Invalid live) refl
-  send-does true (Start m) h = fault-does r p (Start m) (handedOut (r .control) q n.asIs n.asIs y) (NotPermitted live) refl
-  send-does true Send h = h
-  send-does true (AbortUser w) h = fault-does r p (AbortUser w) (handedOut (r .control) q n.asIs n.asIs y) (NotPermitted live) refl
-  send-does true (AbortProvider w) h = fault-does r p (AbortProvider w) (handedOut (r .control) q n.asIs n.asIs y) (NotPermitted live) refl
-  send-does true pdu.Forward h = fault-does r p pdu.Forward (handedOut (r .control) q n.asIs n.asIs y) (NotPermitted live) refl
-  send-does true (ForwardResponse w) h = fault-does r p (ForwardResponse w) (handedOut (r .control) q n.asIs n.asIs y) (NotPermitted live) refl
+  send-does may false a h = fault-does r p a (handedOut (r .control) q n.asIs n.asIs y) (NoInstruction true) refl
+  send-does true true Absent h = h
+  send-does false true Absent h = fault-does r p Absent (handedOut (r .control) q n.asIs n.asIs y) Missing refl
+  send-does may true NotValid h = fault-does r p NotValid (handedOut (r .control) q n.asIs n.asIs y) (Invalid live) refl
+  send-does may true (Start m) h = fault-does r p (Start m) (handedOut (r .control) q n.asIs n.asIs y) (NotPermitted live) refl
+  send-does may true Send h = h
+  send-does may true (AbortUser w) h = fault-does r p (AbortUser w) (handedOut (r .control) q n.asIs n.asIs y) (NotPermitted live) refl
+  send-does may true (AbortProvider w) h = fault-does r p (AbortProvider w) (handedOut (r .control) q n.asIs n.asIs y) (NotPermitted live) refl
+  send-does may true pdu.Forward h = fault-does r p pdu.Forward (handedOut (r .control) q n.asIs n.asIs y) (NotPermitted live) refl
+  send-does may true (ForwardResponse w) h = fault-does r p (ForwardResponse w) (handedOut (r .control) q n.asIs n.asIs y) (NotPermitted live) refl
 
-send-among : (a : UserData) → mem sendConditions (sendCondition a) ≡ true
+send-among : (may : Bool) (a : UserData) → mem sendConditions (sendCondition may a) ≡ true
 unfolding mem
-send-among Absent = refl
-send-among NotValid = refl
-send-among (Start m) = refl
-send-among Send = refl
-send-among (AbortUser w) = refl
-send-among (AbortProvider w) = refl
-send-among pdu.Forward = refl
-send-among (ForwardResponse w) = refl
+send-among true Absent = refl
+send-among false Absent = refl
+send-among may NotValid = refl
+send-among may (Start m) = refl
+send-among may Send = refl
+send-among may (AbortUser w) = refl
+send-among may (AbortProvider w) = refl
+send-among may pdu.Forward = refl
+send-among may (ForwardResponse w) = refl
 
-data-same : (sd : Side) (r : Record) (a : UserData) → outcomeOf r (serviceParameters DDataIndication a) (walk rows sd (r .control) n.dData (sendCondition a)) ≡ reached sd r DDataIndication a
+data-same : (sd : Side) (r : Record) (a : UserData) → outcomeOf r (serviceParameters r DDataIndication a) (walk rows sd (r .control) n.dData (sendCondition false a)) ≡ reached sd r DDataIndication a
 unfolding reached firstFault sendFault instructed handed
 data-same sd r a =
-    alike-does r (serviceParameters DDataIndication a) _ _ (data-alike sd (r .control) (sendCondition a) (send-among a))
-    ∙ send-does sd r DDataIndication DData true n.messageIndication (expects sd (r .control) DData) a (moved r (serviceParameters DDataIndication a) (after (r .control) DData) n.nothing n.silent 0 n.messageIndication 0)
+    alike-does r (serviceParameters r DDataIndication a) _ _ (data-alike sd (r .control) (sendCondition false a) (send-among false a))
+    ∙ send-does sd r DDataIndication DData true n.messageIndication false (expects sd (r .control) DData) a (moved r (serviceParameters r DDataIndication a) (after (r .control) DData) n.nothing n.silent 0 n.messageIndication 0)
 
-end-same : (sd : Side) (r : Record) (a : UserData) → outcomeOf r (serviceParameters DEndIndication a) (walk rows sd (r .control) n.dEnd (sendCondition a)) ≡ reached sd r DEndIndication a
+end-same : (sd : Side) (r : Record) (a : UserData) → outcomeOf r (serviceParameters r DEndIndication a) (walk rows sd (r .control) n.dEnd (sendCondition (spares (r .edition)) a)) ≡ reached sd r DEndIndication a
 unfolding reached firstFault sendFault instructed handed
 end-same sd r a =
-    alike-does r (serviceParameters DEndIndication a) _ _ (end-alike sd (r .control) (sendCondition a) (send-among a))
-    ∙ send-does sd r DEndIndication DEnd true n.endIndication (expects sd (r .control) DEnd) a (moved r (serviceParameters DEndIndication a) (after (r .control) DEnd) n.nothing n.silent 0 n.endIndication 0)
+    alike-does r (serviceParameters r DEndIndication a) _ _ (end-alike sd (r .control) (sendCondition (spares (r .edition)) a) (send-among (spares (r .edition)) a))
+    ∙ send-does sd r DEndIndication DEnd true n.endIndication (spares (r .edition)) (expects sd (r .control) DEnd) a (moved r (serviceParameters r DEndIndication a) (after (r .control) DEnd) n.nothing n.silent 0 n.endIndication 0)
 
 -- b: is it accepted
 end-confirmed : (sd : Side) (r : Record) (x : ℕ) (a : UserData) (b : Bool) → eqb x accepted ≡ b
-    → outcomeOf r (serviceParameters (DEndConfirmation x) a) (walk rows sd (r .control) (cond b n.dEndAccepted n.dEndRejected) (sendCondition a)) ≡ reached sd r (DEndConfirmation x) a
+    → outcomeOf r (serviceParameters r (DEndConfirmation x) a) (walk rows sd (r .control) (cond b n.dEndAccepted n.dEndRejected) (sendCondition (spares (r .edition)) a)) ≡ reached sd r (DEndConfirmation x) a
 unfolding reached firstFault sendFault instructed handed replyOf
 end-confirmed sd r x a true e =
-    let g = serviceParameters (DEndConfirmation x) a in
-    let h : outcomeOf r g (sendWanted sd (r .control) (DEndCnf Accepted) false n.endConfirmation (sendCondition a)) ≡ reached sd r (DEndConfirmation x) a
-    = rw e (send-does sd r (DEndConfirmation x) (DEndCnf Accepted) false n.endConfirmation (expects sd (r .control) (DEndCnf Accepted)) a (rw e (moved r g (after (r .control) (DEndCnf Accepted)) n.nothing n.silent 0 n.endConfirmation 0))) in
-    alike-does r g (walk rows sd (r .control) n.dEndAccepted (sendCondition a)) (sendWanted sd (r .control) (DEndCnf Accepted) false n.endConfirmation (sendCondition a)) (ended-alike sd (r .control) (sendCondition a) (send-among a)) ∙ h
+    let g = serviceParameters r (DEndConfirmation x) a in
+    let h : outcomeOf r g (sendWanted sd (r .control) (DEndCnf Accepted) false n.endConfirmation (sendCondition (spares (r .edition)) a)) ≡ reached sd r (DEndConfirmation x) a
+    = rw e (send-does sd r (DEndConfirmation x) (DEndCnf Accepted) false n.endConfirmation (spares (r .edition)) (expects sd (r .control) (DEndCnf Accepted)) a (rw e (moved r g (after (r .control) (DEndCnf Accepted)) n.nothing n.silent 0 n.endConfirmation 0))) in
+    alike-does r g (walk rows sd (r .control) n.dEndAccepted (sendCondition (spares (r .edition)) a)) (sendWanted sd (r .control) (DEndCnf Accepted) false n.endConfirmation (sendCondition (spares (r .edition)) a)) (ended-alike sd (r .control) (sendCondition (spares (r .edition)) a) (send-among (spares (r .edition)) a)) ∙ h
 end-confirmed sd r x a false e =
-    let g = serviceParameters (DEndConfirmation x) a in
-    let h : outcomeOf r g (sendWanted sd (r .control) (DEndCnf Rejected) true n.endConfirmation (sendCondition a)) ≡ reached sd r (DEndConfirmation x) a
-    = rw e (send-does sd r (DEndConfirmation x) (DEndCnf Rejected) true n.endConfirmation (expects sd (r .control) (DEndCnf Rejected)) a (rw e (moved r g (after (r .control) (DEndCnf Rejected)) n.nothing n.silent 0 n.endConfirmation 0))) in
-    alike-does r g (walk rows sd (r .control) n.dEndRejected (sendCondition a)) (sendWanted sd (r .control) (DEndCnf Rejected) true n.endConfirmation (sendCondition a)) (unended-alike sd (r .control) (sendCondition a) (send-among a)) ∙ h
+    let g = serviceParameters r (DEndConfirmation x) a in
+    let h : outcomeOf r g (sendWanted sd (r .control) (DEndCnf Rejected) true n.endConfirmation (sendCondition (spares (r .edition)) a)) ≡ reached sd r (DEndConfirmation x) a
+    = rw e (send-does sd r (DEndConfirmation x) (DEndCnf Rejected) true n.endConfirmation (spares (r .edition)) (expects sd (r .control) (DEndCnf Rejected)) a (rw e (moved r g (after (r .control) (DEndCnf Rejected)) n.nothing n.silent 0 n.endConfirmation 0))) in
+    alike-does r g (walk rows sd (r .control) n.dEndRejected (sendCondition (spares (r .edition)) a)) (sendWanted sd (r .control) (DEndCnf Rejected) true n.endConfirmation (sendCondition (spares (r .edition)) a)) (unended-alike sd (r .control) (sendCondition (spares (r .edition)) a) (send-among (spares (r .edition)) a)) ∙ h
 
 -- ---- aborts
 
@@ -271,28 +276,28 @@ pdu-told r p g = refl
 
 -- x: is it expected, f: does it fit
 abort-does : (r : Record) (o : ℕ) (a : UserData) (x f : Bool)
-    → outcomeOf r (serviceParameters (DAbortIndication o) a) (answerOut (r .control) (toldOut n.abortOfPdu 0) (cond (not x) (NoInstruction false) (cond (not f) (NoInstruction false) NoFault))) ≡ answered r (DAbortIndication o) a (cond (not x) (NoInstruction false) (cond (not f) (NoInstruction false) NoFault))
+    → outcomeOf r (serviceParameters r (DAbortIndication o) a) (answerOut (r .control) (toldOut n.abortOfPdu 0) (cond (not x) (NoInstruction false) (cond (not f) (NoInstruction false) NoFault))) ≡ answered r (DAbortIndication o) a (cond (not x) (NoInstruction false) (cond (not f) (NoInstruction false) NoFault))
 unfolding answered instructed
-abort-does r o a true true = pdu-told r (DAbortIndication o) (serviceParameters (DAbortIndication o) a)
+abort-does r o a true true = pdu-told r (DAbortIndication o) (serviceParameters r (DAbortIndication o) a)
 abort-does r o a true false = fault-does r (DAbortIndication o) a (toldOut n.abortOfPdu 0) (NoInstruction false) refl
 abort-does r o a false f = fault-does r (DAbortIndication o) a (toldOut n.abortOfPdu 0) (NoInstruction false) refl
 
-abort-same : (sd : Side) (r : Record) (o : ℕ) (a : UserData) → outcomeOf r (serviceParameters (DAbortIndication o) a) (walk rows sd (r .control) n.dAbort (serviceCondition sd r (DAbortIndication o) a)) ≡ reached sd r (DAbortIndication o) a
+abort-same : (sd : Side) (r : Record) (o : ℕ) (a : UserData) → outcomeOf r (serviceParameters r (DAbortIndication o) a) (walk rows sd (r .control) n.dAbort (serviceCondition sd r (DAbortIndication o) a)) ≡ reached sd r (DAbortIndication o) a
 unfolding reached firstFault abortFault
 abort-same sd r o a =
-    alike-does r (serviceParameters (DAbortIndication o) a) _ _ (abort-alike sd (r .control) (serviceCondition sd r (DAbortIndication o) a) (abort-among (eqb o user) (eqb o provider) (isUserAbort a) (isProviderAbort a)))
-    ∙ ap (λ (z : Bool). outcomeOf r (serviceParameters (DAbortIndication o) a) (answerOut (r .control) (toldOut n.abortOfPdu 0) (cond (not (expects sd (r .control) DAbort)) (NoInstruction false) (cond z (NoInstruction false) NoFault)))) (abort-other (eqb o user) (eqb o provider) (isUserAbort a) (isProviderAbort a))
+    alike-does r (serviceParameters r (DAbortIndication o) a) _ _ (abort-alike sd (r .control) (serviceCondition sd r (DAbortIndication o) a) (abort-among (eqb o user) (eqb o provider) (isUserAbort a) (isProviderAbort a)))
+    ∙ ap (λ (z : Bool). outcomeOf r (serviceParameters r (DAbortIndication o) a) (answerOut (r .control) (toldOut n.abortOfPdu 0) (cond (not (expects sd (r .control) DAbort)) (NoInstruction false) (cond z (NoInstruction false) NoFault)))) (abort-other (eqb o user) (eqb o provider) (isUserAbort a) (isProviderAbort a))
     ∙ abort-does r o a (expects sd (r .control) DAbort) (abortFits o a)
 
 failing-does : (r : Record) (a : UserData) (x : Bool)
-    → outcomeOf r (serviceParameters DPAbortIndication a) (answerOut (r .control) (toldOut n.abortFor 5) (cond (not x) (NoInstruction false) NoFault)) ≡ answered r DPAbortIndication a (cond (not x) (NoInstruction false) (cond (not true) (NoInstruction false) NoFault))
+    → outcomeOf r (serviceParameters r DPAbortIndication a) (answerOut (r .control) (toldOut n.abortFor 5) (cond (not x) (NoInstruction false) NoFault)) ≡ answered r DPAbortIndication a (cond (not x) (NoInstruction false) (cond (not true) (NoInstruction false) NoFault))
 unfolding answered instructed outcomeOf closes tell enter
 failing-does r a true = refl
 failing-does r a false = fault-does r DPAbortIndication a (toldOut n.abortFor 5) (NoInstruction false) refl
 
-failing-same : (sd : Side) (r : Record) (a : UserData) → outcomeOf r (serviceParameters DPAbortIndication a) (walk rows sd (r .control) n.dPAbort n.plain) ≡ reached sd r DPAbortIndication a
+failing-same : (sd : Side) (r : Record) (a : UserData) → outcomeOf r (serviceParameters r DPAbortIndication a) (walk rows sd (r .control) n.dPAbort n.plain) ≡ reached sd r DPAbortIndication a
 unfolding reached firstFault abortFault
-failing-same sd r a = alike-does r (serviceParameters DPAbortIndication a) _ _ (failing-alike sd (r .control)) ∙ failing-does r a (expects sd (r .control) DPAbort)
+failing-same sd r a = alike-does r (serviceParameters r DPAbortIndication a) _ _ (failing-alike sd (r .control)) ∙ failing-does r a (expects sd (r .control) DPAbort)
 
 -- ---- D-START indication
 
@@ -329,12 +334,12 @@ pdu-good Ground m i t d f z w e =
     good-cond Ground m _ _ refl
     (good-cond Ground i _ _ refl (good-cond Ground z _ _ (good-cond Ground f _ _ (good-cond Ground (not w) _ _ refl (good-cond Ground e _ _ refl refl)) refl) (good-cond Ground t _ _ (good-cond Ground d _ _ refl refl) refl)))
 
-start-good : (sd : Side) (r : Record) (x v : ℕ) (a : UserData) → good sd (pduFirst a (startCondition sd r x v a)) ≡ true
+start-good : (sd : Side) (r : Record) (x v : ℕ) (a : UserData) → good sd (pduFirst false a (startCondition sd r x v a)) ≡ true
 start-good Air r x v a = pdu-good Air (isMissing a) (isInvalid a) (isStartPdu a) (modeOf a) (isForward a) (eqb x 0) (r .forwards) (eqb v (r .version))
 start-good Ground r x v a = pdu-good Ground (isMissing a) (isInvalid a) (isStartPdu a) (modeOf a) (isForward a) (eqb x 0) (r .forwards) (eqb v (r .version))
 
 indication-good : (sd : Side) (r : Record) (x s v : ℕ) (q : Qos) (a : UserData) → good sd (serviceCondition sd r (DStartIndication x s q v) a) ≡ true
-indication-good sd r x s v q a = good-cond sd (not (qosFits q)) _ _ (quality-good sd) (good-cond sd (not (eqb s (r .policy))) _ _ (security-good sd) (start-good sd r x v a))
+indication-good sd r x s v q a = good-cond sd (not (qosFits q)) _ _ (quality-good sd) (good-cond sd (differs (secures (r .edition)) s (r .policy)) _ _ (security-good sd) (start-good sd r x v a))
 
 module _ (r : Record) (x s v : ℕ) (q : Qos) where
   -- the rest of its fault at an IDLE record
@@ -342,14 +347,14 @@ module _ (r : Record) (x s v : ℕ) (q : Qos) where
   rest sd a i = pduFault false (cond (fromCentre sd x) (isForward a) (isStartPdu a && (i && mayStart (other sd) (modeOf a)))) true true a (cond (peerFits sd x) NoFault (NoInstruction true))
 
   abbrev does : Side → ℕ → UserData → Outcome
-  does sd k a = outcomeOf r (serviceParameters (DStartIndication x s q v) a) (answerOut (r .control) (startInstruction (r .control) k) (startFault sd k))
+  does sd k a = outcomeOf r (serviceParameters r (DStartIndication x s q v) a) (answerOut (r .control) (startInstruction (r .control) k) (startFault sd k))
 
-  invited-does : (a : UserData) (d : Bool) → outcomeOf r (serviceParameters (DStartIndication x s q v) a) (startInstruction (r .control) (cond d n.dscStart n.start)) ≡ instructed r (DStartIndication x s q v) (Start d)
+  invited-does : (a : UserData) (d : Bool) → outcomeOf r (serviceParameters r (DStartIndication x s q v) a) (startInstruction (r .control) (cond d n.dscStart n.start)) ≡ instructed r (DStartIndication x s q v) (Start d)
   unfolding instructed handed enter
-  invited-does a true = there r (serviceParameters (DStartIndication x s q v) a) (after (r .control) (DStart true)) n.asIs n.yes n.nothing n.taken n.silent 0 n.dscStartIndication 0
-  invited-does a false = there r (serviceParameters (DStartIndication x s q v) a) (after (r .control) (DStart false)) n.asIs n.yes n.nothing n.taken n.silent 0 n.startIndication 0
+  invited-does a true = there r (serviceParameters r (DStartIndication x s q v) a) (after (r .control) (DStart true)) n.asIs n.yes n.nothing n.taken n.silent 0 n.dscStartIndication 0
+  invited-does a false = there r (serviceParameters r (DStartIndication x s q v) a) (after (r .control) (DStart false)) n.asIs n.yes n.nothing n.taken n.silent 0 n.startIndication 0
 
-  arrives-does : (w e : Bool) → outcomeOf r (serviceParameters (DStartIndication x s q v) pdu.Forward) (startInstruction (r .control) (cond (not w) n.unsupportedForward (cond e n.equalForward n.otherForward)))
+  arrives-does : (w e : Bool) → outcomeOf r (serviceParameters r (DStartIndication x s q v) pdu.Forward) (startInstruction (r .control) (cond (not w) n.unsupportedForward (cond e n.equalForward n.otherForward)))
       ≡ cond (not w) (responds r 1 s 0 Untold) (cond e (responds r 0 s 0 ForwardIndication) (responds r 2 s (r .version) Untold))
   unfolding outcomeOf responds enter
   arrives-does true true = refl
@@ -363,9 +368,9 @@ module _ (r : Record) (x s v : ℕ) (q : Qos) where
   centre-does false e = arrives-does false e
 
   other-does : (sd : Side) (a : UserData) (k : ℕ) (f : Fault) → startFault sd k ≡ f → isFault f ≡ true → does sd k a ≡ answered r (DStartIndication x s q v) a f
-  other-does sd a k f e t = ap (λ (g : Fault). outcomeOf r (serviceParameters (DStartIndication x s q v) a) (answerOut (r .control) (startInstruction (r .control) k) g)) e ∙ fault-does r (DStartIndication x s q v) a (startInstruction (r .control) k) f t
+  other-does sd a k f e t = ap (λ (g : Fault). outcomeOf r (serviceParameters r (DStartIndication x s q v) a) (answerOut (r .control) (startInstruction (r .control) k) g)) e ∙ fault-does r (DStartIndication x s q v) a (startInstruction (r .control) k) f t
 
-  air-does : (a : UserData) → does Air (pduFirst a (startCondition Air r x v a)) a ≡ answered r (DStartIndication x s q v) a (rest Air a true)
+  air-does : (a : UserData) → does Air (pduFirst false a (startCondition Air r x v a)) a ≡ answered r (DStartIndication x s q v) a (rest Air a true)
   unfolding pduFault answered
   air-does Absent = other-does Air Absent n.noPdu Missing refl refl
   air-does NotValid = other-does Air NotValid n.invalidPdu (Invalid true) refl refl
@@ -386,7 +391,7 @@ module _ (r : Record) (x s v : ℕ) (q : Qos) where
   neither a true = other-does Ground a n.otherPdu (NotPermitted true) refl refl
   neither a false = other-does Ground a n.otherPdu (NotPermitted true) refl refl
 
-  ground-does : (a : UserData) → does Ground (pduFirst a (startCondition Ground r x v a)) a ≡ answered r (DStartIndication x s q v) a (rest Ground a true)
+  ground-does : (a : UserData) → does Ground (pduFirst false a (startCondition Ground r x v a)) a ≡ answered r (DStartIndication x s q v) a (rest Ground a true)
   unfolding pduFault answered instructed forwardArrives
   ground-does Absent = other-does Ground Absent n.noPdu Missing refl refl
   ground-does NotValid = other-does Ground NotValid n.invalidPdu (Invalid true) refl refl
@@ -406,33 +411,41 @@ module _ (r : Record) (x s v : ℕ) (q : Qos) where
       go false = other-does Ground pdu.Forward n.otherPdu (NotPermitted true) refl refl
   ground-does (ForwardResponse w) = neither (ForwardResponse w) (eqb x 0)
 
-  either-does : (sd : Side) (a : UserData) → does sd (pduFirst a (startCondition sd r x v a)) a ≡ answered r (DStartIndication x s q v) a (rest sd a true)
+  either-does : (sd : Side) (a : UserData) → does sd (pduFirst false a (startCondition sd r x v a)) a ≡ answered r (DStartIndication x s q v) a (rest sd a true)
   either-does Air a = air-does a
   either-does Ground a = ground-does a
 
-  -- i: IDLE, m: the quality of service fits, l: so does security
+  -- i: IDLE, m: the quality of service fits, l: security differs
   outer : (sd : Side) (a : UserData) (i m l : Bool)
-      → outcomeOf r (serviceParameters (DStartIndication x s q v) a) (answerOut (r .control) (startInstruction (r .control) (cond (not m) n.wrongQuality (cond (not l) n.wrongSecurity (pduFirst a (startCondition sd r x v a))))) (cond (not i) (NoInstruction true) (startFault sd (cond (not m) n.wrongQuality (cond (not l) n.wrongSecurity (pduFirst a (startCondition sd r x v a)))))))
-      ≡ answered r (DStartIndication x s q v) a (cond (not i) (NoInstruction true) (cond (not m) Quality (cond (not l) (Security true) (rest sd a i))))
-  outer sd a false m l = fault-does r (DStartIndication x s q v) a (startInstruction (r .control) (cond (not m) n.wrongQuality (cond (not l) n.wrongSecurity (pduFirst a (startCondition sd r x v a))))) (NoInstruction true) refl
+      → outcomeOf r (serviceParameters r (DStartIndication x s q v) a) (answerOut (r .control) (startInstruction (r .control) (cond (not m) n.wrongQuality (cond l n.wrongSecurity (pduFirst false a (startCondition sd r x v a))))) (cond (not i) (NoInstruction true) (startFault sd (cond (not m) n.wrongQuality (cond l n.wrongSecurity (pduFirst false a (startCondition sd r x v a)))))))
+      ≡ answered r (DStartIndication x s q v) a (cond (not i) (NoInstruction true) (cond (not m) Quality (cond l (Security true) (rest sd a i))))
+  outer sd a false m l = fault-does r (DStartIndication x s q v) a (startInstruction (r .control) (cond (not m) n.wrongQuality (cond l n.wrongSecurity (pduFirst false a (startCondition sd r x v a))))) (NoInstruction true) refl
   outer sd a true false l = fault-does r (DStartIndication x s q v) a (startInstruction (r .control) n.wrongQuality) Quality refl
-  outer sd a true true false = fault-does r (DStartIndication x s q v) a (startInstruction (r .control) n.wrongSecurity) (Security true) refl
-  outer sd a true true true = either-does sd a
+  outer sd a true true true = fault-does r (DStartIndication x s q v) a (startInstruction (r .control) n.wrongSecurity) (Security true) refl
+  outer sd a true true false = either-does sd a
 
-  indication-same : (sd : Side) (a : UserData) → outcomeOf r (serviceParameters (DStartIndication x s q v) a) (walk rows sd (r .control) n.dStart (serviceCondition sd r (DStartIndication x s q v) a)) ≡ reached sd r (DStartIndication x s q v) a
+  indication-same : (sd : Side) (a : UserData) → outcomeOf r (serviceParameters r (DStartIndication x s q v) a) (walk rows sd (r .control) n.dStart (serviceCondition sd r (DStartIndication x s q v) a)) ≡ reached sd r (DStartIndication x s q v) a
   unfolding reached firstFault indicationFault startFits
   indication-same sd a =
-      alike-does r (serviceParameters (DStartIndication x s q v) a) _ _
+      alike-does r (serviceParameters r (DStartIndication x s q v) a) _ _
       (start-alike sd (r .control) (serviceCondition sd r (DStartIndication x s q v) a) (both-left (mem startConditions (serviceCondition sd r (DStartIndication x s q v) a)) (canSee sd (serviceCondition sd r (DStartIndication x s q v) a)) (indication-good sd r x s v q a)) (both-right (mem startConditions (serviceCondition sd r (DStartIndication x s q v) a)) (canSee sd (serviceCondition sd r (DStartIndication x s q v) a)) (indication-good sd r x s v q a)))
-      ∙ outer sd a (isIdle (r .control)) (qosFits q) (eqb s (r .policy))
+      ∙ outer sd a (isIdle (r .control)) (qosFits q) (differs (secures (r .edition)) s (r .policy))
 
 -- ---- D-START confirmation
 
-answer-among : (t l : Bool) (a : UserData) → mem confirmationConditions (cond t n.turnedAway (cond (not l) n.wrongSecurity (answerCondition a))) ≡ true
+answer-in : (may live : Bool) (a : UserData) → mem confirmationConditions (answerCondition may live a) ≡ true
 unfolding mem
-answer-among t l a =
-    mem-cond confirmationConditions t _ _ refl
-    (mem-cond confirmationConditions (not l) _ _ refl (mem-cond confirmationConditions (isMissing a) _ _ refl (mem-cond confirmationConditions (isInvalid a) _ _ refl (mem-cond confirmationConditions (isSend a) _ _ refl (mem-cond confirmationConditions (isResponse a) _ _ refl refl)))))
+answer-in may live a =
+    mem-cond confirmationConditions (isMissing a) _ _ (mem-cond confirmationConditions may _ _ refl refl)
+    (mem-cond confirmationConditions (isInvalid a) _ _ refl (mem-cond confirmationConditions (sendAllowed may live a) _ _ refl (mem-cond confirmationConditions (isResponse a) _ _ refl refl)))
+
+-- w: in FORWARD, m: may there be no PDU elsewhere
+abbrev condition : Bool → Bool → Bool → UserData → ℕ
+condition w m live a = cond w (answerCondition false live a) (answerCondition m live a)
+
+answer-among : (t l w m live : Bool) (a : UserData) → mem confirmationConditions (cond t n.turnedAway (cond l n.wrongSecurity (condition w m live a))) ≡ true
+unfolding mem
+answer-among t l w m live a = mem-cond confirmationConditions t _ _ refl (mem-cond confirmationConditions l _ _ refl (mem-cond confirmationConditions w _ _ (answer-in false live a) (answer-in m live a)))
 
 abbrev forwardOver : Out
 forwardOver = out closed n.no n.no n.nothing n.taken n.silent 0 n.forwardConfirmation 0
@@ -446,34 +459,43 @@ module _ (r : Record) (x o s v : ℕ) (a : UserData) where
   here = DStartConfirmation x o s v
 
   abbrev does-at : Reply → ℕ → Fault → Outcome
-  does-at b k f = outcomeOf r (serviceParameters here a) (answerOut (r .control) (cond (eqb k n.response) forwardOver (handedOut (r .control) (DStartCnf b) n.no n.asIs n.startConfirmation)) f)
+  does-at b k f = outcomeOf r (serviceParameters r here a) (answerOut (r .control) (cond (eqb k n.response) forwardOver (handedOut (r .control) (DStartCnf b) n.no n.asIs n.startConfirmation)) f)
 
   fails-at : (b : Reply) (k : ℕ) (f : Fault) → isFault f ≡ true → does-at b k f ≡ answered r here a f
   fails-at b k f t = fault-does r here a (cond (eqb k n.response) forwardOver (handedOut (r .control) (DStartCnf b) n.no n.asIs n.startConfirmation)) f t
 
-confirmed-does : (r : Record) (x o s v : ℕ) (b : Reply) → replyOf x ≡ b → outcomeOf r (serviceParameters (DStartConfirmation x o s v) Send) (handedOut (r .control) (DStartCnf b) n.no n.asIs n.startConfirmation) ≡ instructed r (DStartConfirmation x o s v) Send
+confirmed-does : (r : Record) (x o s v : ℕ) (b : Reply) (a : UserData) → isResponse a ≡ false → replyOf x ≡ b → outcomeOf r (serviceParameters r (DStartConfirmation x o s v) a) (handedOut (r .control) (DStartCnf b) n.no n.asIs n.startConfirmation) ≡ instructed r (DStartConfirmation x o s v) a
 unfolding instructed handed enter
-confirmed-does r x o s v Accepted e = rw e (there r (serviceParameters (DStartConfirmation x o s v) Send) (after (r .control) (DStartCnf Accepted)) n.no n.asIs n.nothing n.taken n.silent 0 n.startConfirmation 0)
-confirmed-does r x o s v Rejected e = rw e (there r (serviceParameters (DStartConfirmation x o s v) Send) closed n.no n.no n.nothing n.taken n.silent 0 n.startConfirmation 0)
+confirmed-does r x o s v Accepted a k e = rw (k, e) (there r (serviceParameters r (DStartConfirmation x o s v) a) (after (r .control) (DStartCnf Accepted)) n.no n.asIs n.nothing n.taken n.silent 0 n.startConfirmation 0)
+confirmed-does r x o s v Rejected a k e = rw (k, e) (there r (serviceParameters r (DStartConfirmation x o s v) a) closed n.no n.no n.nothing n.taken n.silent 0 n.startConfirmation 0)
 
-forward-over : (r : Record) (x o s v w : ℕ) → outcomeOf r (serviceParameters (DStartConfirmation x o s v) (ForwardResponse w)) forwardOver ≡ instructed r (DStartConfirmation x o s v) (ForwardResponse w)
+forward-over : (r : Record) (x o s v w : ℕ) → outcomeOf r (serviceParameters r (DStartConfirmation x o s v) (ForwardResponse w)) forwardOver ≡ instructed r (DStartConfirmation x o s v) (ForwardResponse w)
 unfolding instructed outcomeOf forwardConfirmed closes enter
 forward-over r x o s v w = refl
 
--- a start's confirmation whose PDU decides
-sent-back : (r : Record) (x o s v : ℕ) (b : Reply) (a : UserData) → replyOf x ≡ b → does-at r x o s v a b (answerCondition a) (confirmedFault b (answerCondition a)) ≡ answered r (DStartConfirmation x o s v) a (pduFault false (isSend a) (isAccepted b) true a NoFault)
+-- a PDU that is no send is not allowed
+not-allowed : (may live : Bool) → (not (may && live) && false) ≡ false
+not-allowed true true = refl
+not-allowed true false = refl
+not-allowed false live = refl
+
+-- a start's confirmation whose PDU decides; m: may there be none
+sent-back : (r : Record) (x o s v : ℕ) (m : Bool) (b : Reply) (a : UserData) → replyOf x ≡ b → does-at r x o s v a b (answerCondition m (isAccepted b) a) (confirmedFault b (answerCondition m (isAccepted b) a)) ≡ answered r (DStartConfirmation x o s v) a (pduFault m (sendAllowed m (isAccepted b) a) (isAccepted b) true a NoFault)
 unfolding pduFault answered
-sent-back r x o s v b Absent e = fails-at r x o s v Absent b n.noPdu Missing refl
-sent-back r x o s v b NotValid e = fails-at r x o s v NotValid b n.invalidPdu (Invalid (isAccepted b)) refl
-sent-back r x o s v b (Start m) e = fails-at r x o s v (Start m) b n.otherPdu (NotPermitted true) refl
-sent-back r x o s v b Send e = confirmed-does r x o s v b e
-sent-back r x o s v b (AbortUser w) e = fails-at r x o s v (AbortUser w) b n.otherPdu (NotPermitted true) refl
-sent-back r x o s v b (AbortProvider w) e = fails-at r x o s v (AbortProvider w) b n.otherPdu (NotPermitted true) refl
-sent-back r x o s v b pdu.Forward e = fails-at r x o s v pdu.Forward b n.otherPdu (NotPermitted true) refl
-sent-back r x o s v b (ForwardResponse w) e = fails-at r x o s v (ForwardResponse w) b n.response (NotPermitted true) refl
+sent-back r x o s v true b Absent e = confirmed-does r x o s v b Absent refl e
+sent-back r x o s v false b Absent e = fails-at r x o s v Absent b n.noPdu Missing refl
+sent-back r x o s v m b NotValid e = fails-at r x o s v NotValid b n.invalidPdu (Invalid (isAccepted b)) refl
+sent-back r x o s v m b (Start d) e = rw (not-allowed m (isAccepted b)) (fails-at r x o s v (Start d) b n.otherPdu (NotPermitted true) refl)
+sent-back r x o s v true Accepted Send e = fails-at r x o s v Send Accepted n.otherPdu (NotPermitted true) refl
+sent-back r x o s v true Rejected Send e = confirmed-does r x o s v Rejected Send refl e
+sent-back r x o s v false b Send e = confirmed-does r x o s v b Send refl e
+sent-back r x o s v m b (AbortUser w) e = rw (not-allowed m (isAccepted b)) (fails-at r x o s v (AbortUser w) b n.otherPdu (NotPermitted true) refl)
+sent-back r x o s v m b (AbortProvider w) e = rw (not-allowed m (isAccepted b)) (fails-at r x o s v (AbortProvider w) b n.otherPdu (NotPermitted true) refl)
+sent-back r x o s v m b pdu.Forward e = rw (not-allowed m (isAccepted b)) (fails-at r x o s v pdu.Forward b n.otherPdu (NotPermitted true) refl)
+sent-back r x o s v m b (ForwardResponse w) e = rw (not-allowed m (isAccepted b)) (fails-at r x o s v (ForwardResponse w) b n.response (NotPermitted true) refl)
 
 -- and a forward's
-came-back : (r : Record) (x o s v : ℕ) (b : Reply) (a : UserData) → does-at r x o s v a b (answerCondition a) (respondedFault b (answerCondition a)) ≡ answered r (DStartConfirmation x o s v) a (responding (isAccepted b) a)
+came-back : (r : Record) (x o s v : ℕ) (b : Reply) (a : UserData) → does-at r x o s v a b (answerCondition false (isAccepted b) a) (respondedFault b (answerCondition false (isAccepted b) a)) ≡ answered r (DStartConfirmation x o s v) a (responding (isAccepted b) a)
 unfolding pduFault answered
 came-back r x o s v Accepted Absent = fails-at r x o s v Absent Accepted n.noPdu Missing refl
 came-back r x o s v Accepted NotValid = fails-at r x o s v NotValid Accepted n.invalidPdu (Invalid true) refl
@@ -492,37 +514,49 @@ came-back r x o s v Rejected (AbortProvider w) = fails-at r x o s v (AbortProvid
 came-back r x o s v Rejected pdu.Forward = fails-at r x o s v pdu.Forward Rejected n.otherPdu (NotPermitted true) refl
 came-back r x o s v Rejected (ForwardResponse w) = forward-over r x o s v w
 
--- e: expected, w: in FORWARD, t: turned away, l: security fits
-confirmation-does : (r : Record) (x o s v : ℕ) (b : Reply) (a : UserData) (e w t l : Bool) → replyOf x ≡ b
-    → does-at r x o s v a b (cond t n.turnedAway (cond (not l) n.wrongSecurity (answerCondition a))) (cond (not e) (cond w (respondedFault b (cond t n.turnedAway (cond (not l) n.wrongSecurity (answerCondition a)))) (NoInstruction true)) (confirmedFault b (cond t n.turnedAway (cond (not l) n.wrongSecurity (answerCondition a)))))
-    ≡ answered r (DStartConfirmation x o s v) a (cond (not e) (cond w (cond t TurnedAway (cond (not l) (Security (isAccepted b)) (responding (isAccepted b) a))) (NoInstruction true)) (cond t TurnedAway (cond (not l) (Security (isAccepted b)) (pduFault false (isSend a) (isAccepted b) true a NoFault))))
-confirmation-does r x o s v b a true w true l h = fails-at r x o s v a b n.turnedAway TurnedAway refl
-confirmation-does r x o s v b a true w false true h = sent-back r x o s v b a h
-confirmation-does r x o s v b a true w false false h = fails-at r x o s v a b n.wrongSecurity (Security (isAccepted b)) refl
-confirmation-does r x o s v b a false true true l h = fails-at r x o s v a b n.turnedAway TurnedAway refl
-confirmation-does r x o s v b a false true false true h = came-back r x o s v b a
-confirmation-does r x o s v b a false true false false h = fails-at r x o s v a b n.wrongSecurity (Security (isAccepted b)) refl
-confirmation-does r x o s v b a false false t l h = fails-at r x o s v a b (cond t n.turnedAway (cond (not l) n.wrongSecurity (answerCondition a))) (NoInstruction true) refl
+-- START-REQ is not FORWARD
+one-state : (z : State) (m : Bool) → (is z st.StartReq && m) ≡ true → is z st.Forward ≡ false
+one-state st.Idle m e = refl
+one-state st.StartReq m e = refl
+one-state st.StartInd m e = refl
+one-state st.Dialogue m e = refl
+one-state st.End m e = refl
+one-state st.Forward m e = absurd (subst T (sym e) tt)
+
+-- e: expected, w: in FORWARD, t: turned away, l: security differs, m: may there be no PDU
+confirmation-does : (r : Record) (x o s v : ℕ) (b : Reply) (a : UserData) (e w t l m : Bool) → replyOf x ≡ b → (e ≡ true → w ≡ false)
+    → does-at r x o s v a b (cond t n.turnedAway (cond l n.wrongSecurity (condition w m (isAccepted b) a))) (cond (not e) (cond w (respondedFault b (cond t n.turnedAway (cond l n.wrongSecurity (condition w m (isAccepted b) a)))) (NoInstruction true)) (confirmedFault b (cond t n.turnedAway (cond l n.wrongSecurity (condition w m (isAccepted b) a)))))
+    ≡ answered r (DStartConfirmation x o s v) a (cond (not e) (cond w (cond t TurnedAway (cond l (Security (isAccepted b)) (responding (isAccepted b) a))) (NoInstruction true)) (cond t TurnedAway (cond l (Security (isAccepted b)) (pduFault m (sendAllowed m (isAccepted b) a) (isAccepted b) true a NoFault))))
+confirmation-does r x o s v b a true true t l m h y = absurd (subst T (y refl) tt)
+confirmation-does r x o s v b a true false true l m h y = fails-at r x o s v a b n.turnedAway TurnedAway refl
+confirmation-does r x o s v b a true false false true m h y = fails-at r x o s v a b n.wrongSecurity (Security (isAccepted b)) refl
+confirmation-does r x o s v b a true false false false m h y = sent-back r x o s v m b a h
+confirmation-does r x o s v b a false true true l m h y = fails-at r x o s v a b n.turnedAway TurnedAway refl
+confirmation-does r x o s v b a false true false true m h y = fails-at r x o s v a b n.wrongSecurity (Security (isAccepted b)) refl
+confirmation-does r x o s v b a false true false false m h y = came-back r x o s v b a
+confirmation-does r x o s v b a false false t l m h y = fails-at r x o s v a b (cond t n.turnedAway (cond l n.wrongSecurity (answerCondition m (isAccepted b) a))) (NoInstruction true) refl
 
 confirmation-same : (sd : Side) (r : Record) (x o s v : ℕ) (a : UserData) (b : Bool) → eqb x accepted ≡ b
-    → outcomeOf r (serviceParameters (DStartConfirmation x o s v) a) (walk rows sd (r .control) (cond b n.dStartAccepted n.dStartRejected) (serviceCondition sd r (DStartConfirmation x o s v) a)) ≡ reached sd r (DStartConfirmation x o s v) a
+    → outcomeOf r (serviceParameters r (DStartConfirmation x o s v) a) (walk rows sd (r .control) (cond b n.dStartAccepted n.dStartRejected) (serviceCondition sd r (DStartConfirmation x o s v) a)) ≡ reached sd r (DStartConfirmation x o s v) a
 unfolding reached firstFault confirmationFault responseFault replyOf
 confirmation-same sd r x o s v a true e =
-    let g = serviceParameters (DStartConfirmation x o s v) a in
+    let g = serviceParameters r (DStartConfirmation x o s v) a in
     let k = serviceCondition sd r (DStartConfirmation x o s v) a in
+    let l = differs (secures (r .edition)) s (r .request) in
     let h : outcomeOf r g (confirmationWanted sd (r .control) Accepted k) ≡ reached sd r (DStartConfirmation x o s v) a
-    = rw e (confirmation-does r x o s v Accepted a (expects sd (r .control) (DStartCnf Accepted)) (awaitsResponse (r .control)) (turnedAway x o) (eqb s (r .request)) (rw e)) in
-    alike-does r g (walk rows sd (r .control) n.dStartAccepted k) (confirmationWanted sd (r .control) Accepted k) (accepted-alike sd (r .control) k (answer-among (turnedAway x o) (eqb s (r .request)) a)) ∙ h
+    = rw e (confirmation-does r x o s v Accepted a (expects sd (r .control) (DStartCnf Accepted)) (awaitsResponse (r .control)) (turnedAway x o) l (spares (r .edition)) (rw e) (one-state (r .control .state) (mayStart sd (r .control .dsc)))) in
+    alike-does r g (walk rows sd (r .control) n.dStartAccepted k) (confirmationWanted sd (r .control) Accepted k) (accepted-alike sd (r .control) k (answer-among (turnedAway x o) l (awaitsResponse (r .control)) (spares (r .edition)) (eqb x accepted) a)) ∙ h
 confirmation-same sd r x o s v a false e =
-    let g = serviceParameters (DStartConfirmation x o s v) a in
+    let g = serviceParameters r (DStartConfirmation x o s v) a in
     let k = serviceCondition sd r (DStartConfirmation x o s v) a in
+    let l = differs (secures (r .edition)) s (r .request) in
     let h : outcomeOf r g (confirmationWanted sd (r .control) Rejected k) ≡ reached sd r (DStartConfirmation x o s v) a
-    = rw e (confirmation-does r x o s v Rejected a (expects sd (r .control) (DStartCnf Rejected)) (awaitsResponse (r .control)) (turnedAway x o) (eqb s (r .request)) (rw e)) in
-    alike-does r g (walk rows sd (r .control) n.dStartRejected k) (confirmationWanted sd (r .control) Rejected k) (rejected-alike sd (r .control) k (answer-among (turnedAway x o) (eqb s (r .request)) a)) ∙ h
+    = rw e (confirmation-does r x o s v Rejected a (expects sd (r .control) (DStartCnf Rejected)) (awaitsResponse (r .control)) (turnedAway x o) l (spares (r .edition)) (rw e) (one-state (r .control .state) (mayStart sd (r .control .dsc)))) in
+    alike-does r g (walk rows sd (r .control) n.dStartRejected k) (confirmationWanted sd (r .control) Rejected k) (rejected-alike sd (r .control) k (answer-among (turnedAway x o) l (awaitsResponse (r .control)) (spares (r .edition)) (eqb x accepted) a)) ∙ h
 
 -- ---- every event
 
-service-same : (sd : Side) (r : Record) (p : ServicePrimitive) (a : UserData) → outcomeOf r (serviceParameters p a) (walk rows sd (r .control) (serviceTitle p) (serviceCondition sd r p a)) ≡ reached sd r p a
+service-same : (sd : Side) (r : Record) (p : ServicePrimitive) (a : UserData) → outcomeOf r (serviceParameters r p a) (walk rows sd (r .control) (serviceTitle p) (serviceCondition sd r p a)) ≡ reached sd r p a
 service-same sd r (DStartIndication x s q v) a = indication-same r x s v q sd a
 service-same sd r (DStartConfirmation x o s v) a = confirmation-same sd r x o s v a (eqb x accepted) refl
 service-same sd r DDataIndication a = data-same sd r a
@@ -542,7 +576,7 @@ error-same sd r g =
     alike-does r g (walk rows sd (r .control) n.systemError n.plain) (failWanted (r .control)) (error-alike sd (r .control))
     ∙ chosen (outcomeOf r g) (isIdle (r .control)) quietOut (exceptOut true 1 1) (closes r Untold) (excepts r true 1 1) (quiet-does r g) (except-does r g true 1 1)
 
-pub fitting-same : (sd : Side) (r : Record) (e : Event) → outcomeOf r (parametersOf e) (rowOf sd r e) ≡ stepFitting sd r e
+pub fitting-same : (sd : Side) (r : Record) (e : Event) → outcomeOf r (parametersOf r e) (rowOf sd r e) ≡ stepFitting sd r e
 unfolding rowOf stepFitting refusalFitting permitted messageRefusal acts
 fitting-same sd r (User u) = user-same sd r u
 fitting-same sd r (Forward k s) = forward-same sd r k s
@@ -553,18 +587,18 @@ fitting-same sd r UnrecoverableSystemError = error-same sd r (parameters 0 0 0 0
 -- the theorem: every record and every event
 pub rows-same : (sd : Side) (r : Record) (e : Event) → rowsStep sd r e ≡ step sd r e
 unfolding rowsStep
-rows-same sd r e = go (eventFits sd e) refl
+rows-same sd r e = go (eventFits sd (r .edition) e) refl
   where
-    go : (b : Bool) → eventFits sd e ≡ b → cond (not b) (refused Shape r) (outcomeOf r (parametersOf e) (rowOf sd r e)) ≡ step sd r e
+    go : (b : Bool) → eventFits sd (r .edition) e ≡ b → cond (not b) (refused Shape r) (outcomeOf r (parametersOf r e) (rowOf sd r e)) ≡ step sd r e
     go true f = fitting-same sd r e ∙ sym (step-of-fitting sd r e f)
     go false f = sym (step-shape sd r e f)
 
 -- and every dialogue number, so that the bytes are the same too
 pub rows-numbered : (sd : Side) (r : Record) (m : ℕ) (e : Event) (v : ℕ) → rowsNumbered sd r m e v ≡ numberedStep sd r m e v
 unfolding rowsNumbered
-rows-numbered sd r m e v = go (eventFits sd e) refl (isStale m e v) refl
+rows-numbered sd r m e v = go (eventFits sd (r .edition) e) refl (isStale m e v) refl
   where
-    go : (b : Bool) → eventFits sd e ≡ b → (l : Bool) → isStale m e v ≡ l → cond (not b) (refused Shape r) (cond l (refused Stale r) (outcomeOf r (parametersOf e) (rowOf sd r e))) ≡ numberedStep sd r m e v
+    go : (b : Bool) → eventFits sd (r .edition) e ≡ b → (l : Bool) → isStale m e v ≡ l → cond (not b) (refused Shape r) (cond l (refused Stale r) (outcomeOf r (parametersOf r e) (rowOf sd r e))) ≡ numberedStep sd r m e v
     go true f true l = sym (then-stale sd r m e v f l)
     go true f false l = fitting-same sd r e ∙ sym (then-fitting sd r m e v f l)
     go false f l h = sym (shape-first sd r m e v f)

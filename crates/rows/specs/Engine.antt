@@ -15,7 +15,7 @@ use Rattle.machine.specs.Outcome.{refused}
 use Rattle.machine.specs.UserData.{reasonOf, isUserAbort}
 use Rattle.machine.specs.declared.record.Record.{Record}
 use Rattle.machine.specs.declared.event.UserData.{UserData}
-use Rattle.machine.specs.declared.event.UserData.the-variants.{Absent, Start, Send, AbortUser, AbortProvider, ForwardResponse}
+use Rattle.machine.specs.declared.event.UserData.the-variants.{Absent, Start, AbortUser, AbortProvider, ForwardResponse}
 use Rattle.machine.specs.declared.event.UserData.the-variants as pdu
 use Rattle.machine.specs.declared.event.Qos.{Qos}
 use Rattle.machine.specs.declared.event.Event.{Event}
@@ -95,6 +95,7 @@ nextOf r g o =
       policy = r .policy;
       forwards = r .forwards;
       version = r .version;
+      edition = r .edition;
     }
 
 abbrev pub refusalIs : ℕ → StepRefusal
@@ -109,7 +110,7 @@ invokes r g x =
     cond (eqb x n.silent) Silent
     (cond (eqb x n.startOut) (DStartRequest (quality (g .class)) (g .security))
     (cond (eqb x n.dscStartOut) (DStartRequest (quality (g .class)) (g .security))
-    (cond (eqb x n.startAnswer) (DStartResponse (g .result) (r .policy))
+    (cond (eqb x n.startAnswer) (DStartResponse (g .result) (g .security))
     (cond (eqb x n.dataOut) DDataRequest
     (cond (eqb x n.endOut) DEndRequest
     (cond (eqb x n.endAnswer) (DEndResponse (g .result))
@@ -126,7 +127,7 @@ apduOf g x why =
     (cond (eqb x n.abortByUser) (AbortUser (g .reason))
     (cond (eqb x n.abortByProvider) (AbortProvider why)
     (cond (eqb x n.forwardOut) pdu.Forward
-    (cond (eqb x n.forwardAnswer) (ForwardResponse why) (cond (eqb x n.forwardAnswerWithVersion) (ForwardResponse why) Send)))))))
+    (cond (eqb x n.forwardAnswer) (ForwardResponse why) (cond (eqb x n.forwardAnswerWithVersion) (ForwardResponse why) (g .pdu))))))))
 
 -- "if the user is an active user"
 abbrev pub ifActive : Record → Told → Told
@@ -163,7 +164,7 @@ unfoldable pub rowOf : Side → Record → Event → Out
 rowOf sd r e = walk rows sd (r .control) (titleOf e) (conditionOf sd r e)
 
 unfoldable pub rowsStep : Side → Record → Event → Outcome
-rowsStep sd r e = cond (not (eventFits sd e)) (refused Shape r) (outcomeOf r (parametersOf e) (rowOf sd r e))
+rowsStep sd r e = cond (not (eventFits sd (r .edition) e)) (refused Shape r) (outcomeOf r (parametersOf r e) (rowOf sd r e))
 
 unfoldable pub rowsNumbered : Side → Record → ℕ → Event → ℕ → Outcome
-rowsNumbered sd r m e v = cond (not (eventFits sd e)) (refused Shape r) (cond (isStale m e v) (refused Stale r) (outcomeOf r (parametersOf e) (rowOf sd r e)))
+rowsNumbered sd r m e v = cond (not (eventFits sd (r .edition) e)) (refused Shape r) (cond (isStale m e v) (refused Stale r) (outcomeOf r (parametersOf r e) (rowOf sd r e)))

@@ -2,14 +2,18 @@
 use Prim.Native.Nat.{ℕ}
 use mathlib.Core.Bool.{Bool, true, false, not, cond}
 use lib.Dec.{eqb, leb}
+use Rattle.control.specs.Control.{awaitsResponse}
 use Rattle.control.specs.declared.Side.{Side}
+use Rattle.editions.specs.Editions.{secures, spares}
 use Rattle.machine.specs.Codes.{accepted, user, provider, undefined}
 use Rattle.machine.specs.Event.{isDsc, qosFits}
 use Rattle.machine.specs.UserData.{modeOf, isMissing, isInvalid, isStartPdu, isSend, isUserAbort, isProviderAbort, isForward, isResponse}
-use Rattle.machine.specs.Faults.{turnedAway as turned, peerFits, fromCentre}
+use Rattle.machine.specs.Calls.{securitySent, unlessSpared}
+use Rattle.machine.specs.Faults.{turnedAway as turned, peerFits, fromCentre, differs, sendAllowed}
 use Rattle.machine.specs.declared.record.Record.{Record}
 use Rattle.machine.specs.declared.event.UserData.{UserData}
-use Rattle.machine.specs.declared.event.UserData.the-variants.{Absent}
+use Rattle.machine.specs.declared.event.UserData.the-variants.{Absent, Send}
+use Rattle.machine.specs.declared.event.Qos.{Qos}
 use Rattle.machine.specs.declared.event.UserPrimitive.{UserPrimitive}
 use Rattle.machine.specs.declared.event.UserPrimitive.the-variants.{StartServiceRequest, StartServiceResponse, MessageServiceRequest, EndServiceRequest, EndServiceResponse, UserAbortServiceRequest}
 use Rattle.machine.specs.declared.event.ServicePrimitive.{ServicePrimitive}
@@ -47,8 +51,9 @@ titleOf UnrecoverableSystemError = systemError
 
 -- ---- the condition: quality of service, result or reject source, security, missing, invalid, then which PDU
 
-abbrev pub pduFirst : UserData → ℕ → ℕ
-pduFirst a k = cond (isMissing a) noPdu (cond (isInvalid a) invalidPdu k)
+-- a PDU that may be absent (may) counts, where it is, as the send that it stands for
+abbrev pub pduFirst : Bool → UserData → ℕ → ℕ
+pduFirst may a k = cond (isMissing a) (cond may send noPdu) (cond (isInvalid a) invalidPdu k)
 
 abbrev pub userCondition : Record → UserPrimitive → ℕ
 userCondition r (StartServiceRequest m k s) = plain
@@ -66,21 +71,32 @@ forwardCondition r v a = cond (isForward a) (cond (not (r .forwards)) unsupporte
 abbrev pub startCondition : Side → Record → ℕ → ℕ → UserData → ℕ
 startCondition sd r x v a = cond (fromCentre sd x) (forwardCondition r v a) (cond (isStartPdu a) (cond (modeOf a) dscStart (cond (peerFits sd x) start startOfAircraft)) otherPdu)
 
-abbrev pub answerCondition : UserData → ℕ
-answerCondition a = pduFirst a (cond (isSend a) send (cond (isResponse a) response otherPdu))
+-- live: accepted
+abbrev pub answerCondition : Bool → Bool → UserData → ℕ
+answerCondition may live a = pduFirst may a (cond (sendAllowed may live a) send (cond (isResponse a) response otherPdu))
 
 abbrev pub abortCondition : ℕ → UserData → ℕ
 abortCondition o a = cond (eqb o user) (cond (isUserAbort a) abortOfUser otherPdu) (cond (eqb o provider) (cond (isProviderAbort a) abortOfProvider otherPdu) otherPdu)
 
-abbrev pub sendCondition : UserData → ℕ
-sendCondition a = pduFirst a (cond (isSend a) send otherPdu)
+abbrev pub sendCondition : Bool → UserData → ℕ
+sendCondition may a = pduFirst may a (cond (isSend a) send otherPdu)
+
+abbrev pub indicationCondition : Side → Record → ℕ → ℕ → Qos → ℕ → UserData → ℕ
+indicationCondition sd r x s q v a = cond (not (qosFits q)) wrongQuality (cond (differs (secures (r .edition)) s (r .policy)) wrongSecurity (pduFirst false a (startCondition sd r x v a)))
+
+-- in FORWARD the response is never left out
+abbrev pub confirmationCondition : Record → ℕ → ℕ → ℕ → UserData → ℕ
+confirmationCondition r x o s a =
+    cond (turned x o) turnedAway
+    (cond (differs (secures (r .edition)) s (r .request)) wrongSecurity
+    (cond (awaitsResponse (r .control)) (answerCondition false (eqb x accepted) a) (answerCondition (spares (r .edition)) (eqb x accepted) a)))
 
 abbrev pub serviceCondition : Side → Record → ServicePrimitive → UserData → ℕ
-serviceCondition sd r (DStartIndication x s q v) a = cond (not (qosFits q)) wrongQuality (cond (not (eqb s (r .policy))) wrongSecurity (pduFirst a (startCondition sd r x v a)))
-serviceCondition sd r (DStartConfirmation x o s v) a = cond (turned x o) turnedAway (cond (not (eqb s (r .request))) wrongSecurity (answerCondition a))
-serviceCondition sd r DDataIndication a = sendCondition a
-serviceCondition sd r DEndIndication a = sendCondition a
-serviceCondition sd r (DEndConfirmation x) a = sendCondition a
+serviceCondition sd r (DStartIndication x s q v) a = indicationCondition sd r x s q v a
+serviceCondition sd r (DStartConfirmation x o s v) a = confirmationCondition r x o s a
+serviceCondition sd r DDataIndication a = sendCondition false a
+serviceCondition sd r DEndIndication a = sendCondition (spares (r .edition)) a
+serviceCondition sd r (DEndConfirmation x) a = sendCondition (spares (r .edition)) a
 serviceCondition sd r (DAbortIndication o) a = abortCondition o a
 serviceCondition sd r DPAbortIndication a = plain
 
@@ -96,26 +112,31 @@ conditionOf sd r UnrecoverableSystemError = plain
 abbrev pub parameters : ℕ → ℕ → ℕ → ℕ → ℕ → ℕ → UserData → Parameters
 parameters k s x j y v a = record { class = k; security = s; result = x; job = j; reason = y; version = v; pdu = a }
 
-abbrev pub userParameters : UserPrimitive → Parameters
-userParameters (StartServiceRequest m k s) = parameters k s 0 0 0 0 Absent
-userParameters (StartServiceResponse m x h) = parameters 0 0 x 0 0 0 Absent
-userParameters (MessageServiceRequest h j) = parameters 0 0 0 j 0 0 Absent
-userParameters (EndServiceRequest m h) = parameters 0 0 0 0 0 0 Absent
-userParameters (EndServiceResponse m x h) = parameters 0 0 x 0 0 0 Absent
-userParameters (UserAbortServiceRequest g x) = parameters 0 0 0 0 (cond g x undefined) 0 Absent
+-- the security value that a D-START carries
+abbrev pub carried : Record → ℕ → ℕ
+carried r s = securitySent (secures (r .edition)) s
 
-abbrev pub serviceParameters : ServicePrimitive → UserData → Parameters
-serviceParameters (DStartIndication x s q v) a = parameters (q .routing) s 0 0 0 v a
-serviceParameters (DStartConfirmation x o s v) a = parameters 0 s x 0 0 v a
-serviceParameters DDataIndication a = parameters 0 0 0 0 0 0 a
-serviceParameters DEndIndication a = parameters 0 0 0 0 0 0 a
-serviceParameters (DEndConfirmation x) a = parameters 0 0 x 0 0 0 a
-serviceParameters (DAbortIndication o) a = parameters 0 0 0 0 0 0 a
-serviceParameters DPAbortIndication a = parameters 0 0 0 0 0 0 a
+-- with the PDU that goes out, where that is the user's message
+abbrev pub userParameters : Record → UserPrimitive → Parameters
+userParameters r (StartServiceRequest m k s) = parameters k (carried r s) 0 0 0 0 Absent
+userParameters r (StartServiceResponse m x h) = parameters 0 (carried r (r .policy)) x 0 0 0 (unlessSpared (spares (r .edition)) h)
+userParameters r (MessageServiceRequest h j) = parameters 0 0 0 j 0 0 Send
+userParameters r (EndServiceRequest m h) = parameters 0 0 0 0 0 0 (unlessSpared (spares (r .edition)) h)
+userParameters r (EndServiceResponse m x h) = parameters 0 0 x 0 0 0 (unlessSpared (spares (r .edition)) h)
+userParameters r (UserAbortServiceRequest g x) = parameters 0 0 0 0 (cond g x undefined) 0 Absent
 
-abbrev pub parametersOf : Event → Parameters
-parametersOf (User u) = userParameters u
-parametersOf (Forward k s) = parameters k s 0 0 0 0 Absent
-parametersOf (Service p a) = serviceParameters p a
-parametersOf TimerExpires = parameters 0 0 0 0 0 0 Absent
-parametersOf UnrecoverableSystemError = parameters 0 0 0 0 0 0 Absent
+abbrev pub serviceParameters : Record → ServicePrimitive → UserData → Parameters
+serviceParameters r (DStartIndication x s q v) a = parameters (q .routing) (carried r s) 0 0 0 v a
+serviceParameters r (DStartConfirmation x o s v) a = parameters 0 s x 0 0 v a
+serviceParameters r DDataIndication a = parameters 0 0 0 0 0 0 a
+serviceParameters r DEndIndication a = parameters 0 0 0 0 0 0 a
+serviceParameters r (DEndConfirmation x) a = parameters 0 0 x 0 0 0 a
+serviceParameters r (DAbortIndication o) a = parameters 0 0 0 0 0 0 a
+serviceParameters r DPAbortIndication a = parameters 0 0 0 0 0 0 a
+
+abbrev pub parametersOf : Record → Event → Parameters
+parametersOf r (User u) = userParameters r u
+parametersOf r (Forward k s) = parameters k (carried r s) 0 0 0 0 Absent
+parametersOf r (Service p a) = serviceParameters r p a
+parametersOf r TimerExpires = parameters 0 0 0 0 0 0 Absent
+parametersOf r UnrecoverableSystemError = parameters 0 0 0 0 0 0 Absent

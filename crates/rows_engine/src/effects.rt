@@ -95,7 +95,7 @@ fn invokes(r: Record, g: Parameters, x: u64) -> Invoked
         return Invoked::DStartRequest(quality(g.class), g.security);
     }
     if x == codes::START_ANSWER {
-        return Invoked::DStartResponse(g.result, r.policy);
+        return Invoked::DStartResponse(g.result, g.security);
     }
     if x == codes::DATA_OUT {
         return Invoked::DDataRequest;
@@ -148,7 +148,7 @@ fn apdu_of(g: Parameters, x: u64, why: u64) -> UserData
     if x == codes::FORWARD_ANSWER_WITH_VERSION {
         return UserData::ForwardResponse(why);
     }
-    UserData::Send
+    g.pdu
 }
 
 fn if_active(r: Record, t: Told) -> Told
@@ -231,6 +231,7 @@ fn next_of(r: Record, g: Parameters, o: Out) -> Record
 {
     let c = r.control;
     let s = c.state;
+    let edition = r.edition;
     let state = state_after(o.next, s);
     let dsc = flag_after(o.dsc, c.dsc);
     Record {
@@ -242,6 +243,7 @@ fn next_of(r: Record, g: Parameters, o: Out) -> Record
         policy: r.policy,
         forwards: r.forwards,
         version: r.version,
+        edition,
     }
 }
 

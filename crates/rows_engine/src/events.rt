@@ -1,7 +1,10 @@
 // What the engine reads of an event: the title of its row, the condition that holds first, and its parameters.
 use crate::codes;
 use control::Side;
+use control::awaits_response;
+use editions::Edition;
 use machine::event::Event;
+use machine::event::Qos;
 use machine::event::ServicePrimitive;
 use machine::event::UserData;
 use machine::event::UserPrimitive;
@@ -10,8 +13,10 @@ use machine::record::Record;
 use rows::Parameters;
 ghost use mathlib.Core.Path.{_≡_};
 ghost use mathlib.Core.Bool.{cond};
-ghost use Rattle.machine.specs.Faults.{turnedAway, peerFits, fromCentre};
-ghost use Rattle.rows.specs.Events.{userTitle, serviceTitle, titleOf, pduFirst, userCondition, forwardCondition, startCondition, answerCondition, abortCondition, sendCondition, serviceCondition, conditionOf, parameters, userParameters, serviceParameters, parametersOf};
+ghost use Rattle.editions.specs.Editions.{secures, spares};
+ghost use Rattle.machine.specs.Calls.{unlessSpared};
+ghost use Rattle.machine.specs.Faults.{turnedAway, peerFits, fromCentre, differs, sendAllowed};
+ghost use Rattle.rows.specs.Events.{userTitle, serviceTitle, titleOf, pduFirst, userCondition, forwardCondition, startCondition, answerCondition, abortCondition, sendCondition, indicationCondition, confirmationCondition, serviceCondition, conditionOf, carried, parameters, userParameters, serviceParameters, parametersOf};
 
 // Result "accepted"; the reason of a user abort that gives none.
 const ACCEPTED: u64 = 0;
@@ -144,13 +149,13 @@ fn user_condition(r: Record, u: UserPrimitive) -> u64
     }
 }
 
-fn pdu_first(a: UserData, k: u64) -> u64
-    ensures { λ v. ⌜ v ≡ pduFirst a k ⌝ }
+fn pdu_first(may: bool, a: UserData, k: u64) -> u64
+    ensures { λ v. ⌜ v ≡ pduFirst may a k ⌝ }
 {
     let kind = a.kind();
     pick(
         kind == UserData::ABSENT,
-        codes::NO_PDU,
+        pick(may, codes::SEND, codes::NO_PDU),
         pick(kind == UserData::NOT_VALID, codes::INVALID_PDU, k),
     )
 }
@@ -197,14 +202,28 @@ fn start_condition(side: Side, r: Record, peer: u64, version: u64, a: UserData) 
     )
 }
 
-fn answer_condition(a: UserData) -> u64
-    ensures { λ v. ⌜ v ≡ answerCondition a ⌝ }
+fn send_allowed(may: bool, live: bool, a: UserData) -> bool
+    ensures { λ b. ⌜ b ≡ sendAllowed may live a ⌝ }
+{
+    let send = a.kind() == UserData::SEND;
+    if may {
+        if live {
+            return false;
+        }
+        return send;
+    }
+    send
+}
+
+fn answer_condition(may: bool, live: bool, a: UserData) -> u64
+    ensures { λ v. ⌜ v ≡ answerCondition may live a ⌝ }
 {
     let kind = a.kind();
     pdu_first(
+        may,
         a,
         pick(
-            kind == UserData::SEND,
+            send_allowed(may, live, a),
             codes::SEND,
             pick(
                 kind == UserData::FORWARD_RESPONSE,
@@ -238,37 +257,80 @@ fn abort_condition(o: u64, a: UserData) -> u64
     )
 }
 
-fn send_condition(a: UserData) -> u64
-    ensures { λ v. ⌜ v ≡ sendCondition a ⌝ }
+fn send_condition(may: bool, a: UserData) -> u64
+    ensures { λ v. ⌜ v ≡ sendCondition may a ⌝ }
 {
     let kind = a.kind();
     pdu_first(
+        may,
         a,
         pick(kind == UserData::SEND, codes::SEND, codes::OTHER_PDU),
     )
 }
 
+// A security value that is not the one it is compared with, where they are compared.
+fn differs(edition: Edition, s: u64, other: u64) -> bool
+    ensures { λ b. ⌜ b ≡ differs (secures edition) s other ⌝ }
+{
+    edition.secures() && s != other
+}
+
+fn indication_condition(
+    side: Side,
+    r: Record,
+    peer: u64,
+    s: u64,
+    qos: Qos,
+    version: u64,
+    a: UserData,
+) -> u64
+    ensures { λ v. ⌜ v ≡ indicationCondition side r peer s qos version a ⌝ }
+{
+    let edition = r.edition;
+    if !qos.fits() {
+        return codes::WRONG_QUALITY;
+    }
+    if differs(edition, s, r.policy) {
+        return codes::WRONG_SECURITY;
+    }
+    pdu_first(false, a, start_condition(side, r, peer, version, a))
+}
+
+fn confirmation_condition(r: Record, result: u64, source: u64, s: u64, a: UserData) -> u64
+    ensures { λ v. ⌜ v ≡ confirmationCondition r result source s a ⌝ }
+{
+    let c = r.control;
+    let edition = r.edition;
+    if turns_away(result, source) {
+        return codes::TURNED_AWAY;
+    }
+    if differs(edition, s, r.request) {
+        return codes::WRONG_SECURITY;
+    }
+    if awaits_response(c) {
+        return answer_condition(false, result == ACCEPTED, a);
+    }
+    answer_condition(edition.spares(), result == ACCEPTED, a)
+}
+
 fn service_condition(side: Side, r: Record, p: ServicePrimitive, a: UserData) -> u64
     ensures { λ v. ⌜ v ≡ serviceCondition side r p a ⌝ }
 {
+    let edition = r.edition;
     match p {
-        ServicePrimitive::DStartIndication(x, s, q, v) => pick(
-            !q.fits(),
-            codes::WRONG_QUALITY,
-            pick(
-                s != r.policy,
-                codes::WRONG_SECURITY,
-                pdu_first(a, start_condition(side, r, x, v, a)),
-            ),
+        ServicePrimitive::DStartIndication(x, s, q, v) => indication_condition(
+            side,
+            r,
+            x,
+            s,
+            q,
+            v,
+            a,
         ),
-        ServicePrimitive::DStartConfirmation(x, o, s, _) => pick(
-            turns_away(x, o),
-            codes::TURNED_AWAY,
-            pick(s != r.request, codes::WRONG_SECURITY, answer_condition(a)),
-        ),
-        ServicePrimitive::DDataIndication => send_condition(a),
-        ServicePrimitive::DEndIndication => send_condition(a),
-        ServicePrimitive::DEndConfirmation(_) => send_condition(a),
+        ServicePrimitive::DStartConfirmation(x, o, s, _) => confirmation_condition(r, x, o, s, a),
+        ServicePrimitive::DDataIndication => send_condition(false, a),
+        ServicePrimitive::DEndIndication => send_condition(edition.spares(), a),
+        ServicePrimitive::DEndConfirmation(_) => send_condition(edition.spares(), a),
         ServicePrimitive::DAbortIndication(o) => abort_condition(o, a),
         ServicePrimitive::DPAbortIndication => codes::PLAIN,
     }
@@ -308,46 +370,68 @@ fn parameters(
     }
 }
 
-fn user_parameters(u: UserPrimitive) -> Parameters
-    ensures { λ v. ⌜ v ≡ userParameters u ⌝ }
+// The security value that a D-START carries.
+fn carried(r: Record, s: u64) -> u64
+    ensures { λ v. ⌜ v ≡ carried r s ⌝ }
+{
+    let edition = r.edition;
+    pick(edition.secures(), s, Record::NO_SECURITY)
+}
+
+// The PDU of a response or an end.
+fn sent_pdu(r: Record, holds: bool) -> UserData
+    ensures { λ a. ⌜ a ≡ unlessSpared (spares (r .edition)) holds ⌝ }
+{
+    let edition = r.edition;
+    if edition.spares() {
+        if holds {
+            return UserData::Send;
+        }
+        return UserData::Absent;
+    }
+    UserData::Send
+}
+
+fn user_parameters(r: Record, u: UserPrimitive) -> Parameters
+    ensures { λ v. ⌜ v ≡ userParameters r u ⌝ }
 {
     match u {
         UserPrimitive::StartServiceRequest(_, k, s) => parameters(
             k,
-            s,
+            carried(r, s),
             0,
             0,
             0,
             0,
             UserData::Absent,
         ),
-        UserPrimitive::StartServiceResponse(_, x, _) => parameters(
+        UserPrimitive::StartServiceResponse(_, x, holds) => parameters(
+            0,
+            carried(r, r.policy),
+            x,
+            0,
+            0,
+            0,
+            sent_pdu(r, holds),
+        ),
+        UserPrimitive::MessageServiceRequest(_, j) => parameters(0, 0, 0, j, 0, 0, UserData::Send),
+        UserPrimitive::EndServiceRequest(_, holds) => parameters(
+            0,
+            0,
+            0,
+            0,
+            0,
+            0,
+            sent_pdu(r, holds),
+        ),
+        UserPrimitive::EndServiceResponse(_, x, holds) => parameters(
             0,
             0,
             x,
             0,
             0,
             0,
-            UserData::Absent,
-        ),
-        UserPrimitive::MessageServiceRequest(_, j) => parameters(
-            0,
-            0,
-            0,
-            j,
-            0,
-            0,
-            UserData::Absent,
-        ),
-        UserPrimitive::EndServiceRequest(_, _) => parameters(0, 0, 0, 0, 0, 0, UserData::Absent),
-        UserPrimitive::EndServiceResponse(_, x, _) => parameters(
-            0,
-            0,
-            x,
-            0,
-            0,
-            0,
-            UserData::Absent,
+            sent_pdu(r, holds),
         ),
         UserPrimitive::UserAbortServiceRequest(g, x) => parameters(
             0,
@@ -361,11 +445,19 @@ fn user_parameters(u: UserPrimitive) -> Parameters
     }
 }
 
-fn service_parameters(p: ServicePrimitive, a: UserData) -> Parameters
-    ensures { λ v. ⌜ v ≡ serviceParameters p a ⌝ }
+fn service_parameters(r: Record, p: ServicePrimitive, a: UserData) -> Parameters
+    ensures { λ v. ⌜ v ≡ serviceParameters r p a ⌝ }
 {
     match p {
-        ServicePrimitive::DStartIndication(_, s, q, v) => parameters(q.routing, s, 0, 0, 0, v, a),
+        ServicePrimitive::DStartIndication(_, s, q, v) => parameters(
+            q.routing,
+            carried(r, s),
+            0,
+            0,
+            0,
+            v,
+            a,
+        ),
         ServicePrimitive::DStartConfirmation(x, _, s, v) => parameters(0, s, x, 0, 0, v, a),
         ServicePrimitive::DDataIndication => parameters(0, 0, 0, 0, 0, 0, a),
         ServicePrimitive::DEndIndication => parameters(0, 0, 0, 0, 0, 0, a),
@@ -375,13 +467,13 @@ fn service_parameters(p: ServicePrimitive, a: UserData) -> Parameters
     }
 }
 
-pub fn parameters_of(e: Event) -> Parameters
-    ensures { λ v. ⌜ v ≡ parametersOf e ⌝ }
+pub fn parameters_of(r: Record, e: Event) -> Parameters
+    ensures { λ v. ⌜ v ≡ parametersOf r e ⌝ }
 {
     match e {
-        Event::User(u) => user_parameters(u),
-        Event::Forward(k, s) => parameters(k, s, 0, 0, 0, 0, UserData::Absent),
-        Event::Service(p, a) => service_parameters(p, a),
+        Event::User(u) => user_parameters(r, u),
+        Event::Forward(k, s) => parameters(k, carried(r, s), 0, 0, 0, 0, UserData::Absent),
+        Event::Service(p, a) => service_parameters(r, p, a),
         Event::TimerExpires => parameters(0, 0, 0, 0, 0, 0, UserData::Absent),
         Event::UnrecoverableSystemError => parameters(0, 0, 0, 0, 0, 0, UserData::Absent),
     }

@@ -186,11 +186,12 @@ fn row_for(side: Side, r: Record, e: Event) -> Out
 pub fn step(side: Side, r: Record, held: u64, e: Event, brought: u64) -> Outcome
     ensures { λ o. ⌜ o ≡ rowsNumbered side r held e brought ⌝ }
 {
-    if !e.fits(side) {
+    let edition = r.edition;
+    if !e.fits(side, edition) {
         return Outcome::refused(StepRefusal::Shape, r);
     }
     if is_stale(held, e, brought) {
         return Outcome::refused(StepRefusal::Stale, r);
     }
-    outcome_of(r, parameters_of(e), row_for(side, r, e))
+    outcome_of(r, parameters_of(r, e), row_for(side, r, e))
 }

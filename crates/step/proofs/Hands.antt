@@ -5,17 +5,19 @@ use mathlib.Core.Bool.{Bool, true, false, not, cond, _&&_, _||_}
 use Prim.Native.Nat.{ℕ}
 use borrow.Author.Tests.{not-false}
 use lib.Dec.{eqb}
-use Rattle.words.proofs.Laws.{both-left}
+use Rattle.words.proofs.Laws.{both-left, both-right}
+use Rattle.editions.specs.Editions.{secures, spares}
+use Rattle.editions.specs.declared.Edition.{Edition}
 use Rattle.clauses.proofs.Ways.{by-test}
 use Rattle.control.specs.Control.{isIdle, awaitsResponse, expects}
 use Rattle.control.specs.declared.Side.{Side}
 use Rattle.control.specs.declared.Primitive.{Primitive}
 use Rattle.control.specs.declared.Primitive.the-variants.{DStart, DStartCnf, DData, DEnd, DEndCnf, DAbort, DPAbort}
-use Rattle.machine.specs.Calls.{sent, startRequest, startResponse, messageRequest, endRequest, endResponse, userAbort, called, replyOf}
+use Rattle.machine.specs.Calls.{sent, unlessSpared, startRequest, startResponse, messageRequest, endRequest, endResponse, userAbort, called, replyOf}
 use Rattle.machine.specs.Codes.{accepted}
 use Rattle.machine.specs.Event.{qosFits}
 use Rattle.machine.specs.Exceptions.{closes, aborts, excepts, noInstruction, tell, timerExpires, systemError}
-use Rattle.machine.specs.Faults.{pduFault, sendFault, abortFault, peerFits, fromCentre, startFits, turnedAway, indicationFault, responseFault, confirmationFault, firstFault}
+use Rattle.machine.specs.Faults.{differs, sendAllowed, pduFault, sendFault, abortFault, peerFits, fromCentre, startFits, turnedAway, indicationFault, responseFault, confirmationFault, firstFault}
 use Rattle.machine.specs.Forwards.{responds, forwardRequest, forwardArrives, forwardConfirmed}
 use Rattle.machine.specs.Outcome.{isNone, refused}
 use Rattle.machine.specs.Primitives.{handed, instructed, answered, reached, abortTold}
@@ -80,14 +82,17 @@ fault-quiet r p a Missing h = excepts-quiet r true _ _
 fault-quiet r p a (Invalid live) h = excepts-quiet r live _ _
 fault-quiet r p a (NotPermitted live) h = excepts-quiet r live _ _
 
--- ---- a forward message is handed on of a forward alone, message data of a start or a send alone
+-- ---- a forward message is handed on of a forward alone, message data of a start or a send alone; or there are none, where user data may be left out
 
-pub record Hands (a : UserData) (o : Outcome) : Type 0 where
+abbrev pub hasBody : Edition → UserData → Bool
+hasBody ed a = isStartPdu a || (isSend a || (isMissing a && spares ed))
+
+pub record Hands (ed : Edition) (a : UserData) (o : Outcome) : Type 0 where
   pub forward : passes (o .told) ≡ true → isForward a ≡ true
-  pub body : o .delivers ≡ true → (isStartPdu a || isSend a) ≡ true
+  pub body : o .delivers ≡ true → hasBody ed a ≡ true
 
-quiet-hands : (a : UserData) (o : Outcome) → Quiet o → Hands a o
-quiet-hands a o q = record { forward = λ e. never (sym (q .told) ∙ e); body = λ e. never (sym (q .delivers) ∙ e) }
+quiet-hands : (ed : Edition) (a : UserData) (o : Outcome) → Quiet o → Hands ed a o
+quiet-hands ed a o q = record { forward = λ e. never (sym (q .told) ∙ e); body = λ e. never (sym (q .delivers) ∙ e) }
 
 or-true : (t : Bool) → (t || true) ≡ true
 or-true true = refl
@@ -95,31 +100,34 @@ or-true false = refl
 
 module _ (sd : Side) (r : Record) (a : UserData) where
   abbrev Fine : ServicePrimitive → Fault → Type 0
-  Fine p f = Hands a (answered r p a f)
+  Fine p f = Hands (r .edition) a (answered r p a f)
 
   fault : (p : ServicePrimitive) (f : Fault) → isFault f ≡ true → Fine p f
-  fault p f h = quiet-hands a (answered r p a f) (fault-quiet r p a f h)
+  fault p f h = quiet-hands (r .edition) a (answered r p a f) (fault-quiet r p a f h)
 
-  pdu-fine : (p : ServicePrimitive) (fits i u : Bool) (behind : Fault) → (fits ≡ true → Fine p behind) → Fine p (pduFault false fits i u a behind)
+  pdu-fine : (p : ServicePrimitive) (may fits i u : Bool) (behind : Fault) → ((isMissing a && may) ≡ true → Fine p behind) → (fits ≡ true → Fine p behind) → Fine p (pduFault may fits i u a behind)
   unfolding isFault pduFault
-  pdu-fine p fits i u behind k =
-      by-test (Fine p) (isMissing a) _ _ (λ e. fault p Missing refl)
+  pdu-fine p may fits i u behind n k =
+      by-test (Fine p) (isMissing a) _ _ (λ e. by-test (Fine p) may _ _ (λ g. n (rw (e, g))) (λ g. fault p Missing refl))
       (λ e. by-test (Fine p) (isInvalid a) _ _ (λ g. fault p (Invalid i) refl)
       (λ g. by-test (Fine p) (not fits) _ _ (λ h. fault p (NotPermitted u) refl) (λ h. k (not-false fits h))))
 
-  handed-hands : (q : Record) (x : Primitive) (t : Told) → passes t ≡ false → (isStartPdu a || isSend a) ≡ true → Hands a (handed q x t)
+  handed-hands : (q : Record) (x : Primitive) (t : Told) → passes t ≡ false → hasBody (r .edition) a ≡ true → Hands (r .edition) a (handed q x t)
   unfolding handed
   handed-hands q x t n m = record { forward = λ e. never (sym n ∙ e); body = λ e. m }
 
-  start-body : isStartPdu a ≡ true → (isStartPdu a || isSend a) ≡ true
+  start-body : isStartPdu a ≡ true → hasBody (r .edition) a ≡ true
   start-body h = rw h
 
-  send-body : isSend a ≡ true → (isStartPdu a || isSend a) ≡ true
+  send-body : isSend a ≡ true → hasBody (r .edition) a ≡ true
   send-body h = rw h (or-true (isStartPdu a))
 
-  send-fine : (p : ServicePrimitive) (q : Primitive) (live : Bool) → (isSend a ≡ true → Fine p NoFault) → Fine p (sendFault sd r q false live a)
+  none-body : (isMissing a && spares (r .edition)) ≡ true → hasBody (r .edition) a ≡ true
+  none-body h = rw h (rw (or-true (isSend a)) (or-true (isStartPdu a)))
+
+  send-fine : (p : ServicePrimitive) (q : Primitive) (may live : Bool) → ((isMissing a && may) ≡ true → Fine p NoFault) → (isSend a ≡ true → Fine p NoFault) → Fine p (sendFault sd r q may live a)
   unfolding isFault sendFault
-  send-fine p q live k = by-test (Fine p) (not (expects sd (r .control) q)) _ _ (λ e. fault p (NoInstruction true) refl) (λ e. pdu-fine p (isSend a) live live NoFault k)
+  send-fine p q may live n k = by-test (Fine p) (not (expects sd (r .control) q)) _ _ (λ e. fault p (NoInstruction true) refl) (λ e. pdu-fine p may (isSend a) live live NoFault n k)
 
   abort-fine : (p : ServicePrimitive) (q : Primitive) (fits : Bool) → Fine p NoFault → Fine p (abortFault sd r q fits)
   unfolding isFault abortFault
@@ -127,11 +135,11 @@ module _ (sd : Side) (r : Record) (a : UserData) where
       by-test (Fine p) (not (expects sd (r .control) q)) _ _ (λ e. fault p (NoInstruction false) refl)
       (λ e. by-test (Fine p) (not fits) _ _ (λ g. fault p (NoInstruction false) refl) (λ g. k))
 
-  arrives : (s v : ℕ) → isForward a ≡ true → Hands a (forwardArrives r s v)
+  arrives : (s v : ℕ) → isForward a ≡ true → Hands (r .edition) a (forwardArrives r s v)
   unfolding forwardArrives responds
   arrives s v h =
-      by-test (Hands a) (not (r .forwards)) _ _ (λ e. record { forward = λ f. h; body = λ f. never f })
-      (λ e. by-test (Hands a) (eqb v (r .version)) _ _ (λ g. record { forward = λ f. h; body = λ f. never f }) (λ g. record { forward = λ f. h; body = λ f. never f }))
+      by-test (Hands (r .edition) a) (not (r .forwards)) _ _ (λ e. record { forward = λ f. h; body = λ f. never f })
+      (λ e. by-test (Hands (r .edition) a) (eqb v (r .version)) _ _ (λ g. record { forward = λ f. h; body = λ f. never f }) (λ g. record { forward = λ f. h; body = λ f. never f }))
 
   starts : (x : ℕ) → startFits sd r x a ≡ true → isForward a ≡ false → isStartPdu a ≡ true
   unfolding startFits
@@ -147,35 +155,41 @@ module _ (sd : Side) (r : Record) (a : UserData) where
 
     indicated : startFits sd r x a ≡ true → Fine start NoFault
     unfolding answered instructed
-    indicated f = by-test (Hands a) (isForward a) _ _ (λ e. arrives s v e) (λ e. handed-hands _ _ _ refl (start-body (starts x f e)))
+    indicated f = by-test (Hands (r .edition) a) (isForward a) _ _ (λ e. arrives s v e) (λ e. handed-hands _ _ _ refl (start-body (starts x f e)))
 
     indication-fine : Fine start (indicationFault sd r x s q a)
     unfolding isFault indicationFault
     indication-fine =
         by-test (Fine start) (not (isIdle (r .control))) _ _ (λ e. fault start (NoInstruction true) refl)
         (λ e. by-test (Fine start) (not (qosFits q)) _ _ (λ f. fault start Quality refl)
-        (λ f. by-test (Fine start) (not (eqb s (r .policy))) _ _ (λ g. fault start (Security true) refl)
-        (λ g. pdu-fine start (startFits sd r x a) true true (cond (peerFits sd x) NoFault (NoInstruction true))
+        (λ f. by-test (Fine start) (differs (secures (r .edition)) s (r .policy)) _ _ (λ g. fault start (Security true) refl)
+        (λ g. pdu-fine start false (startFits sd r x a) true true (cond (peerFits sd x) NoFault (NoInstruction true)) (λ h. never (both-right (isMissing a) false h))
         (λ h. by-test (Fine start) (peerFits sd x) _ _ (λ k. indicated h) (λ k. fault start (NoInstruction true) refl)))))
 
   module _ (x o s v : ℕ) where
     abbrev confirmation : ServicePrimitive
     confirmation = DStartConfirmation x o s v
 
-    of-send : isSend a ≡ true → Fine confirmation NoFault
+    of-body : hasBody (r .edition) a ≡ true → Fine confirmation NoFault
     unfolding answered instructed forwardConfirmed closes
-    of-send h = by-test (Hands a) (isResponse a) _ _ (λ e. quiet-hands a _ (record { told = refl; delivers = refl })) (λ e. handed-hands _ _ _ refl (send-body h))
+    of-body h = by-test (Hands (r .edition) a) (isResponse a) _ _ (λ e. quiet-hands (r .edition) a _ (record { told = refl; delivers = refl })) (λ e. handed-hands _ _ _ refl h)
+
+    of-send : isSend a ≡ true → Fine confirmation NoFault
+    of-send h = of-body (send-body h)
+
+    of-none : (isMissing a && spares (r .edition)) ≡ true → Fine confirmation NoFault
+    of-none h = of-body (none-body h)
 
     of-response : isResponse a ≡ true → Fine confirmation NoFault
     unfolding answered instructed forwardConfirmed closes
-    of-response h = by-test (Hands a) (isResponse a) _ _ (λ e. quiet-hands a _ (record { told = refl; delivers = refl })) (λ e. never (sym e ∙ h))
+    of-response h = by-test (Hands (r .edition) a) (isResponse a) _ _ (λ e. quiet-hands (r .edition) a _ (record { told = refl; delivers = refl })) (λ e. never (sym e ∙ h))
 
     response-fine : Fine confirmation (responseFault r x o s a)
     unfolding isFault responseFault
     response-fine =
         by-test (Fine confirmation) (turnedAway x o) _ _ (λ e. fault confirmation TurnedAway refl)
-        (λ e. by-test (Fine confirmation) (not (eqb s (r .request))) _ _ (λ f. fault confirmation (Security (eqb x accepted)) refl)
-        (λ f. by-test (Fine confirmation) (eqb x accepted) _ _ (λ g. pdu-fine confirmation false true true NoFault (λ h. never h)) (λ g. pdu-fine confirmation (isResponse a) false true NoFault of-response)))
+        (λ e. by-test (Fine confirmation) (differs (secures (r .edition)) s (r .request)) _ _ (λ f. fault confirmation (Security (eqb x accepted)) refl)
+        (λ f. by-test (Fine confirmation) (eqb x accepted) _ _ (λ g. pdu-fine confirmation false false true true NoFault (λ h. never (both-right (isMissing a) false h)) (λ h. never h)) (λ g. pdu-fine confirmation false (isResponse a) false true NoFault (λ h. never (both-right (isMissing a) false h)) of-response)))
 
     confirmation-fine : Fine confirmation (confirmationFault sd r x o s a)
     unfolding isFault confirmationFault
@@ -183,20 +197,21 @@ module _ (sd : Side) (r : Record) (a : UserData) where
         by-test (Fine confirmation) (not (expects sd (r .control) (DStartCnf (replyOf x)))) _ _
         (λ e. by-test (Fine confirmation) (awaitsResponse (r .control)) _ _ (λ f. response-fine) (λ f. fault confirmation (NoInstruction true) refl))
         (λ e. by-test (Fine confirmation) (turnedAway x o) _ _ (λ f. fault confirmation TurnedAway refl)
-        (λ f. by-test (Fine confirmation) (not (eqb s (r .request))) _ _ (λ g. fault confirmation (Security (eqb x accepted)) refl)
-        (λ g. pdu-fine confirmation (isSend a) (eqb x accepted) true NoFault of-send)))
+        (λ f. by-test (Fine confirmation) (differs (secures (r .edition)) s (r .request)) _ _ (λ g. fault confirmation (Security (eqb x accepted)) refl)
+        (λ g. pdu-fine confirmation (spares (r .edition)) (sendAllowed (spares (r .edition)) (eqb x accepted) a) (eqb x accepted) true NoFault of-none
+        (λ h. of-send (both-right (not (spares (r .edition) && eqb x accepted)) (isSend a) h)))))
 
   first-fine : (p : ServicePrimitive) → Fine p (firstFault sd r p a)
   unfolding firstFault answered instructed closes tell
   first-fine (DStartIndication x s q v) = indication-fine x s q v
   first-fine (DStartConfirmation x o s v) = confirmation-fine x o s v
-  first-fine DDataIndication = send-fine DDataIndication DData true (λ h. handed-hands _ _ _ refl (send-body h))
-  first-fine DEndIndication = send-fine DEndIndication DEnd true (λ h. handed-hands _ _ _ refl (send-body h))
-  first-fine (DEndConfirmation x) = send-fine (DEndConfirmation x) (DEndCnf (replyOf x)) (not (eqb x accepted)) (λ h. handed-hands _ _ _ refl (send-body h))
-  first-fine (DAbortIndication o) = abort-fine (DAbortIndication o) DAbort (abortFits o a) (quiet-hands a _ (record { told = abort-quiet (r .active) (isUserAbort a) _ _; delivers = refl }))
-  first-fine DPAbortIndication = abort-fine DPAbortIndication DPAbort true (quiet-hands a _ (record { told = provider-quiet (r .active) _; delivers = refl }))
+  first-fine DDataIndication = send-fine DDataIndication DData false true (λ h. never (both-right (isMissing a) false h)) (λ h. handed-hands _ _ _ refl (send-body h))
+  first-fine DEndIndication = send-fine DEndIndication DEnd (spares (r .edition)) true (λ h. handed-hands _ _ _ refl (none-body h)) (λ h. handed-hands _ _ _ refl (send-body h))
+  first-fine (DEndConfirmation x) = send-fine (DEndConfirmation x) (DEndCnf (replyOf x)) (spares (r .edition)) (not (eqb x accepted)) (λ h. handed-hands _ _ _ refl (none-body h)) (λ h. handed-hands _ _ _ refl (send-body h))
+  first-fine (DAbortIndication o) = abort-fine (DAbortIndication o) DAbort (abortFits o a) (quiet-hands (r .edition) a _ (record { told = abort-quiet (r .active) (isUserAbort a) _ _; delivers = refl }))
+  first-fine DPAbortIndication = abort-fine DPAbortIndication DPAbort true (quiet-hands (r .edition) a _ (record { told = provider-quiet (r .active) _; delivers = refl }))
 
-  pub service-hands : (p : ServicePrimitive) → Hands a (stepFitting sd r (Service p a))
+  pub service-hands : (p : ServicePrimitive) → Hands (r .edition) a (stepFitting sd r (Service p a))
   unfolding stepFitting refusalFitting permitted messageRefusal acts reached
   service-hands p = first-fine p
 
@@ -257,13 +272,18 @@ host-quiet sd r t = by-test Quiet (isNone (refusalFitting sd r (hostEvent t))) _
 
 -- ---- a user primitive, a forward request
 
+spared-given : (may h : Bool) → isGiven (unlessSpared may h) ≡ true
+spared-given true true = refl
+spared-given true false = refl
+spared-given false h = refl
+
 called-given : (r : Record) (u : UserPrimitive) → isGiven (called r u .apdu) ≡ true
 unfolding called startRequest startResponse messageRequest endRequest endResponse userAbort sent
 called-given r (StartServiceRequest m k s) = refl
-called-given r (StartServiceResponse m x h) = refl
+called-given r (StartServiceResponse m x h) = spared-given (spares (r .edition)) h
 called-given r (MessageServiceRequest h j) = refl
-called-given r (EndServiceRequest m h) = refl
-called-given r (EndServiceResponse m x h) = refl
+called-given r (EndServiceRequest m h) = spared-given (spares (r .edition)) h
+called-given r (EndServiceResponse m x h) = spared-given (spares (r .edition)) h
 called-given r (UserAbortServiceRequest g x) = refl
 
 called-quiet : (r : Record) (u : UserPrimitive) → Quiet (called r u)

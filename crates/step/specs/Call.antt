@@ -9,9 +9,9 @@ use Rattle.words.specs.Limits.{room, shape}
 use Rattle.apdu.specs.Sizes.{bufferLeast, bit}
 use Rattle.apdu.specs.Headings.{triple}
 use Rattle.apdu.specs.Pdus.{lent, itemsIn, contentIn, pduIn}
-use Rattle.apdu.specs.Encoding.{pduBits, contentBits, forwardBits}
-use Rattle.apdu.specs.Reading.{apduAt}
-use Rattle.apdu.specs.Writing.{Done, done, writeOut, dataFits, forwardFits, apduFits}
+use Rattle.apdu.specs.Writing.{Done, done, writeOut, dataFits, forwardFits}
+use Rattle.codec.specs.Codec.{contentBits, forwardBits, pduBits, givenFits, forwardGivenFits, apduFits, apduAt}
+use Rattle.editions.specs.declared.Edition.{Edition}
 use Rattle.pdus.specs.declared.PduType.the-variants as pdu
 use Rattle.pdus.specs.declared.PduType.{PduType}
 use Rattle.pdus.specs.declared.Span.{Span}
@@ -103,19 +103,19 @@ abbrev pub nothingTo : List ℕ → Done
 nothingTo s = done (written.Bits 0) s
 
 -- an APDU with its message data, whose parts stand in the bits li, lm and lc
-abbrev pub pduTo : PduType → List ℕ → List ℕ → List ℕ → Apdu → List ℕ → Done
-pduTo pdus li lm lc a s = writeOut (apduFits pdus li lm lc a) s (pduBits pdus (pduIn li lm lc a))
+abbrev pub pduTo : Edition → PduType → List ℕ → List ℕ → List ℕ → Apdu → List ℕ → Done
+pduTo ed pdus li lm lc a s = writeOut (apduFits ed pdus li lm lc a) s (pduBits ed pdus (pduIn li lm lc a))
 
 -- the first buffer takes the outcome's APDU
-unfoldable pub firstTakes : Side → List ℕ → List ℕ → List ℕ → Carried → UserData → List ℕ → Done
-firstTakes sd li lm lc d Absent s = nothingTo s
-firstTakes sd li lm lc d NotValid s = nothingTo s
-firstTakes sd li lm lc d (Start m) s = pduTo (pdusOf sd) li lm lc (is.Start (flag m) (d .content)) s
-firstTakes sd li lm lc d Send s = pduTo (pdusOf sd) li lm lc (is.Send (d .content)) s
-firstTakes sd li lm lc d (AbortUser x) s = pduTo (pdusOf sd) li lm lc (is.AbortUser x) s
-firstTakes sd li lm lc d (AbortProvider x) s = pduTo (pdusOf sd) li lm lc (is.AbortProvider x) s
-firstTakes sd li lm lc d Forward s = pduTo (pdusOf sd) li lm lc (is.Forward (d .forward)) s
-firstTakes sd li lm lc d (ForwardResponse x) s = pduTo (pdusOf sd) li lm lc (is.ForwardResponse x) s
+unfoldable pub firstTakes : Edition → Side → List ℕ → List ℕ → List ℕ → Carried → UserData → List ℕ → Done
+firstTakes ed sd li lm lc d Absent s = nothingTo s
+firstTakes ed sd li lm lc d NotValid s = nothingTo s
+firstTakes ed sd li lm lc d (Start m) s = pduTo ed (pdusOf sd) li lm lc (is.Start (flag m) (d .content)) s
+firstTakes ed sd li lm lc d Send s = pduTo ed (pdusOf sd) li lm lc (is.Send (d .content)) s
+firstTakes ed sd li lm lc d (AbortUser x) s = pduTo ed (pdusOf sd) li lm lc (is.AbortUser x) s
+firstTakes ed sd li lm lc d (AbortProvider x) s = pduTo ed (pdusOf sd) li lm lc (is.AbortProvider x) s
+firstTakes ed sd li lm lc d Forward s = pduTo ed (pdusOf sd) li lm lc (is.Forward (d .forward)) s
+firstTakes ed sd li lm lc d (ForwardResponse x) s = pduTo ed (pdusOf sd) li lm lc (is.ForwardResponse x) s
 
 -- a forward indication hands the forward message on (Doc 9705, 2.3.5.5.2.3 a)
 abbrev pub passes : Told → Bool
@@ -131,14 +131,14 @@ passes ForwardIndication = true
 passes (ForwardConfirmation x v) = false
 
 -- a forward message, whose bits stand in lm
-abbrev pub forwardTo : List ℕ → Forwarded → List ℕ → Done
-forwardTo lm f s = writeOut (forwardFits lm f) s (forwardBits (f .heading) (itemsIn lm bit (f .message)))
+abbrev pub forwardTo : Edition → List ℕ → Forwarded → List ℕ → Done
+forwardTo ed lm f s = writeOut (forwardFits lm f) s (forwardBits ed (f .heading) (itemsIn lm bit (f .message)))
 
 -- the second buffer takes the forward message that is passed on, or the message data that is delivered
-unfoldable pub secondTakes : List ℕ → List ℕ → List ℕ → Carried → Bool → Bool → List ℕ → Done
-secondTakes li lm lc d passed delivers s =
-    cond passed (forwardTo lm (d .forward) s)
-    (cond delivers (writeOut (dataFits li lm lc (d .content)) s (contentBits (contentIn li lm lc (d .content)))) (nothingTo s))
+unfoldable pub secondTakes : Edition → List ℕ → List ℕ → List ℕ → Carried → Bool → Bool → List ℕ → Done
+secondTakes ed li lm lc d passed delivers s =
+    cond passed (forwardTo ed lm (d .forward) s)
+    (cond delivers (writeOut (dataFits li lm lc (d .content)) s (contentBits ed (contentIn li lm lc (d .content)))) (nothingTo s))
 
 -- a step that was taken: the buffers, the record with the dialogue number n that it holds afterwards, and the answer's number
 unfoldable pub finished : List ℕ → List ℕ → List ℕ → Side → ℕ → Outcome → Done → Done → Called
@@ -146,11 +146,11 @@ finished r a b sd n o one two =
     called (packed (invokedNumber (o .invoked)) (toldNumber (o .told)) (bitsOfWritten (one .answer)) (bitsOfWritten (two .answer)) (versionNumber (o .invoked) (o .told)))
     (storeAt r sd (o .next) n .bytes) (one .bytes) (two .bytes)
 
--- the outcome of a step, with what the host gave or the APDU carries
-unfoldable pub concluded : List ℕ → List ℕ → List ℕ → Side → ℕ → Outcome → List ℕ → List ℕ → List ℕ → Carried → Called
-concluded r a b sd n o li lm lc d =
+-- the outcome of a step at a record of the edition ed, with what the host gave or the APDU carries
+unfoldable pub concluded : List ℕ → List ℕ → List ℕ → Edition → Side → ℕ → Outcome → List ℕ → List ℕ → List ℕ → Carried → Called
+concluded r a b ed sd n o li lm lc d =
     cond (isNone (o .refusal))
-    (finished r a b sd n o (firstTakes sd li lm lc d (o .apdu) a) (secondTakes li lm lc d (passes (o .told)) (o .delivers) b))
+    (finished r a b sd n o (firstTakes ed sd li lm lc d (o .apdu) a) (secondTakes ed li lm lc d (passes (o .told)) (o .delivers) b))
     (called (refusalNumber (o .refusal)) r a b)
 
 -- ---- refusals before the step
@@ -208,8 +208,8 @@ orAbort (decoded.Is a) second = decoded.Is a
 orAbort (decoded.Refused x) (decoded.Is a) = abortOf (decoded.Refused x) a
 orAbort (decoded.Refused x) (decoded.Refused y) = decoded.Refused x
 
-unfoldable pub readPdu : Side → Control → ServicePrimitive → List ℕ → Decoded
-readPdu sd c p l = cond (readsAgain sd p) (orAbort (apduAt (readsAs sd c p) l 0) (apduAt pdu.GroundPdus l 0)) (apduAt (readsAs sd c p) l 0)
+unfoldable pub readPdu : Edition → Side → Control → ServicePrimitive → List ℕ → Decoded
+readPdu ed sd c p l = cond (readsAgain sd p) (orAbort (apduAt ed (readsAs sd c p) l) (apduAt ed pdu.GroundPdus l)) (apduAt ed (readsAs sd c p) l)
 
 -- refusals 10 to 17 mean "no valid PDU"
 unfoldable pub meaning : Decoded → UserData
@@ -252,13 +252,13 @@ Engine = Side → Record → ℕ → Event → ℕ → Outcome
 module _ (engine : Engine) where
   -- an event that brings the dialogue number v, at a record that holds n
   abbrev pub eventStep : List ℕ → List ℕ → List ℕ → Event → ℕ → List ℕ → List ℕ → List ℕ → Carried → Side → Record → ℕ → Called
-  eventStep r a b e v li lm lc d sd x n = concluded r a b sd (heldAfter n e v) (engine sd x n e v) li lm lc d
+  eventStep r a b e v li lm lc d sd x n = concluded r a b (x .edition) sd (heldAfter n e v) (engine sd x n e v) li lm lc d
 
   -- ---- a user primitive, an expiry or a system error; the message data stand in the lent bytes ids, msgs and checks
 
   unfoldable pub userStep : List ℕ → List ℕ → List ℕ → Event → ℕ → List ℕ → List ℕ → List ℕ → Data → Side → Record → ℕ → Called
   userStep r a b e v li lm lc d sd x n =
-      cond (dataFits li lm lc d) (eventStep r a b e v li lm lc (carriesData d) sd x n) (called shape r a b)
+      cond (givenFits (x .edition) (pdusOf sd) li lm lc d) (eventStep r a b e v li lm lc (carriesData d) sd x n) (called shape r a b)
 
   unfoldable pub userBy : List ℕ → List ℕ → List ℕ → Event → ℕ → List ℕ → List ℕ → List ℕ → Data → Called
   userBy r a b e v ids msgs checks d = entering r a b (userStep r a b e v (lent ids) (lent msgs) (lent checks) d)
@@ -267,7 +267,7 @@ module _ (engine : Engine) where
 
   unfoldable pub forwardStep : List ℕ → List ℕ → List ℕ → ℕ → ℕ → ℕ → List ℕ → Forwarded → Side → Record → ℕ → Called
   forwardStep r a b k s v lm f sd x n =
-      cond (forwardFits lm f) (eventStep r a b (ForwardRequested k s) v lm lm lm (carriesForward f) sd x n) (called shape r a b)
+      cond (forwardGivenFits (x .edition) lm f) (eventStep r a b (ForwardRequested k s) v lm lm lm (carriesForward f) sd x n) (called shape r a b)
 
   unfoldable pub forwardBy : List ℕ → List ℕ → List ℕ → ℕ → ℕ → ℕ → List ℕ → Forwarded → Called
   forwardBy r a b k s v msgs f = entering r a b (forwardStep r a b k s v (lent msgs) f)
@@ -276,7 +276,7 @@ module _ (engine : Engine) where
 
   -- with user data, or without
   unfoldable pub dataStep : List ℕ → List ℕ → List ℕ → ServicePrimitive → ℕ → List ℕ → Side → Record → ℕ → Called
-  dataStep r a b p v l sd x n = eventStep r a b (Service p (meaning (readPdu sd (x .control) p l))) v l l l (carriedBy (readPdu sd (x .control) p l)) sd x n
+  dataStep r a b p v l sd x n = eventStep r a b (Service p (meaning (readPdu (x .edition) sd (x .control) p l))) v l l l (carriedBy (readPdu (x .edition) sd (x .control) p l)) sd x n
 
   unfoldable pub bareStep : List ℕ → List ℕ → List ℕ → ServicePrimitive → ℕ → List ℕ → Side → Record → ℕ → Called
   bareStep r a b p v l sd x n = eventStep r a b (Service p Absent) v l l l (carriesData noData) sd x n

@@ -9,6 +9,10 @@ use Rattle.apdu.specs.Writing.{Done, writeOut}
 use Rattle.pdus.specs.declared.PduType.{PduType}
 use Rattle.pdus.specs.declared.PduType.the-variants as pdus
 use Rattle.apdu.specs.declared.Data.{Data}
+use Rattle.apdu.specs.declared.Part.{Part}
+use Rattle.apdu.specs.declared.Part.the-variants as part
+use Rattle.editions.specs.declared.Edition.{Edition}
+use Rattle.editions.specs.declared.Edition.the-variants.{Plain, Protected}
 use Rattle.apdu.specs.declared.Apdu.{Apdu}
 use Rattle.apdu.specs.declared.Apdu.the-variants as is
 use Rattle.apdu.specs.declared.Decoded.{Decoded}
@@ -44,14 +48,24 @@ startAt pdus.GroundPdus m = 4
 abbrev pub rootOf : UserData → ℕ → Data → Arrival
 rootOf m p d = came m (p + 1) (d .check .at + d .check .count - (p + 1))
 
-unfoldable pub arrivalOf : PduType → Decoded → Arrival
-arrivalOf t (decoded.Refused r) = came NotValid 0 0
-arrivalOf t (decoded.Is (is.AbortUser r)) = came (AbortUser r) 0 0
-arrivalOf t (decoded.Is (is.AbortProvider r)) = came (AbortProvider r) 0 0
-arrivalOf t (decoded.Is (is.Start m d)) = rootOf (Start (eqb m 1)) (startAt t m) d
-arrivalOf t (decoded.Is (is.Send d)) = rootOf Send (sendAt t) d
-arrivalOf t (decoded.Is (is.Forward f)) = came Forward 4 (f .message .at + f .message .count - 4)
-arrivalOf t (decoded.Is (is.ForwardResponse x)) = came (ForwardResponse x) 0 0
+-- a message in place, or none
+abbrev pub messageOf : UserData → Part → Arrival
+messageOf m part.Absent = came m 0 0
+messageOf m (part.Given x) = came m (x .at) (x .count)
+
+-- message data, whose extension bit, where they have one, stands at p
+abbrev pub bodyOf : Edition → UserData → ℕ → Data → Arrival
+bodyOf Protected m p d = rootOf m p d
+bodyOf Plain m p d = messageOf m (d .message)
+
+unfoldable pub arrivalOf : Edition → PduType → Decoded → Arrival
+arrivalOf ed t (decoded.Refused r) = came NotValid 0 0
+arrivalOf ed t (decoded.Is (is.AbortUser r)) = came (AbortUser r) 0 0
+arrivalOf ed t (decoded.Is (is.AbortProvider r)) = came (AbortProvider r) 0 0
+arrivalOf ed t (decoded.Is (is.Start m d)) = bodyOf ed (Start (eqb m 1)) (startAt t m) d
+arrivalOf ed t (decoded.Is (is.Send d)) = bodyOf ed Send (sendAt t) d
+arrivalOf ed t (decoded.Is (is.Forward f)) = came Forward 4 (f .message .at + f .message .count - 4)
+arrivalOf ed t (decoded.Is (is.ForwardResponse x)) = came (ForwardResponse x) 0 0
 
 -- of a second reading only an abort by a provider counts
 unfoldable pub abortIn : Arrival → Apdu → Arrival
@@ -70,8 +84,8 @@ unfoldable pub orAgain : Arrival → Decoded → Arrival
 orAgain x y = cond (isInvalid (x .pdu)) (again x y) x
 
 -- given: 0 no user data, 1 user data
-unfoldable pub arrived : Side → Control → ServicePrimitive → ℕ → List ℕ → Arrival
-arrived sd c p given l = cond (eqb given 1) (arrivalOf (readsAs sd c p) (readPdu sd c p l)) (came Absent 0 0)
+unfoldable pub arrived : Edition → Side → Control → ServicePrimitive → ℕ → List ℕ → Arrival
+arrived ed sd c p given l = cond (eqb given 1) (arrivalOf ed (readsAs sd c p) (readPdu ed sd c p l)) (came Absent 0 0)
 
 -- ---- what is written
 
@@ -79,11 +93,16 @@ arrived sd c p given l = cond (eqb given 1) (arrivalOf (readsAs sd c p) (readPdu
 abbrev pub ledRun : List ℕ → ℕ → ℕ → ℕ → List ℕ
 ledRun l n from count = bitsN n 0 ++ take count (drop from l)
 
--- what the second buffer takes of what came: a forward message as it is, message data behind an extension bit that is 0
-unfoldable pub deliveredOf : List ℕ → Arrival → Outcome → List ℕ → Done
-deliveredOf l x o s =
+-- the extension bit of message data
+abbrev pub leadOf : Edition → ℕ
+leadOf Protected = 1
+leadOf Plain = 0
+
+-- what the second buffer takes of what came: a forward message as it is, message data behind their extension bit, which is 0
+unfoldable pub deliveredOf : Edition → List ℕ → Arrival → Outcome → List ℕ → Done
+deliveredOf ed l x o s =
     cond (passes (o .told)) (writeOut true s (ledRun l 0 (x .from) (x .count)))
-    (cond (o .delivers) (writeOut true s (ledRun l 1 (x .from) (x .count))) (nothingTo s))
+    (cond (o .delivers) (writeOut true s (ledRun l (leadOf ed) (x .from) (x .count))) (nothingTo s))
 
 -- the APDU of a user primitive
 abbrev pub isGiven : UserData → Bool
@@ -107,8 +126,8 @@ isReply (AbortProvider x) = true
 isReply Forward = false
 isReply (ForwardResponse x) = true
 
-abbrev pub replyTakes : Side → UserData → List ℕ → Done
-replyTakes sd a s = firstTakes sd [] [] [] (carriesData noData) a s
+abbrev pub replyTakes : Edition → Side → UserData → List ℕ → Done
+replyTakes ed sd a s = firstTakes ed sd [] [] [] (carriesData noData) a s
 
 -- ---- the end of a call
 
@@ -121,9 +140,9 @@ abbrev pub settled : ℕ → List ℕ → Settled
 settled n r = record { number = n; bytes = r }
 
 -- the outcome of a step about what came
-unfoldable pub concludedOf : List ℕ → List ℕ → List ℕ → Side → ℕ → Outcome → Arrival → List ℕ → Called
-concludedOf r a b sd n o x l =
-    cond (isNone (o .refusal)) (finished r a b sd n o (replyTakes sd (o .apdu) a) (deliveredOf l x o b)) (called (refusalNumber (o .refusal)) r a b)
+unfoldable pub concludedOf : List ℕ → List ℕ → List ℕ → Edition → Side → ℕ → Outcome → Arrival → List ℕ → Called
+concludedOf r a b ed sd n o x l =
+    cond (isNone (o .refusal)) (finished r a b sd n o (replyTakes ed sd (o .apdu) a) (deliveredOf ed l x o b)) (called (refusalNumber (o .refusal)) r a b)
 
 -- an expiry, or a system error
 abbrev pub hostEvent : Bool → Event

@@ -2,16 +2,18 @@
 ghost use mathlib.Core.Path.{_≡_};
 ghost use Prim.Native.Nat.{_+_, _-_, _^_, _≤_, _<_};
 ghost use Rattle.apdu.specs.Pdus.{lent};
-ghost use Rattle.apdu.specs.Reading.{apduAt};
+ghost use Rattle.codec.specs.Codec.{apduAt};
 ghost use Rattle.step.specs.Call.{confirmationReads, peerReads, readsAgain, readsAs};
-ghost use Rattle.step.specs.Handing.{abortIn, arrivalOf, arrived, came, orAgain, rootOf, sendAt, startAt};
+ghost use Rattle.step.specs.Handing.{abortIn, arrivalOf, arrived, bodyOf, came, messageOf, orAgain, rootOf, sendAt, startAt};
 use apdu::Apdu;
 use apdu::Data;
 use apdu::Decoded;
 use apdu::Forward;
+use apdu::Part;
 use control::Control;
 use control::Side;
 use control::awaits_response;
+use editions::Edition;
 use machine::event::ServicePrimitive;
 use machine::event::UserData;
 use pdus::PduType;
@@ -137,6 +139,34 @@ fn root_of(m: UserData, at: usize, d: Data) -> Arrival
     }
 }
 
+// A message in place, or none.
+fn message_of(m: UserData, message: Part) -> Arrival
+    ensures { λ x. ⌜ x ≡ messageOf m message ⌝ }
+{
+    match message {
+        Part::Absent => bare(m),
+        Part::Given(x) => Arrival {
+            pdu: m,
+            from: x.at,
+            count: x.count,
+        },
+    }
+}
+
+// Message data, whose extension bit, where they have one, stands at a place.
+fn body_of(edition: Edition, m: UserData, at: usize, d: Data) -> Arrival
+    requires { ⌜ (edition ≡ Edition.Protected → (at + 1 ≤ d .check .at + d .check .count) × (d .check .at + d .check .count < 2 ^ 64)) ⌝ }
+    ensures { λ x. ⌜ x ≡ bodyOf edition m at d ⌝ }
+{
+    match edition {
+        Edition::Plain => {
+            let message = d.message;
+            message_of(m, message)
+        }
+        Edition::Protected => root_of(m, at, d),
+    }
+}
+
 // A forward message, which stands behind the four bits of its alternative.
 fn forward_of(f: Forward) -> Arrival
     requires { ⌜ (4 ≤ f .message .at + f .message .count) × (f .message .at + f .message .count < 2 ^ 64) ⌝ }
@@ -151,17 +181,17 @@ fn forward_of(f: Forward) -> Arrival
 }
 
 // User data read as a type. Refusals 10 to 17 mean "no valid PDU".
-fn read_as(bytes: &[u8], pdus: PduType) -> Arrival
-    ensures { λ x. ⌜ x ≡ arrivalOf pdus (apduAt pdus (lent (now (bytes .entry))) 0) ⌝ }
+fn read_as(edition: Edition, bytes: &[u8], pdus: PduType) -> Arrival
+    ensures { λ x. ⌜ x ≡ arrivalOf edition pdus (apduAt edition pdus (lent (now (bytes .entry)))) ⌝ }
 {
-    let Decoded::Is(a) = apdu::read_apdu(bytes, pdus) else {
+    let Decoded::Is(a) = codec::read_apdu(edition, bytes, pdus) else {
         return bare(UserData::NotValid);
     };
     match a {
         Apdu::AbortUser(x) => bare(UserData::AbortUser(x)),
         Apdu::AbortProvider(x) => bare(UserData::AbortProvider(x)),
-        Apdu::Start(m, d) => root_of(UserData::Start(m == 1), start_at(pdus, m), d),
-        Apdu::Send(d) => root_of(UserData::Send, send_at(pdus), d),
+        Apdu::Start(m, d) => body_of(edition, UserData::Start(m == 1), start_at(pdus, m), d),
+        Apdu::Send(d) => body_of(edition, UserData::Send, send_at(pdus), d),
         Apdu::Forward(f) => forward_of(f),
         Apdu::ForwardResponse(x) => bare(UserData::ForwardResponse(x)),
     }
@@ -181,14 +211,14 @@ fn abort_in(x: Arrival, second: Apdu) -> Arrival
     }
 }
 
-fn read_again(x: Arrival, bytes: &[u8]) -> Arrival
-    ensures { λ y. ⌜ y ≡ orAgain x (apduAt PduType.GroundPdus (lent (now (bytes .entry))) 0) ⌝ }
+fn read_again(edition: Edition, x: Arrival, bytes: &[u8]) -> Arrival
+    ensures { λ y. ⌜ y ≡ orAgain x (apduAt edition PduType.GroundPdus (lent (now (bytes .entry)))) ⌝ }
 {
     let m = x.pdu;
     if m.kind() != UserData::NOT_VALID {
         return x;
     }
-    let Decoded::Is(a) = apdu::read_apdu(bytes, PduType::GroundPdus) else {
+    let Decoded::Is(a) = codec::read_apdu(edition, bytes, PduType::GroundPdus) else {
         return x;
     };
     abort_in(x, a)
@@ -196,18 +226,19 @@ fn read_again(x: Arrival, bytes: &[u8]) -> Arrival
 
 // What came with a primitive, of which the types that may be there are tried: given 1 user data, 0 none.
 pub(crate) fn arrived(
+    edition: Edition,
     side: Side,
     c: Control,
     p: ServicePrimitive,
     given: u64,
     bytes: &[u8],
 ) -> Arrival
-    ensures { λ x. ⌜ x ≡ arrived side c p given (lent (now (bytes .entry))) ⌝ }
+    ensures { λ x. ⌜ x ≡ arrived edition side c p given (lent (now (bytes .entry))) ⌝ }
 {
     if given == 1 {
-        let x = read_as(bytes, reads_as(side, c, p));
+        let x = read_as(edition, bytes, reads_as(side, c, p));
         if reads_again(side, p) {
-            return read_again(x, bytes);
+            return read_again(edition, x, bytes);
         }
         return x;
     }

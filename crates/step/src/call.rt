@@ -11,7 +11,7 @@ ghost use Rattle.machine.specs.Step.{stepFitting};
 ghost use Rattle.packed.specs.Packed.{invokedNumber, packed, toldNumber, versionNumber};
 ghost use Rattle.stored.specs.Stored.{storeAt};
 ghost use Rattle.step.specs.Call.{bitsOfWritten, called, carriesData, firstTakes, forwardCall, noData, passes, pdusOf, serviceCall, userCall};
-ghost use Rattle.step.specs.Handing.{concludedOf, deliveredOf, hostEvent, isGiven, isReply, ledRun, replyTakes, settled};
+ghost use Rattle.step.specs.Handing.{concludedOf, deliveredOf, hostEvent, isGiven, isReply, leadOf, ledRun, replyTakes, settled};
 use crate::arrived::Arrival;
 use crate::arrived::arrived;
 use apdu::Apdu;
@@ -20,6 +20,7 @@ use apdu::Forward;
 use apdu::Written;
 use bits::Put;
 use control::Side;
+use editions::Edition;
 use machine::event::Event;
 use machine::event::ServicePrimitive;
 use machine::event::UserData;
@@ -82,6 +83,7 @@ fn passes(t: Told) -> bool
 
 // The first buffer takes the APDU of a user primitive.
 fn put_given(
+    edition: Edition,
     first: &mut [u8],
     side: Side,
     a: UserData,
@@ -91,25 +93,25 @@ fn put_given(
     checks: &[u8],
 ) -> Written
     requires { ⌜ isGiven a ≡ true ⌝ }
-    ensures { λ w. ⌜ done w (now (first .exit)) ≡ firstTakes side (lent (now (ids .entry))) (lent (now (msgs .entry))) (lent (now (checks .entry))) (carriesData d) a (now (first .entry)) ⌝ }
+    ensures { λ w. ⌜ done w (now (first .exit)) ≡ firstTakes edition side (lent (now (ids .entry))) (lent (now (msgs .entry))) (lent (now (checks .entry))) (carriesData d) a (now (first .entry)) ⌝ }
 {
     let pdu = pdus_of(side);
     match a {
         UserData::Absent => Written::Bits(0),
         UserData::NotValid => Written::Bits(0),
-        UserData::Start(m) => apdu::put_start(first, pdu, mode(m), d, ids, msgs, checks),
-        UserData::Send => apdu::put_send(first, pdu, d, ids, msgs, checks),
-        UserData::AbortUser(x) => apdu::put_abort_user(first, pdu, x),
+        UserData::Start(m) => codec::put_start(edition, first, pdu, mode(m), d, ids, msgs, checks),
+        UserData::Send => codec::put_send(edition, first, pdu, d, ids, msgs, checks),
+        UserData::AbortUser(x) => codec::put_abort_user(edition, first, pdu, x),
         UserData::AbortProvider(_) => Written::Bits(0),
         UserData::Forward => Written::Bits(0),
         UserData::ForwardResponse(_) => Written::Bits(0),
     }
 }
 
-// It takes the answer to a primitive of the dialogue service.
+// It takes the answer to a primitive of the dialogue service, which is the same in every edition.
 fn put_reply(first: &mut [u8], side: Side, a: UserData) -> Written
     requires { ⌜ isReply a ≡ true ⌝ }
-    ensures { λ w. ⌜ done w (now (first .exit)) ≡ replyTakes side a (now (first .entry)) ⌝ }
+    ensures { λ w. ⌜ done w (now (first .exit)) ≡ replyTakes Edition.Protected side a (now (first .entry)) ⌝ }
 {
     let pdu = pdus_of(side);
     match a {
@@ -144,17 +146,27 @@ fn hand(second: &mut [u8], lead: usize, bytes: &[u8], from: usize, count: usize)
     Written::Bits(n)
 }
 
+// The extension bit of message data.
+fn lead_of(edition: Edition) -> usize
+    ensures { λ n. ⌜ n ≡ leadOf edition ⌝ }
+{
+    match edition {
+        Edition::Plain => 0,
+        Edition::Protected => 1,
+    }
+}
+
 // The second buffer takes what the user is delivered.
-fn deliver(second: &mut [u8], o: Outcome, x: Arrival, bytes: &[u8]) -> Written
+fn deliver(edition: Edition, second: &mut [u8], o: Outcome, x: Arrival, bytes: &[u8]) -> Written
     requires { ⌜ (bufferLeast ≤ length (now second)) × (x .from + x .count ≤ length (lent (now bytes))) × (x .count + 8 ≤ 8 * bufferLeast) ⌝ }
-    ensures { λ w. ⌜ done w (now (second .exit)) ≡ deliveredOf (lent (now (bytes .entry))) x o (now (second .entry)) ⌝ }
+    ensures { λ w. ⌜ done w (now (second .exit)) ≡ deliveredOf edition (lent (now (bytes .entry))) x o (now (second .entry)) ⌝ }
 {
     let t = o.told;
     if passes(t) {
         return hand(second, 0, bytes, x.from, x.count);
     }
     if o.delivers {
-        return hand(second, 1, bytes, x.from, x.count);
+        return hand(second, lead_of(edition), bytes, x.from, x.count);
     }
     Written::Bits(0)
 }
@@ -193,12 +205,13 @@ pub fn user_call(
     let Loaded::Is(side, r, held) = load(rec) else {
         return Limit::SHAPE;
     };
-    if apdu::data_fits(d, ids, msgs, checks) {
+    let edition = r.edition;
+    if codec::given_fits(edition, pdus_of(side), d, ids, msgs, checks) {
         let o = numbered::user_step(side, r, held, u, brought);
         let why = o.refusal;
         if why.is_none() {
             let a = o.apdu;
-            let sent = put_given(first, side, a, d, ids, msgs, checks);
+            let sent = put_given(edition, first, side, a, d, ids, msgs, checks);
             let number = held_after(held, Event::User(u), brought);
             return settle(rec, side, number, o, sent, Written::Bits(0));
         }
@@ -261,11 +274,12 @@ pub fn forward_call(
     let Loaded::Is(side, r, held) = load(rec) else {
         return Limit::SHAPE;
     };
-    if apdu::forward_fits(f, msgs) {
+    let edition = r.edition;
+    if codec::forward_given_fits(edition, f, msgs) {
         let o = numbered::forward_step(side, r, held, class, security, brought);
         let why = o.refusal;
         if why.is_none() {
-            let sent = apdu::put_forward_pdu(first, pdus_of(side), f, msgs);
+            let sent = codec::put_forward_pdu(edition, first, pdus_of(side), f, msgs);
             return settle(rec, side, brought, o, sent, Written::Bits(0));
         }
         return why.number();
@@ -278,6 +292,7 @@ fn conclude(
     rec: &mut [u8],
     first: &mut [u8],
     second: &mut [u8],
+    edition: Edition,
     side: Side,
     number: u64,
     o: Outcome,
@@ -285,13 +300,13 @@ fn conclude(
     bytes: &[u8],
 ) -> u64
     requires { ⌜ (isReply (o .apdu) ≡ true) × (bufferLeast ≤ length (now second)) × (x .from + x .count ≤ length (lent (now bytes))) × (x .count + 8 ≤ 8 * bufferLeast) ⌝ }
-    ensures { λ n. ⌜ called n (now (rec .exit)) (now (first .exit)) (now (second .exit)) ≡ concludedOf (now (rec .entry)) (now (first .entry)) (now (second .entry)) side number o x (lent (now (bytes .entry))) ⌝ }
+    ensures { λ n. ⌜ called n (now (rec .exit)) (now (first .exit)) (now (second .exit)) ≡ concludedOf (now (rec .entry)) (now (first .entry)) (now (second .entry)) edition side number o x (lent (now (bytes .entry))) ⌝ }
 {
     let why = o.refusal;
     if why.is_none() {
         let a = o.apdu;
         let sent = put_reply(first, side, a);
-        let out = deliver(second, o, x, bytes);
+        let out = deliver(edition, second, o, x, bytes);
         return settle(rec, side, number, o, sent, out);
     }
     why.number()
@@ -322,16 +337,16 @@ pub fn service_call(
     if 1 < given {
         return Limit::SHAPE;
     }
-    let asked = Event::Service(p, UserData::Absent);
-    if !asked.fits(side) {
+    if !p.fits() {
         return Limit::SHAPE;
     }
-    if is_stale(held, asked, brought) {
+    if is_stale(held, Event::Service(p, UserData::Absent), brought) {
         return STALE;
     }
+    let edition = r.edition;
     let c = r.control;
-    let x = arrived(side, c, p, given, bytes);
+    let x = arrived(edition, side, c, p, given, bytes);
     let m = x.pdu;
     let o = machine::service_fitting(side, r, p, m);
-    conclude(rec, first, second, side, brought, o, x, bytes)
+    conclude(rec, first, second, edition, side, brought, o, x, bytes)
 }

@@ -22,12 +22,14 @@ use Rattle.bits.specs.Read.{readBits}
 use Rattle.bits.specs.declared.Read.{Read}
 use Rattle.bits.specs.declared.Read.the-variants.{Number, Short}
 use Rattle.control.specs.Control.{number, entered}
+use Rattle.editions.specs.declared.Edition.{Edition}
+use Rattle.editions.specs.declared.Edition.the-variants.{Plain, Protected}
 use Rattle.control.specs.declared.Side.{Side}
 use Rattle.control.specs.declared.Side.the-variants.{Air, Ground}
 use Rattle.control.specs.declared.State.{State}
 use Rattle.control.specs.declared.State.the-variants.{Idle, StartReq, StartInd, Dialogue, End, Forward}
 use Rattle.machine.specs.declared.record.Record.{Record}
-use Rattle.stored.specs.Stored.{sideByte, stateByte, dscByte, timerByte, activeByte, requestByte, policyByte, forwardsByte, versionByte, versionFits, jobByte, jobBytes, numberBytes, recordBytes, jobBit, jobBits, numberBit, numberBits, recordBits, sideCode, sideOf, stateOf, flag, headBytes, storedBytes, headFits, codeAt, headOf, withNumbers, loadAt, kept, storeAt}
+use Rattle.stored.specs.Stored.{sideByte, stateByte, dscByte, timerByte, activeByte, requestByte, policyByte, forwardsByte, versionByte, versionFits, jobByte, jobBytes, numberBytes, recordBytes, jobBit, jobBits, numberBit, numberBits, recordBits, sideCode, endCode, editionIn, sideOf, stateOf, flag, headBytes, storedBytes, headFits, codeAt, headOf, withNumbers, loadAt, kept, storeAt}
 use Rattle.stored.specs.declared.Loaded.{Loaded}
 use Rattle.stored.specs.declared.Loaded.the-variants.{Is, NoRecord}
 
@@ -64,10 +66,10 @@ module _ (b : List ℕ) (sized : length b ≡ recordBytes) (t : Bool) (p : t ≡
       unfolding withNumbers
       load-no-number f = rw (loads, ← ps, e, f)
 
-      pub load-is : (n last : ℕ) → s ≡ Number n last → (sd : Side) (x : State) → sd ≡ sideOf (codeAt b sideByte) → x ≡ stateOf (codeAt b stateByte)
-          → Is sd (record { control = record { state = x; dsc = eqb (codeAt b dscByte) 1 }; timer = eqb (codeAt b timerByte) 1; active = eqb (codeAt b activeByte) 1; highest = h; request = codeAt b requestByte; policy = codeAt b policyByte; forwards = eqb (codeAt b forwardsByte) 1; version = codeAt b versionByte }) n ≡ loadAt b
+      pub load-is : (n last : ℕ) → s ≡ Number n last → (sd : Side) (x : State) (u : Edition) → sd ≡ sideOf (codeAt b sideByte) → x ≡ stateOf (codeAt b stateByte) → u ≡ editionIn (codeAt b sideByte)
+          → Is sd (record { control = record { state = x; dsc = eqb (codeAt b dscByte) 1 }; timer = eqb (codeAt b timerByte) 1; active = eqb (codeAt b activeByte) 1; highest = h; request = codeAt b requestByte; policy = codeAt b policyByte; forwards = eqb (codeAt b forwardsByte) 1; version = codeAt b versionByte; edition = u }) n ≡ loadAt b
       unfolding withNumbers
-      load-is n last f sd x y z = rw (loads, ← ps, e, f, y, z)
+      load-is n last f sd x u y z w = rw (loads, ← ps, e, f, y, z, w)
 
 -- ---- the codes
 
@@ -79,9 +81,15 @@ state-low Dialogue = omega arith
 state-low End = omega arith
 state-low Forward = omega arith
 
-side-low : (s : Side) → sideCode s < 3
-side-low Air = omega arith
-side-low Ground = omega arith
+pub code-low : (s : Side) → sideCode s < 3
+code-low Air = omega arith
+code-low Ground = omega arith
+
+side-low : (s : Side) (e : Edition) → endCode s e < 5
+side-low Air Plain = omega arith
+side-low Air Protected = omega arith
+side-low Ground Plain = omega arith
+side-low Ground Protected = omega arith
 
 flag-low : (b : Bool) → flag b < 2
 flag-low true = omega arith
@@ -98,7 +106,7 @@ pub record Coded (r : Record) : Type 0 where
 -- the codes of the head are bytes
 pub bytes-head : (sd : Side) (r : Record) → r .request < 2 → r .policy < 2 → r .version < 256 → Bytes (headBytes sd r)
 unfolding headBytes
-bytes-head sd r q p v zero = omega (arith, side-low sd)
+bytes-head sd r q p v zero = omega (arith, side-low sd (r .edition))
 bytes-head sd r q p v (suc zero) = omega (arith, state-low (r .control .state))
 bytes-head sd r q p v (suc (suc zero)) = omega (arith, flag-low (r .control .dsc))
 bytes-head sd r q p v (suc (suc (suc zero))) = omega (arith, flag-low (r .timer))
@@ -174,9 +182,17 @@ run-is : (s : List ℕ) (at n : ℕ) → run s at n ≡ take n (drop at (bitsOf 
 unfolding run
 run-is s at n = refl
 
-side-back : (s : Side) → sideOf (sideCode s) ≡ s
-side-back Air = refl
-side-back Ground = refl
+side-back : (s : Side) (e : Edition) → sideOf (endCode s e) ≡ s
+side-back Air Plain = refl
+side-back Air Protected = refl
+side-back Ground Plain = refl
+side-back Ground Protected = refl
+
+edition-back : (s : Side) (e : Edition) → editionIn (endCode s e) ≡ e
+edition-back Air Plain = refl
+edition-back Air Protected = refl
+edition-back Ground Plain = refl
+edition-back Ground Protected = refl
 
 state-back : (s : State) → stateOf (number s) ≡ s
 state-back Idle = refl
@@ -190,9 +206,11 @@ flag-back : (b : Bool) → eqb (flag b) 1 ≡ b
 flag-back true = refl
 flag-back false = refl
 
-side-fits : (s : Side) → leb 1 (sideCode s) && leb (sideCode s) 2 ≡ true
-side-fits Air = refl
-side-fits Ground = refl
+side-fits : (s : Side) (e : Edition) → leb 1 (endCode s e) && leb (endCode s e) 4 ≡ true
+side-fits Air Plain = refl
+side-fits Air Protected = refl
+side-fits Ground Plain = refl
+side-fits Ground Protected = refl
 
 module _ (sd : Side) (r : Record) (n : ℕ) (hc : Coded r) (hn : n < 2 ^ 64) where
   pub length-stored : length (storedBytes sd r n) ≡ recordBytes
@@ -203,7 +221,7 @@ module _ (sd : Side) (r : Record) (n : ℕ) (hc : Coded r) (hn : n < 2 ^ 64) whe
   unfolding storedBytes headBytes headFits
   head-stored =
       rw (
-        side-fits sd,
+        side-fits sd (r .edition),
         lt-ltb (number (r .control .state)) 6 (state-low (r .control .state)),
         lt-ltb (flag (r .control .dsc)) 2 (flag-low (r .control .dsc)),
         lt-ltb (flag (r .timer)) 2 (flag-low (r .timer)),
@@ -248,7 +266,7 @@ module _ (sd : Side) (r : Record) (n : ℕ) (hc : Coded r) (hn : n < 2 ^ 64) whe
 
   record-back : withNumbers (storedBytes sd r n) (Number (r .highest) numberBit) (Number n recordBits) ≡ Is sd r n
   unfolding storedBytes headBytes withNumbers
-  record-back = rw (side-back sd, state-back (r .control .state), flag-back (r .control .dsc), flag-back (r .timer), flag-back (r .active), flag-back (r .forwards))
+  record-back = rw (side-back sd (r .edition), edition-back sd (r .edition), state-back (r .control .state), flag-back (r .control .dsc), flag-back (r .timer), flag-back (r .active), flag-back (r .forwards))
 
   pub loaded-stored : loadAt (storedBytes sd r n) ≡ Is sd r n
   unfolding loadAt

@@ -11,6 +11,8 @@ use Rattle.bits.specs.declared.Read.{Read}
 use Rattle.bits.specs.declared.Read.the-variants.{Number, Short}
 use Rattle.machine.specs.Codes.{securityValues, versions}
 use Rattle.control.specs.Control.{number, entered}
+use Rattle.editions.specs.declared.Edition.{Edition}
+use Rattle.editions.specs.declared.Edition.the-variants.{Plain, Protected}
 use Rattle.control.specs.declared.Side.{Side}
 use Rattle.control.specs.declared.Side.the-variants.{Air, Ground}
 use Rattle.control.specs.declared.State.{State}
@@ -21,7 +23,7 @@ use Rattle.stored.specs.declared.Loaded.the-variants.{Is, NoRecord}
 
 -- ---- the layout: the byte of each field
 
--- the side: 1 air, 2 ground
+-- the end: 1 air, 2 ground, of type 22; 3 air, 4 ground, of type 2 (document 02, E14)
 abbrev pub sideByte : ℕ
 sideByte = 0
 
@@ -95,8 +97,19 @@ abbrev pub sideCode : Side → ℕ
 sideCode Air = 1
 sideCode Ground = 2
 
+-- type 22 has the codes that it had before there was another
+abbrev pub editionShift : Edition → ℕ
+editionShift Protected = 0
+editionShift Plain = 2
+
+abbrev pub endCode : Side → Edition → ℕ
+endCode sd ed = sideCode sd + editionShift ed
+
 abbrev pub sideOf : ℕ → Side
-sideOf x = cond (eqb x 1) Air Ground
+sideOf x = cond (eqb x 1) Air (cond (eqb x 3) Air Ground)
+
+abbrev pub editionIn : ℕ → Edition
+editionIn x = cond (leb x 2) Protected Plain
 
 abbrev pub stateOf : ℕ → State
 stateOf zero = Idle
@@ -115,7 +128,7 @@ flag false = 0
 -- the bytes in front of the job
 unfoldable pub headBytes : Side → Record → List ℕ
 headBytes sd r =
-    sideCode sd ∷ number (r .control .state) ∷ flag (r .control .dsc) ∷ flag (r .timer) ∷ flag (r .active) ∷ r .request ∷ r .policy ∷ flag (r .forwards) ∷ r .version ∷ []
+    endCode sd (r .edition) ∷ number (r .control .state) ∷ flag (r .control .dsc) ∷ flag (r .timer) ∷ flag (r .active) ∷ r .request ∷ r .policy ∷ flag (r .forwards) ∷ r .version ∷ []
 
 -- the bytes of a record that holds the dialogue number n
 unfoldable pub storedBytes : Side → Record → ℕ → List ℕ
@@ -128,7 +141,7 @@ versionFits v = leb 1 v && ltb v versions
 -- whether the bytes in front of the job are those of a record
 unfoldable pub headFits : ℕ → ℕ → ℕ → ℕ → ℕ → ℕ → ℕ → ℕ → ℕ → Bool
 headFits side state dsc timer active request policy forwards version =
-    leb 1 side && leb side 2 && ltb state 6 && ltb dsc 2 && ltb timer 2 && ltb active 2 && ltb request securityValues && ltb policy securityValues && ltb forwards 2 && versionFits version
+    leb 1 side && leb side 4 && ltb state 6 && ltb dsc 2 && ltb timer 2 && ltb active 2 && ltb request securityValues && ltb policy securityValues && ltb forwards 2 && versionFits version
 
 abbrev pub codeAt : List ℕ → ℕ → ℕ
 codeAt b i = getD b i 0
@@ -148,6 +161,7 @@ withNumbers b (Number h next) (Number n last) =
       policy = codeAt b policyByte;
       forwards = eqb (codeAt b forwardsByte) 1;
       version = codeAt b versionByte;
+      edition = editionIn (codeAt b sideByte);
     }) n
 withNumbers b (Number h next) Short = NoRecord
 withNumbers b Short x = NoRecord

@@ -5,12 +5,13 @@ ghost use lib.ListN.{length};
 ghost use Rattle.bits.specs.Bits.{bitsOf};
 ghost use Rattle.bits.specs.Put.{putBits};
 ghost use Rattle.machine.specs.Codes.{securityValues, versions};
-ghost use Rattle.stored.specs.Stored.{flag, headBytes, headFits, kept, loadAt, recordBytes, sideCode, sideOf, stateOf, storeAt};
+ghost use Rattle.stored.specs.Stored.{editionIn, endCode, flag, headBytes, headFits, kept, loadAt, recordBytes, sideCode, sideOf, stateOf, storeAt};
 use bits::Read;
 use control::Control;
 use control::Side;
 use control::State;
 use control::number;
+use editions::Edition;
 use machine::record::Configuration;
 use machine::record::Record;
 
@@ -41,10 +42,36 @@ fn side_code(s: Side) -> u8
     }
 }
 
+// Type 22 has the codes that it had before there was another.
+fn end_code(s: Side, e: Edition) -> u8
+    ensures { λ c. ⌜ c ≡ endCode s e ⌝ }
+{
+    let a = side_code(s);
+    match e {
+        Edition::Plain => a + 2,
+        Edition::Protected => a,
+    }
+}
+
 fn side_of(x: u8) -> Side
     ensures { λ s. ⌜ s ≡ sideOf x ⌝ }
 {
-    if x == 1 { Side::Air } else { Side::Ground }
+    if x == 1 {
+        return Side::Air;
+    }
+    if x == 3 {
+        return Side::Air;
+    }
+    Side::Ground
+}
+
+fn edition_of(x: u8) -> Edition
+    ensures { λ e. ⌜ e ≡ editionIn x ⌝ }
+{
+    if x <= 2 {
+        return Edition::Protected;
+    }
+    Edition::Plain
 }
 
 fn state_of(x: u8) -> State
@@ -82,7 +109,7 @@ fn head_fits(
     if side < 1 {
         return false;
     }
-    if 2 < side {
+    if 4 < side {
         return false;
     }
     if 6 <= state {
@@ -130,6 +157,7 @@ pub fn load(b: &[u8]) -> Loaded
         };
         let state = state_of(b[1]);
         let dsc = b[2] == 1;
+        let edition = edition_of(b[0]);
         return Loaded::Is(
             side_of(b[0]),
             Record {
@@ -141,6 +169,7 @@ pub fn load(b: &[u8]) -> Loaded
                 policy: b[6] as u64,
                 forwards: b[7] == 1,
                 version: b[8] as u64,
+                edition,
             },
             held,
         );
@@ -155,8 +184,9 @@ fn head_bytes(side: Side, r: Record) -> [u8; 9]
 {
     let c = r.control;
     let s = c.state;
+    let edition = r.edition;
     [
-        side_code(side),
+        end_code(side, edition),
         number(s) as u8,
         flag_code(c.dsc),
         flag_code(r.timer),

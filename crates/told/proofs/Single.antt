@@ -27,7 +27,8 @@ use Rattle.machine.specs.Outcome.{isNone, refused}
 use Rattle.machine.specs.Exceptions.{tell, closes, aborts, excepts, timerExpires, systemError, noInstruction}
 use Rattle.machine.specs.Calls.{replyOf, sent, startRequest as requested, startResponse as responded, messageRequest, endRequest, endResponse as endResponded, userAbort, callOf, called}
 use Rattle.machine.specs.Forwards.{forwardRequest as forwarded, responds, forwardArrives, forwardConfirmed}
-use Rattle.machine.specs.Faults.{turnedAway, pduFault, peerFits, startFits, indicationFault, responseFault, confirmationFault, sendFault, abortFault, firstFault}
+use Rattle.editions.specs.Editions.{secures, spares}
+use Rattle.machine.specs.Faults.{differs, sendAllowed, turnedAway, pduFault, peerFits, startFits, indicationFault, responseFault, confirmationFault, sendFault, abortFault, firstFault}
 use Rattle.machine.specs.Primitives.{handed, instructed, answered, reached}
 use Rattle.machine.specs.Step.{permitted, messageRefusal, refusalOf, acts, step}
 use Rattle.machine.specs.declared.record.Record.{Record}
@@ -46,7 +47,7 @@ use Rattle.machine.specs.declared.outcome.Told.{Told}
 use Rattle.machine.specs.declared.outcome.Told.the-variants.{Untold, StartIndication, StartConfirmation, MessageIndication, EndIndication, EndConfirmation, ProviderAbortIndication, UserAbortIndication, ForwardIndication, ForwardConfirmation}
 use Rattle.machine.specs.declared.outcome.Outcome.{Outcome}
 use Rattle.clauses.proofs.Laws.{step-formed, refused-same}
-use Rattle.clauses.proofs.Ways.{Way, is-refused, is-closed, is-aborted, is-started, is-message, is-called, is-invited, is-confirmed, is-forwarding, is-responding, is-forwarded, is-read, ways, by-test, passed, pdu-fits, start-there, send-expected, fits-expected, response-there, send-other, not-refused}
+use Rattle.clauses.proofs.Ways.{Way, is-refused, is-closed, is-aborted, is-started, is-message, is-called, is-invited, is-confirmed, is-forwarding, is-responding, is-forwarded, is-read, ways, by-test, passed, pdu-fits, start-there, send-expected, fits-expected, response-there, not-response, not-refused}
 use Rattle.numbered.specs.Numbers.{isStale, numberedStep}
 use Rattle.numbered.proofs.Laws.{numbered-is}
 use Rattle.told.specs.Lists.{Item, startRequest, startIndication, startResponse, startConfirmation, endResponse, endConfirmation, userAbortRequest, userAbortIndication, providerAbortIndication, forwardRequest, forwardConfirmation, unlisted, isItem, periods, among, begins, ends, invocationOf, receiptOf}
@@ -326,12 +327,12 @@ module _ (sd : Side) (r : Record) (f : Runs sd r) where
 
   -- a confirmation without a fault: of a start, or of a forward
   confirmed-law : (e : Event) → invocationOf e ≡ unlisted → (x o s v : ℕ) (a : UserData) (t : Bool) → expects sd (r .control) (DStartCnf (replyOf x)) ≡ t
-      → cond (not t) (cond (awaitsResponse (r .control)) (responseFault r x o s a) (NoInstruction true)) (cond (turnedAway x o) TurnedAway (cond (not (eqb s (r .request))) (Security (eqb x accepted)) (pduFault false (isSend a) (eqb x accepted) true a NoFault))) ≡ NoFault
+      → cond (not t) (cond (awaitsResponse (r .control)) (responseFault r x o s a) (NoInstruction true)) (cond (turnedAway x o) TurnedAway (cond (differs (secures (r .edition)) s (r .request)) (Security (eqb x accepted)) (pduFault (spares (r .edition)) (sendAllowed (spares (r .edition)) (eqb x accepted) a) (eqb x accepted) true a NoFault))) ≡ NoFault
       → LawOf sd r e (cond (isResponse a) (forwardConfirmed r (reasonOf a) v) (handed (withTimer r false) (DStartCnf (replyOf x)) (StartConfirmation (r .control .dsc) x)))
   confirmed-law e i x o s v a true p k =
       let away = passed (turnedAway x o) TurnedAway _ refl k in
-      let secure = passed (not (eqb s (r .request))) (Security (eqb x accepted)) _ refl (away .1) in
-      let n = send-other sd r a (pdu-fits (isSend a) (eqb x accepted) true a NoFault (secure .1)) in
+      let secure = passed (differs (secures (r .edition)) s (r .request)) (Security (eqb x accepted)) _ refl (away .1) in
+      let n = not-response sd r (spares (r .edition)) (eqb x accepted) (eqb x accepted) true a (secure .1) in
       subst (λ (b : Bool). LawOf sd r e (cond b (forwardConfirmed r (reasonOf a) v) (handed (withTimer r false) (DStartCnf (replyOf x)) (StartConfirmation (r .control .dsc) x)))) (sym n)
       (read-law sd (withTimer r false) e (DStartCnf (replyOf x)) (StartConfirmation (r .control .dsc) x) i user p refl refl refl)
   confirmed-law e i x o s v a false p k = awaited (awaitsResponse (r .control)) refl k
@@ -374,14 +375,14 @@ either : (b : Bool) (f g : Fault) → isQuality f ≡ false → isQuality g ≡ 
 either true f g x y = x
 either false f g x y = y
 
-pdu-quality : (fits i u : Bool) (a : UserData) (g : Fault) → isQuality g ≡ false → isQuality (pduFault false fits i u a g) ≡ false
+pdu-quality : (may fits i u : Bool) (a : UserData) (g : Fault) → isQuality g ≡ false → isQuality (pduFault may fits i u a g) ≡ false
 unfolding pduFault
-pdu-quality fits i u a g n = either (isMissing a) _ _ refl (either (isInvalid a) _ _ refl (either (not fits) _ _ refl n))
+pdu-quality may fits i u a g n = either (isMissing a) _ _ (either may _ _ n refl) (either (isInvalid a) _ _ refl (either (not fits) _ _ refl n))
 
 module _ (sd : Side) (r : Record) where
-  send-quality : (p : Primitive) (live : Bool) (a : UserData) → isQuality (sendFault sd r p false live a) ≡ false
+  send-quality : (p : Primitive) (may live : Bool) (a : UserData) → isQuality (sendFault sd r p may live a) ≡ false
   unfolding sendFault
-  send-quality p live a = either (not (expects sd (r .control) p)) _ _ refl (pdu-quality (isSend a) live live a NoFault refl)
+  send-quality p may live a = either (not (expects sd (r .control) p)) _ _ refl (pdu-quality may (isSend a) live live a NoFault refl)
 
   abort-quality : (p : Primitive) (fits : Bool) → isQuality (abortFault sd r p fits) ≡ false
   unfolding abortFault
@@ -391,14 +392,14 @@ module _ (sd : Side) (r : Record) where
   unfolding confirmationFault responseFault
   confirmation-quality x o s a =
       either (not (expects sd (r .control) (DStartCnf (replyOf x)))) _ _
-      (either (awaitsResponse (r .control)) _ _ (either (turnedAway x o) _ _ refl (either (not (eqb s (r .request))) _ _ refl (either (eqb x accepted) _ _ (pdu-quality false true true a NoFault refl) (pdu-quality (isResponse a) false true a NoFault refl)))) refl)
-      (either (turnedAway x o) _ _ refl (either (not (eqb s (r .request))) _ _ refl (pdu-quality (isSend a) (eqb x accepted) true a NoFault refl)))
+      (either (awaitsResponse (r .control)) _ _ (either (turnedAway x o) _ _ refl (either (differs (secures (r .edition)) s (r .request)) _ _ refl (either (eqb x accepted) _ _ (pdu-quality false false true true a NoFault refl) (pdu-quality false (isResponse a) false true a NoFault refl)))) refl)
+      (either (turnedAway x o) _ _ refl (either (differs (secures (r .edition)) s (r .request)) _ _ refl (pdu-quality (spares (r .edition)) (sendAllowed (spares (r .edition)) (eqb x accepted) a) (eqb x accepted) true a NoFault refl)))
 
   indication-quality : (x s : ℕ) (q : Qos) (a : UserData) → isQuality (indicationFault sd r x s q a) ≡ true → isIdle (r .control) ≡ true
   unfolding indicationFault
   indication-quality x s q a e = go (isIdle (r .control)) e
     where
-      go : (b : Bool) → isQuality (cond (not b) (NoInstruction true) (cond (not (qosFits q)) Quality (cond (not (eqb s (r .policy))) (Security true) (pduFault false (startFits sd r x a) true true a (cond (peerFits sd x) NoFault (NoInstruction true)))))) ≡ true → b ≡ true
+      go : (b : Bool) → isQuality (cond (not b) (NoInstruction true) (cond (not (qosFits q)) Quality (cond (differs (secures (r .edition)) s (r .policy)) (Security true) (pduFault false (startFits sd r x a) true true a (cond (peerFits sd x) NoFault (NoInstruction true)))))) ≡ true → b ≡ true
       go true k = refl
       go false k = never (sym k)
 
@@ -406,9 +407,9 @@ module _ (sd : Side) (r : Record) where
   unfolding firstFault
   quality-idle (DStartIndication x s q v) a e = indication-quality x s q a e
   quality-idle (DStartConfirmation x o s v) a e = never (sym e ∙ confirmation-quality x o s a)
-  quality-idle DDataIndication a e = never (sym e ∙ send-quality DData true a)
-  quality-idle DEndIndication a e = never (sym e ∙ send-quality DEnd true a)
-  quality-idle (DEndConfirmation x) a e = never (sym e ∙ send-quality (DEndCnf (replyOf x)) (not (eqb x accepted)) a)
+  quality-idle DDataIndication a e = never (sym e ∙ send-quality DData _ true a)
+  quality-idle DEndIndication a e = never (sym e ∙ send-quality DEnd _ true a)
+  quality-idle (DEndConfirmation x) a e = never (sym e ∙ send-quality (DEndCnf (replyOf x)) _ (not (eqb x accepted)) a)
   quality-idle (DAbortIndication o) a e = never (sym e ∙ abort-quality DAbort (abortFits o a))
   quality-idle DPAbortIndication a e = never (sym e ∙ abort-quality DPAbort true)
 
@@ -441,23 +442,23 @@ module _ (sd : Side) (r : Record) where
   step-law : Runs sd r → (e : Event) → LawOf sd r e (step sd r e)
   unfolding step refusalOf
   step-law h e =
-      by-test (LawOf sd r e) (isNone (refusalOf sd r e)) _ _ (λ n. acts-law h e (not-refused (eventFits sd e) (permitted sd r e) (messageRefusal r e) n .1 .0))
+      by-test (LawOf sd r e) (isNone (refusalOf sd r e)) _ _ (λ n. acts-law h e (not-refused (eventFits sd (r .edition) e) (permitted sd r e) (messageRefusal r e) n .1 .0))
       (λ n. refused-law sd (r .active) (entry e (refused (refusalOf sd r e) r)) n)
 
   numbered-law : Runs sd r → (n : ℕ) (e : Event) (v : ℕ) → LawOf sd r e (numberedStep sd r n e v)
   numbered-law h n e v =
       subst (LawOf sd r e) (sym (numbered-is sd r n e v))
-      (by-test (LawOf sd r e) (eventFits sd e && isStale n e v) _ _ (λ k. refused-law sd (r .active) (entry e (refused Stale r)) refl) (λ k. step-law h e))
+      (by-test (LawOf sd r e) (eventFits sd (r .edition) e && isStale n e v) _ _ (λ k. refused-law sd (r .active) (entry e (refused Stale r)) refl) (λ k. step-law h e))
 
   numbered-runs : Runs sd r → (n : ℕ) (e : Event) (v : ℕ) → Runs sd (numberedStep sd r n e v .next)
   numbered-runs h n e v =
       subst (λ (o : Outcome). Runs sd (o .next)) (sym (numbered-is sd r n e v))
-      (by-test (λ (o : Outcome). Runs sd (o .next)) (eventFits sd e && isStale n e v) _ _ (λ k. h) (λ k. step-runs sd r e h))
+      (by-test (λ (o : Outcome). Runs sd (o .next)) (eventFits sd (r .edition) e && isStale n e v) _ _ (λ k. h) (λ k. step-runs sd r e h))
 
 pub numbered-refused : (sd : Side) (r : Record) (n : ℕ) (e : Event) (v : ℕ) → isNone (numberedStep sd r n e v .refusal) ≡ false → numberedStep sd r n e v ≡ refused (numberedStep sd r n e v .refusal) r
 numbered-refused sd r n e v =
     subst (λ (o : Outcome). isNone (o .refusal) ≡ false → o ≡ refused (o .refusal) r) (sym (numbered-is sd r n e v))
-    (by-test (λ (o : Outcome). isNone (o .refusal) ≡ false → o ≡ refused (o .refusal) r) (eventFits sd e && isStale n e v) _ _ (λ k m. refl) (λ k. refused-same sd r e))
+    (by-test (λ (o : Outcome). isNone (o .refusal) ≡ false → o ≡ refused (o .refusal) r) (eventFits sd (r .edition) e && isStale n e v) _ _ (λ k m. refl) (λ k. refused-same sd r e))
 
 -- the law of an event with its dialogue number, at an end
 pub event-law : (sd : Side) (h : End) (b : NumberedEvent) → Runs sd (h .dialogue) → Lawful sd (h .dialogue .active) (entry (b .event) (outcomeOf sd h b)) (next sd h b .dialogue .active)

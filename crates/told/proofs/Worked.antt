@@ -3,6 +3,7 @@
 use mathlib.Core.Path.{_≡_, refl}
 use mathlib.Core.Bool.{true}
 use mathlib.Core.List.{List, [], _∷_}
+use Rattle.editions.specs.declared.Edition.the-variants.{Protected}
 use Rattle.machine.specs.Record.{freshRecord, enter}
 use Rattle.machine.specs.UserData.{userDataFits}
 use Rattle.machine.specs.Event.{hasMode, qosFits, userFits, serviceFits, eventFits}
@@ -21,7 +22,7 @@ use Rattle.told.specs.Lists.{among, begins, ends}
 use Rattle.told.specs.Histories.{NumberedEvent, End, end, history, reaches, activations, closings}
 
 abbrev ground : End
-ground = end (freshRecord (record { policy = 0; forwards = true; version = 1 })) 0
+ground = end (freshRecord (record { policy = 0; forwards = true; version = 1; edition = Protected })) 0
 
 abbrev events : List NumberedEvent
 events =

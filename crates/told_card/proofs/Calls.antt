@@ -12,9 +12,10 @@ use lib.ListN.{length}
 use Rattle.words.specs.Limits.{room, shape}
 use Rattle.apdu.specs.Sizes.{bufferLeast}
 use Rattle.apdu.specs.Pdus.{lent}
-use Rattle.apdu.specs.Writing.{Done, dataFits, forwardFits}
+use Rattle.apdu.specs.Writing.{Done}
 use Rattle.apdu.specs.declared.Data.{Data}
 use Rattle.apdu.specs.declared.Forward.{Forward as Forwarded}
+use Rattle.codec.specs.Codec.{givenFits, forwardGivenFits}
 use Rattle.control.specs.declared.Side.{Side}
 use Rattle.machine.specs.Codes.{securityValues, versions}
 use Rattle.machine.specs.Outcome.{isNone, refusalNumber}
@@ -35,7 +36,7 @@ use Rattle.stored.specs.declared.Loaded.the-variants.{Is}
 use Rattle.stored.proofs.Storing.{Coded, length-stored, loaded-stored}
 use Rattle.packed.specs.Packed.{codes, packed, invokedNumber, toldNumber, versionNumber}
 use Rattle.packed.proofs.Unpacked.{invoked-low, told-low, refusal-unpacked, told-unpacked, code-unpacked, parameter-unpacked, last-unpacked}
-use Rattle.step.specs.Call.{Carried, Called, called, bitsOfWritten, finished, concluded, withRecord, entering, eventStep, userStep, userCall, userBy, forwardStep, forwardCall, forwardBy, dataStep, bareStep, serviceStep, serviceCall, serviceBy}
+use Rattle.step.specs.Call.{Carried, Called, called, pdusOf, bitsOfWritten, finished, concluded, withRecord, entering, eventStep, userStep, userCall, userBy, forwardStep, forwardCall, forwardBy, dataStep, bareStep, serviceStep, serviceCall, serviceBy}
 use Rattle.step.proofs.Taken.{never}
 use Rattle.card.specs.Face.{noNumber, messageRequested, abortRequested, holdsMessage}
 use Rattle.card_pair.specs.Answered.{isTaken, toldPart}
@@ -154,13 +155,13 @@ module _ (sd : Side) (r a b : List ℕ) (x : Record) (n : ℕ) (h : Bytes sd r x
   unfolding userBy userStep
   user-leaves e v ids msgs checks d l j =
       entering-leaves (invocationOf e) (userStep numberedStep r a b e v (lent ids) (lent msgs) (lent checks) d)
-      (by-test (Leaves sd (x .active) (invocationOf e)) (dataFits (lent ids) (lent msgs) (lent checks) d) _ _ (λ q. event-leaves e v _ _ _ _ l j) (λ q. refuses (invocationOf e) shape refl))
+      (by-test (Leaves sd (x .active) (invocationOf e)) (givenFits (x .edition) (pdusOf sd) (lent ids) (lent msgs) (lent checks) d) _ _ (λ q. event-leaves e v _ _ _ _ l j) (λ q. refuses (invocationOf e) shape refl))
 
   forward-leaves : (k s v : ℕ) (msgs : List ℕ) (f : Forwarded) → v < 2 ^ 64 → Leaves sd (x .active) (invocationOf (Forward k s)) (forwardCall r a b k s v msgs f)
   unfolding forwardBy forwardStep
   forward-leaves k s v msgs f l =
       entering-leaves (invocationOf (Forward k s)) (forwardStep numberedStep r a b k s v (lent msgs) f)
-      (by-test (Leaves sd (x .active) (invocationOf (Forward k s))) (forwardFits (lent msgs) f) _ _ (λ q. event-leaves (Forward k s) v _ _ _ _ l tt) (λ q. refuses (invocationOf (Forward k s)) shape refl))
+      (by-test (Leaves sd (x .active) (invocationOf (Forward k s))) (forwardGivenFits (x .edition) (lent msgs) f) _ _ (λ q. event-leaves (Forward k s) v _ _ _ _ l tt) (λ q. refuses (invocationOf (Forward k s)) shape refl))
 
   service-leaves : (p : ServicePrimitive) (v given : ℕ) (bytes : List ℕ) → v < 2 ^ 64 → Leaves sd (x .active) unlisted (serviceCall r a b p v given bytes)
   unfolding serviceBy serviceStep dataStep bareStep

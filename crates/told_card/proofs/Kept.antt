@@ -8,6 +8,7 @@ use borrow.Author.Tests.{ltb-true, lt-ltb}
 use lib.Dec.{ltb, eqb}
 use Rattle.words.proofs.Laws.{both-left, both-right}
 use Rattle.control.specs.Control.{isIdle}
+use Rattle.editions.specs.Editions.{secures}
 use Rattle.control.specs.declared.Side.{Side}
 use Rattle.control.specs.declared.Control.{Control}
 use Rattle.control.specs.declared.Call.{Call}
@@ -18,7 +19,7 @@ use Rattle.machine.specs.UserData.{isForward, isResponse, isUserAbort, userData
 use Rattle.machine.specs.Event.{hasMode, userFits, serviceFits, eventFits}
 use Rattle.machine.specs.Outcome.{isNone, refused}
 use Rattle.machine.specs.Exceptions.{tell, closes, aborts, excepts, noInstruction, timerExpires, systemError}
-use Rattle.machine.specs.Calls.{sent, startRequest, startResponse, messageRequest, endRequest, endResponse, userAbort, called}
+use Rattle.machine.specs.Calls.{securitySent, sent, startRequest, startResponse, messageRequest, endRequest, endResponse, userAbort, called}
 use Rattle.machine.specs.Forwards.{forwardRequest, responds, forwardArrives, forwardConfirmed}
 use Rattle.machine.specs.Faults.{firstFault}
 use Rattle.machine.specs.Primitives.{handed, abortTold, instructed, answered, reached}
@@ -91,6 +92,11 @@ user-coded r on k = record { request = k .request; policy = k .policy; least = k
 
 request-coded : (r : Record) (s : ℕ) → s < securityValues → Coded r → Coded (withRequest r s)
 request-coded r s h k = record { request = h; policy = k .policy; least = k .least; most = k .most; highest = k .highest }
+
+-- a security value that is sent is one
+sent-low : (compared : Bool) (s : ℕ) → s < securityValues → securitySent compared s < securityValues
+sent-low true s h = h
+sent-low false s h = omega arith
 
 job-coded : (r : Record) (j : ℕ) → j < 2 ^ 64 → Coded r → Coded (withJob r j)
 job-coded r j h k = record { request = k .request; policy = k .policy; least = k .least; most = k .most; highest = h }
@@ -173,11 +179,12 @@ answered-keeps r p a (NotPermitted live) k h = excepts-keeps r live _ _ k
 
 -- ---- a call of the user
 
-called-keeps : (sd : Side) (r : Record) (u : UserPrimitive) → Coded r → userFits sd u ≡ true → JobLow (User u) → Keeps (called r u)
+called-keeps : (sd : Side) (r : Record) (u : UserPrimitive) → Coded r → userFits sd (r .edition) u ≡ true → JobLow (User u) → Keeps (called r u)
 unfolding called userFits startRequest startResponse messageRequest endRequest endResponse userAbort
 called-keeps sd r (StartServiceRequest m c s) k h j =
     let both = both-right (hasMode sd m) (ltb c routingClasses && ltb s securityValues) h in
-    sent-keeps (withRequest (withUser (withTimer r true) true) s) _ _ _ (started-coded r s (ltb-true s securityValues (both-right (ltb c routingClasses) (ltb s securityValues) both)) k)
+    let low = sent-low (secures (r .edition)) s (ltb-true s securityValues (both-right (ltb c routingClasses) (ltb s securityValues) both)) in
+    sent-keeps (withRequest (withUser (withTimer r true) true) (securitySent (secures (r .edition)) s)) _ _ _ (started-coded r (securitySent (secures (r .edition)) s) low k)
 called-keeps sd r (StartServiceResponse m x g) k h j = sent-keeps r _ _ _ k
 called-keeps sd r (MessageServiceRequest b n) k h j = sent-keeps (withJob r n) _ _ _ (job-coded r n j k)
 called-keeps sd r (EndServiceRequest m g) k h j = sent-keeps r _ _ _ k
@@ -186,15 +193,17 @@ called-keeps sd r (UserAbortServiceRequest g x) k h j = sent-keeps r _ _ _ k
 
 forward-keeps : (r : Record) (c s : ℕ) → Coded r → s < securityValues → Keeps (forwardRequest r c s)
 unfolding forwardRequest
-forward-keeps r c s k h = record { coded = enter-coded (withRequest (withUser (withTimer r true) true) s) _ (started-coded r s h k); result = refl }
+forward-keeps r c s k h =
+    let low = sent-low (secures (r .edition)) s h in
+    record { coded = enter-coded (withRequest (withUser (withTimer r true) true) (securitySent (secures (r .edition)) s)) _ (started-coded r (securitySent (secures (r .edition)) s) low k); result = refl }
 
 -- ---- every event
 
-acts-keeps : (sd : Side) (r : Record) (e : Event) → Coded r → eventFits sd e ≡ true → JobLow e → Keeps (acts sd r e)
+acts-keeps : (sd : Side) (r : Record) (e : Event) → Coded r → eventFits sd (r .edition) e ≡ true → JobLow e → Keeps (acts sd r e)
 unfolding acts eventFits reached timerExpires systemError
 acts-keeps sd r (User u) k h j = called-keeps sd r u k h j
 acts-keeps sd r (Forward c s) k h j = forward-keeps r c s k (ltb-true s securityValues (both-right (ltb c routingClasses) (ltb s securityValues) h))
-acts-keeps sd r (Service p a) k h j = answered-keeps r p a (firstFault sd r p a) k (both-left (serviceFits p) (userDataFits a) h)
+acts-keeps sd r (Service p a) k h j = answered-keeps r p a (firstFault sd r p a) k (both-left (serviceFits p) (userDataFits (r .edition) a) h)
 acts-keeps sd r TimerExpires k h j = excepts-keeps r true _ _ k
 acts-keeps sd r UnrecoverableSystemError k h j = by-test Keeps (isIdle (r .control)) _ _ (λ e. closes-keeps r Untold k refl) (λ e. excepts-keeps r true _ _ k)
 
@@ -202,7 +211,7 @@ acts-keeps sd r UnrecoverableSystemError k h j = by-test Keeps (isIdle (r .contr
 pub numbered-keeps : (sd : Side) (r : Record) (n : ℕ) (e : Event) (v : ℕ) → Coded r → JobLow e → Keeps (numberedStep sd r n e v)
 unfolding numberedStep refusalOf
 numbered-keeps sd r n e v k j =
-    by-test Keeps (isNone (refusalOf sd r n e v)) _ _ (λ q. acts-keeps sd r e k (shaped (eventFits sd e) _ q) j) (λ q. record { coded = k; result = refl })
+    by-test Keeps (isNone (refusalOf sd r n e v)) _ _ (λ q. acts-keeps sd r e k (shaped (eventFits sd (r .edition) e) _ q) j) (λ q. record { coded = k; result = refl })
   where
     shaped : (s : Bool) (w : StepRefusal) → isNone (cond (not s) Shape w) ≡ true → s ≡ true
     shaped true w q = refl

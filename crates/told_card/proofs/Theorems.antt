@@ -1,7 +1,7 @@
 -- "Told once" of the exported calls: what holds of every history of calls, from the bytes that peat_fresh leaves (document 02, E12).
 -- Assumes nothing.
 use mathlib.Core.Path.{_≡_, refl, ap, sym, _∙_}
-use mathlib.Core.Bool.{Bool, true, false, cond, _&&_}
+use mathlib.Core.Bool.{Bool, true, false, not, cond, _&&_}
 use mathlib.Core.List.{List, [], _∷_}
 use Prim.Native.Nat.{ℕ}
 use native.Mathlib.Omega.{arith}
@@ -10,6 +10,8 @@ use lib.Dec.{leb, ltb, eqb}
 use lib.ListN.{length}
 use Rattle.words.specs.Limits.{shape}
 use Rattle.words.proofs.Laws.{both-left, both-right}
+use Rattle.editions.specs.Editions.{isType, editionOf}
+use Rattle.editions.specs.declared.Edition.{Edition}
 use Rattle.control.specs.declared.Side.{Side}
 use Rattle.control.specs.declared.Side.the-variants.{Air, Ground}
 use Rattle.machine.specs.Codes.{securityValues, versions, noSecurity}
@@ -44,14 +46,15 @@ chained sd (c ∷ cs) r x n h =
 
 -- ---- the bytes that peat_fresh leaves, where it answers 0
 
-record Fresh (sd : Side) (b : List ℕ) : Type 0 where
-  configuration : Configuration
-  bytes : Bytes sd b (freshRecord configuration) firstNumber
+pub record Fresh (sd : Side) (ed : Edition) (b : List ℕ) : Type 0 where
+  pub configuration : Configuration
+  pub bytes : Bytes sd b (freshRecord configuration) firstNumber
+  pub edition : configuration .edition ≡ ed
 
 -- a record that was stored
-fresh-stored : (sd : Side) (r : List ℕ) (g : Configuration) → freshFor (storeAt r sd (freshRecord g) firstNumber) .number ≡ 0 → Fresh sd (freshFor (storeAt r sd (freshRecord g) firstNumber) .bytes)
+fresh-stored : (sd : Side) (r : List ℕ) (g : Configuration) → freshFor (storeAt r sd (freshRecord g) firstNumber) .number ≡ 0 → Fresh sd (g .edition) (freshFor (storeAt r sd (freshRecord g) firstNumber) .bytes)
 unfolding freshFor storeAt
-fresh-stored sd r g e = record { configuration = g; bytes = stored sd r (freshRecord g) firstNumber (eqb-true (length r) recordBytes size) coded (omega arith) (fresh-runs sd g) }
+fresh-stored sd r g e = record { configuration = g; bytes = stored sd r (freshRecord g) firstNumber (eqb-true (length r) recordBytes size) coded (omega arith) (fresh-runs sd g); edition = refl }
   where
     fits : (t : Bool) → cond t 0 shape ≡ 0 → t ≡ true
     fits true e = refl
@@ -83,26 +86,30 @@ fresh-stored sd r g e = record { configuration = g; bytes = stored sd r (freshRe
           highest = omega arith;
         }
 
-fresh-bytes : (sd : Side) (r : List ℕ) (p f v : ℕ) → freshCall r (sideCode sd) p f v .number ≡ 0 → Fresh sd (freshCall r (sideCode sd) p f v .bytes)
+pub fresh-bytes : (sd : Side) (r : List ℕ) (p f v t : ℕ) → freshCall r (sideCode sd) p f v t .number ≡ 0 → Fresh sd (editionOf t) (freshCall r (sideCode sd) p f v t .bytes)
 unfolding freshCall
-fresh-bytes Air r p f v = go (ltb 1 f)
+fresh-bytes Air r p f v t = go (ltb 1 f) (not (isType t))
   where
-    go : (t : Bool) → cond t (record { number = shape; bytes = r }) (freshFor (storeAt r Air (freshRecord (configured p f v)) firstNumber)) .number ≡ 0 → Fresh Air (cond t (record { number = shape; bytes = r }) (freshFor (storeAt r Air (freshRecord (configured p f v)) firstNumber)) .bytes)
-    go true e = never (ap (λ (k : ℕ). eqb k 2) (sym e))
-    go false e = fresh-stored Air r (configured p f v) e
-fresh-bytes Ground r p f v = go (ltb 1 f)
+    go : (y z : Bool) → cond y (record { number = shape; bytes = r }) (cond z (record { number = shape; bytes = r }) (freshFor (storeAt r Air (freshRecord (configured p f v t)) firstNumber))) .number ≡ 0
+        → Fresh Air (editionOf t) (cond y (record { number = shape; bytes = r }) (cond z (record { number = shape; bytes = r }) (freshFor (storeAt r Air (freshRecord (configured p f v t)) firstNumber))) .bytes)
+    go true z e = never (ap (λ (k : ℕ). eqb k 2) (sym e))
+    go false true e = never (ap (λ (k : ℕ). eqb k 2) (sym e))
+    go false false e = fresh-stored Air r (configured p f v t) e
+fresh-bytes Ground r p f v t = go (ltb 1 f) (not (isType t))
   where
-    go : (t : Bool) → cond t (record { number = shape; bytes = r }) (freshFor (storeAt r Ground (freshRecord (configured p f v)) firstNumber)) .number ≡ 0 → Fresh Ground (cond t (record { number = shape; bytes = r }) (freshFor (storeAt r Ground (freshRecord (configured p f v)) firstNumber)) .bytes)
-    go true e = never (ap (λ (k : ℕ). eqb k 2) (sym e))
-    go false e = fresh-stored Ground r (configured p f v) e
+    go : (y z : Bool) → cond y (record { number = shape; bytes = r }) (cond z (record { number = shape; bytes = r }) (freshFor (storeAt r Ground (freshRecord (configured p f v t)) firstNumber))) .number ≡ 0
+        → Fresh Ground (editionOf t) (cond y (record { number = shape; bytes = r }) (cond z (record { number = shape; bytes = r }) (freshFor (storeAt r Ground (freshRecord (configured p f v t)) firstNumber))) .bytes)
+    go true z e = never (ap (λ (k : ℕ). eqb k 2) (sym e))
+    go false true e = never (ap (λ (k : ℕ). eqb k 2) (sym e))
+    go false false e = fresh-stored Ground r (configured p f v t) e
 
 -- ---- the theorem
 
--- any range r, a policy p, forwarding f and a version v with which peat_fresh answers 0 for the side sd; any calls cs
-pub card-told-once : (sd : Side) (r : List ℕ) (p f v : ℕ) (cs : List Lent) → freshCall r (sideCode sd) p f v .number ≡ 0
-    → CardToldOnce sd (leaves (freshCall r (sideCode sd) p f v .bytes) cs) (history (freshCall r (sideCode sd) p f v .bytes) cs)
-card-told-once sd r p f v cs e =
-    let b = freshCall r (sideCode sd) p f v .bytes in
-    let fresh = fresh-bytes sd r p f v e in
+-- any range r, a policy p, forwarding f, a version v and an application type t with which peat_fresh answers 0 for the side sd; any calls cs
+pub card-told-once : (sd : Side) (r : List ℕ) (p f v t : ℕ) (cs : List Lent) → freshCall r (sideCode sd) p f v t .number ≡ 0
+    → CardToldOnce sd (leaves (freshCall r (sideCode sd) p f v t .bytes) cs) (history (freshCall r (sideCode sd) p f v t .bytes) cs)
+card-told-once sd r p f v t cs e =
+    let b = freshCall r (sideCode sd) p f v t .bytes in
+    let fresh = fresh-bytes sd r p f v t e in
     let c = chained sd cs b (freshRecord (fresh .configuration)) firstNumber (fresh .bytes) in
     record { held = c .held; number = c .number; load = c .bytes .load; told = chain-told-once sd (c .held .active) (history b cs) (c .chain) }

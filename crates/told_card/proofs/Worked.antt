@@ -12,9 +12,12 @@ use Rattle.bits.specs.Read.{readBits}
 use Rattle.fields.specs.Encodings.{wholeBits, indexBits, lengthBits}
 use Rattle.fields.specs.Fields.{digitsIn}
 use Rattle.apdu.specs.Sizes.{bufferLeast}
-use Rattle.apdu.specs.Encoding.{stringBits, optionalBits, optionalFits, contentBits, contentFits, modeBits, modeFits, pduBits, pduFits, padded}
+use Rattle.apdu.specs.Encoding.{stringBits, optionalBits, optionalFits, contentBits, contentFits, modeBits, modeFits, padded}
 use Rattle.apdu.specs.Pdus.{partIn, contentIn, pduIn}
-use Rattle.apdu.specs.Writing.{itemsFit, partFits, dataFits, apduFits, writeOut}
+use Rattle.apdu.specs.InPlace.{bitsIn, perhapsBits}
+use Rattle.apdu.specs.Writing.{itemsFit, partFits, dataFits, writeOut}
+use Rattle.codec.specs.Codec.{pduBits, apduFits}
+use Rattle.plain.specs.Plain as plain
 use Rattle.control.specs.declared.Side.the-variants.{Ground}
 use Rattle.machine.specs.Calls.{sent, startRequest, userAbort, callOf, unsent, called}
 use Rattle.machine.specs.UserData.{userDataFits}
@@ -56,10 +59,14 @@ calls =
     full (starts (word 1 (omega arith))) ∷ narrow (starts (word 2 (omega arith))) ∷ full (starts (word 2 (omega arith))) ∷ full (fails (word 1 (omega arith))) ∷ full (fails (word 1 (omega arith))) ∷
     full (starts (word 2 (omega arith))) ∷ full (user-abort noCount) ∷ full (fails (word 2 (omega arith))) ∷ []
 
-abbrev bytes : List ℕ
-bytes = freshCall (replicate recordBytes 0) 2 0 0 1 .bytes
+-- of an application type
+abbrev bytes : ℕ → List ℕ
+bytes t = freshCall (replicate recordBytes 0) 2 0 0 1 t .bytes
 
 -- two activations, two closings, and the user is not active
-pub told-of-two : (activations Ground (history bytes calls) ≡ 2) × (closings Ground (history bytes calls) ≡ 2) × (getD (leaves bytes calls) activeByte 1 ≡ 0)
-unfolding bitsN bitsOf accOf digitsIn bitsTo bytesOf withBit setBit putBits readBits wholeBits indexBits lengthBits stringBits optionalBits optionalFits contentBits contentFits modeBits modeFits pduBits pduFits padded partIn contentIn pduIn itemsFit partFits dataFits apduFits writeOut sent startRequest userAbort callOf unsent called userDataFits userFits hasMode serviceFits eventFits tell closes aborts excepts noInstruction abortFault firstFault instructed answered reached enter permitted messageRefusal userStarts serviceStarts isStart isService isStale heldAfter refusalOf acts numberedStep firstTakes secondTakes finished concluded withRecord entering userStep userBy bareStep serviceStep serviceBy invokedNumber toldNumber packed headBytes storedBytes headFits withNumbers loadAt storeAt partOf givenData freshFor freshCall among begins ends activations closings history leaves
-told-of-two = (refl, refl, refl)
+abbrev ToldOfTwo : ℕ → Type 0
+ToldOfTwo t = (activations Ground (history (bytes t) calls) ≡ 2) × (closings Ground (history (bytes t) calls) ≡ 2) × (getD (leaves (bytes t) calls) activeByte 1 ≡ 0)
+
+pub told-of-two : ToldOfTwo 22 × ToldOfTwo 2
+unfolding bitsN bitsOf accOf digitsIn bitsTo bytesOf withBit setBit putBits readBits wholeBits indexBits lengthBits stringBits optionalBits optionalFits contentBits contentFits modeBits modeFits pduBits padded bitsIn perhapsBits plain.contentFits plain.givenFits partIn contentIn pduIn itemsFit partFits dataFits apduFits writeOut sent startRequest userAbort callOf unsent called userDataFits userFits hasMode serviceFits eventFits tell closes aborts excepts noInstruction abortFault firstFault instructed answered reached enter permitted messageRefusal userStarts serviceStarts isStart isService isStale heldAfter refusalOf acts numberedStep firstTakes secondTakes finished concluded withRecord entering userStep userBy bareStep serviceStep serviceBy invokedNumber toldNumber packed headBytes storedBytes headFits withNumbers loadAt storeAt partOf givenData freshFor freshCall among begins ends activations closings history leaves
+told-of-two = ((refl, refl, refl), (refl, refl, refl))

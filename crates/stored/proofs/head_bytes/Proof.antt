@@ -7,14 +7,14 @@ use borrow.Author.Needs.{needs}
 use Rattle.stored.proofs.head_bytes.Statement.{statement}
 use Rattle.stored.proofs.head_bytes.Tie as tie
 
-side-code-requires : tie.Need-side-code-requires
-side-code-requires c κs = search needs
+end-code-requires : tie.Need-end-code-requires
+end-code-requires c κs = search needs
 
 number-requires : tie.Need-number-requires
 number-requires c κs = search needs
 
-cast-t7 : tie.Need-cast-t7
-cast-t7 c = omega (arith, c .number .ensures, state-low (c .before .before .before .args .r .control .state))
+cast-t8 : tie.Need-cast-t8
+cast-t8 c = omega (arith, c .number .ensures, state-low (c .before .before .before .args .r .control .state))
 
 flag-code-requires : tie.Need-flag-code-requires
 flag-code-requires c κs = search needs
@@ -25,34 +25,34 @@ flag-code-requires-2 c κs = search needs
 flag-code-requires-3 : tie.Need-flag-code-requires-3
 flag-code-requires-3 c κs = search needs
 
-cast-t11 : tie.Need-cast-t11
-cast-t11 c = search needs
-
 cast-t12 : tie.Need-cast-t12
 cast-t12 c = search needs
+
+cast-t13 : tie.Need-cast-t13
+cast-t13 c = search needs
 
 flag-code-requires-4 : tie.Need-flag-code-requires-4
 flag-code-requires-4 c κs = search needs
 
-cast-t14 : tie.Need-cast-t14
-cast-t14 c = search needs
+cast-t15 : tie.Need-cast-t15
+cast-t15 c = search needs
 
 returns : tie.Need-returns
 unfolding headBytes
-returns c = rw (c .before .before .before .before .before .before .before .before .side-code .ensures, c .before .before .before .before .before .before .before .number .ensures, c .before .before .before .before .before .before .flag-code .ensures, c .before .before .before .before .before .flag-code2 .ensures, c .before .before .before .before .flag-code3 .ensures, c .before .flag-code4 .ensures)
+returns c = rw (c .before .before .before .before .before .before .before .before .end-code .ensures, c .before .before .before .before .before .before .before .number .ensures, c .before .before .before .before .before .before .flag-code .ensures, c .before .before .before .before .before .flag-code2 .ensures, c .before .before .before .before .flag-code3 .ensures, c .before .flag-code4 .ensures)
 
 pub head-bytes-spec : {M : Type 1} → statement M
 head-bytes-spec =
     tie.close
     (tie.spec
-    side-code-requires
+    end-code-requires
     number-requires
-    cast-t7
+    cast-t8
     flag-code-requires
     flag-code-requires-2
     flag-code-requires-3
-    cast-t11
     cast-t12
+    cast-t13
     flag-code-requires-4
-    cast-t14
+    cast-t15
     returns)

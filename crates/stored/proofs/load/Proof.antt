@@ -72,41 +72,47 @@ state-of-requires c κs = search needs
 shared-slice-read-dsc : tie.Need-shared-slice-read-dsc
 shared-slice-read-dsc c = search needs
 
+shared-slice-read-edition-of : tie.Need-shared-slice-read-edition-of
+shared-slice-read-edition-of c = search needs
+
+edition-of-requires : tie.Need-edition-of-requires
+edition-of-requires c κs = search needs
+
 shared-slice-read-side-of : tie.Need-shared-slice-read-side-of
 shared-slice-read-side-of c = search needs
 
 side-of-requires : tie.Need-side-of-requires
 side-of-requires c κs = search needs
 
-shared-slice-read-t36 : tie.Need-shared-slice-read-t36
-shared-slice-read-t36 c = search needs
+shared-slice-read-t38 : tie.Need-shared-slice-read-t38
+shared-slice-read-t38 c = search needs
 
-shared-slice-read-t39 : tie.Need-shared-slice-read-t39
-shared-slice-read-t39 c = search needs
+shared-slice-read-t41 : tie.Need-shared-slice-read-t41
+shared-slice-read-t41 c = search needs
 
-shared-slice-read-t42 : tie.Need-shared-slice-read-t42
-shared-slice-read-t42 c = search needs
+shared-slice-read-t44 : tie.Need-shared-slice-read-t44
+shared-slice-read-t44 c = search needs
 
-cast-t43 : tie.Need-cast-t43
-cast-t43 c = omega (arith, c .before .before .before .before .before .before .before .before .before .before .before .before .before .before .before .before .before .before .before .before .before .before .before .before .before .before .before .before .shared-slice-known .given 5)
+cast-t45 : tie.Need-cast-t45
+cast-t45 c = omega (arith, c .before .before .before .before .before .before .before .before .before .before .before .before .before .before .before .before .before .before .before .before .before .before .before .before .before .before .before .before .before .before .shared-slice-known .given 5)
 
-shared-slice-read-t45 : tie.Need-shared-slice-read-t45
-shared-slice-read-t45 c = search needs
+shared-slice-read-t47 : tie.Need-shared-slice-read-t47
+shared-slice-read-t47 c = search needs
 
-cast-t46 : tie.Need-cast-t46
-cast-t46 c = omega (arith, c .before .before .before .before .before .before .before .before .before .before .before .before .before .before .before .before .before .before .before .before .before .before .before .before .before .before .before .before .before .shared-slice-known .given 6)
+cast-t48 : tie.Need-cast-t48
+cast-t48 c = omega (arith, c .before .before .before .before .before .before .before .before .before .before .before .before .before .before .before .before .before .before .before .before .before .before .before .before .before .before .before .before .before .before .before .shared-slice-known .given 6)
 
-shared-slice-read-t48 : tie.Need-shared-slice-read-t48
-shared-slice-read-t48 c = search needs
+shared-slice-read-t50 : tie.Need-shared-slice-read-t50
+shared-slice-read-t50 c = search needs
 
-shared-slice-read-t51 : tie.Need-shared-slice-read-t51
-shared-slice-read-t51 c = search needs
+shared-slice-read-t53 : tie.Need-shared-slice-read-t53
+shared-slice-read-t53 c = omega (arith, c .before .before .before .before .before .before .before .before .before .before .before .before .before .before .before .before .before .before .before .before .before .before .before .before .before .before .before .before .before .before .before .before .if1 .left)
 
-cast-t52 : tie.Need-cast-t52
-cast-t52 c = omega (arith, c .before .before .before .before .before .before .before .before .before .before .before .before .before .before .before .before .before .before .before .before .before .before .before .before .before .before .before .before .before .before .before .shared-slice-known .given 8)
+cast-t54 : tie.Need-cast-t54
+cast-t54 c = omega (arith, c .before .before .before .before .before .before .before .before .before .before .before .before .before .before .before .before .before .before .before .before .before .before .before .before .before .before .before .before .before .before .before .before .before .shared-slice-known .given 8)
 
 returns-4 : tie.Need-returns-4
-returns-4 c = load-is _ (c .before .before .before .before .before .before .before .before .before .before .before .before .before .before .before .before .before .before .before .before .before .before .before .before .before .before .before .before .before .before .if1 .left) _ (c .before .before .before .before .before .before .before .before .before .before .before .before .before .before .before .before .before .before .before .before .head-fits .ensures) (c .before .before .before .before .before .before .before .before .before .before .before .before .before .before .before .before .before .before .before .if2 .taken) _ (c .before .before .before .before .before .before .before .before .before .before .before .before .before .before .before .before .before .before .read-eight-bytes .ensures) _ _ (c .before .before .before .before .before .before .before .before .before .before .before .before .before .before .before .before .highest .given .1) _ (c .before .before .before .before .before .before .before .before .before .before .before .before .before .before .read-eight-bytes2 .ensures) _ _ (c .before .before .before .before .before .before .before .before .before .before .before .before .held .given .1) _ _ (c .before .before .before .before .before .before .side-of .ensures) (c .before .before .before .before .before .before .before .before .before .state-of .ensures)
+returns-4 c = load-is _ (c .before .before .before .before .before .before .before .before .before .before .before .before .before .before .before .before .before .before .before .before .before .before .before .before .before .before .before .before .before .before .before .before .if1 .left) _ (c .before .before .before .before .before .before .before .before .before .before .before .before .before .before .before .before .before .before .before .before .before .before .head-fits .ensures) (c .before .before .before .before .before .before .before .before .before .before .before .before .before .before .before .before .before .before .before .before .before .if2 .taken) _ (c .before .before .before .before .before .before .before .before .before .before .before .before .before .before .before .before .before .before .before .before .read-eight-bytes .ensures) _ _ (c .before .before .before .before .before .before .before .before .before .before .before .before .before .before .before .before .before .before .highest .given .1) _ (c .before .before .before .before .before .before .before .before .before .before .before .before .before .before .before .before .read-eight-bytes2 .ensures) _ _ (c .before .before .before .before .before .before .before .before .before .before .before .before .before .before .held .given .1) _ _ _ (c .before .before .before .before .before .before .side-of .ensures) (c .before .before .before .before .before .before .before .before .before .before .before .state-of .ensures) (c .before .before .before .before .before .before .before .before .edition-of .ensures)
 
 returns-5 : tie.Need-returns-5
 returns-5 c = load-odd _ (c .before .before .before .before .before .before .before .before .before .before .before .if1 .left) _ (c .before .head-fits .ensures) (c .if2 .left)
@@ -137,16 +143,18 @@ load-spec =
     shared-slice-read-state-of
     state-of-requires
     shared-slice-read-dsc
+    shared-slice-read-edition-of
+    edition-of-requires
     shared-slice-read-side-of
     side-of-requires
-    shared-slice-read-t36
-    shared-slice-read-t39
-    shared-slice-read-t42
-    cast-t43
-    shared-slice-read-t45
-    cast-t46
-    shared-slice-read-t48
-    shared-slice-read-t51
-    cast-t52
+    shared-slice-read-t38
+    shared-slice-read-t41
+    shared-slice-read-t44
+    cast-t45
+    shared-slice-read-t47
+    cast-t48
+    shared-slice-read-t50
+    shared-slice-read-t53
+    cast-t54
     returns-4
     returns-5)

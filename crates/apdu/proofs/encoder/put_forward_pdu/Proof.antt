@@ -1,47 +1,19 @@
-use mathlib.Core.Path.{sym, _∙_}
+-- `apdu::encoder::put_forward_pdu` meets its contract.
+-- Assumes nothing.
 use Rattle.apdu.specs.Encoding.{pduBits}
-use Rattle.apdu.proofs.Writers.{ground-four, turned-away}
 use borrow.Author.Needs.{needs}
 use Rattle.apdu.proofs.encoder.put_forward_pdu.Statement.{statement}
 use Rattle.apdu.proofs.encoder.put_forward_pdu.Tie as tie
-use Rattle.apdu.proofs.encoder.put_forward_pdu.Reads as reads
-use Rattle.apdu.proofs.encoder.put_forward_pdu.Lts as lts
-use Rattle.apdu.proofs.encoder.refused.Reads as refused-reads
-use Rattle.apdu.proofs.heading_writer.write_forward.Reads as write-forward-reads
-use Rattle.apdu.proofs.shape.has_forwards.Reads as has-forwards-reads
 
--- src/encoder.rt:160:8
-has-forwards-requires : tie.Need-has-forwards-requires
-has-forwards-requires c κs = search needs
+put-forward-by-requires : tie.Need-put-forward-by-requires
+put-forward-by-requires c κs = search needs
 
--- src/encoder.rt:161:9
-write-forward-requires : tie.Need-write-forward-requires
-write-forward-requires c κs = search needs
-
--- src/encoder.rt:161:9
 same-length : tie.Need-same-length
 same-length c = search needs
 
--- src/encoder.rt:161:9
 returns : tie.Need-returns
 unfolding pduBits
-returns c = let y = sym (c .before .before .before .before .before .has-forwards .ensures) ∙ c .before .before .before .before .if1 .taken in rw y (rw (ground-four (c .before .before .before .before .before .before .before .before .args .pdus) y) at (c .before .before .write-forward .ensures))
-
--- src/encoder.rt:163:5
-refused-requires : tie.Need-refused-requires
-refused-requires c κs = search needs
-
--- src/encoder.rt:157:1
-returns-2 : tie.Need-returns-2
-returns-2 c = turned-away _ _ _ _ (c .refused .ensures) (rw (sym (c .before .before .has-forwards .ensures) ∙ c .before .if1 .left))
+returns c = c .before .before .put-forward-by .ensures
 
 pub put-forward-pdu-spec : {M : Type 1} → statement M
-put-forward-pdu-spec =
-    tie.close
-    (tie.spec
-    has-forwards-requires
-    write-forward-requires
-    same-length
-    returns
-    refused-requires
-    returns-2)
+put-forward-pdu-spec = tie.close (tie.spec put-forward-by-requires same-length returns)

@@ -1,5 +1,7 @@
+-- `apdu::heading_writer::put_forward_at` meets its contract.
+-- Assumes nothing.
 use native.Mathlib.Omega.{arith}
-use Rattle.apdu.proofs.ForwardWriters.{heading-asks, message-fits, message-room, forward-goes}
+use Rattle.apdu.proofs.InPlaceWriters.{heading-asked, items-fit, items-room, counted-goes, placed-goes}
 use borrow.Author.Needs.{needs}
 use Rattle.apdu.proofs.heading_writer.put_forward_at.Statement.{statement}
 use Rattle.apdu.proofs.heading_writer.put_forward_at.Tie as tie
@@ -8,27 +10,45 @@ use Rattle.apdu.proofs.heading_writer.put_forward_at.Lts as lts
 use Rattle.apdu.proofs.data_writer.place.Reads as place-reads
 use Rattle.apdu.proofs.data_writer.put_items.Reads as put-items-reads
 use Rattle.apdu.proofs.heading_writer.put_heading.Reads as put-heading-reads
+use Rattle.bits.proofs.copy_bits.Reads as copy-bits-reads
 
--- src/heading_writer.rt:73:19
 put-heading-requires : tie.Need-put-heading-requires
-put-heading-requires c κs = heading-asks _ _ _ _ (c .before .before .before .before .before .pre .0) (c .before .before .before .before .before .pre .1)
+put-heading-requires c κs = heading-asked _ _ _ (c .before .before .before .before .before .args .counted) _ (c .before .before .before .before .before .pre .0) (c .before .before .before .before .before .pre .1)
 
--- src/heading_writer.rt:73:9
 place-requires : tie.Need-place-requires
 place-requires c κs = search needs
 
--- src/heading_writer.rt:74:5
 put-items-requires : tie.Need-put-items-requires
-put-items-requires c κs = (omega arith, omega arith, omega arith, omega arith, message-fits _ _ _ _ (c .before .before .before .before .before .before .before .before .before .before .pre .0) (c .before .before .before .before .before .before .before .before .before .before .pre .1), message-room _ _ _ _ (c .before .before .before .before .before .before .before .before .before .before .pre .0) (c .before .before .before .before .before .before .before .before .before .before .pre .1) _ _ _ (c .before .before .before .before .put-heading .ensures) (c .before .place .ensures))
+put-items-requires c κs = (omega arith, omega arith, omega arith, omega arith, items-fit (c .before .before .before .before .before .before .before .before .before .before .before .args .buf .now) _ (c .before .before .before .before .before .before .before .before .before .before .before .args .at) (c .before .before .before .before .before .before .before .before .before .before .before .args .counted) _ (c .before .before .before .before .before .before .before .before .before .before .before .pre .0) (c .before .before .before .before .before .before .before .before .before .before .before .pre .1) _ _ _ (c .before .before .before .before .before .put-heading .ensures) (c .before .before .place .ensures) (c .before .if1 .taken), items-room (c .before .before .before .before .before .before .before .before .before .before .before .args .buf .now) _ (c .before .before .before .before .before .before .before .before .before .before .before .args .at) (c .before .before .before .before .before .before .before .before .before .before .before .args .counted) _ (c .before .before .before .before .before .before .before .before .before .before .before .pre .0) (c .before .before .before .before .before .before .before .before .before .before .before .pre .1) _ _ _ (c .before .before .before .before .before .put-heading .ensures) (c .before .before .place .ensures) (c .before .if1 .taken))
 
--- src/heading_writer.rt:67:1
 same-length : tie.Need-same-length
 same-length c = search needs
 
--- src/heading_writer.rt:67:1
 returns : tie.Need-returns
-returns c = forward-goes _ _ _ _ (c .before .before .before .before .before .before .before .before .before .before .before .before .before .pre .0) (c .before .before .before .before .before .before .before .before .before .before .before .before .before .pre .1) _ _ _ (c .before .before .before .before .before .before .before .put-heading .ensures) (c .before .before .before .before .place .ensures) _ _ (c .before .before .put-items .ensures)
+returns c = counted-goes (c .before .before .before .before .before .before .before .before .before .before .before .before .before .before .args .buf .now) _ (c .before .before .before .before .before .before .before .before .before .before .before .before .before .before .args .at) (c .before .before .before .before .before .before .before .before .before .before .before .before .before .before .args .counted) _ (c .before .before .before .before .before .before .before .before .before .before .before .before .before .before .pre .0) (c .before .before .before .before .before .before .before .before .before .before .before .before .before .before .pre .1) _ _ _ (c .before .before .before .before .before .before .before .before .put-heading .ensures) (c .before .before .before .before .before .place .ensures) (c .before .before .before .before .if1 .taken) _ _ (c .before .before .put-items .ensures)
+
+copy-bits-requires : tie.Need-copy-bits-requires
+copy-bits-requires c κs = search needs
+
+place-requires-2 : tie.Need-place-requires-2
+place-requires-2 c κs = search needs
+
+same-length-2 : tie.Need-same-length-2
+same-length-2 c = search needs
+
+returns-2 : tie.Need-returns-2
+returns-2 c = placed-goes (c .before .before .before .before .before .before .before .before .before .before .before .before .before .before .before .args .buf .now) _ (c .before .before .before .before .before .before .before .before .before .before .before .before .before .before .before .args .at) (c .before .before .before .before .before .before .before .before .before .before .before .before .before .before .before .args .counted) _ (c .before .before .before .before .before .before .before .before .before .before .before .before .before .before .before .pre .0) (c .before .before .before .before .before .before .before .before .before .before .before .before .before .before .before .pre .1) _ _ _ (c .before .before .before .before .before .before .before .before .before .put-heading .ensures) (c .before .before .before .before .before .before .place .ensures) (c .before .before .before .before .before .if1 .left) _ _ _ (c .before .before .before .copy-bits .ensures) (c .place2 .ensures)
 
 pub put-forward-at-spec : {M : Type 1} → statement M
 put-forward-at-spec =
-    tie.close (tie.spec put-heading-requires place-requires put-items-requires same-length returns)
+    tie.close
+    (tie.spec
+    put-heading-requires
+    place-requires
+    put-items-requires
+    same-length
+    returns
+    copy-bits-requires
+    place-requires-2
+    same-length-2
+    returns-2)

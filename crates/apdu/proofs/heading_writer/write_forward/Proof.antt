@@ -1,10 +1,10 @@
 use Rattle.apdu.proofs.Writers.{from-start}
-use native.Mathlib.Omega.{arith}
 use mathlib.Core.Path.{_≡_, refl, sym, _∙_}
 use mathlib.Core.Bool.{true}
 use Rattle.apdu.specs.Pdus.{lent}
 use Rattle.apdu.specs.Writing.{forwardFits}
-use Rattle.apdu.proofs.Writers.{too-small, not-fitting, written-out, forward-pads, forward-room, as-answer, led-room, led-behind}
+use Rattle.apdu.proofs.Writers.{too-small, not-fitting, written-out, as-answer, led-room, led-behind}
+use Rattle.apdu.proofs.InPlaceWriters.{forward-pads, forward-room}
 use borrow.Author.Needs.{needs}
 use Rattle.apdu.proofs.heading_writer.write_forward.Statement.{statement}
 use Rattle.apdu.proofs.heading_writer.write_forward.Tie as tie
@@ -37,7 +37,7 @@ place-requires c κs = search needs
 
 -- src/heading_writer.rt:93:13
 put-forward-at-requires : tie.Need-put-forward-at-requires
-put-forward-at-requires c κs = (fits (c .before .before .before .before .before .before), led-room _ _ _ _ _ _ _ (c .before .before .before .before .before .before .before .before .before .before .before .pre .0) (c .before .before .before .before .before .before .before .before .before .before .before .pre .1) (forward-room _ _ _ _ (c .before .before .before .before .before .before .before .before .before .before .before .pre .0) (fits (c .before .before .before .before .before .before)) _ (c .before .before .before .before .before .before .before .before .if1 .left)) (c .before .before .before .before .put-bits .ensures) (c .before .place .ensures))
+put-forward-at-requires c κs = (fits (c .before .before .before .before .before .before), led-room _ _ _ _ _ _ _ (c .before .before .before .before .before .before .before .before .before .before .before .pre .0) (c .before .before .before .before .before .before .before .before .before .before .before .pre .1) (forward-room _ _ _ _ (c .before .before .before .before .before .before .before .before .before .before .before .args .counted) (c .before .before .before .before .before .before .before .before .before .before .before .pre .0) (fits (c .before .before .before .before .before .before)) _ (c .before .before .before .before .before .before .before .before .if1 .left)) (c .before .before .before .before .put-bits .ensures) (c .before .place .ensures))
 
 -- src/heading_writer.rt:94:9
 pad-requires : tie.Need-pad-requires
@@ -49,7 +49,7 @@ same-length c = search needs
 
 -- src/heading_writer.rt:95:9
 returns-2 : tie.Need-returns-2
-returns-2 c = written-out _ _ _ _ _ _ _ _ _ _ (c .before .before .before .before .before .before .before .before .before .before .before .before .before .before .before .if1 .left) (forward-pads _ _ _ _ (c .before .before .before .before .before .before .before .before .before .before .before .before .before .before .before .before .before .before .pre .0) (fits (c .before .before .before .before .before .before .before .before .before .before .before .before .before))) (c .before .before .before .before .before .before .before .before .before .before .before .before .before .before .forward-fits .ensures) (c .before .before .before .before .before .before .before .before .before .before .before .before .before .if2 .taken) (as-answer _ _ _ _ (forward-room _ _ _ _ (c .before .before .before .before .before .before .before .before .before .before .before .before .before .before .before .before .before .before .pre .0) (fits (c .before .before .before .before .before .before .before .before .before .before .before .before .before)) _ (c .before .before .before .before .before .before .before .before .before .before .before .before .before .before .before .if1 .left)) (from-start _ _ _ _ (led-behind _ _ _ _ _ _ _ (c .before .before .before .before .before .before .before .before .before .before .before .before .before .before .before .before .before .before .pre .0) (c .before .before .before .before .before .before .before .before .before .before .before .before .before .before .before .before .before .before .pre .1) (forward-room _ _ _ _ (c .before .before .before .before .before .before .before .before .before .before .before .before .before .before .before .before .before .before .pre .0) (fits (c .before .before .before .before .before .before .before .before .before .before .before .before .before)) _ (c .before .before .before .before .before .before .before .before .before .before .before .before .before .before .before .if1 .left)) (c .before .before .before .before .before .before .before .before .before .before .before .put-bits .ensures) (c .before .before .before .before .before .before .before .before .place .ensures) _ _ (c .before .before .before .before .before .before .put-forward-at .ensures)))) refl refl (c .before .before .pad .ensures)
+returns-2 c = written-out _ _ _ _ _ _ _ _ _ _ (c .before .before .before .before .before .before .before .before .before .before .before .before .before .before .before .if1 .left) (forward-pads _ _ _ _ (c .before .before .before .before .before .before .before .before .before .before .before .before .before .before .before .before .before .before .args .counted) (c .before .before .before .before .before .before .before .before .before .before .before .before .before .before .before .before .before .before .pre .0) (fits (c .before .before .before .before .before .before .before .before .before .before .before .before .before))) (c .before .before .before .before .before .before .before .before .before .before .before .before .before .before .forward-fits .ensures) (c .before .before .before .before .before .before .before .before .before .before .before .before .before .if2 .taken) (as-answer _ _ _ _ (forward-room _ _ _ _ (c .before .before .before .before .before .before .before .before .before .before .before .before .before .before .before .before .before .before .args .counted) (c .before .before .before .before .before .before .before .before .before .before .before .before .before .before .before .before .before .before .pre .0) (fits (c .before .before .before .before .before .before .before .before .before .before .before .before .before)) _ (c .before .before .before .before .before .before .before .before .before .before .before .before .before .before .before .if1 .left)) (from-start _ _ _ _ (led-behind _ _ _ _ _ _ _ (c .before .before .before .before .before .before .before .before .before .before .before .before .before .before .before .before .before .before .pre .0) (c .before .before .before .before .before .before .before .before .before .before .before .before .before .before .before .before .before .before .pre .1) (forward-room _ _ _ _ (c .before .before .before .before .before .before .before .before .before .before .before .before .before .before .before .before .before .before .args .counted) (c .before .before .before .before .before .before .before .before .before .before .before .before .before .before .before .before .before .before .pre .0) (fits (c .before .before .before .before .before .before .before .before .before .before .before .before .before)) _ (c .before .before .before .before .before .before .before .before .before .before .before .before .before .before .before .if1 .left)) (c .before .before .before .before .before .before .before .before .before .before .before .put-bits .ensures) (c .before .before .before .before .before .before .before .before .place .ensures) _ _ (c .before .before .before .before .before .before .put-forward-at .ensures)))) refl refl (c .before .before .pad .ensures)
 
 -- src/heading_writer.rt:78:1
 returns-3 : tie.Need-returns-3

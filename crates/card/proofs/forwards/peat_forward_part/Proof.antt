@@ -8,8 +8,14 @@ use Rattle.card.proofs.forwards.peat_forward_part.Tie as tie
 returns : tie.Need-returns
 returns c = no-room _ _ _ (c .if1 .taken)
 
+part-in-requires : tie.Need-part-in-requires
+part-in-requires c κs = search needs
+
 returns-2 : tie.Need-returns-2
-returns-2 c = no-part _ _ _ (c .before .if1 .left) (c .if2 .taken)
+returns-2 c = no-part _ _ _ _ (c .before .before .if1 .left) (c .before .part-in .ensures) (c .if2 .taken)
+
+edition-in-requires : tie.Need-edition-in-requires
+edition-in-requires c κs = search needs
 
 read-forward-requires : tie.Need-read-forward-requires
 read-forward-requires c κs = search needs
@@ -27,20 +33,22 @@ forward-part-requires : tie.Need-forward-part-requires
 forward-part-requires c κs = search needs
 
 returns-3 : tie.Need-returns-3
-returns-3 c = not-forward _ _ _ _ _ _ (c .before .before .before .before .before .before .if1 .left) (c .before .before .before .before .before .if2 .left) (c .before .before .before .before .read-forward .ensures) (c .before .before .whole .given .1) (c .packed .ensures)
+returns-3 c = not-forward _ _ _ _ _ _ _ _ (c .before .before .before .before .before .before .before .before .if1 .left) (c .before .before .before .before .before .before .before .part-in .ensures) (c .before .before .before .before .before .before .if2 .left) (c .before .before .before .before .before .edition-in .ensures) (c .before .before .before .before .read-forward .ensures) (c .before .before .whole .given .1) (c .packed .ensures)
 
 same-length : tie.Need-same-length
 same-length c = search needs
 
 returns-4 : tie.Need-returns-4
-returns-4 c = part-out _ _ _ _ _ _ _ _ (c .before .before .before .before .before .before .before .before .before .if1 .left) (c .before .before .before .before .before .before .before .before .if2 .left) (c .before .before .before .before .before .before .before .read-forward .ensures) (c .before .before .before .before .before .whole2 .given .1) (c .before .before .forward-part .ensures)
+returns-4 c = part-out _ _ _ _ _ _ _ _ _ _ (c .before .before .before .before .before .before .before .before .before .before .before .if1 .left) (c .before .before .before .before .before .before .before .before .before .before .part-in .ensures) (c .before .before .before .before .before .before .before .before .before .if2 .left) (c .before .before .before .before .before .before .before .before .edition-in .ensures) (c .before .before .before .before .before .before .before .read-forward .ensures) (c .before .before .before .before .before .whole2 .given .1) (c .before .before .forward-part .ensures)
 
 pub peat-forward-part-spec : {M : Type 1} → statement M
 peat-forward-part-spec =
     tie.close
     (tie.spec
     returns
+    part-in-requires
     returns-2
+    edition-in-requires
     read-forward-requires
     enum-known-whole
     packed-requires

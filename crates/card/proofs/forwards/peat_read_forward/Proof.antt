@@ -1,15 +1,24 @@
 -- `card::forwards::peat_read_forward` meets its contract.
 -- Assumes nothing.
-use Rattle.card.proofs.Passing.{no-buffer, no-heading, no-parts, all-parts}
+use Rattle.card.proofs.Passing.{no-buffer, no-type, no-heading, no-parts, all-parts}
 use borrow.Author.Needs.{needs}
 use Rattle.card.proofs.forwards.peat_read_forward.Statement.{statement}
 use Rattle.card.proofs.forwards.peat_read_forward.Tie as tie
 
 returns : tie.Need-returns
-returns c = no-buffer _ _ _ (c .if1 .taken)
+returns c = no-buffer _ _ _ _ (c .if1 .taken)
+
+is-type-requires : tie.Need-is-type-requires
+is-type-requires c κs = search needs
 
 returns-2 : tie.Need-returns-2
-returns-2 c = no-heading _ _ _ (c .before .if1 .left) (c .if2 .taken)
+returns-2 c = no-type _ _ _ _ _ (c .before .before .if1 .left) (c .before .is-type .ensures) (c .if2 .taken)
+
+returns-3 : tie.Need-returns-3
+returns-3 c = no-heading _ _ _ _ _ (c .before .before .before .if1 .left) (c .before .before .is-type .ensures) (c .before .if2 .left) (c .if3 .taken)
+
+of-type-requires : tie.Need-of-type-requires
+of-type-requires c κs = search needs
 
 read-forward-requires : tie.Need-read-forward-requires
 read-forward-requires c κs = search needs
@@ -26,8 +35,8 @@ enum-known-whole-2 c = search needs
 forward-parts-requires : tie.Need-forward-parts-requires
 forward-parts-requires c κs = search needs
 
-returns-3 : tie.Need-returns-3
-returns-3 c = no-parts _ _ _ _ _ _ (c .before .before .before .before .before .before .if1 .left) (c .before .before .before .before .before .if2 .left) (c .before .before .before .before .read-forward .ensures) (c .before .before .whole .given .1) (c .packed .ensures)
+returns-4 : tie.Need-returns-4
+returns-4 c = no-parts _ _ _ _ _ (c .before .before .before .before .before .before .before .before .before .if1 .left) (c .before .before .before .before .before .before .before .before .is-type .ensures) _ _ _ _ (c .before .before .before .before .before .before .before .if2 .left) (c .before .before .before .before .before .before .if3 .left) (c .before .before .before .before .before .of-type .ensures) (c .before .before .before .before .read-forward .ensures) (c .before .before .whole .given .1) (c .packed .ensures)
 
 same-length : tie.Need-same-length
 same-length c = search needs
@@ -35,21 +44,24 @@ same-length c = search needs
 same-length-2 : tie.Need-same-length-2
 same-length-2 c = search needs
 
-returns-4 : tie.Need-returns-4
-returns-4 c = all-parts _ _ _ _ _ _ _ _ _ (c .before .before .before .before .before .before .before .before .before .before .before .before .if1 .left) (c .before .before .before .before .before .before .before .before .before .before .before .if2 .left) (c .before .before .before .before .before .before .before .before .before .before .read-forward .ensures) (c .before .before .before .before .before .before .before .before .whole2 .given .1) (c .before .before .before .before .forward-parts .ensures)
+returns-5 : tie.Need-returns-5
+returns-5 c = all-parts _ _ _ _ _ (c .before .before .before .before .before .before .before .before .before .before .before .before .before .before .before .if1 .left) (c .before .before .before .before .before .before .before .before .before .before .before .before .before .before .is-type .ensures) _ _ _ _ _ _ _ (c .before .before .before .before .before .before .before .before .before .before .before .before .before .if2 .left) (c .before .before .before .before .before .before .before .before .before .before .before .before .if3 .left) (c .before .before .before .before .before .before .before .before .before .before .before .of-type .ensures) (c .before .before .before .before .before .before .before .before .before .before .read-forward .ensures) (c .before .before .before .before .before .before .before .before .whole2 .given .1) (c .before .before .before .before .forward-parts .ensures)
 
 pub peat-read-forward-spec : {M : Type 1} → statement M
 peat-read-forward-spec =
     tie.close
     (tie.spec
     returns
+    is-type-requires
     returns-2
+    returns-3
+    of-type-requires
     read-forward-requires
     enum-known-whole
     packed-requires
     enum-known-whole-2
     forward-parts-requires
-    returns-3
+    returns-4
     same-length
     same-length-2
-    returns-4)
+    returns-5)

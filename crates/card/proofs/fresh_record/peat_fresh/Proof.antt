@@ -1,12 +1,21 @@
 -- `card::fresh_record::peat_fresh` meets its contract.
 -- Assumes nothing.
-use Rattle.card.proofs.Fresh.{fresh-air, fresh-ground, fresh-odd, fresh-unsaid}
+use Rattle.card.proofs.Fresh.{fresh-air, fresh-ground, fresh-odd, fresh-untyped, fresh-unsaid}
 use borrow.Author.Needs.{needs}
 use Rattle.card.proofs.fresh_record.peat_fresh.Statement.{statement}
 use Rattle.card.proofs.fresh_record.peat_fresh.Tie as tie
 
 returns : tie.Need-returns
-returns c = fresh-unsaid _ _ _ _ _ (c .if1 .taken)
+returns c = fresh-unsaid _ _ _ _ _ _ (c .if1 .taken)
+
+is-type-requires : tie.Need-is-type-requires
+is-type-requires c κs = search needs
+
+returns-2 : tie.Need-returns-2
+returns-2 c = fresh-untyped _ _ _ _ _ _ _ (c .before .is-type .ensures) (c .before .before .if1 .left) (c .if2 .taken)
+
+of-type-requires : tie.Need-of-type-requires
+of-type-requires c κs = search needs
 
 fresh-requires : tie.Need-fresh-requires
 fresh-requires c κs = search needs
@@ -20,8 +29,8 @@ told-made-requires c κs = search needs
 same-length : tie.Need-same-length
 same-length c = search needs
 
-returns-2 : tie.Need-returns-2
-returns-2 c = fresh-air _ _ _ _ _ _ _ _ _ (c .before .before .before .before .before .before .before .if1 .left) (c .before .before .before .before .before .before .fresh .ensures) (c .before .before .before .before .before .if2 .taken) (c .before .before .before .store .ensures) (c .told-made .ensures)
+returns-3 : tie.Need-returns-3
+returns-3 c = fresh-air _ _ _ _ _ _ _ (c .before .before .before .before .before .before .before .before .before .is-type .ensures) _ _ _ _ _ (c .before .before .before .before .before .before .before .before .before .before .if1 .left) (c .before .before .before .before .before .before .before .before .if2 .left) (c .before .before .before .before .before .before .before .of-type .ensures) (c .before .before .before .before .before .before .fresh .ensures) (c .before .before .before .before .before .if3 .taken) (c .before .before .before .store .ensures) (c .told-made .ensures)
 
 store-requires-2 : tie.Need-store-requires-2
 store-requires-2 c κs = search needs
@@ -32,24 +41,27 @@ told-made-requires-2 c κs = search needs
 same-length-2 : tie.Need-same-length-2
 same-length-2 c = search needs
 
-returns-3 : tie.Need-returns-3
-returns-3 c = fresh-ground _ _ _ _ _ _ _ _ _ (c .before .before .before .before .before .before .before .before .if1 .left) (c .before .before .before .before .before .before .before .fresh .ensures) (c .before .before .before .before .before .before .if2 .left) (c .before .before .before .before .before .if3 .taken) (c .before .before .before .store2 .ensures) (c .told-made2 .ensures)
-
 returns-4 : tie.Need-returns-4
-returns-4 c = fresh-odd _ _ _ _ _ (c .before .before .before .if1 .left) (c .before .if2 .left) (c .if3 .left)
+returns-4 c = fresh-ground _ _ _ _ _ _ _ (c .before .before .before .before .before .before .before .before .before .before .is-type .ensures) _ _ _ _ _ (c .before .before .before .before .before .before .before .before .before .before .before .if1 .left) (c .before .before .before .before .before .before .before .before .before .if2 .left) (c .before .before .before .before .before .before .before .before .of-type .ensures) (c .before .before .before .before .before .before .before .fresh .ensures) (c .before .before .before .before .before .before .if3 .left) (c .before .before .before .before .before .if4 .taken) (c .before .before .before .store2 .ensures) (c .told-made2 .ensures)
+
+returns-5 : tie.Need-returns-5
+returns-5 c = fresh-odd _ _ _ _ _ _ _ (c .before .before .before .before .before .is-type .ensures) (c .before .before .before .before .before .before .if1 .left) (c .before .before .before .before .if2 .left) (c .before .if3 .left) (c .if4 .left)
 
 pub peat-fresh-spec : {M : Type 1} → statement M
 peat-fresh-spec =
     tie.close
     (tie.spec
     returns
+    is-type-requires
+    returns-2
+    of-type-requires
     fresh-requires
     store-requires
     told-made-requires
     same-length
-    returns-2
+    returns-3
     store-requires-2
     told-made-requires-2
     same-length-2
-    returns-3
-    returns-4)
+    returns-4
+    returns-5)

@@ -1,10 +1,21 @@
 -- `card::recorded::apdu_number` meets its contract.
 -- Assumes nothing.
 use mathlib.Core.Path.{_∙_}
-use Rattle.card.specs.Recorded.{apduNumber}
+use Prim.Native.Nat.{_<_}
+use native.Mathlib.Omega.{arith}
+use Rattle.editions.specs.declared.Edition.{Edition}
+use Rattle.editions.specs.declared.Edition.the-variants.{Plain, Protected}
+use Rattle.apdu.specs.declared.Part.{Part}
+use Rattle.apdu.specs.declared.Part.the-variants.{Absent, Given}
+use Rattle.card.specs.Recorded.{startGiven, apduNumber}
 use borrow.Author.Needs.{needs}
 use Rattle.card.proofs.recorded.apdu_number.Statement.{statement}
 use Rattle.card.proofs.recorded.apdu_number.Tie as tie
+
+given-low : (ed : Edition) (p : Part) → startGiven ed p < 2
+given-low Protected p = omega arith
+given-low Plain Absent = omega arith
+given-low Plain (Given x) = omega arith
 
 enum-known-a : tie.Need-enum-known-a
 enum-known-a c = search needs
@@ -21,8 +32,11 @@ apdu-said-requires-2 c κs = search needs
 enum-known-a-3 : tie.Need-enum-known-a-3
 enum-known-a-3 c = search needs
 
+start-given-requires : tie.Need-start-given-requires
+start-given-requires c κs = search needs
+
 apdu-said-requires-3 : tie.Need-apdu-said-requires-3
-apdu-said-requires-3 c κs = search needs
+apdu-said-requires-3 c κs = (omega arith, omega (arith, c .start-given .ensures, given-low (c .before .before .before .before .args .edition) (c .before .before .a3 .given .0 .1 .0 .message)))
 
 enum-told : tie.Need-enum-told
 enum-told c = search needs
@@ -52,7 +66,7 @@ returns-2 c = c .apdu-said2 .ensures ∙ rw (c .before .before .a2 .given .1)
 
 returns-3 : tie.Need-returns-3
 unfolding apduNumber
-returns-3 c = c .apdu-said3 .ensures ∙ rw (c .before .before .a3 .given .1)
+returns-3 c = c .apdu-said3 .ensures ∙ rw (c .before .start-given .ensures, c .before .before .before .a3 .given .1)
 
 returns-4 : tie.Need-returns-4
 unfolding apduNumber
@@ -75,6 +89,7 @@ apdu-number-spec =
     enum-known-a-2
     apdu-said-requires-2
     enum-known-a-3
+    start-given-requires
     apdu-said-requires-3
     enum-told
     apdu-said-requires-4

@@ -6,38 +6,48 @@ use borrow.Author.Needs.{needs}
 use Rattle.card.proofs.recorded.peat_read_apdu.Statement.{statement}
 use Rattle.card.proofs.recorded.peat_read_apdu.Tie as tie
 
-read-apdu-requires : tie.Need-read-apdu-requires
-read-apdu-requires c κs = search needs
-
-apdu-answer-requires : tie.Need-apdu-answer-requires
-apdu-answer-requires c κs = search needs
+apdu-in-requires : tie.Need-apdu-in-requires
+apdu-in-requires c κs = search needs
 
 returns : tie.Need-returns
 unfolding apduCall
-returns c = rw (eq-eqb _ _ (c .before .before .if1 .taken), ← c .before .read-apdu .ensures) (c .apdu-answer .ensures)
+returns c = rw (eq-eqb _ _ (c .before .if1 .taken)) (c .apdu-in .ensures)
 
-read-apdu-requires-2 : tie.Need-read-apdu-requires-2
-read-apdu-requires-2 c κs = search needs
-
-apdu-answer-requires-2 : tie.Need-apdu-answer-requires-2
-apdu-answer-requires-2 c κs = search needs
+apdu-in-requires-2 : tie.Need-apdu-in-requires-2
+apdu-in-requires-2 c κs = search needs
 
 returns-2 : tie.Need-returns-2
 unfolding apduCall
-returns-2 c = rw (ne-eqb _ _ (c .before .before .before .if1 .left), eq-eqb _ _ (c .before .before .if2 .taken), ← c .before .read-apdu2 .ensures) (c .apdu-answer2 .ensures)
+returns-2 c = rw (ne-eqb _ _ (c .before .before .if1 .left), eq-eqb _ _ (c .before .if2 .taken)) (c .apdu-in2 .ensures)
+
+apdu-in-requires-3 : tie.Need-apdu-in-requires-3
+apdu-in-requires-3 c κs = search needs
 
 returns-3 : tie.Need-returns-3
 unfolding apduCall
-returns-3 c = rw (ne-eqb _ _ (c .before .if1 .left), ne-eqb _ _ (c .if2 .left))
+returns-3 c = rw (ne-eqb _ _ (c .before .before .before .if1 .left), ne-eqb _ _ (c .before .before .if2 .left), eq-eqb _ _ (c .before .if3 .taken)) (c .apdu-in3 .ensures)
+
+apdu-in-requires-4 : tie.Need-apdu-in-requires-4
+apdu-in-requires-4 c κs = search needs
+
+returns-4 : tie.Need-returns-4
+unfolding apduCall
+returns-4 c = rw (ne-eqb _ _ (c .before .before .before .before .if1 .left), ne-eqb _ _ (c .before .before .before .if2 .left), ne-eqb _ _ (c .before .before .if3 .left), eq-eqb _ _ (c .before .if4 .taken)) (c .apdu-in4 .ensures)
+
+returns-5 : tie.Need-returns-5
+unfolding apduCall
+returns-5 c = rw (ne-eqb _ _ (c .before .before .before .if1 .left), ne-eqb _ _ (c .before .before .if2 .left), ne-eqb _ _ (c .before .if3 .left), ne-eqb _ _ (c .if4 .left))
 
 pub peat-read-apdu-spec : {M : Type 1} → statement M
 peat-read-apdu-spec =
     tie.close
     (tie.spec
-    read-apdu-requires
-    apdu-answer-requires
+    apdu-in-requires
     returns
-    read-apdu-requires-2
-    apdu-answer-requires-2
+    apdu-in-requires-2
     returns-2
-    returns-3)
+    apdu-in-requires-3
+    returns-3
+    apdu-in-requires-4
+    returns-4
+    returns-5)

@@ -10,19 +10,23 @@ and-true : (b : Bool) → b ≡ (b && true)
 and-true true = refl
 and-true false = refl
 
+spares-requires : tie.Need-spares-requires
+spares-requires c κs = tt
+
 returns : tie.Need-returns
-returns c = rw (c .before .if1 .taken, c .if2 .taken) (and-true _)
+returns c = rw (← c .before .before .spares .ensures, c .before .if1 .taken, c .if2 .taken) (and-true _)
 
 returns-2 : tie.Need-returns-2
-returns-2 c = rw (c .before .if1 .taken, ne-eqb _ _ (c .if2 .left))
+returns-2 c = rw (← c .before .before .spares .ensures, c .before .if1 .taken, ne-eqb _ _ (c .if2 .left))
 
 returns-3 : tie.Need-returns-3
-returns-3 c = rw (c .if1 .left)
+returns-3 c = rw (← c .before .spares .ensures, c .if1 .left)
 
 pub answer-fits-spec : {M : Type 1} → statement M
 answer-fits-spec =
     tie.close
     (tie.spec
+    spares-requires
     returns
     returns-2
     returns-3)

@@ -38,6 +38,9 @@ returns-4 : tie.Need-returns-4
 unfolding confirmationFault
 returns-4 c = rw (← c .before .before .before .before .before .expects .ensures, c .before .before .before .before .if1 .left, ← c .before .before .before .turned-away .ensures, c .before .before .if3 .left, ← c .before .differs .ensures, c .if4 .taken)
 
+spares-requires : tie.Need-spares-requires
+spares-requires c κs = tt
+
 send-allowed-requires : tie.Need-send-allowed-requires
 send-allowed-requires c κs = tt
 
@@ -46,7 +49,7 @@ pdu-fault-requires c κs = tt
 
 returns-5 : tie.Need-returns-5
 unfolding confirmationFault
-returns-5 c = rw (← c .before .before .before .before .before .before .before .expects .ensures, c .before .before .before .before .before .before .if1 .left, ← c .before .before .before .before .before .turned-away .ensures, c .before .before .before .before .if3 .left, ← c .before .before .before .differs .ensures, c .before .before .if4 .left, ← c .before .send-allowed .ensures) (c .pdu-fault .ensures)
+returns-5 c = rw (← c .before .before .before .before .before .before .before .before .expects .ensures, c .before .before .before .before .before .before .before .if1 .left, ← c .before .before .before .before .before .before .turned-away .ensures, c .before .before .before .before .before .if3 .left, ← c .before .before .before .before .differs .ensures, c .before .before .before .if4 .left, ← c .before .before .spares .ensures, ← c .before .send-allowed .ensures) (c .pdu-fault .ensures)
 
 pub confirmation-fault-spec : {M : Type 1} → statement M
 confirmation-fault-spec =
@@ -62,6 +65,7 @@ confirmation-fault-spec =
     returns-3
     differs-requires
     returns-4
+    spares-requires
     send-allowed-requires
     pdu-fault-requires
     returns-5)

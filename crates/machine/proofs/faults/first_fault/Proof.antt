@@ -25,6 +25,9 @@ send-fault-requires c κs = tt
 enum-told-2 : tie.Need-enum-told-2
 enum-told-2 c = c .match .keys4
 
+spares-requires : tie.Need-spares-requires
+spares-requires c κs = tt
+
 send-fault-requires-2 : tie.Need-send-fault-requires-2
 send-fault-requires-2 c κs = tt
 
@@ -33,6 +36,9 @@ enum-known-p-3 c = c .match .keys5
 
 reply-of-requires : tie.Need-reply-of-requires
 reply-of-requires c κs = tt
+
+spares-requires-2 : tie.Need-spares-requires-2
+spares-requires-2 c κs = tt
 
 send-fault-requires-3 : tie.Need-send-fault-requires-3
 send-fault-requires-3 c κs = tt
@@ -66,11 +72,11 @@ returns-3 c = rw (c .before .enum-told .given .1) (c .send-fault .ensures)
 
 returns-4 : tie.Need-returns-4
 unfolding firstFault
-returns-4 c = rw (c .before .enum-told2 .given .1) (c .send-fault2 .ensures)
+returns-4 c = rw (c .before .before .enum-told2 .given .1, ← c .before .spares .ensures) (c .send-fault2 .ensures)
 
 returns-5 : tie.Need-returns-5
 unfolding firstFault
-returns-5 c = rw (c .before .before .before .p3 .given .1, ← c .before .reply-of .ensures) (c .send-fault3 .ensures)
+returns-5 c = rw (c .before .before .before .before .p3 .given .1, ← c .before .before .reply-of .ensures, ← c .before .spares2 .ensures) (c .send-fault3 .ensures)
 
 returns-6 : tie.Need-returns-6
 unfolding firstFault
@@ -91,9 +97,11 @@ first-fault-spec =
     enum-told
     send-fault-requires
     enum-told-2
+    spares-requires
     send-fault-requires-2
     enum-known-p-3
     reply-of-requires
+    spares-requires-2
     send-fault-requires-3
     enum-known-p-4
     abort-fits-requires

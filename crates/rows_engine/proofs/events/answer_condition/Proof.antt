@@ -6,6 +6,9 @@ use Rattle.rows_engine.proofs.events.answer_condition.Tie as tie
 kind-requires : tie.Need-kind-requires
 kind-requires c κs = tt
 
+send-allowed-requires : tie.Need-send-allowed-requires
+send-allowed-requires c κs = tt
+
 pick-requires : tie.Need-pick-requires
 pick-requires c κs = tt
 
@@ -16,7 +19,7 @@ pdu-first-requires : tie.Need-pdu-first-requires
 pdu-first-requires c κs = tt
 
 returns : tie.Need-returns
-returns c = rw (c .pdu-first .ensures, c .before .pick2 .ensures, c .before .before .pick .ensures, c .before .before .before .kind .ensures)
+returns c = rw (c .pdu-first .ensures, c .before .pick2 .ensures, c .before .before .pick .ensures, c .before .before .before .send-allowed .ensures, c .before .before .before .before .kind .ensures)
 
 pub answer-condition-spec : {M : Type 1} → statement M
-answer-condition-spec = tie.close (tie.spec kind-requires pick-requires pick-requires-2 pdu-first-requires returns)
+answer-condition-spec = tie.close (tie.spec kind-requires send-allowed-requires pick-requires pick-requires-2 pdu-first-requires returns)

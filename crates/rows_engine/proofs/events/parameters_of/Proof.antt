@@ -12,6 +12,9 @@ user-parameters-requires c κs = tt
 enum-known-e-2 : tie.Need-enum-known-e-2
 enum-known-e-2 c = c .match .keys2
 
+carried-requires : tie.Need-carried-requires
+carried-requires c κs = tt
+
 parameters-requires : tie.Need-parameters-requires
 parameters-requires c κs = tt
 
@@ -37,7 +40,7 @@ returns : tie.Need-returns
 returns c = rw (c .before .before .e .given .1, c .user-parameters .ensures)
 
 returns-2 : tie.Need-returns-2
-returns-2 c = rw (c .before .before .e2 .given .1, c .parameters .ensures)
+returns-2 c = rw (c .before .before .before .e2 .given .1, c .parameters .ensures, c .before .carried .ensures)
 
 returns-3 : tie.Need-returns-3
 returns-3 c = rw (c .before .before .e3 .given .1, c .service-parameters .ensures)
@@ -49,4 +52,4 @@ returns-5 : tie.Need-returns-5
 returns-5 c = rw (c .before .enum-told2 .given .1, c .parameters3 .ensures)
 
 pub parameters-of-spec : {M : Type 1} → statement M
-parameters-of-spec = tie.close (tie.spec enum-known-e user-parameters-requires enum-known-e-2 parameters-requires enum-known-e-3 service-parameters-requires enum-told parameters-requires-2 enum-told-2 parameters-requires-3 returns returns-2 returns-3 returns-4 returns-5)
+parameters-of-spec = tie.close (tie.spec enum-known-e user-parameters-requires enum-known-e-2 carried-requires parameters-requires enum-known-e-3 service-parameters-requires enum-told parameters-requires-2 enum-told-2 parameters-requires-3 returns returns-2 returns-3 returns-4 returns-5)

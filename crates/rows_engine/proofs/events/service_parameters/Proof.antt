@@ -6,6 +6,9 @@ use Rattle.rows_engine.proofs.events.service_parameters.Tie as tie
 enum-known-p : tie.Need-enum-known-p
 enum-known-p c = c .match .keys1
 
+carried-requires : tie.Need-carried-requires
+carried-requires c κs = tt
+
 parameters-requires : tie.Need-parameters-requires
 parameters-requires c κs = tt
 
@@ -46,7 +49,7 @@ parameters-requires-7 : tie.Need-parameters-requires-7
 parameters-requires-7 c κs = tt
 
 returns : tie.Need-returns
-returns c = rw (c .before .before .p .given .1, c .parameters .ensures)
+returns c = rw (c .before .before .before .p .given .1, c .parameters .ensures, c .before .carried .ensures)
 
 returns-2 : tie.Need-returns-2
 returns-2 c = rw (c .before .before .p2 .given .1, c .parameters2 .ensures)
@@ -67,4 +70,4 @@ returns-7 : tie.Need-returns-7
 returns-7 c = rw (c .before .enum-told4 .given .1, c .parameters7 .ensures)
 
 pub service-parameters-spec : {M : Type 1} → statement M
-service-parameters-spec = tie.close (tie.spec enum-known-p parameters-requires enum-known-p-2 parameters-requires-2 enum-told parameters-requires-3 enum-told-2 parameters-requires-4 enum-known-p-3 parameters-requires-5 enum-told-3 parameters-requires-6 enum-told-4 parameters-requires-7 returns returns-2 returns-3 returns-4 returns-5 returns-6 returns-7)
+service-parameters-spec = tie.close (tie.spec enum-known-p carried-requires parameters-requires enum-known-p-2 parameters-requires-2 enum-told parameters-requires-3 enum-told-2 parameters-requires-4 enum-known-p-3 parameters-requires-5 enum-told-3 parameters-requires-6 enum-told-4 parameters-requires-7 returns returns-2 returns-3 returns-4 returns-5 returns-6 returns-7)

@@ -10,37 +10,37 @@ use Rattle.step.proofs.arrived.read_as.Reads as read-as-reads
 use Rattle.step.proofs.arrived.reads_again.Reads as reads-again-reads
 use Rattle.step.proofs.arrived.reads_as.Reads as reads-as-reads
 
--- src/arrived.rt:204:32
+-- src/arrived.rt:239:41
 reads-as-requires : tie.Need-reads-as-requires
 reads-as-requires c κs = search needs
 
--- src/arrived.rt:204:13
+-- src/arrived.rt:239:13
 read-as-requires : tie.Need-read-as-requires
 read-as-requires c κs = search needs
 
--- src/arrived.rt:205:12
+-- src/arrived.rt:240:12
 reads-again-requires : tie.Need-reads-again-requires
 reads-again-requires c κs = search needs
 
--- src/arrived.rt:206:13
+-- src/arrived.rt:241:13
 read-again-requires : tie.Need-read-again-requires
 read-again-requires c κs = search needs
 
--- src/arrived.rt:206:13
+-- src/arrived.rt:241:13
 returns : tie.Need-returns
-returns c = read-twice _ _ _ _ _ (c .before .before .before .before .before .if1 .taken) _ (c .before .before .before .before .reads-as .ensures) _ (c .before .before .before .read-as .ensures) _ (c .before .before .reads-again .ensures) (c .before .if2 .taken) _ (c .read-again .ensures)
+returns c = read-twice _ _ _ _ _ _ (c .before .before .before .before .before .if1 .taken) _ (c .before .before .before .before .reads-as .ensures) _ (c .before .before .before .read-as .ensures) _ (c .before .before .reads-again .ensures) (c .before .if2 .taken) _ (c .read-again .ensures)
 
--- src/arrived.rt:208:9
+-- src/arrived.rt:243:9
 returns-2 : tie.Need-returns-2
-returns-2 c = read-once _ _ _ _ _ (c .before .before .before .before .if1 .taken) _ (c .before .before .before .reads-as .ensures) _ (c .before .before .read-as .ensures) _ (c .before .reads-again .ensures) (c .if2 .left)
+returns-2 c = read-once _ _ _ _ _ _ (c .before .before .before .before .if1 .taken) _ (c .before .before .before .reads-as .ensures) _ (c .before .before .read-as .ensures) _ (c .before .reads-again .ensures) (c .if2 .left)
 
--- src/arrived.rt:210:5
+-- src/arrived.rt:245:5
 bare-requires : tie.Need-bare-requires
 bare-requires c κs = search needs
 
--- src/arrived.rt:194:1
+-- src/arrived.rt:228:1
 returns-3 : tie.Need-returns-3
-returns-3 c = no-data-came _ _ _ _ _ _ (c .before .if1 .left) (c .bare .ensures)
+returns-3 c = no-data-came _ _ _ _ _ _ _ (c .before .if1 .left) (c .bare .ensures)
 
 pub arrived-spec : {M : Type 1} → statement M
 arrived-spec =

@@ -6,41 +6,41 @@ use Rattle.step.proofs.arrived.read_again.Statement.{statement}
 use Rattle.step.proofs.arrived.read_again.Tie as tie
 use Rattle.step.proofs.arrived.read_again.Reads as reads
 use Rattle.step.proofs.arrived.read_again.Lts as lts
-use Rattle.apdu.proofs.read_apdu.Reads as read-apdu-reads
 use Rattle.machine.proofs.event.UserData.kind.Reads as kind-reads
 use Rattle.step.proofs.arrived.abort_in.Reads as abort-in-reads
+use Rattle.codec.proofs.read_apdu.Reads as read-apdu-reads
 
--- src/arrived.rt:194:8
+-- src/arrived.rt:218:8
 kind-requires : tie.Need-kind-requires
 kind-requires c κs = search needs
 
--- src/arrived.rt:195:9
+-- src/arrived.rt:219:9
 returns : tie.Need-returns
 unfolding orAgain
 returns c = rw (← c .before .kind .ensures, ne-eqb _ _ (c .if1 .taken))
 
--- src/arrived.rt:197:26
+-- src/arrived.rt:221:26
 read-apdu-requires : tie.Need-read-apdu-requires
 read-apdu-requires c κs = search needs
 
--- src/arrived.rt:197:21
+-- src/arrived.rt:221:21
 enum-known-a : tie.Need-enum-known-a
 enum-known-a c = search needs
 
--- src/arrived.rt:198:9
+-- src/arrived.rt:222:9
 enum-told : tie.Need-enum-told
 enum-told c = search needs
 
--- src/arrived.rt:198:9
+-- src/arrived.rt:222:9
 returns-2 : tie.Need-returns-2
 unfolding orAgain again
 returns-2 c = rw (← c .before .before .before .before .kind .ensures, c .before .before .before .if1 .left, ← c .before .before .read-apdu .ensures, c .enum-told .given .1)
 
--- src/arrived.rt:200:5
+-- src/arrived.rt:224:5
 abort-in-requires : tie.Need-abort-in-requires
 abort-in-requires c κs = search needs
 
--- src/arrived.rt:190:1
+-- src/arrived.rt:214:1
 returns-3 : tie.Need-returns-3
 unfolding orAgain again
 returns-3 c = c .abort-in .ensures ∙ rw (← c .before .before .before .before .before .before .kind .ensures, c .before .before .before .before .before .if1 .left, ← c .before .before .before .before .read-apdu .ensures, c .before .before .a .given .1)

@@ -10,45 +10,45 @@ use Rattle.step.proofs.call.deliver.Reads as deliver-reads
 use Rattle.step.proofs.call.put_reply.Reads as put-reply-reads
 use Rattle.step.proofs.call.settle.Reads as settle-reads
 
--- src/call.rt:291:8
+-- src/call.rt:306:8
 is-none-requires : tie.Need-is-none-requires
 is-none-requires c κs = search needs
 
--- src/call.rt:293:13
+-- src/call.rt:308:13
 put-reply-requires : tie.Need-put-reply-requires
 put-reply-requires c κs = search needs
 
--- src/call.rt:294:13
+-- src/call.rt:309:13
 deliver-requires : tie.Need-deliver-requires
 deliver-requires c κs = search needs
 
--- src/call.rt:295:9
+-- src/call.rt:310:9
 settle-requires : tie.Need-settle-requires
 settle-requires c κs = search needs
 
--- src/call.rt:295:9
+-- src/call.rt:310:9
 same-length : tie.Need-same-length
 same-length c = search needs
 
--- src/call.rt:295:9
+-- src/call.rt:310:9
 same-length-2 : tie.Need-same-length-2
 same-length-2 c = search needs
 
--- src/call.rt:295:9
+-- src/call.rt:310:9
 same-length-3 : tie.Need-same-length-3
 same-length-3 c = search needs
 
--- src/call.rt:295:9
+-- src/call.rt:310:9
 returns : tie.Need-returns
-returns c = is-taken _ _ _ _ _ _ _ _ _ (c .before .before .before .before .before .before .before .before .before .before .before .before .before .is-none .ensures) (c .before .before .before .before .before .before .before .before .before .before .before .before .if1 .taken) _ _ _ _ (c .before .before .before .before .before .before .before .before .before .before .put-reply .ensures) (c .before .before .before .before .before .before .deliver .ensures) _ _ (c .before .before .settle .ensures)
+returns c = is-taken _ _ _ _ _ _ _ _ _ _ (c .before .before .before .before .before .before .before .before .before .before .before .before .before .is-none .ensures) (c .before .before .before .before .before .before .before .before .before .before .before .before .if1 .taken) (c .before .before .before .before .before .before .before .before .before .before .before .before .before .before .before .before .before .before .pre .0) _ _ _ _ (c .before .before .before .before .before .before .before .before .before .before .put-reply .ensures) (c .before .before .before .before .before .before .deliver .ensures) _ _ (c .before .before .settle .ensures)
 
--- src/call.rt:297:5
+-- src/call.rt:312:5
 number-requires : tie.Need-number-requires
 number-requires c κs = search needs
 
--- src/call.rt:277:1
+-- src/call.rt:291:1
 returns-2 : tie.Need-returns-2
-returns-2 c = is-refused _ _ _ _ _ _ _ _ _ (c .before .before .is-none .ensures) _ (c .before .if1 .left) (c .number .ensures)
+returns-2 c = is-refused _ _ _ _ _ _ _ _ _ _ (c .before .before .is-none .ensures) _ (c .before .if1 .left) (c .number .ensures)
 
 pub conclude-spec : {M : Type 1} → statement M
 conclude-spec =

@@ -14,75 +14,75 @@ use Rattle.step.proofs.call.put_reply.Reads as put-reply-reads
 use Rattle.step.proofs.call.settle.Reads as settle-reads
 use Rattle.stored.proofs.load.Reads as load-reads
 
--- src/call.rt:224:9
+-- src/call.rt:237:9
 returns : tie.Need-returns
 unfolding userBy
 returns c = no-room-first _ _ _ _ (c .if1 .taken)
 
--- src/call.rt:227:9
+-- src/call.rt:240:9
 returns-2 : tie.Need-returns-2
 unfolding userBy
 returns-2 c = no-room-second _ _ _ _ (c .before .if1 .left) (c .if2 .taken)
 
--- src/call.rt:229:37
+-- src/call.rt:242:37
 load-requires : tie.Need-load-requires
 load-requires c κs = search needs
 
--- src/call.rt:229:20
+-- src/call.rt:242:20
 enum-known-side : tie.Need-enum-known-side
 enum-known-side c = search needs
 
--- src/call.rt:230:9
+-- src/call.rt:243:9
 enum-told : tie.Need-enum-told
 enum-told c = search needs
 
--- src/call.rt:230:9
+-- src/call.rt:243:9
 same-length : tie.Need-same-length
 same-length c = search needs
 
--- src/call.rt:230:9
+-- src/call.rt:243:9
 returns-3 : tie.Need-returns-3
 unfolding userBy
 returns-3 c = no-record _ _ _ _ (c .before .before .before .before .before .if1 .left) (c .before .before .before .before .if2 .left) _ (c .before .before .load .ensures) (c .enum-told .given .1)
 
--- src/call.rt:232:9
+-- src/call.rt:245:9
 host-step-requires : tie.Need-host-step-requires
 host-step-requires c κs = search needs
 
--- src/call.rt:234:8
+-- src/call.rt:247:8
 is-none-requires : tie.Need-is-none-requires
 is-none-requires c κs = search needs
 
--- src/call.rt:236:13
+-- src/call.rt:249:13
 put-reply-requires : tie.Need-put-reply-requires
 put-reply-requires c κs = host-answers _ _ (c .before .before .before .before .before .before .before .before .before .before .before .before .before .before .args .expiry) _ (c .before .before .before .host-step .ensures)
 
--- src/call.rt:237:9
+-- src/call.rt:250:9
 settle-requires : tie.Need-settle-requires
 settle-requires c κs = search needs
 
--- src/call.rt:237:9
+-- src/call.rt:250:9
 same-length-2 : tie.Need-same-length-2
 same-length-2 c = search needs
 
--- src/call.rt:237:9
+-- src/call.rt:250:9
 same-length-3 : tie.Need-same-length-3
 same-length-3 c = search needs
 
--- src/call.rt:237:9
+-- src/call.rt:250:9
 returns-4 : tie.Need-returns-4
 unfolding userBy
 returns-4 c = with-record _ _ _ _ (c .before .before .before .before .before .before .before .before .before .before .before .before .before .before .before .before .before .if1 .left) (c .before .before .before .before .before .before .before .before .before .before .before .before .before .before .before .before .if2 .left) _ (c .before .before .before .before .before .before .before .before .before .before .before .before .before .before .load .ensures) _ _ _ _ (c .before .before .before .before .before .before .before .before .before .before .before .before .side .given .1) (host-taken _ _ _ (c .before .before .before .before .before .before .before .before .before .before .before .before .before .before .before .before .before .before .before .before .before .args .expiry) (lent []) (lent []) (lent []) _ _ _ _ (c .before .before .before .before .before .before .before .before .before .before .host-step .ensures) _ (c .before .before .before .before .before .before .before .before .before .is-none .ensures) (c .before .before .before .before .before .before .before .before .if3 .taken) _ _ (c .before .before .before .before .before .before .put-reply .ensures) _ _ (c .before .before .settle .ensures))
 
--- src/call.rt:239:5
+-- src/call.rt:252:5
 number-requires : tie.Need-number-requires
 number-requires c κs = search needs
 
--- src/call.rt:220:1
+-- src/call.rt:233:1
 same-length-4 : tie.Need-same-length-4
 same-length-4 c = search needs
 
--- src/call.rt:220:1
+-- src/call.rt:233:1
 returns-5 : tie.Need-returns-5
 unfolding userBy
 returns-5 c = with-record _ _ _ _ (c .before .before .before .before .before .before .before .before .before .before .if1 .left) (c .before .before .before .before .before .before .before .before .before .if2 .left) _ (c .before .before .before .before .before .before .before .load .ensures) _ _ _ _ (c .before .before .before .before .before .side .given .1) (host-refused _ _ _ (c .before .before .before .before .before .before .before .before .before .before .before .before .before .before .args .expiry) (lent []) (lent []) (lent []) _ _ _ _ (c .before .before .before .host-step .ensures) _ (c .before .before .is-none .ensures) _ (c .before .if3 .left) (c .number .ensures))

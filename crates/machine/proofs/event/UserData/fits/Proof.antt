@@ -11,9 +11,12 @@ kind-requires c κs = tt
 reason-requires : tie.Need-reason-requires
 reason-requires c κs = tt
 
+user-reasons-requires : tie.Need-user-reasons-requires
+user-reasons-requires c κs = tt
+
 returns : tie.Need-returns
 unfolding userDataFits
-returns c = rw (← c .before .before .kind .ensures, eq-eqb _ _ (c .before .if1 .taken), ← c .reason .ensures)
+returns c = rw (← c .before .before .before .kind .ensures, eq-eqb _ _ (c .before .before .if1 .taken), ← c .before .reason .ensures, ← c .user-reasons .ensures)
 
 reason-requires-2 : tie.Need-reason-requires-2
 reason-requires-2 c κs = tt
@@ -39,6 +42,7 @@ fits-spec =
     (tie.spec
     kind-requires
     reason-requires
+    user-reasons-requires
     returns
     reason-requires-2
     returns-2

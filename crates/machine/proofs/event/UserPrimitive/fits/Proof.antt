@@ -33,6 +33,9 @@ enum-known-self-4 c = c .match .keys5
 enum-known-self-5 : tie.Need-enum-known-self-5
 enum-known-self-5 c = c .match .keys6
 
+user-reasons-requires : tie.Need-user-reasons-requires
+user-reasons-requires c κs = tt
+
 returns-2 : tie.Need-returns-2
 unfolding userFits
 returns-2 c = rw (c .before .before .before .before .self .given .1, ← c .before .before .has-mode .ensures, not-false (c .before .before .has-mode .result) (c .before .if1 .left), lt-ltb _ _ (c .if2 .taken))
@@ -59,7 +62,7 @@ returns-7 c = rw (c .before .self4 .given .1)
 
 returns-8 : tie.Need-returns-8
 unfolding userFits
-returns-8 c = rw (c .before .self5 .given .1)
+returns-8 c = rw (c .before .before .self5 .given .1, ← c .user-reasons .ensures)
 
 pub fits-spec : {M : Type 1} → statement M
 fits-spec =
@@ -74,6 +77,7 @@ fits-spec =
     enum-told
     enum-known-self-4
     enum-known-self-5
+    user-reasons-requires
     returns-2
     returns-3
     returns-4

@@ -1,0 +1,14 @@
+-- `editions::Edition::is_type` meets its contract.
+-- Assumes nothing.
+use borrow.Author.Tests.{eq-eqb, ne-eqb}
+use Rattle.editions.proofs.Edition.is_type.Statement.{statement}
+use Rattle.editions.proofs.Edition.is_type.Tie as tie
+
+returns : tie.Need-returns
+returns c = rw (eq-eqb _ _ (c .if1 .taken))
+
+returns-2 : tie.Need-returns-2
+returns-2 c = rw (ne-eqb _ _ (c .if1 .left))
+
+pub is-type-spec : {M : Type 1} → statement M
+is-type-spec = tie.close (tie.spec returns returns-2)

@@ -1,0 +1,5 @@
+pub mod Bodies
+pub mod Runs
+pub mod Instance
+pub mod Shapes
+pub mod Contents

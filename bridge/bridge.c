@@ -99,6 +99,7 @@ static int read_some(struct bridge *b, struct dialogue *d)
     for (n = 0; n < ENVELOPES && d->inbox != NULL && !spent(b) && !call_waits(b, d); n++)
         if (!call_envelope(b, d)) {
             d->receipt = d->inbox->receipt;
+            day_payload_read(d);
             inbox_drop(d);
         }
     return n;
@@ -148,6 +149,7 @@ void bridge_broker_lost(struct bridge *b, const char *why)
         d->queue = QUEUE_LEFT;
         d->handed = NOT_HANDED;
         d->receipt.tag = 0; /* it meant something on that connection only */
+        day_forgets(d);
         words_begin(b, d);
     }
 }
@@ -353,6 +355,7 @@ static void start(struct bridge *b, struct dialogue *d)
     if (state_of(d) != PEAT_IDLE || d->closing || stopping(b) || b->state != BROKER_OURS || now_ms() < d->start_at || awaits_start(b, d))
         return;
     if (b->link->open(b->link, d->number) == LINK_DONE) {
+        day_meets(d);
         if (b->config->starts[d->number] == STARTS_GROUND)
             call_start(b, d);
         return;
@@ -440,6 +443,7 @@ static void commit(struct bridge *b)
     int settles = b->settled_since != 0 && (stopping(b) || now_ms() - b->settled_since >= SETTLE_MS);
     if (!b->staged && !settles && (b->late_at == 0 || now_ms() < b->late_at))
         return;
+    day_commit(b);
     for EACH (b, d) {
         if (d->changed)
             b->journal->keep(b->journal, d->number, &d->kept);
@@ -471,6 +475,7 @@ static void send_primitives(struct bridge *b)
             if (sent != LINK_DONE)
                 break;
             b->metrics.sent++;
+            day_says(d, "sends");
             q->oldest++;
             q->count--;
         }
@@ -478,6 +483,7 @@ static void send_primitives(struct bridge *b)
             call_failure(b, d, "carrier"); /* which the next round commits */
         if (d->closing && (q->count == 0 || now_ms() >= d->close_by)) {
             b->link->close(b->link, d->number);
+            day_loses(d);
             q->count = 0;
             d->closing = 0;
         }
@@ -495,6 +501,7 @@ static void acknowledge(struct bridge *b)
         words_acknowledge(b, d);
         if (d->receipt.tag == 0)
             continue;
+        day_acknowledges(d);
         b->broker->acknowledge(b->broker, d->number, d->receipt);
         d->receipt.tag = 0;
     }
@@ -725,6 +732,7 @@ static void begin_dialogue(struct bridge *b, const struct taken *t)
     if (b->journal->shared)
         log_line(LOG_INFO, "took", ABOUT(d), NUMBER("lease", d->lease), TEXT("was", t->was), TEXT("host", b->config->host));
     b->metrics.takeovers += t->was[0] != '\0';
+    day_begin(b, d);
     recover(b, d, t->was[0] != '\0' ? "takeover" : "restart");
 }
 
@@ -747,6 +755,8 @@ static void take_dialogues(struct bridge *b)
     at_point(b, AT_RECOVERY);
     b->staged = 1; /* also where nothing was open: the journal can be written, or the bridge ends here */
     commit(b);
+    for (i = 0; i < n; i++)
+        day_began(b, &b->dialogue[taken[i].dialogue]);
     at_point(b, AT_RECOVERED);
 }
 
@@ -782,8 +792,10 @@ void bridge_begin(struct bridge *b, const struct config *c, struct journal *j, s
     j->meanwhile = meanwhile_journal;
     j->with = b;
     j->patient = 1;
-    for (d = 0; d < PLACES_MOST; d++)
+    for (d = 0; d < PLACES_MOST; d++) {
         b->dialogue[d].number = d;
+        b->dialogue[d].day.file = -1;
+    }
     if (j->shared)
         b->take_at = now_ms();
     else
@@ -801,6 +813,7 @@ static void forget(struct bridge *b)
         free(b->dialogue[d].out.item);
         free(b->dialogue[d].held.range);
         inbox_empty(&b->dialogue[d]);
+        day_end(&b->dialogue[d]);
     }
 }
 
@@ -833,6 +846,7 @@ void bridge_run(struct bridge *b, const volatile sig_atomic_t *stop)
         release(b);
         housekeeping(b);
     }
+    day_commit(b);
     b->journal->commit(b->journal);
     witness_write(b->config->witness, b->journal->id, b->journal->commits(b->journal));
     log_line(LOG_INFO, "stopped", NUMBER("taken", b->metrics.taken), NUMBER("repeats", b->metrics.repeats), NUMBER("letters", b->metrics.letters));

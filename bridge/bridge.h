@@ -19,6 +19,7 @@
 
 #include "broker.h"
 #include "config.h"
+#include "day.h"
 #include "jobs.h"
 #include "journal.h"
 #include "link.h"
@@ -82,6 +83,7 @@ struct dialogue {
     struct envelope envelope;
     struct receipt receipt; /* of the last payload that was read to its end in this batch; tag 0: none */
     struct words words;
+    struct day day;
     int linked;             /* of a link: it was connected when that was said last */
     uint64_t unexpected, unexpected_at; /* starts that came from the aircraft since one was logged, and when the next may be */
     /* for the page: how the last run was over, and the last job that was refused (refusal 0: none) */

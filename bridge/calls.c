@@ -216,11 +216,21 @@ void call_wait_longer(struct bridge *b, struct dialogue *d)
     d->wait = 2 * d->wait < b->config->retry_most ? 2 * d->wait : b->config->retry_most;
 }
 
+static void note_fate(struct dialogue *d, const char *how)
+{
+    size_t i;
+    uint64_t job;
+    for (i = 0; i < d->held.ranges && d->day.file >= 0; i++)
+        for (job = d->held.range[i].first; job != 0 && job <= d->held.range[i].last; job++)
+            day_tells(d, how, job);
+}
+
 /* The dialogue is over: the jobs taken in it get their fate, and its connection goes. */
 static void over(struct bridge *b, struct dialogue *d, unsigned before, const char *how, const char *why)
 {
     if (before == PEAT_DIALOGUE || before == PEAT_END)
         ++*(strcmp(how, "ended") == 0 ? &b->metrics.ended : &b->metrics.broken);
+    note_fate(d, how);
     if (d->held.ranges > 0)
         post_fate(b, d, how, why);
     jobs_clear(&d->held);
@@ -291,10 +301,12 @@ void call_start(struct bridge *b, struct dialogue *d)
     unsigned refusal;
     d->kept.run++;
     refusal = call_act(b, d, PEAT_IDLE, peat_start(RECORD(d), call_next_number(d), PEAT_CPDLC, PEAT_CLASS_ANY, PEAT_NO_SECURITY, PEAT_NO_DATA, BUFFERS), "");
-    if (refusal == PEAT_TAKEN)
+    if (refusal != PEAT_TAKEN) {
+        d->kept.run--; /* it did not happen */
+        start_refused(b, d, refusal);
         return;
-    d->kept.run--; /* it did not happen */
-    start_refused(b, d, refusal);
+    }
+    day_keeps(d, "starts-cpdlc %llu", (unsigned long long)peat_record_number(d->kept.record));
 }
 
 void call_must(struct bridge *b, struct dialogue *d, const char *call, uint64_t answer, const char *why, unsigned before)
@@ -306,12 +318,14 @@ void call_must(struct bridge *b, struct dialogue *d, const char *call, uint64_t 
 void call_end(struct bridge *b, struct dialogue *d)
 {
     unsigned before = state_of(d);
+    day_keeps(d, "asks-end");
     call_must(b, d, "peat_end_request", peat_end_request(RECORD(d), PEAT_NO_DATA, BUFFERS), "", before);
 }
 
 void call_abort(struct bridge *b, struct dialogue *d)
 {
     unsigned before = state_of(d);
+    day_keeps(d, "aborts");
     call_must(b, d, "peat_user_abort", peat_user_abort(RECORD(d), PEAT_COMMANDED_TERMINATION, BUFFERS), "stopped", before);
 }
 
@@ -319,6 +333,7 @@ void call_expiry(struct bridge *b, struct dialogue *d)
 {
     unsigned before = state_of(d);
     b->metrics.expired++;
+    day_keeps(d, "expires");
     call_must(b, d, "peat_timer_expiry", peat_timer_expiry(RECORD(d), BUFFERS), "t-start", before);
 }
 
@@ -330,6 +345,7 @@ static void answer_start(struct bridge *b, struct dialogue *d, int dsc)
     unsigned before = state_of(d), accepts = b->config->starts[d->number] == STARTS_AIR && b->stop_by == 0, result = accepts ? PEAT_ACCEPTED : PEAT_REJECTED;
     d->kept.run += accepts;
     ++*(accepts ? &b->metrics.starts_accepted : &b->metrics.starts_rejected);
+    day_keeps(d, accepts ? "accepts-start" : "rejects-start");
     if (dsc)
         call_must(b, d, "peat_dsc_start_response", peat_dsc_start_response(RECORD(d), result, PEAT_NO_DATA, BUFFERS), "rejected", before);
     else
@@ -340,6 +356,8 @@ static void answer_start(struct bridge *b, struct dialogue *d, int dsc)
 static void answer_end(struct bridge *b, struct dialogue *d)
 {
     unsigned before = state_of(d);
+    day_keeps(d, "accepts-end");
+    day_keeps(d, "gives-up");
     call_must(b, d, "peat_dsc_end_response", peat_dsc_end_response(RECORD(d), PEAT_ACCEPTED, PEAT_NO_DATA, BUFFERS), "aircraft's end", before);
 }
 
@@ -350,6 +368,7 @@ void call_failure(struct bridge *b, struct dialogue *d, const char *why)
     d->out.oldest = d->out.count = 0;
     d->closing = 1;
     d->close_by = now_ms();
+    day_loses(d);
     if (before == PEAT_IDLE)
         call_wait_longer(b, d);
     if (before != PEAT_IDLE)
@@ -391,9 +410,12 @@ void call_primitive(struct bridge *b, struct dialogue *d, const struct primitive
         call_turn_away(b, d, p, p->kind == PEAT_D_START_REQUEST ? "the aircraft starts a dialogue" : "its number was never given");
         return;
     }
-    if (before == PEAT_IDLE && p->kind != PEAT_D_START_REQUEST)
+    if (before == PEAT_IDLE && p->kind != PEAT_D_START_REQUEST) {
+        day_hears(d, p, PEAT_STALE);
         return;
+    }
     answer = primitive_arrives(p, d->kept.record, call_first, call_second);
+    day_hears(d, p, answer);
     refusal = call_act(b, d, before, answer, "abort");
     if (refusal == PEAT_STALE)
         b->metrics.stale++; /* of an old dialogue: it changes nothing */
@@ -406,6 +428,12 @@ void call_primitive(struct bridge *b, struct dialogue *d, const struct primitive
 }
 
 /* ---- jobs */
+
+static void note_refusal(struct dialogue *d, uint64_t job)
+{
+    day_keeps(d, "refuses %llu", (unsigned long long)job);
+    day_tells(d, "refused", job);
+}
 
 /* By the card's answer: the letter has its number, its name, and the bit. */
 void call_refused(struct bridge *b, struct dialogue *d, uint64_t job, uint64_t answer)
@@ -422,6 +450,7 @@ void call_refused(struct bridge *b, struct dialogue *d, uint64_t job, uint64_t a
     b->metrics.overtaken += refusal == PEAT_REPEAT; /* it is not decided, so it was never sent: a later job was */
     log_line(LOG_INFO, "refused", ABOUT(d), NUMBER("job", job), NUMBER("refusal", refusal));
     decide(b, d, job, refusal);
+    note_refusal(d, job);
     post_envelope(b, d, "refused", heads, PEAT_ENVELOPE_REFUSAL, job, 8, &number);
 }
 
@@ -429,6 +458,8 @@ static void lay_aside(struct bridge *b, struct dialogue *d, const struct envelop
 {
     if (e->kind == PEAT_ENVELOPE_TO_SEND)
         decide(b, d, e->job, LAID_ASIDE); /* its fate is told: it is not sent when it comes again */
+    if (e->kind == PEAT_ENVELOPE_TO_SEND)
+        note_refusal(d, e->job);
     call_dead(b, d, reason, bytes, count);
 }
 
@@ -474,6 +505,7 @@ void call_taken(struct bridge *b, struct dialogue *d, uint64_t job)
 {
     b->metrics.taken++;
     decide(b, d, job, PEAT_TAKEN);
+    day_keeps(d, "takes %llu", (unsigned long long)job);
     jobs_add(&d->held, job, job);
     log_line(LOG_FINE, "taken", ABOUT(d), NUMBER("job", job));
 }
@@ -532,6 +564,7 @@ static void sort_envelope(struct bridge *b, struct dialogue *d, const struct env
     if (e->kind == PEAT_ENVELOPE_TO_SEND && decided(b, d, e->job)) {
         b->metrics.repeats++;
         log_line(LOG_FINE, "repeat", ABOUT(d), NUMBER("job", e->job));
+        day_reads(d, e->job);
         return;
     }
     reason = kept_out(b, d, e);
@@ -547,6 +580,8 @@ static void sort_envelope(struct bridge *b, struct dialogue *d, const struct env
         offer(b, d, e, heads, &g, &reason);
     if (reason != NULL)
         lay_aside(b, d, e, reason, bytes, count);
+    if (e->kind == PEAT_ENVELOPE_TO_SEND)
+        day_reads(d, e->job);
 }
 
 int call_waits(struct bridge *b, const struct dialogue *d)

@@ -87,6 +87,7 @@ static const struct key keys[] = {
     MAYBE("page_ca", page_ca),
     COUNT("stop_ms", stop, "20000", 1, 3600000),
     COUNT("log_level", log, "1", 0, 3),
+    MAYBE("moves", moves),
 };
 
 #define KEYS (sizeof keys / sizeof *keys)
@@ -351,6 +352,8 @@ static const char *together(const struct config *c)
         return "host has characters other than letters, digits, points and dashes";
     if (strcmp(c->journal, c->witness) == 0)
         return "journal and witness are one file";
+    if (c->moves[0] != '\0' && c->journal[0] == '\0')
+        return "moves needs journal: of a dialogue that several hosts have no host sees the whole day";
     if (certificate != key)
         return "tls_certificate and tls_key come together";
     if (certificate && !ca)

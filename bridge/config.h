@@ -48,6 +48,7 @@ struct config {
     uint64_t job_jump, payload_most, outbox_most;
     /* operation */
     uint64_t metrics_port, stop, log;
+    char moves[CONFIG_TEXT]; /* a folder for the moves of each dialogue (day.h); empty: none */
     char page_address[CONFIG_TEXT], page_token_file[CONFIG_TEXT], page_certificate[CONFIG_TEXT], page_key[CONFIG_TEXT], page_ca[CONFIG_TEXT];
 };
 

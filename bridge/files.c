@@ -176,6 +176,16 @@ static void look_own(struct look *l, const char *name, const char *path)
         close(file);
 }
 
+static void look_moves(struct look *l, const struct config *c)
+{
+    char path[CONFIG_TEXT + 8];
+    if (c->moves[0] == '\0')
+        return;
+    snprintf(path, sizeof path, "%s/00", c->moves);
+    if (look_folder(l, "moves", path, 1))
+        tell(l, FILES_GOOD, "moves", c->moves, "the folder is there, and can be written");
+}
+
 static void look_aircraft(struct look *l, const struct config *c)
 {
     char path[CONFIG_TEXT + 8];
@@ -213,6 +223,7 @@ unsigned files_look(const struct config *c, files_say *say, void *with)
     look_own(&l, "journal", c->journal);
     look_database(&l, c);
     look_own(&l, "witness", c->witness);
+    look_moves(&l, c);
     look_aircraft(&l, c);
     look_centres(&l, c);
     look_broker(&l, c);

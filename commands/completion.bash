@@ -1,4 +1,4 @@
-# Bash completion for peat-bridge, peat-host, peat-compare, peat-explain and peat-envelopes.
+# Bash completion for peat-bridge, peat-host, peat-compare, peat-replay, peat-explain and peat-envelopes.
 
 _peat_bridge() {
     local word=${COMP_WORDS[COMP_CWORD]}
@@ -24,9 +24,12 @@ _peat_host() {
 
 _peat_compare() { COMPREPLY=($(compgen -W '--json --help --version' -- "${COMP_WORDS[COMP_CWORD]}") $(compgen -f -- "${COMP_WORDS[COMP_CWORD]}")); }
 
+_peat_replay() { COMPREPLY=($(compgen -W '--help --version' -- "${COMP_WORDS[COMP_CWORD]}") $(compgen -f -- "${COMP_WORDS[COMP_CWORD]}")); }
+
 _peat_reader() { COMPREPLY=($(compgen -W '--help --version' -- "${COMP_WORDS[COMP_CWORD]}")); }
 
 complete -o filenames -F _peat_bridge peat-bridge
 complete -o filenames -F _peat_host peat-host
 complete -o filenames -F _peat_compare peat-compare
+complete -o filenames -F _peat_replay peat-replay
 complete -F _peat_reader peat-explain peat-envelopes

@@ -1,12 +1,12 @@
 /*
  * Aircraft: up to 48, each with an air record and a flight deck that counts what it sees.
  *
- *     aircraft PATH DIALOGUES ACCOUNT [ABORT [DOWN [REPLY [START [PLAIN]]]]]
+ *     aircraft PATH DIALOGUES ACCOUNT [ABORT [DOWN [REPLY [START [PLAIN [MOVES]]]]]]
  *
  * PATH has {} where the number of the aircraft goes: a packet socket for each, on which the bridge connects. ABORT: once in
  * so many messages the flight deck aborts. DOWN: once in so many it sends a message down. REPLY: once in so many it answers with WILCO all
  * CPDLC messages that it has not answered; it counts a message whose number is that of one it has not answered. START: 1, the aircraft start
- * the dialogues. PLAIN: those of application type 2, as 0-3,7. SIGUSR1: every connection is
+ * the dialogues. PLAIN: those of application type 2, as 0-3,7. MOVES: a folder, for the moves of each aircraft (docs/HOST.md, "A recorded day"). SIGUSR1: every connection is
  * dropped, as by a carrier that fails. SIGUSR2: the account so far is written. SIGTERM: the account is written and the program ends.
  *
  * The account: a line with what was counted; then for each job that a flight deck saw `NUMBER JOB TIMES`.
@@ -14,6 +14,7 @@
 #include <errno.h>
 #include <poll.h>
 #include <signal.h>
+#include <stdarg.h>
 #include <stdio.h>
 #include <stdlib.h>
 #include <string.h>
@@ -33,6 +34,7 @@ struct aircraft {
     unsigned number;
     uint8_t record[PEAT_RECORD_BYTES];
     int listener, socket; /* socket -1: not connected */
+    FILE *moves;          /* NULL: they are not recorded */
     uint32_t *seen;       /* times, by job */
     size_t room;
     uint64_t last, down;
@@ -62,6 +64,29 @@ static void on_signal(int signal)
         asked = 1;
     else
         done = 1;
+}
+
+/* ---- the recorded day: an aircraft is never killed, so a line is written when it is true */
+
+static void note(struct aircraft *a, const char *format, ...)
+{
+    va_list more;
+    if (a->moves == NULL)
+        return;
+    va_start(more, format);
+    vfprintf(a->moves, format, more);
+    va_end(more);
+    fputc('\n', a->moves);
+}
+
+static void note_hears(struct aircraft *a, const struct primitive *p, uint64_t answer)
+{
+    static const char *const words[][2] = {[PEAT_D_START_REQUEST] = {"start", "start"}, [PEAT_D_START_RESPONSE] = {"start-accepted", "start-rejected"},
+        [PEAT_D_DATA_REQUEST] = {"data", "data"}, [PEAT_D_END_REQUEST] = {"end", "end"}, [PEAT_D_END_RESPONSE] = {"end-accepted", "end-rejected"},
+        [PEAT_D_ABORT_REQUEST] = {"abort", "abort"}};
+    int aborts = peat_refusal(answer) == PEAT_TAKEN && peat_invoked(answer) == PEAT_D_ABORT_REQUEST;
+    if (p->kind != PEAT_SILENT && p->kind < sizeof words / sizeof *words)
+        note(a, "hears-%s %llu%s", words[p->kind][p->parameter != PEAT_ACCEPTED], (unsigned long long)p->number, aborts ? " aborts" : "");
 }
 
 static int once_in(unsigned n) { return n > 0 && rand() % (int)n == 0; }
@@ -144,22 +169,29 @@ static void act(struct aircraft *a, uint64_t answer)
         p.given = peat_apdu_bits(answer) > 0 ? PEAT_USER_DATA : PEAT_NO_USER_DATA;
         p.bytes = peat_apdu_bytes(answer);
         memcpy(p.data, first, p.bytes);
-        if (packet_send(a->socket, &p) != LINK_DONE)
+        if (packet_send(a->socket, &p) == LINK_DONE)
+            note(a, "sends");
+        else
             lose(a); /* the ground does not read: for this aircraft the carrier has failed */
     }
     switch (peat_told(answer)) {
     case PEAT_START_INDICATION:
         account.opened++;
         a->open = 0; /* a new dialogue: all numbers are free */
+        note(a, "accepts-start");
         act(a, peat_start_response(RECORD(a), PEAT_ACCEPTED, PEAT_NO_DATA, BUFFERS));
         break;
     case PEAT_START_CONFIRMATION:
         account.opened += peat_told_parameter(answer) == PEAT_ACCEPTED;
         a->open = 0;
         break;
-    case PEAT_MESSAGE_INDICATION: see(a, second, answer); break;
+    case PEAT_MESSAGE_INDICATION:
+        see(a, second, answer);
+        note(a, "shows");
+        break;
     case PEAT_END_INDICATION:
         account.ended++;
+        note(a, "accepts-end");
         act(a, peat_end_response(RECORD(a), PEAT_ACCEPTED, PEAT_NO_DATA, BUFFERS));
         break;
     }
@@ -168,13 +200,23 @@ static void act(struct aircraft *a, uint64_t answer)
 /* The connection is gone. */
 static void lose(struct aircraft *a)
 {
-    if (a->socket >= 0)
+    if (a->socket >= 0) {
         close(a->socket);
+        note(a, "lost");
+    }
     a->socket = -1;
     if (peat_record_state(a->record) != PEAT_IDLE) {
         account.failed++;
         act(a, peat_d_p_abort_indication(RECORD(a), peat_record_number(a->record), BUFFERS));
     }
+}
+
+static void say(struct aircraft *a, uint64_t job, const struct peat_data *data)
+{
+    uint64_t answer = peat_message_request(RECORD(a), job, PEAT_DATA(*data), BUFFERS);
+    if (peat_refusal(answer) == PEAT_TAKEN)
+        note(a, "takes %llu", (unsigned long long)job);
+    act(a, answer);
 }
 
 /* The flight deck answers every message that it has not answered. */
@@ -188,7 +230,7 @@ static void reply(struct aircraft *a)
             const struct peat_data data = {.message = message, .message_len = (bits + 7u) / 8u, .message_bits = bits};
             a->open &= ~((uint64_t)1 << n);
             account.down++;
-            act(a, peat_message_request(RECORD(a), ++a->down, PEAT_DATA(data), BUFFERS));
+            say(a, ++a->down, &data);
         }
 }
 
@@ -201,6 +243,7 @@ static void fly(struct aircraft *a)
         return;
     if (once_in(abort_once_in)) {
         account.aborted++;
+        note(a, "aborts");
         act(a, peat_user_abort(RECORD(a), PEAT_COMMANDED_TERMINATION, BUFFERS));
     } else if (once_in(down_once_in)) {
         account.down++;
@@ -210,7 +253,7 @@ static void fly(struct aircraft *a)
             data.message_bits = clearance_reply(message, (unsigned)(a->down % 64), 0, CLEARANCE_STANDBY);
             data.message_len = (data.message_bits + 7u) / 8u;
         }
-        act(a, peat_message_request(RECORD(a), a->down, PEAT_DATA(data), BUFFERS));
+        say(a, a->down, &data);
     } else if (once_in(reply_once_in)) {
         reply(a);
     }
@@ -226,8 +269,12 @@ static void hear(struct aircraft *a)
             return;
         if (got == LINK_BROKEN) {
             lose(a);
-        } else if (peat_record_state(a->record) != PEAT_IDLE || p.kind == PEAT_D_START_REQUEST) {
-            act(a, primitive_arrives(&p, a->record, first, second));
+        } else if (peat_record_state(a->record) == PEAT_IDLE && p.kind != PEAT_D_START_REQUEST) {
+            note_hears(a, &p, PEAT_STALE);
+        } else {
+            uint64_t answer = primitive_arrives(&p, a->record, first, second);
+            note_hears(a, &p, answer);
+            act(a, answer);
             if (p.kind == PEAT_D_DATA_REQUEST)
                 fly(a);
         }
@@ -242,11 +289,27 @@ static void meet(struct aircraft *a)
         return;
     lose(a);
     a->socket = s;
-    if (starts)
-        act(a, peat_start(RECORD(a), peat_record_number(a->record) + 1, PEAT_CPDLC, PEAT_CLASS_ANY, PEAT_NO_SECURITY, PEAT_NO_DATA, BUFFERS));
+    note(a, "meets");
+    if (starts) {
+        uint64_t answer = peat_start(RECORD(a), peat_record_number(a->record) + 1, PEAT_CPDLC, PEAT_CLASS_ANY, PEAT_NO_SECURITY, PEAT_NO_DATA, BUFFERS);
+        if (peat_refusal(answer) == PEAT_TAKEN)
+            note(a, "starts-cpdlc %llu", (unsigned long long)peat_record_number(a->record));
+        act(a, answer);
+    }
 }
 
 /* ---- beginning and end */
+
+static int record_moves(struct aircraft *a, const char *folder)
+{
+    char name[4096];
+    int n = snprintf(name, sizeof name, "%s/%02u.air", folder, a->number);
+    a->moves = n > 0 && (size_t)n < sizeof name ? fopen(name, "w") : NULL;
+    note(a, "from %c 0 0", starts ? 'a' : 'g');
+    return a->moves != NULL;
+}
+
+static int end_moves(struct aircraft *a) { return a->moves == NULL || (ferror(a->moves) | fclose(a->moves)) == 0; }
 
 static int board(struct aircraft *a, unsigned number)
 {
@@ -318,9 +381,9 @@ int main(int argc, char **argv)
 {
     struct sigaction a;
     unsigned n;
-    know_words(argc, argv, "aircraft", "usage: aircraft PATH DIALOGUES ACCOUNT [ABORT [DOWN [REPLY [START [PLAIN]]]]]; the top of bridge/sim/aircraft.c says what they are");
-    if (argc < 4 || argc > 9 || (argc > 8 && !jobs_read(argv[8], mark_plain, NULL)) || strtoul(argv[2], NULL, 10) < 1 || strtoul(argv[2], NULL, 10) > DIALOGUES_MOST) {
-        fputs("usage: aircraft PATH DIALOGUES ACCOUNT [ABORT [DOWN [REPLY [START [PLAIN]]]]]\n", stderr);
+    know_words(argc, argv, "aircraft", "usage: aircraft PATH DIALOGUES ACCOUNT [ABORT [DOWN [REPLY [START [PLAIN [MOVES]]]]]]; the top of bridge/sim/aircraft.c says what they are");
+    if (argc < 4 || argc > 10 || (argc > 8 && !jobs_read(argv[8], mark_plain, NULL)) || strtoul(argv[2], NULL, 10) < 1 || strtoul(argv[2], NULL, 10) > DIALOGUES_MOST) {
+        fputs("usage: aircraft PATH DIALOGUES ACCOUNT [ABORT [DOWN [REPLY [START [PLAIN [MOVES]]]]]]\n", stderr);
         return 2;
     }
     path = argv[1];
@@ -340,6 +403,11 @@ int main(int argc, char **argv)
             fprintf(stderr, "aircraft: %s: no socket for number %u\n", path, n);
             return 2;
         }
+    for (n = 0; argc > 9 && n < aircraft_count; n++)
+        if (!record_moves(&fleet[n], argv[9])) {
+            fprintf(stderr, "aircraft: %s: no file for the moves of number %u\n", argv[9], n);
+            return 2;
+        }
     puts("ready");
     fflush(stdout);
     while (!done) {
@@ -350,5 +418,8 @@ int main(int argc, char **argv)
                 return 1;
         }
     }
+    for (n = 0; n < aircraft_count; n++)
+        if (!end_moves(&fleet[n]))
+            return 1;
     return write_account(argv[3]);
 }

@@ -167,9 +167,11 @@ static void choose_store(struct stage *s)
 {
     struct config *c = &s->config;
     const char *database = getenv("PEAT_DATABASE");
-    if (database == NULL)
+    if (database == NULL) {
         snprintf(c->journal, sizeof c->journal, "%s/journal", s->folder);
-    else
+        snprintf(c->moves, sizeof c->moves, "%s/moves", s->folder);
+        mkdir(c->moves, 0700);
+    } else
         snprintf(c->database, sizeof c->database, "%s options=-csearch_path=play%s", database, strrchr(s->folder, '/') + 1);
     snprintf(c->host, sizeof c->host, "here");
     c->lease = 300;
@@ -222,7 +224,7 @@ void stage_set(struct stage *s, const char *folder, struct memory *m, unsigned d
 void stage_aircraft(struct stage *s, unsigned abort_once_in, unsigned down_once_in)
 {
     char number[12], aborts[12], down[12], reply[12];
-    char *words[] = {"aircraft", s->config.link, number, s->account_file, aborts, down, reply, s->config.starts[0] != STARTS_GROUND ? "1" : "0", s->config.plain, NULL};
+    char *words[] = {"aircraft", s->config.link, number, s->account_file, aborts, down, reply, s->config.starts[0] != STARTS_GROUND ? "1" : "0", s->config.plain, s->config.moves, NULL};
     char last[160];
     struct stat there;
     uint64_t until = now_ms() + PLENTY;
@@ -233,7 +235,7 @@ void stage_aircraft(struct stage *s, unsigned abort_once_in, unsigned down_once_
     s->aircraft = spawn();
     if (s->aircraft == 0) {
         redirect(s, "aircraft", STDOUT_FILENO);
-        exit(aircraft_main(9, words));
+        exit(aircraft_main(s->config.moves[0] != '\0' ? 10 : 9, words));
     }
     config_name(s->config.link, (unsigned)s->config.dialogues - 1, last, sizeof last);
     while (stat(last, &there) != 0 && now_ms() < until)

@@ -48,10 +48,10 @@ static uint32_t *latency_us;
 static size_t latencies, latency_room;
 static volatile sig_atomic_t drop, asked, done;
 
-static uint8_t first[PEAT_BUFFER_LEAST], second[PEAT_BUFFER_LEAST];
+static uint8_t apdu[PEAT_BUFFER_LEAST], delivered[PEAT_BUFFER_LEAST];
 
 #define RECORD(a) (a)->record, sizeof (a)->record
-#define BUFFERS first, sizeof first, second, sizeof second
+#define BUFFERS PEAT_BUFFERS(apdu, delivered)
 #define JOBS_MOST 10000000
 
 static void on_signal(int signal)
@@ -90,9 +90,9 @@ static uint64_t see_clearance(struct aircraft *a, const uint8_t *message, unsign
 }
 
 /* The message of what was delivered: all of it in type 2, else a part; its bits, or 0. */
-static unsigned message_in(const struct aircraft *a, const uint8_t *data, uint64_t answer, uint8_t *message)
+static unsigned message_in(const struct aircraft *a, const uint8_t *data, struct peat_answer answer, uint8_t *message)
 {
-    uint64_t part;
+    struct peat_part_answer part;
     if (peat_record_type(a->record) == PEAT_PLAIN) {
         memcpy(message, data, peat_data_bytes(answer));
         return peat_data_bits(answer);
@@ -101,7 +101,7 @@ static unsigned message_in(const struct aircraft *a, const uint8_t *data, uint64
     return peat_refusal(part) == PEAT_TAKEN ? peat_part_bits(part) : 0;
 }
 
-static void see(struct aircraft *a, const uint8_t *data, uint64_t answer)
+static void see(struct aircraft *a, const uint8_t *data, struct peat_answer answer)
 {
     uint8_t message[PEAT_BUFFER_LEAST];
     unsigned bits = message_in(a, data, answer, message);
@@ -129,7 +129,7 @@ static void see(struct aircraft *a, const uint8_t *data, uint64_t answer)
 
 static void lose(struct aircraft *a);
 
-static void act(struct aircraft *a, uint64_t answer)
+static void act(struct aircraft *a, struct peat_answer answer)
 {
     struct primitive p;
     if (peat_refusal(answer) != PEAT_TAKEN) {
@@ -137,13 +137,8 @@ static void act(struct aircraft *a, uint64_t answer)
         return;
     }
     if (peat_invoked(answer) != PEAT_SILENT && a->socket >= 0) {
-        p.kind = (uint8_t)peat_invoked(answer);
-        p.number = peat_record_number(a->record);
-        p.parameter = (uint8_t)peat_invoked_parameter(answer);
-        p.security = (uint8_t)peat_invoked_security(answer);
-        p.given = peat_apdu_bits(answer) > 0 ? PEAT_USER_DATA : PEAT_NO_USER_DATA;
-        p.bytes = peat_apdu_bytes(answer);
-        memcpy(p.data, first, p.bytes);
+        p.is = peat_primitive_of(answer, a->record);
+        memcpy(p.data, apdu, p.is.user_data_len);
         if (packet_send(a->socket, &p) != LINK_DONE)
             lose(a); /* the ground does not read: for this aircraft the carrier has failed */
     }
@@ -157,7 +152,7 @@ static void act(struct aircraft *a, uint64_t answer)
         account.opened += peat_told_parameter(answer) == PEAT_ACCEPTED;
         a->open = 0;
         break;
-    case PEAT_MESSAGE_INDICATION: see(a, second, answer); break;
+    case PEAT_MESSAGE_INDICATION: see(a, delivered, answer); break;
     case PEAT_END_INDICATION:
         account.ended++;
         act(a, peat_end_response(RECORD(a), PEAT_ACCEPTED, PEAT_NO_DATA, BUFFERS));
@@ -226,9 +221,9 @@ static void hear(struct aircraft *a)
             return;
         if (got == LINK_BROKEN) {
             lose(a);
-        } else if (peat_record_state(a->record) != PEAT_IDLE || p.kind == PEAT_D_START_REQUEST) {
-            act(a, primitive_arrives(&p, a->record, first, second));
-            if (p.kind == PEAT_D_DATA_REQUEST)
+        } else if (peat_record_state(a->record) != PEAT_IDLE || p.is.kind == PEAT_D_START_REQUEST) {
+            act(a, peat_hand_over(RECORD(a), p.is, PEAT_FACILITY, p.data, BUFFERS));
+            if (p.is.kind == PEAT_D_DATA_REQUEST)
                 fly(a);
         }
     }

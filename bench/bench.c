@@ -175,7 +175,11 @@ static void make_cases(void)
 
 static uint8_t rec[PEAT_RECORD_BYTES], first[ROOM], second[ROOM];
 static size_t left; /* bits or bytes that the call answered; for the card its whole answer */
-static uint64_t said;
+static struct peat_answer said;
+static struct peat_written_envelope said_sealed;
+static struct peat_envelope_answer said_unsealed;
+static struct peat_written_message said_written;
+static struct peat_message_answer said_read;
 static struct plain_data data_read;
 static struct plain_message message_read;
 static struct plain_envelope envelope_read;
@@ -223,25 +227,25 @@ static void card_user_abort(const struct job_case *c)
 static void card_sealed(const struct job_case *c)
 {
     const struct plain_envelope *e = &c->envelope;
-    said = peat_write_envelope(e->kind, e->job, e->bits, e->body, (e->bits + 7) / 8, RANGE(first));
+    said_sealed = peat_write_envelope(e->kind, e->job, e->bits, e->body, (e->bits + 7) / 8, RANGE(first));
 }
 
 static uint8_t laid_read[PEAT_INNER_BYTES];
 
 static void card_inner_written(const struct job_case *c)
 {
-    said = peat_write_message(PEAT_UPLINK, RANGE(c->laid), c->text, c->characters, RANGE(first));
+    said_written = peat_write_message(PEAT_UPLINK, RANGE(c->laid), c->text, c->characters, RANGE(first));
 }
 
 static void card_inner_read(const struct job_case *c)
 {
-    said = peat_read_message(PEAT_UPLINK, RANGE(c->inner), c->inner_bits, RANGE(laid_read), RANGE(second));
+    said_read = peat_read_message(PEAT_UPLINK, RANGE(c->inner), c->inner_bits, RANGE(laid_read), RANGE(second));
 }
 
 static void card_unsealed(const struct job_case *c)
 {
     uint8_t job[PEAT_JOB_BYTES];
-    said = peat_read_envelope(c->sealed, c->sealed_bytes, RANGE(job));
+    said_unsealed = peat_read_envelope(c->sealed, c->sealed_bytes, RANGE(job));
     envelope_read.job = peat_job_number(job);
 }
 
@@ -278,7 +282,7 @@ static void model_message_request(const struct job_case *c)
     static uint64_t job;
     static struct args a = {.rec = {RANGE(rec)}, .first = {RANGE(first)}, .second = {RANGE(second)}};
     a.n[0] = ++job;
-    said = model_call(MESSAGE_REQUEST, &a);
+    said.word = model_call(MESSAGE_REQUEST, &a);
     left = plain_write_send(first, ROOM, &c->data);
 }
 
@@ -286,7 +290,7 @@ static void model_d_data(const struct job_case *c)
 {
     static uint8_t least[] = {0x32, 0x00, 0x00}; /* a send: no identifier, a message of no bits, a check of none */
     static struct args a = {.rec = {RANGE(rec)}, .bytes = {RANGE(least)}, .first = {RANGE(first)}, .second = {RANGE(second)}, .given = 1};
-    said = model_call(D_DATA_INDICATION, &a);
+    said.word = model_call(D_DATA_INDICATION, &a);
     plain_apdu_delivered(c);
 }
 
@@ -295,7 +299,7 @@ static void model_user_abort(const struct job_case *c)
     static struct args a = {.rec = {RANGE(rec)}, .first = {RANGE(first)}, .second = {RANGE(second)}, .n = {PEAT_COMMANDED_TERMINATION}};
     (void)c;
     memcpy(rec, open_record, sizeof rec);
-    said = model_call(USER_ABORT, &a);
+    said.word = model_call(USER_ABORT, &a);
 }
 
 #ifndef WITHOUT_ASN1C
@@ -372,12 +376,12 @@ static int card_delivered(const struct job_case *c)
 }
 static int card_wrote_inner(const struct job_case *c)
 {
-    left = peat_message_bits(said);
-    return peat_refusal(said) == 0 && wrote_inner(c);
+    left = peat_message_bits(said_written);
+    return peat_refusal(said_written) == 0 && wrote_inner(c);
 }
 static int card_read_inner(const struct job_case *c)
 {
-    return peat_refusal(said) == 0 && peat_message_characters(said) == c->characters && memcmp(laid_read, c->laid, sizeof laid_read) == 0
+    return peat_refusal(said_read) == 0 && peat_message_characters(said_read) == c->characters && memcmp(laid_read, c->laid, sizeof laid_read) == 0
         && memcmp(second, c->text, c->characters) == 0;
 }
 static int laid_inner(const struct job_case *c)
@@ -386,14 +390,14 @@ static int laid_inner(const struct job_case *c)
 }
 static int card_wrote_sealed(const struct job_case *c)
 {
-    left = peat_written_bytes(said);
-    return peat_refusal(said) == 0 && wrote_sealed(c);
+    left = peat_written_bytes(said_sealed);
+    return peat_refusal(said_sealed) == 0 && wrote_sealed(c);
 }
 static int card_read_sealed(const struct job_case *c)
 {
-    envelope_read.kind = peat_envelope_kind(said), envelope_read.bits = peat_envelope_bits(said);
-    envelope_read.body = c->sealed + peat_envelope_body(said), left = peat_envelope_next(said);
-    return peat_refusal(said) == 0 && read_sealed(c);
+    envelope_read.kind = peat_envelope_kind(said_unsealed), envelope_read.bits = peat_envelope_bits(said_unsealed);
+    envelope_read.body = c->sealed + peat_envelope_body(said_unsealed), left = peat_envelope_next(said_unsealed);
+    return peat_refusal(said_unsealed) == 0 && read_sealed(c);
 }
 static int aborted(const struct job_case *c)
 {
@@ -501,7 +505,7 @@ static int call_rightly(const struct row *r)
     memset(first, 0xA5, sizeof first);
     memset(second, 0xA5, sizeof second);
     memset(&data_read, 0, sizeof data_read);
-    left = 0, said = 0;
+    left = 0, said.word = 0;
     if (r->before)
         r->before();
     measured(r);
@@ -589,7 +593,7 @@ static struct end ends[DIALOGUES][2];
 
 static void open_dialogue(struct end *air, struct end *ground)
 {
-    uint64_t n;
+    struct peat_answer n;
     peat_fresh(RANGE(air->rec), PEAT_AIR, PEAT_NO_SECURITY, PEAT_FORWARDS_NOT, 1, PEAT_PROTECTED);
     peat_fresh(RANGE(ground->rec), PEAT_GROUND, PEAT_NO_SECURITY, PEAT_FORWARDS_NOT, 1, PEAT_PROTECTED);
     n = peat_start(RANGE(air->rec), 1, PEAT_CPDLC, PEAT_CLASS_ANY, PEAT_NO_SECURITY, PEAT_NO_DATA, END_RANGES(air));
@@ -605,7 +609,7 @@ static void open_dialogue(struct end *air, struct end *ground)
 static void exchange(struct end *from, struct end *to, uint64_t job)
 {
     const struct plain_data *d = &cases[TYPICAL].data;
-    uint64_t n = peat_message_request(RANGE(from->rec), job, NULL, 0, RANGE(d->message), d->message_bits, RANGE(d->check), d->check_bits,
+    struct peat_answer n = peat_message_request(RANGE(from->rec), job, NULL, 0, RANGE(d->message), d->message_bits, RANGE(d->check), d->check_bits,
         END_RANGES(from));
     n = peat_d_data_indication(RANGE(to->rec), 1, PEAT_USER_DATA, from->first, peat_apdu_bytes(n), END_RANGES(to));
     if (peat_told(n) != PEAT_MESSAGE_INDICATION)

@@ -7,25 +7,32 @@
 #define BOOK book, PEAT_BOOK_BYTES
 
 /* The book is the bridge's own, and was looked at when it was loaded. */
-static uint64_t must(const char *call, uint64_t answer, unsigned allowed)
+static unsigned must(const char *call, unsigned refusal, unsigned allowed)
 {
-    unsigned refusal = peat_refusal(answer);
     if (refusal != PEAT_TAKEN && refusal != allowed)
         log_and_exit(EXIT_JOURNAL, "card", call, "the book is refused");
-    return answer;
+    return refusal;
 }
 
-void book_empty(uint8_t *book) { must("peat_book_empty", peat_book_empty(BOOK), PEAT_TAKEN); }
+void book_empty(uint8_t *book) { must("peat_book_empty", peat_refusal(peat_book_empty(BOOK)), PEAT_TAKEN); }
 
-unsigned book_open_numbers(const uint8_t *book) { return peat_open_count(must("peat_book_count", peat_book_count(BOOK), PEAT_TAKEN)); }
+unsigned book_open_numbers(const uint8_t *book)
+{
+    struct peat_count_answer answer = peat_book_count(BOOK);
+    must("peat_book_count", peat_refusal(answer), PEAT_TAKEN);
+    return peat_open_count(answer);
+}
 
 unsigned book_open(uint8_t *book, uint64_t job)
 {
-    uint64_t answer = must("peat_book_open", peat_book_open(BOOK, job), PEAT_ALL_OPEN);
-    return peat_refusal(answer) == PEAT_TAKEN ? peat_opened_number(answer) : BOOK_NONE;
+    struct peat_open_answer answer = peat_book_open(BOOK, job);
+    return must("peat_book_open", peat_refusal(answer), PEAT_ALL_OPEN) == PEAT_TAKEN ? peat_opened_number(answer) : BOOK_NONE;
 }
 
-int book_close(uint8_t *book, unsigned number) { return peat_refusal(must("peat_book_close", peat_book_close(BOOK, number), PEAT_NOT_OPEN)) == PEAT_TAKEN; }
+int book_close(uint8_t *book, unsigned number)
+{
+    return must("peat_book_close", peat_refusal(peat_book_close(BOOK, number)), PEAT_NOT_OPEN) == PEAT_TAKEN;
+}
 
 /* The card gives the lowest free number: those below the wanted one are opened on the way, and closed again. */
 unsigned book_open_this(uint8_t *book, uint64_t job, unsigned number)

@@ -15,17 +15,18 @@
 #include "log.h"
 #include "mail.h"
 #include "message.h"
+#include "peatribbon_names.h"
 
-uint8_t call_first[PEAT_BUFFER_LEAST], call_second[PEAT_BUFFER_LEAST];
+uint8_t call_apdu[PEAT_BUFFER_LEAST], call_data[PEAT_BUFFER_LEAST];
 
 #define CLOSE_MS 1000 /* how long a dialogue that is over waits for room on its connection */
 
 /* The card refuses what it can not refuse: then nothing is known any more, and nothing of this batch may leave. */
-static void the_card_refuses(const char *call, uint64_t answer)
+static void the_card_refuses(const char *call, unsigned refusal)
 {
-    char refusal[40];
-    snprintf(refusal, sizeof refusal, "it is refused with %u", peat_refusal(answer));
-    log_and_exit(EXIT_JOURNAL, "card", call, refusal);
+    char words[40];
+    snprintf(words, sizeof words, "it is refused with %u", refusal);
+    log_and_exit(EXIT_JOURNAL, "card", call, words);
 }
 
 /* ---- letters */
@@ -47,9 +48,9 @@ static void post_envelope(
     struct bridge *b, const struct dialogue *d, const char *type, const char *heads, unsigned kind, uint64_t job, unsigned bits, const uint8_t *body)
 {
     uint8_t e[PEAT_BUFFER_LEAST];
-    uint64_t written = peat_write_envelope(kind, job, bits, body, (bits + 7u) / 8u, e, sizeof e);
+    struct peat_written_envelope written = peat_write_envelope(kind, job, bits, body, (bits + 7u) / 8u, e, sizeof e);
     if (peat_refusal(written) != PEAT_TAKEN)
-        the_card_refuses("peat_write_envelope", written);
+        the_card_refuses("peat_write_envelope", peat_refusal(written));
     post(b, d, type, "", heads, e, peat_written_bytes(written));
 }
 
@@ -103,7 +104,7 @@ static void decide(struct bridge *b, struct dialogue *d, uint64_t job, unsigned 
 
 /* ---- what an answer asks for */
 
-static void enqueue(struct dialogue *d, uint64_t answer)
+static void enqueue(struct dialogue *d, struct peat_answer answer)
 {
     struct queue *q = &d->out;
     struct primitive *p;
@@ -113,14 +114,8 @@ static void enqueue(struct dialogue *d, uint64_t answer)
     }
     q->item = grow(q->item, &q->room, q->oldest + q->count + 1, sizeof *q->item);
     p = &q->item[q->oldest + q->count++];
-    p->kind = (uint8_t)peat_invoked(answer);
-    p->number = peat_record_number(d->kept.record);
-    p->version = (uint8_t)peat_version(answer);
-    p->parameter = (uint8_t)peat_invoked_parameter(answer);
-    p->security = (uint8_t)peat_invoked_security(answer);
-    p->given = peat_apdu_bits(answer) > 0 ? PEAT_USER_DATA : PEAT_NO_USER_DATA;
-    p->bytes = peat_apdu_bytes(answer);
-    memcpy(p->data, call_first, p->bytes);
+    p->is = peat_primitive_of(answer, d->kept.record);
+    memcpy(p->data, call_apdu, p->is.user_data_len);
 }
 
 void call_add_head(char *heads, const char *name, const char *value)
@@ -137,12 +132,11 @@ void call_add_number(char *heads, const char *name, uint64_t number)
 }
 
 /* A refusal by its name, and the bit where bits are at fault. */
-void call_add_refusal(char *heads, uint64_t answer)
+void call_add_refusal(char *heads, struct verdict v)
 {
-    unsigned refusal = peat_refusal(answer);
-    call_add_head(heads, "x-peat-refusal", peat_refusal_name(refusal));
-    if (refusal >= PEAT_SHORT && refusal <= PEAT_DEFAULT)
-        call_add_number(heads, "x-peat-bit", peat_position(answer));
+    call_add_head(heads, "x-peat-refusal", peat_refusal_name(v.refusal));
+    if (v.refusal >= PEAT_SHORT && v.refusal <= PEAT_DEFAULT)
+        call_add_number(heads, "x-peat-bit", v.position);
 }
 
 /* What a message that came down says of itself: its number, the job that it replies to, whose number it may close, and all of it as JSON. It is
@@ -151,9 +145,10 @@ static void describe(struct bridge *b, struct dialogue *d, const uint8_t *bits, 
 {
     static struct message m;
     static char json[MESSAGE_JSON];
-    uint64_t answer = message_read(&m, PEAT_DOWNLINK, bits, count), job;
-    if (peat_refusal(answer) != PEAT_TAKEN) {
-        call_add_refusal(heads, answer);
+    struct verdict v = VERDICT(message_read(&m, PEAT_DOWNLINK, bits, count));
+    uint64_t job;
+    if (v.refusal != PEAT_TAKEN) {
+        call_add_refusal(heads, v);
         return;
     }
     call_add_number(heads, "x-peat-number", message_number(&m));
@@ -183,22 +178,22 @@ static void pass_message(struct bridge *b, struct dialogue *d, const uint8_t *me
 }
 
 /* Message data came down: in type 2 they are the message, in type 22 it is one of their parts. */
-static void pass_on(struct bridge *b, struct dialogue *d, uint64_t answer)
+static void pass_on(struct bridge *b, struct dialogue *d, struct peat_answer answer)
 {
     static char heads[HEADS_OF_LETTER];
     uint8_t message[PEAT_BUFFER_LEAST];
-    uint64_t part;
+    struct peat_part_answer part;
     heads[0] = '\0';
     if (peat_record_type(d->kept.record) == PEAT_PLAIN) {
-        pass_message(b, d, call_second, peat_data_bits(answer), heads);
+        pass_message(b, d, call_data, peat_data_bits(answer), heads);
         return;
     }
-    part = peat_data_part(PEAT_PART_MESSAGE, call_second, peat_data_bytes(answer), message, sizeof message);
+    part = peat_data_part(PEAT_PART_MESSAGE, call_data, peat_data_bytes(answer), message, sizeof message);
     if (peat_refusal(part) != PEAT_TAKEN)
-        the_card_refuses("peat_data_part", part);
+        the_card_refuses("peat_data_part", peat_refusal(part));
     if (!peat_part_given(part))
         return; /* a start or an end without one */
-    given_write(call_second, peat_data_bytes(answer), heads, sizeof heads);
+    given_write(call_data, peat_data_bytes(answer), heads, sizeof heads);
     pass_message(b, d, message, peat_part_bits(part), heads);
 }
 
@@ -252,7 +247,7 @@ static void opened(struct bridge *b, struct dialogue *d)
     log_line(LOG_INFO, "opened", ABOUT(d), NUMBER("run", d->kept.run));
 }
 
-unsigned call_act(struct bridge *b, struct dialogue *d, unsigned before, uint64_t answer, const char *why)
+unsigned call_act(struct bridge *b, struct dialogue *d, unsigned before, struct peat_answer answer, const char *why)
 {
     int ended;
     if (peat_refusal(answer) != PEAT_TAKEN)
@@ -309,10 +304,10 @@ void call_start(struct bridge *b, struct dialogue *d)
     day_keeps(d, "starts-cpdlc %llu", (unsigned long long)peat_record_number(d->kept.record));
 }
 
-void call_must(struct bridge *b, struct dialogue *d, const char *call, uint64_t answer, const char *why, unsigned before)
+void call_must(struct bridge *b, struct dialogue *d, const char *call, struct peat_answer answer, const char *why, unsigned before)
 {
     if (call_act(b, d, before, answer, why) != PEAT_TAKEN)
-        the_card_refuses(call, answer);
+        the_card_refuses(call, peat_refusal(answer));
 }
 
 void call_end(struct bridge *b, struct dialogue *d)
@@ -384,9 +379,9 @@ void call_failure(struct bridge *b, struct dialogue *d, const char *why)
    the one that was given is nobody's. Neither reaches the record. */
 static int unexpected(const struct bridge *b, const struct dialogue *d, const struct primitive *p)
 {
-    if (p->kind == PEAT_D_START_REQUEST && b->config->starts[d->number] != STARTS_GROUND)
-        return p->number > peat_record_number(d->kept.record) && p->number - peat_record_number(d->kept.record) > START_JUMP;
-    return p->kind == PEAT_D_START_REQUEST || p->number > peat_record_number(d->kept.record);
+    if (p->is.kind == PEAT_D_START_REQUEST && b->config->starts[d->number] != STARTS_GROUND)
+        return p->is.number > peat_record_number(d->kept.record) && p->is.number - peat_record_number(d->kept.record) > START_JUMP;
+    return p->is.kind == PEAT_D_START_REQUEST || p->is.number > peat_record_number(d->kept.record);
 }
 
 void call_turn_away(struct bridge *b, struct dialogue *d, const struct primitive *p, const char *why)
@@ -395,7 +390,7 @@ void call_turn_away(struct bridge *b, struct dialogue *d, const struct primitive
     d->unexpected++;
     if (now_ms() < d->unexpected_at)
         return;
-    log_line(LOG_WARN, "unexpected primitive", ABOUT(d), NUMBER("primitive", p->kind), NUMBER("number", p->number), NUMBER("ours", peat_record_number(d->kept.record)),
+    log_line(LOG_WARN, "unexpected primitive", ABOUT(d), NUMBER("primitive", p->is.kind), NUMBER("number", p->is.number), NUMBER("ours", peat_record_number(d->kept.record)),
         NUMBER("times", d->unexpected), TEXT("why", why));
     d->unexpected = 0;
     d->unexpected_at = now_ms() + UNEXPECTED_MS;
@@ -404,17 +399,17 @@ void call_turn_away(struct bridge *b, struct dialogue *d, const struct primitive
 void call_primitive(struct bridge *b, struct dialogue *d, const struct primitive *p)
 {
     unsigned before = state_of(d), refusal;
-    uint64_t answer;
+    struct peat_answer answer;
     b->metrics.received++;
     if (unexpected(b, d, p)) {
-        call_turn_away(b, d, p, p->kind == PEAT_D_START_REQUEST ? "the aircraft starts a dialogue" : "its number was never given");
+        call_turn_away(b, d, p, p->is.kind == PEAT_D_START_REQUEST ? "the aircraft starts a dialogue" : "its number was never given");
         return;
     }
-    if (before == PEAT_IDLE && p->kind != PEAT_D_START_REQUEST) {
-        day_hears(d, p, PEAT_STALE);
+    if (before == PEAT_IDLE && p->is.kind != PEAT_D_START_REQUEST) {
+        day_hears(d, p, (struct peat_answer){PEAT_STALE});
         return;
     }
-    answer = primitive_arrives(p, d->kept.record, call_first, call_second);
+    answer = peat_hand_over(RECORD(d), p->is, PEAT_AIRCRAFT, p->data, BUFFERS);
     day_hears(d, p, answer);
     refusal = call_act(b, d, before, answer, "abort");
     if (refusal == PEAT_STALE)
@@ -435,21 +430,20 @@ static void note_refusal(struct dialogue *d, uint64_t job)
     day_tells(d, "refused", job);
 }
 
-/* By the card's answer: the letter has its number, its name, and the bit. */
-void call_refused(struct bridge *b, struct dialogue *d, uint64_t job, uint64_t answer)
+/* By the card's verdict: the letter has its number, its name, and the bit. */
+void call_refused(struct bridge *b, struct dialogue *d, uint64_t job, struct verdict v)
 {
     static char heads[HEADS_OF_LETTER];
-    unsigned refusal = peat_refusal(answer);
-    uint8_t number = (uint8_t)refusal;
+    uint8_t number = (uint8_t)v.refusal;
     heads[0] = '\0';
-    call_add_refusal(heads, answer);
-    b->metrics.refused[refusal]++;
-    d->shown.refusal = refusal;
+    call_add_refusal(heads, v);
+    b->metrics.refused[v.refusal]++;
+    d->shown.refusal = v.refusal;
     d->shown.refused_job = job;
     d->shown.refused_at = wall_ms();
-    b->metrics.overtaken += refusal == PEAT_REPEAT; /* it is not decided, so it was never sent: a later job was */
-    log_line(LOG_INFO, "refused", ABOUT(d), NUMBER("job", job), NUMBER("refusal", refusal));
-    decide(b, d, job, refusal);
+    b->metrics.overtaken += v.refusal == PEAT_REPEAT; /* it is not decided, so it was never sent: a later job was */
+    log_line(LOG_INFO, "refused", ABOUT(d), NUMBER("job", job), NUMBER("refusal", v.refusal));
+    decide(b, d, job, v.refusal);
     note_refusal(d, job);
     post_envelope(b, d, "refused", heads, PEAT_ENVELOPE_REFUSAL, job, 8, &number);
 }
@@ -470,26 +464,26 @@ struct offer {
 };
 
 /* The message is read, and gets its number from the book: it stands there when the card has taken the job. A message with an integrity check
-   keeps its own, since the check is made over it. The card's answer; *why: it is laid aside with this reason. */
-static uint64_t number_message(struct dialogue *d, const struct envelope *e, const char *heads, struct offer *o, const char **why)
+   keeps its own, since the check is made over it. The card's verdict; *why: it is laid aside with this reason. */
+static struct verdict number_message(struct dialogue *d, const struct envelope *e, const char *heads, struct offer *o, const char **why)
 {
     static struct message m;
-    uint64_t answer = message_read(&m, PEAT_UPLINK, e->body, e->bits);
+    struct verdict v = VERDICT(message_read(&m, PEAT_UPLINK, e->body, e->bits));
     int own = o->data.check_bits > 0, closes;
     char response[8];
     unsigned number;
     size_t length;
-    if (peat_refusal(answer) != PEAT_TAKEN)
-        return answer;
+    if (v.refusal != PEAT_TAKEN)
+        return v;
     closes = heads_take(heads, "x-peat-response", response, sizeof response) && strcmp(response, "none") == 0;
     if (!closes && heads_find(heads, "x-peat-response", &length) != NULL) {
         *why = "headers";
-        return PEAT_TAKEN;
+        return v;
     }
     number = own ? book_open_this(o->book, e->job, message_number(&m)) : book_open(o->book, e->job);
     if (number == BOOK_NONE) {
         *why = "number";
-        return PEAT_TAKEN;
+        return v;
     }
     if (!own) {
         o->data.message_bits = message_write(&m, number, o->out);
@@ -498,7 +492,7 @@ static uint64_t number_message(struct dialogue *d, const struct envelope *e, con
     }
     if (closes)
         memcpy(o->book, d->kept.book, sizeof o->book); /* it allows no reply, so the number is in use until the message is sent (Doc 9705, 2.3.7.4.2.2) */
-    return PEAT_TAKEN;
+    return v;
 }
 
 void call_taken(struct bridge *b, struct dialogue *d, uint64_t job)
@@ -510,25 +504,31 @@ void call_taken(struct bridge *b, struct dialogue *d, uint64_t job)
     log_line(LOG_FINE, "taken", ABOUT(d), NUMBER("job", job));
 }
 
+static struct verdict request(struct bridge *b, struct dialogue *d, uint64_t job, const struct peat_data *data)
+{
+    struct peat_answer answer = peat_message_request(RECORD(d), job, PEAT_DATA(*data), BUFFERS);
+    call_act(b, d, state_of(d), answer, "");
+    return VERDICT(answer);
+}
+
 static void offer(struct bridge *b, struct dialogue *d, const struct envelope *e, const char *heads, const struct given *g, const char **why)
 {
     static struct offer o;
-    uint64_t answer;
-    unsigned refusal;
+    struct verdict v = {PEAT_TAKEN, 0};
     o.data = (struct peat_data){.identifier = g->identifier, .identifier_len = g->identifier_len, .message = e->body, .message_len = (e->bits + 7u) / 8u,
         .message_bits = e->bits, .check = g->check, .check_len = (g->check_bits + 7u) / 8u, .check_bits = g->check_bits};
     memcpy(o.book, d->kept.book, sizeof o.book);
-    answer = b->config->opaque ? PEAT_TAKEN : number_message(d, e, heads, &o, why);
+    if (!b->config->opaque)
+        v = number_message(d, e, heads, &o, why);
     if (*why != NULL)
         return;
-    if (peat_refusal(answer) == PEAT_TAKEN)
-        answer = peat_message_request(RECORD(d), e->job, PEAT_DATA(o.data), BUFFERS);
-    refusal = call_act(b, d, state_of(d), answer, "");
-    if (refusal == PEAT_TAKEN) {
+    if (v.refusal == PEAT_TAKEN)
+        v = request(b, d, e->job, &o.data);
+    if (v.refusal == PEAT_TAKEN) {
         memcpy(d->kept.book, o.book, sizeof o.book);
         call_taken(b, d, e->job);
     } else {
-        call_refused(b, d, e->job, answer);
+        call_refused(b, d, e->job, v);
     }
 }
 

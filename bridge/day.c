@@ -208,10 +208,10 @@ void day_loses(struct dialogue *d)
 }
 
 /* The end that was asked for is confirmed: the jobs are told as ended with it. */
-static const char *word_of(const struct primitive *p, uint64_t answer)
+static const char *word_of(const struct primitive *p, struct peat_answer answer)
 {
-    int accepted = p->parameter == PEAT_ACCEPTED;
-    switch (p->kind) {
+    int accepted = p->is.parameter == PEAT_ACCEPTED;
+    switch (p->is.kind) {
     case PEAT_D_START_REQUEST: return "start";
     case PEAT_D_START_RESPONSE: return accepted ? "start-accepted" : "start-rejected";
     case PEAT_D_DATA_REQUEST: return "data";
@@ -224,10 +224,10 @@ static const char *word_of(const struct primitive *p, uint64_t answer)
     }
 }
 
-void day_hears(struct dialogue *d, const struct primitive *p, uint64_t answer)
+void day_hears(struct dialogue *d, const struct primitive *p, struct peat_answer answer)
 {
     int taken = peat_refusal(answer) == PEAT_TAKEN;
-    day_keeps(d, "hears-%s %llu%s", word_of(p, answer), (unsigned long long)p->number, taken && peat_invoked(answer) == PEAT_D_ABORT_REQUEST ? " aborts" : "");
+    day_keeps(d, "hears-%s %llu%s", word_of(p, answer), (unsigned long long)p->is.number, taken && peat_invoked(answer) == PEAT_D_ABORT_REQUEST ? " aborts" : "");
     if (taken && peat_told(answer) == PEAT_MESSAGE_INDICATION)
         day_keeps(d, "shows"); /* its letter is kept in the same commit */
 }

@@ -10,8 +10,7 @@
 #ifndef DAY_H
 #define DAY_H
 
-#include <stddef.h>
-#include <stdint.h>
+#include "peatribbon.h"
 
 struct bridge;
 struct dialogue;
@@ -45,7 +44,7 @@ void day_meets(struct dialogue *);
 void day_loses(struct dialogue *);
 
 /* A primitive reaches the record, or a record that is IDLE; the card's answer. */
-void day_hears(struct dialogue *, const struct primitive *, uint64_t answer);
+void day_hears(struct dialogue *, const struct primitive *, struct peat_answer);
 
 /* An envelope was read and decided; its payload was read to its end; it is acknowledged; it comes again. */
 void day_reads(struct dialogue *, uint64_t job);

@@ -8,6 +8,7 @@
 #include "clock.h"
 #include "heading.h"
 #include "log.h"
+#include "peatribbon_names.h"
 
 #define PRIMITIVES 64                   /* of a place in a round, at most */
 #define CLOSE_MS 1000                   /* how long a connection that is given up waits for its last primitive to go */
@@ -28,7 +29,7 @@ uint64_t forward_at(struct bridge *b, const struct dialogue *d)
 
 /* ---- forwarding */
 
-static uint64_t request(struct dialogue *d, const struct heading *h, const struct envelope *e)
+static struct peat_answer request(struct dialogue *d, const struct heading *h, const struct envelope *e)
 {
     const uint64_t *p = h->part;
     return peat_forward_request(RECORD(d), call_next_number(d), PEAT_CLASS_ANY, PEAT_NO_SECURITY, p[PEAT_FORWARD_YEAR], p[PEAT_FORWARD_MONTH], p[PEAT_FORWARD_DAY],
@@ -40,11 +41,11 @@ void forward_offer(struct bridge *b, struct dialogue *d, const struct envelope *
 {
     static struct message m;
     struct heading h;
-    uint64_t answer = PEAT_TAKEN;
+    struct verdict v = {PEAT_TAKEN, 0};
     int good = heading_read(&h, heads);
     if (good && !b->config->opaque) {
-        answer = message_read(&m, heading_direction(&h), e->body, e->bits);
-        if (peat_refusal(answer) == PEAT_TAKEN)
+        v = VERDICT(message_read(&m, heading_direction(&h), e->body, e->bits));
+        if (v.refusal == PEAT_TAKEN)
             heading_date(&h, &m);
         else
             h.composed = 1;
@@ -54,11 +55,14 @@ void forward_offer(struct bridge *b, struct dialogue *d, const struct envelope *
         return;
     }
     d->kept.run++;
-    if (peat_refusal(answer) == PEAT_TAKEN)
-        answer = request(d, &h, e);
-    if (call_act(b, d, PEAT_IDLE, answer, "") != PEAT_TAKEN) {
+    if (v.refusal == PEAT_TAKEN) {
+        struct peat_answer answer = request(d, &h, e);
+        v = VERDICT(answer);
+        call_act(b, d, PEAT_IDLE, answer, "");
+    }
+    if (v.refusal != PEAT_TAKEN) {
         d->kept.run--; /* it did not happen */
-        call_refused(b, d, e->job, answer);
+        call_refused(b, d, e->job, v);
         return;
     }
     call_taken(b, d, e->job);
@@ -81,7 +85,7 @@ static void tell(struct bridge *b, struct dialogue *d, const char *type, const c
 }
 
 /* The answer, or that there will be none. A connection on which something went wrong is made anew. */
-static void over(struct bridge *b, struct dialogue *d, uint64_t answer, const char *why)
+static void over(struct bridge *b, struct dialogue *d, struct peat_answer answer, const char *why)
 {
     unsigned result = peat_told_parameter(answer);
     if (peat_told(answer) == PEAT_FORWARD_CONFIRMATION && result <= PEAT_VERSION_NOT_EQUAL) {
@@ -98,7 +102,7 @@ static void over(struct bridge *b, struct dialogue *d, uint64_t answer, const ch
 
 /* ---- getting forwards */
 
-static void deliver(struct bridge *b, struct dialogue *d, uint64_t answer)
+static void deliver(struct bridge *b, struct dialogue *d, struct peat_answer answer)
 {
     static char heads[HEADS_OF_LETTER], json[MESSAGE_JSON];
     static struct message m;
@@ -108,11 +112,11 @@ static void deliver(struct bridge *b, struct dialogue *d, uint64_t answer)
     heads[0] = '\0';
     config_centre(b->config, place_centre(d->number), name);
     call_add_head(heads, "x-peat-facility", name);
-    bits = heading_write(call_second, peat_data_bytes(answer), heads, message);
+    bits = heading_write(call_data, peat_data_bytes(answer), heads, message);
     if (!b->config->opaque) {
-        uint64_t read = message_read(&m, strstr(heads, "=downlink\n") != NULL ? PEAT_DOWNLINK : PEAT_UPLINK, message, bits);
-        if (peat_refusal(read) != PEAT_TAKEN) {
-            call_add_refusal(heads, read);
+        struct verdict v = VERDICT(message_read(&m, strstr(heads, "=downlink\n") != NULL ? PEAT_DOWNLINK : PEAT_UPLINK, message, bits));
+        if (v.refusal != PEAT_TAKEN) {
+            call_add_refusal(heads, v);
         } else if (b->config->delivered_json) {
             message_json(&m, json, sizeof json);
             call_add_head(heads, "x-peat-json", json);
@@ -122,7 +126,7 @@ static void deliver(struct bridge *b, struct dialogue *d, uint64_t answer)
     call_delivered(b, d, "incoming", heads, bits, message);
 }
 
-void forward_act(struct bridge *b, struct dialogue *d, unsigned before, uint64_t answer, const char *why)
+void forward_act(struct bridge *b, struct dialogue *d, unsigned before, struct peat_answer answer, const char *why)
 {
     if (peat_told(answer) == PEAT_FORWARD_INDICATION)
         deliver(b, d, answer);
@@ -134,7 +138,7 @@ void forward_act(struct bridge *b, struct dialogue *d, unsigned before, uint64_t
 
 static void arrives(struct bridge *b, struct dialogue *d, const struct primitive *p)
 {
-    unsigned before = state_of(d), refusal = call_act(b, d, before, primitive_arrives_centre(p, d->kept.record, call_first, call_second), "abort");
+    unsigned before = state_of(d), refusal = call_act(b, d, before, peat_hand_over(RECORD(d), p->is, PEAT_FACILITY, p->data, BUFFERS), "abort");
     if (refusal == PEAT_STALE)
         b->metrics.stale++; /* of an old forward: it changes nothing */
     else if (refusal != PEAT_TAKEN)
@@ -143,7 +147,7 @@ static void arrives(struct bridge *b, struct dialogue *d, const struct primitive
 
 static void hear_answer(struct bridge *b, struct dialogue *d, const struct primitive *p)
 {
-    if (p->number > peat_record_number(d->kept.record) || (p->kind != PEAT_D_START_RESPONSE && p->kind != PEAT_D_ABORT_REQUEST))
+    if (p->is.number > peat_record_number(d->kept.record) || (p->is.kind != PEAT_D_START_RESPONSE && p->is.kind != PEAT_D_ABORT_REQUEST))
         call_turn_away(b, d, p, "it answers no forward of this centre");
     else if (state_of(d) != PEAT_IDLE)
         arrives(b, d, p);
@@ -156,9 +160,9 @@ static void hear_forward(struct bridge *b, struct dialogue *d, const struct prim
     unsigned state;
     char name[FACILITY_MOST + 1];
     config_centre(b->config, place_centre(d->number), name);
-    if (p->kind == PEAT_D_ABORT_REQUEST)
+    if (p->is.kind == PEAT_D_ABORT_REQUEST)
         return; /* the other centre has given up, and its user is told */
-    if (p->kind != PEAT_D_START_REQUEST || strcmp(p->facility, name) != 0 || (p->number > ours && p->number - ours > NUMBER_JUMP)) {
+    if (p->is.kind != PEAT_D_START_REQUEST || strcmp(p->facility, name) != 0 || (p->is.number > ours && p->is.number - ours > NUMBER_JUMP)) {
         call_turn_away(b, d, p, "it is no forward, of another facility, or far ahead");
         return;
     }

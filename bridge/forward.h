@@ -21,7 +21,7 @@ int forward_ready(struct bridge *, const struct dialogue *);
 /* Offers a job to the card. *why: it is laid aside with this reason. */
 void forward_offer(struct bridge *, struct dialogue *, const struct envelope *, const char *heads, const char **why);
 /* What the answer of a call on such a record asks for, beside its primitive. */
-void forward_act(struct bridge *, struct dialogue *, unsigned before, uint64_t answer, const char *why);
+void forward_act(struct bridge *, struct dialogue *, unsigned before, struct peat_answer answer, const char *why);
 
 /* when it is to be looked at again; 0: when something comes */
 uint64_t forward_at(struct bridge *, const struct dialogue *);

@@ -77,7 +77,7 @@ static void write_part(unsigned part, const char *name, const uint8_t *delivered
 {
     uint8_t out[PEAT_BUFFER_LEAST];
     char text[2 * PEAT_IDENTIFIER_MOST + 16];
-    uint64_t answer = peat_data_part(part, delivered, bytes, out, sizeof out);
+    struct peat_part_answer answer = peat_data_part(part, delivered, bytes, out, sizeof out);
     size_t used = 0, i;
     if (peat_refusal(answer) != PEAT_TAKEN)
         log_and_exit(EXIT_JOURNAL, "card", "peat_data_part", "message data that were delivered are refused");

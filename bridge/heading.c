@@ -88,7 +88,7 @@ unsigned heading_direction(const struct heading *h) { return h->part[PEAT_FORWAR
 
 static uint64_t part_of(unsigned which, const uint8_t *delivered, size_t bytes, uint8_t *out)
 {
-    uint64_t answer = peat_forward_part(which, delivered, bytes, out, PEAT_BUFFER_LEAST);
+    struct peat_forward_answer answer = peat_forward_part(which, delivered, bytes, out, PEAT_BUFFER_LEAST);
     if (peat_refusal(answer) != PEAT_TAKEN)
         log_and_exit(EXIT_JOURNAL, "card", "peat_forward_part", "a forward message that was delivered is refused");
     return peat_forward_value(answer);

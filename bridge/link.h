@@ -16,17 +16,11 @@
 
 #include "peatribbon.h"
 
-/* A primitive of the dialogue service, as one end invokes it. */
+/* A primitive of the dialogue service, as one end invokes it, and its user data. */
 struct primitive {
-    uint8_t kind;      /* enum peat_invoked */
-    uint8_t parameter; /* routing class, result or originator */
-    uint8_t security;
-    uint8_t given;     /* enum peat_given */
-    uint64_t number;   /* of the dialogue */
-    uint8_t version;   /* of a D-START between centres; PEAT_NO_VERSION: none */
-    char facility[9];  /* who sent it, between centres: its designation; else empty */
+    struct peat_primitive is;
+    char facility[9]; /* who sent it, between centres: its designation; else empty */
     uint8_t data[PEAT_BUFFER_LEAST];
-    size_t bytes;      /* of data */
 };
 
 enum link_answer {
@@ -62,7 +56,7 @@ void link_open_packet(struct link *, const struct config *);
 struct sockaddr_un;
 int packet_socket(const char *path, unsigned dialogue, struct sockaddr_un *address);
 
-/* A primitive as a packet: kind, parameter, security and given in a byte each, the dialogue number in eight, the most significant
+/* A primitive as a packet: kind, parameter, security and whether it has user data in a byte each, the dialogue number in eight, the most significant
    first, then the user data. Both ends use these. */
 enum link_answer packet_send(int socket, const struct primitive *);
 enum link_answer packet_receive(int socket, struct primitive *);
@@ -70,11 +64,5 @@ enum link_answer packet_receive(int socket, struct primitive *);
 /* Between centres: behind the number the version in a byte, and the sender's designation in eight, filled up with zeros. */
 enum link_answer packet_send_centre(int socket, const struct primitive *);
 enum link_answer packet_receive_centre(int socket, struct primitive *);
-
-/* ---- what a primitive that arrives tells a record: the answer of the card's call */
-
-uint64_t primitive_arrives(const struct primitive *, uint8_t *record, uint8_t *first, uint8_t *second);
-/* from another centre */
-uint64_t primitive_arrives_centre(const struct primitive *, uint8_t *record, uint8_t *first, uint8_t *second);
 
 #endif

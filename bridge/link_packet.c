@@ -26,16 +26,16 @@ static enum link_answer failed(void)
 /* `more`: PACKET_MORE between centres, else 0 */
 static enum link_answer send_packet(int socket, const struct primitive *p, size_t more)
 {
-    uint8_t packet[PACKET_HEAD + PACKET_MORE + PEAT_BUFFER_LEAST] = {p->kind, p->parameter, p->security, p->given};
+    uint8_t packet[PACKET_HEAD + PACKET_MORE + PEAT_BUFFER_LEAST] = {(uint8_t)p->is.kind, (uint8_t)p->is.parameter, (uint8_t)p->is.security, (uint8_t)p->is.has_user_data};
     unsigned i;
     for (i = 0; i < 8; i++)
-        packet[PACKET_CODES + i] = (uint8_t)(p->number >> (56 - 8 * i));
+        packet[PACKET_CODES + i] = (uint8_t)(p->is.number >> (56 - 8 * i));
     if (more > 0) {
-        packet[PACKET_HEAD] = p->version;
+        packet[PACKET_HEAD] = (uint8_t)p->is.version;
         memcpy(packet + PACKET_HEAD + 1, p->facility, PACKET_FACILITY);
     }
-    memcpy(packet + PACKET_HEAD + more, p->data, p->bytes);
-    return send(socket, packet, PACKET_HEAD + more + p->bytes, MSG_DONTWAIT | MSG_NOSIGNAL) < 0 ? failed() : LINK_DONE;
+    memcpy(packet + PACKET_HEAD + more, p->data, p->is.user_data_len);
+    return send(socket, packet, PACKET_HEAD + more + p->is.user_data_len, MSG_DONTWAIT | MSG_NOSIGNAL) < 0 ? failed() : LINK_DONE;
 }
 
 /* A packet that is too short or too long is none of ours: the connection is broken. */
@@ -49,15 +49,15 @@ static enum link_answer receive_packet(int socket, struct primitive *p, size_t m
     if ((size_t)n < head || (size_t)n == head + PEAT_BUFFER_LEAST + 1)
         return LINK_BROKEN;
     memset(p->facility, 0, sizeof p->facility);
-    p->kind = packet[0];
-    p->parameter = packet[1];
-    p->security = packet[2];
-    p->given = packet[3];
-    p->number = peat_eight_bytes(packet + PACKET_CODES);
-    p->version = more > 0 ? packet[PACKET_HEAD] : PEAT_NO_VERSION;
+    p->is.kind = packet[0];
+    p->is.parameter = packet[1];
+    p->is.security = packet[2];
+    p->is.has_user_data = packet[3];
+    p->is.number = peat_eight_bytes(packet + PACKET_CODES);
+    p->is.version = more > 0 ? packet[PACKET_HEAD] : PEAT_NO_VERSION;
     memcpy(p->facility, packet + PACKET_HEAD + 1, more > 0 ? PACKET_FACILITY : 0);
-    p->bytes = (size_t)n - head;
-    memcpy(p->data, packet + head, p->bytes);
+    p->is.user_data_len = (size_t)n - head;
+    memcpy(p->data, packet + head, p->is.user_data_len);
     return LINK_DONE;
 }
 

@@ -18,7 +18,7 @@ void mail_begin(struct mail *m, const uint8_t *payload, size_t bytes)
 }
 
 /* The envelope that an answer says was finished. */
-static void open_envelope(const struct mail *m, uint64_t answer, const uint8_t *job, struct envelope *e)
+static void open_envelope(const struct mail *m, struct peat_envelope_answer answer, const uint8_t *job, struct envelope *e)
 {
     e->kind = peat_envelope_kind(answer);
     e->job = peat_job_number(job);
@@ -30,7 +30,7 @@ unsigned mail_take(struct mail *m, struct envelope *e)
 {
     while (mail_waits(m)) {
         uint8_t job[PEAT_JOB_BYTES] = {0};
-        uint64_t answer = peat_mail_take(m->record, sizeof m->record, m->payload + m->at, m->bytes - m->at, job, sizeof job);
+        struct peat_envelope_answer answer = peat_mail_take(m->record, sizeof m->record, m->payload + m->at, m->bytes - m->at, job, sizeof job);
         must("peat_mail_take", peat_refusal(answer) != PEAT_SHAPE);
         if (peat_refusal(answer) != PEAT_TAKEN)
             return peat_refusal(answer);

@@ -9,9 +9,9 @@
 #define STANDBY 2                  /* dM2 */
 #define LOGICAL_ACKNOWLEDGMENT 100 /* dM100 */
 
-uint64_t message_read(struct message *m, unsigned direction, const uint8_t *bits, unsigned count)
+struct peat_message_answer message_read(struct message *m, unsigned direction, const uint8_t *bits, unsigned count)
 {
-    uint64_t answer = peat_read_message(direction, bits, (count + 7u) / 8u, count, m->inner, sizeof m->inner, m->text, sizeof m->text);
+    struct peat_message_answer answer = peat_read_message(direction, bits, (count + 7u) / 8u, count, m->inner, sizeof m->inner, m->text, sizeof m->text);
     m->direction = direction;
     m->characters = peat_refusal(answer) == PEAT_TAKEN ? peat_message_characters(answer) : 0;
     return answer;
@@ -20,7 +20,7 @@ uint64_t message_read(struct message *m, unsigned direction, const uint8_t *bits
 /* What was read can be written again: a card that refuses it is none that can be gone on with. */
 unsigned message_write(struct message *m, unsigned number, uint8_t *out)
 {
-    uint64_t answer;
+    struct peat_written_message answer;
     m->inner[PEAT_INNER_IDENTIFICATION] = (uint8_t)number;
     answer = peat_write_message(m->direction, m->inner, sizeof m->inner, m->text, m->characters, out, PEAT_BUFFER_LEAST);
     if (peat_refusal(answer) != PEAT_TAKEN)

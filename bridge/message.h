@@ -18,7 +18,7 @@ struct message {
 };
 
 /* Reads so many bits. The card's answer: PEAT_TAKEN, or the refusal with its position. */
-uint64_t message_read(struct message *, unsigned direction, const uint8_t *bits, unsigned count);
+struct peat_message_answer message_read(struct message *, unsigned direction, const uint8_t *bits, unsigned count);
 
 /* Writes a message that was read, with another identification number: its bits in `out`, PEAT_BUFFER_LEAST bytes. How many they are. */
 unsigned message_write(struct message *, unsigned number, uint8_t *out);

@@ -3,7 +3,7 @@
 #include <stdarg.h>
 #include <stdio.h>
 
-#include "peatribbon.h"
+#include "peatribbon_names.h"
 
 /* the upper ends of the ranges in which commits are counted, in microseconds; the last range has none */
 static const uint64_t upper[LATENCIES] = {250, 500, 1000, 2500, 5000, 10000, 25000, 100000, 500000, 2000000};

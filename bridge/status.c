@@ -6,6 +6,7 @@
 
 #include "bridge.h"
 #include "clock.h"
+#include "peatribbon_names.h"
 
 #define STANDS_STILL_MS 5000  /* a round takes a tenth of a second, and comes twice a second where there is nothing to do */
 #define NEARLY 5              /* the outbox is nearly full when less than a fifth of it is free */

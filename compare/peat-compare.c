@@ -21,7 +21,7 @@
 #include <sys/stat.h>
 #include <unistd.h>
 
-#include "peatribbon.h"
+#include "peatribbon_names.h"
 
 enum { SAME = 0, OTHER = 1, TROUBLE = 2 };
 static const char *const called[] = {"", "first", "second"};
@@ -81,7 +81,7 @@ static void add(struct recording *r, uint64_t job, size_t at, size_t bytes)
 static unsigned walk(struct recording *r, size_t *at)
 {
     uint8_t job[PEAT_JOB_BYTES];
-    uint64_t answer;
+    struct peat_envelope_answer answer;
     for (*at = 0; *at < r->size; *at += peat_envelope_next(answer)) {
         answer = peat_read_envelope(r->bytes + *at, r->size - *at, job, sizeof job);
         if (peat_refusal(answer) != PEAT_TAKEN)
@@ -106,7 +106,7 @@ static uint8_t lists[3][PEAT_LIST_MOST], counts[PEAT_COUNTS_BYTES];
 
 static struct peat_comparison compare(const uint8_t *first, size_t m, const uint8_t *second, size_t n)
 {
-    uint64_t answer = peat_compare(first, m, second, n, PEAT_ARRAY(lists[0]), PEAT_ARRAY(lists[1]), PEAT_ARRAY(lists[2]), PEAT_ARRAY(counts));
+    struct peat_compare_answer answer = peat_compare(first, m, second, n, PEAT_ARRAY(lists[0]), PEAT_ARRAY(lists[1]), PEAT_ARRAY(lists[2]), PEAT_ARRAY(counts));
     struct peat_comparison c = peat_comparison_of(answer, counts);
     if (c.refusal != PEAT_TAKEN)
         trouble("a piece is refused that was read before", peat_refusal_name(c.refusal));

@@ -7,7 +7,7 @@
 unsigned book_next(const uint8_t *book, uint64_t job)
 {
     uint8_t copy[PEAT_BOOK_BYTES];
-    uint64_t answer;
+    struct peat_open_answer answer;
     memcpy(copy, book, sizeof copy);
     answer = peat_book_open(PEAT_ARRAY(copy), job);
     if (peat_refusal(answer) == PEAT_TAKEN)

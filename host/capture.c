@@ -112,7 +112,7 @@ static void put_answer(struct bits *b, const struct entry *e)
     put_head(b, AARE, has_user(e), 11); /* user information */
     put_octets(b, application_context, sizeof application_context);
     put(b, 0, 1);
-    put(b, e->parameter, 2); /* the result */
+    put(b, e->primitive.parameter, 2); /* the result */
     put(b, 0, 1 + 1 + 4);
     put_user(b, e);
 }
@@ -129,7 +129,7 @@ static void put_abort(struct bits *b, const struct entry *e)
 {
     put_head(b, ABRT, has_user(e), 2); /* user information */
     put(b, 0, 1);
-    put(b, e->parameter, 1); /* the originator */
+    put(b, e->primitive.parameter, 1); /* the originator */
     put_user(b, e);
 }
 
@@ -147,18 +147,18 @@ static void put_context(struct bits *b, unsigned head, const uint8_t *byte, unsi
 static unsigned put_entry(struct bits *b, int air, unsigned address, unsigned type, const struct entry *e)
 {
     struct bits acse = {0, {0}};
-    switch (e->primitive) {
+    switch (e->primitive.kind) {
     case PEAT_D_START_REQUEST:
         put(b, CONNECT, 16);
         put_start(b, air, address, type, e);
         break;
     case PEAT_D_START_RESPONSE:
-        put(b, e->parameter == PEAT_ACCEPTED ? ACCEPT : REFUSE, 16);
+        put(b, e->primitive.parameter == PEAT_ACCEPTED ? ACCEPT : REFUSE, 16);
         put_answer(b, e);
         break;
     case PEAT_D_DATA_REQUEST: put_context(b, 0x00A, e->apdu, e->bits); break;
     case PEAT_D_END_REQUEST: put_release(&acse, RLRQ, 0, e); break;
-    case PEAT_D_END_RESPONSE: put_release(&acse, RLRE, e->parameter == PEAT_ACCEPTED ? 0 : 1, e); break;
+    case PEAT_D_END_RESPONSE: put_release(&acse, RLRE, e->primitive.parameter == PEAT_ACCEPTED ? 0 : 1, e); break;
     default: put_abort(&acse, e); break;
     }
     if (acse.count == 0)
@@ -281,9 +281,9 @@ void capture_entry(int dialogue, int from_air, unsigned type, const struct entry
     uint8_t data[5];
     if (capture.file == NULL)
         return;
-    if (e->primitive == PEAT_D_START_REQUEST)
-        connect(end, e->number, from_air, address);
-    c = connection_of(end, e->number);
+    if (e->primitive.kind == PEAT_D_START_REQUEST)
+        connect(end, e->primitive.number, from_air, address);
+    c = connection_of(end, e->primitive.number);
     if (c == NULL)
         return; /* a D-ABORT whose start was lost: there is no connection to show it on */
     other = reference(c, !from_air);

@@ -13,14 +13,9 @@
 
 struct entry {
     unsigned long serial; /* which entry of its dialogue this is, for the story */
-    uint64_t number;      /* of the dialogue: the one that its end held when it was sent */
-    unsigned primitive;   /* enum peat_invoked */
-    unsigned parameter;   /* routing class, result or originator */
-    unsigned security;
-    unsigned version; /* of a D-START that a forward is in, or PEAT_NO_VERSION */
-    unsigned bits; /* of the APDU */
-    size_t bytes;
-    uint8_t apdu[PEAT_BUFFER_LEAST];
+    struct peat_primitive primitive;
+    unsigned bits; /* of the APDU, for the capture */
+    uint8_t apdu[PEAT_BUFFER_LEAST]; /* its user data */
 };
 
 struct line {
@@ -51,7 +46,7 @@ static inline struct entry *line_take(struct line *l)
 static inline unsigned line_of_number(const struct line *l, uint64_t number)
 {
     unsigned n = 0;
-    while (n < l->entries && l->entry[(l->oldest + l->entries - 1 - n) % LINE_ENTRIES].number == number)
+    while (n < l->entries && l->entry[(l->oldest + l->entries - 1 - n) % LINE_ENTRIES].primitive.number == number)
         n++;
     return n;
 }

@@ -131,7 +131,7 @@ static void put_element(struct clearance *c, uint8_t *place, unsigned direction,
 
 static void write_bits(struct clearance *c, unsigned side)
 {
-    uint64_t answer = peat_write_message(direction_of(side), PEAT_ARRAY(c->message), c->text, c->characters, PEAT_ARRAY(c->bit));
+    struct peat_written_message answer = peat_write_message(direction_of(side), PEAT_ARRAY(c->message), c->text, c->characters, PEAT_ARRAY(c->bit));
     c->bits = peat_refusal(answer) == PEAT_TAKEN ? peat_message_bits(answer) : 0;
 }
 
@@ -149,7 +149,7 @@ void clearance_compose(struct clearance *c, unsigned side, uint64_t n)
 
 int clearance_read(struct clearance *c, unsigned side, const uint8_t *bit, unsigned bits)
 {
-    uint64_t answer;
+    struct peat_message_answer answer;
     memset(c, 0, sizeof *c);
     answer = peat_read_message(direction_of(side), bit, (bits + 7) / 8, bits, PEAT_ARRAY(c->message), PEAT_ARRAY(c->text));
     if (peat_refusal(answer) != PEAT_TAKEN)

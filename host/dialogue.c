@@ -5,6 +5,7 @@
 #include "chance.h"
 #include "faults.h"
 #include "moves.h"
+#include "peatribbon_names.h"
 #include "power.h"
 #include "recording.h"
 #include "story.h"
@@ -115,27 +116,17 @@ static const char *arrival_name(unsigned primitive)
 /* the number that a primitive is handed over with: its own, or what one of the faults has there */
 static uint64_t number_given(const struct end *to, const struct entry *e)
 {
-    return fault(FORGETS_NUMBERS) ? number(to) + (e->primitive == PEAT_D_START_REQUEST) : e->number;
+    return fault(FORGETS_NUMBERS) ? number(to) + (e->primitive.kind == PEAT_D_START_REQUEST) : e->primitive.number;
 }
 
 /* A primitive that one end invoked reaches the other, with user data where it has any. */
-static uint64_t arrives(struct end *to, const struct entry *e)
+static struct peat_answer arrives(struct end *to, const struct entry *e)
 {
-    unsigned peer = to->peer->setting.side == PEAT_AIR ? PEAT_AIRCRAFT : PEAT_FACILITY, version = fault(DROPS_VERSIONS) ? PEAT_NO_VERSION : e->version;
-    unsigned has = e->bits > 0 ? PEAT_USER_DATA : PEAT_NO_USER_DATA;
-    uint64_t n = number_given(to, e);
-    switch (e->primitive) {
-    case PEAT_D_START_REQUEST:
-        return peat_d_start_indication(REC(to), n, peer, e->security, PEAT_HIGH_PRIORITY, PEAT_LOW_ERROR_RATE, e->parameter, version,
-            has, e->apdu, e->bytes, BUFFERS);
-    case PEAT_D_START_RESPONSE:
-        return peat_d_start_confirmation(
-            REC(to), n, e->parameter, PEAT_DS_USER, e->security, version, has, e->apdu, e->bytes, BUFFERS);
-    case PEAT_D_DATA_REQUEST: return peat_d_data_indication(REC(to), n, has, e->apdu, e->bytes, BUFFERS);
-    case PEAT_D_END_REQUEST: return peat_d_end_indication(REC(to), n, has, e->apdu, e->bytes, BUFFERS);
-    case PEAT_D_END_RESPONSE: return peat_d_end_confirmation(REC(to), n, e->parameter, has, e->apdu, e->bytes, BUFFERS);
-    default: return peat_d_abort_indication(REC(to), n, e->parameter, has, e->apdu, e->bytes, BUFFERS);
-    }
+    struct peat_primitive came = e->primitive;
+    came.number = number_given(to, e);
+    if (fault(DROPS_VERSIONS))
+        came.version = PEAT_NO_VERSION;
+    return peat_hand_over(REC(to), came, to->peer->setting.side == PEAT_AIR ? PEAT_AIRCRAFT : PEAT_FACILITY, e->apdu, BUFFERS);
 }
 
 /* What reaches an IDLE end is discarded, but for a start. Its host sees all the same that the connection is lost: what this
@@ -143,11 +134,11 @@ static uint64_t arrives(struct end *to, const struct entry *e)
 static void discard(struct end *to, const struct entry *e)
 {
     story_arrives(to->peer, e, 1);
-    moves_hears(to, e, e->number);
-    if (e->primitive == PEAT_D_ABORT_REQUEST && e->number == number(to))
+    moves_hears(to, e, e->primitive.number);
+    if (e->primitive.kind == PEAT_D_ABORT_REQUEST && e->primitive.number == number(to))
         end_settles(to, BROKEN);
     moves_nothing_kept(to);
-    if (fault(SHOWS_LATE_ABORT) && e->primitive == PEAT_D_ABORT_REQUEST && to->watch.position.called)
+    if (fault(SHOWS_LATE_ABORT) && e->primitive.kind == PEAT_D_ABORT_REQUEST && to->watch.position.called)
         end_shows_abort(to);
 }
 
@@ -157,21 +148,21 @@ static void stale(struct end *to, const struct entry *e)
     account.stale++;
     story_stale(to->peer, e);
     moves_nothing_kept(to);
-    if (e->number >= number(to))
+    if (e->primitive.number >= number(to))
         must(PEAT_STALE);
 }
 
 static void receive(struct end *to, const struct entry *e)
 {
-    uint64_t given = number_given(to, e), answer = arrives(to, e);
+    struct peat_answer answer = arrives(to, e);
     char what[64];
-    moves_hears(to, e, given);
+    moves_hears(to, e, number_given(to, e));
     if (peat_refusal(answer) == PEAT_STALE) {
         stale(to, e);
         return;
     }
-    snprintf(what, sizeof what, "%s %c%lu", arrival_name(e->primitive), to->peer->setting.name[0], e->serial);
-    account.missing += e->primitive == PEAT_D_DATA_REQUEST && peat_told(answer) != PEAT_MESSAGE_INDICATION;
+    snprintf(what, sizeof what, "%s %c%lu", arrival_name(e->primitive.kind), to->peer->setting.name[0], e->serial);
+    account.missing += e->primitive.kind == PEAT_D_DATA_REQUEST && peat_told(answer) != PEAT_MESSAGE_INDICATION;
     must(end_act(to, what, answer));
 }
 
@@ -184,7 +175,7 @@ static int starts(const struct end *e) { return !of_link(e) && is_air(e) == (e->
    could follow: so it is not. */
 static void wrong_start(struct end *to)
 {
-    static const struct entry start = {.number = UINT64_MAX, .primitive = PEAT_D_START_REQUEST, .parameter = PEAT_CLASS_ANY, .security = PEAT_NO_SECURITY, .version = PEAT_NO_VERSION};
+    static const struct entry start = {.primitive = {.number = UINT64_MAX, .kind = PEAT_D_START_REQUEST, .parameter = PEAT_CLASS_ANY}};
     static unsigned long entries;
     if (!starts(to) || ++entries % WRONG_STARTS != 0 || !line_has_room(&to->out, 1))
         return;
@@ -196,9 +187,9 @@ static void wrong_start(struct end *to)
 /* what a carrier must not do, and one of the faults has it do */
 static int loses(const struct entry *e)
 {
-    return (fault(LOSES_ABORTS) && e->primitive == PEAT_D_ABORT_REQUEST) ||
-           (fault(LOSES_MESSAGES) && e->primitive == PEAT_D_DATA_REQUEST && chance(500) == 0) ||
-           (fault(LOSES_ANSWERS) && e->primitive == PEAT_D_START_RESPONSE && e->parameter == PEAT_REJECTED && chance(20) == 0);
+    return (fault(LOSES_ABORTS) && e->primitive.kind == PEAT_D_ABORT_REQUEST) ||
+           (fault(LOSES_MESSAGES) && e->primitive.kind == PEAT_D_DATA_REQUEST && chance(500) == 0) ||
+           (fault(LOSES_ANSWERS) && e->primitive.kind == PEAT_D_START_RESPONSE && e->primitive.parameter == PEAT_REJECTED && chance(20) == 0);
 }
 
 void dialogue_hand_over(struct end *from)
@@ -212,12 +203,12 @@ void dialogue_hand_over(struct end *from)
         return;
     if (!of_link(from))
         capture_entry(from->dialogue, is_air(from), from->setting.type, e);
-    if (idle(to) && e->primitive != PEAT_D_START_REQUEST) {
+    if (idle(to) && e->primitive.kind != PEAT_D_START_REQUEST) {
         discard(to, e);
         return;
     }
     receive(to, e);
-    if (fault(HANDS_OVER_TWICE) && e->primitive == PEAT_D_DATA_REQUEST && chance(100) == 0 && !idle(to))
+    if (fault(HANDS_OVER_TWICE) && e->primitive.kind == PEAT_D_DATA_REQUEST && chance(100) == 0 && !idle(to))
         receive(to, e);
     wrong_start(to);
 }

@@ -13,11 +13,11 @@
 #include "recording.h"
 #include "story.h"
 
-uint8_t first[PEAT_BUFFER_LEAST], second[PEAT_BUFFER_LEAST];
+uint8_t call_apdu[PEAT_BUFFER_LEAST], call_data[PEAT_BUFFER_LEAST];
 
 unsigned end_fresh(struct end *e)
 {
-    return (unsigned)peat_fresh(REC(e), e->setting.side, PEAT_NO_SECURITY, e->setting.forwarding, e->setting.version, e->setting.type);
+    return peat_refusal(peat_fresh(REC(e), e->setting.side, PEAT_NO_SECURITY, e->setting.forwarding, e->setting.version, e->setting.type));
 }
 
 int end_begin(struct end *e, int dialogue, const struct setting *as, struct end *peer, const char *folder)
@@ -29,7 +29,7 @@ int end_begin(struct end *e, int dialogue, const struct setting *as, struct end 
     e->user.side = as->side;
     e->user.next = (uint64_t)dialogue + 1;
     e->user.apart = DIALOGUES;
-    if (end_fresh(e) != PEAT_TAKEN || peat_book_empty(PEAT_ARRAY(e->memory.book)) != PEAT_TAKEN)
+    if (end_fresh(e) != PEAT_TAKEN || peat_refusal(peat_book_empty(PEAT_ARRAY(e->memory.book))) != PEAT_TAKEN)
         return -1;
     e->memory.wanted = 1;
     e->watch.kept = e->memory;
@@ -84,7 +84,7 @@ static void watch_number(struct end *e, const struct change *c)
 /* a call that was taken: what its user invoked by it, and its answer */
 struct call {
     enum invocation by;
-    uint64_t answer;
+    struct peat_answer answer;
 };
 
 static void watch_position(struct end *e, const struct call *call)
@@ -103,7 +103,7 @@ static void keep(struct end *e, const struct change *c, const struct call *call)
         exit(2);
     }
     memory_apply(&e->memory, c);
-    moves_kept(e, c, call != NULL ? call->answer : 0);
+    moves_kept(e, c, call != NULL ? call->answer : (struct peat_answer){0});
     watch_dialogue(e);
     if (call != NULL)
         watch_position(e, call);
@@ -127,7 +127,7 @@ void lose_youngest(struct end *e, unsigned n)
 
 /* The primitive goes on the line with the number that the record holds now. When an end invokes D-ABORT, the carrier may lose the
    youngest entries that this end sent before it in that dialogue. */
-static void invoke(struct end *e, uint64_t answer)
+static void invoke(struct end *e, struct peat_answer answer)
 {
     struct entry *n;
     if (peat_invoked(answer) == PEAT_SILENT)
@@ -142,14 +142,9 @@ static void invoke(struct end *e, uint64_t answer)
     }
     n = line_put(&e->out);
     n->serial = ++e->watch.entries;
-    n->number = number(e);
-    n->primitive = peat_invoked(answer);
-    n->parameter = peat_invoked_parameter(answer);
-    n->security = peat_invoked_security(answer);
-    n->version = peat_version(answer);
+    n->primitive = peat_primitive_of(answer, e->memory.rec);
     n->bits = peat_apdu_bits(answer);
-    n->bytes = peat_apdu_bytes(answer);
-    memcpy(n->apdu, first, n->bytes);
+    memcpy(n->apdu, call_apdu, n->primitive.user_data_len);
     moves_sends(e, n, line_of_number(&e->out, number(e)) - 1);
 }
 
@@ -191,14 +186,14 @@ static void show(struct end *e, const uint8_t *body, unsigned bits)
 }
 
 /* The message among what a call told, and its bits. In type 2 what is told is the message. */
-static unsigned message_told(const struct end *e, uint64_t answer, uint8_t *message, size_t room)
+static unsigned message_told(const struct end *e, struct peat_answer answer, uint8_t *message, size_t room)
 {
-    uint64_t part;
+    struct peat_part_answer part;
     if (is_plain(e)) {
-        memcpy(message, second, peat_data_bytes(answer));
+        memcpy(message, call_data, peat_data_bytes(answer));
         return peat_data_bits(answer);
     }
-    part = peat_data_part(PEAT_PART_MESSAGE, second, peat_data_bytes(answer), message, room);
+    part = peat_data_part(PEAT_PART_MESSAGE, call_data, peat_data_bytes(answer), message, room);
     must(peat_refusal(part));
     return peat_part_bits(part);
 }
@@ -230,7 +225,7 @@ void end_hears(struct end *e)
 }
 
 /* A message is for the user: shown at once. The host of a wrong flight deck puts it off. */
-static void hear(struct end *e, uint64_t answer)
+static void hear(struct end *e, struct peat_answer answer)
 {
     struct unheard *u = &e->unheard;
     if (u->count == UNHEARD_MOST)
@@ -242,17 +237,17 @@ static void hear(struct end *e, uint64_t answer)
 }
 
 /* In type 2 a start, a rejection and an end may bring a message: whole, and of the other end. */
-static void hear_beside(const struct end *e, uint64_t answer)
+static void hear_beside(const struct end *e, struct peat_answer answer)
 {
     static struct clearance c;
     unsigned by = e->peer->user.side;
     if (!is_plain(e) || peat_data_bits(answer) == 0)
         return;
     account.beside++;
-    account.beside_astray += !clearance_read(&c, by, second, peat_data_bits(answer)) || clearance_of(&c, by) == 0;
+    account.beside_astray += !clearance_read(&c, by, call_data, peat_data_bits(answer)) || clearance_of(&c, by) == 0;
 }
 
-static void tell(struct end *e, uint64_t answer)
+static void tell(struct end *e, struct peat_answer answer)
 {
     unsigned accepted = peat_told_parameter(answer) == PEAT_ACCEPTED;
     if (peat_told(answer) != PEAT_MESSAGE_INDICATION && peat_told(answer) != PEAT_FORWARD_INDICATION)
@@ -274,7 +269,7 @@ static void tell(struct end *e, uint64_t answer)
 }
 
 /* The answer to a forward says that its user has it: it goes when the user was shown the message, and not before. */
-static void release(struct end *e, uint64_t answer)
+static void release(struct end *e, struct peat_answer answer)
 {
     int shown_first = peat_told(answer) == PEAT_FORWARD_INDICATION && !fault(ANSWERS_BEFORE_SHOWING);
     if (shown_first)
@@ -290,7 +285,7 @@ static void release(struct end *e, uint64_t answer)
 
 /* ---- what a call changed is kept, and then what it wrote leaves */
 
-static void conclude(struct end *e, const struct change *c, enum invocation by, uint64_t answer)
+static void conclude(struct end *e, const struct change *c, enum invocation by, struct peat_answer answer)
 {
     const struct call call = {by, answer};
     e->watch.state = state(e);
@@ -302,17 +297,17 @@ static void conclude(struct end *e, const struct change *c, enum invocation by, 
 }
 
 /* whether the dialogue broke with this call: what was sent in it may never arrive */
-static int breaks(uint64_t answer)
+static int breaks(struct peat_answer answer)
 {
     return peat_invoked(answer) == PEAT_D_ABORT_REQUEST || peat_told(answer) == PEAT_USER_ABORT_INDICATION ||
            peat_told(answer) == PEAT_PROVIDER_ABORT_INDICATION;
 }
 
 /* whether a dialogue begins with this call */
-static int begins(uint64_t answer) { return peat_invoked(answer) == PEAT_D_START_REQUEST || peat_told(answer) == PEAT_START_INDICATION; }
+static int begins(struct peat_answer answer) { return peat_invoked(answer) == PEAT_D_START_REQUEST || peat_told(answer) == PEAT_START_INDICATION; }
 
 /* the number that the message of a flight deck replies to, where it is open */
-static unsigned number_replied(const struct end *e, uint64_t answer)
+static unsigned number_replied(const struct end *e, struct peat_answer answer)
 {
     static struct clearance c;
     uint8_t message[PEAT_BUFFER_LEAST];
@@ -325,7 +320,7 @@ static unsigned number_replied(const struct end *e, uint64_t answer)
 
 /* The book of a ground end: a new dialogue empties it, a reply closes its number. That is kept with the record, before the
    reply is shown. */
-static void keep_book(const struct end *e, struct change *c, uint64_t answer)
+static void keep_book(const struct end *e, struct change *c, struct peat_answer answer)
 {
     if (is_air(e))
         return;
@@ -339,7 +334,7 @@ static void keep_book(const struct end *e, struct change *c, uint64_t answer)
 }
 
 /* what a forward was answered */
-static enum fate answered(uint64_t answer) { return (enum fate)(ANSWERED + peat_told_parameter(answer)); }
+static enum fate answered(struct peat_answer answer) { return (enum fate)(ANSWERED + peat_told_parameter(answer)); }
 
 /* the fate of the jobs of a dialogue that broke */
 static enum fate broken(const struct end *e, enum fate fate)
@@ -347,7 +342,7 @@ static enum fate broken(const struct end *e, enum fate fate)
     return e->memory.open == 0 || (fate == BROKEN && fault(SILENT_ON_BREAK)) ? NOTHING_TOLD : fate;
 }
 
-unsigned end_invokes(struct end *e, const char *what, enum invocation by, uint64_t answer)
+unsigned end_invokes(struct end *e, const char *what, enum invocation by, struct peat_answer answer)
 {
     struct change c = no_change(&e->memory);
     if (peat_refusal(answer) != PEAT_TAKEN)
@@ -365,9 +360,9 @@ unsigned end_invokes(struct end *e, const char *what, enum invocation by, uint64
     return PEAT_TAKEN;
 }
 
-unsigned end_act(struct end *e, const char *what, uint64_t answer) { return end_invokes(e, what, NO_INVOCATION, answer); }
+unsigned end_act(struct end *e, const char *what, struct peat_answer answer) { return end_invokes(e, what, NO_INVOCATION, answer); }
 
-void end_takes(struct end *e, uint64_t job, unsigned number, uint64_t answer)
+void end_takes(struct end *e, uint64_t job, unsigned number, struct peat_answer answer)
 {
     struct change c = no_change(&e->memory);
     story_took(e, job, answer);
@@ -379,7 +374,7 @@ void end_takes(struct end *e, uint64_t job, unsigned number, uint64_t answer)
     conclude(e, &c, NO_INVOCATION, answer);
 }
 
-void end_forwards(struct end *e, uint64_t job, uint64_t answer)
+void end_forwards(struct end *e, uint64_t job, struct peat_answer answer)
 {
     struct change c = no_change(&e->memory);
     story_took(e, job, answer);
@@ -412,7 +407,7 @@ void end_confirmed(struct end *e, unsigned notices)
 
 void end_shows_abort(struct end *e)
 {
-    const struct call call = {NO_INVOCATION, (uint64_t)PEAT_PROVIDER_ABORT_INDICATION << PEAT_TOLD_AT};
+    const struct call call = {NO_INVOCATION, {(uint64_t)PEAT_PROVIDER_ABORT_INDICATION << PEAT_TOLD_AT}};
     watch_position(e, &call);
 }
 

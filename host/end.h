@@ -71,10 +71,10 @@ struct end {
 };
 
 /* The buffers of every call: a call's answer is used before the next call. */
-extern uint8_t first[PEAT_BUFFER_LEAST], second[PEAT_BUFFER_LEAST];
+extern uint8_t call_apdu[PEAT_BUFFER_LEAST], call_data[PEAT_BUFFER_LEAST];
 
 #define REC(e) PEAT_ARRAY((e)->memory.rec)
-#define BUFFERS PEAT_BUFFERS(first, second)
+#define BUFFERS PEAT_BUFFERS(call_apdu, call_data)
 
 static inline unsigned side(const struct end *e) { return peat_record_side(e->memory.rec); }
 static inline uint64_t number(const struct end *e) { return peat_record_number(e->memory.rec); }
@@ -95,16 +95,16 @@ int end_begin(struct end *e, int dialogue, const struct setting *as, struct end 
 unsigned end_fresh(struct end *e);
 
 /* Does what the answer of a call says; `what` names the call. The refusal, or PEAT_TAKEN. */
-unsigned end_act(struct end *e, const char *what, uint64_t answer);
+unsigned end_act(struct end *e, const char *what, struct peat_answer answer);
 
 /* likewise of a call of its user that makes it active, or closes it */
-unsigned end_invokes(struct end *e, const char *what, enum invocation by, uint64_t answer);
+unsigned end_invokes(struct end *e, const char *what, enum invocation by, struct peat_answer answer);
 
 /* likewise of a message request, which took a job, with the number that was set in the message */
-void end_takes(struct end *e, uint64_t job, unsigned number, uint64_t answer);
+void end_takes(struct end *e, uint64_t job, unsigned number, struct peat_answer answer);
 
 /* likewise of a forward request */
-void end_forwards(struct end *e, uint64_t job, uint64_t answer);
+void end_forwards(struct end *e, uint64_t job, struct peat_answer answer);
 
 /* A job was refused for good: that is kept, and its user will be told. */
 void end_refuses(struct end *e, uint64_t job, unsigned refusal);

@@ -78,7 +78,7 @@ static unsigned message_of(const struct end *e, const struct clearance *c, uint8
     return c->bits;
 }
 
-static uint64_t request(struct end *e, uint64_t n)
+static struct peat_answer request(struct end *e, uint64_t n)
 {
     static struct clearance c; /* one call at a time */
     uint8_t bit[PEAT_BUFFER_LEAST];
@@ -98,7 +98,7 @@ static void decide(struct end *e, uint64_t job)
     int again = job < e->memory.wanted;
     account.forward_again += (unsigned long)again;
     if (!again || fault(FORWARDS_AGAIN)) {
-        uint64_t answer = request(e, broker_job(&e->broker, job)->clearance);
+        struct peat_answer answer = request(e, broker_job(&e->broker, job)->clearance);
         must(peat_refusal(answer));
         if (peat_refusal(answer) == PEAT_TAKEN)
             end_forwards(e, job, answer);
@@ -156,10 +156,10 @@ void forward_taken(struct end *e, uint64_t job)
 }
 
 /* takes a forward message apart; 0 where the card does not */
-static int read_parts(const struct end *e, uint64_t answer, uint64_t *part, uint8_t *message, size_t room)
+static int read_parts(const struct end *e, struct peat_answer answer, uint64_t *part, uint8_t *message, size_t room)
 {
     uint8_t heading[PEAT_HEADING_BYTES];
-    uint64_t said = peat_read_forward(second, peat_data_bytes(answer), PEAT_ARRAY(heading), message, room, e->setting.type);
+    struct peat_forward_answer said = peat_read_forward(call_data, peat_data_bytes(answer), PEAT_ARRAY(heading), message, room, e->setting.type);
     unsigned i;
     if (peat_refusal(said) != PEAT_TAKEN)
         return 0;
@@ -183,7 +183,7 @@ static uint64_t named_by(const uint64_t *part)
 }
 
 /* which forward this is; 0 where it is none, or not as it was sent */
-static uint64_t forward_read(const struct end *e, uint64_t answer)
+static uint64_t forward_read(const struct end *e, struct peat_answer answer)
 {
     static struct clearance c, read;
     uint64_t part[PEAT_FORWARD_MESSAGE + 1], want[PEAT_FORWARD_MESSAGE + 1], n;
@@ -202,7 +202,7 @@ static uint64_t forward_read(const struct end *e, uint64_t answer)
 }
 
 /* Forwards are shown in the order in which they were taken: their numbers rise. */
-void forward_shown(struct end *e, uint64_t answer)
+void forward_shown(struct end *e, struct peat_answer answer)
 {
     uint64_t n = forward_read(e, answer);
     unsigned times = n == 0 ? 0 : user_shown(&e->user, n);

@@ -24,7 +24,7 @@ void forward_step(struct dialogue *link);
 void forward_taken(struct end *e, uint64_t job);
 
 /* The user of the receiving end is shown the forward that a call told. */
-void forward_shown(struct end *e, uint64_t answer);
+void forward_shown(struct end *e, struct peat_answer answer);
 
 /* The user of the sending end was told what became of a forward. */
 void forward_told(const struct end *e, const struct notice *n);

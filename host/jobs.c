@@ -33,7 +33,7 @@ static unsigned number_for(const struct end *e, uint64_t job)
     return fault(NUMBERS_ITSELF) ? (unsigned)(job % PEAT_BOOK_NUMBERS) : book_next(e->memory.book, job);
 }
 
-static uint64_t request(struct end *e, uint64_t job, unsigned number, const uint8_t *body, unsigned bits)
+static struct peat_answer request(struct end *e, uint64_t job, unsigned number, const uint8_t *body, unsigned bits)
 {
     static struct clearance c; /* one call at a time */
     uint8_t check[4] = {0};
@@ -78,7 +78,7 @@ static int ask(struct end *e, uint64_t job, const uint8_t *body, unsigned bits)
 {
     int known = job < e->memory.wanted;
     unsigned number = number_for(e, job), refusal;
-    uint64_t answer;
+    struct peat_answer answer;
     if (waits_for_number(e, known, number)) {
         book_watch_all_open(&e->watch.numbers);
         return 0;

@@ -25,7 +25,7 @@ struct letter {
 /* puts an envelope behind those that are there */
 static inline void mail_post(struct mail *m, unsigned kind, uint64_t job, unsigned bits, const uint8_t *body)
 {
-    uint64_t answer = peat_write_envelope(kind, job, bits, body, (bits + 7u) / 8u, m->byte + m->bytes, sizeof m->byte - m->bytes);
+    struct peat_written_envelope answer = peat_write_envelope(kind, job, bits, body, (bits + 7u) / 8u, m->byte + m->bytes, sizeof m->byte - m->bytes);
     account.written++;
     must(peat_refusal(answer));
     m->bytes += peat_written_bytes(answer);
@@ -61,7 +61,7 @@ static inline void arrival_goes_on(const struct mail *m, struct arrival *a)
 static inline int mail_next(const struct mail *m, struct arrival *a, struct letter *l)
 {
     uint8_t job[PEAT_JOB_BYTES] = {0};
-    uint64_t answer = 0;
+    struct peat_envelope_answer answer = {0};
     while (peat_envelope_kind(answer) == 0 && a->at < m->bytes) {
         arrival_goes_on(m, a);
         answer = peat_mail_take(PEAT_ARRAY(a->rec), m->byte + a->at, a->end - a->at, PEAT_ARRAY(job));

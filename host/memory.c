@@ -50,18 +50,20 @@ static void decide(struct memory *m, uint64_t job, unsigned outcome)
 /* A change was made of what the book had to give, and from the journal it is made again: the answers are the same. */
 static void renumber(struct memory *m, const struct change *c)
 {
-    uint64_t answer = PEAT_TAKEN;
+    struct peat_open_answer opened = {0};
+    unsigned refusal = PEAT_TAKEN;
     switch (c->book) {
     case BOOK_STAYS: break;
-    case BOOK_EMPTIED: answer = peat_book_empty(PEAT_ARRAY(m->book)); break;
+    case BOOK_EMPTIED: refusal = peat_refusal(peat_book_empty(PEAT_ARRAY(m->book))); break;
     case NUMBER_OPENED:
-        answer = peat_book_open(PEAT_ARRAY(m->book), c->job);
-        assert(peat_opened_number(answer) == c->number);
+        opened = peat_book_open(PEAT_ARRAY(m->book), c->job);
+        refusal = peat_refusal(opened);
+        assert(peat_opened_number(opened) == c->number);
         break;
-    case NUMBER_CLOSED: answer = peat_book_close(PEAT_ARRAY(m->book), c->number); break;
+    case NUMBER_CLOSED: refusal = peat_refusal(peat_book_close(PEAT_ARRAY(m->book), c->number)); break;
     }
-    assert(peat_refusal(answer) == PEAT_TAKEN);
-    (void)answer;
+    assert(refusal == PEAT_TAKEN);
+    (void)refusal;
 }
 
 static void close_all(struct memory *m, enum fate fate)

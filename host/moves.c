@@ -63,8 +63,8 @@ static const char *word_of(const char *what)
 
 static const char *word_of_entry(const struct entry *e)
 {
-    int accepted = e->parameter == PEAT_ACCEPTED;
-    switch (e->primitive) {
+    int accepted = e->primitive.parameter == PEAT_ACCEPTED;
+    switch (e->primitive.kind) {
     case PEAT_D_START_REQUEST: return "hears-start";
     case PEAT_D_START_RESPONSE: return accepted ? "hears-start-accepted" : "hears-start-rejected";
     case PEAT_D_DATA_REQUEST: return "hears-data";
@@ -115,7 +115,7 @@ void moves_hears(const struct end *to, const struct entry *e, uint64_t number)
         return;
     begin_with(word_of_entry(e), number);
     move.can_abort = 1;
-    if (e->primitive == PEAT_D_DATA_REQUEST)
+    if (e->primitive.kind == PEAT_D_DATA_REQUEST)
         move.job = job_of[to->dialogue][!is_air(to)][e->serial % SERIALS];
 }
 
@@ -146,7 +146,7 @@ void moves_took(const struct end *e, uint64_t job)
     begin_with("takes", job);
 }
 
-void moves_kept(const struct end *e, const struct change *c, uint64_t answer)
+void moves_kept(const struct end *e, const struct change *c, struct peat_answer answer)
 {
     if (file_of(e) == NULL || c->confirmed > 0)
         return;
@@ -174,7 +174,7 @@ void moves_sends(const struct end *e, const struct entry *n, unsigned left)
         return;
     if (move.is_kept)
         write_move(e, left);
-    if (n->primitive == PEAT_D_DATA_REQUEST)
+    if (n->primitive.kind == PEAT_D_DATA_REQUEST)
         job_of[e->dialogue][is_air(e)][n->serial % SERIALS] = job_taken;
     line(e, "sends");
 }

@@ -24,7 +24,7 @@ void moves_call(const struct end *e, const char *what);
 void moves_lost(const struct end *e);
 
 /* That is kept now; or there was nothing to keep. The answer is that of the call, or 0. */
-void moves_kept(const struct end *e, const struct change *c, uint64_t answer);
+void moves_kept(const struct end *e, const struct change *c, struct peat_answer answer);
 void moves_nothing_kept(const struct end *e);
 
 /* its primitive leaves the host; so many of its entries of this dialogue are left on the line, if it is a D-ABORT */

@@ -4,12 +4,12 @@
 #include "peatribbon.h"
 
 /* the two abort indications */
-static int aborts(uint64_t answer) { return peat_told(answer) == PEAT_USER_ABORT_INDICATION || peat_told(answer) == PEAT_PROVIDER_ABORT_INDICATION; }
+static int aborts(struct peat_answer answer) { return peat_told(answer) == PEAT_USER_ABORT_INDICATION || peat_told(answer) == PEAT_PROVIDER_ABORT_INDICATION; }
 
 /* what the user received makes it active, or closes it */
-static int opened_by(uint64_t answer) { return peat_told(answer) == PEAT_START_INDICATION; }
+static int opened_by(struct peat_answer answer) { return peat_told(answer) == PEAT_START_INDICATION; }
 
-static int closed_by(uint64_t answer)
+static int closed_by(struct peat_answer answer)
 {
     int accepted = peat_told_parameter(answer) == PEAT_ACCEPTED;
     switch (peat_told(answer)) {
@@ -20,7 +20,7 @@ static int closed_by(uint64_t answer)
     }
 }
 
-void position_shows(struct position *p, enum invocation by, uint64_t answer)
+void position_shows(struct position *p, enum invocation by, struct peat_answer answer)
 {
     int opens = by == STARTS || opened_by(answer), closes = by == CLOSES || closed_by(answer);
     account.abort_after_call += (p->called || by == CLOSES) && aborts(answer);

@@ -6,7 +6,7 @@
 #ifndef POSITION_H
 #define POSITION_H
 
-#include <stdint.h>
+#include "peatribbon.h"
 
 /* what the user invoked by a call: nothing that opens or closes, a start or a forward request, a closing call */
 enum invocation { NO_INVOCATION, STARTS, CLOSES };
@@ -18,7 +18,7 @@ struct position {
 };
 
 /* It is shown an event: what its user invoked, and what the answer of the call told. */
-void position_shows(struct position *p, enum invocation by, uint64_t answer);
+void position_shows(struct position *p, enum invocation by, struct peat_answer answer);
 
 /* Its counts are those of a user who is active, or not. */
 void position_examine(const struct position *p, int active);

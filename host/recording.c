@@ -39,7 +39,7 @@ static struct part *part_of(const struct end *e, int direction) { return &kept[e
 
 static void append(struct part *p, unsigned kind, uint64_t job, unsigned bits, const uint8_t *body)
 {
-    uint64_t answer;
+    struct peat_written_envelope answer;
     if (p->room - p->size < PEAT_BUFFER_LEAST) {
         p->room = 2 * p->room + PEAT_BUFFER_LEAST;
         p->bytes = realloc(p->bytes, p->room);

@@ -4,6 +4,7 @@
 #include <stdio.h>
 
 #include "end.h"
+#include "peatribbon_names.h"
 
 int story_of = -1;
 unsigned long story_step;
@@ -28,7 +29,7 @@ static void words(const struct end *e, const char *what, const char *format, ...
     line(e, what, peat_state_name(e->watch.state), effect);
 }
 
-static void said(const struct end *e, const char *what, uint64_t answer)
+static void said(const struct end *e, const char *what, struct peat_answer answer)
 {
     char states[32], effect[128] = "-";
     size_t n = 0;
@@ -41,13 +42,13 @@ static void said(const struct end *e, const char *what, uint64_t answer)
     line(e, what, states, effect);
 }
 
-void story_call(const struct end *e, const char *what, uint64_t answer)
+void story_call(const struct end *e, const char *what, struct peat_answer answer)
 {
     if (!silent(e))
         said(e, what, answer);
 }
 
-void story_took(const struct end *e, uint64_t job, uint64_t answer)
+void story_took(const struct end *e, uint64_t job, struct peat_answer answer)
 {
     char what[64];
     if (silent(e))
@@ -98,19 +99,19 @@ void story_loaded(const struct end *e)
 void story_lost(const struct end *e, const struct entry *n)
 {
     if (!silent(e))
-        words(e, "the carrier loses", "%c%lu: %s", letter_of(e), n->serial, peat_invoked_name(n->primitive));
+        words(e, "the carrier loses", "%c%lu: %s", letter_of(e), n->serial, peat_invoked_name(n->primitive.kind));
 }
 
 void story_arrives(const struct end *from, const struct entry *n, int discarded)
 {
     if (!silent(from))
-        words(from->peer, discarded ? "discarded, the end is IDLE" : "arrives", "%c%lu: %s", letter_of(from), n->serial, peat_invoked_name(n->primitive));
+        words(from->peer, discarded ? "discarded, the end is IDLE" : "arrives", "%c%lu: %s", letter_of(from), n->serial, peat_invoked_name(n->primitive.kind));
 }
 
 void story_stale(const struct end *from, const struct entry *n)
 {
     if (!silent(from))
-        words(from->peer, "refused as STALE", "%c%lu: %s", letter_of(from), n->serial, peat_invoked_name(n->primitive));
+        words(from->peer, "refused as STALE", "%c%lu: %s", letter_of(from), n->serial, peat_invoked_name(n->primitive.kind));
 }
 
 void story_note(const struct end *e, const char *note)

@@ -20,8 +20,8 @@ extern int story_of;
 extern unsigned long story_step;
 
 /* a call, before it is kept and released */
-void story_call(const struct end *e, const char *what, uint64_t answer);
-void story_took(const struct end *e, uint64_t job, uint64_t answer);
+void story_call(const struct end *e, const char *what, struct peat_answer answer);
+void story_took(const struct end *e, uint64_t job, struct peat_answer answer);
 
 void story_again(const struct end *e, uint64_t job, unsigned refusal);
 void story_shown(const struct end *e, uint64_t clearance);

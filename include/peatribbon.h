@@ -1,18 +1,54 @@
 /*
  * Peatribbon, as a C host calls it.
  *
- * One record is one end (air or ground) of one dialogue. The host keeps it in PEAT_RECORD_BYTES bytes and lends it to each call together
- * with two output buffers. A call tells the record's machine of one event: a primitive of the user, a primitive of the
- * dialogue service, the expiry of t-start, or a system error. It answers a number that says which primitive the machine
- * invokes of the dialogue service and which of the user. The APDU for the one stands in the first buffer, the message data
- * for the other in the second. These are the machine's calls. The others have no record of a dialogue: they take message
- * data and forward messages apart, read an APDU by itself, read and write the broker's envelope, put envelopes together that arrive in fragments,
- * read and write a CPDLC message, and keep a book of message identification numbers.
+ * A dialogue record (PEAT_RECORD_BYTES bytes) is one end, air or ground, of one dialogue. You store it, and lend it to each call of the
+ * machine together with two output buffers. The call brings one event: a primitive of the user, a primitive of the dialogue service, the
+ * expiry of t-start, or a system error. Its answer says which primitive to invoke of the dialogue service, with the APDU in buffer apdu,
+ * and which to give to the user, with the message data in buffer data. Other calls need no dialogue record.
+ *
+ * Calls, and what reads their answers. Each group of calls answers a struct of its own, so the compiler refuses the accessor of another
+ * group. peat_refusal(answer) reads every one of them.
+ *
+ *   To do                         Call                                     Answer, and its accessors
+ *   ----------------------------  ---------------------------------------  ------------------------------------------------------
+ *   make a dialogue record        peat_fresh                               peat_outcome
+ *   a user starts, sends, ends    peat_start, peat_start_response,         peat_answer: peat_invoked, peat_invoked_parameter,
+ *                                 peat_dsc_start_response,                   peat_invoked_security, peat_version, peat_told,
+ *                                 peat_message_request,                      peat_told_parameter, peat_told_dsc,
+ *                                 peat_end_request, peat_end_response,       peat_apdu_bits, peat_apdu_bytes,
+ *                                 peat_dsc_end_request,                      peat_data_bits, peat_data_bytes,
+ *                                 peat_dsc_end_response,                     peat_primitive_of
+ *                                 peat_user_abort, peat_forward_request
+ *   a timer, a system error       peat_timer_expiry, peat_system_error     peat_answer
+ *   a primitive arrives           peat_hand_over; or one of                peat_answer
+ *                                 peat_d_start_indication,
+ *                                 peat_d_start_confirmation,
+ *                                 peat_d_data_indication,
+ *                                 peat_d_end_indication,
+ *                                 peat_d_end_confirmation,
+ *                                 peat_d_abort_indication,
+ *                                 peat_d_p_abort_indication
+ *   a part of delivered data      peat_data_part                           peat_part_answer: peat_part_given, _bits, _bytes
+ *   a forwarded message           peat_read_forward, peat_forward_part     peat_forward_answer: peat_forward_value, _bytes
+ *   what an APDU is               peat_read_apdu, peat_read_leading        peat_apdu_answer: peat_apdu_kind, _number, _has_data
+ *   read an envelope              peat_read_envelope                       peat_envelope_answer: peat_envelope_kind, _bits, _body, _next
+ *   .. that comes in fragments    peat_mail_fresh, peat_mail_end           peat_outcome
+ *                                 peat_mail_take                           peat_envelope_answer: peat_mail_taken, and as above
+ *   write an envelope             peat_write_envelope                      peat_written_envelope: peat_written_bytes
+ *   compare two recordings        peat_compare                             peat_compare_answer: peat_comparison_of
+ *   read a CPDLC message          peat_read_message                        peat_message_answer: peat_message_characters
+ *   write a CPDLC message         peat_write_message                       peat_written_message: peat_message_bits, _bytes
+ *   message numbers               peat_book_empty, peat_book_close         peat_outcome
+ *                                 peat_book_open                           peat_open_answer: peat_opened_number
+ *                                 peat_book_count                          peat_count_answer: peat_open_count
+ *                                 peat_book_job                            a plain uint64_t
+ *
+ * Names of the codes, for a log, are in peatribbon_names.h.
  *
  * Ranges. A range is a pointer and, as the next parameter, its length in bytes.
  *   - A call reads and writes inside the ranges that it is lent, keeps no pointer, allocates nothing and has no memory of
  *     its own: calls on different records and buffers may run at the same time.
- *   - LENT RANGES MUST NOT OVERLAP: no byte of a range that is lent without const (rec, first, second, out, job, heading, mail, book,
+ *   - LENT RANGES MUST NOT OVERLAP: no byte of a range that is lent without const (rec, apdu, data, out, job, heading, mail, book,
  *     and message and text where they are read into) may be a byte of any other range of the same call. (Ranges lent as const are only
  *     read; they may share bytes with each other.) This is the host's to keep. No call can see it, and the promises below do
  *     not hold without it.
@@ -20,20 +56,20 @@
  *
  * Numbers. A code is a uint64_t; a value outside its type is PEAT_SHAPE.
  *
- * Answers. Not refused: the lowest 8 bits are 0 and functions below read the rest, peat_invoked .. peat_data_bytes that of
- * the machine's calls, peat_part_given .. peat_mail_taken that of message data, a forward message, an APDU and the envelope,
- * peat_message_characters and peat_message_bits that of the message's, peat_opened_number and peat_open_count that of the
- * book's, peat_comparison_of that of two recordings. Refused: the number of the refusal and, where bits were at fault (PEAT_SHORT to
- * PEAT_DEFAULT), the position of the fault, which peat_position reads, and of a recording that is refused (PEAT_CUT to PEAT_SIZE) which one
- * and where; all other bits 0, and NO byte of any lent range has changed (but peat_mail_take and
- * peat_mail_end keep the refusal of their input in mail). (peat_book_job answers a plain number.) The refusals are tried in the order ROOM, SHAPE, STALE, PROHIBITED, NO_MESSAGE,
- * REPEAT; of a book SHAPE, then ALL_OPEN or NOT_OPEN. A primitive of the dialogue service is refused with ROOM, SHAPE or STALE only:
- * user data that is no valid PDU is not refused but answered as the protocol says.
+ * Answers. An answer is a struct with one field, word. Its lowest 8 bits are 0 if the call was accepted; then use the accessors of the
+ * table. If the call was refused:
+ *   - the lowest 8 bits are the refusal (enum peat_refusal), which peat_refusal reads;
+ *   - PEAT_SHORT to PEAT_DEFAULT have the position of the fault beside them, which peat_position reads; a recording that peat_compare
+ *     refuses has its number and the byte, which peat_comparison_of reads; all other bits are 0;
+ *   - NO byte of any lent range has changed. Only peat_mail_take and peat_mail_end keep the refusal of their input in mail.
+ * Refusals are tried in the order ROOM, SHAPE, STALE, PROHIBITED, NO_MESSAGE, REPEAT; those of a book in the order SHAPE, then ALL_OPEN or
+ * NOT_OPEN. A primitive of the dialogue service is refused with ROOM, SHAPE or STALE only: user data that is no valid PDU is not refused
+ * but answered as the protocol says.
  *
  * The dialogue number. A carrier may hand over a primitive of an old dialogue after a new start. So every dialogue has a number, which
- * the record holds (peat_record_number, 0 at first): the host gives it with the start, above the last, and tells it to the carrier with
- * every primitive that a call invokes: the number that the record holds after that call. With every primitive that arrives, the carrier
- * tells the number that it was sent with. One of another number is PEAT_STALE and changes nothing; a D-START indication may bring a
+ * the record holds (peat_record_number, 0 at first). You give it with the start, above the last. Send it with every primitive that a call
+ * invokes: the number that the record holds after that call. With every primitive that arrives, the carrier
+ * gives the number that it was sent with. One of another number is PEAT_STALE and changes nothing; a D-START indication may bring a
  * higher one, which the record then holds, whatever becomes of the start. docs/HOST.md says how the host counts.
  *
  * The application type. A record is made for application type 22 (CPDLC with protected messages) or for type 2, the older one without
@@ -47,8 +83,8 @@
  *
  * What a machine's call writes, if it is not refused:
  *   - rec, all its bytes: the record after the event;
- *   - first, from its first byte on, peat_apdu_bytes(answer) bytes; the bits after the last bit of the APDU are zero;
- *   - second, from its first byte on, peat_data_bytes(answer) bytes; likewise.
+ *   - apdu, from its first byte on, peat_apdu_bytes(answer) bytes; the bits after the last bit of the APDU are zero;
+ *   - data, from its first byte on, peat_data_bytes(answer) bytes; likewise.
  * Every other byte stays. A buffer with nothing to take stays whole.
  *
  * The archive is for x86-64 Linux, needs no library, and takes less than 4 KiB of stack in a call.
@@ -119,14 +155,14 @@ extern const char peat_archive_version[];
 /* Ranges as a call takes them: a whole array (not a pointer, whose size is another), the two buffers of a machine's call,
    and message data that are none: no identifier, no message, a check of no bits. */
 #define PEAT_ARRAY(array) (array), sizeof(array)
-#define PEAT_BUFFERS(first, second) PEAT_ARRAY(first), PEAT_ARRAY(second)
+#define PEAT_BUFFERS(apdu, data) PEAT_ARRAY(apdu), PEAT_ARRAY(data)
 #define PEAT_NO_DATA NULL, 0, NULL, 0, PEAT_NONE, NULL, 0, 0
 
 /* Message data, each part by its name, and PEAT_DATA, which hands a struct peat_data to a call of the user where its message
    data belong. What is left zero is not there: no identifier, no message, a check of no bits. A message is there where its
    pointer is not NULL, also one of no bits. So a message alone, in C:
-       struct peat_data data = {.message = bytes, .message_len = sizeof bytes, .message_bits = bits};
-       answer = peat_message_request(PEAT_ARRAY(rec), job, PEAT_DATA(data), PEAT_BUFFERS(first, second)); */
+       struct peat_data one = {.message = bytes, .message_len = sizeof bytes, .message_bits = bits};
+       answer = peat_message_request(PEAT_ARRAY(rec), job, PEAT_DATA(one), PEAT_BUFFERS(apdu, data)); */
 struct peat_data {
     const uint8_t *identifier; /* its contents octets */
     size_t identifier_len;
@@ -137,11 +173,29 @@ struct peat_data {
     size_t check_len;
     uint64_t check_bits;
 };
-#define PEAT_DATA(data) \
-    (data).identifier, (data).identifier_len, (data).message, (data).message_len, peat_bits_given(&(data)), (data).check, (data).check_len, (data).check_bits
+#define PEAT_DATA(parts) \
+    (parts).identifier, (parts).identifier_len, (parts).message, (parts).message_len, peat_data_message_bits(&(parts)), (parts).check, (parts).check_len, (parts).check_bits
 
 /* the bits of the message as a call takes them: PEAT_NONE where there is none */
-static inline uint64_t peat_bits_given(const struct peat_data *data) { return data->message == NULL ? PEAT_NONE : data->message_bits; }
+static inline uint64_t peat_data_message_bits(const struct peat_data *parts) { return parts->message == NULL ? PEAT_NONE : parts->message_bits; }
+
+/* ---- the answers
+ *
+ * One struct for each group of calls; the table above says which. In a register and on the stack each of them is a uint64_t.
+ */
+
+struct peat_answer { uint64_t word; };           /* of a machine's call: a user's primitive, a primitive of the dialogue service, a report */
+struct peat_outcome { uint64_t word; };          /* of a call that answers its refusal, or 0, and no more */
+struct peat_part_answer { uint64_t word; };      /* of peat_data_part */
+struct peat_forward_answer { uint64_t word; };   /* of peat_read_forward and peat_forward_part */
+struct peat_apdu_answer { uint64_t word; };      /* of peat_read_apdu and peat_read_leading */
+struct peat_envelope_answer { uint64_t word; };  /* of peat_read_envelope and peat_mail_take */
+struct peat_written_envelope { uint64_t word; }; /* of peat_write_envelope */
+struct peat_compare_answer { uint64_t word; };   /* of peat_compare */
+struct peat_message_answer { uint64_t word; };   /* of peat_read_message */
+struct peat_written_message { uint64_t word; };  /* of peat_write_message */
+struct peat_open_answer { uint64_t word; };      /* of peat_book_open */
+struct peat_count_answer { uint64_t word; };     /* of peat_book_count */
 
 /* ---- refusals */
 
@@ -233,7 +287,7 @@ enum peat_class {
 enum peat_qos { PEAT_HIGH_PRIORITY = 1, PEAT_LOW_ERROR_RATE = 1 };
 
 /* whether a primitive of the dialogue service carries user data */
-enum peat_given { PEAT_NO_USER_DATA = 0, PEAT_USER_DATA = 1 };
+enum peat_user_data { PEAT_NO_USER_DATA = 0, PEAT_USER_DATA = 1 };
 
 /* CPDLCUserAbortReason; those behind PEAT_INVALID_RESPONSE are of type 22 alone */
 enum peat_user_reason {
@@ -292,7 +346,7 @@ enum peat_kind {
     PEAT_KIND_ATIS_CODE = 9
 };
 
-/* The kind of an element, by enum peat_direction and number; PEAT_KIND_NOT_CARRIED for numbers that are none. docs/ELEMENTS.md
+/* The kind of an element, by enum peat_direction and number; PEAT_KIND_NOT_CARRIED if there is no element with that number. docs/ELEMENTS.md
    lists the elements that are carried. One digit an element, from number 0 on, written by tools/elements from the card's
    own table. */
 static inline unsigned peat_element_kind(uint64_t direction, uint64_t number)
@@ -321,7 +375,7 @@ enum peat_envelope {
 
 /* ---- the answer of a machine's call */
 
-/* the primitive of the dialogue service that the host invokes, with the APDU of the first buffer as its user data */
+/* the primitive of the dialogue service that the host invokes, with the APDU in buffer apdu as its user data */
 enum peat_invoked {
     PEAT_SILENT = 0,
     PEAT_D_START_REQUEST = 1,  /* parameter: routing class; security; version. Priority and error rate: PEAT_HIGH_PRIORITY, PEAT_LOW_ERROR_RATE */
@@ -332,7 +386,7 @@ enum peat_invoked {
     PEAT_D_ABORT_REQUEST = 6   /* parameter: originator */
 };
 
-/* the primitive that the host gives to the user, with the message data (1 to 5) or the forward message (8) of the second buffer */
+/* the primitive that the host gives to the user, with the message data (1 to 5) or the forward message (8) in buffer data */
 enum peat_told {
     PEAT_UNTOLD = 0,
     PEAT_START_INDICATION = 1,         /* parameter: class of communication; DSC or not */
@@ -363,13 +417,18 @@ enum peat_told {
 #define PEAT_VERSION_AT 56
 #define PEAT_VERSION_BITS 8
 
-static inline unsigned peat_bits_of(uint64_t answer, unsigned at, unsigned bits)
+static inline unsigned peat_bits_of(uint64_t word, unsigned at, unsigned bits)
 {
-    return (unsigned)((answer >> at) & (((uint64_t)1 << bits) - 1));
+    return (unsigned)((word >> at) & (((uint64_t)1 << bits) - 1));
 }
 
-/* enum peat_refusal; PEAT_TAKEN: what follows says what the machine does */
-static inline unsigned peat_refusal(uint64_t answer) { return peat_bits_of(answer, PEAT_REFUSAL_AT, PEAT_REFUSAL_BITS); }
+/* The refusal of any answer, enum peat_refusal; PEAT_TAKEN: it was accepted. A macro, so that it takes every struct of the answers. */
+#define peat_refusal(answer) peat_refusal_in((answer).word)
+static inline unsigned peat_refusal_in(uint64_t word) { return peat_bits_of(word, PEAT_REFUSAL_AT, PEAT_REFUSAL_BITS); }
+
+/* the place of a position in a refusal */
+#define PEAT_POSITION_AT 8
+#define PEAT_POSITION_BITS 56
 
 /* The position in a refusal PEAT_SHORT to PEAT_DEFAULT: the bit at which the field begins that was refused, counted from 0, which
    is the highest bit of the first byte that the call was lent to read. So byte position / 8, bit position % 8 from the top.
@@ -380,42 +439,40 @@ static inline unsigned peat_refusal(uint64_t answer) { return peat_bits_of(answe
    - PEAT_TAIL: the first padding bit that is 1; where there is none, the first bit of the bytes that follow, whatever they
      hold. Of a message: the first bit left over.
    0 for any other answer. (0 is a position too: the number tells.) A machine's call has none: there these faults are no
-   refusals. */
-#define PEAT_POSITION_AT 8
-#define PEAT_POSITION_BITS 56
-
-static inline uint64_t peat_position(uint64_t answer)
+   refusals. A macro, as peat_refusal is. */
+#define peat_position(answer) peat_position_in((answer).word)
+static inline uint64_t peat_position_in(uint64_t word)
 {
-    return peat_refusal(answer) >= PEAT_SHORT && peat_refusal(answer) <= PEAT_DEFAULT ? answer >> PEAT_POSITION_AT : 0;
+    return peat_refusal_in(word) >= PEAT_SHORT && peat_refusal_in(word) <= PEAT_DEFAULT ? word >> PEAT_POSITION_AT : 0;
 }
 
 /* enum peat_invoked, its parameter, and its security value */
-static inline unsigned peat_invoked(uint64_t answer) { return peat_bits_of(answer, PEAT_INVOKED_AT, PEAT_CODE_BITS); }
-static inline unsigned peat_invoked_parameter(uint64_t answer) { return peat_bits_of(answer, PEAT_INVOKED_PARAMETER_AT, PEAT_CODE_BITS); }
-static inline unsigned peat_invoked_security(uint64_t answer) { return peat_bits_of(answer, PEAT_INVOKED_SECURITY_AT, PEAT_FLAG_BITS); }
+static inline unsigned peat_invoked(struct peat_answer answer) { return peat_bits_of(answer.word, PEAT_INVOKED_AT, PEAT_CODE_BITS); }
+static inline unsigned peat_invoked_parameter(struct peat_answer answer) { return peat_bits_of(answer.word, PEAT_INVOKED_PARAMETER_AT, PEAT_CODE_BITS); }
+static inline unsigned peat_invoked_security(struct peat_answer answer) { return peat_bits_of(answer.word, PEAT_INVOKED_SECURITY_AT, PEAT_FLAG_BITS); }
 
 /* enum peat_told, its parameter, and whether it is the DSC- primitive (1) or the CPDLC- one (0) */
-static inline unsigned peat_told(uint64_t answer) { return peat_bits_of(answer, PEAT_TOLD_AT, PEAT_CODE_BITS); }
-static inline unsigned peat_told_parameter(uint64_t answer) { return peat_bits_of(answer, PEAT_TOLD_PARAMETER_AT, PEAT_CODE_BITS); }
-static inline unsigned peat_told_dsc(uint64_t answer) { return peat_bits_of(answer, PEAT_TOLD_DSC_AT, PEAT_FLAG_BITS); }
+static inline unsigned peat_told(struct peat_answer answer) { return peat_bits_of(answer.word, PEAT_TOLD_AT, PEAT_CODE_BITS); }
+static inline unsigned peat_told_parameter(struct peat_answer answer) { return peat_bits_of(answer.word, PEAT_TOLD_PARAMETER_AT, PEAT_CODE_BITS); }
+static inline unsigned peat_told_dsc(struct peat_answer answer) { return peat_bits_of(answer.word, PEAT_TOLD_DSC_AT, PEAT_FLAG_BITS); }
 
 /* The version: of the D-START request or response that carries a forward message or its response, or that a forward
    confirmation tells; PEAT_NO_VERSION where there is none. The D-STARTs of a dialogue carry none. */
-static inline unsigned peat_version(uint64_t answer) { return peat_bits_of(answer, PEAT_VERSION_AT, PEAT_VERSION_BITS); }
+static inline unsigned peat_version(struct peat_answer answer) { return peat_bits_of(answer.word, PEAT_VERSION_AT, PEAT_VERSION_BITS); }
 
-/* the APDU in the first buffer: its bits before the padding, and the bytes that it takes */
-static inline unsigned peat_apdu_bits(uint64_t answer) { return peat_bits_of(answer, PEAT_APDU_BITS_AT, PEAT_COUNT_BITS); }
-static inline size_t peat_apdu_bytes(uint64_t answer) { return (peat_apdu_bits(answer) + 7u) / 8u; }
+/* the APDU in buffer apdu: its bits before the padding, and the bytes that it takes */
+static inline unsigned peat_apdu_bits(struct peat_answer answer) { return peat_bits_of(answer.word, PEAT_APDU_BITS_AT, PEAT_COUNT_BITS); }
+static inline size_t peat_apdu_bytes(struct peat_answer answer) { return (peat_apdu_bits(answer) + 7u) / 8u; }
 
-/* The message data in the second buffer, likewise. In type 2 they are the CPDLC message itself, from its first bit on, ready for
+/* The message data in buffer data, likewise. In type 2 they are the CPDLC message itself, from its first bit on, ready for
    peat_read_message; 0 bits: there is none, and the buffer stays. In type 22 they are in unaligned PER: a bit 0; a bit, whether there is an
    identifier; a bit, whether there is a message; the identifier, as its octets counted in 8 bits and then the octets; the
    message, as its bits counted and then the bits; the check, likewise. A count of bits under 128 takes 8 bits, a greater
    one takes 16: the bits 10 and then 14 bits. Additions from a later edition, which the APDU may have had behind the check, are
-   left out. peat_data_part takes one of the parts out. With PEAT_FORWARD_INDICATION the second buffer has a forward message
+   left out. peat_data_part takes one of the parts out. With PEAT_FORWARD_INDICATION the buffer has a forward message
    instead: an ATCForwardMessage in its own encoding from its first bit on, which peat_read_forward takes apart. */
-static inline unsigned peat_data_bits(uint64_t answer) { return peat_bits_of(answer, PEAT_DATA_BITS_AT, PEAT_COUNT_BITS); }
-static inline size_t peat_data_bytes(uint64_t answer) { return (peat_data_bits(answer) + 7u) / 8u; }
+static inline unsigned peat_data_bits(struct peat_answer answer) { return peat_bits_of(answer.word, PEAT_DATA_BITS_AT, PEAT_COUNT_BITS); }
+static inline size_t peat_data_bytes(struct peat_answer answer) { return (peat_data_bits(answer) + 7u) / 8u; }
 
 /* a part of message data, for peat_data_part */
 enum peat_part { PEAT_PART_IDENTIFIER = 0, PEAT_PART_MESSAGE = 1, PEAT_PART_CHECK = 2 };
@@ -427,9 +484,9 @@ enum peat_part { PEAT_PART_IDENTIFIER = 0, PEAT_PART_MESSAGE = 1, PEAT_PART_CHEC
 #define PEAT_PART_BITS_BITS 16
 
 /* 1: the part is there, 0: it is not; its bits, and the bytes that they take of the buffer */
-static inline unsigned peat_part_given(uint64_t answer) { return peat_bits_of(answer, PEAT_PART_GIVEN_AT, PEAT_PART_GIVEN_BITS); }
-static inline unsigned peat_part_bits(uint64_t answer) { return peat_bits_of(answer, PEAT_PART_BITS_AT, PEAT_PART_BITS_BITS); }
-static inline size_t peat_part_bytes(uint64_t answer) { return (peat_part_bits(answer) + 7u) / 8u; }
+static inline unsigned peat_part_given(struct peat_part_answer answer) { return peat_bits_of(answer.word, PEAT_PART_GIVEN_AT, PEAT_PART_GIVEN_BITS); }
+static inline unsigned peat_part_bits(struct peat_part_answer answer) { return peat_bits_of(answer.word, PEAT_PART_BITS_AT, PEAT_PART_BITS_BITS); }
+static inline size_t peat_part_bytes(struct peat_part_answer answer) { return (peat_part_bits(answer) + 7u) / 8u; }
 
 /* A part of a forward message, for peat_read_forward and peat_forward_part. For peat_forward_part of a forward message of type 2, add
    PEAT_FORWARD_PLAIN to the part. */
@@ -449,8 +506,8 @@ enum peat_forward_part {
 #define PEAT_FORWARD_PLAIN 16u
 
 /* the part; of the message's bits, their count, and the bytes that they take of the buffer */
-static inline uint64_t peat_forward_value(uint64_t answer) { return answer >> PEAT_REFUSAL_BITS; }
-static inline size_t peat_forward_bytes(uint64_t answer) { return (size_t)((peat_forward_value(answer) + 7u) / 8u); }
+static inline uint64_t peat_forward_value(struct peat_forward_answer answer) { return answer.word >> PEAT_REFUSAL_BITS; }
+static inline size_t peat_forward_bytes(struct peat_forward_answer answer) { return (size_t)((peat_forward_value(answer) + 7u) / 8u); }
 
 /* A flight identification as one number: its characters, seven bits each, the first on top. And character i of `characters`. */
 static inline uint64_t peat_flight(const char *characters, size_t count)
@@ -486,9 +543,9 @@ enum peat_apdu_kind {
 /* enum peat_apdu_kind; the reason of an abort (enum peat_user_reason, enum peat_provider_reason), the mode of a start (enum
    peat_mode), the result of a forward response (enum peat_forward_result), else 0; and whether it has message data (1: a start or
    a send, 0: any other, and a start of type 2 without a message) */
-static inline unsigned peat_apdu_kind(uint64_t answer) { return peat_bits_of(answer, PEAT_APDU_KIND_AT, PEAT_APDU_PART_BITS); }
-static inline unsigned peat_apdu_number(uint64_t answer) { return peat_bits_of(answer, PEAT_APDU_NUMBER_AT, PEAT_APDU_PART_BITS); }
-static inline unsigned peat_apdu_has_data(uint64_t answer) { return peat_bits_of(answer, PEAT_APDU_DATA_AT, PEAT_APDU_PART_BITS); }
+static inline unsigned peat_apdu_kind(struct peat_apdu_answer answer) { return peat_bits_of(answer.word, PEAT_APDU_KIND_AT, PEAT_APDU_PART_BITS); }
+static inline unsigned peat_apdu_number(struct peat_apdu_answer answer) { return peat_bits_of(answer.word, PEAT_APDU_NUMBER_AT, PEAT_APDU_PART_BITS); }
+static inline unsigned peat_apdu_has_data(struct peat_apdu_answer answer) { return peat_bits_of(answer.word, PEAT_APDU_DATA_AT, PEAT_APDU_PART_BITS); }
 
 /* ---- the answer of an envelope's call */
 
@@ -506,17 +563,17 @@ static inline unsigned peat_apdu_has_data(uint64_t answer) { return peat_bits_of
 
 /* enum peat_envelope; the bits of the body; the bytes before the body; and the bytes before the next envelope, which are
    those of this one */
-static inline unsigned peat_envelope_kind(uint64_t answer) { return peat_bits_of(answer, PEAT_ENVELOPE_KIND_AT, PEAT_ENVELOPE_KIND_BITS); }
-static inline unsigned peat_envelope_bits(uint64_t answer) { return peat_bits_of(answer, PEAT_ENVELOPE_BITS_AT, PEAT_ENVELOPE_COUNT_BITS); }
-static inline size_t peat_envelope_body(uint64_t answer) { return peat_bits_of(answer, PEAT_ENVELOPE_BODY_AT, PEAT_ENVELOPE_COUNT_BITS); }
-static inline size_t peat_envelope_next(uint64_t answer) { return peat_bits_of(answer, PEAT_ENVELOPE_NEXT_AT, PEAT_ENVELOPE_COUNT_BITS); }
+static inline unsigned peat_envelope_kind(struct peat_envelope_answer answer) { return peat_bits_of(answer.word, PEAT_ENVELOPE_KIND_AT, PEAT_ENVELOPE_KIND_BITS); }
+static inline unsigned peat_envelope_bits(struct peat_envelope_answer answer) { return peat_bits_of(answer.word, PEAT_ENVELOPE_BITS_AT, PEAT_ENVELOPE_COUNT_BITS); }
+static inline size_t peat_envelope_body(struct peat_envelope_answer answer) { return peat_bits_of(answer.word, PEAT_ENVELOPE_BODY_AT, PEAT_ENVELOPE_COUNT_BITS); }
+static inline size_t peat_envelope_next(struct peat_envelope_answer answer) { return peat_bits_of(answer.word, PEAT_ENVELOPE_NEXT_AT, PEAT_ENVELOPE_COUNT_BITS); }
 
 /* the bytes that the envelope takes of the buffer */
-static inline size_t peat_written_bytes(uint64_t answer) { return peat_bits_of(answer, PEAT_WRITTEN_BYTES_AT, PEAT_WRITTEN_BYTES_BITS); }
+static inline size_t peat_written_bytes(struct peat_written_envelope answer) { return peat_bits_of(answer.word, PEAT_WRITTEN_BYTES_AT, PEAT_WRITTEN_BYTES_BITS); }
 
 /* Of what peat_mail_take answers: the bytes of the fragment that were taken. peat_envelope_kind, _bits and _body say which
    envelope was finished, as of what peat_read_envelope answers; a kind of 0 says that none was. */
-static inline size_t peat_mail_taken(uint64_t answer) { return peat_bits_of(answer, PEAT_ENVELOPE_NEXT_AT, PEAT_ENVELOPE_COUNT_BITS); }
+static inline size_t peat_mail_taken(struct peat_envelope_answer answer) { return peat_bits_of(answer.word, PEAT_ENVELOPE_NEXT_AT, PEAT_ENVELOPE_COUNT_BITS); }
 
 /* ---- the answer of two recordings compared */
 
@@ -545,14 +602,14 @@ struct peat_comparison {
 };
 
 /* the answer taken apart; counts is the range that the call was lent */
-static inline struct peat_comparison peat_comparison_of(uint64_t answer, const uint8_t *counts)
+static inline struct peat_comparison peat_comparison_of(struct peat_compare_answer answer, const uint8_t *counts)
 {
     struct peat_comparison c;
     c.refusal = peat_refusal(answer);
-    c.recording = peat_bits_of(answer, PEAT_COMPARED_RECORDING_AT, PEAT_COMPARED_RECORDING_BITS);
-    c.byte = peat_bits_of(answer, PEAT_COMPARED_BYTE_AT, PEAT_COMPARED_COUNT_BITS);
-    c.envelopes = peat_bits_of(answer, PEAT_COMPARED_INDEX_AT, PEAT_COMPARED_COUNT_BITS);
-    c.field = peat_bits_of(answer, PEAT_COMPARED_FIELD_AT, PEAT_COMPARED_FIELD_BITS);
+    c.recording = peat_bits_of(answer.word, PEAT_COMPARED_RECORDING_AT, PEAT_COMPARED_RECORDING_BITS);
+    c.byte = peat_bits_of(answer.word, PEAT_COMPARED_BYTE_AT, PEAT_COMPARED_COUNT_BITS);
+    c.envelopes = peat_bits_of(answer.word, PEAT_COMPARED_INDEX_AT, PEAT_COMPARED_COUNT_BITS);
+    c.field = peat_bits_of(answer.word, PEAT_COMPARED_FIELD_AT, PEAT_COMPARED_FIELD_BITS);
     c.only_first = c.refusal ? 0u : (unsigned)counts[0] << 8 | counts[1];
     c.only_second = c.refusal ? 0u : (unsigned)counts[2] << 8 | counts[3];
     c.repeated = c.refusal ? 0u : (unsigned)counts[4] << 8 | counts[5];
@@ -564,16 +621,15 @@ static inline int peat_comparison_equal(const struct peat_comparison *c) { retur
 
 /* ---- the answer of a message's call */
 
-/* Bits of the answer above the refusal. Reading and writing count different things, and each has places of its own: what one
-   answers, read as the other's, is 0. */
+/* bits of the answer above the refusal: reading and writing count different things, and each has places of its own */
 #define PEAT_MESSAGE_CHARACTERS_AT 8
 #define PEAT_MESSAGE_BITS_AT 24
 #define PEAT_MESSAGE_COUNT_BITS 16
 
 /* what peat_read_message left in the text; what peat_write_message left in the buffer: bits, and the bytes that they take */
-static inline unsigned peat_message_characters(uint64_t answer) { return peat_bits_of(answer, PEAT_MESSAGE_CHARACTERS_AT, PEAT_MESSAGE_COUNT_BITS); }
-static inline unsigned peat_message_bits(uint64_t answer) { return peat_bits_of(answer, PEAT_MESSAGE_BITS_AT, PEAT_MESSAGE_COUNT_BITS); }
-static inline size_t peat_message_bytes(uint64_t answer) { return (peat_message_bits(answer) + 7u) / 8u; }
+static inline unsigned peat_message_characters(struct peat_message_answer answer) { return peat_bits_of(answer.word, PEAT_MESSAGE_CHARACTERS_AT, PEAT_MESSAGE_COUNT_BITS); }
+static inline unsigned peat_message_bits(struct peat_written_message answer) { return peat_bits_of(answer.word, PEAT_MESSAGE_BITS_AT, PEAT_MESSAGE_COUNT_BITS); }
+static inline size_t peat_message_bytes(struct peat_written_message answer) { return (peat_message_bits(answer) + 7u) / 8u; }
 
 /* ---- the answer of a book's call */
 
@@ -582,8 +638,8 @@ static inline size_t peat_message_bytes(uint64_t answer) { return (peat_message_
 #define PEAT_BOOK_ANSWER_BITS 8
 
 /* the number that peat_book_open gives, 0 to 63; how many are open, 0 to 64, of peat_book_count */
-static inline unsigned peat_opened_number(uint64_t answer) { return peat_bits_of(answer, PEAT_BOOK_ANSWER_AT, PEAT_BOOK_ANSWER_BITS); }
-static inline unsigned peat_open_count(uint64_t answer) { return peat_bits_of(answer, PEAT_BOOK_ANSWER_AT, PEAT_BOOK_ANSWER_BITS); }
+static inline unsigned peat_opened_number(struct peat_open_answer answer) { return peat_bits_of(answer.word, PEAT_BOOK_ANSWER_AT, PEAT_BOOK_ANSWER_BITS); }
+static inline unsigned peat_open_count(struct peat_count_answer answer) { return peat_bits_of(answer.word, PEAT_BOOK_ANSWER_AT, PEAT_BOOK_ANSWER_BITS); }
 
 /* ---- the message range: 132 bytes that the host may keep anywhere, read and write; of a number in two bytes the more
  * significant is first
@@ -715,95 +771,6 @@ static inline uint64_t peat_record_highest(const uint8_t *rec) { return peat_eig
 /* The dialogue number, 0 at first. After a call that invokes a primitive of the dialogue service, it is the number to send with it. */
 static inline uint64_t peat_record_number(const uint8_t *rec) { return peat_eight_bytes(rec + PEAT_RECORD_NUMBER); }
 
-/* ---- names, for a log; "?" for a number that has none */
-
-static inline const char *peat_name_in(const char *const *names, size_t count, unsigned n) { return n < count ? names[n] : "?"; }
-#define PEAT_NAMED(names, n) peat_name_in(names, sizeof(names) / sizeof *(names), n)
-
-/* of enum peat_refusal, as document 01 has it */
-static inline const char *peat_refusal_name(unsigned refusal)
-{
-    static const char *const names[] = {"taken", "ROOM", "SHAPE", "PROHIBITED", "NO-MESSAGE", "REPEAT", "STALE", "ALL-OPEN", "NOT-OPEN", "?", "SHORT", "RANGE",
-        "EXTENSION", "LENGTH-FORM", "LIMIT", "TAIL", "NOT-CARRIED", "DEFAULT", "?", "?", "CUT", "GROUPS", "KIND", "SIZE"};
-    return PEAT_NAMED(names, refusal);
-}
-
-static inline const char *peat_side_name(unsigned side)
-{
-    static const char *const names[] = {"?", "air", "ground"};
-    return PEAT_NAMED(names, side);
-}
-
-static inline const char *peat_state_name(unsigned state)
-{
-    static const char *const names[] = {"IDLE", "START-REQ", "START-IND", "DIALOGUE", "END", "FORWARD"};
-    return PEAT_NAMED(names, state);
-}
-
-/* of enum peat_invoked */
-static inline const char *peat_invoked_name(unsigned invoked)
-{
-    static const char *const names[] = {
-        "nothing", "D-START request", "D-START response", "D-DATA request", "D-END request", "D-END response", "D-ABORT request"};
-    return PEAT_NAMED(names, invoked);
-}
-
-/* of enum peat_told; dsc: peat_told_dsc of the answer */
-static inline const char *peat_told_name(unsigned told, unsigned dsc)
-{
-    static const char *const names[] = {"nothing", "CPDLC-start indication", "CPDLC-start confirmation", "CPDLC-message indication",
-        "CPDLC-end indication", "CPDLC-end confirmation", "CPDLC-user-abort indication", "CPDLC-provider-abort indication",
-        "CPDLC-forward indication", "CPDLC-forward confirmation"};
-    static const char *const dsc_names[] = {"nothing", "DSC-start indication", "DSC-start confirmation", "CPDLC-message indication",
-        "DSC-end indication", "DSC-end confirmation", "CPDLC-user-abort indication", "CPDLC-provider-abort indication",
-        "CPDLC-forward indication", "CPDLC-forward confirmation"};
-    return dsc ? PEAT_NAMED(dsc_names, told) : PEAT_NAMED(names, told);
-}
-
-/* of enum peat_result, enum peat_user_reason, enum peat_provider_reason and enum peat_kind */
-static inline const char *peat_result_name(unsigned result)
-{
-    static const char *const names[] = {"accepted", "rejected", "rejected (transient)"};
-    return PEAT_NAMED(names, result);
-}
-
-/* of enum peat_forward_result */
-static inline const char *peat_forward_result_name(unsigned result)
-{
-    static const char *const names[] = {"success", "service-not-supported", "version-not-equal"};
-    return PEAT_NAMED(names, result);
-}
-
-/* of enum peat_field */
-static inline const char *peat_field_name(unsigned field)
-{
-    static const char *const names[] = {"none", "kind", "job", "bit count", "body"};
-    return PEAT_NAMED(names, field);
-}
-
-static inline const char *peat_user_reason_name(unsigned reason)
-{
-    static const char *const names[] = {"undefined", "no-message-identification-numbers-available", "duplicate-message-identification-numbers",
-        "no-longer-next-data-authority", "current-data-authority-abort", "commanded-termination", "invalid-response",
-        "time-out-of-synchronisation", "unknown-integrity-check", "validation-failure", "unable-to-decode-message", "invalid-pdu",
-        "invalid-CPDLC-message"};
-    return PEAT_NAMED(names, reason);
-}
-
-static inline const char *peat_provider_reason_name(unsigned reason)
-{
-    static const char *const names[] = {"timer-expired", "undefined-error", "invalid-PDU", "protocol-error", "communication-service-error",
-        "communication-service-failure", "invalid-QOS-parameter", "expected-PDU-missing", "not-permitted-PDU"};
-    return PEAT_NAMED(names, reason);
-}
-
-static inline const char *peat_kind_name(unsigned kind)
-{
-    static const char *const names[] = {"not carried", "none", "level", "two levels", "time", "code", "free text", "facility",
-        "facility designation", "ATIS code"};
-    return PEAT_NAMED(names, kind);
-}
-
 /* ---- a fresh record */
 
 /* Makes a fresh record: IDLE, DSC false, timer stopped, user not active, highest job 0, dialogue
@@ -813,23 +780,23 @@ static inline const char *peat_kind_name(unsigned kind)
    Answers 0 and writes rec, PEAT_RECORD_BYTES; or PEAT_SHAPE (rec_len is not that, or one of the five is none of its codes),
    and rec stays.
    A dialogue that closes needs no fresh record; one would forget the highest job taken and the dialogue number. */
-uint64_t peat_fresh(uint8_t *rec, size_t rec_len, uint64_t side, uint64_t policy, uint64_t forwards, uint64_t version, uint64_t type);
+struct peat_outcome peat_fresh(uint8_t *rec, size_t rec_len, uint64_t side, uint64_t policy, uint64_t forwards, uint64_t version, uint64_t type);
 
 /* ---- primitives of the user
  *
  * Message data are given as three ranges, each used from its first bit on, the highest bit of a byte first:
- *   ids     the contents octets of the algorithm identifier, 1 to PEAT_IDENTIFIER_MOST; length 0: no identifier
- *   msgs    the CPDLC message: its first `message` bits, 0 to PEAT_MESSAGE_MOST; message = PEAT_NONE: no message (and msgs
- *           is not looked at). A message of no bits is a message.
- *   checks  the integrity check: its first `check` bits, 0 to PEAT_CHECK_MOST
- * msgs and checks may be longer than their bits.
+ *   identifier  the contents octets of the algorithm identifier, 1 to PEAT_IDENTIFIER_MOST; length 0: no identifier
+ *   message     the CPDLC message: its first message_bits bits, 0 to PEAT_MESSAGE_MOST; message_bits = PEAT_NONE: no message (and the range
+ *               is not looked at). A message of no bits is a message.
+ *   check       the integrity check: its first check_bits bits, 0 to PEAT_CHECK_MOST
+ * The ranges of the message and the check may be longer than their bits.
  * At a record of type 2 there is a message or none: an identifier or a check is PEAT_SHAPE, and so are bits that peat_read_message does
  * not take, to the last one, in the direction that the side sends. A start goes without a message too. A rejection, an end and its
  * response without a message invoke their primitive without user data (peat_apdu_bits is 0). A start that is accepted takes no message:
  * with one it is PEAT_SHAPE.
- * All calls refuse with PEAT_ROOM (first or second) and PEAT_SHAPE (rec is
+ * All calls refuse with PEAT_ROOM (apdu or data) and PEAT_SHAPE (rec is
  * not a record, message data outside these sizes, a code outside its type), and then with PEAT_PROHIBITED where it says so.
- * They write rec and first, and second stays.
+ * They write rec and apdu, and data stays.
  */
 
 /* Start request: the CPDLC-start request in mode PEAT_CPDLC, the DSC-start request in mode PEAT_DSC. number: the dialogue's,
@@ -837,76 +804,76 @@ uint64_t peat_fresh(uint8_t *rec, size_t rec_len, uint64_t side, uint64_t policy
    PEAT_DSC is SHAPE at the ground end, in every state. class_: enum peat_class. security: enum peat_security; a record of type 2
    sends PEAT_NO_SECURITY whatever it is.
    PROHIBITED unless IDLE. Invokes D-START request; the timer begins to run, and in mode PEAT_DSC the record's DSC is set. */
-uint64_t peat_start(uint8_t *rec, size_t rec_len, uint64_t number, uint64_t mode, uint64_t class_, uint64_t security,
-    const uint8_t *ids, size_t ids_len, const uint8_t *msgs, size_t msgs_len, uint64_t message,
-    const uint8_t *checks, size_t checks_len, uint64_t check,
-    uint8_t *first, size_t first_len, uint8_t *second, size_t second_len);
+struct peat_answer peat_start(uint8_t *rec, size_t rec_len, uint64_t number, uint64_t mode, uint64_t class_, uint64_t security,
+    const uint8_t *identifier, size_t identifier_len, const uint8_t *message, size_t message_len, uint64_t message_bits,
+    const uint8_t *check, size_t check_len, uint64_t check_bits,
+    uint8_t *apdu, size_t apdu_len, uint8_t *data, size_t data_len);
 
 /* CPDLC-start response. result: PEAT_ACCEPTED or PEAT_REJECTED.
    PROHIBITED unless START-IND with DSC false. Invokes D-START response. */
-uint64_t peat_start_response(uint8_t *rec, size_t rec_len, uint64_t result,
-    const uint8_t *ids, size_t ids_len, const uint8_t *msgs, size_t msgs_len, uint64_t message,
-    const uint8_t *checks, size_t checks_len, uint64_t check,
-    uint8_t *first, size_t first_len, uint8_t *second, size_t second_len);
+struct peat_answer peat_start_response(uint8_t *rec, size_t rec_len, uint64_t result,
+    const uint8_t *identifier, size_t identifier_len, const uint8_t *message, size_t message_len, uint64_t message_bits,
+    const uint8_t *check, size_t check_len, uint64_t check_bits,
+    uint8_t *apdu, size_t apdu_len, uint8_t *data, size_t data_len);
 
 /* DSC-start response, of the ground user. result: PEAT_ACCEPTED or PEAT_REJECTED.
    PROHIBITED at the air end and unless START-IND with DSC true. Invokes D-START response. */
-uint64_t peat_dsc_start_response(uint8_t *rec, size_t rec_len, uint64_t result,
-    const uint8_t *ids, size_t ids_len, const uint8_t *msgs, size_t msgs_len, uint64_t message,
-    const uint8_t *checks, size_t checks_len, uint64_t check,
-    uint8_t *first, size_t first_len, uint8_t *second, size_t second_len);
+struct peat_answer peat_dsc_start_response(uint8_t *rec, size_t rec_len, uint64_t result,
+    const uint8_t *identifier, size_t identifier_len, const uint8_t *message, size_t message_len, uint64_t message_bits,
+    const uint8_t *check, size_t check_len, uint64_t check_bits,
+    uint8_t *apdu, size_t apdu_len, uint8_t *data, size_t data_len);
 
 /* CPDLC-message request. job: 1 to 2^64 - 1 (0: SHAPE), remembered if and only if the request is taken, also over the end
    of the dialogue. PROHIBITED unless in DIALOGUE, or at the air end in END with DSC false, or at the ground end in END with
-   DSC true; then NO_MESSAGE where message is PEAT_NONE; then REPEAT where job is not above peat_record_highest.
+   DSC true; then NO_MESSAGE where message_bits is PEAT_NONE; then REPEAT where job is not above peat_record_highest.
    Invokes D-DATA request.
    The highest job taken decides REPEAT, so offer a job only when the one before it was taken: a job that waits while a
    later one is taken is REPEAT from then on. PROHIBITED says nothing of whether a job is new: it comes before REPEAT. */
-uint64_t peat_message_request(uint8_t *rec, size_t rec_len, uint64_t job,
-    const uint8_t *ids, size_t ids_len, const uint8_t *msgs, size_t msgs_len, uint64_t message,
-    const uint8_t *checks, size_t checks_len, uint64_t check,
-    uint8_t *first, size_t first_len, uint8_t *second, size_t second_len);
+struct peat_answer peat_message_request(uint8_t *rec, size_t rec_len, uint64_t job,
+    const uint8_t *identifier, size_t identifier_len, const uint8_t *message, size_t message_len, uint64_t message_bits,
+    const uint8_t *check, size_t check_len, uint64_t check_bits,
+    uint8_t *apdu, size_t apdu_len, uint8_t *data, size_t data_len);
 
 /* CPDLC-end request, of the ground user. PROHIBITED at the air end and unless DIALOGUE with DSC false.
    Invokes D-END request. */
-uint64_t peat_end_request(uint8_t *rec, size_t rec_len,
-    const uint8_t *ids, size_t ids_len, const uint8_t *msgs, size_t msgs_len, uint64_t message,
-    const uint8_t *checks, size_t checks_len, uint64_t check,
-    uint8_t *first, size_t first_len, uint8_t *second, size_t second_len);
+struct peat_answer peat_end_request(uint8_t *rec, size_t rec_len,
+    const uint8_t *identifier, size_t identifier_len, const uint8_t *message, size_t message_len, uint64_t message_bits,
+    const uint8_t *check, size_t check_len, uint64_t check_bits,
+    uint8_t *apdu, size_t apdu_len, uint8_t *data, size_t data_len);
 
 /* DSC-end request, of the air user. PROHIBITED at the ground end and unless DIALOGUE with DSC true.
    Invokes D-END request. */
-uint64_t peat_dsc_end_request(uint8_t *rec, size_t rec_len,
-    const uint8_t *ids, size_t ids_len, const uint8_t *msgs, size_t msgs_len, uint64_t message,
-    const uint8_t *checks, size_t checks_len, uint64_t check,
-    uint8_t *first, size_t first_len, uint8_t *second, size_t second_len);
+struct peat_answer peat_dsc_end_request(uint8_t *rec, size_t rec_len,
+    const uint8_t *identifier, size_t identifier_len, const uint8_t *message, size_t message_len, uint64_t message_bits,
+    const uint8_t *check, size_t check_len, uint64_t check_bits,
+    uint8_t *apdu, size_t apdu_len, uint8_t *data, size_t data_len);
 
 /* CPDLC-end response, of the air user. result: PEAT_ACCEPTED (the dialogue closes) or PEAT_REJECTED (back to DIALOGUE).
    PROHIBITED at the ground end and unless END with DSC false. Invokes D-END response. */
-uint64_t peat_end_response(uint8_t *rec, size_t rec_len, uint64_t result,
-    const uint8_t *ids, size_t ids_len, const uint8_t *msgs, size_t msgs_len, uint64_t message,
-    const uint8_t *checks, size_t checks_len, uint64_t check,
-    uint8_t *first, size_t first_len, uint8_t *second, size_t second_len);
+struct peat_answer peat_end_response(uint8_t *rec, size_t rec_len, uint64_t result,
+    const uint8_t *identifier, size_t identifier_len, const uint8_t *message, size_t message_len, uint64_t message_bits,
+    const uint8_t *check, size_t check_len, uint64_t check_bits,
+    uint8_t *apdu, size_t apdu_len, uint8_t *data, size_t data_len);
 
 /* DSC-end response, of the ground user. result: as above.
    PROHIBITED at the air end and unless END with DSC true. Invokes D-END response. */
-uint64_t peat_dsc_end_response(uint8_t *rec, size_t rec_len, uint64_t result,
-    const uint8_t *ids, size_t ids_len, const uint8_t *msgs, size_t msgs_len, uint64_t message,
-    const uint8_t *checks, size_t checks_len, uint64_t check,
-    uint8_t *first, size_t first_len, uint8_t *second, size_t second_len);
+struct peat_answer peat_dsc_end_response(uint8_t *rec, size_t rec_len, uint64_t result,
+    const uint8_t *identifier, size_t identifier_len, const uint8_t *message, size_t message_len, uint64_t message_bits,
+    const uint8_t *check, size_t check_len, uint64_t check_bits,
+    uint8_t *apdu, size_t apdu_len, uint8_t *data, size_t data_len);
 
 /* CPDLC-user-abort request. reason: enum peat_user_reason, or PEAT_NONE, which is sent as PEAT_UNDEFINED; at a record of type 2, up to
    PEAT_INVALID_RESPONSE.
    PROHIBITED in IDLE. Invokes D-ABORT request with originator PEAT_USER. */
-uint64_t peat_user_abort(uint8_t *rec, size_t rec_len, uint64_t reason,
-    uint8_t *first, size_t first_len, uint8_t *second, size_t second_len);
+struct peat_answer peat_user_abort(uint8_t *rec, size_t rec_len, uint64_t reason,
+    uint8_t *apdu, size_t apdu_len, uint8_t *data, size_t data_len);
 
 /* CPDLC-forward request, of the ground user: a CPDLC message of an aircraft to another centre. number: the dialogue's, as of
    peat_start: the record holds it from then on; STALE unless it is above peat_record_number, in every state. class_: enum
    peat_class. security: enum peat_security. year to seconds: when the message was composed (enum peat_forward_part has the
    ranges). characters, flight: the aircraft's flight identification, PEAT_FLIGHT_LEAST to PEAT_FLIGHT_MOST characters, and they
    as one number (peat_flight). address: 24 bits. direction: enum peat_forward_direction, what the message's bits are: the first
-   `message` bits of msgs, 0 to PEAT_MESSAGE_MOST. A record of type 22 does not look into them. Those of type 2 are the message's elements
+   message_bits bits of the range message, 0 to PEAT_MESSAGE_MOST. A record of type 22 does not look into them. Those of type 2 are the message's elements
    alone, without its header, and the card reads them to the last bit. Values outside these are SHAPE.
    PROHIBITED at the air end and unless IDLE. Invokes D-START request with the record's version; the timer begins to run, and
    every call of the user but peat_user_abort is PROHIBITED until PEAT_FORWARD_CONFIRMATION, an abort or the expiry. A forward has
@@ -914,31 +881,31 @@ uint64_t peat_user_abort(uint8_t *rec, size_t rec_len, uint64_t reason,
    The receiving centre answers in the event of its D-START indication: it invokes D-START response with result PEAT_REJECTED,
    which is no failure, and stays IDLE. If it supports forwarding and the versions are equal, its user is told
    PEAT_FORWARD_INDICATION in that event: both buffers are filled. */
-uint64_t peat_forward_request(uint8_t *rec, size_t rec_len, uint64_t number, uint64_t class_, uint64_t security,
+struct peat_answer peat_forward_request(uint8_t *rec, size_t rec_len, uint64_t number, uint64_t class_, uint64_t security,
     uint64_t year, uint64_t month, uint64_t day, uint64_t hours, uint64_t minutes, uint64_t seconds,
     uint64_t characters, uint64_t flight, uint64_t address, uint64_t direction,
-    const uint8_t *msgs, size_t msgs_len, uint64_t message,
-    uint8_t *first, size_t first_len, uint8_t *second, size_t second_len);
+    const uint8_t *message, size_t message_len, uint64_t message_bits,
+    uint8_t *apdu, size_t apdu_len, uint8_t *data, size_t data_len);
 
-/* ---- what the host reports; both calls write rec and first, and second stays */
+/* ---- what the host reports; both calls write rec and apdu, and data stays */
 
 /* t-start expires. PROHIBITED while no timer runs. Invokes D-ABORT request with originator PEAT_PROVIDER, reason
    PEAT_TIMER_EXPIRED, and tells an active user. */
-uint64_t peat_timer_expiry(uint8_t *rec, size_t rec_len, uint8_t *first, size_t first_len, uint8_t *second, size_t second_len);
+struct peat_answer peat_timer_expiry(uint8_t *rec, size_t rec_len, uint8_t *apdu, size_t apdu_len, uint8_t *data, size_t data_len);
 
 /* An unrecoverable system error; never PROHIBITED. Outside IDLE it invokes D-ABORT request with originator PEAT_PROVIDER,
    reason PEAT_UNDEFINED_ERROR, and tells an active user. In IDLE it does nothing. */
-uint64_t peat_system_error(uint8_t *rec, size_t rec_len, uint8_t *first, size_t first_len, uint8_t *second, size_t second_len);
+struct peat_answer peat_system_error(uint8_t *rec, size_t rec_len, uint8_t *apdu, size_t apdu_len, uint8_t *data, size_t data_len);
 
 /* ---- primitives of the dialogue service
  *
- * given: PEAT_USER_DATA, the user data being all the bytes of the range; or PEAT_NO_USER_DATA, and the range is not looked
+ * has_user_data: PEAT_USER_DATA, the user data being all the bytes of the range; or PEAT_NO_USER_DATA, and the range is not looked
  * at. Another number is SHAPE. User data of no bytes are user data, and no valid PDU: a primitive that came without user data
  * is PEAT_NO_USER_DATA. At a record of type 2 the responses to a start and the ends may come so. User data that are lent may be read
  * also where the outcome does not depend on them.
  * number: the dialogue number that the primitive carries; what the carrier itself makes carries that of the record.
  * All refuse with PEAT_ROOM and PEAT_SHAPE (rec is not a record, a code outside its type), and then with PEAT_STALE where number is
- * not peat_record_number. They write rec, first (an abort or a forward response, if one is invoked) and second (message data or a
+ * not peat_record_number. They write rec, apdu (an abort or a forward response, if one is invoked) and data (message data or a
  * forward message, if some are delivered).
  */
 
@@ -947,58 +914,125 @@ uint64_t peat_system_error(uint8_t *rec, size_t rec_len, uint8_t *first, size_t 
    STALE unless number is above peat_record_number; the record then holds it, also where the start is turned away.
    A FORWARD BELONGS TO AN IDLE RECORD: at a record that is busy with an aircraft, any D-START indication breaks that dialogue. So a
    centre keeps records of their own for the forwards that it gets. */
-uint64_t peat_d_start_indication(uint8_t *rec, size_t rec_len, uint64_t number, uint64_t peer, uint64_t security,
-    uint64_t priority, uint64_t rate, uint64_t routing, uint64_t version, uint64_t given, const uint8_t *bytes, size_t bytes_len,
-    uint8_t *first, size_t first_len, uint8_t *second, size_t second_len);
+struct peat_answer peat_d_start_indication(uint8_t *rec, size_t rec_len, uint64_t number, uint64_t peer, uint64_t security,
+    uint64_t priority, uint64_t rate, uint64_t routing, uint64_t version, uint64_t has_user_data, const uint8_t *user_data, size_t user_data_len,
+    uint8_t *apdu, size_t apdu_len, uint8_t *data, size_t data_len);
 
 /* D-START confirmation. result: enum peat_result. source: enum peat_reject_source. security: enum peat_security.
    version: as above. */
-uint64_t peat_d_start_confirmation(uint8_t *rec, size_t rec_len, uint64_t number, uint64_t result, uint64_t source, uint64_t security,
-    uint64_t version, uint64_t given, const uint8_t *bytes, size_t bytes_len,
-    uint8_t *first, size_t first_len, uint8_t *second, size_t second_len);
+struct peat_answer peat_d_start_confirmation(uint8_t *rec, size_t rec_len, uint64_t number, uint64_t result, uint64_t source, uint64_t security,
+    uint64_t version, uint64_t has_user_data, const uint8_t *user_data, size_t user_data_len,
+    uint8_t *apdu, size_t apdu_len, uint8_t *data, size_t data_len);
 
 /* D-DATA indication. */
-uint64_t peat_d_data_indication(uint8_t *rec, size_t rec_len, uint64_t number, uint64_t given, const uint8_t *bytes, size_t bytes_len,
-    uint8_t *first, size_t first_len, uint8_t *second, size_t second_len);
+struct peat_answer peat_d_data_indication(uint8_t *rec, size_t rec_len, uint64_t number, uint64_t has_user_data, const uint8_t *user_data, size_t user_data_len,
+    uint8_t *apdu, size_t apdu_len, uint8_t *data, size_t data_len);
 
 /* D-END indication. */
-uint64_t peat_d_end_indication(uint8_t *rec, size_t rec_len, uint64_t number, uint64_t given, const uint8_t *bytes, size_t bytes_len,
-    uint8_t *first, size_t first_len, uint8_t *second, size_t second_len);
+struct peat_answer peat_d_end_indication(uint8_t *rec, size_t rec_len, uint64_t number, uint64_t has_user_data, const uint8_t *user_data, size_t user_data_len,
+    uint8_t *apdu, size_t apdu_len, uint8_t *data, size_t data_len);
 
 /* D-END confirmation. result: PEAT_ACCEPTED or PEAT_REJECTED; another, PEAT_REJECTED_TRANSIENT too, is SHAPE. */
-uint64_t peat_d_end_confirmation(uint8_t *rec, size_t rec_len, uint64_t number, uint64_t result,
-    uint64_t given, const uint8_t *bytes, size_t bytes_len,
-    uint8_t *first, size_t first_len, uint8_t *second, size_t second_len);
+struct peat_answer peat_d_end_confirmation(uint8_t *rec, size_t rec_len, uint64_t number, uint64_t result,
+    uint64_t has_user_data, const uint8_t *user_data, size_t user_data_len,
+    uint8_t *apdu, size_t apdu_len, uint8_t *data, size_t data_len);
 
 /* D-ABORT indication. originator: enum peat_originator. */
-uint64_t peat_d_abort_indication(uint8_t *rec, size_t rec_len, uint64_t number, uint64_t originator,
-    uint64_t given, const uint8_t *bytes, size_t bytes_len,
-    uint8_t *first, size_t first_len, uint8_t *second, size_t second_len);
+struct peat_answer peat_d_abort_indication(uint8_t *rec, size_t rec_len, uint64_t number, uint64_t originator,
+    uint64_t has_user_data, const uint8_t *user_data, size_t user_data_len,
+    uint8_t *apdu, size_t apdu_len, uint8_t *data, size_t data_len);
 
 /* D-P-ABORT indication, which has no user data. */
-uint64_t peat_d_p_abort_indication(uint8_t *rec, size_t rec_len, uint64_t number,
-    uint8_t *first, size_t first_len, uint8_t *second, size_t second_len);
+struct peat_answer peat_d_p_abort_indication(uint8_t *rec, size_t rec_len, uint64_t number,
+    uint8_t *apdu, size_t apdu_len, uint8_t *data, size_t data_len);
+
+/* ---- a primitive on its way, from the host that invokes it to the host that is handed it
+ *
+ * Both hosts need the same two steps: one makes a primitive of an answer, the other makes the right call of the primitive. In between your
+ * carrier brings the fields of struct peat_primitive, and beside them the user data: the first user_data_len bytes of buffer apdu.
+ *
+ *     answer = peat_message_request(PEAT_ARRAY(rec), job, PEAT_DATA(one), PEAT_BUFFERS(apdu, data));
+ *     sent = peat_primitive_of(answer, rec);
+ *     if (sent.kind != PEAT_SILENT)
+ *         ..                               store rec; then send the fields of sent, and sent.user_data_len bytes of apdu
+ *
+ *     answer = peat_hand_over(PEAT_ARRAY(rec), came, PEAT_AIRCRAFT, user_data, PEAT_BUFFERS(apdu, data));
+ */
+
+/* A primitive of the dialogue service as its host invokes it. It has no pointer: copy it, store it, send it. */
+struct peat_primitive {
+    uint64_t number;        /* of the dialogue */
+    size_t user_data_len;   /* bytes of user data */
+    unsigned kind;          /* enum peat_invoked */
+    unsigned parameter;     /* routing class, result or originator, as enum peat_invoked says */
+    unsigned security;      /* of a D-START: enum peat_security */
+    unsigned version;       /* of a D-START between centres; else PEAT_NO_VERSION */
+    unsigned has_user_data; /* enum peat_user_data */
+};
+
+/* The primitive that the answer of a machine's call asks you to invoke; its kind is PEAT_SILENT where there is none, and where the call was
+   refused. rec: the record after the call, whose number it carries. Its user data are in buffer apdu. */
+static inline struct peat_primitive peat_primitive_of(struct peat_answer answer, const uint8_t *rec)
+{
+    struct peat_primitive p;
+    p.number = peat_record_number(rec);
+    p.user_data_len = peat_apdu_bytes(answer);
+    p.kind = peat_invoked(answer);
+    p.parameter = peat_invoked_parameter(answer);
+    p.security = peat_invoked_security(answer);
+    p.version = peat_version(answer);
+    p.has_user_data = peat_apdu_bits(answer) > 0 ? PEAT_USER_DATA : PEAT_NO_USER_DATA;
+    return p;
+}
+
+/* Hands a primitive over to the record that it arrives at: a request as its indication, a response as its confirmation. The answer is that
+   of the call. peer: who sent it, enum peat_peer; it matters to a D-START alone. user_data: user_data_len bytes, as they were sent. The
+   quality of service is the right one, and a rejection is the user's; a carrier that received another one, or rejects a start itself,
+   makes the call itself, and so does one that lost its connection (peat_d_p_abort_indication). PEAT_SHAPE also where the kind is none that
+   is sent. */
+static inline struct peat_answer peat_hand_over(uint8_t *rec, size_t rec_len, struct peat_primitive primitive, uint64_t peer, const uint8_t *user_data,
+    uint8_t *apdu, size_t apdu_len, uint8_t *data, size_t data_len)
+{
+    const uint64_t number = primitive.number, has = primitive.has_user_data;
+    const size_t len = primitive.user_data_len;
+    struct peat_answer none;
+    switch (primitive.kind) {
+    case PEAT_D_START_REQUEST:
+        return peat_d_start_indication(rec, rec_len, number, peer, primitive.security, PEAT_HIGH_PRIORITY, PEAT_LOW_ERROR_RATE, primitive.parameter,
+            primitive.version, has, user_data, len, apdu, apdu_len, data, data_len);
+    case PEAT_D_START_RESPONSE:
+        return peat_d_start_confirmation(rec, rec_len, number, primitive.parameter, PEAT_DS_USER, primitive.security, primitive.version, has, user_data,
+            len, apdu, apdu_len, data, data_len);
+    case PEAT_D_DATA_REQUEST: return peat_d_data_indication(rec, rec_len, number, has, user_data, len, apdu, apdu_len, data, data_len);
+    case PEAT_D_END_REQUEST: return peat_d_end_indication(rec, rec_len, number, has, user_data, len, apdu, apdu_len, data, data_len);
+    case PEAT_D_END_RESPONSE:
+        return peat_d_end_confirmation(rec, rec_len, number, primitive.parameter, has, user_data, len, apdu, apdu_len, data, data_len);
+    case PEAT_D_ABORT_REQUEST:
+        return peat_d_abort_indication(rec, rec_len, number, primitive.parameter, has, user_data, len, apdu, apdu_len, data, data_len);
+    default: none.word = PEAT_SHAPE; return none;
+    }
+}
 
 /* ---- message data that were delivered */
 
 /* Takes one part out of message data of type 22, into out from its first bit on. (Those of type 2 are the message itself.) which: enum
-   peat_part. delivered: the message data, all bytes of the range, as a call left them in its second buffer (peat_data_bytes of them).
+   peat_part. delivered: the message data, all bytes of the range, as a call left them in buffer data (peat_data_bytes of them).
    Answers PEAT_ROOM (out is under PEAT_BUFFER_LEAST bytes); PEAT_SHAPE (which is none of its codes); or where the bytes are
    no message data the fault met first, PEAT_SHORT to PEAT_TAIL, with its position (never for what a call left there); and then
    out stays.
    Else peat_part_given says whether the part is there. If it is, out has it in its first peat_part_bits(answer) bits, the
    bits after the last one are zero up to the end of the byte, and every other byte stays; if not, out stays. */
-uint64_t peat_data_part(uint64_t which, const uint8_t *delivered, size_t delivered_len, uint8_t *out, size_t out_len);
+struct peat_part_answer peat_data_part(uint64_t which, const uint8_t *delivered, size_t delivered_len, uint8_t *out, size_t out_len);
 
 /* All parts of a forward message as it was delivered. delivered: the forward message, all bytes of the range, as a call that told
-   PEAT_FORWARD_INDICATION left them in its second buffer (peat_data_bytes of them). type: enum peat_type, that of the record.
+   PEAT_FORWARD_INDICATION left them in buffer data (peat_data_bytes of them). type: enum peat_type, that of the record.
    Answers PEAT_ROOM (out is under PEAT_BUFFER_LEAST bytes); PEAT_SHAPE (type is none of its codes, or heading is not of
    PEAT_HEADING_BYTES bytes); or where the bytes are no forward message the fault met first, PEAT_SHORT, PEAT_RANGE, PEAT_EXTENSION,
    PEAT_LENGTH_FORM, PEAT_TAIL or PEAT_NOT_CARRIED, with its position (never for what a call left there); and then heading and out stay.
    (PEAT_LENGTH_FORM is of type 22 alone, PEAT_EXTENSION and PEAT_NOT_CARRIED of type 2.)
    Else heading has the numbers, which peat_heading_value reads. peat_forward_value(answer) is the count of the message's bits: out
    has them in its first so many bits, those after the last one are zero up to the end of the byte, and every other byte stays. */
-uint64_t peat_read_forward(const uint8_t *delivered, size_t delivered_len, uint8_t *heading, size_t heading_len, uint8_t *out, size_t out_len,
+struct peat_forward_answer peat_read_forward(const uint8_t *delivered, size_t delivered_len, uint8_t *heading, size_t heading_len, uint8_t *out, size_t out_len,
     uint64_t type);
 
 /* a number that peat_read_forward left in heading: PEAT_FORWARD_YEAR to PEAT_FORWARD_DIRECTION, in eight bytes each, the most
@@ -1012,7 +1046,7 @@ static inline uint64_t peat_heading_value(const uint8_t *heading, enum peat_forw
    peat_read_forward; and then out stays.
    Else peat_forward_value reads the part. Of PEAT_FORWARD_MESSAGE that is the count of its bits: out has them in its first so many
    bits, those after the last one are zero up to the end of the byte, and every other byte stays. For any other part out stays. */
-uint64_t peat_forward_part(uint64_t which, const uint8_t *delivered, size_t delivered_len, uint8_t *out, size_t out_len);
+struct peat_forward_answer peat_forward_part(uint64_t which, const uint8_t *delivered, size_t delivered_len, uint8_t *out, size_t out_len);
 
 /* ---- an APDU by itself, as it was recorded: for whoever looks for a fault. No machine is asked whether it is permitted. */
 
@@ -1020,7 +1054,7 @@ uint64_t peat_forward_part(uint64_t which, const uint8_t *delivered, size_t deli
    Answers PEAT_SHAPE (which is none of its codes); or the fault met first, PEAT_SHORT to PEAT_DEFAULT, with its position; in type 22
    no message is looked into, so that PEAT_NOT_CARRIED is of type 2 alone, and there no length has a form or a limit. Else
    peat_apdu_kind, peat_apdu_number and peat_apdu_has_data read the answer. A forward APDU is read to its end. Writes nothing. */
-uint64_t peat_read_apdu(uint64_t which, const uint8_t *bytes, size_t bytes_len);
+struct peat_apdu_answer peat_read_apdu(uint64_t which, const uint8_t *bytes, size_t bytes_len);
 
 /* What an APDU is, from its leading bits: for a router. Looks at the first byte and at nothing behind it. which: PEAT_AIRCRAFT_PDUS or
    PEAT_GROUND_PDUS, for both application types: their leading bits are the same. bytes: the APDU, or its first byte alone.
@@ -1028,7 +1062,7 @@ uint64_t peat_read_apdu(uint64_t which, const uint8_t *bytes, size_t bytes_len);
    peat_read_apdu refuses the APDU too, for this fault or another. Else peat_apdu_kind is its kind, and peat_apdu_number the mode of a
    start and 0 for every other kind; where peat_read_apdu accepts the APDU, it says the same kind and mode. Whether it accepts it is
    not said here, and peat_apdu_has_data is 0. Writes nothing. */
-uint64_t peat_read_leading(uint64_t which, const uint8_t *bytes, size_t bytes_len);
+struct peat_apdu_answer peat_read_leading(uint64_t which, const uint8_t *bytes, size_t bytes_len);
 
 /* ---- the broker's envelope
  *
@@ -1044,7 +1078,7 @@ uint64_t peat_read_leading(uint64_t which, const uint8_t *bytes, size_t bytes_le
    peat_envelope_body of the lent ones on, and the next envelope, if there are bytes left, begins at byte
    peat_envelope_next. Both places are at most PEAT_ENVELOPE_MOST. And job has the job number, 1 to 2^64 - 1, which takes
    all bits of a number and so is not in the answer: peat_job_number reads it there. */
-uint64_t peat_read_envelope(const uint8_t *lent, size_t lent_len, uint8_t *job, size_t job_len);
+struct peat_envelope_answer peat_read_envelope(const uint8_t *lent, size_t lent_len, uint8_t *job, size_t job_len);
 
 /* the job number that peat_read_envelope or peat_mail_take left in job, PEAT_JOB_BYTES bytes, the most significant first */
 static inline uint64_t peat_job_number(const uint8_t *job) { return peat_eight_bytes(job); }
@@ -1056,7 +1090,7 @@ static inline uint64_t peat_job_number(const uint8_t *job) { return peat_eight_b
    more than the body holds, a padding bit that is 1), and out stays. Else out has the envelope in its first
    peat_written_bytes(answer) bytes, at most PEAT_ENVELOPE_MOST, and every other byte stays; peat_read_envelope reads it
    back. body and out must not overlap. */
-uint64_t peat_write_envelope(uint64_t kind, uint64_t job, uint64_t bits, const uint8_t *body, size_t body_len,
+struct peat_written_envelope peat_write_envelope(uint64_t kind, uint64_t job, uint64_t bits, const uint8_t *body, size_t body_len,
     uint8_t *out, size_t out_len);
 
 /* ---- envelopes as they arrive
@@ -1091,7 +1125,7 @@ uint64_t peat_write_envelope(uint64_t kind, uint64_t job, uint64_t bits, const u
 
 /* Makes a fresh record in mail. Answers PEAT_SHAPE (mail is not of PEAT_MAIL_BYTES bytes), and mail stays; else 0, and every
    byte of mail is written. */
-uint64_t peat_mail_fresh(uint8_t *mail, size_t mail_len);
+struct peat_outcome peat_mail_fresh(uint8_t *mail, size_t mail_len);
 
 /* The next fragment of the input, or what an earlier call left of it. Its length may be anything, 0 too.
    Answers PEAT_SHAPE (job is not of PEAT_JOB_BYTES bytes; mail is not of PEAT_MAIL_BYTES bytes, or these are no record: a state
@@ -1105,18 +1139,18 @@ uint64_t peat_mail_fresh(uint8_t *mail, size_t mail_len);
    bits from byte peat_envelope_body(answer) of mail on, job has its job number (peat_job_number reads it), and the host calls
    again with the rest of the fragment. Where the kind is 0, all bytes were taken and no envelope is finished. job stays wherever
    no envelope is finished. A call takes at most PEAT_ENVELOPE_MOST bytes, and at least one of a fragment that has one. */
-uint64_t peat_mail_take(uint8_t *mail, size_t mail_len, const uint8_t *fragment, size_t fragment_len, uint8_t *job, size_t job_len);
+struct peat_envelope_answer peat_mail_take(uint8_t *mail, size_t mail_len, const uint8_t *fragment, size_t fragment_len, uint8_t *job, size_t job_len);
 
 /* The input has ended. Answers PEAT_SHAPE for mail as peat_mail_take does; PEAT_CUT where an envelope is unfinished, and mail holds that
    refusal from then on; the refusal that mail holds already; else 0, and mail stays. */
-uint64_t peat_mail_end(uint8_t *mail, size_t mail_len);
+struct peat_outcome peat_mail_end(uint8_t *mail, size_t mail_len);
 
 /* How many bytes of an envelope are held, and where the envelope that is held or refused begins. */
 static inline size_t peat_mail_held(const uint8_t *mail) { return (size_t)mail[PEAT_MAIL_COUNT] << 8 | mail[PEAT_MAIL_COUNT + 1]; }
 static inline uint64_t peat_mail_place(const uint8_t *mail) { return peat_eight_bytes(mail + PEAT_MAIL_PLACE); }
 
 /* Of an envelope that was finished: its body, where it stands in mail. */
-static inline const uint8_t *peat_mail_body(const uint8_t *mail, uint64_t answer) { return mail + peat_envelope_body(answer); }
+static inline const uint8_t *peat_mail_body(const uint8_t *mail, struct peat_envelope_answer answer) { return mail + peat_envelope_body(answer); }
 
 /* ---- two recordings compared
  *
@@ -1124,7 +1158,7 @@ static inline const uint8_t *peat_mail_body(const uint8_t *mail, uint64_t answer
  * each, and the two are compared:
  *
  *     static uint8_t left[PEAT_LIST_MOST], right[PEAT_LIST_MOST], twice[PEAT_LIST_MOST], counts[PEAT_COUNTS_BYTES];
- *     uint64_t answer = peat_compare(air, air_len, ground, ground_len, PEAT_ARRAY(left), PEAT_ARRAY(right), PEAT_ARRAY(twice),
+ *     struct peat_compare_answer answer = peat_compare(air, air_len, ground, ground_len, PEAT_ARRAY(left), PEAT_ARRAY(right), PEAT_ARRAY(twice),
  *         PEAT_ARRAY(counts));
  *     struct peat_comparison c = peat_comparison_of(answer, counts);
  *     for (i = 0; i < c.only_first; i++)
@@ -1143,7 +1177,7 @@ static inline const uint8_t *peat_mail_body(const uint8_t *mail, uint64_t answer
    that differs. Where it is PEAT_FIELD_NONE and recording is not 0, one recording is the beginning of the other, and from that byte on the
    recording of that number has the rest. Where both are 0, the recordings are equal. counts has how many jobs each list has taken, two bytes
    each, and every byte behind the jobs of a list stays. The six ranges must not overlap; first and second alone may. */
-uint64_t peat_compare(const uint8_t *first, size_t first_len, const uint8_t *second, size_t second_len, uint8_t *left, size_t left_len,
+struct peat_compare_answer peat_compare(const uint8_t *first, size_t first_len, const uint8_t *second, size_t second_len, uint8_t *left, size_t left_len,
     uint8_t *right, size_t right_len, uint8_t *twice, size_t twice_len, uint8_t *counts, size_t counts_len);
 
 /* ---- the CPDLC message
@@ -1169,7 +1203,7 @@ uint64_t peat_compare(const uint8_t *first, size_t first_len, const uint8_t *sec
    to PEAT_DEFAULT, with its position in these bits; and then message and text stay. (PEAT_LENGTH_FORM and PEAT_LIMIT never come here: a message has no field
    whose length has a form or a limit of its own. They come from peat_data_part.) Else message is written whole, text has the characters in its first
    peat_message_characters(answer) bytes, and its other bytes stay. */
-uint64_t peat_read_message(uint64_t direction, const uint8_t *bits, size_t bits_len, uint64_t count,
+struct peat_message_answer peat_read_message(uint64_t direction, const uint8_t *bits, size_t bits_len, uint64_t count,
     uint8_t *message, size_t message_len, uint8_t *text, size_t text_len);
 
 /* Writes a message into out, from its first bit on. direction: as above. text: the characters of its elements and no more;
@@ -1180,7 +1214,7 @@ uint64_t peat_read_message(uint64_t direction, const uint8_t *bits, size_t bits_
    which no message of these kinds has: five texts of 256 characters are 9,097 at most); and then out stays. Else out has
    the message in its first peat_message_bits(answer) bits, the bits after the last one are zero up to the end of the byte,
    and every other byte stays; peat_read_message reads it back. */
-uint64_t peat_write_message(uint64_t direction, const uint8_t *message, size_t message_len, const uint8_t *text, size_t text_len,
+struct peat_written_message peat_write_message(uint64_t direction, const uint8_t *message, size_t message_len, const uint8_t *text, size_t text_len,
     uint8_t *out, size_t out_len);
 
 /* ---- the book of message identification numbers
@@ -1201,19 +1235,19 @@ uint64_t peat_write_message(uint64_t direction, const uint8_t *message, size_t m
 
 /* Empties a book, or makes one of any bytes: no number is open.
    Answers 0 and writes book, all zeros; or PEAT_SHAPE (book_len is not PEAT_BOOK_BYTES), and book stays. */
-uint64_t peat_book_empty(uint8_t *book, size_t book_len);
+struct peat_outcome peat_book_empty(uint8_t *book, size_t book_len);
 
 /* Opens the lowest free number for a job, 1 to 2^64 - 1. The book does not mind a job that has a number already: it then has
    two. Answers PEAT_SHAPE (job is 0, or book is not a book); PEAT_ALL_OPEN, exactly where all PEAT_BOOK_NUMBERS are open; and
    book stays. Else peat_opened_number reads the answer. */
-uint64_t peat_book_open(uint8_t *book, size_t book_len, uint64_t job);
+struct peat_open_answer peat_book_open(uint8_t *book, size_t book_len, uint64_t job);
 
 /* Closes a number that is open; it may be given again from then on.
    Answers PEAT_SHAPE (book is not a book); PEAT_NOT_OPEN (number is not open, or above 63); and book stays. Else 0. */
-uint64_t peat_book_close(uint8_t *book, size_t book_len, uint64_t number);
+struct peat_outcome peat_book_close(uint8_t *book, size_t book_len, uint64_t number);
 
 /* How many numbers are open: peat_open_count reads the answer. Or PEAT_SHAPE (book is not a book). Writes nothing. */
-uint64_t peat_book_count(const uint8_t *book, size_t book_len);
+struct peat_count_answer peat_book_count(const uint8_t *book, size_t book_len);
 
 /* The job that a number is open for, 1 to 2^64 - 1; 0 where it is not open, is above 63, or book is not a book. (A job takes
    all bits of a number, so no refusal has room beside it; peat_book_count tells whether a range is a book.) Writes nothing. */

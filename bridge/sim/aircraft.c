@@ -50,10 +50,10 @@ static uint32_t *latency_us;
 static size_t latencies, latency_room;
 static volatile sig_atomic_t drop, asked, done;
 
-static uint8_t first[PEAT_BUFFER_LEAST], second[PEAT_BUFFER_LEAST];
+static uint8_t apdu[PEAT_BUFFER_LEAST], delivered[PEAT_BUFFER_LEAST];
 
 #define RECORD(a) (a)->record, sizeof (a)->record
-#define BUFFERS first, sizeof first, second, sizeof second
+#define BUFFERS PEAT_BUFFERS(apdu, delivered)
 #define JOBS_MOST 10000000
 
 static void on_signal(int signal)
@@ -79,14 +79,14 @@ static void note(struct aircraft *a, const char *format, ...)
     fputc('\n', a->moves);
 }
 
-static void note_hears(struct aircraft *a, const struct primitive *p, uint64_t answer)
+static void note_hears(struct aircraft *a, const struct primitive *p, struct peat_answer answer)
 {
     static const char *const words[][2] = {[PEAT_D_START_REQUEST] = {"start", "start"}, [PEAT_D_START_RESPONSE] = {"start-accepted", "start-rejected"},
         [PEAT_D_DATA_REQUEST] = {"data", "data"}, [PEAT_D_END_REQUEST] = {"end", "end"}, [PEAT_D_END_RESPONSE] = {"end-accepted", "end-rejected"},
         [PEAT_D_ABORT_REQUEST] = {"abort", "abort"}};
     int aborts = peat_refusal(answer) == PEAT_TAKEN && peat_invoked(answer) == PEAT_D_ABORT_REQUEST;
-    if (p->kind != PEAT_SILENT && p->kind < sizeof words / sizeof *words)
-        note(a, "hears-%s %llu%s", words[p->kind][p->parameter != PEAT_ACCEPTED], (unsigned long long)p->number, aborts ? " aborts" : "");
+    if (p->is.kind != PEAT_SILENT && p->is.kind < sizeof words / sizeof *words)
+        note(a, "hears-%s %llu%s", words[p->is.kind][p->is.parameter != PEAT_ACCEPTED], (unsigned long long)p->is.number, aborts ? " aborts" : "");
 }
 
 static int once_in(unsigned n) { return n > 0 && rand() % (int)n == 0; }
@@ -115,9 +115,9 @@ static uint64_t see_clearance(struct aircraft *a, const uint8_t *message, unsign
 }
 
 /* The message of what was delivered: all of it in type 2, else a part; its bits, or 0. */
-static unsigned message_in(const struct aircraft *a, const uint8_t *data, uint64_t answer, uint8_t *message)
+static unsigned message_in(const struct aircraft *a, const uint8_t *data, struct peat_answer answer, uint8_t *message)
 {
-    uint64_t part;
+    struct peat_part_answer part;
     if (peat_record_type(a->record) == PEAT_PLAIN) {
         memcpy(message, data, peat_data_bytes(answer));
         return peat_data_bits(answer);
@@ -126,7 +126,7 @@ static unsigned message_in(const struct aircraft *a, const uint8_t *data, uint64
     return peat_refusal(part) == PEAT_TAKEN ? peat_part_bits(part) : 0;
 }
 
-static void see(struct aircraft *a, const uint8_t *data, uint64_t answer)
+static void see(struct aircraft *a, const uint8_t *data, struct peat_answer answer)
 {
     uint8_t message[PEAT_BUFFER_LEAST];
     unsigned bits = message_in(a, data, answer, message);
@@ -154,7 +154,7 @@ static void see(struct aircraft *a, const uint8_t *data, uint64_t answer)
 
 static void lose(struct aircraft *a);
 
-static void act(struct aircraft *a, uint64_t answer)
+static void act(struct aircraft *a, struct peat_answer answer)
 {
     struct primitive p;
     if (peat_refusal(answer) != PEAT_TAKEN) {
@@ -162,13 +162,8 @@ static void act(struct aircraft *a, uint64_t answer)
         return;
     }
     if (peat_invoked(answer) != PEAT_SILENT && a->socket >= 0) {
-        p.kind = (uint8_t)peat_invoked(answer);
-        p.number = peat_record_number(a->record);
-        p.parameter = (uint8_t)peat_invoked_parameter(answer);
-        p.security = (uint8_t)peat_invoked_security(answer);
-        p.given = peat_apdu_bits(answer) > 0 ? PEAT_USER_DATA : PEAT_NO_USER_DATA;
-        p.bytes = peat_apdu_bytes(answer);
-        memcpy(p.data, first, p.bytes);
+        p.is = peat_primitive_of(answer, a->record);
+        memcpy(p.data, apdu, p.is.user_data_len);
         if (packet_send(a->socket, &p) == LINK_DONE)
             note(a, "sends");
         else
@@ -186,7 +181,7 @@ static void act(struct aircraft *a, uint64_t answer)
         a->open = 0;
         break;
     case PEAT_MESSAGE_INDICATION:
-        see(a, second, answer);
+        see(a, delivered, answer);
         note(a, "shows");
         break;
     case PEAT_END_INDICATION:
@@ -213,7 +208,7 @@ static void lose(struct aircraft *a)
 
 static void say(struct aircraft *a, uint64_t job, const struct peat_data *data)
 {
-    uint64_t answer = peat_message_request(RECORD(a), job, PEAT_DATA(*data), BUFFERS);
+    struct peat_answer answer = peat_message_request(RECORD(a), job, PEAT_DATA(*data), BUFFERS);
     if (peat_refusal(answer) == PEAT_TAKEN)
         note(a, "takes %llu", (unsigned long long)job);
     act(a, answer);
@@ -269,13 +264,13 @@ static void hear(struct aircraft *a)
             return;
         if (got == LINK_BROKEN) {
             lose(a);
-        } else if (peat_record_state(a->record) == PEAT_IDLE && p.kind != PEAT_D_START_REQUEST) {
-            note_hears(a, &p, PEAT_STALE);
+        } else if (peat_record_state(a->record) == PEAT_IDLE && p.is.kind != PEAT_D_START_REQUEST) {
+            note_hears(a, &p, (struct peat_answer){PEAT_STALE});
         } else {
-            uint64_t answer = primitive_arrives(&p, a->record, first, second);
+            struct peat_answer answer = peat_hand_over(RECORD(a), p.is, PEAT_FACILITY, p.data, BUFFERS);
             note_hears(a, &p, answer);
             act(a, answer);
-            if (p.kind == PEAT_D_DATA_REQUEST)
+            if (p.is.kind == PEAT_D_DATA_REQUEST)
                 fly(a);
         }
     }
@@ -291,7 +286,7 @@ static void meet(struct aircraft *a)
     a->socket = s;
     note(a, "meets");
     if (starts) {
-        uint64_t answer = peat_start(RECORD(a), peat_record_number(a->record) + 1, PEAT_CPDLC, PEAT_CLASS_ANY, PEAT_NO_SECURITY, PEAT_NO_DATA, BUFFERS);
+        struct peat_answer answer = peat_start(RECORD(a), peat_record_number(a->record) + 1, PEAT_CPDLC, PEAT_CLASS_ANY, PEAT_NO_SECURITY, PEAT_NO_DATA, BUFFERS);
         if (peat_refusal(answer) == PEAT_TAKEN)
             note(a, "starts-cpdlc %llu", (unsigned long long)peat_record_number(a->record));
         act(a, answer);

@@ -31,7 +31,7 @@ static inline unsigned clearance_make(uint8_t *out, unsigned dialogue, uint64_t 
 {
     uint8_t m[PEAT_INNER_BYTES], *place = m + peat_place_at(0);
     char text[CLEARANCE_TEXT];
-    uint64_t answer;
+    struct peat_written_message answer;
     clearance_front(m, number);
     snprintf(text, sizeof text, "CLEARANCE %u %llu", dialogue, (unsigned long long)job);
     place[PEAT_PLACE_NUMBER] = CLEARANCE_FREE_TEXT;
@@ -46,7 +46,7 @@ static inline uint64_t clearance_job(const uint8_t *bits, unsigned count, unsign
     uint8_t m[PEAT_INNER_BYTES], text[PEAT_BUFFER_LEAST + 1];
     unsigned long long job = 0;
     unsigned of = 0;
-    uint64_t answer = peat_read_message(PEAT_UPLINK, bits, (count + 7u) / 8u, count, m, sizeof m, text, PEAT_BUFFER_LEAST);
+    struct peat_message_answer answer = peat_read_message(PEAT_UPLINK, bits, (count + 7u) / 8u, count, m, sizeof m, text, PEAT_BUFFER_LEAST);
     if (peat_refusal(answer) != PEAT_TAKEN)
         return 0;
     text[peat_message_characters(answer)] = '\0';
@@ -58,7 +58,7 @@ static inline uint64_t clearance_job(const uint8_t *bits, unsigned count, unsign
 static inline unsigned clearance_reply(uint8_t *out, unsigned number, unsigned reference, unsigned element)
 {
     uint8_t m[PEAT_INNER_BYTES];
-    uint64_t answer;
+    struct peat_written_message answer;
     clearance_front(m, number);
     m[PEAT_INNER_REFERENCED] = 1;
     m[PEAT_INNER_REFERENCE] = (uint8_t)reference;

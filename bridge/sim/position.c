@@ -224,7 +224,7 @@ static int forward(unsigned centre, uint64_t first, uint64_t last)
         return 1;
     for (; first <= last; first++) {
         unsigned bits = clearance_make(message, 0, first, 0);
-        uint64_t written = peat_write_envelope(PEAT_ENVELOPE_TO_SEND, first, bits, message, (bits + 7u) / 8u, e, sizeof e);
+        struct peat_written_envelope written = peat_write_envelope(PEAT_ENVELOPE_TO_SEND, first, bits, message, (bits + 7u) / 8u, e, sizeof e);
         snprintf(flight, sizeof flight, "x-peat-flight=J%06u", (unsigned)(first % 1000000));
         if (!stored(give_with(queue_of("forward", centre), e, peat_written_bytes(written), 3, head)) ||
             !stored(give_with(queue_of("forward", centre), e, peat_written_bytes(written), 3, head)))
@@ -241,7 +241,7 @@ static int clear(unsigned dialogue, uint64_t first, uint64_t last, int heads, ch
         return 1;
     for (; first <= last; first++) {
         unsigned bits = clearance_make(message, dialogue, first, 7);
-        uint64_t written = peat_write_envelope(PEAT_ENVELOPE_TO_SEND, first, bits, message, (bits + 7u) / 8u, e, sizeof e);
+        struct peat_written_envelope written = peat_write_envelope(PEAT_ENVELOPE_TO_SEND, first, bits, message, (bits + 7u) / 8u, e, sizeof e);
         if (!stored(give_with(up(dialogue), e, peat_written_bytes(written), heads, head)))
             return 1;
     }
@@ -290,7 +290,7 @@ static int give_job(struct giving *g, unsigned dialogue, uint64_t job)
 {
     uint8_t message[PATTERN_MOST], e[PEAT_BUFFER_LEAST];
     size_t n;
-    uint64_t written;
+    struct peat_written_envelope written;
     if (job < 1 || job > g->steps)
         return 1;
     n = pattern_make(message, dialogue, job, now_us());

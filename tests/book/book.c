@@ -122,13 +122,13 @@ static void sixty_four(void)
     check(does(EMPTY, 0) == 0, "any bytes are emptied");
     for (n = 0; n < sizeof book; n++)
         check(book[n] == 0, "an empty book is zeros");
-    check(peat_open_count(does(COUNT, 0)) == 0, "none is open");
+    check(peat_open_count(AS(peat_count_answer, does(COUNT, 0))) == 0, "none is open");
     check(does(CLOSE, 0) == PEAT_NOT_OPEN, "closing in an empty book");
     check(does(OPEN, 0) == PEAT_SHAPE, "job 0");
     for (n = 0; n < PEAT_BOOK_NUMBERS; n++) {
         uint64_t said = does(OPEN, UINT64_MAX - n);
-        check(peat_refusal(said) == PEAT_TAKEN && peat_opened_number(said) == n && said >> 16 == 0, "the lowest free number");
-        check(peat_open_count(does(COUNT, 0)) == n + 1, "one more is open");
+        check(peat_refusal_in(said) == PEAT_TAKEN && peat_opened_number(AS(peat_open_answer, said)) == n && said >> 16 == 0, "the lowest free number");
+        check(peat_open_count(AS(peat_count_answer, does(COUNT, 0))) == n + 1, "one more is open");
         check(does(JOB, n) == UINT64_MAX - n && does(JOB, n + 1) == 0, "its job, and none at the next");
     }
     memcpy(full, book, sizeof book);
@@ -143,13 +143,13 @@ static void sixty_four(void)
     for (n = 64; n-- > 0;) {
         check(does(CLOSE, n) == 0, "closed");
         check(does(CLOSE, n) == PEAT_NOT_OPEN, "not open any more");
-        check(peat_opened_number(does(OPEN, UINT64_MAX - n)) == n, "a closed number is given again");
+        check(peat_opened_number(AS(peat_open_answer, does(OPEN, UINT64_MAX - n))) == n, "a closed number is given again");
     }
     check(memcmp(full, book, sizeof book) == 0, "the same open numbers and jobs, the same bytes");
     check(does(CLOSE, 63) == 0 && does(CLOSE, 5) == 0 && does(CLOSE, 40) == 0, "three are closed");
-    check(peat_opened_number(does(OPEN, 1)) == 5 && peat_opened_number(does(OPEN, 1)) == 40 && peat_opened_number(does(OPEN, 1)) == 63,
+    check(does(OPEN, 1) == 5 << PEAT_BOOK_ANSWER_AT && does(OPEN, 1) == 40 << PEAT_BOOK_ANSWER_AT && does(OPEN, 1) == 63 << PEAT_BOOK_ANSWER_AT,
         "the lowest first; one job may have several numbers");
-    check(does(EMPTY, 0) == 0 && peat_open_count(does(COUNT, 0)) == 0, "emptied while all are open");
+    check(does(EMPTY, 0) == 0 && peat_open_count(AS(peat_count_answer, does(COUNT, 0))) == 0, "emptied while all are open");
 }
 
 /* A book with one thing wrong is refused by each call that looks at it, before any other refusal, and stays. */
@@ -242,10 +242,10 @@ static int random_call(int filling)
     if (!agrees(c, book, sizeof book, n, &said) || !model_is_book(book, sizeof book, &open))
         return 0;
     seen.calls[c]++;
-    if (c != JOB && peat_refusal(said) < 9)
-        seen.refused[c][peat_refusal(said)]++;
-    if (c == OPEN && peat_refusal(said) == PEAT_TAKEN)
-        seen.given[peat_opened_number(said)]++;
+    if (c != JOB && peat_refusal_in(said) < 9)
+        seen.refused[c][peat_refusal_in(said)]++;
+    if (c == OPEN && peat_refusal_in(said) == PEAT_TAKEN)
+        seen.given[peat_opened_number(AS(peat_open_answer, said))]++;
     seen.full += open == PEAT_BOOK_NUMBERS;
     return 1;
 }

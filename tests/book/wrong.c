@@ -41,7 +41,7 @@ static int is_book(const uint8_t *book, size_t len)
     return 1;
 }
 
-uint64_t peat_book_empty(uint8_t *book, size_t len)
+static uint64_t empty(uint8_t *book, size_t len)
 {
     if (len != PEAT_BOOK_BYTES)
         return PEAT_SHAPE;
@@ -49,7 +49,7 @@ uint64_t peat_book_empty(uint8_t *book, size_t len)
     return 0;
 }
 
-uint64_t peat_book_open(uint8_t *book, size_t len, uint64_t job)
+static uint64_t open_lowest(uint8_t *book, size_t len, uint64_t job)
 {
     uint64_t open;
     int n;
@@ -73,7 +73,7 @@ uint64_t peat_book_open(uint8_t *book, size_t len, uint64_t job)
     return (uint64_t)n << 8;
 }
 
-uint64_t peat_book_close(uint8_t *book, size_t len, uint64_t number)
+static uint64_t close_one(uint8_t *book, size_t len, uint64_t number)
 {
     uint64_t open;
     if (!is_book(book, len))
@@ -88,7 +88,7 @@ uint64_t peat_book_close(uint8_t *book, size_t len, uint64_t number)
     return 0;
 }
 
-uint64_t peat_book_count(const uint8_t *book, size_t len)
+static uint64_t count_open(const uint8_t *book, size_t len)
 {
     uint64_t open, count = 0;
     if (!is_book(book, len))
@@ -97,6 +97,11 @@ uint64_t peat_book_count(const uint8_t *book, size_t len)
         count += open & 1;
     return (FAULT == 3 && count == 64 ? 0 : count) << 8; /* 3: six bits of a count */
 }
+
+struct peat_outcome peat_book_empty(uint8_t *book, size_t len) { return (struct peat_outcome){empty(book, len)}; }
+struct peat_open_answer peat_book_open(uint8_t *book, size_t len, uint64_t job) { return (struct peat_open_answer){open_lowest(book, len, job)}; }
+struct peat_outcome peat_book_close(uint8_t *book, size_t len, uint64_t number) { return (struct peat_outcome){close_one(book, len, number)}; }
+struct peat_count_answer peat_book_count(const uint8_t *book, size_t len) { return (struct peat_count_answer){count_open(book, len)}; }
 
 uint64_t peat_book_job(const uint8_t *book, size_t len, uint64_t number)
 {

@@ -63,7 +63,7 @@ static void give(struct stage *s, uint64_t job, unsigned times, const char *head
 {
     uint8_t message[PEAT_BUFFER_LEAST], e[PEAT_BUFFER_LEAST];
     unsigned bits = clearance_make(message, 0, job, 0);
-    uint64_t written = peat_write_envelope(PEAT_ENVELOPE_TO_SEND, job, bits, message, (bits + 7u) / 8u, e, sizeof e);
+    struct peat_written_envelope written = peat_write_envelope(PEAT_ENVELOPE_TO_SEND, job, bits, message, (bits + 7u) / 8u, e, sizeof e);
     while (times-- > 0)
         memory_put_with(s->memory, OUT_PLACE, e, peat_written_bytes(written), heads);
 }
@@ -333,16 +333,16 @@ static void stranger(void)
     for (i = 0; i < SOON && connect(s, (struct sockaddr *)&a, sizeof a) != 0; i++)
         poll(NULL, 0, 1);
     memset(&p, 0, sizeof p);
-    p.kind = PEAT_D_START_REQUEST;
-    p.number = 1;
+    p.is.kind = PEAT_D_START_REQUEST;
+    p.is.number = 1;
     memcpy(p.facility, "EDCC", 4);
     packet_send_centre(s, &p);
     memcpy(p.facility, "EDAA", 4);
-    p.number = UINT64_MAX;
+    p.is.number = UINT64_MAX;
     packet_send_centre(s, &p);
-    p.number = 1;
-    p.given = PEAT_USER_DATA;
-    p.bytes = 3;
+    p.is.number = 1;
+    p.is.has_user_data = PEAT_USER_DATA;
+    p.is.user_data_len = 3;
     memset(p.data, 0xFF, 3);
     packet_send_centre(s, &p); /* which the card answers as the protocol says */
     for (i = 0; i < SAID_MS / 10 && logged(&other, "unexpected primitive") == 0; i++)

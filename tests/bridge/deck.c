@@ -8,10 +8,10 @@
 
 #define WAIT_MS 8000
 
-static uint8_t first[PEAT_BUFFER_LEAST], second[PEAT_BUFFER_LEAST];
+static uint8_t apdu[PEAT_BUFFER_LEAST], data_for_user[PEAT_BUFFER_LEAST];
 
 #define RECORD(k) (k)->record, sizeof (k)->record
-#define BUFFERS first, sizeof first, second, sizeof second
+#define BUFFERS PEAT_BUFFERS(apdu, data_for_user)
 
 int deck_begin_of(struct deck *k, const char *path, unsigned dialogue, unsigned type)
 {
@@ -35,35 +35,30 @@ int deck_meet(struct deck *k)
 }
 
 /* What a call invokes goes out. 1: it was taken */
-static int act(struct deck *k, uint64_t answer)
+static int act(struct deck *k, struct peat_answer answer)
 {
     struct primitive p;
     if (peat_refusal(answer) != PEAT_TAKEN)
         return 0;
     k->bytes = peat_data_bytes(answer);
     k->bits = peat_data_bits(answer);
-    memcpy(k->data, second, k->bytes);
+    memcpy(k->data, data_for_user, k->bytes);
     k->parameter = peat_told_parameter(answer);
     memset(&p, 0, sizeof p);
-    p.kind = (uint8_t)peat_invoked(answer);
-    p.number = peat_record_number(k->record);
-    p.parameter = (uint8_t)peat_invoked_parameter(answer);
-    p.security = (uint8_t)peat_invoked_security(answer);
-    p.given = peat_apdu_bits(answer) > 0 ? PEAT_USER_DATA : PEAT_NO_USER_DATA;
-    p.bytes = peat_apdu_bytes(answer);
-    memcpy(p.data, first, p.bytes);
-    return p.kind == PEAT_SILENT || packet_send(k->socket, &p) == LINK_DONE;
+    p.is = peat_primitive_of(answer, k->record);
+    memcpy(p.data, apdu, p.is.user_data_len);
+    return p.is.kind == PEAT_SILENT || packet_send(k->socket, &p) == LINK_DONE;
 }
 
 unsigned deck_hear(struct deck *k)
 {
     struct pollfd wait = {k->socket, POLLIN, 0};
     struct primitive p;
-    uint64_t answer;
+    struct peat_answer answer;
     unsigned told;
     if (poll(&wait, 1, WAIT_MS) != 1 || packet_receive(k->socket, &p) != LINK_DONE)
         return PEAT_UNTOLD;
-    answer = primitive_arrives(&p, k->record, first, second);
+    answer = peat_hand_over(RECORD(k), p.is, PEAT_FACILITY, p.data, BUFFERS);
     told = peat_refusal(answer) == PEAT_TAKEN ? peat_told(answer) : PEAT_UNTOLD;
     if (!act(k, answer))
         return PEAT_UNTOLD;
@@ -88,7 +83,7 @@ int deck_end_dsc(struct deck *k) { return act(k, peat_dsc_end_request(RECORD(k),
 
 int deck_part(const struct deck *k, unsigned part, uint8_t *out)
 {
-    uint64_t answer = peat_data_part(part, k->data, k->bytes, out, PEAT_BUFFER_LEAST);
+    struct peat_part_answer answer = peat_data_part(part, k->data, k->bytes, out, PEAT_BUFFER_LEAST);
     return peat_refusal(answer) == PEAT_TAKEN && peat_part_given(answer) ? (int)peat_part_bits(answer) : -1;
 }
 

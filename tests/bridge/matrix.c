@@ -548,7 +548,7 @@ static size_t put_envelope(uint8_t *at, unsigned kind, uint64_t job, unsigned bi
 {
     static const uint8_t body[256];
     uint8_t e[PEAT_BUFFER_LEAST];
-    uint64_t written = peat_write_envelope(kind, job, bits, body, sizeof body, e, sizeof e);
+    struct peat_written_envelope written = peat_write_envelope(kind, job, bits, body, sizeof body, e, sizeof e);
     memcpy(at, e, peat_written_bytes(written));
     return peat_written_bytes(written);
 }

@@ -6,42 +6,44 @@
 
 static struct model model;
 
-uint64_t peat_mail_fresh(uint8_t *mail, size_t mail_len)
+struct peat_outcome peat_mail_fresh(uint8_t *mail, size_t mail_len)
 {
     (void)mail_len;
     model_fresh(&model);
     model_record(&model, mail);
-    return PEAT_TAKEN;
+    return (struct peat_outcome){PEAT_TAKEN};
 }
 
-static uint64_t finished(size_t taken)
+static struct peat_envelope_answer answer(uint64_t word) { return (struct peat_envelope_answer){word}; }
+
+static struct peat_envelope_answer finished(size_t taken)
 {
-    return model.kind << PEAT_ENVELOPE_KIND_AT | model.bits << PEAT_ENVELOPE_BITS_AT |
-        (uint64_t)(PEAT_MAIL_HEAD + model.body) << PEAT_ENVELOPE_BODY_AT | (uint64_t)taken << PEAT_ENVELOPE_NEXT_AT;
+    return answer(model.kind << PEAT_ENVELOPE_KIND_AT | model.bits << PEAT_ENVELOPE_BITS_AT |
+        (uint64_t)(PEAT_MAIL_HEAD + model.body) << PEAT_ENVELOPE_BODY_AT | (uint64_t)taken << PEAT_ENVELOPE_NEXT_AT);
 }
 
-uint64_t peat_mail_take(uint8_t *mail, size_t mail_len, const uint8_t *fragment, size_t fragment_len, uint8_t *job, size_t job_len)
+struct peat_envelope_answer peat_mail_take(uint8_t *mail, size_t mail_len, const uint8_t *fragment, size_t fragment_len, uint8_t *job, size_t job_len)
 {
     enum event e = model.refusal != 0 ? REFUSED : MORE;
     size_t n = 0;
     (void)mail_len;
     if (job_len != PEAT_JOB_BYTES)
-        return PEAT_SHAPE;
+        return answer(PEAT_SHAPE);
     while (e == MORE && n < fragment_len)
         e = model_feed(&model, fragment[n++]);
     model_record(&model, mail);
     if (e == REFUSED)
-        return model.refusal;
+        return answer(model.refusal);
     if (e != FINISHED)
-        return (uint64_t)n << PEAT_ENVELOPE_NEXT_AT;
+        return answer((uint64_t)n << PEAT_ENVELOPE_NEXT_AT);
     model_job(&model, job);
     return finished(n);
 }
 
-uint64_t peat_mail_end(uint8_t *mail, size_t mail_len)
+struct peat_outcome peat_mail_end(uint8_t *mail, size_t mail_len)
 {
     (void)mail_len;
     model_end(&model);
     model_record(&model, mail);
-    return model.refusal;
+    return (struct peat_outcome){model.refusal};
 }

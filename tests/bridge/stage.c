@@ -246,7 +246,7 @@ void stage_job(struct stage *s, unsigned dialogue, uint64_t job, unsigned times,
 {
     uint8_t message[PATTERN_MOST], e[PEAT_BUFFER_LEAST];
     size_t n = pattern_make(message, dialogue, job, 0);
-    uint64_t written = peat_write_envelope(PEAT_ENVELOPE_TO_SEND, job, 8 * n, message, n, e, sizeof e);
+    struct peat_written_envelope written = peat_write_envelope(PEAT_ENVELOPE_TO_SEND, job, 8 * n, message, n, e, sizeof e);
     while (times-- > 0) {
         memory_put(s->memory, dialogue, e, peat_written_bytes(written), late);
         account_job(&s->account, dialogue, job)->given++;
@@ -257,7 +257,7 @@ void stage_clearance(struct stage *s, unsigned dialogue, uint64_t job, unsigned 
 {
     uint8_t message[PEAT_BUFFER_LEAST], e[PEAT_BUFFER_LEAST];
     unsigned bits = clearance_make(message, dialogue, job, 7); /* every position's number is 7 */
-    uint64_t written = peat_write_envelope(PEAT_ENVELOPE_TO_SEND, job, bits, message, (bits + 7u) / 8u, e, sizeof e);
+    struct peat_written_envelope written = peat_write_envelope(PEAT_ENVELOPE_TO_SEND, job, bits, message, (bits + 7u) / 8u, e, sizeof e);
     while (times-- > 0) {
         memory_put_with(s->memory, dialogue, e, peat_written_bytes(written), heads);
         account_job(&s->account, dialogue, job)->given++;

@@ -78,9 +78,9 @@ static void say(int to, unsigned kind, uint64_t number)
 {
     struct primitive p;
     memset(&p, 0, sizeof p);
-    p.kind = (uint8_t)kind;
-    p.number = number;
-    p.given = PEAT_NO_USER_DATA;
+    p.is.kind = kind;
+    p.is.number = number;
+    p.is.has_user_data = PEAT_NO_USER_DATA;
     packet_send(to, &p);
 }
 

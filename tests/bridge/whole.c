@@ -179,7 +179,7 @@ static void number_kept(void)
 static void put_bits(unsigned dialogue, uint64_t job, const uint8_t *bits, unsigned count, const char *heads)
 {
     uint8_t e[PEAT_BUFFER_LEAST];
-    uint64_t written = peat_write_envelope(PEAT_ENVELOPE_TO_SEND, job, count, bits, (count + 7u) / 8u, e, sizeof e);
+    struct peat_written_envelope written = peat_write_envelope(PEAT_ENVELOPE_TO_SEND, job, count, bits, (count + 7u) / 8u, e, sizeof e);
     memory_put_with(memory, dialogue, e, peat_written_bytes(written), heads);
     account_job(&stage.account, dialogue, job)->given++;
 }

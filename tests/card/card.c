@@ -137,7 +137,7 @@ static int can_refuse(enum which w, unsigned x)
 static int position_fits(enum which w, const struct args *a, uint64_t said)
 {
     size_t bits = w == READ_MESSAGE ? (size_t)a->n[1] : w == DATA_PART || w == FORWARD_PART || w == READ_FORWARD || w == READ_APDU ? 8 * a->bytes.len : 0;
-    return peat_position(said) <= (peat_refusal(said) < PEAT_SHORT ? 0 : bits);
+    return peat_position_in(said) <= (peat_refusal_in(said) < PEAT_SHORT ? 0 : bits);
 }
 
 /* Makes the call: a refusal is its number and its position alone and changes no byte, else it does what the model does. */
@@ -146,7 +146,7 @@ static int agrees(enum which w, struct args *a, uint64_t *said)
     struct args m = copied(a);
     uint64_t want;
     *said = card_call(w, a);
-    if (peat_refusal(*said) != PEAT_TAKEN && (!position_fits(w, a, *said) || !can_refuse(w, peat_refusal(*said)) || !as_copied(a)))
+    if (peat_refusal_in(*said) != PEAT_TAKEN && (!position_fits(w, a, *said) || !can_refuse(w, peat_refusal_in(*said)) || !as_copied(a)))
         return 0;
     want = model_call(w, &m);
     return *said == want && as_copied(a);
@@ -239,7 +239,7 @@ static size_t some_message(unsigned direction, int elements, uint8_t *bytes)
     } while (n < 256);
     b.n = 0;
     from = elements ? header_bits(message) : 0;
-    for (i = from; i < peat_message_bits(n); i++)
+    for (i = from; i < peat_message_bits(AS(peat_written_message, n)); i++)
         put(&b, made[i / 8] >> (7 - i % 8) & 1, 1);
     if (b.n > 60 && once_in(10)) /* an index, or what is behind it */
         b.bit[b.n - 1 - below(50)] ^= 1;
@@ -593,7 +593,7 @@ static void random_bits(struct args *a)
         made.first.at = bytes, made.first.len = PEAT_BUFFER_LEAST;
         n = model_call(WRITE_MESSAGE, &made);
     } while (n < 256);
-    bits = peat_message_bits(n);
+    bits = peat_message_bits(AS(peat_written_message, n));
     a->n[0] = once_in(60) ? any() : once_in(20) ? 3 - made.n[0] : made.n[0];
     if (once_in(3))
         bytes[once_in(2) ? below(9) : below((unsigned)bits / 8 + 1)] ^= (uint8_t)(1u << below(8));
@@ -677,10 +677,10 @@ static void random_call(enum which w, struct args *a)
 static unsigned long cells[KINDS][6][2][CALLS], dsc_starts[KINDS][6][2], invoked[KINDS][16], bare[KINDS][16], reported[KINDS][16], both_buffers;
 static int type_changed;
 
-static void seen(enum which w, const struct args *a, const uint8_t *rec, uint64_t said)
+static void seen(enum which w, const struct args *a, const uint8_t *rec, struct peat_answer said)
 {
     unsigned side = rec[PEAT_RECORD_SIDE] - 1u;
-    if (w >= FRESH || said == PEAT_ROOM || said == PEAT_SHAPE)
+    if (w >= FRESH || peat_refusal(said) == PEAT_ROOM || peat_refusal(said) == PEAT_SHAPE)
         return;
     if (w == START_REQUEST && a->n[0] == PEAT_DSC)
         dsc_starts[side][peat_record_state(rec)][peat_record_dsc(rec)]++;
@@ -759,8 +759,8 @@ static void random_calls(unsigned long calls)
         memcpy(before, lent[0] - sizeof before, sizeof before);
         if (!agrees((enum which)w, &a, &said) && wrong[w]++ == 0)
             printf("card: %s, call %lu: answers %llx, which is not as the model has it\n", names[w], n, (unsigned long long)said);
-        answered[w][peat_refusal(said)]++;
-        seen((enum which)w, &a, before, said);
+        answered[w][peat_refusal_in(said)]++;
+        seen((enum which)w, &a, before, AS(peat_answer, said));
     }
     if (calls >= 500000)
         all_seen();
@@ -863,7 +863,7 @@ static void edges(void)
                 lend(&a, 6, PEAT_BUFFER_LEAST);
                 a.message = w == FORWARD_REQUEST ? 0 : NONE;
                 set_codes(&a, (enum which)w);
-                numbers &= agrees((enum which)w, &a, &said) && (peat_refusal(said) == PEAT_STALE) == is_stale((enum which)w, i);
+                numbers &= agrees((enum which)w, &a, &said) && (peat_refusal_in(said) == PEAT_STALE) == is_stale((enum which)w, i);
             }
         check(buffers, "buffers of 0, 1, 2,111 and 2,112 bytes");
         check(nothing, "ranges of no bytes");
@@ -921,7 +921,7 @@ static void start_everywhere(void)
             struct args a;
             uint64_t said;
             unsigned want = numbered_start(&a, n, v);
-            right &= agrees(START_REQUEST, &a, &said) && peat_refusal(said) == want;
+            right &= agrees(START_REQUEST, &a, &said) && peat_refusal_in(said) == want;
             if (want == PEAT_TAKEN)
                 taken[a.n[0]]++;
         }
@@ -944,7 +944,7 @@ static uint64_t reads(const uint8_t *bytes, size_t len)
         memcpy(a.bytes.at, bytes, len);
     lend(&a, 5, PEAT_JOB_BYTES);
     memset(a.first.at, 0, PEAT_JOB_BYTES); /* 0 is no job */
-    if (!agrees(READ_ENVELOPE, &a, &said) || (job_in(&a) == 0) != (peat_refusal(said) != PEAT_TAKEN))
+    if (!agrees(READ_ENVELOPE, &a, &said) || (job_in(&a) == 0) != (peat_refusal_in(said) != PEAT_TAKEN))
         return (uint64_t)-1;
     return said;
 }
@@ -965,7 +965,7 @@ static void job_ranges(void)
             memcpy(a.bytes.at, i == 0 ? sound : cut, a.bytes.len);
             fill(lent[5] - 2 * PEAT_JOB_BYTES, 2 * PEAT_JOB_BYTES);
             lend(&a, 5, size);
-            right &= agrees(READ_ENVELOPE, &a, &said) && peat_refusal(said) == (size != PEAT_JOB_BYTES ? PEAT_SHAPE : i == 0 ? PEAT_TAKEN : PEAT_CUT);
+            right &= agrees(READ_ENVELOPE, &a, &said) && peat_refusal_in(said) == (size != PEAT_JOB_BYTES ? PEAT_SHAPE : i == 0 ? PEAT_TAKEN : PEAT_CUT);
             right &= size != PEAT_JOB_BYTES || i != 0 || job_in(&a) == 300;
         }
     }
@@ -988,7 +988,7 @@ static void damaged_envelopes(void)
     int cut = 1, byte = 1, groups = 1, count_of = 1;
     for (i = 0; i < sizeof whole_ones / sizeof whole_ones[0]; i++) {
         size_t len = whole_ones[i].len;
-        cut &= peat_refusal(reads(whole_ones[i].at, len)) == PEAT_TAKEN && peat_envelope_next(reads(whole_ones[i].at, len)) == len;
+        cut &= peat_refusal_in(reads(whole_ones[i].at, len)) == PEAT_TAKEN && peat_envelope_next(AS(peat_envelope_answer, reads(whole_ones[i].at, len))) == len;
         for (j = 0; j < len; j++)
             cut &= reads(whole_ones[i].at, j) == PEAT_CUT;
         for (j = 0; j < len; j++)
@@ -1039,7 +1039,7 @@ static void damaged_envelopes(void)
             count_of &= reads(long_one, whole_len) == PEAT_SIZE;
         }
         long_one[0] = 3;
-        count_of &= (peat_refusal(reads(long_one, whole_len)) == PEAT_SIZE) == (i != 8);
+        count_of &= (peat_refusal_in(reads(long_one, whole_len)) == PEAT_SIZE) == (i != 8);
     }
     check(count_of, "bit counts, and a bit behind each");
 }
@@ -1049,13 +1049,13 @@ static void known_envelopes(void)
 {
     static const uint8_t one[] = {0x01, 0xAC, 0x02, 0x0A, 0xA5, 0x40, 0x03}; /* and one byte of the next */
     uint8_t job[PEAT_JOB_BYTES];
-    uint64_t n = reads(one, sizeof one);
+    struct peat_envelope_answer n = AS(peat_envelope_answer, reads(one, sizeof one));
     check(peat_refusal(n) == PEAT_TAKEN && peat_envelope_kind(n) == PEAT_ENVELOPE_TO_SEND && peat_envelope_bits(n) == 10 && peat_envelope_body(n) == 4 &&
         peat_envelope_next(n) == 6, "01 AC 02 0A A5 40: kind 1, ten bits");
-    check(peat_read_envelope(PEAT_ARRAY(one), PEAT_ARRAY(job)) == n && memcmp(job, (const uint8_t[]){0, 0, 0, 0, 0, 0, 1, 44}, sizeof job) == 0,
+    check(WORD(peat_read_envelope(PEAT_ARRAY(one), PEAT_ARRAY(job))) == WORD(n) && memcmp(job, (const uint8_t[]){0, 0, 0, 0, 0, 0, 1, 44}, sizeof job) == 0,
         "job 300, the most significant byte first");
-    check(peat_read_envelope(NULL, 0, PEAT_ARRAY(job)) == PEAT_CUT && peat_job_number(job) == 300, "no bytes at all are CUT, and the job stays");
-    check(peat_read_envelope(PEAT_ARRAY(one), NULL, 0) == PEAT_SHAPE, "no range for the job is SHAPE");
+    check(WORD(peat_read_envelope(NULL, 0, PEAT_ARRAY(job))) == PEAT_CUT && peat_job_number(job) == 300, "no bytes at all are CUT, and the job stays");
+    check(WORD(peat_read_envelope(PEAT_ARRAY(one), NULL, 0)) == PEAT_SHAPE, "no range for the job is SHAPE");
     check(READS(0x01, 0x80, 0x00) == PEAT_GROUPS, "01 80 00: GROUPS");
     check(READS(0x01, 0x00, 0x00) == PEAT_GROUPS, "job 0: GROUPS");
     check(READS(0x00) == PEAT_KIND && READS(0x04) == PEAT_KIND && READS(0x80) == PEAT_CUT && READS(0x80, 0x00) == PEAT_GROUPS, "a kind");
@@ -1085,14 +1085,14 @@ static int writes(uint64_t kind, uint64_t job, uint64_t bits, const uint8_t *bod
 {
     struct args a = content(kind, job, bits, body, len, out);
     uint8_t back[PEAT_JOB_BYTES];
-    uint64_t n;
+    struct peat_envelope_answer n;
     if (!agrees(WRITE_ENVELOPE, &a, said))
         return 0;
-    if (peat_refusal(*said) != PEAT_TAKEN)
+    if (peat_refusal_in(*said) != PEAT_TAKEN)
         return 1;
     n = peat_read_envelope(a.first.at, out, PEAT_ARRAY(back));
-    return peat_written_bytes(*said) <= PEAT_ENVELOPE_MOST && peat_refusal(n) == PEAT_TAKEN && peat_envelope_kind(n) == kind && peat_envelope_bits(n) == bits &&
-           peat_job_number(back) == job && peat_envelope_next(n) == peat_written_bytes(*said) &&
+    return peat_written_bytes(AS(peat_written_envelope, *said)) <= PEAT_ENVELOPE_MOST && peat_refusal(n) == PEAT_TAKEN && peat_envelope_kind(n) == kind && peat_envelope_bits(n) == bits &&
+           peat_job_number(back) == job && peat_envelope_next(n) == peat_written_bytes(AS(peat_written_envelope, *said)) &&
            (bits == 0 || memcmp(a.first.at + peat_envelope_body(n), body, (size_t)(bits + 7) / 8) == 0);
 }
 
@@ -1117,7 +1117,7 @@ static void written_envelopes(void)
             uint64_t job = ((uint64_t)1 << i) - 1 + j;
             jobs_ok &= writes(1 + i % 2, job, 9, body, 2, LEAST, &said) && (said == PEAT_SHAPE) == (job == 0);
         }
-    jobs_ok &= writes(2, UINT64_MAX, PEAT_MESSAGE_MOST, body, 2048, LEAST, &said) && peat_written_bytes(said) == PEAT_ENVELOPE_MOST;
+    jobs_ok &= writes(2, UINT64_MAX, PEAT_MESSAGE_MOST, body, 2048, LEAST, &said) && peat_written_bytes(AS(peat_written_envelope, said)) == PEAT_ENVELOPE_MOST;
     for (bits = 0; bits <= PEAT_MESSAGE_MOST + 12; bits += bits < 2060 || bits > 16300 ? 1 : 61) {
         unsigned len = (unsigned)(bits + 7) / 8;
         memset(body, 0xFF, sizeof body);
@@ -1190,7 +1190,7 @@ static void message_edges(void)
         lend(&a, 4, sizeof data);
         memcpy(a.bytes.at, data, sizeof data);
         lend(&a, 5, PEAT_BUFFER_LEAST);
-        parts &= agrees(DATA_PART, &a, &said) && peat_part_given(said) == (i > 0) && peat_part_bits(said) == (i == 1 ? 10 : 0);
+        parts &= agrees(DATA_PART, &a, &said) && peat_part_given(AS(peat_part_answer, said)) == (i > 0) && peat_part_bits(AS(peat_part_answer, said)) == (i == 1 ? 10 : 0);
     }
     check(sizes, "message ranges and buffers of other lengths");
     check(codes, "codes of no type, in the calls of a message");
@@ -1207,7 +1207,7 @@ static const uint8_t by_hand[] = {0x43, 0xD4, 0xE6, 0x3D, 0xDC, 0x85, 0x06, 0xBB
 /* The same in application type 2 with the element dM0 in place: 0, 000 and 0 0000000 behind the 1. */
 static const uint8_t plain_by_hand[] = {0x43, 0xD4, 0xE6, 0x3D, 0xDC, 0x85, 0x06, 0xBB, 0x16, 0x4C, 0xD0, 0x00, 0x48, 0xE0, 0x00};
 
-static uint64_t reads_apdu(uint64_t type, const uint8_t *bytes, size_t len, int *ok)
+static struct peat_apdu_answer reads_apdu(uint64_t type, const uint8_t *bytes, size_t len, int *ok)
 {
     struct args a;
     uint64_t said;
@@ -1217,7 +1217,7 @@ static uint64_t reads_apdu(uint64_t type, const uint8_t *bytes, size_t len, int 
     if (len > 0)
         memcpy(a.bytes.at, bytes, len);
     *ok &= agrees(READ_APDU, &a, &said);
-    return said;
+    return AS(peat_apdu_answer, said);
 }
 
 static void apdu_edges(void)
@@ -1279,7 +1279,7 @@ static void apdu_edges(void)
         {PEAT_PLAIN_AIRCRAFT_PDUS, {0x48, 0, 0, 0, 0, 0, 0x02, 0xC0}, 8, PEAT_NOT_CARRIED, 51}, /* dM11 in a start */
     };
     uint8_t bytes[8];
-    uint64_t said;
+    struct peat_apdu_answer said;
     size_t i, j;
     int ok = 1, codes = 1, positions = 1, cuts = 1;
     for (i = 0; i < sizeof hand / sizeof *hand; i++) {
@@ -1294,8 +1294,8 @@ static void apdu_edges(void)
         }
     }
     for (i = 0; i < 64; i++)
-        codes &= reads_apdu(((uint64_t)1 << i) | 8, hand[6].bytes, 1, &ok) == PEAT_SHAPE;
-    codes &= reads_apdu(0, NULL, 0, &ok) == PEAT_SHAPE && reads_apdu(5, NULL, 0, &ok) == PEAT_SHAPE && reads_apdu(PEAT_NONE, NULL, 0, &ok) == PEAT_SHAPE;
+        codes &= WORD(reads_apdu(((uint64_t)1 << i) | 8, hand[6].bytes, 1, &ok)) == PEAT_SHAPE;
+    codes &= WORD(reads_apdu(0, NULL, 0, &ok)) == PEAT_SHAPE && WORD(reads_apdu(5, NULL, 0, &ok)) == PEAT_SHAPE && WORD(reads_apdu(PEAT_NONE, NULL, 0, &ok)) == PEAT_SHAPE;
     memcpy(bytes, "\x58\x00\x00", 3); /* startdown, mode dsc, a check of no bits */
     said = reads_apdu(PEAT_AIRCRAFT_PDUS, bytes, 2, &ok);
     codes &= peat_refusal(said) == PEAT_TAKEN && peat_position(said) == 0 && peat_apdu_kind(said) == PEAT_APDU_START && peat_apdu_number(said) == 1 && peat_apdu_has_data(said) == 1;
@@ -1347,19 +1347,19 @@ static uint64_t above(void)
 }
 
 /* keeps the APDU for the other end */
-static uint64_t sent(uint64_t answer)
+static struct peat_answer sent(struct peat_answer answer)
 {
     line_len = peat_apdu_bytes(answer);
     memcpy(line, first, line_len);
     return answer;
 }
 
-static int invokes(uint64_t answer, unsigned primitive, unsigned parameter)
+static int invokes(struct peat_answer answer, unsigned primitive, unsigned parameter)
 {
     return peat_refusal(answer) == PEAT_TAKEN && peat_invoked(answer) == primitive && peat_invoked_parameter(answer) == parameter;
 }
 
-static int told(uint64_t answer, unsigned primitive, unsigned parameter, unsigned dsc)
+static int told(struct peat_answer answer, unsigned primitive, unsigned parameter, unsigned dsc)
 {
     return peat_refusal(answer) == PEAT_TAKEN && peat_invoked(answer) == PEAT_SILENT && peat_told(answer) == primitive &&
            peat_told_parameter(answer) == parameter && peat_told_dsc(answer) == dsc;
@@ -1369,8 +1369,8 @@ static int states(unsigned a, unsigned g) { return peat_record_state(air) == a &
 
 static void fresh_of(unsigned type)
 {
-    check(peat_fresh(AIR_REC, PEAT_AIR, PEAT_NO_SECURITY, PEAT_FORWARDS_NOT, 1, type) == 0 &&
-        peat_fresh(GROUND_REC, PEAT_GROUND, PEAT_NO_SECURITY, PEAT_FORWARDS_NOT, 1, type) == 0, "fresh records");
+    check(WORD(peat_fresh(AIR_REC, PEAT_AIR, PEAT_NO_SECURITY, PEAT_FORWARDS_NOT, 1, type)) == 0 &&
+        WORD(peat_fresh(GROUND_REC, PEAT_GROUND, PEAT_NO_SECURITY, PEAT_FORWARDS_NOT, 1, type)) == 0, "fresh records");
     check(states(PEAT_IDLE, PEAT_IDLE) && peat_record_highest(air) == 0 && peat_record_number(air) == 0 && !peat_record_timer(air) && !peat_record_active(air), "a fresh record is IDLE");
     check(peat_record_type(air) == type && peat_record_type(ground) == type && peat_record_side(air) == PEAT_AIR && peat_record_side(ground) == PEAT_GROUND,
         "a record says its type and its side");
@@ -1381,7 +1381,7 @@ static void fresh(void) { fresh_of(PEAT_PROTECTED); }
 /* the ground end opens, the air end accepts */
 static void opens(void)
 {
-    uint64_t n = sent(peat_start(GROUND_REC, number = above(), PEAT_CPDLC, PEAT_CLASS_C, PEAT_NO_SECURITY, BARE, BUFFERS));
+    struct peat_answer n = sent(peat_start(GROUND_REC, number = above(), PEAT_CPDLC, PEAT_CLASS_C, PEAT_NO_SECURITY, BARE, BUFFERS));
     check(invokes(n, PEAT_D_START_REQUEST, PEAT_CLASS_C) && peat_record_timer(ground), "CPDLC-start request");
     n = peat_d_start_indication(AIR_REC, number, PEAT_FACILITY, PEAT_NO_SECURITY, 1, 1, PEAT_CLASS_C, PEAT_NO_VERSION, LINE, BUFFERS);
     check(told(n, PEAT_START_INDICATION, PEAT_CLASS_C, 0) && states(PEAT_START_IND, PEAT_START_REQ), "CPDLC-start indication");
@@ -1391,7 +1391,7 @@ static void opens(void)
     check(told(n, PEAT_START_CONFIRMATION, PEAT_ACCEPTED, 0) && states(PEAT_DIALOGUE, PEAT_DIALOGUE) && !peat_record_timer(ground), "CPDLC-start confirmation");
 }
 
-static uint64_t says(uint8_t *rec, uint64_t job, const uint8_t *message, uint64_t bits)
+static struct peat_answer says(uint8_t *rec, uint64_t job, const uint8_t *message, uint64_t bits)
 {
     static const uint8_t check_bits[8] = {0xA5, 0x5A, 1, 2, 3, 4, 5, 6};
     return sent(peat_message_request(rec, PEAT_RECORD_BYTES, job, NULL, 0, message, (size_t)((bits + 7) / 8), bits, check_bits, 8, 64, BUFFERS));
@@ -1401,7 +1401,7 @@ static uint64_t says(uint8_t *rec, uint64_t job, const uint8_t *message, uint64_
 static void messages(uint64_t job)
 {
     uint8_t text[2] = {0xA5, 0x40};
-    uint64_t n = says(air, job, text, 10);
+    struct peat_answer n = says(air, job, text, 10);
     check(invokes(n, PEAT_D_DATA_REQUEST, 0) && peat_apdu_bits(n) == 3 + 3 + 8 + 10 + 8 + 64, "a message down");
     n = peat_d_data_indication(GROUND_REC, number, LINE, BUFFERS);
     /* 001 00001010 1010010101 01000000 .. */
@@ -1417,7 +1417,7 @@ static void later_edition(void)
 {
     static uint8_t longer[12 + 3 + 3000], plain[PEAT_BUFFER_LEAST];
     uint8_t text[2] = {0xA5, 0x40};
-    uint64_t n;
+    struct peat_answer n;
     fresh();
     opens();
     says(air, 1, text, 10);
@@ -1438,7 +1438,7 @@ static void later_edition(void)
 
 static void ends(void)
 {
-    uint64_t n = sent(peat_end_request(GROUND_REC, BARE, BUFFERS));
+    struct peat_answer n = sent(peat_end_request(GROUND_REC, BARE, BUFFERS));
     check(invokes(n, PEAT_D_END_REQUEST, 0), "CPDLC-end request");
     check(told(peat_d_end_indication(AIR_REC, number, LINE, BUFFERS), PEAT_END_INDICATION, 0, 0) && states(PEAT_END, PEAT_END), "CPDLC-end indication");
     n = sent(peat_end_response(AIR_REC, PEAT_ACCEPTED, BARE, BUFFERS));
@@ -1454,20 +1454,20 @@ static void open_message_end_again(void)
     messages(1);
     ends();
     opens();
-    check(says(air, 1, NULL, 0) == PEAT_REPEAT, "the job is not forgotten when the dialogue closes");
+    check(WORD(says(air, 1, NULL, 0)) == PEAT_REPEAT, "the job is not forgotten when the dialogue closes");
     messages(2);
     ends();
 }
 
 static void downstream(void)
 {
-    uint64_t n;
+    struct peat_answer n;
     fresh();
     n = sent(peat_start(AIR_REC, number = above(), PEAT_DSC, PEAT_CLASS_ANY, PEAT_NO_SECURITY, BARE, BUFFERS));
     check(invokes(n, PEAT_D_START_REQUEST, 0) && peat_record_dsc(air), "DSC-start request");
     n = peat_d_start_indication(GROUND_REC, number, PEAT_AIRCRAFT, PEAT_NO_SECURITY, 1, 1, 0, PEAT_NO_VERSION, LINE, BUFFERS);
     check(told(n, PEAT_START_INDICATION, 0, 1) && peat_record_dsc(ground), "DSC-start indication");
-    check(peat_start_response(GROUND_REC, PEAT_ACCEPTED, BARE, BUFFERS) == PEAT_PROHIBITED, "a CPDLC-start response to a DSC-start");
+    check(WORD(peat_start_response(GROUND_REC, PEAT_ACCEPTED, BARE, BUFFERS)) == PEAT_PROHIBITED, "a CPDLC-start response to a DSC-start");
     n = sent(peat_dsc_start_response(GROUND_REC, PEAT_ACCEPTED, BARE, BUFFERS));
     n = peat_d_start_confirmation(AIR_REC, number, PEAT_ACCEPTED, PEAT_DS_USER, PEAT_NO_SECURITY, PEAT_NO_VERSION, LINE, BUFFERS);
     check(told(n, PEAT_START_CONFIRMATION, PEAT_ACCEPTED, 1) && states(PEAT_DIALOGUE, PEAT_DIALOGUE), "DSC-start confirmation");
@@ -1487,14 +1487,14 @@ static void downstream(void)
 
 static void aborts(void)
 {
-    uint64_t n;
+    struct peat_answer n;
     fresh();
     opens();
     n = sent(peat_user_abort(AIR_REC, PEAT_COMMANDED_TERMINATION, BUFFERS));
     check(invokes(n, PEAT_D_ABORT_REQUEST, PEAT_USER) && peat_apdu_bits(n) == 8 && first[0] == 0x05, "CPDLC-user-abort request: 000 00101");
     check(told(peat_d_abort_indication(GROUND_REC, number, PEAT_USER, LINE, BUFFERS), PEAT_USER_ABORT_INDICATION, PEAT_COMMANDED_TERMINATION, 0) &&
         states(PEAT_IDLE, PEAT_IDLE), "CPDLC-user-abort indication");
-    check(peat_user_abort(AIR_REC, PEAT_NONE, BUFFERS) == PEAT_PROHIBITED, "an abort in IDLE");
+    check(WORD(peat_user_abort(AIR_REC, PEAT_NONE, BUFFERS)) == PEAT_PROHIBITED, "an abort in IDLE");
     opens();
     n = sent(peat_user_abort(GROUND_REC, PEAT_NONE, BUFFERS));
     check(invokes(n, PEAT_D_ABORT_REQUEST, PEAT_USER) && peat_apdu_bits(n) == 9 && first[0] == 0 && first[1] == 0, "no reason given: undefined");
@@ -1502,7 +1502,7 @@ static void aborts(void)
     opens();
     check(told(peat_d_p_abort_indication(AIR_REC, number, BUFFERS), PEAT_PROVIDER_ABORT_INDICATION, PEAT_COMMUNICATION_SERVICE_FAILURE, 0), "D-P-ABORT, air");
     check(told(peat_d_p_abort_indication(GROUND_REC, number, BUFFERS), PEAT_PROVIDER_ABORT_INDICATION, PEAT_COMMUNICATION_SERVICE_FAILURE, 0), "D-P-ABORT, ground");
-    check(peat_d_p_abort_indication(AIR_REC, number, BUFFERS) == 0 && peat_system_error(AIR_REC, BUFFERS) == 0, "in IDLE neither has output");
+    check(WORD(peat_d_p_abort_indication(AIR_REC, number, BUFFERS)) == 0 && WORD(peat_system_error(AIR_REC, BUFFERS)) == 0, "in IDLE neither has output");
     opens();
     n = peat_d_data_indication(AIR_REC, number, PEAT_NO_USER_DATA, NULL, 0, BUFFERS);
     check(invokes(n, PEAT_D_ABORT_REQUEST, PEAT_PROVIDER) && peat_told(n) == PEAT_PROVIDER_ABORT_INDICATION &&
@@ -1513,9 +1513,9 @@ static void aborts(void)
 
 static void timer(void)
 {
-    uint64_t n;
+    struct peat_answer n;
     fresh();
-    check(peat_timer_expiry(AIR_REC, BUFFERS) == PEAT_PROHIBITED, "an expiry while no timer runs");
+    check(WORD(peat_timer_expiry(AIR_REC, BUFFERS)) == PEAT_PROHIBITED, "an expiry while no timer runs");
     sent(peat_start(AIR_REC, number = above(), PEAT_CPDLC, PEAT_CLASS_A, PEAT_NO_SECURITY, BARE, BUFFERS));
     n = peat_d_start_indication(GROUND_REC, number, PEAT_AIRCRAFT, PEAT_NO_SECURITY, 1, 1, PEAT_CLASS_A, PEAT_NO_VERSION, LINE, BUFFERS);
     n = sent(peat_timer_expiry(AIR_REC, BUFFERS));
@@ -1529,49 +1529,50 @@ static void jobs(void)
 {
     uint8_t text[1] = {0xFF}, before[PEAT_RECORD_BYTES];
     fresh();
-    check(says(air, 7, text, 8) == PEAT_PROHIBITED && peat_record_highest(air) == 0, "job 7 in IDLE is refused with 3");
+    check(WORD(says(air, 7, text, 8)) == PEAT_PROHIBITED && peat_record_highest(air) == 0, "job 7 in IDLE is refused with 3");
     opens();
     check(invokes(says(air, 7, text, 8), PEAT_D_DATA_REQUEST, 0) && peat_record_highest(air) == 7, "job 7 again in DIALOGUE: taken");
     memcpy(before, air, sizeof air);
-    check(says(air, 7, text, 8) == PEAT_REPEAT && memcmp(before, air, sizeof air) == 0, "job 7, then 7: REPEAT");
-    check(says(air, 6, text, 8) == PEAT_REPEAT, "job 6 after 7: REPEAT");
-    check(says(air, 8, text, PEAT_NONE) == PEAT_NO_MESSAGE && says(air, 7, text, PEAT_NONE) == PEAT_NO_MESSAGE, "NO-MESSAGE comes before REPEAT");
-    check(says(air, 0, text, 8) == PEAT_SHAPE, "job 0 is SHAPE");
+    check(WORD(says(air, 7, text, 8)) == PEAT_REPEAT && memcmp(before, air, sizeof air) == 0, "job 7, then 7: REPEAT");
+    check(WORD(says(air, 6, text, 8)) == PEAT_REPEAT, "job 6 after 7: REPEAT");
+    check(WORD(says(air, 8, text, PEAT_NONE)) == PEAT_NO_MESSAGE && WORD(says(air, 7, text, PEAT_NONE)) == PEAT_NO_MESSAGE, "NO-MESSAGE comes before REPEAT");
+    check(WORD(says(air, 0, text, 8)) == PEAT_SHAPE, "job 0 is SHAPE");
     check(invokes(says(air, UINT64_MAX, text, 8), PEAT_D_DATA_REQUEST, 0) && peat_record_highest(air) == UINT64_MAX, "the last job number");
-    check(says(air, UINT64_MAX, text, 8) == PEAT_REPEAT, "and again");
+    check(WORD(says(air, UINT64_MAX, text, 8)) == PEAT_REPEAT, "and again");
 }
 
 /* document 02, E9: what is left of an old dialogue changes nothing; a higher start leaves its number, also where it is turned away */
 static void stale(void)
 {
     uint8_t text[1] = {0xFF}, before[PEAT_RECORD_BYTES];
-    uint64_t n, old;
+    struct peat_answer n;
+    uint64_t old;
     fresh();
     opens();
     old = number;
     says(ground, 1, text, 8); /* on the line when both ends abort and the ground starts anew */
     peat_user_abort(AIR_REC, PEAT_NONE, BUFFERS);
     peat_user_abort(GROUND_REC, PEAT_NONE, BUFFERS);
-    check(peat_start(GROUND_REC, old, PEAT_CPDLC, 0, PEAT_NO_SECURITY, BARE, BUFFERS) == PEAT_STALE, "a start with the number held");
-    check(peat_start(GROUND_REC, old - 1, PEAT_CPDLC, 0, PEAT_NO_SECURITY, BARE, BUFFERS) == PEAT_STALE, "and with one below it");
+    check(WORD(peat_start(GROUND_REC, old, PEAT_CPDLC, 0, PEAT_NO_SECURITY, BARE, BUFFERS)) == PEAT_STALE, "a start with the number held");
+    check(WORD(peat_start(GROUND_REC, old - 1, PEAT_CPDLC, 0, PEAT_NO_SECURITY, BARE, BUFFERS)) == PEAT_STALE, "and with one below it");
     opens();
     memcpy(before, air, sizeof air);
-    check(peat_d_data_indication(AIR_REC, old, LINE, BUFFERS) == PEAT_STALE && memcmp(before, air, sizeof air) == 0, "a late message");
-    check(peat_d_abort_indication(AIR_REC, old, PEAT_USER, LINE, BUFFERS) == PEAT_STALE && peat_record_state(air) == PEAT_DIALOGUE, "a late abort");
-    check(peat_d_p_abort_indication(AIR_REC, number + 1, BUFFERS) == PEAT_STALE, "one of a dialogue to come");
-    check(peat_start(AIR_REC, number, PEAT_CPDLC, 0, PEAT_NO_SECURITY, BARE, BUFFERS) == PEAT_STALE, "STALE comes before PROHIBITED");
-    check(peat_start(AIR_REC, number + 1, PEAT_CPDLC, 0, PEAT_NO_SECURITY, BARE, BUFFERS) == PEAT_PROHIBITED && peat_record_number(air) == number,
+    check(WORD(peat_d_data_indication(AIR_REC, old, LINE, BUFFERS)) == PEAT_STALE && memcmp(before, air, sizeof air) == 0, "a late message");
+    check(WORD(peat_d_abort_indication(AIR_REC, old, PEAT_USER, LINE, BUFFERS)) == PEAT_STALE && peat_record_state(air) == PEAT_DIALOGUE, "a late abort");
+    check(WORD(peat_d_p_abort_indication(AIR_REC, number + 1, BUFFERS)) == PEAT_STALE, "one of a dialogue to come");
+    check(WORD(peat_start(AIR_REC, number, PEAT_CPDLC, 0, PEAT_NO_SECURITY, BARE, BUFFERS)) == PEAT_STALE, "STALE comes before PROHIBITED");
+    check(WORD(peat_start(AIR_REC, number + 1, PEAT_CPDLC, 0, PEAT_NO_SECURITY, BARE, BUFFERS)) == PEAT_PROHIBITED && peat_record_number(air) == number,
         "a refused start leaves the number");
-    check(peat_start(AIR_REC, number, PEAT_CPDLC, 9, PEAT_NO_SECURITY, BARE, BUFFERS) == PEAT_SHAPE, "SHAPE comes before STALE");
+    check(WORD(peat_start(AIR_REC, number, PEAT_CPDLC, 9, PEAT_NO_SECURITY, BARE, BUFFERS)) == PEAT_SHAPE, "SHAPE comes before STALE");
     n = peat_d_start_indication(AIR_REC, number + 5, PEAT_FACILITY, PEAT_NO_SECURITY, 1, 1, 0, PEAT_NO_VERSION, PEAT_NO_USER_DATA, NULL, 0, BUFFERS);
     check(invokes(n, PEAT_D_ABORT_REQUEST, PEAT_PROVIDER) && peat_record_state(air) == PEAT_IDLE && peat_record_number(air) == number + 5,
         "a start outside IDLE is turned away, and its number stays");
     n = peat_d_start_indication(AIR_REC, number + 6, PEAT_FACILITY, PEAT_NO_SECURITY, 0, 1, 0, PEAT_NO_VERSION, PEAT_NO_USER_DATA, NULL, 0, BUFFERS);
     check(invokes(n, PEAT_D_ABORT_REQUEST, PEAT_PROVIDER) && peat_record_number(air) == number + 6, "and one with a fault");
-    check(peat_d_start_indication(AIR_REC, number + 6, PEAT_FACILITY, PEAT_NO_SECURITY, 1, 1, 0, PEAT_NO_VERSION, LINE, BUFFERS) == PEAT_STALE, "the same number again");
+    check(WORD(peat_d_start_indication(AIR_REC, number + 6, PEAT_FACILITY, PEAT_NO_SECURITY, 1, 1, 0, PEAT_NO_VERSION, LINE, BUFFERS)) == PEAT_STALE, "the same number again");
     check(invokes(peat_start(AIR_REC, UINT64_MAX, PEAT_CPDLC, 0, PEAT_NO_SECURITY, BARE, BUFFERS), PEAT_D_START_REQUEST, 0), "the last number");
     peat_user_abort(AIR_REC, PEAT_NONE, BUFFERS);
-    check(peat_start(AIR_REC, UINT64_MAX, PEAT_CPDLC, 0, PEAT_NO_SECURITY, BARE, BUFFERS) == PEAT_STALE, "after it there is no start");
+    check(WORD(peat_start(AIR_REC, UINT64_MAX, PEAT_CPDLC, 0, PEAT_NO_SECURITY, BARE, BUFFERS)) == PEAT_STALE, "after it there is no start");
 }
 
 /* ---- two centres: one forwards, the other answers in the same event */
@@ -1583,16 +1584,16 @@ static const uint8_t forwarded[] = {0xF4, 0x00}; /* twelve bits */
 
 static void centres(unsigned forwarding, unsigned version, unsigned other_version)
 {
-    check(peat_fresh(GROUND_REC, PEAT_GROUND, PEAT_NO_SECURITY, PEAT_FORWARDS_NOT, version, PEAT_PROTECTED) == 0 &&
-        peat_fresh(OTHER_REC, PEAT_GROUND, PEAT_NO_SECURITY, forwarding, other_version, PEAT_PROTECTED) == 0, "fresh records of two centres");
+    check(WORD(peat_fresh(GROUND_REC, PEAT_GROUND, PEAT_NO_SECURITY, PEAT_FORWARDS_NOT, version, PEAT_PROTECTED)) == 0 &&
+        WORD(peat_fresh(OTHER_REC, PEAT_GROUND, PEAT_NO_SECURITY, forwarding, other_version, PEAT_PROTECTED)) == 0, "fresh records of two centres");
     check(peat_record_forwards(other) == forwarding && peat_record_version(other) == other_version && peat_record_version(ground) == version,
         "a record says its version and whether forwarding is supported");
 }
 
 /* The sending centre asks: what it sends is as by hand. A centre without forwarding may send. */
-static uint64_t asks(uint64_t held)
+static struct peat_answer asks(uint64_t held)
 {
-    uint64_t n = sent(peat_forward_request(GROUND_REC, held, PEAT_CLASS_B, PEAT_NO_SECURITY, HEADING, PEAT_ARRAY(forwarded), 12, BUFFERS));
+    struct peat_answer n = sent(peat_forward_request(GROUND_REC, held, PEAT_CLASS_B, PEAT_NO_SECURITY, HEADING, PEAT_ARRAY(forwarded), 12, BUFFERS));
     check(invokes(n, PEAT_D_START_REQUEST, PEAT_CLASS_B) && peat_told(n) == PEAT_UNTOLD && peat_version(n) == peat_record_version(ground) &&
         peat_apdu_bits(n) == 127 && line_len == sizeof by_hand && memcmp(line, by_hand, sizeof by_hand) == 0, "CPDLC-forward request");
     check(peat_record_state(ground) == PEAT_FORWARD && peat_record_timer(ground) && peat_record_active(ground) && peat_record_number(ground) == held,
@@ -1601,17 +1602,17 @@ static uint64_t asks(uint64_t held)
 }
 
 /* What the receiving centre answers to it, which stands in `line` then; and what the sending one is told. */
-static uint64_t answers(uint64_t held, unsigned version)
+static struct peat_answer answers(uint64_t held, unsigned version)
 {
-    uint64_t n = sent(peat_d_start_indication(OTHER_REC, held, PEAT_FACILITY, PEAT_NO_SECURITY, 1, 1, PEAT_CLASS_B, version, LINE, BUFFERS));
+    struct peat_answer n = sent(peat_d_start_indication(OTHER_REC, held, PEAT_FACILITY, PEAT_NO_SECURITY, 1, 1, PEAT_CLASS_B, version, LINE, BUFFERS));
     check(invokes(n, PEAT_D_START_RESPONSE, PEAT_REJECTED) && peat_record_state(other) == PEAT_IDLE && !peat_record_active(other) &&
         !peat_record_timer(other) && peat_record_number(other) == held, "the receiving centre answers at once and stays IDLE");
     return n;
 }
 
-static uint64_t hears(uint64_t held, unsigned version)
+static struct peat_answer hears(uint64_t held, unsigned version)
 {
-    uint64_t n = peat_d_start_confirmation(GROUND_REC, held, PEAT_REJECTED, PEAT_DS_USER, PEAT_NO_SECURITY, version, LINE, BUFFERS);
+    struct peat_answer n = peat_d_start_confirmation(GROUND_REC, held, PEAT_REJECTED, PEAT_DS_USER, PEAT_NO_SECURITY, version, LINE, BUFFERS);
     check(peat_record_state(ground) == PEAT_IDLE && !peat_record_timer(ground) && !peat_record_active(ground) && peat_invoked(n) == PEAT_SILENT,
         "the sending centre is IDLE again");
     return n;
@@ -1627,30 +1628,30 @@ static void takes_apart(size_t bytes)
     check(bytes == 16 && second[0] == 0x3D, "an ATCForwardMessage from its first bit on, of 123 bits");
     memcpy(delivered, second, bytes);
     for (i = 0; i <= PEAT_FORWARD_MESSAGE; i++) {
-        uint64_t n = peat_forward_part(i, delivered, bytes, PEAT_ARRAY(out));
+        struct peat_forward_answer n = peat_forward_part(i, delivered, bytes, PEAT_ARRAY(out));
         right &= peat_refusal(n) == PEAT_TAKEN && peat_forward_value(n) == want[i];
     }
-    check(right && peat_forward_bytes(12 << 8) == 2 && out[0] == 0xF4 && out[1] == 0, "each part of a forward message");
+    check(right && peat_forward_bytes(AS(peat_forward_answer, 12 << 8)) == 2 && out[0] == 0xF4 && out[1] == 0, "each part of a forward message");
     memset(out, 0xC3, sizeof out);
-    right = peat_read_forward(delivered, bytes, PEAT_ARRAY(heading), PEAT_ARRAY(out), PEAT_PROTECTED) == 12 << 8;
+    right = WORD(peat_read_forward(delivered, bytes, PEAT_ARRAY(heading), PEAT_ARRAY(out), PEAT_PROTECTED)) == 12 << 8;
     for (i = 0; i < PEAT_FORWARD_MESSAGE; i++)
         right &= peat_heading_value(heading, (enum peat_forward_part)i) == want[i];
     check(right && out[0] == 0xF4 && out[1] == 0 && out[2] == 0xC3, "all parts of a forward message at once");
     memcpy(before, heading, sizeof before);
     check(peat_refusal(peat_read_forward(delivered, bytes - 1, PEAT_ARRAY(heading), PEAT_ARRAY(out), PEAT_PROTECTED)) == PEAT_SHORT &&
-        peat_read_forward(delivered, bytes, heading, sizeof heading - 1, PEAT_ARRAY(out), PEAT_PROTECTED) == PEAT_SHAPE &&
-        peat_read_forward(delivered, bytes, PEAT_ARRAY(heading), PEAT_ARRAY(out), 21) == PEAT_SHAPE &&
-        peat_read_forward(delivered, bytes, heading, sizeof heading - 1, out, sizeof out - 1, 21) == PEAT_ROOM &&
+        WORD(peat_read_forward(delivered, bytes, heading, sizeof heading - 1, PEAT_ARRAY(out), PEAT_PROTECTED)) == PEAT_SHAPE &&
+        WORD(peat_read_forward(delivered, bytes, PEAT_ARRAY(heading), PEAT_ARRAY(out), 21)) == PEAT_SHAPE &&
+        WORD(peat_read_forward(delivered, bytes, heading, sizeof heading - 1, out, sizeof out - 1, 21)) == PEAT_ROOM &&
         memcmp(before, heading, sizeof before) == 0, "one that is cut, a short heading, a short buffer; the heading stays");
     check(peat_flight_character(want[7], 6, 0) == 'B' && peat_flight_character(want[7], 6, 5) == '3', "the characters of the flight identification");
     check(peat_refusal(peat_forward_part(PEAT_FORWARD_YEAR, delivered, bytes - 1, PEAT_ARRAY(out))) == PEAT_SHORT &&
-        peat_forward_part(PEAT_FORWARD_MESSAGE + 1, delivered, bytes, PEAT_ARRAY(out)) == PEAT_SHAPE &&
-        peat_forward_part(PEAT_FORWARD_MESSAGE + 1, delivered, bytes, out, sizeof out - 1) == PEAT_ROOM, "a forward message that is cut, a wrong part, a short buffer");
+        WORD(peat_forward_part(PEAT_FORWARD_MESSAGE + 1, delivered, bytes, PEAT_ARRAY(out))) == PEAT_SHAPE &&
+        WORD(peat_forward_part(PEAT_FORWARD_MESSAGE + 1, delivered, bytes, out, sizeof out - 1)) == PEAT_ROOM, "a forward message that is cut, a wrong part, a short buffer");
 }
 
 static void forward_answered(void)
 {
-    uint64_t n;
+    struct peat_answer n;
     centres(PEAT_FORWARDS, 3, 3); /* 2.3.5.5.2.3 a */
     asks(1);
     n = answers(1, 3);
@@ -1678,26 +1679,26 @@ static void forward_answered(void)
     check(peat_told_parameter(n) == PEAT_SERVICE_NOT_SUPPORTED && peat_version(n) == PEAT_NO_VERSION, "and it is told");
 }
 
-static uint64_t forwards_with(uint8_t *rec, uint64_t held, uint64_t class_)
+static struct peat_answer forwards_with(uint8_t *rec, uint64_t held, uint64_t class_)
 {
     return peat_forward_request(rec, PEAT_RECORD_BYTES, held, class_, PEAT_NO_SECURITY, HEADING, PEAT_ARRAY(forwarded), 12, BUFFERS);
 }
 
 static void forward_refused(void)
 {
-    uint64_t n;
+    struct peat_answer n;
     fresh();
     centres(PEAT_FORWARDS, 3, 3);
-    check(forwards_with(air, 1, 0) == PEAT_PROHIBITED, "a forward request at the air end");
-    check(forwards_with(ground, 0, 0) == PEAT_STALE && forwards_with(ground, 0, 9) == PEAT_SHAPE && forwards_with(air, 0, 0) == PEAT_STALE,
+    check(WORD(forwards_with(air, 1, 0)) == PEAT_PROHIBITED, "a forward request at the air end");
+    check(WORD(forwards_with(ground, 0, 0)) == PEAT_STALE && WORD(forwards_with(ground, 0, 9)) == PEAT_SHAPE && WORD(forwards_with(air, 0, 0)) == PEAT_STALE,
         "SHAPE, STALE, PROHIBITED in this order");
     asks(1);
-    check(forwards_with(ground, 1, 0) == PEAT_STALE && forwards_with(ground, 2, 0) == PEAT_PROHIBITED, "in FORWARD there is no forward");
-    check(peat_start(GROUND_REC, 2, PEAT_CPDLC, 0, PEAT_NO_SECURITY, BARE, BUFFERS) == PEAT_PROHIBITED &&
-        peat_message_request(GROUND_REC, 9, NULL, 0, NULL, 0, 0, NULL, 0, 0, BUFFERS) == PEAT_PROHIBITED &&
-        peat_end_request(GROUND_REC, BARE, BUFFERS) == PEAT_PROHIBITED && peat_start_response(GROUND_REC, PEAT_ACCEPTED, BARE, BUFFERS) == PEAT_PROHIBITED &&
-        peat_dsc_start_response(GROUND_REC, PEAT_ACCEPTED, BARE, BUFFERS) == PEAT_PROHIBITED &&
-        peat_dsc_end_response(GROUND_REC, PEAT_ACCEPTED, BARE, BUFFERS) == PEAT_PROHIBITED, "in FORWARD every call of the user but the abort is PROHIBITED");
+    check(WORD(forwards_with(ground, 1, 0)) == PEAT_STALE && WORD(forwards_with(ground, 2, 0)) == PEAT_PROHIBITED, "in FORWARD there is no forward");
+    check(WORD(peat_start(GROUND_REC, 2, PEAT_CPDLC, 0, PEAT_NO_SECURITY, BARE, BUFFERS)) == PEAT_PROHIBITED &&
+        WORD(peat_message_request(GROUND_REC, 9, NULL, 0, NULL, 0, 0, NULL, 0, 0, BUFFERS)) == PEAT_PROHIBITED &&
+        WORD(peat_end_request(GROUND_REC, BARE, BUFFERS)) == PEAT_PROHIBITED && WORD(peat_start_response(GROUND_REC, PEAT_ACCEPTED, BARE, BUFFERS)) == PEAT_PROHIBITED &&
+        WORD(peat_dsc_start_response(GROUND_REC, PEAT_ACCEPTED, BARE, BUFFERS)) == PEAT_PROHIBITED &&
+        WORD(peat_dsc_end_response(GROUND_REC, PEAT_ACCEPTED, BARE, BUFFERS)) == PEAT_PROHIBITED, "in FORWARD every call of the user but the abort is PROHIBITED");
     n = peat_timer_expiry(GROUND_REC, BUFFERS);
     check(invokes(n, PEAT_D_ABORT_REQUEST, PEAT_PROVIDER) && peat_told_parameter(n) == PEAT_TIMER_EXPIRED && peat_record_state(ground) == PEAT_IDLE,
         "t-start expires in FORWARD");
@@ -1716,7 +1717,7 @@ static void forward_refused(void)
 /* What a receiving centre meets that is no forward, or not for it. */
 static void forward_misused(void)
 {
-    uint64_t n;
+    struct peat_answer n;
     centres(PEAT_FORWARDS, 3, 3);
     asks(1);
     n = peat_d_start_indication(OTHER_REC, 1, PEAT_AIRCRAFT, PEAT_NO_SECURITY, 1, 1, 0, 3, LINE, BUFFERS);
@@ -1775,8 +1776,8 @@ static void forward_everywhere(void)
                 } else if (call == D_START_CONFIRMATION) { /* rejected and accepted, with the security that was asked for and another */
                     a.n[0] = w < 10 ? PEAT_REJECTED : PEAT_ACCEPTED, a.n[1] = PEAT_DS_USER, a.n[2] = a.rec.at[PEAT_RECORD_REQUEST] ^ (w == 9), a.n[3] = versions[w % 3];
                 }
-                right &= agrees(call, &a, &said) && (peat_refusal(said) == PEAT_SHAPE) == !record;
-                taken += peat_told(said) == PEAT_FORWARD_INDICATION || peat_told(said) == PEAT_FORWARD_CONFIRMATION;
+                right &= agrees(call, &a, &said) && (peat_refusal_in(said) == PEAT_SHAPE) == !record;
+                taken += peat_told(AS(peat_answer, said)) == PEAT_FORWARD_INDICATION || peat_told(AS(peat_answer, said)) == PEAT_FORWARD_CONFIRMATION;
             }
     printf("%lu forward calls over every record: %lu tell a user of a forward\n", calls, taken);
     check(right && taken > 100, "a forward is as the model has it, for every record");
@@ -1786,7 +1787,9 @@ static void forward_everywhere(void)
 static void largest_forward(void)
 {
     static uint8_t text[2049], out[PEAT_BUFFER_LEAST], delivered[PEAT_BUFFER_LEAST], heading[PEAT_HEADING_BYTES];
-    uint64_t n, flight = peat_flight("ABCDEFGH", 8);
+    struct peat_answer n;
+    struct peat_forward_answer parts;
+    uint64_t flight = peat_flight("ABCDEFGH", 8);
     centres(PEAT_FORWARDS, 255, 255);
     fill(text, sizeof text);
     n = sent(peat_forward_request(GROUND_REC, 1, 0, 0, 2095, 12, 31, 23, 59, 59, 8, flight, 0xFFFFFF, 1, text, 2048, 16383, BUFFERS));
@@ -1794,21 +1797,21 @@ static void largest_forward(void)
     n = sent(peat_d_start_indication(OTHER_REC, 1, PEAT_FACILITY, 0, 1, 1, 0, 255, LINE, BUFFERS));
     check(peat_told(n) == PEAT_FORWARD_INDICATION && peat_data_bits(n) == 16516, "it is delivered whole");
     memcpy(delivered, second, peat_data_bytes(n));
-    n = peat_read_forward(delivered, peat_data_bytes(n), PEAT_ARRAY(heading), PEAT_ARRAY(out), PEAT_PROTECTED);
-    check(peat_heading_value(heading, PEAT_FORWARD_FLIGHT) == flight && peat_forward_value(n) == 16383 && peat_forward_bytes(n) == 2048 && memcmp(out, text, 2047) == 0, "and taken apart");
+    parts = peat_read_forward(delivered, peat_data_bytes(n), PEAT_ARRAY(heading), PEAT_ARRAY(out), PEAT_PROTECTED);
+    check(peat_heading_value(heading, PEAT_FORWARD_FLIGHT) == flight && peat_forward_value(parts) == 16383 && peat_forward_bytes(parts) == 2048 && memcmp(out, text, 2047) == 0, "and taken apart");
     centres(PEAT_FORWARDS, 255, 255);
-    check(peat_forward_request(GROUND_REC, 1, 0, 0, 2095, 12, 31, 23, 59, 59, 8, flight, 0, 1, text, 2049, 16384, BUFFERS) == PEAT_SHAPE, "16,384 bits");
-    check(peat_forward_request(GROUND_REC, 1, 0, 0, 2095, 12, 31, 23, 59, 59, 8, flight, 0, 1, text, 2047, 16383, BUFFERS) == PEAT_SHAPE,
+    check(WORD(peat_forward_request(GROUND_REC, 1, 0, 0, 2095, 12, 31, 23, 59, 59, 8, flight, 0, 1, text, 2049, 16384, BUFFERS)) == PEAT_SHAPE, "16,384 bits");
+    check(WORD(peat_forward_request(GROUND_REC, 1, 0, 0, 2095, 12, 31, 23, 59, 59, 8, flight, 0, 1, text, 2047, 16383, BUFFERS)) == PEAT_SHAPE,
         "more bits than the lent bytes hold");
-    check(peat_forward_request(GROUND_REC, 1, 0, 0, 2095, 12, 31, 23, 59, 59, 7, flight, 0, 1, text, 1, 8, BUFFERS) == PEAT_SHAPE, "eight characters counted as seven");
-    check(peat_forward_request(GROUND_REC, 1, 0, 0, 2095, 12, 31, 23, 59, 59, 8, flight, 0, 1, text, 1, PEAT_NONE, BUFFERS) == PEAT_SHAPE, "no message");
+    check(WORD(peat_forward_request(GROUND_REC, 1, 0, 0, 2095, 12, 31, 23, 59, 59, 7, flight, 0, 1, text, 1, 8, BUFFERS)) == PEAT_SHAPE, "eight characters counted as seven");
+    check(WORD(peat_forward_request(GROUND_REC, 1, 0, 0, 2095, 12, 31, 23, 59, 59, 8, flight, 0, 1, text, 1, PEAT_NONE, BUFFERS)) == PEAT_SHAPE, "no message");
 }
 
 /* the largest message data: an identifier of 16 octets, 16,383 bits, a check of 64 bits */
 static void largest(void)
 {
     static uint8_t ids[17], text[2049], checks[9];
-    uint64_t n;
+    struct peat_answer n;
     fresh();
     fill(ids, sizeof ids), fill(text, sizeof text), fill(checks, sizeof checks);
     n = sent(peat_start(AIR_REC, number = above(), PEAT_DSC, 0, 0, ids, 16, text, 2048, 16383, checks, 8, 64, BUFFERS));
@@ -1816,11 +1819,11 @@ static void largest(void)
     n = peat_d_start_indication(GROUND_REC, number, PEAT_AIRCRAFT, 0, 1, 1, 0, PEAT_NO_VERSION, LINE, BUFFERS);
     check(told(n, PEAT_START_INDICATION, 0, 1) && peat_data_bits(n) == 3 + 8 + 128 + 16 + 16383 + 8 + 64 && peat_data_bits(n) == 16610, "it is delivered whole");
     fresh();
-    check(peat_start(AIR_REC, number = above(), PEAT_CPDLC, 0, 0, ids, 17, text, 2048, 16383, checks, 8, 64, BUFFERS) == PEAT_SHAPE, "17 octets");
-    check(peat_start(AIR_REC, number = above(), PEAT_CPDLC, 0, 0, ids, 16, text, 2049, 16384, checks, 8, 64, BUFFERS) == PEAT_SHAPE, "16,384 bits");
-    check(peat_start(AIR_REC, number = above(), PEAT_CPDLC, 0, 0, ids, 16, text, 2047, 16383, checks, 8, 64, BUFFERS) == PEAT_SHAPE, "more bits than the lent bytes hold");
-    check(peat_start(AIR_REC, number = above(), PEAT_CPDLC, 0, 0, ids, 16, text, 2048, 16383, checks, 9, 65, BUFFERS) == PEAT_SHAPE, "a check of 65 bits");
-    check(peat_start(AIR_REC, number = above(), PEAT_CPDLC, 0, 0, ids, 16, text, 2048, 16383, checks, 7, 64, BUFFERS) == PEAT_SHAPE, "a check that its bytes do not hold");
+    check(WORD(peat_start(AIR_REC, number = above(), PEAT_CPDLC, 0, 0, ids, 17, text, 2048, 16383, checks, 8, 64, BUFFERS)) == PEAT_SHAPE, "17 octets");
+    check(WORD(peat_start(AIR_REC, number = above(), PEAT_CPDLC, 0, 0, ids, 16, text, 2049, 16384, checks, 8, 64, BUFFERS)) == PEAT_SHAPE, "16,384 bits");
+    check(WORD(peat_start(AIR_REC, number = above(), PEAT_CPDLC, 0, 0, ids, 16, text, 2047, 16383, checks, 8, 64, BUFFERS)) == PEAT_SHAPE, "more bits than the lent bytes hold");
+    check(WORD(peat_start(AIR_REC, number = above(), PEAT_CPDLC, 0, 0, ids, 16, text, 2048, 16383, checks, 9, 65, BUFFERS)) == PEAT_SHAPE, "a check of 65 bits");
+    check(WORD(peat_start(AIR_REC, number = above(), PEAT_CPDLC, 0, 0, ids, 16, text, 2048, 16383, checks, 7, 64, BUFFERS)) == PEAT_SHAPE, "a check that its bytes do not hold");
 }
 
 /* ---- application type 2 */
@@ -1836,7 +1839,7 @@ enum { WILCO_BITS = 53, UNABLE_BITS = 54 };
 /* a whole dialogue in which start, acceptance, end and its answer bring nothing; in mode dsc the aircraft ends it */
 static void plain_bare(unsigned mode)
 {
-    uint64_t n;
+    struct peat_answer n;
     fresh_of(PEAT_PLAIN);
     n = sent(peat_start(AIR_REC, number = above(), mode, PEAT_CLASS_C, PEAT_SECURED_EXCHANGE, BARE, BUFFERS));
     check(invokes(n, PEAT_D_START_REQUEST, PEAT_CLASS_C) && peat_invoked_security(n) == PEAT_NO_SECURITY && peat_apdu_bits(n) == 5 + mode && line[0] == (mode ? 0x58 : 0x40),
@@ -1845,7 +1848,7 @@ static void plain_bare(unsigned mode)
     n = peat_d_start_indication(GROUND_REC, number, PEAT_AIRCRAFT, PEAT_SECURED_EXCHANGE, 1, 1, PEAT_CLASS_C, PEAT_NO_VERSION, LINE, BUFFERS);
     check(told(n, PEAT_START_INDICATION, PEAT_CLASS_C, mode) && peat_data_bits(n) == 0 && second[0] == 0xC3, "it is told with no bits, and its security is not compared");
     n = mode ? peat_dsc_start_response(GROUND_REC, PEAT_ACCEPTED, UNABLE, BUFFERS) : peat_start_response(GROUND_REC, PEAT_ACCEPTED, UNABLE, BUFFERS);
-    check(n == PEAT_SHAPE, "an acceptance of type 2 has no message");
+    check(WORD(n) == PEAT_SHAPE, "an acceptance of type 2 has no message");
     n = mode ? peat_dsc_start_response(GROUND_REC, PEAT_ACCEPTED, BARE, BUFFERS) : peat_start_response(GROUND_REC, PEAT_ACCEPTED, BARE, BUFFERS);
     check(invokes(n, PEAT_D_START_RESPONSE, PEAT_ACCEPTED) && peat_apdu_bits(n) == 0, "an acceptance of type 2 has no user data");
     n = peat_d_start_confirmation(AIR_REC, number, PEAT_ACCEPTED, PEAT_DS_USER, PEAT_SECURED_EXCHANGE, PEAT_NO_VERSION, NO_LINE, BUFFERS);
@@ -1862,7 +1865,7 @@ static void plain_bare(unsigned mode)
 }
 
 /* a message with the start, the rejection, the end: what is delivered is the message, ready to be read */
-static int is_delivered(uint64_t n, unsigned direction, unsigned bits)
+static int is_delivered(struct peat_answer n, unsigned direction, unsigned bits)
 {
     uint8_t message[PEAT_INNER_BYTES], text[PEAT_BUFFER_LEAST];
     return peat_data_bits(n) == bits && memcmp(second, wilco, (bits + 7) / 8) == 0 &&
@@ -1871,7 +1874,7 @@ static int is_delivered(uint64_t n, unsigned direction, unsigned bits)
 
 static void plain_with_messages(void)
 {
-    uint64_t n;
+    struct peat_answer n;
     fresh_of(PEAT_PLAIN);
     n = sent(peat_start(GROUND_REC, number = above(), PEAT_CPDLC, 0, PEAT_NO_SECURITY, UNABLE, BUFFERS));
     check(peat_apdu_bits(n) == 5 + UNABLE_BITS && line[0] == 0x28, "a start of type 2 with a message");
@@ -1894,7 +1897,7 @@ static void plain_with_messages(void)
     n = sent(peat_message_request(AIR_REC, 1, WILCO, BUFFERS));
     check(invokes(n, PEAT_D_DATA_REQUEST, 0) && peat_apdu_bits(n) == 3 + WILCO_BITS, "a message of type 2 down");
     check(is_delivered(peat_d_data_indication(GROUND_REC, number, LINE, BUFFERS), PEAT_DOWNLINK, WILCO_BITS), "it is delivered");
-    check(peat_message_request(GROUND_REC, 1, BARE, BUFFERS) == PEAT_NO_MESSAGE, "a message request needs one");
+    check(WORD(peat_message_request(GROUND_REC, 1, BARE, BUFFERS)) == PEAT_NO_MESSAGE, "a message request needs one");
     n = sent(peat_end_request(GROUND_REC, UNABLE, BUFFERS));
     check(peat_apdu_bits(n) == 4 + UNABLE_BITS && is_delivered(peat_d_end_indication(AIR_REC, number, LINE, BUFFERS), PEAT_UPLINK, UNABLE_BITS), "an end with a message");
 }
@@ -1918,29 +1921,29 @@ static void plain_refused(void)
     int right = 1;
     plain_opens(1);
     memcpy(before, air, sizeof before);
-    check(peat_message_request(AIR_REC, 1, NULL, 0, wilco, sizeof wilco, WILCO_BITS + 1, NULL, 0, 0, BUFFERS) == PEAT_SHAPE, "a bit too many");
-    check(peat_message_request(AIR_REC, 1, NULL, 0, wilco, sizeof wilco, WILCO_BITS - 1, NULL, 0, 0, BUFFERS) == PEAT_SHAPE, "a bit too few");
-    check(peat_message_request(AIR_REC, 1, NULL, 0, wilco, sizeof wilco - 1, WILCO_BITS, NULL, 0, 0, BUFFERS) == PEAT_SHAPE, "more bits than the lent bytes hold");
-    check(peat_message_request(AIR_REC, 1, UNABLE, BUFFERS) == PEAT_SHAPE, "a message of the other direction");
-    check(peat_message_request(AIR_REC, 1, NULL, 0, other, sizeof other, WILCO_BITS, NULL, 0, 0, BUFFERS) == PEAT_SHAPE, "an element that is not carried");
-    check(peat_message_request(AIR_REC, 1, NULL, 0, wilco, sizeof wilco, 0, NULL, 0, 0, BUFFERS) == PEAT_SHAPE, "a message of no bits");
-    check(peat_message_request(AIR_REC, 1, &octet, 1, wilco, sizeof wilco, WILCO_BITS, NULL, 0, 0, BUFFERS) == PEAT_SHAPE, "an identifier of one octet");
-    check(peat_message_request(AIR_REC, 1, NULL, 0, wilco, sizeof wilco, WILCO_BITS, &octet, 1, 1, BUFFERS) == PEAT_SHAPE, "a check of one bit");
+    check(WORD(peat_message_request(AIR_REC, 1, NULL, 0, wilco, sizeof wilco, WILCO_BITS + 1, NULL, 0, 0, BUFFERS)) == PEAT_SHAPE, "a bit too many");
+    check(WORD(peat_message_request(AIR_REC, 1, NULL, 0, wilco, sizeof wilco, WILCO_BITS - 1, NULL, 0, 0, BUFFERS)) == PEAT_SHAPE, "a bit too few");
+    check(WORD(peat_message_request(AIR_REC, 1, NULL, 0, wilco, sizeof wilco - 1, WILCO_BITS, NULL, 0, 0, BUFFERS)) == PEAT_SHAPE, "more bits than the lent bytes hold");
+    check(WORD(peat_message_request(AIR_REC, 1, UNABLE, BUFFERS)) == PEAT_SHAPE, "a message of the other direction");
+    check(WORD(peat_message_request(AIR_REC, 1, NULL, 0, other, sizeof other, WILCO_BITS, NULL, 0, 0, BUFFERS)) == PEAT_SHAPE, "an element that is not carried");
+    check(WORD(peat_message_request(AIR_REC, 1, NULL, 0, wilco, sizeof wilco, 0, NULL, 0, 0, BUFFERS)) == PEAT_SHAPE, "a message of no bits");
+    check(WORD(peat_message_request(AIR_REC, 1, &octet, 1, wilco, sizeof wilco, WILCO_BITS, NULL, 0, 0, BUFFERS)) == PEAT_SHAPE, "an identifier of one octet");
+    check(WORD(peat_message_request(AIR_REC, 1, NULL, 0, wilco, sizeof wilco, WILCO_BITS, &octet, 1, 1, BUFFERS)) == PEAT_SHAPE, "a check of one bit");
     for (reason = 7; reason <= 13; reason++)
-        right &= peat_user_abort(AIR_REC, reason, BUFFERS) == PEAT_SHAPE;
+        right &= WORD(peat_user_abort(AIR_REC, reason, BUFFERS)) == PEAT_SHAPE;
     check(right, "user abort reasons 7 to 12 are of type 22");
     check(memcmp(before, air, sizeof before) == 0, "and the record stays");
     check(invokes(peat_user_abort(AIR_REC, PEAT_INVALID_RESPONSE, BUFFERS), PEAT_D_ABORT_REQUEST, PEAT_USER) && first[0] == 0x0C, "reason 6, in three bits");
     right = 1;
     for (reason = 0; reason < 300; reason++)
-        right &= (peat_fresh(AIR_REC, PEAT_AIR, PEAT_NO_SECURITY, PEAT_FORWARDS_NOT, 1, reason) == 0) == (reason == 2 || reason == 22);
+        right &= (WORD(peat_fresh(AIR_REC, PEAT_AIR, PEAT_NO_SECURITY, PEAT_FORWARDS_NOT, 1, reason)) == 0) == (reason == 2 || reason == 22);
     check(right, "a type other than 2 or 22");
 }
 
 static void plain_misused(void)
 {
     static const uint8_t cut[6] = {0x60}, element[7] = {0x60, 0, 0, 0, 0, 0, 0x0B};
-    uint64_t n;
+    struct peat_answer n;
     plain_opens(0);
     n = peat_d_start_confirmation(GROUND_REC, number, PEAT_ACCEPTED, PEAT_DS_USER, PEAT_NO_SECURITY, PEAT_NO_VERSION, PEAT_USER_DATA, (const uint8_t *)"\x60\0\0\0\0\0\0", 7, BUFFERS);
     check(invokes(n, PEAT_D_ABORT_REQUEST, PEAT_PROVIDER) && peat_told_parameter(n) == PEAT_PROTOCOL_ERROR && first[0] == 0x13, "an acceptance with user data is not permitted");
@@ -1962,22 +1965,22 @@ static void plain_misused(void)
 static void plain_forward(void)
 {
     static uint8_t out[PEAT_BUFFER_LEAST], delivered[64], heading[PEAT_HEADING_BYTES];
-    uint64_t n;
-    check(peat_fresh(GROUND_REC, PEAT_GROUND, PEAT_NO_SECURITY, PEAT_FORWARDS_NOT, 3, PEAT_PLAIN) == 0 &&
-        peat_fresh(OTHER_REC, PEAT_GROUND, PEAT_NO_SECURITY, PEAT_FORWARDS, 3, PEAT_PLAIN) == 0, "fresh records of two centres of type 2");
-    check(peat_forward_request(GROUND_REC, 1, PEAT_CLASS_B, PEAT_NO_SECURITY, HEADING, PEAT_ARRAY(forwarded), 12, BUFFERS) == PEAT_SHAPE, "bits that are no elements");
-    check(peat_forward_request(GROUND_REC, 1, PEAT_CLASS_B, PEAT_NO_SECURITY, HEADING, wilco, 2, 13, BUFFERS) == PEAT_SHAPE, "a bit more than the elements");
+    struct peat_answer n;
+    check(WORD(peat_fresh(GROUND_REC, PEAT_GROUND, PEAT_NO_SECURITY, PEAT_FORWARDS_NOT, 3, PEAT_PLAIN)) == 0 &&
+        WORD(peat_fresh(OTHER_REC, PEAT_GROUND, PEAT_NO_SECURITY, PEAT_FORWARDS, 3, PEAT_PLAIN)) == 0, "fresh records of two centres of type 2");
+    check(WORD(peat_forward_request(GROUND_REC, 1, PEAT_CLASS_B, PEAT_NO_SECURITY, HEADING, PEAT_ARRAY(forwarded), 12, BUFFERS)) == PEAT_SHAPE, "bits that are no elements");
+    check(WORD(peat_forward_request(GROUND_REC, 1, PEAT_CLASS_B, PEAT_NO_SECURITY, HEADING, wilco, 2, 13, BUFFERS)) == PEAT_SHAPE, "a bit more than the elements");
     n = sent(peat_forward_request(GROUND_REC, 1, PEAT_CLASS_B, PEAT_SECURED_EXCHANGE, HEADING, wilco, 2, 12, BUFFERS));
     check(invokes(n, PEAT_D_START_REQUEST, PEAT_CLASS_B) && peat_invoked_security(n) == PEAT_NO_SECURITY && peat_apdu_bits(n) == 119 && line_len == sizeof plain_by_hand &&
         memcmp(line, plain_by_hand, sizeof plain_by_hand) == 0, "a forward of type 2, as by hand");
     n = sent(peat_d_start_indication(OTHER_REC, 1, PEAT_FACILITY, PEAT_NO_SECURITY, 1, 1, PEAT_CLASS_B, 3, LINE, BUFFERS));
     check(peat_told(n) == PEAT_FORWARD_INDICATION && peat_data_bits(n) == 115 && first[0] == 0x50, "it is delivered, and answered with success");
     memcpy(delivered, second, peat_data_bytes(n));
-    check(peat_read_forward(delivered, peat_data_bytes(n), PEAT_ARRAY(heading), PEAT_ARRAY(out), PEAT_PLAIN) == 12 << 8 && peat_heading_value(heading, PEAT_FORWARD_YEAR) == 2026 &&
+    check(WORD(peat_read_forward(delivered, peat_data_bytes(n), PEAT_ARRAY(heading), PEAT_ARRAY(out), PEAT_PLAIN)) == 12 << 8 && peat_heading_value(heading, PEAT_FORWARD_YEAR) == 2026 &&
         peat_heading_value(heading, PEAT_FORWARD_DIRECTION) == PEAT_FORWARD_DOWNLINK && out[0] == 0 && out[1] == 0, "and taken apart");
     check(peat_forward_value(peat_forward_part(PEAT_FORWARD_PLAIN + PEAT_FORWARD_MESSAGE, delivered, peat_data_bytes(n), PEAT_ARRAY(out))) == 12 &&
         peat_forward_value(peat_forward_part(PEAT_FORWARD_PLAIN + PEAT_FORWARD_DAY, delivered, peat_data_bytes(n), PEAT_ARRAY(out))) == 15 &&
-        peat_forward_part(15, delivered, peat_data_bytes(n), PEAT_ARRAY(out)) == PEAT_SHAPE && peat_forward_part(27, delivered, peat_data_bytes(n), PEAT_ARRAY(out)) == PEAT_SHAPE,
+        WORD(peat_forward_part(15, delivered, peat_data_bytes(n), PEAT_ARRAY(out))) == PEAT_SHAPE && WORD(peat_forward_part(27, delivered, peat_data_bytes(n), PEAT_ARRAY(out))) == PEAT_SHAPE,
         "part by part");
     n = peat_d_start_confirmation(GROUND_REC, 1, PEAT_REJECTED, PEAT_DS_USER, PEAT_NO_SECURITY, PEAT_NO_VERSION, LINE, BUFFERS);
     check(peat_told(n) == PEAT_FORWARD_CONFIRMATION && peat_told_parameter(n) == PEAT_FORWARD_SUCCESS, "the sending centre hears of it");

@@ -242,16 +242,16 @@ static void put_message(const struct row *r)
     made.msgs = (struct range){text, characters};
     made.first = (struct range){bytes, sizeof bytes};
     said = model_call(WRITE_MESSAGE, &made);
-    if (said < 256 || peat_message_bits(said) != want[r->size]) {
-        printf("the message has %u bits\n", peat_message_bits(said));
+    if (said < 256 || peat_message_bits(AS(peat_written_message, said)) != want[r->size]) {
+        printf("the message has %u bits\n", peat_message_bits(AS(peat_written_message, said)));
         exit(2);
     }
     if (r->which == WRITE_MESSAGE && strstr(r->title, "SHAPE"))
         message[6] = 32;
     args.ids = made.ids, args.msgs = made.msgs;
     args.rec = (struct range){range, sizeof range};
-    args.n[1] = peat_message_bits(said);
-    args.bytes = (struct range){bytes, peat_message_bytes(said)};
+    args.n[1] = peat_message_bits(AS(peat_written_message, said));
+    args.bytes = (struct range){bytes, peat_message_bytes(AS(peat_written_message, said))};
 }
 
 /* message data of type 2: an uplink message in msgs, of a forward its elements alone; or none */
@@ -376,9 +376,9 @@ int main(int argc, char **argv)
         prepare(&rows[i]);
         said = card_call(rows[i].which, &args);
         /* a row is of the kind that it says */
-        if (rows[i].which == READ_ENVELOPE && peat_refusal(said) == 0 && peat_job_number(first) != rows[i].n[1])
+        if (rows[i].which == READ_ENVELOPE && peat_refusal_in(said) == 0 && peat_job_number(first) != rows[i].n[1])
             return 1;
-        return (peat_refusal(said) != 0) != (strstr(rows[i].title, "PROHIBITED") || strstr(rows[i].title, "STALE") || strstr(rows[i].title, "REPEAT") || strstr(rows[i].title, "SHAPE") || strstr(rows[i].title, "SHORT") || strstr(rows[i].title, "CUT"));
+        return (peat_refusal_in(said) != 0) != (strstr(rows[i].title, "PROHIBITED") || strstr(rows[i].title, "STALE") || strstr(rows[i].title, "REPEAT") || strstr(rows[i].title, "SHAPE") || strstr(rows[i].title, "SHORT") || strstr(rows[i].title, "CUT"));
     }
     for (i = 0; i < ROWS; i++)
         printf("%lu %s %s\n", (unsigned long)i, names[rows[i].which], rows[i].title);

@@ -7,7 +7,7 @@ int main(void)
     for (uint64_t type = 0; type <= PEAT_GROUND_PDUS; type++)
         for (unsigned n = 0; n <= 256; n++) {
             const uint8_t byte = (uint8_t)n;
-            sum += peat_read_leading(type, &byte, n < 256);
+            sum += peat_read_leading(type, &byte, n < 256).word;
         }
     return 0;
 }

@@ -53,22 +53,22 @@ static void show_left(const uint8_t *at, size_t n)
         }
 }
 
-static void ask_apdu(uint64_t type) { printf("%llu", (unsigned long long)peat_read_apdu(type, bytes, count)); }
+static void ask_apdu(uint64_t type) { printf("%llu", (unsigned long long)peat_read_apdu(type, bytes, count).word); }
 
 static void ask_data(void)
 {
-    uint64_t n = peat_data_part(PEAT_PART_MESSAGE, bytes, count, first, ROOM);
-    printf("%llu", (unsigned long long)n);
+    struct peat_part_answer n = peat_data_part(PEAT_PART_MESSAGE, bytes, count, first, ROOM);
+    printf("%llu", (unsigned long long)n.word);
     show_left(first, peat_refusal(n) == PEAT_TAKEN ? peat_part_bytes(n) : 0);
 }
 
 static void ask_deliver(uint64_t side)
 {
     uint8_t rec[PEAT_RECORD_BYTES] = {0};
-    uint64_t n;
+    struct peat_answer n;
     rec[0] = (uint8_t)side, rec[1] = PEAT_DIALOGUE, rec[4] = 1, rec[PEAT_RECORD_VERSION] = 1;
     n = peat_d_data_indication(PEAT_ARRAY(rec), peat_record_number(rec), PEAT_USER_DATA, bytes, count, first, ROOM, second, ROOM);
-    printf("%llu", (unsigned long long)n);
+    printf("%llu", (unsigned long long)n.word);
     memmove(rec + PEAT_RECORD_VERSION, rec + PEAT_RECORD_HIGHEST, 8); /* as the earlier one stood: a zero, and the highest job */
     show(rec, EARLIER_RECORD);
     show_left(first, peat_apdu_bytes(n));
@@ -78,15 +78,15 @@ static void ask_deliver(uint64_t side)
 static void ask_envelope(void)
 {
     uint8_t job[PEAT_JOB_BYTES] = {0};
-    uint64_t n = peat_read_envelope(bytes, count, PEAT_ARRAY(job));
-    printf("%llu %llu", (unsigned long long)n, (unsigned long long)peat_job_number(job));
+    struct peat_envelope_answer n = peat_read_envelope(bytes, count, PEAT_ARRAY(job));
+    printf("%llu %llu", (unsigned long long)n.word, (unsigned long long)peat_job_number(job));
 }
 
 static void ask_mail(void)
 {
     static uint8_t mail[PEAT_MAIL_BYTES];
     uint8_t job[PEAT_JOB_BYTES];
-    uint64_t n = 0;
+    struct peat_envelope_answer n = {0};
     size_t at;
     peat_mail_fresh(mail, sizeof mail);
     for (at = 0; at < count; at++) {
@@ -94,7 +94,7 @@ static void ask_mail(void)
         if (peat_refusal(n) != PEAT_TAKEN)
             break;
     }
-    printf("%llu %lu", (unsigned long long)n, (unsigned long)at);
+    printf("%llu %lu", (unsigned long long)n.word, (unsigned long)at);
 }
 
 int main(void)

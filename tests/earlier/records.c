@@ -12,6 +12,14 @@
 
 #include "peatribbon.h"
 
+#ifdef peat_refusal /* an answer is a struct */
+#define WORD(answer) ((answer).word)
+typedef struct peat_answer answer;
+#else
+#define WORD(answer) (answer)
+typedef uint64_t answer;
+#endif
+
 #ifdef PEAT_FORWARD_PLAIN
 #define OF_TYPE_22 , PEAT_PROTECTED
 #else
@@ -20,7 +28,7 @@
 
 static uint8_t rec[2][PEAT_RECORD_BYTES], first[PEAT_BUFFER_LEAST], second[PEAT_BUFFER_LEAST];
 static uint8_t line[2][PEAT_BUFFER_LEAST]; /* what each end sent last */
-static uint64_t sent[2];
+static answer sent[2];
 static uint64_t state = 14;
 
 static unsigned below(unsigned n)
@@ -45,9 +53,10 @@ static void show(const uint8_t *at, size_t n)
 #define LINE PEAT_USER_DATA, line[!e], peat_apdu_bytes(sent[!e])
 
 /* the primitive that the other end sent last arrives, with its number or another */
-static uint64_t arrives(unsigned e)
+static answer arrives(unsigned e)
 {
-    uint64_t n = sent[!e], number = peat_record_number(rec[!e]) + (below(16) == 0);
+    answer n = sent[!e];
+    uint64_t number = peat_record_number(rec[!e]) + (below(16) == 0);
     switch (peat_invoked(n)) {
     case PEAT_D_START_REQUEST:
         return peat_d_start_indication(REC, number, e ? PEAT_AIRCRAFT : PEAT_FACILITY, peat_invoked_security(n), PEAT_HIGH_PRIORITY, below(20) ? PEAT_LOW_ERROR_RATE : 0,
@@ -61,8 +70,17 @@ static uint64_t arrives(unsigned e)
     }
 }
 
+/* where no call is made */
+static answer no_call(void)
+{
+    answer n;
+    memset(&n, 0, sizeof n);
+    WORD(n) = PEAT_SHAPE;
+    return n;
+}
+
 /* one call of its user, or of its host */
-static uint64_t asks(unsigned e, unsigned what)
+static answer asks(unsigned e, unsigned what)
 {
     static const uint8_t octets[32] = {0x5A, 0xC3, 0x96, 0x0F, 0xE1, 0x2D, 0x78, 0xB4};
     uint64_t number = 1 + (peat_record_number(rec[0]) > peat_record_number(rec[1]) ? peat_record_number(rec[0]) : peat_record_number(rec[1]));
@@ -80,7 +98,10 @@ static uint64_t asks(unsigned e, unsigned what)
     case 8: return peat_dsc_end_request(REC, PEAT_DATA(data), BUFFERS);
     case 9: return peat_end_response(REC, below(2), PEAT_DATA(data), BUFFERS);
     case 10: return peat_dsc_end_response(REC, below(2), PEAT_DATA(data), BUFFERS);
-    case 11: return below(4) ? PEAT_SHAPE : peat_user_abort(REC, below(14), BUFFERS);
+    case 11:
+        if (below(4))
+            return no_call();
+        return peat_user_abort(REC, below(14), BUFFERS);
     case 12: return peat_timer_expiry(REC, BUFFERS);
     case 13:
         return peat_forward_request(REC, number, below(9), PEAT_NO_SECURITY, 2026, 11, 16, 14, 30, below(61), 6, peat_flight("SAS123", 6), 0x4A1B2C, below(2), PEAT_ARRAY(octets), below(200), BUFFERS);
@@ -116,10 +137,10 @@ int main(int argc, char **argv)
     peat_fresh(PEAT_ARRAY(rec[1]), PEAT_GROUND, PEAT_NO_SECURITY, PEAT_FORWARDS, 7 OF_TYPE_22);
     for (i = 0; i < calls; i++) {
         unsigned e = below(2), what = drawn(e, waits[e]);
-        uint64_t n;
+        answer n;
         memset(first, 0xC3, sizeof first), memset(second, 0xC3, sizeof second);
         n = asks(e, what);
-        printf("%u %u %llx", e, what, (unsigned long long)n);
+        printf("%u %u %llx", e, what, (unsigned long long)WORD(n));
         show(PEAT_ARRAY(rec[e]));
         show(first, peat_refusal(n) ? 0 : peat_apdu_bytes(n));
         show(second, peat_refusal(n) ? 0 : peat_data_bytes(n));
@@ -132,7 +153,7 @@ int main(int argc, char **argv)
     for (code = 0; code < 7; code++) {
         peat_fresh(PEAT_ARRAY(rec[0]), PEAT_AIR, PEAT_NO_SECURITY, PEAT_FORWARDS_NOT, 1 OF_TYPE_22);
         rec[0][PEAT_RECORD_SIDE] = (uint8_t)code;
-        printf("plain %u %llx", code, (unsigned long long)peat_system_error(PEAT_ARRAY(rec[0]), BUFFERS));
+        printf("plain %u %llx", code, (unsigned long long)WORD(peat_system_error(PEAT_ARRAY(rec[0]), BUFFERS)));
         show(PEAT_ARRAY(rec[0]));
         putchar('\n');
     }

@@ -46,7 +46,7 @@ static void read_one(void)
 {
     size_t len, job_len;
     uint8_t *lent = next_bytes(&len), *job = next_bytes(&job_len);
-    printf("%" PRIu64 " ", peat_read_envelope(lent, len, job, job_len));
+    printf("%" PRIu64 " ", peat_read_envelope(lent, len, job, job_len).word);
     show(job, job_len);
     free(lent);
     free(job);
@@ -61,7 +61,7 @@ static void write_one(void)
         exit(2);
     body = next_bytes(&body_len);
     out = next_bytes(&out_len);
-    printf("%" PRIu64 " ", peat_write_envelope(kind, job, bits, body, body_len, out, out_len));
+    printf("%" PRIu64 " ", peat_write_envelope(kind, job, bits, body, body_len, out, out_len).word);
     show(out, out_len);
     free(body);
     free(out);

@@ -57,7 +57,7 @@ static const struct row {
 static uint8_t mail[PEAT_MAIL_BYTES], text[8192], envelope[PEAT_BUFFER_LEAST], job[PEAT_JOB_BYTES];
 static size_t bytes;
 
-static uint64_t take(const uint8_t *at, size_t n) { return peat_mail_take(mail, sizeof mail, at, n, PEAT_ARRAY(job)); }
+static struct peat_envelope_answer take(const uint8_t *at, size_t n) { return peat_mail_take(mail, sizeof mail, at, n, PEAT_ARRAY(job)); }
 
 static void must(int right)
 {
@@ -79,7 +79,7 @@ static void prepare(const struct row *r)
     must(bytes > 0);
     for (i = 0; i < sizeof text; i++)
         text[i] = envelope[i % bytes];
-    must(peat_mail_fresh(mail, sizeof mail) == 0);
+    must(peat_refusal(peat_mail_fresh(mail, sizeof mail)) == 0);
     if (r->behind)
         must(peat_envelope_kind(take(text, bytes)) == PEAT_ENVELOPE_TO_SEND);
     for (i = 0; i < r->held; i++)
@@ -96,12 +96,12 @@ static void record_all(const struct row *r)
     for (from = 0; from < r->fragment; from += r->every)
         for (at = from; at < r->fragment && at < from + r->every;) {
             size_t end = from + r->every < r->fragment ? from + r->every : r->fragment;
-            uint64_t answer = take(text + at, end - at);
+            struct peat_envelope_answer answer = take(text + at, end - at);
             must(peat_refusal(answer) == 0 && peat_mail_taken(answer) > 0);
             envelopes += peat_envelope_kind(answer) != 0;
             at += peat_mail_taken(answer);
         }
-    must(envelopes == r->fragment / bytes && peat_mail_end(mail, sizeof mail) == 0);
+    must(envelopes == r->fragment / bytes && peat_refusal(peat_mail_end(mail, sizeof mail)) == 0);
 }
 
 static uint64_t call(const struct row *r)
@@ -110,7 +110,7 @@ static uint64_t call(const struct row *r)
         record_all(r);
         return 0;
     }
-    return take(text + r->held, r->fragment);
+    return peat_refusal(take(text + r->held, r->fragment));
 }
 
 /* ---- the stack of a call, on a stack of its own */
@@ -158,7 +158,7 @@ int main(int argc, char **argv)
         if (i >= ROWS)
             return 2;
         prepare(&rows[i]);
-        must((peat_refusal(call(&rows[i])) == PEAT_KIND) == (rows[i].wrong != 0));
+        must((call(&rows[i]) == PEAT_KIND) == (rows[i].wrong != 0));
         return 0;
     }
     for (i = 0; i < ROWS; i++)

@@ -76,7 +76,7 @@ static int beside(const uint8_t *at)
 static uint8_t *mail; /* the record that is lent */
 static uint8_t *job;  /* and the range for a job */
 
-static uint64_t faulty(uint64_t answer, size_t n)
+static uint64_t faulty(struct peat_envelope_answer answer, size_t n)
 {
     (void)n;
 #if FAULT == 1 /* bytes are left behind what is held */
@@ -93,7 +93,7 @@ static uint64_t faulty(uint64_t answer, size_t n)
         mail[PEAT_MAIL_PLACE + 7] = 0;
 #elif FAULT == 5 /* a byte is counted twice */
     if (peat_envelope_kind(answer) != 0 && peat_mail_taken(answer) > 200)
-        return answer - ((uint64_t)1 << PEAT_ENVELOPE_NEXT_AT);
+        return answer.word - ((uint64_t)1 << PEAT_ENVELOPE_NEXT_AT);
 #elif FAULT == 6 /* the record is cleared by a fragment of no bytes */
     if (n == 0 && mail[PEAT_MAIL_STATE] == 1)
         peat_mail_fresh(mail, PEAT_MAIL_BYTES);
@@ -104,7 +104,7 @@ static uint64_t faulty(uint64_t answer, size_t n)
     if (peat_envelope_kind(answer) != 0 && job[PEAT_JOB_BYTES - 2] != 0)
         job[PEAT_JOB_BYTES - 1] |= 0x80;
 #endif
-    return answer;
+    return answer.word;
 }
 
 static uint64_t take(const uint8_t *bytes, size_t n)
@@ -122,7 +122,7 @@ static uint64_t take(const uint8_t *bytes, size_t n)
 static void begin(struct model *m)
 {
     model_fresh(m);
-    if (peat_mail_fresh(mail, PEAT_MAIL_BYTES) != 0)
+    if (peat_refusal(peat_mail_fresh(mail, PEAT_MAIL_BYTES)) != 0)
         check(0, "a fresh record is refused");
 }
 
@@ -152,9 +152,9 @@ static int hand_over(struct model *m, const uint8_t *bytes, size_t n, struct run
         size_t i = 0;
         enum event e = m->refusal != 0 ? REFUSED : MORE;
         uint8_t want[PEAT_JOB_BYTES];
-        uint64_t answer;
+        struct peat_envelope_answer answer;
         memcpy(want, job, sizeof want);
-        answer = take(bytes + at, n - at);
+        answer = AS(peat_envelope_answer, take(bytes + at, n - at));
         while (e == MORE && at + i < n)
             e = model_feed(m, bytes[at + i++]);
         once = 0;
@@ -166,12 +166,12 @@ static int hand_over(struct model *m, const uint8_t *bytes, size_t n, struct run
             return check(0, "another job is left");
         if (e == REFUSED) {
             r->refusal = m->refusal;
-            return answer == m->refusal || check(0, "another refusal");
+            return answer.word == m->refusal || check(0, "another refusal");
         }
         if (peat_refusal(answer) != 0 || peat_mail_taken(answer) != i)
             return check(0, "other bytes were taken");
         if (e != FINISHED) {
-            if (answer >> PEAT_REFUSAL_BITS << (64 - (PEAT_ENVELOPE_NEXT_AT - PEAT_REFUSAL_BITS)) != 0 || at + i != n)
+            if (answer.word >> PEAT_REFUSAL_BITS << (64 - (PEAT_ENVELOPE_NEXT_AT - PEAT_REFUSAL_BITS)) != 0 || at + i != n)
                 return check(0, "an envelope is finished too early");
         } else {
             unsigned k;
@@ -192,7 +192,7 @@ static int hand_over(struct model *m, const uint8_t *bytes, size_t n, struct run
 static int stays_refused(const struct model *m)
 {
     static const uint8_t more[] = {1, 1, 0, 4, 0xFF};
-    return take(more, sizeof more) == m->refusal && take(more, 0) == m->refusal && peat_mail_end(mail, PEAT_MAIL_BYTES) == m->refusal &&
+    return take(more, sizeof more) == m->refusal && take(more, 0) == m->refusal && peat_refusal(peat_mail_end(mail, PEAT_MAIL_BYTES)) == m->refusal &&
            take(more, 1) == m->refusal && as_model(m);
 }
 
@@ -202,7 +202,7 @@ static int ends(struct model *m, struct run *r)
     int i;
     for (i = 0; i < 2; i++) {
         enum event e = model_end(m);
-        uint64_t answer = peat_mail_end(mail, PEAT_MAIL_BYTES);
+        uint64_t answer = WORD(peat_mail_end(mail, PEAT_MAIL_BYTES));
         if (answer != (e == REFUSED ? m->refusal : 0) || !as_model(m))
             return check(0, "the end is another");
     }
@@ -251,7 +251,7 @@ static struct run read_whole(const uint8_t *s, size_t n)
     memset(&r, 0, sizeof r);
     while (at < n) {
         uint8_t job[PEAT_JOB_BYTES];
-        uint64_t answer = peat_read_envelope(s + at, n - at, PEAT_ARRAY(job));
+        struct peat_envelope_answer answer = peat_read_envelope(s + at, n - at, PEAT_ARRAY(job));
         unsigned k;
         r.refusal = peat_refusal(answer);
         if (r.refusal != 0)
@@ -390,8 +390,8 @@ static int is_shape(size_t len)
     int right = 1, i;
     memcpy(before, at, len);
     for (i = 0; i < 3; i++) {
-        uint64_t answer = i == 0 ? peat_mail_take(at, len, one, 1, job, PEAT_JOB_BYTES) :
-            i == 1 ? peat_mail_take(at, len, NULL, 0, job, PEAT_JOB_BYTES) : peat_mail_end(at, len);
+        uint64_t answer = i == 0 ? WORD(peat_mail_take(at, len, one, 1, job, PEAT_JOB_BYTES)) :
+            i == 1 ? WORD(peat_mail_take(at, len, NULL, 0, job, PEAT_JOB_BYTES)) : WORD(peat_mail_end(at, len));
         right = right && answer == PEAT_SHAPE && memcmp(before, at, len) == 0;
     }
     return right;
@@ -410,7 +410,7 @@ static void job_sizes(void)
             uint8_t *at = job + PEAT_JOB_BYTES - len;
             memset(at, 0x5A, len);
             memcpy(before, at, len);
-            check(peat_mail_take(mail, PEAT_MAIL_BYTES, least, sizeof least, len == 0 ? NULL : at, len) == PEAT_SHAPE && as_model(&m) &&
+            check(WORD(peat_mail_take(mail, PEAT_MAIL_BYTES, least, sizeof least, len == 0 ? NULL : at, len)) == PEAT_SHAPE && as_model(&m) &&
                 memcmp(before, at, len) == 0, "a range for the job of another size");
             memset(at, 0xC3, len);
         }
@@ -431,7 +431,7 @@ static void edges(void)
             uint8_t *at = record_end - len;
             memset(at, 0, len);
             memcpy(before, at, len);
-            check(is_shape(len) && peat_mail_fresh(at, len) == PEAT_SHAPE && memcmp(before, at, len) == 0, "a range of another size");
+            check(is_shape(len) && WORD(peat_mail_fresh(at, len)) == PEAT_SHAPE && memcmp(before, at, len) == 0, "a range of another size");
         }
     memset(record_end - PEAT_MAIL_BYTES - 2 * BESIDE, 0xC3, 2 * BESIDE); /* what is beside the record is known again */
     for (state = 0; state < 256; state++) {
@@ -440,7 +440,7 @@ static void edges(void)
         if (state > 1 && (state < PEAT_CUT || state > PEAT_SIZE))
             check(is_shape(PEAT_MAIL_BYTES), "a state that is none");
         else if (state >= PEAT_CUT)
-            check(take(least, 3) == state && peat_mail_end(mail, PEAT_MAIL_BYTES) == state, "a record of a refusal");
+            check(take(least, 3) == state && WORD(peat_mail_end(mail, PEAT_MAIL_BYTES)) == state, "a record of a refusal");
     }
     for (i = PEAT_ENVELOPE_MOST + 1; i < 65536; i += 4093) {
         begin(&m);
@@ -466,7 +466,7 @@ static void edges(void)
     /* a fresh record is one whatever stood there */
     for (i = 0; i < PEAT_MAIL_BYTES; i++)
         mail[i] = (uint8_t)any();
-    answer = peat_mail_fresh(mail, PEAT_MAIL_BYTES);
+    answer = WORD(peat_mail_fresh(mail, PEAT_MAIL_BYTES));
     model_fresh(&m);
     check(answer == 0 && as_model(&m) && beside(mail), "a fresh record over other bytes");
     job_sizes();
@@ -490,14 +490,14 @@ static void any_record(unsigned long calls)
         if (below(2)) /* something that begins like an envelope */
             put_envelope(frag), memcpy(mail + PEAT_MAIL_HEAD, frag, below(12));
         memcpy(before, mail, sizeof before);
-        answer = k % 3 == 0 ? peat_mail_end(mail, PEAT_MAIL_BYTES) : take(frag, n);
+        answer = k % 3 == 0 ? WORD(peat_mail_end(mail, PEAT_MAIL_BYTES)) : take(frag, n);
         right = beside(mail);
         if (answer == PEAT_SHAPE)
             right = right && memcmp(before, mail, sizeof before) == 0;
-        else if (peat_refusal(answer) != 0)
+        else if (peat_refusal_in(answer) != 0)
             right = right && answer >= PEAT_CUT && answer <= PEAT_SIZE && mail[0] == answer;
         else
-            right = right && peat_mail_taken(answer) <= n;
+            right = right && peat_mail_taken(AS(peat_envelope_answer, answer)) <= n;
     }
     check(right, "bytes that are no record");
 }

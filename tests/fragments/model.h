@@ -7,7 +7,7 @@
 
 #include <string.h>
 
-#include "peatribbon.h"
+#include "../lib/answers.h"
 
 enum stage { IN_KIND, IN_JOB, IN_COUNT, IN_BODY };
 enum event { MORE, FINISHED, REFUSED };

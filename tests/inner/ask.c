@@ -99,15 +99,16 @@ static void print_bytes(const struct range *r, size_t n)
 
 static void read_one(void)
 {
-    uint64_t direction = next_number(), count = next_number(), n;
+    uint64_t direction = next_number(), count = next_number();
+    struct peat_message_answer n;
     size_t characters = 0, written = 0;
     next_bytes(&bits);
     lend(&message, (size_t)next_number());
     lend(&text, (size_t)next_number());
     keep(&bits), keep(&message), keep(&text);
     n = peat_read_message(direction, bits.at, bits.len, count, message.at, message.len, text.at, text.len);
-    printf("%" PRIu64 " ", n);
-    if (n % 256 == 0) {
+    printf("%" PRIu64 " ", n.word);
+    if (peat_refusal(n) == PEAT_TAKEN) {
         characters = peat_message_characters(n);
         written = message.len;
         print_bytes(&message, written);
@@ -118,15 +119,16 @@ static void read_one(void)
 
 static void write_one(void)
 {
-    uint64_t direction = next_number(), n;
+    uint64_t direction = next_number();
+    struct peat_written_message n;
     size_t bytes = 0;
     next_bytes(&message);
     next_bytes(&text);
     lend(&out, (size_t)next_number());
     keep(&message), keep(&text), keep(&out);
     n = peat_write_message(direction, message.at, message.len, text.at, text.len, out.at, out.len);
-    printf("%" PRIu64 " ", n);
-    if (n % 256 == 0) {
+    printf("%" PRIu64 " ", n.word);
+    if (peat_refusal(n) == PEAT_TAKEN) {
         bytes = peat_message_bytes(n);
         print_bytes(&out, bytes);
     }

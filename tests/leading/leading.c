@@ -12,7 +12,7 @@
 #include <string.h>
 #include <sys/mman.h>
 #include <unistd.h>
-#include "peatribbon.h"
+#include "../lib/answers.h"
 
 enum { PLACE = 65536, WRONG = 8, RANDOM = 400000, DAMAGED = 40 };
 
@@ -94,13 +94,13 @@ static uint64_t router(uint64_t type, const uint8_t *bytes, size_t len)
 
 static uint64_t leading(uint64_t type, const uint8_t *bytes, size_t len)
 {
-    return wrong < 0 ? peat_read_leading(type, bytes, len) : router(type, bytes, len);
+    return wrong < 0 ? WORD(peat_read_leading(type, bytes, len)) : router(type, bytes, len);
 }
 
 /* ---- asking */
 
 /* Whether the two calls agree as document 02, E11 asks. */
-static int agree(uint64_t quick, uint64_t whole)
+static int agree(struct peat_apdu_answer quick, struct peat_apdu_answer whole)
 {
     unsigned kind = peat_apdu_kind(quick), refused = peat_refusal(quick);
     if (peat_refusal(whole) == 0)
@@ -117,7 +117,7 @@ static uint64_t ask(unsigned type, const uint8_t *from, size_t len)
     memmove(bytes, from, len);
     quick = leading(type, bytes, len);
     check(quick == model(type, bytes, len), "not what the bits say", type, bytes, len);
-    check(agree(quick, peat_read_apdu(type, bytes, len)), "the whole decoder says otherwise", type, bytes, len);
+    check(agree(AS(peat_apdu_answer, quick), peat_read_apdu(type, bytes, len)), "the whole decoder says otherwise", type, bytes, len);
     if (len > 0) {
         edge[-1] = kept[0];
         check(leading(type, edge - 1, 1) == quick, "the first byte alone says otherwise", type, edge - 1, 1);

@@ -59,7 +59,8 @@ int main(void)
     static char line[16384];
     while (fgets(line, sizeof line, stdin) != NULL) {
         struct args a;
-        uint64_t said, apdu = 9u << PEAT_APDU_KIND_AT;
+        struct peat_answer said;
+        struct peat_apdu_answer apdu = {9u << PEAT_APDU_KIND_AT};
         size_t i, sent;
         unsigned long which = strtoul(strtok(line, " \n"), NULL, 10);
         memset(&a, 0, sizeof a);
@@ -78,7 +79,7 @@ int main(void)
         a.checks.at = check, a.checks.len = sizeof check;
         a.first.at = first, a.first.len = sizeof first;
         a.second.at = second, a.second.len = sizeof second;
-        said = card_call((enum which)which, &a);
+        said = AS(peat_answer, card_call((enum which)which, &a));
         sent = peat_refusal(said) == PEAT_TAKEN ? peat_apdu_bytes(said) : 0;
         if (sent > 0)
             apdu = peat_read_apdu(rec[PEAT_RECORD_SIDE], first, sent);

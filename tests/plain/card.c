@@ -22,7 +22,7 @@ struct vector {
     unsigned air, bits;
     size_t bytes;
     uint8_t byte[BYTES];
-    uint64_t said;
+    struct peat_apdu_answer said;
 };
 
 /* ---- records of type 2 */
@@ -59,13 +59,13 @@ static unsigned rest(const struct vector *v, unsigned from, uint8_t *to)
 }
 
 /* the first buffer has the vector */
-static int written(const struct vector *v, uint64_t answer)
+static int written(const struct vector *v, struct peat_answer answer)
 {
     return peat_refusal(answer) == PEAT_TAKEN && peat_apdu_bits(answer) == v->bits && memcmp(first, v->byte, v->bytes) == 0;
 }
 
 /* the second buffer has the message, and it can be read */
-static int delivered(const struct vector *v, uint64_t answer, unsigned told, const uint8_t *message, unsigned bits)
+static int delivered(const struct vector *v, struct peat_answer answer, unsigned told, const uint8_t *message, unsigned bits)
 {
     uint8_t inner[PEAT_INNER_BYTES], text[BYTES];
     if (peat_refusal(answer) != PEAT_TAKEN || peat_told(answer) != told || peat_data_bits(answer) != bits || memcmp(second, message, (bits + 7) / 8) != 0)
@@ -128,7 +128,7 @@ static const char *send(const struct vector *v)
 
 static const char *abort_user(const struct vector *v)
 {
-    uint64_t n;
+    struct peat_answer n;
     record(v->air, PEAT_DIALOGUE);
     if (!written(v, peat_user_abort(REC, peat_apdu_number(v->said), BUFFERS)))
         return "peat_user_abort writes other bits";
@@ -137,8 +137,8 @@ static const char *abort_user(const struct vector *v)
     return peat_told(n) == PEAT_USER_ABORT_INDICATION && peat_told_parameter(n) == peat_apdu_number(v->said) ? "right" : "a D-ABORT indication tells something else";
 }
 
-/* the event by which a record sends this reason; 0: there is none. (Security is not compared, and reason 4 is only told.) */
-static uint64_t provoked(const struct vector *v)
+/* the event by which a record sends this reason; nothing is invoked: there is none. (Security is not compared, and reason 4 is only told.) */
+static struct peat_answer provoked(const struct vector *v)
 {
     static const uint8_t start_pdu[] = {0x20}, startdown[] = {0x40}, nonsense[] = {0xFF};
     record(v->air, PEAT_DIALOGUE);
@@ -151,14 +151,14 @@ static uint64_t provoked(const struct vector *v)
         record(v->air, PEAT_IDLE);
         return peat_d_start_indication(REC, 1, PEAT_FACILITY, PEAT_NO_SECURITY, 0, 0, 0, PEAT_NO_VERSION, PEAT_NO_USER_DATA, NULL, 0, BUFFERS);
     case PEAT_EXPECTED_PDU_MISSING: return peat_d_data_indication(REC, 0, PEAT_NO_USER_DATA, NULL, 0, BUFFERS);
-    default: return 0;
+    default: return (struct peat_answer){0};
     }
 }
 
 static const char *abort_provider(const struct vector *v)
 {
-    uint64_t n = provoked(v);
-    if (n != 0 && !written(v, n))
+    struct peat_answer n = provoked(v);
+    if (n.word != 0 && !written(v, n))
         return "an abort of the provider has other bits";
     record(!v->air, PEAT_DIALOGUE);
     n = peat_d_abort_indication(REC, 0, PEAT_PROVIDER, PEAT_USER_DATA, v->byte, v->bytes, BUFFERS);
@@ -168,7 +168,9 @@ static const char *abort_provider(const struct vector *v)
 static const char *forward(const struct vector *v)
 {
     static uint8_t message[BYTES], given[BYTES], heading[PEAT_HEADING_BYTES], out[BYTES];
-    uint64_t p[PEAT_FORWARD_MESSAGE], n, parts;
+    uint64_t p[PEAT_FORWARD_MESSAGE];
+    struct peat_answer n;
+    struct peat_forward_answer parts;
     unsigned bits = rest(v, 4, message), i;
     record(0, PEAT_IDLE);
     n = peat_d_start_indication(REC, 1, PEAT_FACILITY, PEAT_NO_SECURITY, PEAT_HIGH_PRIORITY, PEAT_LOW_ERROR_RATE, 0, 1, PEAT_USER_DATA, v->byte, v->bytes, BUFFERS);
@@ -190,7 +192,7 @@ static const char *forward(const struct vector *v)
 
 static const char *forward_response(const struct vector *v)
 {
-    uint64_t n;
+    struct peat_answer n;
     record(0, PEAT_FORWARD);
     n = peat_d_start_confirmation(REC, 0, PEAT_REJECTED, PEAT_DS_USER, PEAT_NO_SECURITY, PEAT_NO_VERSION, PEAT_USER_DATA, v->byte, v->bytes, BUFFERS);
     return peat_told(n) == PEAT_FORWARD_CONFIRMATION && peat_told_parameter(n) == peat_apdu_number(v->said) ? "right" : "a D-START confirmation tells something else";

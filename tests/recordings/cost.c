@@ -13,7 +13,7 @@
 #include <time.h>
 #include <ucontext.h>
 
-#include "peatribbon.h"
+#include "../lib/answers.h"
 
 #define STACK 2048
 #define PAINT 0xA5
@@ -28,7 +28,7 @@ static ucontext_t here, there;
 static void call(void)
 {
     if (!empty_call)
-        answer = peat_compare(first, m, second, n, left, places_left, right, places_right, twice, places_twice, PEAT_ARRAY(counts));
+        answer = WORD(peat_compare(first, m, second, n, left, places_left, right, places_right, twice, places_twice, PEAT_ARRAY(counts)));
 }
 
 static size_t stack_of(int empty)

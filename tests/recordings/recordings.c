@@ -87,9 +87,9 @@ static void compare(const struct pair *p, const char *name)
     for (i = 0; i < RANGES; i++)
         memcpy(kept[i], end_of[i] - size[i] - BESIDE, size[i] + BESIDE);
     model(p->first, p->m, p->second, p->n, p->list, p->counts, &want);
-    answer = peat_compare(end_of[FIRST] - p->m, p->m, end_of[SECOND] - p->n, p->n, end_of[LEFT] - p->list[0], p->list[0], end_of[RIGHT] - p->list[1],
-        p->list[1], end_of[TWICE] - p->list[2], p->list[2], end_of[COUNTS] - p->counts, p->counts);
-    if (peat_refusal(want.answer) == 0) {
+    answer = WORD(peat_compare(end_of[FIRST] - p->m, p->m, end_of[SECOND] - p->n, p->n, end_of[LEFT] - p->list[0], p->list[0], end_of[RIGHT] - p->list[1],
+        p->list[1], end_of[TWICE] - p->list[2], p->list[2], end_of[COUNTS] - p->counts, p->counts));
+    if (peat_refusal_in(want.answer) == 0) {
         for (i = 0; i < 3; i++) {
             for (k = 0; k < want.counts[i]; k++) {
                 int b;
@@ -107,7 +107,7 @@ static void compare(const struct pair *p, const char *name)
     check(answer == want.answer, name);
     check(same, name);
     if (p->counts == PEAT_COUNTS_BYTES) {
-        struct peat_comparison c = peat_comparison_of(answer, end_of[COUNTS] - p->counts);
+        struct peat_comparison c = peat_comparison_of(AS(peat_compare_answer, answer), end_of[COUNTS] - p->counts);
         int equal = p->m <= PEAT_RECORDING_MOST && c.refusal == 0 && p->m == p->n && memcmp(p->first, p->second, p->m) == 0;
         check(peat_comparison_equal(&c) == equal, "equal, and only equal, recordings give nothing");
         check(c.only_first == want.counts[0] && c.only_second == want.counts[1] && c.repeated == want.counts[2], "the counts, taken apart");

@@ -33,12 +33,12 @@ static int order(const void *x, const void *y)
 static uint64_t jobs_of(const uint8_t *s, size_t n, struct read *r, size_t *at)
 {
     uint8_t job[PEAT_JOB_BYTES];
-    uint64_t answer;
+    struct peat_envelope_answer answer;
     r->count = 0;
     for (*at = 0; *at < n; *at += peat_envelope_next(answer)) {
         answer = peat_read_envelope(s + *at, n - *at, job, sizeof job);
         if (peat_refusal(answer) != 0)
-            return answer;
+            return peat_refusal(answer);
         r->job[r->count++] = peat_job_number(job);
     }
     qsort(r->job, r->count, sizeof *r->job, order);
@@ -63,7 +63,8 @@ static void put(uint8_t *list, size_t k, uint64_t job)
 static uint64_t first_difference(const uint8_t *x, size_t m, const uint8_t *y, size_t n, size_t *at)
 {
     uint8_t p[8], q[8];
-    uint64_t a, b, index = 0;
+    struct peat_envelope_answer a, b;
+    uint64_t index = 0;
     for (*at = 0; *at < m && *at < n; *at += peat_envelope_next(a), index++) {
         uint64_t field = 0;
         a = peat_read_envelope(x + *at, m - *at, p, 8), b = peat_read_envelope(y + *at, n - *at, q, 8);
@@ -81,7 +82,7 @@ static uint64_t first_difference(const uint8_t *x, size_t m, const uint8_t *y, s
     return 0;
 }
 
-uint64_t peat_compare(const uint8_t *first, size_t first_len, const uint8_t *second, size_t second_len, uint8_t *left, size_t left_len,
+static uint64_t compared(const uint8_t *first, size_t first_len, const uint8_t *second, size_t second_len, uint8_t *left, size_t left_len,
     uint8_t *right, size_t right_len, uint8_t *twice, size_t twice_len, uint8_t *counts, size_t counts_len)
 {
     static struct read a, b;
@@ -135,4 +136,10 @@ uint64_t peat_compare(const uint8_t *first, size_t first_len, const uint8_t *sec
     if (answer == 0 && first_len != second_len)
         answer = (uint64_t)((first_len < second_len) == (FAULT != 15) ? 2 : 1) << 8 | (uint64_t)at << 16; /* 15: the rest is that of the shorter one */
     return answer;
+}
+
+struct peat_compare_answer peat_compare(const uint8_t *first, size_t first_len, const uint8_t *second, size_t second_len, uint8_t *left, size_t left_len,
+    uint8_t *right, size_t right_len, uint8_t *twice, size_t twice_len, uint8_t *counts, size_t counts_len)
+{
+    return (struct peat_compare_answer){compared(first, first_len, second, second_len, left, left_len, right, right_len, twice, twice_len, counts, counts_len)};
 }

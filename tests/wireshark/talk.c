@@ -19,9 +19,10 @@
 #include "carrier.h"
 #include "chance.h"
 #include "clearance.h"
+#include "peatribbon_names.h"
 
 struct end {
-    uint8_t rec[PEAT_RECORD_BYTES], first[PEAT_BUFFER_LEAST], second[PEAT_BUFFER_LEAST];
+    uint8_t rec[PEAT_RECORD_BYTES], apdu[PEAT_BUFFER_LEAST], data[PEAT_BUFFER_LEAST];
     unsigned side;
 };
 
@@ -30,7 +31,7 @@ static int flips;
 static unsigned type;
 
 #define REC(e) PEAT_ARRAY((e)->rec)
-#define BUFFERS(e) PEAT_BUFFERS((e)->first, (e)->second)
+#define BUFFERS(e) PEAT_BUFFERS((e)->apdu, (e)->data)
 
 static struct end *other(struct end *e) { return e == &air ? &ground : &air; }
 
@@ -43,46 +44,35 @@ static void fresh(void)
 }
 
 /* What may not be refused ends the program. */
-static uint64_t taken(uint64_t answer)
+static void must(unsigned refusal)
 {
-    if (peat_refusal(answer) != PEAT_TAKEN) {
-        fprintf(stderr, "talk: a call is refused: %s\n", peat_refusal_name(peat_refusal(answer)));
+    if (refusal != PEAT_TAKEN) {
+        fprintf(stderr, "talk: a call is refused: %s\n", peat_refusal_name(refusal));
         exit(1);
     }
+}
+
+static struct peat_answer taken(struct peat_answer answer)
+{
+    must(peat_refusal(answer));
     return answer;
 }
 
 /* ---- entries */
 
-static struct entry entry_of(const struct end *from, uint64_t answer)
+static struct entry entry_of(const struct end *from, struct peat_answer answer)
 {
     struct entry e;
     memset(&e, 0, sizeof e);
-    e.number = peat_record_number(from->rec);
-    e.primitive = peat_invoked(answer);
-    e.parameter = peat_invoked_parameter(answer);
-    e.security = peat_invoked_security(answer);
+    e.primitive = peat_primitive_of(answer, from->rec);
     e.bits = peat_apdu_bits(answer);
-    e.bytes = peat_apdu_bytes(answer);
-    memcpy(e.apdu, from->first, e.bytes);
+    memcpy(e.apdu, from->apdu, e.primitive.user_data_len);
     return e;
 }
 
-static uint64_t arrives(struct end *to, const struct entry *e)
+static struct peat_answer arrives(struct end *to, const struct entry *e)
 {
-    unsigned given = e->bits > 0 ? PEAT_USER_DATA : PEAT_NO_USER_DATA;
-    switch (e->primitive) {
-    case PEAT_D_START_REQUEST:
-        return taken(peat_d_start_indication(REC(to), e->number, to == &air ? PEAT_FACILITY : PEAT_AIRCRAFT, e->security, PEAT_HIGH_PRIORITY,
-            PEAT_LOW_ERROR_RATE, e->parameter, PEAT_NO_VERSION, given, e->apdu, e->bytes, BUFFERS(to)));
-    case PEAT_D_START_RESPONSE:
-        return taken(peat_d_start_confirmation(
-            REC(to), e->number, e->parameter, PEAT_DS_USER, e->security, PEAT_NO_VERSION, given, e->apdu, e->bytes, BUFFERS(to)));
-    case PEAT_D_DATA_REQUEST: return taken(peat_d_data_indication(REC(to), e->number, given, e->apdu, e->bytes, BUFFERS(to)));
-    case PEAT_D_END_REQUEST: return taken(peat_d_end_indication(REC(to), e->number, given, e->apdu, e->bytes, BUFFERS(to)));
-    case PEAT_D_END_RESPONSE: return taken(peat_d_end_confirmation(REC(to), e->number, e->parameter, given, e->apdu, e->bytes, BUFFERS(to)));
-    default: return taken(peat_d_abort_indication(REC(to), e->number, e->parameter, given, e->apdu, e->bytes, BUFFERS(to)));
-    }
+    return taken(peat_hand_over(REC(to), e->primitive, to == &air ? PEAT_FACILITY : PEAT_AIRCRAFT, e->apdu, BUFFERS(to)));
 }
 
 static int is_plain(void) { return type == PEAT_PLAIN; }
@@ -95,7 +85,7 @@ static const char *type_of(const struct end *from)
 static void captured(const struct end *from, const struct entry *e) { capture_entry(0, from == &air, type, e); }
 
 /* An entry goes into the capture and to the other end. What is shown of it is printed by the caller. */
-static uint64_t carried(struct end *from, uint64_t answer)
+static struct peat_answer carried(struct end *from, struct peat_answer answer)
 {
     struct entry e = entry_of(from, taken(answer));
     captured(from, &e);
@@ -149,7 +139,7 @@ static uint64_t above(void)
 }
 
 /* n: the clearance that goes with it, or 0 */
-static uint64_t start_with(struct end *e, int dsc, unsigned long n)
+static struct peat_answer start_with(struct end *e, int dsc, unsigned long n)
 {
     struct peat_data data = data_beside(e, n);
     if (n != 0)
@@ -159,10 +149,10 @@ static uint64_t start_with(struct end *e, int dsc, unsigned long n)
     return carried(e, peat_start(REC(e), above(), dsc ? PEAT_DSC : PEAT_CPDLC, PEAT_CLASS_ANY, PEAT_NO_SECURITY, PEAT_DATA(data), BUFFERS(e)));
 }
 
-static uint64_t start(struct end *e, int dsc) { return start_with(e, dsc, 0); }
+static struct peat_answer start(struct end *e, int dsc) { return start_with(e, dsc, 0); }
 
 /* a response or an end; n: the clearance in it, or 0 */
-static void send_with(struct end *e, unsigned long n, uint64_t answer)
+static void send_with(struct end *e, unsigned long n, struct peat_answer answer)
 {
     if (n != 0)
         print_message("message", e->side, &beside);
@@ -200,14 +190,15 @@ static void close_dialogue(int dsc, unsigned result) { close_with(dsc, result, 0
 /* ---- messages */
 
 /* the message that an end was told of; its bits */
-static unsigned message_told(const struct end *e, uint64_t answer, uint8_t *message)
+static unsigned message_told(const struct end *e, struct peat_answer answer, uint8_t *message)
 {
-    uint64_t part;
+    struct peat_part_answer part;
     if (is_plain()) {
-        memcpy(message, e->second, peat_data_bytes(answer));
+        memcpy(message, e->data, peat_data_bytes(answer));
         return peat_data_bits(answer);
     }
-    part = taken(peat_data_part(PEAT_PART_MESSAGE, e->second, peat_data_bytes(answer), message, PEAT_BUFFER_LEAST));
+    part = peat_data_part(PEAT_PART_MESSAGE, e->data, peat_data_bytes(answer), message, PEAT_BUFFER_LEAST);
+    must(peat_refusal(part));
     return peat_part_bits(part);
 }
 
@@ -301,7 +292,7 @@ static void provider_aborts(struct end *e)
     unsigned reason;
     for (reason = 0; reason < PEAT_NOT_PERMITTED_PDU; reason++) {
         struct entry sent;
-        uint64_t told;
+        struct peat_answer told;
         fresh();
         begin_abort(e);
         sent = entry_of(e, taken(peat_system_error(REC(e), BUFFERS(e))));
@@ -365,7 +356,7 @@ static char drawn_character(void) { return (char)('0' + chance(43) % 36 + (chanc
 
 /* The receiving centre is not known to the dissector as one: what both centres send goes into the capture as a ground end's, the answer on a
    connection that an aircraft began. */
-static void answer_of(uint64_t answer)
+static void answer_of(struct peat_answer answer)
 {
     static const char *const results[] = {"success", "service-not-supported", "version-not-equal"};
     struct entry e = entry_of(&centre, taken(answer));
@@ -402,8 +393,8 @@ static void forward(unsigned long n)
     e = entry_of(&ground, taken(peat_forward_request(REC(&ground), 1, PEAT_CLASS_ANY, PEAT_NO_SECURITY, when[0], when[1], when[2], when[3], when[4], when[5],
         characters, peat_flight(flight, characters), address, side == PEAT_AIR, bit, (bits + 7) / 8, bits, BUFFERS(&ground))));
     captured(&ground, &e);
-    answer_of(peat_d_start_indication(REC(&centre), 1, PEAT_FACILITY, PEAT_NO_SECURITY, PEAT_HIGH_PRIORITY, PEAT_LOW_ERROR_RATE, e.parameter, 1,
-        PEAT_USER_DATA, e.apdu, e.bytes, BUFFERS(&centre)));
+    answer_of(peat_d_start_indication(REC(&centre), 1, PEAT_FACILITY, PEAT_NO_SECURITY, PEAT_HIGH_PRIORITY, PEAT_LOW_ERROR_RATE, e.primitive.parameter, 1,
+        PEAT_USER_DATA, e.apdu, e.primitive.user_data_len, BUFFERS(&centre)));
 }
 
 static void forwards(unsigned long count)

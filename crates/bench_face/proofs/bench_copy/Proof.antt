@@ -32,7 +32,9 @@ same-length-2 c = search needs
 
 -- src/lib.rt:11:1
 returns-2 : tie.Need-returns-2
-returns-2 c = copy-next _ _ _ _ _ _ _ (c .before .before .before .before .before .copy-bits .ensures) _ (c .before .next .given .1)
+returns-2 c =
+    let c5 = c .before .before .before .before .before in
+    copy-next _ _ _ _ _ _ _ (c5 .copy-bits .ensures) _ (c .before .next .given .1)
 
 pub bench-copy-spec : {M : Type 1} → statement M
 bench-copy-spec =

@@ -76,19 +76,26 @@ is-requires-9 : tie.Need-is-requires-9
 is-requires-9 c κs = tt
 
 returns : tie.Need-returns
-returns c = rw (c .before .before .before .before .before .p .given .1, ← c .before .before .before .is .ensures, c .before .before .if1 .taken, ← c .before .other .ensures) (c .may-start .ensures)
+returns c =
+    let c3 = c .before .before .before in
+    rw (c3 .before .before .p .given .1, ← c3 .is .ensures, c .before .before .if1 .taken, ← c .before .other .ensures)
+    (c .may-start .ensures)
 
 returns-2 : tie.Need-returns-2
 returns-2 c = rw (c .before .before .before .p .given .1, ← c .before .is .ensures, c .if1 .left)
 
 returns-3 : tie.Need-returns-3
-returns-3 c = rw (c .before .before .before .enum-told .given .1, ← c .before .before .is2 .ensures, c .before .if2 .taken) (c .may-start2 .ensures)
+returns-3 c =
+    let c3 = c .before .before .before in
+    rw (c3 .enum-told .given .1, ← c .before .before .is2 .ensures, c .before .if2 .taken) (c .may-start2 .ensures)
 
 returns-4 : tie.Need-returns-4
 returns-4 c = rw (c .before .before .enum-told .given .1, ← c .before .is2 .ensures, c .if2 .left)
 
 returns-5 : tie.Need-returns-5
-returns-5 c = rw (c .before .before .before .enum-told2 .given .1, ← c .before .before .is3 .ensures, c .before .if3 .taken) (c .may-start3 .ensures)
+returns-5 c =
+    let c3 = c .before .before .before in
+    rw (c3 .enum-told2 .given .1, ← c .before .before .is3 .ensures, c .before .if3 .taken) (c .may-start3 .ensures)
 
 returns-6 : tie.Need-returns-6
 returns-6 c = rw (c .before .before .enum-told2 .given .1, ← c .before .is3 .ensures, c .if3 .left)
@@ -97,19 +104,40 @@ returns-7 : tie.Need-returns-7
 returns-7 c = rw (c .before .before .enum-told3 .given .1, ← c .before .is4 .ensures, c .if4 .taken)
 
 returns-8 : tie.Need-returns-8
-returns-8 c = rw (c .before .before .before .before .before .enum-told3 .given .1, ← c .before .before .before .before .is4 .ensures, c .before .before .before .if4 .left, ← c .before .before .is5 .ensures, c .before .if5 .taken) (c .ender .ensures)
+returns-8 c =
+    let c3 = c .before .before .before in
+    rw (
+      c3 .before .before .enum-told3 .given .1,
+      ← c3 .before .is4 .ensures,
+      c3 .if4 .left,
+      ←
+          c .before .before .is5 .ensures,
+      c .before .if5 .taken,
+    ) (c .ender .ensures)
 
 returns-9 : tie.Need-returns-9
-returns-9 c = rw (c .before .before .before .before .enum-told3 .given .1, ← c .before .before .before .is4 .ensures, c .before .before .if4 .left, ← c .before .is5 .ensures, c .if5 .left)
+returns-9 c =
+    let c3 = c .before .before .before in
+    rw (
+      c3 .before .enum-told3 .given .1,
+      ← c3 .is4 .ensures,
+      c .before .before .if4 .left,
+      ← c .before .is5 .ensures,
+      c .if5 .left,
+    )
 
 returns-10 : tie.Need-returns-10
-returns-10 c = rw (c .before .before .before .enum-told4 .given .1, ← c .before .before .is6 .ensures, c .before .if6 .taken, ← c .ender2 .ensures)
+returns-10 c =
+    let c3 = c .before .before .before in
+    rw (c3 .enum-told4 .given .1, ← c .before .before .is6 .ensures, c .before .if6 .taken, ← c .ender2 .ensures)
 
 returns-11 : tie.Need-returns-11
 returns-11 c = rw (c .before .before .enum-told4 .given .1, ← c .before .is6 .ensures, c .if6 .left)
 
 returns-12 : tie.Need-returns-12
-returns-12 c = rw (c .before .before .before .enum-told5 .given .1, ← c .before .before .is7 .ensures, c .before .if7 .taken) (c .ender3 .ensures)
+returns-12 c =
+    let c3 = c .before .before .before in
+    rw (c3 .enum-told5 .given .1, ← c .before .before .is7 .ensures, c .before .if7 .taken) (c .ender3 .ensures)
 
 returns-13 : tie.Need-returns-13
 returns-13 c = rw (c .before .before .enum-told5 .given .1, ← c .before .is7 .ensures, c .if7 .left)

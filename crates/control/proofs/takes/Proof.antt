@@ -73,13 +73,23 @@ is-requires-5 : tie.Need-is-requires-5
 is-requires-5 c κs = tt
 
 returns : tie.Need-returns
-returns c = rw (c .before .before .before .before .call .given .1, ← c .before .before .is .ensures, c .before .if1 .taken) (c .may-start .ensures)
+returns c =
+    let c4 = c .before .before .before .before in
+    rw (c4 .call .given .1, ← c .before .before .is .ensures, c .before .if1 .taken) (c .may-start .ensures)
 
 returns-2 : tie.Need-returns-2
 returns-2 c = rw (c .before .before .before .call .given .1, ← c .before .is .ensures, c .if1 .left)
 
 returns-3 : tie.Need-returns-3
-returns-3 c = rw (c .before .before .before .before .before .call2 .given .1, ← c .before .before .before .within .ensures, c .before .before .if2 .taken, ← c .before .other .ensures) (c .may-start2 .ensures)
+returns-3 c =
+    let c3 = c .before .before .before in
+    rw (
+      c3 .before .before .call2 .given .1,
+      ← c3 .within .ensures,
+      c .before .before .if2 .taken,
+      ←
+          c .before .other .ensures,
+    ) (c .may-start2 .ensures)
 
 returns-4 : tie.Need-returns-4
 returns-4 c = rw (c .before .before .before .call2 .given .1, ← c .before .within .ensures, c .if2 .left)
@@ -88,19 +98,41 @@ returns-5 : tie.Need-returns-5
 returns-5 c = rw (c .before .before .enum-told .given .1, ← c .before .is2 .ensures, c .if3 .taken)
 
 returns-6 : tie.Need-returns-6
-returns-6 c = rw (c .before .before .before .before .before .enum-told .given .1, ← c .before .before .before .before .is2 .ensures, c .before .before .before .if3 .left, ← c .before .before .is3 .ensures, c .before .if4 .taken, ← c .ender .ensures)
+returns-6 c =
+    let c3 = c .before .before .before in
+    rw (
+      c3 .before .before .enum-told .given .1,
+      ← c3 .before .is2 .ensures,
+      c3 .if3 .left,
+      ←
+          c .before .before .is3 .ensures,
+      c .before .if4 .taken,
+      ← c .ender .ensures,
+    )
 
 returns-7 : tie.Need-returns-7
-returns-7 c = rw (c .before .before .before .before .enum-told .given .1, ← c .before .before .before .is2 .ensures, c .before .before .if3 .left, ← c .before .is3 .ensures, c .if4 .left)
+returns-7 c =
+    let c3 = c .before .before .before in
+    rw (
+      c3 .before .enum-told .given .1,
+      ← c3 .is2 .ensures,
+      c .before .before .if3 .left,
+      ← c .before .is3 .ensures,
+      c .if4 .left,
+    )
 
 returns-8 : tie.Need-returns-8
-returns-8 c = rw (c .before .before .before .before .call3 .given .1, ← c .before .before .within2 .ensures, c .before .if5 .taken) (c .ender2 .ensures)
+returns-8 c =
+    let c4 = c .before .before .before .before in
+    rw (c4 .call3 .given .1, ← c .before .before .within2 .ensures, c .before .if5 .taken) (c .ender2 .ensures)
 
 returns-9 : tie.Need-returns-9
 returns-9 c = rw (c .before .before .before .call3 .given .1, ← c .before .within2 .ensures, c .if5 .left)
 
 returns-10 : tie.Need-returns-10
-returns-10 c = rw (c .before .before .before .before .call4 .given .1, ← c .before .before .within3 .ensures, c .before .if6 .taken, ← c .ender3 .ensures)
+returns-10 c =
+    let c4 = c .before .before .before .before in
+    rw (c4 .call4 .given .1, ← c .before .before .within3 .ensures, c .before .if6 .taken, ← c .ender3 .ensures)
 
 returns-11 : tie.Need-returns-11
 returns-11 c = rw (c .before .before .before .call4 .given .1, ← c .before .within3 .ensures, c .if6 .left)

@@ -13,13 +13,17 @@ refused-requires : tie.Need-refused-requires
 refused-requires c κs = tt
 
 returns : tie.Need-returns
-returns c = c .refused .ensures ∙ sym (step-shape _ _ _ (sym (c .before .before .fits2 .ensures) ∙ not-true _ (c .before .if1 .taken)))
+returns c =
+    c .refused .ensures ∙ sym
+    (step-shape _ _ _ (sym (c .before .before .fits2 .ensures) ∙ not-true _ (c .before .if1 .taken)))
 
 step-fitting-requires : tie.Need-step-fitting-requires
 step-fitting-requires c κs = tt
 
 returns-2 : tie.Need-returns-2
-returns-2 c = c .step-fitting .ensures ∙ sym (step-of-fitting _ _ _ (sym (c .before .before .fits2 .ensures) ∙ not-false _ (c .before .if1 .left)))
+returns-2 c =
+    c .step-fitting .ensures ∙ sym
+    (step-of-fitting _ _ _ (sym (c .before .before .fits2 .ensures) ∙ not-false _ (c .before .if1 .left)))
 
 pub step-spec : {M : Type 1} → statement M
 step-spec =

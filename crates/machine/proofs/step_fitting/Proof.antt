@@ -18,11 +18,15 @@ refused-requires c κs = tt
 
 returns : tie.Need-returns
 unfolding stepFitting
-returns c = rw (← c .before .before .before .refusal .ensures, ← c .before .before .is-none .ensures, c .before .if1 .taken) (c .acts .ensures)
+returns c =
+    let c3 = c .before .before .before in
+    rw (← c3 .refusal .ensures, ← c .before .before .is-none .ensures, c .before .if1 .taken) (c .acts .ensures)
 
 returns-2 : tie.Need-returns-2
 unfolding stepFitting
-returns-2 c = rw (← c .before .before .before .refusal .ensures, ← c .before .before .is-none .ensures, c .before .if1 .left) (c .refused .ensures)
+returns-2 c =
+    let c3 = c .before .before .before in
+    rw (← c3 .refusal .ensures, ← c .before .before .is-none .ensures, c .before .if1 .left) (c .refused .ensures)
 
 pub step-fitting-spec : {M : Type 1} → statement M
 step-fitting-spec =

@@ -36,7 +36,18 @@ called-requires c κs = search needs
 -- src/lib.rt:102:13
 returns : tie.Need-returns
 unfolding stepFitting refusalFitting permitted messageRefusal acts
-returns c = rw (← c .before .before .before .before .before .before .call-of .ensures, ← c .before .before .before .before .before .takes .ensures, c .before .before .before .before .if1 .taken, ← c .before .before .before .unsent .ensures, ← c .before .before .is-none .ensures, c .before .if2 .taken) (c .called .ensures)
+returns c =
+    let c3 = c .before .before .before in
+    let c6 = c3 .before .before .before in
+    rw (
+      ← c6 .call-of .ensures,
+      ← c3 .before .before .takes .ensures,
+      c3 .before .if1 .taken,
+      ← c3 .unsent .ensures,
+      ←
+          c .before .before .is-none .ensures,
+      c .before .if2 .taken,
+    ) (c .called .ensures)
 
 -- src/lib.rt:104:9
 refused-requires : tie.Need-refused-requires
@@ -45,7 +56,18 @@ refused-requires c κs = search needs
 -- src/lib.rt:104:9
 returns-2 : tie.Need-returns-2
 unfolding stepFitting refusalFitting permitted messageRefusal acts
-returns-2 c = rw (← c .before .before .before .before .before .before .call-of .ensures, ← c .before .before .before .before .before .takes .ensures, c .before .before .before .before .if1 .taken, ← c .before .before .before .unsent .ensures, ← c .before .before .is-none .ensures, c .before .if2 .left) (c .refused .ensures)
+returns-2 c =
+    let c3 = c .before .before .before in
+    let c6 = c3 .before .before .before in
+    rw (
+      ← c6 .call-of .ensures,
+      ← c3 .before .before .takes .ensures,
+      c3 .before .if1 .taken,
+      ← c3 .unsent .ensures,
+      ←
+          c .before .before .is-none .ensures,
+      c .before .if2 .left,
+    ) (c .refused .ensures)
 
 -- src/lib.rt:106:5
 refused-requires-2 : tie.Need-refused-requires-2
@@ -54,7 +76,9 @@ refused-requires-2 c κs = search needs
 -- src/lib.rt:95:1
 returns-3 : tie.Need-returns-3
 unfolding stepFitting refusalFitting permitted messageRefusal acts
-returns-3 c = rw (← c .before .before .before .call-of .ensures, ← c .before .before .takes .ensures, c .before .if1 .left) (c .refused2 .ensures)
+returns-3 c =
+    let c3 = c .before .before .before in
+    rw (← c3 .call-of .ensures, ← c .before .before .takes .ensures, c .before .if1 .left) (c .refused2 .ensures)
 
 pub user-fitting-spec : {M : Type 1} → statement M
 user-fitting-spec =

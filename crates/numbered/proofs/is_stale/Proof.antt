@@ -16,11 +16,15 @@ is-service-requires c κs = tt
 
 returns-2 : tie.Need-returns-2
 unfolding isStale
-returns-2 c = rw (← c .before .before .before .is-start .ensures, c .before .before .if1 .left, ← c .before .is-service .ensures, c .if2 .taken)
+returns-2 c =
+    let c3 = c .before .before .before in
+    rw (← c3 .is-start .ensures, c .before .before .if1 .left, ← c .before .is-service .ensures, c .if2 .taken)
 
 returns-3 : tie.Need-returns-3
 unfolding isStale
-returns-3 c = rw (← c .before .before .before .is-start .ensures, c .before .before .if1 .left, ← c .before .is-service .ensures, c .if2 .left)
+returns-3 c =
+    let c3 = c .before .before .before in
+    rw (← c3 .is-start .ensures, c .before .before .if1 .left, ← c .before .is-service .ensures, c .if2 .left)
 
 pub is-stale-spec : {M : Type 1} → statement M
 is-stale-spec =

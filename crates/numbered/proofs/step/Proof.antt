@@ -25,15 +25,20 @@ refused-requires-2 c κs = tt
 
 returns-2 : tie.Need-returns-2
 unfolding numberedStep refusalOf
-returns-2 c = rw (← c .before .before .before .before .fits2 .ensures, c .before .before .before .if1 .left, ← c .before .before .is-stale .ensures, c .before .if2 .taken) (c .refused2 .ensures)
+returns-2 c =
+    let c3 = c .before .before .before in
+    rw (← c3 .before .fits2 .ensures, c3 .if1 .left, ← c .before .before .is-stale .ensures, c .before .if2 .taken)
+    (c .refused2 .ensures)
 
 step-fitting-requires : tie.Need-step-fitting-requires
 step-fitting-requires c κs = tt
 
 returns-3 : tie.Need-returns-3
 returns-3 c =
-    c .step-fitting .ensures
-    ∙ sym (then-fitting _ _ _ _ _ (sym (c .before .before .before .before .fits2 .ensures) ∙ not-false _ (c .before .before .before .if1 .left)) (sym (c .before .before .is-stale .ensures) ∙ c .before .if2 .left))
+    let c3 = c .before .before .before in
+    c .step-fitting .ensures ∙ sym (then-fitting _ _ _ _ _
+    (sym (c3 .before .fits2 .ensures) ∙ not-false _ (c3 .if1 .left))
+    (sym (c .before .before .is-stale .ensures) ∙ c .before .if2 .left))
 
 pub step-spec : {M : Type 1} → statement M
 step-spec =

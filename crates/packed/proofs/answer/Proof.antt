@@ -26,10 +26,19 @@ version-number-requires : tie.Need-version-number-requires
 version-number-requires c κs = tt
 
 packed-requires : tie.Need-packed-requires
-packed-requires c κs = omega (arith, invoked-room _ _ (c .before .before .invoked-number .ensures), told-room _ _ (c .before .told-number .ensures))
+packed-requires c κs =
+    omega (
+      arith,
+      invoked-room _ _ (c .before .before .invoked-number .ensures),
+      told-room _ _
+          (c .before .told-number .ensures),
+    )
 
 returns : tie.Need-returns
-returns c = c .packed .ensures ∙ rw (c .before .version-number .ensures, c .before .before .told-number .ensures, c .before .before .before .invoked-number .ensures)
+returns c =
+    let c3 = c .before .before .before in
+    c .packed .ensures ∙ rw
+    (c .before .version-number .ensures, c .before .before .told-number .ensures, c3 .invoked-number .ensures)
 
 pub answer-spec : {M : Type 1} → statement M
 answer-spec = tie.close (tie.spec invoked-number-requires told-number-requires version-number-requires packed-requires returns)

@@ -12,7 +12,8 @@ told-version-requires : tie.Need-told-version-requires
 told-version-requires c κs = search needs
 
 returns : tie.Need-returns
-returns c = rw (← c .before .before .invoked-version .ensures, eq-eqb _ _ (c .before .if1 .taken)) (c .told-version .ensures)
+returns c =
+    rw (← c .before .before .invoked-version .ensures, eq-eqb _ _ (c .before .if1 .taken)) (c .told-version .ensures)
 
 returns-2 : tie.Need-returns-2
 returns-2 c = rw (← c .before .invoked-version .ensures, ne-eqb _ _ (c .if1 .left))

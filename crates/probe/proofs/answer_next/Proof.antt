@@ -44,7 +44,10 @@ slice-relend-prefix-answered c = search needs
 
 -- src/main.rt:75:20
 slice-aggregate-answered : tie.Need-slice-aggregate-answered
-slice-aggregate-answered c = sym (length-take-le (c .before .before .before .header .result .len) (c .before .before .before .before .before .before .before .args .room .now) (omega arith))
+slice-aggregate-answered c =
+    let c3 = c .before .before .before in
+    let c7 = c3 .before .before .before .before in
+    sym (length-take-le (c3 .header .result .len) (c7 .args .room .now) (omega arith))
 
 -- src/main.rt:75:36
 sub-answered : tie.Need-sub-answered
@@ -72,7 +75,10 @@ part-answered-end-2 c = search needs
 
 -- src/main.rt:75:8
 answered-requires : tie.Need-answered-requires
-answered-requires c κs = part-fits (c .before .before .before .before .before .before .before .before .before .args .s .now) (c .before .before .before .before .before .before .before .before .before .args .room .now) 45 (c .before .before .before .before .before .header .result .len) (omega arith)
+answered-requires c κs =
+    let c5 = c .before .before .before .before .before in
+    let c9 = c5 .before .before .before .before in
+    part-fits (c9 .args .s .now) (c9 .args .room .now) 45 (c5 .header .result .len) (omega arith)
 
 -- src/main.rt:76:9
 same-length : tie.Need-same-length

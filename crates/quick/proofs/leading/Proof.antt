@@ -30,12 +30,16 @@ of-aircraft-requires c κs = search needs
 -- src/lib.rt:75:9
 returns-2 : tie.Need-returns-2
 unfolding leadingCall
-returns-2 c = rw (eq-eqb _ _ (c .before .before .before .if1 .taken)) (c .of-aircraft .ensures ∙ first-says AircraftPdus _ (omega arith))
+returns-2 c =
+    let c3 = c .before .before .before in
+    rw (eq-eqb _ _ (c3 .if1 .taken)) (c .of-aircraft .ensures ∙ first-says AircraftPdus _ (omega arith))
 
 -- src/lib.rt:79:13
 returns-3 : tie.Need-returns-3
 unfolding leadingCall
-returns-3 c = rw (ne-eqb _ _ (c .before .before .if1 .left), eq-eqb _ _ (c .before .if3 .taken)) (nothing-says GroundPdus _ (c .if4 .taken))
+returns-3 c =
+    rw (ne-eqb _ _ (c .before .before .if1 .left), eq-eqb _ _ (c .before .if3 .taken))
+    (nothing-says GroundPdus _ (c .if4 .taken))
 
 -- src/lib.rt:81:26
 shared-slice-read-of-ground : tie.Need-shared-slice-read-of-ground
@@ -48,7 +52,10 @@ of-ground-requires c κs = search needs
 -- src/lib.rt:81:9
 returns-4 : tie.Need-returns-4
 unfolding leadingCall
-returns-4 c = rw (ne-eqb _ _ (c .before .before .before .before .if1 .left), eq-eqb _ _ (c .before .before .before .if3 .taken)) (c .of-ground .ensures ∙ first-says GroundPdus _ (omega arith))
+returns-4 c =
+    let c3 = c .before .before .before in
+    rw (ne-eqb _ _ (c3 .before .if1 .left), eq-eqb _ _ (c3 .if3 .taken))
+    (c .of-ground .ensures ∙ first-says GroundPdus _ (omega arith))
 
 -- src/lib.rt:68:1
 returns-5 : tie.Need-returns-5

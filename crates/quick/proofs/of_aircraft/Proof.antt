@@ -30,11 +30,15 @@ returns-5 c = row-says 4 (lit≤ tt) (c .before .before .before .before .before 
 
 -- src/lib.rt:37:1
 returns-6 : tie.Need-returns-6
-returns-6 c = row-says 5 (lit≤ tt) (c .before .before .before .before .before .before .args .first) (omega arith) (omega arith)
+returns-6 c =
+    let c6 = c .before .before .before .before .before .before in
+    row-says 5 (lit≤ tt) (c6 .args .first) (omega arith) (omega arith)
 
 -- src/lib.rt:37:1
 returns-7 : tie.Need-returns-7
-returns-7 c = row-says 6 (lit≤ tt) (c .before .before .before .before .before .before .args .first) (omega arith) (omega arith)
+returns-7 c =
+    let c6 = c .before .before .before .before .before .before in
+    row-says 6 (lit≤ tt) (c6 .args .first) (omega arith) (omega arith)
 
 pub of-aircraft-spec : {M : Type 1} → statement M
 of-aircraft-spec =

@@ -30,15 +30,21 @@ returns-5 c = row-says 11 (lit≤ tt) (c .before .before .before .before .before
 
 -- src/lib.rt:52:1
 returns-6 : tie.Need-returns-6
-returns-6 c = row-says 12 (lit≤ tt) (c .before .before .before .before .before .before .args .first) (omega arith) (omega arith)
+returns-6 c =
+    let c6 = c .before .before .before .before .before .before in
+    row-says 12 (lit≤ tt) (c6 .args .first) (omega arith) (omega arith)
 
 -- src/lib.rt:52:1
 returns-7 : tie.Need-returns-7
-returns-7 c = row-says 13 (lit≤ tt) (c .before .before .before .before .before .before .before .args .first) (omega arith) (omega arith)
+returns-7 c =
+    let c7 = c .before .before .before .before .before .before .before in
+    row-says 13 (lit≤ tt) (c7 .args .first) (omega arith) (omega arith)
 
 -- src/lib.rt:52:1
 returns-8 : tie.Need-returns-8
-returns-8 c = row-says 14 (lit≤ tt) (c .before .before .before .before .before .before .before .args .first) (omega arith) (omega arith)
+returns-8 c =
+    let c7 = c .before .before .before .before .before .before .before in
+    row-says 14 (lit≤ tt) (c7 .args .first) (omega arith) (omega arith)
 
 pub of-ground-spec : {M : Type 1} → statement M
 of-ground-spec =

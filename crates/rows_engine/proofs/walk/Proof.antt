@@ -27,7 +27,10 @@ fits-requires : tie.Need-fits-requires Inv-loop μ-loop
 fits-requires c κs = tt
 
 returns : tie.Need-returns Inv-loop μ-loop
-returns c = found _ _ _ _ _ _ _ (c .before .before .before .before .loop-test .taken) (c .before .before .before .before .before .loop .inv .1) (c .before .before .before .row-at .ensures) (c .before .before .fits2 .ensures) (c .before .if1 .taken)
+returns c =
+    let c3 = c .before .before .before in
+    found _ _ _ _ _ _ _ (c3 .before .loop-test .taken) (c3 .before .before .loop .inv .1) (c3 .row-at .ensures)
+    (c .before .before .fits2 .ensures) (c .before .if1 .taken)
 
 add-i : tie.Need-add-i Inv-loop μ-loop
 add-i c = search needs
@@ -36,7 +39,12 @@ loop-less : tie.Need-loop-less Inv-loop μ-loop
 loop-less c = omega arith
 
 loop-again : tie.Need-loop-again Inv-loop μ-loop
-loop-again c = (omega arith, turn _ _ _ _ _ _ _ (c .before .before .before .loop-test .taken) (c .before .before .before .before .loop .inv .1) (c .before .before .row-at .ensures) (c .before .fits2 .ensures) (c .if1 .left))
+loop-again c =
+    let c3 = c .before .before .before in (
+      omega arith,
+      turn _ _ _ _ _ _ _ (c3 .loop-test .taken) (c3 .before .loop .inv .1)
+          (c .before .before .row-at .ensures) (c .before .fits2 .ensures) (c .if1 .left),
+    )
 
 returns-2 : tie.Need-returns-2 Inv-loop μ-loop
 returns-2 c = done _ _ _ _ _ (c .before .loop .inv .0) (omega arith) (c .before .loop .inv .1)

@@ -39,7 +39,17 @@ cast-t15 c = search needs
 
 returns : tie.Need-returns
 unfolding headBytes
-returns c = rw (c .before .before .before .before .before .before .before .before .end-code .ensures, c .before .before .before .before .before .before .before .number .ensures, c .before .before .before .before .before .before .flag-code .ensures, c .before .before .before .before .before .flag-code2 .ensures, c .before .before .before .before .flag-code3 .ensures, c .before .flag-code4 .ensures)
+returns c =
+    let c4 = c .before .before .before .before in
+    let c7 = c4 .before .before .before in
+    rw (
+      c7 .before .end-code .ensures,
+      c7 .number .ensures,
+      c4 .before .before .flag-code .ensures,
+      c4 .before .flag-code2 .ensures,
+      c4 .flag-code3 .ensures,
+      c .before .flag-code4 .ensures,
+    )
 
 pub head-bytes-spec : {M : Type 1} → statement M
 head-bytes-spec =

@@ -24,13 +24,22 @@ returns-2 : tie.Need-returns-2
 returns-2 c = store-request _ _ _ _ (c .before .before .if1 .left) (c .if2 .taken)
 
 returns-3 : tie.Need-returns-3
-returns-3 c = store-policy _ _ _ _ (c .before .before .before .before .if1 .left) (c .before .before .if2 .left) (c .if3 .taken)
+returns-3 c =
+    let c4 = c .before .before .before .before in
+    store-policy _ _ _ _ (c4 .if1 .left) (c .before .before .if2 .left) (c .if3 .taken)
 
 returns-4 : tie.Need-returns-4
-returns-4 c = store-no-version _ _ _ _ (c .before .before .before .before .before .before .if1 .left) (c .before .before .before .before .if2 .left) (c .before .before .if3 .left) (c .if4 .taken)
+returns-4 c =
+    let c4 = c .before .before .before .before in
+    store-no-version _ _ _ _ (c4 .before .before .if1 .left) (c4 .if2 .left) (c .before .before .if3 .left)
+    (c .if4 .taken)
 
 returns-5 : tie.Need-returns-5
-returns-5 c = store-version _ _ _ _ (c .before .before .before .before .before .before .before .before .if1 .left) (c .before .before .before .before .before .before .if2 .left) (c .before .before .before .before .if3 .left) (c .before .before .if4 .left) (c .if5 .taken)
+returns-5 c =
+    let c4 = c .before .before .before .before in
+    let c8 = c4 .before .before .before .before in
+    store-version _ _ _ _ (c8 .if1 .left) (c4 .before .before .if2 .left) (c4 .if3 .left) (c .before .before .if4 .left)
+    (c .if5 .taken)
 
 put-head-requires : tie.Need-put-head-requires
 put-head-requires c κs = search needs

@@ -21,7 +21,11 @@ same-length c = search needs
 
 -- src/data_writer.rt:45:1
 returns : tie.Need-returns
-returns c = placed _ _ _ _ _ _ (c .before .before .before .before .before .before .before .pre .5) (items-run _ _ _ _ _ _ _ _ (c .before .before .before .before .before .before .before .pre .0) (c .before .before .before .before .before .before .before .pre .1) (c .before .before .before .before .before .before .before .pre .2) (c .before .before .before .before .before .before .before .pre .3) (c .before .before .before .before .before .before .before .pre .4) (c .before .before .before .put-led-string .ensures)) (c .place .ensures)
+returns c =
+    let c3 = c .before .before .before in
+    let c7 = c3 .before .before .before .before in
+    placed _ _ _ _ _ _ (c7 .pre .5) (items-run _ _ _ _ _ _ _ _ (c7 .pre .0) (c7 .pre .1) (c7 .pre .2) (c7 .pre .3)
+    (c7 .pre .4) (c3 .put-led-string .ensures)) (c .place .ensures)
 
 pub put-items-spec : {M : Type 1} → statement M
 put-items-spec = tie.close (tie.spec put-led-string-requires place-requires same-length returns)

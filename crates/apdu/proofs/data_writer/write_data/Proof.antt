@@ -26,7 +26,10 @@ data-fits-requires c κs = search needs
 
 -- src/data_writer.rt:126:13
 put-content-requires : tie.Need-put-content-requires
-put-content-requires c κs = (c .before .before .before .before .before .before .before .before .pre .0, c .before .before .before .before .before .before .before .before .pre .1, fits (c .before), data-room _ _ _ _ _ _ (c .before .before .before .before .before .before .before .before .pre .0) (fits (c .before)) _ (c .before .before .before .if1 .left))
+put-content-requires c κs =
+    let c3 = c .before .before .before in
+    let c8 = c3 .before .before .before .before .before in
+    (c8 .pre .0, c8 .pre .1, fits (c .before), data-room _ _ _ _ _ _ (c8 .pre .0) (fits (c .before)) _ (c3 .if1 .left))
 
 -- src/data_writer.rt:127:9
 pad-requires : tie.Need-pad-requires
@@ -38,7 +41,15 @@ same-length c = search needs
 
 -- src/data_writer.rt:128:9
 returns-2 : tie.Need-returns-2
-returns-2 c = written-out _ _ _ _ _ _ _ _ _ _ (c .before .before .before .before .before .before .before .before .before .before .if1 .left) (data-pads _ _ _ _ _ _ (c .before .before .before .before .before .before .before .before .before .before .before .before .before .before .before .pre .0) (fits (c .before .before .before .before .before .before .before .before))) (c .before .before .before .before .before .before .before .before .before .data-fits .ensures) (c .before .before .before .before .before .before .before .before .if2 .taken) (as-answer _ _ _ _ (data-room _ _ _ _ _ _ (c .before .before .before .before .before .before .before .before .before .before .before .before .before .before .before .pre .0) (fits (c .before .before .before .before .before .before .before .before)) _ (c .before .before .before .before .before .before .before .before .before .before .if1 .left)) (c .before .before .before .before .before .before .put-content .ensures)) refl refl (c .before .before .pad .ensures)
+returns-2 c =
+    let c6 = c .before .before .before .before .before .before in
+    let c9 = c6 .before .before .before in
+    let c15 = c9 .before .before .before .before .before .before in
+    written-out _ _ _ _ _ _ _ _ _ _ (c9 .before .if1 .left)
+    (data-pads _ _ _ _ _ _ (c15 .pre .0) (fits (c6 .before .before))) (c9 .data-fits .ensures)
+    (c6 .before .before .if2 .taken) (as-answer _ _ _ _
+    (data-room _ _ _ _ _ _ (c15 .pre .0) (fits (c6 .before .before)) _ (c9 .before .if1 .left))
+    (c6 .put-content .ensures)) refl refl (c .before .before .pad .ensures)
 
 -- src/data_writer.rt:110:1
 returns-3 : tie.Need-returns-3

@@ -27,7 +27,9 @@ lead-refusal-requires c κs = tt
 -- src/decoder.rt:104:9
 returns : tie.Need-returns
 unfolding apduWithin
-returns c = lead-handed _ _ _ _ _ (c .before .before .before .leading-at .ensures) (c .before .enum-told .given .1) (c .lead-refusal .ensures)
+returns c =
+    let c3 = c .before .before .before in
+    lead-handed _ _ _ _ _ (c3 .leading-at .ensures) (c .before .enum-told .given .1) (c .lead-refusal .ensures)
 
 -- src/decoder.rt:106:5
 rest-at-requires : tie.Need-rest-at-requires
@@ -36,7 +38,9 @@ rest-at-requires c κs = tt
 -- src/decoder.rt:99:1
 returns-2 : tie.Need-returns-2
 unfolding apduWithin
-returns-2 c = lead-went _ _ _ _ _ _ _ (c .before .before .before .before .leading-at .ensures) (c .before .before .leading .given .1) (c .rest-at .ensures)
+returns-2 c =
+    let c4 = c .before .before .before .before in
+    lead-went _ _ _ _ _ _ _ (c4 .leading-at .ensures) (c .before .before .leading .given .1) (c .rest-at .ensures)
 
 pub apdu-at-spec : {M : Type 1} → statement M
 apdu-at-spec =

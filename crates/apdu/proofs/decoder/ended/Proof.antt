@@ -26,7 +26,9 @@ refusal-of-requires c κs = tt
 -- src/decoder.rt:55:9
 returns : tie.Need-returns
 unfolding endedAt
-returns c = handed decoded.Refused _ _ _ _ _ (c .before .before .before .tail .ensures) (c .before .enum-told2 .given .1) (c .refusal-of .ensures)
+returns c =
+    let c3 = c .before .before .before in
+    handed decoded.Refused _ _ _ _ _ (c3 .tail .ensures) (c .before .enum-told2 .given .1) (c .refusal-of .ensures)
 
 -- src/decoder.rt:50:1
 returns-2 : tie.Need-returns-2

@@ -22,7 +22,9 @@ taken-refusal-requires c κs = search needs
 
 returns : tie.Need-returns
 unfolding wholeWithin
-returns c = taken-handed _ _ _ _ _ (c .before .before .before .data-at .ensures) (c .before .enum-told .given .1) (c .taken-refusal .ensures)
+returns c =
+    let c3 = c .before .before .before in
+    taken-handed _ _ _ _ _ (c3 .data-at .ensures) (c .before .enum-told .given .1) (c .taken-refusal .ensures)
 
 tail-requires : tie.Need-tail-requires
 tail-requires c κs = search needs
@@ -38,11 +40,18 @@ refusal-of-requires c κs = search needs
 
 returns-2 : tie.Need-returns-2
 unfolding wholeWithin
-returns-2 c = taken-went _ _ _ _ _ _ (c .before .before .before .before .before .before .before .data-at .ensures) (c .before .before .before .before .before .parts .given .1) (handed taken.Refused _ _ _ _ _ (c .before .before .before .tail .ensures) (c .before .enum-told3 .given .1) (c .refusal-of .ensures))
+returns-2 c =
+    let c3 = c .before .before .before in
+    let c7 = c3 .before .before .before .before in
+    taken-went _ _ _ _ _ _ (c7 .data-at .ensures) (c3 .before .before .parts .given .1)
+    (handed taken.Refused _ _ _ _ _ (c3 .tail .ensures) (c .before .enum-told3 .given .1) (c .refusal-of .ensures))
 
 returns-3 : tie.Need-returns-3
 unfolding wholeWithin
-returns-3 c = taken-went _ _ _ _ _ _ (c .before .before .before .before .before .before .data-at .ensures) (c .before .before .before .before .parts .given .1) (went taken.Refused _ _ _ _ _ _ (c .before .before .tail .ensures) (c .enum-told2 .given .1) refl)
+returns-3 c =
+    let c4 = c .before .before .before .before in
+    taken-went _ _ _ _ _ _ (c4 .before .before .data-at .ensures) (c4 .parts .given .1)
+    (went taken.Refused _ _ _ _ _ _ (c .before .before .tail .ensures) (c .enum-told2 .given .1) refl)
 
 pub read-data-spec : {M : Type 1} → statement M
 read-data-spec =

@@ -37,7 +37,10 @@ refusal-of-requires c κs = search needs
 -- src/decoder.rt:71:17
 returns : tie.Need-returns
 unfolding restWithin
-returns c = rw (c .before .before .before .before .enum-told .given .1) (handed decoded.Refused _ _ _ _ _ (c .before .before .before .extensible-index .ensures) (c .before .enum-told2 .given .1) (c .refusal-of .ensures))
+returns c =
+    let c3 = c .before .before .before in
+    rw (c3 .before .enum-told .given .1) (handed decoded.Refused _ _ _ _ _ (c3 .extensible-index .ensures)
+    (c .before .enum-told2 .given .1) (c .refusal-of .ensures))
 
 -- src/decoder.rt:73:13
 ended-requires : tie.Need-ended-requires
@@ -66,7 +69,10 @@ refusal-of-requires-2 c κs = search needs
 -- src/decoder.rt:78:17
 returns-2 : tie.Need-returns-2
 unfolding restWithin
-returns-2 c = rw (c .before .before .before .before .enum-told3 .given .1) (handed decoded.Refused _ _ _ _ _ (c .before .before .before .extensible-index2 .ensures) (c .before .enum-told4 .given .1) (c .refusal-of2 .ensures))
+returns-2 c =
+    let c3 = c .before .before .before in
+    rw (c3 .before .enum-told3 .given .1) (handed decoded.Refused _ _ _ _ _ (c3 .extensible-index2 .ensures)
+    (c .before .enum-told4 .given .1) (c .refusal-of2 .ensures))
 
 -- src/decoder.rt:80:13
 ended-requires-2 : tie.Need-ended-requires-2
@@ -95,7 +101,10 @@ taken-refusal-requires c κs = search needs
 -- src/decoder.rt:85:17
 returns-3 : tie.Need-returns-3
 unfolding restWithin
-returns-3 c = rw (c .before .before .before .before .enum-told5 .given .1) (data-handed _ _ _ _ _ (c .before .before .before .data-at .ensures) (c .before .enum-told6 .given .1) (c .taken-refusal .ensures))
+returns-3 c =
+    let c3 = c .before .before .before in
+    rw (c3 .before .enum-told5 .given .1)
+    (data-handed _ _ _ _ _ (c3 .data-at .ensures) (c .before .enum-told6 .given .1) (c .taken-refusal .ensures))
 
 -- src/decoder.rt:87:13
 ended-requires-3 : tie.Need-ended-requires-3
@@ -124,7 +133,10 @@ taken-refusal-requires-2 c κs = search needs
 -- src/decoder.rt:92:17
 returns-4 : tie.Need-returns-4
 unfolding restWithin
-returns-4 c = rw (c .before .before .before .before .enum-told7 .given .1) (data-handed _ _ _ _ _ (c .before .before .before .data-at2 .ensures) (c .before .enum-told8 .given .1) (c .taken-refusal2 .ensures))
+returns-4 c =
+    let c3 = c .before .before .before in
+    rw (c3 .before .enum-told7 .given .1)
+    (data-handed _ _ _ _ _ (c3 .data-at2 .ensures) (c .before .enum-told8 .given .1) (c .taken-refusal2 .ensures))
 
 -- src/decoder.rt:94:13
 ended-requires-4 : tie.Need-ended-requires-4
@@ -153,7 +165,10 @@ forward-refusal-requires c κs = search needs
 -- src/decoder.rt:99:17
 returns-5 : tie.Need-returns-5
 unfolding restWithin
-returns-5 c = rw (c .before .before .before .before .enum-told9 .given .1) (forward-handed decoded.Refused _ _ _ _ _ (c .before .before .before .forward-at .ensures) (c .before .enum-told10 .given .1) (c .forward-refusal .ensures))
+returns-5 c =
+    let c3 = c .before .before .before in
+    rw (c3 .before .enum-told9 .given .1) (forward-handed decoded.Refused _ _ _ _ _ (c3 .forward-at .ensures)
+    (c .before .enum-told10 .given .1) (c .forward-refusal .ensures))
 
 -- src/decoder.rt:101:13
 ended-requires-5 : tie.Need-ended-requires-5
@@ -182,7 +197,10 @@ refusal-of-requires-3 c κs = search needs
 -- src/decoder.rt:106:17
 returns-6 : tie.Need-returns-6
 unfolding restWithin
-returns-6 c = rw (c .before .before .before .before .enum-told11 .given .1) (handed decoded.Refused _ _ _ _ _ (c .before .before .before .extensible-index3 .ensures) (c .before .enum-told12 .given .1) (c .refusal-of3 .ensures))
+returns-6 c =
+    let c3 = c .before .before .before in
+    rw (c3 .before .enum-told11 .given .1) (handed decoded.Refused _ _ _ _ _ (c3 .extensible-index3 .ensures)
+    (c .before .enum-told12 .given .1) (c .refusal-of3 .ensures))
 
 -- src/decoder.rt:108:13
 ended-requires-6 : tie.Need-ended-requires-6
@@ -191,32 +209,50 @@ ended-requires-6 c κs = search needs
 -- src/decoder.rt:64:1
 returns-7 : tie.Need-returns-7
 unfolding restWithin
-returns-7 c = rw (c .before .before .before .before .before .enum-told .given .1) (went decoded.Refused _ _ _ _ _ _ (c .before .before .before .before .extensible-index .ensures) (c .before .before .reason .given .1) (c .ended .ensures))
+returns-7 c =
+    let c4 = c .before .before .before .before in
+    rw (c4 .before .enum-told .given .1) (went decoded.Refused _ _ _ _ _ _ (c4 .extensible-index .ensures)
+    (c .before .before .reason .given .1) (c .ended .ensures))
 
 -- src/decoder.rt:64:1
 returns-8 : tie.Need-returns-8
 unfolding restWithin
-returns-8 c = rw (c .before .before .before .before .before .enum-told3 .given .1) (went decoded.Refused _ _ _ _ _ _ (c .before .before .before .before .extensible-index2 .ensures) (c .before .before .reason2 .given .1) (c .ended2 .ensures))
+returns-8 c =
+    let c4 = c .before .before .before .before in
+    rw (c4 .before .enum-told3 .given .1) (went decoded.Refused _ _ _ _ _ _ (c4 .extensible-index2 .ensures)
+    (c .before .before .reason2 .given .1) (c .ended2 .ensures))
 
 -- src/decoder.rt:64:1
 returns-9 : tie.Need-returns-9
 unfolding restWithin
-returns-9 c = rw (c .before .before .before .before .before .enum-told5 .given .1) (data-went _ _ _ _ _ _ (c .before .before .before .before .data-at .ensures) (c .before .before .parts .given .1) (c .ended3 .ensures))
+returns-9 c =
+    let c4 = c .before .before .before .before in
+    rw (c4 .before .enum-told5 .given .1)
+    (data-went _ _ _ _ _ _ (c4 .data-at .ensures) (c .before .before .parts .given .1) (c .ended3 .ensures))
 
 -- src/decoder.rt:64:1
 returns-10 : tie.Need-returns-10
 unfolding restWithin
-returns-10 c = rw (c .before .before .before .before .before .enum-told7 .given .1) (data-went _ _ _ _ _ _ (c .before .before .before .before .data-at2 .ensures) (c .before .before .parts2 .given .1) (c .ended4 .ensures))
+returns-10 c =
+    let c4 = c .before .before .before .before in
+    rw (c4 .before .enum-told7 .given .1)
+    (data-went _ _ _ _ _ _ (c4 .data-at2 .ensures) (c .before .before .parts2 .given .1) (c .ended4 .ensures))
 
 -- src/decoder.rt:64:1
 returns-11 : tie.Need-returns-11
 unfolding restWithin
-returns-11 c = rw (c .before .before .before .before .before .enum-told9 .given .1) (forward-went decoded.Refused _ _ _ _ _ _ (c .before .before .before .before .forward-at .ensures) (c .before .before .message .given .1) (c .ended5 .ensures))
+returns-11 c =
+    let c4 = c .before .before .before .before in
+    rw (c4 .before .enum-told9 .given .1) (forward-went decoded.Refused _ _ _ _ _ _ (c4 .forward-at .ensures)
+    (c .before .before .message .given .1) (c .ended5 .ensures))
 
 -- src/decoder.rt:64:1
 returns-12 : tie.Need-returns-12
 unfolding restWithin
-returns-12 c = rw (c .before .before .before .before .before .enum-told11 .given .1) (went decoded.Refused _ _ _ _ _ _ (c .before .before .before .before .extensible-index3 .ensures) (c .before .before .result .given .1) (c .ended6 .ensures))
+returns-12 c =
+    let c4 = c .before .before .before .before in
+    rw (c4 .before .enum-told11 .given .1) (went decoded.Refused _ _ _ _ _ _ (c4 .extensible-index3 .ensures)
+    (c .before .before .result .given .1) (c .ended6 .ensures))
 
 pub rest-at-spec : {M : Type 1} → statement M
 rest-at-spec =

@@ -31,7 +31,9 @@ enum-told c = c .match .keys2
 -- src/decoder.rt:38:9
 returns : tie.Need-returns
 unfolding tailAt
-returns c = rw (← c .before .before .before .padding .ensures) (handed _ _ _ _ (c .before .before .bit-field .ensures) (c .enum-told .given .1))
+returns c =
+    let c3 = c .before .before .before in
+    rw (← c3 .padding .ensures) (handed _ _ _ _ (c .before .before .bit-field .ensures) (c .enum-told .given .1))
 
 -- src/decoder.rt:41:12
 within-requires : tie.Need-within-requires
@@ -44,12 +46,27 @@ refused-at-requires c κs = tt
 -- src/decoder.rt:42:13
 returns-2 : tie.Need-returns-2
 unfolding tailAt
-returns-2 c = rw (← c .before .before .before .before .before .before .before .before .padding .ensures) (went _ _ _ _ _ _ (c .before .before .before .before .before .before .before .bit-field .ensures) (c .before .before .before .before .before .zeros .given .1) (rw (eq-eqb _ _ (c .before .before .before .if1 .taken), is-within _ _ _ _ _ (c .before .before .within .ensures) (c .before .if2 .taken) .test) (c .refused-at .ensures)))
+returns-2 c =
+    let c3 = c .before .before .before in
+    let c7 = c3 .before .before .before .before in
+    rw (← c7 .before .padding .ensures) (went _ _ _ _ _ _ (c7 .bit-field .ensures) (c3 .before .before .zeros .given .1) (
+    rw (
+      eq-eqb _ _ (c3 .if1 .taken),
+      is-within _ _ _ _ _ (c .before .before .within .ensures)
+          (c .before .if2 .taken) .test,
+    ) (c .refused-at .ensures)))
 
 -- src/decoder.rt:44:9
 returns-3 : tie.Need-returns-3
 unfolding tailAt
-returns-3 c = rw (← c .before .before .before .before .before .before .before .padding .ensures) (went _ _ _ _ _ _ (c .before .before .before .before .before .before .bit-field .ensures) (c .before .before .before .before .zeros .given .1) (rw (eq-eqb _ _ (c .before .before .if1 .taken), not-within _ _ _ _ _ (c .before .within .ensures) (c .if2 .left))))
+returns-3 c =
+    let c4 = c .before .before .before .before in
+    let c7 = c4 .before .before .before in
+    rw (← c7 .padding .ensures) (went _ _ _ _ _ _ (c4 .before .before .bit-field .ensures) (c4 .zeros .given .1) (rw (
+      eq-eqb _ _ (c .before .before .if1 .taken),
+      not-within _ _ _ _ _ (c .before .within .ensures)
+          (c .if2 .left),
+    )))
 
 -- src/decoder.rt:47:31
 width-requires : tie.Need-width-requires
@@ -57,7 +74,10 @@ width-requires c κs = tt
 
 -- src/decoder.rt:47:24
 sub-refused-at : tie.Need-sub-refused-at
-sub-refused-at c = rw (c .width .ensures) (digits-room _ _ _ _ _ _ (bits-to _ _) (c .before .before .before .before .before .bit-field .ensures) (c .before .before .before .zeros .given .1))
+sub-refused-at c =
+    let c3 = c .before .before .before in
+    rw (c .width .ensures)
+    (digits-room _ _ _ _ _ _ (bits-to _ _) (c3 .before .before .bit-field .ensures) (c3 .zeros .given .1))
 
 -- src/decoder.rt:47:5
 refused-at-requires-2 : tie.Need-refused-at-requires-2
@@ -66,7 +86,11 @@ refused-at-requires-2 c κs = tt
 -- src/decoder.rt:33:1
 returns-4 : tie.Need-returns-4
 unfolding tailAt
-returns-4 c = rw (← c .before .before .before .before .before .before .before .padding .ensures) (went _ _ _ _ _ _ (c .before .before .before .before .before .before .bit-field .ensures) (c .before .before .before .before .zeros .given .1) (rw (ne-eqb _ _ (c .before .before .if1 .left), ← c .before .width .ensures) (c .refused-at2 .ensures)))
+returns-4 c =
+    let c4 = c .before .before .before .before in
+    let c7 = c4 .before .before .before in
+    rw (← c7 .padding .ensures) (went _ _ _ _ _ _ (c4 .before .before .bit-field .ensures) (c4 .zeros .given .1)
+    (rw (ne-eqb _ _ (c .before .before .if1 .left), ← c .before .width .ensures) (c .refused-at2 .ensures)))
 
 pub tail-spec : {M : Type 1} → statement M
 tail-spec =

@@ -25,7 +25,9 @@ same-length c = search needs
 
 -- src/encoder.rt:98:1
 returns : tie.Need-returns
-returns c = rw (← c .before .before .before .before .last-of .ensures, ← c .before .before .before .before .before .index-of .ensures) (c .before .before .put-extensible-index .ensures)
+returns c =
+    let c4 = c .before .before .before .before in
+    rw (← c4 .last-of .ensures, ← c4 .before .index-of .ensures) (c .before .before .put-extensible-index .ensures)
 
 pub put-alternative-spec : {M : Type 1} → statement M
 put-alternative-spec =

@@ -76,7 +76,9 @@ same-length-2 c = search needs
 -- src/encoder.rt:182:1
 returns-2 : tie.Need-returns-2
 unfolding apduFits pduIn
-returns-2 c = rw (c .before .before .before .before .before .a2 .given .1) (c .before .before .put-abort-provider .ensures)
+returns-2 c =
+    let c5 = c .before .before .before .before .before in
+    rw (c5 .a2 .given .1) (c .before .before .put-abort-provider .ensures)
 
 -- src/encoder.rt:182:1
 same-length-3 : tie.Need-same-length-3
@@ -112,7 +114,9 @@ same-length-6 c = search needs
 -- src/encoder.rt:182:1
 returns-6 : tie.Need-returns-6
 unfolding apduFits pduIn
-returns-6 c = rw (c .before .before .before .before .before .a6 .given .1) (c .before .before .put-forward-response .ensures)
+returns-6 c =
+    let c5 = c .before .before .before .before .before in
+    rw (c5 .a6 .given .1) (c .before .before .put-forward-response .ensures)
 
 pub put-apdu-spec : {M : Type 1} → statement M
 put-apdu-spec =

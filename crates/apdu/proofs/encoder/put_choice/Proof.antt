@@ -42,7 +42,16 @@ same-length c = search needs
 
 -- src/encoder.rt:139:9
 returns-2 : tie.Need-returns-2
-returns-2 c = written-out _ _ _ _ _ _ _ _ _ _ (c .before .before .before .before .before .before .before .before .before .before .before .before .before .before .before .if1 .left) (choice-pads _ _ _ _) (sym (in-range 0 _ _ (omega arith) (c .before .before .before .before .before .before .before .before .before .before .before .before .before .before .if2 .taken))) refl (choice-put _ _ _ _ _ _ _ _ _ (c .before .before .before .before .before .before .before .before .before .before .before .before .before .before .before .if1 .left) (c .before .before .before .before .before .before .before .before .before .before .before .before .before .before .before .before .before .pre) (c .before .before .before .before .before .before .before .before .before .before .before .before .before .before .if2 .taken) (c .before .before .before .before .before .before .before .before .before .before .before .before .put-alternative .ensures) (c .before .before .before .before .before .before .before .before .before .place .ensures) (c .before .before .before .before .before .before .before .put-extensible-index .ensures)) (c .before .before .before .before .place2 .ensures) refl (c .before .before .pad .ensures)
+returns-2 c =
+    let c4 = c .before .before .before .before in
+    let c7 = c4 .before .before .before in
+    let c12 = c7 .before .before .before .before .before in
+    let c15 = c12 .before .before .before in
+    written-out _ _ _ _ _ _ _ _ _ _ (c15 .if1 .left) (choice-pads _ _ _ _)
+    (sym (in-range 0 _ _ (omega arith) (c12 .before .before .if2 .taken))) refl (choice-put _ _ _ _ _ _ _ _ _
+    (c15 .if1 .left) (c15 .before .before .pre) (c12 .before .before .if2 .taken)
+    (c12 .put-alternative .ensures) (c7 .before .before .place .ensures) (c7 .put-extensible-index .ensures))
+    (c4 .place2 .ensures) refl (c .before .before .pad .ensures)
 
 -- src/encoder.rt:128:1
 returns-3 : tie.Need-returns-3

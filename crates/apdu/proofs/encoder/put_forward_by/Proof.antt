@@ -27,7 +27,9 @@ refused-requires : tie.Need-refused-requires
 refused-requires c κs = search needs
 
 returns-2 : tie.Need-returns-2
-returns-2 c = turned-away _ _ _ _ (c .refused .ensures) (rw (sym (c .before .before .has-forwards .ensures) ∙ c .before .if1 .left))
+returns-2 c =
+    turned-away _ _ _ _ (c .refused .ensures)
+    (rw (sym (c .before .before .has-forwards .ensures) ∙ c .before .if1 .left))
 
 pub put-forward-by-spec : {M : Type 1} → statement M
 put-forward-by-spec =

@@ -17,7 +17,9 @@ has-forwards-requires c κs = search needs
 
 -- src/encoder.rt:170:9
 put-choice-requires : tie.Need-put-choice-requires
-put-choice-requires c κs = ground-has (c .before .before .before .before .args .pdus) 5 (sym (c .before .before .has-forwards .ensures) ∙ c .before .if1 .taken) (omega arith)
+put-choice-requires c κs =
+    let c4 = c .before .before .before .before in
+    ground-has (c4 .args .pdus) 5 (sym (c .before .before .has-forwards .ensures) ∙ c .before .if1 .taken) (omega arith)
 
 -- src/encoder.rt:170:9
 same-length : tie.Need-same-length
@@ -26,7 +28,9 @@ same-length c = search needs
 -- src/encoder.rt:170:9
 returns : tie.Need-returns
 unfolding pduBits
-returns c = rw (sym (c .before .before .before .before .before .has-forwards .ensures) ∙ c .before .before .before .before .if1 .taken) (c .before .before .put-choice .ensures)
+returns c =
+    let c4 = c .before .before .before .before in
+    rw (sym (c4 .before .has-forwards .ensures) ∙ c4 .if1 .taken) (c .before .before .put-choice .ensures)
 
 -- src/encoder.rt:178:5
 refused-requires : tie.Need-refused-requires
@@ -34,7 +38,9 @@ refused-requires c κs = search needs
 
 -- src/encoder.rt:166:1
 returns-2 : tie.Need-returns-2
-returns-2 c = turned-away _ _ _ _ (c .refused .ensures) (rw (sym (c .before .before .has-forwards .ensures) ∙ c .before .if1 .left))
+returns-2 c =
+    turned-away _ _ _ _ (c .refused .ensures)
+    (rw (sym (c .before .before .has-forwards .ensures) ∙ c .before .if1 .left))
 
 pub put-forward-response-spec : {M : Type 1} → statement M
 put-forward-response-spec =

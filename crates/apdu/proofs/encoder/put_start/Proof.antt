@@ -31,7 +31,10 @@ same-length c = search needs
 -- src/encoder.rt:113:9
 returns : tie.Need-returns
 unfolding pduBits
-returns c = rw (sym (c .before .before .before .before .before .before .mode-fits .ensures) ∙ c .before .before .before .before .before .if1 .taken) (rw (c .before .before .before .before .start-front .ensures .2, append-assoc) at (c .before .before .write-data .ensures))
+returns c =
+    let c4 = c .before .before .before .before in
+    rw (sym (c4 .before .before .mode-fits .ensures) ∙ c4 .before .if1 .taken)
+    (rw (c4 .start-front .ensures .2, append-assoc) at (c .before .before .write-data .ensures))
 
 -- src/encoder.rt:115:5
 refused-requires : tie.Need-refused-requires
@@ -39,7 +42,8 @@ refused-requires c κs = search needs
 
 -- src/encoder.rt:100:1
 returns-2 : tie.Need-returns-2
-returns-2 c = turned-away _ _ _ _ (c .refused .ensures) (rw (sym (c .before .before .mode-fits .ensures) ∙ c .before .if1 .left))
+returns-2 c =
+    turned-away _ _ _ _ (c .refused .ensures) (rw (sym (c .before .before .mode-fits .ensures) ∙ c .before .if1 .left))
 
 pub put-start-spec : {M : Type 1} → statement M
 put-start-spec =

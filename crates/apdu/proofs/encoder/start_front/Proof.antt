@@ -24,7 +24,13 @@ returns-2 c = (omega arith, omega arith, rw (c .enum-told .given .1) (start-grou
 
 -- src/encoder.rt:52:1
 returns-3 : tie.Need-returns-3
-returns-3 c = (omega arith, omega arith, rw (c .before .enum-told2 .given .1) (start-dsc _ (rw (c .before .enum-told2 .given .1) at (c .before .before .before .pre)) (c .if1 .left)))
+returns-3 c =
+    let c3 = c .before .before .before in (
+      omega arith,
+      omega arith,
+      rw (c .before .enum-told2 .given .1)
+          (start-dsc _ (rw (c .before .enum-told2 .given .1) at (c3 .pre)) (c .if1 .left)),
+    )
 
 pub start-front-spec : {M : Type 1} → statement M
 start-front-spec = tie.close (tie.spec enum-told enum-told-2 returns returns-2 returns-3)

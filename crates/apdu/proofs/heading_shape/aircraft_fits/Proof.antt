@@ -23,15 +23,26 @@ width-requires c κs = search needs
 
 -- src/heading_shape.rt:38:13
 returns : tie.Need-returns
-returns c = name-long (c .before .before .before .before .args .h) (sym (c .before .before .before .whole-fits .ensures) ∙ c .before .before .if1 .taken) _ (c .before .width .ensures) (c .if2 .taken)
+returns c =
+    let c3 = c .before .before .before in
+    name-long (c3 .before .args .h) (sym (c3 .whole-fits .ensures) ∙ c .before .before .if1 .taken) _
+    (c .before .width .ensures) (c .if2 .taken)
 
 -- src/heading_shape.rt:41:13
 returns-2 : tie.Need-returns-2
-returns-2 c = address-large (c .before .before .before .before .before .before .args .h) (sym (c .before .before .before .before .before .whole-fits .ensures) ∙ c .before .before .before .before .if1 .taken) _ (c .before .before .before .width .ensures) (c .before .before .if2 .left) (c .if3 .taken)
+returns-2 c =
+    let c3 = c .before .before .before in
+    let c6 = c3 .before .before .before in
+    address-large (c6 .args .h) (sym (c3 .before .before .whole-fits .ensures) ∙ c3 .before .if1 .taken) _
+    (c3 .width .ensures) (c .before .before .if2 .left) (c .if3 .taken)
 
 -- src/heading_shape.rt:43:9
 returns-3 : tie.Need-returns-3
-returns-3 c = direction-left (c .before .before .before .before .before .before .before .args .h) (sym (c .before .before .before .before .before .before .whole-fits .ensures) ∙ c .before .before .before .before .before .if1 .taken) _ (c .before .before .before .before .width .ensures) (c .before .before .before .if2 .left) (c .before .if3 .left)
+returns-3 c =
+    let c3 = c .before .before .before in
+    let c6 = c3 .before .before .before in
+    direction-left (c6 .before .args .h) (sym (c6 .whole-fits .ensures) ∙ c3 .before .before .if1 .taken) _
+    (c3 .before .width .ensures) (c3 .if2 .left) (c .before .if3 .left)
 
 -- src/heading_shape.rt:32:1
 returns-4 : tie.Need-returns-4

@@ -22,12 +22,21 @@ aircraft-fits-requires c κs = search needs
 -- src/heading_shape.rt:55:13
 returns : tie.Need-returns
 unfolding headingFits
-returns c = rw (← c .before .before .before .before .triple-fits .ensures, c .before .before .before .if1 .taken, ← c .before .before .triple-fits2 .ensures, c .before .if2 .taken) (c .aircraft-fits .ensures)
+returns c =
+    let c3 = c .before .before .before in
+    rw (
+      ← c3 .before .triple-fits .ensures,
+      c3 .if1 .taken,
+      ← c .before .before .triple-fits2 .ensures,
+      c .before .if2 .taken,
+    ) (c .aircraft-fits .ensures)
 
 -- src/heading_shape.rt:57:9
 returns-2 : tie.Need-returns-2
 unfolding headingFits
-returns-2 c = rw (← c .before .before .before .triple-fits .ensures, c .before .before .if1 .taken, ← c .before .triple-fits2 .ensures, c .if2 .left)
+returns-2 c =
+    let c3 = c .before .before .before in
+    rw (← c3 .triple-fits .ensures, c .before .before .if1 .taken, ← c .before .triple-fits2 .ensures, c .if2 .left)
 
 -- src/heading_shape.rt:48:1
 returns-3 : tie.Need-returns-3

@@ -21,12 +21,21 @@ whole-fits-requires-3 c κs = search needs
 -- src/heading_shape.rt:24:13
 returns : tie.Need-returns
 unfolding tripleFits
-returns c = rw (← c .before .before .before .before .whole-fits .ensures, c .before .before .before .if1 .taken, ← c .before .before .whole-fits2 .ensures, c .before .if2 .taken) (c .whole-fits3 .ensures)
+returns c =
+    let c3 = c .before .before .before in
+    rw (
+      ← c3 .before .whole-fits .ensures,
+      c3 .if1 .taken,
+      ← c .before .before .whole-fits2 .ensures,
+      c .before .if2 .taken,
+    ) (c .whole-fits3 .ensures)
 
 -- src/heading_shape.rt:26:9
 returns-2 : tie.Need-returns-2
 unfolding tripleFits
-returns-2 c = rw (← c .before .before .before .whole-fits .ensures, c .before .before .if1 .taken, ← c .before .whole-fits2 .ensures, c .if2 .left)
+returns-2 c =
+    let c3 = c .before .before .before in
+    rw (← c3 .whole-fits .ensures, c .before .before .if1 .taken, ← c .before .whole-fits2 .ensures, c .if2 .left)
 
 -- src/heading_shape.rt:19:1
 returns-3 : tie.Need-returns-3

@@ -19,7 +19,9 @@ place-requires c κs = search needs
 
 -- src/heading_writer.rt:54:9
 mul-put-bits : tie.Need-mul-put-bits
-mul-put-bits c = omega (arith, characters-most (c .before .before .before .before .before .before .before .args .h) (c .before .before .before .before .before .before .before .pre .0))
+mul-put-bits c =
+    let c7 = c .before .before .before .before .before .before .before in
+    omega (arith, characters-most (c7 .args .h) (c7 .pre .0))
 
 -- src/heading_writer.rt:50:19
 put-bits-requires : tie.Need-put-bits-requires
@@ -47,7 +49,15 @@ same-length c = search needs
 
 -- src/heading_writer.rt:37:1
 returns : tie.Need-returns
-returns c = aircraft-put _ _ _ _ _ _ _ _ _ _ _ _ _ (c .before .before .before .before .before .before .before .before .before .before .before .before .before .before .before .before .before .before .before .before .pre .0) (c .before .before .before .before .before .before .before .before .before .before .before .before .before .before .before .before .before .before .before .before .pre .1) (c .before .before .before .before .before .before .before .before .before .before .before .before .before .before .before .before .before .put-whole .ensures) (c .before .before .before .before .before .before .before .before .before .before .before .before .before .before .place .ensures) (c .before .before .before .before .before .before .before .before .before .before .before .before .put-bits .ensures) (c .before .before .before .before .before .before .before .before .before .place2 .ensures) (c .before .before .before .before .before .before .before .put-bits2 .ensures) (c .before .before .before .before .place3 .ensures) (c .before .before .put-whole2 .ensures)
+returns c =
+    let c4 = c .before .before .before .before in
+    let c7 = c4 .before .before .before in
+    let c12 = c7 .before .before .before .before .before in
+    let c17 = c12 .before .before .before .before .before in
+    let c20 = c17 .before .before .before in
+    aircraft-put _ _ _ _ _ _ _ _ _ _ _ _ _ (c20 .pre .0) (c20 .pre .1) (c17 .put-whole .ensures)
+    (c12 .before .before .place .ensures) (c12 .put-bits .ensures) (c7 .before .before .place2 .ensures)
+    (c7 .put-bits2 .ensures) (c4 .place3 .ensures) (c .before .before .put-whole2 .ensures)
 
 pub put-aircraft-spec : {M : Type 1} → statement M
 put-aircraft-spec =

@@ -10,7 +10,9 @@ use Rattle.apdu.proofs.heading_writer.put_triple.Reads as put-triple-re
 
 -- src/heading_writer.rt:74:19
 put-triple-requires : tie.Need-put-triple-requires
-put-triple-requires c κs = date-asks _ _ _ (c .before .before .before .before .pre .0) (c .before .before .before .before .pre .1)
+put-triple-requires c κs =
+    let c4 = c .before .before .before .before in
+    date-asks _ _ _ (c4 .pre .0) (c4 .pre .1)
 
 -- src/heading_writer.rt:74:9
 place-requires : tie.Need-place-requires
@@ -18,7 +20,10 @@ place-requires c κs = search needs
 
 -- src/heading_writer.rt:75:19
 put-triple-requires-2 : tie.Need-put-triple-requires-2
-put-triple-requires-2 c κs = time-asks _ _ _ (c .before .before .before .before .before .before .before .before .before .pre .0) (c .before .before .before .before .before .before .before .before .before .pre .1) _ _ _ (c .before .before .before .before .put-triple .ensures) (c .before .place .ensures)
+put-triple-requires-2 c κs =
+    let c4 = c .before .before .before .before in
+    let c9 = c4 .before .before .before .before .before in
+    time-asks _ _ _ (c9 .pre .0) (c9 .pre .1) _ _ _ (c4 .put-triple .ensures) (c .before .place .ensures)
 
 -- src/heading_writer.rt:75:9
 place-requires-2 : tie.Need-place-requires-2
@@ -26,7 +31,12 @@ place-requires-2 c κs = search needs
 
 -- src/heading_writer.rt:76:5
 put-aircraft-requires : tie.Need-put-aircraft-requires
-put-aircraft-requires c κs = aircraft-asks _ _ _ (c .before .before .before .before .before .before .before .before .before .before .before .before .before .before .pre .0) (c .before .before .before .before .before .before .before .before .before .before .before .before .before .before .pre .1) _ _ _ (c .before .before .before .before .before .before .before .before .before .put-triple .ensures) (c .before .before .before .before .before .before .place .ensures) _ _ _ (c .before .before .before .before .put-triple2 .ensures) (c .before .place2 .ensures)
+put-aircraft-requires c κs =
+    let c4 = c .before .before .before .before in
+    let c9 = c4 .before .before .before .before .before in
+    let c14 = c9 .before .before .before .before .before in
+    aircraft-asks _ _ _ (c14 .pre .0) (c14 .pre .1) _ _ _ (c9 .put-triple .ensures) (c4 .before .before .place .ensures)
+    _ _ _ (c4 .put-triple2 .ensures) (c .before .place2 .ensures)
 
 -- src/heading_writer.rt:68:1
 same-length : tie.Need-same-length
@@ -34,7 +44,13 @@ same-length c = search needs
 
 -- src/heading_writer.rt:68:1
 returns : tie.Need-returns
-returns c = heading-put _ _ _ (c .before .before .before .before .before .before .before .before .before .before .before .before .before .before .before .before .before .pre .0) (c .before .before .before .before .before .before .before .before .before .before .before .before .before .before .before .before .before .pre .1) _ _ _ (c .before .before .before .before .before .before .before .before .before .before .before .before .put-triple .ensures) (c .before .before .before .before .before .before .before .before .before .place .ensures) _ _ _ (c .before .before .before .before .before .before .before .put-triple2 .ensures) (c .before .before .before .before .place2 .ensures) _ (c .before .before .put-aircraft .ensures)
+returns c =
+    let c4 = c .before .before .before .before in
+    let c7 = c4 .before .before .before in
+    let c12 = c7 .before .before .before .before .before in
+    let c17 = c12 .before .before .before .before .before in
+    heading-put _ _ _ (c17 .pre .0) (c17 .pre .1) _ _ _ (c12 .put-triple .ensures) (c7 .before .before .place .ensures)
+    _ _ _ (c7 .put-triple2 .ensures) (c4 .place2 .ensures) _ (c .before .before .put-aircraft .ensures)
 
 pub put-heading-spec : {M : Type 1} → statement M
 put-heading-spec =

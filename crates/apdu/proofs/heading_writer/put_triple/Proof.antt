@@ -33,7 +33,14 @@ same-length c = search needs
 
 -- src/heading_writer.rt:27:1
 returns : tie.Need-returns
-returns c = triple-put _ _ _ _ _ _ _ _ _ _ _ _ (c .before .before .before .before .before .before .before .before .before .before .before .before .before .before .before .pre .0) (c .before .before .before .before .before .before .before .before .before .before .before .before .before .before .before .pre .1) (c .before .before .before .before .before .before .before .before .before .before .before .before .put-whole .ensures) (c .before .before .before .before .before .before .before .before .before .place .ensures) (c .before .before .before .before .before .before .before .put-whole2 .ensures) (c .before .before .before .before .place2 .ensures) (c .before .before .put-whole3 .ensures)
+returns c =
+    let c4 = c .before .before .before .before in
+    let c7 = c4 .before .before .before in
+    let c12 = c7 .before .before .before .before .before in
+    let c15 = c12 .before .before .before in
+    triple-put _ _ _ _ _ _ _ _ _ _ _ _ (c15 .pre .0) (c15 .pre .1) (c12 .put-whole .ensures)
+    (c7 .before .before .place .ensures) (c7 .put-whole2 .ensures) (c4 .place2 .ensures)
+    (c .before .before .put-whole3 .ensures)
 
 pub put-triple-spec : {M : Type 1} → statement M
 put-triple-spec =

@@ -37,7 +37,15 @@ place-requires c κs = search needs
 
 -- src/heading_writer.rt:93:13
 put-forward-at-requires : tie.Need-put-forward-at-requires
-put-forward-at-requires c κs = (fits (c .before .before .before .before .before .before), led-room _ _ _ _ _ _ _ (c .before .before .before .before .before .before .before .before .before .before .before .pre .0) (c .before .before .before .before .before .before .before .before .before .before .before .pre .1) (forward-room _ _ _ _ (c .before .before .before .before .before .before .before .before .before .before .before .args .counted) (c .before .before .before .before .before .before .before .before .before .before .before .pre .0) (fits (c .before .before .before .before .before .before)) _ (c .before .before .before .before .before .before .before .before .if1 .left)) (c .before .before .before .before .put-bits .ensures) (c .before .place .ensures))
+put-forward-at-requires c κs =
+    let c4 = c .before .before .before .before in
+    let c8 = c4 .before .before .before .before in
+    let c11 = c8 .before .before .before in (
+      fits (c4 .before .before),
+      led-room _ _ _ _ _ _ _ (c11 .pre .0) (c11 .pre .1)
+          (forward-room _ _ _ _ (c11 .args .counted) (c11 .pre .0) (fits (c4 .before .before)) _ (c8 .if1 .left))
+          (c4 .put-bits .ensures) (c .before .place .ensures),
+    )
 
 -- src/heading_writer.rt:94:9
 pad-requires : tie.Need-pad-requires
@@ -49,7 +57,19 @@ same-length c = search needs
 
 -- src/heading_writer.rt:95:9
 returns-2 : tie.Need-returns-2
-returns-2 c = written-out _ _ _ _ _ _ _ _ _ _ (c .before .before .before .before .before .before .before .before .before .before .before .before .before .before .before .if1 .left) (forward-pads _ _ _ _ (c .before .before .before .before .before .before .before .before .before .before .before .before .before .before .before .before .before .before .args .counted) (c .before .before .before .before .before .before .before .before .before .before .before .before .before .before .before .before .before .before .pre .0) (fits (c .before .before .before .before .before .before .before .before .before .before .before .before .before))) (c .before .before .before .before .before .before .before .before .before .before .before .before .before .before .forward-fits .ensures) (c .before .before .before .before .before .before .before .before .before .before .before .before .before .if2 .taken) (as-answer _ _ _ _ (forward-room _ _ _ _ (c .before .before .before .before .before .before .before .before .before .before .before .before .before .before .before .before .before .before .args .counted) (c .before .before .before .before .before .before .before .before .before .before .before .before .before .before .before .before .before .before .pre .0) (fits (c .before .before .before .before .before .before .before .before .before .before .before .before .before)) _ (c .before .before .before .before .before .before .before .before .before .before .before .before .before .before .before .if1 .left)) (from-start _ _ _ _ (led-behind _ _ _ _ _ _ _ (c .before .before .before .before .before .before .before .before .before .before .before .before .before .before .before .before .before .before .pre .0) (c .before .before .before .before .before .before .before .before .before .before .before .before .before .before .before .before .before .before .pre .1) (forward-room _ _ _ _ (c .before .before .before .before .before .before .before .before .before .before .before .before .before .before .before .before .before .before .args .counted) (c .before .before .before .before .before .before .before .before .before .before .before .before .before .before .before .before .before .before .pre .0) (fits (c .before .before .before .before .before .before .before .before .before .before .before .before .before)) _ (c .before .before .before .before .before .before .before .before .before .before .before .before .before .before .before .if1 .left)) (c .before .before .before .before .before .before .before .before .before .before .before .put-bits .ensures) (c .before .before .before .before .before .before .before .before .place .ensures) _ _ (c .before .before .before .before .before .before .put-forward-at .ensures)))) refl refl (c .before .before .pad .ensures)
+returns-2 c =
+    let c6 = c .before .before .before .before .before .before in
+    let c11 = c6 .before .before .before .before .before in
+    let c14 = c11 .before .before .before in
+    let c18 = c14 .before .before .before .before in
+    written-out _ _ _ _ _ _ _ _ _ _ (c14 .before .if1 .left)
+    (forward-pads _ _ _ _ (c18 .args .counted) (c18 .pre .0) (fits (c11 .before .before)))
+    (c14 .forward-fits .ensures) (c11 .before .before .if2 .taken) (as-answer _ _ _ _ (forward-room _ _ _ _
+    (c18 .args .counted) (c18 .pre .0) (fits (c11 .before .before)) _ (c14 .before .if1 .left)) (from-start
+    _ _ _ _ (led-behind _ _ _ _ _ _ _ (c18 .pre .0) (c18 .pre .1) (forward-room _ _ _ _ (c18 .args .counted)
+    (c18 .pre .0) (fits (c11 .before .before)) _ (c14 .before .if1 .left)) (c11 .put-bits .ensures)
+    (c6 .before .before .place .ensures) _ _ (c6 .put-forward-at .ensures)))) refl refl
+    (c .before .before .pad .ensures)
 
 -- src/heading_writer.rt:78:1
 returns-3 : tie.Need-returns-3

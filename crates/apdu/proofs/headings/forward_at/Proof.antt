@@ -34,7 +34,9 @@ heading-refusal-requires c κs = search needs
 -- src/headings.rt:122:9
 returns : tie.Need-returns
 unfolding forwardWithin
-returns c = heading-handed _ _ _ _ _ (c .before .before .before .heading-at .ensures) (c .before .enum-told .given .1) (c .heading-refusal .ensures)
+returns c =
+    let c3 = c .before .before .before in
+    heading-handed _ _ _ _ _ (c3 .heading-at .ensures) (c .before .enum-told .given .1) (c .heading-refusal .ensures)
 
 -- src/headings.rt:124:9
 string-requires : tie.Need-string-requires
@@ -55,16 +57,26 @@ refusal-of-requires c κs = search needs
 -- src/headings.rt:126:9
 returns-2 : tie.Need-returns-2
 unfolding forwardWithin
-returns-2 c = heading-went _ _ _ _ _ _ (c .before .before .before .before .before .before .before .heading-at .ensures) (c .before .before .before .before .before .before2 .given .1) (handed forwarded.Refused _ _ _ _ _ (c .before .before .before .string .ensures) (c .before .enum-told2 .given .1) (c .refusal-of .ensures))
+returns-2 c =
+    let c3 = c .before .before .before in
+    let c6 = c3 .before .before .before in
+    heading-went _ _ _ _ _ _ (c6 .before .heading-at .ensures) (c62 .given .1) (handed forwarded.Refused _ _ _ _ _
+    (c3 .string .ensures) (c .before .enum-told2 .given .1) (c .refusal-of .ensures))
 
 -- src/headings.rt:130:18
 span-to-requires : tie.Need-span-to-requires
-span-to-requires c κs = string-room _ _ bit _ _ _ _ (sym (c .before .before .before .string .ensures) ∙ c .before .bits .given .1)
+span-to-requires c κs =
+    let c3 = c .before .before .before in
+    string-room _ _ bit _ _ _ _ (sym (c3 .string .ensures) ∙ c .before .bits .given .1)
 
 -- src/headings.rt:117:1
 returns-3 : tie.Need-returns-3
 unfolding forwardWithin
-returns-3 c = heading-went _ _ _ _ _ _ (c .before .before .before .before .before .before .before .before .heading-at .ensures) (c .before .before .before .before .before .before .before2 .given .1) (went forwarded.Refused _ _ _ _ _ _ (c .before .before .before .before .string .ensures) (c .before .before .bits .given .1) (rw (c .span-to .ensures)))
+returns-3 c =
+    let c4 = c .before .before .before .before in
+    let c7 = c4 .before .before .before in
+    heading-went _ _ _ _ _ _ (c7 .before .heading-at .ensures) (c72 .given .1) (went forwarded.Refused _ _ _ _ _ _
+    (c4 .string .ensures) (c .before .before .bits .given .1) (rw (c .span-to .ensures)))
 
 pub forward-at-spec : {M : Type 1} → statement M
 forward-at-spec =

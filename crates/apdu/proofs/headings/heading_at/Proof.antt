@@ -35,7 +35,9 @@ triple-refusal-requires c κs = search needs
 -- src/headings.rt:78:9
 returns : tie.Need-returns
 unfolding headingAt
-returns c = triple-handed _ _ _ _ _ (c .before .before .before .triple-at .ensures) (c .before .enum-told .given .1) (c .triple-refusal .ensures)
+returns c =
+    let c3 = c .before .before .before in
+    triple-handed _ _ _ _ _ (c3 .triple-at .ensures) (c .before .enum-told .given .1) (c .triple-refusal .ensures)
 
 -- src/headings.rt:80:9
 triple-at-requires-2 : tie.Need-triple-at-requires-2
@@ -56,7 +58,11 @@ triple-refusal-requires-2 c κs = search needs
 -- src/headings.rt:82:9
 returns-2 : tie.Need-returns-2
 unfolding headingAt
-returns-2 c = triple-went _ _ _ _ _ _ (c .before .before .before .before .before .before .before .triple-at .ensures) (c .before .before .before .before .before .day .given .1) (triple-handed _ _ _ _ _ (c .before .before .before .triple-at2 .ensures) (c .before .enum-told2 .given .1) (c .triple-refusal2 .ensures))
+returns-2 c =
+    let c3 = c .before .before .before in
+    let c7 = c3 .before .before .before .before in
+    triple-went _ _ _ _ _ _ (c7 .triple-at .ensures) (c3 .before .before .day .given .1) (triple-handed _ _ _ _ _
+    (c3 .triple-at2 .ensures) (c .before .enum-told2 .given .1) (c .triple-refusal2 .ensures))
 
 -- src/headings.rt:84:9
 whole-requires : tie.Need-whole-requires
@@ -77,11 +83,24 @@ refusal-of-requires c κs = search needs
 -- src/headings.rt:92:9
 returns-3 : tie.Need-returns-3
 unfolding headingAt
-returns-3 c = triple-went _ _ _ _ _ _ (c .before .before .before .before .before .before .before .before .before .before .before .triple-at .ensures) (c .before .before .before .before .before .before .before .before .before .day .given .1) (triple-went _ _ _ _ _ _ (c .before .before .before .before .before .before .before .triple-at2 .ensures) (c .before .before .before .before .before .clock .given .1) (handed headed.Refused _ _ _ _ _ (c .before .before .before .whole .ensures) (c .before .enum-told3 .given .1) (c .refusal-of .ensures)))
+returns-3 c =
+    let c3 = c .before .before .before in
+    let c7 = c3 .before .before .before .before in
+    let c11 = c7 .before .before .before .before in
+    triple-went _ _ _ _ _ _ (c11 .triple-at .ensures) (c7 .before .before .day .given .1) (triple-went _ _ _ _ _ _
+    (c7 .triple-at2 .ensures) (c3 .before .before .clock .given .1) (handed headed.Refused _ _ _ _ _
+    (c3 .whole .ensures) (c .before .enum-told3 .given .1) (c .refusal-of .ensures)))
 
 -- src/headings.rt:94:45
 mul-bit-field : tie.Need-mul-bit-field
-mul-bit-field c = omega (arith, characters-few _ _ _ _ (bits-to (c .before .before .before .before .before .before .before .before .before .before .before .before .before .args .s .now) allBits) (sym (c .before .before .before .whole .ensures) ∙ c .before .size .given .1))
+mul-bit-field c =
+    let c3 = c .before .before .before in
+    let c13 = c3 .before .before .before .before .before .before .before .before .before .before in
+    omega (
+      arith,
+      characters-few _ _ _ _ (bits-to (c13 .args .s .now) allBits)
+          (sym (c3 .whole .ensures) ∙ c .before .size .given .1),
+    )
 
 -- src/headings.rt:94:9
 bit-field-requires : tie.Need-bit-field-requires
@@ -102,7 +121,15 @@ refusal-of-requires-2 c κs = search needs
 -- src/headings.rt:96:9
 returns-4 : tie.Need-returns-4
 unfolding headingAt
-returns-4 c = triple-went _ _ _ _ _ _ (c .before .before .before .before .before .before .before .before .before .before .before .before .before .before .before .triple-at .ensures) (c .before .before .before .before .before .before .before .before .before .before .before .before .before .day .given .1) (triple-went _ _ _ _ _ _ (c .before .before .before .before .before .before .before .before .before .before .before .triple-at2 .ensures) (c .before .before .before .before .before .before .before .before .before .clock .given .1) (went headed.Refused _ _ _ _ _ _ (c .before .before .before .before .before .before .before .whole .ensures) (c .before .before .before .before .before .size .given .1) (handed headed.Refused _ _ _ _ _ (c .before .before .before .bit-field .ensures) (c .before .enum-told4 .given .1) (c .refusal-of2 .ensures))))
+returns-4 c =
+    let c3 = c .before .before .before in
+    let c7 = c3 .before .before .before .before in
+    let c11 = c7 .before .before .before .before in
+    let c15 = c11 .before .before .before .before in
+    triple-went _ _ _ _ _ _ (c15 .triple-at .ensures) (c11 .before .before .day .given .1) (triple-went _ _ _ _ _ _
+    (c11 .triple-at2 .ensures) (c7 .before .before .clock .given .1) (went headed.Refused _ _ _ _ _ _
+    (c7 .whole .ensures) (c3 .before .before .size .given .1) (handed headed.Refused _ _ _ _ _
+    (c3 .bit-field .ensures) (c .before .enum-told4 .given .1) (c .refusal-of2 .ensures))))
 
 -- src/headings.rt:98:9
 bit-field-requires-2 : tie.Need-bit-field-requires-2
@@ -123,7 +150,17 @@ refusal-of-requires-3 c κs = search needs
 -- src/headings.rt:100:9
 returns-5 : tie.Need-returns-5
 unfolding headingAt
-returns-5 c = triple-went _ _ _ _ _ _ (c .before .before .before .before .before .before .before .before .before .before .before .before .before .before .before .before .before .before .before .triple-at .ensures) (c .before .before .before .before .before .before .before .before .before .before .before .before .before .before .before .before .before .day .given .1) (triple-went _ _ _ _ _ _ (c .before .before .before .before .before .before .before .before .before .before .before .before .before .before .before .triple-at2 .ensures) (c .before .before .before .before .before .before .before .before .before .before .before .before .before .clock .given .1) (went headed.Refused _ _ _ _ _ _ (c .before .before .before .before .before .before .before .before .before .before .before .whole .ensures) (c .before .before .before .before .before .before .before .before .before .size .given .1) (went headed.Refused _ _ _ _ _ _ (c .before .before .before .before .before .before .before .bit-field .ensures) (c .before .before .before .before .before .name .given .1) (handed headed.Refused _ _ _ _ _ (c .before .before .before .bit-field2 .ensures) (c .before .enum-told5 .given .1) (c .refusal-of3 .ensures)))))
+returns-5 c =
+    let c3 = c .before .before .before in
+    let c7 = c3 .before .before .before .before in
+    let c11 = c7 .before .before .before .before in
+    let c15 = c11 .before .before .before .before in
+    let c19 = c15 .before .before .before .before in
+    triple-went _ _ _ _ _ _ (c19 .triple-at .ensures) (c15 .before .before .day .given .1) (triple-went _ _ _ _ _ _
+    (c15 .triple-at2 .ensures) (c11 .before .before .clock .given .1) (went headed.Refused _ _ _ _ _ _
+    (c11 .whole .ensures) (c7 .before .before .size .given .1) (went headed.Refused _ _ _ _ _ _
+    (c7 .bit-field .ensures) (c3 .before .before .name .given .1) (handed headed.Refused _ _ _ _ _
+    (c3 .bit-field2 .ensures) (c .before .enum-told5 .given .1) (c .refusal-of3 .ensures)))))
 
 -- src/headings.rt:102:9
 whole-requires-2 : tie.Need-whole-requires-2
@@ -144,12 +181,36 @@ refusal-of-requires-4 c κs = search needs
 -- src/headings.rt:104:9
 returns-6 : tie.Need-returns-6
 unfolding headingAt
-returns-6 c = triple-went _ _ _ _ _ _ (c .before .before .before .before .before .before .before .before .before .before .before .before .before .before .before .before .before .before .before .before .before .before .before .triple-at .ensures) (c .before .before .before .before .before .before .before .before .before .before .before .before .before .before .before .before .before .before .before .before .before .day .given .1) (triple-went _ _ _ _ _ _ (c .before .before .before .before .before .before .before .before .before .before .before .before .before .before .before .before .before .before .before .triple-at2 .ensures) (c .before .before .before .before .before .before .before .before .before .before .before .before .before .before .before .before .before .clock .given .1) (went headed.Refused _ _ _ _ _ _ (c .before .before .before .before .before .before .before .before .before .before .before .before .before .before .before .whole .ensures) (c .before .before .before .before .before .before .before .before .before .before .before .before .before .size .given .1) (went headed.Refused _ _ _ _ _ _ (c .before .before .before .before .before .before .before .before .before .before .before .bit-field .ensures) (c .before .before .before .before .before .before .before .before .before .name .given .1) (went headed.Refused _ _ _ _ _ _ (c .before .before .before .before .before .before .before .bit-field2 .ensures) (c .before .before .before .before .before .aircraft .given .1) (handed headed.Refused _ _ _ _ _ (c .before .before .before .whole2 .ensures) (c .before .enum-told6 .given .1) (c .refusal-of4 .ensures))))))
+returns-6 c =
+    let c3 = c .before .before .before in
+    let c7 = c3 .before .before .before .before in
+    let c11 = c7 .before .before .before .before in
+    let c15 = c11 .before .before .before .before in
+    let c19 = c15 .before .before .before .before in
+    let c23 = c19 .before .before .before .before in
+    triple-went _ _ _ _ _ _ (c23 .triple-at .ensures) (c19 .before .before .day .given .1) (triple-went _ _ _ _ _ _
+    (c19 .triple-at2 .ensures) (c15 .before .before .clock .given .1) (went headed.Refused _ _ _ _ _ _
+    (c15 .whole .ensures) (c11 .before .before .size .given .1) (went headed.Refused _ _ _ _ _ _
+    (c11 .bit-field .ensures) (c7 .before .before .name .given .1) (went headed.Refused _ _ _ _ _ _
+    (c7 .bit-field2 .ensures) (c3 .before .before .aircraft .given .1) (handed headed.Refused _ _ _
+    _ _ (c3 .whole2 .ensures) (c .before .enum-told6 .given .1) (c .refusal-of4 .ensures))))))
 
 -- src/headings.rt:73:1
 returns-7 : tie.Need-returns-7
 unfolding headingAt
-returns-7 c = triple-went _ _ _ _ _ _ (c .before .before .before .before .before .before .before .before .before .before .before .before .before .before .before .before .before .before .before .before .before .before .before .triple-at .ensures) (c .before .before .before .before .before .before .before .before .before .before .before .before .before .before .before .before .before .before .before .before .before .day .given .1) (triple-went _ _ _ _ _ _ (c .before .before .before .before .before .before .before .before .before .before .before .before .before .before .before .before .before .before .before .triple-at2 .ensures) (c .before .before .before .before .before .before .before .before .before .before .before .before .before .before .before .before .before .clock .given .1) (went headed.Refused _ _ _ _ _ _ (c .before .before .before .before .before .before .before .before .before .before .before .before .before .before .before .whole .ensures) (c .before .before .before .before .before .before .before .before .before .before .before .before .before .size .given .1) (went headed.Refused _ _ _ _ _ _ (c .before .before .before .before .before .before .before .before .before .before .before .bit-field .ensures) (c .before .before .before .before .before .before .before .before .before .name .given .1) (went headed.Refused _ _ _ _ _ _ (c .before .before .before .before .before .before .before .bit-field2 .ensures) (c .before .before .before .before .before .aircraft .given .1) (went headed.Refused _ _ _ _ _ _ (c .before .before .before .whole2 .ensures) (c .before .index .given .1) (refl))))))
+returns-7 c =
+    let c3 = c .before .before .before in
+    let c7 = c3 .before .before .before .before in
+    let c11 = c7 .before .before .before .before in
+    let c15 = c11 .before .before .before .before in
+    let c19 = c15 .before .before .before .before in
+    let c23 = c19 .before .before .before .before in
+    triple-went _ _ _ _ _ _ (c23 .triple-at .ensures) (c19 .before .before .day .given .1) (triple-went _ _ _ _ _ _
+    (c19 .triple-at2 .ensures) (c15 .before .before .clock .given .1) (went headed.Refused _ _ _ _ _ _
+    (c15 .whole .ensures) (c11 .before .before .size .given .1) (went headed.Refused _ _ _ _ _ _
+    (c11 .bit-field .ensures) (c7 .before .before .name .given .1) (went headed.Refused _ _ _ _ _ _
+    (c7 .bit-field2 .ensures) (c3 .before .before .aircraft .given .1)
+    (went headed.Refused _ _ _ _ _ _ (c3 .whole2 .ensures) (c .before .index .given .1) (refl))))))
 
 pub heading-at-spec : {M : Type 1} → statement M
 heading-at-spec =

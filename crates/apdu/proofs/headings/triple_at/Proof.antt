@@ -28,7 +28,9 @@ refusal-of-requires c κs = search needs
 -- src/headings.rt:52:9
 returns : tie.Need-returns
 unfolding tripleAt
-returns c = handed triples.Refused _ _ _ _ _ (c .before .before .before .whole .ensures) (c .before .enum-told .given .1) (c .refusal-of .ensures)
+returns c =
+    let c3 = c .before .before .before in
+    handed triples.Refused _ _ _ _ _ (c3 .whole .ensures) (c .before .enum-told .given .1) (c .refusal-of .ensures)
 
 -- src/headings.rt:54:9
 whole-requires-2 : tie.Need-whole-requires-2
@@ -49,7 +51,11 @@ refusal-of-requires-2 c κs = search needs
 -- src/headings.rt:56:9
 returns-2 : tie.Need-returns-2
 unfolding tripleAt
-returns-2 c = went triples.Refused _ _ _ _ _ _ (c .before .before .before .before .before .before .before .whole .ensures) (c .before .before .before .before .before .first .given .1) (handed triples.Refused _ _ _ _ _ (c .before .before .before .whole2 .ensures) (c .before .enum-told2 .given .1) (c .refusal-of2 .ensures))
+returns-2 c =
+    let c3 = c .before .before .before in
+    let c7 = c3 .before .before .before .before in
+    went triples.Refused _ _ _ _ _ _ (c7 .whole .ensures) (c3 .before .before .first .given .1) (handed triples.Refused
+    _ _ _ _ _ (c3 .whole2 .ensures) (c .before .enum-told2 .given .1) (c .refusal-of2 .ensures))
 
 -- src/headings.rt:58:9
 whole-requires-3 : tie.Need-whole-requires-3
@@ -70,12 +76,24 @@ refusal-of-requires-3 c κs = search needs
 -- src/headings.rt:60:9
 returns-3 : tie.Need-returns-3
 unfolding tripleAt
-returns-3 c = went triples.Refused _ _ _ _ _ _ (c .before .before .before .before .before .before .before .before .before .before .before .whole .ensures) (c .before .before .before .before .before .before .before .before .before .first .given .1) (went triples.Refused _ _ _ _ _ _ (c .before .before .before .before .before .before .before .whole2 .ensures) (c .before .before .before .before .before .second .given .1) (handed triples.Refused _ _ _ _ _ (c .before .before .before .whole3 .ensures) (c .before .enum-told3 .given .1) (c .refusal-of3 .ensures)))
+returns-3 c =
+    let c3 = c .before .before .before in
+    let c7 = c3 .before .before .before .before in
+    let c11 = c7 .before .before .before .before in
+    went triples.Refused _ _ _ _ _ _ (c11 .whole .ensures) (c7 .before .before .first .given .1) (went triples.Refused _
+    _ _ _ _ _ (c7 .whole2 .ensures) (c3 .before .before .second .given .1) (handed triples.Refused _ _ _ _ _
+    (c3 .whole3 .ensures) (c .before .enum-told3 .given .1) (c .refusal-of3 .ensures)))
 
 -- src/headings.rt:47:1
 returns-4 : tie.Need-returns-4
 unfolding tripleAt
-returns-4 c = went triples.Refused _ _ _ _ _ _ (c .before .before .before .before .before .before .before .before .before .before .before .whole .ensures) (c .before .before .before .before .before .before .before .before .before .first .given .1) (went triples.Refused _ _ _ _ _ _ (c .before .before .before .before .before .before .before .whole2 .ensures) (c .before .before .before .before .before .second .given .1) (went triples.Refused _ _ _ _ _ _ (c .before .before .before .whole3 .ensures) (c .before .third .given .1) refl))
+returns-4 c =
+    let c3 = c .before .before .before in
+    let c7 = c3 .before .before .before .before in
+    let c11 = c7 .before .before .before .before in
+    went triples.Refused _ _ _ _ _ _ (c11 .whole .ensures) (c7 .before .before .first .given .1) (went triples.Refused _
+    _ _ _ _ _ (c7 .whole2 .ensures) (c3 .before .before .second .given .1)
+    (went triples.Refused _ _ _ _ _ _ (c3 .whole3 .ensures) (c .before .third .given .1) refl))
 
 pub triple-at-spec : {M : Type 1} → statement M
 triple-at-spec =

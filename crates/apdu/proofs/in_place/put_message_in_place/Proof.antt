@@ -40,7 +40,11 @@ same-length c = search needs
 
 -- src/in_place.rt:36:1
 returns : tie.Need-returns
-returns c = alone _ _ _ _ _ _ _ _ (c .before .before .before .before .before .before .before .before .before .pre .0) (c .before .before .before .before .before .before .before .before .before .pre .1) (c .before .before .before .before .before .before .before .before .before .pre .2) (c .before .before .before .before .before .before .before .before .before .pre .3) (c .place .ensures) (c .before .before .before .before .before .enum-told .given .1) (c .before .before .before .put-bits .ensures)
+returns c =
+    let c3 = c .before .before .before in
+    let c9 = c3 .before .before .before .before .before .before in
+    alone _ _ _ _ _ _ _ _ (c9 .pre .0) (c9 .pre .1) (c9 .pre .2) (c9 .pre .3) (c .place .ensures)
+    (c3 .before .before .enum-told .given .1) (c3 .put-bits .ensures)
 
 -- src/in_place.rt:36:1
 same-length-2 : tie.Need-same-length-2
@@ -48,7 +52,12 @@ same-length-2 c = search needs
 
 -- src/in_place.rt:36:1
 returns-2 : tie.Need-returns-2
-returns-2 c = led-message _ _ _ _ _ _ _ _ (c .before .before .before .before .before .before .before .before .before .before .pre .0) (c .before .before .before .before .before .before .before .before .before .before .pre .1) (c .before .before .before .before .before .before .before .before .before .before .pre .2) (c .before .before .before .before .before .before .before .before .before .before .pre .3) (c .place2 .ensures) _ (c .before .before .before .before .before .before .message .given .1) (c .before .before .before .put-led .ensures)
+returns-2 c =
+    let c3 = c .before .before .before in
+    let c6 = c3 .before .before .before in
+    let c10 = c6 .before .before .before .before in
+    led-message _ _ _ _ _ _ _ _ (c10 .pre .0) (c10 .pre .1) (c10 .pre .2) (c10 .pre .3) (c .place2 .ensures) _
+    (c6 .message .given .1) (c3 .put-led .ensures)
 
 pub put-message-in-place-spec : {M : Type 1} → statement M
 put-message-in-place-spec =

@@ -22,7 +22,9 @@ same-length c = search needs
 
 -- src/in_place.rt:71:1
 returns : tie.Need-returns
-returns c = rw (c .before .before .before .before .send-front .ensures .2) at (c .before .before .write-in-place .ensures)
+returns c =
+    let c4 = c .before .before .before .before in
+    rw (c4 .send-front .ensures .2) at (c .before .before .write-in-place .ensures)
 
 pub put-send-in-place-spec : {M : Type 1} → statement M
 put-send-in-place-spec =

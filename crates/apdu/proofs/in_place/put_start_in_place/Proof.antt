@@ -39,7 +39,9 @@ add-write-in-place c = search needs
 
 -- src/in_place.rt:102:13
 mul-write-in-place : tie.Need-mul-write-in-place
-mul-write-in-place c = omega (arith, few (c .before .before .before), c .before .before .before .start-front .ensures .1)
+mul-write-in-place c =
+    let c3 = c .before .before .before in
+    omega (arith, few (c3), c3 .start-front .ensures .1)
 
 -- src/in_place.rt:102:32
 presence-requires : tie.Need-presence-requires
@@ -47,11 +49,21 @@ presence-requires c κs = search needs
 
 -- src/in_place.rt:102:13
 add-write-in-place-2 : tie.Need-add-write-in-place-2
-add-write-in-place-2 c = omega (arith, few (c .before .before .before .before), c .before .before .before .before .start-front .ensures .1, c .presence .ensures, there-lt (c .before .before .before .before .before .before .before .before .before .before .before .args .d .message))
+add-write-in-place-2 c =
+    let c4 = c .before .before .before .before in
+    let c11 = c4 .before .before .before .before .before .before .before in
+    omega (arith, few (c4), c4 .start-front .ensures .1, c .presence .ensures, there-lt (c11 .args .d .message))
 
 -- src/in_place.rt:99:9
 write-in-place-requires : tie.Need-write-in-place-requires
-write-in-place-requires c κs = (omega (arith, c .before .before .before .before .start-front .ensures .0), marked-lt (c .before .before .before .before .start-front .result .width) (c .before .before .before .before .start-front .result .number) (c .presence .result) (c .before .before .before .before .before .before .before .before .before .before .before .args .d .message) (c .presence .ensures) (c .before .before .before .before .start-front .ensures .1))
+write-in-place-requires c κs =
+    let c4 = c .before .before .before .before in
+    let c11 = c4 .before .before .before .before .before .before .before in (
+      omega (arith, c4 .start-front .ensures .0),
+      marked-lt (c4 .start-front .result .width)
+          (c4 .start-front .result .number) (c .presence .result) (c11 .args .d .message) (c .presence .ensures)
+          (c4 .start-front .ensures .1),
+    )
 
 -- src/in_place.rt:99:9
 same-length : tie.Need-same-length
@@ -59,7 +71,15 @@ same-length c = search needs
 
 -- src/in_place.rt:99:9
 returns : tie.Need-returns
-returns c = rw (sym (c .before .before .before .before .before .before .before .before .before .mode-fits .ensures) ∙ c .before .before .before .before .before .before .before .before .if1 .taken) (c .before .before .write-in-place .ensures ∙ ap (writeOut _ _) (marked (c .before .before .before .before .before .before .before .start-front .result .width) (c .before .before .before .before .before .before .before .start-front .result .number) (c .before .before .before .presence .result) (c .before .before .before .before .before .before .before .before .before .before .before .before .before .before .args .d .message) (c .before .before .before .presence .ensures) (lent (c .before .before .before .before .before .before .before .before .before .before .before .before .before .before .args .msgs .now)) _ (c .before .before .before .before .before .before .before .start-front .ensures .2) ∙ append-assoc (alternative (c .before .before .before .before .before .before .before .before .before .before .before .before .before .before .args .pdus) Start) (modeBits (c .before .before .before .before .before .before .before .before .before .before .before .before .before .before .args .pdus) (c .before .before .before .before .before .before .before .before .before .before .before .before .before .before .args .m)) _))
+returns c =
+    let c3 = c .before .before .before in
+    let c7 = c3 .before .before .before .before in
+    let c14 = c7 .before .before .before .before .before .before .before in
+    rw (sym (c7 .before .before .mode-fits .ensures) ∙ c7 .before .if1 .taken) (
+    c .before .before .write-in-place .ensures ∙ ap (writeOut _ _) (marked (c7 .start-front .result .width)
+    (c7 .start-front .result .number) (c3 .presence .result) (c14 .args .d .message) (c3 .presence .ensures)
+    (lent (c14 .args .msgs .now)) _ (c7 .start-front .ensures .2) ∙ append-assoc
+    (alternative (c14 .args .pdus) Start) (modeBits (c14 .args .pdus) (c14 .args .m)) _))
 
 -- src/in_place.rt:109:5
 refused-requires : tie.Need-refused-requires
@@ -67,7 +87,8 @@ refused-requires c κs = search needs
 
 -- src/in_place.rt:85:1
 returns-2 : tie.Need-returns-2
-returns-2 c = turned-away _ _ _ _ (c .refused .ensures) (rw (sym (c .before .before .mode-fits .ensures) ∙ c .before .if1 .left))
+returns-2 c =
+    turned-away _ _ _ _ (c .refused .ensures) (rw (sym (c .before .before .mode-fits .ensures) ∙ c .before .if1 .left))
 
 pub put-start-in-place-spec : {M : Type 1} → statement M
 put-start-in-place-spec =

@@ -29,7 +29,15 @@ data-fits-requires c κs = search needs
 
 -- src/in_place.rt:64:13
 put-message-in-place-requires : tie.Need-put-message-in-place-requires
-put-message-in-place-requires c κs = (c .before .before .before .before .before .before .before .before .pre .0, c .before .before .before .before .before .before .before .before .pre .1, data-fits _ _ _ _ (fits (c .before)) .message, message-room _ _ _ _ _ _ (c .before .before .before .before .before .before .before .before .pre .0) (fits (c .before)) _ (c .before .before .before .if1 .left))
+put-message-in-place-requires c κs =
+    let c3 = c .before .before .before in
+    let c8 = c3 .before .before .before .before .before in (
+      c8 .pre .0,
+      c8 .pre .1,
+      data-fits _ _ _ _ (fits (c .before)) .message,
+      message-room _ _ _ _ _ _ (c8 .pre .0)
+          (fits (c .before)) _ (c3 .if1 .left),
+    )
 
 -- src/in_place.rt:65:9
 pad-requires : tie.Need-pad-requires
@@ -41,7 +49,15 @@ same-length c = search needs
 
 -- src/in_place.rt:66:9
 returns-2 : tie.Need-returns-2
-returns-2 c = written-out _ _ _ _ _ _ _ _ _ _ (c .before .before .before .before .before .before .before .before .before .before .if1 .left) (message-pads _ _ _ _ _ _ (c .before .before .before .before .before .before .before .before .before .before .before .before .before .before .before .pre .0) (fits (c .before .before .before .before .before .before .before .before))) (c .before .before .before .before .before .before .before .before .before .data-fits .ensures) (c .before .before .before .before .before .before .before .before .if2 .taken) (as-answer _ _ _ _ (message-room _ _ _ _ _ _ (c .before .before .before .before .before .before .before .before .before .before .before .before .before .before .before .pre .0) (fits (c .before .before .before .before .before .before .before .before)) _ (c .before .before .before .before .before .before .before .before .before .before .if1 .left)) (c .before .before .before .before .before .before .put-message-in-place .ensures)) refl refl (c .before .before .pad .ensures)
+returns-2 c =
+    let c6 = c .before .before .before .before .before .before in
+    let c9 = c6 .before .before .before in
+    let c15 = c9 .before .before .before .before .before .before in
+    written-out _ _ _ _ _ _ _ _ _ _ (c9 .before .if1 .left)
+    (message-pads _ _ _ _ _ _ (c15 .pre .0) (fits (c6 .before .before))) (c9 .data-fits .ensures)
+    (c6 .before .before .if2 .taken) (as-answer _ _ _ _
+    (message-room _ _ _ _ _ _ (c15 .pre .0) (fits (c6 .before .before)) _ (c9 .before .if1 .left))
+    (c6 .put-message-in-place .ensures)) refl refl (c .before .before .pad .ensures)
 
 -- src/in_place.rt:47:1
 returns-3 : tie.Need-returns-3

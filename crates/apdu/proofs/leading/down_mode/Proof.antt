@@ -28,7 +28,9 @@ returns c = handed _ _ _ _ (c .before .before .bit-field .ensures) (c .enum-told
 -- src/leading.rt:71:9
 returns-2 : tie.Need-returns-2
 unfolding modeAt
-returns-2 c = went _ _ _ _ _ _ (c .before .before .before .before .bit-field .ensures) (c .before .before .presence .given .1) (rw (eq-eqb _ _ (c .if1 .taken)))
+returns-2 c =
+    let c4 = c .before .before .before .before in
+    went _ _ _ _ _ _ (c4 .bit-field .ensures) (c .before .before .presence .given .1) (rw (eq-eqb _ _ (c .if1 .taken)))
 
 -- src/leading.rt:73:5
 mode-value-requires : tie.Need-mode-value-requires
@@ -37,7 +39,10 @@ mode-value-requires c κs = tt
 -- src/leading.rt:63:1
 returns-3 : tie.Need-returns-3
 unfolding modeAt
-returns-3 c = went _ _ _ _ _ _ (c .before .before .before .before .before .bit-field .ensures) (c .before .before .before .presence .given .1) (rw (ne-eqb _ _ (c .before .if1 .left)) (c .mode-value .ensures))
+returns-3 c =
+    let c3 = c .before .before .before in
+    went _ _ _ _ _ _ (c3 .before .before .bit-field .ensures) (c3 .presence .given .1)
+    (rw (ne-eqb _ _ (c .before .if1 .left)) (c .mode-value .ensures))
 
 pub down-mode-spec : {M : Type 1} → statement M
 down-mode-spec =

@@ -34,7 +34,10 @@ refusal-of-requires c κs = tt
 -- src/leading.rt:104:9
 returns : tie.Need-returns
 unfolding leadingAt
-returns c = rw (← c .before .before .before .before .last-of .ensures) (handed lead.Refused _ _ _ _ _ (c .before .before .before .extensible-index .ensures) (c .before .enum-told .given .1) (c .refusal-of .ensures))
+returns c =
+    let c3 = c .before .before .before in
+    rw (← c3 .before .last-of .ensures) (handed lead.Refused _ _ _ _ _ (c3 .extensible-index .ensures)
+    (c .before .enum-told .given .1) (c .refusal-of .ensures))
 
 -- src/leading.rt:106:9
 kind-of-requires : tie.Need-kind-of-requires
@@ -59,12 +62,24 @@ refusal-of-requires-2 c κs = tt
 -- src/leading.rt:109:9
 returns-2 : tie.Need-returns-2
 unfolding leadingAt
-returns-2 c = rw (← c .before .before .before .before .before .before .before .before .before .last-of .ensures) (went lead.Refused _ _ _ _ _ _ (c .before .before .before .before .before .before .before .before .extensible-index .ensures) (c .before .before .before .before .before .before .index .given .1) (rw (← c .before .before .before .before .kind-of .ensures) (handed lead.Refused _ _ _ _ _ (c .before .before .before .kind-mode .ensures) (c .before .enum-told2 .given .1) (c .refusal-of2 .ensures))))
+returns-2 c =
+    let c3 = c .before .before .before in
+    let c6 = c3 .before .before .before in
+    let c9 = c6 .before .before .before in
+    rw (← c9 .last-of .ensures) (went lead.Refused _ _ _ _ _ _ (c6 .before .before .extensible-index .ensures)
+    (c6 .index .given .1) (rw (← c3 .before .kind-of .ensures) (handed lead.Refused _ _ _ _ _
+    (c3 .kind-mode .ensures) (c .before .enum-told2 .given .1) (c .refusal-of2 .ensures))))
 
 -- src/leading.rt:99:1
 returns-3 : tie.Need-returns-3
 unfolding leadingAt
-returns-3 c = rw (← c .before .before .before .before .before .before .before .before .before .last-of .ensures) (went lead.Refused _ _ _ _ _ _ (c .before .before .before .before .before .before .before .before .extensible-index .ensures) (c .before .before .before .before .before .before .index .given .1) (rw (← c .before .before .before .before .kind-of .ensures) (went lead.Refused _ _ _ _ _ _ (c .before .before .before .kind-mode .ensures) (c .before .mode .given .1) refl)))
+returns-3 c =
+    let c3 = c .before .before .before in
+    let c6 = c3 .before .before .before in
+    let c9 = c6 .before .before .before in
+    rw (← c9 .last-of .ensures) (went lead.Refused _ _ _ _ _ _ (c6 .before .before .extensible-index .ensures)
+    (c6 .index .given .1) (rw (← c3 .before .kind-of .ensures)
+    (went lead.Refused _ _ _ _ _ _ (c3 .kind-mode .ensures) (c .before .mode .given .1) refl)))
 
 pub leading-at-spec : {M : Type 1} → statement M
 leading-at-spec =

@@ -31,12 +31,17 @@ refused-at-requires c κs = tt
 -- src/leading.rt:57:9
 returns-2 : tie.Need-returns-2
 unfolding modeValue
-returns-2 c = went _ _ _ _ _ _ (c .before .before .before .before .before .whole .ensures) (c .before .before .before .value .given .1) (rw (eq-eqb _ _ (c .before .if1 .taken)) (c .refused-at .ensures))
+returns-2 c =
+    let c3 = c .before .before .before in
+    went _ _ _ _ _ _ (c3 .before .before .whole .ensures) (c3 .value .given .1)
+    (rw (eq-eqb _ _ (c .before .if1 .taken)) (c .refused-at .ensures))
 
 -- src/leading.rt:49:1
 returns-3 : tie.Need-returns-3
 unfolding modeValue
-returns-3 c = went _ _ _ _ _ _ (c .before .before .before .before .whole .ensures) (c .before .before .value .given .1) (rw (ne-eqb _ _ (c .if1 .left)))
+returns-3 c =
+    let c4 = c .before .before .before .before in
+    went _ _ _ _ _ _ (c4 .whole .ensures) (c .before .before .value .given .1) (rw (ne-eqb _ _ (c .if1 .left)))
 
 pub mode-value-spec : {M : Type 1} → statement M
 mode-value-spec =

@@ -31,7 +31,9 @@ refusal-of-requires c κs = tt
 -- src/parts.rt:63:9
 returns : tie.Need-returns
 unfolding partsWithin
-returns c = handed taken.Refused _ _ _ _ _ (c .before .before .before .optional .ensures) (c .before .enum-told .given .1) (c .refusal-of .ensures)
+returns c =
+    let c3 = c .before .before .before in
+    handed taken.Refused _ _ _ _ _ (c3 .optional .ensures) (c .before .enum-told .given .1) (c .refusal-of .ensures)
 
 -- src/parts.rt:65:9
 optional-requires-2 : tie.Need-optional-requires-2
@@ -52,7 +54,11 @@ refusal-of-requires-2 c κs = tt
 -- src/parts.rt:67:9
 returns-2 : tie.Need-returns-2
 unfolding partsWithin
-returns-2 c = went taken.Refused _ _ _ _ _ _ (c .before .before .before .before .before .before .before .optional .ensures) (c .before .before .before .before .before .identifier .given .1) (handed taken.Refused _ _ _ _ _ (c .before .before .before .optional2 .ensures) (c .before .enum-told2 .given .1) (c .refusal-of2 .ensures))
+returns-2 c =
+    let c3 = c .before .before .before in
+    let c7 = c3 .before .before .before .before in
+    went taken.Refused _ _ _ _ _ _ (c7 .optional .ensures) (c3 .before .before .identifier .given .1) (handed
+    taken.Refused _ _ _ _ _ (c3 .optional2 .ensures) (c .before .enum-told2 .given .1) (c .refusal-of2 .ensures))
 
 -- src/parts.rt:69:9
 string-requires : tie.Need-string-requires
@@ -73,24 +79,44 @@ refusal-of-requires-3 c κs = tt
 -- src/parts.rt:71:9
 returns-3 : tie.Need-returns-3
 unfolding partsWithin
-returns-3 c = went taken.Refused _ _ _ _ _ _ (c .before .before .before .before .before .before .before .before .before .before .before .optional .ensures) (c .before .before .before .before .before .before .before .before .before .identifier .given .1) (went taken.Refused _ _ _ _ _ _ (c .before .before .before .before .before .before .before .optional2 .ensures) (c .before .before .before .before .before .message .given .1) (handed taken.Refused _ _ _ _ _ (c .before .before .before .string .ensures) (c .before .enum-told3 .given .1) (c .refusal-of3 .ensures)))
+returns-3 c =
+    let c3 = c .before .before .before in
+    let c7 = c3 .before .before .before .before in
+    let c11 = c7 .before .before .before .before in
+    went taken.Refused _ _ _ _ _ _ (c11 .optional .ensures) (c7 .before .before .identifier .given .1) (went
+    taken.Refused _ _ _ _ _ _ (c7 .optional2 .ensures) (c3 .before .before .message .given .1) (handed
+    taken.Refused _ _ _ _ _ (c3 .string .ensures) (c .before .enum-told3 .given .1)
+    (c .refusal-of3 .ensures)))
 
 -- src/parts.rt:74:21
 part-requires : tie.Need-part-requires
-part-requires c κs = optional-room _ _ _ octet _ _ _ _ (sym (c .before .before .before .before .before .before .before .before .before .before .before .optional .ensures) ∙ c .before .before .before .before .before .before .before .before .before .identifier .given .1)
+part-requires c κs =
+    let c9 = c .before .before .before .before .before .before .before .before .before in
+    optional-room _ _ _ octet _ _ _ _ (sym (c9 .before .before .optional .ensures) ∙ c9 .identifier .given .1)
 
 -- src/parts.rt:75:18
 part-requires-2 : tie.Need-part-requires-2
-part-requires-2 c κs = optional-room _ _ _ bit _ _ _ _ (sym (c .before .before .before .before .before .before .before .before .optional2 .ensures) ∙ c .before .before .before .before .before .before .message .given .1)
+part-requires-2 c κs =
+    let c6 = c .before .before .before .before .before .before in
+    optional-room _ _ _ bit _ _ _ _ (sym (c6 .before .before .optional2 .ensures) ∙ c6 .message .given .1)
 
 -- src/parts.rt:76:16
 span-to-requires : tie.Need-span-to-requires
-span-to-requires c κs = string-room _ _ bit _ _ _ _ (sym (c .before .before .before .before .before .string .ensures) ∙ c .before .before .before .check .given .1)
+span-to-requires c κs =
+    let c3 = c .before .before .before in
+    string-room _ _ bit _ _ _ _ (sym (c3 .before .before .string .ensures) ∙ c3 .check .given .1)
 
 -- src/parts.rt:51:1
 returns-4 : tie.Need-returns-4
 unfolding partsWithin
-returns-4 c = went taken.Refused _ _ _ _ _ _ (c .before .before .before .before .before .before .before .before .before .before .before .before .before .before .optional .ensures) (c .before .before .before .before .before .before .before .before .before .before .before .before .identifier .given .1) (went taken.Refused _ _ _ _ _ _ (c .before .before .before .before .before .before .before .before .before .before .optional2 .ensures) (c .before .before .before .before .before .before .before .before .message .given .1) (went taken.Refused _ _ _ _ _ _ (c .before .before .before .before .before .before .string .ensures) (c .before .before .before .before .check .given .1) (rw (c .before .before .part .ensures, c .before .part2 .ensures, c .span-to .ensures))))
+returns-4 c =
+    let c4 = c .before .before .before .before in
+    let c8 = c4 .before .before .before .before in
+    let c12 = c8 .before .before .before .before in
+    went taken.Refused _ _ _ _ _ _ (c12 .before .before .optional .ensures) (c12 .identifier .given .1) (went
+    taken.Refused _ _ _ _ _ _ (c8 .before .before .optional2 .ensures) (c8 .message .given .1) (went
+    taken.Refused _ _ _ _ _ _ (c4 .before .before .string .ensures) (c4 .check .given .1)
+    (rw (c .before .before .part .ensures, c .before .part2 .ensures, c .span-to .ensures))))
 
 pub parts-at-spec : {M : Type 1} → statement M
 parts-at-spec =

@@ -31,11 +31,17 @@ refusal-of-requires c κs = tt
 
 returns-2 : tie.Need-returns-2
 unfolding withAdditions
-returns-2 c = taken-went _ _ _ _ _ _ refl (c .before .before .before .before .before .parts .given .1) (handed taken.Refused _ _ _ _ _ (c .before .before .before .additions .ensures) (c .before .enum-told2 .given .1) (c .refusal-of .ensures))
+returns-2 c =
+    let c3 = c .before .before .before in
+    taken-went _ _ _ _ _ _ refl (c3 .before .before .parts .given .1) (handed taken.Refused _ _ _ _ _
+    (c3 .additions .ensures) (c .before .enum-told2 .given .1) (c .refusal-of .ensures))
 
 returns-3 : tie.Need-returns-3
 unfolding withAdditions
-returns-3 c = taken-went _ _ _ _ _ _ refl (c .before .before .before .before .before .parts .given .1) (went taken.Refused _ _ _ _ _ _ (c .before .before .before .additions .ensures) (c .before .added .given .1) refl)
+returns-3 c =
+    let c3 = c .before .before .before in
+    taken-went _ _ _ _ _ _ refl (c3 .before .before .parts .given .1)
+    (went taken.Refused _ _ _ _ _ _ (c3 .additions .ensures) (c .before .added .given .1) refl)
 
 pub with-additions-spec : {M : Type 1} → statement M
 with-additions-spec =

@@ -22,12 +22,21 @@ items-fit-requires c κs = search needs
 -- src/shape.rt:49:13
 returns : tie.Need-returns
 unfolding dataFits
-returns c = rw (← c .before .before .before .before .part-fits .ensures, c .before .before .before .if1 .taken, ← c .before .before .part-fits2 .ensures, c .before .if2 .taken) (c .items-fit .ensures)
+returns c =
+    let c3 = c .before .before .before in
+    rw (
+      ← c3 .before .part-fits .ensures,
+      c3 .if1 .taken,
+      ← c .before .before .part-fits2 .ensures,
+      c .before .if2 .taken,
+    ) (c .items-fit .ensures)
 
 -- src/shape.rt:51:9
 returns-2 : tie.Need-returns-2
 unfolding dataFits
-returns-2 c = rw (← c .before .before .before .part-fits .ensures, c .before .before .if1 .taken, ← c .before .part-fits2 .ensures, c .if2 .left)
+returns-2 c =
+    let c3 = c .before .before .before in
+    rw (← c3 .part-fits .ensures, c .before .before .if1 .taken, ← c .before .part-fits2 .ensures, c .if2 .left)
 
 -- src/shape.rt:41:1
 returns-3 : tie.Need-returns-3

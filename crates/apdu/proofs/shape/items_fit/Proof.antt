@@ -25,7 +25,9 @@ within-requires c κs = tt
 
 -- src/shape.rt:16:1
 returns-3 : tie.Need-returns-3
-returns-3 c = held _ _ _ _ _ _ (c .before .before .if1 .left) (c .before .if2 .left) (c .before .before .before .before .pre .1) (c .within .ensures)
+returns-3 c =
+    let c4 = c .before .before .before .before in
+    held _ _ _ _ _ _ (c .before .before .if1 .left) (c .before .if2 .left) (c4 .pre .1) (c .within .ensures)
 
 pub items-fit-spec : {M : Type 1} → statement M
 items-fit-spec = tie.close (tie.spec returns returns-2 mul-within within-requires returns-3)

@@ -48,13 +48,23 @@ same-length-3 : tie.Need-same-length-3
 same-length-3 c = search needs
 
 returns-3 : tie.Need-returns-3
-returns-3 c = close-not _ _ _ (known (c .before .before .before .before)) (c .before .before .before .if1 .left) _ (c .before .eight-at .ensures) (c .if2 .taken)
+returns-3 c =
+    let c3 = c .before .before .before in
+    close-not _ _ _ (known (c3 .before)) (c3 .if1 .left) _ (c .before .eight-at .ensures) (c .if2 .taken)
 
 bit-of-requires : tie.Need-bit-of-requires
 bit-of-requires c κs = search needs
 
 sub-put-eight : tie.Need-sub-put-eight
-sub-put-eight c = omega (arith, close-le _ _ _ (known (c .before .before .before .before .before .before)) (c .before .before .before .before .before .if1 .left) _ (c .before .before .before .eight-at .ensures) (c .before .before .if2 .left), c .bit-of .ensures)
+sub-put-eight c =
+    let c3 = c .before .before .before in
+    let c6 = c3 .before .before .before in
+    omega (
+      arith,
+      close-le _ _ _ (known (c6)) (c3 .before .before .if1 .left) _ (c3 .eight-at .ensures)
+          (c .before .before .if2 .left),
+      c .bit-of .ensures,
+    )
 
 put-eight-requires : tie.Need-put-eight-requires
 put-eight-requires c κs = omega (arith, book-long _ (known (c .before .before .before .before .before .before) .book))
@@ -66,7 +76,10 @@ mul-put-eight : tie.Need-mul-put-eight
 mul-put-eight c = search needs
 
 put-eight-requires-2 : tie.Need-put-eight-requires-2
-put-eight-requires-2 c κs = omega (arith, simp length-sets at (ap length (c .before .before .before .put-eight .ensures)), book-long _ (known (c .before .before .before .before .before .before .before .before .before .before) .book))
+put-eight-requires-2 c κs =
+    let c3 = c .before .before .before in
+    let c10 = c3 .before .before .before .before .before .before .before in
+    omega (arith, simp length-sets at (ap length (c3 .put-eight .ensures)), book-long _ (known (c10) .book))
 
 same-length-4 : tie.Need-same-length-4
 same-length-4 c = search needs

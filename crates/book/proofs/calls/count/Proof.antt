@@ -21,7 +21,9 @@ open-count-requires : tie.Need-open-count-requires
 open-count-requires c κs = search needs
 
 returns-2 : tie.Need-returns-2
-returns-2 c = count-is _ _ _ (is-known _ _ _ (c .before .before .before .before .load .ensures) (c .before .before .opened .given .1)) (c .open-count .ensures)
+returns-2 c =
+    let c4 = c .before .before .before .before in
+    count-is _ _ _ (is-known _ _ _ (c4 .load .ensures) (c .before .before .opened .given .1)) (c .open-count .ensures)
 
 pub count-spec : {M : Type 1} → statement M
 count-spec =

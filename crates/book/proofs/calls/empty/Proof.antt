@@ -38,7 +38,15 @@ loop-less : tie.Need-loop-less Inv-loop μ-loop
 loop-less c = omega arith
 
 loop-again : tie.Need-loop-again Inv-loop μ-loop
-loop-again c = (omega arith, c .before .before .before .before .before .loop .inv .1, omega (arith, simp length-sets at (ap length (c .before .before .clear-eight .ensures))), clear-turn _ _ _ (c .before .before .before .before .before .loop .i) (omega arith) (c .before .before .before .before .before .loop .inv .3) (c .before .before .clear-eight .ensures))
+loop-again c =
+    let c5 = c .before .before .before .before .before in (
+      omega arith,
+      c5 .loop .inv .1,
+      omega
+          (arith, simp length-sets at (ap length (c .before .before .clear-eight .ensures))),
+      clear-turn _ _ _
+          (c5 .loop .i) (omega arith) (c5 .loop .inv .3) (c .before .before .clear-eight .ensures),
+    )
 
 same-length : tie.Need-same-length Inv-loop μ-loop
 same-length c = search needs

@@ -19,7 +19,9 @@ returns : tie.Need-returns
 returns c = job-none _ _ (not-known _ _ (c .before .before .load .ensures) (c .enum-told2 .given .1))
 
 returns-2 : tie.Need-returns-2
-returns-2 c = job-above _ _ _ (is-known _ _ _ (c .before .before .before .load .ensures) (c .before .enum-told .given .1)) (c .if1 .taken)
+returns-2 c =
+    let c3 = c .before .before .before in
+    job-above _ _ _ (is-known _ _ _ (c3 .load .ensures) (c .before .enum-told .given .1)) (c .if1 .taken)
 
 add-eight-at : tie.Need-add-eight-at
 add-eight-at c = search needs
@@ -28,10 +30,15 @@ mul-eight-at : tie.Need-mul-eight-at
 mul-eight-at c = search needs
 
 eight-at-requires : tie.Need-eight-at-requires
-eight-at-requires c κs = omega (arith, book-long _ (is-known _ _ _ (c .before .before .before .load .ensures) (c .before .enum-told .given .1) .book))
+eight-at-requires c κs =
+    let c3 = c .before .before .before in
+    omega (arith, book-long _ (is-known _ _ _ (c3 .load .ensures) (c .before .enum-told .given .1) .book))
 
 returns-3 : tie.Need-returns-3
-returns-3 c = job-at _ _ _ _ (is-known _ _ _ (c .before .before .before .before .load .ensures) (c .before .before .enum-told .given .1)) (c .before .if1 .left) (c .eight-at .ensures)
+returns-3 c =
+    let c4 = c .before .before .before .before in
+    job-at _ _ _ _ (is-known _ _ _ (c4 .load .ensures) (c .before .before .enum-told .given .1)) (c .before .if1 .left)
+    (c .eight-at .ensures)
 
 pub job-spec : {M : Type 1} → statement M
 job-spec =

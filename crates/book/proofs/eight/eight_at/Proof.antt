@@ -17,13 +17,20 @@ abbrev μ-loop : tie.MeasureT-loop
 μ-loop b at v₀ i₀ v i = 8 - i
 
 byte : (c : tie.After-wide Inv-loop μ-loop) → c .wide .result < 256
-byte c = omega (arith, c .wide .ensures, c .before .before .before .before .shared-slice-known .given (c .before .before .before .before .before .args .at + c .before .before .before .loop .i))
+byte c =
+    let c3 = c .before .before .before in
+    omega (arith, c .wide .ensures, c3 .before .shared-slice-known .given (c3 .before .before .args .at + c3 .loop .i))
 
 loop-holds : tie.Need-loop-holds Inv-loop μ-loop
 loop-holds c = (search needs, sym (number-nil 0), search needs)
 
 mul-v : tie.Need-mul-v Inv-loop μ-loop
-mul-v c = omega (arith, read-fits (c .before .loop .v) 0 (c .before .loop .i) (c .before .loop .inv .2) (omega arith) (omega arith))
+mul-v c =
+    omega (
+      arith,
+      read-fits (c .before .loop .v) 0 (c .before .loop .i) (c .before .loop .inv .2) (omega arith)
+          (omega arith),
+    )
 
 add-wide : tie.Need-add-wide Inv-loop μ-loop
 add-wide c = search needs
@@ -35,7 +42,9 @@ wide-requires : tie.Need-wide-requires Inv-loop μ-loop
 wide-requires c κs = tt
 
 add-v : tie.Need-add-v Inv-loop μ-loop
-add-v c = omega (arith, read-fits (c .before .before .before .loop .v) (c .wide .result) (c .before .before .before .loop .i) (c .before .before .before .loop .inv .2) (byte c) (omega arith))
+add-v c =
+    let c3 = c .before .before .before in
+    omega (arith, read-fits (c3 .loop .v) (c .wide .result) (c3 .loop .i) (c3 .loop .inv .2) (byte c) (omega arith))
 
 add-i : tie.Need-add-i Inv-loop μ-loop
 add-i c = search needs
@@ -44,7 +53,14 @@ loop-less : tie.Need-loop-less Inv-loop μ-loop
 loop-less c = omega arith
 
 loop-again : tie.Need-loop-again Inv-loop μ-loop
-loop-again c = (search needs, read-turn (c .before .before .before .before .before .args .b .now) (c .before .before .before .before .before .args .at) (c .before .before .before .loop .i) _ _ (omega arith) (c .before .before .before .loop .inv .1) (c .wide .ensures), read-lt (c .before .before .before .loop .v) (c .wide .result) (c .before .before .before .loop .i) (c .before .before .before .loop .inv .2) (byte c))
+loop-again c =
+    let c3 = c .before .before .before in (
+      search needs,
+      read-turn (c3 .before .before .args .b .now) (c3 .before .before .args .at) (c3 .loop .i) _ _
+          (omega arith) (c3 .loop .inv .1) (c .wide .ensures),
+      read-lt (c3 .loop .v) (c .wide .result) (c3 .loop .i)
+          (c3 .loop .inv .2) (byte c),
+    )
 
 returns : tie.Need-returns Inv-loop μ-loop
 unfolding eightAt

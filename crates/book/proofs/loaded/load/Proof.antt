@@ -15,10 +15,14 @@ eight-at-requires : tie.Need-eight-at-requires
 eight-at-requires c κs = search needs
 
 returns-2 : tie.Need-returns-2
-returns-2 c = load-is _ (c .before .before .before .if1 .left) _ (c .before .before .marked .ensures) _ (c .before .eight-at .ensures) (c .if2 .taken)
+returns-2 c =
+    let c3 = c .before .before .before in
+    load-is _ (c3 .if1 .left) _ (c .before .before .marked .ensures) _ (c .before .eight-at .ensures) (c .if2 .taken)
 
 returns-3 : tie.Need-returns-3
-returns-3 c = load-not _ (c .before .before .before .if1 .left) _ (c .before .before .marked .ensures) _ (c .before .eight-at .ensures) (c .if2 .left)
+returns-3 c =
+    let c3 = c .before .before .before in
+    load-not _ (c3 .if1 .left) _ (c .before .before .marked .ensures) _ (c .before .eight-at .ensures) (c .if2 .left)
 
 pub load-spec : {M : Type 1} → statement M
 load-spec = tie.close (tie.spec returns marked-requires eight-at-requires returns-2 returns-3)

@@ -21,7 +21,12 @@ loop-holds : tie.Need-loop-holds Inv-loop μ-loop
 loop-holds c = (search needs, marks-end _, search needs)
 
 mul-m : tie.Need-mul-m Inv-loop μ-loop
-mul-m c = omega (arith, turn-fits (c .before .loop .m) 0 (c .before .loop .i) (c .before .loop .inv .2) (omega arith) (omega arith))
+mul-m c =
+    omega (
+      arith,
+      turn-fits (c .before .loop .m) 0 (c .before .loop .i) (c .before .loop .inv .2) (omega arith)
+          (omega arith),
+    )
 
 mul-eight-at : tie.Need-mul-eight-at Inv-loop μ-loop
 mul-eight-at c = search needs
@@ -33,7 +38,13 @@ mark-requires : tie.Need-mark-requires Inv-loop μ-loop
 mark-requires c κs = tt
 
 add-m : tie.Need-add-m Inv-loop μ-loop
-add-m c = omega (arith, turn-fits (c .before .before .before .loop .m) (c .mark .result) (c .before .before .before .loop .i) (c .before .before .before .loop .inv .2) (omega (arith, c .mark .ensures, mark-lt (c .before .eight-at .result))) (omega arith))
+add-m c =
+    let c3 = c .before .before .before in
+    omega (
+      arith,
+      turn-fits (c3 .loop .m) (c .mark .result) (c3 .loop .i) (c3 .loop .inv .2)
+          (omega (arith, c .mark .ensures, mark-lt (c .before .eight-at .result))) (omega arith),
+    )
 
 sub-i : tie.Need-sub-i Inv-loop μ-loop
 sub-i c = search needs
@@ -42,7 +53,15 @@ loop-less : tie.Need-loop-less Inv-loop μ-loop
 loop-less c = omega arith
 
 loop-again : tie.Need-loop-again Inv-loop μ-loop
-loop-again c = (search needs, marks-turn (c .before .before .before .before .before .args .b .now) (c .before .before .before .loop .i) _ _ _ (omega arith) (omega arith) (c .before .before .before .loop .inv .1) (c .before .eight-at .ensures) (c .mark .ensures), turn-lt (c .before .before .before .loop .m) (c .mark .result) (c .before .before .before .loop .i) (c .before .before .before .loop .inv .2) (omega (arith, c .mark .ensures, mark-lt (c .before .eight-at .result))) (omega arith) (omega arith))
+loop-again c =
+    let c3 = c .before .before .before in (
+      search needs,
+      marks-turn (c3 .before .before .args .b .now) (c3 .loop .i) _ _ _ (omega arith) (omega arith)
+          (c3 .loop .inv .1) (c .before .eight-at .ensures) (c .mark .ensures),
+      turn-lt (c3 .loop .m)
+          (c .mark .result) (c3 .loop .i) (c3 .loop .inv .2)
+          (omega (arith, c .mark .ensures, mark-lt (c .before .eight-at .result))) (omega arith) (omega arith),
+    )
 
 returns : tie.Need-returns Inv-loop μ-loop
 returns c = let e : c .before .loop .i ≡ 0 = omega arith in c .before .loop .inv .1 ∙ ap (λ (n : ℕ). marks (drop n (jobsIn (c .before .before .before .args .b .now)))) e

@@ -24,7 +24,11 @@ same-length-2 : tie.Need-same-length-2
 same-length-2 c = search needs
 
 returns-2 : tie.Need-returns-2
-returns-2 c = took-as _ _ _ _ _ _ _ (c .before .before .before .before .before .before .before .before .before .if1 .left) (c .before .before .before .before .before .before .before .take .ensures) (c .before .before .before .put-taken-job .ensures) (c .taken-number .ensures)
+returns-2 c =
+    let c3 = c .before .before .before in
+    let c7 = c3 .before .before .before .before in
+    took-as _ _ _ _ _ _ _ (c7 .before .before .if1 .left) (c7 .take .ensures) (c3 .put-taken-job .ensures)
+    (c .taken-number .ensures)
 
 pub peat-mail-take-spec : {M : Type 1} → statement M
 peat-mail-take-spec =

@@ -30,7 +30,11 @@ same-length-4 c = search needs
 
 returns-2 : tie.Need-returns-2
 unfolding compareAt
-returns-2 c = leaves-both _ (c .before .before .before .before .before .before .before .before .before .before .compare .result) _ _ _ _ _ _ (c .before .before .before .before .before .before .before .before .before .before .compare .ensures) (c .before .before .tell .ensures) ∙ rw (eq-eqb _ _ (c .before .before .before .before .before .before .before .before .before .before .before .before .before .before .if1 .left))
+returns-2 c =
+    let c10 = c .before .before .before .before .before .before .before .before .before .before in
+    let c14 = c10 .before .before .before .before in
+    leaves-both _ (c10 .compare .result) _ _ _ _ _ _ (c10 .compare .ensures) (c .before .before .tell .ensures) ∙ rw
+    (eq-eqb _ _ (c14 .if1 .left))
 
 pub peat-compare-spec : {M : Type 1} → statement M
 peat-compare-spec =

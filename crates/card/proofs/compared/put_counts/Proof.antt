@@ -44,7 +44,11 @@ same-length : tie.Need-same-length
 same-length c = search needs
 
 returns : tie.Need-returns
-returns c = six (c .before .before .before .before .before .before .args .counts .now) (c .before .before .before .before .before .before .args .c .first / 256 % 256) (c .before .before .before .before .before .before .args .c .first % 256) (c .before .before .before .before .before .before .args .c .second / 256 % 256) (c .before .before .before .before .before .before .args .c .second % 256) (c .before .before .before .before .before .before .args .c .repeated / 256 % 256) (c .before .before .before .before .before .before .args .c .repeated % 256) (c .before .before .before .before .before .before .pre)
+returns c =
+    let c6 = c .before .before .before .before .before .before in
+    six (c6 .args .counts .now) (c6 .args .c .first / 256 % 256) (c6 .args .c .first % 256)
+    (c6 .args .c .second / 256 % 256) (c6 .args .c .second % 256) (c6 .args .c .repeated / 256 % 256)
+    (c6 .args .c .repeated % 256) (c6 .pre)
 
 pub put-counts-spec : {M : Type 1} → statement M
 put-counts-spec =

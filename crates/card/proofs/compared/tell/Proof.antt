@@ -22,7 +22,9 @@ same-length c = search needs
 
 returns-2 : tie.Need-returns-2
 unfolding tellsBy
-returns-2 c = rw (c .compared-number2 .ensures, c .before .before .before .put-counts .ensures, eq-eqb _ _ (c .before .before .before .before .before .if1 .left))
+returns-2 c =
+    let c3 = c .before .before .before in
+    rw (c .compared-number2 .ensures, c3 .put-counts .ensures, eq-eqb _ _ (c3 .before .before .if1 .left))
 
 pub tell-spec : {M : Type 1} → statement M
 tell-spec =

@@ -30,16 +30,28 @@ chosen-requires : tie.Need-chosen-requires
 chosen-requires c κs = search needs
 
 put-out-requires : tie.Need-put-out-requires
-put-out-requires c κs = part-small _ _ _ _ _ _ _ (c .before .before .before .before .before .before .read-data .ensures) (c .before .before .before .before .parts2 .given .1) (c .before .unit-of .ensures) (c .chosen .ensures)
+put-out-requires c κs =
+    let c4 = c .before .before .before .before in
+    part-small _ _ _ _ _ _ _ (c4 .before .before .read-data .ensures) (c4 .parts2 .given .1)
+    (c .before .unit-of .ensures) (c .chosen .ensures)
 
 returns-3 : tie.Need-returns-3
-returns-3 c = not-data _ _ _ _ _ _ (c .before .before .before .before .before .before .if1 .left) (c .before .before .before .before .before .if2 .left) (c .before .before .before .before .read-data .ensures) (c .before .before .parts .given .1) (c .packed .ensures)
+returns-3 c =
+    let c4 = c .before .before .before .before in
+    not-data _ _ _ _ _ _ (c4 .before .before .if1 .left) (c4 .before .if2 .left) (c4 .read-data .ensures)
+    (c .before .before .parts .given .1) (c .packed .ensures)
 
 same-length : tie.Need-same-length
 same-length c = search needs
 
 returns-4 : tie.Need-returns-4
-returns-4 c = part-put _ _ _ _ _ _ _ _ _ _ (c .before .before .before .before .before .before .before .before .before .before .before .if1 .left) (c .before .before .before .before .before .before .before .before .before .before .if2 .left) (c .before .before .before .before .before .before .before .before .before .read-data .ensures) (c .before .before .before .before .before .before .before .parts2 .given .1) (c .before .before .before .before .unit-of .ensures) (c .before .before .before .chosen .ensures) (c .before .before .put-out .ensures)
+returns-4 c =
+    let c3 = c .before .before .before in
+    let c7 = c3 .before .before .before .before in
+    let c10 = c7 .before .before .before in
+    part-put _ _ _ _ _ _ _ _ _ _ (c10 .before .if1 .left) (c10 .if2 .left) (c7 .before .before .read-data .ensures)
+    (c7 .parts2 .given .1) (c3 .before .unit-of .ensures) (c3 .chosen .ensures)
+    (c .before .before .put-out .ensures)
 
 pub peat-data-part-spec : {M : Type 1} → statement M
 peat-data-part-spec =

@@ -13,7 +13,10 @@ enum-known-p : tie.Need-enum-known-p
 enum-known-p c = search needs
 
 mul-put-run : tie.Need-mul-put-run
-mul-put-run c = omega (arith, given-small _ _ _ (c .before .before .before .p .given .1) (c .before .before .before .before .before .before .before .pre))
+mul-put-run c =
+    let c3 = c .before .before .before in
+    let c7 = c3 .before .before .before .before in
+    omega (arith, given-small _ _ _ (c3 .p .given .1) (c7 .pre))
 
 put-run-requires : tie.Need-put-run-requires
 put-run-requires c κs = search needs
@@ -28,7 +31,10 @@ same-length : tie.Need-same-length
 same-length c = search needs
 
 returns-2 : tie.Need-returns-2
-returns-2 c = put-given _ _ _ _ _ _ _ _ (c .before .before .before .before .before .before .before .p .given .1) (c .part-answer .ensures) (c .before .before .before .put-run .ensures)
+returns-2 c =
+    let c3 = c .before .before .before in
+    let c7 = c3 .before .before .before .before in
+    put-given _ _ _ _ _ _ _ _ (c7 .p .given .1) (c .part-answer .ensures) (c3 .put-run .ensures)
 
 pub put-out-spec : {M : Type 1} → statement M
 put-out-spec =

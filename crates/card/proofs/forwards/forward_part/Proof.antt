@@ -15,7 +15,9 @@ same-length : tie.Need-same-length
 same-length c = search needs
 
 returns : tie.Need-returns
-returns c = bits-out _ _ _ _ _ _ _ (c .before .before .before .before .before .if1 .taken) (c .message-answer .ensures) (c .before .before .before .put-run .ensures)
+returns c =
+    let c3 = c .before .before .before in
+    bits-out _ _ _ _ _ _ _ (c3 .before .before .if1 .taken) (c .message-answer .ensures) (c3 .put-run .ensures)
 
 heading-part-requires : tie.Need-heading-part-requires
 heading-part-requires c κs = search needs
@@ -24,7 +26,8 @@ told-requires : tie.Need-told-requires
 told-requires c κs = search needs
 
 returns-2 : tie.Need-returns-2
-returns-2 c = number-out _ _ _ _ _ _ (c .before .before .if1 .left) (c .before .heading-part .ensures) (c .told .ensures)
+returns-2 c =
+    number-out _ _ _ _ _ _ (c .before .before .if1 .left) (c .before .heading-part .ensures) (c .told .ensures)
 
 pub forward-part-spec : {M : Type 1} → statement M
 forward-part-spec =

@@ -21,7 +21,10 @@ same-length-2 : tie.Need-same-length-2
 same-length-2 c = search needs
 
 returns : tie.Need-returns
-returns c = parts-out _ _ _ _ _ _ _ _ (c .before .before .before .before .before .before .before .put-run .ensures) (c .before .before .before .put-heading .ensures) (c .message-answer .ensures)
+returns c =
+    let c3 = c .before .before .before in
+    let c7 = c3 .before .before .before .before in
+    parts-out _ _ _ _ _ _ _ _ (c7 .put-run .ensures) (c3 .put-heading .ensures) (c .message-answer .ensures)
 
 pub forward-parts-spec : {M : Type 1} → statement M
 forward-parts-spec =

@@ -33,13 +33,24 @@ forward-part-requires : tie.Need-forward-part-requires
 forward-part-requires c κs = search needs
 
 returns-3 : tie.Need-returns-3
-returns-3 c = not-forward _ _ _ _ _ _ _ _ (c .before .before .before .before .before .before .before .before .if1 .left) (c .before .before .before .before .before .before .before .part-in .ensures) (c .before .before .before .before .before .before .if2 .left) (c .before .before .before .before .before .edition-in .ensures) (c .before .before .before .before .read-forward .ensures) (c .before .before .whole .given .1) (c .packed .ensures)
+returns-3 c =
+    let c4 = c .before .before .before .before in
+    let c7 = c4 .before .before .before in
+    not-forward _ _ _ _ _ _ _ _ (c7 .before .if1 .left) (c7 .part-in .ensures) (c4 .before .before .if2 .left)
+    (c4 .before .edition-in .ensures) (c4 .read-forward .ensures) (c .before .before .whole .given .1)
+    (c .packed .ensures)
 
 same-length : tie.Need-same-length
 same-length c = search needs
 
 returns-4 : tie.Need-returns-4
-returns-4 c = part-out _ _ _ _ _ _ _ _ _ _ (c .before .before .before .before .before .before .before .before .before .before .before .if1 .left) (c .before .before .before .before .before .before .before .before .before .before .part-in .ensures) (c .before .before .before .before .before .before .before .before .before .if2 .left) (c .before .before .before .before .before .before .before .before .edition-in .ensures) (c .before .before .before .before .before .before .before .read-forward .ensures) (c .before .before .before .before .before .whole2 .given .1) (c .before .before .forward-part .ensures)
+returns-4 c =
+    let c5 = c .before .before .before .before .before in
+    let c8 = c5 .before .before .before in
+    let c11 = c8 .before .before .before in
+    part-out _ _ _ _ _ _ _ _ _ _ (c11 .if1 .left) (c8 .before .before .part-in .ensures) (c8 .before .if2 .left)
+    (c8 .edition-in .ensures) (c5 .before .before .read-forward .ensures) (c5 .whole2 .given .1)
+    (c .before .before .forward-part .ensures)
 
 pub peat-forward-part-spec : {M : Type 1} → statement M
 peat-forward-part-spec =

@@ -37,13 +37,23 @@ loop-less : tie.Need-loop-less Inv-loop μ-loop
 loop-less c = omega arith
 
 loop-again : tie.Need-loop-again Inv-loop μ-loop
-loop-again c = (search needs, numbers-length _ _ _ _ (c .before .before .put-eight .ensures) (c .before .before .before .before .before .before .loop .inv .1), numbers-turn _ _ _ (c .before .before .before .before .before .before .loop .i) _ (c .before .before .before .before .before .before .before .before .args .h) (omega arith) (c .before .before .before .heading-part .ensures) (c .before .before .put-eight .ensures) (c .before .before .before .before .before .before .loop .inv .2))
+loop-again c =
+    let c3 = c .before .before .before in
+    let c6 = c3 .before .before .before in (
+      search needs,
+      numbers-length _ _ _ _ (c .before .before .put-eight .ensures) (c6 .loop .inv .1),
+      numbers-turn _ _ _
+          (c6 .loop .i) _ (c6 .before .before .args .h) (omega arith) (c3 .heading-part .ensures)
+          (c .before .before .put-eight .ensures) (c6 .loop .inv .2),
+    )
 
 same-length : tie.Need-same-length Inv-loop μ-loop
 same-length c = search needs
 
 returns : tie.Need-returns Inv-loop μ-loop
-returns c = sym (numbers-done _ (c .before .loop .i) (c .before .before .before .args .h) (omega arith)) ∙ c .before .loop .inv .2
+returns c =
+    let c3 = c .before .before .before in
+    sym (numbers-done _ (c .before .loop .i) (c3 .args .h) (omega arith)) ∙ c .before .loop .inv .2
 
 pub put-numbers-spec : {M : Type 1} → statement M
 put-numbers-spec =

@@ -30,7 +30,13 @@ same-length : tie.Need-same-length
 same-length c = search needs
 
 returns-3 : tie.Need-returns-3
-returns-3 c = fresh-air _ _ _ _ _ _ _ (c .before .before .before .before .before .before .before .before .before .is-type .ensures) _ _ _ _ _ (c .before .before .before .before .before .before .before .before .before .before .if1 .left) (c .before .before .before .before .before .before .before .before .if2 .left) (c .before .before .before .before .before .before .before .of-type .ensures) (c .before .before .before .before .before .before .fresh .ensures) (c .before .before .before .before .before .if3 .taken) (c .before .before .before .store .ensures) (c .told-made .ensures)
+returns-3 c =
+    let c3 = c .before .before .before in
+    let c6 = c3 .before .before .before in
+    let c9 = c6 .before .before .before in
+    fresh-air _ _ _ _ _ _ _ (c9 .is-type .ensures) _ _ _ _ _ (c9 .before .if1 .left) (c6 .before .before .if2 .left)
+    (c6 .before .of-type .ensures) (c6 .fresh .ensures) (c3 .before .before .if3 .taken) (c3 .store .ensures)
+    (c .told-made .ensures)
 
 store-requires-2 : tie.Need-store-requires-2
 store-requires-2 c κs = search needs
@@ -42,10 +48,19 @@ same-length-2 : tie.Need-same-length-2
 same-length-2 c = search needs
 
 returns-4 : tie.Need-returns-4
-returns-4 c = fresh-ground _ _ _ _ _ _ _ (c .before .before .before .before .before .before .before .before .before .before .is-type .ensures) _ _ _ _ _ (c .before .before .before .before .before .before .before .before .before .before .before .if1 .left) (c .before .before .before .before .before .before .before .before .before .if2 .left) (c .before .before .before .before .before .before .before .before .of-type .ensures) (c .before .before .before .before .before .before .before .fresh .ensures) (c .before .before .before .before .before .before .if3 .left) (c .before .before .before .before .before .if4 .taken) (c .before .before .before .store2 .ensures) (c .told-made2 .ensures)
+returns-4 c =
+    let c3 = c .before .before .before in
+    let c6 = c3 .before .before .before in
+    let c9 = c6 .before .before .before in
+    fresh-ground _ _ _ _ _ _ _ (c9 .before .is-type .ensures) _ _ _ _ _ (c9 .before .before .if1 .left) (c9 .if2 .left)
+    (c6 .before .before .of-type .ensures) (c6 .before .fresh .ensures) (c6 .if3 .left)
+    (c3 .before .before .if4 .taken) (c3 .store2 .ensures) (c .told-made2 .ensures)
 
 returns-5 : tie.Need-returns-5
-returns-5 c = fresh-odd _ _ _ _ _ _ _ (c .before .before .before .before .before .is-type .ensures) (c .before .before .before .before .before .before .if1 .left) (c .before .before .before .before .if2 .left) (c .before .if3 .left) (c .if4 .left)
+returns-5 c =
+    let c4 = c .before .before .before .before in
+    fresh-odd _ _ _ _ _ _ _ (c4 .before .is-type .ensures) (c4 .before .before .if1 .left) (c4 .if2 .left)
+    (c .before .if3 .left) (c .if4 .left)
 
 pub peat-fresh-spec : {M : Type 1} → statement M
 peat-fresh-spec =

@@ -21,7 +21,10 @@ same-length-3 : tie.Need-same-length-3
 same-length-3 c = search needs
 
 returns : tie.Need-returns
-returns c = c .before .before .before .before .before .before .user-call .ensures ∙ rw (c .before .before .before .before .before .before .before .before .before .before .given-data .ensures)
+returns c =
+    let c6 = c .before .before .before .before .before .before in
+    let c10 = c6 .before .before .before .before in
+    c6 .user-call .ensures ∙ rw (c10 .given-data .ensures)
 
 pub numbered-call-spec : {M : Type 1} → statement M
 numbered-call-spec =

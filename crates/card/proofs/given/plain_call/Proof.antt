@@ -30,7 +30,9 @@ same-length-3 : tie.Need-same-length-3
 same-length-3 c = search needs
 
 returns : tie.Need-returns
-returns c = c .before .before .before .before .before .before .user-call .ensures ∙ rw (c .before .before .before .before .before .before .before .no-data .ensures)
+returns c =
+    let c6 = c .before .before .before .before .before .before in
+    c6 .user-call .ensures ∙ rw (c6 .before .no-data .ensures)
 
 pub plain-call-spec : {M : Type 1} → statement M
 plain-call-spec =

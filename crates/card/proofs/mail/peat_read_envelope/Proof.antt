@@ -22,7 +22,9 @@ same-length c = search needs
 
 returns-2 : tie.Need-returns-2
 unfolding readEnvelope
-returns-2 c = c .before .before .told .ensures ∙ rw (c .before .before .before .before .read-envelope .ensures, eq-eqb _ _ (c .before .before .before .before .before .if1 .left))
+returns-2 c =
+    let c4 = c .before .before .before .before in
+    c .before .before .told .ensures ∙ rw (c4 .read-envelope .ensures, eq-eqb _ _ (c4 .before .if1 .left))
 
 pub peat-read-envelope-spec : {M : Type 1} → statement M
 peat-read-envelope-spec =

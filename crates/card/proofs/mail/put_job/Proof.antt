@@ -13,7 +13,9 @@ same-length : tie.Need-same-length
 same-length c = search needs
 
 returns : tie.Need-returns
-returns c = c .before .before .put-eight .ensures ∙ job-whole (c .before .before .before .before .before .args .job .now) (c .before .before .before .before .before .args .number) (c .before .before .before .before .before .pre)
+returns c =
+    let c5 = c .before .before .before .before .before in
+    c .before .before .put-eight .ensures ∙ job-whole (c5 .args .job .now) (c5 .args .number) (c5 .pre)
 
 pub put-job-spec : {M : Type 1} → statement M
 put-job-spec = tie.close (tie.spec put-eight-requires same-length returns)

@@ -25,7 +25,10 @@ same-length c = search needs
 
 returns : tie.Need-returns
 unfolding readBy
-returns c = rw (c .before .before .before .before .before .before .r .given .1, c .packed .ensures, c .before .before .before .put-job .ensures)
+returns c =
+    let c3 = c .before .before .before in
+    let c6 = c3 .before .before .before in
+    rw (c6 .r .given .1, c .packed .ensures, c3 .put-job .ensures)
 
 returns-2 : tie.Need-returns-2
 unfolding readBy

@@ -36,7 +36,16 @@ start-given-requires : tie.Need-start-given-requires
 start-given-requires c κs = search needs
 
 apdu-said-requires-3 : tie.Need-apdu-said-requires-3
-apdu-said-requires-3 c κs = (omega arith, omega (arith, c .start-given .ensures, given-low (c .before .before .before .before .args .edition) (c .before .before .a3 .given .0 .1 .0 .message)))
+apdu-said-requires-3 c κs =
+    let c4 = c .before .before .before .before in (
+      omega arith,
+      omega (
+        arith,
+        c .start-given .ensures,
+        given-low (c4 .args .edition)
+            (c .before .before .a3 .given .0 .1 .0 .message),
+      ),
+    )
 
 enum-told : tie.Need-enum-told
 enum-told c = search needs

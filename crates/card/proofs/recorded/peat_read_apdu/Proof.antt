@@ -25,18 +25,36 @@ apdu-in-requires-3 c κs = search needs
 
 returns-3 : tie.Need-returns-3
 unfolding apduCall
-returns-3 c = rw (ne-eqb _ _ (c .before .before .before .if1 .left), ne-eqb _ _ (c .before .before .if2 .left), eq-eqb _ _ (c .before .if3 .taken)) (c .apdu-in3 .ensures)
+returns-3 c =
+    let c3 = c .before .before .before in
+    rw (ne-eqb _ _ (c3 .if1 .left), ne-eqb _ _ (c .before .before .if2 .left), eq-eqb _ _ (c .before .if3 .taken))
+    (c .apdu-in3 .ensures)
 
 apdu-in-requires-4 : tie.Need-apdu-in-requires-4
 apdu-in-requires-4 c κs = search needs
 
 returns-4 : tie.Need-returns-4
 unfolding apduCall
-returns-4 c = rw (ne-eqb _ _ (c .before .before .before .before .if1 .left), ne-eqb _ _ (c .before .before .before .if2 .left), ne-eqb _ _ (c .before .before .if3 .left), eq-eqb _ _ (c .before .if4 .taken)) (c .apdu-in4 .ensures)
+returns-4 c =
+    let c3 = c .before .before .before in
+    rw (
+      ne-eqb _ _ (c3 .before .if1 .left),
+      ne-eqb _ _ (c3 .if2 .left),
+      ne-eqb _ _ (c .before .before .if3 .left),
+      eq-eqb _ _ (c .before .if4 .taken),
+    ) (c .apdu-in4 .ensures)
 
 returns-5 : tie.Need-returns-5
 unfolding apduCall
-returns-5 c = rw (ne-eqb _ _ (c .before .before .before .if1 .left), ne-eqb _ _ (c .before .before .if2 .left), ne-eqb _ _ (c .before .if3 .left), ne-eqb _ _ (c .if4 .left))
+returns-5 c =
+    let c3 = c .before .before .before in
+    rw (
+      ne-eqb _ _ (c3 .if1 .left),
+      ne-eqb _ _ (c .before .before .if2 .left),
+      ne-eqb _ _ (c .before .if3 .left),
+      ne-eqb
+          _ _ (c .if4 .left),
+    )
 
 pub peat-read-apdu-spec : {M : Type 1} → statement M
 peat-read-apdu-spec =

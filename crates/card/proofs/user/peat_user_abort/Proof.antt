@@ -21,7 +21,10 @@ same-length-3 : tie.Need-same-length-3
 same-length-3 c = search needs
 
 returns : tie.Need-returns
-returns c = c .before .before .before .before .before .before .plain-call .ensures ∙ rw (c .before .before .before .before .before .before .before .before .before .abort-requested .ensures)
+returns c =
+    let c6 = c .before .before .before .before .before .before in
+    let c9 = c6 .before .before .before in
+    c6 .plain-call .ensures ∙ rw (c9 .abort-requested .ensures)
 
 pub peat-user-abort-spec : {M : Type 1} → statement M
 peat-user-abort-spec =

@@ -31,7 +31,9 @@ lead-refusal-requires c κs = search needs
 -- src/reading.rt:85:9
 returns : tie.Need-returns
 unfolding apduAt
-returns c = lead-handed _ _ _ _ _ (c .before .before .before .leading-at .ensures) (c .before .enum-told .given .1) (c .lead-refusal .ensures)
+returns c =
+    let c3 = c .before .before .before in
+    lead-handed _ _ _ _ _ (c3 .leading-at .ensures) (c .before .enum-told .given .1) (c .lead-refusal .ensures)
 
 -- src/reading.rt:88:27
 enum-told-2 : tie.Need-enum-told-2
@@ -52,12 +54,18 @@ rest-at-requires-2 c κs = search needs
 -- src/reading.rt:80:1
 returns-2 : tie.Need-returns-2
 unfolding apduAt
-returns-2 c = rw (c .before .enum-told2 .given .1) (lead-went _ _ _ _ _ _ _ (c .before .before .before .before .before .before .leading-at .ensures) (c .before .before .before .before .leading .given .1) (c .rest-at .ensures))
+returns-2 c =
+    let c4 = c .before .before .before .before in
+    rw (c .before .enum-told2 .given .1) (lead-went _ _ _ _ _ _ _ (c4 .before .before .leading-at .ensures)
+    (c4 .leading .given .1) (c .rest-at .ensures))
 
 -- src/reading.rt:80:1
 returns-3 : tie.Need-returns-3
 unfolding apduAt
-returns-3 c = rw (c .before .enum-told3 .given .1) (lead-went _ _ _ _ _ _ _ (c .before .before .before .before .before .before .leading-at .ensures) (c .before .before .before .before .leading .given .1) (c .rest-at2 .ensures ∙ sym (rest-same _ _ _ _ _)))
+returns-3 c =
+    let c4 = c .before .before .before .before in
+    rw (c .before .enum-told3 .given .1) (lead-went _ _ _ _ _ _ _ (c4 .before .before .leading-at .ensures)
+    (c4 .leading .given .1) (c .rest-at2 .ensures ∙ sym (rest-same _ _ _ _ _)))
 
 pub read-apdu-spec : {M : Type 1} → statement M
 read-apdu-spec =

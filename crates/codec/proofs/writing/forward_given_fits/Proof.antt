@@ -12,7 +12,10 @@ forward-fits-requires : tie.Need-forward-fits-requires
 forward-fits-requires c κs = search needs
 
 returns : tie.Need-returns
-returns c = not-given (c .before .before .before .args .edition) (lent (c .before .before .before .args .msgs .now)) (c .before .before .before .args .f) (sym (c .before .forward-fits .ensures) ∙ not-true _ (c .if1 .taken))
+returns c =
+    let c3 = c .before .before .before in
+    not-given (c3 .args .edition) (lent (c3 .args .msgs .now)) (c3 .args .f)
+    (sym (c .before .forward-fits .ensures) ∙ not-true _ (c .if1 .taken))
 
 enum-told : tie.Need-enum-told
 enum-told c = search needs
@@ -27,7 +30,9 @@ enum-told-2 : tie.Need-enum-told-2
 enum-told-2 c = search needs
 
 returns-3 : tie.Need-returns-3
-returns-3 c = rw (c .enum-told2 .given .1) (sym (sym (c .before .before .before .forward-fits .ensures) ∙ not-false _ (c .before .before .if1 .left)))
+returns-3 c =
+    let c3 = c .before .before .before in
+    rw (c .enum-told2 .given .1) (sym (sym (c3 .forward-fits .ensures) ∙ not-false _ (c .before .before .if1 .left)))
 
 pub forward-given-fits-spec : {M : Type 1} → statement M
 forward-given-fits-spec =

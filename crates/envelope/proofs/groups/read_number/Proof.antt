@@ -25,7 +25,11 @@ sub-if3 : tie.Need-sub-if3
 sub-if3 c = search needs
 
 returns-3 : tie.Need-returns-3
-returns-3 c = one-cut _ _ _ (c .before .before .before .before .if1 .left) (c .before .before .wide .ensures) (c .before .if2 .left) (omega (arith, c .before .before .before .shared-slice-known2 .given (c .before .before .before .before .before .before .args .at), c .before .before .wide .ensures)) (omega arith)
+returns-3 c =
+    let c3 = c .before .before .before in
+    let c6 = c3 .before .before .before in
+    one-cut _ _ _ (c3 .before .if1 .left) (c .before .before .wide .ensures) (c .before .if2 .left)
+    (omega (arith, c3 .shared-slice-known2 .given (c6 .args .at), c .before .before .wide .ensures)) (omega arith)
 
 add-wide : tie.Need-add-wide
 add-wide c = search needs
@@ -37,19 +41,38 @@ wide-requires-2 : tie.Need-wide-requires-2
 wide-requires-2 c κs = search needs
 
 returns-4 : tie.Need-returns-4
-returns-4 c = one-longer _ _ _ (c .before .before .before .before .before .before .before .if1 .left) (c .before .before .before .before .before .wide .ensures) (c .before .before .before .before .if2 .left) (omega (arith, c .before .before .before .before .before .before .shared-slice-known2 .given (c .before .before .before .before .before .before .before .before .before .args .at), c .before .before .before .before .before .wide .ensures)) _ (omega arith) (c .before .wide2 .ensures) (omega arith)
+returns-4 c =
+    let c4 = c .before .before .before .before in
+    let c7 = c4 .before .before .before in
+    one-longer _ _ _ (c7 .if1 .left) (c4 .before .wide .ensures) (c4 .if2 .left) (omega (
+      arith,
+      c4 .before .before .shared-slice-known2 .given (c7 .before .before .args .at),
+      c4 .before .wide .ensures,
+    ))
+    _ (omega arith) (c .before .wide2 .ensures) (omega arith)
 
 mul-t16 : tie.Need-mul-t16
 mul-t16 c = search needs
 
 add-t17 : tie.Need-add-t17
-add-t17 c = omega (arith, c .before .before .before .before .before .before .before .shared-slice-known2 .given (c .before .before .before .before .before .before .before .before .before .before .args .at), c .before .before .before .before .before .before .wide .ensures)
+add-t17 c =
+    let c6 = c .before .before .before .before .before .before in
+    let c10 = c6 .before .before .before .before in
+    omega (arith, c6 .before .shared-slice-known2 .given (c10 .args .at), c6 .wide .ensures)
 
 add-t18 : tie.Need-add-t18
 add-t18 c = search needs
 
 returns-5 : tie.Need-returns-5
-returns-5 c = two-bytes _ _ _ (c .before .before .before .before .before .before .before .before .if1 .left) (c .before .before .before .before .before .before .wide .ensures) (c .before .before .before .before .before .if2 .left) (omega (arith, c .before .before .before .before .before .before .before .shared-slice-known2 .given (c .before .before .before .before .before .before .before .before .before .before .args .at), c .before .before .before .before .before .before .wide .ensures)) _ (omega arith) (c .before .before .wide2 .ensures) (omega arith) (c .if5 .taken)
+returns-5 c =
+    let c5 = c .before .before .before .before .before in
+    let c8 = c5 .before .before .before in
+    two-bytes _ _ _ (c8 .if1 .left) (c5 .before .wide .ensures) (c5 .if2 .left) (omega (
+      arith,
+      c5 .before .before .shared-slice-known2 .given (c8 .before .before .args .at),
+      c5 .before .wide .ensures,
+    ))
+    _ (omega arith) (c .before .before .wide2 .ensures) (omega arith) (c .if5 .taken)
 
 gathered-requires : tie.Need-gathered-requires
 gathered-requires c κs = search needs

@@ -32,7 +32,9 @@ loop-less : tie.Need-loop-less Inv-loop μ-loop
 loop-less c = search needs
 
 loop-again : tie.Need-loop-again Inv-loop μ-loop
-loop-again c = copying-more _ _ _ _ _ _ (c .before .before .before .pre .1) (c .before .before .loop .inv) (c .before .loop-test .taken)
+loop-again c =
+    let c3 = c .before .before .before in
+    copying-more _ _ _ _ _ _ (c3 .pre .1) (c .before .before .loop .inv) (c .before .loop-test .taken)
 
 add-result : tie.Need-add-result Inv-loop μ-loop
 add-result c = search needs

@@ -34,7 +34,10 @@ rem-result : tie.Need-rem-result
 rem-result c = weight-pos _
 
 returns-2 : tie.Need-returns-2
-returns-2 c = padded-last (c .before .before .before .before .before .args .s .now) (c .before .before .before .before .before .args .at) _ _ _ (c .before .before .before .bytes-for .ensures) (c .before .before .if1 .left) (c .wide .ensures)
+returns-2 c =
+    let c3 = c .before .before .before in
+    padded-last (c3 .before .before .args .s .now) (c3 .before .before .args .at) _ _ _ (c3 .bytes-for .ensures)
+    (c .before .before .if1 .left) (c .wide .ensures)
 
 pub padded-spec : {M : Type 1} → statement M
 padded-spec =

@@ -24,7 +24,9 @@ contents-requires c κs = search needs
 
 returns-2 : tie.Need-returns-2
 unfolding additionAt
-returns-2 c = went _ _ _ _ _ _ (c .before .before .before .before .length .ensures) (c .before .before .octets .given .1) (c .contents .ensures)
+returns-2 c =
+    let c4 = c .before .before .before .before in
+    went _ _ _ _ _ _ (c4 .length .ensures) (c .before .before .octets .given .1) (c .contents .ensures)
 
 pub addition-spec : {M : Type 1} → statement M
 addition-spec =

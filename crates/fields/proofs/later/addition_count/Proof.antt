@@ -34,14 +34,23 @@ enum-told-3 c = search needs
 
 returns-2 : tie.Need-returns-2
 unfolding additionCount
-returns-2 c = went _ _ _ _ _ _ (c .before .before .before .before .before .extension-bit .ensures) (c .before .before .before .enum-told .given .1) (handed _ _ _ _ (c .before .before .bit-field .ensures) (c .enum-told3 .given .1))
+returns-2 c =
+    let c3 = c .before .before .before in
+    went _ _ _ _ _ _ (c3 .before .before .extension-bit .ensures) (c3 .enum-told .given .1)
+    (handed _ _ _ _ (c .before .before .bit-field .ensures) (c .enum-told3 .given .1))
 
 add-t8 : tie.Need-add-t8
-add-t8 c = omega (arith, count-small _ _ _ _ _ (bits-to _ _) (c .before .before .before .bit-field .ensures) (c .before .count .given .1))
+add-t8 c =
+    let c3 = c .before .before .before in
+    omega (arith, count-small _ _ _ _ _ (bits-to _ _) (c3 .bit-field .ensures) (c .before .count .given .1))
 
 returns-3 : tie.Need-returns-3
 unfolding additionCount
-returns-3 c = went _ _ _ _ _ _ (c .before .before .before .before .before .before .extension-bit .ensures) (c .before .before .before .before .enum-told .given .1) (went _ _ _ _ _ _ (c .before .before .before .bit-field .ensures) (c .before .count .given .1) refl)
+returns-3 c =
+    let c3 = c .before .before .before in
+    let c6 = c3 .before .before .before in
+    went _ _ _ _ _ _ (c6 .extension-bit .ensures) (c3 .before .enum-told .given .1)
+    (went _ _ _ _ _ _ (c3 .bit-field .ensures) (c .before .count .given .1) refl)
 
 pub addition-count-spec : {M : Type 1} → statement M
 addition-count-spec =

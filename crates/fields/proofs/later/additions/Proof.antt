@@ -32,7 +32,10 @@ enum-told-2 c = search needs
 
 returns-2 : tie.Need-returns-2
 unfolding additionsAt
-returns-2 c = went _ _ _ _ _ _ (c .before .before .before .before .before .before .addition-count .ensures) (c .before .before .before .before .count .given .1) (handed _ _ _ _ (c .before .before .additions-there .ensures) (c .enum-told2 .given .1))
+returns-2 c =
+    let c4 = c .before .before .before .before in
+    went _ _ _ _ _ _ (c4 .before .before .addition-count .ensures) (c4 .count .given .1)
+    (handed _ _ _ _ (c .before .before .additions-there .ensures) (c .enum-told2 .given .1))
 
 cast-step-over : tie.Need-cast-step-over
 cast-step-over c = omega (arith, ones-le 64 (c .before .presence .given .0 .0) (omega arith))
@@ -42,7 +45,11 @@ step-over-requires c κs = search needs
 
 returns-3 : tie.Need-returns-3
 unfolding additionsAt
-returns-3 c = went _ _ _ _ _ _ (c .before .before .before .before .before .before .before .before .addition-count .ensures) (c .before .before .before .before .before .before .count .given .1) (went _ _ _ _ _ _ (c .before .before .before .before .additions-there .ensures) (c .before .before .presence .given .1) (c .step-over .ensures))
+returns-3 c =
+    let c4 = c .before .before .before .before in
+    let c8 = c4 .before .before .before .before in
+    went _ _ _ _ _ _ (c8 .addition-count .ensures) (c4 .before .before .count .given .1) (went _ _ _ _ _ _
+    (c4 .additions-there .ensures) (c .before .before .presence .given .1) (c .step-over .ensures))
 
 pub additions-spec : {M : Type 1} → statement M
 additions-spec =

@@ -21,10 +21,15 @@ refused-at-requires : tie.Need-refused-at-requires
 refused-at-requires c κs = search needs
 
 returns-2 : tie.Need-returns-2
-returns-2 c = there-none _ _ _ _ (c .before .before .before .before .before .bit-field .ensures) _ _ _ (c .before .before .before .presence .given .1) (c .before .if1 .taken) (c .refused-at .ensures)
+returns-2 c =
+    let c3 = c .before .before .before in
+    there-none _ _ _ _ (c3 .before .before .bit-field .ensures) _ _ _ (c3 .presence .given .1) (c .before .if1 .taken)
+    (c .refused-at .ensures)
 
 returns-3 : tie.Need-returns-3
-returns-3 c = there-some _ _ _ _ (c .before .before .before .before .bit-field .ensures) _ _ (c .before .before .presence .given .1) (c .if1 .left)
+returns-3 c =
+    let c4 = c .before .before .before .before in
+    there-some _ _ _ _ (c4 .bit-field .ensures) _ _ (c .before .before .presence .given .1) (c .if1 .left)
 
 pub additions-there-spec : {M : Type 1} → statement M
 additions-there-spec =

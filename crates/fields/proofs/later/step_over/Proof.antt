@@ -28,7 +28,10 @@ enum-told : tie.Need-enum-told Inv-loop μ-loop
 enum-told c = c .match .keys2
 
 returns : tie.Need-returns Inv-loop μ-loop
-returns c = stepped-handed _ _ _ _ (c .before .before .before .before .loop .inv) _ (c .before .before .addition .ensures) (c .before .before .before .loop-test .taken) _ (c .enum-told .given .1)
+returns c =
+    let c3 = c .before .before .before in
+    stepped-handed _ _ _ _ (c3 .before .loop .inv) _ (c .before .before .addition .ensures) (c3 .loop-test .taken) _
+    (c .enum-told .given .1)
 
 sub-left : tie.Need-sub-left Inv-loop μ-loop
 sub-left c = omega arith
@@ -37,7 +40,10 @@ loop-less : tie.Need-loop-less Inv-loop μ-loop
 loop-less c = omega arith
 
 loop-again : tie.Need-loop-again Inv-loop μ-loop
-loop-again c = stepped-on _ _ _ _ (c .before .before .before .before .before .loop .inv) _ (c .before .before .before .addition .ensures) (c .before .before .before .before .loop-test .taken) _ _ (c .before .one .given .1)
+loop-again c =
+    let c3 = c .before .before .before in
+    stepped-on _ _ _ _ (c3 .before .before .loop .inv) _ (c3 .addition .ensures) (c3 .before .loop-test .taken) _ _
+    (c .before .one .given .1)
 
 returns-2 : tie.Need-returns-2 Inv-loop μ-loop
 returns-2 c = stepped-done _ _ _ _ (c .before .loop .inv) (c .loop-test .left)

@@ -18,7 +18,9 @@ refused-at-requires : tie.Need-refused-at-requires
 refused-at-requires c κs = search needs
 
 returns : tie.Need-returns
-returns c = field-short _ _ _ _ _ (c .before .before .before .read-bits .ensures) (c .before .enum-told .given .1) (c .refused-at .ensures)
+returns c =
+    let c3 = c .before .before .before in
+    field-short _ _ _ _ _ (c3 .read-bits .ensures) (c .before .enum-told .given .1) (c .refused-at .ensures)
 
 returns-2 : tie.Need-returns-2
 returns-2 c = field-value _ _ _ _ _ _ (c .before .before .before .read-bits .ensures) (c .before .v .given .1)

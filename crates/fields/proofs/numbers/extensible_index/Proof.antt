@@ -29,7 +29,10 @@ returns : tie.Need-returns
 returns c = search needs
 
 returns-2 : tie.Need-returns-2
-returns-2 c = index-read _ _ _ _ _ _ _ (omega arith) (c .before .before .before .before .before .width .ensures) (c .before .before .before .before .read-bits .ensures) (c .before .before .both .given .1) (c .if1 .taken)
+returns-2 c =
+    let c4 = c .before .before .before .before in
+    index-read _ _ _ _ _ _ _ (omega arith) (c4 .before .width .ensures) (c4 .read-bits .ensures)
+    (c .before .before .both .given .1) (c .if1 .taken)
 
 index-by-fields-requires-2 : tie.Need-index-by-fields-requires-2
 index-by-fields-requires-2 c κs = search needs

@@ -24,7 +24,9 @@ whole-requires c κs = search needs
 
 returns-2 : tie.Need-returns-2
 unfolding extensibleIndex
-returns-2 c = went _ _ _ _ _ _ (c .before .before .before .before .extension-bit .ensures) (c .before .before .bit .given .1) (c .whole .ensures)
+returns-2 c =
+    let c4 = c .before .before .before .before in
+    went _ _ _ _ _ _ (c4 .extension-bit .ensures) (c .before .before .bit .given .1) (c .whole .ensures)
 
 pub index-by-fields-spec : {M : Type 1} → statement M
 index-by-fields-spec =

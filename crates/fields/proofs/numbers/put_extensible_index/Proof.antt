@@ -23,7 +23,10 @@ same-length : tie.Need-same-length
 same-length c = search needs
 
 returns-2 : tie.Need-returns-2
-returns-2 c = index-put-once _ _ _ _ _ _ _ (omega arith) (c .before .before .before .before .before .before .width .ensures) (c .before .before .before .before .before .if1 .taken) (c .before .before .before .before .if2 .left) (c .before .before .put-bits .ensures)
+returns-2 c =
+    let c4 = c .before .before .before .before in
+    index-put-once _ _ _ _ _ _ _ (omega arith) (c4 .before .before .width .ensures) (c4 .before .if1 .taken)
+    (c4 .if2 .left) (c .before .before .put-bits .ensures)
 
 put-index-by-fields-requires : tie.Need-put-index-by-fields-requires
 put-index-by-fields-requires c κs = search needs

@@ -37,10 +37,18 @@ same-length : tie.Need-same-length
 same-length c = search needs
 
 returns-2 : tie.Need-returns-2
-returns-2 c = index-put _ _ _ _ _ _ _ _ _ (c .before .before .before .before .before .before .before .before .before .before .before .if1 .left) (c .before .before .before .before .before .before .before .before .before .before .width .ensures) (inside (c .before .before .before .before .before .before .before .before)) (c .before .before .before .before .before .before .put-extension-bit .ensures) (c .before .before .put-whole .ensures)
+returns-2 c =
+    let c6 = c .before .before .before .before .before .before in
+    let c10 = c6 .before .before .before .before in
+    index-put _ _ _ _ _ _ _ _ _ (c10 .before .if1 .left) (c10 .width .ensures) (inside (c6 .before .before))
+    (c6 .put-extension-bit .ensures) (c .before .before .put-whole .ensures)
 
 returns-3 : tie.Need-returns-3
-returns-3 c = no-room _ _ _ _ _ (in-range 0 _ _ (omega arith) (c .before .before .before .if1 .left)) (rw (length-index, ← c .before .before .width .ensures) (not-within _ _ _ _ _ (c .before .within .ensures) (c .if2 .left)))
+returns-3 c =
+    let c3 = c .before .before .before in
+    no-room _ _ _ _ _ (in-range 0 _ _ (omega arith) (c3 .if1 .left)) (rw
+    (length-index, ← c .before .before .width .ensures)
+    (not-within _ _ _ _ _ (c .before .within .ensures) (c .if2 .left)))
 
 pub put-index-by-fields-spec : {M : Type 1} → statement M
 put-index-by-fields-spec =

@@ -25,7 +25,11 @@ same-length : tie.Need-same-length
 same-length c = search needs
 
 returns-3 : tie.Need-returns-3
-returns-3 c = whole-put _ _ _ _ _ _ _ _ _ (omega arith) (c .before .before .before .before .before .before .before .if1 .left) (c .before .before .before .before .before .before .if2 .left) (c .before .before .before .width .ensures) (c .before .before .before .before .above .ensures) (c .before .before .put-bits .ensures)
+returns-3 c =
+    let c3 = c .before .before .before in
+    let c6 = c3 .before .before .before in
+    whole-put _ _ _ _ _ _ _ _ _ (omega arith) (c6 .before .if1 .left) (c6 .if2 .left) (c3 .width .ensures)
+    (c3 .before .above .ensures) (c .before .before .put-bits .ensures)
 
 pub put-whole-spec : {M : Type 1} → statement M
 put-whole-spec =

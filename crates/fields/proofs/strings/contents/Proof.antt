@@ -24,7 +24,9 @@ returns-2 : tie.Need-returns-2
 returns-2 c = run-short _ _ _ _ _ (past-end _ _ _ _ _ (omega arith) (c .before .if2 .taken)) (c .refused-at .ensures)
 
 mul-within-end : tie.Need-mul-within-end
-mul-within-end c = omega (arith, product-fits (c .before .before .before .args .end) (c .before .before .before .args .unit) (c .before .before .before .args .n) (omega arith) (c .if2 .left))
+mul-within-end c =
+    let c3 = c .before .before .before in
+    omega (arith, product-fits (c3 .args .end) (c3 .args .unit) (c3 .args .n) (omega arith) (c .if2 .left))
 
 within-end-requires-2 : tie.Need-within-end-requires-2
 within-end-requires-2 c κs = search needs

@@ -39,7 +39,11 @@ same-length c = search needs
 
 -- src/strings.rt:83:9
 returns : tie.Need-returns
-returns c = led-put _ _ _ _ _ _ _ _ _ _ (c .before .before .before .before .before .before .before .pre .0) (c .before .before .before .before .before .before .before .pre .1) 8 (c .before .before .before .before .before .before .before .args .n) (c .before .before .before .before .before .before .before .args .n) (omega arith) (omega arith) (length-short _ (c .before .before .before .before .if1 .taken)) (c .before .before .put-led .ensures)
+returns c =
+    let c4 = c .before .before .before .before in
+    let c7 = c4 .before .before .before in
+    led-put _ _ _ _ _ _ _ _ _ _ (c7 .pre .0) (c7 .pre .1) 8 (c7 .args .n) (c7 .args .n) (omega arith) (omega arith)
+    (length-short _ (c4 .if1 .taken)) (c .before .before .put-led .ensures)
 
 -- src/strings.rt:85:13
 mul-v-2 : tie.Need-mul-v-2
@@ -67,7 +71,11 @@ same-length-2 c = search needs
 
 -- src/strings.rt:66:1
 returns-2 : tie.Need-returns-2
-returns-2 c = led-put _ _ _ _ _ _ _ _ _ _ (c .before .before .before .before .before .before .before .pre .0) (c .before .before .before .before .before .before .before .pre .1) 16 (32768 + c .before .before .before .before .before .before .before .args .n) (c .before .before .before .before .before .before .before .args .n) (omega arith) (omega arith) (length-long _ (c .before .before .before .before .if1 .left)) (c .before .before .put-led2 .ensures)
+returns-2 c =
+    let c4 = c .before .before .before .before in
+    let c7 = c4 .before .before .before in
+    led-put _ _ _ _ _ _ _ _ _ _ (c7 .pre .0) (c7 .pre .1) 16 (32768 + c7 .args .n) (c7 .args .n) (omega arith)
+    (omega arith) (length-long _ (c4 .if1 .left)) (c .before .before .put-led2 .ensures)
 
 pub put-counted-spec : {M : Type 1} → statement M
 put-counted-spec =

@@ -17,7 +17,10 @@ small c = omega (arith, shl-one (c .before .before .before .before .args .lead) 
 
 -- src/strings.rt:106:9
 returns : tie.Need-returns
-returns c = refused (c .before .before .before .args .buf .now) (c .before .before .before .args .end) (c .before .before .before .args .at) _ _ (wide-lead (c .before .before .before .args .lead) (c .before .before .before .args .led) (c .before .before .before .args .unit) _ (c .if1 .taken))
+returns c =
+    let c3 = c .before .before .before in
+    refused (c3 .args .buf .now) (c3 .args .end) (c3 .args .at) _ _
+    (wide-lead (c3 .args .lead) (c3 .args .led) (c3 .args .unit) _ (c .if1 .taken))
 
 -- src/strings.rt:108:9
 shl-if2 : tie.Need-shl-if2
@@ -25,23 +28,38 @@ shl-if2 c = search needs
 
 -- src/strings.rt:109:9
 returns-2 : tie.Need-returns-2
-returns-2 c = refused (c .before .before .before .before .args .buf .now) (c .before .before .before .before .args .end) (c .before .before .before .before .args .at) _ _ (large-lead (c .before .before .before .before .args .lead) (c .before .before .before .before .args .led) (c .before .before .before .before .args .unit) _ _ (c .before .if1 .left) (shl-one (c .before .before .before .before .args .lead) (omega arith)) (c .if2 .taken))
+returns-2 c =
+    let c4 = c .before .before .before .before in
+    refused (c4 .args .buf .now) (c4 .args .end) (c4 .args .at) _ _ (large-lead (c4 .args .lead) (c4 .args .led)
+    (c4 .args .unit) _ _ (c .before .if1 .left) (shl-one (c4 .args .lead) (omega arith)) (c .if2 .taken))
 
 -- src/strings.rt:112:9
 returns-3 : tie.Need-returns-3
-returns-3 c = refused (c .before .before .before .before .before .args .buf .now) (c .before .before .before .before .before .args .end) (c .before .before .before .before .before .args .at) _ _ (large-items (c .before .before .before .before .before .args .lead) (c .before .before .before .before .before .args .led) (c .before .before .before .before .before .args .unit) _ (c .before .before .if1 .left) (small (c .before)) (c .if3 .taken))
+returns-3 c =
+    let c5 = c .before .before .before .before .before in
+    refused (c5 .args .buf .now) (c5 .args .end) (c5 .args .at) _ _ (large-items (c5 .args .lead) (c5 .args .led)
+    (c5 .args .unit) _ (c .before .before .if1 .left) (small (c .before)) (c .if3 .taken))
 
 -- src/strings.rt:115:9
 returns-4 : tie.Need-returns-4
-returns-4 c = refused (c .before .before .before .before .before .before .args .buf .now) (c .before .before .before .before .before .before .args .end) (c .before .before .before .before .before .before .args .at) _ _ (led-too-long (c .before .before .before .before .before .before .args .lead) (c .before .before .before .before .before .before .args .led) (c .before .before .before .before .before .before .args .unit) (c .before .before .before .before .before .before .args .n) _ (c .before .before .before .if1 .left) (small (c .before .before)) (c .before .if3 .left) (c .if4 .taken))
+returns-4 c =
+    let c3 = c .before .before .before in
+    let c6 = c3 .before .before .before in
+    refused (c6 .args .buf .now) (c6 .args .end) (c6 .args .at) _ _ (led-too-long (c6 .args .lead) (c6 .args .led)
+    (c6 .args .unit) (c6 .args .n) _ (c3 .if1 .left) (small (c .before .before)) (c .before .if3 .left)
+    (c .if4 .taken))
 
 -- src/strings.rt:117:62
 mul-put-counted : tie.Need-mul-put-counted
-mul-put-counted c = omega (arith, mul-le-mul-right (c .before .before .before .before .before .before .before .args .n) (c .before .before .if3 .left))
+mul-put-counted c =
+    let c7 = c .before .before .before .before .before .before .before in
+    omega (arith, mul-le-mul-right (c7 .args .n) (c .before .before .if3 .left))
 
 -- src/strings.rt:117:5
 put-counted-requires : tie.Need-put-counted-requires
-put-counted-requires c κs = (c .before .before .before .before .if1 .left, small (c .before .before .before), c .before .if4 .left)
+put-counted-requires c κs =
+    let c3 = c .before .before .before in
+    (c3 .before .if1 .left, small (c3), c .before .if4 .left)
 
 -- src/strings.rt:91:1
 same-length : tie.Need-same-length
@@ -49,7 +67,11 @@ same-length c = search needs
 
 -- src/strings.rt:91:1
 returns-5 : tie.Need-returns-5
-returns-5 c = led-string-put _ _ _ _ _ _ _ _ _ _ _ (c .before .before .before .before .before .before .before .if1 .left) (small (c .before .before .before .before .before .before)) (c .before .before .before .before .before .if3 .left) (c .before .before .before .before .if4 .left) (c .before .before .put-counted .ensures)
+returns-5 c =
+    let c4 = c .before .before .before .before in
+    let c7 = c4 .before .before .before in
+    led-string-put _ _ _ _ _ _ _ _ _ _ _ (c7 .if1 .left) (small (c4 .before .before)) (c4 .before .if3 .left)
+    (c4 .if4 .left) (c .before .before .put-counted .ensures)
 
 pub put-led-string-spec : {M : Type 1} → statement M
 put-led-string-spec =

@@ -30,11 +30,19 @@ enum-told c = search needs
 
 -- src/strings.rt:137:9
 returns-2 : tie.Need-returns-2
-returns-2 c = not-there _ _ _ _ _ _ _ _ (c .before .before .before .if1 .left) _ (c .before .before .contents .ensures) _ (c .enum-told .given .1)
+returns-2 c =
+    let c3 = c .before .before .before in
+    not-there _ _ _ _ _ _ _ _ (c3 .if1 .left) _ (c .before .before .contents .ensures) _ (c .enum-told .given .1)
 
 -- src/strings.rt:139:57
 sub-put-counted : tie.Need-sub-put-counted
-sub-put-counted c = omega (arith, there [] _ 0 0 _ _ _ _ (c .before .before .before .before .before .if1 .left) _ (c .before .before .before .before .contents .ensures) _ _ (c .before .before .after .given .1))
+sub-put-counted c =
+    let c4 = c .before .before .before .before in
+    omega (
+      arith,
+      there [] _ 0 0 _ _ _ _ (c4 .before .if1 .left) _ (c4 .contents .ensures) _ _
+          (c .before .before .after .given .1),
+    )
 
 -- src/strings.rt:139:5
 put-counted-requires : tie.Need-put-counted-requires
@@ -46,7 +54,11 @@ same-length c = search needs
 
 -- src/strings.rt:121:1
 returns-3 : tie.Need-returns-3
-returns-3 c = string-put _ _ _ _ _ _ _ _ (c .before .before .before .before .before .before .before .before .if1 .left) _ (c .before .before .before .before .before .before .before .contents .ensures) _ _ (c .before .before .before .before .before .after .given .1) _ _ refl (c .before .before .put-counted .ensures)
+returns-3 c =
+    let c5 = c .before .before .before .before .before in
+    let c8 = c5 .before .before .before in
+    string-put _ _ _ _ _ _ _ _ (c8 .if1 .left) _ (c5 .before .before .contents .ensures) _ _ (c5 .after .given .1) _ _
+    refl (c .before .before .put-counted .ensures)
 
 pub put-string-spec : {M : Type 1} → statement M
 put-string-spec =

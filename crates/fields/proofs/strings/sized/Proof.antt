@@ -24,7 +24,9 @@ contents-requires c κs = search needs
 
 returns-2 : tie.Need-returns-2
 unfolding sizedAt
-returns-2 c = went _ _ _ _ _ _ (c .before .before .before .before .whole .ensures) (c .before .before .size .given .1) (c .contents .ensures)
+returns-2 c =
+    let c4 = c .before .before .before .before in
+    went _ _ _ _ _ _ (c4 .whole .ensures) (c .before .before .size .given .1) (c .contents .ensures)
 
 pub sized-spec : {M : Type 1} → statement M
 sized-spec =

@@ -24,7 +24,9 @@ contents-requires c κs = search needs
 
 returns-2 : tie.Need-returns-2
 unfolding stringAt
-returns-2 c = went _ _ _ _ _ _ (c .before .before .before .before .length-within .ensures) (c .before .before .count .given .1) (c .contents .ensures)
+returns-2 c =
+    let c4 = c .before .before .before .before in
+    went _ _ _ _ _ _ (c4 .length-within .ensures) (c .before .before .count .given .1) (c .contents .ensures)
 
 pub string-spec : {M : Type 1} → statement M
 string-spec =

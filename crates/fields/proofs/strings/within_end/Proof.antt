@@ -23,7 +23,9 @@ refused-at-requires : tie.Need-refused-at-requires
 refused-at-requires c κs = search needs
 
 returns-2 : tie.Need-returns-2
-returns-2 c = run-short _ _ _ _ _ (not-within _ _ _ _ _ (c .before .before .within .ensures) (c .before .if1 .left)) (c .refused-at .ensures)
+returns-2 c =
+    run-short _ _ _ _ _ (not-within _ _ _ _ _ (c .before .before .within .ensures) (c .before .if1 .left))
+    (c .refused-at .ensures)
 
 pub within-end-spec : {M : Type 1} → statement M
 within-end-spec = tie.close (tie.spec within-requires add-t9 returns refused-at-requires returns-2)

@@ -55,7 +55,9 @@ add-result : tie.Need-add-result Inv-loop μ-loop
 add-result c = omega (arith, c .before .loop .inv)
 
 same-length : tie.Need-same-length Inv-loop μ-loop
-same-length c = length-set (c .before .loop .out) (c .before .before .before .before .args .at) (48 + c .before .loop .v) ∙ c .before .loop .inv .same
+same-length c =
+    let c4 = c .before .before .before .before in
+    length-set (c .before .loop .out) (c4 .args .at) (48 + c .before .loop .v) ∙ c .before .loop .inv .same
 
 returns : tie.Need-returns Inv-loop μ-loop
 returns c = spelling-last _ _ _ _ _ _ _ (c .before .loop .inv) (omega arith)

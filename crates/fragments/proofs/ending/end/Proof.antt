@@ -20,7 +20,9 @@ same-length : tie.Need-same-length
 same-length c = search needs
 
 returns : tie.Need-returns
-returns c = end-none mostBits _ _ (c .before .before .before .before .load .ensures) _ _ (c .before .before .held .given .1) (c .if1 .taken)
+returns c =
+    let c4 = c .before .before .before .before in
+    end-none mostBits _ _ (c4 .load .ensures) _ _ (c .before .before .held .given .1) (c .if1 .taken)
 
 is-unfinished-requires : tie.Need-is-unfinished-requires
 is-unfinished-requires c κs = omega (arith, held (c .before .before .before))
@@ -32,7 +34,12 @@ same-length-2 : tie.Need-same-length-2
 same-length-2 c = search needs
 
 returns-2 : tie.Need-returns-2
-returns-2 c = end-cut mostBits _ _ (c .before .before .before .before .before .before .before .before .before .before .before .load .ensures) _ _ _ _ _ (c .before .before .before .before .before .before .before .before .before .held .given .1) (c .before .before .before .before .before .before .before .if1 .left) (c .before .before .before .before .before .is-unfinished .ensures) (c .before .before .before .before .if2 .taken) (c .before .before .refuse .ensures)
+returns-2 c =
+    let c4 = c .before .before .before .before in
+    let c7 = c4 .before .before .before in
+    let c11 = c7 .before .before .before .before in
+    end-cut mostBits _ _ (c11 .load .ensures) _ _ _ _ _ (c7 .before .before .held .given .1) (c7 .if1 .left)
+    (c4 .before .is-unfinished .ensures) (c4 .if2 .taken) (c .before .before .refuse .ensures)
 
 enum-told : tie.Need-enum-told
 enum-told c = search needs
@@ -47,7 +54,11 @@ same-length-3 : tie.Need-same-length-3
 same-length-3 c = search needs
 
 returns-3 : tie.Need-returns-3
-returns-3 c = end-odd mostBits _ _ (c .before .before .before .before .before .before .before .load .ensures) _ _ _ (c .before .before .before .before .before .held .given .1) (c .before .before .before .if1 .left) (c .before .is-unfinished .ensures) (c .if2 .left)
+returns-3 c =
+    let c3 = c .before .before .before in
+    let c7 = c3 .before .before .before .before in
+    end-odd mostBits _ _ (c7 .load .ensures) _ _ _ (c3 .before .before .held .given .1) (c3 .if1 .left)
+    (c .before .is-unfinished .ensures) (c .if2 .left)
 
 same-length-4 : tie.Need-same-length-4
 same-length-4 c = search needs

@@ -32,7 +32,10 @@ enum-told-2 : tie.Need-enum-told-2
 enum-told-2 c = search needs
 
 returns-2 : tie.Need-returns-2
-returns-2 c = lacks-job _ _ (c .before .before .before .before .before .before .read-number .ensures) _ _ (c .before .before .before .before .first .given .1) _ (c .before .before .read-number2 .ensures) _ (c .enum-told2 .given .1)
+returns-2 c =
+    let c4 = c .before .before .before .before in
+    lacks-job _ _ (c4 .before .before .read-number .ensures) _ _ (c4 .first .given .1) _
+    (c .before .before .read-number2 .ensures) _ (c .enum-told2 .given .1)
 
 read-number-requires-3 : tie.Need-read-number-requires-3
 read-number-requires-3 c κs = search needs
@@ -44,19 +47,52 @@ enum-told-3 : tie.Need-enum-told-3
 enum-told-3 c = search needs
 
 returns-3 : tie.Need-returns-3
-returns-3 c = lacks-size _ _ (c .before .before .before .before .before .before .before .before .before .before .read-number .ensures) _ _ (c .before .before .before .before .before .before .before .before .first .given .1) _ (c .before .before .before .before .before .before .read-number2 .ensures) _ _ (c .before .before .before .before .second .given .1) _ (c .before .before .read-number3 .ensures) _ (c .enum-told3 .given .1)
+returns-3 c =
+    let c4 = c .before .before .before .before in
+    let c8 = c4 .before .before .before .before in
+    lacks-size _ _ (c8 .before .before .read-number .ensures) _ _ (c8 .first .given .1) _
+    (c4 .before .before .read-number2 .ensures) _ _ (c4 .second .given .1) _
+    (c .before .before .read-number3 .ensures) _ (c .enum-told3 .given .1)
 
 bytes-for-requires : tie.Need-bytes-for-requires
 bytes-for-requires c κs = search needs
 
 sub-there : tie.Need-sub-there
-sub-there c = omega (arith, number-within _ _ _ _ _ (bytes (c .before .before .before .before .before .before .before .before .before .before .before .before .before)) (c .before .before .before .before .read-number3 .ensures) (c .before .before .third .given .1))
+sub-there c =
+    let c4 = c .before .before .before .before in
+    let c13 = c4 .before .before .before .before .before .before .before .before .before in
+    omega
+    (arith, number-within _ _ _ _ _ (bytes (c13)) (c4 .read-number3 .ensures) (c .before .before .third .given .1))
 
 returns-4 : tie.Need-returns-4
-returns-4 c = omega (arith, number-within _ _ _ _ _ (bytes (c .before .before .before .before .before .before .before .before .before .before .before .before .before .before)) (c .before .before .before .before .before .read-number3 .ensures) (c .before .before .before .third .given .1), lacks-body _ _ (c .before .before .before .before .before .before .before .before .before .before .before .before .before .read-number .ensures) _ _ (c .before .before .before .before .before .before .before .before .before .before .before .first .given .1) _ (c .before .before .before .before .before .before .before .before .before .read-number2 .ensures) _ _ (c .before .before .before .before .before .before .before .second .given .1) _ (c .before .before .before .before .before .read-number3 .ensures) _ _ _ (c .before .before .before .third .given .1) (c .before .bytes-for .ensures))
+returns-4 c =
+    let c3 = c .before .before .before in
+    let c7 = c3 .before .before .before .before in
+    let c11 = c7 .before .before .before .before in
+    let c14 = c11 .before .before .before in
+    omega (
+      arith,
+      number-within _ _ _ _ _ (bytes (c14)) (c3 .before .before .read-number3 .ensures)
+          (c3 .third .given .1),
+      lacks-body _ _ (c11 .before .before .read-number .ensures) _ _ (c11 .first .given .1)
+          _ (c7 .before .before .read-number2 .ensures) _ _ (c7 .second .given .1) _
+          (c3 .before .before .read-number3 .ensures) _ _ _ (c3 .third .given .1) (c .before .bytes-for .ensures),
+    )
 
 returns-5 : tie.Need-returns-5
-returns-5 c = omega (arith, number-within _ _ _ _ _ (bytes (c .before .before .before .before .before .before .before .before .before .before .before .before .before .before)) (c .before .before .before .before .before .read-number3 .ensures) (c .before .before .before .third .given .1), lacks-body _ _ (c .before .before .before .before .before .before .before .before .before .before .before .before .before .read-number .ensures) _ _ (c .before .before .before .before .before .before .before .before .before .before .before .first .given .1) _ (c .before .before .before .before .before .before .before .before .before .read-number2 .ensures) _ _ (c .before .before .before .before .before .before .before .second .given .1) _ (c .before .before .before .before .before .read-number3 .ensures) _ _ _ (c .before .before .before .third .given .1) (c .before .bytes-for .ensures))
+returns-5 c =
+    let c3 = c .before .before .before in
+    let c7 = c3 .before .before .before .before in
+    let c11 = c7 .before .before .before .before in
+    let c14 = c11 .before .before .before in
+    omega (
+      arith,
+      number-within _ _ _ _ _ (bytes (c14)) (c3 .before .before .read-number3 .ensures)
+          (c3 .third .given .1),
+      lacks-body _ _ (c11 .before .before .read-number .ensures) _ _ (c11 .first .given .1)
+          _ (c7 .before .before .read-number2 .ensures) _ _ (c7 .second .given .1) _
+          (c3 .before .before .read-number3 .ensures) _ _ _ (c3 .third .given .1) (c .before .bytes-for .ensures),
+    )
 
 pub lacking-spec : {M : Type 1} → statement M
 lacking-spec =

@@ -31,7 +31,9 @@ loop-less : tie.Need-loop-less Inv-loop μ-loop
 loop-less c = search needs
 
 loop-again : tie.Need-loop-again Inv-loop μ-loop
-loop-again c = rw (c .before .before .clear .ensures) (zero-more _ _ _ _ _ (c .before .before .before .before .before .loop .inv) (c .before .before .before .before .loop-test .taken))
+loop-again c =
+    let c4 = c .before .before .before .before in
+    rw (c .before .before .clear .ensures) (zero-more _ _ _ _ _ (c4 .before .loop .inv) (c4 .loop-test .taken))
 
 same-length : tie.Need-same-length Inv-loop μ-loop
 same-length c = c .before .loop .inv .same

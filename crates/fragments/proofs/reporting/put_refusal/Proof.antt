@@ -14,7 +14,9 @@ slice-aggregate-put-text : tie.Need-slice-aggregate-put-text
 slice-aggregate-put-text c = refl
 
 put-text-requires : tie.Need-put-text-requires
-put-text-requires c κs = omega (arith, length-refusal (c .before .before .before .args .r) (c .before .before .before .args .begin))
+put-text-requires c κs =
+    let c3 = c .before .before .before in
+    omega (arith, length-refusal (c3 .args .r) (c3 .args .begin))
 
 number-requires : tie.Need-number-requires
 number-requires c κs = tt
@@ -38,11 +40,24 @@ put-text-requires-3 : tie.Need-put-text-requires-3
 put-text-requires-3 c κs = omega (arith, length-refusal (c .before .before .before .before .before .before .before .before .before .before .before .before .before .before .before .before .before .before .before .before .before .before .args .r) (c .before .before .before .before .before .before .before .before .before .before .before .before .before .before .before .before .before .before .before .before .before .before .args .begin), c .before .before .before .before .before .before .before .before .before .before .before .before .before .before .before .before .before .before .put-text .ensures .place, c .before .before .before .before .before .before .before .before .before .before .before .before .before .before .before .before .before .before .put-text .kept .0, c .before .before .before .before .before .before .before .before .before .before .before .before .before .put-decimal .ensures .place, c .before .before .before .before .before .before .before .before .before .before .before .before .before .put-decimal .kept .0, c .before .before .before .before .before .before .before .before .put-text2 .ensures .place, c .before .before .before .before .before .before .before .before .put-text2 .kept .0, c .before .before .before .before .put-decimal2 .ensures .place, c .before .before .before .before .put-decimal2 .kept .0, ap (λ (n : ℕ). length (decimal n)) (c .before .before .before .before .before .before .before .before .before .before .before .before .before .before .number .ensures))
 
 same-length : tie.Need-same-length
-same-length c = c .before .before .put-text3 .kept .0 ∙ (c .before .before .before .before .before .before .before .put-decimal2 .kept .0 ∙ (c .before .before .before .before .before .before .before .before .before .before .before .put-text2 .kept .0 ∙ (c .before .before .before .before .before .before .before .before .before .before .before .before .before .before .before .before .put-decimal .kept .0 ∙ c .before .before .before .before .before .before .before .before .before .before .before .before .before .before .before .before .before .before .before .before .before .put-text .kept .0)))
+same-length c =
+    let c7 = c .before .before .before .before .before .before .before in
+    let c11 = c7 .before .before .before .before in
+    let c16 = c11 .before .before .before .before .before in
+    let c21 = c16 .before .before .before .before .before in
+    c .before .before .put-text3 .kept .0 ∙
+    (c7 .put-decimal2 .kept .0 ∙ (c11 .put-text2 .kept .0 ∙ (c16 .put-decimal .kept .0 ∙ c21 .put-text .kept .0)))
 
 returns : tie.Need-returns
 unfolding refusalOf
-returns c = rw (← c .before .before .before .before .before .before .before .before .before .before .before .before .before .before .before .before .before .number .ensures) (put-then _ _ _ _ _ _ _ _ (c .before .before .before .before .before .before .before .before .before .before .before .before .before .before .before .before .before .before .before .before .before .put-text .ensures) (put-then _ _ _ _ _ _ _ _ (c .before .before .before .before .before .before .before .before .before .before .before .before .before .before .before .before .put-decimal .ensures) (put-then _ _ _ _ _ _ _ _ (c .before .before .before .before .before .before .before .before .before .before .before .put-text2 .ensures) (put-then _ _ _ _ _ _ _ _ (c .before .before .before .before .before .before .before .put-decimal2 .ensures) (c .before .before .put-text3 .ensures)))))
+returns c =
+    let c7 = c .before .before .before .before .before .before .before in
+    let c11 = c7 .before .before .before .before in
+    let c16 = c11 .before .before .before .before .before in
+    let c21 = c16 .before .before .before .before .before in
+    rw (← c16 .before .number .ensures) (put-then _ _ _ _ _ _ _ _ (c21 .put-text .ensures) (put-then _ _ _ _ _ _ _ _
+    (c16 .put-decimal .ensures) (put-then _ _ _ _ _ _ _ _ (c11 .put-text2 .ensures)
+    (put-then _ _ _ _ _ _ _ _ (c7 .put-decimal2 .ensures) (c .before .before .put-text3 .ensures)))))
 
 pub put-refusal-spec : {M : Type 1} → statement M
 put-refusal-spec =

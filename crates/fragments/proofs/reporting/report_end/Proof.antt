@@ -26,7 +26,9 @@ place-behind-requires : tie.Need-place-behind-requires
 place-behind-requires c κs = search needs
 
 put-end-requires : tie.Need-put-end-requires
-put-end-requires c κs = omega (arith, end-fits (c .before .place-behind .result), c .before .before .before .before .before .before .before .before .before .before .before .before .if1 .left)
+put-end-requires c κs =
+    let c12 = c .before .before .before .before .before .before .before .before .before .before .before .before in
+    omega (arith, end-fits (c .before .place-behind .result), c12 .if1 .left)
 
 enum-known-x : tie.Need-enum-known-x
 enum-known-x c = search needs
@@ -35,7 +37,10 @@ place-in-requires-2 : tie.Need-place-in-requires-2
 place-in-requires-2 c κs = search needs
 
 put-refusal-requires : tie.Need-put-refusal-requires
-put-refusal-requires c κs = omega (arith, refusal-fits (c .before .before .before .before .x .given .0 .0) (c .place-in2 .result), c .before .before .before .before .before .before .before .before .before .before .if1 .left)
+put-refusal-requires c κs =
+    let c4 = c .before .before .before .before in
+    let c10 = c4 .before .before .before .before .before .before in
+    omega (arith, refusal-fits (c4 .x .given .0 .0) (c .place-in2 .result), c10 .if1 .left)
 
 enum-told-2 : tie.Need-enum-told-2
 enum-told-2 c = search needs
@@ -50,7 +55,13 @@ same-length-2 : tie.Need-same-length-2
 same-length-2 c = search needs
 
 returns-2 : tie.Need-returns-2
-returns-2 c = end-put mostBits _ _ _ _ _ _ _ (c .before .before .before .before .before .before .before .before .before .before .before .before .before .before .before .if1 .left) (c .before .before .before .before .before .before .before .before .before .before .before .before .before .end .ensures) (end-line _ _ _ (c .before .before .before .before .before .before .before .place-in .ensures) _ _ _ (c .before .before .before .before .before .before .before .before .before .enum-told .given .1) (c .before .before .before .before .before .count-in .ensures) (c .before .before .before .before .place-behind .ensures)) (end-fits _) (c .before .before .put-end .ensures)
+returns-2 c =
+    let c4 = c .before .before .before .before in
+    let c7 = c4 .before .before .before in
+    let c13 = c7 .before .before .before .before .before .before in
+    end-put mostBits _ _ _ _ _ _ _ (c13 .before .before .if1 .left) (c13 .end .ensures) (end-line _ _ _
+    (c7 .place-in .ensures) _ _ _ (c7 .before .before .enum-told .given .1) (c4 .before .count-in .ensures)
+    (c4 .place-behind .ensures)) (end-fits _) (c .before .before .put-end .ensures)
 
 same-length-3 : tie.Need-same-length-3
 same-length-3 c = search needs
@@ -59,19 +70,29 @@ same-length-4 : tie.Need-same-length-4
 same-length-4 c = search needs
 
 returns-3 : tie.Need-returns-3
-returns-3 c = end-put mostBits _ _ _ _ _ _ _ (c .before .before .before .before .before .before .before .before .before .before .before .before .before .if1 .left) (c .before .before .before .before .before .before .before .before .before .before .before .end .ensures) (refusal-line _ _ _ (c .before .before .before .place-in2 .ensures) _ (c .before .before .before .before .before .before .before .x .given .1) (search needs)) (refusal-fits _ _) (c .before .before .put-refusal .ensures)
+returns-3 c =
+    let c3 = c .before .before .before in
+    let c7 = c3 .before .before .before .before in
+    let c11 = c7 .before .before .before .before in
+    end-put mostBits _ _ _ _ _ _ _ (c11 .before .before .if1 .left) (c11 .end .ensures)
+    (refusal-line _ _ _ (c3 .place-in2 .ensures) _ (c7 .x .given .1) (search needs)) (refusal-fits _ _)
+    (c .before .before .put-refusal .ensures)
 
 same-length-5 : tie.Need-same-length-5
 same-length-5 c = search needs
 
 returns-4 : tie.Need-returns-4
-returns-4 c = end-bare mostBits _ _ _ _ (c .before .before .before .before .before .before .if1 .left) (c .before .before .before .before .end .ensures) (rw (c .enum-told2 .given .1))
+returns-4 c =
+    let c4 = c .before .before .before .before in
+    end-bare mostBits _ _ _ _ (c4 .before .before .if1 .left) (c4 .end .ensures) (rw (c .enum-told2 .given .1))
 
 same-length-6 : tie.Need-same-length-6
 same-length-6 c = search needs
 
 returns-5 : tie.Need-returns-5
-returns-5 c = end-bare mostBits _ _ _ _ (c .before .before .before .before .before .before .if1 .left) (c .before .before .before .before .end .ensures) (rw (c .enum-told3 .given .1))
+returns-5 c =
+    let c4 = c .before .before .before .before in
+    end-bare mostBits _ _ _ _ (c4 .before .before .if1 .left) (c4 .end .ensures) (rw (c .enum-told3 .given .1))
 
 pub report-end-spec : {M : Type 1} → statement M
 report-end-spec =

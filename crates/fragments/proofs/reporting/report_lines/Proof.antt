@@ -48,16 +48,44 @@ enum-known-x : tie.Need-enum-known-x Inv-loop μ-loop
 enum-known-x c = c .match .keys1
 
 put-line-requires : tie.Need-put-line-requires Inv-loop μ-loop
-put-line-requires c κs = omega (arith, c .before .before .before .before .before .before .before .before .before .before .before .if1 .left, c .before .before .before .before .before .before .before .before .before .before .loop .inv, length-drop (c .before .before .before .before .before .before .before .before .before .before .loop .at) (c .before .before .before .before .before .before .before .before .before .before .before .before .before .before .before .args .fragment .now), (steps mostBits (c .before .before .before .before .before .before .before .before .before .before .loop .rec) (c .before .before .before .before .before .before .before .before .before .before .before .before .before .before .before .args .fragment .now) _ (c .before .before .before .before .before .before .before .before .before .before .loop .at) _ _ _ sized (lit< tt) (c .before .before .before .before .before .before .before .before .before .before .loop .inv .small) (bytes (c .before .before .before .before .before .before .before .before .before .before .before .before .before)) (c .before .before .before .before .before .before .take .ensures) (c .before .before .x .given .1)))
+put-line-requires c κs =
+    let c6 = c .before .before .before .before .before .before in
+    let c10 = c6 .before .before .before .before in
+    let c13 = c10 .before .before .before in
+    omega (
+      arith,
+      c10 .before .if1 .left,
+      c10 .loop .inv,
+      length-drop (c10 .loop .at)
+          (c13 .before .before .args .fragment .now),
+      (steps mostBits (c10 .loop .rec)
+          (c13 .before .before .args .fragment .now) _ (c10 .loop .at) _ _ _ sized (lit< tt)
+          (c10 .loop .inv .small) (bytes (c13)) (c6 .take .ensures) (c .before .before .x .given .1)),
+    )
 
 add-at : tie.Need-add-at Inv-loop μ-loop
-add-at c = omega (arith, c .before .before .before .before .before .before .before .before .before .before .before .before .before .loop .inv .within, length-drop (c .before .before .before .before .before .before .before .before .before .before .before .before .before .loop .at) (c .before .before .before .before .before .before .before .before .before .before .before .before .before .before .before .before .before .before .args .fragment .now), (steps mostBits (c .before .before .before .before .before .before .before .before .before .before .before .before .before .loop .rec) (c .before .before .before .before .before .before .before .before .before .before .before .before .before .before .before .before .before .before .args .fragment .now) _ (c .before .before .before .before .before .before .before .before .before .before .before .before .before .loop .at) _ _ _ sized (lit< tt) (c .before .before .before .before .before .before .before .before .before .before .before .before .before .loop .inv .small) (bytes (c .before .before .before .before .before .before .before .before .before .before .before .before .before .before .before .before)) (c .before .before .before .before .before .before .before .before .before .take .ensures) (c .before .before .before .before .before .x .given .1)))
+add-at c =
+    let c5 = c .before .before .before .before .before in
+    let c9 = c5 .before .before .before .before in
+    let c13 = c9 .before .before .before .before in
+    let c16 = c13 .before .before .before in
+    omega (
+      arith,
+      c13 .loop .inv .within,
+      length-drop (c13 .loop .at) (c16 .before .before .args .fragment .now),
+      (steps
+          mostBits (c13 .loop .rec) (c16 .before .before .args .fragment .now) _ (c13 .loop .at) _ _ _ sized
+          (lit< tt) (c13 .loop .inv .small) (bytes (c16)) (c9 .take .ensures) (c5 .x .given .1)),
+    )
 
 enum-told : tie.Need-enum-told Inv-loop μ-loop
 enum-told c = c .match .keys2
 
 same-length : tie.Need-same-length Inv-loop μ-loop
-same-length c = c .before .before .before .before .take .kept .0 ∙ c .before .before .before .before .before .before .before .before .loop .inv .kept
+same-length c =
+    let c4 = c .before .before .before .before in
+    let c8 = c4 .before .before .before .before in
+    c4 .take .kept .0 ∙ c8 .loop .inv .kept
 
 same-length-2 : tie.Need-same-length-2 Inv-loop μ-loop
 same-length-2 c = c .before .before .before .before .before .before .before .before .loop .inv .same
@@ -69,7 +97,10 @@ enum-told-2 : tie.Need-enum-told-2 Inv-loop μ-loop
 enum-told-2 c = c .match .keys3
 
 same-length-3 : tie.Need-same-length-3 Inv-loop μ-loop
-same-length-3 c = c .before .before .before .before .take .kept .0 ∙ c .before .before .before .before .before .before .before .before .loop .inv .kept
+same-length-3 c =
+    let c4 = c .before .before .before .before in
+    let c8 = c4 .before .before .before .before in
+    c4 .take .kept .0 ∙ c8 .loop .inv .kept
 
 same-length-4 : tie.Need-same-length-4 Inv-loop μ-loop
 same-length-4 c = c .before .before .before .before .before .before .before .before .loop .inv .same
@@ -81,7 +112,10 @@ enum-told-3 : tie.Need-enum-told-3 Inv-loop μ-loop
 enum-told-3 c = c .match .keys4
 
 same-length-5 : tie.Need-same-length-5 Inv-loop μ-loop
-same-length-5 c = c .before .before .before .before .take .kept .0 ∙ c .before .before .before .before .before .before .before .before .loop .inv .kept
+same-length-5 c =
+    let c4 = c .before .before .before .before in
+    let c8 = c4 .before .before .before .before in
+    c4 .take .kept .0 ∙ c8 .loop .inv .kept
 
 same-length-6 : tie.Need-same-length-6 Inv-loop μ-loop
 same-length-6 c = c .before .before .before .before .before .before .before .before .loop .inv .same
@@ -105,7 +139,9 @@ same-length-8 : tie.Need-same-length-8 Inv-loop μ-loop
 same-length-8 c = c .before .loop .inv .same
 
 returns-5 : tie.Need-returns-5 Inv-loop μ-loop
-returns-5 c = reporting-out mostBits _ _ _ _ _ _ _ _ (c .before .loop .inv) (c .loop-test .left) (omega (arith, c .before .before .if1 .left))
+returns-5 c =
+    reporting-out mostBits _ _ _ _ _ _ _ _ (c .before .loop .inv) (c .loop-test .left)
+    (omega (arith, c .before .before .if1 .left))
 
 pub report-lines-spec : {M : Type 1} → statement M
 report-lines-spec =

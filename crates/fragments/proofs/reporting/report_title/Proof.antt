@@ -18,7 +18,9 @@ same-length : tie.Need-same-length
 same-length c = search needs
 
 returns-2 : tie.Need-returns-2
-returns-2 c = title-put _ _ _ (c .before .before .before .before .before .if1 .left) (c .before .before .put-text .ensures)
+returns-2 c =
+    let c5 = c .before .before .before .before .before in
+    title-put _ _ _ (c5 .if1 .left) (c .before .before .put-text .ensures)
 
 pub report-title-spec : {M : Type 1} → statement M
 report-title-spec =

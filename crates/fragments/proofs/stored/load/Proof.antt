@@ -16,7 +16,9 @@ count-in-requires : tie.Need-count-in-requires
 count-in-requires c κs = search needs
 
 returns-2 : tie.Need-returns-2
-returns-2 c = load-many mostBits _ _ (omega (arith, largest-is, c .before .before .if1 .left)) (c .before .count-in .ensures) (omega (arith, largest-is))
+returns-2 c =
+    load-many mostBits _ _ (omega (arith, largest-is, c .before .before .if1 .left)) (c .before .count-in .ensures)
+    (omega (arith, largest-is))
 
 byte-at-requires : tie.Need-byte-at-requires
 byte-at-requires c κs = search needs
@@ -28,7 +30,11 @@ load-by-requires : tie.Need-load-by-requires
 load-by-requires c κs = search needs
 
 returns-3 : tie.Need-returns-3
-returns-3 c = load-is mostBits _ _ (omega (arith, largest-is, c .before .before .before .before .before .if1 .left)) (c .before .before .before .before .count-in .ensures) _ _ (omega (arith, largest-is, c .before .before .before .if2 .left)) (c .before .place-in .ensures) (c .load-by .ensures ∙ rw (c .before .before .byte-at .ensures))
+returns-3 c =
+    let c3 = c .before .before .before in
+    load-is mostBits _ _ (omega (arith, largest-is, c3 .before .before .if1 .left)) (c3 .before .count-in .ensures) _ _
+    (omega (arith, largest-is, c3 .if2 .left)) (c .before .place-in .ensures)
+    (c .load-by .ensures ∙ rw (c .before .before .byte-at .ensures))
 
 pub load-spec : {M : Type 1} → statement M
 load-spec =

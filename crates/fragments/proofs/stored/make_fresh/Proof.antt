@@ -18,7 +18,9 @@ same-length : tie.Need-same-length
 same-length c = search needs
 
 returns-2 : tie.Need-returns-2
-returns-2 c = fresh-made mostBits _ _ (omega (arith, largest-is, c .before .before .before .before .if1 .left)) (c .before .before .put-empty .ensures)
+returns-2 c =
+    let c4 = c .before .before .before .before in
+    fresh-made mostBits _ _ (omega (arith, largest-is, c4 .if1 .left)) (c .before .before .put-empty .ensures)
 
 pub make-fresh-spec : {M : Type 1} → statement M
 make-fresh-spec = tie.close (tie.spec returns put-empty-requires same-length returns-2)

@@ -33,7 +33,19 @@ of-eight-requires : tie.Need-of-eight-requires
 of-eight-requires c κs = search needs
 
 returns : tie.Need-returns
-returns c = c .of-eight .ensures ∙ rw (c .before .before .before .before .before .before .before .before .byte-at .ensures, c .before .before .before .before .before .before .before .byte-at2 .ensures, c .before .before .before .before .before .before .byte-at3 .ensures, c .before .before .before .before .before .byte-at4 .ensures, c .before .before .before .before .byte-at5 .ensures, c .before .before .before .byte-at6 .ensures, c .before .before .byte-at7 .ensures, c .before .byte-at8 .ensures)
+returns c =
+    let c3 = c .before .before .before in
+    let c6 = c3 .before .before .before in
+    c .of-eight .ensures ∙ rw (
+      c6 .before .before .byte-at .ensures,
+      c6 .before .byte-at2 .ensures,
+      c6 .byte-at3 .ensures,
+      c3 .before .before .byte-at4 .ensures,
+      c3 .before .byte-at5 .ensures,
+      c3 .byte-at6 .ensures,
+      c .before .before .byte-at7 .ensures,
+      c .before .byte-at8 .ensures,
+    )
 
 pub place-in-spec : {M : Type 1} → statement M
 place-in-spec =

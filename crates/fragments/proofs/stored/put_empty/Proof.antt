@@ -19,7 +19,11 @@ same-length : tie.Need-same-length
 same-length c = search needs
 
 returns : tie.Need-returns
-returns c = empty-put mostBits (c .before .before .before .before .before .before .before .before .before .args .rec .now) _ _ _ _ (c .before .before .before .before .before .before .before .before .before .pre) (c .before .before .before .before .before .before .put-zeros .ensures) (c .before .before .put-head .ensures)
+returns c =
+    let c6 = c .before .before .before .before .before .before in
+    let c9 = c6 .before .before .before in
+    empty-put mostBits (c9 .args .rec .now) _ _ _ _ (c9 .pre) (c6 .put-zeros .ensures)
+    (c .before .before .put-head .ensures)
 
 pub put-empty-spec : {M : Type 1} → statement M
 put-empty-spec =

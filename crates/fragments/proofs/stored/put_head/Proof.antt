@@ -31,7 +31,11 @@ same-length : tie.Need-same-length
 same-length c = search needs
 
 returns : tie.Need-returns
-returns c = head-put _ _ _ _ _ _ _ _ refl (c .before .before .before .before .before .eight-bytes .ensures) (c .before .before .before .before .before .before .before .before .put-bytes .ensures) (c .before .before .put-bytes2 .ensures)
+returns c =
+    let c5 = c .before .before .before .before .before in
+    let c8 = c5 .before .before .before in
+    head-put _ _ _ _ _ _ _ _ refl (c5 .eight-bytes .ensures) (c8 .put-bytes .ensures)
+    (c .before .before .put-bytes2 .ensures)
 
 pub put-head-spec : {M : Type 1} → statement M
 put-head-spec =

@@ -24,7 +24,9 @@ returns c = rw (← c .before .before .read-held .ensures, c .enum-told .given .
 
 returns-2 : tie.Need-returns-2
 unfolding unfinished
-returns-2 c = c .is-cut .ensures ∙ rw (← c .before .before .before .before .read-held .ensures, c .before .before .x .given .1)
+returns-2 c =
+    let c4 = c .before .before .before .before in
+    c .is-cut .ensures ∙ rw (← c4 .read-held .ensures, c .before .before .x .given .1)
 
 pub is-unfinished-spec : {M : Type 1} → statement M
 is-unfinished-spec =

@@ -20,7 +20,9 @@ same-length : tie.Need-same-length
 same-length c = search needs
 
 returns : tie.Need-returns
-returns c = refusal-made mostBits _ _ _ _ (c .before .before .before .number .ensures) (c .before .before .put-empty .ensures)
+returns c =
+    let c3 = c .before .before .before in
+    refusal-made mostBits _ _ _ _ (c3 .number .ensures) (c .before .before .put-empty .ensures)
 
 pub refuse-spec : {M : Type 1} → statement M
 refuse-spec =

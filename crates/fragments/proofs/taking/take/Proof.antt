@@ -30,7 +30,12 @@ same-length : tie.Need-same-length
 same-length c = search needs
 
 returns : tie.Need-returns
-returns c = take-part mostBits _ _ (c .before .before .before .before .before .before .before .before .load .ensures) _ _ _ _ (c .before .before .before .before .before .before .held .given .1) (resume-none mostBits sized _ _ _ _ (held (c .before .before .before .before .before .before) .size) (held (c .before .before .before .before .before .before) .count) (bytes (c .before .before .before .before .before .before .before .before .before .before)) _ _ (c .before .before .before .before .if1 .taken) (c .before .before .begin .ensures))
+returns c =
+    let c4 = c .before .before .before .before in
+    let c8 = c4 .before .before .before .before in
+    take-part mostBits _ _ (c8 .load .ensures) _ _ _ _ (c4 .before .before .held .given .1) (resume-none mostBits sized
+    _ _ _ _ (held (c4 .before .before) .size) (held (c4 .before .before) .count) (bytes (c8 .before .before)) _
+    _ (c4 .if1 .taken) (c .before .before .begin .ensures))
 
 resume-requires : tie.Need-resume-requires
 resume-requires c κs = (held (c .before .before .before) .size, held (c .before .before .before) .count)
@@ -42,7 +47,11 @@ same-length-2 : tie.Need-same-length-2
 same-length-2 c = search needs
 
 returns-2 : tie.Need-returns-2
-returns-2 c = take-whole mostBits _ _ (c .before .before .before .before .load .ensures) _ _ _ _ (c .before .before .held2 .given .1) (begun-none mostBits sized _ _ _ _ (done (c .before .before) .size) (done (c .before .before) .count) (bytes (c .before .before .before .before .before .before)) (c .if2 .taken))
+returns-2 c =
+    let c4 = c .before .before .before .before in
+    take-whole mostBits _ _ (c4 .load .ensures) _ _ _ _ (c .before .before .held2 .given .1) (begun-none mostBits sized
+    _ _ _ _ (done (c .before .before) .size) (done (c .before .before) .count) (bytes (c4 .before .before))
+    (c .if2 .taken))
 
 put-zeros-requires : tie.Need-put-zeros-requires
 put-zeros-requires c κs = omega (arith, done (c .before .before .before))
@@ -51,7 +60,10 @@ place-behind-requires : tie.Need-place-behind-requires
 place-behind-requires c κs = search needs
 
 begin-requires-2 : tie.Need-begin-requires-2
-begin-requires-2 c κs = omega (arith, done (c .before .before .before .before .before .before .before .before), c .before .before .before .before .put-zeros .kept .0)
+begin-requires-2 c κs =
+    let c4 = c .before .before .before .before in
+    let c8 = c4 .before .before .before .before in
+    omega (arith, done (c8), c4 .put-zeros .kept .0)
 
 enum-known-held-3 : tie.Need-enum-known-held-3
 enum-known-held-3 c = search needs
@@ -63,13 +75,23 @@ same-length-3 : tie.Need-same-length-3
 same-length-3 c = search needs
 
 returns-3 : tie.Need-returns-3
-returns-3 c = take-part mostBits _ _ (c .before .before .before .before .before .before .before .before .load .ensures) _ _ _ _ (c .before .before .before .before .before .before .held .given .1) (c .before .before .resume .ensures)
+returns-3 c =
+    let c6 = c .before .before .before .before .before .before in
+    take-part mostBits _ _ (c6 .before .before .load .ensures) _ _ _ _ (c6 .held .given .1)
+    (c .before .before .resume .ensures)
 
 same-length-4 : tie.Need-same-length-4
 same-length-4 c = search needs
 
 returns-4 : tie.Need-returns-4
-returns-4 c = take-whole mostBits _ _ (c .before .before .before .before .before .before .before .before .before .before .before .before .before .load .ensures) _ _ _ _ (c .before .before .before .before .before .before .before .before .before .before .before .held2 .given .1) (begun-more mostBits sized _ _ _ _ (done (c .before .before .before .before .before .before .before .before .before .before .before) .size) (done (c .before .before .before .before .before .before .before .before .before .before .before) .count) (bytes (c .before .before .before .before .before .before .before .before .before .before .before .before .before .before .before)) _ _ _ _ (c .before .before .before .before .before .before .before .before .before .if2 .left) (c .before .before .before .before .before .before .before .put-zeros .ensures) (c .before .before .before .place-behind .ensures) (c .before .before .begin2 .ensures))
+returns-4 c =
+    let c3 = c .before .before .before in
+    let c7 = c3 .before .before .before .before in
+    let c11 = c7 .before .before .before .before in
+    let c15 = c11 .before .before .before .before in
+    take-whole mostBits _ _ (c11 .before .before .load .ensures) _ _ _ _ (c11 .held2 .given .1) (begun-more mostBits
+    sized _ _ _ _ (done (c11) .size) (done (c11) .count) (bytes (c15)) _ _ _ _ (c7 .before .before .if2 .left)
+    (c7 .put-zeros .ensures) (c3 .place-behind .ensures) (c .before .before .begin2 .ensures))
 
 same-length-5 : tie.Need-same-length-5
 same-length-5 c = search needs

@@ -18,7 +18,14 @@ sent-requires c κs = tt
 
 returns : tie.Need-returns
 unfolding startResponse
-returns c = rw (c .sent .ensures, c .before .unless-spared .ensures, c .before .before .security-sent .ensures, c .before .before .before .reply-of .ensures)
+returns c =
+    let c3 = c .before .before .before in
+    rw (
+      c .sent .ensures,
+      c .before .unless-spared .ensures,
+      c .before .before .security-sent .ensures,
+      c3 .reply-of .ensures,
+    )
 
 pub start-response-spec : {M : Type 1} → statement M
 start-response-spec = tie.close (tie.spec reply-of-requires security-sent-requires unless-spared-requires sent-requires returns)

@@ -18,25 +18,45 @@ response-fault-requires c κs = tt
 
 returns : tie.Need-returns
 unfolding confirmationFault
-returns c = rw (← c .before .before .before .before .expects .ensures, c .before .before .before .if1 .taken, ← c .before .before .awaits-response .ensures, c .before .if2 .taken) (c .response-fault .ensures)
+returns c =
+    let c3 = c .before .before .before in
+    rw (
+      ← c3 .before .expects .ensures,
+      c3 .if1 .taken,
+      ← c .before .before .awaits-response .ensures,
+      c .before .if2 .taken,
+    ) (c .response-fault .ensures)
 
 returns-2 : tie.Need-returns-2
 unfolding confirmationFault
-returns-2 c = rw (← c .before .before .before .expects .ensures, c .before .before .if1 .taken, ← c .before .awaits-response .ensures, c .if2 .left)
+returns-2 c =
+    let c3 = c .before .before .before in
+    rw (← c3 .expects .ensures, c .before .before .if1 .taken, ← c .before .awaits-response .ensures, c .if2 .left)
 
 turned-away-requires : tie.Need-turned-away-requires
 turned-away-requires c κs = tt
 
 returns-3 : tie.Need-returns-3
 unfolding confirmationFault
-returns-3 c = rw (← c .before .before .before .expects .ensures, c .before .before .if1 .left, ← c .before .turned-away .ensures, c .if3 .taken)
+returns-3 c =
+    let c3 = c .before .before .before in
+    rw (← c3 .expects .ensures, c .before .before .if1 .left, ← c .before .turned-away .ensures, c .if3 .taken)
 
 differs-requires : tie.Need-differs-requires
 differs-requires c κs = tt
 
 returns-4 : tie.Need-returns-4
 unfolding confirmationFault
-returns-4 c = rw (← c .before .before .before .before .before .expects .ensures, c .before .before .before .before .if1 .left, ← c .before .before .before .turned-away .ensures, c .before .before .if3 .left, ← c .before .differs .ensures, c .if4 .taken)
+returns-4 c =
+    let c3 = c .before .before .before in
+    rw (
+      ← c3 .before .before .expects .ensures,
+      c3 .before .if1 .left,
+      ← c3 .turned-away .ensures,
+      c .before .before .if3 .left,
+      ← c .before .differs .ensures,
+      c .if4 .taken,
+    )
 
 spares-requires : tie.Need-spares-requires
 spares-requires c κs = tt
@@ -49,7 +69,20 @@ pdu-fault-requires c κs = tt
 
 returns-5 : tie.Need-returns-5
 unfolding confirmationFault
-returns-5 c = rw (← c .before .before .before .before .before .before .before .before .expects .ensures, c .before .before .before .before .before .before .before .if1 .left, ← c .before .before .before .before .before .before .turned-away .ensures, c .before .before .before .before .before .if3 .left, ← c .before .before .before .before .differs .ensures, c .before .before .before .if4 .left, ← c .before .before .spares .ensures, ← c .before .send-allowed .ensures) (c .pdu-fault .ensures)
+returns-5 c =
+    let c3 = c .before .before .before in
+    let c6 = c3 .before .before .before in
+    rw (
+      ← c6 .before .before .expects .ensures,
+      c6 .before .if1 .left,
+      ← c6 .turned-away .ensures,
+      c3 .before .before .if3 .left,
+      ← c3 .before .differs .ensures,
+      c3 .if4 .left,
+      ←
+          c .before .before .spares .ensures,
+      ← c .before .send-allowed .ensures,
+    ) (c .pdu-fault .ensures)
 
 pub confirmation-fault-spec : {M : Type 1} → statement M
 confirmation-fault-spec =

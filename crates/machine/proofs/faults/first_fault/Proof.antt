@@ -76,7 +76,10 @@ returns-4 c = rw (c .before .before .enum-told2 .given .1, ← c .before .spares
 
 returns-5 : tie.Need-returns-5
 unfolding firstFault
-returns-5 c = rw (c .before .before .before .before .p3 .given .1, ← c .before .before .reply-of .ensures, ← c .before .spares2 .ensures) (c .send-fault3 .ensures)
+returns-5 c =
+    let c4 = c .before .before .before .before in
+    rw (c4 .p3 .given .1, ← c .before .before .reply-of .ensures, ← c .before .spares2 .ensures)
+    (c .send-fault3 .ensures)
 
 returns-6 : tie.Need-returns-6
 unfolding firstFault

@@ -16,14 +16,26 @@ fits-requires c κs = tt
 
 returns-2 : tie.Need-returns-2
 unfolding indicationFault
-returns-2 c = rw (← c .before .before .before .is .ensures, c .before .before .if1 .left, ← c .before .fits2 .ensures, c .if2 .taken)
+returns-2 c =
+    let c3 = c .before .before .before in
+    rw (← c3 .is .ensures, c .before .before .if1 .left, ← c .before .fits2 .ensures, c .if2 .taken)
 
 differs-requires : tie.Need-differs-requires
 differs-requires c κs = tt
 
 returns-3 : tie.Need-returns-3
 unfolding indicationFault
-returns-3 c = rw (← c .before .before .before .before .before .is .ensures, c .before .before .before .before .if1 .left, ← c .before .before .before .fits2 .ensures, c .before .before .if2 .left, ← c .before .differs .ensures, c .if3 .taken)
+returns-3 c =
+    let c3 = c .before .before .before in
+    rw (
+      ← c3 .before .before .is .ensures,
+      c3 .before .if1 .left,
+      ← c3 .fits2 .ensures,
+      c .before .before .if2 .left,
+      ←
+          c .before .differs .ensures,
+      c .if3 .taken,
+    )
 
 start-fits-requires : tie.Need-start-fits-requires
 start-fits-requires c κs = tt
@@ -36,14 +48,46 @@ pdu-fault-requires c κs = tt
 
 returns-4 : tie.Need-returns-4
 unfolding indicationFault
-returns-4 c = rw (← c .before .before .before .before .before .before .before .before .before .is .ensures, c .before .before .before .before .before .before .before .before .if1 .left, ← c .before .before .before .before .before .before .before .fits2 .ensures, c .before .before .before .before .before .before .if2 .left, ← c .before .before .before .before .before .differs .ensures, c .before .before .before .before .if3 .left, ← c .before .before .before .start-fits .ensures, ← c .before .before .peer-fits .ensures, c .before .if4 .taken) (c .pdu-fault .ensures)
+returns-4 c =
+    let c3 = c .before .before .before in
+    let c6 = c3 .before .before .before in
+    let c9 = c6 .before .before .before in
+    rw (
+      ← c9 .is .ensures,
+      c6 .before .before .if1 .left,
+      ← c6 .before .fits2 .ensures,
+      c6 .if2 .left,
+      ←
+          c3 .before .before .differs .ensures,
+      c3 .before .if3 .left,
+      ← c3 .start-fits .ensures,
+      ←
+          c .before .before .peer-fits .ensures,
+      c .before .if4 .taken,
+    ) (c .pdu-fault .ensures)
 
 pdu-fault-requires-2 : tie.Need-pdu-fault-requires-2
 pdu-fault-requires-2 c κs = tt
 
 returns-5 : tie.Need-returns-5
 unfolding indicationFault
-returns-5 c = rw (← c .before .before .before .before .before .before .before .before .before .is .ensures, c .before .before .before .before .before .before .before .before .if1 .left, ← c .before .before .before .before .before .before .before .fits2 .ensures, c .before .before .before .before .before .before .if2 .left, ← c .before .before .before .before .before .differs .ensures, c .before .before .before .before .if3 .left, ← c .before .before .before .start-fits .ensures, ← c .before .before .peer-fits .ensures, c .before .if4 .left) (c .pdu-fault2 .ensures)
+returns-5 c =
+    let c3 = c .before .before .before in
+    let c6 = c3 .before .before .before in
+    let c9 = c6 .before .before .before in
+    rw (
+      ← c9 .is .ensures,
+      c6 .before .before .if1 .left,
+      ← c6 .before .fits2 .ensures,
+      c6 .if2 .left,
+      ←
+          c3 .before .before .differs .ensures,
+      c3 .before .if3 .left,
+      ← c3 .start-fits .ensures,
+      ←
+          c .before .before .peer-fits .ensures,
+      c .before .if4 .left,
+    ) (c .pdu-fault2 .ensures)
 
 pub indication-fault-spec : {M : Type 1} → statement M
 indication-fault-spec =

@@ -22,11 +22,15 @@ returns-3 c = rw (← c .before .before .kind .ensures, ne-eqb _ _ (c .before .i
 
 returns-4 : tie.Need-returns-4
 unfolding pduFault
-returns-4 c = rw (← c .before .before .before .kind .ensures, ne-eqb _ _ (c .before .before .if1 .left), ne-eqb _ _ (c .before .if3 .left), c .if4 .taken)
+returns-4 c =
+    let c3 = c .before .before .before in
+    rw (← c3 .kind .ensures, ne-eqb _ _ (c .before .before .if1 .left), ne-eqb _ _ (c .before .if3 .left), c .if4 .taken)
 
 returns-5 : tie.Need-returns-5
 unfolding pduFault
-returns-5 c = rw (← c .before .before .before .kind .ensures, ne-eqb _ _ (c .before .before .if1 .left), ne-eqb _ _ (c .before .if3 .left), c .if4 .left)
+returns-5 c =
+    let c3 = c .before .before .before in
+    rw (← c3 .kind .ensures, ne-eqb _ _ (c .before .before .if1 .left), ne-eqb _ _ (c .before .if3 .left), c .if4 .left)
 
 pub pdu-fault-spec : {M : Type 1} → statement M
 pdu-fault-spec =

@@ -16,14 +16,24 @@ differs-requires c κs = tt
 
 returns-2 : tie.Need-returns-2
 unfolding responseFault
-returns-2 c = rw (← c .before .before .before .turned-away .ensures, c .before .before .if1 .left, ← c .before .differs .ensures, c .if2 .taken)
+returns-2 c =
+    let c3 = c .before .before .before in
+    rw (← c3 .turned-away .ensures, c .before .before .if1 .left, ← c .before .differs .ensures, c .if2 .taken)
 
 pdu-fault-requires : tie.Need-pdu-fault-requires
 pdu-fault-requires c κs = tt
 
 returns-3 : tie.Need-returns-3
 unfolding responseFault
-returns-3 c = rw (← c .before .before .before .before .before .turned-away .ensures, c .before .before .before .before .if1 .left, ← c .before .before .before .differs .ensures, c .before .before .if2 .left, c .before .if3 .taken) (c .pdu-fault .ensures)
+returns-3 c =
+    let c3 = c .before .before .before in
+    rw (
+      ← c3 .before .before .turned-away .ensures,
+      c3 .before .if1 .left,
+      ← c3 .differs .ensures,
+      c .before .before .if2 .left,
+      c .before .if3 .taken,
+    ) (c .pdu-fault .ensures)
 
 kind-requires : tie.Need-kind-requires
 kind-requires c κs = tt
@@ -33,7 +43,17 @@ pdu-fault-requires-2 c κs = tt
 
 returns-4 : tie.Need-returns-4
 unfolding responseFault
-returns-4 c = rw (← c .before .before .before .before .before .before .turned-away .ensures, c .before .before .before .before .before .if1 .left, ← c .before .before .before .before .differs .ensures, c .before .before .before .if2 .left, c .before .before .if3 .left, ← c .before .kind .ensures) (c .pdu-fault2 .ensures)
+returns-4 c =
+    let c3 = c .before .before .before in
+    let c6 = c3 .before .before .before in
+    rw (
+      ← c6 .turned-away .ensures,
+      c3 .before .before .if1 .left,
+      ← c3 .before .differs .ensures,
+      c3 .if2 .left,
+      c .before .before .if3 .left,
+      ← c .before .kind .ensures,
+    ) (c .pdu-fault2 .ensures)
 
 pub response-fault-spec : {M : Type 1} → statement M
 response-fault-spec =

@@ -19,7 +19,9 @@ pdu-fault-requires c κs = tt
 
 returns-2 : tie.Need-returns-2
 unfolding sendFault
-returns-2 c = rw (← c .before .before .before .expects .ensures, c .before .before .if1 .left, ← c .before .kind .ensures) (c .pdu-fault .ensures)
+returns-2 c =
+    let c3 = c .before .before .before in
+    rw (← c3 .expects .ensures, c .before .before .if1 .left, ← c .before .kind .ensures) (c .pdu-fault .ensures)
 
 pub send-fault-spec : {M : Type 1} → statement M
 send-fault-spec =

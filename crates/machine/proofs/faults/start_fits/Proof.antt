@@ -20,7 +20,15 @@ kind-requires-2 c κs = tt
 
 returns-2 : tie.Need-returns-2
 unfolding startFits
-returns-2 c = rw (← c .before .before .before .from-centre .ensures, c .before .before .if1 .left, ← c .before .kind2 .ensures, ne-eqb _ _ (c .if2 .taken))
+returns-2 c =
+    let c3 = c .before .before .before in
+    rw (
+      ← c3 .from-centre .ensures,
+      c .before .before .if1 .left,
+      ← c .before .kind2 .ensures,
+      ne-eqb _ _
+          (c .if2 .taken),
+    )
 
 mode-requires : tie.Need-mode-requires
 mode-requires c κs = tt
@@ -30,7 +38,16 @@ expects-requires c κs = tt
 
 returns-3 : tie.Need-returns-3
 unfolding startFits
-returns-3 c = rw (← c .before .before .before .before .before .from-centre .ensures, c .before .before .before .before .if1 .left, ← c .before .before .before .kind2 .ensures, eq-eqb _ _ (c .before .before .if2 .left), ← c .before .mode .ensures) (c .expects .ensures)
+returns-3 c =
+    let c3 = c .before .before .before in
+    rw (
+      ← c3 .before .before .from-centre .ensures,
+      c3 .before .if1 .left,
+      ← c3 .kind2 .ensures,
+      eq-eqb _ _
+          (c .before .before .if2 .left),
+      ← c .before .mode .ensures,
+    ) (c .expects .ensures)
 
 pub start-fits-spec : {M : Type 1} → statement M
 start-fits-spec =

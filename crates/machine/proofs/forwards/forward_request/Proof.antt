@@ -18,7 +18,9 @@ taken-requires c κs = tt
 
 returns : tie.Need-returns
 unfolding forwardRequest
-returns c = rw (c .taken .ensures, c .before .enter .ensures, c .before .before .forwarding .ensures, c .before .before .before .before .security-sent .ensures)
+returns c =
+    let c4 = c .before .before .before .before in
+    rw (c .taken .ensures, c .before .enter .ensures, c .before .before .forwarding .ensures, c4 .security-sent .ensures)
 
 pub forward-request-spec : {M : Type 1} → statement M
 forward-request-spec =

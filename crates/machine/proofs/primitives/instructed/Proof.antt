@@ -16,7 +16,10 @@ forward-arrives-requires c κs = tt
 
 returns : tie.Need-returns
 unfolding instructed
-returns c = rw (c .before .before .before .before .p .given .1, ← c .before .before .kind .ensures, eq-eqb _ _ (c .before .if1 .taken)) (c .forward-arrives .ensures)
+returns c =
+    let c4 = c .before .before .before .before in
+    rw (c4 .p .given .1, ← c .before .before .kind .ensures, eq-eqb _ _ (c .before .if1 .taken))
+    (c .forward-arrives .ensures)
 
 mode-requires : tie.Need-mode-requires
 mode-requires c κs = tt
@@ -41,7 +44,15 @@ forward-confirmed-requires c κs = tt
 
 returns-2 : tie.Need-returns-2
 unfolding instructed
-returns-2 c = rw (c .before .before .before .before .before .p2 .given .1, ← c .before .before .before .kind2 .ensures, eq-eqb _ _ (c .before .before .if2 .taken), ← c .before .reason .ensures) (c .forward-confirmed .ensures)
+returns-2 c =
+    let c3 = c .before .before .before in
+    rw (
+      c3 .before .before .p2 .given .1,
+      ← c3 .kind2 .ensures,
+      eq-eqb _ _ (c .before .before .if2 .taken),
+      ←
+          c .before .reason .ensures,
+    ) (c .forward-confirmed .ensures)
 
 confirmed-requires : tie.Need-confirmed-requires
 confirmed-requires c κs = tt
@@ -96,11 +107,31 @@ closes-requires-2 c κs = tt
 
 returns-3 : tie.Need-returns-3
 unfolding instructed
-returns-3 c = rw (c .before .before .before .before .before .before .p .given .1, ← c .before .before .before .before .kind .ensures, ne-eqb _ _ (c .before .before .before .if1 .left), ← c .before .before .mode .ensures, ← c .before .invited .ensures) (c .handed .ensures)
+returns-3 c =
+    let c3 = c .before .before .before in
+    let c6 = c3 .before .before .before in
+    rw (
+      c6 .p .given .1,
+      ← c3 .before .kind .ensures,
+      ne-eqb _ _ (c3 .if1 .left),
+      ← c .before .before .mode .ensures,
+      ←
+          c .before .invited .ensures,
+    ) (c .handed .ensures)
 
 returns-4 : tie.Need-returns-4
 unfolding instructed
-returns-4 c = rw (c .before .before .before .before .before .before .p2 .given .1, ← c .before .before .before .before .kind2 .ensures, ne-eqb _ _ (c .before .before .before .if2 .left), ← c .before .before .confirmed .ensures, ← c .before .reply-of .ensures) (c .handed2 .ensures)
+returns-4 c =
+    let c3 = c .before .before .before in
+    let c6 = c3 .before .before .before in
+    rw (
+      c6 .p2 .given .1,
+      ← c3 .before .kind2 .ensures,
+      ne-eqb _ _ (c3 .if2 .left),
+      ←
+          c .before .before .confirmed .ensures,
+      ← c .before .reply-of .ensures,
+    ) (c .handed2 .ensures)
 
 returns-5 : tie.Need-returns-5
 unfolding instructed
@@ -116,7 +147,10 @@ returns-7 c = rw (c .before .before .before .p3 .given .1, ← c .before .reply-
 
 returns-8 : tie.Need-returns-8
 unfolding instructed
-returns-8 c = rw (c .before .before .before .enum-told3 .given .1, ← c .before .before .abort-told .ensures, ← c .before .tell .ensures) (c .closes .ensures)
+returns-8 c =
+    let c3 = c .before .before .before in
+    rw (c3 .enum-told3 .given .1, ← c .before .before .abort-told .ensures, ← c .before .tell .ensures)
+    (c .closes .ensures)
 
 returns-9 : tie.Need-returns-9
 unfolding instructed

@@ -27,7 +27,10 @@ ends-at-requires c κs = search needs
 
 -- src/giving.rt:75:1
 returns : tie.Need-returns
-returns c = elements-taken _ _ _ _ _ _ (c .before .before .before .before .before .pre) (c .before .before .direction-of .ensures) (c .before .elements-span .ensures) (c .ends-at .ensures)
+returns c =
+    let c5 = c .before .before .before .before .before in
+    elements-taken _ _ _ _ _ _ (c5 .pre) (c .before .before .direction-of .ensures) (c .before .elements-span .ensures)
+    (c .ends-at .ensures)
 
 pub elements-fit-spec : {M : Type 1} → statement M
 elements-fit-spec =

@@ -14,11 +14,15 @@ forward-fits-requires c κs = search needs
 
 -- src/giving.rt:89:9
 elements-fit-requires : tie.Need-elements-fit-requires
-elements-fit-requires c κs = forward-items _ _ (sym (c .before .before .before .forward-fits .ensures) ∙ c .before .before .if1 .taken)
+elements-fit-requires c κs =
+    let c3 = c .before .before .before in
+    forward-items _ _ (sym (c3 .forward-fits .ensures) ∙ c .before .before .if1 .taken)
 
 -- src/giving.rt:89:9
 returns : tie.Need-returns
-returns c = by-elements _ _ _ _ (c .before .before .before .before .forward-fits .ensures) (c .before .before .before .if1 .taken) (c .elements-fit .ensures)
+returns c =
+    let c3 = c .before .before .before in
+    by-elements _ _ _ _ (c3 .before .forward-fits .ensures) (c3 .if1 .taken) (c .elements-fit .ensures)
 
 -- src/giving.rt:83:1
 returns-2 : tie.Need-returns-2

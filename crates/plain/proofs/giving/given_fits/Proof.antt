@@ -26,19 +26,33 @@ is-absent-requires c κs = search needs
 
 -- src/giving.rt:65:9
 returns-2 : tie.Need-returns-2
-returns-2 c = has-identifier _ _ _ _ _ _ (c .before .before .before .data-fits .ensures) (not-false _ (c .before .before .if1 .left)) _ (c .before .is-absent .ensures) (not-true _ (c .if2 .taken))
+returns-2 c =
+    let c3 = c .before .before .before in
+    has-identifier _ _ _ _ _ _ (c3 .data-fits .ensures) (not-false _ (c .before .before .if1 .left)) _
+    (c .before .is-absent .ensures) (not-true _ (c .if2 .taken))
 
 -- src/giving.rt:69:9
 returns-3 : tie.Need-returns-3
-returns-3 c = has-check _ _ _ _ _ _ (c .before .before .before .before .before .before .data-fits .ensures) (not-false _ (c .before .before .before .before .before .if1 .left)) _ (c .before .before .before .before .is-absent .ensures) (not-false _ (c .before .before .before .if2 .left)) (omega (arith, c .if3 .taken))
+returns-3 c =
+    let c3 = c .before .before .before in
+    let c6 = c3 .before .before .before in
+    has-check _ _ _ _ _ _ (c6 .data-fits .ensures) (not-false _ (c3 .before .before .if1 .left)) _
+    (c3 .before .is-absent .ensures) (not-false _ (c3 .if2 .left)) (omega (arith, c .if3 .taken))
 
 -- src/giving.rt:72:5
 message-fits-requires : tie.Need-message-fits-requires
-message-fits-requires c κs = data-fits _ _ _ _ (sym (c .before .before .before .before .before .before .data-fits .ensures) ∙ not-false _ (c .before .before .before .before .before .if1 .left)) .message
+message-fits-requires c κs =
+    let c5 = c .before .before .before .before .before in
+    data-fits _ _ _ _ (sym (c5 .before .data-fits .ensures) ∙ not-false _ (c5 .if1 .left)) .message
 
 -- src/giving.rt:51:1
 returns-4 : tie.Need-returns-4
-returns-4 c = by-message _ _ _ _ _ _ (c .before .before .before .before .before .before .before .data-fits .ensures) (not-false _ (c .before .before .before .before .before .before .if1 .left)) _ _ (c .before .before .before .before .before .is-absent .ensures) (not-false _ (c .before .before .before .before .if2 .left)) (omega (arith, c .before .if3 .left)) (c .message-fits .ensures)
+returns-4 c =
+    let c4 = c .before .before .before .before in
+    let c7 = c4 .before .before .before in
+    by-message _ _ _ _ _ _ (c7 .data-fits .ensures) (not-false _ (c4 .before .before .if1 .left)) _ _
+    (c4 .before .is-absent .ensures) (not-false _ (c4 .if2 .left)) (omega (arith, c .before .if3 .left))
+    (c .message-fits .ensures)
 
 pub given-fits-spec : {M : Type 1} → statement M
 given-fits-spec =

@@ -19,7 +19,9 @@ enum-known-message c = search needs
 
 -- src/giving.rt:36:23
 add-end : tie.Need-add-end
-add-end c = omega (arith, part-low _ _ _ (c .before .before .message .given .1) (c .before .before .before .before .before .pre))
+add-end c =
+    let c5 = c .before .before .before .before .before in
+    omega (arith, part-low _ _ _ (c .before .before .message .given .1) (c5 .pre))
 
 -- src/giving.rt:37:26
 message-span-requires : tie.Need-message-span-requires
@@ -36,7 +38,10 @@ returns c = rw (c .enum-told .given .1)
 
 -- src/giving.rt:29:1
 returns-2 : tie.Need-returns-2
-returns-2 c = message-taken _ _ _ _ _ _ (c .before .before .before .before .message .given .1) (c .before .before .before .before .before .before .before .pre) (c .before .message-span .ensures) (c .ends-at .ensures)
+returns-2 c =
+    let c4 = c .before .before .before .before in
+    let c7 = c4 .before .before .before in
+    message-taken _ _ _ _ _ _ (c4 .message .given .1) (c7 .pre) (c .before .message-span .ensures) (c .ends-at .ensures)
 
 pub message-fits-spec : {M : Type 1} → statement M
 message-fits-spec =

@@ -33,7 +33,9 @@ heading-refusal-requires c κs = search needs
 -- src/reading.rt:91:9
 returns : tie.Need-returns
 unfolding forwardAt
-returns c = heading-handed _ _ _ _ _ (c .before .before .before .heading-at .ensures) (c .before .enum-told .given .1) (c .heading-refusal .ensures)
+returns c =
+    let c3 = c .before .before .before in
+    heading-handed _ _ _ _ _ (c3 .heading-at .ensures) (c .before .enum-told .given .1) (c .heading-refusal .ensures)
 
 -- src/reading.rt:93:30
 direction-of-requires : tie.Need-direction-of-requires
@@ -58,12 +60,22 @@ refusal-of-requires c κs = search needs
 -- src/reading.rt:95:9
 returns-2 : tie.Need-returns-2
 unfolding forwardAt
-returns-2 c = heading-went _ _ _ _ _ _ (c .before .before .before .before .before .before .before .before .heading-at .ensures) (c .before .before .before .before .before .before .heading .given .1) (handed forwarded.Refused _ _ _ _ _ (rw (c .before .before .before .before .direction-of .ensures) at (c .before .before .before .elements-span .ensures)) (c .before .enum-told2 .given .1) (c .refusal-of .ensures))
+returns-2 c =
+    let c3 = c .before .before .before in
+    let c6 = c3 .before .before .before in
+    heading-went _ _ _ _ _ _ (c6 .before .before .heading-at .ensures) (c6 .heading .given .1) (handed forwarded.Refused
+    _ _ _ _ _ (rw (c3 .before .direction-of .ensures) at (c3 .elements-span .ensures))
+    (c .before .enum-told2 .given .1) (c .refusal-of .ensures))
 
 -- src/reading.rt:86:1
 returns-3 : tie.Need-returns-3
 unfolding forwardAt
-returns-3 c = heading-went _ _ _ _ _ _ (c .before .before .before .before .before .before .before .before .heading-at .ensures) (c .before .before .before .before .before .before .heading .given .1) (went forwarded.Refused _ _ _ _ _ _ (rw (c .before .before .before .before .direction-of .ensures) at (c .before .before .before .elements-span .ensures)) (c .before .span .given .1) refl)
+returns-3 c =
+    let c3 = c .before .before .before in
+    let c6 = c3 .before .before .before in
+    heading-went _ _ _ _ _ _ (c6 .before .before .heading-at .ensures) (c6 .heading .given .1) (went forwarded.Refused _
+    _ _ _ _ _ (rw (c3 .before .direction-of .ensures) at (c3 .elements-span .ensures))
+    (c .before .span .given .1) refl)
 
 pub forward-at-spec : {M : Type 1} → statement M
 forward-at-spec =

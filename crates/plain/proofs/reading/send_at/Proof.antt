@@ -29,7 +29,9 @@ refusal-of-requires c κs = search needs
 -- src/reading.rt:66:9
 returns : tie.Need-returns
 unfolding sendAt
-returns c = handed taken.Refused _ _ _ _ _ (c .before .before .before .message-span .ensures) (c .before .enum-told .given .1) (c .refusal-of .ensures)
+returns c =
+    let c3 = c .before .before .before in
+    handed taken.Refused _ _ _ _ _ (c3 .message-span .ensures) (c .before .enum-told .given .1) (c .refusal-of .ensures)
 
 -- src/reading.rt:68:15
 message-there-requires : tie.Need-message-there-requires
@@ -38,7 +40,10 @@ message-there-requires c κs = search needs
 -- src/reading.rt:61:1
 returns-2 : tie.Need-returns-2
 unfolding sendAt
-returns-2 c = went taken.Refused _ _ _ _ _ _ (c .before .before .before .before .message-span .ensures) (c .before .before .span .given .1) (rw (c .message-there .ensures))
+returns-2 c =
+    let c4 = c .before .before .before .before in
+    went taken.Refused _ _ _ _ _ _ (c4 .message-span .ensures) (c .before .before .span .given .1)
+    (rw (c .message-there .ensures))
 
 pub send-at-spec : {M : Type 1} → statement M
 send-at-spec =

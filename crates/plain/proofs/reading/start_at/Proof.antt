@@ -31,7 +31,9 @@ refusal-of-requires c κs = search needs
 -- src/reading.rt:77:9
 returns : tie.Need-returns
 unfolding startAt
-returns c = handed taken.Refused _ _ _ _ _ (c .before .before .before .bit-field .ensures) (c .before .enum-told .given .1) (c .refusal-of .ensures)
+returns c =
+    let c3 = c .before .before .before in
+    handed taken.Refused _ _ _ _ _ (c3 .bit-field .ensures) (c .before .enum-told .given .1) (c .refusal-of .ensures)
 
 -- src/reading.rt:80:26
 no-message-requires : tie.Need-no-message-requires
@@ -40,7 +42,10 @@ no-message-requires c κs = search needs
 -- src/reading.rt:80:9
 returns-2 : tie.Need-returns-2
 unfolding startAt
-returns-2 c = went taken.Refused _ _ _ _ _ _ (c .before .before .before .before .before .bit-field .ensures) (c .before .before .before .choice .given .1) (rw (eq-eqb _ _ (c .before .if1 .taken), c .no-message .ensures))
+returns-2 c =
+    let c3 = c .before .before .before in
+    went taken.Refused _ _ _ _ _ _ (c3 .before .before .bit-field .ensures) (c3 .choice .given .1)
+    (rw (eq-eqb _ _ (c .before .if1 .taken), c .no-message .ensures))
 
 -- src/reading.rt:82:5
 send-at-requires : tie.Need-send-at-requires
@@ -49,7 +54,10 @@ send-at-requires c κs = search needs
 -- src/reading.rt:72:1
 returns-3 : tie.Need-returns-3
 unfolding startAt
-returns-3 c = went taken.Refused _ _ _ _ _ _ (c .before .before .before .before .before .bit-field .ensures) (c .before .before .before .choice .given .1) (rw (ne-eqb _ _ (c .before .if1 .left)) (c .send-at .ensures))
+returns-3 c =
+    let c3 = c .before .before .before in
+    went taken.Refused _ _ _ _ _ _ (c3 .before .before .bit-field .ensures) (c3 .choice .given .1)
+    (rw (ne-eqb _ _ (c .before .if1 .left)) (c .send-at .ensures))
 
 pub start-at-spec : {M : Type 1} → statement M
 start-at-spec =

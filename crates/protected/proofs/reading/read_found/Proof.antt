@@ -30,7 +30,9 @@ bare-requires c κs = search needs
 
 -- src/reading.rt:68:9
 returns : tie.Need-returns
-returns c = c .bare .ensures ∙ found-not _ _ _ (sym (c .before .before .before .read-apdu .ensures) ∙ c .before .enum-told .given .1)
+returns c =
+    let c3 = c .before .before .before in
+    c .bare .ensures ∙ found-not _ _ _ (sym (c3 .read-apdu .ensures) ∙ c .before .enum-told .given .1)
 
 -- src/reading.rt:71:25
 enum-known-a-2 : tie.Need-enum-known-a-2
@@ -70,7 +72,10 @@ enum-known-a-6 c = search needs
 
 -- src/reading.rt:83:29
 forward-run-requires : tie.Need-forward-run-requires
-forward-run-requires c κs = forward-small _ _ _ (sym (c .before .before .before .before .before .before .read-apdu .ensures) ∙ c .before .before .before .before .a .given .1 ∙ ap old.Is (c .before .a6 .given .1))
+forward-run-requires c κs =
+    let c4 = c .before .before .before .before in
+    forward-small _ _ _
+    (sym (c4 .before .before .read-apdu .ensures) ∙ c4 .a .given .1 ∙ ap old.Is (c .before .a6 .given .1))
 
 -- src/reading.rt:84:31
 enum-known-a-7 : tie.Need-enum-known-a-7
@@ -82,27 +87,45 @@ bare-requires-4 c κs = search needs
 
 -- src/reading.rt:64:1
 returns-2 : tie.Need-returns-2
-returns-2 c = c .bare2 .ensures ∙ found-is _ _ _ (sym (c .before .before .before .before .before .before .before .read-apdu .ensures) ∙ c .before .before .before .before .before .a .given .1 ∙ ap old.Is (c .before .before .a2 .given .1))
+returns-2 c =
+    let c5 = c .before .before .before .before .before in
+    c .bare2 .ensures ∙ found-is _ _ _
+    (sym (c5 .before .before .read-apdu .ensures) ∙ c5 .a .given .1 ∙ ap old.Is (c .before .before .a2 .given .1))
 
 -- src/reading.rt:64:1
 returns-3 : tie.Need-returns-3
-returns-3 c = c .bare3 .ensures ∙ found-is _ _ _ (sym (c .before .before .before .before .before .before .before .read-apdu .ensures) ∙ c .before .before .before .before .before .a .given .1 ∙ ap old.Is (c .before .before .a3 .given .1))
+returns-3 c =
+    let c5 = c .before .before .before .before .before in
+    c .bare3 .ensures ∙ found-is _ _ _
+    (sym (c5 .before .before .read-apdu .ensures) ∙ c5 .a .given .1 ∙ ap old.Is (c .before .before .a3 .given .1))
 
 -- src/reading.rt:64:1
 returns-4 : tie.Need-returns-4
-returns-4 c = rw (c .content-of .ensures) (found-is _ _ _ (sym (c .before .before .before .before .before .before .before .read-apdu .ensures) ∙ c .before .before .before .before .before .a .given .1 ∙ ap old.Is (c .before .before .a4 .given .1)))
+returns-4 c =
+    let c5 = c .before .before .before .before .before in
+    rw (c .content-of .ensures) (found-is _ _ _ (sym (c5 .before .before .read-apdu .ensures) ∙ c5 .a .given .1 ∙ ap
+    old.Is (c .before .before .a4 .given .1)))
 
 -- src/reading.rt:64:1
 returns-5 : tie.Need-returns-5
-returns-5 c = rw (c .content-of2 .ensures) (found-is _ _ _ (sym (c .before .before .before .before .before .before .before .read-apdu .ensures) ∙ c .before .before .before .before .before .a .given .1 ∙ ap old.Is (c .before .before .a5 .given .1)))
+returns-5 c =
+    let c5 = c .before .before .before .before .before in
+    rw (c .content-of2 .ensures) (found-is _ _ _ (sym (c5 .before .before .read-apdu .ensures) ∙ c5 .a .given .1 ∙ ap
+    old.Is (c .before .before .a5 .given .1)))
 
 -- src/reading.rt:64:1
 returns-6 : tie.Need-returns-6
-returns-6 c = c .forward-run .ensures ∙ found-is _ _ _ (sym (c .before .before .before .before .before .before .before .read-apdu .ensures) ∙ c .before .before .before .before .before .a .given .1 ∙ ap old.Is (c .before .before .a6 .given .1))
+returns-6 c =
+    let c5 = c .before .before .before .before .before in
+    c .forward-run .ensures ∙ found-is _ _ _
+    (sym (c5 .before .before .read-apdu .ensures) ∙ c5 .a .given .1 ∙ ap old.Is (c .before .before .a6 .given .1))
 
 -- src/reading.rt:64:1
 returns-7 : tie.Need-returns-7
-returns-7 c = c .bare4 .ensures ∙ found-is _ _ _ (sym (c .before .before .before .before .before .before .before .read-apdu .ensures) ∙ c .before .before .before .before .before .a .given .1 ∙ ap old.Is (c .before .before .a7 .given .1))
+returns-7 c =
+    let c5 = c .before .before .before .before .before in
+    c .bare4 .ensures ∙ found-is _ _ _
+    (sym (c5 .before .before .read-apdu .ensures) ∙ c5 .a .given .1 ∙ ap old.Is (c .before .before .a7 .given .1))
 
 pub read-found-spec : {M : Type 1} → statement M
 read-found-spec =

@@ -80,7 +80,9 @@ same-length c = search needs
 
 -- src/writing.rt:62:1
 returns-6 : tie.Need-returns-6
-returns-6 c = rw (c .before .before .before .before .before .a .given .1) (c .before .before .put-abort-provider .ensures ∙ provider-replies _ _ _)
+returns-6 c =
+    let c5 = c .before .before .before .before .before in
+    rw (c5 .a .given .1) (c .before .before .put-abort-provider .ensures ∙ provider-replies _ _ _)
 
 -- src/writing.rt:62:1
 returns-7 : tie.Need-returns-7
@@ -93,7 +95,9 @@ same-length-2 c = search needs
 
 -- src/writing.rt:62:1
 returns-8 : tie.Need-returns-8
-returns-8 c = rw (c .before .before .before .before .before .a2 .given .1) (c .before .before .put-forward-response .ensures ∙ response-replies _ _ _)
+returns-8 c =
+    let c5 = c .before .before .before .before .before in
+    rw (c5 .a2 .given .1) (c .before .before .put-forward-response .ensures ∙ response-replies _ _ _)
 
 pub put-reply-spec : {M : Type 1} → statement M
 put-reply-spec =

@@ -94,7 +94,11 @@ same-length c = search needs
 
 -- src/writing.rt:38:1
 returns-3 : tie.Need-returns-3
-returns-3 c = rw (c .before .before .before .before .before .before .before .a .given .1) (c .before .before .put-start .ensures ∙ start-sends _ _ _ _ _ _ _ (c .before .before .before .before .mode-of .ensures) (c .before .before .before .data-of .ensures))
+returns-3 c =
+    let c3 = c .before .before .before in
+    let c7 = c3 .before .before .before .before in
+    rw (c7 .a .given .1) (c .before .before .put-start .ensures ∙ start-sends _ _ _ _ _ _ _
+    (c3 .before .mode-of .ensures) (c3 .data-of .ensures))
 
 -- src/writing.rt:38:1
 same-length-2 : tie.Need-same-length-2
@@ -102,7 +106,10 @@ same-length-2 c = search needs
 
 -- src/writing.rt:38:1
 returns-4 : tie.Need-returns-4
-returns-4 c = rw (c .before .before .before .before .before .enum-told3 .given .1) (c .before .before .put-send .ensures ∙ send-sends _ _ _ _ _ (c .before .before .before .data-of2 .ensures))
+returns-4 c =
+    let c3 = c .before .before .before in
+    rw (c3 .before .before .enum-told3 .given .1)
+    (c .before .before .put-send .ensures ∙ send-sends _ _ _ _ _ (c3 .data-of2 .ensures))
 
 -- src/writing.rt:38:1
 same-length-3 : tie.Need-same-length-3
@@ -110,7 +117,9 @@ same-length-3 c = search needs
 
 -- src/writing.rt:38:1
 returns-5 : tie.Need-returns-5
-returns-5 c = rw (c .before .before .before .before .before .a2 .given .1) (c .before .before .put-abort-user .ensures ∙ user-sends _ _ _ _ _)
+returns-5 c =
+    let c5 = c .before .before .before .before .before in
+    rw (c5 .a2 .given .1) (c .before .before .put-abort-user .ensures ∙ user-sends _ _ _ _ _)
 
 -- src/writing.rt:38:1
 same-length-4 : tie.Need-same-length-4
@@ -118,7 +127,9 @@ same-length-4 c = search needs
 
 -- src/writing.rt:38:1
 returns-6 : tie.Need-returns-6
-returns-6 c = rw (c .before .before .before .before .before .a3 .given .1) (c .before .before .put-abort-provider .ensures ∙ provider-sends _ _ _ _ _)
+returns-6 c =
+    let c5 = c .before .before .before .before .before in
+    rw (c5 .a3 .given .1) (c .before .before .put-abort-provider .ensures ∙ provider-sends _ _ _ _ _)
 
 -- src/writing.rt:38:1
 returns-7 : tie.Need-returns-7
@@ -131,7 +142,9 @@ same-length-5 c = search needs
 
 -- src/writing.rt:38:1
 returns-8 : tie.Need-returns-8
-returns-8 c = rw (c .before .before .before .before .before .a4 .given .1) (c .before .before .put-forward-response .ensures ∙ response-sends _ _ _ _ _)
+returns-8 c =
+    let c5 = c .before .before .before .before .before in
+    rw (c5 .a4 .given .1) (c .before .before .put-forward-response .ensures ∙ response-sends _ _ _ _ _)
 
 pub put-sent-spec : {M : Type 1} → statement M
 put-sent-spec =

@@ -27,7 +27,9 @@ same-length c = search needs
 -- src/writing.rt:92:9
 returns : tie.Need-returns
 unfolding shows
-returns c = c .before .before .put-passed .ensures ∙ passed-shows _ _ _ _ ∙ rw (← c .before .before .before .before .before .before .kind .ensures, c .before .before .before .before .before .if1 .taken)
+returns c =
+    let c5 = c .before .before .before .before .before in
+    c .before .before .put-passed .ensures ∙ passed-shows _ _ _ _ ∙ rw (← c5 .before .kind .ensures, c5 .if1 .taken)
 
 -- src/writing.rt:94:25
 data-of-requires : tie.Need-data-of-requires
@@ -43,7 +45,11 @@ same-length-2 c = search needs
 
 -- src/writing.rt:85:1
 returns-2 : tie.Need-returns-2
-returns-2 c = c .before .before .put-data .ensures ∙ data-shows _ _ _ _ (c .before .before .before .data-of .ensures) (rw (← c .before .before .before .before .before .before .kind .ensures) (ne-eqb _ _ (c .before .before .before .before .before .if1 .left)))
+returns-2 c =
+    let c3 = c .before .before .before in
+    let c6 = c3 .before .before .before in
+    c .before .before .put-data .ensures ∙ data-shows _ _ _ _ (c3 .data-of .ensures)
+    (rw (← c6 .kind .ensures) (ne-eqb _ _ (c3 .before .before .if1 .left)))
 
 pub put-shown-spec : {M : Type 1} → statement M
 put-shown-spec =

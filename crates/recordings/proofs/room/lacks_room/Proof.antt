@@ -28,19 +28,38 @@ is-enough-requires-2 c κs = c .before .before .before .before .before .before .
 
 -- src/room.rt:40:27
 add-is-enough : tie.Need-add-is-enough
-add-is-enough c = omega (arith, c .before .before .before .before .before .before .before .before .before .before .before .before .pre .0, c .before .before .before .before .before .before .before .before .before .before .before .before .pre .1)
+add-is-enough c =
+    let c12 = c .before .before .before .before .before .before .before .before .before .before .before .before in
+    omega (arith, c12 .pre .0, c12 .pre .1)
 
 -- src/room.rt:40:16
 is-enough-requires-3 : tie.Need-is-enough-requires-3
-is-enough-requires-3 c κs = omega (arith, c .before .before .before .before .before .before .before .before .before .before .before .before .pre .0, c .before .before .before .before .before .before .before .before .before .before .before .before .pre .1)
+is-enough-requires-3 c κs =
+    let c12 = c .before .before .before .before .before .before .before .before .before .before .before .before in
+    omega (arith, c12 .pre .0, c12 .pre .1)
 
 -- src/room.rt:41:17
 returns : tie.Need-returns
-returns c = lacks-none (jobs mostBits (c .before .before .before .before .before .before .before .before .before .before .before .before .before .before .args .first .now)) (jobs mostBits (c .before .before .before .before .before .before .before .before .before .before .before .before .before .before .args .second .now)) (c .before .before .before .before .before .before .before .before .before .before .before .before .before .before .args .left .now) (c .before .before .before .before .before .before .before .before .before .before .before .before .before .before .args .right .now) (c .before .before .before .before .before .before .before .before .before .before .before .before .before .before .args .twice .now) (first-fits mostBits (c .before .before .before .before .before .before .before .before .before .before .before .before .before .before .args .first .now) (c .before .before .before .before .before .before .before .before .before .before .before .before .before .before .args .second .now) (one (c .before .before .before .before .before .before .before .before .before .before .before .before)) (two (c .before .before .before .before .before .before .before .before .before .before .before .before)) (c .before .before .before .before .before .before .before .before .before .before .before .before .before .before .args .left .now) (sym (c .before .before .before .before .before .is-enough .ensures) ∙ c .before .before .before .before .if1 .taken)) (second-fits mostBits (c .before .before .before .before .before .before .before .before .before .before .before .before .before .before .args .first .now) (c .before .before .before .before .before .before .before .before .before .before .before .before .before .before .args .second .now) (one (c .before .before .before .before .before .before .before .before .before .before .before .before)) (two (c .before .before .before .before .before .before .before .before .before .before .before .before)) (c .before .before .before .before .before .before .before .before .before .before .before .before .before .before .args .right .now) (sym (c .before .before .before .is-enough2 .ensures) ∙ c .before .before .if2 .taken)) (third-fits mostBits (c .before .before .before .before .before .before .before .before .before .before .before .before .before .before .args .first .now) (c .before .before .before .before .before .before .before .before .before .before .before .before .before .before .args .second .now) (one (c .before .before .before .before .before .before .before .before .before .before .before .before)) (two (c .before .before .before .before .before .before .before .before .before .before .before .before)) (c .before .before .before .before .before .before .before .before .before .before .before .before .before .before .args .twice .now) (sym (c .before .is-enough3 .ensures) ∙ c .if3 .taken))
+returns c =
+    let c3 = c .before .before .before in
+    let c12 = c3 .before .before .before .before .before .before .before .before .before in
+    lacks-none (jobs mostBits (c12 .before .before .args .first .now))
+    (jobs mostBits (c12 .before .before .args .second .now)) (c12 .before .before .args .left .now)
+    (c12 .before .before .args .right .now) (c12 .before .before .args .twice .now) (first-fits mostBits
+    (c12 .before .before .args .first .now) (c12 .before .before .args .second .now) (one (c12)) (two (c12))
+    (c12 .before .before .args .left .now)
+    (sym (c3 .before .before .is-enough .ensures) ∙ c3 .before .if1 .taken)) (second-fits mostBits
+    (c12 .before .before .args .first .now) (c12 .before .before .args .second .now) (one (c12)) (two (c12))
+    (c12 .before .before .args .right .now) (sym (c3 .is-enough2 .ensures) ∙ c .before .before .if2 .taken)) (
+    third-fits mostBits (c12 .before .before .args .first .now) (c12 .before .before .args .second .now)
+    (one (c12)) (two (c12)) (c12 .before .before .args .twice .now)
+    (sym (c .before .is-enough3 .ensures) ∙ c .if3 .taken))
 
 -- src/room.rt:45:9
 count-jobs-requires : tie.Need-count-jobs-requires
-count-jobs-requires c κs = (c .before .before .before .before .before .before .before .before .before .before .before .before .before .pre .0, c .before .before .before .before .before .before .before .before .before .before .before .before .before .pre .1, c .before .before .before .before .before .before .before .before .before .before .before .before .before .pre .2, c .before .before .before .before .before .before .before .before .before .before .before .before .before .pre .3, c .before .before .before .before .before .before .before .before .before .before .before .before .before .pre .4)
+count-jobs-requires c κs =
+    let c13 = c .before .before .before .before .before .before .before .before .before .before .before .before .before in
+    (c13 .pre .0, c13 .pre .1, c13 .pre .2, c13 .pre .3, c13 .pre .4)
 
 -- src/room.rt:47:9
 same-length : tie.Need-same-length
@@ -56,7 +75,12 @@ same-length-3 c = search needs
 
 -- src/room.rt:47:9
 returns-2 : tie.Need-returns-2
-returns-2 c = lacks-first (jobs mostBits (c .before .before .before .before .before .before .before .before .before .before .before .before .before .before .before .before .before .before .before .before .before .before .args .first .now)) (jobs mostBits (c .before .before .before .before .before .before .before .before .before .before .before .before .before .before .before .before .before .before .before .before .before .before .args .second .now)) (c .before .before .before .before .before .before .before .before .before .before .before .before .before .before .before .before .before .before .before .before .before .before .args .left .now) (c .before .before .before .before .before .before .before .before .before .before .before .before .before .before .before .before .before .before .before .before .before .before .args .right .now) (c .before .before .before .before .before .before .before .before .before .before .before .before .before .before .before .before .before .before .before .before .before .before .args .twice .now) (c .before .before .before .before .before .before .before .before .count-jobs .result) (c .before .before .before .before .before .before .before .before .count-jobs .ensures) (c .if4 .taken)
+returns-2 c =
+    let c8 = c .before .before .before .before .before .before .before .before in
+    let c22 = c8 .before .before .before .before .before .before .before .before .before .before .before .before .before .before in
+    lacks-first (jobs mostBits (c22 .args .first .now)) (jobs mostBits (c22 .args .second .now)) (c22 .args .left .now)
+    (c22 .args .right .now) (c22 .args .twice .now) (c8 .count-jobs .result) (c8 .count-jobs .ensures)
+    (c .if4 .taken)
 
 -- src/room.rt:50:9
 same-length-4 : tie.Need-same-length-4
@@ -72,7 +96,12 @@ same-length-6 c = search needs
 
 -- src/room.rt:50:9
 returns-3 : tie.Need-returns-3
-returns-3 c = lacks-second (jobs mostBits (c .before .before .before .before .before .before .before .before .before .before .before .before .before .before .before .before .before .before .before .before .before .before .before .before .args .first .now)) (jobs mostBits (c .before .before .before .before .before .before .before .before .before .before .before .before .before .before .before .before .before .before .before .before .before .before .before .before .args .second .now)) (c .before .before .before .before .before .before .before .before .before .before .before .before .before .before .before .before .before .before .before .before .before .before .before .before .args .left .now) (c .before .before .before .before .before .before .before .before .before .before .before .before .before .before .before .before .before .before .before .before .before .before .before .before .args .right .now) (c .before .before .before .before .before .before .before .before .before .before .before .before .before .before .before .before .before .before .before .before .before .before .before .before .args .twice .now) (c .before .before .before .before .before .before .before .before .before .before .count-jobs .result) (c .before .before .before .before .before .before .before .before .before .before .count-jobs .ensures) (c .before .before .if4 .left) (c .if5 .taken)
+returns-3 c =
+    let c10 = c .before .before .before .before .before .before .before .before .before .before in
+    let c24 = c10 .before .before .before .before .before .before .before .before .before .before .before .before .before .before in
+    lacks-second (jobs mostBits (c24 .args .first .now)) (jobs mostBits (c24 .args .second .now)) (c24 .args .left .now)
+    (c24 .args .right .now) (c24 .args .twice .now) (c10 .count-jobs .result) (c10 .count-jobs .ensures)
+    (c .before .before .if4 .left) (c .if5 .taken)
 
 -- src/room.rt:25:1
 same-length-7 : tie.Need-same-length-7
@@ -88,7 +117,13 @@ same-length-9 c = search needs
 
 -- src/room.rt:25:1
 returns-4 : tie.Need-returns-4
-returns-4 c = lacks-third (jobs mostBits (c .before .before .before .before .before .before .before .before .before .before .before .before .before .before .before .before .before .before .before .before .before .before .before .before .before .args .first .now)) (jobs mostBits (c .before .before .before .before .before .before .before .before .before .before .before .before .before .before .before .before .before .before .before .before .before .before .before .before .before .args .second .now)) (c .before .before .before .before .before .before .before .before .before .before .before .before .before .before .before .before .before .before .before .before .before .before .before .before .before .args .left .now) (c .before .before .before .before .before .before .before .before .before .before .before .before .before .before .before .before .before .before .before .before .before .before .before .before .before .args .right .now) (c .before .before .before .before .before .before .before .before .before .before .before .before .before .before .before .before .before .before .before .before .before .before .before .before .before .args .twice .now) (c .before .before .before .before .before .before .before .before .before .before .before .count-jobs .result) (c .before .before .before .before .before .before .before .before .before .before .before .count-jobs .ensures) (c .before .before .before .if4 .left) (c .before .if5 .left)
+returns-4 c =
+    let c3 = c .before .before .before in
+    let c11 = c3 .before .before .before .before .before .before .before .before in
+    let c25 = c11 .before .before .before .before .before .before .before .before .before .before .before .before .before .before in
+    lacks-third (jobs mostBits (c25 .args .first .now)) (jobs mostBits (c25 .args .second .now)) (c25 .args .left .now)
+    (c25 .args .right .now) (c25 .args .twice .now) (c11 .count-jobs .result) (c11 .count-jobs .ensures)
+    (c3 .if4 .left) (c .before .if5 .left)
 
 pub lacks-room-spec : {M : Type 1} → statement M
 lacks-room-spec =

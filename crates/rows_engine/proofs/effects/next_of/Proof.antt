@@ -23,7 +23,12 @@ number-after-requires-2 : tie.Need-number-after-requires-2
 number-after-requires-2 c κs = tt
 
 returns : tie.Need-returns
-returns c = next-made (c .before .before .before .before .before .before .before .args .r) (c .before .before .before .before .before .before .before .args .g) (c .before .before .before .before .before .before .before .args .o) _ _ _ _ _ _ (c .before .before .before .before .before .state-after .ensures) (c .before .before .before .before .flag-after .ensures) (c .before .before .before .flag-after2 .ensures) (c .before .before .flag-after3 .ensures) (c .before .number-after .ensures) (c .number-after2 .ensures)
+returns c =
+    let c3 = c .before .before .before in
+    let c7 = c3 .before .before .before .before in
+    next-made (c7 .args .r) (c7 .args .g) (c7 .args .o) _ _ _ _ _ _ (c3 .before .before .state-after .ensures)
+    (c3 .before .flag-after .ensures) (c3 .flag-after2 .ensures) (c .before .before .flag-after3 .ensures)
+    (c .before .number-after .ensures) (c .number-after2 .ensures)
 
 pub next-of-spec : {M : Type 1} → statement M
 next-of-spec = tie.close (tie.spec state-after-requires flag-after-requires flag-after-requires-2 flag-after-requires-3 number-after-requires number-after-requires-2 returns)

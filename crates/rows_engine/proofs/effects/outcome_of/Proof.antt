@@ -23,7 +23,11 @@ hands-requires : tie.Need-hands-requires
 hands-requires c κs = tt
 
 returns : tie.Need-returns
-returns c = made _ _ _ _ _ _ _ _ _ (c .before .before .before .before .before .refusal-is .ensures) (c .before .before .before .before .next-of .ensures) (c .before .before .before .invokes .ensures) (c .before .before .indication-of .ensures) (c .before .apdu-of .ensures) (c .hands .ensures)
+returns c =
+    let c3 = c .before .before .before in
+    made _ _ _ _ _ _ _ _ _ (c3 .before .before .refusal-is .ensures) (c3 .before .next-of .ensures)
+    (c3 .invokes .ensures) (c .before .before .indication-of .ensures) (c .before .apdu-of .ensures)
+    (c .hands .ensures)
 
 pub outcome-of-spec : {M : Type 1} → statement M
 outcome-of-spec = tie.close (tie.spec refusal-is-requires next-of-requires invokes-requires indication-of-requires apdu-of-requires hands-requires returns)

@@ -19,7 +19,15 @@ pick-requires-4 : tie.Need-pick-requires-4
 pick-requires-4 c κs = tt
 
 returns : tie.Need-returns
-returns c = rw (c .pick4 .ensures, c .before .pick3 .ensures, c .before .before .pick2 .ensures, c .before .before .before .pick .ensures, c .before .before .before .before .kind .ensures)
+returns c =
+    let c3 = c .before .before .before in
+    rw (
+      c .pick4 .ensures,
+      c .before .pick3 .ensures,
+      c .before .before .pick2 .ensures,
+      c3 .pick .ensures,
+      c3 .before .kind .ensures,
+    )
 
 pub abort-condition-spec : {M : Type 1} → statement M
 abort-condition-spec = tie.close (tie.spec kind-requires pick-requires pick-requires-2 pick-requires-3 pick-requires-4 returns)

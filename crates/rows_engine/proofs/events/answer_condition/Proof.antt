@@ -19,7 +19,15 @@ pdu-first-requires : tie.Need-pdu-first-requires
 pdu-first-requires c κs = tt
 
 returns : tie.Need-returns
-returns c = rw (c .pdu-first .ensures, c .before .pick2 .ensures, c .before .before .pick .ensures, c .before .before .before .send-allowed .ensures, c .before .before .before .before .kind .ensures)
+returns c =
+    let c3 = c .before .before .before in
+    rw (
+      c .pdu-first .ensures,
+      c .before .pick2 .ensures,
+      c .before .before .pick .ensures,
+      c3 .send-allowed .ensures,
+      c3 .before .kind .ensures,
+    )
 
 pub answer-condition-spec : {M : Type 1} → statement M
 answer-condition-spec = tie.close (tie.spec kind-requires send-allowed-requires pick-requires pick-requires-2 pdu-first-requires returns)

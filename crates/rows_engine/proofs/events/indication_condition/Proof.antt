@@ -13,7 +13,9 @@ differs-requires : tie.Need-differs-requires
 differs-requires c κs = tt
 
 returns-2 : tie.Need-returns-2
-returns-2 c = rw (← c .before .before .before .fits2 .ensures, c .before .before .if1 .left, ← c .before .differs .ensures, c .if2 .taken)
+returns-2 c =
+    let c3 = c .before .before .before in
+    rw (← c3 .fits2 .ensures, c .before .before .if1 .left, ← c .before .differs .ensures, c .if2 .taken)
 
 start-condition-requires : tie.Need-start-condition-requires
 start-condition-requires c κs = tt
@@ -22,7 +24,16 @@ pdu-first-requires : tie.Need-pdu-first-requires
 pdu-first-requires c κs = tt
 
 returns-3 : tie.Need-returns-3
-returns-3 c = rw (← c .before .before .before .before .before .fits2 .ensures, c .before .before .before .before .if1 .left, ← c .before .before .before .differs .ensures, c .before .before .if2 .left, c .pdu-first .ensures, c .before .start-condition .ensures)
+returns-3 c =
+    let c3 = c .before .before .before in
+    rw (
+      ← c3 .before .before .fits2 .ensures,
+      c3 .before .if1 .left,
+      ← c3 .differs .ensures,
+      c .before .before .if2 .left,
+      c .pdu-first .ensures,
+      c .before .start-condition .ensures,
+    )
 
 pub indication-condition-spec : {M : Type 1} → statement M
 indication-condition-spec = tie.close (tie.spec fits-requires returns differs-requires returns-2 start-condition-requires pdu-first-requires returns-3)

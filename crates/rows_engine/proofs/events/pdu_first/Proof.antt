@@ -16,7 +16,9 @@ pick-requires-3 : tie.Need-pick-requires-3
 pick-requires-3 c κs = tt
 
 returns : tie.Need-returns
-returns c = rw (c .pick3 .ensures, c .before .pick2 .ensures, c .before .before .pick .ensures, c .before .before .before .kind .ensures)
+returns c =
+    let c3 = c .before .before .before in
+    rw (c .pick3 .ensures, c .before .pick2 .ensures, c .before .before .pick .ensures, c3 .kind .ensures)
 
 pub pdu-first-spec : {M : Type 1} → statement M
 pdu-first-spec = tie.close (tie.spec kind-requires pick-requires pick-requires-2 pick-requires-3 returns)

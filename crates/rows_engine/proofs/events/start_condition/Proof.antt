@@ -31,7 +31,20 @@ pick-requires-4 : tie.Need-pick-requires-4
 pick-requires-4 c κs = tt
 
 returns : tie.Need-returns
-returns c = rw (c .pick4 .ensures, c .before .pick3 .ensures, c .before .before .pick2 .ensures, c .before .before .before .pick .ensures, c .before .before .before .before .peer-fits .ensures, c .before .before .before .before .before .mode .ensures, c .before .before .before .before .before .before .forward-condition .ensures, c .before .before .before .before .before .before .before .from-centre .ensures, c .before .before .before .before .before .before .before .before .kind .ensures)
+returns c =
+    let c3 = c .before .before .before in
+    let c6 = c3 .before .before .before in
+    rw (
+      c .pick4 .ensures,
+      c .before .pick3 .ensures,
+      c .before .before .pick2 .ensures,
+      c3 .pick .ensures,
+      c3 .before .peer-fits .ensures,
+      c3 .before .before .mode .ensures,
+      c6 .forward-condition .ensures,
+      c6 .before .from-centre .ensures,
+      c6 .before .before .kind .ensures,
+    )
 
 pub start-condition-spec : {M : Type 1} → statement M
 start-condition-spec = tie.close (tie.spec kind-requires from-centre-requires forward-condition-requires mode-requires peer-fits-requires pick-requires pick-requires-2 pick-requires-3 pick-requires-4 returns)

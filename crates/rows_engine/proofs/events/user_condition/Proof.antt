@@ -34,7 +34,9 @@ returns-2 : tie.Need-returns-2
 returns-2 c = rw (c .enum-told2 .given .1)
 
 returns-3 : tie.Need-returns-3
-returns-3 c = rw (c .before .before .struct-known .given .1, c .before .before .before .before .u .given .1, c .pick2 .ensures, c .before .pick .ensures)
+returns-3 c =
+    let c4 = c .before .before .before .before in
+    rw (c .before .before .struct-known .given .1, c4 .u .given .1, c .pick2 .ensures, c .before .pick .ensures)
 
 returns-4 : tie.Need-returns-4
 returns-4 c = rw (c .enum-told3 .given .1)

@@ -61,7 +61,9 @@ returns : tie.Need-returns
 returns c = rw (c .before .before .before .u .given .1, c .parameters .ensures, c .before .carried .ensures)
 
 returns-2 : tie.Need-returns-2
-returns-2 c = rw (c .before .before .before .before .u2 .given .1, c .parameters2 .ensures, c .before .sent-pdu .ensures, c .before .before .carried2 .ensures)
+returns-2 c =
+    let c4 = c .before .before .before .before in
+    rw (c4 .u2 .given .1, c .parameters2 .ensures, c .before .sent-pdu .ensures, c .before .before .carried2 .ensures)
 
 returns-3 : tie.Need-returns-3
 returns-3 c = rw (c .before .before .u3 .given .1, c .parameters3 .ensures)

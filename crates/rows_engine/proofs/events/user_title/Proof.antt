@@ -52,7 +52,9 @@ returns : tie.Need-returns
 returns c = rw (c .before .before .before .u .given .1, c .pick .ensures, c .before .is-dsc .ensures)
 
 returns-2 : tie.Need-returns-2
-returns-2 c = rw (c .before .before .before .before .u2 .given .1, c .pick4 .ensures, c .before .pick3 .ensures, c .before .before .pick2 .ensures)
+returns-2 c =
+    let c4 = c .before .before .before .before in
+    rw (c4 .u2 .given .1, c .pick4 .ensures, c .before .pick3 .ensures, c .before .before .pick2 .ensures)
 
 returns-3 : tie.Need-returns-3
 returns-3 c = rw (c .enum-told .given .1)
@@ -61,7 +63,9 @@ returns-4 : tie.Need-returns-4
 returns-4 c = rw (c .before .before .u3 .given .1, c .pick5 .ensures)
 
 returns-5 : tie.Need-returns-5
-returns-5 c = rw (c .before .before .before .before .u4 .given .1, c .pick8 .ensures, c .before .pick7 .ensures, c .before .before .pick6 .ensures)
+returns-5 c =
+    let c4 = c .before .before .before .before in
+    rw (c4 .u4 .given .1, c .pick8 .ensures, c .before .pick7 .ensures, c .before .before .pick6 .ensures)
 
 returns-6 : tie.Need-returns-6
 returns-6 c = rw (c .enum-told2 .given .1)

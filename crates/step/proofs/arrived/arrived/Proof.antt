@@ -28,11 +28,17 @@ read-again-requires c κs = search needs
 
 -- src/arrived.rt:241:13
 returns : tie.Need-returns
-returns c = read-twice _ _ _ _ _ _ (c .before .before .before .before .before .if1 .taken) _ (c .before .before .before .before .reads-as .ensures) _ (c .before .before .before .read-as .ensures) _ (c .before .before .reads-again .ensures) (c .before .if2 .taken) _ (c .read-again .ensures)
+returns c =
+    let c3 = c .before .before .before in
+    read-twice _ _ _ _ _ _ (c3 .before .before .if1 .taken) _ (c3 .before .reads-as .ensures) _ (c3 .read-as .ensures) _
+    (c .before .before .reads-again .ensures) (c .before .if2 .taken) _ (c .read-again .ensures)
 
 -- src/arrived.rt:243:9
 returns-2 : tie.Need-returns-2
-returns-2 c = read-once _ _ _ _ _ _ (c .before .before .before .before .if1 .taken) _ (c .before .before .before .reads-as .ensures) _ (c .before .before .read-as .ensures) _ (c .before .reads-again .ensures) (c .if2 .left)
+returns-2 c =
+    let c3 = c .before .before .before in
+    read-once _ _ _ _ _ _ (c3 .before .if1 .taken) _ (c3 .reads-as .ensures) _ (c .before .before .read-as .ensures) _
+    (c .before .reads-again .ensures) (c .if2 .left)
 
 -- src/arrived.rt:245:5
 bare-requires : tie.Need-bare-requires

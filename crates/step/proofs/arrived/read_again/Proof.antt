@@ -34,7 +34,9 @@ enum-told c = search needs
 -- src/arrived.rt:222:9
 returns-2 : tie.Need-returns-2
 unfolding orAgain again
-returns-2 c = rw (← c .before .before .before .before .kind .ensures, c .before .before .before .if1 .left, ← c .before .before .read-apdu .ensures, c .enum-told .given .1)
+returns-2 c =
+    let c3 = c .before .before .before in
+    rw (← c3 .before .kind .ensures, c3 .if1 .left, ← c .before .before .read-apdu .ensures, c .enum-told .given .1)
 
 -- src/arrived.rt:224:5
 abort-in-requires : tie.Need-abort-in-requires
@@ -43,7 +45,14 @@ abort-in-requires c κs = search needs
 -- src/arrived.rt:214:1
 returns-3 : tie.Need-returns-3
 unfolding orAgain again
-returns-3 c = c .abort-in .ensures ∙ rw (← c .before .before .before .before .before .before .kind .ensures, c .before .before .before .before .before .if1 .left, ← c .before .before .before .before .read-apdu .ensures, c .before .before .a .given .1)
+returns-3 c =
+    let c4 = c .before .before .before .before in
+    c .abort-in .ensures ∙ rw (
+      ← c4 .before .before .kind .ensures,
+      c4 .before .if1 .left,
+      ← c4 .read-apdu .ensures,
+      c .before .before .a .given .1,
+    )
 
 pub read-again-spec : {M : Type 1} → statement M
 read-again-spec =

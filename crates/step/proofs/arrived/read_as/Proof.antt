@@ -60,7 +60,10 @@ start-at-requires c κs = search needs
 
 -- src/arrived.rt:193:30
 body-of-requires : tie.Need-body-of-requires
-body-of-requires c κs = start-needs _ _ _ _ _ (c .before .before .before .before .before .before .before .read-apdu .ensures) (c .before .before .before .before .before .a .given .1) _ _ _ (c .start-at .ensures) (c .before .before .a4 .given .1)
+body-of-requires c κs =
+    let c5 = c .before .before .before .before .before in
+    start-needs _ _ _ _ _ (c5 .before .before .read-apdu .ensures) (c5 .a .given .1) _ _ _ (c .start-at .ensures)
+    (c .before .before .a4 .given .1)
 
 -- src/arrived.rt:194:20
 enum-known-a-5 : tie.Need-enum-known-a-5
@@ -72,7 +75,10 @@ send-at-requires c κs = search needs
 
 -- src/arrived.rt:194:26
 body-of-requires-2 : tie.Need-body-of-requires-2
-body-of-requires-2 c κs = send-needs _ _ _ _ _ (c .before .before .before .before .before .before .before .read-apdu .ensures) (c .before .before .before .before .before .a .given .1) _ _ (c .send-at .ensures) (c .before .before .a5 .given .1)
+body-of-requires-2 c κs =
+    let c5 = c .before .before .before .before .before in
+    send-needs _ _ _ _ _ (c5 .before .before .read-apdu .ensures) (c5 .a .given .1) _ _ (c .send-at .ensures)
+    (c .before .before .a5 .given .1)
 
 -- src/arrived.rt:195:23
 enum-known-a-6 : tie.Need-enum-known-a-6
@@ -80,7 +86,9 @@ enum-known-a-6 c = search needs
 
 -- src/arrived.rt:195:29
 forward-of-requires : tie.Need-forward-of-requires
-forward-of-requires c κs = forward-needs _ _ _ _ _ (c .before .before .before .before .before .before .read-apdu .ensures) (c .before .before .before .before .a .given .1) _ (c .before .a6 .given .1)
+forward-of-requires c κs =
+    let c4 = c .before .before .before .before in
+    forward-needs _ _ _ _ _ (c4 .before .before .read-apdu .ensures) (c4 .a .given .1) _ (c .before .a6 .given .1)
 
 -- src/arrived.rt:196:31
 enum-known-a-7 : tie.Need-enum-known-a-7
@@ -93,32 +101,52 @@ bare-requires-4 c κs = search needs
 -- src/arrived.rt:184:1
 returns-2 : tie.Need-returns-2
 unfolding arrivalOf
-returns-2 c = says _ _ _ _ _ (c .before .before .before .before .before .before .before .read-apdu .ensures) (c .before .before .before .before .before .a .given .1) _ _ (c .before .before .a2 .given .1) (c .bare2 .ensures)
+returns-2 c =
+    let c5 = c .before .before .before .before .before in
+    says _ _ _ _ _ (c5 .before .before .read-apdu .ensures) (c5 .a .given .1) _ _ (c .before .before .a2 .given .1)
+    (c .bare2 .ensures)
 
 -- src/arrived.rt:184:1
 returns-3 : tie.Need-returns-3
 unfolding arrivalOf
-returns-3 c = says _ _ _ _ _ (c .before .before .before .before .before .before .before .read-apdu .ensures) (c .before .before .before .before .before .a .given .1) _ _ (c .before .before .a3 .given .1) (c .bare3 .ensures)
+returns-3 c =
+    let c5 = c .before .before .before .before .before in
+    says _ _ _ _ _ (c5 .before .before .read-apdu .ensures) (c5 .a .given .1) _ _ (c .before .before .a3 .given .1)
+    (c .bare3 .ensures)
 
 -- src/arrived.rt:184:1
 returns-4 : tie.Need-returns-4
 unfolding arrivalOf
-returns-4 c = says _ _ _ _ _ (c .before .before .before .before .before .before .before .before .read-apdu .ensures) (c .before .before .before .before .before .before .a .given .1) _ _ (c .before .before .before .a4 .given .1) (c .body-of .ensures ∙ rw (c .before .start-at .ensures))
+returns-4 c =
+    let c3 = c .before .before .before in
+    let c6 = c3 .before .before .before in
+    says _ _ _ _ _ (c6 .before .before .read-apdu .ensures) (c6 .a .given .1) _ _ (c3 .a4 .given .1)
+    (c .body-of .ensures ∙ rw (c .before .start-at .ensures))
 
 -- src/arrived.rt:184:1
 returns-5 : tie.Need-returns-5
 unfolding arrivalOf
-returns-5 c = says _ _ _ _ _ (c .before .before .before .before .before .before .before .before .read-apdu .ensures) (c .before .before .before .before .before .before .a .given .1) _ _ (c .before .before .before .a5 .given .1) (c .body-of2 .ensures ∙ rw (c .before .send-at .ensures))
+returns-5 c =
+    let c3 = c .before .before .before in
+    let c6 = c3 .before .before .before in
+    says _ _ _ _ _ (c6 .before .before .read-apdu .ensures) (c6 .a .given .1) _ _ (c3 .a5 .given .1)
+    (c .body-of2 .ensures ∙ rw (c .before .send-at .ensures))
 
 -- src/arrived.rt:184:1
 returns-6 : tie.Need-returns-6
 unfolding arrivalOf
-returns-6 c = says _ _ _ _ _ (c .before .before .before .before .before .before .before .read-apdu .ensures) (c .before .before .before .before .before .a .given .1) _ _ (c .before .before .a6 .given .1) (c .forward-of .ensures)
+returns-6 c =
+    let c5 = c .before .before .before .before .before in
+    says _ _ _ _ _ (c5 .before .before .read-apdu .ensures) (c5 .a .given .1) _ _ (c .before .before .a6 .given .1)
+    (c .forward-of .ensures)
 
 -- src/arrived.rt:184:1
 returns-7 : tie.Need-returns-7
 unfolding arrivalOf
-returns-7 c = says _ _ _ _ _ (c .before .before .before .before .before .before .before .read-apdu .ensures) (c .before .before .before .before .before .a .given .1) _ _ (c .before .before .a7 .given .1) (c .bare4 .ensures)
+returns-7 c =
+    let c5 = c .before .before .before .before .before in
+    says _ _ _ _ _ (c5 .before .before .read-apdu .ensures) (c5 .a .given .1) _ _ (c .before .before .a7 .given .1)
+    (c .bare4 .ensures)
 
 pub read-as-spec : {M : Type 1} → statement M
 read-as-spec =

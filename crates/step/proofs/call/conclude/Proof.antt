@@ -40,7 +40,13 @@ same-length-3 c = search needs
 
 -- src/call.rt:310:9
 returns : tie.Need-returns
-returns c = is-taken _ _ _ _ _ _ _ _ _ _ (c .before .before .before .before .before .before .before .before .before .before .before .before .before .is-none .ensures) (c .before .before .before .before .before .before .before .before .before .before .before .before .if1 .taken) (c .before .before .before .before .before .before .before .before .before .before .before .before .before .before .before .before .before .before .pre .0) _ _ _ _ (c .before .before .before .before .before .before .before .before .before .before .put-reply .ensures) (c .before .before .before .before .before .before .deliver .ensures) _ _ (c .before .before .settle .ensures)
+returns c =
+    let c6 = c .before .before .before .before .before .before in
+    let c10 = c6 .before .before .before .before in
+    let c13 = c10 .before .before .before in
+    let c18 = c13 .before .before .before .before .before in
+    is-taken _ _ _ _ _ _ _ _ _ _ (c13 .is-none .ensures) (c10 .before .before .if1 .taken) (c18 .pre .0) _ _ _ _
+    (c10 .put-reply .ensures) (c6 .deliver .ensures) _ _ (c .before .before .settle .ensures)
 
 -- src/call.rt:312:5
 number-requires : tie.Need-number-requires
@@ -48,7 +54,8 @@ number-requires c κs = search needs
 
 -- src/call.rt:291:1
 returns-2 : tie.Need-returns-2
-returns-2 c = is-refused _ _ _ _ _ _ _ _ _ _ (c .before .before .is-none .ensures) _ (c .before .if1 .left) (c .number .ensures)
+returns-2 c =
+    is-refused _ _ _ _ _ _ _ _ _ _ (c .before .before .is-none .ensures) _ (c .before .if1 .left) (c .number .ensures)
 
 pub conclude-spec : {M : Type 1} → statement M
 conclude-spec =

@@ -25,7 +25,9 @@ same-length c = search needs
 -- src/call.rt:166:9
 returns : tie.Need-returns
 unfolding deliveredOf
-returns c = c .before .before .hand .ensures ∙ rw (← c .before .before .before .before .before .passes .ensures, c .before .before .before .before .if1 .taken)
+returns c =
+    let c4 = c .before .before .before .before in
+    c .before .before .hand .ensures ∙ rw (← c4 .before .passes .ensures, c4 .if1 .taken)
 
 -- src/call.rt:169:29
 lead-of-requires : tie.Need-lead-of-requires
@@ -33,7 +35,9 @@ lead-of-requires c κs = search needs
 
 -- src/call.rt:169:9
 hand-requires-2 : tie.Need-hand-requires-2
-hand-requires-2 c κs = (lead-few (c .before .before .before .before .before .before .before .args .edition) _ (c .lead-of .ensures), c .before .before .before .before .before .before .before .pre .0, c .before .before .before .before .before .before .before .pre .1, c .before .before .before .before .before .before .before .pre .2)
+hand-requires-2 c κs =
+    let c7 = c .before .before .before .before .before .before .before in
+    (lead-few (c7 .args .edition) _ (c .lead-of .ensures), c7 .pre .0, c7 .pre .1, c7 .pre .2)
 
 -- src/call.rt:169:9
 same-length-2 : tie.Need-same-length-2
@@ -42,7 +46,11 @@ same-length-2 c = search needs
 -- src/call.rt:169:9
 returns-2 : tie.Need-returns-2
 unfolding deliveredOf
-returns-2 c = c .before .before .hand2 .ensures ∙ rw (c .before .before .before .lead-of .ensures, ← c .before .before .before .before .before .before .before .passes .ensures, c .before .before .before .before .before .before .if1 .left, c .before .before .before .before .before .if2 .taken)
+returns-2 c =
+    let c3 = c .before .before .before in
+    let c6 = c3 .before .before .before in
+    c .before .before .hand2 .ensures ∙ rw
+    (c3 .lead-of .ensures, ← c6 .before .passes .ensures, c6 .if1 .left, c3 .before .before .if2 .taken)
 
 -- src/call.rt:160:1
 returns-3 : tie.Need-returns-3

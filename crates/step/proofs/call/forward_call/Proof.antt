@@ -43,7 +43,10 @@ same-length c = search needs
 -- src/call.rt:275:9
 returns-3 : tie.Need-returns-3
 unfolding forwardBy
-returns-3 c = no-record _ _ _ _ (c .before .before .before .before .before .if1 .left) (c .before .before .before .before .if2 .left) _ (c .before .before .load .ensures) (c .enum-told .given .1)
+returns-3 c =
+    let c4 = c .before .before .before .before in
+    no-record _ _ _ _ (c4 .before .if1 .left) (c4 .if2 .left) _ (c .before .before .load .ensures)
+    (c .enum-told .given .1)
 
 -- src/call.rt:278:8
 forward-given-fits-requires : tie.Need-forward-given-fits-requires
@@ -80,7 +83,17 @@ same-length-3 c = search needs
 -- src/call.rt:283:13
 returns-4 : tie.Need-returns-4
 unfolding forwardBy
-returns-4 c = with-record _ _ _ _ (c .before .before .before .before .before .before .before .before .before .before .before .before .before .before .before .before .before .before .before .before .if1 .left) (c .before .before .before .before .before .before .before .before .before .before .before .before .before .before .before .before .before .before .before .if2 .left) _ (c .before .before .before .before .before .before .before .before .before .before .before .before .before .before .before .before .before .load .ensures) _ _ _ _ (c .before .before .before .before .before .before .before .before .before .before .before .before .before .before .before .side .given .1) (forward-taken _ _ _ _ _ _ _ _ _ _ _ _ (c .before .before .before .before .before .before .before .before .before .before .before .before .before .forward-given-fits .ensures) (c .before .before .before .before .before .before .before .before .before .before .before .before .if3 .taken) _ (c .before .before .before .before .before .before .before .before .before .before .before .forward-step .ensures) _ (c .before .before .before .before .before .before .before .before .before .before .is-none .ensures) (c .before .before .before .before .before .before .before .before .before .if4 .taken) _ _ _ (c .before .before .before .before .before .before .before .pdus-of .ensures) (c .before .before .before .before .before .before .put-forward-pdu .ensures) _ _ (c .before .before .settle .ensures))
+returns-4 c =
+    let c6 = c .before .before .before .before .before .before in
+    let c9 = c6 .before .before .before in
+    let c12 = c9 .before .before .before in
+    let c15 = c12 .before .before .before in
+    let c19 = c15 .before .before .before .before in
+    with-record _ _ _ _ (c19 .before .if1 .left) (c19 .if2 .left) _ (c15 .before .before .load .ensures) _ _ _ _
+    (c15 .side .given .1) (forward-taken _ _ _ _ _ _ _ _ _ _ _ _ (c12 .before .forward-given-fits .ensures)
+    (c12 .if3 .taken) _ (c9 .before .before .forward-step .ensures) _ (c9 .before .is-none .ensures)
+    (c9 .if4 .taken) _ _ _ (c6 .before .pdus-of .ensures) (c6 .put-forward-pdu .ensures) _ _
+    (c .before .before .settle .ensures))
 
 -- src/call.rt:285:9
 number-requires : tie.Need-number-requires
@@ -93,7 +106,14 @@ same-length-4 c = search needs
 -- src/call.rt:285:9
 returns-5 : tie.Need-returns-5
 unfolding forwardBy
-returns-5 c = with-record _ _ _ _ (c .before .before .before .before .before .before .before .before .before .before .before .before .if1 .left) (c .before .before .before .before .before .before .before .before .before .before .before .if2 .left) _ (c .before .before .before .before .before .before .before .before .before .load .ensures) _ _ _ _ (c .before .before .before .before .before .before .before .side .given .1) (forward-refused _ _ _ _ _ _ _ _ _ _ _ _ (c .before .before .before .before .before .forward-given-fits .ensures) (c .before .before .before .before .if3 .taken) _ (c .before .before .before .forward-step .ensures) _ (c .before .before .is-none .ensures) _ (c .before .if4 .left) (c .number .ensures))
+returns-5 c =
+    let c3 = c .before .before .before in
+    let c7 = c3 .before .before .before .before in
+    let c11 = c7 .before .before .before .before in
+    with-record _ _ _ _ (c11 .before .if1 .left) (c11 .if2 .left) _ (c7 .before .before .load .ensures) _ _ _ _
+    (c7 .side .given .1) (forward-refused _ _ _ _ _ _ _ _ _ _ _ _ (c3 .before .before .forward-given-fits .ensures)
+    (c3 .before .if3 .taken) _ (c3 .forward-step .ensures) _ (c .before .before .is-none .ensures) _
+    (c .before .if4 .left) (c .number .ensures))
 
 -- src/call.rt:256:1
 same-length-5 : tie.Need-same-length-5
@@ -102,7 +122,12 @@ same-length-5 c = search needs
 -- src/call.rt:256:1
 returns-6 : tie.Need-returns-6
 unfolding forwardBy
-returns-6 c = with-record _ _ _ _ (c .before .before .before .before .before .before .before .before .if1 .left) (c .before .before .before .before .before .before .before .if2 .left) _ (c .before .before .before .before .before .load .ensures) _ _ _ _ (c .before .before .before .side .given .1) (no-forward-shape _ _ _ _ _ _ _ _ _ _ _ _ (c .before .forward-given-fits .ensures) (c .if3 .left))
+returns-6 c =
+    let c3 = c .before .before .before in
+    let c7 = c3 .before .before .before .before in
+    with-record _ _ _ _ (c7 .before .if1 .left) (c7 .if2 .left) _ (c3 .before .before .load .ensures) _ _ _ _
+    (c3 .side .given .1)
+    (no-forward-shape _ _ _ _ _ _ _ _ _ _ _ _ (c .before .forward-given-fits .ensures) (c .if3 .left))
 
 pub forward-call-spec : {M : Type 1} → statement M
 forward-call-spec =

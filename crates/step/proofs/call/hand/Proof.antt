@@ -26,7 +26,12 @@ same-length c = search needs
 
 -- src/call.rt:138:1
 returns : tie.Need-returns
-returns c = led-out _ _ _ _ _ _ _ _ _ _ (c .before .before .before .before .before .before .before .before .before .before .before .pre .0) (c .before .before .before .before .before .before .before .before .before .before .before .pre .1) (c .before .before .before .before .before .before .before .before .before .before .before .pre .2) (c .before .before .before .before .before .before .before .before .before .before .before .pre .3) (c .before .before .before .before .before .before .before .put-led .ensures) (c .before .before .before .before .place .ensures) (c .before .before .pad .ensures)
+returns c =
+    let c4 = c .before .before .before .before in
+    let c7 = c4 .before .before .before in
+    let c11 = c7 .before .before .before .before in
+    led-out _ _ _ _ _ _ _ _ _ _ (c11 .pre .0) (c11 .pre .1) (c11 .pre .2) (c11 .pre .3) (c7 .put-led .ensures)
+    (c4 .place .ensures) (c .before .before .pad .ensures)
 
 pub hand-spec : {M : Type 1} → statement M
 hand-spec = tie.close (tie.spec put-led-requires place-requires pad-requires same-length returns)

@@ -43,7 +43,10 @@ same-length c = search needs
 -- src/call.rt:243:9
 returns-3 : tie.Need-returns-3
 unfolding userBy
-returns-3 c = no-record _ _ _ _ (c .before .before .before .before .before .if1 .left) (c .before .before .before .before .if2 .left) _ (c .before .before .load .ensures) (c .enum-told .given .1)
+returns-3 c =
+    let c4 = c .before .before .before .before in
+    no-record _ _ _ _ (c4 .before .if1 .left) (c4 .if2 .left) _ (c .before .before .load .ensures)
+    (c .enum-told .given .1)
 
 -- src/call.rt:245:9
 host-step-requires : tie.Need-host-step-requires
@@ -55,7 +58,10 @@ is-none-requires c κs = search needs
 
 -- src/call.rt:249:13
 put-reply-requires : tie.Need-put-reply-requires
-put-reply-requires c κs = host-answers _ _ (c .before .before .before .before .before .before .before .before .before .before .before .before .before .before .args .expiry) _ (c .before .before .before .host-step .ensures)
+put-reply-requires c κs =
+    let c3 = c .before .before .before in
+    let c14 = c3 .before .before .before .before .before .before .before .before .before .before .before in
+    host-answers _ _ (c14 .args .expiry) _ (c3 .host-step .ensures)
 
 -- src/call.rt:250:9
 settle-requires : tie.Need-settle-requires
@@ -72,7 +78,16 @@ same-length-3 c = search needs
 -- src/call.rt:250:9
 returns-4 : tie.Need-returns-4
 unfolding userBy
-returns-4 c = with-record _ _ _ _ (c .before .before .before .before .before .before .before .before .before .before .before .before .before .before .before .before .before .if1 .left) (c .before .before .before .before .before .before .before .before .before .before .before .before .before .before .before .before .if2 .left) _ (c .before .before .before .before .before .before .before .before .before .before .before .before .before .before .load .ensures) _ _ _ _ (c .before .before .before .before .before .before .before .before .before .before .before .before .side .given .1) (host-taken _ _ _ (c .before .before .before .before .before .before .before .before .before .before .before .before .before .before .before .before .before .before .before .before .before .args .expiry) (lent []) (lent []) (lent []) _ _ _ _ (c .before .before .before .before .before .before .before .before .before .before .host-step .ensures) _ (c .before .before .before .before .before .before .before .before .before .is-none .ensures) (c .before .before .before .before .before .before .before .before .if3 .taken) _ _ (c .before .before .before .before .before .before .put-reply .ensures) _ _ (c .before .before .settle .ensures))
+returns-4 c =
+    let c6 = c .before .before .before .before .before .before in
+    let c9 = c6 .before .before .before in
+    let c12 = c9 .before .before .before in
+    let c16 = c12 .before .before .before .before in
+    let c21 = c16 .before .before .before .before .before in
+    with-record _ _ _ _ (c16 .before .if1 .left) (c16 .if2 .left) _ (c12 .before .before .load .ensures) _ _ _ _
+    (c12 .side .given .1) (host-taken _ _ _ (c21 .args .expiry) (lent []) (lent []) (lent []) _ _ _ _
+    (c9 .before .host-step .ensures) _ (c9 .is-none .ensures) (c6 .before .before .if3 .taken) _ _
+    (c6 .put-reply .ensures) _ _ (c .before .before .settle .ensures))
 
 -- src/call.rt:252:5
 number-requires : tie.Need-number-requires
@@ -85,7 +100,15 @@ same-length-4 c = search needs
 -- src/call.rt:233:1
 returns-5 : tie.Need-returns-5
 unfolding userBy
-returns-5 c = with-record _ _ _ _ (c .before .before .before .before .before .before .before .before .before .before .if1 .left) (c .before .before .before .before .before .before .before .before .before .if2 .left) _ (c .before .before .before .before .before .before .before .load .ensures) _ _ _ _ (c .before .before .before .before .before .side .given .1) (host-refused _ _ _ (c .before .before .before .before .before .before .before .before .before .before .before .before .before .before .args .expiry) (lent []) (lent []) (lent []) _ _ _ _ (c .before .before .before .host-step .ensures) _ (c .before .before .is-none .ensures) _ (c .before .if3 .left) (c .number .ensures))
+returns-5 c =
+    let c3 = c .before .before .before in
+    let c7 = c3 .before .before .before .before in
+    let c10 = c7 .before .before .before in
+    let c14 = c10 .before .before .before .before in
+    with-record _ _ _ _ (c10 .if1 .left) (c7 .before .before .if2 .left) _ (c7 .load .ensures) _ _ _ _
+    (c3 .before .before .side .given .1) (host-refused _ _ _ (c14 .args .expiry) (lent []) (lent []) (lent []) _ _ _
+    _ (c3 .host-step .ensures) _ (c .before .before .is-none .ensures) _ (c .before .if3 .left)
+    (c .number .ensures))
 
 pub host-call-spec : {M : Type 1} → statement M
 host-call-spec =

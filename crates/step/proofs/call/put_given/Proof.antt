@@ -83,7 +83,11 @@ same-length c = search needs
 -- src/call.rt:85:1
 returns-3 : tie.Need-returns-3
 unfolding firstTakes apduFits pduIn
-returns-3 c = c .before .before .put-start .ensures ∙ rw (c .before .before .before .before .before .before .before .before .pdus-of .ensures, c .before .before .before .mode .ensures, c .before .before .before .before .before .before .a .given .1)
+returns-3 c =
+    let c3 = c .before .before .before in
+    let c6 = c3 .before .before .before in
+    c .before .before .put-start .ensures ∙ rw
+    (c6 .before .before .pdus-of .ensures, c3 .mode .ensures, c6 .a .given .1)
 
 -- src/call.rt:85:1
 same-length-2 : tie.Need-same-length-2
@@ -92,7 +96,9 @@ same-length-2 c = search needs
 -- src/call.rt:85:1
 returns-4 : tie.Need-returns-4
 unfolding firstTakes apduFits pduIn
-returns-4 c = c .before .before .put-send .ensures ∙ rw (c .before .before .before .before .before .before .pdus-of .ensures, c .before .before .before .before .enum-told3 .given .1)
+returns-4 c =
+    let c4 = c .before .before .before .before in
+    c .before .before .put-send .ensures ∙ rw (c4 .before .before .pdus-of .ensures, c4 .enum-told3 .given .1)
 
 -- src/call.rt:85:1
 same-length-3 : tie.Need-same-length-3
@@ -101,7 +107,9 @@ same-length-3 c = search needs
 -- src/call.rt:85:1
 returns-5 : tie.Need-returns-5
 unfolding firstTakes apduFits pduIn
-returns-5 c = c .before .before .put-abort-user .ensures ∙ rw (c .before .before .before .before .before .before .before .pdus-of .ensures, c .before .before .before .before .before .a2 .given .1)
+returns-5 c =
+    let c5 = c .before .before .before .before .before in
+    c .before .before .put-abort-user .ensures ∙ rw (c5 .before .before .pdus-of .ensures, c5 .a2 .given .1)
 
 -- src/call.rt:85:1
 returns-6 : tie.Need-returns-6

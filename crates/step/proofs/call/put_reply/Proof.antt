@@ -86,7 +86,9 @@ same-length c = search needs
 -- src/call.rt:112:1
 returns-6 : tie.Need-returns-6
 unfolding firstTakes apduFits pduIn pduBits theirBits
-returns-6 c = c .before .before .put-abort-provider .ensures ∙ rw (c .before .before .before .before .before .before .before .pdus-of .ensures, c .before .before .before .before .before .a .given .1)
+returns-6 c =
+    let c5 = c .before .before .before .before .before in
+    c .before .before .put-abort-provider .ensures ∙ rw (c5 .before .before .pdus-of .ensures, c5 .a .given .1)
 
 -- src/call.rt:112:1
 returns-7 : tie.Need-returns-7
@@ -99,7 +101,9 @@ same-length-2 c = search needs
 -- src/call.rt:112:1
 returns-8 : tie.Need-returns-8
 unfolding firstTakes apduFits pduIn pduBits theirBits
-returns-8 c = c .before .before .put-forward-response .ensures ∙ rw (c .before .before .before .before .before .before .before .pdus-of .ensures, c .before .before .before .before .before .a2 .given .1)
+returns-8 c =
+    let c5 = c .before .before .before .before .before in
+    c .before .before .put-forward-response .ensures ∙ rw (c5 .before .before .pdus-of .ensures, c5 .a2 .given .1)
 
 pub put-reply-spec : {M : Type 1} → statement M
 put-reply-spec =

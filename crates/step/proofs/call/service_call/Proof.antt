@@ -44,7 +44,10 @@ same-length c = search needs
 -- src/call.rt:335:9
 returns-3 : tie.Need-returns-3
 unfolding serviceBy
-returns-3 c = no-record _ _ _ _ (c .before .before .before .before .before .if1 .left) (c .before .before .before .before .if2 .left) _ (c .before .before .load .ensures) (c .enum-told .given .1)
+returns-3 c =
+    let c4 = c .before .before .before .before in
+    no-record _ _ _ _ (c4 .before .if1 .left) (c4 .if2 .left) _ (c .before .before .load .ensures)
+    (c .enum-told .given .1)
 
 -- src/call.rt:338:9
 same-length-2 : tie.Need-same-length-2
@@ -53,7 +56,11 @@ same-length-2 c = search needs
 -- src/call.rt:338:9
 returns-4 : tie.Need-returns-4
 unfolding serviceBy
-returns-4 c = with-record _ _ _ _ (c .before .before .before .before .before .before .before .if1 .left) (c .before .before .before .before .before .before .if2 .left) _ (c .before .before .before .before .load .ensures) _ _ _ _ (c .before .before .side .given .1) (given-odd _ _ _ _ _ _ _ _ _ _ (c .if3 .taken))
+returns-4 c =
+    let c4 = c .before .before .before .before in
+    let c7 = c4 .before .before .before in
+    with-record _ _ _ _ (c7 .if1 .left) (c4 .before .before .if2 .left) _ (c4 .load .ensures) _ _ _ _
+    (c .before .before .side .given .1) (given-odd _ _ _ _ _ _ _ _ _ _ (c .if3 .taken))
 
 -- src/call.rt:340:9
 fits-requires : tie.Need-fits-requires
@@ -66,7 +73,12 @@ same-length-3 c = search needs
 -- src/call.rt:341:9
 returns-5 : tie.Need-returns-5
 unfolding serviceBy
-returns-5 c = with-record _ _ _ _ (c .before .before .before .before .before .before .before .before .before .if1 .left) (c .before .before .before .before .before .before .before .before .if2 .left) _ (c .before .before .before .before .before .before .load .ensures) _ _ _ _ (c .before .before .before .before .side .given .1) (codes-odd _ _ _ _ _ _ _ _ _ (read-fits _ _ _ _ _) _ (c .before .before .if3 .left) _ (c .before .fits2 .ensures) (not-true _ (c .if4 .taken)))
+returns-5 c =
+    let c4 = c .before .before .before .before in
+    let c8 = c4 .before .before .before .before in
+    with-record _ _ _ _ (c8 .before .if1 .left) (c8 .if2 .left) _ (c4 .before .before .load .ensures) _ _ _ _
+    (c4 .side .given .1) (codes-odd _ _ _ _ _ _ _ _ _ (read-fits _ _ _ _ _) _ (c .before .before .if3 .left) _
+    (c .before .fits2 .ensures) (not-true _ (c .if4 .taken)))
 
 -- src/call.rt:343:8
 is-stale-requires : tie.Need-is-stale-requires
@@ -79,7 +91,14 @@ same-length-4 c = search needs
 -- src/call.rt:344:9
 returns-6 : tie.Need-returns-6
 unfolding serviceBy
-returns-6 c = with-record _ _ _ _ (c .before .before .before .before .before .before .before .before .before .before .before .if1 .left) (c .before .before .before .before .before .before .before .before .before .before .if2 .left) _ (c .before .before .before .before .before .before .before .before .load .ensures) _ _ _ _ (c .before .before .before .before .before .before .side .given .1) (number-odd _ _ _ _ _ _ _ _ _ (read-fits _ _ _ _ _) _ (c .before .before .before .before .if3 .left) _ (c .before .before .before .fits2 .ensures) (not-false _ (c .before .before .if4 .left)) _ (c .before .is-stale .ensures) (c .if5 .taken))
+returns-6 c =
+    let c3 = c .before .before .before in
+    let c6 = c3 .before .before .before in
+    let c10 = c6 .before .before .before .before in
+    with-record _ _ _ _ (c10 .before .if1 .left) (c10 .if2 .left) _ (c6 .before .before .load .ensures) _ _ _ _
+    (c6 .side .given .1) (number-odd _ _ _ _ _ _ _ _ _ (read-fits _ _ _ _ _) _ (c3 .before .if3 .left) _
+    (c3 .fits2 .ensures) (not-false _ (c .before .before .if4 .left)) _ (c .before .is-stale .ensures)
+    (c .if5 .taken))
 
 -- src/call.rt:348:9
 arrived-requires : tie.Need-arrived-requires
@@ -91,7 +110,15 @@ service-fitting-requires c κs = search needs
 
 -- src/call.rt:351:5
 conclude-requires : tie.Need-conclude-requires
-conclude-requires c κs = (answers _ _ _ _ _ (c .before .before .before .service-fitting .ensures), c .before .before .before .before .before .before .before .before .before .before .before .before .before .before .before .before .if2 .left, stands-there _ _ _ _ _ _ _ (c .before .before .before .before .arrived .ensures) .0, stands-there _ _ _ _ _ _ _ (c .before .before .before .before .arrived .ensures) .1)
+conclude-requires c κs =
+    let c3 = c .before .before .before in
+    let c16 = c3 .before .before .before .before .before .before .before .before .before .before .before .before .before in (
+      answers _ _ _ _ _ (c3 .service-fitting .ensures),
+      c16 .if2 .left,
+      stands-there _ _ _ _ _ _ _
+          (c3 .before .arrived .ensures) .0,
+      stands-there _ _ _ _ _ _ _ (c3 .before .arrived .ensures) .1,
+    )
 
 -- src/call.rt:317:1
 same-length-5 : tie.Need-same-length-5
@@ -108,7 +135,17 @@ same-length-7 c = search needs
 -- src/call.rt:317:1
 returns-7 : tie.Need-returns-7
 unfolding serviceBy
-returns-7 c = with-record _ _ _ _ (c .before .before .before .before .before .before .before .before .before .before .before .before .before .before .before .before .before .before .before .before .before .before .before .before .if1 .left) (c .before .before .before .before .before .before .before .before .before .before .before .before .before .before .before .before .before .before .before .before .before .before .before .if2 .left) _ (c .before .before .before .before .before .before .before .before .before .before .before .before .before .before .before .before .before .before .before .before .before .load .ensures) _ _ _ _ (c .before .before .before .before .before .before .before .before .before .before .before .before .before .before .before .before .before .before .before .side .given .1) (served _ _ _ _ _ _ _ _ _ _ (c .before .before .before .before .before .before .before .before .before .before .before .before .before .before .before .before .before .if3 .left) _ (c .before .before .before .before .before .before .before .before .before .before .before .before .before .before .before .before .fits2 .ensures) (not-false _ (c .before .before .before .before .before .before .before .before .before .before .before .before .before .before .before .if4 .left)) _ (c .before .before .before .before .before .before .before .before .before .before .before .before .before .before .is-stale .ensures) (c .before .before .before .before .before .before .before .before .before .before .before .before .before .if5 .left) _ (c .before .before .before .before .before .before .before .before .before .before .before .arrived .ensures) _ (c .before .before .before .before .before .before .before .before .before .before .service-fitting .ensures) _ (c .before .before .before .before .before .before .conclude .ensures))
+returns-7 c =
+    let c6 = c .before .before .before .before .before .before in
+    let c10 = c6 .before .before .before .before in
+    let c13 = c10 .before .before .before in
+    let c16 = c13 .before .before .before in
+    let c19 = c16 .before .before .before in
+    let c23 = c19 .before .before .before .before in
+    with-record _ _ _ _ (c23 .before .if1 .left) (c23 .if2 .left) _ (c19 .before .before .load .ensures) _ _ _ _
+    (c19 .side .given .1) (served _ _ _ _ _ _ _ _ _ _ (c16 .before .if3 .left) _ (c16 .fits2 .ensures)
+    (not-false _ (c13 .before .before .if4 .left)) _ (c13 .before .is-stale .ensures) (c13 .if5 .left) _
+    (c10 .before .arrived .ensures) _ (c10 .service-fitting .ensures) _ (c6 .conclude .ensures))
 
 pub service-call-spec : {M : Type 1} → statement M
 service-call-spec =

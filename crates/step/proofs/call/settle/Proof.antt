@@ -29,7 +29,9 @@ same-length c = search needs
 
 -- src/call.rt:163:1
 returns : tie.Need-returns
-returns c = rw (c .answer .ensures, c .before .before .bits-of .ensures, c .before .bits-of2 .ensures, ← c .before .before .before .before .before .store .ensures)
+returns c =
+    let c5 = c .before .before .before .before .before in
+    rw (c .answer .ensures, c .before .before .bits-of .ensures, c .before .bits-of2 .ensures, ← c5 .store .ensures)
 
 pub settle-spec : {M : Type 1} → statement M
 settle-spec =

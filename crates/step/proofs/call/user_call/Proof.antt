@@ -44,7 +44,10 @@ same-length c = search needs
 -- src/call.rt:206:9
 returns-3 : tie.Need-returns-3
 unfolding userBy
-returns-3 c = no-record _ _ _ _ (c .before .before .before .before .before .if1 .left) (c .before .before .before .before .if2 .left) _ (c .before .before .load .ensures) (c .enum-told .given .1)
+returns-3 c =
+    let c4 = c .before .before .before .before in
+    no-record _ _ _ _ (c4 .before .if1 .left) (c4 .if2 .left) _ (c .before .before .load .ensures)
+    (c .enum-told .given .1)
 
 -- src/call.rt:209:47
 pdus-of-requires : tie.Need-pdus-of-requires
@@ -85,7 +88,18 @@ same-length-3 c = search needs
 -- src/call.rt:216:13
 returns-4 : tie.Need-returns-4
 unfolding userBy
-returns-4 c = with-record _ _ _ _ (c .before .before .before .before .before .before .before .before .before .before .before .before .before .before .before .before .before .before .before .before .before .if1 .left) (c .before .before .before .before .before .before .before .before .before .before .before .before .before .before .before .before .before .before .before .before .if2 .left) _ (c .before .before .before .before .before .before .before .before .before .before .before .before .before .before .before .before .before .before .load .ensures) _ _ _ _ (c .before .before .before .before .before .before .before .before .before .before .before .before .before .before .before .before .side .given .1) (user-taken _ _ _ _ _ _ _ _ _ _ _ _ _ _ (c .before .before .before .before .before .before .before .before .before .before .before .before .before .before .pdus-of .ensures) (c .before .before .before .before .before .before .before .before .before .before .before .before .before .given-fits .ensures) (c .before .before .before .before .before .before .before .before .before .before .before .before .if3 .taken) _ (c .before .before .before .before .before .before .before .before .before .before .before .user-step .ensures) _ (c .before .before .before .before .before .before .before .before .before .before .is-none .ensures) (c .before .before .before .before .before .before .before .before .before .if4 .taken) _ _ (c .before .before .before .before .before .before .before .put-given .ensures) _ (c .before .before .before .before .held-after .ensures) _ _ (c .before .before .settle .ensures))
+returns-4 c =
+    let c4 = c .before .before .before .before in
+    let c7 = c4 .before .before .before in
+    let c10 = c7 .before .before .before in
+    let c13 = c10 .before .before .before in
+    let c16 = c13 .before .before .before in
+    let c20 = c16 .before .before .before .before in
+    with-record _ _ _ _ (c20 .before .if1 .left) (c20 .if2 .left) _ (c16 .before .before .load .ensures) _ _ _ _
+    (c16 .side .given .1) (user-taken _ _ _ _ _ _ _ _ _ _ _ _ _ _ (c13 .before .pdus-of .ensures)
+    (c13 .given-fits .ensures) (c10 .before .before .if3 .taken) _ (c10 .before .user-step .ensures) _
+    (c10 .is-none .ensures) (c7 .before .before .if4 .taken) _ _ (c7 .put-given .ensures) _
+    (c4 .held-after .ensures) _ _ (c .before .before .settle .ensures))
 
 -- src/call.rt:218:9
 number-requires : tie.Need-number-requires
@@ -98,7 +112,15 @@ same-length-4 c = search needs
 -- src/call.rt:218:9
 returns-5 : tie.Need-returns-5
 unfolding userBy
-returns-5 c = with-record _ _ _ _ (c .before .before .before .before .before .before .before .before .before .before .before .before .before .if1 .left) (c .before .before .before .before .before .before .before .before .before .before .before .before .if2 .left) _ (c .before .before .before .before .before .before .before .before .before .before .load .ensures) _ _ _ _ (c .before .before .before .before .before .before .before .before .side .given .1) (user-refused _ _ _ _ _ _ _ _ _ _ _ _ _ _ (c .before .before .before .before .before .before .pdus-of .ensures) (c .before .before .before .before .before .given-fits .ensures) (c .before .before .before .before .if3 .taken) _ (c .before .before .before .user-step .ensures) _ (c .before .before .is-none .ensures) _ (c .before .if4 .left) (c .number .ensures))
+returns-5 c =
+    let c3 = c .before .before .before in
+    let c6 = c3 .before .before .before in
+    let c10 = c6 .before .before .before .before in
+    let c13 = c10 .before .before .before in
+    with-record _ _ _ _ (c13 .if1 .left) (c10 .before .before .if2 .left) _ (c10 .load .ensures) _ _ _ _
+    (c6 .before .before .side .given .1) (user-refused _ _ _ _ _ _ _ _ _ _ _ _ _ _ (c6 .pdus-of .ensures)
+    (c3 .before .before .given-fits .ensures) (c3 .before .if3 .taken) _ (c3 .user-step .ensures) _
+    (c .before .before .is-none .ensures) _ (c .before .if4 .left) (c .number .ensures))
 
 -- src/call.rt:186:1
 same-length-5 : tie.Need-same-length-5
@@ -107,7 +129,12 @@ same-length-5 c = search needs
 -- src/call.rt:186:1
 returns-6 : tie.Need-returns-6
 unfolding userBy
-returns-6 c = with-record _ _ _ _ (c .before .before .before .before .before .before .before .before .before .if1 .left) (c .before .before .before .before .before .before .before .before .if2 .left) _ (c .before .before .before .before .before .before .load .ensures) _ _ _ _ (c .before .before .before .before .side .given .1) (no-shape _ _ _ _ _ _ _ _ _ _ _ _ _ _ (c .before .before .pdus-of .ensures) (c .before .given-fits .ensures) (c .if3 .left))
+returns-6 c =
+    let c4 = c .before .before .before .before in
+    let c8 = c4 .before .before .before .before in
+    with-record _ _ _ _ (c8 .before .if1 .left) (c8 .if2 .left) _ (c4 .before .before .load .ensures) _ _ _ _
+    (c4 .side .given .1) (no-shape _ _ _ _ _ _ _ _ _ _ _ _ _ _ (c .before .before .pdus-of .ensures)
+    (c .before .given-fits .ensures) (c .if3 .left))
 
 pub user-call-spec : {M : Type 1} → statement M
 user-call-spec =

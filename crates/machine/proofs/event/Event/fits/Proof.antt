@@ -43,7 +43,9 @@ returns-3 c = rw (c .before .before .self2 .given .1, le-ltb _ _ (c .if1 .left))
 
 returns-4 : tie.Need-returns-4
 unfolding eventFits
-returns-4 c = rw (c .before .before .before .before .self3 .given .1, ← c .before .before .fits3 .ensures, c .before .if2 .taken) (c .fits4 .ensures)
+returns-4 c =
+    let c4 = c .before .before .before .before in
+    rw (c4 .self3 .given .1, ← c .before .before .fits3 .ensures, c .before .if2 .taken) (c .fits4 .ensures)
 
 returns-5 : tie.Need-returns-5
 unfolding eventFits

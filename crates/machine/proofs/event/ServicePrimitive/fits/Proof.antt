@@ -14,7 +14,9 @@ returns c = rw (c .before .before .self .given .1, le-ltb _ _ (c .if1 .taken))
 
 returns-2 : tie.Need-returns-2
 unfolding serviceFits
-returns-2 c = rw (c .before .before .before .self .given .1, lt-ltb _ _ (c .before .if1 .left), le-ltb _ _ (c .if2 .taken))
+returns-2 c =
+    let c3 = c .before .before .before in
+    rw (c3 .self .given .1, lt-ltb _ _ (c .before .if1 .left), le-ltb _ _ (c .if2 .taken))
 
 enum-known-self-2 : tie.Need-enum-known-self-2
 enum-known-self-2 c = c .match .keys2
@@ -25,11 +27,21 @@ returns-3 c = rw (c .before .before .self2 .given .1, le-ltb _ _ (c .if3 .taken)
 
 returns-4 : tie.Need-returns-4
 unfolding serviceFits
-returns-4 c = rw (c .before .before .before .self2 .given .1, lt-ltb _ _ (c .before .if3 .left), le-ltb _ _ (c .if4 .taken))
+returns-4 c =
+    let c3 = c .before .before .before in
+    rw (c3 .self2 .given .1, lt-ltb _ _ (c .before .if3 .left), le-ltb _ _ (c .if4 .taken))
 
 returns-5 : tie.Need-returns-5
 unfolding serviceFits
-returns-5 c = rw (c .before .before .before .before .self2 .given .1, lt-ltb _ _ (c .before .before .if3 .left), lt-ltb _ _ (c .before .if4 .left), le-ltb _ _ (c .if5 .taken))
+returns-5 c =
+    let c4 = c .before .before .before .before in
+    rw (
+      c4 .self2 .given .1,
+      lt-ltb _ _ (c .before .before .if3 .left),
+      lt-ltb _ _ (c .before .if4 .left),
+      le-ltb _ _
+          (c .if5 .taken),
+    )
 
 enum-told : tie.Need-enum-told
 enum-told c = c .match .keys3
@@ -48,11 +60,21 @@ enum-told-3 c = c .match .keys7
 
 returns-6 : tie.Need-returns-6
 unfolding serviceFits
-returns-6 c = rw (c .before .before .before .self .given .1, lt-ltb _ _ (c .before .if1 .left), lt-ltb _ _ (c .if2 .left))
+returns-6 c =
+    let c3 = c .before .before .before in
+    rw (c3 .self .given .1, lt-ltb _ _ (c .before .if1 .left), lt-ltb _ _ (c .if2 .left))
 
 returns-7 : tie.Need-returns-7
 unfolding serviceFits
-returns-7 c = rw (c .before .before .before .before .self2 .given .1, lt-ltb _ _ (c .before .before .if3 .left), lt-ltb _ _ (c .before .if4 .left), lt-ltb _ _ (c .if5 .left))
+returns-7 c =
+    let c4 = c .before .before .before .before in
+    rw (
+      c4 .self2 .given .1,
+      lt-ltb _ _ (c .before .before .if3 .left),
+      lt-ltb _ _ (c .before .if4 .left),
+      lt-ltb _ _
+          (c .if5 .left),
+    )
 
 returns-8 : tie.Need-returns-8
 unfolding serviceFits

@@ -13,7 +13,9 @@ has-mode-requires c κs = tt
 
 returns : tie.Need-returns
 unfolding userFits
-returns c = rw (c .before .before .before .self .given .1, ← c .before .has-mode .ensures, not-true (c .before .has-mode .result) (c .if1 .taken))
+returns c =
+    let c3 = c .before .before .before in
+    rw (c3 .self .given .1, ← c .before .has-mode .ensures, not-true (c .before .has-mode .result) (c .if1 .taken))
 
 enum-known-self-2 : tie.Need-enum-known-self-2
 enum-known-self-2 c = c .match .keys2
@@ -38,11 +40,27 @@ user-reasons-requires c κs = tt
 
 returns-2 : tie.Need-returns-2
 unfolding userFits
-returns-2 c = rw (c .before .before .before .before .self .given .1, ← c .before .before .has-mode .ensures, not-false (c .before .before .has-mode .result) (c .before .if1 .left), lt-ltb _ _ (c .if2 .taken))
+returns-2 c =
+    let c4 = c .before .before .before .before in
+    rw (
+      c4 .self .given .1,
+      ← c .before .before .has-mode .ensures,
+      not-false (c .before .before .has-mode .result)
+          (c .before .if1 .left),
+      lt-ltb _ _ (c .if2 .taken),
+    )
 
 returns-3 : tie.Need-returns-3
 unfolding userFits
-returns-3 c = rw (c .before .before .before .before .self .given .1, ← c .before .before .has-mode .ensures, not-false (c .before .before .has-mode .result) (c .before .if1 .left), le-ltb _ _ (c .if2 .left))
+returns-3 c =
+    let c4 = c .before .before .before .before in
+    rw (
+      c4 .self .given .1,
+      ← c .before .before .has-mode .ensures,
+      not-false (c .before .before .has-mode .result)
+          (c .before .if1 .left),
+      le-ltb _ _ (c .if2 .left),
+    )
 
 returns-4 : tie.Need-returns-4
 unfolding userFits

@@ -37,16 +37,20 @@ handed up f g r x k p q h = ap up (h ∙ ap refusalOf q) ∙ ap (λ (y : Field).
 pub went : {A : Type 0} (up : Refusal → A) (f g : Field) (o : A) (v n : ℕ) (k : ℕ → ℕ → A) → f ≡ g → f ≡ Value v n → o ≡ k v n → o ≡ onto up g k
 went up f g o v n k p q h = h ∙ ap (λ (y : Field). onto up y k) (sym q ∙ p)
 
-pub data-handed : (t u : Taken) (r x : Refusal) (k : Data → ℕ → Decoded) → t ≡ u → t ≡ taken.Refused r → x ≡ takenRefusal t → decoded.Refused x ≡ onData u k
+pub data-handed : (t u : Taken) (r x : Refusal) (k : Data → ℕ → Decoded) → t ≡ u → t ≡ taken.Refused r
+    → x ≡ takenRefusal t → decoded.Refused x ≡ onData u k
 data-handed t u r x k p q h = ap decoded.Refused (h ∙ ap takenRefusal q) ∙ ap (λ (y : Taken). onData y k) (sym q ∙ p)
 
-pub data-went : (t u : Taken) (o : Decoded) (d : Data) (n : ℕ) (k : Data → ℕ → Decoded) → t ≡ u → t ≡ taken.Is d n → o ≡ k d n → o ≡ onData u k
+pub data-went : (t u : Taken) (o : Decoded) (d : Data) (n : ℕ) (k : Data → ℕ → Decoded) → t ≡ u → t ≡ taken.Is d n
+    → o ≡ k d n → o ≡ onData u k
 data-went t u o d n k p q h = h ∙ ap (λ (y : Taken). onData y k) (sym q ∙ p)
 
-pub lead-handed : (t u : Lead) (r x : Refusal) (k : Kind → ℕ → ℕ → Decoded) → t ≡ u → t ≡ lead.Refused r → x ≡ leadRefusal t → decoded.Refused x ≡ onLead u k
+pub lead-handed : (t u : Lead) (r x : Refusal) (k : Kind → ℕ → ℕ → Decoded) → t ≡ u → t ≡ lead.Refused r
+    → x ≡ leadRefusal t → decoded.Refused x ≡ onLead u k
 lead-handed t u r x k p q h = ap decoded.Refused (h ∙ ap leadRefusal q) ∙ ap (λ (y : Lead). onLead y k) (sym q ∙ p)
 
-pub lead-went : (t u : Lead) (o : Decoded) (c : Kind) (m n : ℕ) (k : Kind → ℕ → ℕ → Decoded) → t ≡ u → t ≡ lead.Is c m n → o ≡ k c m n → o ≡ onLead u k
+pub lead-went : (t u : Lead) (o : Decoded) (c : Kind) (m n : ℕ) (k : Kind → ℕ → ℕ → Decoded) → t ≡ u → t ≡ lead.Is c m n
+    → o ≡ k c m n → o ≡ onLead u k
 lead-went t u o c m n k p q h = h ∙ ap (λ (y : Lead). onLead y k) (sym q ∙ p)
 
 -- ---- a tag that is none of the first five
@@ -73,7 +77,8 @@ string-room l at unit least most n next e = go (lengthWithin l at least most) e
         omega (arith, i .place)
     go (Refused r) e = let z : _≡_ {A = ℕ} 0 1 = cc in absurd (omega arith)
 
-pub optional-room : (l : List ℕ) (there : Bool) (at unit least most n next : ℕ) → optionalAt l there at unit least most ≡ Value n next → unit * n ≤ next
+pub optional-room : (l : List ℕ) (there : Bool) (at unit least most n next : ℕ)
+    → optionalAt l there at unit least most ≡ Value n next → unit * n ≤ next
 unfolding optionalAt
 optional-room l true at unit least most n next e = string-room l at unit least most n next e
 optional-room l false at unit least most n next e =
@@ -95,7 +100,8 @@ digits-room l at n v next f b p q =
 pub under : {A B : Type 0} (f : A → B) (x y : A) (o : B) → x ≡ y → o ≡ f y → o ≡ f x
 under f x y o e p = p ∙ ap f (sym e)
 
-pub taken-handed : (t u : Taken) (r x : Refusal) (k : Data → ℕ → Taken) → t ≡ u → t ≡ taken.Refused r → x ≡ takenRefusal t → taken.Refused x ≡ onTaken u k
+pub taken-handed : (t u : Taken) (r x : Refusal) (k : Data → ℕ → Taken) → t ≡ u → t ≡ taken.Refused r
+    → x ≡ takenRefusal t → taken.Refused x ≡ onTaken u k
 taken-handed t u r x k p q h = ap taken.Refused (h ∙ ap takenRefusal q) ∙ ap (λ (y : Taken). onTaken y k) (sym q ∙ p)
 
 pub taken-went : (t u o : Taken) (d : Data) (n : ℕ) (k : Data → ℕ → Taken) → t ≡ u → t ≡ taken.Is d n → o ≡ k d n → o ≡ onTaken u k
@@ -106,5 +112,6 @@ taken-went t u o d n k p q h = h ∙ ap (λ (y : Taken). onTaken y k) (sym q ∙
 pub none-added : (l : List ℕ) (e : ℕ) (t u : Taken) → e ≡ 0 → t ≡ u → t ≡ cond (eqb e 0) u (withAdditions l u)
 none-added l e t u h p = rw (eq-eqb e 0 h) p
 
-pub some-added : (l : List ℕ) (e : ℕ) (o t u : Taken) → (e ≡ 0 → ⊥) → t ≡ u → o ≡ withAdditions l t → o ≡ cond (eqb e 0) u (withAdditions l u)
+pub some-added : (l : List ℕ) (e : ℕ) (o t u : Taken) → (e ≡ 0 → ⊥) → t ≡ u → o ≡ withAdditions l t
+    → o ≡ cond (eqb e 0) u (withAdditions l u)
 some-added l e o t u h p q = rw (ne-eqb e 0 h) (q ∙ ap (withAdditions l) p)

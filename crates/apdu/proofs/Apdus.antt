@@ -46,11 +46,13 @@ use Rattle.apdu.proofs.Forwards.{forward-written, forward-read}
 
 -- ---- the mode of a start
 
-value-written : (l : List ℕ) (at m next : ℕ) → wholeFits 0 modeLast m ≡ true → eqb m 0 ≡ false → Stands l at (wholeBits 0 modeLast m) next → modeValue l at ≡ Value m next
+value-written : (l : List ℕ) (at m next : ℕ) → wholeFits 0 modeLast m ≡ true → eqb m 0 ≡ false
+    → Stands l at (wholeBits 0 modeLast m) next → modeValue l at ≡ Value m next
 unfolding modeValue
 value-written l at m next h e s = rw (whole-number 0 modeLast (omega arith) .written-read l at m next h s, e)
 
-pub mode-written : (pdus : PduType) (l : List ℕ) (at m next : ℕ) → modeFits pdus m ≡ true → Stands l at (modeBits pdus m) next → modeAt pdus l at ≡ Value m next
+pub mode-written : (pdus : PduType) (l : List ℕ) (at m next : ℕ) → modeFits pdus m ≡ true
+    → Stands l at (modeBits pdus m) next → modeAt pdus l at ≡ Value m next
 unfolding modeFits modeBits modeAt
 mode-written GroundPdus l at m next h s =
     let z : m ≡ 0 = eqb-true m 0 h in
@@ -66,7 +68,8 @@ mode-written AircraftPdus l at m next h s = go (eqb m 0) refl s
         rw (bit-field 1 .written-read l at 0 next refl s, z)
     go false e s =
         let w = stands-split l at next (bitsN 1 1) (wholeBits 0 modeLast m) s in
-        rw (bit-field 1 .written-read l at 1 (at + length (bitsN 1 1)) refl (w .first)) (value-written l (at + length (bitsN 1 1)) m next h e (w .second))
+        rw (bit-field 1 .written-read l at 1 (at + length (bitsN 1 1)) refl (w .first))
+        (value-written l (at + length (bitsN 1 1)) m next h e (w .second))
 
 pub record ModeIs (pdus : PduType) (l : List ℕ) (at m next : ℕ) : Type 0 where
   pub fits : modeFits pdus m ≡ true
@@ -81,7 +84,8 @@ value-read : (l : List ℕ) (at m next : ℕ) → Bits l → modeValue l at ≡ 
 unfolding modeValue
 value-read l at m next b e = fields.via (ValueIs l at m next) (wholeNumber l at 0 modeLast) _ m next found e
   where
-    go : (v n : ℕ) → wholeNumber l at 0 modeLast ≡ Value v n → (t : Bool) → eqb v 0 ≡ t → cond t (refusedAt at Default) (Value v n) ≡ Value m next → ValueIs l at m next
+    go : (v n : ℕ) → wholeNumber l at 0 modeLast ≡ Value v n → (t : Bool) → eqb v 0 ≡ t
+        → cond t (refusedAt at Default) (Value v n) ≡ Value m next → ValueIs l at m next
     go v n f true p k = never (cc)
     go v n f false p k =
         let x : v ≡ m = cc in
@@ -89,7 +93,8 @@ value-read l at m next b e = fields.via (ValueIs l at m next) (wholeNumber l at 
         let g : wholeNumber l at 0 modeLast ≡ Value m next = rw (← x, ← y) f in
         record { other = rw (← x) p; fits = whole-number 0 modeLast (omega arith) .read-fits l at m next b g; stands = whole-number 0 modeLast (omega arith) .read-written l at m next b g }
 
-    found : (v n : ℕ) → wholeNumber l at 0 modeLast ≡ Value v n → cond (eqb v 0) (refusedAt at Default) (Value v n) ≡ Value m next → ValueIs l at m next
+    found : (v n : ℕ) → wholeNumber l at 0 modeLast ≡ Value v n
+        → cond (eqb v 0) (refusedAt at Default) (Value v n) ≡ Value m next → ValueIs l at m next
     found v n f k = go v n f (eqb v 0) refl k
 
 present : (l : List ℕ) (at p m next : ℕ) → Stands l at (bitsN 1 1) p → ValueIs l p m next → ModeIs AircraftPdus l at m next
@@ -100,7 +105,8 @@ default : (l : List ℕ) (at next : ℕ) → Stands l at (bitsN 1 0) next → Mo
 unfolding modeFits modeBits
 default l at next s = record { fits = refl; stands = s }
 
-pub mode-read : (pdus : PduType) (l : List ℕ) (at m next : ℕ) → Bits l → at ≤ length l → modeAt pdus l at ≡ Value m next → ModeIs pdus l at m next
+pub mode-read : (pdus : PduType) (l : List ℕ) (at m next : ℕ) → Bits l → at ≤ length l → modeAt pdus l at ≡ Value m next
+    → ModeIs pdus l at m next
 unfolding modeAt modeFits modeBits
 mode-read GroundPdus l at m next b h e =
     let x : 0 ≡ m = cc in
@@ -113,7 +119,8 @@ mode-read AircraftPdus l at m next b h e = fields.via (ModeIs AircraftPdus l at 
         let n = eqb-false p 0 e in
         omega arith
 
-    go : (p n : ℕ) → bitField l at 1 ≡ Value p n → (t : Bool) → eqb p 0 ≡ t → cond t (Value 0 n) (modeValue l n) ≡ Value m next → ModeIs AircraftPdus l at m next
+    go : (p n : ℕ) → bitField l at 1 ≡ Value p n → (t : Bool) → eqb p 0 ≡ t
+        → cond t (Value 0 n) (modeValue l n) ≡ Value m next → ModeIs AircraftPdus l at m next
     go p n f true q k =
         let x : 0 ≡ m = cc in
         let y : n ≡ next = cc in
@@ -124,7 +131,8 @@ mode-read AircraftPdus l at m next b h e = fields.via (ModeIs AircraftPdus l at 
         let z : p ≡ 1 = one p (omega arith) q in
         present l at n m next (rw z at (bit-field 1 .read-written l at p n b f)) (value-read l n m next b k)
 
-    found : (p n : ℕ) → bitField l at 1 ≡ Value p n → cond (eqb p 0) (Value 0 n) (modeValue l n) ≡ Value m next → ModeIs AircraftPdus l at m next
+    found : (p n : ℕ) → bitField l at 1 ≡ Value p n → cond (eqb p 0) (Value 0 n) (modeValue l n) ≡ Value m next
+        → ModeIs AircraftPdus l at m next
     found p n f k = go p n f (eqb p 0) refl k
 
 -- ---- an APDU, written and read
@@ -152,16 +160,19 @@ pub has-forward : (pdus : PduType) (i : ℕ) → forwards pdus ≡ true → i �
 has-forward AircraftPdus i e h = never (cc)
 has-forward GroundPdus i e h = rw (le-leb 0 i (omega arith), le-leb i 5 h)
 
-pub fields-written : (pdus : PduType) (l : List ℕ) (at m : ℕ) (v : Pdu) → pduFits pdus v ≡ true → Stands l at (pduBits pdus v) m → FieldsRead pdus l at m v
+pub fields-written : (pdus : PduType) (l : List ℕ) (at m : ℕ) (v : Pdu) → pduFits pdus v ≡ true
+    → Stands l at (pduBits pdus v) m → FieldsRead pdus l at m v
 unfolding pduFits pduBits apduWithin leadingAt kindMode restWithin pduIn
 fields-written pdus l at m (abortUser r) h s =
     let w = stands-split l at m (indexBits (lastOf pdus) 0) (indexBits userLast r) s in
-    let a = extensible-index (lastOf pdus) (small pdus) .written-read l at 0 (at + length (indexBits (lastOf pdus) 0)) (has pdus 0 (omega arith)) (w .first) in
+    let a = extensible-index (lastOf pdus) (small pdus) .written-read l at 0 (at + length (indexBits (lastOf pdus) 0))
+    (has pdus 0 (omega arith)) (w .first) in
     let b = extensible-index userLast (omega arith) .written-read l (at + length (indexBits (lastOf pdus) 0)) r m h (w .second) in
     record { value = apdu.AbortUser r; read = rw (a, b); same = refl }
 fields-written pdus l at m (abortProvider r) h s =
     let w = stands-split l at m (indexBits (lastOf pdus) 1) (indexBits providerLast r) s in
-    let a = extensible-index (lastOf pdus) (small pdus) .written-read l at 1 (at + length (indexBits (lastOf pdus) 1)) (has pdus 1 (omega arith)) (w .first) in
+    let a = extensible-index (lastOf pdus) (small pdus) .written-read l at 1 (at + length (indexBits (lastOf pdus) 1))
+    (has pdus 1 (omega arith)) (w .first) in
     let b = extensible-index providerLast (omega arith) .written-read l (at + length (indexBits (lastOf pdus) 1)) r m h (w .second) in
     record { value = apdu.AbortProvider r; read = rw (a, b); same = refl }
 fields-written pdus l at m (start v c) h s =
@@ -182,13 +193,16 @@ fields-written pdus l at m (send c) h s =
 fields-written pdus l at m (forward x y) h s =
     let p : ℕ = at + length (indexBits (lastOf pdus) 4) in
     let w = stands-split l at m (indexBits (lastOf pdus) 4) (forwardBits x y) s in
-    let a = extensible-index (lastOf pdus) (small pdus) .written-read l at 4 p (has-forward pdus 4 (both-left (forwards pdus) (forwardPduFits x y) h) (omega arith)) (w .first) in
+    let a = extensible-index (lastOf pdus) (small pdus) .written-read l at 4 p
+    (has-forward pdus 4 (both-left (forwards pdus) (forwardPduFits x y) h) (omega arith)) (w .first) in
     let f = forward-written l p m x y (both-right (forwards pdus) (forwardPduFits x y) h) (w .second) in
     record { value = apdu.Forward (f .value); read = rw (a, f .read); same = rw (f .heading, f .message) }
 fields-written pdus l at m (forwardResponse r) h s =
     let w = stands-split l at m (indexBits (lastOf pdus) 5) (indexBits responseLast r) s in
-    let a = extensible-index (lastOf pdus) (small pdus) .written-read l at 5 (at + length (indexBits (lastOf pdus) 5)) (has-forward pdus 5 (both-left (forwards pdus) (wholeFits 0 responseLast r) h) (omega arith)) (w .first) in
-    let b = extensible-index responseLast (omega arith) .written-read l (at + length (indexBits (lastOf pdus) 5)) r m (both-right (forwards pdus) (wholeFits 0 responseLast r) h) (w .second) in
+    let a = extensible-index (lastOf pdus) (small pdus) .written-read l at 5 (at + length (indexBits (lastOf pdus) 5))
+    (has-forward pdus 5 (both-left (forwards pdus) (wholeFits 0 responseLast r) h) (omega arith)) (w .first) in
+    let b = extensible-index responseLast (omega arith) .written-read l (at + length (indexBits (lastOf pdus) 5)) r m
+    (both-right (forwards pdus) (wholeFits 0 responseLast r) h) (w .second) in
     record { value = apdu.ForwardResponse r; read = rw (a, b); same = refl }
 
 pub ended-well : (l : List ℕ) (at v next : ℕ) (a : Apdu) → tailAt l at ≡ Value v next → endedAt l at a ≡ decoded.Is a
@@ -199,13 +213,15 @@ ended-badly : (l : List ℕ) (at : ℕ) (a : Apdu) (r : Refusal) → tailAt l at
 unfolding endedAt
 ended-badly l at a r t = rw t
 
-pub apdu-written : (pdus : PduType) (l : List ℕ) (at m next : ℕ) (v : Pdu) → pduFits pdus v ≡ true → Stands l at (pduBits pdus v) m → tailAt l m ≡ Value 0 next → ApduRead pdus l at v
+pub apdu-written : (pdus : PduType) (l : List ℕ) (at m next : ℕ) (v : Pdu) → pduFits pdus v ≡ true
+    → Stands l at (pduBits pdus v) m → tailAt l m ≡ Value 0 next → ApduRead pdus l at v
 apdu-written pdus l at m next v h s t =
     let f = fields-written pdus l at m v h s in
     record { value = f .value; read = f .read ∙ ended-well l m 0 next (f .value) t; same = f .same }
 
 -- all fields stand, and the tail is not right
-pub tail-refused : (pdus : PduType) (l : List ℕ) (at m : ℕ) (v : Pdu) (r : Refusal) → pduFits pdus v ≡ true → Stands l at (pduBits pdus v) m → tailAt l m ≡ Refused r → apduAt pdus l at ≡ decoded.Refused r
+pub tail-refused : (pdus : PduType) (l : List ℕ) (at m : ℕ) (v : Pdu) (r : Refusal) → pduFits pdus v ≡ true
+    → Stands l at (pduBits pdus v) m → tailAt l m ≡ Refused r → apduAt pdus l at ≡ decoded.Refused r
 tail-refused pdus l at m v r h s t =
     let f = fields-written pdus l at m v h s in
     f .read ∙ ended-badly l m (f .value) r t
@@ -224,7 +240,8 @@ Standing pdus l at next (apdu.AbortUser r) = Stands l at (alternative pdus kind.
 Standing pdus l at next (apdu.AbortProvider r) = Stands l at (alternative pdus kind.AbortProvider ++ indexBits providerLast r) next
 Standing pdus l at next (apdu.Start m d) = Led l at next d (alternative pdus kind.Start ++ modeBits pdus m)
 Standing pdus l at next (apdu.Send d) = Led l at next d (alternative pdus kind.Send)
-Standing pdus l at next (apdu.Forward f) = Stands l at (alternative pdus kind.Forward ++ forwardBits (f .heading) (itemsIn l bit (f .message))) next
+Standing pdus l at next (apdu.Forward f) = Stands l at
+    (alternative pdus kind.Forward ++ forwardBits (f .heading) (itemsIn l bit (f .message))) next
 Standing pdus l at next (apdu.ForwardResponse x) = Stands l at (alternative pdus kind.ForwardResponse ++ indexBits responseLast x) next
 
 pub record ApduIs (pdus : PduType) (l : List ℕ) (at : ℕ) (a : Apdu) : Type 0 where
@@ -238,11 +255,13 @@ pub record ApduIs (pdus : PduType) (l : List ℕ) (at : ℕ) (a : Apdu) : Type 0
 pub refused-not : (R : Type 0) (a : Apdu) (r : Refusal) → decoded.Refused r ≡ decoded.Is a → R
 refused-not R a r e = never (cc)
 
-pub via-data : (R : Type 0) (a : Apdu) (x : Taken) (k : Data → ℕ → Decoded) → ((d : Data) (n : ℕ) → x ≡ taken.Is d n → k d n ≡ decoded.Is a → R) → onData x k ≡ decoded.Is a → R
+pub via-data : (R : Type 0) (a : Apdu) (x : Taken) (k : Data → ℕ → Decoded)
+    → ((d : Data) (n : ℕ) → x ≡ taken.Is d n → k d n ≡ decoded.Is a → R) → onData x k ≡ decoded.Is a → R
 via-data R a (taken.Is d n) k g e = g d n refl e
 via-data R a (taken.Refused r) k g e = refused-not R a r e
 
-pub via-lead : (R : Type 0) (a : Apdu) (x : Lead) (k : Kind → ℕ → ℕ → Decoded) → ((c : Kind) (m n : ℕ) → x ≡ lead.Is c m n → k c m n ≡ decoded.Is a → R) → onLead x k ≡ decoded.Is a → R
+pub via-lead : (R : Type 0) (a : Apdu) (x : Lead) (k : Kind → ℕ → ℕ → Decoded)
+    → ((c : Kind) (m n : ℕ) → x ≡ lead.Is c m n → k c m n ≡ decoded.Is a → R) → onLead x k ≡ decoded.Is a → R
 via-lead R a (lead.Is c m n) k g e = g c m n refl e
 via-lead R a (lead.Refused r) k g e = refused-not R a r e
 
@@ -282,22 +301,30 @@ last-most GroundPdus i h = h
 lead-not : (R : Type 0) (c : Kind) (m n : ℕ) (r : Refusal) → lead.Refused r ≡ lead.Is c m n → R
 lead-not R c m n r e = never (cc)
 
-pub lead-read : (pdus : PduType) (l : List ℕ) (at : ℕ) (c : Kind) (m next : ℕ) → Bits l → leadingAt pdus l at ≡ lead.Is c m next → LeadIs pdus l at c m next
+pub lead-read : (pdus : PduType) (l : List ℕ) (at : ℕ) (c : Kind) (m next : ℕ) → Bits l
+    → leadingAt pdus l at ≡ lead.Is c m next → LeadIs pdus l at c m next
 unfolding leadingAt
-lead-read pdus l at c m next b e = via (LeadIs pdus l at c m next) lead.Refused (lead.Is c m next) (lead-not (LeadIs pdus l at c m next) c m next) (extensibleIndex l at (lastOf pdus)) _ first e
+lead-read pdus l at c m next b e = via (LeadIs pdus l at c m next) lead.Refused (lead.Is c m next)
+    (lead-not (LeadIs pdus l at c m next) c m next) (extensibleIndex l at (lastOf pdus)) _ first e
   where
-    second : (i p : ℕ) → extensibleIndex l at (lastOf pdus) ≡ Value i p → (v q : ℕ) → kindMode pdus l (kindOf i) p ≡ Value v q → lead.Is (kindOf i) v q ≡ lead.Is c m next → LeadIs pdus l at c m next
+    second : (i p : ℕ) → extensibleIndex l at (lastOf pdus) ≡ Value i p → (v q : ℕ)
+        → kindMode pdus l (kindOf i) p ≡ Value v q → lead.Is (kindOf i) v q ≡ lead.Is c m next
+        → LeadIs pdus l at c m next
     second i p f v q g k =
         let x : kindOf i ≡ c = cc in
         let y : v ≡ m = cc in
         let z : q ≡ next = cc in
-        let h : i ≤ lastOf pdus = leb-true i (lastOf pdus) (both-right (leb 0 i) (leb i (lastOf pdus)) (extensible-index (lastOf pdus) (small pdus) .read-fits l at i p b f)) in
+        let h : i ≤ lastOf pdus = leb-true i (lastOf pdus) (both-right (leb 0 i) (leb i (lastOf pdus))
+        (extensible-index (lastOf pdus) (small pdus) .read-fits l at i p b f)) in
         let j : i ≡ indexOf c = sym (index-kind i (last-most pdus i h)) ∙ ap indexOf x in
         let s : Stands l at (indexBits (lastOf pdus) i) p = extensible-index (lastOf pdus) (small pdus) .read-written l at i p b f in
         record { place = p; most = rw (← j) h; stands = rw (← j) s; mode = rw (← x, ← y, ← z) g }
 
-    first : (i p : ℕ) → extensibleIndex l at (lastOf pdus) ≡ Value i p → onto lead.Refused (kindMode pdus l (kindOf i) p) (λ (v q : ℕ). lead.Is (kindOf i) v q) ≡ lead.Is c m next → LeadIs pdus l at c m next
-    first i p f k = via (LeadIs pdus l at c m next) lead.Refused (lead.Is c m next) (lead-not (LeadIs pdus l at c m next) c m next) (kindMode pdus l (kindOf i) p) _ (second i p f) k
+    first : (i p : ℕ) → extensibleIndex l at (lastOf pdus) ≡ Value i p
+        → onto lead.Refused (kindMode pdus l (kindOf i) p) (λ (v q : ℕ). lead.Is (kindOf i) v q) ≡ lead.Is c m next
+        → LeadIs pdus l at c m next
+    first i p f k = via (LeadIs pdus l at c m next) lead.Refused (lead.Is c m next)
+        (lead-not (LeadIs pdus l at c m next) c m next) (kindMode pdus l (kindOf i) p) _ (second i p f) k
 
 -- what follows each alternative
 pub record Stood (pdus : PduType) (l : List ℕ) (at : ℕ) (a : Apdu) (next : ℕ) : Type 0 where
@@ -313,23 +340,28 @@ pub record ReasonIs (l : List ℕ) (at n r most : ℕ) (bs : List ℕ) : Type 0 
   pub fits : wholeFits 0 most r ≡ true
   pub stands : Stands l at (bs ++ indexBits most r) n
 
-pub reason-is : (l : List ℕ) (at p n r most : ℕ) (bs : List ℕ) → Bits l → most < 2 ^ 64 → Stands l at bs p → extensibleIndex l p most ≡ Value r n → ReasonIs l at n r most bs
+pub reason-is : (l : List ℕ) (at p n r most : ℕ) (bs : List ℕ) → Bits l → most < 2 ^ 64 → Stands l at bs p
+    → extensibleIndex l p most ≡ Value r n → ReasonIs l at n r most bs
 reason-is l at p n r most bs h lt s f =
     record { fits = extensible-index most lt .read-fits l p r n h f; stands = stands-join l at p n bs (indexBits most r) s (extensible-index most lt .read-written l p r n h f) }
 
-pub user-stood : (pdus : PduType) (l : List ℕ) (at p n r : ℕ) → Bits l → Stands l at (indexBits (lastOf pdus) 0) p → extensibleIndex l p userLast ≡ Value r n → Stood pdus l at (apdu.AbortUser r) n
+pub user-stood : (pdus : PduType) (l : List ℕ) (at p n r : ℕ) → Bits l → Stands l at (indexBits (lastOf pdus) 0) p
+    → extensibleIndex l p userLast ≡ Value r n → Stood pdus l at (apdu.AbortUser r) n
 unfolding apduFits
 user-stood pdus l at p n r b s f =
     let i = reason-is l at p n r userLast (indexBits (lastOf pdus) 0) b (omega arith) s f in
     record { placed-fits = i .fits; stands = i .stands }
 
-pub provider-stood : (pdus : PduType) (l : List ℕ) (at p n r : ℕ) → Bits l → Stands l at (indexBits (lastOf pdus) 1) p → extensibleIndex l p providerLast ≡ Value r n → Stood pdus l at (apdu.AbortProvider r) n
+pub provider-stood : (pdus : PduType) (l : List ℕ) (at p n r : ℕ) → Bits l → Stands l at (indexBits (lastOf pdus) 1) p
+    → extensibleIndex l p providerLast ≡ Value r n → Stood pdus l at (apdu.AbortProvider r) n
 unfolding apduFits
 provider-stood pdus l at p n r b s f =
     let i = reason-is l at p n r providerLast (indexBits (lastOf pdus) 1) b (omega arith) s f in
     record { placed-fits = i .fits; stands = i .stands }
 
-pub start-stood : (pdus : PduType) (l : List ℕ) (at p q n m : ℕ) (d : Data) → Bits l → Stands l at (indexBits (lastOf pdus) 2) p → modeAt pdus l p ≡ Value m q → dataAt l q ≡ taken.Is d n → Stood pdus l at (apdu.Start m d) n
+pub start-stood : (pdus : PduType) (l : List ℕ) (at p q n m : ℕ) (d : Data) → Bits l
+    → Stands l at (indexBits (lastOf pdus) 2) p → modeAt pdus l p ≡ Value m q → dataAt l q ≡ taken.Is d n
+    → Stood pdus l at (apdu.Start m d) n
 unfolding apduFits
 start-stood pdus l at p q n m d b s f g =
     let sp = s .place in
@@ -338,7 +370,8 @@ start-stood pdus l at p q n m d b s f g =
     let w = data-read l q n d b g in
     record { placed-fits = rw (v .fits) (w .placed-fits); stands = record { place = q; lead = stands-join l at p q _ _ s (v .stands); held = w } }
 
-pub send-stood : (pdus : PduType) (l : List ℕ) (at p n : ℕ) (d : Data) → Bits l → Stands l at (indexBits (lastOf pdus) 3) p → dataAt l p ≡ taken.Is d n → Stood pdus l at (apdu.Send d) n
+pub send-stood : (pdus : PduType) (l : List ℕ) (at p n : ℕ) (d : Data) → Bits l
+    → Stands l at (indexBits (lastOf pdus) 3) p → dataAt l p ≡ taken.Is d n → Stood pdus l at (apdu.Send d) n
 unfolding apduFits
 send-stood pdus l at p n d b s g =
     let w = data-read l p n d b g in
@@ -352,40 +385,59 @@ pub ground-only : (pdus : PduType) (i : ℕ) → i ≤ lastOf pdus → 3 < i →
 ground-only AircraftPdus i h g = absurd (omega arith)
 ground-only GroundPdus i h g = refl
 
-pub via-forward : (R : Type 0) (a : Apdu) (x : Forwarded) (k : Forward → ℕ → Decoded) → ((f : Forward) (n : ℕ) → x ≡ forwarded.Is f n → k f n ≡ decoded.Is a → R) → onForward decoded.Refused x k ≡ decoded.Is a → R
+pub via-forward : (R : Type 0) (a : Apdu) (x : Forwarded) (k : Forward → ℕ → Decoded)
+    → ((f : Forward) (n : ℕ) → x ≡ forwarded.Is f n → k f n ≡ decoded.Is a → R)
+    → onForward decoded.Refused x k ≡ decoded.Is a → R
 via-forward R a (forwarded.Is f n) k g e = g f n refl e
 via-forward R a (forwarded.Refused r) k g e = refused-not R a r e
 
-pub forward-stood : (pdus : PduType) (l : List ℕ) (at p n : ℕ) (f : Forward) → Bits l → forwards pdus ≡ true → Stands l at (indexBits (lastOf pdus) 4) p → forwardAt l p ≡ forwarded.Is f n → Stood pdus l at (apdu.Forward f) n
+pub forward-stood : (pdus : PduType) (l : List ℕ) (at p n : ℕ) (f : Forward) → Bits l → forwards pdus ≡ true
+    → Stands l at (indexBits (lastOf pdus) 4) p → forwardAt l p ≡ forwarded.Is f n → Stood pdus l at (apdu.Forward f) n
 unfolding apduFits
 forward-stood pdus l at p n f b y s g =
     let w = forward-read l p f n b g in
     record { placed-fits = rw y (w .placed-fits); stands = stands-join l at p n _ _ s (w .stands) }
 
-pub response-stood : (pdus : PduType) (l : List ℕ) (at p n r : ℕ) → Bits l → forwards pdus ≡ true → Stands l at (indexBits (lastOf pdus) 5) p → extensibleIndex l p responseLast ≡ Value r n → Stood pdus l at (apdu.ForwardResponse r) n
+pub response-stood : (pdus : PduType) (l : List ℕ) (at p n r : ℕ) → Bits l → forwards pdus ≡ true
+    → Stands l at (indexBits (lastOf pdus) 5) p → extensibleIndex l p responseLast ≡ Value r n
+    → Stood pdus l at (apdu.ForwardResponse r) n
 unfolding apduFits
 response-stood pdus l at p n r b y s g =
     let i = reason-is l at p n r responseLast (indexBits (lastOf pdus) 5) b (omega arith) s g in
     record { placed-fits = rw y (i .fits); stands = i .stands }
 
-rest-read : (pdus : PduType) (l : List ℕ) (at p : ℕ) (c : Kind) (m q : ℕ) (a : Apdu) → Bits l → (indexOf c ≤ lastOf pdus) → Stands l at (indexBits (lastOf pdus) (indexOf c)) p → kindMode pdus l c p ≡ Value m q → restAt l c m q ≡ decoded.Is a → ApduIs pdus l at a
+rest-read : (pdus : PduType) (l : List ℕ) (at p : ℕ) (c : Kind) (m q : ℕ) (a : Apdu) → Bits l
+    → (indexOf c ≤ lastOf pdus) → Stands l at (indexBits (lastOf pdus) (indexOf c)) p → kindMode pdus l c p ≡ Value m q
+    → restAt l c m q ≡ decoded.Is a → ApduIs pdus l at a
 unfolding kindMode restWithin
 rest-read pdus l at p kind.AbortUser m q a b h s f k =
     via (ApduIs pdus l at a) decoded.Refused (decoded.Is a) (refused-not (ApduIs pdus l at a) a) (extensibleIndex l q userLast) _
-    (λ (r n : ℕ) (g : extensibleIndex l q userLast ≡ Value r n) (e : endedAt l n (apdu.AbortUser r) ≡ decoded.Is a). ended-read pdus l at n a (apdu.AbortUser r) (user-stood pdus l at q n r b (stands-at l at p q _ (value-place p m q f) s) g) e) k
+    (λ (r n : ℕ) (g : extensibleIndex l q userLast ≡ Value r n) (e : endedAt l n (apdu.AbortUser r) ≡ decoded.Is a).
+    ended-read pdus l at n a (apdu.AbortUser r)
+    (user-stood pdus l at q n r b (stands-at l at p q _ (value-place p m q f) s) g) e) k
 rest-read pdus l at p kind.AbortProvider m q a b h s f k =
     via (ApduIs pdus l at a) decoded.Refused (decoded.Is a) (refused-not (ApduIs pdus l at a) a) (extensibleIndex l q providerLast) _
-    (λ (r n : ℕ) (g : extensibleIndex l q providerLast ≡ Value r n) (e : endedAt l n (apdu.AbortProvider r) ≡ decoded.Is a). ended-read pdus l at n a (apdu.AbortProvider r) (provider-stood pdus l at q n r b (stands-at l at p q _ (value-place p m q f) s) g) e) k
+    (λ (r n : ℕ) (g : extensibleIndex l q providerLast ≡ Value r n)
+    (e : endedAt l n (apdu.AbortProvider r) ≡ decoded.Is a). ended-read pdus l at n a (apdu.AbortProvider r)
+    (provider-stood pdus l at q n r b (stands-at l at p q _ (value-place p m q f) s) g) e) k
 rest-read pdus l at p kind.Start m q a b h s f k =
-    via-data (ApduIs pdus l at a) a (dataAt l q) _ (λ (d : Data) (n : ℕ) (g : dataAt l q ≡ taken.Is d n) (e : endedAt l n (apdu.Start m d) ≡ decoded.Is a). ended-read pdus l at n a (apdu.Start m d) (start-stood pdus l at p q n m d b s f g) e) k
+    via-data (ApduIs pdus l at a) a (dataAt l q) _ (λ (d : Data) (n : ℕ) (g : dataAt l q ≡ taken.Is d n)
+    (e : endedAt l n (apdu.Start m d) ≡ decoded.Is a). ended-read pdus l at n a (apdu.Start m d)
+    (start-stood pdus l at p q n m d b s f g) e) k
 rest-read pdus l at p kind.Send m q a b h s f k =
-    via-data (ApduIs pdus l at a) a (dataAt l q) _ (λ (d : Data) (n : ℕ) (g : dataAt l q ≡ taken.Is d n) (e : endedAt l n (apdu.Send d) ≡ decoded.Is a). ended-read pdus l at n a (apdu.Send d) (send-stood pdus l at q n d b (stands-at l at p q _ (value-place p m q f) s) g) e) k
+    via-data (ApduIs pdus l at a) a (dataAt l q) _ (λ (d : Data) (n : ℕ) (g : dataAt l q ≡ taken.Is d n)
+    (e : endedAt l n (apdu.Send d) ≡ decoded.Is a). ended-read pdus l at n a (apdu.Send d)
+    (send-stood pdus l at q n d b (stands-at l at p q _ (value-place p m q f) s) g) e) k
 rest-read pdus l at p kind.Forward m q a b h s f k =
     via-forward (ApduIs pdus l at a) a (forwardAt l q) _ (λ (x : Forward) (n : ℕ) (g : forwardAt l q ≡ forwarded.Is x n) (e : endedAt l n (apdu.Forward x) ≡ decoded.Is a).
-    ended-read pdus l at n a (apdu.Forward x) (forward-stood pdus l at q n x b (ground-only pdus 4 h (omega arith)) (stands-at l at p q _ (value-place p m q f) s) g) e) k
+    ended-read pdus l at n a (apdu.Forward x) (forward-stood pdus l at q n x b (ground-only pdus 4 h (omega arith))
+    (stands-at l at p q _ (value-place p m q f) s) g) e) k
 rest-read pdus l at p kind.ForwardResponse m q a b h s f k =
     via (ApduIs pdus l at a) decoded.Refused (decoded.Is a) (refused-not (ApduIs pdus l at a) a) (extensibleIndex l q responseLast) _
-    (λ (r n : ℕ) (g : extensibleIndex l q responseLast ≡ Value r n) (e : endedAt l n (apdu.ForwardResponse r) ≡ decoded.Is a). ended-read pdus l at n a (apdu.ForwardResponse r) (response-stood pdus l at q n r b (ground-only pdus 5 h (omega arith)) (stands-at l at p q _ (value-place p m q f) s) g) e) k
+    (λ (r n : ℕ) (g : extensibleIndex l q responseLast ≡ Value r n)
+    (e : endedAt l n (apdu.ForwardResponse r) ≡ decoded.Is a). ended-read pdus l at n a
+    (apdu.ForwardResponse r) (response-stood pdus l at q n r b (ground-only pdus 5 h (omega arith))
+    (stands-at l at p q _ (value-place p m q f) s) g) e) k
 
 pub apdu-read : (pdus : PduType) (l : List ℕ) (at : ℕ) (a : Apdu) → Bits l → apduAt pdus l at ≡ decoded.Is a → ApduIs pdus l at a
 unfolding apduWithin

@@ -75,18 +75,22 @@ fits-items l unit least most x s = rw (s .fits, le-leb _ _ (s .held))
 pub length-items : (l : List ℕ) (unit : ℕ) (x : Span) → x .at + unit * x .count ≤ length l → length (itemsIn l unit x) ≡ unit * x .count
 length-items l unit x h = length-part l (x .at) (unit * x .count) h
 
-pub items-count : (l : List ℕ) (unit : ℕ) (x : Span) → 0 < unit → x .at + unit * x .count ≤ length l → length (itemsIn l unit x) / unit ≡ x .count
+pub items-count : (l : List ℕ) (unit : ℕ) (x : Span) → 0 < unit → x .at + unit * x .count ≤ length l
+    → length (itemsIn l unit x) / unit ≡ x .count
 items-count l unit x pos h = rw (length-items l unit x h) (mul-div-cancel-left (x .count) pos)
 
-pub string-is : (l : List ℕ) (unit : ℕ) (x : Span) → 0 < unit → x .at + unit * x .count ≤ length l → stringBits unit (itemsIn l unit x) ≡ lengthBits (x .count) ++ itemsIn l unit x
+pub string-is : (l : List ℕ) (unit : ℕ) (x : Span) → 0 < unit → x .at + unit * x .count ≤ length l
+    → stringBits unit (itemsIn l unit x) ≡ lengthBits (x .count) ++ itemsIn l unit x
 unfolding stringBits
 string-is l unit x pos h = ap (λ (n : ℕ). lengthBits n ++ itemsIn l unit x) (items-count l unit x pos h)
 
-pub items-value-fits : (l : List ℕ) (unit least most : ℕ) (x : Span) → 0 < unit → ItemsFit l unit least most x → stringFits unit least most (itemsIn l unit x) ≡ true
+pub items-value-fits : (l : List ℕ) (unit least most : ℕ) (x : Span) → 0 < unit → ItemsFit l unit least most x
+    → stringFits unit least most (itemsIn l unit x) ≡ true
 items-value-fits l unit least most x pos s =
     rw (items-count l unit x pos (s .held), length-items l unit x (s .held), eq-eqb (unit * x .count) (unit * x .count) refl) (s .fits)
 
-pub part-value-fits : (l : List ℕ) (unit least most : ℕ) (p : Part) → 0 < unit → partFits l unit least most p ≡ true → optionalFits unit least most (partIn l unit p) ≡ true
+pub part-value-fits : (l : List ℕ) (unit least most : ℕ) (p : Part) → 0 < unit → partFits l unit least most p ≡ true
+    → optionalFits unit least most (partIn l unit p) ≡ true
 unfolding partFits optionalFits partIn
 part-value-fits l unit least most Absent pos h = refl
 part-value-fits l unit least most (Given x) pos h = items-value-fits l unit least most x pos (items-fits l unit least most x h)
@@ -110,24 +114,32 @@ pub data-value-fits : (li lm lc : List ℕ) (d : Data) → dataFits li lm lc d �
 unfolding contentFits contentIn
 data-value-fits li lm lc d h =
     let s = data-fits li lm lc d h in
-    rw (part-value-fits li octet identifierLeast identifierMost (d .identifier) (omega arith) (s .identifier), part-value-fits lm bit 0 messageMost (d .message) (omega arith) (s .message))
+    rw (
+      part-value-fits li octet identifierLeast identifierMost (d .identifier) (omega arith) (s .identifier),
+      part-value-fits lm bit 0 messageMost (d .message) (omega arith) (s .message),
+    )
     (items-value-fits lc bit 0 checkMost (d .check) (omega arith) (items-fits lc bit 0 checkMost (d .check) (s .check)))
 
 -- a forward message
 
-pub forward-value-fits : (lm : List ℕ) (f : Forward) → forwardFits lm f ≡ true → forwardPduFits (f .heading) (itemsIn lm bit (f .message)) ≡ true
+pub forward-value-fits : (lm : List ℕ) (f : Forward) → forwardFits lm f ≡ true
+    → forwardPduFits (f .heading) (itemsIn lm bit (f .message)) ≡ true
 unfolding forwardFits forwardPduFits
 forward-value-fits lm f e =
     rw (both-left (headingFits (f .heading)) (itemsFit lm bit 0 messageMost (f .message)) e)
-    (items-value-fits lm bit 0 messageMost (f .message) (omega arith) (items-fits lm bit 0 messageMost (f .message) (both-right (headingFits (f .heading)) (itemsFit lm bit 0 messageMost (f .message)) e)))
+    (items-value-fits lm bit 0 messageMost (f .message) (omega arith) (items-fits lm bit 0 messageMost (f .message)
+    (both-right (headingFits (f .heading)) (itemsFit lm bit 0 messageMost (f .message)) e)))
 
-pub apdu-value-fits : (pdus : PduType) (li lm lc : List ℕ) (a : Apdu) → apduFits pdus li lm lc a ≡ true → pduFits pdus (pduIn li lm lc a) ≡ true
+pub apdu-value-fits : (pdus : PduType) (li lm lc : List ℕ) (a : Apdu) → apduFits pdus li lm lc a ≡ true
+    → pduFits pdus (pduIn li lm lc a) ≡ true
 unfolding apduFits pduFits pduIn
 apdu-value-fits pdus li lm lc (apdu.AbortUser r) h = h
 apdu-value-fits pdus li lm lc (apdu.AbortProvider r) h = h
-apdu-value-fits pdus li lm lc (apdu.Start m d) h = rw (both-left (modeFits pdus m) (dataFits li lm lc d) h) (data-value-fits li lm lc d (both-right (modeFits pdus m) (dataFits li lm lc d) h))
+apdu-value-fits pdus li lm lc (apdu.Start m d) h = rw (both-left (modeFits pdus m) (dataFits li lm lc d) h)
+    (data-value-fits li lm lc d (both-right (modeFits pdus m) (dataFits li lm lc d) h))
 apdu-value-fits pdus li lm lc (apdu.Send d) h = data-value-fits li lm lc d h
-apdu-value-fits pdus li lm lc (apdu.Forward f) h = rw (both-left (forwards pdus) (forwardFits lm f) h) (forward-value-fits lm f (both-right (forwards pdus) (forwardFits lm f) h))
+apdu-value-fits pdus li lm lc (apdu.Forward f) h = rw (both-left (forwards pdus) (forwardFits lm f) h)
+    (forward-value-fits lm f (both-right (forwards pdus) (forwardFits lm f) h))
 apdu-value-fits pdus li lm lc (apdu.ForwardResponse x) h = h
 
 -- ---- sizes
@@ -148,18 +160,22 @@ length-mono m n h =
           ]
     ]
 
-pub string-most : (unit least most : ℕ) (l : List ℕ) → stringFits unit least most l ≡ true → length (stringBits unit l) ≤ length (lengthBits most) + unit * most
+pub string-most : (unit least most : ℕ) (l : List ℕ) → stringFits unit least most l ≡ true
+    → length (stringBits unit l) ≤ length (lengthBits most) + unit * most
 unfolding stringBits
 string-most unit least most l h =
     let q : ℕ = length l / unit in
-    let e : unit * (length l / unit) ≡ length l = eqb-true _ _ (both-left (eqb (unit * (length l / unit)) (length l)) (withinFits least most (length l / unit)) h) in
-    let c = counted least most (length l / unit) (both-right (eqb (unit * (length l / unit)) (length l)) (withinFits least most (length l / unit)) h) in
+    let e : unit * (length l / unit) ≡ length l = eqb-true _ _
+    (both-left (eqb (unit * (length l / unit)) (length l)) (withinFits least most (length l / unit)) h) in
+    let c = counted least most (length l / unit)
+    (both-right (eqb (unit * (length l / unit)) (length l)) (withinFits least most (length l / unit)) h) in
     let m : unit * (length l / unit) ≤ unit * most = mul-le-mul-left unit (c .high) in
     let w = length-mono (length l / unit) most (c .high) in
     let n = length-append (lengthBits (length l / unit)) l in
     omega arith
 
-pub optional-most : (unit least most : ℕ) (o : Optional) → optionalFits unit least most o ≡ true → length (optionalBits unit o) ≤ length (lengthBits most) + unit * most
+pub optional-most : (unit least most : ℕ) (o : Optional) → optionalFits unit least most o ≡ true
+    → length (optionalBits unit o) ≤ length (lengthBits most) + unit * most
 unfolding optionalFits optionalBits
 optional-most unit least most absent h = omega arith
 optional-most unit least most (given l) h = string-most unit least most l h
@@ -231,8 +247,10 @@ reason-most last r h = rw (length-index last r) (omega arith)
 
 pub pdu-most : (pdus : PduType) (v : Pdu) → pduFits pdus v ≡ true → length (pduBits pdus v) ≤ pduMost
 unfolding pduFits pduBits digitsIn
-pdu-most pdus (abortUser r) h = rw (length-append, length-alternative) (omega (arith, width-most pdus, reason-most userLast r (omega arith)))
-pdu-most pdus (abortProvider r) h = rw (length-append, length-alternative) (omega (arith, width-most pdus, reason-most providerLast r (omega arith)))
+pdu-most pdus (abortUser r) h = rw (length-append, length-alternative)
+    (omega (arith, width-most pdus, reason-most userLast r (omega arith)))
+pdu-most pdus (abortProvider r) h = rw (length-append, length-alternative)
+    (omega (arith, width-most pdus, reason-most providerLast r (omega arith)))
 pdu-most pdus (start m c) h =
     let k = content-most c (both-right (modeFits pdus m) (contentFits c) h) in
     rw (length-append, length-alternative, length-append) (omega (arith, lead-most pdus m))
@@ -242,4 +260,5 @@ pdu-most pdus (send c) h =
 pdu-most pdus (forward x m) h =
     let k = forward-most x m (both-right (forwards pdus) (forwardPduFits x m) h) in
     rw (length-append, length-alternative) (omega (arith, width-most pdus))
-pdu-most pdus (forwardResponse x) h = rw (length-append, length-alternative) (omega (arith, width-most pdus, reason-most responseLast x (omega arith)))
+pdu-most pdus (forwardResponse x) h = rw (length-append, length-alternative)
+    (omega (arith, width-most pdus, reason-most responseLast x (omega arith)))

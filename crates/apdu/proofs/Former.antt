@@ -31,7 +31,8 @@ use Rattle.apdu.proofs.Bounds.{never}
 
 unfoldable pub formerData : List ℕ → ℕ → Taken
 formerData l at =
-    onto taken.Refused (extensionBit l at) (λ (e p : ℕ). onto taken.Refused (bitField l p 2) (λ (v q : ℕ). partsAt l q (leb 2 v) (eqb (v % 2) 1)))
+    onto taken.Refused (extensionBit l at)
+    (λ (e p : ℕ). onto taken.Refused (bitField l p 2) (λ (v q : ℕ). partsAt l q (leb 2 v) (eqb (v % 2) 1)))
 
 unfoldable pub formerRest : List ℕ → Kind → ℕ → ℕ → Decoded
 formerRest l kind.AbortUser m at = restAt l kind.AbortUser m at
@@ -96,7 +97,8 @@ apdu-kept pdus l at = go (leadingAt pdus l at)
     go (lead.Refused r) = same refl
 
 -- and what was accepted is accepted with the same value
-pub accepted-before : (pdus : PduType) (l : List ℕ) (at : ℕ) (a : Apdu) → formerApdu pdus l at ≡ decoded.Is a → apduAt pdus l at ≡ decoded.Is a
+pub accepted-before : (pdus : PduType) (l : List ℕ) (at : ℕ) (a : Apdu) → formerApdu pdus l at ≡ decoded.Is a
+    → apduAt pdus l at ≡ decoded.Is a
 accepted-before pdus l at a e = go (formerApdu pdus l at) e (apdu-kept pdus l at)
   where
     go : (x : Decoded) → x ≡ decoded.Is a → AsBefore x (apduAt pdus l at) → apduAt pdus l at ≡ decoded.Is a

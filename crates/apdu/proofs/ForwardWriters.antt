@@ -32,18 +32,23 @@ use Rattle.apdu.proofs.Heads.{heading-fits}
 use Rattle.apdu.proofs.Writers.{On, put-on, number-run, Goes, placed, behind, room-behind, same-bits, unled, wider}
 
 -- a whole number in its range
-whole-run : (s : List ℕ) (o : Left) (at lo hi v : ℕ) → wholeFits lo hi v ≡ true → o ≡ putIf (wholeFits lo hi v) s allBits at (wholeBits lo hi v) → o ≡ putRun s allBits at (wholeBits lo hi v)
+whole-run : (s : List ℕ) (o : Left) (at lo hi v : ℕ) → wholeFits lo hi v ≡ true
+    → o ≡ putIf (wholeFits lo hi v) s allBits at (wholeBits lo hi v) → o ≡ putRun s allBits at (wholeBits lo hi v)
 whole-run s o at lo hi v f p = p ∙ put-if-yes (wholeFits lo hi v) s allBits at (wholeBits lo hi v) f
 
 -- a number that its bits hold
 held-run : (s : List ℕ) (o : Left) (at n v : ℕ) → bitsFit n v ≡ true → o ≡ putNumber s allBits at n v → o ≡ putRun s allBits at (bitsN n v)
-held-run s o at n v f p = number-run s o allBits at n v (leb-true n 64 (both-left (leb n 64) (ltb v (2 ^ n)) f)) (ltb-true v (2 ^ n) (both-right (leb n 64) (ltb v (2 ^ n)) f)) p
+held-run s o at n v f p = number-run s o allBits at n v (leb-true n 64 (both-left (leb n 64) (ltb v (2 ^ n)) f))
+    (ltb-true v (2 ^ n) (both-right (leb n 64) (ltb v (2 ^ n)) f)) p
 
 -- ---- three whole numbers
 
-pub triple-put : (s z₁ z₂ : List ℕ) (o : Left) (at p₁ p₂ : ℕ) (r₁ r₂ : Put) (lo hi v : Triple) → tripleFits lo hi v ≡ true → at + length (tripleBits lo hi v) ≤ length (bitsTo s allBits)
-    → left r₁ z₁ ≡ putIf (wholeFits (lo .first) (hi .first) (v .first)) s allBits at (wholeBits (lo .first) (hi .first) (v .first)) → p₁ ≡ placeOf r₁
-    → left r₂ z₂ ≡ putIf (wholeFits (lo .second) (hi .second) (v .second)) z₁ allBits p₁ (wholeBits (lo .second) (hi .second) (v .second)) → p₂ ≡ placeOf r₂
+pub triple-put : (s z₁ z₂ : List ℕ) (o : Left) (at p₁ p₂ : ℕ) (r₁ r₂ : Put) (lo hi v : Triple)
+    → tripleFits lo hi v ≡ true → at + length (tripleBits lo hi v) ≤ length (bitsTo s allBits)
+    → left r₁ z₁ ≡ putIf (wholeFits (lo .first) (hi .first) (v .first)) s allBits at
+    (wholeBits (lo .first) (hi .first) (v .first)) → p₁ ≡ placeOf r₁
+    → left r₂ z₂ ≡ putIf (wholeFits (lo .second) (hi .second) (v .second)) z₁ allBits p₁
+    (wholeBits (lo .second) (hi .second) (v .second)) → p₂ ≡ placeOf r₂
     → o ≡ putIf (wholeFits (lo .third) (hi .third) (v .third)) z₂ allBits p₂ (wholeBits (lo .third) (hi .third) (v .third))
     → o ≡ putRun s allBits at (tripleBits lo hi v)
 unfolding tripleFits tripleBits
@@ -55,21 +60,26 @@ triple-put s z₁ z₂ o at p₁ p₂ r₁ r₂ lo hi v f h w₁ q₁ w₂ q₂ 
     let b₂ : List ℕ = wholeBits (lo .second) (hi .second) (v .second) in
     let b₃ : List ℕ = wholeBits (lo .third) (hi .third) (v .third) in
     let g = both-right f₁ (f₂ && f₃) f in
-    let o₁ = put-on s z₁ allBits at p₁ b₁ (b₂ ++ b₃) r₁ h (whole-run s (left r₁ z₁) at (lo .first) (hi .first) (v .first) (both-left f₁ (f₂ && f₃) f) w₁) q₁ in
-    let o₂ = put-on z₁ z₂ allBits p₁ p₂ b₂ b₃ r₂ (o₁ .room) (whole-run z₁ (left r₂ z₂) p₁ (lo .second) (hi .second) (v .second) (both-left f₂ f₃ g) w₂) q₂ in
+    let o₁ = put-on s z₁ allBits at p₁ b₁ (b₂ ++ b₃) r₁ h
+    (whole-run s (left r₁ z₁) at (lo .first) (hi .first) (v .first) (both-left f₁ (f₂ && f₃) f) w₁) q₁ in
+    let o₂ = put-on z₁ z₂ allBits p₁ p₂ b₂ b₃ r₂ (o₁ .room)
+    (whole-run z₁ (left r₂ z₂) p₁ (lo .second) (hi .second) (v .second) (both-left f₂ f₃ g) w₂) q₂ in
     whole-run z₂ o p₂ (lo .third) (hi .third) (v .third) (both-right f₂ f₃ g) w₃ ∙ o₂ .whole ∙ o₁ .whole
 
 -- ---- the heading
 
 -- room for the whole is room for the front
-front-room : (s : List ℕ) (at : ℕ) (xs ys : List ℕ) → at + length (xs ++ ys) ≤ length (bitsTo s allBits) → at + length xs ≤ length (bitsTo s allBits)
+front-room : (s : List ℕ) (at : ℕ) (xs ys : List ℕ) → at + length (xs ++ ys) ≤ length (bitsTo s allBits)
+    → at + length xs ≤ length (bitsTo s allBits)
 front-room s at xs ys h =
     let n = length-append xs ys in
     omega arith
 
 -- the aircraft, and the index
-pub aircraft-put : (s z₃ z₄ z₅ : List ℕ) (o : Left) (at p₃ p₄ p₅ : ℕ) (r₃ r₄ r₅ : Put) (h : Heading) → headingFits h ≡ true → at + length (aircraftBits h) ≤ length (bitsTo s allBits)
-    → left r₃ z₃ ≡ putIf (wholeFits charactersLeast charactersMost (h .characters)) s allBits at (wholeBits charactersLeast charactersMost (h .characters)) → p₃ ≡ placeOf r₃
+pub aircraft-put : (s z₃ z₄ z₅ : List ℕ) (o : Left) (at p₃ p₄ p₅ : ℕ) (r₃ r₄ r₅ : Put) (h : Heading)
+    → headingFits h ≡ true → at + length (aircraftBits h) ≤ length (bitsTo s allBits)
+    → left r₃ z₃ ≡ putIf (wholeFits charactersLeast charactersMost (h .characters)) s allBits at
+    (wholeBits charactersLeast charactersMost (h .characters)) → p₃ ≡ placeOf r₃
     → left r₄ z₄ ≡ putNumber z₃ allBits p₃ (character * h .characters) (h .flight) → p₄ ≡ placeOf r₄
     → left r₅ z₅ ≡ putNumber z₄ allBits p₄ addressBits (h .address) → p₅ ≡ placeOf r₅
     → o ≡ putIf (wholeFits 0 directionLast (h .direction)) z₅ allBits p₅ (wholeBits 0 directionLast (h .direction))
@@ -81,24 +91,35 @@ aircraft-put s z₃ z₄ z₅ o at p₃ p₄ p₅ r₃ r₄ r₅ h fits room w�
     let b₄ : List ℕ = bitsN (character * h .characters) (h .flight) in
     let b₅ : List ℕ = bitsN addressBits (h .address) in
     let b₆ : List ℕ = wholeBits 0 directionLast (h .direction) in
-    let o₃ = put-on s z₃ allBits at p₃ b₃ (b₄ ++ (b₅ ++ b₆)) r₃ room (whole-run s (left r₃ z₃) at charactersLeast charactersMost (h .characters) (f .characters) w₃) q₃ in
-    let o₄ = put-on z₃ z₄ allBits p₃ p₄ b₄ (b₅ ++ b₆) r₄ (o₃ .room) (held-run z₃ (left r₄ z₄) p₃ (character * h .characters) (h .flight) (f .flight) w₄) q₄ in
+    let o₃ = put-on s z₃ allBits at p₃ b₃ (b₄ ++ (b₅ ++ b₆)) r₃ room
+    (whole-run s (left r₃ z₃) at charactersLeast charactersMost (h .characters) (f .characters) w₃) q₃ in
+    let o₄ = put-on z₃ z₄ allBits p₃ p₄ b₄ (b₅ ++ b₆) r₄ (o₃ .room)
+    (held-run z₃ (left r₄ z₄) p₃ (character * h .characters) (h .flight) (f .flight) w₄) q₄ in
     let o₅ = put-on z₄ z₅ allBits p₄ p₅ b₅ b₆ r₅ (o₄ .room) (held-run z₄ (left r₅ z₅) p₄ addressBits (h .address) (f .address) w₅) q₅ in
     whole-run z₅ o p₅ 0 directionLast (h .direction) (f .direction) w₆ ∙ o₅ .whole ∙ o₄ .whole ∙ o₃ .whole
 
 module _ (s : List ℕ) (at : ℕ) (h : Heading) (fits : headingFits h ≡ true) (room : at + length (headingBits h) ≤ length (bitsTo s allBits)) where
-  split-room : at + length (tripleBits dateFrom dateTo (h .date) ++ (tripleBits timeFrom timeTo (h .time) ++ aircraftBits h)) ≤ length (bitsTo s allBits)
+  split-room : at + length
+      (tripleBits dateFrom dateTo (h .date) ++ (tripleBits timeFrom timeTo (h .time) ++ aircraftBits h)) ≤ length
+      (bitsTo s allBits)
   unfolding headingBits
   split-room = room
 
-  pub date-asks : (tripleFits dateFrom dateTo (h .date) ≡ true) × (at + length (tripleBits dateFrom dateTo (h .date)) ≤ length (bitsTo s allBits))
-  date-asks = (heading-fits h fits .date, front-room s at (tripleBits dateFrom dateTo (h .date)) (tripleBits timeFrom timeTo (h .time) ++ aircraftBits h) split-room)
+  pub date-asks : (tripleFits dateFrom dateTo (h .date) ≡ true) ×
+      (at + length (tripleBits dateFrom dateTo (h .date)) ≤ length (bitsTo s allBits))
+  date-asks = (
+    heading-fits h fits .date,
+    front-room s at (tripleBits dateFrom dateTo (h .date))
+        (tripleBits timeFrom timeTo (h .time) ++ aircraftBits h) split-room,
+  )
 
   module _ (z₁ : List ℕ) (p₁ : ℕ) (r₁ : Put) (w₁ : left r₁ z₁ ≡ putRun s allBits at (tripleBits dateFrom dateTo (h .date))) (q₁ : p₁ ≡ placeOf r₁) where
     dated : On s z₁ allBits at p₁ (tripleBits dateFrom dateTo (h .date)) (tripleBits timeFrom timeTo (h .time) ++ aircraftBits h)
-    dated = put-on s z₁ allBits at p₁ (tripleBits dateFrom dateTo (h .date)) (tripleBits timeFrom timeTo (h .time) ++ aircraftBits h) r₁ split-room w₁ q₁
+    dated = put-on s z₁ allBits at p₁ (tripleBits dateFrom dateTo (h .date))
+        (tripleBits timeFrom timeTo (h .time) ++ aircraftBits h) r₁ split-room w₁ q₁
 
-    pub time-asks : (tripleFits timeFrom timeTo (h .time) ≡ true) × (p₁ + length (tripleBits timeFrom timeTo (h .time)) ≤ length (bitsTo z₁ allBits))
+    pub time-asks : (tripleFits timeFrom timeTo (h .time) ≡ true) ×
+        (p₁ + length (tripleBits timeFrom timeTo (h .time)) ≤ length (bitsTo z₁ allBits))
     time-asks = (heading-fits h fits .time, front-room z₁ p₁ (tripleBits timeFrom timeTo (h .time)) (aircraftBits h) (dated .room))
 
     module _ (z₂ : List ℕ) (p₂ : ℕ) (r₂ : Put) (w₂ : left r₂ z₂ ≡ putRun z₁ allBits p₁ (tripleBits timeFrom timeTo (h .time))) (q₂ : p₂ ≡ placeOf r₂) where
@@ -114,7 +135,8 @@ module _ (s : List ℕ) (at : ℕ) (h : Heading) (fits : headingFits h ≡ true)
 
 -- the characters are few
 pub characters-most : (h : Heading) → headingFits h ≡ true → h .characters ≤ charactersMost
-characters-most h e = leb-true (h .characters) charactersMost (both-right (leb charactersLeast (h .characters)) (leb (h .characters) charactersMost) (heading-fits h e .characters))
+characters-most h e = leb-true (h .characters) charactersMost (both-right (leb charactersLeast (h .characters))
+    (leb (h .characters) charactersMost) (heading-fits h e .characters))
 
 -- ---- a forward message
 
@@ -125,22 +147,29 @@ module _ (s lm : List ℕ) (at : ℕ) (f : Forward) (placed-fits : forwardFits l
 
   pub heading-asks : (headingFits (f .heading) ≡ true) × (at + length (headingBits (f .heading)) ≤ length (bitsTo s allBits))
   unfolding forwardFits
-  heading-asks = (both-left (headingFits (f .heading)) (itemsFit lm bit 0 messageMost (f .message)) placed-fits, front-room s at (headingBits (f .heading)) (stringBits bit (itemsIn lm bit (f .message))) whole-room)
+  heading-asks = (
+    both-left (headingFits (f .heading)) (itemsFit lm bit 0 messageMost (f .message)) placed-fits,
+    front-room s at (headingBits (f .heading)) (stringBits bit (itemsIn lm bit (f .message))) whole-room,
+  )
 
   pub message-fits : itemsFit lm bit 0 lengthMost (f .message) ≡ true
   unfolding forwardFits
-  message-fits = wider lm bit 0 messageMost (f .message) (both-right (headingFits (f .heading)) (itemsFit lm bit 0 messageMost (f .message)) placed-fits)
+  message-fits = wider lm bit 0 messageMost (f .message)
+      (both-right (headingFits (f .heading)) (itemsFit lm bit 0 messageMost (f .message)) placed-fits)
 
   module _ (y : List ℕ) (p : ℕ) (r : Put) (w : left r y ≡ putRun s allBits at (headingBits (f .heading))) (q : p ≡ placeOf r) where
     headed : Goes s y at p (headingBits (f .heading))
     headed = placed s y at p (headingBits (f .heading)) r (heading-asks .1) w q
 
     pub message-room : p + length (bitsN 0 0 ++ stringBits bit (itemsIn lm bit (f .message))) ≤ length (bitsTo y allBits)
-    message-room = rw (unled (stringBits bit (itemsIn lm bit (f .message)))) (room-behind s y at p (headingBits (f .heading)) (stringBits bit (itemsIn lm bit (f .message))) whole-room headed)
+    message-room = rw (unled (stringBits bit (itemsIn lm bit (f .message)))) (room-behind s y at p
+        (headingBits (f .heading)) (stringBits bit (itemsIn lm bit (f .message))) whole-room headed)
 
-    pub forward-goes : (z : List ℕ) (n : ℕ) → Goes y z p n (bitsN 0 0 ++ stringBits bit (itemsIn lm bit (f .message))) → Goes s z at n (forwardBits (f .heading) (itemsIn lm bit (f .message)))
+    pub forward-goes : (z : List ℕ) (n : ℕ) → Goes y z p n (bitsN 0 0 ++ stringBits bit (itemsIn lm bit (f .message)))
+        → Goes s z at n (forwardBits (f .heading) (itemsIn lm bit (f .message)))
     unfolding forwardBits
-    forward-goes z n g = behind s y z at p n (headingBits (f .heading)) (stringBits bit (itemsIn lm bit (f .message))) headed (same-bits y z p n _ _ (unled (stringBits bit (itemsIn lm bit (f .message)))) g)
+    forward-goes z n g = behind s y z at p n (headingBits (f .heading)) (stringBits bit (itemsIn lm bit (f .message)))
+        headed (same-bits y z p n _ _ (unled (stringBits bit (itemsIn lm bit (f .message)))) g)
 
 -- ---- shape
 

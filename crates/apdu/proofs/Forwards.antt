@@ -39,16 +39,20 @@ use Rattle.apdu.proofs.Contents.{via, string-back, items-read}
 
 -- ---- ways out
 
-pub triple-handed : (t u : Triples) (r x : Refusal) (k : Triple → ℕ → Headed) → t ≡ u → t ≡ triples.Refused r → x ≡ tripleRefusal t → headed.Refused x ≡ onTriple u k
+pub triple-handed : (t u : Triples) (r x : Refusal) (k : Triple → ℕ → Headed) → t ≡ u → t ≡ triples.Refused r
+    → x ≡ tripleRefusal t → headed.Refused x ≡ onTriple u k
 triple-handed t u r x k p q h = ap headed.Refused (h ∙ ap tripleRefusal q) ∙ ap (λ (y : Triples). onTriple y k) (sym q ∙ p)
 
-pub triple-went : (t u : Triples) (o : Headed) (v : Triple) (n : ℕ) (k : Triple → ℕ → Headed) → t ≡ u → t ≡ triples.Is v n → o ≡ k v n → o ≡ onTriple u k
+pub triple-went : (t u : Triples) (o : Headed) (v : Triple) (n : ℕ) (k : Triple → ℕ → Headed) → t ≡ u
+    → t ≡ triples.Is v n → o ≡ k v n → o ≡ onTriple u k
 triple-went t u o v n k p q h = h ∙ ap (λ (y : Triples). onTriple y k) (sym q ∙ p)
 
-pub heading-handed : (t u : Headed) (r x : Refusal) (k : Heading → ℕ → Forwarded) → t ≡ u → t ≡ headed.Refused r → x ≡ headingRefusal t → forwarded.Refused x ≡ onHeading u k
+pub heading-handed : (t u : Headed) (r x : Refusal) (k : Heading → ℕ → Forwarded) → t ≡ u → t ≡ headed.Refused r
+    → x ≡ headingRefusal t → forwarded.Refused x ≡ onHeading u k
 heading-handed t u r x k p q h = ap forwarded.Refused (h ∙ ap headingRefusal q) ∙ ap (λ (y : Headed). onHeading y k) (sym q ∙ p)
 
-pub heading-went : (t u : Headed) (o : Forwarded) (v : Heading) (n : ℕ) (k : Heading → ℕ → Forwarded) → t ≡ u → t ≡ headed.Is v n → o ≡ k v n → o ≡ onHeading u k
+pub heading-went : (t u : Headed) (o : Forwarded) (v : Heading) (n : ℕ) (k : Heading → ℕ → Forwarded) → t ≡ u
+    → t ≡ headed.Is v n → o ≡ k v n → o ≡ onHeading u k
 heading-went t u o v n k p q h = h ∙ ap (λ (y : Headed). onHeading y k) (sym q ∙ p)
 
 pub forward-handed : {A : Type 0} (up : Refusal → A) (t u : Forwarded) (r x : Refusal) (k : Forward → ℕ → A) → t ≡ u → t ≡ forwarded.Refused r → x ≡ forwardRefusal t → up x ≡ onForward up u k
@@ -58,9 +62,11 @@ pub forward-went : {A : Type 0} (up : Refusal → A) (t u : Forwarded) (o : A) (
 forward-went up t u o v n k p q h = h ∙ ap (λ (y : Forwarded). onForward up y k) (sym q ∙ p)
 
 -- the count of characters that was read is one that there is
-pub characters-few : (l : List ℕ) (at n next : ℕ) → Bits l → wholeNumber l at charactersLeast charactersMost ≡ Value n next → n ≤ charactersMost
+pub characters-few : (l : List ℕ) (at n next : ℕ) → Bits l
+    → wholeNumber l at charactersLeast charactersMost ≡ Value n next → n ≤ charactersMost
 characters-few l at n next b e =
-    leb-true n charactersMost (both-right (leb charactersLeast n) (leb n charactersMost) (whole-number charactersLeast charactersMost (omega arith) .read-fits l at n next b e))
+    leb-true n charactersMost (both-right (leb charactersLeast n) (leb n charactersMost)
+    (whole-number charactersLeast charactersMost (omega arith) .read-fits l at n next b e))
 
 -- ---- three whole numbers
 
@@ -78,9 +84,12 @@ module _ (lo hi : Triple) (small : Small hi) where
   unfolding tripleBits
   triple-are-bits v =
       bits-append (wholeBits (lo .first) (hi .first) (v .first)) _ (whole-number (lo .first) (hi .first) (small .one) .are-bits (v .first))
-      (bits-append (wholeBits (lo .second) (hi .second) (v .second)) (wholeBits (lo .third) (hi .third) (v .third)) (whole-number (lo .second) (hi .second) (small .two) .are-bits (v .second)) (whole-number (lo .third) (hi .third) (small .three) .are-bits (v .third)))
+      (bits-append (wholeBits (lo .second) (hi .second) (v .second)) (wholeBits (lo .third) (hi .third) (v .third))
+      (whole-number (lo .second) (hi .second) (small .two) .are-bits (v .second))
+      (whole-number (lo .third) (hi .third) (small .three) .are-bits (v .third)))
 
-  pub triple-written : (l : List ℕ) (at : ℕ) (v : Triple) (next : ℕ) → tripleFits lo hi v ≡ true → Stands l at (tripleBits lo hi v) next → tripleAt l at lo hi ≡ triples.Is v next
+  pub triple-written : (l : List ℕ) (at : ℕ) (v : Triple) (next : ℕ) → tripleFits lo hi v ≡ true
+      → Stands l at (tripleBits lo hi v) next → tripleAt l at lo hi ≡ triples.Is v next
   unfolding tripleFits tripleBits tripleAt
   triple-written l at v next h s =
       let f₁ : Bool = wholeFits (lo .first) (hi .first) (v .first) in
@@ -92,21 +101,34 @@ module _ (lo hi : Triple) (small : Small hi) where
       let g = both-right f₁ (f₂ && f₃) h in
       let s₁ = stands-split l at next b₁ (b₂ ++ b₃) s in
       let s₂ = stands-split l (at + length b₁) next b₂ b₃ (s₁ .second) in
-      let x = whole-number (lo .first) (hi .first) (small .one) .written-read l at (v .first) (at + length b₁) (both-left f₁ (f₂ && f₃) h) (s₁ .first) in
-      let y = whole-number (lo .second) (hi .second) (small .two) .written-read l (at + length b₁) (v .second) (at + length b₁ + length b₂) (both-left f₂ f₃ g) (s₂ .first) in
-      let z = whole-number (lo .third) (hi .third) (small .three) .written-read l (at + length b₁ + length b₂) (v .third) next (both-right f₂ f₃ g) (s₂ .second) in
+      let x = whole-number (lo .first) (hi .first) (small .one) .written-read l at (v .first) (at + length b₁)
+      (both-left f₁ (f₂ && f₃) h) (s₁ .first) in
+      let y = whole-number (lo .second) (hi .second) (small .two) .written-read l (at + length b₁) (v .second)
+      (at + length b₁ + length b₂) (both-left f₂ f₃ g) (s₂ .first) in
+      let z = whole-number (lo .third) (hi .third) (small .three) .written-read l (at + length b₁ + length b₂)
+      (v .third) next (both-right f₂ f₃ g) (s₂ .second) in
       rw (x, y, z)
 
-  triple-made : (l : List ℕ) (at p q next x y z : ℕ) → Bits l → wholeNumber l at (lo .first) (hi .first) ≡ Value x p → wholeNumber l p (lo .second) (hi .second) ≡ Value y q
+  triple-made : (l : List ℕ) (at p q next x y z : ℕ) → Bits l → wholeNumber l at (lo .first) (hi .first) ≡ Value x p
+      → wholeNumber l p (lo .second) (hi .second) ≡ Value y q
       → wholeNumber l q (lo .third) (hi .third) ≡ Value z next → TripleIs lo hi l at (triple x y z) next
   unfolding tripleFits tripleBits
   triple-made l at p q next x y z b e f g =
       record {
-        fits = rw (whole-number (lo .first) (hi .first) (small .one) .read-fits l at x p b e, whole-number (lo .second) (hi .second) (small .two) .read-fits l p y q b f) (whole-number (lo .third) (hi .third) (small .three) .read-fits l q z next b g);
-        stands = stands-join l at p next _ _ (whole-number (lo .first) (hi .first) (small .one) .read-written l at x p b e) (stands-join l p q next _ _ (whole-number (lo .second) (hi .second) (small .two) .read-written l p y q b f) (whole-number (lo .third) (hi .third) (small .three) .read-written l q z next b g));
+        fits = rw (
+          whole-number (lo .first) (hi .first) (small .one) .read-fits l at x p b e,
+          whole-number (lo .second)
+              (hi .second) (small .two) .read-fits l p y q b f,
+        )
+            (whole-number (lo .third) (hi .third) (small .three) .read-fits l q z next b g);
+        stands = stands-join l at p next _ _
+            (whole-number (lo .first) (hi .first) (small .one) .read-written l at x p b e) (stands-join l p q next _ _
+            (whole-number (lo .second) (hi .second) (small .two) .read-written l p y q b f)
+            (whole-number (lo .third) (hi .third) (small .three) .read-written l q z next b g));
       }
 
-  pub triple-read : (l : List ℕ) (at : ℕ) (v : Triple) (next : ℕ) → Bits l → tripleAt l at lo hi ≡ triples.Is v next → TripleIs lo hi l at v next
+  pub triple-read : (l : List ℕ) (at : ℕ) (v : Triple) (next : ℕ) → Bits l → tripleAt l at lo hi ≡ triples.Is v next
+      → TripleIs lo hi l at v next
   unfolding tripleAt
   triple-read l at v next b e = via R triples.Refused (triples.Is v next) apart (wholeNumber l at (lo .first) (hi .first)) _ first e
     where
@@ -116,19 +138,28 @@ module _ (lo hi : Triple) (small : Small hi) where
       apart : (r : Refusal) → triples.Refused r ≡ triples.Is v next → TripleIs lo hi l at v next
       apart r k = never (cc)
 
-      third : (x p y q : ℕ) → wholeNumber l at (lo .first) (hi .first) ≡ Value x p → wholeNumber l p (lo .second) (hi .second) ≡ Value y q → (z n : ℕ) → wholeNumber l q (lo .third) (hi .third) ≡ Value z n → triples.Is (triple x y z) n ≡ triples.Is v next → TripleIs lo hi l at v next
+      third : (x p y q : ℕ) → wholeNumber l at (lo .first) (hi .first) ≡ Value x p
+          → wholeNumber l p (lo .second) (hi .second) ≡ Value y q → (z n : ℕ)
+          → wholeNumber l q (lo .third) (hi .third) ≡ Value z n → triples.Is (triple x y z) n ≡ triples.Is v next
+          → TripleIs lo hi l at v next
       third x p y q e₁ e₂ z n e₃ k =
           let u : triple x y z ≡ v = cc in
           let w : n ≡ next = cc in
           rw (← u, ← w) (triple-made l at p q n x y z b e₁ e₂ e₃)
 
-      second : (x p : ℕ) → wholeNumber l at (lo .first) (hi .first) ≡ Value x p → (y q : ℕ) → wholeNumber l p (lo .second) (hi .second) ≡ Value y q
-          → onto triples.Refused (wholeNumber l q (lo .third) (hi .third)) (λ (z n : ℕ). triples.Is (triple x y z) n) ≡ triples.Is v next → TripleIs lo hi l at v next
-      second x p e₁ y q e₂ k = via (TripleIs lo hi l at v next) triples.Refused (triples.Is v next) apart (wholeNumber l q (lo .third) (hi .third)) _ (third x p y q e₁ e₂) k
+      second : (x p : ℕ) → wholeNumber l at (lo .first) (hi .first) ≡ Value x p → (y q : ℕ)
+          → wholeNumber l p (lo .second) (hi .second) ≡ Value y q
+          → onto triples.Refused (wholeNumber l q (lo .third) (hi .third)) (λ (z n : ℕ). triples.Is (triple x y z) n) ≡
+          triples.Is v next → TripleIs lo hi l at v next
+      second x p e₁ y q e₂ k = via (TripleIs lo hi l at v next) triples.Refused (triples.Is v next) apart
+          (wholeNumber l q (lo .third) (hi .third)) _ (third x p y q e₁ e₂) k
 
       first : (x p : ℕ) → wholeNumber l at (lo .first) (hi .first) ≡ Value x p
-          → onto triples.Refused (wholeNumber l p (lo .second) (hi .second)) (λ (y q : ℕ). onto triples.Refused (wholeNumber l q (lo .third) (hi .third)) (λ (z n : ℕ). triples.Is (triple x y z) n)) ≡ triples.Is v next → TripleIs lo hi l at v next
-      first x p e₁ k = via (TripleIs lo hi l at v next) triples.Refused (triples.Is v next) apart (wholeNumber l p (lo .second) (hi .second)) _ (second x p e₁) k
+          → onto triples.Refused (wholeNumber l p (lo .second) (hi .second)) (λ (y q : ℕ). onto triples.Refused
+          (wholeNumber l q (lo .third) (hi .third)) (λ (z n : ℕ). triples.Is (triple x y z) n)) ≡ triples.Is v
+          next → TripleIs lo hi l at v next
+      first x p e₁ k = via (TripleIs lo hi l at v next) triples.Refused (triples.Is v next) apart
+          (wholeNumber l p (lo .second) (hi .second)) _ (second x p e₁) k
 
 date-small : Small dateTo
 date-small = record { one = omega arith; two = omega arith; three = omega arith }
@@ -145,9 +176,12 @@ heading-are-bits h =
     (bits-append (tripleBits timeFrom timeTo (h .time)) _ (triple-are-bits timeFrom timeTo time-small (h .time))
     (bits-append (wholeBits charactersLeast charactersMost (h .characters)) _ (whole-number charactersLeast charactersMost (omega arith) .are-bits (h .characters))
     (bits-append (bitsN (character * h .characters) (h .flight)) _ (bits-bitsN (character * h .characters) (h .flight))
-    (bits-append (bitsN addressBits (h .address)) (wholeBits 0 directionLast (h .direction)) (bits-bitsN addressBits (h .address)) (whole-number 0 directionLast (omega arith) .are-bits (h .direction))))))
+    (bits-append (bitsN addressBits (h .address)) (wholeBits 0 directionLast (h .direction))
+    (bits-bitsN addressBits (h .address)) (whole-number 0 directionLast (omega arith) .are-bits (h .direction)))
+    )))
 
-pub heading-written : (l : List ℕ) (at : ℕ) (h : Heading) (next : ℕ) → headingFits h ≡ true → Stands l at (headingBits h) next → headingAt l at ≡ headed.Is h next
+pub heading-written : (l : List ℕ) (at : ℕ) (h : Heading) (next : ℕ) → headingFits h ≡ true
+    → Stands l at (headingBits h) next → headingAt l at ≡ headed.Is h next
 unfolding headingBits aircraftBits headingAt
 heading-written l at h next e s =
     let f = heading-fits h e in
@@ -179,12 +213,15 @@ pub record HeadingIs (l : List ℕ) (at : ℕ) (h : Heading) (next : ℕ) : Type
   pub fits : headingFits h ≡ true
   pub stands : Stands l at (headingBits h) next
 
-via-triple : (R : Type 0) (h : Heading) (next : ℕ) (t : Triples) (k : Triple → ℕ → Headed) → ((v : Triple) (m : ℕ) → t ≡ triples.Is v m → k v m ≡ headed.Is h next → R) → onTriple t k ≡ headed.Is h next → R
+via-triple : (R : Type 0) (h : Heading) (next : ℕ) (t : Triples) (k : Triple → ℕ → Headed)
+    → ((v : Triple) (m : ℕ) → t ≡ triples.Is v m → k v m ≡ headed.Is h next → R) → onTriple t k ≡ headed.Is h next → R
 via-triple R h next (triples.Is v m) k g e = g v m refl e
 via-triple R h next (triples.Refused r) k g e = never (cc)
 
-heading-made : (l : List ℕ) (at p q a b c next n x y z : ℕ) (d t : Triple) → Bits l → tripleAt l at dateFrom dateTo ≡ triples.Is d p → tripleAt l p timeFrom timeTo ≡ triples.Is t q
-    → wholeNumber l q charactersLeast charactersMost ≡ Value n a → bitField l a (character * n) ≡ Value x b → bitField l b addressBits ≡ Value y c → wholeNumber l c 0 directionLast ≡ Value z next
+heading-made : (l : List ℕ) (at p q a b c next n x y z : ℕ) (d t : Triple) → Bits l
+    → tripleAt l at dateFrom dateTo ≡ triples.Is d p → tripleAt l p timeFrom timeTo ≡ triples.Is t q
+    → wholeNumber l q charactersLeast charactersMost ≡ Value n a → bitField l a (character * n) ≡ Value x b → bitField l
+    b addressBits ≡ Value y c → wholeNumber l c 0 directionLast ≡ Value z next
     → HeadingIs l at (record { date = d; time = t; characters = n; flight = x; address = y; direction = z }) next
 unfolding headingBits aircraftBits
 heading-made l at p q a b c next n x y z d t bl e₁ e₂ e₃ e₄ e₅ e₆ =
@@ -206,7 +243,8 @@ heading-made l at p q a b c next n x y z d t bl e₁ e₂ e₃ e₄ e₅ e₆ =
           (stands-join l p q next _ _ (t₂ .stands)
           (stands-join l q a next _ _ (whole-number charactersLeast charactersMost (omega arith) .read-written l q n a bl e₃)
           (stands-join l a b next _ _ (bit-field (character * n) .read-written l a x b bl e₄)
-          (stands-join l b c next _ _ (bit-field addressBits .read-written l b y c bl e₅) (whole-number 0 directionLast (omega arith) .read-written l c z next bl e₆)))));
+          (stands-join l b c next _ _ (bit-field addressBits .read-written l b y c bl e₅)
+          (whole-number 0 directionLast (omega arith) .read-written l c z next bl e₆)))));
     }
 
 pub heading-read : (l : List ℕ) (at : ℕ) (h : Heading) (next : ℕ) → Bits l → headingAt l at ≡ headed.Is h next → HeadingIs l at h next
@@ -237,19 +275,24 @@ pub record ForwardRead (l : List ℕ) (at next : ℕ) (h : Heading) (m : List �
   pub heading : value .heading ≡ h
   pub message : itemsIn l bit (value .message) ≡ m
 
-pub forward-written : (l : List ℕ) (at next : ℕ) (h : Heading) (m : List ℕ) → forwardPduFits h m ≡ true → Stands l at (forwardBits h m) next → ForwardRead l at next h m
+pub forward-written : (l : List ℕ) (at next : ℕ) (h : Heading) (m : List ℕ) → forwardPduFits h m ≡ true
+    → Stands l at (forwardBits h m) next → ForwardRead l at next h m
 unfolding forwardPduFits forwardBits forwardWithin
 forward-written l at next h m e s =
     let w = stands-split l at next (headingBits h) (stringBits bit m) s in
-    let x = heading-written l at h (at + length (headingBits h)) (both-left (headingFits h) (stringFits bit 0 messageMost m) e) (w .first) in
-    let y = string-back l (at + length (headingBits h)) next bit 0 messageMost m (both-right (headingFits h) (stringFits bit 0 messageMost m) e) (w .second) in
+    let x = heading-written l at h (at + length (headingBits h))
+    (both-left (headingFits h) (stringFits bit 0 messageMost m) e) (w .first) in
+    let y = string-back l (at + length (headingBits h)) next bit 0 messageMost m
+    (both-right (headingFits h) (stringFits bit 0 messageMost m) e) (w .second) in
     record { value = record { heading = h; message = spanTo bit (length m / bit) next }; read = rw (x, y .0); heading = refl; message = y .1 }
 
 pub record ForwardIs (l : List ℕ) (at : ℕ) (f : Forward) (next : ℕ) : Type 0 where
   pub placed-fits : forwardFits l f ≡ true
   pub stands : Stands l at (forwardBits (f .heading) (itemsIn l bit (f .message))) next
 
-via-heading : (R : Type 0) (f : Forward) (next : ℕ) (t : Headed) (k : Heading → ℕ → Forwarded) → ((h : Heading) (m : ℕ) → t ≡ headed.Is h m → k h m ≡ forwarded.Is f next → R) → onHeading t k ≡ forwarded.Is f next → R
+via-heading : (R : Type 0) (f : Forward) (next : ℕ) (t : Headed) (k : Heading → ℕ → Forwarded)
+    → ((h : Heading) (m : ℕ) → t ≡ headed.Is h m → k h m ≡ forwarded.Is f next → R)
+    → onHeading t k ≡ forwarded.Is f next → R
 via-heading R f next (headed.Is h m) k g e = g h m refl e
 via-heading R f next (headed.Refused r) k g e = never (cc)
 

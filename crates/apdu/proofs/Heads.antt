@@ -60,5 +60,6 @@ pub heading-most : (h : Heading) → headingFits h ≡ true → length (headingB
 unfolding headingBits aircraftBits tripleBits digitsIn
 heading-most h e =
     let f = heading-fits h e in
-    let n = leb-true (h .characters) charactersMost (both-right (leb charactersLeast (h .characters)) (leb (h .characters) charactersMost) (f .characters)) in
+    let n = leb-true (h .characters) charactersMost
+    (both-right (leb charactersLeast (h .characters)) (leb (h .characters) charactersMost) (f .characters)) in
     simp (length-append, length-bitsN, length-whole) (omega arith)

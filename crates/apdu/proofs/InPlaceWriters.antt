@@ -64,27 +64,38 @@ its-bits l p x q = rw q
 module _ (s z msgs : List ℕ) (lead led p : ℕ) (m : Part) (r : Put) (few : lead ≤ 6) (low : led < 2 ^ lead) (fits : partFits (lent msgs) bit 0 messageMost m ≡ true)
     (room : length (bitsN lead led ++ bitsIn (partIn (lent msgs) bit m)) ≤ length (lent s)) (q : p ≡ placeOf r) where
   whole-goes : left r z ≡ putRun s allBits 0 (bitsN lead led ++ bitsIn (partIn (lent msgs) bit m))
-      → (p ≡ length (bitsN lead led ++ bitsIn (partIn (lent msgs) bit m))) × (z ≡ putBits s 0 (bitsN lead led ++ bitsIn (partIn (lent msgs) bit m)))
+      → (p ≡ length (bitsN lead led ++ bitsIn (partIn (lent msgs) bit m))) ×
+      (z ≡ putBits s 0 (bitsN lead led ++ bitsIn (partIn (lent msgs) bit m)))
   whole-goes w = from-start s z p _ (placed s z 0 p (bitsN lead led ++ bitsIn (partIn (lent msgs) bit m)) r (omega arith) w q)
 
   pub alone : m ≡ Absent → left r z ≡ putNumber s allBits 0 lead led
-      → (p ≡ length (bitsN lead led ++ bitsIn (partIn (lent msgs) bit m))) × (z ≡ putBits s 0 (bitsN lead led ++ bitsIn (partIn (lent msgs) bit m)))
-  alone n w = whole-goes (number-run s (left r z) allBits 0 lead led (omega arith) low w ∙ ap (putRun s allBits 0) (rw (no-bits (lent msgs) m n, append-nil)))
+      → (p ≡ length (bitsN lead led ++ bitsIn (partIn (lent msgs) bit m))) ×
+      (z ≡ putBits s 0 (bitsN lead led ++ bitsIn (partIn (lent msgs) bit m)))
+  alone n w = whole-goes (number-run s (left r z) allBits 0 lead led (omega arith) low w ∙ ap (putRun s allBits 0)
+      (rw (no-bits (lent msgs) m n, append-nil)))
 
   itself : (x : Span) → m ≡ Given x → itemsFit (lent msgs) bit 0 messageMost x ≡ true
   unfolding partFits
   itself x g = rw g at fits
 
   pub led-message : (x : Span) → m ≡ Given x → left r z ≡ putLed s allBits 0 lead led msgs allBits (x .at) (x .count)
-      → (p ≡ length (bitsN lead led ++ bitsIn (partIn (lent msgs) bit m))) × (z ≡ putBits s 0 (bitsN lead led ++ bitsIn (partIn (lent msgs) bit m)))
+      → (p ≡ length (bitsN lead led ++ bitsIn (partIn (lent msgs) bit m))) ×
+      (z ≡ putBits s 0 (bitsN lead led ++ bitsIn (partIn (lent msgs) bit m)))
   unfolding putLed putIf
   led-message x g w =
       let f = itself x g in
-      let k : left r z ≡ putRun s allBits 0 (bitsN lead led ++ run msgs (x .at) (x .count)) = w ∙ rw (le-leb lead 56 (omega arith), lt-ltb led (2 ^ lead) low, le-leb (x .at + x .count) (length (lent msgs)) (is-there msgs x f)) in
+      let k : left r z ≡ putRun s allBits 0 (bitsN lead led ++ run msgs (x .at) (x .count)) = w ∙ rw (
+        le-leb lead 56
+            (omega arith),
+        lt-ltb led (2 ^ lead) low,
+        le-leb (x .at + x .count) (length (lent msgs))
+            (is-there msgs x f),
+      ) in
       whole-goes (k ∙ ap (λ (l : List ℕ). putRun s allBits 0 (bitsN lead led ++ l)) (in-place msgs x f ∙ sym (its-bits (lent msgs) m x g)))
 
 -- what has shape fits the buffer, with its padding, behind a few bits
-part-most : (src : List ℕ) (p : Part) → partFits (lent src) bit 0 messageMost p ≡ true → length (bitsIn (partIn (lent src) bit p)) ≤ messageMost
+part-most : (src : List ℕ) (p : Part) → partFits (lent src) bit 0 messageMost p ≡ true
+    → length (bitsIn (partIn (lent src) bit p)) ≤ messageMost
 unfolding partFits bitsIn partIn
 part-most src Absent h = omega arith
 part-most src (Given x) h = in-place-most src x h
@@ -93,7 +104,8 @@ module _ (li msgs lc : List ℕ) (d : Data) (lead led : ℕ) (few : lead ≤ 6) 
   pub message-pads : length (bitsN lead led ++ bitsIn (partIn (lent msgs) bit (d .message))) + 7 ≤ 8 * bufferLeast
   message-pads = rw (length-append, length-bitsN) (omega (arith, part-most msgs (d .message) (data-fits li (lent msgs) lc d h .message)))
 
-  pub message-room : (s : List ℕ) → bufferLeast ≤ length s → length (bitsN lead led ++ bitsIn (partIn (lent msgs) bit (d .message))) ≤ length (lent s)
+  pub message-room : (s : List ℕ) → bufferLeast ≤ length s
+      → length (bitsN lead led ++ bitsIn (partIn (lent msgs) bit (d .message))) ≤ length (lent s)
   message-room s b = room-for s _ b (omega (arith, message-pads))
 
 -- ---- the number before a start's message, with the bit of the CHOICE
@@ -122,7 +134,12 @@ module _ (w v t : ℕ) (p : Part) (e : t ≡ there p) where
 headed-less : (h : Heading) (m : List ℕ) → length (headedBits h m) ≤ length (forwardBits h m)
 unfolding headedBits forwardBits stringBits
 headed-less h m =
-    omega (arith, length-append (headingBits h) m, length-append (headingBits h) (lengthBits (length m / bit) ++ m), length-append (lengthBits (length m / bit)) m)
+    omega (
+      arith,
+      length-append (headingBits h) m,
+      length-append (headingBits h) (lengthBits (length m / bit) ++ m),
+      length-append (lengthBits (length m / bit)) m,
+    )
 
 by-most : (counted : Bool) (h : Heading) (m : List ℕ) → forwardPduFits h m ≡ true → length (forwardBy counted h m) ≤ forwardMost
 by-most true h m e = forward-most h m e
@@ -135,9 +152,11 @@ heading-part false h m = omega (arith, length-append (headingBits h) m)
 
 module _ (lm : List ℕ) (f : Forward) (lead led : ℕ) (counted : Bool) (few : lead ≤ 5) (h : forwardFits lm f ≡ true) where
   pub forward-pads : length (bitsN lead led ++ forwardBy counted (f .heading) (itemsIn lm bit (f .message))) + 7 ≤ 8 * bufferLeast
-  forward-pads = rw (length-append, length-bitsN) (omega (arith, by-most counted (f .heading) (itemsIn lm bit (f .message)) (forward-value-fits lm f h)))
+  forward-pads = rw (length-append, length-bitsN)
+      (omega (arith, by-most counted (f .heading) (itemsIn lm bit (f .message)) (forward-value-fits lm f h)))
 
-  pub forward-room : (s : List ℕ) → bufferLeast ≤ length s → length (bitsN lead led ++ forwardBy counted (f .heading) (itemsIn lm bit (f .message))) ≤ length (lent s)
+  pub forward-room : (s : List ℕ) → bufferLeast ≤ length s
+      → length (bitsN lead led ++ forwardBy counted (f .heading) (itemsIn lm bit (f .message))) ≤ length (lent s)
   forward-room s b = room-for s _ b (omega (arith, forward-pads))
 
 module _ (s msgs : List ℕ) (at : ℕ) (counted : Bool) (f : Forward) (fits : forwardFits (lent msgs) f ≡ true)
@@ -167,22 +186,30 @@ module _ (s msgs : List ℕ) (at : ℕ) (counted : Bool) (f : Forward) (fits : f
     pub items-room : counted ≡ true → p + length (bitsN 0 0 ++ stringBits bit (itemsIn (lent msgs) bit (f .message))) ≤ length (lent y)
     items-room k = forward.message-room s (lent msgs) at f fits (counted-room k) y p r w q
 
-    pub counted-goes : counted ≡ true → (z : List ℕ) (n : ℕ) → Goes y z p n (bitsN 0 0 ++ stringBits bit (itemsIn (lent msgs) bit (f .message)))
+    pub counted-goes : counted ≡ true → (z : List ℕ) (n : ℕ)
+        → Goes y z p n (bitsN 0 0 ++ stringBits bit (itemsIn (lent msgs) bit (f .message)))
         → Goes s z at n (forwardBy counted (f .heading) (itemsIn (lent msgs) bit (f .message)))
     counted-goes k z n g = rw k (forward-goes s (lent msgs) at f fits (counted-room k) y p r w q z n g)
 
     heading-goes : Goes s y at p (headingBits (f .heading))
     heading-goes = placed s y at p (headingBits (f .heading)) r (heading-asked .1) w q
 
-    items-goes : counted ≡ false → (z : List ℕ) (n : ℕ) (r₂ : Put) → left r₂ z ≡ copyRun y allBits p msgs allBits (f .message .at) (f .message .count) → n ≡ placeOf r₂
+    items-goes : counted ≡ false → (z : List ℕ) (n : ℕ) (r₂ : Put)
+        → left r₂ z ≡ copyRun y allBits p msgs allBits (f .message .at) (f .message .count) → n ≡ placeOf r₂
         → Goes y z p n (itemsIn (lent msgs) bit (f .message))
     unfolding copyRun putIf
     items-goes k z n r₂ w₂ q₂ =
-        let a : left r₂ z ≡ putRun y allBits p (run msgs (f .message .at) (f .message .count)) = w₂ ∙ rw (le-leb (f .message .at + f .message .count) (length (lent msgs)) (is-there msgs (f .message) items-right)) in
-        let e : left r₂ z ≡ putRun y allBits p (itemsIn (lent msgs) bit (f .message)) = a ∙ ap (putRun y allBits p) (in-place msgs (f .message) items-right) in
-        placed y z p n (itemsIn (lent msgs) bit (f .message)) r₂ (room-behind s y at p (headingBits (f .heading)) (itemsIn (lent msgs) bit (f .message)) (placed-room k) heading-goes) e q₂
+        let a : left r₂ z ≡ putRun y allBits p (run msgs (f .message .at) (f .message .count)) = w₂ ∙ rw
+        (le-leb (f .message .at + f .message .count) (length (lent msgs)) (is-there msgs (f .message) items-right))
+        in
+        let e : left r₂ z ≡ putRun y allBits p (itemsIn (lent msgs) bit (f .message)) = a ∙ ap (putRun y allBits p)
+        (in-place msgs (f .message) items-right) in
+        placed y z p n (itemsIn (lent msgs) bit (f .message)) r₂ (room-behind s y at p (headingBits (f .heading))
+        (itemsIn (lent msgs) bit (f .message)) (placed-room k) heading-goes) e q₂
 
-    pub placed-goes : counted ≡ false → (z : List ℕ) (n : ℕ) (r₂ : Put) → left r₂ z ≡ copyRun y allBits p msgs allBits (f .message .at) (f .message .count) → n ≡ placeOf r₂
+    pub placed-goes : counted ≡ false → (z : List ℕ) (n : ℕ) (r₂ : Put)
+        → left r₂ z ≡ copyRun y allBits p msgs allBits (f .message .at) (f .message .count) → n ≡ placeOf r₂
         → Goes s z at n (forwardBy counted (f .heading) (itemsIn (lent msgs) bit (f .message)))
     unfolding headedBits
-    placed-goes k z n r₂ w₂ q₂ = rw k (behind s y z at p n (headingBits (f .heading)) (itemsIn (lent msgs) bit (f .message)) heading-goes (items-goes k z n r₂ w₂ q₂))
+    placed-goes k z n r₂ w₂ q₂ = rw k (behind s y z at p n (headingBits (f .heading))
+        (itemsIn (lent msgs) bit (f .message)) heading-goes (items-goes k z n r₂ w₂ q₂))

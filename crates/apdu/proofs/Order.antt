@@ -72,30 +72,35 @@ module _ (wrong : ℕ) where
   unfolding extensionBit
   extension-bit-early l at =
       spared-then tailRefusal not-tail (bitField l at 1) _ (bits-spared tailRefusal not-tail l at 1)
-      (λ (b n : ℕ). spared-cond tailRefusal not-tail (eqb b 0) (Value 0 n) (refusedAt at Extension) (spared-value tailRefusal not-tail 0 n) (extension-early at))
+      (λ (b n : ℕ). spared-cond tailRefusal not-tail (eqb b 0) (Value 0 n) (refusedAt at Extension)
+      (spared-value tailRefusal not-tail 0 n) (extension-early at))
 
   index-early : (l : List ℕ) (at last : ℕ) → Early (extensibleIndex l at last)
   unfolding extensibleIndex
-  index-early l at last = spared-then tailRefusal not-tail (extensionBit l at) _ (extension-bit-early l at) (λ (b n : ℕ). whole-spared tailRefusal not-tail l n 0 last)
+  index-early l at last = spared-then tailRefusal not-tail (extensionBit l at) _ (extension-bit-early l at)
+      (λ (b n : ℕ). whole-spared tailRefusal not-tail l n 0 last)
 
   -- additions: the count, which are there, and each by its length
   count-early : (l : List ℕ) (at : ℕ) → Early (additionCount l at)
   unfolding additionCount
   count-early l at =
       spared-then tailRefusal not-tail (extensionBit l at) _ (extension-bit-early l at)
-      (λ (b p : ℕ). spared-then tailRefusal not-tail (bitField l at 7) _ (bits-spared tailRefusal not-tail l at 7) (λ (v n : ℕ). spared-value tailRefusal not-tail (v + 1) n))
+      (λ (b p : ℕ). spared-then tailRefusal not-tail (bitField l at 7) _ (bits-spared tailRefusal not-tail l at 7)
+      (λ (v n : ℕ). spared-value tailRefusal not-tail (v + 1) n))
 
   there-early : (l : List ℕ) (at n : ℕ) → Early (additionsThere l at n)
   unfolding additionsThere
   there-early l at n =
       spared-then tailRefusal not-tail (bitField l at n) _ (bits-spared tailRefusal not-tail l at n)
-      (λ (v m : ℕ). spared-cond tailRefusal not-tail (eqb v 0) (refusedAt at Extension) (Value v m) (extension-early at) (spared-value tailRefusal not-tail v m))
+      (λ (v m : ℕ). spared-cond tailRefusal not-tail (eqb v 0) (refusedAt at Extension) (Value v m)
+      (extension-early at) (spared-value tailRefusal not-tail v m))
 
   additions-early : (l : List ℕ) (at : ℕ) → Early (additionsAt l at)
   unfolding additionsAt
   additions-early l at =
       spared-then tailRefusal not-tail (additionCount l at) _ (count-early l at)
-      (λ (n p : ℕ). spared-then tailRefusal not-tail (additionsThere l p n) _ (there-early l p n) (λ (v q : ℕ). stepped-spared tailRefusal not-tail l (ones v) q))
+      (λ (n p : ℕ). spared-then tailRefusal not-tail (additionsThere l p n) _ (there-early l p n)
+      (λ (v q : ℕ). stepped-spared tailRefusal not-tail l (ones v) q))
 
   -- ---- so message data and leading fields are not
 
@@ -110,10 +115,12 @@ module _ (wrong : ℕ) where
 
   added-early : (l : List ℕ) (t : Taken) → (t ≡ taken.Refused tailRefusal → ⊥) → withAdditions l t ≡ taken.Refused tailRefusal → ⊥
   unfolding withAdditions
-  added-early l (taken.Is d n) h = spared-on tailRefusal not-tail taken.Refused (taken-one tailRefusal) (additionsAt l n) _ (additions-early l n) (λ (v after : ℕ). taken-is tailRefusal d after)
+  added-early l (taken.Is d n) h = spared-on tailRefusal not-tail taken.Refused (taken-one tailRefusal)
+      (additionsAt l n) _ (additions-early l n) (λ (v after : ℕ). taken-is tailRefusal d after)
   added-early l (taken.Refused r) h = h
 
-  behind-early : (l : List ℕ) (plain : Bool) (t : Taken) → (t ≡ taken.Refused tailRefusal → ⊥) → cond plain t (withAdditions l t) ≡ taken.Refused tailRefusal → ⊥
+  behind-early : (l : List ℕ) (plain : Bool) (t : Taken) → (t ≡ taken.Refused tailRefusal → ⊥)
+      → cond plain t (withAdditions l t) ≡ taken.Refused tailRefusal → ⊥
   behind-early l true t h = h
   behind-early l false t h = added-early l t h
 
@@ -128,7 +135,8 @@ module _ (wrong : ℕ) where
   unfolding leadingAt
   lead-early pdus l at =
       spared-on tailRefusal not-tail lead.Refused lead-one (extensibleIndex l at (lastOf pdus)) _ (index-early l at (lastOf pdus)) (λ (i p : ℕ).
-      spared-on tailRefusal not-tail lead.Refused lead-one (kindMode pdus l (kindOf i) p) _ (kind-mode-spared tailRefusal not-tail pdus l (kindOf i) p) (λ (m q : ℕ). lead-is (kindOf i) m q))
+      spared-on tailRefusal not-tail lead.Refused lead-one (kindMode pdus l (kindOf i) p) _
+      (kind-mode-spared tailRefusal not-tail pdus l (kindOf i) p) (λ (m q : ℕ). lead-is (kindOf i) m q))
 
   -- ---- where an APDU is refused with TAIL, all its fields stand
 
@@ -139,19 +147,27 @@ module _ (wrong : ℕ) where
     pub stands : Standing pdus l at place value
     pub tail : tailAt l place ≡ Refused tailRefusal
 
-  on-field : (R : Type 0) (f : Field) (k : ℕ → ℕ → Decoded) → Early f → ((v n : ℕ) → f ≡ Value v n → k v n ≡ decoded.Refused tailRefusal → R) → onto decoded.Refused f k ≡ decoded.Refused tailRefusal → R
+  on-field : (R : Type 0) (f : Field) (k : ℕ → ℕ → Decoded) → Early f
+      → ((v n : ℕ) → f ≡ Value v n → k v n ≡ decoded.Refused tailRefusal → R)
+      → onto decoded.Refused f k ≡ decoded.Refused tailRefusal → R
   on-field R (Value v n) k h g e = g v n refl e
   on-field R (Refused r) k h g e = absurd (h (ap Refused (answer-one r e)))
 
-  on-data : (R : Type 0) (x : Taken) (k : Data → ℕ → Decoded) → (x ≡ taken.Refused tailRefusal → ⊥) → ((d : Data) (n : ℕ) → x ≡ taken.Is d n → k d n ≡ decoded.Refused tailRefusal → R) → onData x k ≡ decoded.Refused tailRefusal → R
+  on-data : (R : Type 0) (x : Taken) (k : Data → ℕ → Decoded) → (x ≡ taken.Refused tailRefusal → ⊥)
+      → ((d : Data) (n : ℕ) → x ≡ taken.Is d n → k d n ≡ decoded.Refused tailRefusal → R)
+      → onData x k ≡ decoded.Refused tailRefusal → R
   on-data R (taken.Is d n) k h g e = g d n refl e
   on-data R (taken.Refused r) k h g e = absurd (h (ap taken.Refused (answer-one r e)))
 
-  on-lead : (R : Type 0) (x : Lead) (k : Kind → ℕ → ℕ → Decoded) → (x ≡ lead.Refused tailRefusal → ⊥) → ((c : Kind) (m n : ℕ) → x ≡ lead.Is c m n → k c m n ≡ decoded.Refused tailRefusal → R) → onLead x k ≡ decoded.Refused tailRefusal → R
+  on-lead : (R : Type 0) (x : Lead) (k : Kind → ℕ → ℕ → Decoded) → (x ≡ lead.Refused tailRefusal → ⊥)
+      → ((c : Kind) (m n : ℕ) → x ≡ lead.Is c m n → k c m n ≡ decoded.Refused tailRefusal → R)
+      → onLead x k ≡ decoded.Refused tailRefusal → R
   on-lead R (lead.Is c m n) k h g e = g c m n refl e
   on-lead R (lead.Refused r) k h g e = absurd (h (ap lead.Refused (answer-one r e)))
 
-  on-forward : (R : Type 0) (x : Forwarded) (k : Forward → ℕ → Decoded) → (x ≡ forwarded.Refused tailRefusal → ⊥) → ((f : Forward) (n : ℕ) → x ≡ forwarded.Is f n → k f n ≡ decoded.Refused tailRefusal → R) → onForward decoded.Refused x k ≡ decoded.Refused tailRefusal → R
+  on-forward : (R : Type 0) (x : Forwarded) (k : Forward → ℕ → Decoded) → (x ≡ forwarded.Refused tailRefusal → ⊥)
+      → ((f : Forward) (n : ℕ) → x ≡ forwarded.Is f n → k f n ≡ decoded.Refused tailRefusal → R)
+      → onForward decoded.Refused x k ≡ decoded.Refused tailRefusal → R
   on-forward R (forwarded.Is f n) k h g e = g f n refl e
   on-forward R (forwarded.Refused r) k h g e = absurd (h (ap forwarded.Refused (answer-one r e)))
 
@@ -159,31 +175,49 @@ module _ (wrong : ℕ) where
   unfolding endedAt
   ended-tail l at a e = go (tailAt l at) refl e
     where
-      go : (f : Field) → tailAt l at ≡ f → onto decoded.Refused f (λ (v n : ℕ). decoded.Is a) ≡ decoded.Refused tailRefusal → tailAt l at ≡ Refused tailRefusal
+      go : (f : Field) → tailAt l at ≡ f
+          → onto decoded.Refused f (λ (v n : ℕ). decoded.Is a) ≡ decoded.Refused tailRefusal
+          → tailAt l at ≡ Refused tailRefusal
       go (Value v n) p k = never (cc)
       go (Refused r) p k = p ∙ ap Refused (answer-one r k)
 
-  only : (pdus : PduType) (l : List ℕ) (at n : ℕ) (a : Apdu) → Stood pdus l at a n → endedAt l n a ≡ decoded.Refused tailRefusal → TailOnly pdus l at
+  only : (pdus : PduType) (l : List ℕ) (at n : ℕ) (a : Apdu) → Stood pdus l at a n
+      → endedAt l n a ≡ decoded.Refused tailRefusal → TailOnly pdus l at
   only pdus l at n a s e = record { value = a; place = n; placed-fits = s .placed-fits; stands = s .stands; tail = ended-tail l n a e }
 
-  rest-tail : (pdus : PduType) (l : List ℕ) (at p : ℕ) (c : Kind) (m q : ℕ) → Bits l → indexOf c ≤ lastOf pdus → Stands l at (indexBits (lastOf pdus) (indexOf c)) p → kindMode pdus l c p ≡ Value m q → restAt l c m q ≡ decoded.Refused tailRefusal → TailOnly pdus l at
+  rest-tail : (pdus : PduType) (l : List ℕ) (at p : ℕ) (c : Kind) (m q : ℕ) → Bits l → indexOf c ≤ lastOf pdus
+      → Stands l at (indexBits (lastOf pdus) (indexOf c)) p → kindMode pdus l c p ≡ Value m q
+      → restAt l c m q ≡ decoded.Refused tailRefusal → TailOnly pdus l at
   unfolding kindMode restWithin
   rest-tail pdus l at p kind.AbortUser m q b u s f k =
       on-field (TailOnly pdus l at) (extensibleIndex l q userLast) _ (index-early l q userLast)
-      (λ (r n : ℕ) (g : extensibleIndex l q userLast ≡ Value r n) (e : endedAt l n (apdu.AbortUser r) ≡ decoded.Refused tailRefusal). only pdus l at n (apdu.AbortUser r) (user-stood pdus l at q n r b (stands-at l at p q _ (value-place p m q f) s) g) e) k
+      (λ (r n : ℕ) (g : extensibleIndex l q userLast ≡ Value r n)
+      (e : endedAt l n (apdu.AbortUser r) ≡ decoded.Refused tailRefusal). only pdus l at n (apdu.AbortUser r)
+      (user-stood pdus l at q n r b (stands-at l at p q _ (value-place p m q f) s) g) e) k
   rest-tail pdus l at p kind.AbortProvider m q b u s f k =
       on-field (TailOnly pdus l at) (extensibleIndex l q providerLast) _ (index-early l q providerLast)
-      (λ (r n : ℕ) (g : extensibleIndex l q providerLast ≡ Value r n) (e : endedAt l n (apdu.AbortProvider r) ≡ decoded.Refused tailRefusal). only pdus l at n (apdu.AbortProvider r) (provider-stood pdus l at q n r b (stands-at l at p q _ (value-place p m q f) s) g) e) k
+      (λ (r n : ℕ) (g : extensibleIndex l q providerLast ≡ Value r n)
+      (e : endedAt l n (apdu.AbortProvider r) ≡ decoded.Refused tailRefusal). only pdus l at n
+      (apdu.AbortProvider r) (provider-stood pdus l at q n r b (stands-at l at p q _ (value-place p m q f) s) g)
+      e) k
   rest-tail pdus l at p kind.Start m q b u s f k =
-      on-data (TailOnly pdus l at) (dataAt l q) _ (data-early l q) (λ (d : Data) (n : ℕ) (g : dataAt l q ≡ taken.Is d n) (e : endedAt l n (apdu.Start m d) ≡ decoded.Refused tailRefusal). only pdus l at n (apdu.Start m d) (start-stood pdus l at p q n m d b s f g) e) k
+      on-data (TailOnly pdus l at) (dataAt l q) _ (data-early l q) (λ (d : Data) (n : ℕ) (g : dataAt l q ≡ taken.Is d n)
+      (e : endedAt l n (apdu.Start m d) ≡ decoded.Refused tailRefusal). only pdus l at n (apdu.Start m d)
+      (start-stood pdus l at p q n m d b s f g) e) k
   rest-tail pdus l at p kind.Send m q b u s f k =
-      on-data (TailOnly pdus l at) (dataAt l q) _ (data-early l q) (λ (d : Data) (n : ℕ) (g : dataAt l q ≡ taken.Is d n) (e : endedAt l n (apdu.Send d) ≡ decoded.Refused tailRefusal). only pdus l at n (apdu.Send d) (send-stood pdus l at q n d b (stands-at l at p q _ (value-place p m q f) s) g) e) k
+      on-data (TailOnly pdus l at) (dataAt l q) _ (data-early l q) (λ (d : Data) (n : ℕ) (g : dataAt l q ≡ taken.Is d n)
+      (e : endedAt l n (apdu.Send d) ≡ decoded.Refused tailRefusal). only pdus l at n (apdu.Send d)
+      (send-stood pdus l at q n d b (stands-at l at p q _ (value-place p m q f) s) g) e) k
   rest-tail pdus l at p kind.Forward m q b u s f k =
       on-forward (TailOnly pdus l at) (forwardAt l q) _ (forward-spared tailRefusal not-tail l q) (λ (x : Forward) (n : ℕ) (g : forwardAt l q ≡ forwarded.Is x n) (e : endedAt l n (apdu.Forward x) ≡ decoded.Refused tailRefusal).
-      only pdus l at n (apdu.Forward x) (forward-stood pdus l at q n x b (ground-only pdus 4 u (omega arith)) (stands-at l at p q _ (value-place p m q f) s) g) e) k
+      only pdus l at n (apdu.Forward x) (forward-stood pdus l at q n x b (ground-only pdus 4 u (omega arith))
+      (stands-at l at p q _ (value-place p m q f) s) g) e) k
   rest-tail pdus l at p kind.ForwardResponse m q b u s f k =
       on-field (TailOnly pdus l at) (extensibleIndex l q responseLast) _ (index-early l q responseLast)
-      (λ (r n : ℕ) (g : extensibleIndex l q responseLast ≡ Value r n) (e : endedAt l n (apdu.ForwardResponse r) ≡ decoded.Refused tailRefusal). only pdus l at n (apdu.ForwardResponse r) (response-stood pdus l at q n r b (ground-only pdus 5 u (omega arith)) (stands-at l at p q _ (value-place p m q f) s) g) e) k
+      (λ (r n : ℕ) (g : extensibleIndex l q responseLast ≡ Value r n)
+      (e : endedAt l n (apdu.ForwardResponse r) ≡ decoded.Refused tailRefusal). only pdus l at n
+      (apdu.ForwardResponse r) (response-stood pdus l at q n r b (ground-only pdus 5 u (omega arith))
+      (stands-at l at p q _ (value-place p m q f) s) g) e) k
 
   pub tail-last : (pdus : PduType) (l : List ℕ) (at : ℕ) → Bits l → apduAt pdus l at ≡ decoded.Refused tailRefusal → TailOnly pdus l at
   unfolding apduWithin

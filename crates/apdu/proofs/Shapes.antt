@@ -23,9 +23,11 @@ pub too-many : (l : List ℕ) (unit least most : ℕ) (x : Span) → least ≤ x
 unfolding itemsFit
 too-many l unit least most x h g = rw (le-leb least (x .count) h, lt-leb (x .count) most g)
 
-pub held : (s : List ℕ) (unit least most : ℕ) (x : Span) (t : Bool) → least ≤ x .count → x .count ≤ most → most < 16384 → t ≡ leb (x .at + unit * x .count) (min allBits (8 * length s)) → t ≡ itemsFit (lent s) unit least most x
+pub held : (s : List ℕ) (unit least most : ℕ) (x : Span) (t : Bool) → least ≤ x .count → x .count ≤ most → most < 16384
+    → t ≡ leb (x .at + unit * x .count) (min allBits (8 * length s)) → t ≡ itemsFit (lent s) unit least most x
 unfolding itemsFit
-held s unit least most x t h g k e = e ∙ rw (le-leb least (x .count) h, le-leb (x .count) most g, lt-ltb (x .count) 16384 (omega arith), length-to)
+held s unit least most x t h g k e = e ∙ rw
+    (le-leb least (x .count) h, le-leb (x .count) most g, lt-ltb (x .count) 16384 (omega arith), length-to)
 
 pub from-zero : (hi v : ℕ) → leb v hi ≡ wholeFits 0 hi v
 from-zero hi v = rw (le-leb 0 v (omega arith))
@@ -34,6 +36,7 @@ pub run-long : (most : ℕ) (s : List ℕ) (at n : ℕ) → most < n → false �
 unfolding runWithin
 run-long most s at n h = rw (lt-leb n most h)
 
-pub run-held : (most : ℕ) (s : List ℕ) (at n : ℕ) (t : Bool) → n ≤ most → t ≡ leb (at + n) (min allBits (8 * length s)) → t ≡ runWithin most s at n
+pub run-held : (most : ℕ) (s : List ℕ) (at n : ℕ) (t : Bool) → n ≤ most → t ≡ leb (at + n) (min allBits (8 * length s))
+    → t ≡ runWithin most s at n
 unfolding runWithin
 run-held most s at n t h e = e ∙ rw (le-leb n most h, length-to)

@@ -91,7 +91,8 @@ module _ (bad : Refusal) (not : Not bad) where
   unfolding wholeNumber
   whole-spared l at lo hi =
       spared-then (bitField l at (widthOf (hi - lo))) _ (bits-spared l at (widthOf (hi - lo)))
-      (λ (d n : ℕ). spared-cond (leb (lo + d) hi) (Value (lo + d) n) (refusedAt at Range) (spared-value (lo + d) n) (spared-fault Range at (not .range)))
+      (λ (d n : ℕ). spared-cond (leb (lo + d) hi) (Value (lo + d) n) (refusedAt at Range) (spared-value (lo + d) n)
+      (spared-fault Range at (not .range)))
 
   length-spared : (l : List ℕ) (at : ℕ) → Spared (lengthAt l at)
   unfolding lengthAt
@@ -100,22 +101,26 @@ module _ (bad : Refusal) (not : Not bad) where
       spared-cond (ltb b 128) (Value b n) _ (spared-value b n)
       (spared-cond (leb 192 b) (refusedAt at LengthForm) _ (spared-fault LengthForm at (not .form))
       (spared-then (bitField l at 16) (longLength at) (bits-spared l at 16)
-      (λ (v m : ℕ). spared-cond (ltb v (32768 + 128)) (refusedAt at LengthForm) (Value (v - 32768) m) (spared-fault LengthForm at (not .form)) (spared-value (v - 32768) m)))))
+      (λ (v m : ℕ). spared-cond (ltb v (32768 + 128)) (refusedAt at LengthForm) (Value (v - 32768) m)
+      (spared-fault LengthForm at (not .form)) (spared-value (v - 32768) m)))))
 
   run-spared : (l : List ℕ) (at count n : ℕ) → Spared (runAt l at count n)
   unfolding runAt
-  run-spared l at count n = spared-cond (leb (at + count) (length l)) (Value n (at + count)) (refusedAt at Short) (spared-value n (at + count)) (spared-fault Short at (not .short))
+  run-spared l at count n = spared-cond (leb (at + count) (length l)) (Value n (at + count)) (refusedAt at Short)
+      (spared-value n (at + count)) (spared-fault Short at (not .short))
 
   string-spared : (l : List ℕ) (at unit least most : ℕ) → Spared (stringAt l at unit least most)
   unfolding stringAt lengthWithin
   string-spared l at unit least most =
       spared-then (then (lengthAt l at) (λ (n next : ℕ). cond (leb least n && leb n most) (Value n next) (refusedAt at Limit))) _
-      (spared-then (lengthAt l at) _ (length-spared l at) (λ (n m : ℕ). spared-cond (leb least n && leb n most) (Value n m) (refusedAt at Limit) (spared-value n m) (spared-fault Limit at (not .limit))))
+      (spared-then (lengthAt l at) _ (length-spared l at) (λ (n m : ℕ). spared-cond (leb least n && leb n most)
+      (Value n m) (refusedAt at Limit) (spared-value n m) (spared-fault Limit at (not .limit))))
       (λ (n from : ℕ). run-spared l from (unit * n) n)
 
   optional-spared : (l : List ℕ) (t : Bool) (at unit least most : ℕ) → Spared (optionalAt l t at unit least most)
   unfolding optionalAt
-  optional-spared l t at unit least most = spared-cond t (stringAt l at unit least most) (Value 0 at) (string-spared l at unit least most) (spared-value 0 at)
+  optional-spared l t at unit least most = spared-cond t (stringAt l at unit least most) (Value 0 at)
+      (string-spared l at unit least most) (spared-value 0 at)
 
   mode-value-spared : (l : List ℕ) (at : ℕ) → Spared (modeValue l at)
   unfolding modeValue
@@ -126,7 +131,8 @@ module _ (bad : Refusal) (not : Not bad) where
   mode-spared : (pdus : PduType) (l : List ℕ) (at : ℕ) → Spared (modeAt pdus l at)
   unfolding modeAt
   mode-spared GroundPdus l at = spared-value 0 at
-  mode-spared AircraftPdus l at = spared-then (bitField l at 1) _ (bits-spared l at 1) (λ (p n : ℕ). spared-cond (eqb p 0) (Value 0 n) (modeValue l n) (spared-value 0 n) (mode-value-spared l n))
+  mode-spared AircraftPdus l at = spared-then (bitField l at 1) _ (bits-spared l at 1)
+      (λ (p n : ℕ). spared-cond (eqb p 0) (Value 0 n) (modeValue l n) (spared-value 0 n) (mode-value-spared l n))
 
   pub kind-mode-spared : (pdus : PduType) (l : List ℕ) (c : Kind) (at : ℕ) → Spared (kindMode pdus l c at)
   unfolding kindMode
@@ -153,7 +159,8 @@ module _ (bad : Refusal) (not : Not bad) where
   parts-spared l at i m =
       spared-on taken.Refused (taken-one bad) (optionalAt l i at octet identifierLeast identifierMost) _ (optional-spared l i at octet identifierLeast identifierMost) (λ (n₁ p : ℕ).
       spared-on taken.Refused (taken-one bad) (optionalAt l m p bit 0 messageMost) _ (optional-spared l m p bit 0 messageMost) (λ (n₂ q : ℕ).
-      spared-on taken.Refused (taken-one bad) (stringAt l q bit 0 checkMost) _ (string-spared l q bit 0 checkMost) (λ (n₃ k : ℕ). taken-is bad _ k)))
+      spared-on taken.Refused (taken-one bad) (stringAt l q bit 0 checkMost) _ (string-spared l q bit 0 checkMost)
+      (λ (n₃ k : ℕ). taken-is bad _ k)))
 
   -- ---- a forward message
 
@@ -180,9 +187,11 @@ module _ (bad : Refusal) (not : Not bad) where
   triple-spared l at lo hi =
       spared-on triples.Refused triples-one (wholeNumber l at (lo .first) (hi .first)) _ (whole-spared l at (lo .first) (hi .first)) (λ (x p : ℕ).
       spared-on triples.Refused triples-one (wholeNumber l p (lo .second) (hi .second)) _ (whole-spared l p (lo .second) (hi .second)) (λ (y q : ℕ).
-      spared-on triples.Refused triples-one (wholeNumber l q (lo .third) (hi .third)) _ (whole-spared l q (lo .third) (hi .third)) (λ (z n : ℕ). triples-is (triple x y z) n)))
+      spared-on triples.Refused triples-one (wholeNumber l q (lo .third) (hi .third)) _
+      (whole-spared l q (lo .third) (hi .third)) (λ (z n : ℕ). triples-is (triple x y z) n)))
 
-  on-triple : (t : Triples) (k : Triple → ℕ → Headed) → (t ≡ triples.Refused bad → ⊥) → ((v : Triple) (n : ℕ) → k v n ≡ headed.Refused bad → ⊥) → onTriple t k ≡ headed.Refused bad → ⊥
+  on-triple : (t : Triples) (k : Triple → ℕ → Headed) → (t ≡ triples.Refused bad → ⊥)
+      → ((v : Triple) (n : ℕ) → k v n ≡ headed.Refused bad → ⊥) → onTriple t k ≡ headed.Refused bad → ⊥
   on-triple (triples.Is v n) k h g e = g v n e
   on-triple (triples.Refused r) k h g e = h (ap triples.Refused (headed-one r e))
 
@@ -197,7 +206,8 @@ module _ (bad : Refusal) (not : Not bad) where
       spared-on headed.Refused headed-one (wholeNumber l c 0 directionLast) _ (whole-spared l c 0 directionLast) (λ (z m : ℕ).
       headed-is (record { date = d; time = t; characters = n; flight = x; address = y; direction = z }) m))))))
 
-  on-heading : (t : Headed) (k : Heading → ℕ → Forwarded) → (t ≡ headed.Refused bad → ⊥) → ((v : Heading) (n : ℕ) → k v n ≡ forwarded.Refused bad → ⊥) → onHeading t k ≡ forwarded.Refused bad → ⊥
+  on-heading : (t : Headed) (k : Heading → ℕ → Forwarded) → (t ≡ headed.Refused bad → ⊥)
+      → ((v : Heading) (n : ℕ) → k v n ≡ forwarded.Refused bad → ⊥) → onHeading t k ≡ forwarded.Refused bad → ⊥
   on-heading (headed.Is v n) k h g e = g v n e
   on-heading (headed.Refused r) k h g e = h (ap headed.Refused (forwarded-one r e))
 

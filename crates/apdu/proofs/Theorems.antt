@@ -85,7 +85,11 @@ unfolding tailAt
 tail-padded bs =
     let k : ℕ = padding (length bs) in
     let n = length-padded bs in
-    let f : bitsFit (padding (length bs)) 0 ≡ true = rw (le-leb (padding (length bs)) 64 (omega arith), lt-ltb 0 (2 ^ padding (length bs)) (pow-pos (padding (length bs)))) in
+    let f : bitsFit (padding (length bs)) 0 ≡ true = rw (
+      le-leb (padding (length bs)) 64 (omega arith),
+      lt-ltb 0
+          (2 ^ padding (length bs)) (pow-pos (padding (length bs))),
+    ) in
     let a = bit-field (padding (length bs)) .written-read (padded bs) (length bs) 0 (length bs + padding (length bs)) f (stands-pad bs) in
     rw (a, lt-leb (length bs + padding (length bs) + 1) (length (padded bs)) (omega arith))
 
@@ -102,7 +106,8 @@ pub front : (t bs : List ℕ) → Bits bs → length bs + 7 ≤ 8 * bufferLeast 
 front t bs hb h g =
     let k : ℕ = bytesFor (length bs) in
     let n = whole-bytes bs in
-    let m : length (take (bytesFor (length bs)) (putBits t 0 (padded bs))) ≡ bytesFor (length bs) = length-take-le (bytesFor (length bs)) (putBits t 0 (padded bs)) (rw (length-put (padded bs) t 0) (omega arith)) in
+    let m : length (take (bytesFor (length bs)) (putBits t 0 (padded bs))) ≡ bytesFor (length bs) = length-take-le
+    (bytesFor (length bs)) (putBits t 0 (padded bs)) (rw (length-put (padded bs) t 0) (omega arith)) in
     record { size = m; bits = all-bits (take (bytesFor (length bs)) (putBits t 0 (padded bs))) allBits (rw m (omega arith)) ∙ front-bits t (padded bs) (bytesFor (length bs)) (pad-bits bs hb) n (omega arith) }
 
 -- ---- an encoding of bits is bits
@@ -112,7 +117,9 @@ no-bits k = omega arith
 
 pub string-are-bits : (l : List ℕ) (unit : ℕ) (x : Span) → Bits l → Bits (stringBits unit (itemsIn l unit x))
 unfolding stringBits
-string-are-bits l unit x h = bits-append (lengthBits (length (itemsIn l unit x) / unit)) (itemsIn l unit x) (length-determinant .are-bits (length (itemsIn l unit x) / unit)) (bits-take (unit * x .count) (drop (x .at) l) (bits-drop (x .at) l h))
+string-are-bits l unit x h = bits-append (lengthBits (length (itemsIn l unit x) / unit)) (itemsIn l unit x)
+    (length-determinant .are-bits (length (itemsIn l unit x) / unit))
+    (bits-take (unit * x .count) (drop (x .at) l) (bits-drop (x .at) l h))
 
 part-are-bits : (l : List ℕ) (unit : ℕ) (p : Part) → Bits l → Bits (optionalBits unit (partIn l unit p))
 unfolding optionalBits partIn
@@ -125,7 +132,8 @@ content-are-bits li lm lc d i m c =
     bits-append (bitsN 1 0) _ (bits-bitsN 1 0)
     (bits-append (bitsN 2 (2 * presence (partIn li octet (d .identifier)) + presence (partIn lm bit (d .message)))) _ (bits-bitsN 2 (2 * presence (partIn li octet (d .identifier)) + presence (partIn lm bit (d .message))))
     (bits-append (optionalBits octet (partIn li octet (d .identifier))) _ (part-are-bits li octet (d .identifier) i)
-    (bits-append (optionalBits bit (partIn lm bit (d .message))) _ (part-are-bits lm bit (d .message) m) (string-are-bits lc bit (d .check) c))))
+    (bits-append (optionalBits bit (partIn lm bit (d .message))) _ (part-are-bits lm bit (d .message) m)
+    (string-are-bits lc bit (d .check) c))))
 
 pub mode-are-bits : (pdus : PduType) (m : ℕ) → Bits (modeBits pdus m)
 unfolding modeBits
@@ -142,19 +150,29 @@ index-are-bits GroundPdus i = extensible-index 5 (omega arith) .are-bits i
 
 pub pdu-are-bits : (pdus : PduType) (li lm lc : List ℕ) (a : Apdu) → Bits li → Bits lm → Bits lc → Bits (pduBits pdus (pduIn li lm lc a))
 unfolding pduBits pduIn
-pdu-are-bits pdus li lm lc (apdu.AbortUser r) i m c = bits-append (indexBits (lastOf pdus) 0) (indexBits userLast r) (index-are-bits pdus 0) (extensible-index userLast (omega arith) .are-bits r)
-pdu-are-bits pdus li lm lc (apdu.AbortProvider r) i m c = bits-append (indexBits (lastOf pdus) 1) (indexBits providerLast r) (index-are-bits pdus 1) (extensible-index providerLast (omega arith) .are-bits r)
-pdu-are-bits pdus li lm lc (apdu.Start v d) i m c = bits-append (indexBits (lastOf pdus) 2) _ (index-are-bits pdus 2) (bits-append (modeBits pdus v) (contentBits (contentIn li lm lc d)) (mode-are-bits pdus v) (content-are-bits li lm lc d i m c))
-pdu-are-bits pdus li lm lc (apdu.Send d) i m c = bits-append (indexBits (lastOf pdus) 3) (contentBits (contentIn li lm lc d)) (index-are-bits pdus 3) (content-are-bits li lm lc d i m c)
-pdu-are-bits pdus li lm lc (apdu.Forward f) i m c = bits-append (indexBits (lastOf pdus) 4) (forwardBits (f .heading) (itemsIn lm bit (f .message))) (index-are-bits pdus 4) (forward-are-bits (f .heading) (itemsIn lm bit (f .message)) (string-are-bits lm bit (f .message) m))
-pdu-are-bits pdus li lm lc (apdu.ForwardResponse x) i m c = bits-append (indexBits (lastOf pdus) 5) (indexBits responseLast x) (index-are-bits pdus 5) (extensible-index responseLast (omega arith) .are-bits x)
+pdu-are-bits pdus li lm lc (apdu.AbortUser r) i m c = bits-append (indexBits (lastOf pdus) 0) (indexBits userLast r)
+    (index-are-bits pdus 0) (extensible-index userLast (omega arith) .are-bits r)
+pdu-are-bits pdus li lm lc (apdu.AbortProvider r) i m c = bits-append (indexBits (lastOf pdus) 1)
+    (indexBits providerLast r) (index-are-bits pdus 1) (extensible-index providerLast (omega arith) .are-bits r)
+pdu-are-bits pdus li lm lc (apdu.Start v d) i m c = bits-append (indexBits (lastOf pdus) 2) _ (index-are-bits pdus 2) (
+    bits-append (modeBits pdus v) (contentBits (contentIn li lm lc d)) (mode-are-bits pdus v)
+    (content-are-bits li lm lc d i m c))
+pdu-are-bits pdus li lm lc (apdu.Send d) i m c = bits-append (indexBits (lastOf pdus) 3)
+    (contentBits (contentIn li lm lc d)) (index-are-bits pdus 3) (content-are-bits li lm lc d i m c)
+pdu-are-bits pdus li lm lc (apdu.Forward f) i m c = bits-append (indexBits (lastOf pdus) 4)
+    (forwardBits (f .heading) (itemsIn lm bit (f .message))) (index-are-bits pdus 4)
+    (forward-are-bits (f .heading) (itemsIn lm bit (f .message)) (string-are-bits lm bit (f .message) m))
+pdu-are-bits pdus li lm lc (apdu.ForwardResponse x) i m c = bits-append (indexBits (lastOf pdus) 5)
+    (indexBits responseLast x) (index-are-bits pdus 5) (extensible-index responseLast (omega arith) .are-bits x)
 
 -- ---- reading what was written gives the value
 
 -- bits that are the padded encoding of a value within the sizes are read as that value
 pub encoding-accepted : (pdus : PduType) (l : List ℕ) (v : Pdu) → pduFits pdus v ≡ true → l ≡ padded (pduBits pdus v) → ApduRead pdus l 0 v
 encoding-accepted pdus l v h e =
-    rw e (apdu-written pdus (padded (pduBits pdus v)) 0 (length (pduBits pdus v)) (length (pduBits pdus v) + padding (length (pduBits pdus v))) v h (stands-front (pduBits pdus v)) (tail-padded (pduBits pdus v)))
+    rw e (apdu-written pdus (padded (pduBits pdus v)) 0 (length (pduBits pdus v))
+    (length (pduBits pdus v) + padding (length (pduBits pdus v))) v h (stands-front (pduBits pdus v))
+    (tail-padded (pduBits pdus v)))
 
 -- what is written to a buffer is read as it was
 pub written-read : (pdus : PduType) (v : Pdu) (t : List ℕ) → Bits (pduBits pdus v) → pduFits pdus v ≡ true → bufferLeast ≤ length t
@@ -164,11 +182,15 @@ written-read pdus v t b h g =
     encoding-accepted pdus _ v h (front t (pduBits pdus v) b (omega arith) g .bits)
 
 -- what stands in lent bytes, put into a buffer by `put_apdu`, is read as it was
-pub put-read : (pdus : PduType) (a : Apdu) (ids msgs checks t : List ℕ) → apduFits pdus (lent ids) (lent msgs) (lent checks) a ≡ true → bufferLeast ≤ length t
-    → ApduRead pdus (lent (take (bytesFor (length (pduBits pdus (pduIn (lent ids) (lent msgs) (lent checks) a)))) (putBits t 0 (padded (pduBits pdus (pduIn (lent ids) (lent msgs) (lent checks) a)))))) 0 (pduIn (lent ids) (lent msgs) (lent checks) a)
+pub put-read : (pdus : PduType) (a : Apdu) (ids msgs checks t : List ℕ)
+    → apduFits pdus (lent ids) (lent msgs) (lent checks) a ≡ true → bufferLeast ≤ length t
+    → ApduRead pdus (lent (take (bytesFor (length (pduBits pdus (pduIn (lent ids) (lent msgs) (lent checks) a))))
+    (putBits t 0 (padded (pduBits pdus (pduIn (lent ids) (lent msgs) (lent checks) a)))))) 0
+    (pduIn (lent ids) (lent msgs) (lent checks) a)
 put-read pdus a ids msgs checks t h g =
     written-read pdus (pduIn (lent ids) (lent msgs) (lent checks) a) t
-    (pdu-are-bits pdus (lent ids) (lent msgs) (lent checks) a (bits-to ids allBits) (bits-to msgs allBits) (bits-to checks allBits)) (apdu-value-fits pdus (lent ids) (lent msgs) (lent checks) a h) g
+    (pdu-are-bits pdus (lent ids) (lent msgs) (lent checks) a (bits-to ids allBits) (bits-to msgs allBits)
+    (bits-to checks allBits)) (apdu-value-fits pdus (lent ids) (lent msgs) (lent checks) a h) g
 
 -- message data by itself, as it is delivered
 pub record DataWhole (l : List ℕ) (c : Content) : Type 0 where
@@ -193,16 +215,20 @@ pub whole-data : (l : List ℕ) (d : Data) (next : ℕ) → Bits l → wholeData
 unfolding wholeWithin
 whole-data l d next b h = from (dataAt l 0) refl h
   where
-    ended : (e : Data) (n : ℕ) (f : Field) → onto taken.Refused f (λ (v m : ℕ). taken.Is e n) ≡ taken.Is d next → taken.Is e n ≡ taken.Is d next
+    ended : (e : Data) (n : ℕ) (f : Field) → onto taken.Refused f (λ (v m : ℕ). taken.Is e n) ≡ taken.Is d next
+        → taken.Is e n ≡ taken.Is d next
     ended e n (Value v m) p = p
     ended e n (Refused r) p = let z : _≡_ {A = ℕ} 0 1 = cc in absurd (omega arith)
 
-    from : (t : Taken) → dataAt l 0 ≡ t → onTaken t (λ (e : Data) (n : ℕ). onto taken.Refused (tailAt l n) (λ (v m : ℕ). taken.Is e n)) ≡ taken.Is d next → DataIs l 0 next d
+    from : (t : Taken) → dataAt l 0 ≡ t
+        → onTaken t (λ (e : Data) (n : ℕ). onto taken.Refused (tailAt l n) (λ (v m : ℕ). taken.Is e n)) ≡ taken.Is d next
+        → DataIs l 0 next d
     from (taken.Is e n) q p = data-read l 0 next d b (q ∙ ended e n (tailAt l n) p)
     from (taken.Refused r) q p = let z : _≡_ {A = ℕ} 0 1 = cc in absurd (omega arith)
 
 -- one encoding, one value
-pub one-value : (pdus : PduType) (v w : Pdu) → pduFits pdus v ≡ true → pduFits pdus w ≡ true → padded (pduBits pdus v) ≡ padded (pduBits pdus w) → v ≡ w
+pub one-value : (pdus : PduType) (v w : Pdu) → pduFits pdus v ≡ true → pduFits pdus w ≡ true
+    → padded (pduBits pdus v) ≡ padded (pduBits pdus w) → v ≡ w
 one-value pdus v w f g e =
     let l : List ℕ = padded (pduBits pdus v) in
     let x = encoding-accepted pdus (padded (pduBits pdus v)) v f refl in
@@ -221,20 +247,25 @@ tail-is : (l : List ℕ) (at v next : ℕ) → Bits l → tailAt l at ≡ Value 
 unfolding tailAt
 tail-is l at v next b e = fields.via (TailIs l at next) (bitField l at (padding at)) _ v next found e
   where
-    last : (m : ℕ) → bitField l at (padding at) ≡ Value 0 m → (t : Bool) → leb (m + 1) (length l) ≡ t → cond t (refusedAt m Tail) (Value 0 m) ≡ Value v next → TailIs l at next
+    last : (m : ℕ) → bitField l at (padding at) ≡ Value 0 m → (t : Bool) → leb (m + 1) (length l) ≡ t
+        → cond t (refusedAt m Tail) (Value 0 m) ≡ Value v next → TailIs l at next
     last m f true p k = never (cc)
     last m f false p k =
         let x : m ≡ next = cc in
         let h = leb-false (m + 1) (length l) p in
         rw (← x) (record { stands = bit-field (padding at) .read-written l at 0 m b f; end = omega arith })
 
-    go : (w m : ℕ) → bitField l at (padding at) ≡ Value w m → (t : Bool) → eqb w 0 ≡ t → cond t (cond (leb (m + 1) (length l)) (refusedAt m Tail) (Value 0 m)) (refusedAt (m - widthOf w) Tail) ≡ Value v next → TailIs l at next
+    go : (w m : ℕ) → bitField l at (padding at) ≡ Value w m → (t : Bool) → eqb w 0 ≡ t
+        → cond t (cond (leb (m + 1) (length l)) (refusedAt m Tail) (Value 0 m)) (refusedAt (m - widthOf w) Tail) ≡ Value v next
+        → TailIs l at next
     go w m f true p k =
         let z : w ≡ 0 = eqb-true w 0 p in
         last m (rw z at f) (leb (m + 1) (length l)) refl k
     go w m f false p k = never (cc)
 
-    found : (w m : ℕ) → bitField l at (padding at) ≡ Value w m → cond (eqb w 0) (cond (leb (m + 1) (length l)) (refusedAt m Tail) (Value 0 m)) (refusedAt (m - widthOf w) Tail) ≡ Value v next → TailIs l at next
+    found : (w m : ℕ) → bitField l at (padding at) ≡ Value w m
+        → cond (eqb w 0) (cond (leb (m + 1) (length l)) (refusedAt m Tail) (Value 0 m)) (refusedAt (m - widthOf w) Tail) ≡ Value v next
+        → TailIs l at next
     found w m f k = go w m f (eqb w 0) refl k
 
 -- the first bit of message data, behind other bits and padded, is 0
@@ -244,7 +275,8 @@ first-clear bs c =
     let n = length-append bs (bitsN 1 0 ++ rootBits c) in
     let m = length-append (bitsN 1 0) (rootBits c) in
     let z : length bs + 0 ≡ length bs = omega arith in
-    List·getD-append (bs ++ (bitsN 1 0 ++ rootBits c)) (bitsN (padding (length (bs ++ (bitsN 1 0 ++ rootBits c)))) 0) 0 (length bs) (omega (arith, length-bitsN 1 0))
+    List·getD-append (bs ++ (bitsN 1 0 ++ rootBits c)) (bitsN (padding (length (bs ++ (bitsN 1 0 ++ rootBits c)))) 0) 0
+    (length bs) (omega (arith, length-bitsN 1 0))
     ∙ ap (λ (p : ℕ). getD (bs ++ (bitsN 1 0 ++ rootBits c)) p 0) (sym z) ∙ getD-append-add bs (bitsN 1 0 ++ rootBits c) 0 0
 
 all-of : (l bs : List ℕ) (next : ℕ) → Stands l 0 bs next → length l ≤ next → l ≡ bs
@@ -259,7 +291,8 @@ unfolding padded
 ended-whole l bs place left end b s t =
     let p : place ≡ length bs = omega (arith, s .place) in
     let i = tail-is l place left end b t in
-    all-of l (bs ++ bitsN (padding place) 0) end (stands-join l 0 place end bs (bitsN (padding place) 0) s (i .stands)) (i .end) ∙ ap (λ (n : ℕ). bs ++ bitsN (padding n) 0) p
+    all-of l (bs ++ bitsN (padding place) 0) end (stands-join l 0 place end bs (bitsN (padding place) 0) s (i .stands))
+    (i .end) ∙ ap (λ (n : ℕ). bs ++ bitsN (padding n) 0) p
 
 -- ---- message data behind the bits that lead to it
 
@@ -307,11 +340,13 @@ pub record Accepted (pdus : PduType) (l : List ℕ) (a : Apdu) : Type 0 where
   pub fits : pduFits pdus (pduIn l l l a) ≡ true
   pub bits : strip pdus l a ≡ padded (pduBits pdus (pduIn l l l a))
 
-strip-encoding : (pdus : PduType) (l : List ℕ) (place left end : ℕ) (a : Apdu) → Bits l → Standing pdus l 0 place a → tailAt l place ≡ Value left end → strip pdus l a ≡ padded (pduBits pdus (pduIn l l l a))
+strip-encoding : (pdus : PduType) (l : List ℕ) (place left end : ℕ) (a : Apdu) → Bits l → Standing pdus l 0 place a
+    → tailAt l place ≡ Value left end → strip pdus l a ≡ padded (pduBits pdus (pduIn l l l a))
 unfolding strip pduBits pduIn
 strip-encoding pdus l place left end (apdu.AbortUser r) b s t = ended-whole l _ place left end b s t
 strip-encoding pdus l place left end (apdu.AbortProvider r) b s t = ended-whole l _ place left end b s t
-strip-encoding pdus l place left end (apdu.Start m d) b s t = led-strip l _ place d s ∙ ap padded (append-assoc (indexBits (lastOf pdus) 2) (modeBits pdus m) (contentBits (contentIn l l l d)))
+strip-encoding pdus l place left end (apdu.Start m d) b s t = led-strip l _ place d s ∙ ap padded
+    (append-assoc (indexBits (lastOf pdus) 2) (modeBits pdus m) (contentBits (contentIn l l l d)))
 strip-encoding pdus l place left end (apdu.Send d) b s t = led-strip l _ place d s
 strip-encoding pdus l place left end (apdu.Forward f) b s t = ended-whole l _ place left end b s t
 strip-encoding pdus l place left end (apdu.ForwardResponse x) b s t = ended-whole l _ place left end b s t
@@ -322,19 +357,23 @@ accepted-encoding pdus l a b e =
     record { placed-fits = i .placed-fits; fits = apdu-value-fits pdus l l l a (i .placed-fits); bits = strip-encoding pdus l (i .place) (i .left) (i .end) a b (i .stands) (i .tail) }
 
 -- WITH THE ADDITIONS GONE IT IS READ AS THE SAME VALUE
-pub stripped-read : (pdus : PduType) (l : List ℕ) (a : Apdu) → Bits l → apduAt pdus l 0 ≡ decoded.Is a → ApduRead pdus (strip pdus l a) 0 (pduIn l l l a)
+pub stripped-read : (pdus : PduType) (l : List ℕ) (a : Apdu) → Bits l → apduAt pdus l 0 ≡ decoded.Is a
+    → ApduRead pdus (strip pdus l a) 0 (pduIn l l l a)
 stripped-read pdus l a b e =
     let c = accepted-encoding pdus l a b e in
     encoding-accepted pdus (strip pdus l a) (pduIn l l l a) (c .fits) (c .bits)
 
 -- ---- without additions
 
-plain-stands : (pdus : PduType) (l : List ℕ) (place : ℕ) (a : Apdu) → Standing pdus l 0 place a → extended pdus l a ≡ false → Stands l 0 (pduBits pdus (pduIn l l l a)) place
+plain-stands : (pdus : PduType) (l : List ℕ) (place : ℕ) (a : Apdu) → Standing pdus l 0 place a
+    → extended pdus l a ≡ false → Stands l 0 (pduBits pdus (pduIn l l l a)) place
 unfolding extended pduBits pduIn
 plain-stands pdus l place (apdu.AbortUser r) s e = s
 plain-stands pdus l place (apdu.AbortProvider r) s e = s
 plain-stands pdus l place (apdu.Start m d) s e =
-    subst (λ (x : List ℕ). Stands l 0 x place) (append-assoc (indexBits (lastOf pdus) 2) (modeBits pdus m) (contentBits (contentIn l l l d))) (led-plain l _ place d s (led-unmarked l _ place d s e))
+    subst (λ (x : List ℕ). Stands l 0 x place)
+    (append-assoc (indexBits (lastOf pdus) 2) (modeBits pdus m) (contentBits (contentIn l l l d)))
+    (led-plain l _ place d s (led-unmarked l _ place d s e))
 plain-stands pdus l place (apdu.Send d) s e = led-plain l _ place d s (led-unmarked l _ place d s e)
 plain-stands pdus l place (apdu.Forward f) s e = s
 plain-stands pdus l place (apdu.ForwardResponse x) s e = s
@@ -344,46 +383,56 @@ pub record Same (pdus : PduType) (l : List ℕ) (a : Apdu) : Type 0 where
   pub bits : l ≡ padded (pduBits pdus (pduIn l l l a))
   pub stands : Stands l 0 (pduBits pdus (pduIn l l l a)) (length (pduBits pdus (pduIn l l l a)))
 
-pub plain-encoding : (pdus : PduType) (l : List ℕ) (a : Apdu) → Bits l → extended pdus l a ≡ false → apduAt pdus l 0 ≡ decoded.Is a → Same pdus l a
+pub plain-encoding : (pdus : PduType) (l : List ℕ) (a : Apdu) → Bits l → extended pdus l a ≡ false
+    → apduAt pdus l 0 ≡ decoded.Is a → Same pdus l a
 plain-encoding pdus l a b x e =
     let i = apdu-read pdus l 0 a b e in
     let s = plain-stands pdus l (i .place) a (i .stands) x in
     record { bits = ended-whole l _ (i .place) (i .left) (i .end) b s (i .tail); stands = record { place = omega arith; within = s .within; holds = s .holds } }
 
 -- to take additions away changes nothing exactly where there are none
-pub plain-strip : (pdus : PduType) (l : List ℕ) (a : Apdu) → Bits l → extended pdus l a ≡ false → apduAt pdus l 0 ≡ decoded.Is a → strip pdus l a ≡ l
+pub plain-strip : (pdus : PduType) (l : List ℕ) (a : Apdu) → Bits l → extended pdus l a ≡ false
+    → apduAt pdus l 0 ≡ decoded.Is a → strip pdus l a ≡ l
 plain-strip pdus l a b x e = accepted-encoding pdus l a b e .bits ∙ sym (plain-encoding pdus l a b x e .bits)
 
 unmarked : (x y : ℕ) → x ≡ y → y ≡ 0 → eqb x 1 ≡ false
 unmarked x y p q = rw (p, q)
 
-strip-standing : (pdus : PduType) (l : List ℕ) (place : ℕ) (a : Apdu) → Standing pdus l 0 place a → strip pdus l a ≡ l → extended pdus l a ≡ false
+strip-standing : (pdus : PduType) (l : List ℕ) (place : ℕ) (a : Apdu) → Standing pdus l 0 place a → strip pdus l a ≡ l
+    → extended pdus l a ≡ false
 unfolding strip extended
 strip-standing pdus l place (apdu.AbortUser r) s e = refl
 strip-standing pdus l place (apdu.AbortProvider r) s e = refl
-strip-standing pdus l place (apdu.Start m d) s e = unmarked _ _ (ap (λ (x : List ℕ). getD x (length (alternative pdus kind.Start ++ modeBits pdus m)) 0) (sym e)) (led-cleared l _ place d s)
-strip-standing pdus l place (apdu.Send d) s e = unmarked _ _ (ap (λ (x : List ℕ). getD x (length (alternative pdus kind.Send)) 0) (sym e)) (led-cleared l _ place d s)
+strip-standing pdus l place (apdu.Start m d) s e = unmarked _ _
+    (ap (λ (x : List ℕ). getD x (length (alternative pdus kind.Start ++ modeBits pdus m)) 0) (sym e))
+    (led-cleared l _ place d s)
+strip-standing pdus l place (apdu.Send d) s e = unmarked _ _
+    (ap (λ (x : List ℕ). getD x (length (alternative pdus kind.Send)) 0) (sym e)) (led-cleared l _ place d s)
 strip-standing pdus l place (apdu.Forward f) s e = refl
 strip-standing pdus l place (apdu.ForwardResponse x) s e = refl
 
-pub strip-plain : (pdus : PduType) (l : List ℕ) (a : Apdu) → Bits l → apduAt pdus l 0 ≡ decoded.Is a → strip pdus l a ≡ l → extended pdus l a ≡ false
+pub strip-plain : (pdus : PduType) (l : List ℕ) (a : Apdu) → Bits l → apduAt pdus l 0 ≡ decoded.Is a
+    → strip pdus l a ≡ l → extended pdus l a ≡ false
 strip-plain pdus l a b e k =
     let i = apdu-read pdus l 0 a b e in
     strip-standing pdus l (i .place) a (i .stands) k
 
 -- every bit of accepted bytes without additions is lent
-accepted-all : (pdus : PduType) (s : List ℕ) (a : Apdu) → extended pdus (lent s) a ≡ false → apduAt pdus (lent s) 0 ≡ decoded.Is a → lent s ≡ bitsOf s
+accepted-all : (pdus : PduType) (s : List ℕ) (a : Apdu) → extended pdus (lent s) a ≡ false
+    → apduAt pdus (lent s) 0 ≡ decoded.Is a → lent s ≡ bitsOf s
 accepted-all pdus s a x e =
     let c = accepted-encoding pdus (lent s) a (bits-to s allBits) e in
     let m = pdu-most pdus (pduIn (lent s) (lent s) (lent s) a) (c .fits) in
     let n = length-padded (pduBits pdus (pduIn (lent s) (lent s) (lent s) a)) in
-    let k : length (lent s) ≡ length (padded (pduBits pdus (pduIn (lent s) (lent s) (lent s) a))) = ap length (plain-encoding pdus (lent s) a (bits-to s allBits) x e .bits) in
+    let k : length (lent s) ≡ length (padded (pduBits pdus (pduIn (lent s) (lent s) (lent s) a))) = ap length
+    (plain-encoding pdus (lent s) a (bits-to s allBits) x e .bits) in
     let t = length-to s allBits in
     all-bits s allBits (omega arith)
 
 -- To write what was read from bytes without additions, with the parts taken from where they stand, leaves those bytes in the buffer, and later bytes as they
 -- were.
-pub read-written : (pdus : PduType) (s t : List ℕ) (a : Apdu) → Bytes s → Bytes t → bufferLeast ≤ length t → extended pdus (lent s) a ≡ false → apduAt pdus (lent s) 0 ≡ decoded.Is a
+pub read-written : (pdus : PduType) (s t : List ℕ) (a : Apdu) → Bytes s → Bytes t → bufferLeast ≤ length t
+    → extended pdus (lent s) a ≡ false → apduAt pdus (lent s) 0 ≡ decoded.Is a
     → writeOut (apduFits pdus (lent s) (lent s) (lent s) a) t (pduBits pdus (pduIn (lent s) (lent s) (lent s) a))
     ≡ done (written.Bits (length (pduBits pdus (pduIn (lent s) (lent s) (lent s) a)))) (s ++ drop (length s) t)
 unfolding writeOut
@@ -392,10 +441,12 @@ read-written pdus s t a hs ht g x e =
     let v : Pdu = pduIn (lent s) (lent s) (lent s) a in
     let m = pdu-most pdus (pduIn (lent s) (lent s) (lent s) a) (c .fits) in
     let n = length-padded (pduBits pdus (pduIn (lent s) (lent s) (lent s) a)) in
-    let q : padded (pduBits pdus (pduIn (lent s) (lent s) (lent s) a)) ≡ bitsOf s = sym (plain-encoding pdus (lent s) a (bits-to s allBits) x e .bits) ∙ accepted-all pdus s a x e in
+    let q : padded (pduBits pdus (pduIn (lent s) (lent s) (lent s) a)) ≡ bitsOf s = sym
+    (plain-encoding pdus (lent s) a (bits-to s allBits) x e .bits) ∙ accepted-all pdus s a x e in
     let k : length (bitsOf s) ≡ length (padded (pduBits pdus (pduIn (lent s) (lent s) (lent s) a))) = ap length (sym q) in
     let z = length-bits s in
-    let p : putBits t 0 (padded (pduBits pdus (pduIn (lent s) (lent s) (lent s) a))) ≡ s ++ drop (length s) t = ap (putBits t 0) q ∙ put-bytes t s ht hs (omega arith) in
+    let p : putBits t 0 (padded (pduBits pdus (pduIn (lent s) (lent s) (lent s) a))) ≡ s ++ drop (length s) t = ap
+    (putBits t 0) q ∙ put-bytes t s ht hs (omega arith) in
     rw (le-ltb (length t) bufferLeast g, c .placed-fits, p)
 
 -- ---- with additions or without
@@ -426,20 +477,26 @@ writes s bs h = rw (le-ltb (length s) bufferLeast h)
 -- ---- the message data that a user is delivered: the root's bits behind a bit 0, whatever the extension bit was
 
 pub send-delivered : (pdus : PduType) (s : List ℕ) (d : Data) → apduAt pdus (lent s) 0 ≡ decoded.Is (apdu.Send d)
-    → contentBits (contentIn (lent s) (lent s) (lent s) d) ≡ bitsN 1 0 ++ take (rootEnd d - (width pdus + 1)) (drop (width pdus + 1) (lent s))
+    → contentBits (contentIn (lent s) (lent s) (lent s) d) ≡ bitsN 1 0 ++ take (rootEnd d - (width pdus + 1))
+    (drop (width pdus + 1) (lent s))
 send-delivered pdus s d e =
     let i = apdu-read pdus (lent s) 0 (apdu.Send d) (bits-to s allBits) e in
     rw (length-alternative pdus 3) at (led-content (lent s) (indexBits (lastOf pdus) 3) (i .place) d (i .stands))
 
 pub start-delivered : (pdus : PduType) (s : List ℕ) (m : ℕ) (d : Data) → apduAt pdus (lent s) 0 ≡ decoded.Is (apdu.Start m d)
-    → contentBits (contentIn (lent s) (lent s) (lent s) d) ≡ bitsN 1 0 ++ take (rootEnd d - (width pdus + length (modeBits pdus m) + 1)) (drop (width pdus + length (modeBits pdus m) + 1) (lent s))
+    → contentBits (contentIn (lent s) (lent s) (lent s) d) ≡ bitsN 1 0 ++ take
+    (rootEnd d - (width pdus + length (modeBits pdus m) + 1))
+    (drop (width pdus + length (modeBits pdus m) + 1) (lent s))
 start-delivered pdus s m d e =
     let i = apdu-read pdus (lent s) 0 (apdu.Start m d) (bits-to s allBits) e in
-    rw (length-append, length-alternative pdus 2) at (led-content (lent s) (indexBits (lastOf pdus) 2 ++ modeBits pdus m) (i .place) d (i .stands))
+    rw (length-append, length-alternative pdus 2) at
+    (led-content (lent s) (indexBits (lastOf pdus) 2 ++ modeBits pdus m) (i .place) d (i .stands))
 
 -- and so, without additions, bits of the APDU
-pub send-plain : (pdus : PduType) (s : List ℕ) (d : Data) → extended pdus (lent s) (apdu.Send d) ≡ false → apduAt pdus (lent s) 0 ≡ decoded.Is (apdu.Send d)
-    → contentBits (contentIn (lent s) (lent s) (lent s) d) ≡ take (length (contentBits (contentIn (lent s) (lent s) (lent s) d))) (drop (width pdus) (lent s))
+pub send-plain : (pdus : PduType) (s : List ℕ) (d : Data) → extended pdus (lent s) (apdu.Send d) ≡ false
+    → apduAt pdus (lent s) 0 ≡ decoded.Is (apdu.Send d)
+    → contentBits (contentIn (lent s) (lent s) (lent s) d) ≡ take
+    (length (contentBits (contentIn (lent s) (lent s) (lent s) d))) (drop (width pdus) (lent s))
 unfolding pduBits pduIn
 send-plain pdus s d x e =
     let c = plain-encoding pdus (lent s) (apdu.Send d) (bits-to s allBits) x e in
@@ -448,23 +505,30 @@ send-plain pdus s d x e =
     let p : 0 + length (indexBits (lastOf pdus) 3) ≡ width pdus = omega (arith, length-alternative pdus 3) in
     sym (rw p at h)
 
-pub start-plain : (pdus : PduType) (s : List ℕ) (m : ℕ) (d : Data) → extended pdus (lent s) (apdu.Start m d) ≡ false → apduAt pdus (lent s) 0 ≡ decoded.Is (apdu.Start m d)
-    → contentBits (contentIn (lent s) (lent s) (lent s) d) ≡ take (length (contentBits (contentIn (lent s) (lent s) (lent s) d))) (drop (width pdus + length (modeBits pdus m)) (lent s))
+pub start-plain : (pdus : PduType) (s : List ℕ) (m : ℕ) (d : Data) → extended pdus (lent s) (apdu.Start m d) ≡ false
+    → apduAt pdus (lent s) 0 ≡ decoded.Is (apdu.Start m d)
+    → contentBits (contentIn (lent s) (lent s) (lent s) d) ≡ take
+    (length (contentBits (contentIn (lent s) (lent s) (lent s) d)))
+    (drop (width pdus + length (modeBits pdus m)) (lent s))
 unfolding pduBits pduIn
 start-plain pdus s m d x e =
     let c = plain-encoding pdus (lent s) (apdu.Start m d) (bits-to s allBits) x e in
-    let w = stands-split (lent s) 0 _ (indexBits (lastOf pdus) 2) (modeBits pdus m ++ contentBits (contentIn (lent s) (lent s) (lent s) d)) (c .stands) in
+    let w = stands-split (lent s) 0 _ (indexBits (lastOf pdus) 2)
+    (modeBits pdus m ++ contentBits (contentIn (lent s) (lent s) (lent s) d)) (c .stands) in
     let u = stands-split (lent s) _ _ (modeBits pdus m) (contentBits (contentIn (lent s) (lent s) (lent s) d)) (w .second) in
     let h = u .second .holds in
-    let p : 0 + length (indexBits (lastOf pdus) 2) + length (modeBits pdus m) ≡ width pdus + length (modeBits pdus m) = omega (arith, length-alternative pdus 2) in
+    let p : 0 + length (indexBits (lastOf pdus) 2) + length (modeBits pdus m) ≡ width pdus + length (modeBits pdus m) =
+    omega (arith, length-alternative pdus 2) in
     sym (rw p at h)
 
 pub forward-delivered : (s : List ℕ) (f : Forward) → apduAt GroundPdus (lent s) 0 ≡ decoded.Is (apdu.Forward f)
-    → forwardBits (f .heading) (itemsIn (lent s) bit (f .message)) ≡ take (length (forwardBits (f .heading) (itemsIn (lent s) bit (f .message)))) (drop (width GroundPdus) (lent s))
+    → forwardBits (f .heading) (itemsIn (lent s) bit (f .message)) ≡ take
+    (length (forwardBits (f .heading) (itemsIn (lent s) bit (f .message)))) (drop (width GroundPdus) (lent s))
 unfolding pduBits pduIn extended
 forward-delivered s f e =
     let c = plain-encoding GroundPdus (lent s) (apdu.Forward f) (bits-to s allBits) refl e in
-    let w = stands-split (lent s) 0 _ (indexBits (lastOf GroundPdus) 4) (forwardBits (f .heading) (itemsIn (lent s) bit (f .message))) (c .stands) in
+    let w = stands-split (lent s) 0 _ (indexBits (lastOf GroundPdus) 4)
+    (forwardBits (f .heading) (itemsIn (lent s) bit (f .message))) (c .stands) in
     let h = w .second .holds in
     let p : 0 + length (indexBits (lastOf GroundPdus) 4) ≡ width GroundPdus = omega (arith, length-alternative GroundPdus 4) in
     sym (rw p at h)

@@ -90,7 +90,8 @@ written b n v w y z bs t h m p q =
     let l : 0 < length (marks js ∷ js) = omega arith in
     let g : suc n < length (w ∷ js) = rw (length-jobs b) (omega arith) in
     let s : 8 * (n + 1) ≡ 8 * suc n = omega arith in
-    q ∙ ap (λ (x : List ℕ). sets x (8 * (n + 1)) (octets 8 v)) (p ∙ ap (λ (x : List ℕ). sets x 0 (octets 8 w)) e ∙ eights-set (marks js ∷ js) 0 w l)
+    q ∙ ap (λ (x : List ℕ). sets x (8 * (n + 1)) (octets 8 v))
+    (p ∙ ap (λ (x : List ℕ). sets x 0 (octets 8 w)) e ∙ eights-set (marks js ∷ js) 0 w l)
     ∙ ap (λ (x : ℕ). sets (eights (w ∷ js)) x (octets 8 v)) s ∙ eights-set (w ∷ js) (suc n) v g ∙ ap (λ (x : ℕ). eights (x ∷ set js n v)) m
 
 -- ---- a turn of the loop over the jobs, from the last to the first
@@ -106,7 +107,8 @@ marks-turn b i m e v pos le p q r =
     let s : suc (i - 1) ≡ i = omega arith in
     let a : i - 1 + 1 ≡ i = omega arith in
     let g : getD (jobsIn b) (i - 1) 0 ≡ e = job-place b (i - 1) (omega arith) ∙ ap (λ (x : ℕ). eightAt b (8 * x)) a ∙ sym q in
-    let d : drop (i - 1) (jobsIn b) ≡ e ∷ drop i (jobsIn b) = drop-cons (jobsIn b) (i - 1) 0 (rw (length-jobs b) (omega arith)) ∙ rw (g, s) in
+    let d : drop (i - 1) (jobsIn b) ≡ e ∷ drop i (jobsIn b) = drop-cons (jobsIn b) (i - 1) 0
+    (rw (length-jobs b) (omega arith)) ∙ rw (g, s) in
     rw (d, marks-cons e (drop i (jobsIn b)), ← p, ← r) (omega arith)
 
 pub turn-fits : (m v i : ℕ) → m < 2 ^ (64 - i) → v < 2 → 0 < i → 2 * m + v < 2 ^ 64
@@ -216,7 +218,8 @@ module _ (b : List ℕ) (j : ℕ) (pos : j ≡ 0 → ⊥) where
       pub open-fits : w + 2 ^ n < 2 ^ 64
       open-fits = rw bits-of (rw (length-set (jobsIn b) n j, length-jobs b) at (marks-lt (set (jobsIn b) n j)))
 
-      pub open-is : (x : ℕ) (y z : List ℕ) → Bytes b → x ≡ 2 ^ n → y ≡ sets b 0 (octets 8 (w + x)) → z ≡ sets y (8 * (n + 1)) (octets 8 j) → left (Is n) z ≡ openAt b j
+      pub open-is : (x : ℕ) (y z : List ℕ) → Bytes b → x ≡ 2 ^ n → y ≡ sets b 0 (octets 8 (w + x))
+          → z ≡ sets y (8 * (n + 1)) (octets 8 j) → left (Is n) z ≡ openAt b j
       unfolding opening
       open-is x y z bs e p q =
           let m : w + x ≡ marks (set (jobsIn b) n j) = ap (λ (i : ℕ). w + i) e ∙ bits-of in
@@ -255,7 +258,8 @@ module _ (b : List ℕ) (n w : ℕ) (k : Known b w) where
       pub close-le : 2 ^ n ≤ w
       close-le = omega (arith, bits-left)
 
-      pub close-is : (x : ℕ) (y z : List ℕ) → Bytes b → x ≡ 2 ^ n → y ≡ sets b 0 (octets 8 (w - x)) → z ≡ sets y (8 * (n + 1)) (octets 8 0) → left (Is 0) z ≡ closeAt b n
+      pub close-is : (x : ℕ) (y z : List ℕ) → Bytes b → x ≡ 2 ^ n → y ≡ sets b 0 (octets 8 (w - x))
+          → z ≡ sets y (8 * (n + 1)) (octets 8 0) → left (Is 0) z ≡ closeAt b n
       unfolding closing
       close-is x y z bs e q r =
           let m : w - x ≡ marks (set (jobsIn b) n 0) = omega (arith, bits-left) in

@@ -56,7 +56,8 @@ number-sum : (a : ℕ) (l : List ℕ) → numberOf a l ≡ a * 2 ^ (8 * length l
 number-sum a [] = rw (number-nil a, number-nil 0) (omega arith)
 number-sum a (b ∷ l) =
     let z : 0 * 256 + b ≡ b = omega arith in
-    let first : numberOf 0 (b ∷ l) ≡ b * 2 ^ (8 * length l) + numberOf 0 l = number-cons 0 b l ∙ ap (λ (x : ℕ). numberOf x l) z ∙ number-sum b l in
+    let first : numberOf 0 (b ∷ l) ≡ b * 2 ^ (8 * length l) + numberOf 0 l = number-cons 0 b l ∙ ap
+    (λ (x : ℕ). numberOf x l) z ∙ number-sum b l in
     number-cons a b l ∙ number-sum (a * 256 + b) l ∙ weighed a b (2 ^ (8 * length l)) (numberOf 0 l)
     ∙ ap (λ (x : ℕ). a * x + (b * 2 ^ (8 * length l) + numberOf 0 l)) (sym (pow-byte (length l)))
     ∙ ap (λ (x : ℕ). a * 2 ^ (8 * suc (length l)) + x) (sym first)
@@ -195,7 +196,8 @@ pub zero-stands : (b : List ℕ) (at v : ℕ) → Bytes b → at + 8 ≤ length 
 unfolding eightAt
 zero-stands b at v bs h p e =
     let k : length (take 8 (drop at b)) ≡ 8 = length-take-le 8 (drop at b) (simp length-drop (omega arith)) in
-    let o : octets 8 (numberOf 0 (take 8 (drop at b))) ≡ take 8 (drop at b) = rw k at (octets-number (take 8 (drop at b)) (bytes-take 8 (drop at b) (bytes-drop at b bs))) in
+    let o : octets 8 (numberOf 0 (take 8 (drop at b))) ≡ take 8 (drop at b) = rw k at
+    (octets-number (take 8 (drop at b)) (bytes-take 8 (drop at b) (bytes-drop at b bs))) in
     let z : octets 8 0 ≡ take 8 (drop at b) = ap (octets 8) (sym e ∙ p) ∙ o in
     sym (ap (sets b at) z ∙ sets-part b at h)
 
@@ -204,7 +206,8 @@ unfolding octets
 zero-octets = refl
 
 -- one number more is cleared
-pub clear-turn : (b z b₀ : List ℕ) (i : ℕ) → 8 * i + 8 ≤ length b₀ → b ≡ replicate (8 * i) 0 ++ drop (8 * i) b₀ → z ≡ sets b (8 * i) (octets 8 0)
+pub clear-turn : (b z b₀ : List ℕ) (i : ℕ) → 8 * i + 8 ≤ length b₀ → b ≡ replicate (8 * i) 0 ++ drop (8 * i) b₀
+    → z ≡ sets b (8 * i) (octets 8 0)
     → z ≡ replicate (8 * (i + 1)) 0 ++ drop (8 * (i + 1)) b₀
 clear-turn b z b₀ i h e p =
     let n : ℕ = 8 * i in
@@ -214,10 +217,12 @@ clear-turn b z b₀ i h e p =
     let s : 8 * i ≡ length r + 0 = let q : length r ≡ n = length-replicate n 0 in omega arith in
     let m : 8 * (i + 1) ≡ n + 8 = omega arith in
     let front : sets l 0 (octets 8 0) ≡ octets 8 0 ++ drop 8 l =
-    ap (λ (x : List ℕ). sets x 0 (octets 8 0)) (sym (take-append-drop 8 l)) ∙ sets-front (octets 8 0) (take 8 l) (drop 8 l) (length-octets 8 0 ∙ sym k) in
+    ap (λ (x : List ℕ). sets x 0 (octets 8 0)) (sym (take-append-drop 8 l)) ∙ sets-front (octets 8 0) (take 8 l)
+    (drop 8 l) (length-octets 8 0 ∙ sym k) in
     p ∙ ap (λ (x : List ℕ). sets x n (octets 8 0)) e ∙ ap (λ (x : ℕ). sets (r ++ l) x (octets 8 0)) s
     ∙ sets-behind r l 0 (octets 8 0) ∙ ap (λ (x : List ℕ). r ++ x) front
-    ∙ ap (λ (x : List ℕ). r ++ (x ++ drop 8 l)) zero-octets ∙ ap (λ (x : List ℕ). r ++ (replicate 8 0 ++ x)) (drop-drop 8 n b₀) ∙ sym (append-assoc r (replicate 8 0) (drop (n + 8) b₀))
+    ∙ ap (λ (x : List ℕ). r ++ (x ++ drop 8 l)) zero-octets ∙ ap (λ (x : List ℕ). r ++ (replicate 8 0 ++ x))
+    (drop-drop 8 n b₀) ∙ sym (append-assoc r (replicate 8 0) (drop (n + 8) b₀))
     ∙ ap (λ (x : List ℕ). x ++ drop (n + 8) b₀) (replicate-append-replicate {A = ℕ} n 8 0) ∙ ap (λ (x : ℕ). replicate x 0 ++ drop x b₀) (sym m)
 
 -- ---- a turn of the loop that reads a number

@@ -60,9 +60,11 @@ unfolding jobOf
 closed-other h n m e = rw (ne-eqb n m e)
 
 -- a list with the job of one number put is the list of the history with the entry
-put-job : (h h′ : History) (n j : ℕ) → n < 64 → jobOf h′ n ≡ j → ((m : ℕ) → (n ≡ m → ⊥) → jobOf h′ m ≡ jobOf h m) → set (jobsOf h) n j ≡ jobsOf h′
+put-job : (h h′ : History) (n j : ℕ) → n < 64 → jobOf h′ n ≡ j → ((m : ℕ) → (n ≡ m → ⊥) → jobOf h′ m ≡ jobOf h m)
+    → set (jobsOf h) n j ≡ jobsOf h′
 put-job h h′ n j l here other =
-    ext-getD 0 (set (jobsOf h) n j) (jobsOf h′) (length-set (jobsOf h) n j ∙ length-jobs h ∙ sym (length-jobs h′)) (λ (i : ℕ) (g : i < length (set (jobsOf h) n j)). each i (rw (length-set (jobsOf h) n j, length-jobs h) at g))
+    ext-getD 0 (set (jobsOf h) n j) (jobsOf h′) (length-set (jobsOf h) n j ∙ length-jobs h ∙ sym (length-jobs h′))
+    (λ (i : ℕ) (g : i < length (set (jobsOf h) n j)). each i (rw (length-set (jobsOf h) n j, length-jobs h) at g))
   where
     each : (i : ℕ) → i < 64 → getD (set (jobsOf h) n j) i 0 ≡ getD (jobsOf h′) i 0
     each i g =
@@ -105,17 +107,22 @@ wide-jobs h o n =
     ]
 
 -- two openings of one number have a closing of it between them
-stays-open : (c d : History) (n j : ℕ) → Orderly (c ++ (opened n j ∷ d)) → closesNumber n c ≡ false → jobOf (c ++ (opened n j ∷ d)) n ≡ 0 → ⊥
+stays-open : (c d : History) (n j : ℕ) → Orderly (c ++ (opened n j ∷ d)) → closesNumber n c ≡ false
+    → jobOf (c ++ (opened n j ∷ d)) n ≡ 0 → ⊥
 unfolding jobOf closesNumber
 stays-open [] d n j o f e = o .0 .job (sym (entry-here d n j) ∙ e)
-stays-open (opened m x ∷ c) d n j o f e = pick (eqb m n) (o .0 .job) (λ (g : jobOf (c ++ (opened n j ∷ d)) n ≡ 0). stays-open c d n j (o .1) f g) e
+stays-open (opened m x ∷ c) d n j o f e = pick (eqb m n) (o .0 .job)
+    (λ (g : jobOf (c ++ (opened n j ∷ d)) n ≡ 0). stays-open c d n j (o .1) f g) e
   where
     pick : (t : Bool) → (x ≡ 0 → ⊥) → (jobOf (c ++ (opened n j ∷ d)) n ≡ 0 → ⊥) → cond t x (jobOf (c ++ (opened n j ∷ d)) n) ≡ 0 → ⊥
     pick true a b g = a g
     pick false a b g = b g
-stays-open (closed m ∷ c) d n j o f e = pick (eqb m n) f (λ (p : closesNumber n c ≡ false) (g : jobOf (c ++ (opened n j ∷ d)) n ≡ 0). stays-open c d n j (o .1) p g) e
+stays-open (closed m ∷ c) d n j o f e = pick (eqb m n) f
+    (λ (p : closesNumber n c ≡ false) (g : jobOf (c ++ (opened n j ∷ d)) n ≡ 0). stays-open c d n j (o .1) p g) e
   where
-    pick : (t : Bool) → (t || closesNumber n c) ≡ false → (closesNumber n c ≡ false → jobOf (c ++ (opened n j ∷ d)) n ≡ 0 → ⊥) → cond t 0 (jobOf (c ++ (opened n j ∷ d)) n) ≡ 0 → ⊥
+    pick : (t : Bool) → (t || closesNumber n c) ≡ false
+        → (closesNumber n c ≡ false → jobOf (c ++ (opened n j ∷ d)) n ≡ 0 → ⊥)
+        → cond t 0 (jobOf (c ++ (opened n j ∷ d)) n) ≡ 0 → ⊥
     pick true p b g = let z : _≡_ {A = ℕ} 0 1 = cc in omega arith
     pick false p b g = b p g
 
@@ -195,7 +202,8 @@ is-full : (b : List ℕ) (j : ℕ) (js : List ℕ) → lowestFree js ≡ 64 → 
 unfolding opening
 is-full b j js e = rw (eq-eqb (lowestFree js) 64 e)
 
-is-given : (b : List ℕ) (j : ℕ) (js : List ℕ) → (lowestFree js ≡ 64 → ⊥) → opening b j js ≡ left (Is (lowestFree js)) (bookOf (set js (lowestFree js) j))
+is-given : (b : List ℕ) (j : ℕ) (js : List ℕ) → (lowestFree js ≡ 64 → ⊥)
+    → opening b j js ≡ left (Is (lowestFree js)) (bookOf (set js (lowestFree js) j))
 unfolding opening
 is-given b j js e = rw (ne-eqb (lowestFree js) 64 e)
 
@@ -215,7 +223,8 @@ empty-is b l = rw (eq-eqb (length b) 520 l)
 keeps : (k : Kept) (c : Call) → Fits k → Fits (after k c)
 keeps k empties f =
     let h = k .history in
-    let e : called (k .bytes) empties ≡ left (Is 0) (bookOf (jobsOf [])) = ap emptyAt (f .bytes) ∙ empty-is (bookOf (jobsOf h)) (long h (f .orderly)) in
+    let e : called (k .bytes) empties ≡ left (Is 0) (bookOf (jobsOf [])) = ap emptyAt (f .bytes) ∙ empty-is
+    (bookOf (jobsOf h)) (long h (f .orderly)) in
     arrives k empties (Is 0) (bookOf (jobsOf [])) e (still [] tt)
 keeps k (opens j width) f =
     let h = k .history in
@@ -240,7 +249,8 @@ keeps k (closes n) f =
     let e : closeAt (k .bytes) n ≡ closeAt b n = ap (λ (x : List ℕ). closeAt x n) (f .bytes) in
     elim (ℕ-discrete (getD (jobsOf h) n 0) 0) [
       | yes z ↦ arrives k (closes n) (Refused NotOpen) b (e ∙ closes-is h o n ∙ is-closed b n (jobsOf h) z) (still h o)
-      | no z ↦ arrives k (closes n) (Is 0) (bookOf (set (jobsOf h) n 0)) (e ∙ closes-is h o n ∙ is-open b n (jobsOf h) z) (closed-fits h o n (within (jobsOf h) n (length-jobs h) z) z)
+      | no z ↦ arrives k (closes n) (Is 0) (bookOf (set (jobsOf h) n 0))
+          (e ∙ closes-is h o n ∙ is-open b n (jobsOf h) z) (closed-fits h o n (within (jobsOf h) n (length-jobs h) z) z)
     ]
   where
     within : (js : List ℕ) (n : ℕ) → length js ≡ 64 → (getD js n 0 ≡ 0 → ⊥) → n < 64

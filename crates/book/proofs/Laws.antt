@@ -19,13 +19,15 @@ use Rattle.book.proofs.Books.{length-jobs}
 -- ---- "the book stays"
 
 -- a call that is refused or leaves b
-stays : (t : Bool) (b : List ℕ) (x : Left) (r s : BookRefusal) → (x .answer ≡ Refused r → x .bytes ≡ b) → cond t (left (Refused s) b) x .answer ≡ Refused r
+stays : (t : Bool) (b : List ℕ) (x : Left) (r s : BookRefusal) → (x .answer ≡ Refused r → x .bytes ≡ b)
+    → cond t (left (Refused s) b) x .answer ≡ Refused r
     → cond t (left (Refused s) b) x .bytes ≡ b
 stays true b x r s h e = refl
 stays false b x r s h e = h e
 
 -- or one that is taken, and else refused
-stays-else : (t : Bool) (b : List ℕ) (x : Left) (r s : BookRefusal) → (x .answer ≡ Refused r → x .bytes ≡ b) → cond t x (left (Refused s) b) .answer ≡ Refused r
+stays-else : (t : Bool) (b : List ℕ) (x : Left) (r s : BookRefusal) → (x .answer ≡ Refused r → x .bytes ≡ b)
+    → cond t x (left (Refused s) b) .answer ≡ Refused r
     → cond t x (left (Refused s) b) .bytes ≡ b
 stays-else true b x r s h e = h e
 stays-else false b x r s h e = refl
@@ -35,7 +37,8 @@ taken n b c r e = let z : _≡_ {A = ℕ} 0 1 = cc in absurd (omega arith)
 
 pub empty-stays : (b : List ℕ) (r : BookRefusal) → emptyAt b .answer ≡ Refused r → emptyAt b .bytes ≡ b
 unfolding emptyAt
-empty-stays b r e = stays-else (eqb (length b) 520) b (left (Is 0) (bookOf (replicate 64 0))) r Shape (taken 0 b (bookOf (replicate 64 0)) r) e
+empty-stays b r e = stays-else (eqb (length b) 520) b (left (Is 0) (bookOf (replicate 64 0))) r Shape
+    (taken 0 b (bookOf (replicate 64 0)) r) e
 
 opening-stays : (b : List ℕ) (j : ℕ) (r : BookRefusal) → opening b j (jobsIn b) .answer ≡ Refused r → opening b j (jobsIn b) .bytes ≡ b
 unfolding opening
@@ -52,7 +55,8 @@ open-stays b j r e =
 closing-stays : (b : List ℕ) (n : ℕ) (r : BookRefusal) → closing b n (jobsIn b) .answer ≡ Refused r → closing b n (jobsIn b) .bytes ≡ b
 unfolding closing
 closing-stays b n r e =
-    stays (eqb (getD (jobsIn b) n 0) 0) b (left (Is 0) (bookOf (set (jobsIn b) n 0))) r NotOpen (taken 0 b (bookOf (set (jobsIn b) n 0)) r) e
+    stays (eqb (getD (jobsIn b) n 0) 0) b (left (Is 0) (bookOf (set (jobsIn b) n 0))) r NotOpen
+    (taken 0 b (bookOf (set (jobsIn b) n 0)) r) e
 
 pub close-stays : (b : List ℕ) (n : ℕ) (r : BookRefusal) → closeAt b n .answer ≡ Refused r → closeAt b n .bytes ≡ b
 unfolding closeAt
@@ -82,7 +86,8 @@ given-lowest b j n e = go (eqb j 0) (isBook b) (eqb (lowestFree (jobsIn b)) 64) 
     f = lowestFree (jobsIn b)
 
     all : Bool → Bool → Bool → Left
-    all t0 t1 t2 = cond t0 (left (Refused Shape) b) (cond t1 (cond t2 (left (Refused AllOpen) b) (left (Is f) (bookOf (set js f j)))) (left (Refused Shape) b))
+    all t0 t1 t2 = cond t0 (left (Refused Shape) b)
+        (cond t1 (cond t2 (left (Refused AllOpen) b) (left (Is f) (bookOf (set js f j)))) (left (Refused Shape) b))
 
     go : (t0 t1 t2 : Bool) → eqb j 0 ≡ t0 → isBook b ≡ t1 → eqb f 64 ≡ t2 → all t0 t1 t2 .answer ≡ Is n → Given b j n
     go true t1 t2 p q r e = let z : _≡_ {A = ℕ} 0 1 = cc in absurd (omega arith)
@@ -122,7 +127,9 @@ only-all-open b j e = go (eqb j 0) (isBook b) (eqb (lowestFree (jobsIn b)) 64) r
     f = lowestFree (jobsIn b)
 
     go : (t0 t1 t2 : Bool) → eqb f 64 ≡ t2
-        → cond t0 (left (Refused Shape) b) (cond t1 (cond t2 (left (Refused AllOpen) b) (left (Is f) (bookOf (set js f j)))) (left (Refused Shape) b)) .answer ≡ Refused AllOpen
+        → cond t0 (left (Refused Shape) b) (cond t1
+        (cond t2 (left (Refused AllOpen) b) (left (Is f) (bookOf (set js f j)))) (left (Refused Shape) b)) .answer
+        ≡ Refused AllOpen
         → openCount js ≡ 64
     go true t1 t2 r e = let z : _≡_ {A = ℕ} 0 1 = cc in absurd (omega arith)
     go false false t2 r e = let z : _≡_ {A = ℕ} 0 1 = cc in absurd (omega arith)

@@ -57,7 +57,12 @@ unfolding trailingZeros lowestFree marks
 zeros-free [] = refl
 zeros-free (zero ∷ js) = rw (pow-suc 2 (length js), low-digit (marks js) (2 ^ length js) (marks-lt js))
 zeros-free (suc j ∷ js) =
-    rw (pow-suc 2 (length js), low-even (marks js) (2 ^ length js) (marks-lt js), low-rest (marks js) (2 ^ length js) (marks-lt js)) (ap suc (zeros-free js))
+    rw (
+      pow-suc 2 (length js),
+      low-even (marks js) (2 ^ length js) (marks-lt js),
+      low-rest (marks js) (2 ^ length js)
+          (marks-lt js),
+    ) (ap suc (zeros-free js))
 
 -- it is free, and every lower one is open
 pub free-le : (js : List ℕ) → lowestFree js ≤ length js

@@ -42,7 +42,8 @@ parts e k b p n =
     record { none = omega arith; kind = omega arith; bits = omega arith; body = omega arith; next = omega arith }
 
 -- an envelope that is read is all in the number
-pub envelope-said : (s job : List ℕ) (e : Envelope) → AllBytes s → envelopeAt mostBits s 0 ≡ read.Is e → Says (readBy job (envelopeAt mostBits s 0) .number) e
+pub envelope-said : (s job : List ℕ) (e : Envelope) → AllBytes s → envelopeAt mostBits s 0 ≡ read.Is e
+    → Says (readBy job (envelopeAt mostBits s 0) .number) e
 unfolding readBy placed
 envelope-said s job e b p =
     let r = read-written mostBits s 0 b e p in
@@ -56,7 +57,8 @@ envelope-said s job e b p =
     rw p (parts e (omega arith) (omega arith) (omega (arith, h, m, w, largest-is)) (omega (arith, n, m, largest-is)))
 
 -- and its job is in the eight bytes
-pub job-said : (s job : List ℕ) (e : Envelope) → AllBytes s → envelopeAt mostBits s 0 ≡ read.Is e → numberOf 0 (readBy job (envelopeAt mostBits s 0) .bytes) ≡ e .job
+pub job-said : (s job : List ℕ) (e : Envelope) → AllBytes s → envelopeAt mostBits s 0 ≡ read.Is e
+    → numberOf 0 (readBy job (envelopeAt mostBits s 0) .bytes) ≡ e .job
 unfolding readBy
 job-said s job e b p =
     let r = read-written mostBits s 0 b e p in

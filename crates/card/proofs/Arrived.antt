@@ -29,7 +29,8 @@ pub no-job : (b f j : List ℕ) → (length j ≡ jobBytes → ⊥) → took 2 b
 unfolding takeMail
 no-job b f j h = rw (ne-eqb (length j) jobBytes h)
 
-pub took-as : (b f j z k : List ℕ) (n : ℕ) (t : Taken) → length j ≡ jobBytes → after t z ≡ takeAt mostBits b f → k ≡ jobBy j t → n ≡ takenNumber t → took n z k ≡ takeMail b f j
+pub took-as : (b f j z k : List ℕ) (n : ℕ) (t : Taken) → length j ≡ jobBytes → after t z ≡ takeAt mostBits b f
+    → k ≡ jobBy j t → n ≡ takenNumber t → took n z k ≡ takeMail b f j
 unfolding takeMail
 took-as b f j z k n t h e p q = rw (eq-eqb (length j) jobBytes h, ← e, p, q)
 

@@ -40,7 +40,8 @@ stepBefore sd x m k s = cond (isNone (refusalBefore sd x m k s)) (startRequest x
 -- (step, userStep)
 abbrev pub userStepBefore : List ℕ → List ℕ → List ℕ → ℕ → Bool → ℕ → ℕ → List ℕ → List ℕ → List ℕ → Data → Side → Record → ℕ → Called
 userStepBefore r a b v m k s li lm lc d sd x n =
-    cond (givenFits (x .edition) (pdusOf sd) li lm lc d) (concluded r a b (x .edition) sd v (stepBefore sd x m k s) li lm lc (carriesData d)) (called shape r a b)
+    cond (givenFits (x .edition) (pdusOf sd) li lm lc d)
+    (concluded r a b (x .edition) sd v (stepBefore sd x m k s) li lm lc (carriesData d)) (called shape r a b)
 
 -- the exported calls (step, userCall; card, dataCall), of the bytes of the record and of the two buffers, of class and security, and of the message data
 abbrev pub startBefore : Bool → List ℕ → List ℕ → List ℕ → ℕ → ℕ → ℕ → List ℕ → List ℕ → ℕ → List ℕ → ℕ → Called

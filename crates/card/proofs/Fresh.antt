@@ -15,7 +15,8 @@ use Rattle.machine.specs.declared.record.Record.{Record}
 use Rattle.stored.specs.Stored.{storeAt, kept}
 use Rattle.card.specs.Face.{made, firstNumber, freshFor, configured, freshCall}
 
-fresh-stored : (r z : List ℕ) (sd : Side) (x : Record) (t : Bool) (n : ℕ) → kept t z ≡ storeAt r sd x firstNumber → n ≡ cond t 0 2 → made n z ≡ freshFor (storeAt r sd x firstNumber)
+fresh-stored : (r z : List ℕ) (sd : Side) (x : Record) (t : Bool) (n : ℕ) → kept t z ≡ storeAt r sd x firstNumber
+    → n ≡ cond t 0 2 → made n z ≡ freshFor (storeAt r sd x firstNumber)
 unfolding freshFor
 fresh-stored r z sd x t n p q = rw (← p, q)
 
@@ -32,13 +33,17 @@ module _ (r : List ℕ) (side policy forwards version application : ℕ) (y : Bo
 
   pub fresh-air : (z : List ℕ) (x : Record) (e : Edition) (t : Bool) (n : ℕ) → forwards ≤ 1 → not y ≡ false → e ≡ editionOf application → x ≡ freshRecord (record { policy = policy; forwards = eqb forwards 1; version = version; edition = e }) → side ≡ 1 → kept t z ≡ storeAt r Air x firstNumber → n ≡ cond t 0 2 → made n z ≡ freshCall r side policy forwards version application
   unfolding freshCall
-  fresh-air z x e t n w j f d h p q = rw (le-ltb 1 forwards w, typed j, eq-eqb side 1 h, ← as-asked x e f d) (fresh-stored r z Air x t n p q)
+  fresh-air z x e t n w j f d h p q = rw (le-ltb 1 forwards w, typed j, eq-eqb side 1 h, ← as-asked x e f d)
+      (fresh-stored r z Air x t n p q)
 
   pub fresh-ground : (z : List ℕ) (x : Record) (e : Edition) (t : Bool) (n : ℕ) → forwards ≤ 1 → not y ≡ false → e ≡ editionOf application → x ≡ freshRecord (record { policy = policy; forwards = eqb forwards 1; version = version; edition = e }) → (side ≡ 1 → ⊥) → side ≡ 2 → kept t z ≡ storeAt r Ground x firstNumber → n ≡ cond t 0 2 → made n z ≡ freshCall r side policy forwards version application
   unfolding freshCall
-  fresh-ground z x e t n w j f d g h p q = rw (le-ltb 1 forwards w, typed j, ne-eqb side 1 g, eq-eqb side 2 h, ← as-asked x e f d) (fresh-stored r z Ground x t n p q)
+  fresh-ground z x e t n w j f d g h p q = rw
+      (le-ltb 1 forwards w, typed j, ne-eqb side 1 g, eq-eqb side 2 h, ← as-asked x e f d)
+      (fresh-stored r z Ground x t n p q)
 
-  pub fresh-odd : forwards ≤ 1 → not y ≡ false → (side ≡ 1 → ⊥) → (side ≡ 2 → ⊥) → made 2 r ≡ freshCall r side policy forwards version application
+  pub fresh-odd : forwards ≤ 1 → not y ≡ false → (side ≡ 1 → ⊥) → (side ≡ 2 → ⊥)
+      → made 2 r ≡ freshCall r side policy forwards version application
   unfolding freshCall
   fresh-odd w j g h = rw (le-ltb 1 forwards w, typed j, ne-eqb side 1 g, ne-eqb side 2 h)
 
@@ -47,6 +52,7 @@ module _ (r : List ℕ) (side policy forwards version application : ℕ) (y : Bo
   unfolding freshCall
   fresh-untyped w j = rw (le-ltb 1 forwards w, untyped j)
 
-pub fresh-unsaid : (r : List ℕ) (side policy forwards version application : ℕ) → 1 < forwards → made 2 r ≡ freshCall r side policy forwards version application
+pub fresh-unsaid : (r : List ℕ) (side policy forwards version application : ℕ) → 1 < forwards
+    → made 2 r ≡ freshCall r side policy forwards version application
 unfolding freshCall
 fresh-unsaid r side policy forwards version application w = rw (lt-ltb 1 forwards w)

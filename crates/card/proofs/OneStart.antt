@@ -55,7 +55,8 @@ dsc-step x k s = refl
 ground-step : (x : Record) (k s : ℕ) → stepBefore Ground x true k s ≡ refused (cond (codesBefore k s) Prohibited Shape) x
 ground-step x k s = go (codesBefore k s) (isIdle (x .control))
   where
-    go : (t i : Bool) → cond (isNone (cond (not t) Shape (cond (not (i && false)) Prohibited None))) (clause.startRequest x true k s) (refused (cond (not t) Shape (cond (not (i && false)) Prohibited None)) x) ≡ refused (cond t Prohibited Shape) x
+    go : (t i : Bool)
+        → cond (isNone (cond (not t) Shape (cond (not (i && false)) Prohibited None))) (clause.startRequest x true k s) (refused (cond (not t) Shape (cond (not (i && false)) Prohibited None)) x) ≡ refused (cond t Prohibited Shape) x
     go true true = refl
     go true false = refl
     go false i = refl
@@ -63,10 +64,13 @@ ground-step x k s = go (codesBefore k s) (isIdle (x .control))
 -- ---- what stands around it: ROOM, and bytes that are no record
 
 -- the record that the bytes say, if they say one, decides
-entering-same : (r a b : List ℕ) (k l : Side → Record → ℕ → Called) → ((sd : Side) (x : Record) (n : ℕ) → loadAt r ≡ Is sd x n → k sd x n ≡ l sd x n) → entering r a b k ≡ entering r a b l
+entering-same : (r a b : List ℕ) (k l : Side → Record → ℕ → Called)
+    → ((sd : Side) (x : Record) (n : ℕ) → loadAt r ≡ Is sd x n → k sd x n ≡ l sd x n)
+    → entering r a b k ≡ entering r a b l
 unfolding entering withRecord
 entering-same r a b k l h =
-    ap (λ (z : Called). cond (ltb (length a) bufferLeast) (called room r a b) (cond (ltb (length b) bufferLeast) (called room r a b) z)) (same (loadAt r) refl)
+    ap (λ (z : Called). cond (ltb (length a) bufferLeast) (called room r a b)
+    (cond (ltb (length b) bufferLeast) (called room r a b) z)) (same (loadAt r) refl)
   where
     same : (v : Loaded) → loadAt r ≡ v → withRecord r a b v k ≡ withRecord r a b v l
     same (Is sd x n) e = h sd x n e
@@ -93,11 +97,13 @@ isAbove r v = belowIn (loadAt r) v
 abbrev pub shapeForProhibited : Called → Called
 shapeForProhibited x = called (cond (eqb (x .number) (refusalNumber Prohibited)) shape (x .number)) (x .kept) (x .first) (x .second)
 
-shape-entering : (r a b : List ℕ) (k : Side → Record → ℕ → Called) → shapeForProhibited (entering r a b k) ≡ entering r a b (λ (sd : Side) (x : Record) (n : ℕ). shapeForProhibited (k sd x n))
+shape-entering : (r a b : List ℕ) (k : Side → Record → ℕ → Called)
+    → shapeForProhibited (entering r a b k) ≡ entering r a b (λ (sd : Side) (x : Record) (n : ℕ). shapeForProhibited (k sd x n))
 unfolding entering withRecord
 shape-entering r a b k = go (ltb (length a) bufferLeast) (ltb (length b) bufferLeast) (loadAt r)
   where
-    go : (f g : Bool) (v : Loaded) → shapeForProhibited (cond f (called room r a b) (cond g (called room r a b) (withRecord r a b v k))) ≡ cond f (called room r a b) (cond g (called room r a b) (withRecord r a b v (λ (sd : Side) (x : Record) (n : ℕ). shapeForProhibited (k sd x n))))
+    go : (f g : Bool) (v : Loaded)
+        → shapeForProhibited (cond f (called room r a b) (cond g (called room r a b) (withRecord r a b v k))) ≡ cond f (called room r a b) (cond g (called room r a b) (withRecord r a b v (λ (sd : Side) (x : Record) (n : ℕ). shapeForProhibited (k sd x n))))
     go true g v = refl
     go false true v = refl
     go false false (Is sd x n) = refl
@@ -105,12 +111,14 @@ shape-entering r a b k = go (ltb (length a) bufferLeast) (ltb (length b) bufferL
 
 -- ROOM, or else SHAPE, whatever the record is
 abbrev pub roomOrShape : List ℕ → List ℕ → List ℕ → Called
-roomOrShape r a b = cond (ltb (length a) bufferLeast) (called room r a b) (cond (ltb (length b) bufferLeast) (called room r a b) (called shape r a b))
+roomOrShape r a b = cond (ltb (length a) bufferLeast) (called room r a b)
+    (cond (ltb (length b) bufferLeast) (called room r a b) (called shape r a b))
 
 entering-shape : (r a b : List ℕ) → entering r a b (λ (sd : Side) (x : Record) (n : ℕ). called shape r a b) ≡ roomOrShape r a b
 unfolding entering withRecord
 entering-shape r a b =
-    ap (λ (z : Called). cond (ltb (length a) bufferLeast) (called room r a b) (cond (ltb (length b) bufferLeast) (called room r a b) z)) (either (loadAt r))
+    ap (λ (z : Called). cond (ltb (length a) bufferLeast) (called room r a b)
+    (cond (ltb (length b) bufferLeast) (called room r a b) z)) (either (loadAt r))
   where
     either : (v : Loaded) → withRecord r a b v (λ (sd : Side) (x : Record) (n : ℕ). called shape r a b) ≡ called shape r a b
     either (Is sd x n) = refl
@@ -127,7 +135,9 @@ module _ (r a b : List ℕ) (v k s : ℕ) (ids msgs : List ℕ) (n : ℕ) (check
 
   -- what the message data and an outcome make of a call
   abbrev with-data : Side → Record → Outcome → Called
-  with-data sd x o = cond (placed-fits sd x) (concluded r a b (x .edition) sd v o (lent ids) (lent msgs) (lent checks) (carriesData given)) (called shape r a b)
+  with-data sd x o = cond (placed-fits sd x)
+      (concluded r a b (x .edition) sd v o (lent ids) (lent msgs) (lent checks) (carriesData given))
+      (called shape r a b)
 
   abbrev start : ℕ → Event
   start m = User (StartServiceRequest m k s)
@@ -152,12 +162,15 @@ module _ (r a b : List ℕ) (v k s : ℕ) (ids msgs : List ℕ) (n : ℕ) (check
   above-at sd x h u e = sym (ap (λ (z : Loaded). belowIn z v) e) ∙ u
 
   -- mode cpdlc, at both machines
-  pub cpdlc-as-before : isAbove r v ≡ true → numberedCall r a b (StartServiceRequest cpdlcMode k s) v ids msgs n checks c ≡ cpdlcStartBefore r a b v k s ids msgs n checks c
+  pub cpdlc-as-before : isAbove r v ≡ true
+      → numberedCall r a b (StartServiceRequest cpdlcMode k s) v ids msgs n checks c ≡ cpdlcStartBefore r a b v k s ids msgs n checks c
   unfolding userBy
-  cpdlc-as-before u = entering-same r a b (now-step cpdlcMode) (old-step false) (λ sd x h e. now-is cpdlcMode sd x h ∙ ap (with-data sd x) (above-step cpdlcMode sd x h (above-at sd x h u e) ∙ cpdlc-step sd x k s))
+  cpdlc-as-before u = entering-same r a b (now-step cpdlcMode) (old-step false) (λ sd x h e. now-is cpdlcMode sd x h ∙
+      ap (with-data sd x) (above-step cpdlcMode sd x h (above-at sd x h u e) ∙ cpdlc-step sd x k s))
 
   -- mode dsc, but for a record of the ground machine
-  pub dsc-as-before : isAbove r v ≡ true → atGround r ≡ false → numberedCall r a b (StartServiceRequest dscMode k s) v ids msgs n checks c ≡ dscStartBefore r a b v k s ids msgs n checks c
+  pub dsc-as-before : isAbove r v ≡ true → atGround r ≡ false
+      → numberedCall r a b (StartServiceRequest dscMode k s) v ids msgs n checks c ≡ dscStartBefore r a b v k s ids msgs n checks c
   unfolding userBy
   dsc-as-before u g = entering-same r a b (now-step dscMode) (old-step true) same
     where
@@ -166,7 +179,8 @@ module _ (r a b : List ℕ) (v k s : ℕ) (ids msgs : List ℕ) (n : ℕ) (check
       same Ground x h e = never (sym g ∙ ap groundIn e)
 
   -- a mode that the machine has not is SHAPE, before STALE
-  shape-at : (m : ℕ) (sd : Side) (x : Record) (h : ℕ) → eventFits sd (x .edition) (start m) ≡ false → now-step m sd x h ≡ with-data sd x (refused Shape x)
+  shape-at : (m : ℕ) (sd : Side) (x : Record) (h : ℕ) → eventFits sd (x .edition) (start m) ≡ false
+      → now-step m sd x h ≡ with-data sd x (refused Shape x)
   shape-at m sd x h e = now-is m sd x h ∙ ap (with-data sd x) (shape-first sd x h (start m) v e)
 
   ground-shape : (x : Record) → eventFits Ground (x .edition) (start dscMode) ≡ false
@@ -178,11 +192,15 @@ module _ (r a b : List ℕ) (v k s : ℕ) (ids msgs : List ℕ) (n : ℕ) (check
   mode-shape sd x m l = rw (le-ltb m modes l)
 
   -- mode dsc at the ground machine
-  pub dsc-at-the-ground : atGround r ≡ true → numberedCall r a b (StartServiceRequest dscMode k s) v ids msgs n checks c ≡ shapeForProhibited (dscStartBefore r a b v k s ids msgs n checks c)
+  pub dsc-at-the-ground : atGround r ≡ true
+      → numberedCall r a b (StartServiceRequest dscMode k s) v ids msgs n checks c ≡ shapeForProhibited (dscStartBefore r a b v k s ids msgs n checks c)
   unfolding userBy concluded
-  dsc-at-the-ground g = entering-same r a b (now-step dscMode) (λ (sd : Side) (x : Record) (h : ℕ). shapeForProhibited (old-step true sd x h)) moved ∙ sym (shape-entering r a b (old-step true))
+  dsc-at-the-ground g = entering-same r a b (now-step dscMode)
+      (λ (sd : Side) (x : Record) (h : ℕ). shapeForProhibited (old-step true sd x h)) moved ∙ sym
+      (shape-entering r a b (old-step true))
     where
-      refuses : (d t : Bool) (x : Record) → cond d (concluded r a b (x .edition) Ground v (refused Shape x) (lent ids) (lent msgs) (lent checks) (carriesData given)) (called shape r a b) ≡ shapeForProhibited (cond d (concluded r a b (x .edition) Ground v (refused (cond t Prohibited Shape) x) (lent ids) (lent msgs) (lent checks) (carriesData given)) (called shape r a b))
+      refuses : (d t : Bool) (x : Record)
+          → cond d (concluded r a b (x .edition) Ground v (refused Shape x) (lent ids) (lent msgs) (lent checks) (carriesData given)) (called shape r a b) ≡ shapeForProhibited (cond d (concluded r a b (x .edition) Ground v (refused (cond t Prohibited Shape) x) (lent ids) (lent msgs) (lent checks) (carriesData given)) (called shape r a b))
       refuses true true x = refl
       refuses true false x = refl
       refuses false t x = refl
@@ -190,14 +208,18 @@ module _ (r a b : List ℕ) (v k s : ℕ) (ids msgs : List ℕ) (n : ℕ) (check
       moved : (sd : Side) (x : Record) (h : ℕ) → loadAt r ≡ Is sd x h → now-step dscMode sd x h ≡ shapeForProhibited (old-step true sd x h)
       moved Air x h e = never (sym (ap groundIn e) ∙ g)
       moved Ground x h e =
-          shape-at dscMode Ground x h (ground-shape x) ∙ refuses (placed-fits Ground x) (codesBefore k s) x ∙ ap (λ (o : Outcome). shapeForProhibited (with-data Ground x o)) (sym (ground-step x k s))
+          shape-at dscMode Ground x h (ground-shape x) ∙ refuses (placed-fits Ground x) (codesBefore k s) x ∙ ap
+          (λ (o : Outcome). shapeForProhibited (with-data Ground x o)) (sym (ground-step x k s))
 
   -- so it is refused there in every state, after ROOM
-  pub dsc-refused-at-the-ground : atGround r ≡ true → numberedCall r a b (StartServiceRequest dscMode k s) v ids msgs n checks c ≡ roomOrShape r a b
+  pub dsc-refused-at-the-ground : atGround r ≡ true
+      → numberedCall r a b (StartServiceRequest dscMode k s) v ids msgs n checks c ≡ roomOrShape r a b
   unfolding userBy concluded
-  dsc-refused-at-the-ground g = entering-same r a b (now-step dscMode) (λ (sd : Side) (x : Record) (h : ℕ). called shape r a b) refuses ∙ entering-shape r a b
+  dsc-refused-at-the-ground g = entering-same r a b (now-step dscMode)
+      (λ (sd : Side) (x : Record) (h : ℕ). called shape r a b) refuses ∙ entering-shape r a b
     where
-      either : (d : Bool) (x : Record) → cond d (concluded r a b (x .edition) Ground v (refused Shape x) (lent ids) (lent msgs) (lent checks) (carriesData given)) (called shape r a b) ≡ called shape r a b
+      either : (d : Bool) (x : Record)
+          → cond d (concluded r a b (x .edition) Ground v (refused Shape x) (lent ids) (lent msgs) (lent checks) (carriesData given)) (called shape r a b) ≡ called shape r a b
       either true x = refl
       either false x = refl
 
@@ -208,8 +230,10 @@ module _ (r a b : List ℕ) (v k s : ℕ) (ids msgs : List ℕ) (n : ℕ) (check
   -- a code that is no mode: refused for any record, of either machine, after ROOM
   pub no-other-mode : (m : ℕ) → modes ≤ m → numberedCall r a b (StartServiceRequest m k s) v ids msgs n checks c ≡ roomOrShape r a b
   unfolding userBy concluded
-  no-other-mode m l = entering-same r a b (now-step m) (λ (sd : Side) (x : Record) (h : ℕ). called shape r a b) (λ sd x h e. shape-at m sd x h (mode-shape sd x m l) ∙ either sd (placed-fits sd x) x) ∙ entering-shape r a b
+  no-other-mode m l = entering-same r a b (now-step m) (λ (sd : Side) (x : Record) (h : ℕ). called shape r a b)
+      (λ sd x h e. shape-at m sd x h (mode-shape sd x m l) ∙ either sd (placed-fits sd x) x) ∙ entering-shape r a b
     where
-      either : (sd : Side) (d : Bool) (x : Record) → cond d (concluded r a b (x .edition) sd v (refused Shape x) (lent ids) (lent msgs) (lent checks) (carriesData given)) (called shape r a b) ≡ called shape r a b
+      either : (sd : Side) (d : Bool) (x : Record)
+          → cond d (concluded r a b (x .edition) sd v (refused Shape x) (lent ids) (lent msgs) (lent checks) (carriesData given)) (called shape r a b) ≡ called shape r a b
       either sd true x = refl
       either sd false x = refl

@@ -33,7 +33,8 @@ use Rattle.layout.specs.Calls.{sent}
 use Rattle.card.specs.Forwarding.{messagePart, plainParts, editionIn, partIn, headingPart, told, messageAnswer, messageOut, forwardPart, forwardChosen, forwardPartCall, headingNumbers, headingBytes, opened, headingBy, forwardParts, forwardOpened, readForward}
 use Rattle.card.proofs.Answered.{sets-whole}
 
-pub last-part : (w : ℕ) (h : Heading) → (w ≡ 0 → ⊥) → (w ≡ 1 → ⊥) → (w ≡ 2 → ⊥) → (w ≡ 3 → ⊥) → (w ≡ 4 → ⊥) → (w ≡ 5 → ⊥) → (w ≡ 6 → ⊥) → (w ≡ 7 → ⊥) → (w ≡ 8 → ⊥) → h .direction ≡ headingPart w h
+pub last-part : (w : ℕ) (h : Heading) → (w ≡ 0 → ⊥) → (w ≡ 1 → ⊥) → (w ≡ 2 → ⊥) → (w ≡ 3 → ⊥) → (w ≡ 4 → ⊥)
+    → (w ≡ 5 → ⊥) → (w ≡ 6 → ⊥) → (w ≡ 7 → ⊥) → (w ≡ 8 → ⊥) → h .direction ≡ headingPart w h
 last-part zero h a b c d e f g i j = absurd (a refl)
 last-part (suc zero) h a b c d e f g i j = absurd (b refl)
 last-part (suc (suc zero)) h a b c d e f g i j = absurd (c refl)
@@ -45,11 +46,14 @@ last-part (suc (suc (suc (suc (suc (suc (suc zero))))))) h a b c d e f g i j = a
 last-part (suc (suc (suc (suc (suc (suc (suc (suc zero)))))))) h a b c d e f g i j = absurd (j refl)
 last-part (suc (suc (suc (suc (suc (suc (suc (suc (suc n))))))))) h a b c d e f g i j = refl
 
-pub bits-out : (out z s : List ℕ) (which n : ℕ) (f : Forward) (w : Written) → which ≡ messagePart → n ≡ messageAnswer w → done w z ≡ writeOut (runFits s (f .message .at) (f .message .count)) out (run s (f .message .at) (f .message .count)) → sent n z ≡ forwardPart out s which f
+pub bits-out : (out z s : List ℕ) (which n : ℕ) (f : Forward) (w : Written) → which ≡ messagePart → n ≡ messageAnswer w
+    → done w z ≡ writeOut (runFits s (f .message .at) (f .message .count)) out (run s (f .message .at) (f .message .count))
+    → sent n z ≡ forwardPart out s which f
 unfolding forwardPart
 bits-out out z s which n f w e q h = rw (eq-eqb which messagePart e, q, ← h)
 
-pub number-out : (out s : List ℕ) (which n m : ℕ) (f : Forward) → (which ≡ messagePart → ⊥) → m ≡ headingPart which (f .heading) → n ≡ told m → sent n out ≡ forwardPart out s which f
+pub number-out : (out s : List ℕ) (which n m : ℕ) (f : Forward) → (which ≡ messagePart → ⊥)
+    → m ≡ headingPart which (f .heading) → n ≡ told m → sent n out ≡ forwardPart out s which f
 unfolding forwardPart
 number-out out s which n m f e q h = rw (ne-eqb which messagePart e, h, q)
 
@@ -57,20 +61,28 @@ pub no-room : (out s : List ℕ) (which : ℕ) → length out < bufferLeast → 
 unfolding forwardPartCall
 no-room out s which h = rw (lt-ltb (length out) bufferLeast h)
 
-pub no-part : (out s : List ℕ) (which i : ℕ) → bufferLeast ≤ length out → i ≡ partIn which → messagePart < i → sent 2 out ≡ forwardPartCall out which s
+pub no-part : (out s : List ℕ) (which i : ℕ) → bufferLeast ≤ length out → i ≡ partIn which → messagePart < i
+    → sent 2 out ≡ forwardPartCall out which s
 unfolding forwardPartCall
 no-part out s which i h p g = rw (le-ltb (length out) bufferLeast h, ← p, lt-ltb messagePart i g)
 
-pub not-forward : (out s : List ℕ) (which i n : ℕ) (ed : Edition) (t : Forwarded) (r : Refusal) → bufferLeast ≤ length out → i ≡ partIn which → i ≤ messagePart → ed ≡ editionIn which → t ≡ wholeForward ed (lent s) → t ≡ forwarded.Refused r → n ≡ packed r → sent n out ≡ forwardPartCall out which s
+pub not-forward : (out s : List ℕ) (which i n : ℕ) (ed : Edition) (t : Forwarded) (r : Refusal)
+    → bufferLeast ≤ length out → i ≡ partIn which → i ≤ messagePart → ed ≡ editionIn which
+    → t ≡ wholeForward ed (lent s) → t ≡ forwarded.Refused r → n ≡ packed r → sent n out ≡ forwardPartCall out which s
 unfolding forwardPartCall forwardChosen
 not-forward out s which i n ed t r h p g d k q e =
-    let w : wholeForward (editionIn which) (lent s) ≡ forwarded.Refused r = ap (λ (x : Edition). wholeForward x (lent s)) (sym d) ∙ sym k ∙ q in
+    let w : wholeForward (editionIn which) (lent s) ≡ forwarded.Refused r = ap
+    (λ (x : Edition). wholeForward x (lent s)) (sym d) ∙ sym k ∙ q in
     rw (le-ltb (length out) bufferLeast h, ← p, le-ltb messagePart i g, w, e)
 
-pub part-out : (out z s : List ℕ) (which i n next : ℕ) (ed : Edition) (t : Forwarded) (f : Forward) → bufferLeast ≤ length out → i ≡ partIn which → i ≤ messagePart → ed ≡ editionIn which → t ≡ wholeForward ed (lent s) → t ≡ forwarded.Is f next → sent n z ≡ forwardPart out s i f → sent n z ≡ forwardPartCall out which s
+pub part-out : (out z s : List ℕ) (which i n next : ℕ) (ed : Edition) (t : Forwarded) (f : Forward)
+    → bufferLeast ≤ length out → i ≡ partIn which → i ≤ messagePart → ed ≡ editionIn which
+    → t ≡ wholeForward ed (lent s) → t ≡ forwarded.Is f next → sent n z ≡ forwardPart out s i f
+    → sent n z ≡ forwardPartCall out which s
 unfolding forwardPartCall forwardChosen
 part-out out z s which i n next ed t f h p g d e q k =
-    let w : wholeForward (editionIn which) (lent s) ≡ forwarded.Is f next = ap (λ (x : Edition). wholeForward x (lent s)) (sym d) ∙ sym e ∙ q in
+    let w : wholeForward (editionIn which) (lent s) ≡ forwarded.Is f next = ap
+    (λ (x : Edition). wholeForward x (lent s)) (sym d) ∙ sym e ∙ q in
     k ∙ rw (le-ltb (length out) bufferLeast h, ← p, le-ltb messagePart i g, w)
 
 -- ---- all parts at once
@@ -104,18 +116,25 @@ sets-on (x ∷ xs) ys b at =
     sets-on xs ys (set b at x) (suc at) ∙ ap (λ (k : ℕ). sets (sets (set b at x) (suc at) xs) k ys) e
 
 -- as `put_numbers` has them: the numbers that are put, and those to come
-pub numbers-start : (b : List ℕ) (h : Heading) → length b ≡ headingBytes → sets b (8 * 0) (eights (drop 0 (headingNumbers h))) ≡ eights (headingNumbers h)
+pub numbers-start : (b : List ℕ) (h : Heading) → length b ≡ headingBytes
+    → sets b (8 * 0) (eights (drop 0 (headingNumbers h))) ≡ eights (headingNumbers h)
 numbers-start b h e = sets-whole b (eights (headingNumbers h)) (length-eights (headingNumbers h) ∙ sym e)
 
-numbers-next : (i : ℕ) (h : Heading) → i < messagePart → eights (drop i (headingNumbers h)) ≡ octets 8 (headingPart i h) ++ eights (drop (suc i) (headingNumbers h))
+numbers-next : (i : ℕ) (h : Heading) → i < messagePart
+    → eights (drop i (headingNumbers h)) ≡ octets 8 (headingPart i h) ++ eights (drop (suc i) (headingNumbers h))
 numbers-next i h k =
-    ap eights (drop-cons (headingNumbers h) i 0 k) ∙ eights-cons (getD (headingNumbers h) i 0) (drop (suc i) (headingNumbers h)) ∙ ap (λ (v : ℕ). octets 8 v ++ eights (drop (suc i) (headingNumbers h))) (part-at i h k)
+    ap eights (drop-cons (headingNumbers h) i 0 k) ∙ eights-cons (getD (headingNumbers h) i 0)
+    (drop (suc i) (headingNumbers h)) ∙ ap (λ (v : ℕ). octets 8 v ++ eights (drop (suc i) (headingNumbers h)))
+    (part-at i h k)
 
-pub numbers-turn : (b z d : List ℕ) (i v : ℕ) (h : Heading) → i < messagePart → v ≡ headingPart i h → d ≡ sets b (8 * i) (octets 8 v) → sets b (8 * i) (eights (drop i (headingNumbers h))) ≡ z → sets d (8 * (i + 1)) (eights (drop (i + 1) (headingNumbers h))) ≡ z
+pub numbers-turn : (b z d : List ℕ) (i v : ℕ) (h : Heading) → i < messagePart → v ≡ headingPart i h
+    → d ≡ sets b (8 * i) (octets 8 v) → sets b (8 * i) (eights (drop i (headingNumbers h))) ≡ z
+    → sets d (8 * (i + 1)) (eights (drop (i + 1) (headingNumbers h))) ≡ z
 numbers-turn b z d i v h k p q e =
     let n : i + 1 ≡ suc i = omega arith in
     let m : 8 * (i + 1) ≡ 8 * i + 8 = omega arith in
-    let g : sets b (8 * i) (octets 8 (headingPart i h) ++ eights (drop (suc i) (headingNumbers h))) ≡ z = ap (λ (l : List ℕ). sets b (8 * i) l) (sym (numbers-next i h k)) ∙ e in
+    let g : sets b (8 * i) (octets 8 (headingPart i h) ++ eights (drop (suc i) (headingNumbers h))) ≡ z = ap
+    (λ (l : List ℕ). sets b (8 * i) l) (sym (numbers-next i h k)) ∙ e in
     let o = sets-on (octets 8 (headingPart i h)) (eights (drop (suc i) (headingNumbers h))) b (8 * i) in
     rw (m, n, q, p) (rw (length-octets 8 (headingPart i h)) at (sym o ∙ g))
 
@@ -125,7 +144,8 @@ numbers-length b d at v e h = ap length e ∙ length-sets b at (octets 8 v) ∙ 
 pub numbers-done : (b : List ℕ) (i : ℕ) (h : Heading) → i ≡ 10 → sets b (8 * i) (eights (drop i (headingNumbers h))) ≡ b
 numbers-done b i h e = rw (e, eights-nil)
 
-pub parts-out : (b d out z s : List ℕ) (n : ℕ) (f : Forward) (w : Written) → done w z ≡ messageOut out s (f .message) → d ≡ headingBy b (f .heading) w → n ≡ messageAnswer w → opened n d z ≡ forwardParts b out s f
+pub parts-out : (b d out z s : List ℕ) (n : ℕ) (f : Forward) (w : Written) → done w z ≡ messageOut out s (f .message)
+    → d ≡ headingBy b (f .heading) w → n ≡ messageAnswer w → opened n d z ≡ forwardParts b out s f
 unfolding forwardParts
 parts-out b d out z s n f w e p q = rw (← e, p, q)
 
@@ -146,27 +166,35 @@ module _ (b out s : List ℕ) (application : ℕ) (y : Bool) (h : bufferLeast �
   unfolding readForward
   no-heading j g = rw (le-ltb (length out) bufferLeast h, typed j, ne-eqb (length b) headingBytes g)
 
-  pub no-parts : (n : ℕ) (ed : Edition) (t : Forwarded) (r : Refusal) → not y ≡ false → length b ≡ headingBytes → ed ≡ editionOf application → t ≡ wholeForward ed (lent s) → t ≡ forwarded.Refused r → n ≡ packed r → opened n b out ≡ readForward b out s application
+  pub no-parts : (n : ℕ) (ed : Edition) (t : Forwarded) (r : Refusal) → not y ≡ false → length b ≡ headingBytes
+      → ed ≡ editionOf application → t ≡ wholeForward ed (lent s) → t ≡ forwarded.Refused r → n ≡ packed r
+      → opened n b out ≡ readForward b out s application
   unfolding readForward forwardOpened
   no-parts n ed t r j g d p q e =
-      let w : wholeForward (editionOf application) (lent s) ≡ forwarded.Refused r = ap (λ (x : Edition). wholeForward x (lent s)) (sym d) ∙ sym p ∙ q in
+      let w : wholeForward (editionOf application) (lent s) ≡ forwarded.Refused r = ap
+      (λ (x : Edition). wholeForward x (lent s)) (sym d) ∙ sym p ∙ q in
       rw (le-ltb (length out) bufferLeast h, typed j, eq-eqb (length b) headingBytes g, w, e)
 
-  pub all-parts : (a z : List ℕ) (n next : ℕ) (ed : Edition) (t : Forwarded) (f : Forward) → not y ≡ false → length b ≡ headingBytes → ed ≡ editionOf application → t ≡ wholeForward ed (lent s) → t ≡ forwarded.Is f next → opened n a z ≡ forwardParts b out s f → opened n a z ≡ readForward b out s application
+  pub all-parts : (a z : List ℕ) (n next : ℕ) (ed : Edition) (t : Forwarded) (f : Forward) → not y ≡ false
+      → length b ≡ headingBytes → ed ≡ editionOf application → t ≡ wholeForward ed (lent s) → t ≡ forwarded.Is f next
+      → opened n a z ≡ forwardParts b out s f → opened n a z ≡ readForward b out s application
   unfolding readForward forwardOpened
   all-parts a z n next ed t f j g d e q k =
-      let w : wholeForward (editionOf application) (lent s) ≡ forwarded.Is f next = ap (λ (x : Edition). wholeForward x (lent s)) (sym d) ∙ sym e ∙ q in
+      let w : wholeForward (editionOf application) (lent s) ≡ forwarded.Is f next = ap
+      (λ (x : Edition). wholeForward x (lent s)) (sym d) ∙ sym e ∙ q in
       k ∙ rw (le-ltb (length out) bufferLeast h, typed j, eq-eqb (length b) headingBytes g, w)
 
 -- ---- what all parts at once say is what each of them says by itself
 
 -- the message's bits, and every refusal
-message-by : (b out s : List ℕ) (t : Forwarded) → sent (forwardOpened b out s t .number) (forwardOpened b out s t .bytes) ≡ forwardChosen out s messagePart t
+message-by : (b out s : List ℕ) (t : Forwarded)
+    → sent (forwardOpened b out s t .number) (forwardOpened b out s t .bytes) ≡ forwardChosen out s messagePart t
 unfolding forwardOpened forwardChosen forwardParts forwardPart
 message-by b out s (forwarded.Is f next) = refl
 message-by b out s (forwarded.Refused r) = refl
 
-message-if : (b out s : List ℕ) (t : Forwarded) (x : Bool) → sent (cond x (opened 1 b out) (forwardOpened b out s t) .number) (cond x (opened 1 b out) (forwardOpened b out s t) .bytes) ≡ cond x (sent 1 out) (forwardChosen out s messagePart t)
+message-if : (b out s : List ℕ) (t : Forwarded) (x : Bool)
+    → sent (cond x (opened 1 b out) (forwardOpened b out s t) .number) (cond x (opened 1 b out) (forwardOpened b out s t) .bytes) ≡ cond x (sent 1 out) (forwardChosen out s messagePart t)
 message-if b out s t true = refl
 message-if b out s t false = message-by b out s t
 
@@ -175,10 +203,13 @@ abbrev pub numberedPart : Edition → ℕ → ℕ
 numberedPart Protected i = i
 numberedPart Plain i = i + plainParts
 
-pub message-at-once : (b out s : List ℕ) (ed : Edition) → length b ≡ headingBytes → sent (readForward b out s (typeOf ed) .number) (readForward b out s (typeOf ed) .bytes) ≡ forwardPartCall out (numberedPart ed messagePart) s
+pub message-at-once : (b out s : List ℕ) (ed : Edition) → length b ≡ headingBytes
+    → sent (readForward b out s (typeOf ed) .number) (readForward b out s (typeOf ed) .bytes) ≡ forwardPartCall out (numberedPart ed messagePart) s
 unfolding readForward forwardPartCall
-message-at-once b out s Protected h = rw (eq-eqb (length b) headingBytes h) (message-if b out s (wholeForward Protected (lent s)) (ltb (length out) bufferLeast))
-message-at-once b out s Plain h = rw (eq-eqb (length b) headingBytes h) (message-if b out s (wholeForward Plain (lent s)) (ltb (length out) bufferLeast))
+message-at-once b out s Protected h = rw (eq-eqb (length b) headingBytes h)
+    (message-if b out s (wholeForward Protected (lent s)) (ltb (length out) bufferLeast))
+message-at-once b out s Plain h = rw (eq-eqb (length b) headingBytes h)
+    (message-if b out s (wholeForward Plain (lent s)) (ltb (length out) bufferLeast))
 
 -- the numbers
 eight-at : (vs : List ℕ) (i : ℕ) → i < length vs → eightAt (eights vs) (8 * i) ≡ getD vs i 0 % 2 ^ 64
@@ -190,17 +221,26 @@ eight-at (v ∷ vs) (suc i) h =
     let d = drop-at (octets 8 v) (eights vs) 8 (length-octets 8 v) in
     rw (e, eights-cons v vs) (sym (eight-drop 8 (8 * i) (octets 8 v ++ eights vs)) ∙ rw d (eight-at vs i (omega arith)))
 
-number-by : (b out s : List ℕ) (application which i n next : ℕ) (ed : Edition) (f : Forward) → isType application ≡ true → editionOf application ≡ ed → partIn which ≡ i → editionIn which ≡ ed → length b ≡ headingBytes → bufferLeast ≤ length out → wholeForward ed (lent s) ≡ forwarded.Is f next → messageOut out s (f .message) .answer ≡ written.Bits n → i < messagePart → told (eightAt (readForward b out s application .heading) (8 * i)) ≡ forwardPartCall out which s .number
+number-by : (b out s : List ℕ) (application which i n next : ℕ) (ed : Edition) (f : Forward) → isType application ≡ true
+    → editionOf application ≡ ed → partIn which ≡ i → editionIn which ≡ ed → length b ≡ headingBytes
+    → bufferLeast ≤ length out → wholeForward ed (lent s) ≡ forwarded.Is f next
+    → messageOut out s (f .message) .answer ≡ written.Bits n → i < messagePart
+    → told (eightAt (readForward b out s application .heading) (8 * i)) ≡ forwardPartCall out which s .number
 unfolding readForward forwardOpened forwardParts headingBy forwardPartCall forwardChosen forwardPart
 number-by b out s application which i n next ed f y a p d h g e w k =
     let o : eqb i messagePart ≡ false = ne-eqb i messagePart (λ (q : i ≡ messagePart). omega arith) in
     let u : ltb messagePart i ≡ false = le-ltb messagePart i (omega arith) in
-    let v : eightAt (eights (headingNumbers (f .heading))) (8 * i) ≡ headingPart i (f .heading) % 2 ^ 64 = eight-at (headingNumbers (f .heading)) i k ∙ ap (λ (x : ℕ). x % 2 ^ 64) (part-at i (f .heading) k) in
+    let v : eightAt (eights (headingNumbers (f .heading))) (8 * i) ≡ headingPart i (f .heading) % 2 ^ 64 = eight-at
+    (headingNumbers (f .heading)) i k ∙ ap (λ (x : ℕ). x % 2 ^ 64) (part-at i (f .heading) k) in
     let l : wholeForward (editionOf application) (lent s) ≡ forwarded.Is f next = ap (λ (x : Edition). wholeForward x (lent s)) a ∙ e in
     let m : wholeForward (editionIn which) (lent s) ≡ forwarded.Is f next = ap (λ (x : Edition). wholeForward x (lent s)) d ∙ e in
-    rw (eq-eqb (length b) headingBytes h, le-ltb (length out) bufferLeast g, y, l, p, u, m, w, o, v) (ap (λ (x : ℕ). 256 * x) (mod-mod-pow (headingPart i (f .heading)) 8 56))
+    rw (eq-eqb (length b) headingBytes h, le-ltb (length out) bufferLeast g, y, l, p, u, m, w, o, v)
+    (ap (λ (x : ℕ). 256 * x) (mod-mod-pow (headingPart i (f .heading)) 8 56))
 
-pub number-at-once : (b out s : List ℕ) (ed : Edition) (i n next : ℕ) (f : Forward) → length b ≡ headingBytes → bufferLeast ≤ length out → wholeForward ed (lent s) ≡ forwarded.Is f next → messageOut out s (f .message) .answer ≡ written.Bits n → i < messagePart → told (eightAt (readForward b out s (typeOf ed) .heading) (8 * i)) ≡ forwardPartCall out (numberedPart ed i) s .number
+pub number-at-once : (b out s : List ℕ) (ed : Edition) (i n next : ℕ) (f : Forward) → length b ≡ headingBytes
+    → bufferLeast ≤ length out → wholeForward ed (lent s) ≡ forwarded.Is f next
+    → messageOut out s (f .message) .answer ≡ written.Bits n → i < messagePart
+    → told (eightAt (readForward b out s (typeOf ed) .heading) (8 * i)) ≡ forwardPartCall out (numberedPart ed i) s .number
 number-at-once b out s Protected i n next f h g e w k =
     let l : ltb i plainParts ≡ true = lt-ltb i plainParts (omega arith) in
     number-by b out s (typeOf Protected) i i n next Protected f refl refl (rw l) (rw l) h g e w k

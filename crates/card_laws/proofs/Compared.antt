@@ -83,13 +83,17 @@ jobs-three : (limit : ℕ) (s : List ℕ) → AllBytes s → 3 * length (jobs li
 jobs-three limit s b = jobs-of limit s (walk limit s) (every-string limit s b)
 
 -- where a walk stops
-stops-within : (limit : ℕ) (s : List ℕ) (w : Walk) → Told limit s 0 w → (r : EnvelopeRefusal) (k : ℕ) → w .ending ≡ stopped r k → k < length s
+stops-within : (limit : ℕ) (s : List ℕ) (w : Walk) → Told limit s 0 w → (r : EnvelopeRefusal) (k : ℕ)
+    → w .ending ≡ stopped r k → k < length s
 stops-within limit s w (whole cs fits e) r k g = never (cc)
 stops-within limit s w (broken cs t f fits e h q) r k g = let z : 0 + length (stringOf cs) ≡ k = cc in omega arith
 
 -- the bytes of what a recording says that is read to its end
-bytes-of : (limit : ℕ) (s : List ℕ) (w : Walk) → Told limit s 0 w → ((r : EnvelopeRefusal) (k : ℕ) → w .ending ≡ stopped r k → ⊥) → length (stringOf (contentsOf s (w .envelopes))) ≡ length s
-bytes-of limit s w (whole cs fits e) n = ap (λ (c : List Content). length (stringOf c)) (contents-back limit cs fits s 0 e) ∙ sym (ap length e)
+bytes-of : (limit : ℕ) (s : List ℕ) (w : Walk) → Told limit s 0 w
+    → ((r : EnvelopeRefusal) (k : ℕ) → w .ending ≡ stopped r k → ⊥)
+    → length (stringOf (contentsOf s (w .envelopes))) ≡ length s
+bytes-of limit s w (whole cs fits e) n = ap (λ (c : List Content). length (stringOf c))
+    (contents-back limit cs fits s 0 e) ∙ sym (ap length e)
 bytes-of limit s w (broken cs t r fits e h q) n = absurd (n r (0 + length (stringOf cs)) refl)
 
 -- ---- the search
@@ -98,7 +102,8 @@ record Stop (a b : List ℕ) (recording at : ℕ) : Type 0 where
   one : recording < 256
   there : at < 65536
 
-search-stop : (limit : ℕ) (a b : List ℕ) → AllBytes a → AllBytes b → length a ≤ mostBytes → length b ≤ mostBytes → (r : EnvelopeRefusal) (recording at : ℕ) → searched limit a b ≡ Stopped r recording at → Stop a b recording at
+search-stop : (limit : ℕ) (a b : List ℕ) → AllBytes a → AllBytes b → length a ≤ mostBytes → length b ≤ mostBytes
+    → (r : EnvelopeRefusal) (recording at : ℕ) → searched limit a b ≡ Stopped r recording at → Stop a b recording at
 unfolding searched
 search-stop limit a b p q g h r recording at e = by (walk limit a .ending) refl e
   where
@@ -110,7 +115,8 @@ search-stop limit a b p q g h r recording at e = by (walk limit a .ending) refl 
         let j : n ≡ at = cc in
         record { one = omega arith; there = omega arith }
 
-    by : (x : Ending) → walk limit a .ending ≡ x → stopIn 1 x (stopIn 2 (walk limit b .ending) Whole) ≡ Stopped r recording at → Stop a b recording at
+    by : (x : Ending) → walk limit a .ending ≡ x
+        → stopIn 1 x (stopIn 2 (walk limit b .ending) Whole) ≡ Stopped r recording at → Stop a b recording at
     by (ended n) f k = on (walk limit b .ending) refl k
     by (stopped x n) f k =
         let w = stops-within limit a (walk limit a) (every-string limit a p) x n f in
@@ -118,7 +124,8 @@ search-stop limit a b p q g h r recording at e = by (walk limit a .ending) refl 
         let j : n ≡ at = cc in
         record { one = omega arith; there = omega arith }
 
-first-ends : (limit : ℕ) (a b : List ℕ) → searched limit a b ≡ Whole → (r : EnvelopeRefusal) (k : ℕ) → walk limit a .ending ≡ stopped r k → ⊥
+first-ends : (limit : ℕ) (a b : List ℕ) → searched limit a b ≡ Whole → (r : EnvelopeRefusal) (k : ℕ)
+    → walk limit a .ending ≡ stopped r k → ⊥
 unfolding searched
 first-ends limit a b e r k g = let w : Stopped r 1 k ≡ Whole = rw g at e in never (cc)
 
@@ -147,8 +154,10 @@ differ-before i at (x ∷ xs) (y ∷ ys) = by (eqb (fieldOf x y) 0) (differ-befo
     l : length (bytesOf x ++ stringOf xs) ≡ length (bytesOf x) + length (stringOf xs)
     l = length-append (bytesOf x) (stringOf xs)
 
-    by : (t : Bool) → Before (i + 1 + length xs) (at + length (bytesOf x) + length (stringOf xs)) (differ (i + 1) (at + length (bytesOf x)) xs ys)
-        → Before (i + suc (length xs)) (at + length (bytesOf x ++ stringOf xs)) (cond t (differ (i + 1) (at + length (bytesOf x)) xs ys) (At i at (fieldOf x y)))
+    by : (t : Bool)
+        → Before (i + 1 + length xs) (at + length (bytesOf x) + length (stringOf xs)) (differ (i + 1) (at + length (bytesOf x)) xs ys)
+        → Before (i + suc (length xs)) (at + length (bytesOf x ++ stringOf xs))
+        (cond t (differ (i + 1) (at + length (bytesOf x)) xs ys) (At i at (fieldOf x y)))
     by true w =
         record {
           least = λ (j k f : ℕ) (e : differ (i + 1) (at + length (bytesOf x)) xs ys ≡ At j k f).
@@ -183,7 +192,8 @@ unfolding insert
 insert-most x [] = omega arith
 insert-most x (y ∷ l) = by (ltb x y) (eqb x y) (insert-most x l)
   where
-    by : (p q : Bool) → length (insert x l) ≤ suc (length l) → length (cond p (x ∷ y ∷ l) (cond q (y ∷ l) (y ∷ insert x l))) ≤ suc (suc (length l))
+    by : (p q : Bool) → length (insert x l) ≤ suc (length l)
+        → length (cond p (x ∷ y ∷ l) (cond q (y ∷ l) (y ∷ insert x l))) ≤ suc (suc (length l))
     by true q h = omega arith
     by false true h = omega arith
     by false false h = omega arith
@@ -250,7 +260,8 @@ module _ (limit : ℕ) (a b : List ℕ) (p : AllBytes a) (q : AllBytes b) (g : l
   before : searched limit a b ≡ Whole → Before 10923 32768 (difference limit a b)
   unfolding difference
   before e =
-      let l : length (stringOf (contents limit a)) ≡ length a = bytes-of limit a (walk limit a) (every-string limit a p) (first-ends limit a b e) in
+      let l : length (stringOf (contents limit a)) ≡ length a = bytes-of limit a (walk limit a) (every-string limit a p)
+      (first-ends limit a b e) in
       let t = string-three (contents limit a) in
       let w = differ-before 0 0 (contents limit a) (contents limit b) in
       record {
@@ -261,15 +272,19 @@ module _ (limit : ℕ) (a b : List ℕ) (p : AllBytes a) (q : AllBytes b) (g : l
             (omega (arith, u, t, l), omega (arith, v, l), o .2);
       }
 
-  small-showing : (x y z : List ℕ) → searched limit a b ≡ Whole → Small (showing (length a) (length b) (difference limit a b) (jobs limit a) (jobs limit b) x y z .answer)
+  small-showing : (x y z : List ℕ) → searched limit a b ≡ Whole
+      → Small (showing (length a) (length b) (difference limit a b) (jobs limit a) (jobs limit b) x y z .answer)
   unfolding showing
-  small-showing x y z e = by (lacks (onlyFirst (jobs limit a) (jobs limit b)) x) (lacks (onlySecond (jobs limit a) (jobs limit b)) y) (lacks (repeated (jobs limit a) (jobs limit b)) z)
-      (listed (onlyFirst (jobs limit a) (jobs limit b)) x) (listed (onlySecond (jobs limit a) (jobs limit b)) y) (listed (repeated (jobs limit a) (jobs limit b)) z)
+  small-showing x y z e = by (lacks (onlyFirst (jobs limit a) (jobs limit b)) x)
+      (lacks (onlySecond (jobs limit a) (jobs limit b)) y) (lacks (repeated (jobs limit a) (jobs limit b)) z)
+      (listed (onlyFirst (jobs limit a) (jobs limit b)) x) (listed (onlySecond (jobs limit a) (jobs limit b)) y)
+      (listed (repeated (jobs limit a) (jobs limit b)) z)
     where
       none : Small (refusedWith 1 0 0)
       none = small-refused 1 0 0 (omega arith) (omega arith) (omega arith)
 
-      by : (s t u : Bool) → (x₁ y₁ z₁ : List ℕ) → Small (cond s (shown (refusedWith 1 0 0) x y z) (cond t (shown (refusedWith 1 0 0) x y z) (cond u (shown (refusedWith 1 0 0) x y z) (shown (reported (length a) (length b) (difference limit a b) (counts (jobs limit a) (jobs limit b))) x₁ y₁ z₁))) .answer)
+      by : (s t u : Bool) → (x₁ y₁ z₁ : List ℕ)
+          → Small (cond s (shown (refusedWith 1 0 0) x y z) (cond t (shown (refusedWith 1 0 0) x y z) (cond u (shown (refusedWith 1 0 0) x y z) (shown (reported (length a) (length b) (difference limit a b) (counts (jobs limit a) (jobs limit b))) x₁ y₁ z₁))) .answer)
       by true t u x₁ y₁ z₁ = none
       by false true u x₁ y₁ z₁ = none
       by false false true x₁ y₁ z₁ = none
@@ -298,7 +313,8 @@ small-compared limit a b x y z p q = by (ltb mostBytes (length a)) refl (ltb mos
     none : Small (refusedWith 2 0 0)
     none = small-refused 2 0 0 (omega arith) (omega arith) (omega arith)
 
-    by : (s : Bool) → ltb mostBytes (length a) ≡ s → (t : Bool) → ltb mostBytes (length b) ≡ t → Small (cond s (shown (refusedWith 2 0 0) x y z) (cond t (shown (refusedWith 2 0 0) x y z) (searchedBy limit a b x y z (searched limit a b))) .answer)
+    by : (s : Bool) → ltb mostBytes (length a) ≡ s → (t : Bool) → ltb mostBytes (length b) ≡ t
+        → Small (cond s (shown (refusedWith 2 0 0) x y z) (cond t (shown (refusedWith 2 0 0) x y z) (searchedBy limit a b x y z (searched limit a b))) .answer)
     by true e t f = none
     by false e true f = none
     by false e false f = small-searched limit a b p q (ltb-false mostBytes (length a) e) (ltb-false mostBytes (length b) f) x y z
@@ -338,7 +354,14 @@ module _ (c : Compared) (s : Small c) where
 
   is : comparedNumber c ≡ c .refusal + 256 * behind-recording
   unfolding behind-index behind-byte behind-recording
-  is = rw (byte-small (c .refusal) (s .refusal), byte-small (c .recording) (s .recording), two-small (c .byte) (s .byte), two-small (c .index) (s .index), byte-small (c .field) (s .field))
+  is = rw (
+    byte-small (c .refusal) (s .refusal),
+    byte-small (c .recording) (s .recording),
+    two-small (c .byte)
+        (s .byte),
+    two-small (c .index) (s .index),
+    byte-small (c .field) (s .field),
+  )
     where
       byte-small : (x : ℕ) → x < 256 → x % 256 ≡ x
       byte-small x h = omega arith
@@ -371,10 +394,12 @@ module _ (c : Compared) (s : Small c) where
 two-back : (n : ℕ) → n < 65536 → 256 * (n / 256 % 256) + n % 256 ≡ n
 two-back n h = omega arith
 
-pub answer-reads : (a b x y z : List ℕ) → AllBytes a → AllBytes b → Reads (comparedNumber (compared mostBits a b x y z .answer)) (compared mostBits a b x y z .answer)
+pub answer-reads : (a b x y z : List ℕ) → AllBytes a → AllBytes b
+    → Reads (comparedNumber (compared mostBits a b x y z .answer)) (compared mostBits a b x y z .answer)
 answer-reads a b x y z p q = number-reads (compared mostBits a b x y z .answer) (small-compared mostBits a b x y z p q)
 
-pub counts-read : (a b x y z : List ℕ) → AllBytes a → AllBytes b → Counts (countsOf (compared mostBits a b x y z .answer)) (compared mostBits a b x y z .answer)
+pub counts-read : (a b x y z : List ℕ) → AllBytes a → AllBytes b
+    → Counts (countsOf (compared mostBits a b x y z .answer)) (compared mostBits a b x y z .answer)
 counts-read a b x y z p q =
     let s = small-compared mostBits a b x y z p q in
     record {

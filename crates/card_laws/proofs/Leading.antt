@@ -50,14 +50,17 @@ rest-of ed t l kind.ForwardResponse m n a e = by-field (extensibleIndex l n resp
 
 leads : (ed : Edition) (t : PduType) (l : List ℕ) (a : Apdu) → apduAt ed t l ≡ decoded.Is a → Leads (leadingAt t l 0) a
 unfolding apduAt
-leads ed t l a e = led-accepted (restAt ed t l) t l 0 a (λ (c : Kind) (m n : ℕ) (k : restAt ed t l c m n ≡ decoded.Is a). rest-of ed t l c m n a k) e
+leads ed t l a e = led-accepted (restAt ed t l) t l 0 a
+    (λ (c : Kind) (m n : ℕ) (k : restAt ed t l c m n ≡ decoded.Is a). rest-of ed t l c m n a k) e
 
-lead-refused : (ed : Edition) (t : PduType) (l : List ℕ) (r : Refusal) → leadingAt t l 0 ≡ lead.Refused r → apduAt ed t l ≡ decoded.Refused r
+lead-refused : (ed : Edition) (t : PduType) (l : List ℕ) (r : Refusal) → leadingAt t l 0 ≡ lead.Refused r
+    → apduAt ed t l ≡ decoded.Refused r
 unfolding apduAt
 lead-refused ed t l r e = rw e
 
 -- a refusal of the leading bits is the whole APDU's answer
-refused-same : (ed : Edition) (pdus : PduType) (l : List ℕ) → (refusalIn (leadNumber (leadingAt pdus l 0)) ≡ 0 → ⊥) → apduAnswer ed (apduAt ed pdus l) ≡ leadNumber (leadingAt pdus l 0)
+refused-same : (ed : Edition) (pdus : PduType) (l : List ℕ) → (refusalIn (leadNumber (leadingAt pdus l 0)) ≡ 0 → ⊥)
+    → apduAnswer ed (apduAt ed pdus l) ≡ leadNumber (leadingAt pdus l 0)
 unfolding leadNumber apduAnswer
 refused-same ed pdus l n = by (leadingAt pdus l 0) refl n
   where
@@ -87,11 +90,13 @@ fault-counts Tail p e = absurd (omega arith)
 fault-counts NotCarried p e = absurd (omega arith)
 fault-counts Default p e = absurd (omega arith)
 
-accepted-same : (ed : Edition) (pdus : PduType) (l : List ℕ) → refusalIn (apduAnswer ed (apduAt ed pdus l)) ≡ 0 → SameLead (leadNumber (leadingAt pdus l 0)) (apduAnswer ed (apduAt ed pdus l))
+accepted-same : (ed : Edition) (pdus : PduType) (l : List ℕ) → refusalIn (apduAnswer ed (apduAt ed pdus l)) ≡ 0
+    → SameLead (leadNumber (leadingAt pdus l 0)) (apduAnswer ed (apduAt ed pdus l))
 unfolding apduAnswer packed
 accepted-same ed pdus l z = by (apduAt ed pdus l) refl z
   where
-    by : (t : Decoded) → apduAt ed pdus l ≡ t → refusalIn (apduAnswer ed t) ≡ 0 → SameLead (leadNumber (leadingAt pdus l 0)) (apduAnswer ed t)
+    by : (t : Decoded) → apduAt ed pdus l ≡ t → refusalIn (apduAnswer ed t) ≡ 0
+        → SameLead (leadNumber (leadingAt pdus l 0)) (apduAnswer ed t)
     by (decoded.Is a) e z =
         let o = leads ed pdus l a e in
         subst (λ (t : Lead). SameLead (leadNumber t) (apduNumber ed a)) (sym (o .says)) (apdu-same ed a (o .next))
@@ -100,7 +105,9 @@ accepted-same ed pdus l z = by (apduAt ed pdus l) refl z
 -- ---- the two calls
 
 -- what the leading bits refuse, the whole is refused for, with the same answer
-pub leading-refused : (ed : Edition) (t : PduType) (s : List ℕ) → (refusalIn (leadingCall (typeNumber Protected t) s) ≡ 0 → ⊥) → apduCall (typeNumber ed t) s ≡ leadingCall (typeNumber Protected t) s
+pub leading-refused : (ed : Edition) (t : PduType) (s : List ℕ)
+    → (refusalIn (leadingCall (typeNumber Protected t) s) ≡ 0 → ⊥)
+    → apduCall (typeNumber ed t) s ≡ leadingCall (typeNumber Protected t) s
 unfolding leadingCall apduCall
 leading-refused Protected AircraftPdus s n = refused-same Protected AircraftPdus (lent s) n
 leading-refused Protected GroundPdus s n = refused-same Protected GroundPdus (lent s) n
@@ -108,7 +115,8 @@ leading-refused Plain AircraftPdus s n = refused-same Plain AircraftPdus (lent s
 leading-refused Plain GroundPdus s n = refused-same Plain GroundPdus (lent s) n
 
 -- what the whole is read as, the leading bits say
-pub leading-accepted : (ed : Edition) (t : PduType) (s : List ℕ) → refusalIn (apduCall (typeNumber ed t) s) ≡ 0 → SameLead (leadingCall (typeNumber Protected t) s) (apduCall (typeNumber ed t) s)
+pub leading-accepted : (ed : Edition) (t : PduType) (s : List ℕ) → refusalIn (apduCall (typeNumber ed t) s) ≡ 0
+    → SameLead (leadingCall (typeNumber Protected t) s) (apduCall (typeNumber ed t) s)
 unfolding leadingCall apduCall
 leading-accepted Protected AircraftPdus s z = accepted-same Protected AircraftPdus (lent s) z
 leading-accepted Protected GroundPdus s z = accepted-same Protected GroundPdus (lent s) z

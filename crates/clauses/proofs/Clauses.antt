@@ -51,15 +51,18 @@ pub shape-first : (sd : Side) (r : Record) (e : Event) → eventFits sd (r .edit
 unfolding step refusalOf
 shape-first sd r e s = rw s
 
-pub then-prohibited : (sd : Side) (r : Record) (e : Event) → eventFits sd (r .edition) e ≡ true → permitted sd r e ≡ false → step sd r e ≡ refused Prohibited r
+pub then-prohibited : (sd : Side) (r : Record) (e : Event) → eventFits sd (r .edition) e ≡ true
+    → permitted sd r e ≡ false → step sd r e ≡ refused Prohibited r
 unfolding step refusalOf
 then-prohibited sd r e s p = rw (s, p)
 
-pub then-no-message : (sd : Side) (r : Record) (j : ℕ) → ltb 0 j ≡ true → takes sd (r .control) MessageRequest ≡ true → step sd r (User (MessageServiceRequest false j)) ≡ refused NoMessage r
+pub then-no-message : (sd : Side) (r : Record) (j : ℕ) → ltb 0 j ≡ true → takes sd (r .control) MessageRequest ≡ true
+    → step sd r (User (MessageServiceRequest false j)) ≡ refused NoMessage r
 unfolding step refusalOf eventFits userFits permitted callOf messageRefusal unsent
 then-no-message sd r j s p = rw (s, p)
 
-pub then-repeat : (sd : Side) (r : Record) (j : ℕ) → ltb 0 j ≡ true → takes sd (r .control) MessageRequest ≡ true → j ≤ r .highest → step sd r (User (MessageServiceRequest true j)) ≡ refused Repeat r
+pub then-repeat : (sd : Side) (r : Record) (j : ℕ) → ltb 0 j ≡ true → takes sd (r .control) MessageRequest ≡ true
+    → j ≤ r .highest → step sd r (User (MessageServiceRequest true j)) ≡ refused Repeat r
 unfolding step refusalOf eventFits userFits permitted callOf messageRefusal unsent
 then-repeat sd r j s p h = rw (s, p, le-leb j (r .highest) h)
 
@@ -82,17 +85,21 @@ unfolding eventFits userFits
 job-zero sd r h = shape-first sd r (User (MessageServiceRequest h 0)) refl
 
 -- a taken message request moves the highest job to its own
-pub job-taken : (sd : Side) (r : Record) (j : ℕ) → ltb 0 j ≡ true → takes sd (r .control) MessageRequest ≡ true → r .highest < j → step sd r (User (MessageServiceRequest true j)) ≡ messageRequest r j
+pub job-taken : (sd : Side) (r : Record) (j : ℕ) → ltb 0 j ≡ true → takes sd (r .control) MessageRequest ≡ true
+    → r .highest < j → step sd r (User (MessageServiceRequest true j)) ≡ messageRequest r j
 unfolding step refusalOf eventFits userFits permitted callOf messageRefusal unsent acts called
 job-taken sd r j s p h = rw (s, p, lt-leb j (r .highest) h)
 
 -- a dialogue-service primitive is never refused but for SHAPE
-pub service-taken : (sd : Side) (r : Record) (p : ServicePrimitive) (a : UserData) → eventFits sd (r .edition) (Service p a) ≡ true → step sd r (Service p a) ≡ reached sd r p a
+pub service-taken : (sd : Side) (r : Record) (p : ServicePrimitive) (a : UserData)
+    → eventFits sd (r .edition) (Service p a) ≡ true → step sd r (Service p a) ≡ reached sd r p a
 unfolding step refusalOf permitted messageRefusal acts
 service-taken sd r p a s = rw s
 
 -- and its first fault decides what is done
-pub fault-answered : (sd : Side) (r : Record) (p : ServicePrimitive) (a : UserData) (f : Fault) → eventFits sd (r .edition) (Service p a) ≡ true → firstFault sd r p a ≡ f → step sd r (Service p a) ≡ answered r p a f
+pub fault-answered : (sd : Side) (r : Record) (p : ServicePrimitive) (a : UserData) (f : Fault)
+    → eventFits sd (r .edition) (Service p a) ≡ true → firstFault sd r p a ≡ f
+    → step sd r (Service p a) ≡ answered r p a f
 unfolding reached
 fault-answered sd r p a f s e = service-taken sd r p a s ∙ ap (answered r p a) e
 
@@ -130,47 +137,64 @@ called-sends r (EndServiceResponse m x h) = refl
 called-sends r (UserAbortServiceRequest g x) = refl
 
 -- an expected primitive puts nothing there, and leads where the control says
-pub handed-after : (r : Record) (p : Primitive) (t : Told) → (handed r p t .next .control ≡ after (r .control) p) × (handed r p t .invoked ≡ Silent)
+pub handed-after : (r : Record) (p : Primitive) (t : Told)
+    → (handed r p t .next .control ≡ after (r .control) p) × (handed r p t .invoked ≡ Silent)
 unfolding handed enter
 handed-after r p t = (refl, refl)
 
 -- ---- a PDU that is not valid where the peer is gone: no D-ABORT, the active user is told invalid-PDU
 
-pub end-unreadable : (sd : Side) (r : Record) → expects sd (r .control) (DEndCnf Accepted) ≡ true → step sd r (Service (DEndConfirmation accepted) NotValid) ≡ closes r (tell r (ProviderAbortIndication invalidPdu))
+pub end-unreadable : (sd : Side) (r : Record) → expects sd (r .control) (DEndCnf Accepted) ≡ true
+    → step sd r (Service (DEndConfirmation accepted) NotValid) ≡ closes r (tell r (ProviderAbortIndication invalidPdu))
 unfolding eventFits serviceFits userDataFits firstFault sendFault pduFault answered excepts replyOf
 end-unreadable sd r e = fault-answered sd r (DEndConfirmation accepted) NotValid (Invalid false) refl (rw e)
 
-pub end-unreadable-silent : (sd : Side) (r : Record) → expects sd (r .control) (DEndCnf Accepted) ≡ true → step sd r (Service (DEndConfirmation accepted) NotValid) .invoked ≡ Silent
+pub end-unreadable-silent : (sd : Side) (r : Record) → expects sd (r .control) (DEndCnf Accepted) ≡ true
+    → step sd r (Service (DEndConfirmation accepted) NotValid) .invoked ≡ Silent
 unfolding closes
 end-unreadable-silent sd r e = rw (end-unreadable sd r e)
 
-pub start-unreadable : (sd : Side) (r : Record) (x o s v : ℕ) → serviceFits (DStartConfirmation x o s v) ≡ true → expects sd (r .control) (DStartCnf Rejected) ≡ true → eqb x accepted ≡ false → turnedAway x o ≡ false → differs (secures (r .edition)) s (r .request) ≡ false → step sd r (Service (DStartConfirmation x o s v) NotValid) ≡ closes r (tell r (ProviderAbortIndication invalidPdu))
+pub start-unreadable : (sd : Side) (r : Record) (x o s v : ℕ) → serviceFits (DStartConfirmation x o s v) ≡ true
+    → expects sd (r .control) (DStartCnf Rejected) ≡ true → eqb x accepted ≡ false → turnedAway x o ≡ false
+    → differs (secures (r .edition)) s (r .request) ≡ false
+    → step sd r (Service (DStartConfirmation x o s v) NotValid) ≡ closes r (tell r (ProviderAbortIndication invalidPdu))
 unfolding eventFits userDataFits firstFault confirmationFault pduFault answered excepts replyOf
 start-unreadable sd r x o s v h e n t y = fault-answered sd r (DStartConfirmation x o s v) NotValid (Invalid false) (rw h) (rw (n, e, t, y))
 
 -- ---- a missing PDU: the APDU says expected-PDU-missing, the user is told not-permitted-PDU
 
-pub missing : (sd : Side) (r : Record) (p : ServicePrimitive) → eventFits sd (r .edition) (Service p Absent) ≡ true → firstFault sd r p Absent ≡ Missing → step sd r (Service p Absent) ≡ aborts r expectedPduMissing (tell r (ProviderAbortIndication notPermittedPdu))
+pub missing : (sd : Side) (r : Record) (p : ServicePrimitive) → eventFits sd (r .edition) (Service p Absent) ≡ true
+    → firstFault sd r p Absent ≡ Missing
+    → step sd r (Service p Absent) ≡ aborts r expectedPduMissing (tell r (ProviderAbortIndication notPermittedPdu))
 unfolding answered excepts
 missing sd r p s e = fault-answered sd r p Absent Missing s e
 
-pub missing-data : (sd : Side) (r : Record) → expects sd (r .control) DData ≡ true → step sd r (Service DDataIndication Absent) ≡ aborts r expectedPduMissing (tell r (ProviderAbortIndication notPermittedPdu))
+pub missing-data : (sd : Side) (r : Record) → expects sd (r .control) DData ≡ true
+    → step sd r (Service DDataIndication Absent) ≡ aborts r expectedPduMissing (tell r (ProviderAbortIndication notPermittedPdu))
 unfolding eventFits serviceFits userDataFits firstFault sendFault pduFault
 missing-data sd r e = missing sd r DDataIndication refl (rw e)
 
-pub missing-end : (sd : Side) (r : Record) → spares (r .edition) ≡ false → expects sd (r .control) DEnd ≡ true → step sd r (Service DEndIndication Absent) ≡ aborts r expectedPduMissing (tell r (ProviderAbortIndication notPermittedPdu))
+pub missing-end : (sd : Side) (r : Record) → spares (r .edition) ≡ false → expects sd (r .control) DEnd ≡ true
+    → step sd r (Service DEndIndication Absent) ≡ aborts r expectedPduMissing (tell r (ProviderAbortIndication notPermittedPdu))
 unfolding eventFits serviceFits userDataFits firstFault sendFault pduFault
 missing-end sd r z e = missing sd r DEndIndication refl (rw (e, z))
 
-pub missing-end-confirmation : (sd : Side) (r : Record) (x : ℕ) → spares (r .edition) ≡ false → ltb x 2 ≡ true → expects sd (r .control) (DEndCnf (replyOf x)) ≡ true → step sd r (Service (DEndConfirmation x) Absent) ≡ aborts r expectedPduMissing (tell r (ProviderAbortIndication notPermittedPdu))
+pub missing-end-confirmation : (sd : Side) (r : Record) (x : ℕ) → spares (r .edition) ≡ false → ltb x 2 ≡ true
+    → expects sd (r .control) (DEndCnf (replyOf x)) ≡ true
+    → step sd r (Service (DEndConfirmation x) Absent) ≡ aborts r expectedPduMissing (tell r (ProviderAbortIndication notPermittedPdu))
 unfolding eventFits serviceFits userDataFits firstFault sendFault pduFault
 missing-end-confirmation sd r x z s e = missing sd r (DEndConfirmation x) (rw s) (rw (e, z))
 
-pub missing-start : (sd : Side) (r : Record) (x s v : ℕ) (q : Qos) → serviceFits (DStartIndication x s q v) ≡ true → isIdle (r .control) ≡ true → qosFits q ≡ true → differs (secures (r .edition)) s (r .policy) ≡ false → step sd r (Service (DStartIndication x s q v) Absent) ≡ aborts r expectedPduMissing (tell r (ProviderAbortIndication notPermittedPdu))
+pub missing-start : (sd : Side) (r : Record) (x s v : ℕ) (q : Qos) → serviceFits (DStartIndication x s q v) ≡ true
+    → isIdle (r .control) ≡ true → qosFits q ≡ true → differs (secures (r .edition)) s (r .policy) ≡ false
+    → step sd r (Service (DStartIndication x s q v) Absent) ≡ aborts r expectedPduMissing (tell r (ProviderAbortIndication notPermittedPdu))
 unfolding eventFits userDataFits firstFault indicationFault pduFault
 missing-start sd r x s v q h d g y = missing sd r (DStartIndication x s q v) (rw h) (rw (d, g, y))
 
-pub missing-confirmation : (sd : Side) (r : Record) (x o s v : ℕ) → spares (r .edition) ≡ false → serviceFits (DStartConfirmation x o s v) ≡ true → expects sd (r .control) (DStartCnf (replyOf x)) ≡ true → turnedAway x o ≡ false → differs (secures (r .edition)) s (r .request) ≡ false → step sd r (Service (DStartConfirmation x o s v) Absent) ≡ aborts r expectedPduMissing (tell r (ProviderAbortIndication notPermittedPdu))
+pub missing-confirmation : (sd : Side) (r : Record) (x o s v : ℕ) → spares (r .edition) ≡ false
+    → serviceFits (DStartConfirmation x o s v) ≡ true → expects sd (r .control) (DStartCnf (replyOf x)) ≡ true
+    → turnedAway x o ≡ false → differs (secures (r .edition)) s (r .request) ≡ false
+    → step sd r (Service (DStartConfirmation x o s v) Absent) ≡ aborts r expectedPduMissing (tell r (ProviderAbortIndication notPermittedPdu))
 unfolding eventFits userDataFits firstFault confirmationFault pduFault
 missing-confirmation sd r x o s v z h e t y = missing sd r (DStartConfirmation x o s v) (rw h) (rw (e, t, y, z))
 
@@ -181,27 +205,34 @@ module _ (sd : Side) (r : Record) (x s v : ℕ) (q : Qos) (a : UserData) (h : ev
   unfolding firstFault indicationFault answered
   start-unexpected d = fault-answered sd r (DStartIndication x s q v) a (NoInstruction true) h (rw d)
 
-  pub then-quality : isIdle (r .control) ≡ true → qosFits q ≡ false → step sd r (Service (DStartIndication x s q v) a) ≡ aborts r invalidQosParameter Untold
+  pub then-quality : isIdle (r .control) ≡ true → qosFits q ≡ false
+      → step sd r (Service (DStartIndication x s q v) a) ≡ aborts r invalidQosParameter Untold
   unfolding firstFault indicationFault answered
   then-quality d g = fault-answered sd r (DStartIndication x s q v) a Quality h (rw (d, g))
 
-  pub then-security : isIdle (r .control) ≡ true → qosFits q ≡ true → differs (secures (r .edition)) s (r .policy) ≡ true → step sd r (Service (DStartIndication x s q v) a) ≡ aborts r communicationServiceFailure (tell r (ProviderAbortIndication communicationServiceFailure))
+  pub then-security : isIdle (r .control) ≡ true → qosFits q ≡ true
+      → differs (secures (r .edition)) s (r .policy) ≡ true
+      → step sd r (Service (DStartIndication x s q v) a) ≡ aborts r communicationServiceFailure (tell r (ProviderAbortIndication communicationServiceFailure))
   unfolding firstFault indicationFault answered excepts
   then-security d g y = fault-answered sd r (DStartIndication x s q v) a (Security true) h (rw (d, g, y))
 
 -- ---- and in one D-START confirmation
 
 module _ (sd : Side) (r : Record) (x o s v : ℕ) (a : UserData) (h : eventFits sd (r .edition) (Service (DStartConfirmation x o s v) a) ≡ true) where
-  pub confirmation-unexpected : expects sd (r .control) (DStartCnf (replyOf x)) ≡ false → awaitsResponse (r .control) ≡ false → step sd r (Service (DStartConfirmation x o s v) a) ≡ noInstruction r true
+  pub confirmation-unexpected : expects sd (r .control) (DStartCnf (replyOf x)) ≡ false
+      → awaitsResponse (r .control) ≡ false → step sd r (Service (DStartConfirmation x o s v) a) ≡ noInstruction r true
   unfolding firstFault confirmationFault answered
   confirmation-unexpected e w = fault-answered sd r (DStartConfirmation x o s v) a (NoInstruction true) h (rw (e, w))
 
-  pub then-turned-away : expects sd (r .control) (DStartCnf (replyOf x)) ≡ true → turnedAway x o ≡ true → step sd r (Service (DStartConfirmation x o s v) a) ≡ closes r (tell r (ProviderAbortIndication communicationServiceError))
+  pub then-turned-away : expects sd (r .control) (DStartCnf (replyOf x)) ≡ true → turnedAway x o ≡ true
+      → step sd r (Service (DStartConfirmation x o s v) a) ≡ closes r (tell r (ProviderAbortIndication communicationServiceError))
   unfolding firstFault confirmationFault answered
   then-turned-away e t = fault-answered sd r (DStartConfirmation x o s v) a TurnedAway h (rw (e, t))
 
   -- the dialogue is open at an accepted confirmation only
-  pub then-insecure : expects sd (r .control) (DStartCnf (replyOf x)) ≡ true → turnedAway x o ≡ false → differs (secures (r .edition)) s (r .request) ≡ true → step sd r (Service (DStartConfirmation x o s v) a) ≡ excepts r (eqb x accepted) communicationServiceFailure communicationServiceFailure
+  pub then-insecure : expects sd (r .control) (DStartCnf (replyOf x)) ≡ true → turnedAway x o ≡ false
+      → differs (secures (r .edition)) s (r .request) ≡ true
+      → step sd r (Service (DStartConfirmation x o s v) a) ≡ excepts r (eqb x accepted) communicationServiceFailure communicationServiceFailure
   unfolding firstFault confirmationFault answered
   then-insecure e t y = fault-answered sd r (DStartConfirmation x o s v) a (Security (eqb x accepted)) h (rw (e, t, y))
 
@@ -214,7 +245,8 @@ none-unsent : (r : Record) → Unsent (noInstruction r false)
 unfolding noInstruction excepts closes
 none-unsent r = by-test Unsent (isIdle (r .control)) _ _ (λ e. refl) (λ e. refl)
 
-abort-unsent : (sd : Side) (r : Record) (p : ServicePrimitive) (a : UserData) (k : Primitive) (fits : Bool) → Unsent (instructed r p a) → Unsent (answered r p a (abortFault sd r k fits))
+abort-unsent : (sd : Side) (r : Record) (p : ServicePrimitive) (a : UserData) (k : Primitive) (fits : Bool)
+    → Unsent (instructed r p a) → Unsent (answered r p a (abortFault sd r k fits))
 unfolding answered abortFault
 abort-unsent sd r p a k fits u =
     by-test (λ (f : Fault). Unsent (answered r p a f)) (not (expects sd (r .control) k)) _ _ (λ e. none-unsent r)
@@ -223,15 +255,19 @@ abort-unsent sd r p a k fits u =
 pub abort-unanswered : (sd : Side) (r : Record) (o : ℕ) (a : UserData) → step sd r (Service (DAbortIndication o) a) .invoked ≡ Silent
 unfolding step acts reached firstFault instructed closes
 abort-unanswered sd r o a =
-    by-test Unsent (isNone (refusalOf sd r (Service (DAbortIndication o) a))) _ _ (λ n. abort-unsent sd r (DAbortIndication o) a DAbort _ refl) (λ n. refl)
+    by-test Unsent (isNone (refusalOf sd r (Service (DAbortIndication o) a))) _ _
+    (λ n. abort-unsent sd r (DAbortIndication o) a DAbort _ refl) (λ n. refl)
 
 pub p-abort-unanswered : (sd : Side) (r : Record) (a : UserData) → step sd r (Service DPAbortIndication a) .invoked ≡ Silent
 unfolding step acts reached firstFault instructed closes
 p-abort-unanswered sd r a =
-    by-test Unsent (isNone (refusalOf sd r (Service DPAbortIndication a))) _ _ (λ n. abort-unsent sd r DPAbortIndication a DPAbort true refl) (λ n. refl)
+    by-test Unsent (isNone (refusalOf sd r (Service DPAbortIndication a))) _ _
+    (λ n. abort-unsent sd r DPAbortIndication a DPAbort true refl) (λ n. refl)
 
 -- 3.5.3.15, 2.3.5.5.16: outside IDLE an active user is told communication-service-failure, which is 5 in CPDLCProviderAbortReason; IDLE
-pub p-abort-told : (sd : Side) (r : Record) (a : UserData) → userDataFits (r .edition) a ≡ true → isIdle (r .control) ≡ false → step sd r (Service DPAbortIndication a) ≡ closes r (tell r (ProviderAbortIndication 5))
+pub p-abort-told : (sd : Side) (r : Record) (a : UserData) → userDataFits (r .edition) a ≡ true
+    → isIdle (r .control) ≡ false
+    → step sd r (Service DPAbortIndication a) ≡ closes r (tell r (ProviderAbortIndication 5))
 unfolding eventFits serviceFits firstFault abortFault answered instructed
 p-abort-told sd r a w i = fault-answered sd r DPAbortIndication a NoFault w (rw i)
 
@@ -250,21 +286,26 @@ none-idle : (r : Record) (x : Bool) → isIdle (r .control) ≡ true → noInstr
 unfolding noInstruction
 none-idle r x i = rw i
 
-send-idle : (sd : Side) (r : Record) (p : Primitive) (may live : Bool) (a : UserData) → isIdle (r .control) ≡ true → isStart p ≡ false → sendFault sd r p may live a ≡ NoInstruction true
+send-idle : (sd : Side) (r : Record) (p : Primitive) (may live : Bool) (a : UserData) → isIdle (r .control) ≡ true
+    → isStart p ≡ false → sendFault sd r p may live a ≡ NoInstruction true
 unfolding sendFault
 send-idle sd r p may live a d n = rw (idle-expects sd (r .control) p d n)
 
-abort-idle : (sd : Side) (r : Record) (p : Primitive) (fits : Bool) → isIdle (r .control) ≡ true → isStart p ≡ false → abortFault sd r p fits ≡ NoInstruction false
+abort-idle : (sd : Side) (r : Record) (p : Primitive) (fits : Bool) → isIdle (r .control) ≡ true → isStart p ≡ false
+    → abortFault sd r p fits ≡ NoInstruction false
 unfolding abortFault
 abort-idle sd r p fits d n = rw (idle-expects sd (r .control) p d n)
 
-pub reached-idle : (sd : Side) (r : Record) (p : ServicePrimitive) (a : UserData) → isIdle (r .control) ≡ true → startsHere p ≡ false → reached sd r p a ≡ closes r Untold
+pub reached-idle : (sd : Side) (r : Record) (p : ServicePrimitive) (a : UserData) → isIdle (r .control) ≡ true
+    → startsHere p ≡ false → reached sd r p a ≡ closes r Untold
 unfolding reached firstFault confirmationFault answered
 reached-idle sd r (DStartIndication x s q v) a d n = absurd (subst T n tt)
-reached-idle sd r (DStartConfirmation x o s v) a d n = rw (idle-expects sd (r .control) (DStartCnf (replyOf x)) d refl, idle-awaits (r .control) d) (none-idle r true d)
+reached-idle sd r (DStartConfirmation x o s v) a d n = rw
+    (idle-expects sd (r .control) (DStartCnf (replyOf x)) d refl, idle-awaits (r .control) d) (none-idle r true d)
 reached-idle sd r DDataIndication a d n = rw (send-idle sd r DData false true a d refl) (none-idle r true d)
 reached-idle sd r DEndIndication a d n = rw (send-idle sd r DEnd (spares (r .edition)) true a d refl) (none-idle r true d)
-reached-idle sd r (DEndConfirmation x) a d n = rw (send-idle sd r (DEndCnf (replyOf x)) (spares (r .edition)) (not (eqb x accepted)) a d refl) (none-idle r true d)
+reached-idle sd r (DEndConfirmation x) a d n = rw
+    (send-idle sd r (DEndCnf (replyOf x)) (spares (r .edition)) (not (eqb x accepted)) a d refl) (none-idle r true d)
 reached-idle sd r (DAbortIndication o) a d n = rw (abort-idle sd r DAbort (abortFits o a) d refl) (none-idle r false d)
 reached-idle sd r DPAbortIndication a d n = rw (abort-idle sd r DPAbort true d refl) (none-idle r false d)
 
@@ -292,17 +333,22 @@ Secure b o = invites (o .told) ≡ true → b ≡ true
 
 except-secure : (r : Record) (b o : Bool) (p s : ℕ) → Secure b (excepts r o p s)
 unfolding excepts aborts closes tell
-except-secure r b true p s = by-test (λ (t : Told). invites t ≡ true → b ≡ true) (r .active) _ _ (λ a e. absurd (subst T (sym e) tt)) (λ a e. absurd (subst T (sym e) tt))
-except-secure r b false p s = by-test (λ (t : Told). invites t ≡ true → b ≡ true) (r .active) _ _ (λ a e. absurd (subst T (sym e) tt)) (λ a e. absurd (subst T (sym e) tt))
+except-secure r b true p s = by-test (λ (t : Told). invites t ≡ true → b ≡ true) (r .active) _ _
+    (λ a e. absurd (subst T (sym e) tt)) (λ a e. absurd (subst T (sym e) tt))
+except-secure r b false p s = by-test (λ (t : Told). invites t ≡ true → b ≡ true) (r .active) _ _
+    (λ a e. absurd (subst T (sym e) tt)) (λ a e. absurd (subst T (sym e) tt))
 
 none-secure : (r : Record) (b x : Bool) → Secure b (noInstruction r x)
 unfolding noInstruction closes
 none-secure r b x = by-test (Secure b) (isIdle (r .control)) _ _ (λ d e. absurd (subst T (sym e) tt)) (λ d. except-secure r b x _ _)
 
-pub start-secure : (sd : Side) (r : Record) (x s v : ℕ) (q : Qos) (a : UserData) → invites (step sd r (Service (DStartIndication x s q v) a) .told) ≡ true → not (differs (secures (r .edition)) s (r .policy)) ≡ true
+pub start-secure : (sd : Side) (r : Record) (x s v : ℕ) (q : Qos) (a : UserData)
+    → invites (step sd r (Service (DStartIndication x s q v) a) .told) ≡ true
+    → not (differs (secures (r .edition)) s (r .policy)) ≡ true
 unfolding step acts reached firstFault indicationFault answered aborts
 start-secure sd r x s v q a =
-    by-test (Secure (not (differs (secures (r .edition)) s (r .policy)))) (isNone (refusalOf sd r (Service (DStartIndication x s q v) a))) _ _
+    by-test (Secure (not (differs (secures (r .edition)) s (r .policy))))
+    (isNone (refusalOf sd r (Service (DStartIndication x s q v) a))) _ _
     (λ n. by-test Offers (not (isIdle (r .control))) _ _ (λ d. none-secure r _ true)
     (λ d. by-test Offers (not (qosFits q)) _ _ (λ g e. absurd (subst T (sym e) tt))
     (λ g. by-test Offers (differs (secures (r .edition)) s (r .policy)) _ _ (λ y. except-secure r _ true _ _) (λ y e. ap not y))))
@@ -319,17 +365,20 @@ message-stays r j = refl
 
 -- ---- user abort outside IDLE: D-ABORT with originator "user"; no reason given means undefined
 
-pub user-aborts : (sd : Side) (r : Record) (g : Bool) (x : ℕ) → ltb x (userReasons (r .edition)) ≡ true → isIdle (r .control) ≡ false → step sd r (User (UserAbortServiceRequest g x)) ≡ userAbort r g x
+pub user-aborts : (sd : Side) (r : Record) (g : Bool) (x : ℕ) → ltb x (userReasons (r .edition)) ≡ true
+    → isIdle (r .control) ≡ false → step sd r (User (UserAbortServiceRequest g x)) ≡ userAbort r g x
 unfolding step refusalOf eventFits userFits permitted callOf messageRefusal unsent acts called
 user-aborts sd r g x s i = rw (s, i)
 
-pub user-abort-says : (r : Record) (g : Bool) (x : ℕ) → (userAbort r g x .invoked ≡ DAbortRequest user) × (userAbort r g x .apdu ≡ AbortUser (cond g x undefined))
+pub user-abort-says : (r : Record) (g : Bool) (x : ℕ)
+    → (userAbort r g x .invoked ≡ DAbortRequest user) × (userAbort r g x .apdu ≡ AbortUser (cond g x undefined))
 unfolding userAbort sent
 user-abort-says r g x = (refl, refl)
 
 -- ---- timer expiry: D-ABORT "provider" with timer-expired, an active user told; prohibited exactly while no timer runs
 
-pub expiry : (sd : Side) (r : Record) → r .timer ≡ true → step sd r TimerExpires ≡ aborts r timerExpired (tell r (ProviderAbortIndication timerExpired))
+pub expiry : (sd : Side) (r : Record) → r .timer ≡ true
+    → step sd r TimerExpires ≡ aborts r timerExpired (tell r (ProviderAbortIndication timerExpired))
 unfolding step refusalOf eventFits permitted messageRefusal acts timerExpires excepts
 expiry sd r t = rw t
 
@@ -339,11 +388,13 @@ no-expiry sd r t = rw t
 
 -- ---- a primitive with no instruction: protocol-error; D-ABORT only if a dialogue exists
 
-pub unexpected : (sd : Side) (r : Record) (p : Primitive) (may live : Bool) (a : UserData) → expects sd (r .control) p ≡ false → sendFault sd r p may live a ≡ NoInstruction true
+pub unexpected : (sd : Side) (r : Record) (p : Primitive) (may live : Bool) (a : UserData)
+    → expects sd (r .control) p ≡ false → sendFault sd r p may live a ≡ NoInstruction true
 unfolding sendFault
 unexpected sd r p may live a e = rw e
 
-pub no-instruction-outside : (r : Record) (x : Bool) → isIdle (r .control) ≡ false → noInstruction r x ≡ excepts r x protocolError protocolError
+pub no-instruction-outside : (r : Record) (x : Bool) → isIdle (r .control) ≡ false
+    → noInstruction r x ≡ excepts r x protocolError protocolError
 unfolding noInstruction
 no-instruction-outside r x i = rw i
 
@@ -353,6 +404,9 @@ pub forward-read : (may i u : Bool) (g : Fault) → pduFault may (isSend Forward
 unfolding pduFault
 forward-read may i u g = refl
 
-pub forward-start : (sd : Side) (r : Record) (x s v : ℕ) (q : Qos) → fromCentre sd x ≡ false → serviceFits (DStartIndication x s q v) ≡ true → isIdle (r .control) ≡ true → qosFits q ≡ true → differs (secures (r .edition)) s (r .policy) ≡ false → step sd r (Service (DStartIndication x s q v) Forward) ≡ aborts r protocolError (tell r (ProviderAbortIndication protocolError))
+pub forward-start : (sd : Side) (r : Record) (x s v : ℕ) (q : Qos) → fromCentre sd x ≡ false
+    → serviceFits (DStartIndication x s q v) ≡ true → isIdle (r .control) ≡ true → qosFits q ≡ true
+    → differs (secures (r .edition)) s (r .policy) ≡ false
+    → step sd r (Service (DStartIndication x s q v) Forward) ≡ aborts r protocolError (tell r (ProviderAbortIndication protocolError))
 unfolding eventFits userDataFits firstFault indicationFault startFits pduFault answered excepts
 forward-start sd r x s v q w h d g y = fault-answered sd r (DStartIndication x s q v) Forward (NotPermitted true) (rw h) (rw (d, g, y, w))

@@ -36,15 +36,18 @@ use Rattle.machine.specs.declared.outcome.Told.the-variants.{Untold, ProviderAb
 
 -- ---- the request: 2.3.5.5.13.1; elsewhere, and at the air machine, it is prohibited
 
-pub request-taken : (r : Record) (k s : ℕ) → ltb k routingClasses ≡ true → ltb s securityValues ≡ true → isIdle (r .control) ≡ true → step Ground r (ForwardRequested k s) ≡ forwardRequest r k s
+pub request-taken : (r : Record) (k s : ℕ) → ltb k routingClasses ≡ true → ltb s securityValues ≡ true
+    → isIdle (r .control) ≡ true → step Ground r (ForwardRequested k s) ≡ forwardRequest r k s
 unfolding step refusalOf eventFits permitted messageRefusal acts
 request-taken r k s h g i = rw (h, g, i)
 
-pub request-prohibited : (r : Record) (k s : ℕ) → ltb k routingClasses ≡ true → ltb s securityValues ≡ true → isIdle (r .control) ≡ false → step Ground r (ForwardRequested k s) ≡ refused Prohibited r
+pub request-prohibited : (r : Record) (k s : ℕ) → ltb k routingClasses ≡ true → ltb s securityValues ≡ true
+    → isIdle (r .control) ≡ false → step Ground r (ForwardRequested k s) ≡ refused Prohibited r
 unfolding step refusalOf eventFits permitted
 request-prohibited r k s h g i = rw (h, g, i)
 
-pub request-at-air : (r : Record) (k s : ℕ) → ltb k routingClasses ≡ true → ltb s securityValues ≡ true → step Air r (ForwardRequested k s) ≡ refused Prohibited r
+pub request-at-air : (r : Record) (k s : ℕ) → ltb k routingClasses ≡ true → ltb s securityValues ≡ true
+    → step Air r (ForwardRequested k s) ≡ refused Prohibited r
 unfolding step refusalOf eventFits permitted
 request-at-air r k s h g = rw (h, g)
 
@@ -74,43 +77,58 @@ module _ (r : Record) (s v : ℕ) (q : Qos) (h : serviceFits (DStartIndication f
   arrives = fault-answered Ground r (DStartIndication facility s q v) Forward NoFault (rw h) (rw (i, g, y))
 
   -- 2.3.5.5.2.4, whatever the version
-  pub not-supported : r .forwards ≡ false → step Ground r (Service (DStartIndication facility s q v) Forward) ≡ responds r serviceNotSupported s noVersion Untold
+  pub not-supported : r .forwards ≡ false
+      → step Ground r (Service (DStartIndication facility s q v) Forward) ≡ responds r serviceNotSupported s noVersion Untold
   unfolding forwardArrives
   not-supported n = arrives ∙ rw n
 
   -- 2.3.5.5.2.3 a): the user is told, and does not become active
-  pub supported : r .forwards ≡ true → eqb v (r .version) ≡ true → step Ground r (Service (DStartIndication facility s q v) Forward) ≡ responds r success s noVersion ForwardIndication
+  pub supported : r .forwards ≡ true → eqb v (r .version) ≡ true
+      → step Ground r (Service (DStartIndication facility s q v) Forward) ≡ responds r success s noVersion ForwardIndication
   unfolding forwardArrives
   supported n e = arrives ∙ rw (n, e)
 
   -- 2.3.5.5.2.3 b): the response carries the own version
-  pub other-version : r .forwards ≡ true → eqb v (r .version) ≡ false → step Ground r (Service (DStartIndication facility s q v) Forward) ≡ responds r versionNotEqual s (r .version) Untold
+  pub other-version : r .forwards ≡ true → eqb v (r .version) ≡ false
+      → step Ground r (Service (DStartIndication facility s q v) Forward) ≡ responds r versionNotEqual s (r .version) Untold
   unfolding forwardArrives
   other-version n e = arrives ∙ rw (n, e)
 
   -- any other valid PDU of a centre is not permitted
-  pub not-forward : (a : UserData) → userDataFits (r .edition) a ≡ true → isMissing a ≡ false → isInvalid a ≡ false → isForward a ≡ false → step Ground r (Service (DStartIndication facility s q v) a) ≡ aborts r protocolError (tell r (ProviderAbortIndication protocolError))
+  pub not-forward : (a : UserData) → userDataFits (r .edition) a ≡ true → isMissing a ≡ false → isInvalid a ≡ false
+      → isForward a ≡ false
+      → step Ground r (Service (DStartIndication facility s q v) a) ≡ aborts r protocolError (tell r (ProviderAbortIndication protocolError))
   unfolding eventFits firstFault indicationFault startFits pduFault answered excepts
-  not-forward a w m n f = fault-answered Ground r (DStartIndication facility s q v) a (NotPermitted true) (rw (h, w)) (rw (i, g, y, m, n, f))
+  not-forward a w m n f = fault-answered Ground r (DStartIndication facility s q v) a (NotPermitted true) (rw (h, w))
+      (rw (i, g, y, m, n, f))
 
-pub answer-inactive : (r : Record) (x s v : ℕ) → (responds r x s v ForwardIndication .next .active ≡ false) × (isIdle (responds r x s v ForwardIndication .next .control) ≡ true)
+pub answer-inactive : (r : Record) (x s v : ℕ)
+    → (responds r x s v ForwardIndication .next .active ≡ false) × (isIdle (responds r x s v ForwardIndication .next .control) ≡ true)
 unfolding responds enter
 answer-inactive r x s v = (refl, refl)
 
 -- ---- the confirmation: 2.3.5.5.3.3
 
-pub confirmed : (sd : Side) (r : Record) (d : Bool) (s v x : ℕ) → r .control ≡ entered FORWARD d → ltb s securityValues ≡ true → ltb v versions ≡ true → ltb x forwardResults ≡ true → differs (secures (r .edition)) s (r .request) ≡ false
+pub confirmed : (sd : Side) (r : Record) (d : Bool) (s v x : ℕ) → r .control ≡ entered FORWARD d
+    → ltb s securityValues ≡ true → ltb v versions ≡ true → ltb x forwardResults ≡ true
+    → differs (secures (r .edition)) s (r .request) ≡ false
     → step sd r (Service (DStartConfirmation permanent 0 s v) (ForwardResponse x)) ≡ forwardConfirmed r x v
 unfolding eventFits serviceFits userDataFits firstFault confirmationFault responseFault pduFault answered instructed replyOf
-confirmed sd r d s v x c h g w y = fault-answered sd r (DStartConfirmation permanent 0 s v) (ForwardResponse x) NoFault (rw (h, g, w)) (rw (c, y))
+confirmed sd r d s v x c h g w y = fault-answered sd r (DStartConfirmation permanent 0 s v) (ForwardResponse x) NoFault
+    (rw (h, g, w)) (rw (c, y))
 
 -- the timer is stopped, the user is not active, and IDLE
-pub confirmed-closes : (r : Record) (x v : ℕ) → (forwardConfirmed r x v .next .timer ≡ false) × (forwardConfirmed r x v .next .active ≡ false) × (isIdle (forwardConfirmed r x v .next .control) ≡ true)
+pub confirmed-closes : (r : Record) (x v : ℕ)
+    → (forwardConfirmed r x v .next .timer ≡ false) × (forwardConfirmed r x v .next .active ≡ false) × (isIdle (forwardConfirmed r x v .next .control) ≡ true)
 unfolding forwardConfirmed closes enter
 confirmed-closes r x v = (refl, refl, refl)
 
 -- "accepted" has no action there: protocol-error, whatever the PDU
-pub accepted-not-permitted : (sd : Side) (r : Record) (d : Bool) (s v x : ℕ) → r .control ≡ entered FORWARD d → ltb s securityValues ≡ true → ltb v versions ≡ true → ltb x forwardResults ≡ true → differs (secures (r .edition)) s (r .request) ≡ false
-    → step sd r (Service (DStartConfirmation accepted 0 s v) (ForwardResponse x)) ≡ aborts r protocolError (tell r (ProviderAbortIndication protocolError))
+pub accepted-not-permitted : (sd : Side) (r : Record) (d : Bool) (s v x : ℕ) → r .control ≡ entered FORWARD d
+    → ltb s securityValues ≡ true → ltb v versions ≡ true → ltb x forwardResults ≡ true
+    → differs (secures (r .edition)) s (r .request) ≡ false
+    → step sd r (Service (DStartConfirmation accepted 0 s v) (ForwardResponse x)) ≡ aborts r protocolError
+    (tell r (ProviderAbortIndication protocolError))
 unfolding eventFits serviceFits userDataFits firstFault confirmationFault responseFault pduFault answered excepts replyOf
-accepted-not-permitted sd r d s v x c h g w y = fault-answered sd r (DStartConfirmation accepted 0 s v) (ForwardResponse x) (NotPermitted true) (rw (h, g, w)) (rw (c, y))
+accepted-not-permitted sd r d s v x c h g w y = fault-answered sd r (DStartConfirmation accepted 0 s v)
+    (ForwardResponse x) (NotPermitted true) (rw (h, g, w)) (rw (c, y))

@@ -120,7 +120,8 @@ module _ (sd : Side) (r : Record) (d : Bool) (c : r .control ≡ entered FORWARD
   unfolding eventFits serviceFits firstFault sendFault answered noInstruction excepts abortsWith tell enter
   end-confirmed-in-forward x h = fault-answered sd r (DEndConfirmation x) a (NoInstruction true) (rw (h, w)) (rw c) ∙ rw c
 
-  pub start-in-forward : (x s v : ℕ) (q : Qos) → serviceFits (DStartIndication x s q v) ≡ true → step sd r (Service (DStartIndication x s q v) a) ≡ protocolErred r
+  pub start-in-forward : (x s v : ℕ) (q : Qos) → serviceFits (DStartIndication x s q v) ≡ true
+      → step sd r (Service (DStartIndication x s q v) a) ≡ protocolErred r
   unfolding eventFits firstFault indicationFault answered noInstruction excepts abortsWith tell enter
   start-in-forward x s v q h = fault-answered sd r (DStartIndication x s q v) a (NoInstruction true) (rw (h, w)) (rw c) ∙ rw c
 
@@ -151,18 +152,22 @@ module _ (r : Record) (s v : ℕ) (q : Qos) (h : serviceFits (DStartIndication f
   unsupported-is n = not-supported r s v q h i g y n
 
   -- success (0), no version, the user is told
-  pub supported-is : r .forwards ≡ true → eqb v (r .version) ≡ true → step Ground r (Service (DStartIndication facility s q v) Forward) ≡ answers r 0 s 0 ForwardIndication
+  pub supported-is : r .forwards ≡ true → eqb v (r .version) ≡ true
+      → step Ground r (Service (DStartIndication facility s q v) Forward) ≡ answers r 0 s 0 ForwardIndication
   unfolding responds enter
   supported-is n e = supported r s v q h i g y n e
 
   -- version-not-equal (2) with the own version, nobody is told
-  pub unequal-is : r .forwards ≡ true → eqb v (r .version) ≡ false → step Ground r (Service (DStartIndication facility s q v) Forward) ≡ answers r 2 s (r .version) Untold
+  pub unequal-is : r .forwards ≡ true → eqb v (r .version) ≡ false
+      → step Ground r (Service (DStartIndication facility s q v) Forward) ≡ answers r 2 s (r .version) Untold
   unfolding responds enter
   unequal-is n e = other-version r s v q h i g y n e
 
 -- ---- 2.3.5.5.3.3, the confirmation in FORWARD: the user is told the result and the version as they came; nothing is sent; IDLE
 
-pub confirmed-is : (sd : Side) (r : Record) (d : Bool) (s v x : ℕ) → r .control ≡ entered FORWARD d → ltb s securityValues ≡ true → ltb v versions ≡ true → ltb x forwardResults ≡ true → differs (secures (r .edition)) s (r .request) ≡ false
+pub confirmed-is : (sd : Side) (r : Record) (d : Bool) (s v x : ℕ) → r .control ≡ entered FORWARD d
+    → ltb s securityValues ≡ true → ltb v versions ≡ true → ltb x forwardResults ≡ true
+    → differs (secures (r .edition)) s (r .request) ≡ false
     → step sd r (Service (DStartConfirmation permanent 0 s v) (ForwardResponse x)) ≡ record { refusal = None; next = left r; invoked = Silent; told = ForwardConfirmation x v; apdu = Absent; delivers = false }
 unfolding forwardConfirmed closes enter
 confirmed-is sd r d s v x c h g w y = confirmed sd r d s v x c h g w y

@@ -44,7 +44,8 @@ enter-rests : (q : Record) (c : Control) → isIdle c ≡ true → c .dsc ≡ fa
 unfolding enter
 enter-rests q c i d = record { dsc = d; timer = rw i; user = rw i }
 
-way-rests : (sd : Side) (r : Record) (o : Outcome) → Way sd r o → isNone (o .refusal) ≡ true → isIdle (o .next .control) ≡ true → Rests (o .next)
+way-rests : (sd : Side) (r : Record) (o : Outcome) → Way sd r o → isNone (o .refusal) ≡ true
+    → isIdle (o .next .control) ≡ true → Rests (o .next)
 unfolding closes aborts startRequest messageRequest sent handed forwardRequest responds forwardConfirmed enter
 way-rests sd r o (is-refused w n) t i = never (sym t ∙ n)
 way-rests sd r o (is-closed t a) n i = record { dsc = refl; timer = refl; user = refl }
@@ -60,7 +61,8 @@ way-rests sd r o (is-responding x s v t j b) n i = record { dsc = refl; timer = 
 way-rests sd r o (is-forwarded x v e) n i = record { dsc = refl; timer = refl; user = refl }
 way-rests sd r o (is-read p t e w a) n i = enter-rests r (after (r .control) p) i (primitive-rests sd (r .control) p e i)
 
-pub idle-rests : (sd : Side) (r : Record) (e : Event) → isNone (step sd r e .refusal) ≡ true → isIdle (step sd r e .next .control) ≡ true → Rests (step sd r e .next)
+pub idle-rests : (sd : Side) (r : Record) (e : Event) → isNone (step sd r e .refusal) ≡ true
+    → isIdle (step sd r e .next .control) ≡ true → Rests (step sd r e .next)
 idle-rests sd r e = way-rests sd r (step sd r e) (ways sd r e)
 
 -- ---- a refused call changes nothing, the highest job included, and yields nothing
@@ -80,7 +82,8 @@ way-refused sd r o (is-responding x s v t j b) f = never f
 way-refused sd r o (is-forwarded x v e) f = never f
 way-refused sd r o (is-read p t e w a) f = never f
 
-pub refused-same : (sd : Side) (r : Record) (e : Event) → isNone (step sd r e .refusal) ≡ false → step sd r e ≡ refused (step sd r e .refusal) r
+pub refused-same : (sd : Side) (r : Record) (e : Event) → isNone (step sd r e .refusal) ≡ false
+    → step sd r e ≡ refused (step sd r e .refusal) r
 refused-same sd r e = way-refused sd r (step sd r e) (ways sd r e)
 
 -- ---- a user who is not active gets no abort indication
@@ -138,7 +141,8 @@ way-survives sd r o (is-responding x s v t j b) i = refl
 way-survives sd r o (is-forwarded x v e) i = refl
 way-survives sd r o (is-read p t e w a) i = refl
 
-pub highest-survives : (sd : Side) (r : Record) (e : Event) → isIdle (step sd r e .next .control) ≡ true → step sd r e .next .highest ≡ r .highest
+pub highest-survives : (sd : Side) (r : Record) (e : Event) → isIdle (step sd r e .next .control) ≡ true
+    → step sd r e .next .highest ≡ r .highest
 highest-survives sd r e = way-survives sd r (step sd r e) (ways sd r e)
 
 -- ---- the policy is fixed when the record is made
@@ -219,7 +223,8 @@ inner DAbort e = never (sym e)
 inner DPAbort e = never (sym e)
 
 -- the control goes from c to d, the timer and the user with it
-entered-formed : (q : Record) (d : Control) → (not (isIdle d) && q .timer) ≡ waits (d .state) → (not (isIdle d) && q .active) ≡ not (isIdle d) → (isIdle d ≡ true → d .dsc ≡ false) → Formed (enter q d)
+entered-formed : (q : Record) (d : Control) → (not (isIdle d) && q .timer) ≡ waits (d .state)
+    → (not (isIdle d) && q .active) ≡ not (isIdle d) → (isIdle d ≡ true → d .dsc ≡ false) → Formed (enter q d)
 unfolding enter
 entered-formed q d t u i = record { timer = t; user = u; idle = i }
 
@@ -230,19 +235,24 @@ way-formed sd r o (is-closed t a) h = record { timer = refl; user = refl; idle =
 way-formed sd r o (is-aborted p t a) h = record { timer = refl; user = refl; idle = λ i. refl }
 way-formed sd r o (is-started m k s e) h = record { timer = refl; user = refl; idle = λ i. never (sym i) }
 way-formed sd r o (is-message j e n) h =
-    entered-formed (withJob r j) (r .control) (rw (h .timer) (call-timed sd (r .control) MessageRequest e refl)) (rw (h .user) (call-held sd (r .control) MessageRequest e refl)) (h .idle)
+    entered-formed (withJob r j) (r .control) (rw (h .timer) (call-timed sd (r .control) MessageRequest e refl))
+    (rw (h .user) (call-held sd (r .control) MessageRequest e refl)) (h .idle)
 way-formed sd r o (is-called k x a e b) h =
-    entered-formed r (goes (r .control) k) (rw (h .timer) (call-timed sd (r .control) k e b)) (rw (h .user) (call-held sd (r .control) k e b)) (call-rests sd (r .control) k e)
+    entered-formed r (goes (r .control) k) (rw (h .timer) (call-timed sd (r .control) k e b))
+    (rw (h .user) (call-held sd (r .control) k e b)) (call-rests sd (r .control) k e)
 way-formed sd r o (is-invited m x e) h =
-    entered-formed (withUser r true) (after (r .control) (DStart m)) (rw (h .timer) (primitive-timed sd (r .control) (DStart m) e refl)) refl (λ i. never (sym i))
+    entered-formed (withUser r true) (after (r .control) (DStart m))
+    (rw (h .timer) (primitive-timed sd (r .control) (DStart m) e refl)) refl (λ i. never (sym i))
 way-formed sd r o (is-confirmed Accepted m x e) h =
-    entered-formed (withTimer r false) (after (r .control) (DStartCnf Accepted)) refl (rw (h .user) (primitive-held sd (r .control) (DStartCnf Accepted) e refl)) (λ i. never (sym i))
+    entered-formed (withTimer r false) (after (r .control) (DStartCnf Accepted)) refl
+    (rw (h .user) (primitive-held sd (r .control) (DStartCnf Accepted) e refl)) (λ i. never (sym i))
 way-formed sd r o (is-confirmed Rejected m x e) h = record { timer = refl; user = refl; idle = λ i. refl }
 way-formed sd r o (is-forwarding k s e) h = record { timer = refl; user = refl; idle = λ i. never (sym i) }
 way-formed sd r o (is-responding x s v t j b) h = record { timer = refl; user = refl; idle = λ i. refl }
 way-formed sd r o (is-forwarded x v e) h = record { timer = refl; user = refl; idle = λ i. refl }
 way-formed sd r o (is-read p t e w a) h =
-    entered-formed r (after (r .control) p) (rw (h .timer) (primitive-timed sd (r .control) p e (inner p w .0))) (rw (h .user) (primitive-held sd (r .control) p e (inner p w .1))) (primitive-rests sd (r .control) p e)
+    entered-formed r (after (r .control) p) (rw (h .timer) (primitive-timed sd (r .control) p e (inner p w .0)))
+    (rw (h .user) (primitive-held sd (r .control) p e (inner p w .1))) (primitive-rests sd (r .control) p e)
 
 pub step-formed : (sd : Side) (r : Record) (e : Event) → Formed r → Formed (step sd r e .next)
 step-formed sd r e = way-formed sd r (step sd r e) (ways sd r e)

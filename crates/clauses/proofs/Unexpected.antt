@@ -56,48 +56,62 @@ error-is sd r i = rw i
 
 module _ (sd : Side) (r : Record) (d : Bool) (c : r .control ≡ entered FORWARD d) (s v : ℕ) (a : UserData) (w : userDataFits (r .edition) a ≡ true) where
   -- turned away: communication-service-error (4), nothing is sent
-  pub transient-in-forward : (o : ℕ) → serviceFits (DStartConfirmation 2 o s v) ≡ true → step sd r (Service (DStartConfirmation 2 o s v) a) ≡ gone r 4
+  pub transient-in-forward : (o : ℕ) → serviceFits (DStartConfirmation 2 o s v) ≡ true
+      → step sd r (Service (DStartConfirmation 2 o s v) a) ≡ gone r 4
   unfolding eventFits firstFault confirmationFault responseFault answered closes tell enter
   transient-in-forward o h = fault-answered sd r (DStartConfirmation 2 o s v) a TurnedAway (rw (h, w)) (rw c)
 
-  pub provider-rejects-in-forward : serviceFits (DStartConfirmation 1 1 s v) ≡ true → step sd r (Service (DStartConfirmation 1 1 s v) a) ≡ gone r 4
+  pub provider-rejects-in-forward : serviceFits (DStartConfirmation 1 1 s v) ≡ true
+      → step sd r (Service (DStartConfirmation 1 1 s v) a) ≡ gone r 4
   unfolding eventFits firstFault confirmationFault responseFault answered closes tell enter
   provider-rejects-in-forward h = fault-answered sd r (DStartConfirmation 1 1 s v) a TurnedAway (rw (h, w)) (rw c)
 
   -- another security value: communication-service-failure (5); the dialogue is open after "accepted" only
-  pub accepted-insecure-in-forward : serviceFits (DStartConfirmation 0 0 s v) ≡ true → differs (secures (r .edition)) s (r .request) ≡ true → step sd r (Service (DStartConfirmation 0 0 s v) a) ≡ aborted r 5 5
+  pub accepted-insecure-in-forward : serviceFits (DStartConfirmation 0 0 s v) ≡ true
+      → differs (secures (r .edition)) s (r .request) ≡ true
+      → step sd r (Service (DStartConfirmation 0 0 s v) a) ≡ aborted r 5 5
   unfolding eventFits firstFault confirmationFault responseFault answered excepts aborts tell enter
   accepted-insecure-in-forward h y = fault-answered sd r (DStartConfirmation 0 0 s v) a (Security true) (rw (h, w)) (rw (c, y))
 
-  pub rejected-insecure-in-forward : serviceFits (DStartConfirmation 1 0 s v) ≡ true → differs (secures (r .edition)) s (r .request) ≡ true → step sd r (Service (DStartConfirmation 1 0 s v) a) ≡ gone r 5
+  pub rejected-insecure-in-forward : serviceFits (DStartConfirmation 1 0 s v) ≡ true
+      → differs (secures (r .edition)) s (r .request) ≡ true
+      → step sd r (Service (DStartConfirmation 1 0 s v) a) ≡ gone r 5
   unfolding eventFits firstFault confirmationFault responseFault answered excepts closes tell enter
   rejected-insecure-in-forward h y = fault-answered sd r (DStartConfirmation 1 0 s v) a (Security false) (rw (h, w)) (rw (c, y))
 
   -- a PDU that is not permitted: protocol-error (3); after "accepted" every one is
-  pub accepted-in-forward : serviceFits (DStartConfirmation 0 0 s v) ≡ true → differs (secures (r .edition)) s (r .request) ≡ false → isMissing a ≡ false → isInvalid a ≡ false → step sd r (Service (DStartConfirmation 0 0 s v) a) ≡ aborted r 3 3
+  pub accepted-in-forward : serviceFits (DStartConfirmation 0 0 s v) ≡ true
+      → differs (secures (r .edition)) s (r .request) ≡ false → isMissing a ≡ false → isInvalid a ≡ false
+      → step sd r (Service (DStartConfirmation 0 0 s v) a) ≡ aborted r 3 3
   unfolding eventFits firstFault confirmationFault responseFault pduFault answered excepts aborts tell enter
   accepted-in-forward h y m n = fault-answered sd r (DStartConfirmation 0 0 s v) a (NotPermitted true) (rw (h, w)) (rw (c, y, m, n))
 
-  pub no-response-in-forward : serviceFits (DStartConfirmation 1 0 s v) ≡ true → differs (secures (r .edition)) s (r .request) ≡ false → isMissing a ≡ false → isInvalid a ≡ false → isResponse a ≡ false → step sd r (Service (DStartConfirmation 1 0 s v) a) ≡ aborted r 3 3
+  pub no-response-in-forward : serviceFits (DStartConfirmation 1 0 s v) ≡ true
+      → differs (secures (r .edition)) s (r .request) ≡ false → isMissing a ≡ false → isInvalid a ≡ false
+      → isResponse a ≡ false → step sd r (Service (DStartConfirmation 1 0 s v) a) ≡ aborted r 3 3
   unfolding eventFits firstFault confirmationFault responseFault pduFault answered excepts aborts tell enter
   no-response-in-forward h y m n f = fault-answered sd r (DStartConfirmation 1 0 s v) a (NotPermitted true) (rw (h, w)) (rw (c, y, m, n, f))
 
 module _ (sd : Side) (r : Record) (d : Bool) (c : r .control ≡ entered FORWARD d) (s v : ℕ) (y : differs (secures (r .edition)) s (r .request) ≡ false) where
   -- none: the APDU says expected-PDU-missing (7), the user is told not-permitted-PDU (8)
-  pub accepted-bare-in-forward : serviceFits (DStartConfirmation 0 0 s v) ≡ true → step sd r (Service (DStartConfirmation 0 0 s v) Absent) ≡ aborted r 7 8
+  pub accepted-bare-in-forward : serviceFits (DStartConfirmation 0 0 s v) ≡ true
+      → step sd r (Service (DStartConfirmation 0 0 s v) Absent) ≡ aborted r 7 8
   unfolding eventFits userDataFits firstFault confirmationFault responseFault pduFault answered excepts aborts tell enter
   accepted-bare-in-forward h = fault-answered sd r (DStartConfirmation 0 0 s v) Absent Missing (rw h) (rw (c, y))
 
-  pub rejected-bare-in-forward : serviceFits (DStartConfirmation 1 0 s v) ≡ true → step sd r (Service (DStartConfirmation 1 0 s v) Absent) ≡ aborted r 7 8
+  pub rejected-bare-in-forward : serviceFits (DStartConfirmation 1 0 s v) ≡ true
+      → step sd r (Service (DStartConfirmation 1 0 s v) Absent) ≡ aborted r 7 8
   unfolding eventFits userDataFits firstFault confirmationFault responseFault pduFault answered excepts aborts tell enter
   rejected-bare-in-forward h = fault-answered sd r (DStartConfirmation 1 0 s v) Absent Missing (rw h) (rw (c, y))
 
   -- not valid: invalid-PDU (2); after a rejection the peer is gone
-  pub accepted-unread-in-forward : serviceFits (DStartConfirmation 0 0 s v) ≡ true → step sd r (Service (DStartConfirmation 0 0 s v) NotValid) ≡ aborted r 2 2
+  pub accepted-unread-in-forward : serviceFits (DStartConfirmation 0 0 s v) ≡ true
+      → step sd r (Service (DStartConfirmation 0 0 s v) NotValid) ≡ aborted r 2 2
   unfolding eventFits userDataFits firstFault confirmationFault responseFault pduFault answered excepts aborts tell enter
   accepted-unread-in-forward h = fault-answered sd r (DStartConfirmation 0 0 s v) NotValid (Invalid true) (rw h) (rw (c, y))
 
-  pub rejected-unread-in-forward : serviceFits (DStartConfirmation 1 0 s v) ≡ true → step sd r (Service (DStartConfirmation 1 0 s v) NotValid) ≡ gone r 2
+  pub rejected-unread-in-forward : serviceFits (DStartConfirmation 1 0 s v) ≡ true
+      → step sd r (Service (DStartConfirmation 1 0 s v) NotValid) ≡ gone r 2
   unfolding eventFits userDataFits firstFault confirmationFault responseFault pduFault answered excepts closes tell enter
   rejected-unread-in-forward h = fault-answered sd r (DStartConfirmation 1 0 s v) NotValid (Invalid false) (rw h) (rw (c, y))
 
@@ -105,7 +119,8 @@ module _ (sd : Side) (r : Record) (d : Bool) (c : r .control ≡ entered FORWARD
 
 module _ (sd : Side) (r : Record) (a : UserData) (w : userDataFits (r .edition) a ≡ true) where
   -- a start outside IDLE
-  pub start-outside-idle : (x s v : ℕ) (q : Qos) → serviceFits (DStartIndication x s q v) ≡ true → isIdle (r .control) ≡ false → step sd r (Service (DStartIndication x s q v) a) ≡ protocolErred r
+  pub start-outside-idle : (x s v : ℕ) (q : Qos) → serviceFits (DStartIndication x s q v) ≡ true
+      → isIdle (r .control) ≡ false → step sd r (Service (DStartIndication x s q v) a) ≡ protocolErred r
   unfolding eventFits firstFault indicationFault answered noInstruction excepts aborts tell enter
   start-outside-idle x s v q h i = fault-answered sd r (DStartIndication x s q v) a (NoInstruction true) (rw (h, w)) (rw i) ∙ rw i
 
@@ -113,7 +128,9 @@ module _ (sd : Side) (r : Record) (a : UserData) (w : userDataFits (r .edition) 
   unfolding eventFits serviceFits firstFault sendFault answered noInstruction excepts aborts tell enter
   end-errs i e = fault-answered sd r DEndIndication a (NoInstruction true) (rw w) (rw e) ∙ rw i
 
-  ended-errs : (x : ℕ) → ltb x results ≡ true → isIdle (r .control) ≡ false → expects sd (r .control) (DEndCnf (replyOf x)) ≡ false → step sd r (Service (DEndConfirmation x) a) ≡ protocolErred r
+  ended-errs : (x : ℕ) → ltb x results ≡ true → isIdle (r .control) ≡ false
+      → expects sd (r .control) (DEndCnf (replyOf x)) ≡ false
+      → step sd r (Service (DEndConfirmation x) a) ≡ protocolErred r
   unfolding eventFits serviceFits firstFault sendFault answered noInstruction excepts aborts tell enter
   ended-errs x h i e = fault-answered sd r (DEndConfirmation x) a (NoInstruction true) (rw (h, w)) (rw e) ∙ rw i
 
@@ -127,25 +144,31 @@ module _ (sd : Side) (r : Record) (a : UserData) (w : userDataFits (r .edition) 
   pub end-in-end : (d : Bool) → r .control ≡ entered End d → step sd r (Service DEndIndication a) ≡ protocolErred r
   end-in-end d c = end-errs (rw c) (rw c)
 
-  pub ended-not-asked : (x : ℕ) (d : Bool) → ltb x results ≡ true → r .control ≡ entered StartReq d → step sd r (Service (DEndConfirmation x) a) ≡ protocolErred r
+  pub ended-not-asked : (x : ℕ) (d : Bool) → ltb x results ≡ true → r .control ≡ entered StartReq d
+      → step sd r (Service (DEndConfirmation x) a) ≡ protocolErred r
   ended-not-asked x d h c = ended-errs x h (rw c) (rw c)
 
-  pub ended-not-answered : (x : ℕ) (d : Bool) → ltb x results ≡ true → r .control ≡ entered StartInd d → step sd r (Service (DEndConfirmation x) a) ≡ protocolErred r
+  pub ended-not-answered : (x : ℕ) (d : Bool) → ltb x results ≡ true → r .control ≡ entered StartInd d
+      → step sd r (Service (DEndConfirmation x) a) ≡ protocolErred r
   ended-not-answered x d h c = ended-errs x h (rw c) (rw c)
 
-  pub ended-in-dialogue : (x : ℕ) (d : Bool) → ltb x results ≡ true → r .control ≡ entered Dialogue d → step sd r (Service (DEndConfirmation x) a) ≡ protocolErred r
+  pub ended-in-dialogue : (x : ℕ) (d : Bool) → ltb x results ≡ true → r .control ≡ entered Dialogue d
+      → step sd r (Service (DEndConfirmation x) a) ≡ protocolErred r
   ended-in-dialogue x d h c = ended-errs x h (rw c) (rw c)
 
   -- a start's confirmation where none was asked for
-  pub started-not-answered : (x o s v : ℕ) (d : Bool) → serviceFits (DStartConfirmation x o s v) ≡ true → r .control ≡ entered StartInd d → step sd r (Service (DStartConfirmation x o s v) a) ≡ protocolErred r
+  pub started-not-answered : (x o s v : ℕ) (d : Bool) → serviceFits (DStartConfirmation x o s v) ≡ true
+      → r .control ≡ entered StartInd d → step sd r (Service (DStartConfirmation x o s v) a) ≡ protocolErred r
   unfolding eventFits firstFault confirmationFault answered noInstruction excepts aborts tell enter
   started-not-answered x o s v d h c = fault-answered sd r (DStartConfirmation x o s v) a (NoInstruction true) (rw (h, w)) (rw c) ∙ rw c
 
-  pub started-in-dialogue : (x o s v : ℕ) (d : Bool) → serviceFits (DStartConfirmation x o s v) ≡ true → r .control ≡ entered Dialogue d → step sd r (Service (DStartConfirmation x o s v) a) ≡ protocolErred r
+  pub started-in-dialogue : (x o s v : ℕ) (d : Bool) → serviceFits (DStartConfirmation x o s v) ≡ true
+      → r .control ≡ entered Dialogue d → step sd r (Service (DStartConfirmation x o s v) a) ≡ protocolErred r
   unfolding eventFits firstFault confirmationFault answered noInstruction excepts aborts tell enter
   started-in-dialogue x o s v d h c = fault-answered sd r (DStartConfirmation x o s v) a (NoInstruction true) (rw (h, w)) (rw c) ∙ rw c
 
-  pub started-in-end : (x o s v : ℕ) (d : Bool) → serviceFits (DStartConfirmation x o s v) ≡ true → r .control ≡ entered End d → step sd r (Service (DStartConfirmation x o s v) a) ≡ protocolErred r
+  pub started-in-end : (x o s v : ℕ) (d : Bool) → serviceFits (DStartConfirmation x o s v) ≡ true
+      → r .control ≡ entered End d → step sd r (Service (DStartConfirmation x o s v) a) ≡ protocolErred r
   unfolding eventFits firstFault confirmationFault answered noInstruction excepts aborts tell enter
   started-in-end x o s v d h c = fault-answered sd r (DStartConfirmation x o s v) a (NoInstruction true) (rw (h, w)) (rw c) ∙ rw c
 
@@ -158,8 +181,10 @@ module _ (r : Record) (a : UserData) (w : userDataFits (r .edition) a ≡ true) 
   pub end-not-air : r .control ≡ entered Dialogue true → step Air r (Service DEndIndication a) ≡ protocolErred r
   end-not-air c = end-errs Air r a w (rw c) (rw c)
 
-  pub ended-not-ground : (x : ℕ) → ltb x results ≡ true → r .control ≡ entered End true → step Ground r (Service (DEndConfirmation x) a) ≡ protocolErred r
+  pub ended-not-ground : (x : ℕ) → ltb x results ≡ true → r .control ≡ entered End true
+      → step Ground r (Service (DEndConfirmation x) a) ≡ protocolErred r
   ended-not-ground x h c = ended-errs Ground r a w x h (rw c) (rw c)
 
-  pub ended-not-air : (x : ℕ) → ltb x results ≡ true → r .control ≡ entered End false → step Air r (Service (DEndConfirmation x) a) ≡ protocolErred r
+  pub ended-not-air : (x : ℕ) → ltb x results ≡ true → r .control ≡ entered End false
+      → step Air r (Service (DEndConfirmation x) a) ≡ protocolErred r
   ended-not-air x h c = ended-errs Air r a w x h (rw c) (rw c)

@@ -78,8 +78,10 @@ pub data Way (sd : Side) (r : Record) : Outcome → Type 0 where
   is-started : (m : Bool) (k s : ℕ) → takes sd (r .control) (StartRequest m) ≡ true → Way sd r (startRequest r m k s)
   is-message : (j : ℕ) → takes sd (r .control) MessageRequest ≡ true → r .highest < j → Way sd r (messageRequest r j)
   is-called : (k : Call) (i : Invoked) (a : UserData) → takes sd (r .control) k ≡ true → busy k ≡ true → Way sd r (sent r k i a)
-  is-invited : (m : Bool) (x : ℕ) → expects sd (r .control) (DStart m) ≡ true → Way sd r (handed (withUser r true) (DStart m) (StartIndication m x))
-  is-confirmed : (a : Reply) (m : Bool) (x : ℕ) → expects sd (r .control) (DStartCnf a) ≡ true → Way sd r (handed (withTimer r false) (DStartCnf a) (StartConfirmation m x))
+  is-invited : (m : Bool) (x : ℕ) → expects sd (r .control) (DStart m) ≡ true
+      → Way sd r (handed (withUser r true) (DStart m) (StartIndication m x))
+  is-confirmed : (a : Reply) (m : Bool) (x : ℕ) → expects sd (r .control) (DStartCnf a) ≡ true
+      → Way sd r (handed (withTimer r false) (DStartCnf a) (StartConfirmation m x))
   is-forwarding : (k s : ℕ) → takesForward sd (r .control) ≡ true → Way sd r (forwardRequest r k s)
   is-responding : (x s v : ℕ) (t : Told) → isIdle (r .control) ≡ true → isAbort t ≡ false → Way sd r (responds r x s v t)
   is-forwarded : (x v : ℕ) → awaitsResponse (r .control) ≡ true → Way sd r (forwardConfirmed r x v)
@@ -123,7 +125,8 @@ pub record StartIs (sd : Side) (r : Record) (x s : ℕ) (a : UserData) : Type 0 
   pub fits : startFits sd r x a ≡ true
 
 -- a start that fits and is a forward is one of a centre, at the ground
-pub forward-ground : (sd : Side) (r : Record) (x : ℕ) (a : UserData) → startFits sd r x a ≡ true → isForward a ≡ true → fromCentre sd x ≡ true
+pub forward-ground : (sd : Side) (r : Record) (x : ℕ) (a : UserData) → startFits sd r x a ≡ true → isForward a ≡ true
+    → fromCentre sd x ≡ true
 unfolding startFits
 forward-ground sd r x a e y = go (fromCentre sd x) e
   where
@@ -150,7 +153,8 @@ module _ (sd : Side) (r : Record) where
       by-test (Way sd r) (isIdle (r .control)) _ _ (λ e. is-closed Untold (λ f. refl)) (λ e. except-way x _ _)
 
   -- what is done about a fault; without one, the instruction
-  answered-way : (p : ServicePrimitive) (a : UserData) (f : Fault) → (f ≡ NoFault → Way sd r (instructed r p a)) → Way sd r (answered r p a f)
+  answered-way : (p : ServicePrimitive) (a : UserData) (f : Fault) → (f ≡ NoFault → Way sd r (instructed r p a))
+      → Way sd r (answered r p a f)
   unfolding answered
   answered-way p a NoFault k = k refl
   answered-way p a (NoInstruction live) k = none-way live
@@ -161,7 +165,8 @@ module _ (sd : Side) (r : Record) where
   answered-way p a (Invalid live) k = except-way live _ _
   answered-way p a (NotPermitted live) k = except-way live _ _
 
-  pub send-expected : (p : Primitive) (may live : Bool) (a : UserData) → sendFault sd r p may live a ≡ NoFault → expects sd (r .control) p ≡ true
+  pub send-expected : (p : Primitive) (may live : Bool) (a : UserData) → sendFault sd r p may live a ≡ NoFault
+      → expects sd (r .control) p ≡ true
   unfolding sendFault
   send-expected p may live a e = not-false _ (passed (not (expects sd (r .control) p)) (NoInstruction true) _ refl e .0)
 
@@ -171,11 +176,13 @@ module _ (sd : Side) (r : Record) where
       pdu-fits (isSend a) live live a NoFault (passed (not (expects sd (r .control) p)) (NoInstruction true) _ refl e .1)
 
   -- a start that fits and is no forward is one that the control expects
-  pub fits-expected : (x : ℕ) (a : UserData) → startFits sd r x a ≡ true → isForward a ≡ false → expects sd (r .control) (DStart (modeOf a)) ≡ true
+  pub fits-expected : (x : ℕ) (a : UserData) → startFits sd r x a ≡ true → isForward a ≡ false
+      → expects sd (r .control) (DStart (modeOf a)) ≡ true
   unfolding startFits
   fits-expected x a e n = go (fromCentre sd x) e
     where
-      go : (b : Bool) → cond b (isForward a) (isStartPdu a && expects sd (r .control) (DStart (modeOf a))) ≡ true → expects sd (r .control) (DStart (modeOf a)) ≡ true
+      go : (b : Bool) → cond b (isForward a) (isStartPdu a && expects sd (r .control) (DStart (modeOf a))) ≡ true
+          → expects sd (r .control) (DStart (modeOf a)) ≡ true
       go true y = absurd (subst T (sym y ∙ n) tt)
       go false y = both-right (isStartPdu a) _ y
 
@@ -183,7 +190,9 @@ module _ (sd : Side) (r : Record) where
   unfolding forwardArrives
   arrives-way s v i =
       by-test (Way sd r) (not (r .forwards)) _ _ (λ e. is-responding serviceNotSupported s noVersion Untold i refl)
-      (λ e. by-test (Way sd r) (eqb v (r .version)) _ _ (λ y. is-responding success s noVersion ForwardIndication i refl) (λ y. is-responding versionNotEqual s (r .version) Untold i refl))
+      (λ e. by-test (Way sd r) (eqb v (r .version)) _ _
+      (λ y. is-responding success s noVersion ForwardIndication i refl)
+      (λ y. is-responding versionNotEqual s (r .version) Untold i refl))
 
   -- in FORWARD only a response has no fault
   pub response-there : (x o s : ℕ) (a : UserData) → responseFault r x o s a ≡ NoFault → isResponse a ≡ true
@@ -193,7 +202,9 @@ module _ (sd : Side) (r : Record) where
       let secure = passed (differs (secures (r .edition)) s (r .request)) (Security (eqb x accepted)) _ refl (away .1) in
       rejected (eqb x accepted) (secure .1)
     where
-      rejected : (b : Bool) → cond b (pduFault false false true true a NoFault) (pduFault false (isResponse a) false true a NoFault) ≡ NoFault → isResponse a ≡ true
+      rejected : (b : Bool)
+          → cond b (pduFault false false true true a NoFault) (pduFault false (isResponse a) false true a NoFault) ≡ NoFault
+          → isResponse a ≡ true
       rejected true k = absurd (subst T (sym (pdu-fits false true true a NoFault k)) tt)
       rejected false k = pdu-fits (isResponse a) false true a NoFault k
 
@@ -202,11 +213,14 @@ module _ (sd : Side) (r : Record) where
   send-other a e = rw (eqb-true (kindOf a) 3 e)
 
   -- nor is a PDU that may be absent
-  pub not-response : (may live i u : Bool) (a : UserData) → pduFault may (sendAllowed may live a) i u a NoFault ≡ NoFault → isResponse a ≡ false
+  pub not-response : (may live i u : Bool) (a : UserData)
+      → pduFault may (sendAllowed may live a) i u a NoFault ≡ NoFault → isResponse a ≡ false
   unfolding pduFault
   not-response may live i u a e = go (isMissing a) refl e
     where
-      go : (b : Bool) → isMissing a ≡ b → cond b (cond may NoFault Missing) (cond (isInvalid a) (Invalid i) (cond (not (sendAllowed may live a)) (NotPermitted u) NoFault)) ≡ NoFault → isResponse a ≡ false
+      go : (b : Bool) → isMissing a ≡ b
+          → cond b (cond may NoFault Missing) (cond (isInvalid a) (Invalid i) (cond (not (sendAllowed may live a)) (NotPermitted u) NoFault)) ≡ NoFault
+          → isResponse a ≡ false
       go true m k = rw (eqb-true (kindOf a) 0 m)
       go false m k =
           let valid = passed (isInvalid a) (Invalid i) _ refl k in
@@ -215,8 +229,13 @@ module _ (sd : Side) (r : Record) where
 
   -- a confirmation without a fault: of a start that the control expects, or of a forward
   confirmed-way : (x o s v : ℕ) (a : UserData) (t : Bool) → expects sd (r .control) (DStartCnf (replyOf x)) ≡ t
-      → cond (not t) (cond (awaitsResponse (r .control)) (responseFault r x o s a) (NoInstruction true)) (cond (turnedAway x o) TurnedAway (cond (differs (secures (r .edition)) s (r .request)) (Security (eqb x accepted)) (pduFault (spares (r .edition)) (sendAllowed (spares (r .edition)) (eqb x accepted) a) (eqb x accepted) true a NoFault))) ≡ NoFault
-      → Way sd r (cond (isResponse a) (forwardConfirmed r (reasonOf a) v) (handed (withTimer r false) (DStartCnf (replyOf x)) (StartConfirmation (r .control .dsc) x)))
+      → cond (not t) (cond (awaitsResponse (r .control)) (responseFault r x o s a) (NoInstruction true)) (cond
+      (turnedAway x o) TurnedAway (cond (differs (secures (r .edition)) s (r .request))
+      (Security (eqb x accepted)) (pduFault (spares (r .edition))
+      (sendAllowed (spares (r .edition)) (eqb x accepted) a) (eqb x accepted) true a NoFault))) ≡
+      NoFault
+      → Way sd r (cond (isResponse a) (forwardConfirmed r (reasonOf a) v)
+      (handed (withTimer r false) (DStartCnf (replyOf x)) (StartConfirmation (r .control .dsc) x)))
   confirmed-way x o s v a true p e =
       let away = passed (turnedAway x o) TurnedAway _ refl e in
       let secure = passed (differs (secures (r .edition)) s (r .request)) (Security (eqb x accepted)) _ refl (away .1) in
@@ -225,7 +244,8 @@ module _ (sd : Side) (r : Record) where
   confirmed-way x o s v a false p e = awaited (awaitsResponse (r .control)) refl e
     where
       awaited : (b : Bool) → awaitsResponse (r .control) ≡ b → cond b (responseFault r x o s a) (NoInstruction true) ≡ NoFault
-          → Way sd r (cond (isResponse a) (forwardConfirmed r (reasonOf a) v) (handed (withTimer r false) (DStartCnf (replyOf x)) (StartConfirmation (r .control .dsc) x)))
+          → Way sd r (cond (isResponse a) (forwardConfirmed r (reasonOf a) v)
+          (handed (withTimer r false) (DStartCnf (replyOf x)) (StartConfirmation (r .control .dsc) x)))
       awaited true q k = rw (response-there x o s a k) (is-forwarded (reasonOf a) v q)
       awaited false q k = absurd (subst T (ap isFault k) tt)
 
@@ -247,7 +267,8 @@ module _ (sd : Side) (r : Record) where
   unfolding instructed firstFault confirmationFault
   instructed-way (DStartIndication x s q v) a e =
       let i = start-there x s q a e in
-      by-test (Way sd r) (isForward a) _ _ (λ y. arrives-way s v (i .idle)) (λ n. is-invited (modeOf a) (q .routing) (fits-expected x a (i .fits) n))
+      by-test (Way sd r) (isForward a) _ _ (λ y. arrives-way s v (i .idle))
+      (λ n. is-invited (modeOf a) (q .routing) (fits-expected x a (i .fits) n))
   instructed-way (DStartConfirmation x o s v) a e = confirmed-way x o s v a (expects sd (r .control) (DStartCnf (replyOf x))) refl e
   instructed-way DDataIndication a e = is-read DData MessageIndication (send-expected DData _ true a e) refl refl
   instructed-way DEndIndication a e = is-read DEnd _ (send-expected DEnd _ true a e) refl refl
@@ -289,7 +310,8 @@ module _ (sd : Side) (r : Record) where
       by-test (Way sd r) (isIdle (r .control)) _ _ (λ e. is-closed Untold (λ f. refl)) (λ e. except-way true _ _)
 
 -- what is not refused is permitted, and no message request that is refused
-pub not-refused : (s p : Bool) (w : StepRefusal) → isNone (cond (not s) Shape (cond (not p) Prohibited w)) ≡ true → (s ≡ true) × ((p ≡ true) × (isNone w ≡ true))
+pub not-refused : (s p : Bool) (w : StepRefusal) → isNone (cond (not s) Shape (cond (not p) Prohibited w)) ≡ true
+    → (s ≡ true) × ((p ≡ true) × (isNone w ≡ true))
 not-refused true true w e = (refl, (refl, e))
 not-refused true false w e = absurd (subst T (sym e) tt)
 not-refused false p w e = absurd (subst T (sym e) tt)

@@ -69,12 +69,15 @@ response-width = omega arith
 
 -- ---- the extension bit of message data behind the bits that lead to them
 
-marked-start : (ed : Edition) (t : PduType) (l : List ℕ) (p m : ℕ) (d : Data) → p ≡ length (alternative t kind.Start ++ modeBits t m) → extended ed t l (is.Start m d) ≡ false → marked ed l p ≡ false
+marked-start : (ed : Edition) (t : PduType) (l : List ℕ) (p m : ℕ) (d : Data)
+    → p ≡ length (alternative t kind.Start ++ modeBits t m) → extended ed t l (is.Start m d) ≡ false
+    → marked ed l p ≡ false
 unfolding stripped.extended
 marked-start Plain t l p m d e h = refl
 marked-start Protected t l p m d e h = ap (λ (x : ℕ). eqb (getD l x 0) 1) e ∙ h
 
-marked-send : (ed : Edition) (t : PduType) (l : List ℕ) (p : ℕ) (d : Data) → p ≡ length (alternative t kind.Send) → extended ed t l (is.Send d) ≡ false → marked ed l p ≡ false
+marked-send : (ed : Edition) (t : PduType) (l : List ℕ) (p : ℕ) (d : Data) → p ≡ length (alternative t kind.Send)
+    → extended ed t l (is.Send d) ≡ false → marked ed l p ≡ false
 unfolding stripped.extended
 marked-send Plain t l p d e h = refl
 marked-send Protected t l p d e h = ap (λ (x : ℕ). eqb (getD l x 0) 1) e ∙ h
@@ -96,7 +99,8 @@ module _ (ed : Edition) (k : Contents ed) where
     read : apduAt ed t l ≡ endedAt l m value
     same : pduIn l l l value ≡ v
 
-  fields-written : (t : PduType) (l : List ℕ) (m : ℕ) (v : Pdu) → Bits l → pduFits ed t v ≡ true → Stands l 0 (pduBits ed t v) m → FieldsRead t l m v
+  fields-written : (t : PduType) (l : List ℕ) (m : ℕ) (v : Pdu) → Bits l → pduFits ed t v ≡ true
+      → Stands l 0 (pduBits ed t v) m → FieldsRead t l m v
   unfolding pduFits pduBits apduAt leadingAt kindMode restAt pduIn
   fields-written t l m (abortUser r) b h s =
       let p : ℕ = 0 + length (indexBits (lastOf t) 0) in
@@ -123,54 +127,67 @@ module _ (ed : Edition) (k : Contents ed) where
       let p : ℕ = 0 + length (indexBits (lastOf t) 3) in
       let w = stands-split l 0 m (indexBits (lastOf t) 3) (contentBits ed x) s in
       let a = extensible-index (lastOf t) (small t) .written-read l 0 3 p (has t 3 (omega arith)) (w .first) in
-      let d = k .send-written t l p m x b (both-left (contentFits ed t x) (mustHold ed (isThere (x .message))) h) (both-right (contentFits ed t x) (mustHold ed (isThere (x .message))) h) (w .second) in
+      let d = k .send-written t l p m x b (both-left (contentFits ed t x) (mustHold ed (isThere (x .message))) h)
+      (both-right (contentFits ed t x) (mustHold ed (isThere (x .message))) h) (w .second) in
       record { value = is.Send (d .parts); read = rw (a, d .read); same = ap send (d .same) }
   fields-written t l m (forward x y) b h s =
       let p : ℕ = 0 + length (indexBits (lastOf t) 4) in
       let w = stands-split l 0 m (indexBits (lastOf t) 4) (forwardBits ed x y) s in
-      let a = extensible-index (lastOf t) (small t) .written-read l 0 4 p (has-forward t 4 (both-left (forwards t) (forwardPduFits ed x y) h) (omega arith)) (w .first) in
+      let a = extensible-index (lastOf t) (small t) .written-read l 0 4 p
+      (has-forward t 4 (both-left (forwards t) (forwardPduFits ed x y) h) (omega arith)) (w .first) in
       let f = k .forward-written l p m x y b (both-right (forwards t) (forwardPduFits ed x y) h) (w .second) in
       record { value = is.Forward (f .value); read = rw (a, f .read); same = rw (f .heading, f .message) }
   fields-written t l m (forwardResponse r) b h s =
       let p : ℕ = 0 + length (indexBits (lastOf t) 5) in
       let w = stands-split l 0 m (indexBits (lastOf t) 5) (indexBits responseLast r) s in
-      let a = extensible-index (lastOf t) (small t) .written-read l 0 5 p (has-forward t 5 (both-left (forwards t) (wholeFits 0 responseLast r) h) (omega arith)) (w .first) in
-      let c = extensible-index responseLast (omega arith) .written-read l p r m (both-right (forwards t) (wholeFits 0 responseLast r) h) (w .second) in
+      let a = extensible-index (lastOf t) (small t) .written-read l 0 5 p
+      (has-forward t 5 (both-left (forwards t) (wholeFits 0 responseLast r) h) (omega arith)) (w .first) in
+      let c = extensible-index responseLast (omega arith) .written-read l p r m
+      (both-right (forwards t) (wholeFits 0 responseLast r) h) (w .second) in
       record { value = is.ForwardResponse r; read = rw (a, c); same = refl }
 
   -- ---- sizes by the value
 
   pub pdu-value-most : (t : PduType) (v : Pdu) → pduFits ed t v ≡ true → Bits (pduBits ed t v) → length (pduBits ed t v) ≤ pduMost
   unfolding pduFits pduBits
-  pdu-value-most t (abortUser r) h b = rw (length-append, length-alternative) (omega (arith, width-most t, reason-most (userLast ed) r (user-width ed)))
-  pdu-value-most t (abortProvider r) h b = rw (length-append, length-alternative) (omega (arith, width-most t, reason-most providerLast r provider-width))
+  pdu-value-most t (abortUser r) h b = rw (length-append, length-alternative)
+      (omega (arith, width-most t, reason-most (userLast ed) r (user-width ed)))
+  pdu-value-most t (abortProvider r) h b = rw (length-append, length-alternative)
+      (omega (arith, width-most t, reason-most providerLast r provider-width))
   pdu-value-most t (start m c) h b =
       let x = bits-behind (modeBits t m) (startBits ed c) (bits-behind (alternative t kind.Start) (modeBits t m ++ startBits ed c) b) in
       let n = k .start-value-most t c (both-right (modeFits t m) (contentFits ed t c) h) x in
       rw (length-append, length-alternative, length-append) (omega (arith, lead-most t m))
   pdu-value-most t (send c) h b =
-      let n = k .content-value-most t c (both-left (contentFits ed t c) (mustHold ed (isThere (c .message))) h) (bits-behind (alternative t kind.Send) (contentBits ed c) b) in
+      let n = k .content-value-most t c (both-left (contentFits ed t c) (mustHold ed (isThere (c .message))) h)
+      (bits-behind (alternative t kind.Send) (contentBits ed c) b) in
       rw (length-append, length-alternative) (omega (arith, width-most t))
   pdu-value-most t (forward x m) h b =
-      let n = k .forward-value-most x m (both-right (forwards t) (forwardPduFits ed x m) h) (bits-behind (alternative t kind.Forward) (forwardBits ed x m) b) in
+      let n = k .forward-value-most x m (both-right (forwards t) (forwardPduFits ed x m) h)
+      (bits-behind (alternative t kind.Forward) (forwardBits ed x m) b) in
       rw (length-append, length-alternative) (omega (arith, width-most t))
-  pdu-value-most t (forwardResponse x) h b = rw (length-append, length-alternative) (omega (arith, width-most t, reason-most responseLast x response-width))
+  pdu-value-most t (forwardResponse x) h b = rw (length-append, length-alternative)
+      (omega (arith, width-most t, reason-most responseLast x response-width))
 
   pub written-read : (t : PduType) (v : Pdu) (s : List ℕ) → Bits (pduBits ed t v) → pduFits ed t v ≡ true → bufferLeast ≤ length s
       → ApduRead ed t (lent (take (bytesFor (length (pduBits ed t v))) (putBits s 0 (padded (pduBits ed t v))))) v
   written-read t v s b h g =
       let m = pdu-value-most t v h b in
       let e = front s (pduBits ed t v) b (omega arith) g .bits in
-      let f = fields-written t (padded (pduBits ed t v)) (length (pduBits ed t v)) v (pad-bits (pduBits ed t v) b) h (stands-front (pduBits ed t v)) in
+      let f = fields-written t (padded (pduBits ed t v)) (length (pduBits ed t v)) v (pad-bits (pduBits ed t v) b) h
+      (stands-front (pduBits ed t v)) in
       let r = ended-well (padded (pduBits ed t v)) (length (pduBits ed t v)) 0 _ (f .value) (tail-padded (pduBits ed t v)) in
       subst (λ (l : List ℕ). ApduRead ed t l v) (sym e) (record { value = f .value; read = f .read ∙ r; same = f .same })
 
   -- ---- sizes by where the parts stand
 
-  pub pdu-most : (t : PduType) (li lm lc : List ℕ) (a : Apdu) → apduFits ed t li lm lc a ≡ true → length (pduBits ed t (pduIn li lm lc a)) ≤ pduMost
+  pub pdu-most : (t : PduType) (li lm lc : List ℕ) (a : Apdu) → apduFits ed t li lm lc a ≡ true
+      → length (pduBits ed t (pduIn li lm lc a)) ≤ pduMost
   unfolding apduFits pduBits pduIn
-  pdu-most t li lm lc (is.AbortUser r) h = rw (length-append, length-alternative) (omega (arith, width-most t, reason-most (userLast ed) r (user-width ed)))
-  pdu-most t li lm lc (is.AbortProvider r) h = rw (length-append, length-alternative) (omega (arith, width-most t, reason-most providerLast r provider-width))
+  pdu-most t li lm lc (is.AbortUser r) h = rw (length-append, length-alternative)
+      (omega (arith, width-most t, reason-most (userLast ed) r (user-width ed)))
+  pdu-most t li lm lc (is.AbortProvider r) h = rw (length-append, length-alternative)
+      (omega (arith, width-most t, reason-most providerLast r provider-width))
   pdu-most t li lm lc (is.Start m d) h =
       let n = k .start-most li lm lc d (both-right (modeFits t m) (dataFits li lm lc d) h) in
       rw (length-append, length-alternative, length-append) (omega (arith, lead-most t m))
@@ -180,18 +197,26 @@ module _ (ed : Edition) (k : Contents ed) where
   pdu-most t li lm lc (is.Forward f) h =
       let n = k .forward-most lm f (both-right (forwards t) (forwardFits lm f) h) in
       rw (length-append, length-alternative) (omega (arith, width-most t))
-  pdu-most t li lm lc (is.ForwardResponse x) h = rw (length-append, length-alternative) (omega (arith, width-most t, reason-most responseLast x response-width))
+  pdu-most t li lm lc (is.ForwardResponse x) h = rw (length-append, length-alternative)
+      (omega (arith, width-most t, reason-most responseLast x response-width))
 
   pub pdu-are-bits : (t : PduType) (li lm lc : List ℕ) (a : Apdu) → Bits li → Bits lm → Bits lc → Bits (pduBits ed t (pduIn li lm lc a))
   unfolding pduBits pduIn
-  pdu-are-bits t li lm lc (is.AbortUser r) i m c = bits-append (indexBits (lastOf t) 0) (indexBits (userLast ed) r) (index-are-bits t 0) (extensible-index (userLast ed) (user-small ed) .are-bits r)
-  pdu-are-bits t li lm lc (is.AbortProvider r) i m c = bits-append (indexBits (lastOf t) 1) (indexBits providerLast r) (index-are-bits t 1) (extensible-index providerLast (omega arith) .are-bits r)
-  pdu-are-bits t li lm lc (is.Start v d) i m c = bits-append (indexBits (lastOf t) 2) _ (index-are-bits t 2) (bits-append (modeBits t v) (startBits ed (contentIn li lm lc d)) (mode-are-bits t v) (k .start-are-bits li lm lc d i m c))
-  pdu-are-bits t li lm lc (is.Send d) i m c = bits-append (indexBits (lastOf t) 3) (contentBits ed (contentIn li lm lc d)) (index-are-bits t 3) (k .content-are-bits li lm lc d i m c)
+  pdu-are-bits t li lm lc (is.AbortUser r) i m c = bits-append (indexBits (lastOf t) 0) (indexBits (userLast ed) r)
+      (index-are-bits t 0) (extensible-index (userLast ed) (user-small ed) .are-bits r)
+  pdu-are-bits t li lm lc (is.AbortProvider r) i m c = bits-append (indexBits (lastOf t) 1) (indexBits providerLast r)
+      (index-are-bits t 1) (extensible-index providerLast (omega arith) .are-bits r)
+  pdu-are-bits t li lm lc (is.Start v d) i m c = bits-append (indexBits (lastOf t) 2) _ (index-are-bits t 2) (
+      bits-append (modeBits t v) (startBits ed (contentIn li lm lc d)) (mode-are-bits t v)
+      (k .start-are-bits li lm lc d i m c))
+  pdu-are-bits t li lm lc (is.Send d) i m c = bits-append (indexBits (lastOf t) 3)
+      (contentBits ed (contentIn li lm lc d)) (index-are-bits t 3) (k .content-are-bits li lm lc d i m c)
   pdu-are-bits t li lm lc (is.Forward f) i m c =
       bits-append (indexBits (lastOf t) 4) (forwardBits ed (f .heading) (itemsIn lm bit (f .message))) (index-are-bits t 4)
-      (k .forward-are-bits (f .heading) (itemsIn lm bit (f .message)) (bits-take (bit * f .message .count) (drop (f .message .at) lm) (bits-drop (f .message .at) lm m)))
-  pdu-are-bits t li lm lc (is.ForwardResponse x) i m c = bits-append (indexBits (lastOf t) 5) (indexBits responseLast x) (index-are-bits t 5) (extensible-index responseLast (omega arith) .are-bits x)
+      (k .forward-are-bits (f .heading) (itemsIn lm bit (f .message))
+      (bits-take (bit * f .message .count) (drop (f .message .at) lm) (bits-drop (f .message .at) lm m)))
+  pdu-are-bits t li lm lc (is.ForwardResponse x) i m c = bits-append (indexBits (lastOf t) 5) (indexBits responseLast x)
+      (index-are-bits t 5) (extensible-index responseLast (omega arith) .are-bits x)
 
   -- ---- read and written
 
@@ -201,35 +226,41 @@ module _ (ed : Edition) (k : Contents ed) where
     stands : extended ed t l a ≡ false → Stands l 0 (pduBits ed t (pduIn l l l a)) next
     end : ends a next
 
-  user-stood : (t : PduType) (l : List ℕ) (p n r : ℕ) → Bits l → Stands l 0 (indexBits (lastOf t) 0) p → extensibleIndex l p (userLast ed) ≡ Value r n → Stood t l (is.AbortUser r) n
+  user-stood : (t : PduType) (l : List ℕ) (p n r : ℕ) → Bits l → Stands l 0 (indexBits (lastOf t) 0) p
+      → extensibleIndex l p (userLast ed) ≡ Value r n → Stood t l (is.AbortUser r) n
   unfolding apduFits pduFits pduBits pduIn
   user-stood t l p n r b s f =
       let i = reason-is l 0 p n r (userLast ed) (indexBits (lastOf t) 0) b (user-small ed) s f in
       record { placed-fits = i .fits; fits = i .fits; stands = λ e. i .stands; end = tt }
 
-  provider-stood : (t : PduType) (l : List ℕ) (p n r : ℕ) → Bits l → Stands l 0 (indexBits (lastOf t) 1) p → extensibleIndex l p providerLast ≡ Value r n → Stood t l (is.AbortProvider r) n
+  provider-stood : (t : PduType) (l : List ℕ) (p n r : ℕ) → Bits l → Stands l 0 (indexBits (lastOf t) 1) p
+      → extensibleIndex l p providerLast ≡ Value r n → Stood t l (is.AbortProvider r) n
   unfolding apduFits pduFits pduBits pduIn
   provider-stood t l p n r b s f =
       let i = reason-is l 0 p n r providerLast (indexBits (lastOf t) 1) b (omega arith) s f in
       record { placed-fits = i .fits; fits = i .fits; stands = λ e. i .stands; end = tt }
 
-  start-stood : (t : PduType) (l : List ℕ) (p q n m : ℕ) (d : Data) → Bits l → Stands l 0 (indexBits (lastOf t) 2) p → modeAt t l p ≡ Value m q → startAt ed t l q ≡ taken.Is d n → Stood t l (is.Start m d) n
+  start-stood : (t : PduType) (l : List ℕ) (p q n m : ℕ) (d : Data) → Bits l → Stands l 0 (indexBits (lastOf t) 2) p
+      → modeAt t l p ≡ Value m q → startAt ed t l q ≡ taken.Is d n → Stood t l (is.Start m d) n
   unfolding apduFits pduFits pduBits pduIn
   start-stood t l p q n m d b s f g =
       let sp = s .place in
       let sw = s .within in
       let v = mode-read t l p m q b (omega arith) f in
       let w = k .start-read t l q n d b g in
-      let z : q ≡ length (alternative t kind.Start ++ modeBits t m) = omega (arith, v .stands .place, length-append (alternative t kind.Start) (modeBits t m)) in
+      let z : q ≡ length (alternative t kind.Start ++ modeBits t m) = omega
+      (arith, v .stands .place, length-append (alternative t kind.Start) (modeBits t m)) in
       record {
         placed-fits = both-hold _ _ (v .fits) (w .placed-fits);
         fits = both-hold _ _ (v .fits) (w .fits);
         stands = λ (e : extended ed t l (is.Start m d) ≡ false).
-            stands-join l 0 p n (indexBits (lastOf t) 2) _ s (stands-join l p q n (modeBits t m) (startBits ed (contentIn l l l d)) (v .stands) (w .stands (marked-start ed t l q m d z e)));
+            stands-join l 0 p n (indexBits (lastOf t) 2) _ s (stands-join l p q n (modeBits t m)
+            (startBits ed (contentIn l l l d)) (v .stands) (w .stands (marked-start ed t l q m d z e)));
         end = tt;
       }
 
-  send-stood : (t : PduType) (l : List ℕ) (p n : ℕ) (d : Data) → Bits l → Stands l 0 (indexBits (lastOf t) 3) p → sendAt ed t l p ≡ taken.Is d n → Stood t l (is.Send d) n
+  send-stood : (t : PduType) (l : List ℕ) (p n : ℕ) (d : Data) → Bits l → Stands l 0 (indexBits (lastOf t) 3) p
+      → sendAt ed t l p ≡ taken.Is d n → Stood t l (is.Send d) n
   unfolding apduFits pduFits pduBits pduIn
   send-stood t l p n d b s g =
       let w = k .send-read t l p n d b g in
@@ -237,11 +268,13 @@ module _ (ed : Edition) (k : Contents ed) where
       record {
         placed-fits = w .placed-fits;
         fits = both-hold _ _ (w .fits) (k .send-holds t l p n d g);
-        stands = λ (e : extended ed t l (is.Send d) ≡ false). stands-join l 0 p n (indexBits (lastOf t) 3) (contentBits ed (contentIn l l l d)) s (w .stands (marked-send ed t l p d z e));
+        stands = λ (e : extended ed t l (is.Send d) ≡ false). stands-join l 0 p n (indexBits (lastOf t) 3)
+            (contentBits ed (contentIn l l l d)) s (w .stands (marked-send ed t l p d z e));
         end = tt;
       }
 
-  forward-stood : (t : PduType) (l : List ℕ) (p n : ℕ) (f : Forward) → Bits l → forwards t ≡ true → Stands l 0 (indexBits (lastOf t) 4) p → forwardAt ed l p ≡ forwarded.Is f n → Stood t l (is.Forward f) n
+  forward-stood : (t : PduType) (l : List ℕ) (p n : ℕ) (f : Forward) → Bits l → forwards t ≡ true
+      → Stands l 0 (indexBits (lastOf t) 4) p → forwardAt ed l p ≡ forwarded.Is f n → Stood t l (is.Forward f) n
   unfolding apduFits pduFits pduBits pduIn
   forward-stood t l p n f b y s g =
       let w = k .forward-read l p f n b g in
@@ -252,7 +285,9 @@ module _ (ed : Edition) (k : Contents ed) where
         end = w .end;
       }
 
-  response-stood : (t : PduType) (l : List ℕ) (p n r : ℕ) → Bits l → forwards t ≡ true → Stands l 0 (indexBits (lastOf t) 5) p → extensibleIndex l p responseLast ≡ Value r n → Stood t l (is.ForwardResponse r) n
+  response-stood : (t : PduType) (l : List ℕ) (p n r : ℕ) → Bits l → forwards t ≡ true
+      → Stands l 0 (indexBits (lastOf t) 5) p → extensibleIndex l p responseLast ≡ Value r n
+      → Stood t l (is.ForwardResponse r) n
   unfolding apduFits pduFits pduBits pduIn
   response-stood t l p n r b y s g =
       let i = reason-is l 0 p n r responseLast (indexBits (lastOf t) 5) b (omega arith) s g in
@@ -270,25 +305,39 @@ module _ (ed : Edition) (k : Contents ed) where
       let i = ended-is l n a b e in
       subst (λ (x : Apdu). ApduIs t l x) (i .same) (record { next = n; left = i .left; end = i .end; stood = u; tail = i .tail })
 
-  rest-read : (t : PduType) (l : List ℕ) (p : ℕ) (c : Kind) (m q : ℕ) (a : Apdu) → Bits l → indexOf c ≤ lastOf t → Stands l 0 (indexBits (lastOf t) (indexOf c)) p → kindMode t l c p ≡ Value m q → restAt ed t l c m q ≡ decoded.Is a → ApduIs t l a
+  rest-read : (t : PduType) (l : List ℕ) (p : ℕ) (c : Kind) (m q : ℕ) (a : Apdu) → Bits l → indexOf c ≤ lastOf t
+      → Stands l 0 (indexBits (lastOf t) (indexOf c)) p → kindMode t l c p ≡ Value m q
+      → restAt ed t l c m q ≡ decoded.Is a → ApduIs t l a
   unfolding kindMode restAt
   rest-read t l p kind.AbortUser m q a b h s f e =
       via (ApduIs t l a) decoded.Refused (decoded.Is a) (refused-not (ApduIs t l a) a) (extensibleIndex l q (userLast ed)) _
-      (λ (r n : ℕ) (g : extensibleIndex l q (userLast ed) ≡ Value r n) (j : endedAt l n (is.AbortUser r) ≡ decoded.Is a). ended-read t l n a (is.AbortUser r) (user-stood t l q n r b (stands-at l 0 p q _ (value-place p m q f) s) g) j) e
+      (λ (r n : ℕ) (g : extensibleIndex l q (userLast ed) ≡ Value r n)
+      (j : endedAt l n (is.AbortUser r) ≡ decoded.Is a). ended-read t l n a (is.AbortUser r)
+      (user-stood t l q n r b (stands-at l 0 p q _ (value-place p m q f) s) g) j) e
   rest-read t l p kind.AbortProvider m q a b h s f e =
       via (ApduIs t l a) decoded.Refused (decoded.Is a) (refused-not (ApduIs t l a) a) (extensibleIndex l q providerLast) _
-      (λ (r n : ℕ) (g : extensibleIndex l q providerLast ≡ Value r n) (j : endedAt l n (is.AbortProvider r) ≡ decoded.Is a). ended-read t l n a (is.AbortProvider r) (provider-stood t l q n r b (stands-at l 0 p q _ (value-place p m q f) s) g) j) e
+      (λ (r n : ℕ) (g : extensibleIndex l q providerLast ≡ Value r n)
+      (j : endedAt l n (is.AbortProvider r) ≡ decoded.Is a). ended-read t l n a (is.AbortProvider r)
+      (provider-stood t l q n r b (stands-at l 0 p q _ (value-place p m q f) s) g) j) e
   rest-read t l p kind.Start m q a b h s f e =
-      via-data (ApduIs t l a) a (startAt ed t l q) _ (λ (d : Data) (n : ℕ) (g : startAt ed t l q ≡ taken.Is d n) (j : endedAt l n (is.Start m d) ≡ decoded.Is a). ended-read t l n a (is.Start m d) (start-stood t l p q n m d b s f g) j) e
+      via-data (ApduIs t l a) a (startAt ed t l q) _ (λ (d : Data) (n : ℕ) (g : startAt ed t l q ≡ taken.Is d n)
+      (j : endedAt l n (is.Start m d) ≡ decoded.Is a). ended-read t l n a (is.Start m d)
+      (start-stood t l p q n m d b s f g) j) e
   rest-read t l p kind.Send m q a b h s f e =
-      via-data (ApduIs t l a) a (sendAt ed t l q) _ (λ (d : Data) (n : ℕ) (g : sendAt ed t l q ≡ taken.Is d n) (j : endedAt l n (is.Send d) ≡ decoded.Is a). ended-read t l n a (is.Send d) (send-stood t l q n d b (stands-at l 0 p q _ (value-place p m q f) s) g) j) e
+      via-data (ApduIs t l a) a (sendAt ed t l q) _ (λ (d : Data) (n : ℕ) (g : sendAt ed t l q ≡ taken.Is d n)
+      (j : endedAt l n (is.Send d) ≡ decoded.Is a). ended-read t l n a (is.Send d)
+      (send-stood t l q n d b (stands-at l 0 p q _ (value-place p m q f) s) g) j) e
   rest-read t l p kind.Forward m q a b h s f e =
       via-forward (ApduIs t l a) a (forwardAt ed l q) _ (λ (x : Forward) (n : ℕ) (g : forwardAt ed l q ≡ forwarded.Is x n) (j : endedAt l n (is.Forward x) ≡ decoded.Is a).
-      ended-read t l n a (is.Forward x) (forward-stood t l q n x b (ground-only t 4 h (omega arith)) (stands-at l 0 p q _ (value-place p m q f) s) g) j) e
+      ended-read t l n a (is.Forward x)
+      (forward-stood t l q n x b (ground-only t 4 h (omega arith)) (stands-at l 0 p q _ (value-place p m q f) s) g)
+      j) e
   rest-read t l p kind.ForwardResponse m q a b h s f e =
       via (ApduIs t l a) decoded.Refused (decoded.Is a) (refused-not (ApduIs t l a) a) (extensibleIndex l q responseLast) _
       (λ (r n : ℕ) (g : extensibleIndex l q responseLast ≡ Value r n) (j : endedAt l n (is.ForwardResponse r) ≡ decoded.Is a).
-      ended-read t l n a (is.ForwardResponse r) (response-stood t l q n r b (ground-only t 5 h (omega arith)) (stands-at l 0 p q _ (value-place p m q f) s) g) j) e
+      ended-read t l n a (is.ForwardResponse r)
+      (response-stood t l q n r b (ground-only t 5 h (omega arith)) (stands-at l 0 p q _ (value-place p m q f) s) g)
+      j) e
 
   apdu-read : (t : PduType) (l : List ℕ) (a : Apdu) → Bits l → apduAt ed t l ≡ decoded.Is a → ApduIs t l a
   unfolding apduAt
@@ -320,13 +369,16 @@ module _ (ed : Edition) (k : Contents ed) where
   unfolding apduFits pduBits pduIn
   forward-run t l f b e =
       let i = apdu-read t l (is.Forward f) b e in
-      let s : Stands l 0 (alternative t kind.Forward ++ forwardBits ed (f .heading) (itemsIn l bit (f .message))) (i .next) = i .stood .stands (unextended ed t l f) in
-      let w = stands-split l 0 (i .next) (alternative t kind.Forward) (forwardBits ed (f .heading) (itemsIn l bit (f .message))) s .second in
+      let s : Stands l 0 (alternative t kind.Forward ++ forwardBits ed (f .heading) (itemsIn l bit (f .message)))
+      (i .next) = i .stood .stands (unextended ed t l f) in
+      let w = stands-split l 0 (i .next) (alternative t kind.Forward)
+      (forwardBits ed (f .heading) (itemsIn l bit (f .message))) s .second in
       let g = both-left (forwards t) (forwardFits l f) (i .stood .placed-fits) in
       let p : 0 + length (alternative t kind.Forward) ≡ 4 = omega (arith, four t g) in
       let fits = both-right (forwards t) (forwardFits l f) (i .stood .placed-fits) in
       let m = k .forward-most l f fits in
-      let n : length (forwardBits ed (f .heading) (itemsIn l bit (f .message))) ≡ f .message .at + f .message .count - 4 = omega (arith, i .stood .end, w .place, p) in
+      let n : length (forwardBits ed (f .heading) (itemsIn l bit (f .message))) ≡ f .message .at + f .message .count - 4
+      = omega (arith, i .stood .end, w .place, p) in
       record {
         from = omega (arith, i .stood .end, w .place, p);
         within = omega (arith, i .stood .end, w .place, w .within, p);

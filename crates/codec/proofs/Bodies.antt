@@ -70,7 +70,8 @@ protected-is t b e = go (dataAt b 0) refl (both-right (clear b) (wholly (dataAt 
     go (taken.Is d next) q w =
         let h = bits-only b (both-left (bitsOnly b) (clear b && wholly (dataAt b 0) (length b)) e) in
         let i = data-read b 0 next d h q in
-        let z : i .mark ≡ 0 = sym (data-mark b 0 next d i) ∙ eqb-true (getD b 0 0) 0 (both-left (clear b) (wholly (dataAt b 0) (length b)) rest) in
+        let z : i .mark ≡ 0 = sym (data-mark b 0 next d i) ∙ eqb-true (getD b 0 0) 0
+        (both-left (clear b) (wholly (dataAt b 0) (length b)) rest) in
         record { content = contentIn b b b d; fits = data-value-fits b b b d (i .placed-fits); bits = all-of b (protected.contentBits (contentIn b b b d)) next (data-plain b 0 next d i z) (eqb-true next (length b) w); are-bits = h }
     go (taken.Refused r) q w = never (cc)
 
@@ -94,11 +95,19 @@ module _ (t : PduType) (c : Content) (h : protected.contentFits c ≡ true) wher
 
   protected-body : Bits (protected.contentBits c) → isBody Protected t (protected.contentBits c) ≡ true
   unfolding isBody
-  protected-body b = rw (only-bits (protected.contentBits c) b, first-clear, whole .read, eq-eqb (length (protected.contentBits c)) (length (protected.contentBits c)) refl)
+  protected-body b = rw (
+    only-bits (protected.contentBits c) b,
+    first-clear,
+    whole .read,
+    eq-eqb
+        (length (protected.contentBits c)) (length (protected.contentBits c)) refl,
+  )
 
   protected-carries : carries Protected (protected.contentBits c) ≡ isThere (c .message)
   unfolding carries
-  protected-carries = rw (whole .read) (sym (content-there (protected.contentBits c) (protected.contentBits c) (protected.contentBits c) (whole .parts)) ∙ ap (λ (v : Content). isThere (v .message)) (whole .content))
+  protected-carries = rw (whole .read) (sym
+      (content-there (protected.contentBits c) (protected.contentBits c) (protected.contentBits c) (whole .parts)) ∙
+      ap (λ (v : Content). isThere (v .message)) (whole .content))
 
 -- ---- type 2
 
@@ -150,15 +159,18 @@ pub body-is : (ed : Edition) (t : PduType) (b : List ℕ) → isBody ed t b ≡ 
 body-is Plain t b e = plain-is t b e
 body-is Protected t b e = protected-is t b e
 
-pub is-body : (ed : Edition) (t : PduType) (c : Content) → contentFits ed t c ≡ true → Bits (contentBits ed c) → isBody ed t (contentBits ed c) ≡ true
+pub is-body : (ed : Edition) (t : PduType) (c : Content) → contentFits ed t c ≡ true → Bits (contentBits ed c)
+    → isBody ed t (contentBits ed c) ≡ true
 is-body Plain t c h b = optional-body t (c .message) (content-is (sentBy t) c h .message) b
 is-body Protected t c h b = protected-body t c h b
 
-pub carries-is : (ed : Edition) (t : PduType) (c : Content) → contentFits ed t c ≡ true → Bits (contentBits ed c) → carries ed (contentBits ed c) ≡ isThere (c .message)
+pub carries-is : (ed : Edition) (t : PduType) (c : Content) → contentFits ed t c ≡ true → Bits (contentBits ed c)
+    → carries ed (contentBits ed c) ≡ isThere (c .message)
 carries-is Plain t c h b = optional-carries t (c .message) (content-is (sentBy t) c h .message) b
 carries-is Protected t c h b = protected-carries t c h
 
-pub start-of : (ed : Edition) (t : PduType) (c : Content) → contentFits ed t c ≡ true → Bits (contentBits ed c) → startBits ed c ≡ startOf ed (contentBits ed c)
+pub start-of : (ed : Edition) (t : PduType) (c : Content) → contentFits ed t c ≡ true → Bits (contentBits ed c)
+    → startBits ed c ≡ startOf ed (contentBits ed c)
 unfolding startOf
 start-of Plain t c h b = optional-start t (c .message) (content-is (sentBy t) c h .message) b
 start-of Protected t c h b = refl

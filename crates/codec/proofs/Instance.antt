@@ -33,7 +33,8 @@ unfolding plain.givenFits
 given-places Plain t li lm lc d h = both-left (dataFits li lm lc d) (plain.contentFits (sentBy t) (contentIn li lm lc d)) h
 given-places Protected t li lm lc d h = h
 
-given-value : (ed : Edition) (t : PduType) (li lm lc : List ℕ) (d : Data) → givenFits ed t li lm lc d ≡ true → contentFits ed t (contentIn li lm lc d) ≡ true
+given-value : (ed : Edition) (t : PduType) (li lm lc : List ℕ) (d : Data) → givenFits ed t li lm lc d ≡ true
+    → contentFits ed t (contentIn li lm lc d) ≡ true
 unfolding plain.givenFits
 given-value Plain t li lm lc d h = both-right (dataFits li lm lc d) (plain.contentFits (sentBy t) (contentIn li lm lc d)) h
 given-value Protected t li lm lc d h = data-value-fits li lm lc d h
@@ -43,11 +44,13 @@ unfolding plain.forwardGivenFits
 forward-given-places Plain lm f h = both-left (forwardFits lm f) (elementsFit (f .heading) (itemsIn lm bit (f .message))) h
 forward-given-places Protected lm f h = h
 
-forward-given-value : (ed : Edition) (lm : List ℕ) (f : Forward) → forwardGivenFits ed lm f ≡ true → forwardPduFits ed (f .heading) (itemsIn lm bit (f .message)) ≡ true
+forward-given-value : (ed : Edition) (lm : List ℕ) (f : Forward) → forwardGivenFits ed lm f ≡ true
+    → forwardPduFits ed (f .heading) (itemsIn lm bit (f .message)) ≡ true
 unfolding plain.forwardGivenFits forwardFits
 forward-given-value Plain lm f h =
     both-hold (headingFits (f .heading)) (elementsFit (f .heading) (itemsIn lm bit (f .message)))
-    (both-left (headingFits (f .heading)) (itemsFit lm bit 0 messageMost (f .message)) (both-left (forwardFits lm f) (elementsFit (f .heading) (itemsIn lm bit (f .message))) h))
+    (both-left (headingFits (f .heading)) (itemsFit lm bit 0 messageMost (f .message))
+    (both-left (forwardFits lm f) (elementsFit (f .heading) (itemsIn lm bit (f .message))) h))
     (both-right (forwardFits lm f) (elementsFit (f .heading) (itemsIn lm bit (f .message))) h)
 forward-given-value Protected lm f h = forward-value-fits lm f h
 

@@ -135,18 +135,24 @@ pub record ForwardRun (ed : Edition) (l : List ℕ) (f : Forward) : Type 0 where
 pub record Laws (ed : Edition) : Type 0 where
   -- what the host gives stands where it says, and is a value that the edition carries
   pub given-places : (t : PduType) (li lm lc : List ℕ) (d : Data) → givenFits ed t li lm lc d ≡ true → dataFits li lm lc d ≡ true
-  pub given-value : (t : PduType) (li lm lc : List ℕ) (d : Data) → givenFits ed t li lm lc d ≡ true → contentFits ed t (contentIn li lm lc d) ≡ true
+  pub given-value : (t : PduType) (li lm lc : List ℕ) (d : Data) → givenFits ed t li lm lc d ≡ true
+      → contentFits ed t (contentIn li lm lc d) ≡ true
   pub forward-given-places : (lm : List ℕ) (f : Forward) → forwardGivenFits ed lm f ≡ true → forwardFits lm f ≡ true
-  pub forward-given-value : (lm : List ℕ) (f : Forward) → forwardGivenFits ed lm f ≡ true → forwardPduFits ed (f .heading) (itemsIn lm bit (f .message)) ≡ true
+  pub forward-given-value : (lm : List ℕ) (f : Forward) → forwardGivenFits ed lm f ≡ true
+      → forwardPduFits ed (f .heading) (itemsIn lm bit (f .message)) ≡ true
   -- encodings are bits
   pub content-are-bits : (li lm lc : List ℕ) (d : Data) → Bits li → Bits lm → Bits lc → Bits (contentBits ed (contentIn li lm lc d))
   pub start-are-bits : (li lm lc : List ℕ) (d : Data) → Bits li → Bits lm → Bits lc → Bits (startBits ed (contentIn li lm lc d))
   pub pdu-are-bits : (t : PduType) (li lm lc : List ℕ) (a : Apdu) → Bits li → Bits lm → Bits lc → Bits (pduBits ed t (pduIn li lm lc a))
   -- how large they are
-  pub content-most : (li lm lc : List ℕ) (d : Data) → dataFits li lm lc d ≡ true → length (contentBits ed (contentIn li lm lc d)) ≤ contentMost
-  pub forward-most : (lm : List ℕ) (f : Forward) → forwardFits lm f ≡ true → length (forwardBits ed (f .heading) (itemsIn lm bit (f .message))) ≤ forwardMost
-  pub pdu-most : (t : PduType) (li lm lc : List ℕ) (a : Apdu) → apduFits ed t li lm lc a ≡ true → length (pduBits ed t (pduIn li lm lc a)) ≤ pduMost
-  pub content-value-most : (t : PduType) (c : Content) → contentFits ed t c ≡ true → Bits (contentBits ed c) → length (contentBits ed c) ≤ contentMost
+  pub content-most : (li lm lc : List ℕ) (d : Data) → dataFits li lm lc d ≡ true
+      → length (contentBits ed (contentIn li lm lc d)) ≤ contentMost
+  pub forward-most : (lm : List ℕ) (f : Forward) → forwardFits lm f ≡ true
+      → length (forwardBits ed (f .heading) (itemsIn lm bit (f .message))) ≤ forwardMost
+  pub pdu-most : (t : PduType) (li lm lc : List ℕ) (a : Apdu) → apduFits ed t li lm lc a ≡ true
+      → length (pduBits ed t (pduIn li lm lc a)) ≤ pduMost
+  pub content-value-most : (t : PduType) (c : Content) → contentFits ed t c ≡ true → Bits (contentBits ed c)
+      → length (contentBits ed c) ≤ contentMost
   pub pdu-value-most : (t : PduType) (v : Pdu) → pduFits ed t v ≡ true → Bits (pduBits ed t v) → length (pduBits ed t v) ≤ pduMost
   -- what is written to a buffer is read as it was
   pub written-read : (t : PduType) (v : Pdu) (s : List ℕ) → Bits (pduBits ed t v) → pduFits ed t v ≡ true → bufferLeast ≤ length s
@@ -157,5 +163,7 @@ pub record Laws (ed : Edition) : Type 0 where
   -- bodies
   pub body-is : (t : PduType) (b : List ℕ) → isBody ed t b ≡ true → BodyIs ed t b
   pub is-body : (t : PduType) (c : Content) → contentFits ed t c ≡ true → Bits (contentBits ed c) → isBody ed t (contentBits ed c) ≡ true
-  pub carries-is : (t : PduType) (c : Content) → contentFits ed t c ≡ true → Bits (contentBits ed c) → carries ed (contentBits ed c) ≡ isThere (c .message)
-  pub start-of : (t : PduType) (c : Content) → contentFits ed t c ≡ true → Bits (contentBits ed c) → startBits ed c ≡ startOf ed (contentBits ed c)
+  pub carries-is : (t : PduType) (c : Content) → contentFits ed t c ≡ true → Bits (contentBits ed c)
+      → carries ed (contentBits ed c) ≡ isThere (c .message)
+  pub start-of : (t : PduType) (c : Content) → contentFits ed t c ≡ true → Bits (contentBits ed c)
+      → startBits ed c ≡ startOf ed (contentBits ed c)

@@ -37,12 +37,14 @@ use Rattle.apdu.proofs.Theorems.{content-are-bits}
 use Rattle.plain.proofs.Contents.{DataRead, ForwardRead}
 use Rattle.codec.proofs.Contents.{DataIs, ForwardIs, Contents}
 
-written : (t : PduType) (l : List ℕ) (at next : ℕ) (c : Content) → contentFits c ≡ true → Stands l at (contentBits c) next → DataRead (dataAt l at) l next c
+written : (t : PduType) (l : List ℕ) (at next : ℕ) (c : Content) → contentFits c ≡ true
+    → Stands l at (contentBits c) next → DataRead (dataAt l at) l next c
 written t l at next c h s =
     let d = data-written l at next c h s in
     record { parts = d .parts; read = d .read; same = d .content }
 
-read : (t : PduType) (l : List ℕ) (at next : ℕ) (x : Data) → Bits l → dataAt l at ≡ taken.Is x next → DataIs Protected t contentBits l at next x
+read : (t : PduType) (l : List ℕ) (at next : ℕ) (x : Data) → Bits l → dataAt l at ≡ taken.Is x next
+    → DataIs Protected t contentBits l at next x
 read t l at next x b e =
     let i = data-read l at next x b e in
     record { placed-fits = i .placed-fits; fits = data-value-fits l l l x (i .placed-fits); stands = λ (q : eqb (getD l at 0) 1 ≡ false). data-plain l at next x i (clear q) }
@@ -55,7 +57,8 @@ read t l at next x b e =
         omega arith
 
 -- where a forward message that was read ends
-forward-end : (l : List ℕ) (at : ℕ) (f : Forward) (next : ℕ) → forwardAt l at ≡ forwarded.Is f next → f .message .at + f .message .count ≡ next
+forward-end : (l : List ℕ) (at : ℕ) (f : Forward) (next : ℕ) → forwardAt l at ≡ forwarded.Is f next
+    → f .message .at + f .message .count ≡ next
 unfolding forwardWithin
 forward-end l at f next e = go (headingAt l at) e
   where
@@ -79,9 +82,12 @@ string-bits m b = bits-append (lengthBits (length m / bit)) m (length-determinan
 pub protected-contents : Contents Protected
 protected-contents =
     record {
-      start-written = λ (t : PduType) (l : List ℕ) (at next : ℕ) (c : Content) (b : Bits l) (h : contentFits c ≡ true) (s : Stands l at (contentBits c) next). written t l at next c h s;
-      send-written = λ (t : PduType) (l : List ℕ) (at next : ℕ) (c : Content) (b : Bits l) (h : contentFits c ≡ true) (k : true ≡ true) (s : Stands l at (contentBits c) next). written t l at next c h s;
-      forward-written = λ (l : List ℕ) (at next : ℕ) (h : Heading) (m : List ℕ) (b : Bits l) (e : forwardPduFits h m ≡ true) (s : Stands l at (forwardBits h m) next).
+      start-written = λ (t : PduType) (l : List ℕ) (at next : ℕ) (c : Content) (b : Bits l) (h : contentFits c ≡ true)
+          (s : Stands l at (contentBits c) next). written t l at next c h s;
+      send-written = λ (t : PduType) (l : List ℕ) (at next : ℕ) (c : Content) (b : Bits l) (h : contentFits c ≡ true)
+          (k : true ≡ true) (s : Stands l at (contentBits c) next). written t l at next c h s;
+      forward-written = λ (l : List ℕ) (at next : ℕ) (h : Heading) (m : List ℕ) (b : Bits l)
+          (e : forwardPduFits h m ≡ true) (s : Stands l at (forwardBits h m) next).
           let f = forward-written l at next h m e s in
           record { value = f .value; read = f .read; heading = f .heading; message = f .message };
       start-read = read;
@@ -93,9 +99,12 @@ protected-contents =
       content-are-bits = content-are-bits;
       start-are-bits = content-are-bits;
       forward-are-bits = λ (h : Heading) (m : List ℕ) (b : Bits m). forward-are-bits h m (string-bits m b);
-      content-most = λ (li lm lc : List ℕ) (d : Data) (h : dataFits li lm lc d ≡ true). content-most (contentIn li lm lc d) (data-value-fits li lm lc d h);
-      start-most = λ (li lm lc : List ℕ) (d : Data) (h : dataFits li lm lc d ≡ true). content-most (contentIn li lm lc d) (data-value-fits li lm lc d h);
-      forward-most = λ (lm : List ℕ) (f : Forward) (h : forwardFits lm f ≡ true). forward-most (f .heading) (itemsIn lm bit (f .message)) (forward-value-fits lm f h);
+      content-most = λ (li lm lc : List ℕ) (d : Data) (h : dataFits li lm lc d ≡ true). content-most
+          (contentIn li lm lc d) (data-value-fits li lm lc d h);
+      start-most = λ (li lm lc : List ℕ) (d : Data) (h : dataFits li lm lc d ≡ true). content-most
+          (contentIn li lm lc d) (data-value-fits li lm lc d h);
+      forward-most = λ (lm : List ℕ) (f : Forward) (h : forwardFits lm f ≡ true). forward-most (f .heading)
+          (itemsIn lm bit (f .message)) (forward-value-fits lm f h);
       content-value-most = λ (t : PduType) (c : Content) (h : contentFits c ≡ true) (b : Bits (contentBits c)). content-most c h;
       start-value-most = λ (t : PduType) (c : Content) (h : contentFits c ≡ true) (b : Bits (contentBits c)). content-most c h;
       forward-value-most = λ (h : Heading) (m : List ℕ) (e : forwardPduFits h m ≡ true) (b : Bits (forwardBits h m)). forward-most h m e;

@@ -76,7 +76,8 @@ allControl f = allState (λ (s : State). allBool (λ (d : Bool). f (entered s d)
 pub at-control : (f : Control → Bool) → T (allControl f) → (x : Control) → T (f x)
 unfolding allControl
 at-control f t x =
-    at-bool (λ (d : Bool). f (entered (x .state) d)) (at-state (λ (s : State). allBool (λ (d : Bool). f (entered s d))) t (x .state)) (x .dsc)
+    at-bool (λ (d : Bool). f (entered (x .state) d))
+    (at-state (λ (s : State). allBool (λ (d : Bool). f (entered s d))) t (x .state)) (x .dsc)
 
 -- the calls, kind by kind
 unfoldable pub allResponse : (Bool → Reply → Bool) → Bool
@@ -97,13 +98,35 @@ allCall f =
 pub at-call : (f : Call → Bool) → T (allCall f) → (x : Call) → T (f x)
 unfolding allCall
 at-call f t (StartRequest m) = at-bool (λ (m : Bool). f (StartRequest m)) (and-l (allBool (λ (m : Bool). f (StartRequest m))) _ t) m
-at-call f t (StartResponse m a) = at-response (λ (m : Bool) (a : Reply). f (StartResponse m a)) (and-l (allResponse (λ (m : Bool) (a : Reply). f (StartResponse m a))) _ (and-r (allBool (λ (m : Bool). f (StartRequest m))) _ t)) m a
-at-call f t MessageRequest = and-l (f MessageRequest) _ (and-r (allResponse (λ (m : Bool) (a : Reply). f (StartResponse m a))) _ (and-r (allBool (λ (m : Bool). f (StartRequest m))) _ t))
-at-call f t (EndRequest m) = at-bool (λ (m : Bool). f (EndRequest m)) (and-l (allBool (λ (m : Bool). f (EndRequest m))) _ (and-r (f MessageRequest) _ (and-r (allResponse (λ (m : Bool) (a : Reply). f (StartResponse m a))) _ (and-r (allBool (λ (m : Bool). f (StartRequest m))) _ t)))) m
-at-call f t (EndResponse m a) = at-response (λ (m : Bool) (a : Reply). f (EndResponse m a)) (and-l (allResponse (λ (m : Bool) (a : Reply). f (EndResponse m a))) _ (and-r (allBool (λ (m : Bool). f (EndRequest m))) _ (and-r (f MessageRequest) _ (and-r (allResponse (λ (m : Bool) (a : Reply). f (StartResponse m a))) _ (and-r (allBool (λ (m : Bool). f (StartRequest m))) _ t))))) m a
-at-call f t UserAbort = and-l (f UserAbort) _ (and-r (allResponse (λ (m : Bool) (a : Reply). f (EndResponse m a))) _ (and-r (allBool (λ (m : Bool). f (EndRequest m))) _ (and-r (f MessageRequest) _ (and-r (allResponse (λ (m : Bool) (a : Reply). f (StartResponse m a))) _ (and-r (allBool (λ (m : Bool). f (StartRequest m))) _ t)))))
-at-call f t TimerExpiry = and-l (f TimerExpiry) _ (and-r (f UserAbort) _ (and-r (allResponse (λ (m : Bool) (a : Reply). f (EndResponse m a))) _ (and-r (allBool (λ (m : Bool). f (EndRequest m))) _ (and-r (f MessageRequest) _ (and-r (allResponse (λ (m : Bool) (a : Reply). f (StartResponse m a))) _ (and-r (allBool (λ (m : Bool). f (StartRequest m))) _ t))))))
-at-call f t SystemError = and-r (f TimerExpiry) _ (and-r (f UserAbort) _ (and-r (allResponse (λ (m : Bool) (a : Reply). f (EndResponse m a))) _ (and-r (allBool (λ (m : Bool). f (EndRequest m))) _ (and-r (f MessageRequest) _ (and-r (allResponse (λ (m : Bool) (a : Reply). f (StartResponse m a))) _ (and-r (allBool (λ (m : Bool). f (StartRequest m))) _ t))))))
+at-call f t (StartResponse m a) = at-response (λ (m : Bool) (a : Reply). f (StartResponse m a)) (and-l
+    (allResponse (λ (m : Bool) (a : Reply). f (StartResponse m a))) _
+    (and-r (allBool (λ (m : Bool). f (StartRequest m))) _ t)) m a
+at-call f t MessageRequest = and-l (f MessageRequest) _ (and-r
+    (allResponse (λ (m : Bool) (a : Reply). f (StartResponse m a))) _
+    (and-r (allBool (λ (m : Bool). f (StartRequest m))) _ t))
+at-call f t (EndRequest m) = at-bool (λ (m : Bool). f (EndRequest m)) (and-l
+    (allBool (λ (m : Bool). f (EndRequest m))) _ (and-r (f MessageRequest) _ (and-r
+    (allResponse (λ (m : Bool) (a : Reply). f (StartResponse m a))) _
+    (and-r (allBool (λ (m : Bool). f (StartRequest m))) _ t)))) m
+at-call f t (EndResponse m a) = at-response (λ (m : Bool) (a : Reply). f (EndResponse m a)) (and-l
+    (allResponse (λ (m : Bool) (a : Reply). f (EndResponse m a))) _ (and-r
+    (allBool (λ (m : Bool). f (EndRequest m))) _ (and-r (f MessageRequest) _ (and-r
+    (allResponse (λ (m : Bool) (a : Reply). f (StartResponse m a))) _
+    (and-r (allBool (λ (m : Bool). f (StartRequest m))) _ t))))) m a
+at-call f t UserAbort = and-l (f UserAbort) _ (and-r (allResponse (λ (m : Bool) (a : Reply). f (EndResponse m a))) _ (
+    and-r (allBool (λ (m : Bool). f (EndRequest m))) _ (and-r (f MessageRequest) _ (and-r
+    (allResponse (λ (m : Bool) (a : Reply). f (StartResponse m a))) _
+    (and-r (allBool (λ (m : Bool). f (StartRequest m))) _ t)))))
+at-call f t TimerExpiry = and-l (f TimerExpiry) _ (and-r (f UserAbort) _ (and-r
+    (allResponse (λ (m : Bool) (a : Reply). f (EndResponse m a))) _ (and-r
+    (allBool (λ (m : Bool). f (EndRequest m))) _ (and-r (f MessageRequest) _ (and-r
+    (allResponse (λ (m : Bool) (a : Reply). f (StartResponse m a))) _
+    (and-r (allBool (λ (m : Bool). f (StartRequest m))) _ t))))))
+at-call f t SystemError = and-r (f TimerExpiry) _ (and-r (f UserAbort) _ (and-r
+    (allResponse (λ (m : Bool) (a : Reply). f (EndResponse m a))) _ (and-r
+    (allBool (λ (m : Bool). f (EndRequest m))) _ (and-r (f MessageRequest) _ (and-r
+    (allResponse (λ (m : Bool) (a : Reply). f (StartResponse m a))) _
+    (and-r (allBool (λ (m : Bool). f (StartRequest m))) _ t))))))
 
 unfoldable pub allPrimitive : (Primitive → Bool) → Bool
 allPrimitive f =
@@ -114,10 +137,21 @@ allPrimitive f =
 pub at-primitive : (f : Primitive → Bool) → T (allPrimitive f) → (x : Primitive) → T (f x)
 unfolding allPrimitive
 at-primitive f t (DStart m) = at-bool (λ (m : Bool). f (DStart m)) (and-l (allBool (λ (m : Bool). f (DStart m))) _ t) m
-at-primitive f t (DStartCnf a) = at-answer (λ (a : Reply). f (DStartCnf a)) (and-l (allAnswer (λ (a : Reply). f (DStartCnf a))) _ (and-r (allBool (λ (m : Bool). f (DStart m))) _ t)) a
-at-primitive f t DTurnedAway = and-l (f DTurnedAway) _ (and-r (allAnswer (λ (a : Reply). f (DStartCnf a))) _ (and-r (allBool (λ (m : Bool). f (DStart m))) _ t))
-at-primitive f t DData = and-l (f DData) _ (and-r (f DTurnedAway) _ (and-r (allAnswer (λ (a : Reply). f (DStartCnf a))) _ (and-r (allBool (λ (m : Bool). f (DStart m))) _ t)))
-at-primitive f t DEnd = and-l (f DEnd) _ (and-r (f DData) _ (and-r (f DTurnedAway) _ (and-r (allAnswer (λ (a : Reply). f (DStartCnf a))) _ (and-r (allBool (λ (m : Bool). f (DStart m))) _ t))))
-at-primitive f t (DEndCnf a) = at-answer (λ (a : Reply). f (DEndCnf a)) (and-l (allAnswer (λ (a : Reply). f (DEndCnf a))) _ (and-r (f DEnd) _ (and-r (f DData) _ (and-r (f DTurnedAway) _ (and-r (allAnswer (λ (a : Reply). f (DStartCnf a))) _ (and-r (allBool (λ (m : Bool). f (DStart m))) _ t)))))) a
-at-primitive f t DAbort = and-l (f DAbort) _ (and-r (allAnswer (λ (a : Reply). f (DEndCnf a))) _ (and-r (f DEnd) _ (and-r (f DData) _ (and-r (f DTurnedAway) _ (and-r (allAnswer (λ (a : Reply). f (DStartCnf a))) _ (and-r (allBool (λ (m : Bool). f (DStart m))) _ t))))))
-at-primitive f t DPAbort = and-r (f DAbort) _ (and-r (allAnswer (λ (a : Reply). f (DEndCnf a))) _ (and-r (f DEnd) _ (and-r (f DData) _ (and-r (f DTurnedAway) _ (and-r (allAnswer (λ (a : Reply). f (DStartCnf a))) _ (and-r (allBool (λ (m : Bool). f (DStart m))) _ t))))))
+at-primitive f t (DStartCnf a) = at-answer (λ (a : Reply). f (DStartCnf a))
+    (and-l (allAnswer (λ (a : Reply). f (DStartCnf a))) _ (and-r (allBool (λ (m : Bool). f (DStart m))) _ t)) a
+at-primitive f t DTurnedAway = and-l (f DTurnedAway) _
+    (and-r (allAnswer (λ (a : Reply). f (DStartCnf a))) _ (and-r (allBool (λ (m : Bool). f (DStart m))) _ t))
+at-primitive f t DData = and-l (f DData) _ (and-r (f DTurnedAway) _
+    (and-r (allAnswer (λ (a : Reply). f (DStartCnf a))) _ (and-r (allBool (λ (m : Bool). f (DStart m))) _ t)))
+at-primitive f t DEnd = and-l (f DEnd) _ (and-r (f DData) _ (and-r (f DTurnedAway) _
+    (and-r (allAnswer (λ (a : Reply). f (DStartCnf a))) _ (and-r (allBool (λ (m : Bool). f (DStart m))) _ t))))
+at-primitive f t (DEndCnf a) = at-answer (λ (a : Reply). f (DEndCnf a)) (and-l
+    (allAnswer (λ (a : Reply). f (DEndCnf a))) _ (and-r (f DEnd) _ (and-r (f DData) _ (and-r (f DTurnedAway) _ (
+    and-r (allAnswer (λ (a : Reply). f (DStartCnf a))) _
+    (and-r (allBool (λ (m : Bool). f (DStart m))) _ t)))))) a
+at-primitive f t DAbort = and-l (f DAbort) _ (and-r (allAnswer (λ (a : Reply). f (DEndCnf a))) _ (and-r (f DEnd) _ (
+    and-r (f DData) _ (and-r (f DTurnedAway) _ (and-r (allAnswer (λ (a : Reply). f (DStartCnf a))) _
+    (and-r (allBool (λ (m : Bool). f (DStart m))) _ t))))))
+at-primitive f t DPAbort = and-r (f DAbort) _ (and-r (allAnswer (λ (a : Reply). f (DEndCnf a))) _ (and-r (f DEnd) _ (
+    and-r (f DData) _ (and-r (f DTurnedAway) _ (and-r (allAnswer (λ (a : Reply). f (DStartCnf a))) _
+    (and-r (allBool (λ (m : Bool). f (DStart m))) _ t))))))

@@ -45,15 +45,18 @@ everyCall f = allSide (λ (sd : Side). allControl (λ (c : Control). allCall (f 
 
 at-every-call : (f : Side → Control → Call → Bool) → T (everyCall f) → (sd : Side) (c : Control) (k : Call) → T (f sd c k)
 at-every-call f t sd c k =
-    at-call (f sd c) (at-control (λ (c : Control). allCall (f sd c)) (at-side (λ (sd : Side). allControl (λ (c : Control). allCall (f sd c))) t sd) c) k
+    at-call (f sd c) (at-control (λ (c : Control). allCall (f sd c))
+    (at-side (λ (sd : Side). allControl (λ (c : Control). allCall (f sd c))) t sd) c) k
 
 abbrev everyPrimitive : (Side → Control → Primitive → Bool) → Bool
 everyPrimitive f = allSide (λ (sd : Side). allControl (λ (c : Control). allPrimitive (f sd c)))
 
-at-every-primitive : (f : Side → Control → Primitive → Bool) → T (everyPrimitive f) → (sd : Side) (c : Control) (p : Primitive) → T (f sd c p)
+at-every-primitive : (f : Side → Control → Primitive → Bool) → T (everyPrimitive f)
+    → (sd : Side) (c : Control) (p : Primitive) → T (f sd c p)
 at-every-primitive f t sd c p =
     at-primitive (f sd c)
-    (at-control (λ (c : Control). allPrimitive (f sd c)) (at-side (λ (sd : Side). allControl (λ (c : Control). allPrimitive (f sd c))) t sd) c) p
+    (at-control (λ (c : Control). allPrimitive (f sd c))
+    (at-side (λ (sd : Side). allControl (λ (c : Control). allPrimitive (f sd c))) t sd) c) p
 
 -- ---- entering IDLE
 
@@ -75,7 +78,8 @@ unfolding imp allBool allSide allState allAnswer allControl allResponse allCall 
 primitive-rests-passed = tt
 
 pub primitive-rests : (sd : Side) (c : Control) (p : Primitive) → expects sd c p ≡ true → isIdle (after c p) ≡ true → after c p .dsc ≡ false
-primitive-rests sd c p e i = rest-is (after c p) (imp-e (expects sd c p) (rest (after c p)) (at-every-primitive primitiveRests primitive-rests-passed sd c p) e) i
+primitive-rests sd c p e i = rest-is (after c p)
+    (imp-e (expects sd c p) (rest (after c p)) (at-every-primitive primitiveRests primitive-rests-passed sd c p) e) i
 
 -- ---- where the timer runs and the user is active
 
@@ -105,9 +109,11 @@ call-timed-passed : T (everyCall callTimed)
 unfolding imp allBool allSide allState allAnswer allControl allResponse allCall allPrimitive
 call-timed-passed = tt
 
-pub call-timed : (sd : Side) (c : Control) (k : Call) → takes sd c k ≡ true → busy k ≡ true → (not (isIdle (goes c k)) && waits (c .state)) ≡ waits (goes c k .state)
+pub call-timed : (sd : Side) (c : Control) (k : Call) → takes sd c k ≡ true → busy k ≡ true
+    → (not (isIdle (goes c k)) && waits (c .state)) ≡ waits (goes c k .state)
 call-timed sd c k e b =
-    same-eq _ _ (imp-e (busy k) (timed c (goes c k)) (T-is (imp-e (takes sd c k) (imp (busy k) (timed c (goes c k))) (at-every-call callTimed call-timed-passed sd c k) e)) b)
+    same-eq _ _ (imp-e (busy k) (timed c (goes c k)) (T-is (imp-e (takes sd c k) (imp (busy k) (timed c (goes c k)))
+    (at-every-call callTimed call-timed-passed sd c k) e)) b)
 
 abbrev callHeld : Side → Control → Call → Bool
 callHeld sd c k = imp (takes sd c k) (imp (busy k) (held c (goes c k)))
@@ -116,9 +122,11 @@ call-held-passed : T (everyCall callHeld)
 unfolding imp allBool allSide allState allAnswer allControl allResponse allCall allPrimitive
 call-held-passed = tt
 
-pub call-held : (sd : Side) (c : Control) (k : Call) → takes sd c k ≡ true → busy k ≡ true → (not (isIdle (goes c k)) && not (isIdle c)) ≡ not (isIdle (goes c k))
+pub call-held : (sd : Side) (c : Control) (k : Call) → takes sd c k ≡ true → busy k ≡ true
+    → (not (isIdle (goes c k)) && not (isIdle c)) ≡ not (isIdle (goes c k))
 call-held sd c k e b =
-    same-eq _ _ (imp-e (busy k) (held c (goes c k)) (T-is (imp-e (takes sd c k) (imp (busy k) (held c (goes c k))) (at-every-call callHeld call-held-passed sd c k) e)) b)
+    same-eq _ _ (imp-e (busy k) (held c (goes c k)) (T-is (imp-e (takes sd c k) (imp (busy k) (held c (goes c k)))
+    (at-every-call callHeld call-held-passed sd c k) e)) b)
 
 abbrev pub isConfirmation : Primitive → Bool
 isConfirmation (DStart m) = false
@@ -137,9 +145,12 @@ primitive-timed-passed : T (everyPrimitive primitiveTimed)
 unfolding imp allBool allSide allState allAnswer allControl allResponse allCall allPrimitive
 primitive-timed-passed = tt
 
-pub primitive-timed : (sd : Side) (c : Control) (p : Primitive) → expects sd c p ≡ true → not (isConfirmation p) ≡ true → (not (isIdle (after c p)) && waits (c .state)) ≡ waits (after c p .state)
+pub primitive-timed : (sd : Side) (c : Control) (p : Primitive) → expects sd c p ≡ true → not (isConfirmation p) ≡ true
+    → (not (isIdle (after c p)) && waits (c .state)) ≡ waits (after c p .state)
 primitive-timed sd c p e b =
-    same-eq _ _ (imp-e (not (isConfirmation p)) (timed c (after c p)) (T-is (imp-e (expects sd c p) (imp (not (isConfirmation p)) (timed c (after c p))) (at-every-primitive primitiveTimed primitive-timed-passed sd c p) e)) b)
+    same-eq _ _ (imp-e (not (isConfirmation p)) (timed c (after c p)) (T-is (imp-e (expects sd c p)
+    (imp (not (isConfirmation p)) (timed c (after c p)))
+    (at-every-primitive primitiveTimed primitive-timed-passed sd c p) e)) b)
 
 abbrev primitiveHeld : Side → Control → Primitive → Bool
 primitiveHeld sd c p = imp (expects sd c p) (imp (not (isStart p)) (held c (after c p)))
@@ -148,9 +159,12 @@ primitive-held-passed : T (everyPrimitive primitiveHeld)
 unfolding imp allBool allSide allState allAnswer allControl allResponse allCall allPrimitive
 primitive-held-passed = tt
 
-pub primitive-held : (sd : Side) (c : Control) (p : Primitive) → expects sd c p ≡ true → not (isStart p) ≡ true → (not (isIdle (after c p)) && not (isIdle c)) ≡ not (isIdle (after c p))
+pub primitive-held : (sd : Side) (c : Control) (p : Primitive) → expects sd c p ≡ true → not (isStart p) ≡ true
+    → (not (isIdle (after c p)) && not (isIdle c)) ≡ not (isIdle (after c p))
 primitive-held sd c p e b =
-    same-eq _ _ (imp-e (not (isStart p)) (held c (after c p)) (T-is (imp-e (expects sd c p) (imp (not (isStart p)) (held c (after c p))) (at-every-primitive primitiveHeld primitive-held-passed sd c p) e)) b)
+    same-eq _ _ (imp-e (not (isStart p)) (held c (after c p)) (T-is (imp-e (expects sd c p)
+    (imp (not (isStart p)) (held c (after c p)))
+    (at-every-primitive primitiveHeld primitive-held-passed sd c p) e)) b)
 
 -- ---- IDLE
 
@@ -163,7 +177,8 @@ idle-expects-passed = tt
 
 pub idle-expects : (sd : Side) (c : Control) (p : Primitive) → isIdle c ≡ true → isStart p ≡ false → expects sd c p ≡ false
 idle-expects sd c p i n =
-    refuted (expects sd c p) (isStart p) (imp-e (isIdle c) (imp (expects sd c p) (isStart p)) (at-every-primitive idleExpects idle-expects-passed sd c p) i) n
+    refuted (expects sd c p) (isStart p) (imp-e (isIdle c) (imp (expects sd c p) (isStart p))
+    (at-every-primitive idleExpects idle-expects-passed sd c p) i) n
 
 abbrev idleTakes : Side → Control → Call → Bool
 idleTakes sd c k = imp (takes sd c k) (imp (busy k) (not (isIdle c)))
@@ -174,7 +189,8 @@ busy-takes-passed = tt
 
 pub busy-takes : (sd : Side) (c : Control) (k : Call) → takes sd c k ≡ true → busy k ≡ true → isIdle c ≡ false
 busy-takes sd c k e b =
-    not-T (isIdle c) (imp-e (busy k) (not (isIdle c)) (T-is (imp-e (takes sd c k) (imp (busy k) (not (isIdle c))) (at-every-call idleTakes busy-takes-passed sd c k) e)) b)
+    not-T (isIdle c) (imp-e (busy k) (not (isIdle c)) (T-is (imp-e (takes sd c k) (imp (busy k) (not (isIdle c)))
+    (at-every-call idleTakes busy-takes-passed sd c k) e)) b)
 
 -- ---- a forward: the request leaves IDLE alone, and neither IDLE nor a start of a dialogue awaits its response
 
@@ -222,5 +238,6 @@ after-awaits c DPAbort e = refl
 pub air-end-messages : (takes Air (entered End false) MessageRequest ≡ true) × (takes Air (entered End true) MessageRequest ≡ false)
 air-end-messages = (refl, refl)
 
-pub ground-end-messages : (takes Ground (entered End false) MessageRequest ≡ false) × (takes Ground (entered End true) MessageRequest ≡ true)
+pub ground-end-messages : (takes Ground (entered End false) MessageRequest ≡ false) ×
+    (takes Ground (entered End true) MessageRequest ≡ true)
 ground-end-messages = (refl, refl)

@@ -45,13 +45,16 @@ meetsNo sd c p = cond (hands sd c p) 1000 0 + didNo (meets sd c p)
 
 abbrev calls : List Call
 calls =
-    StartRequest false ∷ StartRequest true ∷ StartResponse false Accepted ∷ StartResponse false Rejected ∷ StartResponse true Accepted ∷ StartResponse true Rejected ∷
-    MessageRequest ∷ EndRequest false ∷ EndRequest true ∷ EndResponse false Accepted ∷ EndResponse false Rejected ∷ EndResponse true Accepted ∷
+    StartRequest false ∷ StartRequest true ∷ StartResponse false Accepted ∷ StartResponse false Rejected ∷ StartResponse
+    true Accepted ∷ StartResponse true Rejected ∷
+    MessageRequest ∷ EndRequest false ∷ EndRequest true ∷ EndResponse false Accepted ∷ EndResponse false Rejected ∷
+    EndResponse true Accepted ∷
     EndResponse true Rejected ∷ UserAbort ∷ TimerExpiry ∷ SystemError ∷ []
 
 abbrev primitives : List Primitive
 primitives =
-    DStart false ∷ DStart true ∷ DStartCnf Accepted ∷ DStartCnf Rejected ∷ DTurnedAway ∷ DData ∷ DEnd ∷ DEndCnf Accepted ∷ DEndCnf Rejected ∷ DAbort ∷ DPAbort ∷ []
+    DStart false ∷ DStart true ∷ DStartCnf Accepted ∷ DStartCnf Rejected ∷ DTurnedAway ∷ DData ∷ DEnd ∷ DEndCnf Accepted
+    ∷ DEndCnf Rejected ∷ DAbort ∷ DPAbort ∷ []
 
 abbrev states : List State
 states = Idle ∷ StartReq ∷ StartInd ∷ Dialogue ∷ End ∷ []

@@ -26,20 +26,25 @@ split : (c : Content) (t : List ℕ) → bytesOf c ++ t ≡ header c ++ (c .body
 unfolding bytesOf header
 split c t = simp append-assoc
 
-from-body : (limit : ℕ) (c : Content) → Fit limit c → (s : List ℕ) (p : ℕ) (t : List ℕ) → drop p s ≡ c .body ++ t → content (c .kind) (c .job) (c .bits) (drop p s) ≡ c
+from-body : (limit : ℕ) (c : Content) → Fit limit c → (s : List ℕ) (p : ℕ) (t : List ℕ) → drop p s ≡ c .body ++ t
+    → content (c .kind) (c .job) (c .bits) (drop p s) ≡ c
 from-body limit c f s p t e = rw (e, take-at (c .body) t (bytesFor (c .bits)) (f .body))
 
-pub content-back : (limit : ℕ) (c : Content) → Fit limit c → (s : List ℕ) (at : ℕ) (t : List ℕ) → drop at s ≡ bytesOf c ++ t → contentOf s (placed at c) ≡ c
+pub content-back : (limit : ℕ) (c : Content) → Fit limit c → (s : List ℕ) (at : ℕ) (t : List ℕ)
+    → drop at s ≡ bytesOf c ++ t → contentOf s (placed at c) ≡ c
 unfolding placed
 content-back limit c f s at t e =
-    let d : drop (at + length (header c)) s ≡ c .body ++ t = sym (drop-drop (length (header c)) at s) ∙ rw (e, split c t, drop-append-seam (header c) (c .body ++ t)) in
+    let d : drop (at + length (header c)) s ≡ c .body ++ t = sym (drop-drop (length (header c)) at s) ∙ rw
+    (e, split c t, drop-append-seam (header c) (c .body ++ t)) in
     from-body limit c f s (at + length (header c)) t d
 
-pub contents-back : (limit : ℕ) (cs : List Content) → AllFit limit cs → (s : List ℕ) (at : ℕ) → drop at s ≡ stringOf cs → contentsOf s (allPlaced at cs) ≡ cs
+pub contents-back : (limit : ℕ) (cs : List Content) → AllFit limit cs → (s : List ℕ) (at : ℕ) → drop at s ≡ stringOf cs
+    → contentsOf s (allPlaced at cs) ≡ cs
 unfolding stringOf allPlaced
 contents-back limit [] none s at e = refl
 contents-back limit (c ∷ cs) (more f fs) s at e =
-    let d : drop (at + length (bytesOf c)) s ≡ stringOf cs = sym (drop-drop (length (bytesOf c)) at s) ∙ rw (e, drop-append-seam (bytesOf c) (stringOf cs)) in
+    let d : drop (at + length (bytesOf c)) s ≡ stringOf cs = sym (drop-drop (length (bytesOf c)) at s) ∙ rw
+    (e, drop-append-seam (bytesOf c) (stringOf cs)) in
     rw (content-back limit c f s at (stringOf cs) e, contents-back limit cs fs s (at + length (bytesOf c)) d)
 
 -- ---- no two envelopes have the same bytes
@@ -51,7 +56,8 @@ coded-once limit w c d f g e =
     let p = written-read limit w c f (bytesOf c) 0 [] x in
     let q = written-read limit w d g (bytesOf c) 0 [] y in
     let z : placed 0 c ≡ placed 0 d = cc in
-    sym (content-back limit c f (bytesOf c) 0 [] x) ∙ (ap (λ (k : Envelope). contentOf (bytesOf c) k) z ∙ content-back limit d g (bytesOf c) 0 [] y)
+    sym (content-back limit c f (bytesOf c) 0 [] x) ∙
+    (ap (λ (k : Envelope). contentOf (bytesOf c) k) z ∙ content-back limit d g (bytesOf c) 0 [] y)
 
 -- ---- write, then read
 
@@ -62,12 +68,15 @@ module _ (room limit : ℕ) (w : limit < 2 ^ 64) (out : List ℕ) (kind job bits
     pub count : n ≡ length (bytesOf (content kind job bits body))
     pub buffer : z ≡ bytesOf (content kind job bits body) ++ drop n out
 
-  wrote-by : (a b : Bool) (z : List ℕ) (n : ℕ) → fits limit kind job bits body ≡ b → cond a (left Room out) (cond b (wrote (bytesOf (content kind job bits body)) out) (left Shape out)) ≡ left (Bytes n) z → Wrote z n
+  wrote-by : (a b : Bool) (z : List ℕ) (n : ℕ) → fits limit kind job bits body ≡ b
+      → cond a (left Room out) (cond b (wrote (bytesOf (content kind job bits body)) out) (left Shape out)) ≡ left (Bytes n) z
+      → Wrote z n
   wrote-by true b z n p e = let x : Room ≡ Bytes n = ap (λ (l : Left). l .answer) e in let o : _≡_ {A = ℕ} 0 1 = cc in absurd (omega arith)
   wrote-by false false z n p e = let x : Shape ≡ Bytes n = ap (λ (l : Left). l .answer) e in let o : _≡_ {A = ℕ} 0 1 = cc in absurd (omega arith)
   wrote-by false true z n p e =
       let x : Bytes (length (bytesOf (content kind job bits body))) ≡ Bytes n = ap (λ (l : Left). l .answer) e in
-      let y : bytesOf (content kind job bits body) ++ drop (length (bytesOf (content kind job bits body))) out ≡ z = ap (λ (l : Left). l .bytes) e in
+      let y : bytesOf (content kind job bits body) ++ drop (length (bytesOf (content kind job bits body))) out ≡ z = ap
+      (λ (l : Left). l .bytes) e in
       let m : n ≡ length (bytesOf (content kind job bits body)) = cc in
       record { fit = is-fit limit kind job bits body p small; count = m; buffer = rw m (sym y) }
 
@@ -94,19 +103,30 @@ module _ (room limit : ℕ) (w : limit < 2 ^ 64) (out : List ℕ) (kind job bits
 
 -- ---- read, then write
 
-fits-read : (limit : ℕ) (s : List ℕ) (e : Envelope) → Fit limit (contentOf s e) → fits limit (e .kind) (e .job) (e .bits) (drop (e .body) s) ≡ true
+fits-read : (limit : ℕ) (s : List ℕ) (e : Envelope) → Fit limit (contentOf s e)
+    → fits limit (e .kind) (e .job) (e .bits) (drop (e .body) s) ≡ true
 unfolding fits
 fits-read limit s e f =
     let l = length-take (bytesFor (e .bits)) (drop (e .body) s) in
     let h : bytesFor (e .bits) ≤ length (drop (e .body) s) = omega (arith, f .body) in
-    rw (f .kind, f .job, f .size, le-leb (bytesFor (e .bits)) (length (drop (e .body) s)) h, ← padded-taken (e .bits) (drop (e .body) s) h) (f .padded)
+    rw (
+      f .kind,
+      f .job,
+      f .size,
+      le-leb (bytesFor (e .bits)) (length (drop (e .body) s)) h,
+      ← padded-taken (e .bits)
+          (drop (e .body) s) h,
+    ) (f .padded)
 
 -- the envelope that was read between two positions is written as the bytes between them
-pub read-write : (room limit : ℕ) (s : List ℕ) (at : ℕ) (e : Envelope) (out : List ℕ) → AllBytes s → envelopeAt limit s at ≡ Is e → room ≤ length out → writeEnvelope room limit out (e .kind) (e .job) (e .bits) (drop (e .body) s) ≡ wrote (take (e .next - at) (drop at s)) out
+pub read-write : (room limit : ℕ) (s : List ℕ) (at : ℕ) (e : Envelope) (out : List ℕ) → AllBytes s
+    → envelopeAt limit s at ≡ Is e → room ≤ length out
+    → writeEnvelope room limit out (e .kind) (e .job) (e .bits) (drop (e .body) s) ≡ wrote (take (e .next - at) (drop at s)) out
 unfolding writeEnvelope
 read-write room limit s at e out b p h =
     let r = read-written limit s at b e p in
     let n : e .next ≡ at + length (bytesOf (contentOf s e)) = ap (λ (x : Envelope). x .next) (r .place) ∙ placed-next at (contentOf s e) in
     let k : length (bytesOf (contentOf s e)) ≡ e .next - at = omega arith in
-    let t : take (e .next - at) (drop at s) ≡ bytesOf (contentOf s e) = rw (r .holds) (take-at (bytesOf (contentOf s e)) (drop (e .next) s) (e .next - at) k) in
+    let t : take (e .next - at) (drop at s) ≡ bytesOf (contentOf s e) = rw (r .holds)
+    (take-at (bytesOf (contentOf s e)) (drop (e .next) s) (e .next - at) k) in
     rw (le-ltb (length out) room h, fits-read limit s e (r .fit), t)

@@ -55,7 +55,8 @@ padded-none bits l e =
     let m : getD l 0 0 % 1 ≡ 0 = omega arith in
     rw (z, m)
 
-pub padded-last : (s : List ℕ) (at bits n b : ℕ) → n ≡ bytesFor bits → (n ≡ 0 → ⊥) → b ≡ getD s (at + n - 1) 0 → eqb (b % (128 / 2 ^ ((bits % 8 + 7) % 8))) 0 ≡ isPadded bits (drop at s)
+pub padded-last : (s : List ℕ) (at bits n b : ℕ) → n ≡ bytesFor bits → (n ≡ 0 → ⊥) → b ≡ getD s (at + n - 1) 0
+    → eqb (b % (128 / 2 ^ ((bits % 8 + 7) % 8))) 0 ≡ isPadded bits (drop at s)
 unfolding isPadded
 padded-last s at bits n b e z p =
     let q : at + n - 1 ≡ at + (n - 1) = omega arith in
@@ -84,7 +85,8 @@ module _ (s : List ℕ) (kind job bits at : ℕ) (t : Bool) (e : t ≡ ltb (leng
   unfolding bodyAt
   body-cut h = rw (← e, h)
 
-  pub body-is : (p : Bool) (n : ℕ) → t ≡ false → p ≡ isPadded bits (drop at s) → not p ≡ false → n ≡ bytesFor bits → Is (at-body kind job bits at n) ≡ bodyAt s kind job bits at
+  pub body-is : (p : Bool) (n : ℕ) → t ≡ false → p ≡ isPadded bits (drop at s) → not p ≡ false → n ≡ bytesFor bits
+      → Is (at-body kind job bits at n) ≡ bodyAt s kind job bits at
   unfolding bodyAt
   body-is p n h q k m = rw (← e, h, ← q, not-false p k, m)
 
@@ -94,7 +96,8 @@ module _ (s : List ℕ) (kind job bits at : ℕ) (t : Bool) (e : t ≡ ltb (leng
 
 -- ---- a number is taken apart: its refusal goes up unchanged, or its value goes on
 
-pub handed : (f g : Number) (a : EnvelopeRead) (r : EnvelopeRefusal) (k : ℕ → ℕ → EnvelopeRead) → f ≡ g → f ≡ num.Refused r → a ≡ refusedBy f → a ≡ then g k
+pub handed : (f g : Number) (a : EnvelopeRead) (r : EnvelopeRefusal) (k : ℕ → ℕ → EnvelopeRead) → f ≡ g
+    → f ≡ num.Refused r → a ≡ refusedBy f → a ≡ then g k
 handed f g a r k p q e = e ∙ rw (← p, q)
 
 pub went : (f g : Number) (a : EnvelopeRead) (v n : ℕ) (k : ℕ → ℕ → EnvelopeRead) → f ≡ g → f ≡ num.Value v n → a ≡ k v n → a ≡ then g k

@@ -23,7 +23,8 @@ large-none : (v : ℕ) → 3 < v → isKind v ≡ false
 unfolding isKind
 large-none v h = rw (le-leb 1 v (omega arith), lt-leb v 3 h)
 
-long-none : (limit : ℕ) (s : List ℕ) (at c : ℕ) (z : Number) → refusedBy (onward at (below c z)) ≡ then (onward at (below c z)) (kindAt limit s)
+long-none : (limit : ℕ) (s : List ℕ) (at c : ℕ) (z : Number)
+    → refusedBy (onward at (below c z)) ≡ then (onward at (below c z)) (kindAt limit s)
 unfolding kindAt
 long-none limit s at c (num.Refused r) = refl
 long-none limit s at c (num.Value zero n) = refl

@@ -57,17 +57,31 @@ wider f = let e : 7 * suc f + 1 ≡ 7 * f + 1 + 7 = omega arith in rw (e, pow-ad
 -- ---- what is written is read back
 
 -- a group in front of a number that is read back
-read-more : (f v : ℕ) (t : List ℕ) → 128 ≤ v → numberIn f (groups f (v / 128) ++ t) ≡ Value (v / 128) (length (groups f (v / 128))) → numberIn (suc f) (groups (suc f) v ++ t) ≡ Value v (length (groups (suc f) v))
+read-more : (f v : ℕ) (t : List ℕ) → 128 ≤ v
+    → numberIn f (groups f (v / 128) ++ t) ≡ Value (v / 128) (length (groups f (v / 128)))
+    → numberIn (suc f) (groups (suc f) v ++ t) ≡ Value v (length (groups (suc f) v))
 read-more f v t h ih =
     let c : 128 + v % 128 - 128 ≡ v % 128 = omega arith in
     let z : v / 128 ≡ 0 → ⊥ = λ (z : v / 128 ≡ 0). omega arith in
     let q : v % 128 + 128 * (v / 128) ≡ v = omega arith in
-    rw (groups-more f v h, number-more f (128 + v % 128) (groups f (v / 128) ++ t), le-ltb (128 + v % 128) 128 (omega arith), ih, c, ne-eqb (v / 128) 0 z, q, add-one (length (groups f (v / 128))))
+    rw (
+      groups-more f v h,
+      number-more f (128 + v % 128) (groups f (v / 128) ++ t),
+      le-ltb (128 + v % 128) 128
+          (omega arith),
+      ih,
+      c,
+      ne-eqb (v / 128) 0 z,
+      q,
+      add-one (length (groups f (v / 128))),
+    )
 
 read-one : (f v : ℕ) (t : List ℕ) → v < 128 → numberIn (suc f) (groups (suc f) v ++ t) ≡ Value v (length (groups (suc f) v))
 read-one f v t h = rw (groups-one (suc f) v h, number-more f v t, lt-ltb v 128 h)
 
-either-read : (f v : ℕ) (t : List ℕ) (b : Bool) → ltb v 128 ≡ b → (numberIn f (groups f (v / 128) ++ t) ≡ Value (v / 128) (length (groups f (v / 128)))) → numberIn (suc f) (groups (suc f) v ++ t) ≡ Value v (length (groups (suc f) v))
+either-read : (f v : ℕ) (t : List ℕ) (b : Bool) → ltb v 128 ≡ b
+    → (numberIn f (groups f (v / 128) ++ t) ≡ Value (v / 128) (length (groups f (v / 128))))
+    → numberIn (suc f) (groups (suc f) v ++ t) ≡ Value v (length (groups (suc f) v))
 either-read f v t true e ih = read-one f v t (ltb-true v 128 e)
 either-read f v t false e ih = read-more f v t (ltb-false v 128 e) ih
 
@@ -92,7 +106,8 @@ ends f b v n bs h k e =
     rw (p, q) (record { small = k; place = rw (groups-one f b h); holds = rw (groups-one f b h) })
 
 -- a group above which there is a number
-joins : (f b x m : ℕ) (bs : List ℕ) → 128 ≤ b → b < 256 → (x ≡ 0 → ⊥) → NumberIs f bs x m → NumberIs (suc f) (b ∷ bs) (b - 128 + 128 * x) (m + 1)
+joins : (f b x m : ℕ) (bs : List ℕ) → 128 ≤ b → b < 256 → (x ≡ 0 → ⊥) → NumberIs f bs x m
+    → NumberIs (suc f) (b ∷ bs) (b - 128 + 128 * x) (m + 1)
 joins f b x m bs h k z r =
     let w = wider f in
     let g : 128 ≤ b - 128 + 128 * x = omega arith in
@@ -106,7 +121,8 @@ joins f b x m bs h k z r =
     }
 
 module _ (f b v n : ℕ) (bs : List ℕ) (byte : b < 256) (rest : (x m : ℕ) → numberIn f bs ≡ Value x m → NumberIs f bs x m) where
-  above : (x m : ℕ) (t : Bool) → eqb x 0 ≡ t → 128 ≤ b → NumberIs f bs x m → cond t (Refused Groups) (Value (b - 128 + 128 * x) (m + 1)) ≡ Value v n → NumberIs (suc f) (b ∷ bs) v n
+  above : (x m : ℕ) (t : Bool) → eqb x 0 ≡ t → 128 ≤ b → NumberIs f bs x m
+      → cond t (Refused Groups) (Value (b - 128 + 128 * x) (m + 1)) ≡ Value v n → NumberIs (suc f) (b ∷ bs) v n
   above x m true p k r q = never (cc)
   above x m false p k r q =
       let o : v ≡ b - 128 + 128 * x = cc in
@@ -131,7 +147,9 @@ pub groups-written : (f : ℕ) (l : List ℕ) (v n : ℕ) → AllBytes l → num
 groups-written f [] v n h e = never (let z = number-nil f in cc)
 groups-written zero (b ∷ bs) v n h e = last-is b v n bs (ltb 1 b) refl (rw (number-last b bs) at e)
 groups-written (suc f) (b ∷ bs) v n h e =
-    more-is f b v n bs (h 0) (λ (x m : ℕ) (p : numberIn f bs ≡ Value x m). groups-written f bs x m (λ (k : ℕ). h (suc k)) p) (ltb b 128) refl (rw (number-more f b bs) at e)
+    more-is f b v n bs (h 0)
+    (λ (x m : ℕ) (p : numberIn f bs ≡ Value x m). groups-written f bs x m (λ (k : ℕ). h (suc k)) p) (ltb b 128)
+    refl (rw (number-more f b bs) at e)
 
 -- ---- an answer other than CUT stays when bytes follow
 
@@ -139,7 +157,10 @@ groups-written (suc f) (b ∷ bs) v n h e =
 cut-above : (c : ℕ) (y z : Number) → below c y ≡ z → (z ≡ Refused Cut → ⊥) → y ≡ Refused Cut → ⊥
 cut-above c y z e live p = live (sym e ∙ rw p)
 
-more-stays : (f b : ℕ) (bs t : List ℕ) (z : Number) (u : Bool) → ltb b 128 ≡ u → ((numberIn f bs ≡ Refused Cut → ⊥) → numberIn f (bs ++ t) ≡ numberIn f bs) → cond u (Value b 1) (below (b - 128) (numberIn f bs)) ≡ z → (z ≡ Refused Cut → ⊥) → numberIn (suc f) (b ∷ (bs ++ t)) ≡ z
+more-stays : (f b : ℕ) (bs t : List ℕ) (z : Number) (u : Bool) → ltb b 128 ≡ u
+    → ((numberIn f bs ≡ Refused Cut → ⊥) → numberIn f (bs ++ t) ≡ numberIn f bs)
+    → cond u (Value b 1) (below (b - 128) (numberIn f bs)) ≡ z → (z ≡ Refused Cut → ⊥)
+    → numberIn (suc f) (b ∷ (bs ++ t)) ≡ z
 more-stays f b bs t z true p ih e live = rw (number-more f b (bs ++ t), p) e
 more-stays f b bs t z false p ih e live = rw (number-more f b (bs ++ t), p, ih (cut-above (b - 128) (numberIn f bs) z e live)) e
 
@@ -147,7 +168,9 @@ pub stays : (f : ℕ) (l t : List ℕ) (z : Number) → numberIn f l ≡ z → (
 stays f [] t z e live = absurd (live (sym e ∙ number-nil f))
 stays zero (b ∷ bs) t z e live = number-last b (bs ++ t) ∙ (sym (number-last b bs) ∙ e)
 stays (suc f) (b ∷ bs) t z e live =
-    more-stays f b bs t z (ltb b 128) refl (λ (q : numberIn f bs ≡ Refused Cut → ⊥). stays f bs t (numberIn f bs) refl q) (sym (number-more f b bs) ∙ e) live
+    more-stays f b bs t z (ltb b 128) refl
+    (λ (q : numberIn f bs ≡ Refused Cut → ⊥). stays f bs t (numberIn f bs) refl q) (sym (number-more f b bs) ∙ e)
+    live
 
 -- ---- the reader's loop
 
@@ -216,14 +239,17 @@ module _ (s : List ℕ) (at i p v w b : ℕ) (r : Gathers s at i p v w) where
         weight = rw (q, pow-add 2 (7 * i) 7, r .weight);
         small = m .sum;
         rest =
-            sym (moves i v w p (b - 128) (numberIn (9 - (i + 1)) (drop (p + 1) s))) ∙ rw e (rw (f, front s p g, number-more (9 - (i + 1)) (getD s p 0) (drop (p + 1) s), le-ltb (getD s p 0) 128 j) at (r .rest));
+            sym (moves i v w p (b - 128) (numberIn (9 - (i + 1)) (drop (p + 1) s))) ∙ rw e (rw
+            (f, front s p g, number-more (9 - (i + 1)) (getD s p 0) (drop (p + 1) s), le-ltb (getD s p 0) 128 j)
+            at (r .rest));
       }
 
   pub cut-here : length s ≤ p → Refused Cut ≡ numberAt s at
   cut-here g = rw (drop-of-length-le s g, number-nil (9 - i)) at (r .rest)
 
   -- a byte below 128 ends the number
-  ended : i < 9 → p < length s → b ≡ getD s p 0 → b < 128 → cond (ltb 0 i && eqb b 0) (Refused Groups) (Value (v + b * w) (p + 1)) ≡ numberAt s at
+  ended : i < 9 → p < length s → b ≡ getD s p 0 → b < 128
+      → cond (ltb 0 i && eqb b 0) (Refused Groups) (Value (v + b * w) (p + 1)) ≡ numberAt s at
   ended h g e k =
       let f : 9 - i ≡ suc (8 - i) = omega arith in
       rw (f, front s p g, number-more (8 - i) (getD s p 0) (drop (p + 1) s), ← e, lt-ltb b 128 k) at (r .rest)
@@ -289,7 +315,8 @@ module _ (s : List ℕ) (at b : ℕ) (g : at < length s) (e : b ≡ getD s at 0)
         rw (v, p) at (ends-value s at 1 (at + 1) (0 + (b - 128) * 1) (1 * 128) c after-one (omega arith) h f m z)
 
 -- a number of more bytes
-pub long-number : (s : List ℕ) (at b : ℕ) → at < length s → b ≡ getD s at 0 → 128 ≤ b → numberAt s at ≡ onward at (below (b - 128) (numberIn 8 (drop (at + 1) s)))
+pub long-number : (s : List ℕ) (at b : ℕ) → at < length s → b ≡ getD s at 0 → 128 ≤ b
+    → numberAt s at ≡ onward at (below (b - 128) (numberIn 8 (drop (at + 1) s)))
 unfolding numberAt
 long-number s at b g e k =
     let r : List ℕ = drop (at + 1) s in

@@ -18,7 +18,11 @@ sets-one s p x xs = rw (add-one p)
 pub groups-pos : (f v : ℕ) → 0 < length (groups f v)
 unfolding groups
 groups-pos zero v = omega arith
-groups-pos (suc f) v = elim (decLt v 128) [ yes h ↦ rw (groups-one (suc f) v h) (omega arith) | no h ↦ rw (groups-more f v (omega arith)) (omega arith) ]
+groups-pos (suc f) v = elim (decLt v 128) [
+  | yes h ↦ rw (groups-one (suc f) v h) (omega arith)
+  | no h ↦ rw
+      (groups-more f v (omega arith)) (omega arith)
+]
 
 -- ---- a number's loop: v is what is left of n, and goes to p
 
@@ -80,7 +84,8 @@ module _ (s₀ s body : List ℕ) (at n i : ℕ) (fit : n ≤ length body) (r : 
   pub copying-more : i < n → Copying s₀ (set s (at + i) (getD body i 0)) body at n (i + 1)
   copying-more h =
       let l = length-take-le n body fit in
-      let d : drop i (take n body) ≡ getD body i 0 ∷ drop (i + 1) (take n body) = rw (add-one i, drop-cons (take n body) i 0 (omega arith), getD-take n body i 0 h) in
+      let d : drop i (take n body) ≡ getD body i 0 ∷ drop (i + 1) (take n body) = rw
+      (add-one i, drop-cons (take n body) i 0 (omega arith), getD-take n body i 0 h) in
       let a : at + (i + 1) ≡ at + i + 1 = omega arith in
       record {
         count = omega arith;

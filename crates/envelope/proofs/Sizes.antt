@@ -33,7 +33,11 @@ groups-mono zero a b h = omega arith
 groups-mono (suc f) a b h =
     let ih = groups-mono f (a / 128) (b / 128) (omega arith) in
     let p = groups-pos (suc f) b in
-    elim (decLt a 128) [ yes k ↦ rw (groups-one (suc f) a k) (omega arith) | no k ↦ rw (groups-more f a (omega arith), groups-more f b (omega arith)) (omega arith) ]
+    elim (decLt a 128) [
+      | yes k ↦ rw (groups-one (suc f) a k) (omega arith)
+      | no k ↦ rw
+          (groups-more f a (omega arith), groups-more f b (omega arith)) (omega arith)
+    ]
 
 pub number-most : (v : ℕ) → length (number v) ≤ 10
 unfolding number
@@ -103,7 +107,8 @@ module _ (limit kind job bits : ℕ) (body : List ℕ) (e : fits limit kind job 
 
 -- ---- how large an envelope can be
 
-pub length-bytes : (c : Content) → length (bytesOf c) ≡ length (number (c .kind)) + (length (number (c .job)) + (length (number (c .bits)) + length (c .body)))
+pub length-bytes : (c : Content)
+    → length (bytesOf c) ≡ length (number (c .kind)) + (length (number (c .job)) + (length (number (c .bits)) + length (c .body)))
 unfolding bytesOf
 length-bytes c = simp length-append
 
@@ -117,7 +122,16 @@ unfolding largest
 within-largest limit c f =
     let k = kind-small (c .kind) (f .kind) in
     let b = bits-small limit (c .kind) (c .bits) (f .size) in
-    omega (arith, length-bytes c, number-one (c .kind) (omega arith), number-most (c .job), number-mono (c .bits) limit b, bytes-mono (c .bits) limit b, f .body)
+    omega (
+      arith,
+      length-bytes c,
+      number-one (c .kind) (omega arith),
+      number-most (c .job),
+      number-mono (c .bits) limit
+          b,
+      bytes-mono (c .bits) limit b,
+      f .body,
+    )
 
 -- and one is as large: kind 1, job 2^64 - 1, a body of the limit's bits
 pub largest-met : (limit : ℕ) (body : List ℕ) → length body ≡ bytesFor limit → length (bytesOf (record { kind = 1; job = 18446744073709551615; bits = limit; body = body })) ≡ largest limit
@@ -140,15 +154,28 @@ module _ (room limit : ℕ) (out : List ℕ) (kind job bits : ℕ) (body : List 
   unfolding writeEnvelope
   no-room h = rw (lt-ltb (length out) room h)
 
-  pub no-shape : (t : Bool) → room ≤ length out → t ≡ fits limit kind job bits body → not t ≡ true → left Shape out ≡ writeEnvelope room limit out kind job bits body
+  pub no-shape : (t : Bool) → room ≤ length out → t ≡ fits limit kind job bits body → not t ≡ true
+      → left Shape out ≡ writeEnvelope room limit out kind job bits body
   unfolding writeEnvelope
   no-shape t h p q = rw (le-ltb (length out) room h, ← p, not-true t q)
 
-  pub is-written : (z : List ℕ) (end : ℕ) (t : Bool) → room ≤ length out → t ≡ fits limit kind job bits body → not t ≡ false → length (bytesOf (content kind job bits body)) ≤ length out → Put out z 0 end (bytesOf (content kind job bits body)) → left (Bytes end) z ≡ writeEnvelope room limit out kind job bits body
+  pub is-written : (z : List ℕ) (end : ℕ) (t : Bool) → room ≤ length out → t ≡ fits limit kind job bits body
+      → not t ≡ false → length (bytesOf (content kind job bits body)) ≤ length out
+      → Put out z 0 end (bytesOf (content kind job bits body))
+      → left (Bytes end) z ≡ writeEnvelope room limit out kind job bits body
   unfolding writeEnvelope
   is-written z end t h p q l r =
       let n : 0 + length (bytesOf (content kind job bits body)) ≡ length (bytesOf (content kind job bits body)) = omega arith in
-      rw (le-ltb (length out) room h, ← p, not-false t q, r .bytes, sets-eq (bytesOf (content kind job bits body)) out 0 (omega arith), r .place, n)
+      rw (
+        le-ltb (length out) room h,
+        ← p,
+        not-false t q,
+        r .bytes,
+        sets-eq (bytesOf (content kind job bits body)) out 0
+            (omega arith),
+        r .place,
+        n,
+      )
 
 -- what the writer's loops have room for
 pub record Roomy (out : List ℕ) (kind job bits : ℕ) (body : List ℕ) : Type 0 where
@@ -156,7 +183,9 @@ pub record Roomy (out : List ℕ) (kind job bits : ℕ) (body : List ℕ) : Type
   pub whole : length (bytesOf (content kind job bits body)) ≤ length out
   pub there : bytesFor bits ≤ length body
 
-pub is-roomy : (room limit : ℕ) (out : List ℕ) (kind job bits : ℕ) (body : List ℕ) (t : Bool) → largest limit ≤ room → room ≤ length out → job < 2 ^ 64 → t ≡ fits limit kind job bits body → not t ≡ false → Roomy out kind job bits body
+pub is-roomy : (room limit : ℕ) (out : List ℕ) (kind job bits : ℕ) (body : List ℕ) (t : Bool) → largest limit ≤ room
+    → room ≤ length out → job < 2 ^ 64 → t ≡ fits limit kind job bits body → not t ≡ false
+    → Roomy out kind job bits body
 is-roomy room limit out kind job bits body t l h w p q =
     let e : fits limit kind job bits body ≡ true = sym p ∙ not-false t q in
     let f = is-fit limit kind job bits body e w in
@@ -165,7 +194,10 @@ is-roomy room limit out kind job bits body t l h w p q =
     record { total = omega (arith, f .body); whole = omega arith; there = body-there limit kind job bits body e }
 
 -- the four puts in a row are the envelope
-pub puts-are : (out a b c z : List ℕ) (p q t end n kind job bits : ℕ) (body : List ℕ) → n ≡ bytesFor bits → Put out a 0 p (number kind) → Put a b p q (number job) → Put b c q t (number bits) → Put c z t end (take n body) → Put out z 0 end (bytesOf (content kind job bits body))
+pub puts-are : (out a b c z : List ℕ) (p q t end n kind job bits : ℕ) (body : List ℕ) → n ≡ bytesFor bits
+    → Put out a 0 p (number kind) → Put a b p q (number job) → Put b c q t (number bits) → Put c z t end (take n body)
+    → Put out z 0 end (bytesOf (content kind job bits body))
 unfolding bytesOf
 puts-are out a b c z p q t end n kind job bits body e f g h k =
-    rw (← e) (put-then out a z 0 p end (number kind) _ f (put-then a b z p q end (number job) _ g (put-then b c z q t end (number bits) (take n body) h k)))
+    rw (← e) (put-then out a z 0 p end (number kind) _ f
+    (put-then a b z p q end (number job) _ g (put-then b c z q t end (number bits) (take n body) h k)))

@@ -33,7 +33,8 @@ unfolding walkFrom
 walk-end limit s zero at h = refl
 walk-end limit s (suc f) at h = rw (le-leb (length s) at h)
 
-pub walk-on : (limit : ℕ) (s : List ℕ) (f at : ℕ) → at < length s → walkFrom limit s (suc f) at ≡ onRead (envelopeAt limit s at) at (λ (e : Envelope). walkFrom limit s f (e .next))
+pub walk-on : (limit : ℕ) (s : List ℕ) (f at : ℕ) → at < length s
+    → walkFrom limit s (suc f) at ≡ onRead (envelopeAt limit s at) at (λ (e : Envelope). walkFrom limit s f (e .next))
 unfolding walkFrom
 walk-on limit s f at h = rw (lt-leb (length s) at h)
 
@@ -55,11 +56,13 @@ string-read limit w [] none f s at h g e =
     let z : at ≡ length s = omega arith in
     walk-end limit s f at (omega arith) ∙ rw z
 string-read limit w (c ∷ cs) (more fit fits) f s at h g e =
-    let l : length s - at ≡ length (bytesOf c) + length (stringOf cs) = sym (length-drop at s) ∙ (ap length e ∙ length-append (bytesOf c) (stringOf cs)) in
+    let l : length s - at ≡ length (bytesOf c) + length (stringOf cs) = sym (length-drop at s) ∙
+    (ap length e ∙ length-append (bytesOf c) (stringOf cs)) in
     let b = bytes-three c in
     let k : f ≡ suc (f - 1) = omega arith in
     let r = written-read limit w c fit s at (stringOf cs) e in
-    let d : drop (at + length (bytesOf c)) s ≡ stringOf cs = sym (drop-drop (length (bytesOf c)) at s) ∙ rw (e, drop-append-seam (bytesOf c) (stringOf cs)) in
+    let d : drop (at + length (bytesOf c)) s ≡ stringOf cs = sym (drop-drop (length (bytesOf c)) at s) ∙ rw
+    (e, drop-append-seam (bytesOf c) (stringOf cs)) in
     let ih = string-read limit w cs fits (f - 1) s (at + length (bytesOf c)) (omega arith) (omega arith) d in
     rw (k, walk-on limit s (f - 1) at (omega arith), r, placed-next at c, ih)
 
@@ -69,13 +72,17 @@ strings-read limit w cs fits = string-read limit w cs fits (length (stringOf cs)
 
 -- ---- every byte string is such a list, or has its refusal and the byte where the refused envelope begins
 
-after : (limit : ℕ) (s : List ℕ) (at : ℕ) (c : Content) (w : Walk) → Fit limit c → drop at s ≡ bytesOf c ++ drop (at + length (bytesOf c)) s → Told limit s (at + length (bytesOf c)) w → Told limit s at (past (placed at c) w)
+after : (limit : ℕ) (s : List ℕ) (at : ℕ) (c : Content) (w : Walk) → Fit limit c
+    → drop at s ≡ bytesOf c ++ drop (at + length (bytesOf c)) s → Told limit s (at + length (bytesOf c)) w
+    → Told limit s at (past (placed at c) w)
 unfolding stringOf allPlaced
 after limit s at c w fit e (whole cs fits p) =
-    let l : at + length (bytesOf c) + length (stringOf cs) ≡ at + length (bytesOf c ++ stringOf cs) = rw (length-append (bytesOf c) (stringOf cs)) (omega arith) in
+    let l : at + length (bytesOf c) + length (stringOf cs) ≡ at + length (bytesOf c ++ stringOf cs) = rw
+    (length-append (bytesOf c) (stringOf cs)) (omega arith) in
     rw l (whole (c ∷ cs) (more fit fits) (e ∙ rw p))
 after limit s at c w fit e (broken cs t r fits p h q) =
-    let l : at + length (bytesOf c) + length (stringOf cs) ≡ at + length (bytesOf c ++ stringOf cs) = rw (length-append (bytesOf c) (stringOf cs)) (omega arith) in
+    let l : at + length (bytesOf c) + length (stringOf cs) ≡ at + length (bytesOf c ++ stringOf cs) = rw
+    (length-append (bytesOf c) (stringOf cs)) (omega arith) in
     rw l (broken (c ∷ cs) t r (more fit fits) (e ∙ rw (p, append-assoc (bytesOf c) (stringOf cs) t)) (rw l at h) (rw l at q))
 
 at-end : (limit : ℕ) (s : List ℕ) (at : ℕ) → length s ≤ at → Told limit s at (ends (ended at))
@@ -84,7 +91,8 @@ at-end limit s at h =
     let w : Told limit s at (ends (ended (at + 0))) = whole [] none (drop-of-length-le s h) in
     rw (add-zero at) at w
 
-at-refusal : (limit : ℕ) (s : List ℕ) (at : ℕ) (r : EnvelopeRefusal) → at < length s → envelopeAt limit s at ≡ Refused r → Told limit s at (ends (stopped r at))
+at-refusal : (limit : ℕ) (s : List ℕ) (at : ℕ) (r : EnvelopeRefusal) → at < length s → envelopeAt limit s at ≡ Refused r
+    → Told limit s at (ends (stopped r at))
 unfolding stringOf allPlaced
 at-refusal limit s at r h e =
     let w : Told limit s at (ends (stopped r (at + 0))) = broken [] (drop at s) r none refl (rw (add-zero at) h) (rw (add-zero at) e) in
@@ -101,24 +109,35 @@ goes-on limit s at e r =
     let n : e .next ≡ at + length (bytesOf (contentOf s e)) = ap (λ (x : Envelope). x .next) (r .place) ∙ placed-next at (contentOf s e) in
     record { next = n; on = omega (arith, bytes-three (contentOf s e)); within = r .within }
 
-at-envelope : (limit : ℕ) (s : List ℕ) (at : ℕ) (e : Envelope) (w : Walk) → ReadIs limit s at e → Told limit s (e .next) w → Told limit s at (past e w)
+at-envelope : (limit : ℕ) (s : List ℕ) (at : ℕ) (e : Envelope) (w : Walk) → ReadIs limit s at e
+    → Told limit s (e .next) w → Told limit s at (past e w)
 at-envelope limit s at e w r t =
     let n = goes-on limit s at e r .next in
-    let d : drop at s ≡ bytesOf (contentOf s e) ++ drop (at + length (bytesOf (contentOf s e))) s = r .holds ∙ ap (λ (k : ℕ). bytesOf (contentOf s e) ++ drop k s) n in
-    subst (λ (x : Envelope). Told limit s at (past x w)) (sym (r .place)) (after limit s at (contentOf s e) w (r .fit) d (subst (λ (k : ℕ). Told limit s k w) n t))
+    let d : drop at s ≡ bytesOf (contentOf s e) ++ drop (at + length (bytesOf (contentOf s e))) s = r .holds ∙ ap
+    (λ (k : ℕ). bytesOf (contentOf s e) ++ drop k s) n in
+    subst (λ (x : Envelope). Told limit s at (past x w)) (sym (r .place))
+    (after limit s at (contentOf s e) w (r .fit) d (subst (λ (k : ℕ). Told limit s k w) n t))
 
-at-answer : (limit : ℕ) (s : List ℕ) → AllBytes s → (f at : ℕ) (z : EnvelopeRead) → envelopeAt limit s at ≡ z → at < length s → ((e : Envelope) → ReadIs limit s at e → Told limit s (e .next) (walkFrom limit s f (e .next))) → Told limit s at (onRead z at (λ (e : Envelope). walkFrom limit s f (e .next)))
-at-answer limit s b f at (Is e) p h k = let r = read-written limit s at b e p in at-envelope limit s at e (walkFrom limit s f (e .next)) r (k e r)
+at-answer : (limit : ℕ) (s : List ℕ) → AllBytes s → (f at : ℕ) (z : EnvelopeRead) → envelopeAt limit s at ≡ z
+    → at < length s → ((e : Envelope) → ReadIs limit s at e → Told limit s (e .next) (walkFrom limit s f (e .next)))
+    → Told limit s at (onRead z at (λ (e : Envelope). walkFrom limit s f (e .next)))
+at-answer limit s b f at (Is e) p h k = let r = read-written limit s at b e p in at-envelope limit s at e
+    (walkFrom limit s f (e .next)) r (k e r)
 at-answer limit s b f at (Refused r) p h k = at-refusal limit s at r h p
 
-either-end : (limit : ℕ) (s : List ℕ) (f at : ℕ) (t : Bool) → leb (length s) at ≡ t → (at < length s → Told limit s at (onRead (envelopeAt limit s at) at (λ (e : Envelope). walkFrom limit s f (e .next)))) → Told limit s at (walkFrom limit s (suc f) at)
+either-end : (limit : ℕ) (s : List ℕ) (f at : ℕ) (t : Bool) → leb (length s) at ≡ t
+    → (at < length s → Told limit s at (onRead (envelopeAt limit s at) at (λ (e : Envelope). walkFrom limit s f (e .next))))
+    → Told limit s at (walkFrom limit s (suc f) at)
 either-end limit s f at true e k = let h = leb-true (length s) at e in rw (walk-end limit s (suc f) at h) (at-end limit s at h)
 either-end limit s f at false e k = let h = leb-false (length s) at e in rw (walk-on limit s f at h) (k h)
 
-pub string-told : (limit : ℕ) (s : List ℕ) → AllBytes s → (f at : ℕ) → length s ≤ at + f → at ≤ length s → Told limit s at (walkFrom limit s f at)
+pub string-told : (limit : ℕ) (s : List ℕ) → AllBytes s → (f at : ℕ) → length s ≤ at + f → at ≤ length s
+    → Told limit s at (walkFrom limit s f at)
 string-told limit s b zero at h g = rw (walk-none limit s at) (at-end limit s at (omega arith))
 string-told limit s b (suc f) at h g =
-    either-end limit s f at (leb (length s) at) refl (λ (k : at < length s). at-answer limit s b f at (envelopeAt limit s at) refl k (λ (e : Envelope) (r : ReadIs limit s at e). let o = goes-on limit s at e r in string-told limit s b f (e .next) (omega arith) (omega arith)))
+    either-end limit s f at (leb (length s) at) refl (λ (k : at < length s). at-answer limit s b f at
+    (envelopeAt limit s at) refl k (λ (e : Envelope) (r : ReadIs limit s at e). let o = goes-on limit s at e r
+    in string-told limit s b f (e .next) (omega arith) (omega arith)))
 
 pub every-string : (limit : ℕ) (s : List ℕ) → AllBytes s → Told limit s 0 (walk limit s)
 unfolding walk

@@ -13,5 +13,8 @@ use Rattle.envelope.specs.Envelopes.{isKind, sizeFits, bytesFor, isPadded, body
 use Rattle.examples.specs.Examples.{examples, allHold, same, are}
 
 pub all-hold : allHold examples ≡ true
-unfolding digitsFit codeFits codeAt charactersFit charactersIn sizedFits facilityFits facilityAt atisFits groups number bytesOf digitsBits sizedBits facilityBits charactersBits indexBits wholeBits digitsIn sizedAt wholeNumber runAt numberIn numberAt isKind sizeFits bytesFor isPadded bodyAt sizeAt jobAt kindAt envelopeAt same are bitsN bitsOf accOf readBits bitField lengthAt lengthBits numberOf
+unfolding digitsFit codeFits codeAt charactersFit charactersIn sizedFits facilityFits facilityAt atisFits groups number
+    bytesOf digitsBits sizedBits facilityBits charactersBits indexBits wholeBits digitsIn sizedAt wholeNumber runAt
+    numberIn numberAt isKind sizeFits bytesFor isPadded bodyAt sizeAt jobAt kindAt envelopeAt same are bitsN bitsOf
+    accOf readBits bitField lengthAt lengthBits numberOf
 all-hold = refl

@@ -31,7 +31,8 @@ pub are-is : (bits : List ℕ) (n : ℕ) (bytes : List ℕ) → are bits n bytes
 unfolding are
 are-is bits n bytes e =
     same-is _ _
-    (both-right (eqb (length bits) n && eqb (length bytes) ((n + 7) / 8)) (same (bits ++ replicate (8 * length bytes - n) 0) (bitsOf bytes)) e)
+    (both-right (eqb (length bits) n && eqb (length bytes) ((n + 7) / 8))
+    (same (bits ++ replicate (8 * length bytes - n) 0) (bitsOf bytes)) e)
 
 pub says-is : (f : Field) (v n : ℕ) → fieldSays f (value v n) ≡ true → f ≡ Value v n
 says-is (Value w next) v n e =
@@ -39,7 +40,8 @@ says-is (Value w next) v n e =
 says-is (Refused r) v n e = never (cc)
 
 -- a row of a length: its bytes are read as the value and the count of bits, and the value is written as the bytes
-pub length-row : (bytes : List ℕ) (v n : ℕ) → holds (aLength bytes (value v n)) ≡ true → (lengthAt (bitsOf bytes) 0 ≡ Value v n) × (lengthBits v ++ replicate (8 * length bytes - n) 0 ≡ bitsOf bytes)
+pub length-row : (bytes : List ℕ) (v n : ℕ) → holds (aLength bytes (value v n)) ≡ true
+    → (lengthAt (bitsOf bytes) 0 ≡ Value v n) × (lengthBits v ++ replicate (8 * length bytes - n) 0 ≡ bitsOf bytes)
 length-row bytes v n e =
     let reads = fieldSays (lengthAt (bitsOf bytes) 0) (value v n) in
     let writes = are (lengthBits v) n bytes in

@@ -29,7 +29,8 @@ went f g o v n k p q h = h ∙ ap (λ (x : Field). then x k) (sym q ∙ p)
 
 -- ---- bits
 
-pub field-short : (l : List ℕ) (at n : ℕ) (r : Read) (o : Field) → r ≡ readBits l at n → r ≡ read.Short → o ≡ refusedAt at Short → o ≡ bitField l at n
+pub field-short : (l : List ℕ) (at n : ℕ) (r : Read) (o : Field) → r ≡ readBits l at n → r ≡ read.Short
+    → o ≡ refusedAt at Short → o ≡ bitField l at n
 unfolding bitField
 field-short l at n r o p q h = h ∙ rw (← p, q)
 
@@ -109,7 +110,8 @@ module _ (l : List ℕ) (at least most : ℕ) (f : Field) (p : f ≡ lengthAt l 
   unfolding lengthWithin
   within-low n next o q h e = went f _ o n next _ p q (rw (lt-leb least n h) e)
 
-  pub within-high : (n next : ℕ) (o : Field) → f ≡ Value n next → least ≤ n → most < n → o ≡ refusedAt at Limit → o ≡ lengthWithin l at least most
+  pub within-high : (n next : ℕ) (o : Field) → f ≡ Value n next → least ≤ n → most < n → o ≡ refusedAt at Limit
+      → o ≡ lengthWithin l at least most
   unfolding lengthWithin
   within-high n next o q h g e = went f _ o n next _ p q (rw (le-leb least n h, lt-leb n most g) e)
 
@@ -123,7 +125,8 @@ pub run-there : (s : List ℕ) (e at count n : ℕ) → Within s e at count → 
 unfolding runAt
 run-there s e at count n w = rw (w .test)
 
-pub run-short : (l : List ℕ) (at count n : ℕ) (o : Field) → leb (at + count) (length l) ≡ false → o ≡ refusedAt at Short → o ≡ runAt l at count n
+pub run-short : (l : List ℕ) (at count n : ℕ) (o : Field) → leb (at + count) (length l) ≡ false → o ≡ refusedAt at Short
+    → o ≡ runAt l at count n
 unfolding runAt
 run-short l at count n o h e = rw h e
 
@@ -137,7 +140,8 @@ pub run-is : (l : List ℕ) (at count n v next : ℕ) → runAt l at count n ≡
 unfolding runAt
 run-is l at count n v next e = go (leb (at + count) (length l)) refl e
   where
-    go : (t : Bool) → leb (at + count) (length l) ≡ t → cond t (Value n (at + count)) (refusedAt at Short) ≡ Value v next → RunIs l at count n v next
+    go : (t : Bool) → leb (at + count) (length l) ≡ t
+        → cond t (Value n (at + count)) (refusedAt at Short) ≡ Value v next → RunIs l at count n v next
     go true p q = record { value = cc; place = cc; within = leb-true _ _ p }
     go false p q = let z : _≡_ {A = ℕ} 0 1 = cc in absurd (omega arith)
 
@@ -145,7 +149,8 @@ pub run-not : (l : List ℕ) (at count n : ℕ) (r : Refusal) → runAt l at cou
 unfolding runAt
 run-not l at count n r e = go (leb (at + count) (length l)) refl e
   where
-    go : (t : Bool) → leb (at + count) (length l) ≡ t → cond t (Value n (at + count)) (refusedAt at Short) ≡ Refused r → leb (at + count) (length l) ≡ false
+    go : (t : Bool) → leb (at + count) (length l) ≡ t → cond t (Value n (at + count)) (refusedAt at Short) ≡ Refused r
+        → leb (at + count) (length l) ≡ false
     go true p q = let z : _≡_ {A = ℕ} 0 1 = cc in absurd (omega arith)
     go false p q = p
 

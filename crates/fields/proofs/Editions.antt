@@ -94,7 +94,8 @@ module _ (l : List ℕ) (at next : ℕ) (xs : List Addition) (few : length xs �
       let n = length-marks xs in
       let w : bitsN (length xs) (numOf (marks xs)) ≡ marks xs = rw (← n) (bitsN-num (marks xs) (marks-bits xs)) in
       let lt : numOf (marks xs) < 2 ^ length xs = rw n at (num-lt (marks xs) (marks-bits xs)) in
-      let f : bitsFit (length xs) (numOf (marks xs)) ≡ true = rw (le-leb (length xs) 64 few, lt-ltb (numOf (marks xs)) (2 ^ length xs) lt) in
+      let f : bitsFit (length xs) (numOf (marks xs)) ≡ true = rw
+      (le-leb (length xs) 64 few, lt-ltb (numOf (marks xs)) (2 ^ length xs) lt) in
       let r = bit-field (length xs) .written-read l at (numOf (marks xs)) next f (rw w s) in
       rw (r, ne-eqb (numOf (marks xs)) 0 not-none)
     where
@@ -116,15 +117,19 @@ count-read l at m next h s =
 
 -- ---- those that are there
 
-addition-read : (l : List ℕ) (at next : ℕ) (o : List ℕ) → eqb (8 * (length o / 8)) (length o) ≡ true → lengthFits (length o / 8) ≡ true → Stands l at (lengthBits (length o / 8) ++ o) next → additionAt l at ≡ Value (length o / 8) next
+addition-read : (l : List ℕ) (at next : ℕ) (o : List ℕ) → eqb (8 * (length o / 8)) (length o) ≡ true
+    → lengthFits (length o / 8) ≡ true → Stands l at (lengthBits (length o / 8) ++ o) next
+    → additionAt l at ≡ Value (length o / 8) next
 unfolding additionAt
-addition-read l at next o e f s = items-written-read length-determinant 8 l at (length o / 8) next o f (sym (eqb-true (8 * (length o / 8)) (length o) e)) s
+addition-read l at next o e f s = items-written-read length-determinant 8 l at (length o / 8) next o f
+    (sym (eqb-true (8 * (length o / 8)) (length o) e)) s
 
 stepped-one : (l : List ℕ) (at k n next : ℕ) → additionAt l at ≡ Value n next → steppedOver l at (suc k) ≡ steppedOver l next k
 unfolding steppedOver
 stepped-one l at k n next e = rw e
 
-contents-read : (l : List ℕ) (xs : List Addition) (at next : ℕ) → additionsFit xs ≡ true → Stands l at (contents xs) next → steppedOver l at (given xs) ≡ Value 0 next
+contents-read : (l : List ℕ) (xs : List Addition) (at next : ℕ) → additionsFit xs ≡ true
+    → Stands l at (contents xs) next → steppedOver l at (given xs) ≡ Value 0 next
 unfolding contents additionsFit given steppedOver
 contents-read l [] at next f s =
     let p = s .place in
@@ -134,8 +139,10 @@ contents-read l (absent ∷ xs) at next f s = contents-read l xs at next f s
 contents-read l (there o ∷ xs) at next f s =
     let g = both-left (eqb (8 * (length o / 8)) (length o) && lengthFits (length o / 8)) (additionsFit xs) f in
     let w = stands-split l at next (lengthBits (length o / 8) ++ o) (contents xs) s in
-    let a = addition-read l at _ o (both-left (eqb (8 * (length o / 8)) (length o)) (lengthFits (length o / 8)) g) (both-right (eqb (8 * (length o / 8)) (length o)) (lengthFits (length o / 8)) g) (w .first) in
-    stepped-one l at (given xs) (length o / 8) _ a ∙ contents-read l xs _ next (both-right (eqb (8 * (length o / 8)) (length o) && lengthFits (length o / 8)) (additionsFit xs) f) (w .second)
+    let a = addition-read l at _ o (both-left (eqb (8 * (length o / 8)) (length o)) (lengthFits (length o / 8)) g)
+    (both-right (eqb (8 * (length o / 8)) (length o)) (lengthFits (length o / 8)) g) (w .first) in
+    stepped-one l at (given xs) (length o / 8) _ a ∙ contents-read l xs _ next
+    (both-right (eqb (8 * (length o / 8)) (length o) && lengthFits (length o / 8)) (additionsFit xs) f) (w .second)
 
 -- ---- all of it
 
@@ -144,14 +151,19 @@ unfolding given
 some-there [] h = absurd (omega arith)
 some-there (a ∷ xs) h = omega arith
 
-pub later-stepped : (l : List ℕ) (at next : ℕ) (xs : List Addition) → length xs ≤ 64 → 0 < given xs → additionsFit xs ≡ true → Stands l at (additionsBits xs) next → additionsAt l at ≡ Value 0 next
+pub later-stepped : (l : List ℕ) (at next : ℕ) (xs : List Addition) → length xs ≤ 64 → 0 < given xs
+    → additionsFit xs ≡ true → Stands l at (additionsBits xs) next → additionsAt l at ≡ Value 0 next
 unfolding additionsBits additionsAt
 later-stepped l at next xs few some f s =
     let pos = some-there xs some in
     let m : ℕ = length xs - 1 in
     let e : length xs - 1 + 1 ≡ length xs = omega arith in
-    let t : Stands l at ((bitsN 1 0 ++ bitsN 6 (length xs - 1)) ++ (marks xs ++ contents xs)) next = subst (λ (x : List ℕ). Stands l at x next) (sym (append-assoc (bitsN 1 0) (bitsN 6 (length xs - 1)) (marks xs ++ contents xs))) s in
+    let t : Stands l at ((bitsN 1 0 ++ bitsN 6 (length xs - 1)) ++ (marks xs ++ contents xs)) next = subst
+    (λ (x : List ℕ). Stands l at x next)
+    (sym (append-assoc (bitsN 1 0) (bitsN 6 (length xs - 1)) (marks xs ++ contents xs))) s in
     let w = stands-split l at next (bitsN 1 0 ++ bitsN 6 (length xs - 1)) (marks xs ++ contents xs) t in
     let u = stands-split l _ next (marks xs) (contents xs) (w .second) in
-    let c : additionCount l at ≡ Value (length xs) (at + length (bitsN 1 0 ++ bitsN 6 (length xs - 1))) = count-read l at (length xs - 1) _ (omega arith) (w .first) ∙ ap (λ (n : ℕ). Value n (at + length (bitsN 1 0 ++ bitsN 6 (length xs - 1)))) e in
+    let c : additionCount l at ≡ Value (length xs) (at + length (bitsN 1 0 ++ bitsN 6 (length xs - 1))) = count-read l
+    at (length xs - 1) _ (omega arith) (w .first) ∙ ap
+    (λ (n : ℕ). Value n (at + length (bitsN 1 0 ++ bitsN 6 (length xs - 1)))) e in
     rw (c, there-read l _ _ xs few some (u .first), ones-marks xs) (contents-read l xs _ next f (u .second))

@@ -60,23 +60,30 @@ none-above : (b p w v : ℕ) → v ≡ b * p + w → v < p → (b ≡ 0) × (w �
 none-above zero p w v e h = (refl, omega (arith, e))
 none-above (suc b) p w v e h = let s : suc b * p ≡ b * p + p = suc-mul b p in absurd (omega (arith, s, e, h))
 
-in-two : (l : List ℕ) (at n : ℕ) → at + (1 + n) ≤ length l → numOf (take (1 + n) (drop at l)) ≡ numOf (take 1 (drop at l)) * 2 ^ n + numOf (take n (drop (at + 1) l))
+in-two : (l : List ℕ) (at n : ℕ) → at + (1 + n) ≤ length l
+    → numOf (take (1 + n) (drop at l)) ≡ numOf (take 1 (drop at l)) * 2 ^ n + numOf (take n (drop (at + 1) l))
 in-two l at n h =
     let k : length (take n (drop (at + 1) l)) ≡ n = length-part l (at + 1) n (omega arith) in
     rw (take-add 1 n (drop at l), drop-drop, num-append, k)
 
 -- the index that is read with its extension bit
-pub index-read : (l : List ℕ) (at last w v next : ℕ) (r : Read) → last < 2 ^ 64 → w ≡ widthOf last → r ≡ readBits l at (1 + w) → r ≡ read.Number v next → v ≤ last → Value v next ≡ extensibleIndex l at last
+pub index-read : (l : List ℕ) (at last w v next : ℕ) (r : Read) → last < 2 ^ 64 → w ≡ widthOf last
+    → r ≡ readBits l at (1 + w) → r ≡ read.Number v next → v ≤ last → Value v next ≡ extensibleIndex l at last
 unfolding extensibleIndex
 index-read l at last w v next r small pw p q h =
     let s = said l at (1 + w) v next (sym p ∙ q) in
     let low : last < 2 ^ w = rw pw (width-holds 64 last small) in
-    let z = none-above (numOf (take 1 (drop at l))) (2 ^ w) (numOf (take w (drop (at + 1) l))) v (s .value ∙ in-two l at w (s .there)) (omega (arith, low, h)) in
+    let z = none-above (numOf (take 1 (drop at l))) (2 ^ w) (numOf (take w (drop (at + 1) l))) v
+    (s .value ∙ in-two l at w (s .there)) (omega (arith, low, h)) in
     let n : next ≡ at + 1 + w = s .place ∙ omega arith in
-    let bit = field-value l at 1 (numOf (take 1 (drop at l))) (at + 1) (readBits l at 1) refl (sym (reads l at 1 (omega arith) (omega (arith, s .there)))) in
+    let bit = field-value l at 1 (numOf (take 1 (drop at l))) (at + 1) (readBits l at 1) refl
+    (sym (reads l at 1 (omega arith) (omega (arith, s .there)))) in
     let clear : Value 0 (at + 1) ≡ extensionBit l at = ext-clear l at (bitField l at 1) refl _ (at + 1) (sym bit) (z .0) in
-    let index = field-value l (at + 1) w (numOf (take w (drop (at + 1) l))) (at + 1 + w) (readBits l (at + 1) w) refl (sym (reads l (at + 1) w (omega (arith, s .most)) (omega (arith, s .there)))) in
-    let found : Value (0 + v) (at + 1 + w) ≡ wholeNumber l (at + 1) 0 last = whole-in l (at + 1) 0 last w last (bitField l (at + 1) w) refl pw (omega arith) v (at + 1 + w) (sym index ∙ ap (λ (x : ℕ). Value x (at + 1 + w)) (z .1)) (omega arith) in
+    let index = field-value l (at + 1) w (numOf (take w (drop (at + 1) l))) (at + 1 + w) (readBits l (at + 1) w) refl
+    (sym (reads l (at + 1) w (omega (arith, s .most)) (omega (arith, s .there)))) in
+    let found : Value (0 + v) (at + 1 + w) ≡ wholeNumber l (at + 1) 0 last = whole-in l (at + 1) 0 last w last
+    (bitField l (at + 1) w) refl pw (omega arith) v (at + 1 + w)
+    (sym index ∙ ap (λ (x : ℕ). Value x (at + 1 + w)) (z .1)) (omega arith) in
     let o : 0 + v ≡ v = omega arith in
     went (extensionBit l at) _ _ 0 (at + 1) _ refl (sym clear) (rw n (rw o at found))
 
@@ -90,8 +97,10 @@ index-bits last i w pw h =
     let z : i / 2 ^ w ≡ 0 = div-eq-of-lt h in
     rw (d, e, ← pw) (sym (rw (bitsN-split 1 w i, z)))
 
-pub index-put-once : (s : List ℕ) (o : Left) (e at last i w : ℕ) → last < 2 ^ 64 → w ≡ widthOf last → w < 64 → i ≤ last → o ≡ putNumber s e at (1 + w) i → o ≡ putIf (wholeFits 0 last i) s e at (indexBits last i)
+pub index-put-once : (s : List ℕ) (o : Left) (e at last i w : ℕ) → last < 2 ^ 64 → w ≡ widthOf last → w < 64 → i ≤ last
+    → o ≡ putNumber s e at (1 + w) i → o ≡ putIf (wholeFits 0 last i) s e at (indexBits last i)
 index-put-once s o e at last i w small pw few h p =
     let low : last < 2 ^ w = rw pw (width-holds 64 last small) in
     let high : i < 2 ^ (1 + w) = omega (arith, low, h, pow-lt {i = w} {j = 1 + w} (omega arith)) in
-    p ∙ as-number s e at (1 + w) i (wholeFits 0 last i) (indexBits last i) (omega arith) high (in-range 0 last i (omega arith) h) (index-bits last i w pw (omega (arith, low, h)))
+    p ∙ as-number s e at (1 + w) i (wholeFits 0 last i) (indexBits last i) (omega arith) high
+    (in-range 0 last i (omega arith) h) (index-bits last i w pw (omega (arith, low, h)))

@@ -44,10 +44,12 @@ unfolding lengthWithin
 form-first l at least most r e = rw e
 
 -- a length before the contents that it counts
-pub length-first : (l : List ℕ) (at unit least most : ℕ) (r : Refusal) → lengthWithin l at least most ≡ Refused r → stringAt l at unit least most ≡ Refused r
+pub length-first : (l : List ℕ) (at unit least most : ℕ) (r : Refusal) → lengthWithin l at least most ≡ Refused r
+    → stringAt l at unit least most ≡ Refused r
 unfolding stringAt
 length-first l at unit least most r e = rw e
 
-pub size-first : (l : List ℕ) (at unit least most : ℕ) (r : Refusal) → wholeNumber l at least most ≡ Refused r → sizedAt l at unit least most ≡ Refused r
+pub size-first : (l : List ℕ) (at unit least most : ℕ) (r : Refusal) → wholeNumber l at least most ≡ Refused r
+    → sizedAt l at unit least most ≡ Refused r
 unfolding sizedAt
 size-first l at unit least most r e = rw e

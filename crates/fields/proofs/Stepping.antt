@@ -20,7 +20,8 @@ use Rattle.fields.proofs.RoundTrip.{bit-field}
 
 -- the count is a number of seven bits, so that one more is no great number
 pub count-small : (l : List ℕ) (at v next : ℕ) (f : Field) → Bits l → f ≡ bitField l at 7 → f ≡ Value v next → v < 128
-count-small l at v next f b p q = ltb-true v (2 ^ 7) (both-right (leb 7 64) (ltb v (2 ^ 7)) (bit-field 7 .read-fits l at v next b (sym p ∙ q)))
+count-small l at v next f b p q = ltb-true v (2 ^ 7)
+    (both-right (leb 7 64) (ltb v (2 ^ 7)) (bit-field 7 .read-fits l at v next b (sym p ∙ q)))
 
 -- ---- which of them are there
 
@@ -47,7 +48,8 @@ stepped-first : (l : List ℕ) (at k : ℕ) (f : Field) (r : Refusal) → f ≡ 
 unfolding steppedOver
 stepped-first l at k f r q e = handed f _ r _ q e
 
-stepped-rest : (l : List ℕ) (at k n next : ℕ) (f : Field) → f ≡ additionAt l at → f ≡ Value n next → steppedOver l next k ≡ steppedOver l at (suc k)
+stepped-rest : (l : List ℕ) (at k n next : ℕ) (f : Field) → f ≡ additionAt l at → f ≡ Value n next
+    → steppedOver l next k ≡ steppedOver l at (suc k)
 unfolding steppedOver
 stepped-rest l at k n next f q e = went f _ _ n next _ q e refl
 

@@ -33,7 +33,9 @@ pub record Small (limit : ℕ) (f : List ℕ) (e : Envelope) (n : ℕ) : Type 0 
   pub within : n ≤ length f
 
 module _ (limit : ℕ) (z : Sized limit) (e : Envelope) (n : ℕ) where
-  in-record-small : (h f : List ℕ) → AllBytes (h ++ f) → envelopeAt limit h 0 ≡ Refused Cut → (c : Envelope) → envelopeAt limit (h ++ f) 0 ≡ Is c → taken.Whole (inRecord c) (c .next - length h) ≡ taken.Whole e n → Small limit f e n
+  in-record-small : (h f : List ℕ) → AllBytes (h ++ f) → envelopeAt limit h 0 ≡ Refused Cut → (c : Envelope)
+      → envelopeAt limit (h ++ f) 0 ≡ Is c → taken.Whole (inRecord c) (c .next - length h) ≡ taken.Whole e n
+      → Small limit f e n
   in-record-small h f b g c p q =
       let r = read-written limit (h ++ f) 0 b c p in
       let o : inRecord c ≡ e = cc in
@@ -50,7 +52,8 @@ module _ (limit : ℕ) (z : Sized limit) (e : Envelope) (n : ℕ) where
       let d = length-append h f in
       record { kind = omega arith; bits = omega arith; body = omega arith; took = omega arith; some = omega arith; within = omega arith }
 
-  joined-small : (p : ℕ) (h f : List ℕ) → AllBytes (h ++ f) → envelopeAt limit h 0 ≡ Refused Cut → joined limit p h f .answer ≡ taken.Whole e n → Small limit f e n
+  joined-small : (p : ℕ) (h f : List ℕ) → AllBytes (h ++ f) → envelopeAt limit h 0 ≡ Refused Cut
+      → joined limit p h f .answer ≡ taken.Whole e n → Small limit f e n
   unfolding joined
   joined-small p h f b g q = by (envelopeAt limit (h ++ f) 0) refl q
     where
@@ -65,7 +68,9 @@ module _ (limit : ℕ) (z : Sized limit) (e : Envelope) (n : ℕ) where
   unfolding resumed kept
   resumed-small b f k p x y q = by (unfinished limit (heldIn k b)) refl q
     where
-      by : (t : Bool) → unfinished limit (heldIn k b) ≡ t → cond t (after (joined limit p (heldIn k b) f .answer) (keep limit k b (joined limit p (heldIn k b) f .mail))) (after taken.Shape b) .answer ≡ taken.Whole e n → Small limit f e n
+      by : (t : Bool) → unfinished limit (heldIn k b) ≡ t
+          → cond t (after (joined limit p (heldIn k b) f .answer) (keep limit k b (joined limit p (heldIn k b) f .mail))) (after taken.Shape b) .answer ≡ taken.Whole e n
+          → Small limit f e n
       by true o q = joined-small p (heldIn k b) f (bytes-append (heldIn k b) f (bytes-held k b x) y) (cut-of limit (heldIn k b) o) q
       by false w q = let o : _≡_ {A = ℕ} 0 1 = cc in absurd (omega arith)
 
@@ -73,7 +78,9 @@ module _ (limit : ℕ) (z : Sized limit) (e : Envelope) (n : ℕ) where
   unfolding begun kept
   begun-small b f k p y q = by (eqb (length f) 0) q
     where
-      by : (t : Bool) → cond t (after (taken.Part 0) b) (after (joined limit (later p k) [] f .answer) (keep limit k b (joined limit (later p k) [] f .mail))) .answer ≡ taken.Whole e n → Small limit f e n
+      by : (t : Bool)
+          → cond t (after (taken.Part 0) b) (after (joined limit (later p k) [] f .answer) (keep limit k b (joined limit (later p k) [] f .mail))) .answer ≡ taken.Whole e n
+          → Small limit f e n
       by true q = let o : _≡_ {A = ℕ} 0 1 = cc in absurd (omega arith)
       by false q = joined-small (later p k) [] f y (none-open limit) q
 

@@ -36,30 +36,39 @@ sized = record { small = lit< tt; least = omega (arith, largest-is); most = omeg
 -- ---- with nothing held
 
 module _ (limit : ℕ) (b f : List ℕ) (p : ℕ) (x : EnvelopeRead) (e : x ≡ envelopeAt limit f 0) where
-  pub begin-whole : (c d : Envelope) (y z : List ℕ) → x ≡ Is c → c .next ≤ length f → y ≡ sets b head (take (c .next) f) → z ≡ sets y 0 (headAt 1 (c .next) p) → d ≡ inRecord c → after (taken.Whole d (c .next)) z ≡ kept limit 0 b (joined limit p [] f)
+  pub begin-whole : (c d : Envelope) (y z : List ℕ) → x ≡ Is c → c .next ≤ length f → y ≡ sets b head (take (c .next) f)
+      → z ≡ sets y 0 (headAt 1 (c .next) p) → d ≡ inRecord c
+      → after (taken.Whole d (c .next)) z ≡ kept limit 0 b (joined limit p [] f)
   unfolding joined kept laid
   begin-whole c d y z q l g h k =
       let o : c .next - 0 ≡ c .next = omega arith in
       rw (← e, q, o, padded-none 0 (take (c .next) f) (omega arith), ← g, length-take-le (c .next) f l, ← h, ← k)
 
-  pub begin-part : (r : EnvelopeRefusal) (t : Bool) (y z : List ℕ) → x ≡ Refused r → t ≡ isCut r → t ≡ true → y ≡ sets b head f → z ≡ sets y 0 (headAt 0 (length f) p) → after (taken.Part (length f)) z ≡ kept limit 0 b (joined limit p [] f)
+  pub begin-part : (r : EnvelopeRefusal) (t : Bool) (y z : List ℕ) → x ≡ Refused r → t ≡ isCut r → t ≡ true
+      → y ≡ sets b head f → z ≡ sets y 0 (headAt 0 (length f) p)
+      → after (taken.Part (length f)) z ≡ kept limit 0 b (joined limit p [] f)
   unfolding joined kept laid
   begin-part r t y z q s u g h = rw (← e, q, ← s, u, padded-none 0 f (omega arith), ← g, ← h)
 
-  pub begin-refused : (r : EnvelopeRefusal) (t : Bool) (a : Taken) (z : List ℕ) → x ≡ Refused r → t ≡ isCut r → t ≡ false → after a z ≡ after (taken.Refused r) (recordOf limit (refused r p)) → after a z ≡ kept limit 0 b (joined limit p [] f)
+  pub begin-refused : (r : EnvelopeRefusal) (t : Bool) (a : Taken) (z : List ℕ) → x ≡ Refused r → t ≡ isCut r
+      → t ≡ false → after a z ≡ after (taken.Refused r) (recordOf limit (refused r p))
+      → after a z ≡ kept limit 0 b (joined limit p [] f)
   unfolding joined kept
   begin-refused r t a z q s u g = g ∙ rw (← e, q, ← s, u)
 
-pub begin-cut : (limit : ℕ) (f : List ℕ) (x : EnvelopeRead) (r : EnvelopeRefusal) (t : Bool) → x ≡ envelopeAt limit f 0 → x ≡ Refused r → t ≡ isCut r → t ≡ true → envelopeAt limit f 0 ≡ Refused Cut
+pub begin-cut : (limit : ℕ) (f : List ℕ) (x : EnvelopeRead) (r : EnvelopeRefusal) (t : Bool) → x ≡ envelopeAt limit f 0
+    → x ≡ Refused r → t ≡ isCut r → t ≡ true → envelopeAt limit f 0 ≡ Refused Cut
 begin-cut limit f x r t e q s u = sym e ∙ (q ∙ ap Refused (cut-is r (sym s ∙ u)))
 
 -- ---- zeros over what was finished, and then from nothing
 
-kept-mail : (limit n : ℕ) (b z : List ℕ) (m : Mail) → head + n ≤ length b → z ≡ sets b head (zeros n) → head + length (heldOf m) ≤ length b → laid 0 z m ≡ laid n b m
+kept-mail : (limit n : ℕ) (b z : List ℕ) (m : Mail) → head + n ≤ length b → z ≡ sets b head (zeros n)
+    → head + length (heldOf m) ≤ length b → laid 0 z m ≡ laid n b m
 unfolding laid
 kept-mail limit n b z m h e g = rw (padded-none 0 (heldOf m) (omega arith), e, zeros-over b head n (heldOf m) h g)
 
-keep-zeroed : (limit n : ℕ) (b z : List ℕ) (m : Mail) → head + n ≤ length b → z ≡ sets b head (zeros n) → head + length (heldOf m) ≤ length b → keep limit 0 z m ≡ keep limit n b m
+keep-zeroed : (limit n : ℕ) (b z : List ℕ) (m : Mail) → head + n ≤ length b → z ≡ sets b head (zeros n)
+    → head + length (heldOf m) ≤ length b → keep limit 0 z m ≡ keep limit n b m
 keep-zeroed limit n b z (part p h) k e g = kept-mail limit n b z (part p h) k e g
 keep-zeroed limit n b z (whole p h) k e g = kept-mail limit n b z (whole p h) k e g
 keep-zeroed limit n b z (refused r p) k e g = refl
@@ -69,7 +78,8 @@ joined-fits : (limit : ℕ) → Sized limit → (p : ℕ) (f : List ℕ) → All
 unfolding joined
 joined-fits limit z p f b = go (envelopeAt limit f 0) refl
   where
-    cut : (r : EnvelopeRefusal) → envelopeAt limit f 0 ≡ Refused r → length (heldOf (cond (isCut r) (step (taken.Part (length f)) (part p f)) (step (taken.Refused r) (refused r p)) .mail)) ≤ largest limit
+    cut : (r : EnvelopeRefusal) → envelopeAt limit f 0 ≡ Refused r
+        → length (heldOf (cond (isCut r) (step (taken.Part (length f)) (part p f)) (step (taken.Refused r) (refused r p)) .mail)) ≤ largest limit
     cut Cut e = omega (arith, lacks limit z f b e .room)
     cut Groups e = omega arith
     cut Kind e = omega arith
@@ -84,10 +94,16 @@ module _ (limit : ℕ) (z : Sized limit) (b f : List ℕ) (n p : ℕ) (size : le
   unfolding begun
   begun-none h = rw (eq-eqb (length f) 0 h)
 
-  pub begun-more : (y w : List ℕ) (q : ℕ) (a : Taken) → (length f ≡ 0 → ⊥) → y ≡ sets b head (zeros n) → q ≡ later p n → after a w ≡ kept limit 0 y (joined limit q [] f) → after a w ≡ begun limit b n p f
+  pub begun-more : (y w : List ℕ) (q : ℕ) (a : Taken) → (length f ≡ 0 → ⊥) → y ≡ sets b head (zeros n) → q ≡ later p n
+      → after a w ≡ kept limit 0 y (joined limit q [] f) → after a w ≡ begun limit b n p f
   unfolding begun kept
   begun-more y w q a h e g k =
-      k ∙ rw (ne-eqb (length f) 0 h, g, keep-zeroed limit n b y (joined limit (later p n) [] f .mail) (omega arith) e (omega (arith, joined-fits limit z (later p n) f bytes)))
+      k ∙ rw (
+        ne-eqb (length f) 0 h,
+        g,
+        keep-zeroed limit n b y (joined limit (later p n) [] f .mail) (omega arith) e
+            (omega (arith, joined-fits limit z (later p n) f bytes)),
+      )
 
   pub resume-none : (w : List ℕ) (a : Taken) → n ≡ 0 → after a w ≡ kept limit 0 b (joined limit p [] f) → after a w ≡ resumed limit b n p f
   unfolding resumed
@@ -95,7 +111,9 @@ module _ (limit : ℕ) (z : Sized limit) (b f : List ℕ) (n p : ℕ) (size : le
 
 -- ---- what was loaded
 
-part-count : (t₀ t₁ t₂ t₃ t₄ t₅ : Bool) (k q n p : ℕ) → cond t₀ (loaded.Part k q) (cond t₁ (loaded.Whole k q) (cond t₂ (loaded.Refused Cut) (cond t₃ (loaded.Refused Groups) (cond t₄ (loaded.Refused Kind) (cond t₅ (loaded.Refused Size) loaded.NoRecord))))) ≡ loaded.Part n p → n ≡ k
+part-count : (t₀ t₁ t₂ t₃ t₄ t₅ : Bool) (k q n p : ℕ)
+    → cond t₀ (loaded.Part k q) (cond t₁ (loaded.Whole k q) (cond t₂ (loaded.Refused Cut) (cond t₃ (loaded.Refused Groups) (cond t₄ (loaded.Refused Kind) (cond t₅ (loaded.Refused Size) loaded.NoRecord))))) ≡ loaded.Part n p
+    → n ≡ k
 part-count true t₁ t₂ t₃ t₄ t₅ k q n p e = cc
 part-count false true t₂ t₃ t₄ t₅ k q n p e = let z : _≡_ {A = ℕ} 0 1 = cc in absurd (omega arith)
 part-count false false true t₃ t₄ t₅ k q n p e = let z : _≡_ {A = ℕ} 0 1 = cc in absurd (omega arith)
@@ -104,7 +122,9 @@ part-count false false false false true t₅ k q n p e = let z : _≡_ {A = ℕ}
 part-count false false false false false true k q n p e = let z : _≡_ {A = ℕ} 0 1 = cc in absurd (omega arith)
 part-count false false false false false false k q n p e = let z : _≡_ {A = ℕ} 0 1 = cc in absurd (omega arith)
 
-whole-count : (t₀ t₁ t₂ t₃ t₄ t₅ : Bool) (k q n p : ℕ) → cond t₀ (loaded.Part k q) (cond t₁ (loaded.Whole k q) (cond t₂ (loaded.Refused Cut) (cond t₃ (loaded.Refused Groups) (cond t₄ (loaded.Refused Kind) (cond t₅ (loaded.Refused Size) loaded.NoRecord))))) ≡ loaded.Whole n p → n ≡ k
+whole-count : (t₀ t₁ t₂ t₃ t₄ t₅ : Bool) (k q n p : ℕ)
+    → cond t₀ (loaded.Part k q) (cond t₁ (loaded.Whole k q) (cond t₂ (loaded.Refused Cut) (cond t₃ (loaded.Refused Groups) (cond t₄ (loaded.Refused Kind) (cond t₅ (loaded.Refused Size) loaded.NoRecord))))) ≡ loaded.Whole n p
+    → n ≡ k
 whole-count true t₁ t₂ t₃ t₄ t₅ k q n p e = let z : _≡_ {A = ℕ} 0 1 = cc in absurd (omega arith)
 whole-count false true t₂ t₃ t₄ t₅ k q n p e = cc
 whole-count false false true t₃ t₄ t₅ k q n p e = let z : _≡_ {A = ℕ} 0 1 = cc in absurd (omega arith)
@@ -155,11 +175,14 @@ module _ (limit : ℕ) (b : List ℕ) (x : Loaded) (e : x ≡ loadAt limit b) wh
   unfolding endAt cutShort
   end-none n p q h = rw (← e, q, eq-eqb n 0 h)
 
-  pub end-cut : (n p : ℕ) (t : Bool) (a : Taken) (z : List ℕ) → x ≡ loaded.Part n p → (n ≡ 0 → ⊥) → t ≡ unfinished limit (heldIn n b) → t ≡ true → after a z ≡ after (taken.Refused Cut) (recordOf limit (refused Cut p)) → after a z ≡ endAt limit b
+  pub end-cut : (n p : ℕ) (t : Bool) (a : Taken) (z : List ℕ) → x ≡ loaded.Part n p → (n ≡ 0 → ⊥)
+      → t ≡ unfinished limit (heldIn n b) → t ≡ true
+      → after a z ≡ after (taken.Refused Cut) (recordOf limit (refused Cut p)) → after a z ≡ endAt limit b
   unfolding endAt cutShort
   end-cut n p t a z q h u v g = g ∙ rw (← e, q, ne-eqb n 0 h, ← u, v)
 
-  pub end-odd : (n p : ℕ) (t : Bool) → x ≡ loaded.Part n p → (n ≡ 0 → ⊥) → t ≡ unfinished limit (heldIn n b) → t ≡ false → after taken.Shape b ≡ endAt limit b
+  pub end-odd : (n p : ℕ) (t : Bool) → x ≡ loaded.Part n p → (n ≡ 0 → ⊥) → t ≡ unfinished limit (heldIn n b) → t ≡ false
+      → after taken.Shape b ≡ endAt limit b
   unfolding endAt cutShort
   end-odd n p t q h u v = rw (← e, q, ne-eqb n 0 h, ← u, v)
 

@@ -132,7 +132,8 @@ module _ (s₀ s : List ℕ) (at n k v i : ℕ) (r : Spelling s₀ s at n k v i)
       let l : i ≡ length (digits (19 - (k - (i - 1))) (v / 10)) + 1 = rw (e, longer (19 - (k - (i - 1))) v h) at (r .left) in
       let m : i - 1 ≡ length (digits (19 - (k - (i - 1))) (v / 10)) = omega arith in
       let q : v < 10 ^ (19 - (k - (i - 1)) + 1) * 10 = rw (e, tenfold (19 - (k - (i - 1)))) at (r .small) in
-      let t : sets s at (digits (19 - (k - (i - 1))) (v / 10) ++ ((48 + v % 10) ∷ [])) ≡ sets s₀ at (decimal n) = rw (e, digits-more (19 - (k - (i - 1))) v h) at (r .rest) in
+      let t : sets s at (digits (19 - (k - (i - 1))) (v / 10) ++ ((48 + v % 10) ∷ [])) ≡ sets s₀ at (decimal n) = rw
+      (e, digits-more (19 - (k - (i - 1))) v h) at (r .rest) in
       record {
         all = r .all;
         from = omega (arith, r .from);
@@ -141,7 +142,8 @@ module _ (s₀ s : List ℕ) (at n k v i : ℕ) (r : Spelling s₀ s at n k v i)
         small = omega arith;
         same = length-set s (at + (i - 1)) (48 + v % 10) ∙ r .same;
         left = m;
-        rest = ap (λ (j : ℕ). sets (set s (at + j) (48 + v % 10)) at (digits (19 - (k - (i - 1))) (v / 10))) m ∙ (sym (sets-last s at (digits (19 - (k - (i - 1))) (v / 10)) (48 + v % 10)) ∙ t);
+        rest = ap (λ (j : ℕ). sets (set s (at + j) (48 + v % 10)) at (digits (19 - (k - (i - 1))) (v / 10))) m ∙
+            (sym (sets-last s at (digits (19 - (k - (i - 1))) (v / 10)) (48 + v % 10)) ∙ t);
       }
 
   pub spelling-last : v < 10 → Put s₀ (set s at (48 + v)) at (at + k) (decimal n)

@@ -28,7 +28,8 @@ use Rattle.fragments.proofs.Digits.{decimal-most, decimal-short}
 
 -- ---- lengths
 
-pub length-line : (kind job bits : ℕ) → length (lineOf kind job bits) ≡ length (decimal kind) + (length (decimal job) + length (decimal bits)) + 3
+pub length-line : (kind job bits : ℕ)
+    → length (lineOf kind job bits) ≡ length (decimal kind) + (length (decimal job) + length (decimal bits)) + 3
 unfolding lineOf
 length-line kind job bits = simp length-append (omega arith)
 
@@ -57,14 +58,22 @@ pub record Steps (limit : ℕ) (f : List ℕ) (e : Envelope) (n : ℕ) : Type 0 
   pub within : n ≤ length f
   pub line : length (lineOf (e .kind) (e .job) (e .bits)) ≤ lineRoom
 
-pub steps : (limit : ℕ) (b f y : List ℕ) (at : ℕ) (x : Taken) (e : Envelope) (n : ℕ) → Sized limit → limit < 10 ^ 5 → AllBytes b → AllBytes f → after x y ≡ takeAt limit b (take (length f - at) (drop at f)) → x ≡ taken.Whole e n → Steps limit (drop at f) e n
+pub steps : (limit : ℕ) (b f y : List ℕ) (at : ℕ) (x : Taken) (e : Envelope) (n : ℕ) → Sized limit → limit < 10 ^ 5
+    → AllBytes b → AllBytes f → after x y ≡ takeAt limit b (take (length f - at) (drop at f)) → x ≡ taken.Whole e n
+    → Steps limit (drop at f) e n
 steps limit b f y at x e n z h a c p q =
     let w : takeAt limit b (drop at f) .answer ≡ taken.Whole e n = ap (λ (v : After). v .answer) (sym (rw (rest-is f at) at p)) ∙ q in
     let r = answer-small limit z e n b (drop at f) a (bytes-drop at f c) w in
     record {
       some = r .some;
       within = r .within;
-      line = omega (arith, length-line (e .kind) (e .job) (e .bits), decimal-short 0 (e .kind) (omega (arith, r .kind)), decimal-most (e .job), decimal-short 4 (e .bits) (omega (arith, r .bits)));
+      line = omega (
+        arith,
+        length-line (e .kind) (e .job) (e .bits),
+        decimal-short 0 (e .kind) (omega (arith, r .kind)),
+        decimal-most (e .job),
+        decimal-short 4 (e .bits) (omega (arith, r .bits)),
+      );
     }
 
 -- ---- a text at the front of a buffer
@@ -94,11 +103,14 @@ module _ (limit : ℕ) (b out : List ℕ) where
   no-end h = rw (lt-ltb (length out) lastRoom h)
 
   -- t is the last line that the end's answer and the record after it make
-  pub end-put : (x : Taken) (y z t : List ℕ) (next : ℕ) → lastRoom ≤ length out → after x y ≡ endAt limit b → endLine x y ≡ t → length t ≤ lastRoom → Put out z 0 next t → said (Bytes next) y z ≡ lastAt limit b out
+  pub end-put : (x : Taken) (y z t : List ℕ) (next : ℕ) → lastRoom ≤ length out → after x y ≡ endAt limit b
+      → endLine x y ≡ t → length t ≤ lastRoom → Put out z 0 next t → said (Bytes next) y z ≡ lastAt limit b out
   unfolding lastAt
-  end-put x y z t next h e q l p = rw (le-ltb (length out) lastRoom h, ← e, q, front-next out z t next p, front out z t next p (omega arith))
+  end-put x y z t next h e q l p = rw
+      (le-ltb (length out) lastRoom h, ← e, q, front-next out z t next p, front out z t next p (omega arith))
 
-  pub end-bare : (x : Taken) (y : List ℕ) → lastRoom ≤ length out → after x y ≡ endAt limit b → endLine x y ≡ [] → said (Bytes 0) y out ≡ lastAt limit b out
+  pub end-bare : (x : Taken) (y : List ℕ) → lastRoom ≤ length out → after x y ≡ endAt limit b → endLine x y ≡ []
+      → said (Bytes 0) y out ≡ lastAt limit b out
   unfolding lastAt
   end-bare x y h e q = rw (le-ltb (length out) lastRoom h, ← e, q)
 
@@ -143,19 +155,34 @@ module _ (limit : ℕ) (b₀ f o b z : List ℕ) (p at turns : ℕ) (r : Reporti
         let q : takeAt limit b (drop at f) ≡ after x y = sym (rw (rest-is f at) at e) in
         ap (λ (n : ℕ). handOver limit n b (drop at f)) k ∙ rw q
 
-    pub reporting-more : (w : List ℕ) (next : ℕ) (c : Envelope) (n : ℕ) → x ≡ taken.Whole c n → length y ≡ length b → AllBytes y → Steps limit (drop at f) c n → Put z w p next (lineOf (c .kind) (c .job) (c .bits)) → Reporting limit b₀ f o y w next (at + n) (turns - 1)
+    pub reporting-more : (w : List ℕ) (next : ℕ) (c : Envelope) (n : ℕ) → x ≡ taken.Whole c n → length y ≡ length b
+        → AllBytes y → Steps limit (drop at f) c n → Put z w p next (lineOf (c .kind) (c .job) (c .bits))
+        → Reporting limit b₀ f o y w next (at + n) (turns - 1)
     reporting-more w next c n q l a s u =
-        let hand : handOver limit turns b (drop at f) ≡ fed (contentOf y c ∷ handOver limit (turns - 1) y (drop (at + n) f) .envelopes) (handOver limit (turns - 1) y (drop (at + n) f) .bytes) = handed ∙ rw (q, drop-drop n at f) in
-        let ls : linesOf (handOver limit turns b (drop at f) .envelopes) ≡ lineOf (c .kind) (c .job) (c .bits) ++ linesOf (handOver limit (turns - 1) y (drop (at + n) f) .envelopes) = ap (λ (v : Fed). linesOf (v .envelopes)) hand ∙ lines-more (contentOf y c) (handOver limit (turns - 1) y (drop (at + n) f) .envelopes) in
-        let len : p + length (lineOf (c .kind) (c .job) (c .bits) ++ linesOf (handOver limit (turns - 1) y (drop (at + n) f) .envelopes)) ≡ length (linesOf (fragmentBy limit b₀ f .envelopes)) = rw ls at (r .place) in
+        let hand : handOver limit turns b (drop at f) ≡ fed
+        (contentOf y c ∷ handOver limit (turns - 1) y (drop (at + n) f) .envelopes)
+        (handOver limit (turns - 1) y (drop (at + n) f) .bytes) = handed ∙ rw (q, drop-drop n at f) in
+        let ls : linesOf (handOver limit turns b (drop at f) .envelopes) ≡ lineOf (c .kind) (c .job) (c .bits) ++
+        linesOf (handOver limit (turns - 1) y (drop (at + n) f) .envelopes) = ap
+        (λ (v : Fed). linesOf (v .envelopes)) hand ∙ lines-more (contentOf y c)
+        (handOver limit (turns - 1) y (drop (at + n) f) .envelopes) in
+        let len : p + length
+        (lineOf (c .kind) (c .job) (c .bits) ++ linesOf (handOver limit (turns - 1) y (drop (at + n) f) .envelopes))
+        ≡ length (linesOf (fragmentBy limit b₀ f .envelopes)) = rw ls at (r .place) in
         record {
           same = rw (u .bytes) (length-sets z p (lineOf (c .kind) (c .job) (c .bits)) ∙ r .same);
           kept = l ∙ r .kept;
           small = a;
           within = omega (arith, r .within, s .within, length-drop at f);
           room = omega (arith, r .room, s .some, s .line, u .place);
-          place = omega (arith, u .place, length-append (lineOf (c .kind) (c .job) (c .bits)) (linesOf (handOver limit (turns - 1) y (drop (at + n) f) .envelopes)));
-          rest = rw (u .bytes, u .place) (sym (sets-append z p (lineOf (c .kind) (c .job) (c .bits)) (linesOf (handOver limit (turns - 1) y (drop (at + n) f) .envelopes))) ∙ (rw ls at (r .rest)));
+          place = omega (
+            arith,
+            u .place,
+            length-append (lineOf (c .kind) (c .job) (c .bits))
+                (linesOf (handOver limit (turns - 1) y (drop (at + n) f) .envelopes)),
+          );
+          rest = rw (u .bytes, u .place) (sym (sets-append z p (lineOf (c .kind) (c .job) (c .bits))
+              (linesOf (handOver limit (turns - 1) y (drop (at + n) f) .envelopes))) ∙ (rw ls at (r .rest)));
           bytes = ap (λ (v : Fed). v .bytes) (sym hand) ∙ r .bytes;
         }
 
@@ -164,7 +191,8 @@ module _ (limit : ℕ) (b₀ f o b z : List ℕ) (p at turns : ℕ) (r : Reporti
   unfolding linesOf
   lines-none = refl
 
-  ends : (y : List ℕ) → lineRoom * length f ≤ length o → handOver limit turns b (drop at f) ≡ fed [] y → said (Bytes p) y z ≡ linesAt limit b₀ f o
+  ends : (y : List ℕ) → lineRoom * length f ≤ length o → handOver limit turns b (drop at f) ≡ fed [] y
+      → said (Bytes p) y z ≡ linesAt limit b₀ f o
   unfolding linesAt
   ends y h e =
       let ls : linesOf (handOver limit turns b (drop at f) .envelopes) ≡ [] = ap (λ (v : Fed). linesOf (v .envelopes)) e ∙ lines-none in
@@ -172,13 +200,20 @@ module _ (limit : ℕ) (b₀ f o b z : List ℕ) (p at turns : ℕ) (r : Reporti
       let same : p ≡ length (linesOf (fragmentBy limit b₀ f .envelopes)) = omega arith in
       let got : Put o z 0 p (linesOf (fragmentBy limit b₀ f .envelopes)) = record { bytes = rw ls at (r .rest); place = same ∙ omega arith } in
       let bytes : y ≡ fragmentBy limit b₀ f .bytes = ap (λ (v : Fed). v .bytes) (sym e) ∙ r .bytes in
-      rw (le-ltb (length o) (lineRoom * length f) h, ← bytes, front o z (linesOf (fragmentBy limit b₀ f .envelopes)) p got (omega (arith, r .room, r .within)))
+      rw (
+        le-ltb (length o) (lineRoom * length f) h,
+        ← bytes,
+        front o z (linesOf (fragmentBy limit b₀ f .envelopes)) p
+            got (omega (arith, r .room, r .within)),
+      )
       (ap (λ (n : ℕ). said (Bytes n) y (over (linesOf (fragmentBy limit b₀ f .envelopes)) o)) same)
 
   pub reporting-out : turns ≤ 0 → lineRoom * length f ≤ length o → said (Bytes p) b z ≡ linesAt limit b₀ f o
   reporting-out h g = ends b g (hand-none h)
 
-  pub reporting-done : (x : Taken) (y : List ℕ) → 0 < turns → lineRoom * length f ≤ length o → after x y ≡ takeAt limit b (take (length f - at) (drop at f)) → ((k : ℕ → Fed) → goOn x y k ≡ fed [] y) → said (Bytes p) y z ≡ linesAt limit b₀ f o
+  pub reporting-done : (x : Taken) (y : List ℕ) → 0 < turns → lineRoom * length f ≤ length o
+      → after x y ≡ takeAt limit b (take (length f - at) (drop at f)) → ((k : ℕ → Fed) → goOn x y k ≡ fed [] y)
+      → said (Bytes p) y z ≡ linesAt limit b₀ f o
   reporting-done x y h g e q = ends y g (handed h x y e ∙ q (λ (n : ℕ). handOver limit (turns - 1) y (drop n (drop at f))))
 
 pub no-lines : (limit : ℕ) (b f out : List ℕ) → length out < lineRoom * length f → said Small b out ≡ linesAt limit b f out

@@ -42,7 +42,8 @@ pub padded-more : (n m : ℕ) (l : List ℕ) → n ≤ m → padded n l ++ zeros
 unfolding padded
 padded-more n m l h =
     let e : n - length l + (m - (length l + (n - length l))) ≡ m - length l = omega arith in
-    rw (length-behind l (n - length l)) (append-assoc l (zeros (n - length l)) (zeros (m - (length l + (n - length l)))) ∙ rw (zeros-more (n - length l) (m - (length l + (n - length l))), e))
+    rw (length-behind l (n - length l)) (append-assoc l (zeros (n - length l)) (zeros (m - (length l + (n - length l))))
+    ∙ rw (zeros-more (n - length l) (m - (length l + (n - length l))), e))
 
 -- ---- stores
 
@@ -84,12 +85,14 @@ module _ (b : List ℕ) (at n : ℕ) (y : List ℕ) (room : at + n ≤ length b)
       let z : n - length y ≡ 0 = omega arith in
       let q : length y ≡ length (zeros n) + (length y - n) = rw (length-zeros n) (omega arith) in
       let o : at + n + (length y - n) ≡ at + (length y + 0) = omega arith in
-      let d : drop (length (zeros n) + (length y - n)) (zeros n ++ drop (at + n) b) ≡ drop (length y - n) (drop (at + n) b) = drop-append-add (zeros n) (drop (at + n) b) (length y - n) in
+      let d : drop (length (zeros n) + (length y - n)) (zeros n ++ drop (at + n) b) ≡ drop (length y - n)
+      (drop (at + n) b) = drop-append-add (zeros n) (drop (at + n) b) (length y - n) in
       rw z (ap (λ (j : ℕ). drop j (zeros n ++ drop (at + n) b)) q ∙ (d ∙ (drop-drop (length y - n) (at + n) b ∙ rw o)))
 
   over-rest : drop (at + length y) (sets b at (zeros n)) ≡ zeros (n - length y) ++ drop (at + (length y + (n - length y))) b
   over-rest =
-      let e : drop (at + length y) (sets b at (zeros n)) ≡ drop (length y) (zeros n ++ drop (at + n) b) = sym (drop-drop (length y) at (sets b at (zeros n))) ∙ ap (drop (length y)) zeroed in
+      let e : drop (at + length y) (sets b at (zeros n)) ≡ drop (length y) (zeros n ++ drop (at + n) b) = sym
+      (drop-drop (length y) at (sets b at (zeros n))) ∙ ap (drop (length y)) zeroed in
       e ∙ elim (decLt n (length y)) [ yes h ↦ longer h | no h ↦ shorter (omega arith) ]
 
   pub zeros-over : sets (sets b at (zeros n)) at y ≡ sets b at (padded n y)
@@ -98,13 +101,18 @@ module _ (b : List ℕ) (at n : ℕ) (y : List ℕ) (room : at + n ≤ length b)
       let z = length-zeros n in
       let k : length (y ++ zeros (n - length y)) ≡ length y + (n - length y) = length-behind y (n - length y) in
       let s : at + length y ≤ length (sets b at (zeros n)) = rw (length-sets b at (zeros n)) fits in
-      let p : sets b at (y ++ zeros (n - length y)) ≡ take at b ++ (y ++ zeros (n - length y)) ++ drop (at + (length y + (n - length y))) b = rw k at (sets-eq (y ++ zeros (n - length y)) b at (rw k (omega arith))) in
-      let q : sets (sets b at (zeros n)) at y ≡ take at b ++ y ++ (zeros (n - length y) ++ drop (at + (length y + (n - length y))) b) = rw (take-sets b at (zeros n) (rw z room), over-rest) at (sets-eq y (sets b at (zeros n)) at s) in
+      let p : sets b at (y ++ zeros (n - length y)) ≡ take at b ++ (y ++ zeros (n - length y)) ++ drop
+      (at + (length y + (n - length y))) b = rw k at (sets-eq (y ++ zeros (n - length y)) b at (rw k (omega arith)))
+      in
+      let q : sets (sets b at (zeros n)) at y ≡ take at b ++ y ++
+      (zeros (n - length y) ++ drop (at + (length y + (n - length y))) b) = rw
+      (take-sets b at (zeros n) (rw z room), over-rest) at (sets-eq y (sets b at (zeros n)) at s) in
       q ∙ (simp append-assoc (sym (p ∙ simp append-assoc)))
 
 -- ---- the head of a record and what follows it
 
-pub headed : (b hd y : List ℕ) → length hd ≡ head → head + length y ≤ length b → sets (sets b head y) 0 hd ≡ hd ++ (y ++ drop (head + length y) b)
+pub headed : (b hd y : List ℕ) → length hd ≡ head → head + length y ≤ length b
+    → sets (sets b head y) 0 hd ≡ hd ++ (y ++ drop (head + length y) b)
 headed b hd y l h =
     let s : 0 + length hd ≤ length (sets b head y) = rw (length-sets b head y) (omega arith) in
     let o : 0 + length hd ≡ head = omega arith in

@@ -64,11 +64,13 @@ module _ (limit : ℕ) (b₀ f : List ℕ) (n : ℕ) (room : head + n ≤ length
   length-so-far i h = length-append (heldIn n b₀) (take i f) ∙ omega (arith, length-held, length-take-le i f h)
 
   -- what is held then
-  held-then : (i : ℕ) (b : List ℕ) → i ≤ length f → head + (n + i) ≤ length b₀ → b ≡ sets b₀ (head + n) (take i f) → heldIn (n + i) b ≡ heldIn n b₀ ++ take i f
+  held-then : (i : ℕ) (b : List ℕ) → i ≤ length f → head + (n + i) ≤ length b₀ → b ≡ sets b₀ (head + n) (take i f)
+      → heldIn (n + i) b ≡ heldIn n b₀ ++ take i f
   held-then i b h g e =
       let l = length-so-far i h in
       let s : b ≡ sets b₀ head (heldIn n b₀ ++ take i f) = e ∙ sym (sets-behind b₀ head n (take i f) room) in
-      let d : drop head b ≡ (heldIn n b₀ ++ take i f) ++ drop (head + length (heldIn n b₀ ++ take i f)) b₀ = rw s (drop-sets b₀ head (heldIn n b₀ ++ take i f) (rw l g)) in
+      let d : drop head b ≡ (heldIn n b₀ ++ take i f) ++ drop (head + length (heldIn n b₀ ++ take i f)) b₀ = rw s
+      (drop-sets b₀ head (heldIn n b₀ ++ take i f) (rw l g)) in
       rw d (take-at (heldIn n b₀ ++ take i f) (drop (head + length (heldIn n b₀ ++ take i f)) b₀) (n + i) l)
 
   -- the bytes that were put, and those behind them
@@ -79,10 +81,12 @@ module _ (limit : ℕ) (b₀ f : List ℕ) (n : ℕ) (room : head + n ≤ length
   all-of : (i : ℕ) → (heldIn n b₀ ++ take i f) ++ drop i f ≡ heldIn n b₀ ++ f
   all-of i = append-assoc (heldIn n b₀) (take i f) (drop i f) ∙ ap (λ (r : List ℕ). heldIn n b₀ ++ r) (take-append-drop i f)
 
-  put-on : (i k : ℕ) (b z : List ℕ) → i ≤ length f → b ≡ sets b₀ (head + n) (take i f) → z ≡ sets b (head + (n + i)) (take k (drop i f)) → z ≡ sets b₀ (head + n) (take (i + k) f)
+  put-on : (i k : ℕ) (b z : List ℕ) → i ≤ length f → b ≡ sets b₀ (head + n) (take i f)
+      → z ≡ sets b (head + (n + i)) (take k (drop i f)) → z ≡ sets b₀ (head + n) (take (i + k) f)
   put-on i k b z h e g =
       let o : head + n + length (take i f) ≡ head + (n + i) = omega (arith, length-take-le i f h) in
-      let s : sets b₀ (head + n) (take (i + k) f) ≡ sets (sets b₀ (head + n) (take i f)) (head + (n + i)) (take k (drop i f)) = rw (take-add i k f, ← o) (sets-append b₀ (head + n) (take i f) (take k (drop i f))) in
+      let s : sets b₀ (head + n) (take (i + k) f) ≡ sets (sets b₀ (head + n) (take i f)) (head + (n + i))
+      (take k (drop i f)) = rw (take-add i k f, ← o) (sets-append b₀ (head + n) (take i f) (take k (drop i f))) in
       rw (s, ← e) g
 
   -- ---- the loop
@@ -139,10 +143,13 @@ module _ (limit : ℕ) (b₀ f : List ℕ) (n : ℕ) (room : head + n ≤ length
           let e : m + lack ≡ n + (i + lack) = omega (arith, r .count) in
           rw e (held-then (i + lack) y (omega (arith, r .within)) (omega (arith, o .long, r .same, r .count)) on)
 
-      pub still-open : (x : EnvelopeRead) (q : EnvelopeRefusal) (t : Bool) → x ≡ envelopeAt limit (heldIn (m + lack) y) 0 → x ≡ Refused q → t ≡ isCut q → not t ≡ false → envelopeAt limit (heldIn (m + lack) y) 0 ≡ Refused Cut
+      pub still-open : (x : EnvelopeRead) (q : EnvelopeRefusal) (t : Bool)
+          → x ≡ envelopeAt limit (heldIn (m + lack) y) 0 → x ≡ Refused q → t ≡ isCut q → not t ≡ false
+          → envelopeAt limit (heldIn (m + lack) y) 0 ≡ Refused Cut
       still-open x q t g h k v = sym g ∙ (h ∙ ap Refused (cut-is q (sym k ∙ not-false t v)))
 
-      pub resuming-more : (k : ℕ) → envelopeAt limit (heldIn (m + lack) y) 0 ≡ Refused Cut → k ≡ missing (heldIn (m + lack) y) → Resuming limit b₀ y f n (m + lack) (i + lack) k
+      pub resuming-more : (k : ℕ) → envelopeAt limit (heldIn (m + lack) y) 0 ≡ Refused Cut
+          → k ≡ missing (heldIn (m + lack) y) → Resuming limit b₀ y f n (m + lack) (i + lack) k
       resuming-more k e g =
           record {
             count = omega (arith, r .count);
@@ -153,9 +160,11 @@ module _ (limit : ℕ) (b₀ f : List ℕ) (n : ℕ) (room : head + n ≤ length
             lacking = rw holds-next at g;
           }
 
-      whole-stays : (x : EnvelopeRead) → (x ≡ Refused Cut → ⊥) → envelopeAt limit (heldIn (m + lack) y) 0 ≡ x → envelopeAt limit (heldIn n b₀ ++ f) 0 ≡ x
+      whole-stays : (x : EnvelopeRead) → (x ≡ Refused Cut → ⊥) → envelopeAt limit (heldIn (m + lack) y) 0 ≡ x
+          → envelopeAt limit (heldIn n b₀ ++ f) 0 ≡ x
       whole-stays x live e =
-          rw (all-of (i + lack)) at (envelope-stays (heldIn n b₀ ++ take (i + lack) f) (drop (i + lack) f) x live limit 0 (rw holds-next at e))
+          rw (all-of (i + lack)) at (envelope-stays (heldIn n b₀ ++ take (i + lack) f) (drop (i + lack) f) x live limit
+          0 (rw holds-next at e))
 
       -- an envelope is finished by the last of them
       pub finished : (e : Envelope) → envelopeAt limit (heldIn (m + lack) y) 0 ≡ Is e → e .next ≡ m + lack
@@ -167,43 +176,67 @@ module _ (limit : ℕ) (b₀ f : List ℕ) (n : ℕ) (room : head + n ≤ length
           let t = takes-all limit z (heldIn n b₀ ++ take i f) (take lack (drop i f)) a e (r .live) q (omega (arith, r .lacking)) in
           omega (arith, t, length-append (heldIn n b₀ ++ take i f) (take lack (drop i f)), length-so-far i (r .within), r .count)
 
-      pub whole-fits : (x : EnvelopeRead) (e : Envelope) → x ≡ envelopeAt limit (heldIn (m + lack) y) 0 → x ≡ Is e → (e .body ≤ largest limit) × (e .next ≤ largest limit)
+      pub whole-fits : (x : EnvelopeRead) (e : Envelope) → x ≡ envelopeAt limit (heldIn (m + lack) y) 0 → x ≡ Is e
+          → (e .body ≤ largest limit) × (e .next ≤ largest limit)
       whole-fits x e q g =
           let s : envelopeAt limit (heldIn (m + lack) y) 0 ≡ Is e = sym q ∙ g in
           let t = finished e s in
           let o = body-next limit z (heldIn (m + lack) y) (rw holds-next (all-bytes (i + lack))) e s in
           (omega (arith, has-room .most), omega (arith, has-room .most))
 
-      pub resume-whole : (p : ℕ) (w : List ℕ) (x : EnvelopeRead) (e c : Envelope) → unfinished limit (heldIn n b₀) ≡ true → x ≡ envelopeAt limit (heldIn (m + lack) y) 0 → x ≡ Is e → w ≡ sets y 0 (headAt 1 (m + lack) p) → c ≡ inRecord e → after (taken.Whole c (i + lack)) w ≡ resumed limit b₀ n p f
+      pub resume-whole : (p : ℕ) (w : List ℕ) (x : EnvelopeRead) (e c : Envelope)
+          → unfinished limit (heldIn n b₀) ≡ true → x ≡ envelopeAt limit (heldIn (m + lack) y) 0 → x ≡ Is e
+          → w ≡ sets y 0 (headAt 1 (m + lack) p) → c ≡ inRecord e
+          → after (taken.Whole c (i + lack)) w ≡ resumed limit b₀ n p f
       unfolding resumed joined kept laid
       resume-whole p w x e c u q g h k =
           let s : envelopeAt limit (heldIn (m + lack) y) 0 ≡ Is e = sym q ∙ g in
           let t = finished e s in
           let l = length-held in
           let o : e .next ≡ length (heldIn n b₀) + (i + lack) = omega (arith, r .count) in
-          let v : take (e .next) (heldIn n b₀ ++ f) ≡ heldIn n b₀ ++ take (i + lack) f = ap (λ (j : ℕ). take j (heldIn n b₀ ++ f)) o ∙ take-append-add (heldIn n b₀) f (i + lack) in
+          let v : take (e .next) (heldIn n b₀ ++ f) ≡ heldIn n b₀ ++ take (i + lack) f = ap
+          (λ (j : ℕ). take j (heldIn n b₀ ++ f)) o ∙ take-append-add (heldIn n b₀) f (i + lack) in
           let a = length-so-far (i + lack) (omega (arith, r .within)) in
           let d : e .next - length (heldIn n b₀) ≡ i + lack = omega arith in
           let j : m + lack ≡ n + (i + lack) = omega (arith, r .count) in
-          rw (u, whole-stays (Is e) (is-live e) s, v, d, padded-none n (heldIn n b₀ ++ take (i + lack) f) (omega arith), sets-behind b₀ head n (take (i + lack) f) room, ← on, a, ← j, ← h, ← k)
+          rw (
+            u,
+            whole-stays (Is e) (is-live e) s,
+            v,
+            d,
+            padded-none n (heldIn n b₀ ++ take (i + lack) f) (omega arith),
+            sets-behind b₀ head n (take (i + lack) f) room,
+            ← on,
+            a,
+            ← j,
+            ← h,
+            ← k,
+          )
 
-      pub resume-refused : (p : ℕ) (w : List ℕ) (x : EnvelopeRead) (q : EnvelopeRefusal) (t : Bool) (o : Taken) → unfinished limit (heldIn n b₀) ≡ true → x ≡ envelopeAt limit (heldIn (m + lack) y) 0 → x ≡ Refused q → t ≡ isCut q → not t ≡ true → after o w ≡ after (taken.Refused q) (recordOf limit (refused q p)) → after o w ≡ resumed limit b₀ n p f
+      pub resume-refused : (p : ℕ) (w : List ℕ) (x : EnvelopeRead) (q : EnvelopeRefusal) (t : Bool) (o : Taken)
+          → unfinished limit (heldIn n b₀) ≡ true → x ≡ envelopeAt limit (heldIn (m + lack) y) 0 → x ≡ Refused q
+          → t ≡ isCut q → not t ≡ true → after o w ≡ after (taken.Refused q) (recordOf limit (refused q p))
+          → after o w ≡ resumed limit b₀ n p f
       unfolding resumed joined kept
       resume-refused p w x q t o u g h k v e =
           e ∙ rw (u, whole-stays (Refused q) (refused-live q (not-cut q t k v)) (sym g ∙ h), ← k, not-true t v)
 
     -- the rest of the fragment is put, and it is unfinished still
-    pub resume-part : (p : ℕ) (y w : List ℕ) → unfinished limit (heldIn n b₀) ≡ true → length f - i < lack → y ≡ sets b (head + m) (take (length f - i) (drop i f)) → w ≡ sets y 0 (headAt 0 (n + length f) p) → after (taken.Part (length f)) w ≡ resumed limit b₀ n p f
+    pub resume-part : (p : ℕ) (y w : List ℕ) → unfinished limit (heldIn n b₀) ≡ true → length f - i < lack
+        → y ≡ sets b (head + m) (take (length f - i) (drop i f)) → w ≡ sets y 0 (headAt 0 (n + length f) p)
+        → after (taken.Part (length f)) w ≡ resumed limit b₀ n p f
     unfolding resumed joined kept laid
     resume-part p y w u g h k =
         let d : length (drop i f) ≡ length f - i = length-drop i f in
-        let s : envelopeAt limit (heldIn n b₀ ++ f) 0 ≡ Refused Cut = rw (all-of i) at (still-cut limit (heldIn n b₀ ++ take i f) (drop i f) (r .live) (omega (arith, r .lacking))) in
+        let s : envelopeAt limit (heldIn n b₀ ++ f) 0 ≡ Refused Cut = rw (all-of i) at
+        (still-cut limit (heldIn n b₀ ++ take i f) (drop i f) (r .live) (omega (arith, r .lacking))) in
         let l = length-held in
         let a : length (heldIn n b₀ ++ f) ≡ n + length f = length-append (heldIn n b₀) f ∙ omega arith in
         let v : take (i + (length f - i)) f ≡ f = take-all (i + (length f - i)) f (omega arith) in
         let q : y ≡ sets b₀ (head + n) f = put-on i (length f - i) b y (r .within) (r .bytes) (rw (r .count) at h) ∙ rw v in
         rw (u, s, padded-none n (heldIn n b₀ ++ f) (omega arith), sets-behind b₀ head n f room, ← q, a, ← k)
 
-pub resume-shape : (limit : ℕ) (b f : List ℕ) (n p : ℕ) (t : Bool) → t ≡ unfinished limit (heldIn n b) → not t ≡ true → after taken.Shape b ≡ resumed limit b n p f
+pub resume-shape : (limit : ℕ) (b f : List ℕ) (n p : ℕ) (t : Bool) → t ≡ unfinished limit (heldIn n b) → not t ≡ true
+    → after taken.Shape b ≡ resumed limit b n p f
 unfolding resumed
 resume-shape limit b f n p t e h = rw (← e, not-true t h)

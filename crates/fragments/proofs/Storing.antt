@@ -21,7 +21,9 @@ use Rattle.fragments.proofs.Ranges.{drop-zeros, length-zeros, length-pa
 
 -- ---- numbers in bytes
 
-digits-back : (g f e d c b a n : ℕ) → f / 256 ≡ g → e / 256 ≡ f → d / 256 ≡ e → c / 256 ≡ d → b / 256 ≡ c → a / 256 ≡ b → n / 256 ≡ a → g < 256 → ofEight (g % 256) (f % 256) (e % 256) (d % 256) (c % 256) (b % 256) (a % 256) (n % 256) ≡ n
+digits-back : (g f e d c b a n : ℕ) → f / 256 ≡ g → e / 256 ≡ f → d / 256 ≡ e → c / 256 ≡ d → b / 256 ≡ c → a / 256 ≡ b
+    → n / 256 ≡ a → g < 256
+    → ofEight (g % 256) (f % 256) (e % 256) (d % 256) (c % 256) (b % 256) (a % 256) (n % 256) ≡ n
 unfolding ofEight
 digits-back g f e d c b a n p₁ p₂ p₃ p₄ p₅ p₆ p₇ h =
     let s₁ : g % 256 * 256 + f % 256 ≡ f = omega arith in
@@ -63,10 +65,13 @@ count-in state n p t h = two-back n h
 place-in : (state n p : ℕ) (t : List ℕ) → p ≤ top → placeIn (headAt state n p ++ t) ≡ p
 unfolding headAt eightOf
 place-in state n p t h =
-    digits-back (p / 256 / 256 / 256 / 256 / 256 / 256 / 256) (p / 256 / 256 / 256 / 256 / 256 / 256) (p / 256 / 256 / 256 / 256 / 256) (p / 256 / 256 / 256 / 256) (p / 256 / 256 / 256) (p / 256 / 256) (p / 256) p refl refl refl refl refl refl refl (top-digit p h)
+    digits-back (p / 256 / 256 / 256 / 256 / 256 / 256 / 256) (p / 256 / 256 / 256 / 256 / 256 / 256)
+    (p / 256 / 256 / 256 / 256 / 256) (p / 256 / 256 / 256 / 256) (p / 256 / 256 / 256) (p / 256 / 256) (p / 256) p
+    refl refl refl refl refl refl refl (top-digit p h)
 
 -- the code puts it in two pieces
-pub head-put : (b y z x w : List ℕ) (state n p : ℕ) → x ≡ state ∷ n / 256 % 256 ∷ n % 256 ∷ [] → w ≡ eightOf p → y ≡ sets b 0 x → z ≡ sets y 3 w → z ≡ sets b 0 (headAt state n p)
+pub head-put : (b y z x w : List ℕ) (state n p : ℕ) → x ≡ state ∷ n / 256 % 256 ∷ n % 256 ∷ [] → w ≡ eightOf p
+    → y ≡ sets b 0 x → z ≡ sets y 3 w → z ≡ sets b 0 (headAt state n p)
 unfolding headAt
 head-put b y z x w state n p e f g h = h ∙ rw (g, f, e)
 
@@ -86,7 +91,8 @@ module _ (limit : ℕ) (m : Mail) (fits : length (heldOf m) ≤ largest limit) w
   pub held-record : heldIn (length (heldOf m)) (recordOf limit m) ≡ heldOf m
   unfolding recordOf padded
   held-record =
-      rw (drop-at (headOf m) (heldOf m ++ zeros (largest limit - length (heldOf m))) head (length-head (stateOf m) (length (heldOf m)) (placeOf m)))
+      rw (drop-at (headOf m) (heldOf m ++ zeros (largest limit - length (heldOf m))) head
+      (length-head (stateOf m) (length (heldOf m)) (placeOf m)))
       (take-at (heldOf m) (zeros (largest limit - length (heldOf m))) (length (heldOf m)) refl)
 
   state-record : getD (recordOf limit m) 0 0 ≡ stateOf m
@@ -101,10 +107,18 @@ module _ (limit : ℕ) (m : Mail) (fits : length (heldOf m) ≤ largest limit) w
   unfolding recordOf
   place-record p = place-in (stateOf m) (length (heldOf m)) (placeOf m) (padded (largest limit) (heldOf m)) p
 
-  pub load-record : largest limit < 65536 → placeOf m ≤ top → loadAt limit (recordOf limit m) ≡ loadedBy (stateOf m) (length (heldOf m)) (placeOf m)
+  pub load-record : largest limit < 65536 → placeOf m ≤ top
+      → loadAt limit (recordOf limit m) ≡ loadedBy (stateOf m) (length (heldOf m)) (placeOf m)
   unfolding loadAt
   load-record h p =
-      rw (eq-eqb (length (recordOf limit m)) (recordBytes limit) length-record, count-record h, le-leb (length (heldOf m)) (largest limit) fits, state-record, place-record p)
+      rw (
+        eq-eqb (length (recordOf limit m)) (recordBytes limit) length-record,
+        count-record h,
+        le-leb
+            (length (heldOf m)) (largest limit) fits,
+        state-record,
+        place-record p,
+      )
 
 -- what a record has past q bytes of the envelope
 rest-zeros : (limit : ℕ) (m : Mail) (q : ℕ) → length (heldOf m) ≤ q → drop (head + q) (recordOf limit m) ≡ zeros (largest limit - q)
@@ -120,16 +134,23 @@ rest-zeros limit m q k =
     ∙ (drop-zeros (q - length (heldOf m)) (largest limit - length (heldOf m)) ∙ rw d))))
 
 -- a record laid over another
-pub laid-record : (limit : ℕ) (m x : Mail) → length (heldOf m) ≤ largest limit → length (heldOf x) ≤ largest limit → laid (length (heldOf m)) (recordOf limit m) x ≡ recordOf limit x
+pub laid-record : (limit : ℕ) (m x : Mail) → length (heldOf m) ≤ largest limit → length (heldOf x) ≤ largest limit
+    → laid (length (heldOf m)) (recordOf limit m) x ≡ recordOf limit x
 unfolding laid
 laid-record limit m x h g =
     let n = length-padded (length (heldOf m)) (heldOf x) in
     let l = length-record limit m h in
-    headed (recordOf limit m) (headOf x) (padded (length (heldOf m)) (heldOf x)) (length-head (stateOf x) (length (heldOf x)) (placeOf x)) (omega arith)
-    ∙ (rw (rest-zeros limit m (length (padded (length (heldOf m)) (heldOf x))) (omega arith), padded-more (length (heldOf m)) (largest limit) (heldOf x) h) (sym (record-is limit x)))
+    headed (recordOf limit m) (headOf x) (padded (length (heldOf m)) (heldOf x))
+    (length-head (stateOf x) (length (heldOf x)) (placeOf x)) (omega arith)
+    ∙ (rw (
+      rest-zeros limit m (length (padded (length (heldOf m)) (heldOf x))) (omega arith),
+      padded-more
+          (length (heldOf m)) (largest limit) (heldOf x) h,
+    ) (sym (record-is limit x)))
 
 -- zeros and a head over a whole range
-pub empty-put : (limit : ℕ) (b y z : List ℕ) (state p : ℕ) → length b ≡ recordBytes limit → y ≡ sets b head (zeros (length b - head)) → z ≡ sets y 0 (headAt state 0 p) → z ≡ emptyOf limit state p
+pub empty-put : (limit : ℕ) (b y z : List ℕ) (state p : ℕ) → length b ≡ recordBytes limit
+    → y ≡ sets b head (zeros (length b - head)) → z ≡ sets y 0 (headAt state 0 p) → z ≡ emptyOf limit state p
 unfolding padded
 empty-put limit b y z state p l g h =
     let n : length b - head ≡ largest limit - 0 = omega arith in
@@ -158,7 +179,9 @@ pub record Loads (limit : ℕ) (b : List ℕ) (x : Loaded) : Type 0 where
   pub by : loadedBy (getD b 0 0) (countIn b) (placeIn b) ≡ x
 
 module _ (limit : ℕ) (b : List ℕ) where
-  by-tests : (t u : Bool) (x : Loaded) → eqb (length b) (recordBytes limit) ≡ t → leb (countIn b) (largest limit) ≡ u → cond (t && u) (loadedBy (getD b 0 0) (countIn b) (placeIn b)) NoRecord ≡ x → (x ≡ NoRecord → ⊥) → Loads limit b x
+  by-tests : (t u : Bool) (x : Loaded) → eqb (length b) (recordBytes limit) ≡ t → leb (countIn b) (largest limit) ≡ u
+      → cond (t && u) (loadedBy (getD b 0 0) (countIn b) (placeIn b)) NoRecord ≡ x → (x ≡ NoRecord → ⊥)
+      → Loads limit b x
   by-tests true true x p q e h = record { size = eqb-true (length b) (recordBytes limit) p; count = leb-true (countIn b) (largest limit) q; by = e }
   by-tests true false x p q e h = absurd (h (sym e))
   by-tests false u x p q e h = absurd (h (sym e))
@@ -173,11 +196,13 @@ pub fresh-odd : (limit : ℕ) (b : List ℕ) → (length b ≡ recordBytes limit
 unfolding freshAt
 fresh-odd limit b h = rw (ne-eqb (length b) (recordBytes limit) h)
 
-pub fresh-made : (limit : ℕ) (b z : List ℕ) → length b ≡ recordBytes limit → z ≡ emptyOf limit 0 0 → after (taken.Part 0) z ≡ freshAt limit b
+pub fresh-made : (limit : ℕ) (b z : List ℕ) → length b ≡ recordBytes limit → z ≡ emptyOf limit 0 0
+    → after (taken.Part 0) z ≡ freshAt limit b
 unfolding freshAt recordOf
 fresh-made limit b z l e = rw (eq-eqb (length b) (recordBytes limit) l, e)
 
-pub refusal-made : (limit : ℕ) (z : List ℕ) (r : EnvelopeRefusal) (k p : ℕ) → k ≡ refusalNumber r → z ≡ emptyOf limit k p → after (taken.Refused r) z ≡ after (taken.Refused r) (recordOf limit (refused r p))
+pub refusal-made : (limit : ℕ) (z : List ℕ) (r : EnvelopeRefusal) (k p : ℕ) → k ≡ refusalNumber r
+    → z ≡ emptyOf limit k p → after (taken.Refused r) z ≡ after (taken.Refused r) (recordOf limit (refused r p))
 unfolding recordOf
 refusal-made limit z r k p e h = rw (h, e)
 

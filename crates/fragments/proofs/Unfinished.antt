@@ -77,18 +77,24 @@ number-short s at e =
 pub data CutIn (limit : ℕ) (s : List ℕ) : Type 0 where
   in-kind : numberAt s 0 ≡ num.Refused Cut → CutIn limit s
   in-job : (kind p : ℕ) → numberAt s 0 ≡ num.Value kind p → isKind kind ≡ true → numberAt s p ≡ num.Refused Cut → CutIn limit s
-  in-size : (kind p job q : ℕ) → numberAt s 0 ≡ num.Value kind p → isKind kind ≡ true → numberAt s p ≡ num.Value job q → eqb job 0 ≡ false → numberAt s q ≡ num.Refused Cut → CutIn limit s
-  in-body : (kind p job q bits t : ℕ) → numberAt s 0 ≡ num.Value kind p → isKind kind ≡ true → numberAt s p ≡ num.Value job q → eqb job 0 ≡ false → numberAt s q ≡ num.Value bits t → sizeFits limit kind bits ≡ true → length s < t + bytesFor bits → CutIn limit s
+  in-size : (kind p job q : ℕ) → numberAt s 0 ≡ num.Value kind p → isKind kind ≡ true → numberAt s p ≡ num.Value job q
+      → eqb job 0 ≡ false → numberAt s q ≡ num.Refused Cut → CutIn limit s
+  in-body : (kind p job q bits t : ℕ) → numberAt s 0 ≡ num.Value kind p → isKind kind ≡ true
+      → numberAt s p ≡ num.Value job q → eqb job 0 ≡ false → numberAt s q ≡ num.Value bits t
+      → sizeFits limit kind bits ≡ true → length s < t + bytesFor bits → CutIn limit s
 
-via : (z : Number) (k : ℕ → ℕ → EnvelopeRead) (A : Type 0) → (z ≡ num.Refused Cut → A) → ((v n : ℕ) → z ≡ num.Value v n → k v n ≡ Refused Cut → A) → then z k ≡ Refused Cut → A
+via : (z : Number) (k : ℕ → ℕ → EnvelopeRead) (A : Type 0) → (z ≡ num.Refused Cut → A)
+    → ((v n : ℕ) → z ≡ num.Value v n → k v n ≡ Refused Cut → A) → then z k ≡ Refused Cut → A
 via (num.Value v n) k A f g e = g v n refl e
 via (num.Refused r) k A f g e = f (let o : r ≡ Cut = cc in rw o)
 
-yes-of : (t : Bool) (x : EnvelopeRead) (r : EnvelopeRefusal) → (r ≡ Cut → ⊥) → cond t x (Refused r) ≡ Refused Cut → (t ≡ true) × (x ≡ Refused Cut)
+yes-of : (t : Bool) (x : EnvelopeRead) (r : EnvelopeRefusal) → (r ≡ Cut → ⊥) → cond t x (Refused r) ≡ Refused Cut
+    → (t ≡ true) × (x ≡ Refused Cut)
 yes-of true x r h p = (refl, p)
 yes-of false x r h p = absurd (h (let o : r ≡ Cut = cc in o))
 
-no-of : (t : Bool) (x : EnvelopeRead) (r : EnvelopeRefusal) → (r ≡ Cut → ⊥) → cond t (Refused r) x ≡ Refused Cut → (t ≡ false) × (x ≡ Refused Cut)
+no-of : (t : Bool) (x : EnvelopeRead) (r : EnvelopeRefusal) → (r ≡ Cut → ⊥) → cond t (Refused r) x ≡ Refused Cut
+    → (t ≡ false) × (x ≡ Refused Cut)
 no-of false x r h p = (refl, p)
 no-of true x r h p = absurd (h (let o : r ≡ Cut = cc in o))
 
@@ -107,28 +113,39 @@ size-not : Size ≡ Cut → ⊥
 size-not p = let z : _≡_ {A = ℕ} 0 1 = cc in omega arith
 
 module _ (limit : ℕ) (s : List ℕ) where
-  cut-body : (kind p job q bits t : ℕ) → numberAt s 0 ≡ num.Value kind p → isKind kind ≡ true → numberAt s p ≡ num.Value job q → eqb job 0 ≡ false → numberAt s q ≡ num.Value bits t → sizeAt limit s kind job bits t ≡ Refused Cut → CutIn limit s
+  cut-body : (kind p job q bits t : ℕ) → numberAt s 0 ≡ num.Value kind p → isKind kind ≡ true
+      → numberAt s p ≡ num.Value job q → eqb job 0 ≡ false → numberAt s q ≡ num.Value bits t
+      → sizeAt limit s kind job bits t ≡ Refused Cut → CutIn limit s
   unfolding sizeAt bodyAt
   cut-body kind p job q bits t n₁ k n₂ j n₃ e =
       let x = yes-of (sizeFits limit kind bits) _ Size size-not e in
       in-body kind p job q bits t n₁ k n₂ j n₃ (x .0) (ltb-true (length s) (t + bytesFor bits) (body-of (ltb (length s) (t + bytesFor bits)) (isPadded bits (drop t s)) (record { kind = kind; job = job; bits = bits; body = t; next = t + bytesFor bits }) (x .1)))
 
-  cut-size : (kind p job q : ℕ) → numberAt s 0 ≡ num.Value kind p → isKind kind ≡ true → numberAt s p ≡ num.Value job q → jobAt limit s kind job q ≡ Refused Cut → CutIn limit s
+  cut-size : (kind p job q : ℕ) → numberAt s 0 ≡ num.Value kind p → isKind kind ≡ true → numberAt s p ≡ num.Value job q
+      → jobAt limit s kind job q ≡ Refused Cut → CutIn limit s
   unfolding jobAt
   cut-size kind p job q n₁ k n₂ e =
       let x = no-of (eqb job 0) _ Groups groups-not e in
-      via (numberAt s q) (sizeAt limit s kind job) (CutIn limit s) (λ (c : numberAt s q ≡ num.Refused Cut). in-size kind p job q n₁ k n₂ (x .0) c) (λ (bits t : ℕ) (n₃ : numberAt s q ≡ num.Value bits t) (y : sizeAt limit s kind job bits t ≡ Refused Cut). cut-body kind p job q bits t n₁ k n₂ (x .0) n₃ y) (x .1)
+      via (numberAt s q) (sizeAt limit s kind job) (CutIn limit s)
+      (λ (c : numberAt s q ≡ num.Refused Cut). in-size kind p job q n₁ k n₂ (x .0) c) (λ (bits t : ℕ)
+      (n₃ : numberAt s q ≡ num.Value bits t) (y : sizeAt limit s kind job bits t ≡ Refused Cut). cut-body kind
+      p job q bits t n₁ k n₂ (x .0) n₃ y) (x .1)
 
   cut-job : (kind p : ℕ) → numberAt s 0 ≡ num.Value kind p → kindAt limit s kind p ≡ Refused Cut → CutIn limit s
   unfolding kindAt
   cut-job kind p n₁ e =
       let x = yes-of (isKind kind) _ Kind kind-not e in
-      via (numberAt s p) (jobAt limit s kind) (CutIn limit s) (λ (c : numberAt s p ≡ num.Refused Cut). in-job kind p n₁ (x .0) c) (λ (job q : ℕ) (n₂ : numberAt s p ≡ num.Value job q) (y : jobAt limit s kind job q ≡ Refused Cut). cut-size kind p job q n₁ (x .0) n₂ y) (x .1)
+      via (numberAt s p) (jobAt limit s kind) (CutIn limit s)
+      (λ (c : numberAt s p ≡ num.Refused Cut). in-job kind p n₁ (x .0) c) (λ (job q : ℕ)
+      (n₂ : numberAt s p ≡ num.Value job q) (y : jobAt limit s kind job q ≡ Refused Cut). cut-size kind p job q
+      n₁ (x .0) n₂ y) (x .1)
 
   pub cut-in : envelopeAt limit s 0 ≡ Refused Cut → CutIn limit s
   unfolding envelopeAt
   cut-in e =
-      via (numberAt s 0) (kindAt limit s) (CutIn limit s) (λ (c : numberAt s 0 ≡ num.Refused Cut). in-kind c) (λ (kind p : ℕ) (n₁ : numberAt s 0 ≡ num.Value kind p) (y : kindAt limit s kind p ≡ Refused Cut). cut-job kind p n₁ y) e
+      via (numberAt s 0) (kindAt limit s) (CutIn limit s) (λ (c : numberAt s 0 ≡ num.Refused Cut). in-kind c) (λ
+      (kind p : ℕ) (n₁ : numberAt s 0 ≡ num.Value kind p) (y : kindAt limit s kind p ≡ Refused Cut). cut-job
+      kind p n₁ y) e
 
 -- ---- how many bytes it lacks
 
@@ -136,15 +153,18 @@ pub missing-kind : (s : List ℕ) (r : EnvelopeRefusal) → numberAt s 0 ≡ num
 unfolding missing
 missing-kind s r e = rw e
 
-pub missing-job : (s : List ℕ) (kind p : ℕ) (r : EnvelopeRefusal) → numberAt s 0 ≡ num.Value kind p → numberAt s p ≡ num.Refused r → missing s ≡ 1
+pub missing-job : (s : List ℕ) (kind p : ℕ) (r : EnvelopeRefusal) → numberAt s 0 ≡ num.Value kind p
+    → numberAt s p ≡ num.Refused r → missing s ≡ 1
 unfolding missing missingJob
 missing-job s kind p r n₁ e = rw (n₁, e)
 
-pub missing-size : (s : List ℕ) (kind p job q : ℕ) (r : EnvelopeRefusal) → numberAt s 0 ≡ num.Value kind p → numberAt s p ≡ num.Value job q → numberAt s q ≡ num.Refused r → missing s ≡ 1
+pub missing-size : (s : List ℕ) (kind p job q : ℕ) (r : EnvelopeRefusal) → numberAt s 0 ≡ num.Value kind p
+    → numberAt s p ≡ num.Value job q → numberAt s q ≡ num.Refused r → missing s ≡ 1
 unfolding missing missingJob missingSize
 missing-size s kind p job q r n₁ n₂ e = rw (n₁, n₂, e)
 
-pub missing-body : (s : List ℕ) (kind p job q bits t : ℕ) → numberAt s 0 ≡ num.Value kind p → numberAt s p ≡ num.Value job q → numberAt s q ≡ num.Value bits t → missing s ≡ t + bytesFor bits - length s
+pub missing-body : (s : List ℕ) (kind p job q bits t : ℕ) → numberAt s 0 ≡ num.Value kind p
+    → numberAt s p ≡ num.Value job q → numberAt s q ≡ num.Value bits t → missing s ≡ t + bytesFor bits - length s
 unfolding missing missingJob missingSize missingBody
 missing-body s kind p job q bits t n₁ n₂ n₃ = rw (n₁, n₂, n₃)
 
@@ -180,17 +200,31 @@ module _ (limit : ℕ) (s t : List ℕ) where
   one-less : missing s ≡ 1 → envelopeAt limit s 0 ≡ Refused Cut → length t < missing s → envelopeAt limit (s ++ t) 0 ≡ Refused Cut
   one-less e c h = rw (none-shorter t (rw e at h), append-nil s) c
 
-  body-less : (kind p job q bits u : ℕ) → numberAt s 0 ≡ num.Value kind p → isKind kind ≡ true → numberAt s p ≡ num.Value job q → eqb job 0 ≡ false → numberAt s q ≡ num.Value bits u → sizeFits limit kind bits ≡ true → length s + length t < u + bytesFor bits → envelopeAt limit (s ++ t) 0 ≡ Refused Cut
+  body-less : (kind p job q bits u : ℕ) → numberAt s 0 ≡ num.Value kind p → isKind kind ≡ true
+      → numberAt s p ≡ num.Value job q → eqb job 0 ≡ false → numberAt s q ≡ num.Value bits u
+      → sizeFits limit kind bits ≡ true → length s + length t < u + bytesFor bits
+      → envelopeAt limit (s ++ t) 0 ≡ Refused Cut
   unfolding envelopeAt kindAt jobAt sizeAt bodyAt
   body-less kind p job q bits u n₁ k n₂ j n₃ f h =
       let l : length (s ++ t) < u + bytesFor bits = rw (length-append s t) h in
-      rw (number-stays s t 0 (num.Value kind p) n₁ (value-live kind p), k, number-stays s t p (num.Value job q) n₂ (value-live job q), j, number-stays s t q (num.Value bits u) n₃ (value-live bits u), f, lt-ltb (length (s ++ t)) (u + bytesFor bits) l)
+      rw (
+        number-stays s t 0 (num.Value kind p) n₁ (value-live kind p),
+        k,
+        number-stays s t p (num.Value job q) n₂
+            (value-live job q),
+        j,
+        number-stays s t q (num.Value bits u) n₃ (value-live bits u),
+        f,
+        lt-ltb
+            (length (s ++ t)) (u + bytesFor bits) l,
+      )
 
   less-in : CutIn limit s → envelopeAt limit s 0 ≡ Refused Cut → length t < missing s → envelopeAt limit (s ++ t) 0 ≡ Refused Cut
   less-in (in-kind e) c h = one-less (missing-kind s Cut e) c h
   less-in (in-job kind p n₁ k e) c h = one-less (missing-job s kind p Cut n₁ e) c h
   less-in (in-size kind p job q n₁ k n₂ j e) c h = one-less (missing-size s kind p job q Cut n₁ n₂ e) c h
-  less-in (in-body kind p job q bits u n₁ k n₂ j n₃ f g) c h = body-less kind p job q bits u n₁ k n₂ j n₃ f (omega (arith, missing-body s kind p job q bits u n₁ n₂ n₃))
+  less-in (in-body kind p job q bits u n₁ k n₂ j n₃ f g) c h = body-less kind p job q bits u n₁ k n₂ j n₃ f
+      (omega (arith, missing-body s kind p job q bits u n₁ n₂ n₃))
 
   pub still-cut : envelopeAt limit s 0 ≡ Refused Cut → length t < missing s → envelopeAt limit (s ++ t) 0 ≡ Refused Cut
   still-cut c h = less-in (cut-in limit s c) c h
@@ -254,7 +288,8 @@ module _ (limit : ℕ) (z : Sized limit) (s : List ℕ) (b : AllBytes s) (e : En
   bytes-are = ap (take (e .next)) (own .holds) ∙ (take-at (bytesOf (contentOf s e)) (drop (e .next) s) (e .next) (sym next-is))
 
   pub reads-own : envelopeAt limit (take (e .next) s) 0 ≡ Is e
-  reads-own = rw bytes-are (written-read limit (z .small) (contentOf s e) (own .fit) (bytesOf (contentOf s e)) 0 [] (sym (append-nil (bytesOf (contentOf s e)))) ∙ ap Is (sym (own .place)))
+  reads-own = rw bytes-are (written-read limit (z .small) (contentOf s e) (own .fit) (bytesOf (contentOf s e)) 0 []
+      (sym (append-nil (bytesOf (contentOf s e)))) ∙ ap Is (sym (own .place)))
 
 is-live : (e : Envelope) → Is e ≡ Refused Cut → ⊥
 is-live e q = let o : _≡_ {A = ℕ} 0 1 = cc in omega arith
@@ -266,8 +301,10 @@ module _ (limit : ℕ) (z : Sized limit) (h t : List ℕ) (b : AllBytes (h ++ t)
     where
       inside : e .next ≤ length h → ⊥
       inside g =
-          let o : envelopeAt limit (take (e .next) h) 0 ≡ Is e = rw (take-append-le (e .next) h t g) at (reads-own limit z (h ++ t) b e p) in
-          let y : envelopeAt limit (take (e .next) h ++ drop (e .next) h) 0 ≡ Is e = envelope-stays (take (e .next) h) (drop (e .next) h) (Is e) (is-live e) limit 0 o in
+          let o : envelopeAt limit (take (e .next) h) 0 ≡ Is e = rw (take-append-le (e .next) h t g) at
+          (reads-own limit z (h ++ t) b e p) in
+          let y : envelopeAt limit (take (e .next) h ++ drop (e .next) h) 0 ≡ Is e = envelope-stays (take (e .next) h)
+          (drop (e .next) h) (Is e) (is-live e) limit 0 o in
           is-live e (sym (rw (take-append-drop (e .next) h) at y) ∙ c)
 
   -- and with no byte more than it lacked, all of them
@@ -281,7 +318,8 @@ module _ (limit : ℕ) (z : Sized limit) (h t : List ℕ) (b : AllBytes (h ++ t)
           let q = takes-some in
           let a = length-append h t in
           let n : e .next ≡ length h + (e .next - length h) = omega arith in
-          let u : take (e .next) (h ++ t) ≡ h ++ take (e .next - length h) t = ap (λ (j : ℕ). take j (h ++ t)) n ∙ take-append-add h t (e .next - length h) in
+          let u : take (e .next) (h ++ t) ≡ h ++ take (e .next - length h) t = ap (λ (j : ℕ). take j (h ++ t)) n ∙
+          take-append-add h t (e .next - length h) in
           let l = length-take-le (e .next - length h) t (omega arith) in
           let o : envelopeAt limit (h ++ take (e .next - length h) t) 0 ≡ Is e = rw u at (reads-own limit z (h ++ t) b e p) in
           is-live e (sym o ∙ still-cut limit h (take (e .next - length h) t) c (omega arith))

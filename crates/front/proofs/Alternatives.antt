@@ -60,12 +60,14 @@ module _ (last : ℕ) (p : ℕ → Pdu) where
     number-same : (l : List ℕ) (at next : ℕ) (x : Found) (i : NumberIs last p l at next x) → numberOf (x .pdu) ≡ i .number
     number-same l at next x i = ap numberOf (i .pdu) ∙ keeps (i .number)
 
-    number-stands : (l : List ℕ) (at next : ℕ) (x : Found) → Bits l → enumerated last p .read l at ≡ reached.Is x next → Stands l at (indexBits last (numberOf (x .pdu))) next
+    number-stands : (l : List ℕ) (at next : ℕ) (x : Found) → Bits l → enumerated last p .read l at ≡ reached.Is x next
+        → Stands l at (indexBits last (numberOf (x .pdu))) next
     number-stands l at next x b e =
         let i = number-is l at next x e in
         rw (number-same l at next x i) (extensible-index last small .read-written l at (i .number) next b (i .index))
 
-    number-fits : (l : List ℕ) (at next : ℕ) (x : Found) → Bits l → enumerated last p .read l at ≡ reached.Is x next → wholeFits 0 last (numberOf (x .pdu)) ≡ true
+    number-fits : (l : List ℕ) (at next : ℕ) (x : Found) → Bits l → enumerated last p .read l at ≡ reached.Is x next
+        → wholeFits 0 last (numberOf (x .pdu)) ≡ true
     number-fits l at next x b e =
         let i = number-is l at next x e in
         rw (number-same l at next x i) (extensible-index last small .read-fits l at (i .number) next b (i .index))
@@ -76,11 +78,15 @@ module _ (last : ℕ) (p : ℕ → Pdu) where
           most = λ (v : ℕ) (h : wholeFits 0 last v ≡ true). width v;
           are-bits = λ (s : Lent) (x : Found) (b : AreBits s). extensible-index last small .are-bits (numberOf (x .pdu));
           value-fits = λ (s : Lent) (x : Found) (k : AreBits s) (h : wholeFits 0 last (numberOf (x .pdu)) ≡ true). h;
-          written-read = λ (l : List ℕ) (at next v : ℕ) (bl : Bits l) (h : wholeFits 0 last v ≡ true) (s : Stands l at (indexBits last v) next).
+          written-read = λ (l : List ℕ) (at next v : ℕ) (bl : Bits l) (h : wholeFits 0 last v ≡ true)
+              (s : Stands l at (indexBits last v) next).
               record { found = with (p v) noContent; read = rw (extensible-index last small .written-read l at v next h s); same = keeps v };
           read-stands = number-fits;
-          read-plain = λ (l : List ℕ) (at next : ℕ) (x : Found) (b : Bits l) (e : enumerated last p .read l at ≡ reached.Is x next). number-stands l at next x b e .holds;
-          unextended = λ (l : List ℕ) (at next : ℕ) (x : Found) (b : Bits l) (e : enumerated last p .read l at ≡ reached.Is x next) (n : false ≡ false). number-stands l at next x b e;
+          read-plain = λ (l : List ℕ) (at next : ℕ) (x : Found) (b : Bits l)
+              (e : enumerated last p .read l at ≡ reached.Is x next). number-stands l at next x b e .holds;
+          unextended = λ (l : List ℕ) (at next : ℕ) (x : Found) (b : Bits l)
+              (e : enumerated last p .read l at ≡ reached.Is x next) (n : false ≡ false). number-stands l at next x b
+              e;
           clear = λ (l : List ℕ) (at next : ℕ) (x : Found) (s : Stands l at (indexBits last (numberOf (x .pdu))) next). refl;
         }
 
@@ -98,7 +104,8 @@ held p (taken.Is c n) next x e =
 held p (taken.Refused r) next x e = never (cc)
 
 module _ (p : Pdu) (b : Body) (laws : BodyLaws b) where
-  holding-stands : (l : List ℕ) (at next : ℕ) (x : Found) → Bits l → reach p (b .read l at) ≡ reached.Is x next → eqb (numberOf (x .pdu)) (numberOf p) && b .stands (one l) (x .content) ≡ true
+  holding-stands : (l : List ℕ) (at next : ℕ) (x : Found) → Bits l → reach p (b .read l at) ≡ reached.Is x next
+      → eqb (numberOf (x .pdu)) (numberOf p) && b .stands (one l) (x .content) ≡ true
   holding-stands l at next x bl e =
       let i = held p (b .read l at) next x e in
       rw (eq-eqb (numberOf (x .pdu)) (numberOf p) (ap numberOf (i .pdu))) (laws .read-stands l at next (x .content) bl (i .content))
@@ -114,14 +121,19 @@ module _ (p : Pdu) (b : Body) (laws : BodyLaws b) where
             let t = laws .written-read l at next v bl h s in
             record { found = with p (t .content); read = ap (reach p) (t .read); same = t .same };
         read-stands = holding-stands;
-        read-plain = λ (l : List ℕ) (at next : ℕ) (x : Found) (bl : Bits l) (e : reach p (b .read l at) ≡ reached.Is x next). laws .read-plain l at next (x .content) bl (held p (b .read l at) next x e .content);
-        unextended = λ (l : List ℕ) (at next : ℕ) (x : Found) (bl : Bits l) (e : reach p (b .read l at) ≡ reached.Is x next). laws .unextended l at next (x .content) bl (held p (b .read l at) next x e .content);
+        read-plain = λ (l : List ℕ) (at next : ℕ) (x : Found) (bl : Bits l)
+            (e : reach p (b .read l at) ≡ reached.Is x next). laws .read-plain l at next (x .content) bl
+            (held p (b .read l at) next x e .content);
+        unextended = λ (l : List ℕ) (at next : ℕ) (x : Found) (bl : Bits l)
+            (e : reach p (b .read l at) ≡ reached.Is x next). laws .unextended l at next (x .content) bl
+            (held p (b .read l at) next x e .content);
         clear = λ (l : List ℕ) (at next : ℕ) (x : Found). laws .clear l at next (x .content);
       }
 
 -- ---- a mode
 
-value-written : (l : List ℕ) (at m next : ℕ) → wholeFits 0 modeLast m ≡ true → eqb m 0 ≡ false → Stands l at (wholeBits 0 modeLast m) next → modeValue l at ≡ Value m next
+value-written : (l : List ℕ) (at m next : ℕ) → wholeFits 0 modeLast m ≡ true → eqb m 0 ≡ false
+    → Stands l at (wholeBits 0 modeLast m) next → modeValue l at ≡ Value m next
 unfolding modeValue
 value-written l at m next h e s = rw (whole-number 0 modeLast (omega arith) .written-read l at m next h s, e)
 
@@ -136,7 +148,8 @@ mode-written l at m next h s = go (eqb m 0) refl s
         rw (bit-field 1 .written-read l at 0 next refl s, z)
     go false e s =
         let w = stands-split l at next (bitsN 1 1) (wholeBits 0 modeLast m) s in
-        rw (bit-field 1 .written-read l at 1 (at + length (bitsN 1 1)) refl (w .first)) (value-written l (at + length (bitsN 1 1)) m next h e (w .second))
+        rw (bit-field 1 .written-read l at 1 (at + length (bitsN 1 1)) refl (w .first))
+        (value-written l (at + length (bitsN 1 1)) m next h e (w .second))
 
 record ModeIs (l : List ℕ) (at m next : ℕ) : Type 0 where
   fits : wholeFits 0 modeLast m ≡ true
@@ -151,7 +164,8 @@ value-read : (l : List ℕ) (at m next : ℕ) → Bits l → modeValue l at ≡ 
 unfolding modeValue
 value-read l at m next b e = fields.via (ValueIs l at m next) (wholeNumber l at 0 modeLast) _ m next found e
   where
-    go : (v n : ℕ) → wholeNumber l at 0 modeLast ≡ Value v n → (t : Bool) → eqb v 0 ≡ t → cond t (refusedAt at Default) (Value v n) ≡ Value m next → ValueIs l at m next
+    go : (v n : ℕ) → wholeNumber l at 0 modeLast ≡ Value v n → (t : Bool) → eqb v 0 ≡ t
+        → cond t (refusedAt at Default) (Value v n) ≡ Value m next → ValueIs l at m next
     go v n f true p k = never (cc)
     go v n f false p k =
         let x : v ≡ m = cc in
@@ -159,7 +173,8 @@ value-read l at m next b e = fields.via (ValueIs l at m next) (wholeNumber l at 
         let g : wholeNumber l at 0 modeLast ≡ Value m next = rw (← x, ← y) f in
         record { other = rw (← x) p; fits = whole-number 0 modeLast (omega arith) .read-fits l at m next b g; stands = whole-number 0 modeLast (omega arith) .read-written l at m next b g }
 
-    found : (v n : ℕ) → wholeNumber l at 0 modeLast ≡ Value v n → cond (eqb v 0) (refusedAt at Default) (Value v n) ≡ Value m next → ValueIs l at m next
+    found : (v n : ℕ) → wholeNumber l at 0 modeLast ≡ Value v n
+        → cond (eqb v 0) (refusedAt at Default) (Value v n) ≡ Value m next → ValueIs l at m next
     found v n f k = go v n f (eqb v 0) refl k
 
 present : (l : List ℕ) (at p m next : ℕ) → Stands l at (bitsN 1 1) p → ValueIs l p m next → ModeIs l at m next
@@ -179,7 +194,8 @@ mode-read l at m next b e = fields.via (ModeIs l at m next) (bitField l at 1) _ 
         let n = eqb-false p 0 e in
         omega arith
 
-    go : (p n : ℕ) → bitField l at 1 ≡ Value p n → (t : Bool) → eqb p 0 ≡ t → cond t (Value 0 n) (modeValue l n) ≡ Value m next → ModeIs l at m next
+    go : (p n : ℕ) → bitField l at 1 ≡ Value p n → (t : Bool) → eqb p 0 ≡ t
+        → cond t (Value 0 n) (modeValue l n) ≡ Value m next → ModeIs l at m next
     go p n f true q k =
         let x : 0 ≡ m = cc in
         let y : n ≡ next = cc in
@@ -213,7 +229,8 @@ mode-most m = go (eqb m 0)
 mode-number : (m : ℕ) → wholeFits 0 modeLast m ≡ true → numberOf (pdu.Start (eqb m 1)) ≡ m
 mode-number zero h = refl
 mode-number (suc zero) h = refl
-mode-number (suc (suc n)) h = let k = leb-true (suc (suc n)) modeLast (both-right (leb 0 (suc (suc n))) (leb (suc (suc n)) modeLast) h) in absurd (omega arith)
+mode-number (suc (suc n)) h = let k = leb-true (suc (suc n)) modeLast
+    (both-right (leb 0 (suc (suc n))) (leb (suc (suc n)) modeLast) h) in absurd (omega arith)
 
 -- ---- a mode and a body
 
@@ -223,7 +240,8 @@ module _ (b : Body) (laws : BodyLaws b) where
     mode : ModeIs l at (numberOf (x .pdu)) place
     body : b .read l place ≡ taken.Is (x .content) next
 
-  moded-made : (l : List ℕ) (at next m p : ℕ) (x : Found) → Bits l → modeAt l at ≡ Value m p → Held (pdu.Start (eqb m 1)) (b .read l p) next x → ModedIs l at next x
+  moded-made : (l : List ℕ) (at next m p : ℕ) (x : Found) → Bits l → modeAt l at ≡ Value m p
+      → Held (pdu.Start (eqb m 1)) (b .read l p) next x → ModedIs l at next x
   moded-made l at next m p x bl f i =
       let k = mode-read l at m p bl f in
       let n : numberOf (x .pdu) ≡ m = ap numberOf (i .pdu) ∙ mode-number m (k .fits) in
@@ -237,24 +255,30 @@ module _ (b : Body) (laws : BodyLaws b) where
       apart : (r : Refusal) → reached.Refused r ≡ reached.Is x next → ModedIs l at next x
       apart r k = never (cc)
 
-  moded-stands : (l : List ℕ) (at next : ℕ) (x : Found) → Bits l → moded b .read l at ≡ reached.Is x next → wholeFits 0 modeLast (numberOf (x .pdu)) && b .stands (one l) (x .content) ≡ true
+  moded-stands : (l : List ℕ) (at next : ℕ) (x : Found) → Bits l → moded b .read l at ≡ reached.Is x next
+      → wholeFits 0 modeLast (numberOf (x .pdu)) && b .stands (one l) (x .content) ≡ true
   moded-stands l at next x bl e =
       let i = moded-is l at next x bl e in
       rw (i .mode .fits) (laws .read-stands l (i .place) next (x .content) bl (i .body))
 
-  moded-plain : (l : List ℕ) (at next : ℕ) (x : Found) → Bits l → moded b .read l at ≡ reached.Is x next → moded b .plain l at x ≡ moded b .bits (moded b .value (one l) x)
+  moded-plain : (l : List ℕ) (at next : ℕ) (x : Found) → Bits l → moded b .read l at ≡ reached.Is x next
+      → moded b .plain l at x ≡ moded b .bits (moded b .value (one l) x)
   moded-plain l at next x bl e =
       let i = moded-is l at next x bl e in
       let q = laws .read-plain l (i .place) next (x .content) bl (i .body) in
       rw (i .mode .stands .holds, ← i .mode .stands .place, q)
 
-  moded-unextended : (l : List ℕ) (at next : ℕ) (x : Found) → Bits l → moded b .read l at ≡ reached.Is x next → moded b .extended l at x ≡ false → Stands l at (moded b .bits (moded b .value (one l) x)) next
+  moded-unextended : (l : List ℕ) (at next : ℕ) (x : Found) → Bits l → moded b .read l at ≡ reached.Is x next
+      → moded b .extended l at x ≡ false → Stands l at (moded b .bits (moded b .value (one l) x)) next
   moded-unextended l at next x bl e n =
       let i = moded-is l at next x bl e in
-      let k : b .extended l (i .place) (x .content) ≡ false = subst (λ (p : ℕ). b .extended l p (x .content) ≡ false) (sym (i .mode .stands .place)) n in
+      let k : b .extended l (i .place) (x .content) ≡ false = subst (λ (p : ℕ). b .extended l p (x .content) ≡ false)
+      (sym (i .mode .stands .place)) n in
       stands-join l at (i .place) next _ _ (i .mode .stands) (laws .unextended l (i .place) next (x .content) bl (i .body) k)
 
-  moded-back : (l : List ℕ) (at next : ℕ) (v : Moded (b .Value)) → Bits l → wholeFits 0 modeLast (v .mode) && b .fits (v .held) ≡ true → Stands l at (modeBits (v .mode) ++ b .bits (v .held)) next → Back (moded b) l at next v
+  moded-back : (l : List ℕ) (at next : ℕ) (v : Moded (b .Value)) → Bits l
+      → wholeFits 0 modeLast (v .mode) && b .fits (v .held) ≡ true
+      → Stands l at (modeBits (v .mode) ++ b .bits (v .held)) next → Back (moded b) l at next v
   moded-back l at next v bl h s =
       let f = both-left (wholeFits 0 modeLast (v .mode)) (b .fits (v .held)) h in
       let p : ℕ = at + length (modeBits (v .mode)) in
@@ -270,15 +294,20 @@ module _ (b : Body) (laws : BodyLaws b) where
             let m = laws .most (v .held) (both-right (wholeFits 0 modeLast (v .mode)) (b .fits (v .held)) h) in
             let k = mode-most (v .mode) in
             rw (length-append) (omega arith);
-        are-bits = λ (s : Lent) (x : Found) (k : AreBits s). bits-append (modeBits (numberOf (x .pdu))) (b .bits (b .value s (x .content))) (mode-are-bits (numberOf (x .pdu))) (laws .are-bits s (x .content) k);
-        value-fits = λ (s : Lent) (x : Found) (k : AreBits s) (h : wholeFits 0 modeLast (numberOf (x .pdu)) && b .stands s (x .content) ≡ true).
-            rw (both-left (wholeFits 0 modeLast (numberOf (x .pdu))) (b .stands s (x .content)) h) (laws .value-fits s (x .content) k (both-right (wholeFits 0 modeLast (numberOf (x .pdu))) (b .stands s (x .content)) h));
+        are-bits = λ (s : Lent) (x : Found) (k : AreBits s). bits-append (modeBits (numberOf (x .pdu)))
+            (b .bits (b .value s (x .content))) (mode-are-bits (numberOf (x .pdu))) (laws .are-bits s (x .content) k);
+        value-fits = λ (s : Lent) (x : Found) (k : AreBits s)
+            (h : wholeFits 0 modeLast (numberOf (x .pdu)) && b .stands s (x .content) ≡ true).
+            rw (both-left (wholeFits 0 modeLast (numberOf (x .pdu))) (b .stands s (x .content)) h) (laws .value-fits s
+            (x .content) k (both-right (wholeFits 0 modeLast (numberOf (x .pdu))) (b .stands s (x .content)) h));
         written-read = moded-back;
         read-stands = moded-stands;
         read-plain = moded-plain;
         unextended = moded-unextended;
-        clear = λ (l : List ℕ) (at next : ℕ) (x : Found) (s : Stands l at (modeBits (numberOf (x .pdu)) ++ b .bits (b .value (one l) (x .content))) next).
-            laws .clear l (behindMode at x) next (x .content) (stands-split l at next (modeBits (numberOf (x .pdu))) (b .bits (b .value (one l) (x .content))) s .second);
+        clear = λ (l : List ℕ) (at next : ℕ) (x : Found)
+            (s : Stands l at (modeBits (numberOf (x .pdu)) ++ b .bits (b .value (one l) (x .content))) next).
+            laws .clear l (behindMode at x) next (x .content) (stands-split l at next (modeBits (numberOf (x .pdu)))
+            (b .bits (b .value (one l) (x .content))) s .second);
       }
 
 start-named : (b : Body) (l : List ℕ) (at next : ℕ) (x : Found) → moded b .read l at ≡ reached.Is x next → indexOf (x .pdu) ≡ 2
@@ -315,7 +344,8 @@ response-width : widthOf responseLast ≤ 4
 unfolding digitsIn
 response-width = omega arith
 
-named-number : (last : ℕ) (p : ℕ → Pdu) (i : ℕ) → ((v : ℕ) → indexOf (p v) ≡ i) → (l : List ℕ) (at next : ℕ) (x : Found) → enumerated last p .read l at ≡ reached.Is x next → indexOf (x .pdu) ≡ i
+named-number : (last : ℕ) (p : ℕ → Pdu) (i : ℕ) → ((v : ℕ) → indexOf (p v) ≡ i) → (l : List ℕ) (at next : ℕ) (x : Found)
+    → enumerated last p .read l at ≡ reached.Is x next → indexOf (x .pdu) ≡ i
 named-number last p i h l at next x e =
     let k = number-is last p l at next x e in
     ap indexOf (k .pdu) ∙ h (k .number)
@@ -325,7 +355,8 @@ module _ (e : Edition) (laws : EditionLaws e) where
   user-laws = enumerated-laws (e .userLast) pdu.AbortUser (laws .user-small) (λ (v : ℕ). refl) (reason-most (e .userLast) (laws .user))
 
   provider-laws : Laws (enumerated (e .providerLast) pdu.AbortProvider)
-  provider-laws = enumerated-laws (e .providerLast) pdu.AbortProvider (laws .provider-small) (λ (v : ℕ). refl) (reason-most (e .providerLast) (laws .provider))
+  provider-laws = enumerated-laws (e .providerLast) pdu.AbortProvider (laws .provider-small) (λ (v : ℕ). refl)
+      (reason-most (e .providerLast) (laws .provider))
 
   aircraft-body : (i : ℕ) → i ≤ 3 → Laws (aircraftBody e i)
   aircraft-body zero h = user-laws
@@ -333,7 +364,8 @@ module _ (e : Edition) (laws : EditionLaws e) where
   aircraft-body (suc (suc zero)) h = moded-laws (e .start) (laws .start)
   aircraft-body (suc (suc (suc n))) h = holding-laws pdu.Send (e .send) (laws .send)
 
-  aircraft-named : (i : ℕ) → i ≤ 3 → (l : List ℕ) (at next : ℕ) (x : Found) → aircraftBody e i .read l at ≡ reached.Is x next → indexOf (x .pdu) ≡ i
+  aircraft-named : (i : ℕ) → i ≤ 3 → (l : List ℕ) (at next : ℕ) (x : Found)
+      → aircraftBody e i .read l at ≡ reached.Is x next → indexOf (x .pdu) ≡ i
   aircraft-named zero h l at next x k = named-number (e .userLast) pdu.AbortUser 0 (λ (v : ℕ). refl) l at next x k
   aircraft-named (suc zero) h l at next x k = named-number (e .providerLast) pdu.AbortProvider 1 (λ (v : ℕ). refl) l at next x k
   aircraft-named (suc (suc zero)) h l at next x k = start-named (e .start) l at next x k
@@ -350,9 +382,11 @@ module _ (e : Edition) (laws : EditionLaws e) where
   ground-body (suc (suc zero)) h = holding-laws (pdu.Start false) (e .start) (laws .start)
   ground-body (suc (suc (suc zero))) h = holding-laws pdu.Send (e .send) (laws .send)
   ground-body (suc (suc (suc (suc zero)))) h = holding-laws pdu.Forward (e .forward) (laws .forward)
-  ground-body (suc (suc (suc (suc (suc n))))) h = enumerated-laws responseLast pdu.ForwardResponse (omega arith) (λ (v : ℕ). refl) (reason-most responseLast response-width)
+  ground-body (suc (suc (suc (suc (suc n))))) h = enumerated-laws responseLast pdu.ForwardResponse (omega arith)
+      (λ (v : ℕ). refl) (reason-most responseLast response-width)
 
-  ground-named : (i : ℕ) → i ≤ 5 → (l : List ℕ) (at next : ℕ) (x : Found) → groundBody e i .read l at ≡ reached.Is x next → indexOf (x .pdu) ≡ i
+  ground-named : (i : ℕ) → i ≤ 5 → (l : List ℕ) (at next : ℕ) (x : Found)
+      → groundBody e i .read l at ≡ reached.Is x next → indexOf (x .pdu) ≡ i
   ground-named zero h l at next x k = named-number (e .userLast) pdu.AbortUser 0 (λ (v : ℕ). refl) l at next x k
   ground-named (suc zero) h l at next x k = named-number (e .providerLast) pdu.AbortProvider 1 (λ (v : ℕ). refl) l at next x k
   ground-named (suc (suc zero)) h l at next x k = ap indexOf (held (pdu.Start false) (e .start .read l at) next x k .pdu)

@@ -53,10 +53,12 @@ module _ (c : Choice) (laws : ChoiceLaws c) where
   index-most i h = leb-true i (c .last) (both-right (leb 0 i) (leb i (c .last)) h)
 
   -- what stands for a value of an alternative, by the alternative that it says itself
-  in-alternative : (l : List ℕ) (i : ℕ) (x : Found) (v : c .body i .Value) → indexOf (x .pdu) ≡ i → c .body i .value (one l) x ≡ v → apduIn c (one l) x ≡ apdu c i v
+  in-alternative : (l : List ℕ) (i : ℕ) (x : Found) (v : c .body i .Value) → indexOf (x .pdu) ≡ i
+      → c .body i .value (one l) x ≡ v → apduIn c (one l) x ≡ apdu c i v
   in-alternative l i x v e same = ap (λ (j : ℕ). apdu c j (c .body j .value (one l) x)) e ∙ ap (apdu c i) same
 
-  pub fields-written : (l : List ℕ) (at m : ℕ) (v : Apdu c) → Bits l → apduFits c v ≡ true → Stands l at (apduBits c v) m → FieldsRead c l at m v
+  pub fields-written : (l : List ℕ) (at m : ℕ) (v : Apdu c) → Bits l → apduFits c v ≡ true
+      → Stands l at (apduBits c v) m → FieldsRead c l at m v
   unfolding apduFits apduBits apduAt
   fields-written l at m v bl h s =
       let i : ℕ = v .index in
@@ -64,17 +66,20 @@ module _ (c : Choice) (laws : ChoiceLaws c) where
       let f = both-left (wholeFits 0 (c .last) (v .index)) (c .body (v .index) .fits (v .held)) h in
       let w = stands-split l at m (indexBits (c .last) (v .index)) (c .body (v .index) .bits (v .held)) s in
       let a = extensible-index (c .last) (laws .small) .written-read l at (v .index) p f (w .first) in
-      let b = laws .body (v .index) (index-most (v .index) f) .written-read l p m (v .held) bl (both-right (wholeFits 0 (c .last) (v .index)) (c .body (v .index) .fits (v .held)) h) (w .second) in
+      let b = laws .body (v .index) (index-most (v .index) f) .written-read l p m (v .held) bl
+      (both-right (wholeFits 0 (c .last) (v .index)) (c .body (v .index) .fits (v .held)) h) (w .second) in
       let n = laws .named (v .index) (index-most (v .index) f) l p m (b .found) (b .read) in
       record { found = b .found; read = rw (a, b .read); same = in-alternative l (v .index) (b .found) (v .held) n (b .same) }
 
-  pub apdu-written : (l : List ℕ) (at m next : ℕ) (v : Apdu c) → Bits l → apduFits c v ≡ true → Stands l at (apduBits c v) m → tailAt l m ≡ Value 0 next → ApduRead c l at v
+  pub apdu-written : (l : List ℕ) (at m next : ℕ) (v : Apdu c) → Bits l → apduFits c v ≡ true
+      → Stands l at (apduBits c v) m → tailAt l m ≡ Value 0 next → ApduRead c l at v
   apdu-written l at m next v bl h s t =
       let f = fields-written l at m v bl h s in
       record { found = f .found; read = f .read ∙ ended-well l (f .found) m 0 next t; same = f .same }
 
   -- all fields stand, and the tail is not right
-  pub tail-refused : (l : List ℕ) (at m : ℕ) (v : Apdu c) (r : Refusal) → Bits l → apduFits c v ≡ true → Stands l at (apduBits c v) m → tailAt l m ≡ Refused r → apduAt c l at ≡ decoded.Refused r
+  pub tail-refused : (l : List ℕ) (at m : ℕ) (v : Apdu c) (r : Refusal) → Bits l → apduFits c v ≡ true
+      → Stands l at (apduBits c v) m → tailAt l m ≡ Refused r → apduAt c l at ≡ decoded.Refused r
   tail-refused l at m v r bl h s t =
       let f = fields-written l at m v bl h s in
       f .read ∙ ended-badly l (f .found) m r t
@@ -94,12 +99,14 @@ pub record ApduIs (c : Choice) (l : List ℕ) (at : ℕ) (x : Found) : Type 0 wh
 refused-not : (R : Type 0) (x : Found) (r : Refusal) → decoded.Refused r ≡ decoded.Is x → R
 refused-not R x r e = never (cc)
 
-via-reached : (R : Type 0) (x : Found) (t : Reached) (k : Found → ℕ → Decoded) → ((y : Found) (n : ℕ) → t ≡ reached.Is y n → k y n ≡ decoded.Is x → R) → onReached t k ≡ decoded.Is x → R
+via-reached : (R : Type 0) (x : Found) (t : Reached) (k : Found → ℕ → Decoded)
+    → ((y : Found) (n : ℕ) → t ≡ reached.Is y n → k y n ≡ decoded.Is x → R) → onReached t k ≡ decoded.Is x → R
 via-reached R x (reached.Is y n) k g e = g y n refl e
 via-reached R x (reached.Refused r) k g e = refused-not R x r e
 
 module _ (c : Choice) (laws : ChoiceLaws c) (l : List ℕ) (at : ℕ) (x : Found) (b : Bits l) where
-  made : (i p n v m : ℕ) → indexOf (x .pdu) ≡ i → extensibleIndex l at (c .last) ≡ Value i p → c .body i .read l p ≡ reached.Is x n → tailAt l n ≡ Value v m → ApduIs c l at x
+  made : (i p n v m : ℕ) → indexOf (x .pdu) ≡ i → extensibleIndex l at (c .last) ≡ Value i p
+      → c .body i .read l p ≡ reached.Is x n → tailAt l n ≡ Value v m → ApduIs c l at x
   made i p n v m e f g t =
       record {
         place = p;

@@ -51,24 +51,31 @@ pub record BodyLaws (b : Body) : Type 0 where
   pub most : (v : b .Value) → b .fits v ≡ true → length (b .bits v) ≤ bodyMost
   pub are-bits : (s : Lent) (x : Content) → AreBits s → Bits (b .bits (b .value s x))
   pub value-fits : (s : Lent) (x : Content) → AreBits s → b .stands s x ≡ true → b .fits (b .value s x) ≡ true
-  pub written-read : (l : List ℕ) (at next : ℕ) (v : b .Value) → Bits l → b .fits v ≡ true → Stands l at (b .bits v) next → Taken b l at next v
+  pub written-read : (l : List ℕ) (at next : ℕ) (v : b .Value) → Bits l → b .fits v ≡ true
+      → Stands l at (b .bits v) next → Taken b l at next v
   pub read-stands : (l : List ℕ) (at next : ℕ) (x : Content) → Bits l → b .read l at ≡ taken.Is x next → b .stands (one l) x ≡ true
-  pub read-plain : (l : List ℕ) (at next : ℕ) (x : Content) → Bits l → b .read l at ≡ taken.Is x next → b .plain l at x ≡ b .bits (b .value (one l) x)
-  pub unextended : (l : List ℕ) (at next : ℕ) (x : Content) → Bits l → b .read l at ≡ taken.Is x next → b .extended l at x ≡ false → Stands l at (b .bits (b .value (one l) x)) next
+  pub read-plain : (l : List ℕ) (at next : ℕ) (x : Content) → Bits l → b .read l at ≡ taken.Is x next
+      → b .plain l at x ≡ b .bits (b .value (one l) x)
+  pub unextended : (l : List ℕ) (at next : ℕ) (x : Content) → Bits l → b .read l at ≡ taken.Is x next
+      → b .extended l at x ≡ false → Stands l at (b .bits (b .value (one l) x)) next
   pub clear : (l : List ℕ) (at next : ℕ) (x : Content) → Stands l at (b .bits (b .value (one l) x)) next → b .extended l at x ≡ false
 
 pub record Laws (b : Alternative) : Type 0 where
   pub most : (v : b .Value) → b .fits v ≡ true → length (b .bits v) ≤ alternativeMost
   pub are-bits : (s : Lent) (x : Found) → AreBits s → Bits (b .bits (b .value s x))
   pub value-fits : (s : Lent) (x : Found) → AreBits s → b .stands s x ≡ true → b .fits (b .value s x) ≡ true
-  pub written-read : (l : List ℕ) (at next : ℕ) (v : b .Value) → Bits l → b .fits v ≡ true → Stands l at (b .bits v) next → Back b l at next v
+  pub written-read : (l : List ℕ) (at next : ℕ) (v : b .Value) → Bits l → b .fits v ≡ true
+      → Stands l at (b .bits v) next → Back b l at next v
   pub read-stands : (l : List ℕ) (at next : ℕ) (x : Found) → Bits l → b .read l at ≡ reached.Is x next → b .stands (one l) x ≡ true
-  pub read-plain : (l : List ℕ) (at next : ℕ) (x : Found) → Bits l → b .read l at ≡ reached.Is x next → b .plain l at x ≡ b .bits (b .value (one l) x)
-  pub unextended : (l : List ℕ) (at next : ℕ) (x : Found) → Bits l → b .read l at ≡ reached.Is x next → b .extended l at x ≡ false → Stands l at (b .bits (b .value (one l) x)) next
+  pub read-plain : (l : List ℕ) (at next : ℕ) (x : Found) → Bits l → b .read l at ≡ reached.Is x next
+      → b .plain l at x ≡ b .bits (b .value (one l) x)
+  pub unextended : (l : List ℕ) (at next : ℕ) (x : Found) → Bits l → b .read l at ≡ reached.Is x next
+      → b .extended l at x ≡ false → Stands l at (b .bits (b .value (one l) x)) next
   pub clear : (l : List ℕ) (at next : ℕ) (x : Found) → Stands l at (b .bits (b .value (one l) x)) next → b .extended l at x ≡ false
 
 pub record ChoiceLaws (c : Choice) : Type 0 where
   pub small : c .last < 2 ^ 64
   pub width : (i : ℕ) → length (indexBits (c .last) i) ≤ 4
   pub body : (i : ℕ) → i ≤ c .last → Laws (c .body i)
-  pub named : (i : ℕ) → i ≤ c .last → (l : List ℕ) (at next : ℕ) (x : Found) → c .body i .read l at ≡ reached.Is x next → indexOf (x .pdu) ≡ i
+  pub named : (i : ℕ) → i ≤ c .last → (l : List ℕ) (at next : ℕ) (x : Found) → c .body i .read l at ≡ reached.Is x next
+      → indexOf (x .pdu) ≡ i

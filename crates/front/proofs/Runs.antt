@@ -86,13 +86,16 @@ module _ (rd : List ℕ → ℕ → Field) (laws : RunLaws rd) where
       let n = run-length l at next h g in
       record { place = omega arith; within = omega arith; holds = rw n }
 
-  run-read-stands : (l : List ℕ) (at next : ℕ) → Apart rd l at next → leb (at + (next - at)) (length l) && takesAll rd (take (next - at) (drop at l)) ≡ true
+  run-read-stands : (l : List ℕ) (at next : ℕ) → Apart rd l at next
+      → leb (at + (next - at)) (length l) && takesAll rd (take (next - at) (drop at l)) ≡ true
   run-read-stands l at next a =
       let f = a .from in
       let w = a .within in
-      rw (le-leb (at + (next - at)) (length l) (omega arith), run-length l at next f w) (at-end (rd (take (next - at) (drop at l)) 0) (next - at) (a .itself))
+      rw (le-leb (at + (next - at)) (length l) (omega arith), run-length l at next f w)
+      (at-end (rd (take (next - at) (drop at l)) 0) (next - at) (a .itself))
 
-  run-back : (l : List ℕ) (at next : ℕ) (v : List ℕ) → Bits l → isBits v && takesAll rd v ≡ true → Stands l at v next → Taken (runBody rd) l at next v
+  run-back : (l : List ℕ) (at next : ℕ) (v : List ℕ) → Bits l → isBits v && takesAll rd v ≡ true → Stands l at v next
+      → Taken (runBody rd) l at next v
   run-back l at next v bl h s =
       let b = is-bits v (both-left (isBits v) (takesAll rd v) h) in
       let e = ends-at (rd v 0) (length v) (both-right (isBits v) (takesAll rd v) h) in
@@ -104,11 +107,15 @@ module _ (rd : List ℕ → ℕ → Field) (laws : RunLaws rd) where
   run-laws =
       record {
         most = λ (v : List ℕ) (h : isBits v && takesAll rd v ≡ true).
-            let m = laws .most v (is-bits v (both-left (isBits v) (takesAll rd v) h)) (ends-at (rd v 0) (length v) (both-right (isBits v) (takesAll rd v) h)) in
+            let m = laws .most v (is-bits v (both-left (isBits v) (takesAll rd v) h))
+            (ends-at (rd v 0) (length v) (both-right (isBits v) (takesAll rd v) h)) in
             omega arith;
-        are-bits = λ (s : Lent) (c : Content) (k : AreBits s). bits-take (c .message .count) (drop (c .message .at) (s .messages)) (bits-drop (c .message .at) (s .messages) (k .messages));
-        value-fits = λ (s : Lent) (c : Content) (k : AreBits s) (h : leb (c .message .at + c .message .count) (length (s .messages)) && takesAll rd (runIn s c) ≡ true).
-            rw (bits-is (runIn s c) (bits-take (c .message .count) (drop (c .message .at) (s .messages)) (bits-drop (c .message .at) (s .messages) (k .messages))))
+        are-bits = λ (s : Lent) (c : Content) (k : AreBits s). bits-take (c .message .count)
+            (drop (c .message .at) (s .messages)) (bits-drop (c .message .at) (s .messages) (k .messages));
+        value-fits = λ (s : Lent) (c : Content) (k : AreBits s)
+            (h : leb (c .message .at + c .message .count) (length (s .messages)) && takesAll rd (runIn s c) ≡ true).
+            rw (bits-is (runIn s c) (bits-take (c .message .count) (drop (c .message .at) (s .messages))
+            (bits-drop (c .message .at) (s .messages) (k .messages))))
             (both-right (leb (c .message .at + c .message .count) (length (s .messages))) (takesAll rd (runIn s c)) h);
         written-read = run-back;
         read-stands = λ (l : List ℕ) (at next : ℕ) (c : Content) (b : Bits l) (e : runBody rd .read l at ≡ taken.Is c next).
@@ -117,7 +124,8 @@ module _ (rd : List ℕ → ℕ → Field) (laws : RunLaws rd) where
         read-plain = λ (l : List ℕ) (at next : ℕ) (c : Content) (b : Bits l) (e : runBody rd .read l at ≡ taken.Is c next).
             let i = run-is l at next c b e in
             rw (i .same);
-        unextended = λ (l : List ℕ) (at next : ℕ) (c : Content) (b : Bits l) (e : runBody rd .read l at ≡ taken.Is c next) (n : false ≡ false).
+        unextended = λ (l : List ℕ) (at next : ℕ) (c : Content) (b : Bits l)
+            (e : runBody rd .read l at ≡ taken.Is c next) (n : false ≡ false).
             let i = run-is l at next c b e in
             rw (i .same) (run-stands l at next (i .apart .from) (i .apart .within));
         clear = λ (l : List ℕ) (at next : ℕ) (c : Content) (s : Stands l at (runIn (one l) c) next). refl;
@@ -145,7 +153,8 @@ module _ (rd : List ℕ → ℕ → Field) (laws : RunLaws rd) where
       let m = laws .most (take (next - at) (drop at l)) (bits-take (next - at) (drop at l) (bits-drop at l b)) e in
       ne-eqb (next - at) none (λ (z : next - at ≡ none). omega arith)
 
-  perhaps-something : (l : List ℕ) (at p next : ℕ) → Bits l → Stands l at (bitsN 1 1) p → Apart rd l p next → PerhapsIs l at next (runFrom p next)
+  perhaps-something : (l : List ℕ) (at p next : ℕ) → Bits l → Stands l at (bitsN 1 1) p → Apart rd l p next
+      → PerhapsIs l at next (runFrom p next)
   unfolding perhapsBits
   perhaps-something l at p next b s a =
       let k = some-count l p next b a in
@@ -169,7 +178,8 @@ module _ (rd : List ℕ → ℕ → Field) (laws : RunLaws rd) where
       one-bit : (i : ℕ) → i < 2 → eqb i 0 ≡ false → i ≡ 1
       one-bit i h e = let n = eqb-false i 0 e in omega arith
 
-      go : (i p : ℕ) → bitField l at 1 ≡ Value i p → (t : Bool) → eqb i 0 ≡ t → cond t (taken.Is noContent p) (runBody rd .read l p) ≡ taken.Is c next → PerhapsIs l at next c
+      go : (i p : ℕ) → bitField l at 1 ≡ Value i p → (t : Bool) → eqb i 0 ≡ t
+          → cond t (taken.Is noContent p) (runBody rd .read l p) ≡ taken.Is c next → PerhapsIs l at next c
       go i p f true q k =
           let z : i ≡ 0 = eqb-true i 0 q in
           let y : p ≡ next = cc in
@@ -181,14 +191,17 @@ module _ (rd : List ℕ → ℕ → Field) (laws : RunLaws rd) where
           let a = run-is rd laws l p next c b k in
           rw (a .same) (perhaps-something l at p next b (rw z at (bit-field 1 .read-written l at i p b f)) (a .apart))
 
-  perhaps-count : (l : List ℕ) (p next : ℕ) (v : List ℕ) (bl : Bits l) (h : isBits v && takesAll rd v ≡ true) (s : Stands l p v next) → isNone (run-back rd laws l p next v bl h s .content) ≡ false
+  perhaps-count : (l : List ℕ) (p next : ℕ) (v : List ℕ) (bl : Bits l) (h : isBits v && takesAll rd v ≡ true) (s : Stands l p v next)
+      → isNone (run-back rd laws l p next v bl h s .content) ≡ false
   unfolding run-back
   perhaps-count l p next v bl h s =
-      let m = laws .most v (is-bits v (both-left (isBits v) (takesAll rd v) h)) (ends-at (rd v 0) (length v) (both-right (isBits v) (takesAll rd v) h)) in
+      let m = laws .most v (is-bits v (both-left (isBits v) (takesAll rd v) h))
+      (ends-at (rd v 0) (length v) (both-right (isBits v) (takesAll rd v) h)) in
       let q = s .place in
       ne-eqb (next - p) none (λ (z : next - p ≡ none). omega arith)
 
-  perhaps-back : (l : List ℕ) (at next : ℕ) (v : Perhaps) → Bits l → perhapsFits rd v ≡ true → Stands l at (perhapsBits v) next → Taken (perhapsRun rd) l at next v
+  perhaps-back : (l : List ℕ) (at next : ℕ) (v : Perhaps) → Bits l → perhapsFits rd v ≡ true
+      → Stands l at (perhapsBits v) next → Taken (perhapsRun rd) l at next v
   unfolding perhapsFits perhapsBits
   perhaps-back l at next nothing bl h s = record { content = noContent; read = rw (bit-field 1 .written-read l at 0 next refl s); same = refl }
   perhaps-back l at next (something v) bl h s =
@@ -203,7 +216,8 @@ module _ (rd : List ℕ → ℕ → Field) (laws : RunLaws rd) where
   unfolding perhapsFits perhapsBits
   perhaps-most nothing h = rw (length-bitsN 1 0) (omega arith)
   perhaps-most (something v) h =
-      let m = laws .most v (is-bits v (both-left (isBits v) (takesAll rd v) h)) (ends-at (rd v 0) (length v) (both-right (isBits v) (takesAll rd v) h)) in
+      let m = laws .most v (is-bits v (both-left (isBits v) (takesAll rd v) h))
+      (ends-at (rd v 0) (length v) (both-right (isBits v) (takesAll rd v) h)) in
       rw (length-append, length-bitsN) (omega arith)
 
   perhaps-are-bits : (s : Lent) (c : Content) → AreBits s → (t : Bool) → Bits (perhapsBits (cond t nothing (something (runIn s c))))
@@ -211,7 +225,8 @@ module _ (rd : List ℕ → ℕ → Field) (laws : RunLaws rd) where
   perhaps-are-bits s c k true = bits-bitsN 1 0
   perhaps-are-bits s c k false = bits-append (bitsN 1 1) (runIn s c) (bits-bitsN 1 1) (run-laws rd laws .are-bits s c k)
 
-  perhaps-value-fits : (s : Lent) (c : Content) → AreBits s → (t : Bool) → cond t true (runBody rd .stands s c) ≡ true → perhapsFits rd (cond t nothing (something (runIn s c))) ≡ true
+  perhaps-value-fits : (s : Lent) (c : Content) → AreBits s → (t : Bool) → cond t true (runBody rd .stands s c) ≡ true
+      → perhapsFits rd (cond t nothing (something (runIn s c))) ≡ true
   unfolding perhapsFits
   perhaps-value-fits s c k true h = refl
   perhaps-value-fits s c k false h = run-laws rd laws .value-fits s c k h
@@ -223,12 +238,15 @@ module _ (rd : List ℕ → ℕ → Field) (laws : RunLaws rd) where
         are-bits = λ (s : Lent) (c : Content) (k : AreBits s). perhaps-are-bits s c k (isNone c);
         value-fits = λ (s : Lent) (c : Content) (k : AreBits s). perhaps-value-fits s c k (isNone c);
         written-read = perhaps-back;
-        read-stands = λ (l : List ℕ) (at next : ℕ) (c : Content) (b : Bits l) (e : perhapsRun rd .read l at ≡ taken.Is c next). perhaps-is l at next c b e .right;
+        read-stands = λ (l : List ℕ) (at next : ℕ) (c : Content) (b : Bits l)
+            (e : perhapsRun rd .read l at ≡ taken.Is c next). perhaps-is l at next c b e .right;
         read-plain = λ (l : List ℕ) (at next : ℕ) (c : Content) (b : Bits l) (e : perhapsRun rd .read l at ≡ taken.Is c next).
             let i = perhaps-is l at next c b e in
             rw (i .size, i .same) (i .stands .holds);
-        unextended = λ (l : List ℕ) (at next : ℕ) (c : Content) (b : Bits l) (e : perhapsRun rd .read l at ≡ taken.Is c next) (n : false ≡ false).
+        unextended = λ (l : List ℕ) (at next : ℕ) (c : Content) (b : Bits l)
+            (e : perhapsRun rd .read l at ≡ taken.Is c next) (n : false ≡ false).
             let i = perhaps-is l at next c b e in
             rw (i .same) (i .stands);
-        clear = λ (l : List ℕ) (at next : ℕ) (c : Content) (s : Stands l at (perhapsBits (cond (isNone c) nothing (something (runIn (one l) c)))) next). refl;
+        clear = λ (l : List ℕ) (at next : ℕ) (c : Content)
+            (s : Stands l at (perhapsBits (cond (isNone c) nothing (something (runIn (one l) c)))) next). refl;
       }

@@ -42,7 +42,8 @@ module _ (c : Choice) (laws : ChoiceLaws c) where
   unfolding apduFits apduBits
   apdu-most v h =
       let f = both-left (wholeFits 0 (c .last) (v .index)) (c .body (v .index) .fits (v .held)) h in
-      let m = laws .body (v .index) (index-most c laws (v .index) f) .most (v .held) (both-right (wholeFits 0 (c .last) (v .index)) (c .body (v .index) .fits (v .held)) h) in
+      let m = laws .body (v .index) (index-most c laws (v .index) f) .most (v .held)
+      (both-right (wholeFits 0 (c .last) (v .index)) (c .body (v .index) .fits (v .held)) h) in
       let w = laws .width (v .index) in
       rw (length-append) (omega arith)
 
@@ -54,20 +55,25 @@ module _ (c : Choice) (laws : ChoiceLaws c) where
   unfolding foundFits apduFits
   found-value-fits s x b h =
       rw (both-left (wholeFits 0 (c .last) (indexOf (x .pdu))) (bodyOf c x .stands s x) h)
-      (laws .body (indexOf (x .pdu)) (found-index s x h) .value-fits s x b (both-right (wholeFits 0 (c .last) (indexOf (x .pdu))) (bodyOf c x .stands s x) h))
+      (laws .body (indexOf (x .pdu)) (found-index s x h) .value-fits s x b
+      (both-right (wholeFits 0 (c .last) (indexOf (x .pdu))) (bodyOf c x .stands s x) h))
 
   found-are-bits : (s : Lent) (x : Found) → AreBits s → foundFits c s x ≡ true → Bits (apduBits c (apduIn c s x))
   unfolding apduBits
   found-are-bits s x b h =
       bits-append (indexBits (c .last) (indexOf (x .pdu))) (bodyOf c x .bits (bodyOf c x .value s x))
-      (extensible-index (c .last) (laws .small) .are-bits (indexOf (x .pdu))) (laws .body (indexOf (x .pdu)) (found-index s x h) .are-bits s x b)
+      (extensible-index (c .last) (laws .small) .are-bits (indexOf (x .pdu)))
+      (laws .body (indexOf (x .pdu)) (found-index s x h) .are-bits s x b)
 
   -- ---- reading what was written gives the value
 
   -- bits that are the padded encoding of a value within the sizes are read as that value
-  pub encoding-accepted : (l : List ℕ) (v : Apdu c) → Bits (apduBits c v) → apduFits c v ≡ true → l ≡ padded (apduBits c v) → ApduRead c l 0 v
+  pub encoding-accepted : (l : List ℕ) (v : Apdu c) → Bits (apduBits c v) → apduFits c v ≡ true
+      → l ≡ padded (apduBits c v) → ApduRead c l 0 v
   encoding-accepted l v b h e =
-      rw e (apdu-written c laws (padded (apduBits c v)) 0 (length (apduBits c v)) (length (apduBits c v) + padding (length (apduBits c v))) v (pad-bits (apduBits c v) b) h (stands-front (apduBits c v)) (tail-padded (apduBits c v)))
+      rw e (apdu-written c laws (padded (apduBits c v)) 0 (length (apduBits c v))
+      (length (apduBits c v) + padding (length (apduBits c v))) v (pad-bits (apduBits c v) b) h
+      (stands-front (apduBits c v)) (tail-padded (apduBits c v)))
 
   -- what is written to a buffer is read as it was
   pub written-read : (v : Apdu c) (t : List ℕ) → Bits (apduBits c v) → apduFits c v ≡ true → bufferLeast ≤ length t
@@ -76,11 +82,14 @@ module _ (c : Choice) (laws : ChoiceLaws c) where
 
   -- what stands in lent bits, put into a buffer, is read as it was
   pub put-read : (s : Lent) (x : Found) (t : List ℕ) → AreBits s → foundFits c s x ≡ true → bufferLeast ≤ length t
-      → ApduRead c (lent (take (bytesFor (length (apduBits c (apduIn c s x)))) (putBits t 0 (padded (apduBits c (apduIn c s x)))))) 0 (apduIn c s x)
+      → ApduRead c (lent
+      (take (bytesFor (length (apduBits c (apduIn c s x)))) (putBits t 0 (padded (apduBits c (apduIn c s x))))))
+      0 (apduIn c s x)
   put-read s x t b h g = written-read (apduIn c s x) t (found-are-bits s x b h) (found-value-fits s x b h) g
 
   -- one encoding, one value
-  pub one-value : (v w : Apdu c) → Bits (apduBits c v) → Bits (apduBits c w) → apduFits c v ≡ true → apduFits c w ≡ true → padded (apduBits c v) ≡ padded (apduBits c w) → v ≡ w
+  pub one-value : (v w : Apdu c) → Bits (apduBits c v) → Bits (apduBits c w) → apduFits c v ≡ true → apduFits c w ≡ true
+      → padded (apduBits c v) ≡ padded (apduBits c w) → v ≡ w
   one-value v w bv bw f g e =
       let x = encoding-accepted (padded (apduBits c v)) v bv f refl in
       let y = encoding-accepted (padded (apduBits c v)) w bw g e in
@@ -113,7 +122,9 @@ module _ (c : Choice) (laws : ChoiceLaws c) where
     stripped : strip c l x ≡ padded (apduBits c (apduIn c (one l) x))
     unfolding strip apduBits
     stripped =
-        let p : bodyOf c x .plain l (frontEnd c x) x ≡ bodyOf c x .bits (bodyOf c x .value (one l) x) = subst (λ (n : ℕ). bodyOf c x .plain l n x ≡ bodyOf c x .bits (bodyOf c x .value (one l) x)) place-is (of .read-plain l (is .place) (is .next) x b (is .body)) in
+        let p : bodyOf c x .plain l (frontEnd c x) x ≡ bodyOf c x .bits (bodyOf c x .value (one l) x) = subst
+        (λ (n : ℕ). bodyOf c x .plain l n x ≡ bodyOf c x .bits (bodyOf c x .value (one l) x)) place-is
+        (of .read-plain l (is .place) (is .next) x b (is .body)) in
         rw (is .front .holds, p)
 
     pub accepted-encoding : Accepted l x
@@ -121,21 +132,27 @@ module _ (c : Choice) (laws : ChoiceLaws c) where
 
     -- WITH THE ADDITIONS GONE IT IS READ AS THE SAME VALUE
     pub stripped-read : ApduRead c (strip c l x) 0 (apduIn c (one l) x)
-    stripped-read = encoding-accepted (strip c l x) (apduIn c (one l) x) (found-are-bits (one l) x (one-bits l b) stood) (accepted-encoding .fits) (accepted-encoding .bits)
+    stripped-read = encoding-accepted (strip c l x) (apduIn c (one l) x) (found-are-bits (one l) x (one-bits l b) stood)
+        (accepted-encoding .fits) (accepted-encoding .bits)
 
     -- what a user is delivered: the body's bits, whatever its extension bit was
     pub delivered : bodyOf c x .bits (bodyOf c x .value (one l) x) ≡ bodyOf c x .plain l (frontEnd c x) x
-    delivered = sym (subst (λ (n : ℕ). bodyOf c x .plain l n x ≡ bodyOf c x .bits (bodyOf c x .value (one l) x)) place-is (of .read-plain l (is .place) (is .next) x b (is .body)))
+    delivered = sym (subst (λ (n : ℕ). bodyOf c x .plain l n x ≡ bodyOf c x .bits (bodyOf c x .value (one l) x))
+        place-is (of .read-plain l (is .place) (is .next) x b (is .body)))
 
     -- to take additions away changes nothing exactly where there are none
     pub strip-plain : strip c l x ≡ l → extended c l x ≡ false
     unfolding extended apduBits
     strip-plain k =
         let s = stands-front (apduBits c (apduIn c (one l) x)) in
-        let t : Stands l 0 (indexBits (c .last) (indexOf (x .pdu)) ++ bodyOf c x .bits (bodyOf c x .value (one l) x)) _ = subst (λ (y : List ℕ). Stands y 0 (apduBits c (apduIn c (one l) x)) (length (apduBits c (apduIn c (one l) x)))) (sym stripped ∙ k) s in
+        let t : Stands l 0 (indexBits (c .last) (indexOf (x .pdu)) ++ bodyOf c x .bits (bodyOf c x .value (one l) x)) _
+        = subst
+        (λ (y : List ℕ). Stands y 0 (apduBits c (apduIn c (one l) x)) (length (apduBits c (apduIn c (one l) x))))
+        (sym stripped ∙ k) s in
         let w = stands-split l 0 _ (indexBits (c .last) (indexOf (x .pdu))) (bodyOf c x .bits (bodyOf c x .value (one l) x)) t in
         let z : 0 + length (indexBits (c .last) (indexOf (x .pdu))) ≡ frontEnd c x = omega arith in
-        of .clear l (frontEnd c x) _ x (subst (λ (n : ℕ). Stands l n (bodyOf c x .bits (bodyOf c x .value (one l) x)) (length (apduBits c (apduIn c (one l) x)))) z (w .second))
+        of .clear l (frontEnd c x) _ x (subst (λ (n : ℕ). Stands l n (bodyOf c x .bits (bodyOf c x .value (one l) x))
+        (length (apduBits c (apduIn c (one l) x)))) z (w .second))
 
     -- ---- without additions
 
@@ -144,11 +161,13 @@ module _ (c : Choice) (laws : ChoiceLaws c) where
       unfolding extended
       plain-body =
           subst (λ (n : ℕ). Stands l n (bodyOf c x .bits (bodyOf c x .value (one l) x)) (is .next)) place-is
-          (of .unextended l (is .place) (is .next) x b (is .body) (subst (λ (n : ℕ). bodyOf c x .extended l n x ≡ false) (sym place-is) none))
+          (of .unextended l (is .place) (is .next) x b (is .body)
+          (subst (λ (n : ℕ). bodyOf c x .extended l n x ≡ false) (sym place-is) none))
 
       plain-stands : Stands l 0 (apduBits c (apduIn c (one l) x)) (is .next)
       unfolding apduBits
-      plain-stands = stands-join l 0 (frontEnd c x) (is .next) _ _ (subst (λ (n : ℕ). Stands l 0 (indexBits (c .last) (indexOf (x .pdu))) n) place-is (is .front)) plain-body
+      plain-stands = stands-join l 0 (frontEnd c x) (is .next) _ _
+          (subst (λ (n : ℕ). Stands l 0 (indexBits (c .last) (indexOf (x .pdu))) n) place-is (is .front)) plain-body
 
       -- bits without additions that are read as an APDU are the padded encoding of its value
       pub plain-encoding : l ≡ padded (apduBits c (apduIn c (one l) x))
@@ -158,7 +177,8 @@ module _ (c : Choice) (laws : ChoiceLaws c) where
       plain-strip = stripped ∙ sym plain-encoding
 
       -- and so a user is delivered bits of the APDU
-      pub delivered-run : bodyOf c x .bits (bodyOf c x .value (one l) x) ≡ take (length (bodyOf c x .bits (bodyOf c x .value (one l) x))) (drop (frontEnd c x) l)
+      pub delivered-run : bodyOf c x .bits (bodyOf c x .value (one l) x) ≡ take
+          (length (bodyOf c x .bits (bodyOf c x .value (one l) x))) (drop (frontEnd c x) l)
       delivered-run = sym (plain-body .holds)
 
   module _ (s : List ℕ) (x : Found) (e : apduAt c (lent s) 0 ≡ decoded.Is x) where
@@ -173,27 +193,32 @@ module _ (c : Choice) (laws : ChoiceLaws c) where
     accepted-all none =
         let m = apdu-most (apduIn c (one (lent s)) x) (accepted .fits) in
         let n = length-padded (apduBits c (apduIn c (one (lent s)) x)) in
-        let k : length (lent s) ≡ length (padded (apduBits c (apduIn c (one (lent s)) x))) = ap length (plain-encoding (lent s) x (bits-to s allBits) e none) in
+        let k : length (lent s) ≡ length (padded (apduBits c (apduIn c (one (lent s)) x))) = ap length
+        (plain-encoding (lent s) x (bits-to s allBits) e none) in
         let t = length-to s allBits in
         all-bits s allBits (omega arith)
 
     -- To write what was read from bytes without additions, with the parts taken from where they stand, leaves those bytes in the buffer, and later bytes as
     -- they were.
     pub read-written : (t : List ℕ) → Bytes s → Bytes t → bufferLeast ≤ length t → extended c (lent s) x ≡ false
-        → writeOut (foundFits c (one (lent s)) x) t (apduBits c (apduIn c (one (lent s)) x)) ≡ done (written.Bits (length (apduBits c (apduIn c (one (lent s)) x)))) (s ++ drop (length s) t)
+        → writeOut (foundFits c (one (lent s)) x) t (apduBits c (apduIn c (one (lent s)) x)) ≡ done
+        (written.Bits (length (apduBits c (apduIn c (one (lent s)) x)))) (s ++ drop (length s) t)
     unfolding writeOut
     read-written t hs ht g none =
         let m = apdu-most (apduIn c (one (lent s)) x) (accepted .fits) in
         let n = length-padded (apduBits c (apduIn c (one (lent s)) x)) in
-        let q : padded (apduBits c (apduIn c (one (lent s)) x)) ≡ bitsOf s = sym (plain-encoding (lent s) x (bits-to s allBits) e none) ∙ accepted-all none in
+        let q : padded (apduBits c (apduIn c (one (lent s)) x)) ≡ bitsOf s = sym
+        (plain-encoding (lent s) x (bits-to s allBits) e none) ∙ accepted-all none in
         let k : length (bitsOf s) ≡ length (padded (apduBits c (apduIn c (one (lent s)) x))) = ap length (sym q) in
         let z = length-bits s in
-        let p : putBits t 0 (padded (apduBits c (apduIn c (one (lent s)) x))) ≡ s ++ drop (length s) t = ap (putBits t 0) q ∙ put-bytes t s ht hs (omega arith) in
+        let p : putBits t 0 (padded (apduBits c (apduIn c (one (lent s)) x))) ≡ s ++ drop (length s) t = ap
+        (putBits t 0) q ∙ put-bytes t s ht hs (omega arith) in
         rw (le-ltb (length t) bufferLeast g, accepted .stands, p)
 
     -- To write what was read leaves the APDU with the additions gone at the front of the buffer, and later bytes as they were.
     pub read-stripped : (t : List ℕ) → bufferLeast ≤ length t
-        → writeOut (foundFits c (one (lent s)) x) t (apduBits c (apduIn c (one (lent s)) x)) ≡ done (written.Bits (length (apduBits c (apduIn c (one (lent s)) x)))) (putBits t 0 (strip c (lent s) x))
+        → writeOut (foundFits c (one (lent s)) x) t (apduBits c (apduIn c (one (lent s)) x)) ≡ done
+        (written.Bits (length (apduBits c (apduIn c (one (lent s)) x)))) (putBits t 0 (strip c (lent s) x))
     unfolding writeOut
     read-stripped t g = rw (le-ltb (length t) bufferLeast g, accepted .stands, accepted .bits)
 
@@ -225,7 +250,8 @@ module _ (b : Body) (laws : BodyLaws b) where
       let t = laws .written-read (padded (b .bits v)) 0 (length (b .bits v)) v (pad-bits (b .bits v) k) h (stands-front (b .bits v)) in
       record { content = t .content; read = rw (t .read, tail-padded (b .bits v)); same = t .same }
 
-  pub whole-written-read : (v : b .Value) (t : List ℕ) → Bits (b .bits v) → b .fits v ≡ true → bufferLeast ≤ length t → Whole b (lent (take (bytesFor (length (b .bits v))) (putBits t 0 (padded (b .bits v))))) v
+  pub whole-written-read : (v : b .Value) (t : List ℕ) → Bits (b .bits v) → b .fits v ≡ true → bufferLeast ≤ length t
+      → Whole b (lent (take (bytesFor (length (b .bits v))) (putBits t 0 (padded (b .bits v))))) v
   whole-written-read v t k h g =
       let m = laws .most v h in
       rw (front t (b .bits v) k (omega arith) g .bits) (whole-accepted v k h)
@@ -235,10 +261,13 @@ module _ (b : Body) (laws : BodyLaws b) where
   unfolding wholeAt
   whole-read l c next e = from (b .read l 0) refl e
     where
-      ended : (d : Content) (n : ℕ) (f : Field) → onto taken.Refused f (λ (v m : ℕ). taken.Is d n) ≡ taken.Is c next → taken.Is d n ≡ taken.Is c next
+      ended : (d : Content) (n : ℕ) (f : Field) → onto taken.Refused f (λ (v m : ℕ). taken.Is d n) ≡ taken.Is c next
+          → taken.Is d n ≡ taken.Is c next
       ended d n (Value v m) p = p
       ended d n (Refused r) p = never (cc)
 
-      from : (t : Taken) → b .read l 0 ≡ t → onTaken t (λ (d : Content) (n : ℕ). onto taken.Refused (tailAt l n) (λ (v m : ℕ). taken.Is d n)) ≡ taken.Is c next → b .read l 0 ≡ taken.Is c next
+      from : (t : Taken) → b .read l 0 ≡ t
+          → onTaken t (λ (d : Content) (n : ℕ). onto taken.Refused (tailAt l n) (λ (v m : ℕ). taken.Is d n)) ≡ taken.Is c next
+          → b .read l 0 ≡ taken.Is c next
       from (taken.Is d n) q p = q ∙ ended d n (tailAt l n) p
       from (taken.Refused r) q p = never (cc)

@@ -68,20 +68,24 @@ module _ (low high : ℕ) (less : low ≤ high) (l : List ℕ) where
       over true n next = refl
       over false n next = refl
 
-      by : (n next : ℕ) (b : Bool) → leb n low ≡ b → Meets Refused (cond (leb least n && leb n low) (Value n next) (refusedAt at Limit)) (cond (leb least n && leb n high) (Value n next) (refusedAt at Limit))
+      by : (n next : ℕ) (b : Bool) → leb n low ≡ b
+          → Meets Refused (cond (leb least n && leb n low) (Value n next) (refusedAt at Limit)) (cond (leb least n && leb n high) (Value n next) (refusedAt at Limit))
       by n next true p = let k = leb-true n low p in inl (rw (p, le-leb n high (omega arith)))
       by n next false p = inr (record { at = at; is = rw p (over (leb least n) n next) })
 
-      go : (f : Field) → Meets Refused (then f (λ (n next : ℕ). cond (leb least n && leb n low) (Value n next) (refusedAt at Limit))) (then f (λ (n next : ℕ). cond (leb least n && leb n high) (Value n next) (refusedAt at Limit)))
+      go : (f : Field)
+          → Meets Refused (then f (λ (n next : ℕ). cond (leb least n && leb n low) (Value n next) (refusedAt at Limit))) (then f (λ (n next : ℕ). cond (leb least n && leb n high) (Value n next) (refusedAt at Limit)))
       go (Value n next) = by n next (leb n low) refl
       go (Refused r) = inl refl
 
   string-meets : (at unit least : ℕ) → Meets Refused (stringAt l at unit least low) (stringAt l at unit least high)
   unfolding stringAt
   string-meets at unit least =
-      handed Refused Refused (λ (f : Field). then f (λ (n from : ℕ). contentsAt l from unit n)) (λ (r : Refusal). refl) _ _ (length-meets at least)
+      handed Refused Refused (λ (f : Field). then f (λ (n from : ℕ). contentsAt l from unit n))
+      (λ (r : Refusal). refl) _ _ (length-meets at least)
 
-  optional-meets : (there : Bool) (at unit least : ℕ) → Meets Refused (optionalAt l there at unit least low) (optionalAt l there at unit least high)
+  optional-meets : (there : Bool) (at unit least : ℕ)
+      → Meets Refused (optionalAt l there at unit least low) (optionalAt l there at unit least high)
   unfolding optionalAt
   optional-meets true at unit least = string-meets at unit least
   optional-meets false at unit least = inl refl
@@ -98,7 +102,8 @@ module _ (low high : ℕ) (less : low ≤ high) (l : List ℕ) where
       (λ (r : Refusal). refl) _ _ (optional-meets m p bit 0))
 
   -- additions, or none
-  added-meets : (plain : Bool) (t u : Taken) → Meets taken.Refused t u → Meets taken.Refused (cond plain t (withAdditions l t)) (cond plain u (withAdditions l u))
+  added-meets : (plain : Bool) (t u : Taken) → Meets taken.Refused t u
+      → Meets taken.Refused (cond plain t (withAdditions l t)) (cond plain u (withAdditions l u))
   unfolding withAdditions
   added-meets true t u m = m
   added-meets false t u m = handed taken.Refused taken.Refused (withAdditions l) (λ (r : Refusal). refl) t u m
@@ -128,9 +133,15 @@ module _ (low high : ℕ) (less : low ≤ high) (l : List ℕ) where
   unfolding restWithin
   rest-meets kind.AbortUser m at = inl refl
   rest-meets kind.AbortProvider m at = inl refl
-  rest-meets kind.Start m at = handed taken.Refused decoded.Refused (λ (t : Taken). onData t (λ (d : Data) (next : ℕ). endedAt l next (apdu.Start m d))) (λ (r : Refusal). refl) _ _ (data-meets at)
-  rest-meets kind.Send m at = handed taken.Refused decoded.Refused (λ (t : Taken). onData t (λ (d : Data) (next : ℕ). endedAt l next (apdu.Send d))) (λ (r : Refusal). refl) _ _ (data-meets at)
-  rest-meets kind.Forward m at = handed forwarded.Refused decoded.Refused (λ (t : Forwarded). onForward decoded.Refused t (λ (f : Forward) (next : ℕ). endedAt l next (apdu.Forward f))) (λ (r : Refusal). refl) _ _ (forward-meets at)
+  rest-meets kind.Start m at = handed taken.Refused decoded.Refused
+      (λ (t : Taken). onData t (λ (d : Data) (next : ℕ). endedAt l next (apdu.Start m d))) (λ (r : Refusal). refl) _
+      _ (data-meets at)
+  rest-meets kind.Send m at = handed taken.Refused decoded.Refused
+      (λ (t : Taken). onData t (λ (d : Data) (next : ℕ). endedAt l next (apdu.Send d))) (λ (r : Refusal). refl) _ _
+      (data-meets at)
+  rest-meets kind.Forward m at = handed forwarded.Refused decoded.Refused
+      (λ (t : Forwarded). onForward decoded.Refused t (λ (f : Forward) (next : ℕ). endedAt l next (apdu.Forward f)))
+      (λ (r : Refusal). refl) _ _ (forward-meets at)
   rest-meets kind.ForwardResponse m at = inl refl
 
   -- A CARD WITH A LOWER LIMIT answers to an APDU what one with a higher limit answers, or LIMIT
@@ -145,13 +156,17 @@ module _ (low high : ℕ) (less : low ≤ high) (l : List ℕ) where
   -- and to message data by itself
   pub whole-meets : Meets taken.Refused (wholeWithin low l) (wholeWithin high l)
   unfolding wholeWithin
-  whole-meets = handed taken.Refused taken.Refused (λ (t : Taken). onTaken t (λ (d : Data) (next : ℕ). onto taken.Refused (tailAt l next) (λ (v m : ℕ). taken.Is d next))) (λ (r : Refusal). refl) _ _ (data-meets 0)
+  whole-meets = handed taken.Refused taken.Refused (λ (t : Taken). onTaken t
+      (λ (d : Data) (next : ℕ). onto taken.Refused (tailAt l next) (λ (v m : ℕ). taken.Is d next)))
+      (λ (r : Refusal). refl) _ _ (data-meets 0)
 
   -- and to a forward message by itself
   pub forward-whole-meets : Meets forwarded.Refused (wholeForwardWithin low l) (wholeForwardWithin high l)
   unfolding wholeForwardWithin
   forward-whole-meets =
-      handed forwarded.Refused forwarded.Refused (λ (t : Forwarded). onForward forwarded.Refused t (λ (f : Forward) (next : ℕ). onto forwarded.Refused (tailAt l next) (λ (v m : ℕ). forwarded.Is f next))) (λ (r : Refusal). refl) _ _ (forward-meets 0)
+      handed forwarded.Refused forwarded.Refused (λ (t : Forwarded). onForward forwarded.Refused t
+      (λ (f : Forward) (next : ℕ). onto forwarded.Refused (tailAt l next) (λ (v m : ℕ). forwarded.Is f next)))
+      (λ (r : Refusal). refl) _ _ (forward-meets 0)
 
   -- what it accepts, the other accepts as the same: so what both accept is the same
   pub apdu-kept : (pdus : PduType) (at : ℕ) (a : Apdu) → apduWithin low pdus l at ≡ decoded.Is a → apduWithin high pdus l at ≡ decoded.Is a
@@ -175,7 +190,8 @@ module _ (limit : ℕ) (l : List ℕ) where
       let f = leb-true v limit (both-right (leb least v) (leb v limit) t) in
       omega arith)) p) e
 
-  optional-few : (there : Bool) (at unit least n next : ℕ) (x : Span) → optionalAt l there at unit least limit ≡ Value n next → partAt there unit n next ≡ Given x → x .count ≤ limit
+  optional-few : (there : Bool) (at unit least n next : ℕ) (x : Span)
+      → optionalAt l there at unit least limit ≡ Value n next → partAt there unit n next ≡ Given x → x .count ≤ limit
   unfolding optionalAt partAt
   optional-few true at unit least n next x e g =
       let k : n ≡ x .count = ap (λ (p : Part). countIn p) g in
@@ -220,15 +236,19 @@ module _ (limit : ℕ) (l : List ℕ) where
   -- what was ended is the APDU that was read
   ended-is : (at : ℕ) (a b : Apdu) → endedAt l at a ≡ decoded.Is b → a ≡ b
   unfolding endedAt
-  ended-is at a b e = on (a ≡ b) decoded.Refused (decoded.Is b) (λ (r : Refusal). answer-not b r) (tailAt l at) _ (λ (v n : ℕ) (p : tailAt l at ≡ Value v n) (q : decoded.Is a ≡ decoded.Is b). cc) e
+  ended-is at a b e = on (a ≡ b) decoded.Refused (decoded.Is b) (λ (r : Refusal). answer-not b r) (tailAt l at) _
+      (λ (v n : ℕ) (p : tailAt l at ≡ Value v n) (q : decoded.Is a ≡ decoded.Is b). cc) e
 
   abbrev Fewer : Apdu → Type 0
   Fewer a = (x : Span) → messageOf a ≡ Given x → x .count ≤ limit
 
-  behind-data : (at : ℕ) (made : Data → Apdu) → ((d : Data) → messageOf (made d) ≡ d .message) → (a : Apdu) → onData (dataWithin limit l at) (λ (d : Data) (next : ℕ). endedAt l next (made d)) ≡ decoded.Is a → Fewer a
+  behind-data : (at : ℕ) (made : Data → Apdu) → ((d : Data) → messageOf (made d) ≡ d .message) → (a : Apdu)
+      → onData (dataWithin limit l at) (λ (d : Data) (next : ℕ). endedAt l next (made d)) ≡ decoded.Is a → Fewer a
   behind-data at made same a e = go (dataWithin limit l at) refl e
     where
-      go : (t : Taken) → dataWithin limit l at ≡ t → onData t (λ (d : Data) (next : ℕ). endedAt l next (made d)) ≡ decoded.Is a → (x : Span) → messageOf a ≡ Given x → x .count ≤ limit
+      go : (t : Taken) → dataWithin limit l at ≡ t
+          → onData t (λ (d : Data) (next : ℕ). endedAt l next (made d)) ≡ decoded.Is a → (x : Span)
+          → messageOf a ≡ Given x → x .count ≤ limit
       go (taken.Is d next) p q x g = let k = ended-is next (made d) a q in data-few at next d p x (sym (same d) ∙ (ap messageOf k ∙ g))
       go (taken.Refused r) p q x g = answer-not a r q
 
@@ -251,22 +271,28 @@ module _ (limit : ℕ) (l : List ℕ) where
           omega arith) q
       go (headed.Refused r) q = not-is r q
 
-  behind-forward : (at : ℕ) (a : Apdu) → onForward decoded.Refused (forwardWithin limit l at) (λ (f : Forward) (next : ℕ). endedAt l next (apdu.Forward f)) ≡ decoded.Is a → Fewer a
+  behind-forward : (at : ℕ) (a : Apdu)
+      → onForward decoded.Refused (forwardWithin limit l at) (λ (f : Forward) (next : ℕ). endedAt l next (apdu.Forward f)) ≡ decoded.Is a
+      → Fewer a
   behind-forward at a e = go (forwardWithin limit l at) refl e
     where
       countIn : Part → ℕ
       countIn Absent = 0
       countIn (Given y) = y .count
 
-      go : (t : Forwarded) → forwardWithin limit l at ≡ t → onForward decoded.Refused t (λ (f : Forward) (next : ℕ). endedAt l next (apdu.Forward f)) ≡ decoded.Is a → (x : Span) → messageOf a ≡ Given x → x .count ≤ limit
+      go : (t : Forwarded) → forwardWithin limit l at ≡ t
+          → onForward decoded.Refused t (λ (f : Forward) (next : ℕ). endedAt l next (apdu.Forward f)) ≡ decoded.Is a
+          → (x : Span) → messageOf a ≡ Given x → x .count ≤ limit
       go (forwarded.Is f next) p q x g =
           let k : f .message .count ≡ x .count = ap (λ (y : Part). countIn y) (ap messageOf (ended-is next (apdu.Forward f) a q) ∙ g) in
           let c = forward-few at next f p in
           omega arith
       go (forwarded.Refused r) p q x g = answer-not a r q
 
-  abort-none : (f : Field) (made : ℕ → Apdu) → ((r : ℕ) → messageOf (made r) ≡ Absent) → (a : Apdu) → onto decoded.Refused f (λ (r next : ℕ). endedAt l next (made r)) ≡ decoded.Is a → Fewer a
-  abort-none (Value r next) made none a e x g = let k = ended-is next (made r) a e in let z : Absent ≡ Given x = sym (none r) ∙ (ap messageOf k ∙ g) in never (cc)
+  abort-none : (f : Field) (made : ℕ → Apdu) → ((r : ℕ) → messageOf (made r) ≡ Absent) → (a : Apdu)
+      → onto decoded.Refused f (λ (r next : ℕ). endedAt l next (made r)) ≡ decoded.Is a → Fewer a
+  abort-none (Value r next) made none a e x g = let k = ended-is next (made r) a e in let z : Absent ≡ Given x = sym
+      (none r) ∙ (ap messageOf k ∙ g) in never (cc)
   abort-none (Refused r) made none a e x g = answer-not a r e
 
   rest-few : (k : Kind) (m at : ℕ) (a : Apdu) → restWithin limit l k m at ≡ decoded.Is a → Fewer a
@@ -278,7 +304,8 @@ module _ (limit : ℕ) (l : List ℕ) where
   rest-few kind.Forward m at a e x g = behind-forward at a e x g
   rest-few kind.ForwardResponse m at a e x g = abort-none (extensibleIndex l at responseLast) apdu.ForwardResponse (λ (r : ℕ). refl) a e x g
 
-  pub apdu-few : (pdus : PduType) (at : ℕ) (a : Apdu) (x : Span) → apduWithin limit pdus l at ≡ decoded.Is a → messageOf a ≡ Given x → x .count ≤ limit
+  pub apdu-few : (pdus : PduType) (at : ℕ) (a : Apdu) (x : Span) → apduWithin limit pdus l at ≡ decoded.Is a
+      → messageOf a ≡ Given x → x .count ≤ limit
   unfolding apduWithin
   apdu-few pdus at a x e g = go (leadingAt pdus l at) e
     where
@@ -287,7 +314,9 @@ module _ (limit : ℕ) (l : List ℕ) where
       go (lead.Refused r) q = answer-not a r q
 
 -- A LONGER MESSAGE: what the card with the higher limit accepts, and whose message passes the lower limit, is LIMIT there
-pub apdu-longer : (low high : ℕ) → low ≤ high → (l : List ℕ) (pdus : PduType) (at : ℕ) (a : Apdu) (x : Span) → apduWithin high pdus l at ≡ decoded.Is a → messageOf a ≡ Given x → low < x .count → Limited decoded.Refused (apduWithin low pdus l at)
+pub apdu-longer : (low high : ℕ) → low ≤ high → (l : List ℕ) (pdus : PduType) (at : ℕ) (a : Apdu) (x : Span)
+    → apduWithin high pdus l at ≡ decoded.Is a → messageOf a ≡ Given x → low < x .count
+    → Limited decoded.Refused (apduWithin low pdus l at)
 apdu-longer low high less l pdus at a x e g over = go (apdu-meets low high less l pdus at)
   where
     go : Meets decoded.Refused (apduWithin low pdus l at) (apduWithin high pdus l at) → Limited decoded.Refused (apduWithin low pdus l at)

@@ -39,15 +39,18 @@ earlier-apdu l pdus at = apdu-meets earlierBits messageMost (lit≤ tt) l pdus a
 pub earlier-data : (l : List ℕ) → Meets taken.Refused (wholeWithin earlierBits l) (wholeData l)
 earlier-data l = whole-meets earlierBits messageMost (lit≤ tt) l
 
-pub earlier-longer : (l : List ℕ) (pdus : PduType) (at : ℕ) (a : Apdu) (x : Span) → apduAt pdus l at ≡ decoded.Is a → messageOf a ≡ Given x → earlierBits < x .count → Limited decoded.Refused (apduWithin earlierBits pdus l at)
+pub earlier-longer : (l : List ℕ) (pdus : PduType) (at : ℕ) (a : Apdu) (x : Span) → apduAt pdus l at ≡ decoded.Is a
+    → messageOf a ≡ Given x → earlierBits < x .count → Limited decoded.Refused (apduWithin earlierBits pdus l at)
 earlier-longer l pdus at a x e g over = apdu-longer earlierBits messageMost (lit≤ tt) l pdus at a x e g over
 
 -- "and shows nothing of it": to a machine it is no valid PDU, and there are no message data and no forward message
-pub shows-nothing : (l : List ℕ) (pdus : PduType) (at : ℕ) → Limited decoded.Refused (apduWithin earlierBits pdus l at) → (meaning (apduWithin earlierBits pdus l at) ≡ NotValid) × (dataOf (apduWithin earlierBits pdus l at) ≡ noData) × (forwardOf (apduWithin earlierBits pdus l at) ≡ noForward)
+pub shows-nothing : (l : List ℕ) (pdus : PduType) (at : ℕ) → Limited decoded.Refused (apduWithin earlierBits pdus l at)
+    → (meaning (apduWithin earlierBits pdus l at) ≡ NotValid) × (dataOf (apduWithin earlierBits pdus l at) ≡ noData) × (forwardOf (apduWithin earlierBits pdus l at) ≡ noForward)
 unfolding meaning dataOf forwardOf
 shows-nothing l pdus at x = (rw (x .is), rw (x .is), rw (x .is))
 
-pub earlier-envelope : (s : List ℕ) (at : ℕ) → (envelopeAt earlierBits s at ≡ envelopeAt mostBits s at) ⊎ (envelopeAt earlierBits s at ≡ Refused Size)
+pub earlier-envelope : (s : List ℕ) (at : ℕ)
+    → (envelopeAt earlierBits s at ≡ envelopeAt mostBits s at) ⊎ (envelopeAt earlierBits s at ≡ Refused Size)
 earlier-envelope s at = envelope-narrow earlierBits mostBits (lit≤ tt) s at
 
 pub stored-envelope : (s : List ℕ) (at : ℕ) (e : Envelope) → envelopeAt earlierBits s at ≡ Is e → envelopeAt mostBits s at ≡ Is e
@@ -90,7 +93,8 @@ lengths-now = refl
 -- the bit counts 2,049 and 16,383 without their bodies: refused at the count before E3, read now; 16,384 is refused at both limits
 abbrev pub counted : ℕ → List EnvelopeRead
 counted limit =
-    envelopeAt limit (0x01 ∷ 0x01 ∷ 0x81 ∷ 0x10 ∷ []) 0 ∷ envelopeAt limit (0x01 ∷ 0x01 ∷ 0xFF ∷ 0x7F ∷ []) 0 ∷ envelopeAt limit (0x01 ∷ 0x01 ∷ 0x80 ∷ 0x80 ∷ 0x01 ∷ []) 0 ∷ []
+    envelopeAt limit (0x01 ∷ 0x01 ∷ 0x81 ∷ 0x10 ∷ []) 0 ∷ envelopeAt limit (0x01 ∷ 0x01 ∷ 0xFF ∷ 0x7F ∷ []) 0 ∷
+    envelopeAt limit (0x01 ∷ 0x01 ∷ 0x80 ∷ 0x80 ∷ 0x01 ∷ []) 0 ∷ []
 
 pub counts-before : counted earlierBits ≡ Refused Size ∷ Refused Size ∷ Refused Size ∷ []
 unfolding numberIn numberAt isKind sizeFits bytesFor isPadded bodyAt sizeAt jobAt kindAt envelopeAt

@@ -36,7 +36,8 @@ module _ (low high : ℕ) (less : low ≤ high) (s : List ℕ) where
       go (inr q) = let z : Is e ≡ Refused Size = sym p ∙ q in never (cc)
 
   -- A LONGER ENVELOPE, which the higher limit accepts, is SIZE at the lower one
-  pub envelope-longer : (at : ℕ) (e : Envelope) → AllBytes s → envelopeAt high s at ≡ Is e → low < e .bits → envelopeAt low s at ≡ Refused Size
+  pub envelope-longer : (at : ℕ) (e : Envelope) → AllBytes s → envelopeAt high s at ≡ Is e → low < e .bits
+      → envelopeAt low s at ≡ Refused Size
   envelope-longer at e b p over = go (envelope-narrow low high less s at)
     where
       go : (envelopeAt low s at ≡ envelopeAt high s at) ⊎ (envelopeAt low s at ≡ Refused Size) → envelopeAt low s at ≡ Refused Size
@@ -49,11 +50,17 @@ module _ (low high : ℕ) (less : low ≤ high) (s : List ℕ) where
   walk-from zero at n h = refl
   walk-from (suc f) at n h = go (λ (next : ℕ) (q : walkFrom low s f next .ending ≡ ended n). walk-from f next n q) (leb (length s) at) h
     where
-      read : ((next : ℕ) → walkFrom low s f next .ending ≡ ended n → walkFrom high s f next ≡ walkFrom low s f next) → (x : EnvelopeRead) → envelopeAt low s at ≡ x → onRead x at (λ (e : Envelope). walkFrom low s f (e .next)) .ending ≡ ended n → onRead (envelopeAt high s at) at (λ (e : Envelope). walkFrom high s f (e .next)) ≡ onRead x at (λ (e : Envelope). walkFrom low s f (e .next))
+      read : ((next : ℕ) → walkFrom low s f next .ending ≡ ended n → walkFrom high s f next ≡ walkFrom low s f next)
+          → (x : EnvelopeRead) → envelopeAt low s at ≡ x
+          → onRead x at (λ (e : Envelope). walkFrom low s f (e .next)) .ending ≡ ended n
+          → onRead (envelopeAt high s at) at (λ (e : Envelope). walkFrom high s f (e .next)) ≡ onRead x at (λ (e : Envelope). walkFrom low s f (e .next))
       read more (Is e) p q = rw (envelope-kept at e p, more (e .next) q)
       read more (Refused r) p q = never (cc)
 
-      go : ((next : ℕ) → walkFrom low s f next .ending ≡ ended n → walkFrom high s f next ≡ walkFrom low s f next) → (b : Bool) → cond b (ends (ended at)) (onRead (envelopeAt low s at) at (λ (e : Envelope). walkFrom low s f (e .next))) .ending ≡ ended n → cond b (ends (ended at)) (onRead (envelopeAt high s at) at (λ (e : Envelope). walkFrom high s f (e .next))) ≡ cond b (ends (ended at)) (onRead (envelopeAt low s at) at (λ (e : Envelope). walkFrom low s f (e .next)))
+      go : ((next : ℕ) → walkFrom low s f next .ending ≡ ended n → walkFrom high s f next ≡ walkFrom low s f next)
+          → (b : Bool)
+          → cond b (ends (ended at)) (onRead (envelopeAt low s at) at (λ (e : Envelope). walkFrom low s f (e .next))) .ending ≡ ended n
+          → cond b (ends (ended at)) (onRead (envelopeAt high s at) at (λ (e : Envelope). walkFrom high s f (e .next))) ≡ cond b (ends (ended at)) (onRead (envelopeAt low s at) at (λ (e : Envelope). walkFrom low s f (e .next)))
       go more true q = refl
       go more false q = read more (envelopeAt low s at) refl q
 
@@ -69,9 +76,12 @@ module _ (low high : ℕ) (less : low ≤ high) (kind job bits : ℕ) (body : Li
   fits-kept =
       let rest : Bool = leb (bytesFor bits) (length body) && isPadded bits body in
       let size = sizeFits low kind bits in
-      let t = both-left size rest (both-right (not (eqb job 0)) (size && rest) (both-right (isKind kind) (not (eqb job 0) && (size && rest)) e)) in
+      let t = both-left size rest
+      (both-right (not (eqb job 0)) (size && rest) (both-right (isKind kind) (not (eqb job 0) && (size && rest)) e))
+      in
       rw (fits-more low high kind bits less t) (rw t at e)
 
-  pub written-kept : (room more : ℕ) (out : List ℕ) → room ≤ length out → more ≤ length out → writeEnvelope more high out kind job bits body ≡ writeEnvelope room low out kind job bits body
+  pub written-kept : (room more : ℕ) (out : List ℕ) → room ≤ length out → more ≤ length out
+      → writeEnvelope more high out kind job bits body ≡ writeEnvelope room low out kind job bits body
   unfolding writeEnvelope
   written-kept room more out a b = rw (le-ltb (length out) room a, le-ltb (length out) more b, e, fits-kept)

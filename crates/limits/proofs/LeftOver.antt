@@ -93,11 +93,15 @@ module _ (l : List ℕ) (G : Refusal → Type 0) where
 
   extension-spares : (at : ℕ) → Spares Refused (extensionBit l at)
   unfolding extensionBit
-  extension-spares at = then-spares (bitField l at 1) _ (bits-spare at 1) (λ (b n : ℕ). cond-spares (eqb b 0) (Value 0 n) (refusedAt at Extension) (value-spares 0 n) (other-spares at Extension (λ (e : Extension ≡ Limit). never (cc))))
+  extension-spares at = then-spares (bitField l at 1) _ (bits-spare at 1) (λ (b n : ℕ). cond-spares (eqb b 0)
+      (Value 0 n) (refusedAt at Extension) (value-spares 0 n)
+      (other-spares at Extension (λ (e : Extension ≡ Limit). never (cc))))
 
   whole-spares : (at lo hi : ℕ) → Spares Refused (wholeNumber l at lo hi)
   unfolding wholeNumber
-  whole-spares at lo hi = then-spares (bitField l at (widthOf (hi - lo))) _ (bits-spare at (widthOf (hi - lo))) (λ (d n : ℕ). cond-spares (leb (lo + d) hi) (Value (lo + d) n) (refusedAt at Range) (value-spares (lo + d) n) (other-spares at Range (λ (e : Range ≡ Limit). never (cc))))
+  whole-spares at lo hi = then-spares (bitField l at (widthOf (hi - lo))) _ (bits-spare at (widthOf (hi - lo))) (λ
+      (d n : ℕ). cond-spares (leb (lo + d) hi) (Value (lo + d) n) (refusedAt at Range) (value-spares (lo + d) n)
+      (other-spares at Range (λ (e : Range ≡ Limit). never (cc))))
 
   index-spares : (at last : ℕ) → Spares Refused (extensibleIndex l at last)
   unfolding extensibleIndex
@@ -111,13 +115,16 @@ module _ (l : List ℕ) (G : Refusal → Type 0) where
       then-spares (bitField l at 8) (lengthFrom l at) (bits-spare at 8) (λ (b n : ℕ).
       cond-spares (ltb b 128) (Value b n) _ (value-spares b n)
       (cond-spares (leb 192 b) (refusedAt at LengthForm) _ (form at)
-      (then-spares (bitField l at 16) (longLength at) (bits-spare at 16) (λ (v m : ℕ). cond-spares (ltb v (32768 + 128)) (refusedAt at LengthForm) (Value (v - 32768) m) (form at) (value-spares (v - 32768) m)))))
+      (then-spares (bitField l at 16) (longLength at) (bits-spare at 16) (λ (v m : ℕ). cond-spares
+      (ltb v (32768 + 128)) (refusedAt at LengthForm) (Value (v - 32768) m) (form at)
+      (value-spares (v - 32768) m)))))
 
   pub message-length : (at : ℕ) → Bits l → lengthWithin l at 0 messageMost ≡ lengthAt l at
   unfolding lengthWithin
   message-length at b = go (lengthAt l at) refl
     where
-      go : (f : Field) → lengthAt l at ≡ f → then f (λ (n next : ℕ). cond (leb 0 n && leb n messageMost) (Value n next) (refusedAt at Limit)) ≡ f
+      go : (f : Field) → lengthAt l at ≡ f
+          → then f (λ (n next : ℕ). cond (leb 0 n && leb n messageMost) (Value n next) (refusedAt at Limit)) ≡ f
       go (Value n next) p =
           let k = ltb-true n 16384 (length-determinant .read-fits l at n next b p) in
           rw (le-leb 0 n (omega arith), le-leb n messageMost (omega arith))
@@ -128,7 +135,8 @@ module _ (l : List ℕ) (G : Refusal → Type 0) where
   string-spares b at =
       rw (message-length at b)
       (then-spares (lengthAt l at) _ (length-spares at) (λ (n from : ℕ).
-      cond-spares (leb (from + bit * n) (length l)) (Value n (from + bit * n)) (refusedAt from Short) (value-spares n (from + bit * n)) (short from)))
+      cond-spares (leb (from + bit * n) (length l)) (Value n (from + bit * n)) (refusedAt from Short)
+      (value-spares n (from + bit * n)) (short from)))
 
   message-spares : Bits l → (there : Bool) (at : ℕ) → Spares Refused (optionalAt l there at bit 0 messageMost)
   unfolding optionalAt
@@ -150,7 +158,9 @@ module _ (l : List ℕ) (G : Refusal → Type 0) where
 
   -- ---- what is left
 
-  identifier-left : (there : Bool) (at : ℕ) → ((r : Refusal) → there ≡ true → stringAt l at octet identifierLeast identifierMost ≡ Refused r → G r) → Spares Refused (optionalAt l there at octet identifierLeast identifierMost)
+  identifier-left : (there : Bool) (at : ℕ)
+      → ((r : Refusal) → there ≡ true → stringAt l at octet identifierLeast identifierMost ≡ Refused r → G r)
+      → Spares Refused (optionalAt l there at octet identifierLeast identifierMost)
   unfolding optionalAt
   identifier-left true at h r e f = h r refl e
   identifier-left false at h r e f = never (cc)
@@ -177,29 +187,35 @@ module _ (l : List ℕ) (G : Refusal → Type 0) where
 
   parts-spare : Bits l → (at : ℕ) (i m : Bool)
       → ((r : Refusal) → i ≡ true → stringAt l at octet identifierLeast identifierMost ≡ Refused r → G r)
-      → ((r : Refusal) (n p k q : ℕ) → optionalAt l i at octet identifierLeast identifierMost ≡ Value n p → optionalAt l m p bit 0 messageMost ≡ Value k q → stringAt l q bit 0 checkMost ≡ Refused r → G r)
+      → ((r : Refusal) (n p k q : ℕ) → optionalAt l i at octet identifierLeast identifierMost ≡ Value n p → optionalAt l
+      m p bit 0 messageMost ≡ Value k q → stringAt l q bit 0 checkMost ≡ Refused r → G r)
       → Spares taken.Refused (partsAt l at i m)
   unfolding partsWithin
   parts-spare b at i m h g =
       on-read taken.Refused taken-one (optionalAt l i at octet identifierLeast identifierMost) _ (identifier-left i at h) (λ (octets p : ℕ) (u : optionalAt l i at octet identifierLeast identifierMost ≡ Value octets p).
       on-read taken.Refused taken-one (optionalAt l m p bit 0 messageMost) _ (message-spares b m p) (λ (bits q : ℕ) (w : optionalAt l m p bit 0 messageMost ≡ Value bits q).
-      on-spares taken.Refused taken-one (stringAt l q bit 0 checkMost) _ (λ (r : Refusal) (e : stringAt l q bit 0 checkMost ≡ Refused r) (f : r .fault ≡ Limit). g r octets p bits q u w e) (λ (n next : ℕ). taken-spares _ next)))
+      on-spares taken.Refused taken-one (stringAt l q bit 0 checkMost) _ (λ (r : Refusal)
+      (e : stringAt l q bit 0 checkMost ≡ Refused r) (f : r .fault ≡ Limit). g r octets p bits q u w e)
+      (λ (n next : ℕ). taken-spares _ next)))
 
   -- additions have no limit
   count-spares : (at : ℕ) → Spares Refused (additionCount l at)
   unfolding additionCount
-  count-spares at = then-spares (extensionBit l at) _ (extension-spares at) (λ (b p : ℕ). then-spares (bitField l at 7) _ (bits-spare at 7) (λ (v n : ℕ). value-spares (v + 1) n))
+  count-spares at = then-spares (extensionBit l at) _ (extension-spares at)
+      (λ (b p : ℕ). then-spares (bitField l at 7) _ (bits-spare at 7) (λ (v n : ℕ). value-spares (v + 1) n))
 
   there-spares : (at n : ℕ) → Spares Refused (additionsThere l at n)
   unfolding additionsThere
   there-spares at n =
       then-spares (bitField l at n) _ (bits-spare at n) (λ (v m : ℕ).
-      cond-spares (eqb v 0) (refusedAt at Extension) (Value v m) (other-spares at Extension (λ (e : Extension ≡ Limit). never (cc))) (value-spares v m))
+      cond-spares (eqb v 0) (refusedAt at Extension) (Value v m)
+      (other-spares at Extension (λ (e : Extension ≡ Limit). never (cc))) (value-spares v m))
 
   addition-spares : (at : ℕ) → Spares Refused (additionAt l at)
   unfolding additionAt runAt
   addition-spares at =
-      then-spares (lengthAt l at) _ (length-spares at) (λ (n from : ℕ). cond-spares (leb (from + 8 * n) (length l)) (Value n (from + 8 * n)) (refusedAt from Short) (value-spares n (from + 8 * n)) (short from))
+      then-spares (lengthAt l at) _ (length-spares at) (λ (n from : ℕ). cond-spares (leb (from + 8 * n) (length l))
+      (Value n (from + 8 * n)) (refusedAt from Short) (value-spares n (from + 8 * n)) (short from))
 
   stepped-spares : (k at : ℕ) → Spares Refused (steppedOver l at k)
   unfolding steppedOver
@@ -209,12 +225,14 @@ module _ (l : List ℕ) (G : Refusal → Type 0) where
   additions-spare : (at : ℕ) → Spares Refused (additionsAt l at)
   unfolding additionsAt
   additions-spare at =
-      then-spares (additionCount l at) _ (count-spares at) (λ (n p : ℕ). then-spares (additionsThere l p n) _ (there-spares p n) (λ (v q : ℕ). stepped-spares (ones v) q))
+      then-spares (additionCount l at) _ (count-spares at) (λ (n p : ℕ). then-spares (additionsThere l p n) _
+      (there-spares p n) (λ (v q : ℕ). stepped-spares (ones v) q))
 
   added-spares : (plain : Bool) (t : Taken) → Spares taken.Refused t → Spares taken.Refused (cond plain t (withAdditions l t))
   unfolding withAdditions
   added-spares true t a = a
-  added-spares false (taken.Is d n) a = on-spares taken.Refused taken-one (additionsAt l n) _ (additions-spare n) (λ (v after : ℕ). taken-spares d after)
+  added-spares false (taken.Is d n) a = on-spares taken.Refused taken-one (additionsAt l n) _ (additions-spare n)
+      (λ (v after : ℕ). taken-spares d after)
   added-spares false (taken.Refused r) a = a
 
   data-spares : Bits l → (at : ℕ) → ((r : Refusal) → InRoot l at r → G r) → Spares taken.Refused (dataAt l at)
@@ -223,8 +241,11 @@ module _ (l : List ℕ) (G : Refusal → Type 0) where
       on-read taken.Refused taken-one (bitField l at 1) _ (bits-spare at 1) (λ (e p : ℕ) (u : bitField l at 1 ≡ Value e p).
       on-read taken.Refused taken-one (bitField l p 2) _ (bits-spare p 2) (λ (v q : ℕ) (w : bitField l p 2 ≡ Value v q).
       added-spares (eqb e 0) (partsAt l q (leb 2 v) (eqb (v % 2) 1)) (parts-spare b q (leb 2 v) (eqb (v % 2) 1)
-      (λ (r : Refusal) (t : leb 2 v ≡ true) (f : stringAt l q octet identifierLeast identifierMost ≡ Refused r). g r (identifier e p v q u w t f))
-      (λ (r : Refusal) (n x k y : ℕ) (i : optionalAt l (leb 2 v) q octet identifierLeast identifierMost ≡ Value n x) (m : optionalAt l (eqb (v % 2) 1) x bit 0 messageMost ≡ Value k y) (f : stringAt l y bit 0 checkMost ≡ Refused r). g r (check e p v q u w n x k y i m f)))))
+      (λ (r : Refusal) (t : leb 2 v ≡ true) (f : stringAt l q octet identifierLeast identifierMost ≡ Refused r). g r
+      (identifier e p v q u w t f))
+      (λ (r : Refusal) (n x k y : ℕ) (i : optionalAt l (leb 2 v) q octet identifierLeast identifierMost ≡ Value n x)
+      (m : optionalAt l (eqb (v % 2) 1) x bit 0 messageMost ≡ Value k y)
+      (f : stringAt l y bit 0 checkMost ≡ Refused r). g r (check e p v q u w n x k y i m f)))))
 
   -- ---- a forward message
 
@@ -251,9 +272,11 @@ module _ (l : List ℕ) (G : Refusal → Type 0) where
   triple-spares at lo hi =
       on-spares triples.Refused triples-one (wholeNumber l at (lo .first) (hi .first)) _ (whole-spares at (lo .first) (hi .first)) (λ (x p : ℕ).
       on-spares triples.Refused triples-one (wholeNumber l p (lo .second) (hi .second)) _ (whole-spares p (lo .second) (hi .second)) (λ (y q : ℕ).
-      on-spares triples.Refused triples-one (wholeNumber l q (lo .third) (hi .third)) _ (whole-spares q (lo .third) (hi .third)) (λ (z n : ℕ). triples-spare (triple x y z) n)))
+      on-spares triples.Refused triples-one (wholeNumber l q (lo .third) (hi .third)) _
+      (whole-spares q (lo .third) (hi .third)) (λ (z n : ℕ). triples-spare (triple x y z) n)))
 
-  on-triple : (t : Triples) (k : Triple → ℕ → Headed) → Spares triples.Refused t → ((v : Triple) (n : ℕ) → Spares headed.Refused (k v n)) → Spares headed.Refused (onTriple t k)
+  on-triple : (t : Triples) (k : Triple → ℕ → Headed) → Spares triples.Refused t
+      → ((v : Triple) (n : ℕ) → Spares headed.Refused (k v n)) → Spares headed.Refused (onTriple t k)
   on-triple (triples.Is v n) k a b x e f = b v n x e f
   on-triple (triples.Refused r) k a b x e f = a x (ap triples.Refused (headed-one r x e)) f
 
@@ -268,7 +291,8 @@ module _ (l : List ℕ) (G : Refusal → Type 0) where
       on-spares headed.Refused headed-one (wholeNumber l c 0 directionLast) _ (whole-spares c 0 directionLast) (λ (z m : ℕ).
       headed-spares (record { date = d; time = t; characters = n; flight = x; address = y; direction = z }) m))))))
 
-  on-heading : (t : Headed) (k : Heading → ℕ → Forwarded) → Spares headed.Refused t → ((h : Heading) (n : ℕ) → Spares forwarded.Refused (k h n)) → Spares forwarded.Refused (onHeading t k)
+  on-heading : (t : Headed) (k : Heading → ℕ → Forwarded) → Spares headed.Refused t
+      → ((h : Heading) (n : ℕ) → Spares forwarded.Refused (k h n)) → Spares forwarded.Refused (onHeading t k)
   on-heading (headed.Is h n) k a b x e f = b h n x e f
   on-heading (headed.Refused r) k a b x e f = a x (ap headed.Refused (forwarded-one r x e)) f
 
@@ -286,7 +310,9 @@ module _ (l : List ℕ) (G : Refusal → Type 0) where
   mode-spares AircraftPdus at =
       then-spares (bitField l at 1) _ (bits-spare at 1) (λ (p n : ℕ).
       cond-spares (eqb p 0) (Value 0 n) _ (value-spares 0 n)
-      (then-spares (wholeNumber l n 0 modeLast) _ (whole-spares n 0 modeLast) (λ (m k : ℕ). cond-spares (eqb m 0) (refusedAt n Default) (Value m k) (other-spares n Default (λ (e : Default ≡ Limit). never (cc))) (value-spares m k))))
+      (then-spares (wholeNumber l n 0 modeLast) _ (whole-spares n 0 modeLast) (λ (m k : ℕ). cond-spares (eqb m 0)
+      (refusedAt n Default) (Value m k) (other-spares n Default (λ (e : Default ≡ Limit). never (cc)))
+      (value-spares m k))))
 
   kind-spares : (pdus : PduType) (k : Kind) (at : ℕ) → Spares Refused (kindMode pdus l k at)
   unfolding kindMode
@@ -301,13 +327,15 @@ module _ (l : List ℕ) (G : Refusal → Type 0) where
   unfolding leadingAt
   leading-spares pdus at =
       on-spares lead.Refused lead-one (extensibleIndex l at (lastOf pdus)) _ (index-spares at (lastOf pdus)) (λ (i p : ℕ).
-      on-spares lead.Refused lead-one (kindMode pdus l (kindOf i) p) _ (kind-spares pdus (kindOf i) p) (λ (m q : ℕ). lead-spares (kindOf i) m q))
+      on-spares lead.Refused lead-one (kindMode pdus l (kindOf i) p) _ (kind-spares pdus (kindOf i) p)
+      (λ (m q : ℕ). lead-spares (kindOf i) m q))
 
   tail-spares : (at : ℕ) → Spares Refused (tailAt l at)
   unfolding tailAt
   tail-spares at =
       then-spares (bitField l at (padding at)) _ (bits-spare at (padding at)) (λ (v next : ℕ).
-      cond-spares (eqb v 0) _ _ (cond-spares (leb (next + 1) (length l)) (refusedAt next Tail) (Value 0 next) (tail next) (value-spares 0 next)) (tail (next - widthOf v)))
+      cond-spares (eqb v 0) _ _ (cond-spares (leb (next + 1) (length l)) (refusedAt next Tail) (Value 0 next)
+      (tail next) (value-spares 0 next)) (tail (next - widthOf v)))
     where
       tail : (n : ℕ) → Spares Refused (refusedAt n Tail)
       tail n = other-spares n Tail (λ (e : Tail ≡ Limit). never (cc))
@@ -318,7 +346,8 @@ module _ (l : List ℕ) (G : Refusal → Type 0) where
 
   -- ---- an APDU, and message data by itself
 
-  on-data : (t : Taken) (k : Data → ℕ → Decoded) → Spares taken.Refused t → ((d : Data) (n : ℕ) → Spares decoded.Refused (k d n)) → Spares decoded.Refused (onData t k)
+  on-data : (t : Taken) (k : Data → ℕ → Decoded) → Spares taken.Refused t
+      → ((d : Data) (n : ℕ) → Spares decoded.Refused (k d n)) → Spares decoded.Refused (onData t k)
   on-data (taken.Is d n) k a b x e f = b d n x e f
   on-data (taken.Refused r) k a b x e f = a x (ap taken.Refused (answer-one r x e)) f
 
@@ -326,16 +355,25 @@ module _ (l : List ℕ) (G : Refusal → Type 0) where
   on-forward up one (forwarded.Is y n) k a b x e f = b y n x e f
   on-forward up one (forwarded.Refused r) k a b x e f = a x (ap forwarded.Refused (one r x e)) f
 
-  rest-spares : Bits l → (k : Kind) (m at : ℕ) → (holdsData k ≡ true → (r : Refusal) → InRoot l at r → G r) → Spares decoded.Refused (restWithin messageMost l k m at)
+  rest-spares : Bits l → (k : Kind) (m at : ℕ) → (holdsData k ≡ true → (r : Refusal) → InRoot l at r → G r)
+      → Spares decoded.Refused (restWithin messageMost l k m at)
   unfolding restWithin
-  rest-spares b kind.AbortUser m at g = on-spares decoded.Refused answer-one (extensibleIndex l at userLast) _ (index-spares at userLast) (λ (r next : ℕ). ended-spares next (apdu.AbortUser r))
-  rest-spares b kind.AbortProvider m at g = on-spares decoded.Refused answer-one (extensibleIndex l at providerLast) _ (index-spares at providerLast) (λ (r next : ℕ). ended-spares next (apdu.AbortProvider r))
-  rest-spares b kind.Start m at g = on-data (dataAt l at) _ (data-spares b at (g refl)) (λ (d : Data) (next : ℕ). ended-spares next (apdu.Start m d))
-  rest-spares b kind.Send m at g = on-data (dataAt l at) _ (data-spares b at (g refl)) (λ (d : Data) (next : ℕ). ended-spares next (apdu.Send d))
-  rest-spares b kind.Forward m at g = on-forward decoded.Refused answer-one (forwardAt l at) _ (forward-spares b at) (λ (y : Forward) (next : ℕ). ended-spares next (apdu.Forward y))
-  rest-spares b kind.ForwardResponse m at g = on-spares decoded.Refused answer-one (extensibleIndex l at responseLast) _ (index-spares at responseLast) (λ (r next : ℕ). ended-spares next (apdu.ForwardResponse r))
+  rest-spares b kind.AbortUser m at g = on-spares decoded.Refused answer-one (extensibleIndex l at userLast) _
+      (index-spares at userLast) (λ (r next : ℕ). ended-spares next (apdu.AbortUser r))
+  rest-spares b kind.AbortProvider m at g = on-spares decoded.Refused answer-one (extensibleIndex l at providerLast) _
+      (index-spares at providerLast) (λ (r next : ℕ). ended-spares next (apdu.AbortProvider r))
+  rest-spares b kind.Start m at g = on-data (dataAt l at) _ (data-spares b at (g refl))
+      (λ (d : Data) (next : ℕ). ended-spares next (apdu.Start m d))
+  rest-spares b kind.Send m at g = on-data (dataAt l at) _ (data-spares b at (g refl))
+      (λ (d : Data) (next : ℕ). ended-spares next (apdu.Send d))
+  rest-spares b kind.Forward m at g = on-forward decoded.Refused answer-one (forwardAt l at) _ (forward-spares b at)
+      (λ (y : Forward) (next : ℕ). ended-spares next (apdu.Forward y))
+  rest-spares b kind.ForwardResponse m at g = on-spares decoded.Refused answer-one (extensibleIndex l at responseLast) _
+      (index-spares at responseLast) (λ (r next : ℕ). ended-spares next (apdu.ForwardResponse r))
 
-  lead-left : Bits l → (pdus : PduType) → ((k : Kind) (m at : ℕ) → leadingAt pdus l 0 ≡ lead.Is k m at → holdsData k ≡ true → (r : Refusal) → InRoot l at r → G r) → Spares decoded.Refused (apduAt pdus l 0)
+  lead-left : Bits l → (pdus : PduType)
+      → ((k : Kind) (m at : ℕ) → leadingAt pdus l 0 ≡ lead.Is k m at → holdsData k ≡ true → (r : Refusal) → InRoot l at r → G r)
+      → Spares decoded.Refused (apduAt pdus l 0)
   unfolding apduWithin
   lead-left b pdus g = go (leadingAt pdus l 0) refl (leading-spares pdus 0)
     where
@@ -347,7 +385,8 @@ module _ (l : List ℕ) (G : Refusal → Type 0) where
   unfolding wholeWithin
   whole-left b g = go (dataAt l 0) (data-spares b 0 g)
     where
-      go : (t : Taken) → Spares taken.Refused t → Spares taken.Refused (onTaken t (λ (d : Data) (next : ℕ). onto taken.Refused (tailAt l next) (λ (v m : ℕ). taken.Is d next)))
+      go : (t : Taken) → Spares taken.Refused t
+          → Spares taken.Refused (onTaken t (λ (d : Data) (next : ℕ). onto taken.Refused (tailAt l next) (λ (v m : ℕ). taken.Is d next)))
       go (taken.Is d next) a = on-spares taken.Refused taken-one (tailAt l next) _ (tail-spares next) (λ (v m : ℕ). taken-spares d next)
       go (taken.Refused r) a = a
 
@@ -358,7 +397,8 @@ module _ (l : List ℕ) (G : Refusal → Type 0) where
       on-spares forwarded.Refused forwarded-one (tailAt l next) _ (tail-spares next) (λ (v m : ℕ). forwarded-spares y next))
 
 -- 14 of an APDU: that of the identifier or of the check of its message data, where they stand
-pub apdu-left : (l : List ℕ) → Bits l → (pdus : PduType) (r : Refusal) → apduAt pdus l 0 ≡ decoded.Refused r → r .fault ≡ Limit → LeftFor pdus l r
+pub apdu-left : (l : List ℕ) → Bits l → (pdus : PduType) (r : Refusal) → apduAt pdus l 0 ≡ decoded.Refused r
+    → r .fault ≡ Limit → LeftFor pdus l r
 apdu-left l b pdus r e f =
     lead-left l (λ (x : Refusal). LeftFor pdus l x) b pdus (λ (k : Kind) (m at : ℕ) (q : leadingAt pdus l 0 ≡ lead.Is k m at) (h : holdsData k ≡ true) (x : Refusal) (i : InRoot l at x). record { kind = k; mode = m; begin = at; led = q; holds = h; field = i }) r e f
 

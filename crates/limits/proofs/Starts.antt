@@ -79,7 +79,8 @@ module _ (r : Record) (k : Coded r) where
 
   forward-fine : (s v : ℕ) → Fine (forwardArrives r s v)
   unfolding forwardArrives
-  forward-fine s v = by-test Fine (not (r .forwards)) _ _ (λ e. responds-fine _ s _ _) (λ e. by-test Fine (eqb v (r .version)) _ _ (λ f. responds-fine _ s _ _) (λ f. responds-fine _ s _ _))
+  forward-fine s v = by-test Fine (not (r .forwards)) _ _ (λ e. responds-fine _ s _ _)
+      (λ e. by-test Fine (eqb v (r .version)) _ _ (λ f. responds-fine _ s _ _) (λ f. responds-fine _ s _ _))
 
   handed-fine : (p : Primitive) (t : Told) → Fine (handed r p t)
   unfolding handed
@@ -91,7 +92,8 @@ user-coded r on k = record { request = k .request; policy = k .policy; least = k
 module _ (sd : Side) (r : Record) (k : Coded r) (x s : ℕ) (q : Qos) (w : ℕ) where
   answered-fine : (a : UserData) (f : Fault) → Fine (answered r (DStartIndication x s q w) a f)
   unfolding answered instructed
-  answered-fine a NoFault = by-test Fine (isForward a) _ _ (λ e. forward-fine r k s w) (λ e. handed-fine (withUser r true) (user-coded r true k) _ _)
+  answered-fine a NoFault = by-test Fine (isForward a) _ _ (λ e. forward-fine r k s w)
+      (λ e. handed-fine (withUser r true) (user-coded r true k) _ _)
   answered-fine a (NoInstruction live) = none-fine r k live
   answered-fine a Quality = aborts-fine r k _ _
   answered-fine a TurnedAway = closes-fine r k _
@@ -120,7 +122,9 @@ module _ (r a b : List ℕ) (sd : Side) (x : Record) (n v : ℕ) (load : loadAt 
   unfolding loadAt
   size = by (eqb (length r) recordBytes) refl load
     where
-      by : (t : Bool) → eqb (length r) recordBytes ≡ t → cond (t && headOf r) (withNumbers r (readBits (bitsTo r recordBits) jobBit jobBits) (readBits (bitsTo r recordBits) numberBit numberBits)) NoRecord ≡ Is sd x n → length r ≡ recordBytes
+      by : (t : Bool) → eqb (length r) recordBytes ≡ t
+          → cond (t && headOf r) (withNumbers r (readBits (bitsTo r recordBits) jobBit jobBits) (readBits (bitsTo r recordBits) numberBit numberBits)) NoRecord ≡ Is sd x n
+          → length r ≡ recordBytes
       by true e h = eqb-true (length r) recordBytes e
       by false e h = let z : _≡_ {A = ℕ} 0 1 = cc in absurd (omega arith)
 
@@ -128,15 +132,18 @@ module _ (r a b : List ℕ) (sd : Side) (x : Record) (n v : ℕ) (load : loadAt 
   unfolding storeAt
   stored-holds z k = record { rec = z; load = rw (eq-eqb (length r) recordBytes size, lt-ltb (z .request) securityValues (k .request), lt-ltb (z .policy) securityValues (k .policy), le-leb 1 (z .version) (k .least), lt-ltb (z .version) versions (k .most)) (loaded-stored sd z v k top) }
 
-  taken : (u : UserData) → userDataFits (x .edition) u ≡ true → (numberedStep sd x n (Service p u) v ≡ reached sd x p u) × (heldAfter n (Service p u) v ≡ v)
+  taken : (u : UserData) → userDataFits (x .edition) u ≡ true
+      → (numberedStep sd x n (Service p u) v ≡ reached sd x p u) × (heldAfter n (Service p u) v ≡ v)
   unfolding eventFits serviceStarts
   taken u g = higher-start sd x n p u v (rw (fits, g)) refl above
 
-  concluded-holds : (o : Outcome) → Fine o → (li lm lc : List ℕ) (d : Carried) → Holds sd (concluded r a b (x .edition) sd v o li lm lc d .kept) v
+  concluded-holds : (o : Outcome) → Fine o → (li lm lc : List ℕ) (d : Carried)
+      → Holds sd (concluded r a b (x .edition) sd v o li lm lc d .kept) v
   unfolding concluded finished
   concluded-holds o f li lm lc d = rw (f .0) (stored-holds (o .next) (f .1))
 
-  event-holds : (u : UserData) → userDataFits (x .edition) u ≡ true → (li lm lc : List ℕ) (d : Carried) → Holds sd (eventStep numberedStep r a b (Service p u) v li lm lc d sd x n .kept) v
+  event-holds : (u : UserData) → userDataFits (x .edition) u ≡ true → (li lm lc : List ℕ) (d : Carried)
+      → Holds sd (eventStep numberedStep r a b (Service p u) v li lm lc d sd x n .kept) v
   event-holds u g li lm lc d =
       let t = taken u g in
       rw (t .0, t .1) (concluded-holds (reached sd x p u) (reached-fine sd x coded y s q w u) li lm lc d)
@@ -147,6 +154,8 @@ module _ (r a b : List ℕ) (sd : Side) (x : Record) (n v : ℕ) (load : loadAt 
   start-held given bytes h =
       rw (le-ltb (length a) bufferLeast first, le-ltb (length b) bufferLeast second, load, le-ltb 1 given h) (go (eqb given 1))
     where
-      go : (t : Bool) → Holds sd (cond t (dataStep numberedStep r a b p v (lent bytes) sd x n) (bareStep numberedStep r a b p v (lent bytes) sd x n) .kept) v
-      go true = event-holds (meaning (readPdu (x .edition) sd (x .control) p (lent bytes))) (read-fits (x .edition) sd (x .control) p bytes) (lent bytes) (lent bytes) (lent bytes) _
+      go : (t : Bool)
+          → Holds sd (cond t (dataStep numberedStep r a b p v (lent bytes) sd x n) (bareStep numberedStep r a b p v (lent bytes) sd x n) .kept) v
+      go true = event-holds (meaning (readPdu (x .edition) sd (x .control) p (lent bytes)))
+          (read-fits (x .edition) sd (x .control) p bytes) (lent bytes) (lent bytes) (lent bytes) _
       go false = event-holds Absent refl (lent bytes) (lent bytes) (lent bytes) _

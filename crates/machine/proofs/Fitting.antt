@@ -23,8 +23,10 @@ step-of-fitting sd r e f = rw f
 -- an expiry asks the timer and nothing else
 pub timer-runs : (sd : Side) (r : Record) → r .timer ≡ true → stepFitting sd r TimerExpires ≡ timerExpires r
 unfolding stepFitting refusalFitting permitted messageRefusal acts
-timer-runs sd r h = ap (λ (t : Bool). cond (isNone (cond (not t) Prohibited None)) (timerExpires r) (refused (cond (not t) Prohibited None) r)) h
+timer-runs sd r h = ap (λ (t : Bool). cond (isNone (cond (not t) Prohibited None)) (timerExpires r)
+    (refused (cond (not t) Prohibited None) r)) h
 
 pub timer-stands : (sd : Side) (r : Record) → r .timer ≡ false → stepFitting sd r TimerExpires ≡ refused Prohibited r
 unfolding stepFitting refusalFitting permitted messageRefusal acts
-timer-stands sd r h = ap (λ (t : Bool). cond (isNone (cond (not t) Prohibited None)) (timerExpires r) (refused (cond (not t) Prohibited None) r)) h
+timer-stands sd r h = ap (λ (t : Bool). cond (isNone (cond (not t) Prohibited None)) (timerExpires r)
+    (refused (cond (not t) Prohibited None) r)) h

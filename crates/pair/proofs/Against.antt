@@ -97,12 +97,14 @@ module _ (m : Machine) (i j : ℕ) (s : Sys m) (c : Claims m i j s) where
   whole-given t =
       let r = and-l (atRest m i j s) (not (s .broken)) t in
       let w = c .handed-all (here-empty r) (there-empty r) (no-T (s .broken) (and-r (atRest m i j s) (not (s .broken)) t)) in
-      both (isPrefix (s .here .taken) (s .there .handed)) (isPrefix (s .there .taken) (s .here .handed)) (is-whole (s .there .handed) (s .here .taken) (w .0)) (is-whole (s .here .handed) (s .there .taken) (w .1))
+      both (isPrefix (s .here .taken) (s .there .handed)) (isPrefix (s .there .taken) (s .here .handed))
+      (is-whole (s .there .handed) (s .here .taken) (w .0)) (is-whole (s .here .handed) (s .there .taken) (w .1))
 
   pub claims-tested : falseClaims m i j s ≡ []
   claims-tested =
       rw (
-        is-T (match? m i j s) (if-then (atRest m i j s) (matching (m .ctl (s .here .rec)) (m .ctl (s .there .rec))) (λ (t : T (atRest m i j s)). c .ends-match (here-empty t) (there-empty t))),
+        is-T (match? m i j s) (if-then (atRest m i j s) (matching (m .ctl (s .here .rec)) (m .ctl (s .there .rec)))
+            (λ (t : T (atRest m i j s)). c .ends-match (here-empty t) (there-empty t))),
         is-T (isPrefix (s .there .handed) (s .here .taken)) (is-prefix (s .there .handed) (s .here .taken) (c .handed-in-order .0)),
         is-T (isPrefix (s .here .handed) (s .there .taken)) (is-prefix (s .here .handed) (s .there .taken) (c .handed-in-order .1)),
         is-T (all? m i j s) (if-then (atRest m i j s && not (s .broken)) (whole m i j s) whole-given),
@@ -140,12 +142,14 @@ aborted = opening ++ (says Air 1 ∷ says Air 2 ∷ turn Air (user-call (ask Use
 
 -- two messages, then the end: handed over youngest first, the second would come out before the first
 abbrev ended : List (Turn Ask)
-ended = opening ++ (says Ground 1 ∷ says Ground 2 ∷ gets Air ∷ gets Air ∷ asks Ground (EndRequest false) ∷ gets Air ∷ says Air 1 ∷ asks Air (EndResponse false Accepted) ∷ gets Ground ∷ gets Ground ∷ [])
+ended = opening ++ (says Ground 1 ∷ says Ground 2 ∷ gets Air ∷ gets Air ∷ asks Ground (EndRequest false) ∷ gets Air ∷
+    says Air 1 ∷ asks Air (EndResponse false Accepted) ∷ gets Ground ∷ gets Ground ∷ [])
 
 -- both abort at once, and the air asks for the next start before the aborts have arrived: the ground's old abort would end the new dialogue at the air, and the
 -- ground would stay in it
 abbrev early : List (Turn Ask)
-early = opening ++ (asks Air UserAbort ∷ asks Ground UserAbort ∷ asks Air (StartRequest false) ∷ gets Ground ∷ gets Ground ∷ asks Ground (StartResponse false Accepted) ∷ gets Air ∷ gets Air ∷ [])
+early = opening ++ (asks Air UserAbort ∷ asks Ground UserAbort ∷ asks Air (StartRequest false) ∷ gets Ground ∷ gets
+    Ground ∷ asks Ground (StartResponse false Accepted) ∷ gets Air ∷ gets Air ∷ [])
 
 -- the carrier turns away a start that it has delivered: the ground would stay in START-IND
 abbrev late : List (Turn Ask)

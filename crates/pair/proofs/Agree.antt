@@ -45,7 +45,8 @@ pub record Agree (m n : Machine) : Type 1 where
   pub ctl-is : (sd : Side) (r : m .R) (q : n .R) → RR sd r q → m .ctl r ≡ n .ctl q
   pub sort-is : (sd : Side) (e : m .E) (f : n .E) → EE sd e f → m .sort e ≡ n .sort f
   pub call-is : (sd : Side) (r : m .R) (q : n .R) (a : m .A) → RR sd r q → Follows (RR sd) (EE sd) (m .call sd r a) q (n .call sd q)
-  pub receive-is : (sd : Side) (r : m .R) (q : n .R) (e : m .E) (f : n .E) → RR sd r q → EE (other sd) e f → OutRel (RR sd) (EE sd) (m .receive sd r e) (n .receive sd q f)
+  pub receive-is : (sd : Side) (r : m .R) (q : n .R) (e : m .E) (f : n .E) → RR sd r q → EE (other sd) e f
+      → OutRel (RR sd) (EE sd) (m .receive sd r e) (n .receive sd q f)
   pub expiry-is : (sd : Side) (r : m .R) (q : n .R) → RR sd r q → Follows {X = Unit {0}} (RR sd) (EE sd) (m .expiry sd r) q (λ (x : Unit {0}). n .expiry sd q)
   pub error-is : (sd : Side) (r : m .R) (q : n .R) → RR sd r q → Follows {X = Unit {0}} (RR sd) (EE sd) (m .error sd r) q (λ (x : Unit {0}). n .error sd q)
   pub away-is : (sd : Side) (r : m .R) (q : n .R) → RR sd r q → OutRel (RR sd) (EE sd) (m .away sd r) (n .away sd q)

@@ -54,7 +54,8 @@ module _ (sd : Side) (s : Sys control) (u : Call) (b : Body) (j keep : ℕ) (h :
       (good-at sd u n m (s .broken) (front sd c ga) (front sd (goes c u) ga) (front od g ag) (ahead sd u c t n ga) (h .con))
 
   con-abort : T (cuts u) → T (sound sd true (front sd (goes c u) ga) (front od g (cut control keep ag e)))
-  con-abort k = cut-closes u b ag (cut control keep ag e) (cut-loses-youngest control keep ag e) sd (front sd c ga) (front sd (goes c u) ga) g n k (ahead sd u c t n ga) in-fine out-fine
+  con-abort k = cut-closes u b ag (cut control keep ag e) (cut-loses-youngest control keep ag e) sd (front sd c ga)
+      (front sd (goes c u) ga) g n k (ahead sd u c t n ga) in-fine out-fine
 
   in-mild : T (mild u) → Data (s .broken) (s .here .handed ++ []) (flow sd (goes c u) ga) (s .there .taken)
   in-mild m = rw (append-nil (s .here .handed), ← kept-front sd u c t n m ga in-fine) (h .dataI)
@@ -65,10 +66,15 @@ module _ (sd : Side) (s : Sys control) (u : Call) (b : Body) (j keep : ℕ) (h :
   -- broken: the other end will not hand it out; unbroken: it will
   out-message : T (says u) → Data (s .broken) (s .there .handed) (flow od g (ag ++ (e ∷ []))) (s .here .taken ++ (b ∷ []))
   out-message k =
-      rw (flow-snoc od g ag e, send-at sd u k (s .broken) (front sd c ga) (front sd (goes c u) ga) (front od g ag) (ahead sd u c t n ga) (h .con))
+      rw (
+        flow-snoc od g ag e,
+        send-at sd u k (s .broken) (front sd c ga) (front sd (goes c u) ga) (front od g ag)
+            (ahead sd u c t n ga) (h .con),
+      )
       (go (s .broken) (h .dataO))
     where
-      go : (x : Bool) → Data x (s .there .handed) (flow od g ag) (s .here .taken) → Data x (s .there .handed) (flow od g ag ++ handed (not x) b) (s .here .taken ++ (b ∷ []))
+      go : (x : Bool) → Data x (s .there .handed) (flow od g ag) (s .here .taken)
+          → Data x (s .there .handed) (flow od g ag ++ handed (not x) b) (s .here .taken ++ (b ∷ []))
       go true d =
           rw (append-nil (flow od g ag))
           (record { pre = pre-more _ (s .here .taken) (b ∷ []) (d .pre); all = λ (e : true ≡ false). absurd (subst T e tt) })
@@ -102,9 +108,12 @@ module _ (sd : Side) (s : Sys control) (u : Call) (b : Body) (j keep : ℕ) (h :
         con = con-abort k;
         wfH = goes-wf sd u c t;
         wfT = h .wfT;
-        headO = λ (x : T (startFirst (cut control keep ag e))). h .headO (cut-first u b ag (cut control keep ag e) (cut-loses-youngest control keep ag e) n x);
+        headO = λ (x : T (startFirst (cut control keep ag e))). h .headO
+            (cut-first u b ag (cut control keep ag e) (cut-loses-youngest control keep ag e) n x);
         headI = λ (x : T (startFirst ga)). absurd (no-first ga in-fine x);
-        dataO = lost-data (s .broken) (s .there .handed) (flow od g ag) (flow od g (cut control keep ag e)) (s .here .taken) (h .dataO) (cut-hands-beginning u b ag (cut control keep ag e) (cut-loses-youngest control keep ag e) od g i);
+        dataO = lost-data (s .broken) (s .there .handed) (flow od g ag) (flow od g (cut control keep ag e))
+            (s .here .taken) (h .dataO)
+            (cut-hands-beginning u b ag (cut control keep ag e) (cut-loses-youngest control keep ag e) od g i);
         dataI =
             rw (append-nil (s .here .handed), cut-front sd u c t n k ga in-fine)
             (lost-data (s .broken) (s .here .handed) (flow sd c ga) [] (s .there .taken) (h .dataI) (pre-nil _));
@@ -112,7 +121,9 @@ module _ (sd : Side) (s : Sys control) (u : Call) (b : Body) (j keep : ℕ) (h :
 
 -- ---- a start
 
-start-keeps : (sd : Side) (s : Sys control) (u : Call) (b : Body) (j keep : ℕ) → Inv sd s → T (takes sd (s .here .rec .ctl) u) → T (starting u) → T (not (says u)) → T (ready control s) → Inv sd (left control (put control begins s (ent (sends u) b) keep) (held (goes (s .here .rec .ctl) u) j) [])
+start-keeps : (sd : Side) (s : Sys control) (u : Call) (b : Body) (j keep : ℕ) → Inv sd s
+    → T (takes sd (s .here .rec .ctl) u) → T (starting u) → T (not (says u)) → T (ready control s)
+    → Inv sd (left control (put control begins s (ent (sends u) b) keep) (held (goes (s .here .rec .ctl) u) j) [])
 start-keeps sd s u b j keep h t k i a =
     let c = s .here .rec .ctl in
     let g = s .there .rec .ctl in
@@ -129,7 +140,13 @@ start-keeps sd s u b j keep h t k i a =
       headO = λ (x : T (startFirst (s .here .line ++ (ent (sends u) b ∷ [])))). q;
       headI = λ (x : T (startFirst (s .there .line))). absurd (subst (λ (l : List Ent). T (startFirst l)) q x);
       dataO =
-          rw (flow-snoc (other sd) g (s .here .line) (ent (sends u) b), none-at (other sd) u i (front (other sd) g (s .here .line)), append-nil (flow (other sd) g (s .here .line)), p)
+          rw (
+            flow-snoc (other sd) g (s .here .line) (ent (sends u) b),
+            none-at (other sd) u i
+                (front (other sd) g (s .here .line)),
+            append-nil (flow (other sd) g (s .here .line)),
+            p,
+          )
           (no-data false);
       dataI = rw q (no-data false);
     }
@@ -137,16 +154,25 @@ start-keeps sd s u b j keep h t k i a =
 -- ---- a user call
 
 -- the entry's sort is the primitive's
-put-keeps : (sd : Side) (s : Sys control) (u : Call) (b : Body) (j keep : ℕ) → Inv sd s → T (takes sd (s .here .rec .ctl) u) → T (not (says u)) → (so : Sort) → sortOf (sends u) ≡ so → T (not (begins? so) || ready control s) → Inv sd (left control (put control so s (ent (sends u) b) keep) (held (goes (s .here .rec .ctl) u) j) [])
+put-keeps : (sd : Side) (s : Sys control) (u : Call) (b : Body) (j keep : ℕ) → Inv sd s
+    → T (takes sd (s .here .rec .ctl) u) → T (not (says u)) → (so : Sort) → sortOf (sends u) ≡ so
+    → T (not (begins? so) || ready control s)
+    → Inv sd (left control (put control so s (ent (sends u) b) keep) (held (goes (s .here .rec .ctl) u) j) [])
 put-keeps sd s u b j keep h t i begins q a = start-keeps sd s u b j keep h t (subst (λ (x : Sort). T (begins? x)) (sym q) tt) i a
-put-keeps sd s u b j keep h t i breaks q a = abort-keeps sd s u b j keep h t (subst (λ (x : Sort). T (not (begins? x))) (sym q) tt) (subst (λ (x : Sort). T (breaks? x)) (sym q) tt) i
-put-keeps sd s u b j keep h t i plain q a = plain-keeps sd s u b j keep h t (subst (λ (x : Sort). T (not (begins? x))) (sym q) tt) (subst (λ (x : Sort). T (not (breaks? x))) (sym q) tt) i
+put-keeps sd s u b j keep h t i breaks q a = abort-keeps sd s u b j keep h t
+    (subst (λ (x : Sort). T (not (begins? x))) (sym q) tt) (subst (λ (x : Sort). T (breaks? x)) (sym q) tt) i
+put-keeps sd s u b j keep h t i plain q a = plain-keeps sd s u b j keep h t
+    (subst (λ (x : Sort). T (not (begins? x))) (sym q) tt) (subst (λ (x : Sort). T (not (breaks? x))) (sym q) tt) i
 
-took-keeps : (sd : Side) (s : Sys control) (u : Call) (b : Body) (j keep : ℕ) → Inv sd s → T (takes sd (s .here .rec .ctl) u) → T (says u) → Inv sd (left control (took control (put control (sortOf (sends u)) s (ent (sends u) b) keep) b j) (held (goes (s .here .rec .ctl) u) j) [])
+took-keeps : (sd : Side) (s : Sys control) (u : Call) (b : Body) (j keep : ℕ) → Inv sd s
+    → T (takes sd (s .here .rec .ctl) u) → T (says u)
+    → Inv sd (left control (took control (put control (sortOf (sends u)) s (ent (sends u) b) keep) b j) (held (goes (s .here .rec .ctl) u) j) [])
 took-keeps sd s u b j keep h t i =
     let q = data-at u i in
-    subst (λ (so : Sort). Inv sd (left control (took control (put control so s (ent (sends u) b) keep) b j) (held (goes (s .here .rec .ctl) u) j) [])) (sym q)
-    (message-keeps sd s u b j keep h t (subst (λ (x : Sort). T (not (begins? x))) (sym q) tt) (subst (λ (x : Sort). T (not (breaks? x))) (sym q) tt) i)
+    subst (λ (so : Sort). Inv sd (left control (took control (put control so s (ent (sends u) b) keep) b j)
+    (held (goes (s .here .rec .ctl) u) j) [])) (sym q)
+    (message-keeps sd s u b j keep h t (subst (λ (x : Sort). T (not (begins? x))) (sym q) tt)
+    (subst (λ (x : Sort). T (not (breaks? x))) (sym q) tt) i)
 
 module _ (sd : Side) (s : Sys control) (a : Ask) (keep : ℕ) (h : Inv sd s) where
   abbrev w : Ent
@@ -154,14 +180,17 @@ module _ (sd : Side) (s : Sys control) (a : Ask) (keep : ℕ) (h : Inv sd s) whe
 
   -- the record after it and what it sends; d: it sends a message
   abbrev outcome : Bool → Outcome Held Ent
-  outcome d = acts (held (goes (s .here .rec .ctl) (a .what)) (cond d (a .job) (s .here .rec .job))) [] (cond d (message w (a .body) (a .job)) (puts w))
+  outcome d = acts (held (goes (s .here .rec .ctl) (a .what)) (cond d (a .job) (s .here .rec .job))) []
+      (cond d (message w (a .body) (a .job)) (puts w))
 
-  acts-keeps : T (takes sd (s .here .rec .ctl) (a .what)) → T (calm (a .what) || ready control s) → Inv sd (did control s (outcome (says (a .what))) keep)
+  acts-keeps : T (takes sd (s .here .rec .ctl) (a .what)) → T (calm (a .what) || ready control s)
+      → Inv sd (did control s (outcome (says (a .what))) keep)
   acts-keeps t x = go (says (a .what)) refl
     where
       go : (d : Bool) → says (a .what) ≡ d → Inv sd (did control s (outcome d) keep)
       go true q = took-keeps sd s (a .what) (a .body) (a .job) keep h t (T-is _ q)
-      go false q = put-keeps sd s (a .what) (a .body) (s .here .rec .job) keep h t (subst (λ (d : Bool). T (not d)) (sym q) tt) (sortOf (sends (a .what))) refl x
+      go false q = put-keeps sd s (a .what) (a .body) (s .here .rec .job) keep h t
+          (subst (λ (d : Bool). T (not d)) (sym q) tt) (sortOf (sends (a .what))) refl x
 
   starts-is : (d : Bool) → starts control (cond d (message w (a .body) (a .job)) (puts w)) ≡ starting (a .what)
   starts-is true = refl
@@ -175,7 +204,8 @@ module _ (sd : Side) (s : Sys control) (a : Ask) (keep : ℕ) (h : Inv sd s) whe
       go true q =
           either sd (not (starts control (sentBy a)) || ready control s) (did control s (outcome (says (a .what))) keep) s
           (λ (x : T (not (starts control (sentBy a)) || ready control s)).
-          acts-keeps (and-l (takes sd (s .here .rec .ctl) (a .what)) _ (T-is _ q)) (subst (λ (b : Bool). T (not b || ready control s)) (starts-is (says (a .what))) x))
+          acts-keeps (and-l (takes sd (s .here .rec .ctl) (a .what)) _ (T-is _ q))
+          (subst (λ (b : Bool). T (not b || ready control s)) (starts-is (says (a .what))) x))
           h
 
   -- an expiry, a system error

@@ -62,7 +62,8 @@ abbrev pub moved : Held → Ask → Held
 moved q a = held (goes (q .ctl) (a .what)) (highest (a .what) (q .job) (a .job))
 
 abbrev pub sentBy : Ask → Sent Ent
-sentBy a = cond (isData (sends (a .what))) (message (ent (sends (a .what)) (a .body)) (a .body) (a .job)) (puts (ent (sends (a .what)) (a .body)))
+sentBy a = cond (isData (sends (a .what))) (message (ent (sends (a .what)) (a .body)) (a .body) (a .job))
+    (puts (ent (sends (a .what)) (a .body)))
 
 abbrev pub callOf : Side → Held → Ask → Outcome Held Ent
 callOf sd q a = cond (mayCall sd q a) (acts (moved q a) [] (sentBy a)) refused

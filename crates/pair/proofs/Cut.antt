@@ -48,10 +48,12 @@ module _ (u : Call) (b : Body) (l k : List Ent) (h : Left l (ent (sends u) b) k)
   abbrev e : Ent
   e = ent (sends u) b
 
-  pub cut-closes : (sd : Side) (x y : Dr) (g : Control) → T (calm u) → T (cuts u) → T (commutes sd u x y) → T (fine x) → T (fine (front (other sd) g l)) → T (sound sd true y (front (other sd) g k))
+  pub cut-closes : (sd : Side) (x y : Dr) (g : Control) → T (calm u) → T (cuts u) → T (commutes sd u x y) → T (fine x)
+      → T (fine (front (other sd) g l)) → T (sound sd true y (front (other sd) g k))
   cut-closes sd x y g n c p f w =
       rw (h .is, front-snoc (other sd) g (h .kept) e (calm-at u n))
-      (abort-at sd u c x y (front (other sd) g (h .kept)) p f (front-begin (other sd) g (h .kept) (h .lost) (subst (λ (z : List Ent). T (fine (front (other sd) g z))) (sym (h .whole)) w)))
+      (abort-at sd u c x y (front (other sd) g (h .kept)) p f (front-begin (other sd) g (h .kept) (h .lost)
+      (subst (λ (z : List Ent). T (fine (front (other sd) g z))) (sym (h .whole)) w)))
 
   pub cut-hands-beginning : (sd : Side) (g : Control) → T (not (says u)) → Prefix (flow sd g k) (flow sd g l)
   cut-hands-beginning sd g i =

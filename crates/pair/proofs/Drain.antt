@@ -129,7 +129,8 @@ drain-snoc sd x (z ∷ l) e = drain-snoc sd (later sd x (z .kind)) l e
 pub later-ok : (sd : Side) (c : Control) (k : Primitive) → T (not (isStart k)) → recv sd c k ≡ later sd (ok c) k
 later-ok sd c k t = rw (no-T (isStart k) t)
 
-pub front-snoc : (sd : Side) (c : Control) (l : List Ent) (e : Ent) → T (not (isStart (e .kind))) → front sd c (l ++ (e ∷ [])) ≡ later sd (front sd c l) (e .kind)
+pub front-snoc : (sd : Side) (c : Control) (l : List Ent) (e : Ent) → T (not (isStart (e .kind)))
+    → front sd c (l ++ (e ∷ [])) ≡ later sd (front sd c l) (e .kind)
 front-snoc sd c [] e t = later-ok sd c (e .kind) t
 front-snoc sd c (z ∷ l) e t = drain-snoc sd (recv sd c (z .kind)) l e
 

@@ -32,10 +32,15 @@ module _ (m n : Machine) (g : Agree m n) (s : Sys m) (t : Sys n) (h : SysRel m n
   carried c =
       record {
         ends-match = λ (p : s .here .line ≡ []) (q : s .there .line ≡ []).
-            rw (g .ctl-is Air (s .here .rec) (t .here .rec) (h .here .rec), g .ctl-is Ground (s .there .rec) (t .there .rec) (h .there .rec)) (c .ends-match (empty-here p) (empty-there q));
+            rw (
+              g .ctl-is Air (s .here .rec) (t .here .rec) (h .here .rec),
+              g .ctl-is Ground (s .there .rec)
+                  (t .there .rec) (h .there .rec),
+            ) (c .ends-match (empty-here p) (empty-there q));
         handed-in-order = rw (h .there .handed, h .here .taken, h .here .handed, h .there .taken) (c .handed-in-order);
         handed-all = λ (p : s .here .line ≡ []) (q : s .there .line ≡ []) (b : s .broken ≡ false).
-            rw (h .there .handed, h .here .taken, h .here .handed, h .there .taken) (c .handed-all (empty-here p) (empty-there q) (sym (h .broken) ∙ b));
+            rw (h .there .handed, h .here .taken, h .here .handed, h .there .taken)
+            (c .handed-all (empty-here p) (empty-there q) (sym (h .broken) ∙ b));
         jobs-rise = rw (h .here .jobs, h .there .jobs) (c .jobs-rise);
       }
 
@@ -57,12 +62,14 @@ module _ (m n : Machine) (g : Agree m n) (r q : m .R) (x y : n .R) (near : g .RR
       carried m n g (run m (fresh m r q) ts) (run n (fresh n x y) (v .turns)) (v .rel) (c (v .turns))
 
 -- demand 3 for a machine that agrees with the control, from any two records that correspond to IDLE ones
-pub machine-holds : (m : Machine) (g : Agree m control) (i j : ℕ) (r q : m .R) → g .RR Air r (held closed i) → g .RR Ground q (held closed j) → (ts : List (Turn (m .A))) → Claims m i j (run m (fresh m r q) ts)
+pub machine-holds : (m : Machine) (g : Agree m control) (i j : ℕ) (r q : m .R) → g .RR Air r (held closed i)
+    → g .RR Ground q (held closed j) → (ts : List (Turn (m .A))) → Claims m i j (run m (fresh m r q) ts)
 machine-holds m g i j r q near far ts = holds-through m control g r q (held closed i) (held closed j) near far (control-holds i j) ts
 
 -- so no job is taken twice at an end
 pub taken-once : {f g : ℕ} (m : Machine) (s : Sys m) → Claims m f g s → (xs ys zs : List ℕ) (j : ℕ) → (s .here .jobs ≡ xs ++ (j ∷ (ys ++ (j ∷ zs))) → ⊥) × (s .there .jobs ≡ xs ++ (j ∷ (ys ++ (j ∷ zs))) → ⊥)
 taken-once {f} {g} m s c xs ys zs j = (
   λ (e : s .here .jobs ≡ xs ++ (j ∷ (ys ++ (j ∷ zs)))). no-repeat f xs ys zs j (subst (λ (l : List ℕ). T (rising f l)) e (c .jobs-rise .0)),
-  λ (e : s .there .jobs ≡ xs ++ (j ∷ (ys ++ (j ∷ zs)))). no-repeat g xs ys zs j (subst (λ (l : List ℕ). T (rising g l)) e (c .jobs-rise .1)),
+  λ (e : s .there .jobs ≡ xs ++ (j ∷ (ys ++ (j ∷ zs)))). no-repeat g xs ys zs j
+      (subst (λ (l : List ℕ). T (rising g l)) e (c .jobs-rise .1)),
 )

@@ -20,7 +20,9 @@ use Rattle.pair.proofs.Invariant.{Data, startFirst, Inv, closed-is, clo
 ended : (gv tk : List Body) → Prefix gv tk → Data true gv [] tk
 ended gv tk p = record { pre = rw (append-nil gv) p; all = λ (e : true ≡ false). absurd (subst T e tt) }
 
-rest-keeps : (sd : Side) (s : Sys control) → s .broken ≡ true → s .here .line ≡ [] → s .there .line ≡ [] → T (isClosed (s .here .rec .ctl)) → T (isClosed (s .there .rec .ctl)) → Prefix (s .there .handed) (s .here .taken) → Prefix (s .here .handed) (s .there .taken) → Inv sd s
+rest-keeps : (sd : Side) (s : Sys control) → s .broken ≡ true → s .here .line ≡ [] → s .there .line ≡ []
+    → T (isClosed (s .here .rec .ctl)) → T (isClosed (s .there .rec .ctl)) → Prefix (s .there .handed) (s .here .taken)
+    → Prefix (s .here .handed) (s .there .taken) → Inv sd s
 rest-keeps sd s b p q i j x y =
     record {
       con = rw (b, p, q) (rest-at sd (ok (s .here .rec .ctl)) (ok (s .there .rec .ctl)) i j);
@@ -46,10 +48,12 @@ record Told (s t : Sys control) : Type 0 where
 told : (sd : Side) (s : Sys control) → Told s (toldLost control sd s)
 told sd s = go (isIdle (s .here .rec .ctl)) refl
   where
-    go : (b : Bool) → isIdle (s .here .rec .ctl) ≡ b → Told s (cond b s (did control s (met (s .here .rec) (cond (not (isIdle (s .here .rec .ctl))) (quiet closed) (cond (isIdle (s .here .rec .ctl) && true) (quiet closed) (aborts closed))) []) 0))
+    go : (b : Bool) → isIdle (s .here .rec .ctl) ≡ b
+        → Told s (cond b s (did control s (met (s .here .rec) (cond (not (isIdle (s .here .rec .ctl))) (quiet closed) (cond (isIdle (s .here .rec .ctl) && true) (quiet closed) (aborts closed))) []) 0))
     go true e = record { closes = λ (w : T (wf (s .here .rec .ctl))). closed-is (s .here .rec .ctl) (T-is _ e) w; line = refl; taken = refl; handed = refl; there = refl; broken = refl }
     go false e =
-        subst (λ (b : Bool). Told s (did control s (met (s .here .rec) (cond (not b) (quiet closed) (cond (b && true) (quiet closed) (aborts closed))) []) 0)) (sym e)
+        subst (λ (b : Bool). Told s (did control s (met (s .here .rec)
+        (cond (not b) (quiet closed) (cond (b && true) (quiet closed) (aborts closed))) []) 0)) (sym e)
         (record { closes = λ (w : T (wf (s .here .rec .ctl))). tt; line = refl; taken = refl; handed = append-nil (s .here .handed); there = refl; broken = refl })
 
 module _ (sd : Side) (s : Sys control) (h : Inv sd s) where
@@ -68,5 +72,17 @@ module _ (sd : Side) (s : Sys control) (h : Inv sd s) where
       (ap (λ (p : Party control). p .line) (two .there) ∙ one .line) (two .line ∙ ap (λ (p : Party control). p .line) (one .there))
       (subst (λ (p : Party control). T (isClosed (p .rec .ctl))) (sym (two .there)) (one .closes (h .wfH)))
       (two .closes (subst (λ (p : Party control). T (wf (p .rec .ctl))) (sym (one .there)) (h .wfT)))
-      (rw (two .handed, ap (λ (p : Party control). p .handed) (one .there), ap (λ (p : Party control). p .taken) (two .there), one .taken) (pre-trans _ _ _ (pre-front _ _) (h .dataO .pre)))
-      (rw (ap (λ (p : Party control). p .handed) (two .there), one .handed, two .taken, ap (λ (p : Party control). p .taken) (one .there)) (pre-trans _ _ _ (pre-front _ _) (h .dataI .pre)))
+      (rw (
+        two .handed,
+        ap (λ (p : Party control). p .handed) (one .there),
+        ap (λ (p : Party control). p .taken)
+            (two .there),
+        one .taken,
+      ) (pre-trans _ _ _ (pre-front _ _) (h .dataO .pre)))
+      (rw (
+        ap (λ (p : Party control). p .handed) (two .there),
+        one .handed,
+        two .taken,
+        ap
+            (λ (p : Party control). p .taken) (one .there),
+      ) (pre-trans _ _ _ (pre-front _ _) (h .dataI .pre)))

@@ -39,7 +39,10 @@ flow-dead : (sd : Side) (c : Control) (l : List Ent) → T (isClosed c) → T (f
 flow-dead sd c [] i f = refl
 flow-dead sd c (z ∷ l) i f =
     let n = later-start sd dead (z .kind) (drain-fine sd (later sd dead (z .kind)) l f) in
-    rw (over-gives sd (ok c) (subst (λ (b : Bool). T (b || false)) (sym (is-T (isClosed c) i)) tt) (z .kind), recv-closed sd c (z .kind) (and-l (isIdle c) _ i) n)
+    rw (
+      over-gives sd (ok c) (subst (λ (b : Bool). T (b || false)) (sym (is-T (isClosed c) i)) tt) (z .kind),
+      recv-closed sd c (z .kind) (and-l (isIdle c) _ i) n,
+    )
     (over-flow sd dead l tt)
 
 lost-b : (b : Bool) (gv ws fl tk : List Body) → T b → Data b gv (ws ++ fl) tk → Data b (gv ++ ws) [] tk
@@ -63,7 +66,8 @@ flow-of sd c (e ∷ l) f =
     ap (λ (b : Bool). got sd (ok c) e ++ flowD sd (cond b bad (recv sd c (e .kind))) l) (sym n)
 
 pub meets-is : (sd : Side) (c : Control) (k : Primitive) → T (expects sd c k) → meets sd c k ≡ quiet (after c k)
-meets-is sd c k t = ap (λ (b : Bool). cond b (quiet (after c k)) (cond (M.deaf c k) (quiet closed) (aborts closed))) (is-T (expects sd c k) t)
+meets-is sd c k t = ap (λ (b : Bool). cond b (quiet (after c k)) (cond (M.deaf c k) (quiet closed) (aborts closed)))
+    (is-T (expects sd c k) t)
 
 module _ (sd : Side) (s : Sys control) (z : Ent) (l : List Ent) (e : s .there .line ≡ z ∷ l) (h : Inv sd s) where
   abbrev c : Control
@@ -98,14 +102,16 @@ module _ (sd : Side) (s : Sys control) (z : Ent) (l : List Ent) (e : s .there .l
   broken-now : recv sd c (z .kind) ≡ dead → T (s .broken && still w)
   broken-now r =
       let f : T (fine (drain sd dead l)) = subst (λ (y : Dr). T (fine (drain sd y l))) r fine-now in
-      dead-at sd (s .broken) w (subst (λ (y : Dr). T (sound sd (s .broken) y w)) (drained-dead sd l f) (subst (λ (y : Dr). T (sound sd (s .broken) (drain sd y l) w)) r con-now))
+      dead-at sd (s .broken) w (subst (λ (y : Dr). T (sound sd (s .broken) y w)) (drained-dead sd l f)
+      (subst (λ (y : Dr). T (sound sd (s .broken) (drain sd y l) w)) r con-now))
 
   -- the end is closed after an entry that leaves it dead
   dead-con : (q : Control) → recv sd c (z .kind) ≡ dead → T (isClosed q) → T (sound sd (s .broken) (front sd q l) w)
   dead-con q r i =
       let f : T (fine (drain sd dead l)) = subst (λ (y : Dr). T (fine (drain sd y l))) r fine-now in
       let v = broken-now r in
-      subst (λ (y : Bool). T (sound sd y (front sd q l) w)) (sym (is-T (s .broken) (and-l (s .broken) _ v))) (rest-at sd (front sd q l) w (after-dead sd q l i f) (and-r (s .broken) _ v))
+      subst (λ (y : Bool). T (sound sd y (front sd q l) w)) (sym (is-T (s .broken) (and-l (s .broken) _ v)))
+      (rest-at sd (front sd q l) w (after-dead sd q l i f) (and-r (s .broken) _ v))
 
   dead-first : recv sd c (z .kind) ≡ dead → T (startFirst l) → ⊥
   dead-first r i = no-second sd dead l (subst (λ (y : Dr). T (fine (drain sd y l))) r fine-now) i
@@ -125,7 +131,8 @@ module _ (sd : Side) (s : Sys control) (z : Ent) (l : List Ent) (e : s .there .l
         headO = no-out;
         headI = λ (y : T (startFirst l)). absurd (dead-first r y);
         dataO = h .dataO;
-        dataI = rw (dead-flow c r i) (rw (append-nil (s .here .handed)) at (lost-b (s .broken) (s .here .handed) [] (flow sd c (s .there .line)) (s .there .taken) b (h .dataI)));
+        dataI = rw (dead-flow c r i) (rw (append-nil (s .here .handed)) at
+            (lost-b (s .broken) (s .here .handed) [] (flow sd c (s .there .line)) (s .there .taken) b (h .dataI)));
       }
 
   loss-keeps : (q : Control) (keep : ℕ) → recv sd c (z .kind) ≡ dead → T (isClosed q) → Inv sd (quietly q keep)
@@ -137,7 +144,8 @@ module _ (sd : Side) (s : Sys control) (z : Ent) (l : List Ent) (e : s .there .l
         headO = no-out;
         headI = λ (y : T (startFirst l)). absurd (dead-first r y);
         dataO = h .dataO;
-        dataI = rw (dead-flow q r i) (lost-b (s .broken) (s .here .handed) new (flowD sd (recv sd c (z .kind)) l) (s .there .taken) (and-l (s .broken) _ (broken-now r)) data-now);
+        dataI = rw (dead-flow q r i) (lost-b (s .broken) (s .here .handed) new (flowD sd (recv sd c (z .kind)) l)
+            (s .there .taken) (and-l (s .broken) _ (broken-now r)) data-now);
       }
 
   norm-keeps : (q : Control) (keep : ℕ) → recv sd c (z .kind) ≡ ok q → T (wf q) → Inv sd (quietly q keep)
@@ -166,14 +174,17 @@ module _ (sd : Side) (s : Sys control) (z : Ent) (l : List Ent) (e : s .there .l
       subst (λ (d : Did). Inv sd (did control (off control s l) (met (s .here .rec) d new) keep)) (sym (meets-is sd c (z .kind) y))
       (go y (and-r (expects sd c (z .kind)) _ v) (isLoss (z .kind)) refl)
     where
-      go : T (expects sd c (z .kind)) → T (imp (isLoss (z .kind)) (isClosed (after c (z .kind)))) → (b : Bool) → isLoss (z .kind) ≡ b → Inv sd (quietly (after c (z .kind)) keep)
+      go : T (expects sd c (z .kind)) → T (imp (isLoss (z .kind)) (isClosed (after c (z .kind)))) → (b : Bool)
+          → isLoss (z .kind) ≡ b → Inv sd (quietly (after c (z .kind)) keep)
       go y v true i = loss-keeps (after c (z .kind)) keep (rw (q, i)) (imp-e _ _ v (T-is _ i))
       go y v false i = norm-keeps (after c (z .kind)) keep (rw (q, i, is-T (expects sd c (z .kind)) y)) (after-wf sd c (z .kind) y)
 
-pub hand-over-keeps : (sd : Side) (s : Sys control) (keep : ℕ) (l : List Ent) → s .there .line ≡ l → Inv sd s → Inv sd (handedOver control sd s l keep)
+pub hand-over-keeps : (sd : Side) (s : Sys control) (keep : ℕ) (l : List Ent) → s .there .line ≡ l → Inv sd s
+    → Inv sd (handedOver control sd s l keep)
 hand-over-keeps sd s keep [] e h = h
 hand-over-keeps sd s keep (z ∷ l) e h = go (deaf (s .here .rec .ctl) (z .kind)) refl
   where
-    go : (b : Bool) → deaf (s .here .rec .ctl) (z .kind) ≡ b → Inv sd (cond b (off control s l) (did control (off control s l) (receives sd (s .here .rec) z) keep))
+    go : (b : Bool) → deaf (s .here .rec .ctl) (z .kind) ≡ b
+        → Inv sd (cond b (off control s l) (did control (off control s l) (receives sd (s .here .rec) z) keep))
     go true q = discard-keeps sd s z l e h q
     go false q = met-keeps sd s z l e h keep q

@@ -46,7 +46,8 @@ nil-is [] t = refl
 nil-is (e ∷ l) t = absurd t
 
 pub closed-is : (x : Control) → T (isIdle x) → T (wf x) → T (isClosed x)
-closed-is x i w = subst (λ (b : Bool). T (not b || not (x .dsc)) → T (b && not (x .dsc))) (sym (is-T (isIdle x) i)) (λ (v : T (not (x .dsc))). v) w
+closed-is x i w = subst (λ (b : Bool). T (not b || not (x .dsc)) → T (b && not (x .dsc))) (sym (is-T (isIdle x) i))
+    (λ (v : T (not (x .dsc))). v) w
 
 pub closed-wf : (c : Control) → T (isClosed c) → T (wf c)
 closed-wf c i = go (isIdle c) (c .dsc) i

@@ -78,7 +78,9 @@ pub call-moves : (sd : Side) (q : Held) (a : Ask) → Moves (q .job) (callOf sd 
 call-moves sd q a = go (takes sd (q .ctl) (a .what)) (isData (sends (a .what))) (ltb (q .job) (a .job)) refl
   where
     go : (t d v : Bool) → ltb (q .job) (a .job) ≡ v
-        → Moves (q .job) (cond (t && cond d v true) (acts (held (goes (q .ctl) (a .what)) (cond d (a .job) (q .job))) [] (cond d (message (ent (sends (a .what)) (a .body)) (a .body) (a .job)) (puts (ent (sends (a .what)) (a .body))))) refused)
+        → Moves (q .job) (cond (t && cond d v true) (acts (held (goes (q .ctl) (a .what)) (cond d (a .job) (q .job))) [] (
+        cond d (message (ent (sends (a .what)) (a .body)) (a .body) (a .job))
+        (puts (ent (sends (a .what)) (a .body))))) refused)
     go true true true e = (refl, T-is _ e)
     go true true false e = tt
     go true false v e = refl
@@ -99,16 +101,21 @@ either false x y p q = q
 
 called-jobs : {f g : ℕ} (s : Sys control) (o : Outcome Held Ent) (keep : ℕ) → Both f g s → Moves (s .here .rec .job) o → Both f g (called control s o keep)
 called-jobs s refused keep h v = h
-called-jobs s (acts r l p) keep h v = either (not (starts control p) || ready control s) (did control s (acts r l p) keep) s (did-jobs s (acts r l p) keep h v) h
+called-jobs s (acts r l p) keep h v = either (not (starts control p) || ready control s)
+    (did control s (acts r l p) keep) s (did-jobs s (acts r l p) keep h v) h
 
 over-jobs : {f g : ℕ} (sd : Side) (s : Sys control) (l : List Ent) (keep : ℕ) → Both f g s → Both f g (handedOver control sd s l keep)
 over-jobs sd s [] keep h = h
 over-jobs sd s (z ∷ l) keep h =
     let o : Both _ _ (off control s l) = record { near = h .near; far = h .far } in
-    either (discards control (s .here .rec) z) (off control s l) (did control (off control s l) (receives sd (s .here .rec) z) keep) o (did-jobs (off control s l) (receives sd (s .here .rec) z) keep o (receive-moves sd (s .here .rec) z))
+    either (discards control (s .here .rec) z) (off control s l)
+    (did control (off control s l) (receives sd (s .here .rec) z) keep) o
+    (did-jobs (off control s l) (receives sd (s .here .rec) z) keep o (receive-moves sd (s .here .rec) z))
 
 told-jobs : {f g : ℕ} (sd : Side) (s : Sys control) → Both f g s → Both f g (toldLost control sd s)
-told-jobs sd s h = either (idle control (s .here .rec)) s (did control s (receives sd (s .here .rec) (ent DPAbort [])) 0) h (did-jobs s (receives sd (s .here .rec) (ent DPAbort [])) 0 h (receive-moves sd (s .here .rec) (ent DPAbort [])))
+told-jobs sd s h = either (idle control (s .here .rec)) s
+    (did control s (receives sd (s .here .rec) (ent DPAbort [])) 0) h
+    (did-jobs s (receives sd (s .here .rec) (ent DPAbort [])) 0 h (receive-moves sd (s .here .rec) (ent DPAbort [])))
 
 away-jobs : {f g : ℕ} (sd : Side) (s : Sys control) (keep : ℕ) → Both f g s → Both f g (turnedAway control sd s keep)
 away-jobs sd s keep h =
@@ -126,8 +133,10 @@ fail-jobs sd s h =
 step-jobs : {f g : ℕ} (sd : Side) (s : Sys control) (c : Step Ask) → Both f g s → Both f g (stepped control sd s c)
 step-jobs sd s (user-call a keep) h = called-jobs s (callOf sd (s .here .rec) a) keep h (call-moves sd (s .here .rec) a)
 step-jobs sd s (hand-over keep) h = over-jobs sd s (s .there .line) keep h
-step-jobs sd s (timer-expires keep) h = did-jobs s (callOf sd (s .here .rec) (ask TimerExpiry [] 0)) keep h (call-moves sd (s .here .rec) (ask TimerExpiry [] 0))
-step-jobs sd s (error-reported keep) h = did-jobs s (callOf sd (s .here .rec) (ask SystemError [] 0)) keep h (call-moves sd (s .here .rec) (ask SystemError [] 0))
+step-jobs sd s (timer-expires keep) h = did-jobs s (callOf sd (s .here .rec) (ask TimerExpiry [] 0)) keep h
+    (call-moves sd (s .here .rec) (ask TimerExpiry [] 0))
+step-jobs sd s (error-reported keep) h = did-jobs s (callOf sd (s .here .rec) (ask SystemError [] 0)) keep h
+    (call-moves sd (s .here .rec) (ask SystemError [] 0))
 step-jobs sd s (turn-away keep) h = away-jobs sd s keep h
 step-jobs sd s fail h = fail-jobs sd s h
 

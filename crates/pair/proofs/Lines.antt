@@ -39,7 +39,8 @@ ll-take EE (suc n) [] (z ∷ k) h = absurd h
 ll-take EE (suc n) (y ∷ l) [] h = absurd h
 ll-take EE (suc n) (y ∷ l) (z ∷ k) h = (h .0, ll-take EE n l k (h .1))
 
-pub ll-cut : (m n : Machine) (EE : m .E → n .E → Type 0) (keep : ℕ) (l : List (m .E)) (k : List (n .E)) (e : m .E) (f : n .E) → LL EE l k → EE e f → LL EE (cut m keep l e) (cut n keep k f)
+pub ll-cut : (m n : Machine) (EE : m .E → n .E → Type 0) (keep : ℕ) (l : List (m .E)) (k : List (n .E)) (e : m .E) (f : n .E)
+    → LL EE l k → EE e f → LL EE (cut m keep l e) (cut n keep k f)
 ll-cut m n EE keep l k e f h x = ll-snoc EE (take keep l) (take keep k) e f (ll-take EE keep l k h) x
 
 pub ll-nil : {X Y : Type 0} (EE : X → Y → Type 0) (l : List X) (k : List Y) → LL EE l k → isNil l ≡ isNil k

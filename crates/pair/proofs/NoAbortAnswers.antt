@@ -36,7 +36,8 @@ BothQuiet m s = HeadQuiet m Air (s .here .rec) (s .there .line) × HeadQuiet m G
 pub control-quiet : (sd : Side) (q : Held) (l : List Ent) → T (headFits sd (q .ctl) l) → HeadQuiet control sd q l
 control-quiet sd q [] t = tt
 control-quiet sd q (e ∷ l) t = λ (d : deaf (q .ctl) (e .kind) ≡ false).
-    subst (λ (x : Did). Quiet (met q x (handed (hands sd (q .ctl) (e .kind)) (e .body)))) (sym (meets-is sd (q .ctl) (e .kind) (subst (λ (b : Bool). T (b || expects sd (q .ctl) (e .kind))) d t))) tt
+    subst (λ (x : Did). Quiet (met q x (handed (hands sd (q .ctl) (e .kind)) (e .body))))
+    (sym (meets-is sd (q .ctl) (e .kind) (subst (λ (b : Bool). T (b || expects sd (q .ctl) (e .kind))) d t))) tt
 
 module _ (m n : Machine) (g : Agree m n) where
   same-quiet : (sd : Side) (o : Outcome (m .R) (m .E)) (z : Outcome (n .R) (n .E)) → OutRel (g .RR sd) (g .EE sd) o z → Quiet z → Quiet o
@@ -51,12 +52,14 @@ module _ (m n : Machine) (g : Agree m n) where
   same-quiet sd (acts r l (message e b i)) (acts q k (puts f)) x y = y
   same-quiet sd (acts r l (message e b i)) (acts q k (message f c j)) x y = y
 
-  pub head-quiet : (sd : Side) (r : m .R) (q : n .R) (l : List (m .E)) (k : List (n .E)) → g .RR sd r q → LL (g .EE (other sd)) l k → HeadQuiet n sd q k → HeadQuiet m sd r l
+  pub head-quiet : (sd : Side) (r : m .R) (q : n .R) (l : List (m .E)) (k : List (n .E)) → g .RR sd r q
+      → LL (g .EE (other sd)) l k → HeadQuiet n sd q k → HeadQuiet m sd r l
   head-quiet sd r q [] k x y h = tt
   head-quiet sd r q (e ∷ l) [] x y h = absurd y
   head-quiet sd r q (e ∷ l) (f ∷ k) x y h = λ (d : discards m r e ≡ false).
       same-quiet sd (m .receive sd r e) (n .receive sd q f) (g .receive-is sd r q e f x (y .0))
-      (h (ap (λ (c : Control). isIdle c && not (begins? (n .sort f))) (sym (g .ctl-is sd r q x)) ∙ ap (λ (so : Sort). isIdle (m .ctl r) && not (begins? so)) (sym (g .sort-is (other sd) e f (y .0))) ∙ d))
+      (h (ap (λ (c : Control). isIdle c && not (begins? (n .sort f))) (sym (g .ctl-is sd r q x)) ∙ ap
+      (λ (so : Sort). isIdle (m .ctl r) && not (begins? so)) (sym (g .sort-is (other sd) e f (y .0))) ∙ d))
 
   -- where the second answers nothing that is handed over, the first does not
   pub quiet-through : (s : Sys m) (t : Sys n) → SysRel m n g Air s t → BothQuiet n t → BothQuiet m s
@@ -72,7 +75,8 @@ control-both i j ts =
     (control-quiet Air (t .here .rec) (t .there .line) (f .0), control-quiet Ground (t .there .rec) (t .here .line) (f .1))
 
 -- after every run
-pub none-answered : (m : Machine) (g : Agree m control) (i j : ℕ) (r q : m .R) → g .RR Air r (held closed i) → g .RR Ground q (held closed j) → (ts : List (Turn (m .A))) → BothQuiet m (run m (fresh m r q) ts)
+pub none-answered : (m : Machine) (g : Agree m control) (i j : ℕ) (r q : m .R) → g .RR Air r (held closed i)
+    → g .RR Ground q (held closed j) → (ts : List (Turn (m .A))) → BothQuiet m (run m (fresh m r q) ts)
 none-answered m g i j r q near far ts =
     let v = followed m control g r q (held closed i) (held closed j) near far ts in
     quiet-through m control g (run m (fresh m r q) ts) (run control (bothIdle i j) (v .turns)) (v .rel) (control-both i j (v .turns))

@@ -49,11 +49,13 @@ module _ (m : Machine) where
   pick j [] = []
   pick j (e ∷ l) = cond (eqb (e .no) j) (e .it ∷ pick j l) (pick j l)
 
-  pub snoc-same : (j : ℕ) (l : List (Numbered (m .E))) (e : Numbered (m .E)) → eqb (e .no) j ≡ true → pick j (l ++ (e ∷ [])) ≡ pick j l ++ (e .it ∷ [])
+  pub snoc-same : (j : ℕ) (l : List (Numbered (m .E))) (e : Numbered (m .E)) → eqb (e .no) j ≡ true
+      → pick j (l ++ (e ∷ [])) ≡ pick j l ++ (e .it ∷ [])
   snoc-same j [] e q = yes (eqb (e .no) j) _ _ q
   snoc-same j (x ∷ l) e q = go (eqb (x .no) j) (snoc-same j l e q)
     where
-      go : (b : Bool) → pick j (l ++ (e ∷ [])) ≡ pick j l ++ (e .it ∷ []) → cond b (x .it ∷ pick j (l ++ (e ∷ []))) (pick j (l ++ (e ∷ []))) ≡ cond b (x .it ∷ pick j l) (pick j l) ++ (e .it ∷ [])
+      go : (b : Bool) → pick j (l ++ (e ∷ [])) ≡ pick j l ++ (e .it ∷ [])
+          → cond b (x .it ∷ pick j (l ++ (e ∷ []))) (pick j (l ++ (e ∷ []))) ≡ cond b (x .it ∷ pick j l) (pick j l) ++ (e .it ∷ [])
       go true h = ap (λ (k : List (m .E)). x .it ∷ k) h
       go false h = h
 
@@ -66,18 +68,22 @@ module _ (m : Machine) where
   trim-at j (suc k) [] = refl
   trim-at j zero (x ∷ l) = go (eqb (x .no) j) refl (trim-at j zero l)
     where
-      go : (b : Bool) → eqb (x .no) j ≡ b → pick j (trim (numbered m) j zero l) ≡ [] → pick j (cond b (trim (numbered m) j zero l) (x ∷ trim (numbered m) j zero l)) ≡ []
+      go : (b : Bool) → eqb (x .no) j ≡ b → pick j (trim (numbered m) j zero l) ≡ []
+          → pick j (cond b (trim (numbered m) j zero l) (x ∷ trim (numbered m) j zero l)) ≡ []
       go true q h = h
       go false q h = nay (eqb (x .no) j) _ _ q ∙ h
   trim-at j (suc k) (x ∷ l) = go (eqb (x .no) j) refl (trim-at j k l) (trim-at j (suc k) l)
     where
-      go : (b : Bool) → eqb (x .no) j ≡ b → pick j (trim (numbered m) j k l) ≡ take k (pick j l) → pick j (trim (numbered m) j (suc k) l) ≡ take (suc k) (pick j l)
-          → pick j (cond b (x ∷ trim (numbered m) j k l) (x ∷ trim (numbered m) j (suc k) l)) ≡ take (suc k) (cond b (x .it ∷ pick j l) (pick j l))
+      go : (b : Bool) → eqb (x .no) j ≡ b → pick j (trim (numbered m) j k l) ≡ take k (pick j l)
+          → pick j (trim (numbered m) j (suc k) l) ≡ take (suc k) (pick j l)
+          → pick j (cond b (x ∷ trim (numbered m) j k l) (x ∷ trim (numbered m) j (suc k) l)) ≡ take (suc k)
+          (cond b (x .it ∷ pick j l) (pick j l))
       go true q h g = yes (eqb (x .no) j) _ _ q ∙ ap (λ (n : List (m .E)). x .it ∷ n) h
       go false q h g = nay (eqb (x .no) j) _ _ q ∙ g
 
   pub trim-same : (v j keep : ℕ) (l : List (Numbered (m .E))) → eqb v j ≡ true → pick j (trim (numbered m) v keep l) ≡ take keep (pick j l)
-  trim-same v j keep l e = subst (λ (n : ℕ). pick j (trim (numbered m) n keep l) ≡ take keep (pick j l)) (sym (eq-no v j e)) (trim-at j keep l)
+  trim-same v j keep l e = subst (λ (n : ℕ). pick j (trim (numbered m) n keep l) ≡ take keep (pick j l))
+      (sym (eq-no v j e)) (trim-at j keep l)
 
   -- an entry of number v is none of number j
   off-no : (v j : ℕ) (x : Numbered (m .E)) → eqb v j ≡ false → eqb (x .no) v ≡ true → eqb (x .no) j ≡ false
@@ -88,13 +94,15 @@ module _ (m : Machine) where
   trim-other v j (suc k) [] e = refl
   trim-other v j zero (x ∷ l) e = go (eqb (x .no) v) refl (trim-other v j zero l e)
     where
-      go : (b : Bool) → eqb (x .no) v ≡ b → pick j (trim (numbered m) v zero l) ≡ pick j l → pick j (cond b (trim (numbered m) v zero l) (x ∷ trim (numbered m) v zero l)) ≡ cond (eqb (x .no) j) (x .it ∷ pick j l) (pick j l)
+      go : (b : Bool) → eqb (x .no) v ≡ b → pick j (trim (numbered m) v zero l) ≡ pick j l
+          → pick j (cond b (trim (numbered m) v zero l) (x ∷ trim (numbered m) v zero l)) ≡ cond (eqb (x .no) j) (x .it ∷ pick j l) (pick j l)
       go true q h = h ∙ sym (nay (eqb (x .no) j) _ _ (off-no v j x e q))
       go false q h = ap (λ (n : List (m .E)). cond (eqb (x .no) j) (x .it ∷ n) n) h
   trim-other v j (suc k) (x ∷ l) e = go (eqb (x .no) v) (trim-other v j k l e) (trim-other v j (suc k) l e)
     where
       go : (b : Bool) → pick j (trim (numbered m) v k l) ≡ pick j l → pick j (trim (numbered m) v (suc k) l) ≡ pick j l
-          → pick j (cond b (x ∷ trim (numbered m) v k l) (x ∷ trim (numbered m) v (suc k) l)) ≡ cond (eqb (x .no) j) (x .it ∷ pick j l) (pick j l)
+          → pick j (cond b (x ∷ trim (numbered m) v k l) (x ∷ trim (numbered m) v (suc k) l)) ≡ cond (eqb (x .no) j)
+          (x .it ∷ pick j l) (pick j l)
       go true h g = ap (λ (n : List (m .E)). cond (eqb (x .no) j) (x .it ∷ n) n) h
       go false h g = ap (λ (n : List (m .E)). cond (eqb (x .no) j) (x .it ∷ n) n) g
 
@@ -122,8 +130,10 @@ module _ (m : Machine) where
       go true false p q h = nay (eqb (x .no) j) _ _ q ∙ h
       go false false p q h = nay (eqb (x .no) j) _ _ q ∙ h
 
-  pub without-same : (v j : ℕ) (l : List (Numbered (m .E))) → eqb v j ≡ true → pick j (nWithoutStart (numbered m) v l) ≡ withoutStart m (pick j l)
-  without-same v j l e = subst (λ (n : ℕ). pick j (nWithoutStart (numbered m) n l) ≡ withoutStart m (pick j l)) (sym (eq-no v j e)) (without-at j l)
+  pub without-same : (v j : ℕ) (l : List (Numbered (m .E))) → eqb v j ≡ true
+      → pick j (nWithoutStart (numbered m) v l) ≡ withoutStart m (pick j l)
+  without-same v j l e = subst (λ (n : ℕ). pick j (nWithoutStart (numbered m) n l) ≡ withoutStart m (pick j l))
+      (sym (eq-no v j e)) (without-at j l)
 
   pub without-other : (v j : ℕ) (l : List (Numbered (m .E))) → eqb v j ≡ false → pick j (nWithoutStart (numbered m) v l) ≡ pick j l
   without-other v j [] e = refl
@@ -140,7 +150,8 @@ module _ (m : Machine) where
   none-on j [] e = refl
   none-on j (x ∷ l) e = go (eqb (x .no) j) e (none-on j l)
     where
-      go : (b : Bool) → b || onLine (numbered m) l j ≡ false → (onLine (numbered m) l j ≡ false → pick j l ≡ []) → cond b (x .it ∷ pick j l) (pick j l) ≡ []
+      go : (b : Bool) → b || onLine (numbered m) l j ≡ false → (onLine (numbered m) l j ≡ false → pick j l ≡ [])
+          → cond b (x .it ∷ pick j l) (pick j l) ≡ []
       go true q h = absurd (subst T q tt)
       go false q h = h q
 
@@ -171,7 +182,9 @@ module _ (m : Machine) where
 
   orderly-down : (a b n : ℕ) (l : List (Numbered (m .E))) → a ≤ b → T (orderly b n l) → T (orderly a n l)
   orderly-down a b n [] h t = let g = leb→le b n t in le→leb a n (omega (arith, h, g))
-  orderly-down a b n (e ∷ l) h t = both (past (isStart m (e .it)) a (e .no)) _ (past-down (isStart m (e .it)) a b (e .no) h (and-l (past (isStart m (e .it)) b (e .no)) _ t)) (and-r (past (isStart m (e .it)) b (e .no)) _ t)
+  orderly-down a b n (e ∷ l) h t = both (past (isStart m (e .it)) a (e .no)) _
+      (past-down (isStart m (e .it)) a b (e .no) h (and-l (past (isStart m (e .it)) b (e .no)) _ t))
+      (and-r (past (isStart m (e .it)) b (e .no)) _ t)
 
   pub orderly-head : (b n : ℕ) (e : Numbered (m .E)) (l : List (Numbered (m .E))) → T (orderly b n (e ∷ l)) → b ≤ e .no
   orderly-head b n e l t = past-le (isStart m (e .it)) b (e .no) (and-l (past (isStart m (e .it)) b (e .no)) _ t)
@@ -179,18 +192,25 @@ module _ (m : Machine) where
   pub orderly-past : (b n : ℕ) (e : Numbered (m .E)) (l : List (Numbered (m .E))) → T (orderly b n (e ∷ l)) → T (orderly (e .no) n l)
   orderly-past b n e l t = and-r (past (isStart m (e .it)) b (e .no)) _ t
 
-  pub orderly-start : (b n : ℕ) (e : Numbered (m .E)) (l : List (Numbered (m .E))) → isStart m (e .it) ≡ true → T (orderly b n (e ∷ l)) → b < e .no
-  orderly-start b n e l q t = ltb→lt b (e .no) (subst (λ (c : Bool). T (past c b (e .no))) q (and-l (past (isStart m (e .it)) b (e .no)) _ t))
+  pub orderly-start : (b n : ℕ) (e : Numbered (m .E)) (l : List (Numbered (m .E))) → isStart m (e .it) ≡ true
+      → T (orderly b n (e ∷ l)) → b < e .no
+  orderly-start b n e l q t = ltb→lt b (e .no)
+      (subst (λ (c : Bool). T (past c b (e .no))) q (and-l (past (isStart m (e .it)) b (e .no)) _ t))
 
   pub orderly-tail : (b n : ℕ) (e : Numbered (m .E)) (l : List (Numbered (m .E))) → T (orderly b n (e ∷ l)) → T (orderly b n l)
   orderly-tail b n e l t = orderly-down b (e .no) n l (orderly-head b n e l t) (orderly-past b n e l t)
 
-  pub orderly-snoc : (b n : ℕ) (l : List (Numbered (m .E))) (e : Numbered (m .E)) → T (orderly b n l) → T (past (isStart m (e .it)) n (e .no)) → T (orderly b (e .no) (l ++ (e ∷ [])))
-  orderly-snoc b n [] e t h = both (past (isStart m (e .it)) b (e .no)) _ (past-down (isStart m (e .it)) b n (e .no) (leb→le b n t) h) (le→leb (e .no) (e .no) (omega arith))
-  orderly-snoc b n (x ∷ l) e t h = both (past (isStart m (x .it)) b (x .no)) _ (and-l (past (isStart m (x .it)) b (x .no)) _ t) (orderly-snoc (x .no) n l e (and-r (past (isStart m (x .it)) b (x .no)) _ t) h)
+  pub orderly-snoc : (b n : ℕ) (l : List (Numbered (m .E))) (e : Numbered (m .E)) → T (orderly b n l)
+      → T (past (isStart m (e .it)) n (e .no)) → T (orderly b (e .no) (l ++ (e ∷ [])))
+  orderly-snoc b n [] e t h = both (past (isStart m (e .it)) b (e .no)) _
+      (past-down (isStart m (e .it)) b n (e .no) (leb→le b n t) h) (le→leb (e .no) (e .no) (omega arith))
+  orderly-snoc b n (x ∷ l) e t h = both (past (isStart m (x .it)) b (x .no)) _
+      (and-l (past (isStart m (x .it)) b (x .no)) _ t)
+      (orderly-snoc (x .no) n l e (and-r (past (isStart m (x .it)) b (x .no)) _ t) h)
 
   -- an entry may be kept or lost
-  kept : (c : Bool) (b n : ℕ) (x : Numbered (m .E)) (l k h : List (Numbered (m .E))) → T (orderly b n (x ∷ l)) → T (orderly (x .no) n k) → T (orderly (x .no) n h) → T (orderly b n (cond c k (x ∷ h)))
+  kept : (c : Bool) (b n : ℕ) (x : Numbered (m .E)) (l k h : List (Numbered (m .E))) → T (orderly b n (x ∷ l))
+      → T (orderly (x .no) n k) → T (orderly (x .no) n h) → T (orderly b n (cond c k (x ∷ h)))
   kept true b n x l k h t u w = orderly-down b (x .no) n k (orderly-head b n x l t) u
   kept false b n x l k h t u w = both (past (isStart m (x .it)) b (x .no)) _ (and-l (past (isStart m (x .it)) b (x .no)) _ t) w
 
@@ -200,15 +220,19 @@ module _ (m : Machine) where
   orderly-trim b n v zero (x ∷ l) t =
       let h = orderly-trim (x .no) n v zero l (orderly-past b n x l t) in
       kept (eqb (x .no) v) b n x l (trim (numbered m) v zero l) (trim (numbered m) v zero l) t h h
-  orderly-trim b n v (suc k) (x ∷ l) t = go (eqb (x .no) v) (orderly-trim (x .no) n v k l (orderly-past b n x l t)) (orderly-trim (x .no) n v (suc k) l (orderly-past b n x l t))
+  orderly-trim b n v (suc k) (x ∷ l) t = go (eqb (x .no) v) (orderly-trim (x .no) n v k l (orderly-past b n x l t))
+      (orderly-trim (x .no) n v (suc k) l (orderly-past b n x l t))
     where
-      go : (c : Bool) → T (orderly (x .no) n (trim (numbered m) v k l)) → T (orderly (x .no) n (trim (numbered m) v (suc k) l)) → T (orderly b n (cond c (x ∷ trim (numbered m) v k l) (x ∷ trim (numbered m) v (suc k) l)))
+      go : (c : Bool) → T (orderly (x .no) n (trim (numbered m) v k l))
+          → T (orderly (x .no) n (trim (numbered m) v (suc k) l))
+          → T (orderly b n (cond c (x ∷ trim (numbered m) v k l) (x ∷ trim (numbered m) v (suc k) l)))
       go true h g = both (past (isStart m (x .it)) b (x .no)) _ (and-l (past (isStart m (x .it)) b (x .no)) _ t) h
       go false h g = both (past (isStart m (x .it)) b (x .no)) _ (and-l (past (isStart m (x .it)) b (x .no)) _ t) g
 
   pub orderly-without : (b n v : ℕ) (l : List (Numbered (m .E))) → T (orderly b n l) → T (orderly b n (nWithoutStart (numbered m) v l))
   orderly-without b n v [] t = t
-  orderly-without b n v (x ∷ l) t = kept (startOf (numbered m) v x) b n x l l (nWithoutStart (numbered m) v l) t (orderly-past b n x l t) (orderly-without (x .no) n v l (orderly-past b n x l t))
+  orderly-without b n v (x ∷ l) t = kept (startOf (numbered m) v x) b n x l l (nWithoutStart (numbered m) v l) t
+      (orderly-past b n x l t) (orderly-without (x .no) n v l (orderly-past b n x l t))
 
   pub orderly-below : (a b n : ℕ) (l : List (Numbered (m .E))) → T (orderly b n l) → a < b → pick a l ≡ []
   orderly-below a b n [] t h = refl
@@ -239,7 +263,8 @@ module _ (m : Machine) where
   pub tame-tail : (n : ℕ) (e : Numbered (m .E)) (l : List (Numbered (m .E))) → T (tame n (e ∷ l)) → T (tame n l)
   tame-tail n e l t = and-r (fits n e) _ t
 
-  pub tame-snoc : (n : ℕ) (l : List (Numbered (m .E))) (e : Numbered (m .E)) → T (tame n l) → T (not (isStart m (e .it))) → e .no ≤ n → T (tame n (l ++ (e ∷ [])))
+  pub tame-snoc : (n : ℕ) (l : List (Numbered (m .E))) (e : Numbered (m .E)) → T (tame n l)
+      → T (not (isStart m (e .it))) → e .no ≤ n → T (tame n (l ++ (e ∷ [])))
   tame-snoc n [] e t h g = both (fits n e) true (both (not (isStart m (e .it))) (leb (e .no) n) h (le→leb (e .no) n g)) tt
   tame-snoc n (x ∷ l) e t h g = both (fits n x) _ (and-l (fits n x) _ t) (tame-snoc n l e (tame-tail n x l t) h g)
 
@@ -247,9 +272,11 @@ module _ (m : Machine) where
   tame-up n w [] h t = t
   tame-up n w (x ∷ l) h t =
       let g = leb→le (x .no) n (and-r (not (isStart m (x .it))) _ (and-l (fits n x) _ t)) in
-      both (fits w x) _ (both (not (isStart m (x .it))) _ (tame-head n x l t) (le→leb (x .no) w (omega (arith, h, g)))) (tame-up n w l h (tame-tail n x l t))
+      both (fits w x) _ (both (not (isStart m (x .it))) _ (tame-head n x l t) (le→leb (x .no) w (omega (arith, h, g))))
+      (tame-up n w l h (tame-tail n x l t))
 
-  tame-kept : (c : Bool) (n : ℕ) (x : Numbered (m .E)) (l k h : List (Numbered (m .E))) → T (tame n (x ∷ l)) → T (tame n k) → T (tame n h) → T (tame n (cond c k (x ∷ h)))
+  tame-kept : (c : Bool) (n : ℕ) (x : Numbered (m .E)) (l k h : List (Numbered (m .E))) → T (tame n (x ∷ l))
+      → T (tame n k) → T (tame n h) → T (tame n (cond c k (x ∷ h)))
   tame-kept true n x l k h t u w = u
   tame-kept false n x l k h t u w = both (fits n x) _ (and-l (fits n x) _ t) w
 
@@ -261,13 +288,15 @@ module _ (m : Machine) where
       tame-kept (eqb (x .no) v) n x l (trim (numbered m) v zero l) (trim (numbered m) v zero l) t h h
   tame-trim n v (suc k) (x ∷ l) t = go (eqb (x .no) v) (tame-trim n v k l (tame-tail n x l t)) (tame-trim n v (suc k) l (tame-tail n x l t))
     where
-      go : (c : Bool) → T (tame n (trim (numbered m) v k l)) → T (tame n (trim (numbered m) v (suc k) l)) → T (tame n (cond c (x ∷ trim (numbered m) v k l) (x ∷ trim (numbered m) v (suc k) l)))
+      go : (c : Bool) → T (tame n (trim (numbered m) v k l)) → T (tame n (trim (numbered m) v (suc k) l))
+          → T (tame n (cond c (x ∷ trim (numbered m) v k l) (x ∷ trim (numbered m) v (suc k) l)))
       go true h g = both (fits n x) _ (and-l (fits n x) _ t) h
       go false h g = both (fits n x) _ (and-l (fits n x) _ t) g
 
   pub tame-without : (n v : ℕ) (l : List (Numbered (m .E))) → T (tame n l) → T (tame n (nWithoutStart (numbered m) v l))
   tame-without n v [] t = t
-  tame-without n v (x ∷ l) t = tame-kept (startOf (numbered m) v x) n x l l (nWithoutStart (numbered m) v l) t (tame-tail n x l t) (tame-without n v l (tame-tail n x l t))
+  tame-without n v (x ∷ l) t = tame-kept (startOf (numbered m) v x) n x l l (nWithoutStart (numbered m) v l) t
+      (tame-tail n x l t) (tame-without n v l (tame-tail n x l t))
 
   pub tame-above : (n j : ℕ) (l : List (Numbered (m .E))) → T (tame n l) → n < j → pick j l ≡ []
   tame-above n j [] t h = refl

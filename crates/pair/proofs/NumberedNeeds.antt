@@ -31,7 +31,8 @@ reRec m s r = record { here = record { rec = r; line = s .here .line; taken = s 
 pub record Core (m : Machine) (s : Sys m) : Type 0 where
   pub ends-match : s .here .line ≡ [] → s .there .line ≡ [] → T (matching (m .ctl (s .here .rec)) (m .ctl (s .there .rec)))
   pub handed-in-order : Prefix (s .there .handed) (s .here .taken) × Prefix (s .here .handed) (s .there .taken)
-  pub handed-all : s .here .line ≡ [] → s .there .line ≡ [] → s .broken ≡ false → (s .there .handed ≡ s .here .taken) × (s .here .handed ≡ s .there .taken)
+  pub handed-all : s .here .line ≡ [] → s .there .line ≡ [] → s .broken ≡ false
+      → (s .there .handed ≡ s .here .taken) × (s .here .handed ≡ s .there .taken)
 
 pub record Base (m : Machine) : Type 1 where
   -- an invariant of the base carrier, seen from side sd
@@ -61,7 +62,8 @@ pub record Base (m : Machine) : Type 1 where
 control-re-rec : (sd : Side) (s : Sys control) (r : Held) → s .here .rec .ctl ≡ r .ctl → Inv sd s → Inv sd (reRec control s r)
 control-re-rec sd s r e h =
     record {
-      con = subst (λ (c : Control). T (sound sd (s .broken) (front sd c (s .there .line)) (front (other sd) (s .there .rec .ctl) (s .here .line)))) e (h .con);
+      con = subst (λ (c : Control). T (sound sd (s .broken) (front sd c (s .there .line))
+          (front (other sd) (s .there .rec .ctl) (s .here .line)))) e (h .con);
       wfH = subst (λ (c : Control). T (wf c)) e (h .wfH);
       wfT = h .wfT;
       headO = h .headO;
@@ -83,7 +85,8 @@ control-closed c i w = closed-only (c .state) (c .dsc) i w
 
 control-begin : (sd : Side) (r q : Held) → r .ctl ≡ closed → q .ctl ≡ closed → Inv sd (fresh control r q)
 control-begin sd r q e f =
-    subst (λ (c : Control). Inv sd (fresh control (held c (r .job)) q)) (sym e) (subst (λ (c : Control). Inv sd (fresh control (held closed (r .job)) (held c (q .job)))) (sym f) (go sd))
+    subst (λ (c : Control). Inv sd (fresh control (held c (r .job)) q)) (sym e)
+    (subst (λ (c : Control). Inv sd (fresh control (held closed (r .job)) (held c (q .job)))) (sym f) (go sd))
   where
     go : (sd : Side) → Inv sd (fresh control (held closed (r .job)) (held closed (q .job)))
     go Air = idle-inv (r .job) (q .job)
@@ -94,7 +97,8 @@ control-core s h =
     record {
       ends-match = λ (p : s .here .line ≡ []) (q : s .there .line ≡ []). rest s p q h;
       handed-in-order = (pre-trans _ _ _ (pre-front _ _) (h .dataO .pre), pre-trans _ _ _ (pre-front _ _) (h .dataI .pre));
-      handed-all = λ (p : s .here .line ≡ []) (q : s .there .line ≡ []) (b : s .broken ≡ false). (full _ _ _ _ _ _ p b (h .dataO), full _ _ _ _ _ _ q b (h .dataI));
+      handed-all = λ (p : s .here .line ≡ []) (q : s .there .line ≡ []) (b : s .broken ≡ false).
+          (full _ _ _ _ _ _ p b (h .dataO), full _ _ _ _ _ _ q b (h .dataI));
     }
 
 met-calm : (q : Held) (d : Did) (l : List Body) → Calm control (met q d l)
@@ -137,12 +141,17 @@ control-base = record {
   flip = flip;
   core = control-core;
   re-rec = control-re-rec;
-  idle-closed = λ (sd : Side) (s : Sys control) (h : Inv sd s) (i : T (isIdle (s .here .rec .ctl))). control-closed (s .here .rec .ctl) i (h .wfH);
-  quiet = λ (sd : Side) (s : Sys control) (h : Inv sd s). control-quiet sd (s .here .rec) (s .there .line) (head-fits sd (s .here .rec .ctl) (s .there .line) (sound-left sd (s .broken) (front sd (s .here .rec .ctl) (s .there .line)) (front (other sd) (s .there .rec .ctl) (s .here .line)) (h .con)));
+  idle-closed = λ (sd : Side) (s : Sys control) (h : Inv sd s) (i : T (isIdle (s .here .rec .ctl))). control-closed
+      (s .here .rec .ctl) i (h .wfH);
+  quiet = λ (sd : Side) (s : Sys control) (h : Inv sd s). control-quiet sd (s .here .rec) (s .there .line) (head-fits
+      sd (s .here .rec .ctl) (s .there .line) (sound-left sd (s .broken)
+      (front sd (s .here .rec .ctl) (s .there .line)) (front (other sd) (s .there .rec .ctl) (s .here .line))
+      (h .con)));
   calm-receive = receive-calm;
   calm-expiry = expiry-calm;
   calm-error = error-calm;
   calm-away = λ (sd : Side) (q : Held). receive-calm sd q (ent DTurnedAway []);
   calm-p-abort = λ (sd : Side) (q : Held). receive-calm sd q (ent DPAbort []);
-  no-refusal = λ (sd : Side) (q : Held) (e : Ent) (t : T (isStart control e)) (r : receives sd q e ≡ refused). met-acts q (meets sd (q .ctl) (e .kind)) (handed (hands sd (q .ctl) (e .kind)) (e .body)) r;
+  no-refusal = λ (sd : Side) (q : Held) (e : Ent) (t : T (isStart control e)) (r : receives sd q e ≡ refused). met-acts
+      q (meets sd (q .ctl) (e .kind)) (handed (hands sd (q .ctl) (e .kind)) (e .body)) r;
 }

@@ -56,12 +56,15 @@ module _ (m : Machine) (B : Base m) (j : ℕ) where
 
   -- ---- an event of this dialogue
 
-  put-same : (v : ℕ) (so : Sort) (s : NSys (numbered m)) (t : Sys m) (e : m .E) (keep : ℕ) → eqb v j ≡ true → T (not (begins? so)) → Most m B j s t → Most m B j (nPut (numbered m) so s (mark v e) keep) (put m so t e keep)
+  put-same : (v : ℕ) (so : Sort) (s : NSys (numbered m)) (t : Sys m) (e : m .E) (keep : ℕ) → eqb v j ≡ true
+      → T (not (begins? so)) → Most m B j s t → Most m B j (nPut (numbered m) so s (mark v e) keep) (put m so t e keep)
   put-same v begins s t e keep q c h = absurd c
   put-same v breaks s t e keep q c h =
       record {
         here = record {
-          line = snoc-same m j (trim (numbered m) v keep (s .here .line)) (mark v e) q ∙ ap (λ (k : List (m .E)). k ++ (e ∷ [])) (trim-same m v j keep (s .here .line) q ∙ ap (λ (k : List (m .E)). take keep k) (h .here .line));
+          line = snoc-same m j (trim (numbered m) v keep (s .here .line)) (mark v e) q ∙ ap
+              (λ (k : List (m .E)). k ++ (e ∷ []))
+              (trim-same m v j keep (s .here .line) q ∙ ap (λ (k : List (m .E)). take keep k) (h .here .line));
           taken = h .here .taken;
           handed = h .here .handed;
         };
@@ -77,7 +80,8 @@ module _ (m : Machine) (B : Base m) (j : ℕ) where
         broken = h .broken;
       }
 
-  took-same : (v : ℕ) (s : NSys (numbered m)) (t : Sys m) (b : Body) (i : ℕ) → eqb v j ≡ true → Most m B j s t → Most m B j (nTook (numbered m) s v b i) (took m t b i)
+  took-same : (v : ℕ) (s : NSys (numbered m)) (t : Sys m) (b : Body) (i : ℕ) → eqb v j ≡ true → Most m B j s t
+      → Most m B j (nTook (numbered m) s v b i) (took m t b i)
   took-same v s t b i q h =
       record {
         here = record { line = h .here .line; taken = yes (eqb v j) _ _ q ∙ ap (λ (k : List Body). k ++ (b ∷ [])) (h .here .taken); handed = h .here .handed };
@@ -86,7 +90,8 @@ module _ (m : Machine) (B : Base m) (j : ℕ) where
         broken = h .broken;
       }
 
-  left-same : (v : ℕ) (s : NSys (numbered m)) (t : Sys m) (r : m .R) (l : List Body) → eqb v j ≡ true → Most m B j s t → Sim m B j (nLeft (numbered m) s (mark v r) l) (left m t r l)
+  left-same : (v : ℕ) (s : NSys (numbered m)) (t : Sys m) (r : m .R) (l : List Body) → eqb v j ≡ true → Most m B j s t
+      → Sim m B j (nLeft (numbered m) s (mark v r) l) (left m t r l)
   left-same v s t r l q h =
       record {
         near = yes (eqb v j) _ _ q;
@@ -98,17 +103,23 @@ module _ (m : Machine) (B : Base m) (j : ℕ) where
         };
       }
 
-  sent-same : (v : ℕ) (s : NSys (numbered m)) (t : Sys m) (p : Sent (m .E)) (keep : ℕ) → eqb v j ≡ true → T (not (starts m p)) → Most m B j s t → Most m B j (nSent (numbered m) s (tag v p) keep) (sent m t p keep)
+  sent-same : (v : ℕ) (s : NSys (numbered m)) (t : Sys m) (p : Sent (m .E)) (keep : ℕ) → eqb v j ≡ true
+      → T (not (starts m p)) → Most m B j s t → Most m B j (nSent (numbered m) s (tag v p) keep) (sent m t p keep)
   sent-same v s t nothing keep q c h = h
   sent-same v s t (puts e) keep q c h = put-same v (m .sort e) s t e keep q c h
-  sent-same v s t (message e b i) keep q c h = took-same v (nPut (numbered m) (m .sort e) s (mark v e) keep) (put m (m .sort e) t e keep) b i q (put-same v (m .sort e) s t e keep q c h)
+  sent-same v s t (message e b i) keep q c h = took-same v (nPut (numbered m) (m .sort e) s (mark v e) keep)
+      (put m (m .sort e) t e keep) b i q (put-same v (m .sort e) s t e keep q c h)
 
-  pub did-same : (v : ℕ) (s : NSys (numbered m)) (t : Sys m) (r : m .R) (l : List Body) (p : Sent (m .E)) (keep : ℕ) → eqb v j ≡ true → T (not (starts m p)) → Most m B j s t → Sim m B j (nDid (numbered m) s (leaves v (acts r l p)) keep) (did m t (acts r l p) keep)
+  pub did-same : (v : ℕ) (s : NSys (numbered m)) (t : Sys m) (r : m .R) (l : List Body) (p : Sent (m .E)) (keep : ℕ)
+      → eqb v j ≡ true → T (not (starts m p)) → Most m B j s t
+      → Sim m B j (nDid (numbered m) s (leaves v (acts r l p)) keep) (did m t (acts r l p) keep)
   did-same v s t r l p keep q c h = left-same v (nSent (numbered m) s (tag v p) keep) (sent m t p keep) r l q (sent-same v s t p keep q c h)
 
   -- ---- the start of this dialogue, in which nothing has happened
 
-  put-start : (v : ℕ) (so : Sort) (s : NSys (numbered m)) (t : Sys m) (e : m .E) (keep : ℕ) → eqb v j ≡ true → T (begins? so) → New m j (s .here) (s .there) (s .broken) → Most m B j s t → Most m B j (nPut (numbered m) so s (mark v e) keep) (put m so t e keep)
+  put-start : (v : ℕ) (so : Sort) (s : NSys (numbered m)) (t : Sys m) (e : m .E) (keep : ℕ) → eqb v j ≡ true
+      → T (begins? so) → New m j (s .here) (s .there) (s .broken) → Most m B j s t
+      → Most m B j (nPut (numbered m) so s (mark v e) keep) (put m so t e keep)
   put-start v begins s t e keep q c n h =
       record {
         here = record { line = snoc-same m j (s .here .line) (mark v e) q ∙ ap (λ (k : List (m .E)). k ++ (e ∷ [])) (h .here .line); taken = n .taken; handed = n .handed };
@@ -119,17 +130,24 @@ module _ (m : Machine) (B : Base m) (j : ℕ) where
   put-start v breaks s t e keep q c n h = absurd c
   put-start v plain s t e keep q c n h = absurd c
 
-  sent-start : (v : ℕ) (s : NSys (numbered m)) (t : Sys m) (p : Sent (m .E)) (keep : ℕ) → eqb v j ≡ true → T (starts m p) → New m j (s .here) (s .there) (s .broken) → Most m B j s t → Most m B j (nSent (numbered m) s (tag v p) keep) (sent m t p keep)
+  sent-start : (v : ℕ) (s : NSys (numbered m)) (t : Sys m) (p : Sent (m .E)) (keep : ℕ) → eqb v j ≡ true
+      → T (starts m p) → New m j (s .here) (s .there) (s .broken) → Most m B j s t
+      → Most m B j (nSent (numbered m) s (tag v p) keep) (sent m t p keep)
   sent-start v s t nothing keep q c n h = absurd c
   sent-start v s t (puts e) keep q c n h = put-start v (m .sort e) s t e keep q c n h
-  sent-start v s t (message e b i) keep q c n h = took-same v (nPut (numbered m) (m .sort e) s (mark v e) keep) (put m (m .sort e) t e keep) b i q (put-start v (m .sort e) s t e keep q c n h)
+  sent-start v s t (message e b i) keep q c n h = took-same v (nPut (numbered m) (m .sort e) s (mark v e) keep)
+      (put m (m .sort e) t e keep) b i q (put-start v (m .sort e) s t e keep q c n h)
 
-  pub did-start : (v : ℕ) (s : NSys (numbered m)) (t : Sys m) (r : m .R) (l : List Body) (p : Sent (m .E)) (keep : ℕ) → eqb v j ≡ true → T (starts m p) → New m j (s .here) (s .there) (s .broken) → Most m B j s t → Sim m B j (nDid (numbered m) s (leaves v (acts r l p)) keep) (did m t (acts r l p) keep)
-  did-start v s t r l p keep q c n h = left-same v (nSent (numbered m) s (tag v p) keep) (sent m t p keep) r l q (sent-start v s t p keep q c n h)
+  pub did-start : (v : ℕ) (s : NSys (numbered m)) (t : Sys m) (r : m .R) (l : List Body) (p : Sent (m .E)) (keep : ℕ)
+      → eqb v j ≡ true → T (starts m p) → New m j (s .here) (s .there) (s .broken) → Most m B j s t
+      → Sim m B j (nDid (numbered m) s (leaves v (acts r l p)) keep) (did m t (acts r l p) keep)
+  did-start v s t r l p keep q c n h = left-same v (nSent (numbered m) s (tag v p) keep) (sent m t p keep) r l q
+      (sent-start v s t p keep q c n h)
 
   -- ---- an event of another dialogue, v: nothing moves, and the end holds another number
 
-  put-other : (v : ℕ) (so : Sort) (s : NSys (numbered m)) (t : Sys m) (e : m .E) (keep : ℕ) → eqb v j ≡ false → Most m B j s t → Most m B j (nPut (numbered m) so s (mark v e) keep) t
+  put-other : (v : ℕ) (so : Sort) (s : NSys (numbered m)) (t : Sys m) (e : m .E) (keep : ℕ) → eqb v j ≡ false
+      → Most m B j s t → Most m B j (nPut (numbered m) so s (mark v e) keep) t
   put-other v begins s t e keep q h =
       record { here = record { line = snoc-other m j (s .here .line) (mark v e) q ∙ h .here .line; taken = h .here .taken; handed = h .here .handed }; there = h .there; far = h .far; broken = h .broken }
   put-other v breaks s t e keep q h =
@@ -142,15 +160,20 @@ module _ (m : Machine) (B : Base m) (j : ℕ) where
   put-other v plain s t e keep q h =
       record { here = record { line = snoc-other m j (s .here .line) (mark v e) q ∙ h .here .line; taken = h .here .taken; handed = h .here .handed }; there = h .there; far = h .far; broken = h .broken }
 
-  took-other : (v : ℕ) (s : NSys (numbered m)) (t : Sys m) (b : Body) (i : ℕ) → eqb v j ≡ false → Most m B j s t → Most m B j (nTook (numbered m) s v b i) t
+  took-other : (v : ℕ) (s : NSys (numbered m)) (t : Sys m) (b : Body) (i : ℕ) → eqb v j ≡ false → Most m B j s t
+      → Most m B j (nTook (numbered m) s v b i) t
   took-other v s t b i q h = record { here = record { line = h .here .line; taken = nay (eqb v j) _ _ q ∙ h .here .taken; handed = h .here .handed }; there = h .there; far = h .far; broken = h .broken }
 
-  sent-other : (v : ℕ) (s : NSys (numbered m)) (t : Sys m) (p : Sent (m .E)) (keep : ℕ) → eqb v j ≡ false → Most m B j s t → Most m B j (nSent (numbered m) s (tag v p) keep) t
+  sent-other : (v : ℕ) (s : NSys (numbered m)) (t : Sys m) (p : Sent (m .E)) (keep : ℕ) → eqb v j ≡ false
+      → Most m B j s t → Most m B j (nSent (numbered m) s (tag v p) keep) t
   sent-other v s t nothing keep q h = h
   sent-other v s t (puts e) keep q h = put-other v (m .sort e) s t e keep q h
-  sent-other v s t (message e b i) keep q h = took-other v (nPut (numbered m) (m .sort e) s (mark v e) keep) t b i q (put-other v (m .sort e) s t e keep q h)
+  sent-other v s t (message e b i) keep q h = took-other v (nPut (numbered m) (m .sort e) s (mark v e) keep) t b i q
+      (put-other v (m .sort e) s t e keep q h)
 
-  pub did-other : (v : ℕ) (s : NSys (numbered m)) (t : Sys m) (r : m .R) (l : List Body) (p : Sent (m .E)) (keep : ℕ) → eqb v j ≡ false → Most m B j s t → B .none ≡ t .here .rec → Sim m B j (nDid (numbered m) s (leaves v (acts r l p)) keep) t
+  pub did-other : (v : ℕ) (s : NSys (numbered m)) (t : Sys m) (r : m .R) (l : List Body) (p : Sent (m .E)) (keep : ℕ)
+      → eqb v j ≡ false → Most m B j s t → B .none ≡ t .here .rec
+      → Sim m B j (nDid (numbered m) s (leaves v (acts r l p)) keep) t
   did-other v s t r l p keep q h e =
       let g = sent-other v s t p keep q h in
       record {
@@ -165,7 +188,9 @@ module _ (m : Machine) (B : Base m) (j : ℕ) where
 
   -- ---- an event at an end that keeps its number; c: the step of the base carrier that it is
 
-  pub event : (sd : Side) (s : NSys (numbered m)) (o : Outcome (m .R) (m .E)) (keep : ℕ) (c : Step (m .A)) → Calm m o → ((t : Sys m) → t .here .rec ≡ s .here .rec .it → stepped m sd t c ≡ did m t o keep) → Got m B sd j s → Got m B sd j (nDid (numbered m) s (leaves (s .here .rec .no) o) keep)
+  pub event : (sd : Side) (s : NSys (numbered m)) (o : Outcome (m .R) (m .E)) (keep : ℕ) (c : Step (m .A)) → Calm m o
+      → ((t : Sys m) → t .here .rec ≡ s .here .rec .it → stepped m sd t c ≡ did m t o keep) → Got m B sd j s
+      → Got m B sd j (nDid (numbered m) s (leaves (s .here .rec .no) o) keep)
   event sd s refused keep c k f g = g
   event sd s (acts r l p) keep c k f g = go (eqb (s .here .rec .no) j) refl
     where
@@ -174,6 +199,7 @@ module _ (m : Machine) (B : Base m) (j : ℕ) where
           record {
             sys = did m (g .sys) (acts r l p) keep;
             sim = did-same (s .here .rec .no) s (g .sys) r l p keep q k (g .sim .most);
-            keeps = subst (B .P sd) (f (g .sys) (sym (g .sim .near) ∙ yes (eqb (s .here .rec .no) j) _ _ q)) (B .step sd (g .sys) c (g .keeps));
+            keeps = subst (B .P sd) (f (g .sys) (sym (g .sim .near) ∙ yes (eqb (s .here .rec .no) j) _ _ q))
+                (B .step sd (g .sys) c (g .keeps));
           }
       go false q = record { sys = g .sys; sim = did-other (s .here .rec .no) s (g .sys) r l p keep q (g .sim .most) (sym (nay (eqb (s .here .rec .no) j) _ _ q) ∙ g .sim .near); keeps = g .keeps }

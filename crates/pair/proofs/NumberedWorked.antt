@@ -56,13 +56,16 @@ abbrev view : Seen → Seen → Bool → Bool → View
 view a g b c = record { air = a; ground = g; broken1 = b; broken2 = c }
 
 abbrev after : List (Turn (Numbered Ask)) → View
-after ts = let s = nRun (numbered control) Air (nFresh (numbered control) (mark 0 new) (mark 0 new)) ts in view (ofParty (s .here)) (ofParty (s .there)) (s .broken 1) (s .broken 2)
+after ts = let s = nRun (numbered control) Air (nFresh (numbered control) (mark 0 new) (mark 0 new)) ts in view
+    (ofParty (s .here)) (ofParty (s .there)) (s .broken 1) (s .broken 2)
 
 -- the air starts 1, aborts, and starts 2 with START 1 and ABORT 1 still on the line; a start of 1 again is refused; the ground's is no step
 abbrev late : List (Turn (Numbered Ask))
 late = begins Air 1 ∷ asks Air UserAbort 1 ∷ begins Air 1 ∷ begins Ground 2 ∷ begins Air 2 ∷ []
 
-pub late-is : after late ≡ view (seen 2 (entered StartReq false) (mark 1 (DStart false) ∷ mark 1 DAbort ∷ mark 2 (DStart false) ∷ []) [] [] [] []) (seen 0 closed [] [] [] [] []) true false
+pub late-is : after late ≡ view
+    (seen 2 (entered StartReq false) (mark 1 (DStart false) ∷ mark 1 DAbort ∷ mark 2 (DStart false) ∷ []) [] [] [] [])
+    (seen 0 closed [] [] [] [] []) true false
 unfolding nRun
 late-is = refl
 
@@ -70,37 +73,47 @@ late-is = refl
 abbrev old : List (Turn (Numbered Ask))
 old = late ++ (gets Ground ∷ asks Ground (StartResponse false Accepted) 0 ∷ says Ground 1 70 ∷ [])
 
-pub old-is : after old ≡ view (seen 2 (entered StartReq false) (mark 1 DAbort ∷ mark 2 (DStart false) ∷ []) [] [] [] []) (seen 1 (entered Dialogue false) (mark 1 (DStartCnf Accepted) ∷ mark 1 DData ∷ []) ((70 ∷ []) ∷ []) [] [] []) true false
+pub old-is : after old ≡ view (seen 2 (entered StartReq false) (mark 1 DAbort ∷ mark 2 (DStart false) ∷ []) [] [] [] [])
+    (seen 1 (entered Dialogue false) (mark 1 (DStartCnf Accepted) ∷ mark 1 DData ∷ []) ((70 ∷ []) ∷ []) [] [] []) true
+    false
 unfolding nRun
 old-is = refl
 
 -- both are stale at the air; ABORT 1 closes the ground, START 2 opens it; job 1 stays taken; a message goes through in dialogue 2
 abbrev newer : List (Turn (Numbered Ask))
-newer = old ++ (gets Air ∷ gets Ground ∷ gets Ground ∷ asks Ground (StartResponse false Accepted) 0 ∷ says Ground 1 71 ∷ says Ground 2 72 ∷ gets Air ∷ gets Air ∷ gets Air ∷ [])
+newer = old ++ (gets Air ∷ gets Ground ∷ gets Ground ∷ asks Ground (StartResponse false Accepted) 0 ∷ says Ground 1 71 ∷
+    says Ground 2 72 ∷ gets Air ∷ gets Air ∷ gets Air ∷ [])
 
-pub newer-is : after newer ≡ view (seen 2 (entered Dialogue false) [] [] [] [] ((72 ∷ []) ∷ [])) (seen 2 (entered Dialogue false) [] ((70 ∷ []) ∷ []) [] ((72 ∷ []) ∷ []) []) true false
+pub newer-is : after newer ≡ view (seen 2 (entered Dialogue false) [] [] [] [] ((72 ∷ []) ∷ []))
+    (seen 2 (entered Dialogue false) [] ((70 ∷ []) ∷ []) [] ((72 ∷ []) ∷ []) []) true false
 unfolding nRun
 newer-is = refl
 
 -- a failure of the carrier breaks both dialogues that are alive
-pub failed-is : after (old ++ (turn Air fail ∷ [])) ≡ view (seen 2 closed [] [] [] [] []) (seen 1 closed [] ((70 ∷ []) ∷ []) [] [] []) true true
+pub failed-is : after (old ++ (turn Air fail ∷ [])) ≡ view (seen 2 closed [] [] [] [] [])
+    (seen 1 closed [] ((70 ∷ []) ∷ []) [] [] []) true true
 unfolding nRun
 failed-is = refl
 
 -- an abort in dialogue 2 loses entries of dialogue 2 only: START 1 and ABORT 1 stay, START 2 goes
-pub aborted-is : after (late ++ (asks Air UserAbort 0 ∷ [])) ≡ view (seen 2 closed (mark 1 (DStart false) ∷ mark 1 DAbort ∷ mark 2 DAbort ∷ []) [] [] [] []) (seen 0 closed [] [] [] [] []) true true
+pub aborted-is : after (late ++ (asks Air UserAbort 0 ∷ [])) ≡ view
+    (seen 2 closed (mark 1 (DStart false) ∷ mark 1 DAbort ∷ mark 2 DAbort ∷ []) [] [] [] [])
+    (seen 0 closed [] [] [] [] []) true true
 unfolding nRun
 aborted-is = refl
 
 -- the start that is turned away is that of number 2
-pub away-is : after (late ++ (turn Air (turn-away 0) ∷ [])) ≡ view (seen 2 closed (mark 1 (DStart false) ∷ mark 1 DAbort ∷ []) [] [] [] []) (seen 0 closed [] [] [] [] []) true false
+pub away-is : after (late ++ (turn Air (turn-away 0) ∷ [])) ≡ view
+    (seen 2 closed (mark 1 (DStart false) ∷ mark 1 DAbort ∷ []) [] [] [] []) (seen 0 closed [] [] [] [] []) true false
 unfolding nRun
 away-is = refl
 
 -- a dialogue that was closed by both ends is not broken by a failure that comes later: its message was handed over, and that is promised still
 abbrev closing : List (Turn (Numbered Ask))
-closing = begins Air 1 ∷ gets Ground ∷ asks Ground (StartResponse false Accepted) 0 ∷ gets Air ∷ says Ground 1 70 ∷ gets Air ∷ asks Ground (EndRequest false) 0 ∷ gets Air ∷ asks Air (EndResponse false Accepted) 0 ∷ gets Ground ∷ []
+closing = begins Air 1 ∷ gets Ground ∷ asks Ground (StartResponse false Accepted) 0 ∷ gets Air ∷ says Ground 1 70 ∷ gets
+    Air ∷ asks Ground (EndRequest false) 0 ∷ gets Air ∷ asks Air (EndResponse false Accepted) 0 ∷ gets Ground ∷ []
 
-pub closed-spared : after (closing ++ (turn Air fail ∷ [])) ≡ view (seen 1 closed [] [] ((70 ∷ []) ∷ []) [] []) (seen 1 closed [] ((70 ∷ []) ∷ []) [] [] []) false false
+pub closed-spared : after (closing ++ (turn Air fail ∷ [])) ≡ view (seen 1 closed [] [] ((70 ∷ []) ∷ []) [] [])
+    (seen 1 closed [] ((70 ∷ []) ∷ []) [] [] []) false false
 unfolding nRun
 closed-spared = refl

@@ -162,6 +162,7 @@ pub record Claims (m : Machine) (i j : ℕ) (s : Sys m) : Type 0 where
   -- what an end handed out in this dialogue is the beginning of what the other took in it, in that order
   pub handed-in-order : Prefix (s .there .handed) (s .here .taken) × Prefix (s .here .handed) (s .there .taken)
   -- and all of it, if both lines are empty and nothing broke the dialogue
-  pub handed-all : s .here .line ≡ [] → s .there .line ≡ [] → s .broken ≡ false → (s .there .handed ≡ s .here .taken) × (s .here .handed ≡ s .there .taken)
+  pub handed-all : s .here .line ≡ [] → s .there .line ≡ [] → s .broken ≡ false
+      → (s .there .handed ≡ s .here .taken) × (s .here .handed ≡ s .there .taken)
   -- each end takes its jobs in strictly rising order, over all its dialogues: none is taken twice
   pub jobs-rise : T (rising i (s .here .jobs)) × T (rising j (s .there .jobs))

@@ -22,10 +22,13 @@ pub rest : (s : Sys control) → s .here .line ≡ [] → s .there .line ≡ [] 
 rest s p q h =
     let a = s .here .rec .ctl in
     let g = s .there .rec .ctl in
-    let c = subst (λ (l : List Ent). T (sound Air (s .broken) (ok a) (front Ground g l))) p (subst (λ (l : List Ent). T (sound Air (s .broken) (front Air a l) (front Ground g (s .here .line)))) q (h .con)) in
+    let c = subst (λ (l : List Ent). T (sound Air (s .broken) (ok a) (front Ground g l))) p (subst
+    (λ (l : List Ent). T (sound Air (s .broken) (front Air a l) (front Ground g (s .here .line)))) q (h .con))
+    in
     and-l (matching a g) _ (and-l (strong Air a g) _ c)
 
-pub full : (sd : Side) (c : Control) (b : Bool) (l : List Ent) (gv tk : List Body) → l ≡ [] → b ≡ false → Data b gv (flow sd c l) tk → gv ≡ tk
+pub full : (sd : Side) (c : Control) (b : Bool) (l : List Ent) (gv tk : List Body) → l ≡ [] → b ≡ false
+    → Data b gv (flow sd c l) tk → gv ≡ tk
 full sd c b l gv tk e f d = sym (append-nil gv) ∙ subst (λ (k : List Ent). gv ++ flow sd c k ≡ tk) e (d .all f)
 
 held-to : {f g : ℕ} (s : Sys control) → Inv Air s → Both f g s → Claims control f g s
@@ -33,12 +36,14 @@ held-to s h j =
     record {
       ends-match = λ (p : s .here .line ≡ []) (q : s .there .line ≡ []). rest s p q h;
       handed-in-order = (pre-trans _ _ _ (pre-front _ _) (h .dataO .pre), pre-trans _ _ _ (pre-front _ _) (h .dataI .pre));
-      handed-all = λ (p : s .here .line ≡ []) (q : s .there .line ≡ []) (b : s .broken ≡ false). (full _ _ _ _ _ _ p b (h .dataO), full _ _ _ _ _ _ q b (h .dataI));
+      handed-all = λ (p : s .here .line ≡ []) (q : s .there .line ≡ []) (b : s .broken ≡ false).
+          (full _ _ _ _ _ _ p b (h .dataO), full _ _ _ _ _ _ q b (h .dataI));
       jobs-rise = (j .near .up, j .far .up);
     }
 
 pub control-holds : (i j : ℕ) (ts : List (Turn Ask)) → Claims control i j (run control (bothIdle i j) ts)
-control-holds i j ts = held-to (run control (bothIdle i j) ts) (run-keeps ts (bothIdle i j) (idle-inv i j)) (run-jobs ts (bothIdle i j) (idle-jobs i j))
+control-holds i j ts = held-to (run control (bothIdle i j) ts) (run-keeps ts (bothIdle i j) (idle-inv i j))
+    (run-jobs ts (bothIdle i j) (idle-jobs i j))
 
 -- ---- nothing unexpected is handed over
 
@@ -61,8 +66,11 @@ HeadsFit s = T (headFits Air (s .here .rec .ctl) (s .there .line)) × T (headFit
 heads-fit : (s : Sys control) → Inv Air s → HeadsFit s
 heads-fit s h =
     let x = front Air (s .here .rec .ctl) (s .there .line) in
-    let y = front Ground (s .there .rec .ctl) (s .here .line) in
-    (head-fits Air (s .here .rec .ctl) (s .there .line) (sound-left Air (s .broken) x y (h .con)), head-fits Ground (s .there .rec .ctl) (s .here .line) (sound-right Air (s .broken) x y (h .con)))
+    let y = front Ground (s .there .rec .ctl) (s .here .line) in (
+      head-fits Air (s .here .rec .ctl) (s .there .line) (sound-left Air (s .broken) x y (h .con)),
+      head-fits Ground
+          (s .there .rec .ctl) (s .here .line) (sound-right Air (s .broken) x y (h .con)),
+    )
 
 pub none-unexpected : (i j : ℕ) (ts : List (Turn Ask)) → HeadsFit (run control (bothIdle i j) ts)
 none-unexpected i j ts = heads-fit (run control (bothIdle i j) ts) (run-keeps ts (bothIdle i j) (idle-inv i j))

@@ -85,7 +85,8 @@ gets sd = record { side = sd; step = hand-over 0 }
 
 abbrev turns : List (Turn Order)
 turns =
-    asks Air (start-request dscMode 3 (9 ∷ [])) ∷ gets Ground ∷ asks Ground (start-response true 0 []) ∷ gets Air ∷ asks Air (message-request (5 ∷ []) 1) ∷ asks Air (message-request [] 2) ∷
+    asks Air (start-request dscMode 3 (9 ∷ [])) ∷ gets Ground ∷ asks Ground (start-response true 0 []) ∷ gets Air ∷ asks
+    Air (message-request (5 ∷ []) 1) ∷ asks Air (message-request [] 2) ∷
     asks Air (message-request (6 ∷ []) 2) ∷ gets Ground ∷ asks Air (end-request true []) ∷ []
 
 abbrev after : List (Turn Order) → Sys (stepMachine sample 1)
@@ -93,9 +94,12 @@ after ts = run (stepMachine sample 1) (fresh (stepMachine sample 1) (freshWith P
 
 -- the second message request has no message and is refused, so its job is free
 pub bytes-run :
-    (after turns .here .rec .control ≡ entered End true) × (after turns .there .rec .control ≡ entered Dialogue true) × (after turns .here .taken ≡ (5 ∷ []) ∷ (6 ∷ []) ∷ []) × (after turns .there .handed ≡ (5 ∷ []) ∷ [])
+    (after turns .here .rec .control ≡ entered End true) × (after turns .there .rec .control ≡ entered Dialogue true) ×
+    (after turns .here .taken ≡ (5 ∷ []) ∷ (6 ∷ []) ∷ []) × (after turns .there .handed ≡ (5 ∷ []) ∷ [])
     × (after turns .here .jobs ≡ 1 ∷ 2 ∷ []) × (after turns .here .line ≡ record { primitive = DDataRequest; bytes = 2 ∷ (0 ∷ (6 ∷ [])) } ∷ (record { primitive = DEndRequest; bytes = 2 ∷ (0 ∷ []) } ∷ []))
-unfolding run step refusalOf eventFits userFits hasMode serviceFits userDataFits permitted callOf messageRefusal unsent acts called reached startRequest startResponse messageRequest endRequest sent replyOf enter qosFits firstFault indicationFault confirmationFault sendFault startFits pduFault answered instructed handed
+unfolding run step refusalOf eventFits userFits hasMode serviceFits userDataFits permitted callOf messageRefusal unsent
+    acts called reached startRequest startResponse messageRequest endRequest sent replyOf enter qosFits firstFault
+    indicationFault confirmationFault sendFault startFits pduFault answered instructed handed
 bytes-run = (refl, refl, refl, refl, refl, refl)
 
 -- t-start expires before the response is delivered: the ground is told by the D-ABORT, and the air discards the response
@@ -104,7 +108,9 @@ late = asks Air (start-request dscMode 0 []) ∷ gets Ground ∷ asks Ground (st
 
 pub bytes-late :
     (after late .here .rec .control ≡ closed) × (after late .there .rec .control ≡ entered Dialogue true) × (after late .here .line ≡ record { primitive = DAbortRequest 1; bytes = 4 ∷ (0 ∷ []) } ∷ []) × (after late .there .line ≡ []) × (after late .broken ≡ true)
-unfolding run step refusalOf eventFits userFits hasMode serviceFits userDataFits permitted callOf messageRefusal unsent acts called reached startRequest startResponse sent replyOf enter qosFits firstFault indicationFault startFits pduFault answered instructed handed timerExpires excepts aborts tell
+unfolding run step refusalOf eventFits userFits hasMode serviceFits userDataFits permitted callOf messageRefusal unsent
+    acts called reached startRequest startResponse sent replyOf enter qosFits firstFault indicationFault startFits
+    pduFault answered instructed handed timerExpires excepts aborts tell
 bytes-late = (refl, refl, refl, refl, refl)
 
 -- ---- a run of two ends of type 2: nothing is sent with the start, the answer that accepts it, the end and its answer; the message arrives, and both close
@@ -117,12 +123,19 @@ opened = asks Air (start-request 0 3 []) ∷ gets Ground ∷ asks Ground (start-
 
 abbrev closing : List (Turn Order)
 closing =
-    asks Air (start-request 0 3 []) ∷ gets Ground ∷ asks Ground (start-response false 0 []) ∷ gets Air ∷ asks Ground (message-request (5 ∷ []) 1) ∷ gets Air ∷ asks Ground (end-request false []) ∷ gets Air ∷ asks Air (end-response false 0 []) ∷ gets Ground ∷ []
+    asks Air (start-request 0 3 []) ∷ gets Ground ∷ asks Ground (start-response false 0 []) ∷ gets Air ∷ asks Ground
+    (message-request (5 ∷ []) 1) ∷ gets Air ∷ asks Ground (end-request false []) ∷ gets Air ∷ asks Air
+    (end-response false 0 []) ∷ gets Ground ∷ []
 
 pub plain-opened : plainly opened .there .line ≡ record { primitive = DStartResponse 0 0; bytes = [] } ∷ []
-unfolding run step refusalOf eventFits userFits hasMode serviceFits userDataFits permitted callOf messageRefusal unsent acts called reached startRequest startResponse messageRequest endRequest endResponse sent replyOf enter qosFits firstFault indicationFault confirmationFault sendFault startFits pduFault answered instructed handed
+unfolding run step refusalOf eventFits userFits hasMode serviceFits userDataFits permitted callOf messageRefusal unsent
+    acts called reached startRequest startResponse messageRequest endRequest endResponse sent replyOf enter qosFits
+    firstFault indicationFault confirmationFault sendFault startFits pduFault answered instructed handed
 plain-opened = refl
 
-pub plain-closed : (plainly closing .here .rec .control ≡ closed) × (plainly closing .there .rec .control ≡ closed) × (plainly closing .here .handed ≡ (5 ∷ []) ∷ [])
-unfolding run step refusalOf eventFits userFits hasMode serviceFits userDataFits permitted callOf messageRefusal unsent acts called reached startRequest startResponse messageRequest endRequest endResponse sent replyOf enter qosFits firstFault indicationFault confirmationFault sendFault startFits pduFault answered instructed handed
+pub plain-closed : (plainly closing .here .rec .control ≡ closed) × (plainly closing .there .rec .control ≡ closed) ×
+    (plainly closing .here .handed ≡ (5 ∷ []) ∷ [])
+unfolding run step refusalOf eventFits userFits hasMode serviceFits userDataFits permitted callOf messageRefusal unsent
+    acts called reached startRequest startResponse messageRequest endRequest endResponse sent replyOf enter qosFits
+    firstFault indicationFault confirmationFault sendFault startFits pduFault answered instructed handed
 plain-closed = (refl, refl, refl)

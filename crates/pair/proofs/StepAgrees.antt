@@ -36,20 +36,28 @@ use Rattle.pair.proofs.StepReceives.{receive-rel, away-rel, p-abort-rel
 -- p is a security value
 module _ (K : Codec) (ed : Edition) (p : ℕ) (fair : securitySent (secures ed) p ≡ p) (v : T (ltb p securityValues)) where
   -- what a primitive does to a formed record leaves a formed one
-  pub formed-service : (sd : Side) (r : Record) (e : ServicePrimitive) (a : UserData) (x : Body) (z : C.Outcome Held Ent) → Local ed p r → OutRel (Low ed p) (Means K ed p sd) (happens K sd (step sd r (Service e a)) x) z → OutRel (Same ed p) (Means K ed p sd) (happens K sd (step sd r (Service e a)) x) z
-  formed-service sd r e a x z h y = same-out ed p (Means K ed p sd) (happens K sd (step sd r (Service e a)) x) z (happens-formed K sd r (Service e a) x (h .formed)) y
+  pub formed-service : (sd : Side) (r : Record) (e : ServicePrimitive) (a : UserData) (x : Body) (z : C.Outcome Held Ent)
+      → Local ed p r → OutRel (Low ed p) (Means K ed p sd) (happens K sd (step sd r (Service e a)) x) z
+      → OutRel (Same ed p) (Means K ed p sd) (happens K sd (step sd r (Service e a)) x) z
+  formed-service sd r e a x z h y = same-out ed p (Means K ed p sd) (happens K sd (step sd r (Service e a)) x) z
+      (happens-formed K sd r (Service e a) x (h .formed)) y
 
-  pub receive-at : (sd : Side) (r : Record) (w : Wire) (f : Ent) → Local ed p r → Means K ed p (other sd) w f → OutRel (Same ed p) (Means K ed p sd) (stepMachine K p .receive sd r w) (receives sd (lowOf r) f)
+  pub receive-at : (sd : Side) (r : Record) (w : Wire) (f : Ent) → Local ed p r → Means K ed p (other sd) w f
+      → OutRel (Same ed p) (Means K ed p sd) (stepMachine K p .receive sd r w) (receives sd (lowOf r) f)
   receive-at sd r w f h e =
       let x = K .dec (other sd) (w .bytes) in
-      formed-service sd r (arrives sd (w .primitive)) (apduOf x) (bodyOf x) (receives sd (lowOf r) f) h (receive-rel K ed p sd r (w .primitive) x f h (is-T (ltb p securityValues) v) e)
+      formed-service sd r (arrives sd (w .primitive)) (apduOf x) (bodyOf x) (receives sd (lowOf r) f) h
+      (receive-rel K ed p sd r (w .primitive) x f h (is-T (ltb p securityValues) v) e)
 
   -- a report: an expiry, a system error
   pub formed-report : (sd : Side) (r : Record) (e : Event) (u : Call) → Local ed p r → Follows {X = Unit {0}} (Low ed p) (Means K ed p sd) (happens K sd (step sd r e) []) (lowOf r) (λ (y : Unit {0}). callOf sd (lowOf r) (ask u [] 0)) → Follows {X = Unit {0}} (Same ed p) (Means K ed p sd) (happens K sd (step sd r e) []) (lowOf r) (λ (y : Unit {0}). callOf sd (lowOf r) (ask u [] 0))
   formed-report sd r e u h x = same-follows ed p (Means K ed p sd) (happens K sd (step sd r e) []) (lowOf r) (λ (y : Unit {0}). callOf sd (lowOf r) (ask u [] 0)) (happens-formed K sd r e [] (h .formed)) x
 
-  pub call-at : (sd : Side) (r : Record) (a : Order) → Local ed p r → Follows (Same ed p) (Means K ed p sd) (calls K sd (step sd r (User (asked K p a))) (dataOf a) (jobOf a)) (lowOf r) (callOf sd (lowOf r))
-  call-at sd r a h = same-follows ed p (Means K ed p sd) (calls K sd (step sd r (User (asked K p a))) (dataOf a) (jobOf a)) (lowOf r) (callOf sd (lowOf r)) (calls-formed K sd r (User (asked K p a)) (dataOf a) (jobOf a) (h .formed)) (call-rel K ed p fair sd r a h)
+  pub call-at : (sd : Side) (r : Record) (a : Order) → Local ed p r
+      → Follows (Same ed p) (Means K ed p sd) (calls K sd (step sd r (User (asked K p a))) (dataOf a) (jobOf a)) (lowOf r) (callOf sd (lowOf r))
+  call-at sd r a h = same-follows ed p (Means K ed p sd)
+      (calls K sd (step sd r (User (asked K p a))) (dataOf a) (jobOf a)) (lowOf r) (callOf sd (lowOf r))
+      (calls-formed K sd r (User (asked K p a)) (dataOf a) (jobOf a) (h .formed)) (call-rel K ed p fair sd r a h)
 
   abbrev pub agrees : Agree (stepMachine K p) control
   agrees = record {
@@ -58,17 +66,24 @@ module _ (K : Codec) (ed : Edition) (p : ℕ) (fair : securitySent (secures ed) 
     ctl-is = λ (sd : Side) (r : Record) (q : Held) (h : Same ed p r q). ap (λ (x : Held). x .ctl) (h .low);
     sort-is = λ (sd : Side) (w : Wire) (f : Ent) (e : Means K ed p sd w f). meaning-sort ed p (w .primitive) (K .dec sd (w .bytes)) f e;
     call-is = λ (sd : Side) (r : Record) (q : Held) (a : Order) (h : Same ed p r q).
-        subst (λ (x : Held). Follows (Same ed p) (Means K ed p sd) (calls K sd (step sd r (User (asked K p a))) (dataOf a) (jobOf a)) x (callOf sd x)) (h .low) (call-at sd r a (h .local));
+        subst (λ (x : Held). Follows (Same ed p) (Means K ed p sd)
+        (calls K sd (step sd r (User (asked K p a))) (dataOf a) (jobOf a)) x (callOf sd x)) (h .low)
+        (call-at sd r a (h .local));
     receive-is = λ (sd : Side) (r : Record) (q : Held) (w : Wire) (f : Ent) (h : Same ed p r q) (e : Means K ed p (other sd) w f).
-        subst (λ (x : Held). OutRel (Same ed p) (Means K ed p sd) (stepMachine K p .receive sd r w) (receives sd x f)) (h .low) (receive-at sd r w f (h .local) e);
+        subst (λ (x : Held). OutRel (Same ed p) (Means K ed p sd) (stepMachine K p .receive sd r w) (receives sd x f))
+        (h .low) (receive-at sd r w f (h .local) e);
     expiry-is = λ (sd : Side) (r : Record) (q : Held) (h : Same ed p r q).
         subst (λ (x : Held). Follows {X = Unit {0}} (Same ed p) (Means K ed p sd) (happens K sd (step sd r TimerExpires) []) x (λ (y : Unit {0}). callOf sd x (ask TimerExpiry [] 0))) (h .low) (formed-report sd r TimerExpires TimerExpiry (h .local) (expiry-rel K ed p sd r (h .local)));
     error-is = λ (sd : Side) (r : Record) (q : Held) (h : Same ed p r q).
         subst (λ (x : Held). Follows {X = Unit {0}} (Same ed p) (Means K ed p sd) (happens K sd (step sd r UnrecoverableSystemError) []) x (λ (y : Unit {0}). callOf sd x (ask SystemError [] 0))) (h .low) (formed-report sd r UnrecoverableSystemError SystemError (h .local) (error-rel K ed p sd r (h .local)));
     away-is = λ (sd : Side) (r : Record) (q : Held) (h : Same ed p r q).
-        subst (λ (x : Held). OutRel (Same ed p) (Means K ed p sd) (stepMachine K p .away sd r) (receives sd x (ent DTurnedAway []))) (h .low) (formed-service sd r rejects Absent [] (receives sd (lowOf r) (ent DTurnedAway [])) (h .local) (away-rel K ed p sd r (h .local)));
+        subst (λ (x : Held). OutRel (Same ed p) (Means K ed p sd) (stepMachine K p .away sd r)
+        (receives sd x (ent DTurnedAway []))) (h .low) (formed-service sd r rejects Absent []
+        (receives sd (lowOf r) (ent DTurnedAway [])) (h .local) (away-rel K ed p sd r (h .local)));
     p-abort-is = λ (sd : Side) (r : Record) (q : Held) (h : Same ed p r q).
-        subst (λ (x : Held). OutRel (Same ed p) (Means K ed p sd) (stepMachine K p .pAbort sd r) (receives sd x (ent DPAbort []))) (h .low) (formed-service sd r DPAbortIndication Absent [] (receives sd (lowOf r) (ent DPAbort [])) (h .local) (p-abort-rel K ed p sd r (h .local)));
+        subst (λ (x : Held). OutRel (Same ed p) (Means K ed p sd) (stepMachine K p .pAbort sd r)
+        (receives sd x (ent DPAbort []))) (h .low) (formed-service sd r DPAbortIndication Absent []
+        (receives sd (lowOf r) (ent DPAbort [])) (h .local) (p-abort-rel K ed p sd r (h .local)));
   }
 
   -- an IDLE record, whatever its highest job
@@ -87,7 +102,8 @@ module _ (K : Codec) (ed : Edition) (p : ℕ) (fair : securitySent (secures ed) 
     -- and on every run t-start runs exactly in START-REQ, the user is active exactly outside IDLE, and IDLE has DSC false
     pub step-local : (ts : List (Turn Order)) → Local ed p (after ts .here .rec) × Local ed p (after ts .there .rec)
     step-local ts =
-        let f = followed (stepMachine K p) control agrees r q (held closed (r .highest)) (held closed (q .highest)) (idle-same r h i) (idle-same q k j) ts .rel in
+        let f = followed (stepMachine K p) control agrees r q (held closed (r .highest)) (held closed (q .highest))
+        (idle-same r h i) (idle-same q k j) ts .rel in
         (f .here .rec .local, f .there .rec .local)
 
     -- and no machine answers an entry that is handed over by a D-ABORT

@@ -87,7 +87,8 @@ calls-formed K sd r e b j h = go (isNone (step sd r e .refusal) && K .fits sd (s
 low-same : (ed : Edition) (p : ℕ) (r : Record) (q : Held) → Formed r → Low ed p r q → Same ed p r q
 low-same ed p r q f h = record { low = h .low; local = record { edition = h .edition; formed = f; policy = h .policy; request = h .request; dialogue = h .dialogue } }
 
-pub same-out : (ed : Edition) (p : ℕ) (EE : Wire → Ent → Type 0) (o : C.Outcome Record Wire) (z : C.Outcome Held Ent) → FormedOut o → OutRel (Low ed p) EE o z → OutRel (Same ed p) EE o z
+pub same-out : (ed : Edition) (p : ℕ) (EE : Wire → Ent → Type 0) (o : C.Outcome Record Wire) (z : C.Outcome Held Ent)
+    → FormedOut o → OutRel (Low ed p) EE o z → OutRel (Same ed p) EE o z
 same-out ed p EE C.refused C.refused f x = x
 same-out ed p EE C.refused (C.acts q k s) f x = x
 same-out ed p EE (C.acts r l w) C.refused f x = x

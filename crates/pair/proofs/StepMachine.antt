@@ -139,7 +139,9 @@ stepMachine K p = record {
   ctl = λ (r : Record). r .control;
   sort = λ (w : Wire). sortOf (w .primitive);
   call = λ (sd : Side) (r : Record) (a : Order). calls K sd (step sd r (User (asked K p a))) (dataOf a) (jobOf a);
-  receive = λ (sd : Side) (r : Record) (w : Wire). happens K sd (step sd r (Service (arrives sd (w .primitive)) (apduOf (K .dec (other sd) (w .bytes))))) (bodyOf (K .dec (other sd) (w .bytes)));
+  receive = λ (sd : Side) (r : Record) (w : Wire). happens K sd
+      (step sd r (Service (arrives sd (w .primitive)) (apduOf (K .dec (other sd) (w .bytes)))))
+      (bodyOf (K .dec (other sd) (w .bytes)));
   expiry = λ (sd : Side) (r : Record). happens K sd (step sd r TimerExpires) [];
   error = λ (sd : Side) (r : Record). happens K sd (step sd r UnrecoverableSystemError) [];
   away = λ (sd : Side) (r : Record). happens K sd (step sd r (Service rejects Absent)) [];

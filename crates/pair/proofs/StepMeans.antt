@@ -138,13 +138,16 @@ abort-is ed o (AbortProvider x) f e = ap entOf (known-if (eqb o provider && ltb 
 abort-is ed o Forward f e = never f e
 abort-is ed o (ForwardResponse x) f e = never f e
 
-meant-sort : (ed : Edition) (p : ℕ) (i : Invoked) (a : UserData) (b : Body) (f : Ent) → meant ed p i a b ≡ known f → sortOf i ≡ M.sortOf (f .kind)
+meant-sort : (ed : Edition) (p : ℕ) (i : Invoked) (a : UserData) (b : Body) (f : Ent) → meant ed p i a b ≡ known f
+    → sortOf i ≡ M.sortOf (f .kind)
 meant-sort ed p Silent a b f e = never f e
 meant-sort ed p (DStartRequest q s) a b f e = start-sort a b f (known-if (qosFits q && eqb s p) (startOf a b) f e .1)
-meant-sort ed p (DStartResponse x s) a b f e = send-sort (spares ed) _ (DStartCnf (replyOf x)) a b f (known-if (ltb x results && eqb s p) (answerOf ed x a b) f e .1)
+meant-sort ed p (DStartResponse x s) a b f e = send-sort (spares ed) _ (DStartCnf (replyOf x)) a b f
+    (known-if (ltb x results && eqb s p) (answerOf ed x a b) f e .1)
 meant-sort ed p DDataRequest a b f e = send-sort false true DData a b f e
 meant-sort ed p DEndRequest a b f e = send-sort (spares ed) true DEnd a b f e
-meant-sort ed p (DEndResponse x) a b f e = send-sort (spares ed) true (DEndCnf (replyOf x)) a b f (known-if (ltb x results) (sendOf (spares ed) true (DEndCnf (replyOf x)) a b) f e .1)
+meant-sort ed p (DEndResponse x) a b f e = send-sort (spares ed) true (DEndCnf (replyOf x)) a b f
+    (known-if (ltb x results) (sendOf (spares ed) true (DEndCnf (replyOf x)) a b) f e .1)
 meant-sort ed p (DAbortRequest o) a b f e = ap (λ (x : Ent). M.sortOf (x .kind)) (abort-is ed o a f e)
 meant-sort ed p (DStartForwardRequest q s v) a b f e = never f e
 meant-sort ed p (DStartForwardResponse s v) a b f e = never f e
@@ -159,12 +162,15 @@ meaning-sort ed p i fault f e = never f e
 pub written : (K : Codec) (ed : Edition) (p : ℕ) (sd : Side) (i : Invoked) (a : UserData) (b : Body) (f : Ent) → T (K .fits sd a b) → meant ed p i a b ≡ known f → Means K ed p sd (record { primitive = i; bytes = K .enc sd a b }) f
 written K ed p sd i a b f t e = ap (λ (x : Read). meaning ed p i x) (K .back sd a b t) ∙ e
 
-pub start-means : (ed : Edition) (p k : ℕ) (m : Bool) (b : Body) → T (ltb k routingClasses) → meant ed p (DStartRequest (qosAsked k) p) (Start m) b ≡ known (ent (DStart m) b)
+pub start-means : (ed : Edition) (p k : ℕ) (m : Bool) (b : Body) → T (ltb k routingClasses)
+    → meant ed p (DStartRequest (qosAsked k) p) (Start m) b ≡ known (ent (DStart m) b)
 unfolding qosFits
-start-means ed p k m b t = yes (ltb k routingClasses && eqb p p) (known (ent (DStart m) b)) (ap (λ (x : Bool). x && eqb p p) (is-T (ltb k routingClasses) t) ∙ eq-eqb p p refl)
+start-means ed p k m b t = yes (ltb k routingClasses && eqb p p) (known (ent (DStart m) b))
+    (ap (λ (x : Bool). x && eqb p p) (is-T (ltb k routingClasses) t) ∙ eq-eqb p p refl)
 
 -- the user data of an answer and of an end, as the edition has them (h: is there a message)
-send-known : (t h y : Bool) (k : Primitive) (b : Body) → not (t && (y && h)) ≡ true → sendOf t (not (t && y)) k (cond (t && not h) Absent Send) b ≡ known (ent k b)
+send-known : (t h y : Bool) (k : Primitive) (b : Body) → not (t && (y && h)) ≡ true
+    → sendOf t (not (t && y)) k (cond (t && not h) Absent Send) b ≡ known (ent k b)
 send-known true true true k b e = absurd (subst T (sym e) tt)
 send-known true true false k b e = refl
 send-known true false y k b e = refl
@@ -177,20 +183,28 @@ end-known true false k b = refl
 end-known false true k b = refl
 end-known false false k b = refl
 
-pub answer-means : (ed : Edition) (p x s : ℕ) (h : Bool) (b : Body) → answerFits (spares ed) x h ≡ true → s ≡ p → meant ed p (DStartResponse x s) (unlessSpared (spares ed) h) b ≡ known (ent (DStartCnf (replyOf x)) b)
+pub answer-means : (ed : Edition) (p x s : ℕ) (h : Bool) (b : Body) → answerFits (spares ed) x h ≡ true → s ≡ p
+    → meant ed p (DStartResponse x s) (unlessSpared (spares ed) h) b ≡ known (ent (DStartCnf (replyOf x)) b)
 answer-means ed p x s h b t e =
-    yes (ltb x results && eqb s p) (answerOf ed x (cond (spares ed && not h) Absent Send) b) (ap (λ (y : Bool). y && eqb s p) (both-right (not (spares ed && (eqb x accepted && h))) _ t) ∙ eq-eqb s p e)
+    yes (ltb x results && eqb s p) (answerOf ed x (cond (spares ed && not h) Absent Send) b)
+    (ap (λ (y : Bool). y && eqb s p) (both-right (not (spares ed && (eqb x accepted && h))) _ t) ∙ eq-eqb s p e)
     ∙ send-known (spares ed) h (eqb x accepted) (DStartCnf (replyOf x)) b (both-left (not (spares ed && (eqb x accepted && h))) _ t)
 
-pub end-request-means : (ed : Edition) (p : ℕ) (h : Bool) (b : Body) → meant ed p DEndRequest (unlessSpared (spares ed) h) b ≡ known (ent DEnd b)
+pub end-request-means : (ed : Edition) (p : ℕ) (h : Bool) (b : Body)
+    → meant ed p DEndRequest (unlessSpared (spares ed) h) b ≡ known (ent DEnd b)
 end-request-means ed p h b = end-known (spares ed) h DEnd b
 
-pub end-means : (ed : Edition) (p x : ℕ) (h : Bool) (b : Body) → T (ltb x results) → meant ed p (DEndResponse x) (unlessSpared (spares ed) h) b ≡ known (ent (DEndCnf (replyOf x)) b)
-end-means ed p x h b t = yes (ltb x results) (sendOf (spares ed) true (DEndCnf (replyOf x)) (cond (spares ed && not h) Absent Send) b) (is-T (ltb x results) t) ∙ end-known (spares ed) h (DEndCnf (replyOf x)) b
+pub end-means : (ed : Edition) (p x : ℕ) (h : Bool) (b : Body) → T (ltb x results)
+    → meant ed p (DEndResponse x) (unlessSpared (spares ed) h) b ≡ known (ent (DEndCnf (replyOf x)) b)
+end-means ed p x h b t = yes (ltb x results)
+    (sendOf (spares ed) true (DEndCnf (replyOf x)) (cond (spares ed && not h) Absent Send) b) (is-T (ltb x results) t) ∙
+    end-known (spares ed) h (DEndCnf (replyOf x)) b
 
-pub user-means : (ed : Edition) (p x : ℕ) → T (ltb x (userReasons ed)) → meant ed p (DAbortRequest user) (AbortUser x) [] ≡ known (ent DAbort [])
+pub user-means : (ed : Edition) (p x : ℕ) → T (ltb x (userReasons ed))
+    → meant ed p (DAbortRequest user) (AbortUser x) [] ≡ known (ent DAbort [])
 user-means ed p x t = yes (ltb x (userReasons ed)) (known (ent DAbort [])) (is-T (ltb x (userReasons ed)) t)
 
 -- a provider abort
 pub abort-means : (K : Codec) (ed : Edition) (p : ℕ) (sd : Side) (x : ℕ) → T (ltb x providerReasons) → Means K ed p sd (record { primitive = DAbortRequest provider; bytes = K .enc sd (AbortProvider x) [] }) (ent DAbort [])
-abort-means K ed p sd x t = written K ed p sd (DAbortRequest provider) (AbortProvider x) [] (ent DAbort []) (K .reasons-fit sd x t) (yes (ltb x providerReasons) (known (ent DAbort [])) (is-T (ltb x providerReasons) t))
+abort-means K ed p sd x t = written K ed p sd (DAbortRequest provider) (AbortProvider x) [] (ent DAbort [])
+    (K .reasons-fit sd x t) (yes (ltb x providerReasons) (known (ent DAbort [])) (is-T (ltb x providerReasons) t))

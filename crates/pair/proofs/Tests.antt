@@ -31,21 +31,29 @@ gives sd (ok c) k = hands sd c k
 
 -- at each call that is taken and is no start
 abbrev pub firstT : Side → Bool
-firstT sd = allCall (λ (u : Call). allControl (λ (c : Control). imp (takes sd c u) (imp (calm u) (commutes sd u (ok c) (ok (goes c u)) && allPrimitive (λ (z : Primitive). commutes sd u (recv sd c z) (recv sd (goes c u) z))))))
+firstT sd = allCall (λ (u : Call). allControl (λ (c : Control). imp (takes sd c u) (imp (calm u) (commutes sd u (ok c)
+    (ok (goes c u)) && allPrimitive
+    (λ (z : Primitive). commutes sd u (recv sd c z) (recv sd (goes c u) z))))))
 
 abbrev pub closedT : Side → Bool
-closedT sd = allCall (λ (u : Call). imp (calm u) (allDr (λ (x : Dr). allDr (λ (y : Dr). imp (commutes sd u x y) (allPrimitive (λ (z : Primitive). commutes sd u (later sd x z) (later sd y z)))))))
+closedT sd = allCall (λ (u : Call). imp (calm u) (allDr (λ (x : Dr). allDr (λ (y : Dr). imp (commutes sd u x y)
+    (allPrimitive (λ (z : Primitive). commutes sd u (later sd x z) (later sd y z)))))))
 
 -- what was as it should be stays so when the other end has been handed what was sent
 abbrev pub goodT : Side → Bool
-goodT sd = allCall (λ (u : Call). imp (calm u) (imp (mild u) (allDr (λ (x : Dr). allDr (λ (y : Dr). imp (commutes sd u x y) (allBool (λ (b : Bool). allDr (λ (w : Dr). imp (sound sd b x w) (sound sd b y (later (other sd) w (sends u)))))))))))
+goodT sd = allCall (λ (u : Call). imp (calm u) (imp (mild u) (allDr (λ (x : Dr). allDr (λ (y : Dr). imp
+    (commutes sd u x y) (allBool (λ (b : Bool). allDr
+    (λ (w : Dr). imp (sound sd b x w) (sound sd b y (later (other sd) w (sends u)))))))))))
 
 -- an abort makes it so from any w, since what was sent before may be lost
 abbrev pub abortT : Side → Bool
-abortT sd = allCall (λ (u : Call). imp (cuts u) (allDr (λ (x : Dr). allDr (λ (y : Dr). imp (commutes sd u x y) (imp (fine x) (allDr (λ (w : Dr). imp (fine w) (sound sd true y (later (other sd) w (sends u))))))))))
+abortT sd = allCall (λ (u : Call). imp (cuts u) (allDr (λ (x : Dr). allDr (λ (y : Dr). imp (commutes sd u x y)
+    (imp (fine x) (allDr (λ (w : Dr). imp (fine w) (sound sd true y (later (other sd) w (sends u))))))))))
 
 abbrev pub startT : Side → Bool
-startT sd = allCall (λ (u : Call). allControl (λ (c : Control). imp (isClosed c) (imp (takes sd c u) (imp (starting u) (allControl (λ (g : Control). imp (isClosed g) (sound sd false (ok (goes c u)) (recv (other sd) g (sends u)))))))))
+startT sd = allCall (λ (u : Call). allControl (λ (c : Control). imp (isClosed c) (imp (takes sd c u) (imp (starting u) (
+    allControl (λ (g : Control). imp (isClosed g)
+    (sound sd false (ok (goes c u)) (recv (other sd) g (sends u)))))))))
 
 -- a call and a primitive leave DSC false in IDLE
 abbrev pub goesT : Side → Bool
@@ -56,18 +64,23 @@ afterT sd = allControl (λ (c : Control). allPrimitive (λ (k : Primitive). imp 
 
 -- who may call is not about to be handed a start
 abbrev pub headT : Side → Bool
-headT sd = allCall (λ (u : Call). allControl (λ (c : Control). imp (takes sd c u) (imp (calm u) (allPrimitive (λ (z : Primitive). imp (isStart z) (not (fine (recv sd c z))))))))
+headT sd = allCall (λ (u : Call). allControl (λ (c : Control). imp (takes sd c u)
+    (imp (calm u) (allPrimitive (λ (z : Primitive). imp (isStart z) (not (fine (recv sd c z))))))))
 
 abbrev pub sortT : Side → Bool
 sortT sd = allCall (λ (u : Call). imp (calm u) (not (isStart (sends u))))
 
 -- a call that is no abort changes nothing of what the end will hand out
 abbrev pub alikeT : Side → Bool
-alikeT sd = allCall (λ (u : Call). imp (calm u) (imp (mild u) (allDr (λ (x : Dr). allDr (λ (y : Dr). imp (commutes sd u x y) (allPrimitive (λ (z : Primitive). imp (fine (later sd x z)) (same (gives sd x z) (gives sd y z)))))))))
+alikeT sd = allCall (λ (u : Call). imp (calm u) (imp (mild u) (allDr (λ (x : Dr). allDr (λ (y : Dr). imp
+    (commutes sd u x y) (allPrimitive
+    (λ (z : Primitive). imp (fine (later sd x z)) (same (gives sd x z) (gives sd y z)))))))))
 
 -- a message is handed out by the other end if the dialogue is not broken, and not if it is
 abbrev pub sendT : Side → Bool
-sendT sd = allCall (λ (u : Call). imp (says u) (allDr (λ (x : Dr). allDr (λ (y : Dr). imp (commutes sd u x y) (allBool (λ (b : Bool). allDr (λ (w : Dr). imp (sound sd b x w) (same (gives (other sd) w (sends u)) (not b)))))))))
+sendT sd = allCall (λ (u : Call). imp (says u) (allDr (λ (x : Dr). allDr (λ (y : Dr). imp (commutes sd u x y) (
+    allBool (λ (b : Bool). allDr
+    (λ (w : Dr). imp (sound sd b x w) (same (gives (other sd) w (sends u)) (not b)))))))))
 
 -- nothing else is
 abbrev pub noneT : Side → Bool
@@ -94,7 +107,8 @@ abbrev pub takenT : Side → Bool
 takenT sd = allControl (λ (c : Control). allPrimitive (λ (z : Primitive). imp (isStart z) (imp (fine (recv sd c z)) (isIdle c))))
 
 abbrev pub turnT : Side → Bool
-turnT sd = allBool (λ (b : Bool). allControl (λ (c : Control). allDr (λ (w : Dr). imp (sound sd b (ok c) w) (imp (is (c .state) StartReq) (not b && (isInd w && expects sd c DTurnedAway))))))
+turnT sd = allBool (λ (b : Bool). allControl (λ (c : Control). allDr (λ (w : Dr). imp (sound sd b (ok c) w)
+    (imp (is (c .state) StartReq) (not b && (isInd w && expects sd c DTurnedAway))))))
 
 abbrev pub flipT : Side → Bool
 flipT sd = allBool (λ (b : Bool). allDr (λ (x : Dr). allDr (λ (y : Dr). imp (sound sd b x y) (sound (other sd) b y x))))
@@ -115,7 +129,8 @@ apartT sd = allPrimitive (λ (k : Primitive). imp (isStart k) (not (isData k)))
 
 -- an entry that is handed over and does not spoil the line was expected
 abbrev pub viewT : Side → Bool
-viewT sd = allControl (λ (c : Control). allPrimitive (λ (k : Primitive). imp (not (deaf c k)) (imp (fine (recv sd c k)) (expects sd c k && imp (isLoss k) (isClosed (after c k))))))
+viewT sd = allControl (λ (c : Control). allPrimitive (λ (k : Primitive). imp (not (deaf c k))
+    (imp (fine (recv sd c k)) (expects sd c k && imp (isLoss k) (isClosed (after c k))))))
 
 -- what sends a message neither starts nor breaks a dialogue
 abbrev pub dataT : Side → Bool
@@ -154,22 +169,35 @@ passed = record { first = tt; closed = tt; good = tt; abort = tt; start = tt; go
 -- ---- what they say
 
 pub first-nil : (sd : Side) (u : Call) (c : Control) → T (takes sd c u) → T (calm u) → T (commutes sd u (ok c) (ok (goes c u)))
-first-nil sd u c t n = and-l (commutes sd u (ok c) (ok (goes c u))) _ (imp-e _ _ (imp-e _ _ (at-control _ (at-call _ (at-side _ (passed .first) sd) u) c) t) n)
+first-nil sd u c t n = and-l (commutes sd u (ok c) (ok (goes c u))) _
+    (imp-e _ _ (imp-e _ _ (at-control _ (at-call _ (at-side _ (passed .first) sd) u) c) t) n)
 
-pub first-at : (sd : Side) (u : Call) (c : Control) → T (takes sd c u) → T (calm u) → (z : Primitive) → T (commutes sd u (recv sd c z) (recv sd (goes c u) z))
-first-at sd u c t n z = at-primitive _ (and-r (commutes sd u (ok c) (ok (goes c u))) _ (imp-e _ _ (imp-e _ _ (at-control _ (at-call _ (at-side _ (passed .first) sd) u) c) t) n)) z
+pub first-at : (sd : Side) (u : Call) (c : Control) → T (takes sd c u) → T (calm u) → (z : Primitive)
+    → T (commutes sd u (recv sd c z) (recv sd (goes c u) z))
+first-at sd u c t n z = at-primitive _ (and-r (commutes sd u (ok c) (ok (goes c u))) _
+    (imp-e _ _ (imp-e _ _ (at-control _ (at-call _ (at-side _ (passed .first) sd) u) c) t) n)) z
 
-pub closed-at : (sd : Side) (u : Call) → T (calm u) → (x y : Dr) → T (commutes sd u x y) → (z : Primitive) → T (commutes sd u (later sd x z) (later sd y z))
-closed-at sd u n x y p z = at-primitive _ (imp-e _ _ (at-dr _ (at-dr _ (imp-e _ _ (at-call _ (at-side _ (passed .closed) sd) u) n) x) y) p) z
+pub closed-at : (sd : Side) (u : Call) → T (calm u) → (x y : Dr) → T (commutes sd u x y) → (z : Primitive)
+    → T (commutes sd u (later sd x z) (later sd y z))
+closed-at sd u n x y p z = at-primitive _
+    (imp-e _ _ (at-dr _ (at-dr _ (imp-e _ _ (at-call _ (at-side _ (passed .closed) sd) u) n) x) y) p) z
 
-pub good-at : (sd : Side) (u : Call) → T (calm u) → T (mild u) → (b : Bool) (x y w : Dr) → T (commutes sd u x y) → T (sound sd b x w) → T (sound sd b y (later (other sd) w (sends u)))
-good-at sd u n m b x y w p q = imp-e _ _ (at-dr _ (at-bool _ (imp-e _ _ (at-dr _ (at-dr _ (imp-e _ _ (imp-e _ _ (at-call _ (at-side _ (passed .good) sd) u) n) m) x) y) p) b) w) q
+pub good-at : (sd : Side) (u : Call) → T (calm u) → T (mild u) → (b : Bool) (x y w : Dr) → T (commutes sd u x y)
+    → T (sound sd b x w) → T (sound sd b y (later (other sd) w (sends u)))
+good-at sd u n m b x y w p q = imp-e _ _ (at-dr _ (at-bool _ (imp-e _ _
+    (at-dr _ (at-dr _ (imp-e _ _ (imp-e _ _ (at-call _ (at-side _ (passed .good) sd) u) n) m) x) y) p) b) w)
+    q
 
-pub abort-at : (sd : Side) (u : Call) → T (cuts u) → (x y w : Dr) → T (commutes sd u x y) → T (fine x) → T (fine w) → T (sound sd true y (later (other sd) w (sends u)))
-abort-at sd u n x y w p q r = imp-e _ _ (at-dr _ (imp-e _ _ (imp-e _ _ (at-dr _ (at-dr _ (imp-e _ _ (at-call _ (at-side _ (passed .abort) sd) u) n) x) y) p) q) w) r
+pub abort-at : (sd : Side) (u : Call) → T (cuts u) → (x y w : Dr) → T (commutes sd u x y) → T (fine x) → T (fine w)
+    → T (sound sd true y (later (other sd) w (sends u)))
+abort-at sd u n x y w p q r = imp-e _ _ (at-dr _
+    (imp-e _ _ (imp-e _ _ (at-dr _ (at-dr _ (imp-e _ _ (at-call _ (at-side _ (passed .abort) sd) u) n) x) y) p) q) w)
+    r
 
-pub start-at : (sd : Side) (u : Call) (c : Control) → T (isClosed c) → T (takes sd c u) → T (starting u) → (g : Control) → T (isClosed g) → T (sound sd false (ok (goes c u)) (recv (other sd) g (sends u)))
-start-at sd u c i t n g j = imp-e _ _ (at-control _ (imp-e _ _ (imp-e _ _ (imp-e _ _ (at-control _ (at-call _ (at-side _ (passed .start) sd) u) c) i) t) n) g) j
+pub start-at : (sd : Side) (u : Call) (c : Control) → T (isClosed c) → T (takes sd c u) → T (starting u) → (g : Control)
+    → T (isClosed g) → T (sound sd false (ok (goes c u)) (recv (other sd) g (sends u)))
+start-at sd u c i t n g j = imp-e _ _ (at-control _
+    (imp-e _ _ (imp-e _ _ (imp-e _ _ (at-control _ (at-call _ (at-side _ (passed .start) sd) u) c) i) t) n) g) j
 
 pub goes-wf : (sd : Side) (u : Call) (c : Control) → T (takes sd c u) → T (wf (goes c u))
 goes-wf sd u c t = imp-e _ _ (at-control _ (at-call _ (at-side _ (passed .goes) sd) u) c) t
@@ -177,8 +205,10 @@ goes-wf sd u c t = imp-e _ _ (at-control _ (at-call _ (at-side _ (passed .goes) 
 pub after-wf : (sd : Side) (c : Control) (k : Primitive) → T (expects sd c k) → T (wf (after c k))
 after-wf sd c k t = imp-e _ _ (at-primitive _ (at-control _ (at-side _ (passed .after) sd) c) k) t
 
-pub head-at : (sd : Side) (u : Call) (c : Control) → T (takes sd c u) → T (calm u) → (z : Primitive) → T (isStart z) → fine (recv sd c z) ≡ false
-head-at sd u c t n z i = no-T _ (imp-e _ _ (at-primitive _ (imp-e _ _ (imp-e _ _ (at-control _ (at-call _ (at-side _ (passed .head) sd) u) c) t) n) z) i)
+pub head-at : (sd : Side) (u : Call) (c : Control) → T (takes sd c u) → T (calm u) → (z : Primitive) → T (isStart z)
+    → fine (recv sd c z) ≡ false
+head-at sd u c t n z i = no-T _ (imp-e _ _
+    (at-primitive _ (imp-e _ _ (imp-e _ _ (at-control _ (at-call _ (at-side _ (passed .head) sd) u) c) t) n) z) i)
 
 pub calm-at : (u : Call) → T (calm u) → T (not (isStart (sends u)))
 calm-at u n = imp-e _ _ (at-call _ (at-side _ (passed .sort) Air) u) n
@@ -189,11 +219,15 @@ iff-is true false t = absurd t
 iff-is false true t = absurd t
 iff-is false false t = refl
 
-pub alike-at : (sd : Side) (u : Call) → T (calm u) → T (mild u) → (x y : Dr) → T (commutes sd u x y) → (z : Primitive) → T (fine (later sd x z)) → gives sd x z ≡ gives sd y z
-alike-at sd u n m x y p z f = iff-is _ _ (imp-e _ _ (at-primitive _ (imp-e _ _ (at-dr _ (at-dr _ (imp-e _ _ (imp-e _ _ (at-call _ (at-side _ (passed .alike) sd) u) n) m) x) y) p) z) f)
+pub alike-at : (sd : Side) (u : Call) → T (calm u) → T (mild u) → (x y : Dr) → T (commutes sd u x y) → (z : Primitive)
+    → T (fine (later sd x z)) → gives sd x z ≡ gives sd y z
+alike-at sd u n m x y p z f = iff-is _ _ (imp-e _ _ (at-primitive _ (imp-e _ _
+    (at-dr _ (at-dr _ (imp-e _ _ (imp-e _ _ (at-call _ (at-side _ (passed .alike) sd) u) n) m) x) y) p) z) f)
 
-pub send-at : (sd : Side) (u : Call) → T (says u) → (b : Bool) (x y w : Dr) → T (commutes sd u x y) → T (sound sd b x w) → gives (other sd) w (sends u) ≡ not b
-send-at sd u n b x y w p q = iff-is _ _ (imp-e _ _ (at-dr _ (at-bool _ (imp-e _ _ (at-dr _ (at-dr _ (imp-e _ _ (at-call _ (at-side _ (passed .send) sd) u) n) x) y) p) b) w) q)
+pub send-at : (sd : Side) (u : Call) → T (says u) → (b : Bool) (x y w : Dr) → T (commutes sd u x y) → T (sound sd b x w)
+    → gives (other sd) w (sends u) ≡ not b
+send-at sd u n b x y w p q = iff-is _ _ (imp-e _ _ (at-dr _ (at-bool _
+    (imp-e _ _ (at-dr _ (at-dr _ (imp-e _ _ (at-call _ (at-side _ (passed .send) sd) u) n) x) y) p) b) w) q)
 
 pub none-at : (sd : Side) (u : Call) → T (not (says u)) → (w : Dr) → gives sd w (sends u) ≡ false
 none-at sd u n w = no-T _ (at-dr _ (imp-e _ _ (at-call _ (at-side _ (passed .none) sd) u) n) w)
@@ -210,7 +244,8 @@ ind-at sd x z = no-T _ (at-primitive _ (at-dr _ (at-side _ (passed .ind) sd) x) 
 pub taken-at : (sd : Side) (c : Control) (z : Primitive) → T (isStart z) → T (fine (recv sd c z)) → T (isIdle c)
 taken-at sd c z i f = imp-e _ _ (imp-e _ _ (at-primitive _ (at-control _ (at-side _ (passed .taken) sd) c) z) i) f
 
-pub turn-at : (sd : Side) (b : Bool) (c : Control) (w : Dr) → T (sound sd b (ok c) w) → T (is (c .state) StartReq) → T (not b && (isInd w && expects sd c DTurnedAway))
+pub turn-at : (sd : Side) (b : Bool) (c : Control) (w : Dr) → T (sound sd b (ok c) w) → T (is (c .state) StartReq)
+    → T (not b && (isInd w && expects sd c DTurnedAway))
 turn-at sd b c w q i = imp-e _ _ (imp-e _ _ (at-dr _ (at-control _ (at-bool _ (at-side _ (passed .turn) sd) b) c) w) q) i
 
 pub flip-at : (sd : Side) (b : Bool) (x y : Dr) → T (sound sd b x y) → T (sound (other sd) b y x)
@@ -222,8 +257,10 @@ rest-at sd x y t v = imp-e _ _ (imp-e _ _ (at-dr _ (at-dr _ (at-side _ (passed .
 pub dead-at : (sd : Side) (b : Bool) (y : Dr) → T (sound sd b dead y) → T (b && still y)
 dead-at sd b y t = imp-e _ _ (at-dr _ (at-bool _ (at-side _ (passed .dead) sd) b) y) t
 
-pub view-at : (sd : Side) (c : Control) (k : Primitive) → deaf c k ≡ false → T (fine (recv sd c k)) → T (expects sd c k && imp (isLoss k) (isClosed (after c k)))
-view-at sd c k e f = imp-e _ _ (imp-e _ _ (at-primitive _ (at-control _ (at-side _ (passed .view) sd) c) k) (subst (λ (b : Bool). T (not b)) (sym e) tt)) f
+pub view-at : (sd : Side) (c : Control) (k : Primitive) → deaf c k ≡ false → T (fine (recv sd c k))
+    → T (expects sd c k && imp (isLoss k) (isClosed (after c k)))
+view-at sd c k e f = imp-e _ _ (imp-e _ _ (at-primitive _ (at-control _ (at-side _ (passed .view) sd) c) k)
+    (subst (λ (b : Bool). T (not b)) (sym e) tt)) f
 
 pub fresh-at : (sd : Side) (c g : Control) → T (isClosed c) → T (isClosed g) → T (sound sd false (ok c) (ok g))
 fresh-at sd c g i j = imp-e _ _ (imp-e _ _ (at-control _ (at-control _ (at-side _ (passed .fresh) sd) c) g) i) j

@@ -20,7 +20,8 @@ use Rattle.pair.proofs.HandOver.{meets-is}
 start-is-first : (sd : Side) (x : Dr) (l : List Ent) → T (fine (drain sd x l)) → T (hasStart control l) → ⊥
 start-is-first sd x [] f i = i
 start-is-first sd x (z ∷ l) f i =
-    start-is-first sd (later sd x (z .kind)) l f (subst (λ (b : Bool). T (b || hasStart control l)) (later-start sd x (z .kind) (drain-fine sd (later sd x (z .kind)) l f)) i)
+    start-is-first sd (later sd x (z .kind)) l f (subst (λ (b : Bool). T (b || hasStart control l))
+    (later-start sd x (z .kind) (drain-fine sd (later sd x (z .kind)) l f)) i)
 
 never-ind : (sd : Side) (x : Dr) (l : List Ent) → isInd x ≡ false → isInd (drain sd x l) ≡ false
 never-ind sd x [] e = e
@@ -30,7 +31,8 @@ only-start : (sd : Side) (x : Dr) (l : List Ent) → T (isInd (drain sd x l)) �
 only-start sd x [] t = refl
 only-start sd x (z ∷ l) t = absurd (subst T (never-ind sd (later sd x (z .kind)) l (ind-at sd x (z .kind))) t)
 
-alone : (sd : Side) (g : Control) (b : Bool) (gv tk : List Body) (z : Ent) (l : List Ent) → T (isStart (z .kind)) → l ≡ [] → Data b gv (flow sd g (z ∷ l)) tk → Data b gv [] tk
+alone : (sd : Side) (g : Control) (b : Bool) (gv tk : List Body) (z : Ent) (l : List Ent) → T (isStart (z .kind))
+    → l ≡ [] → Data b gv (flow sd g (z ∷ l)) tk → Data b gv [] tk
 alone sd g b gv tk z l i o d =
     let k : flow sd g (z ∷ []) ≡ [] = ap (λ (x : Bool). handed (x && expects sd g (z .kind)) (z .body) ++ []) (apart-at (z .kind) i) in
     subst (λ (y : List Body). Data b gv y tk) k (subst (λ (m : List Ent). Data b gv (flow sd g (z ∷ m)) tk) o d)
@@ -49,7 +51,8 @@ module _ (sd : Side) (s : Sys control) (keep : ℕ) (h : Inv sd s) (r : T (is (s
   abbrev g : Control
   g = s .there .rec .ctl
 
-  away : (z : Ent) (l : List Ent) → s .here .line ≡ z ∷ l → T (isStart (z .kind)) → Inv sd (did control (on s l) (receives sd (s .here .rec) (ent DTurnedAway [])) keep)
+  away : (z : Ent) (l : List Ent) → s .here .line ≡ z ∷ l → T (isStart (z .kind))
+      → Inv sd (did control (on s l) (receives sd (s .here .rec) (ent DTurnedAway [])) keep)
   away z l e i =
       let w : Dr = drain od (recv od g (z .kind)) l in
       let n : s .there .line ≡ [] = h .headO (subst (λ (k : List Ent). T (startFirst k)) (sym e) i) in
@@ -64,7 +67,9 @@ module _ (sd : Side) (s : Sys control) (keep : ℕ) (h : Inv sd s) (r : T (is (s
       let f = drain-fine od (recv od g (z .kind)) l (sound-right sd (s .broken) (ok c) w q) in
       let i′ : T (isClosed g) = closed-is g (taken-at od g (z .kind) i f) (h .wfT) in
       let d : Data (s .broken) (s .there .handed) [] (s .here .taken) =
-      alone od g (s .broken) (s .there .handed) (s .here .taken) z l i o (subst (λ (k : List Ent). Data (s .broken) (s .there .handed) (flow od g k) (s .here .taken)) e (h .dataO)) in
+      alone od g (s .broken) (s .there .handed) (s .here .taken) z l i o
+      (subst (λ (k : List Ent). Data (s .broken) (s .there .handed) (flow od g k) (s .here .taken)) e (h .dataO))
+      in
       subst (λ (y : Did). Inv sd (did control (on s l) (met (s .here .rec) y []) keep)) (sym (meets-is sd c DTurnedAway x))
       (record {
         con = rw (n, o, b) (fresh-at sd closed g tt i′);
@@ -73,23 +78,30 @@ module _ (sd : Side) (s : Sys control) (keep : ℕ) (h : Inv sd s) (r : T (is (s
         headO = λ (y : T (startFirst l)). n;
         headI = λ (y : T (startFirst (s .there .line))). o;
         dataO = rw o d;
-        dataI = rw (append-nil (s .here .handed), n) (subst (λ (k : List Ent). Data (s .broken) (s .here .handed) (flow sd c k) (s .there .taken)) n (h .dataI));
+        dataI = rw (append-nil (s .here .handed), n)
+            (subst (λ (k : List Ent). Data (s .broken) (s .here .handed) (flow sd c k) (s .there .taken)) n (h .dataI));
       })
 
-  away-any : (l : List Ent) → s .here .line ≡ l → T (hasStart control l) → Inv sd (did control (on s (withoutStart control l)) (receives sd (s .here .rec) (ent DTurnedAway [])) keep)
+  away-any : (l : List Ent) → s .here .line ≡ l → T (hasStart control l)
+      → Inv sd (did control (on s (withoutStart control l)) (receives sd (s .here .rec) (ent DTurnedAway [])) keep)
   away-any [] e i = absurd i
   away-any (z ∷ l) e i = go (isStart (z .kind)) refl
     where
       f : T (fine (drain od (recv od g (z .kind)) l))
-      f = subst (λ (k : List Ent). T (fine (front od g k))) e (sound-right sd (s .broken) (front sd c (s .there .line)) (front od g (s .here .line)) (h .con))
+      f = subst (λ (k : List Ent). T (fine (front od g k))) e
+          (sound-right sd (s .broken) (front sd c (s .there .line)) (front od g (s .here .line)) (h .con))
 
-      go : (b : Bool) → isStart (z .kind) ≡ b → Inv sd (did control (on s (cond b l (z ∷ withoutStart control l))) (receives sd (s .here .rec) (ent DTurnedAway [])) keep)
+      go : (b : Bool) → isStart (z .kind) ≡ b
+          → Inv sd (did control (on s (cond b l (z ∷ withoutStart control l))) (receives sd (s .here .rec) (ent DTurnedAway [])) keep)
       go true q = away z l e (T-is _ q)
       go false q = absurd (start-is-first od (recv od g (z .kind)) l f (subst (λ (b : Bool). T (b || hasStart control l)) q i))
 
 pub turn-away-keeps : (sd : Side) (s : Sys control) (keep : ℕ) → Inv sd s → Inv sd (turnedAway control sd s keep)
 turn-away-keeps sd s keep h = go (mayTurnAway control s) refl
   where
-    go : (b : Bool) → mayTurnAway control s ≡ b → Inv sd (cond b (did control (recalled control s) (receives sd (s .here .rec) (ent DTurnedAway [])) keep) s)
+    go : (b : Bool) → mayTurnAway control s ≡ b
+        → Inv sd (cond b (did control (recalled control s) (receives sd (s .here .rec) (ent DTurnedAway [])) keep) s)
     go false q = h
-    go true q = away-any sd s keep h (and-l (is (s .here .rec .ctl .state) StartReq) (hasStart control (s .here .line)) (T-is _ q)) (s .here .line) refl (and-r (is (s .here .rec .ctl .state) StartReq) (hasStart control (s .here .line)) (T-is _ q))
+    go true q = away-any sd s keep h
+        (and-l (is (s .here .rec .ctl .state) StartReq) (hasStart control (s .here .line)) (T-is _ q)) (s .here .line)
+        refl (and-r (is (s .here .rec .ctl .state) StartReq) (hasStart control (s .here .line)) (T-is _ q))

@@ -65,11 +65,13 @@ view a g b = record { air = a; ground = g; broken = b }
 
 -- the air starts, the ground accepts and sends at once
 abbrev opening : List (Turn Ask)
-opening = asks Air (StartRequest false) ∷ gets Ground ∷ asks Ground (StartResponse false Accepted) ∷ says Ground 1 50 ∷ gets Air ∷ gets Air ∷ []
+opening = asks Air (StartRequest false) ∷ gets Ground ∷ asks Ground (StartResponse false Accepted) ∷ says Ground 1 50 ∷
+    gets Air ∷ gets Air ∷ []
 
 -- messages both ways; job 1 again is refused; the ground asks for the end with messages on both lines
 abbrev talking : List (Turn Ask)
-talking = opening ++ (says Air 1 60 ∷ says Air 1 61 ∷ says Air 2 62 ∷ asks Ground (EndRequest false) ∷ says Ground 2 51 ∷ gets Ground ∷ gets Air ∷ says Air 3 63 ∷ [])
+talking = opening ++ (says Air 1 60 ∷ says Air 1 61 ∷ says Air 2 62 ∷ asks Ground (EndRequest false) ∷ says Ground 2 51
+    ∷ gets Ground ∷ gets Air ∷ says Air 3 63 ∷ [])
 
 -- the air accepts the end behind its messages
 abbrev closing : List (Turn Ask)
@@ -77,21 +79,27 @@ closing = talking ++ (asks Air (EndResponse false Accepted) ∷ gets Ground ∷ 
 
 -- the ground starts the next one; the jobs go on: the air's job 3 and the ground's job 1 stay taken
 abbrev again : List (Turn Ask)
-again = closing ++ (asks Ground (StartRequest false) ∷ gets Air ∷ asks Air (StartResponse false Accepted) ∷ gets Ground ∷ says Air 3 70 ∷ says Air 4 71 ∷ gets Ground ∷ says Ground 1 72 ∷ says Ground 2 73 ∷ [])
+again = closing ++ (asks Ground (StartRequest false) ∷ gets Air ∷ asks Air (StartResponse false Accepted) ∷ gets Ground
+    ∷ says Air 3 70 ∷ says Air 4 71 ∷ gets Ground ∷ says Ground 1 72 ∷ says Ground 2 73 ∷ [])
 
-pub opened : after opening ≡ view (seen (entered Dialogue false) [] [] (50 ∷ []) []) (seen (entered Dialogue false) [] (50 ∷ []) [] (1 ∷ [])) false
+pub opened : after opening ≡ view (seen (entered Dialogue false) [] [] (50 ∷ []) [])
+    (seen (entered Dialogue false) [] (50 ∷ []) [] (1 ∷ [])) false
 unfolding run
 opened = refl
 
-pub end-asked : after talking ≡ view (seen (entered End false) (DData ∷ DData ∷ []) (60 ∷ 62 ∷ 63 ∷ []) (50 ∷ []) (1 ∷ 2 ∷ 3 ∷ [])) (seen (entered End false) [] (50 ∷ []) (60 ∷ []) (1 ∷ [])) false
+pub end-asked : after talking ≡ view
+    (seen (entered End false) (DData ∷ DData ∷ []) (60 ∷ 62 ∷ 63 ∷ []) (50 ∷ []) (1 ∷ 2 ∷ 3 ∷ []))
+    (seen (entered End false) [] (50 ∷ []) (60 ∷ []) (1 ∷ [])) false
 unfolding run
 end-asked = refl
 
-pub ended-whole : after closing ≡ view (seen closed [] (60 ∷ 62 ∷ 63 ∷ []) (50 ∷ []) (1 ∷ 2 ∷ 3 ∷ [])) (seen closed [] (50 ∷ []) (60 ∷ 62 ∷ 63 ∷ []) (1 ∷ [])) false
+pub ended-whole : after closing ≡ view (seen closed [] (60 ∷ 62 ∷ 63 ∷ []) (50 ∷ []) (1 ∷ 2 ∷ 3 ∷ []))
+    (seen closed [] (50 ∷ []) (60 ∷ 62 ∷ 63 ∷ []) (1 ∷ [])) false
 unfolding run
 ended-whole = refl
 
-pub opened-again : after again ≡ view (seen (entered Dialogue false) [] (71 ∷ []) [] (1 ∷ 2 ∷ 3 ∷ 4 ∷ [])) (seen (entered Dialogue false) (DData ∷ []) (73 ∷ []) (71 ∷ []) (1 ∷ 2 ∷ [])) false
+pub opened-again : after again ≡ view (seen (entered Dialogue false) [] (71 ∷ []) [] (1 ∷ 2 ∷ 3 ∷ 4 ∷ []))
+    (seen (entered Dialogue false) (DData ∷ []) (73 ∷ []) (71 ∷ []) (1 ∷ 2 ∷ [])) false
 unfolding run
 opened-again = refl
 
@@ -100,22 +108,27 @@ opened-again = refl
 -- the air starts in mode dsc; the ground may not ask for the end, but sends behind a rejected one
 abbrev dsc : List (Turn Ask)
 dsc =
-    asks Air (StartRequest true) ∷ gets Ground ∷ asks Ground (StartResponse true Accepted) ∷ gets Air ∷ asks Ground (EndRequest true) ∷ asks Air (EndRequest true) ∷ gets Ground ∷ says Ground 5 80 ∷
+    asks Air (StartRequest true) ∷ gets Ground ∷ asks Ground (StartResponse true Accepted) ∷ gets Air ∷ asks Ground
+    (EndRequest true) ∷ asks Air (EndRequest true) ∷ gets Ground ∷ says Ground 5 80 ∷
     asks Ground (EndResponse true Rejected) ∷ says Ground 6 81 ∷ []
 
-pub dsc-end-rejected : after dsc ≡ view (seen (entered End true) [] [] [] []) (seen (entered Dialogue true) (DData ∷ DEndCnf Rejected ∷ DData ∷ []) (80 ∷ 81 ∷ []) [] (5 ∷ 6 ∷ [])) false
+pub dsc-end-rejected : after dsc ≡ view (seen (entered End true) [] [] [] [])
+    (seen (entered Dialogue true) (DData ∷ DEndCnf Rejected ∷ DData ∷ []) (80 ∷ 81 ∷ []) [] (5 ∷ 6 ∷ [])) false
 unfolding run
 dsc-end-rejected = refl
 
 -- all of it is handed out, and the second request for the end is accepted
-pub dsc-closed : after (dsc ++ (gets Air ∷ gets Air ∷ gets Air ∷ asks Air (EndRequest true) ∷ gets Ground ∷ asks Ground (EndResponse true Accepted) ∷ gets Air ∷ [])) ≡ view (seen closed [] [] (80 ∷ 81 ∷ []) []) (seen closed [] (80 ∷ 81 ∷ []) [] (5 ∷ 6 ∷ [])) false
+pub dsc-closed : after (dsc ++ (gets Air ∷ gets Air ∷ gets Air ∷ asks Air (EndRequest true) ∷ gets Ground ∷ asks Ground
+    (EndResponse true Accepted) ∷ gets Air ∷ [])) ≡ view (seen closed [] [] (80 ∷ 81 ∷ []) [])
+    (seen closed [] (80 ∷ 81 ∷ []) [] (5 ∷ 6 ∷ [])) false
 unfolding run
 dsc-closed = refl
 
 -- ---- each step of the carrier
 
 -- a start is no step while the other end is not IDLE, or while an entry is on a line
-pub start-waits : after (asks Air (StartRequest false) ∷ asks Ground (StartRequest false) ∷ []) ≡ view (seen (entered StartReq false) (DStart false ∷ []) [] [] []) (seen closed [] [] [] []) false
+pub start-waits : after (asks Air (StartRequest false) ∷ asks Ground (StartRequest false) ∷ []) ≡ view
+    (seen (entered StartReq false) (DStart false ∷ []) [] [] []) (seen closed [] [] [] []) false
 unfolding run
 start-waits = refl
 
@@ -128,12 +141,14 @@ pub timer-expired : after expired ≡ view (seen closed (DAbort ∷ []) [] [] []
 unfolding run
 timer-expired = refl
 
-pub abort-discarded : after (expired ++ (gets Ground ∷ asks Ground (StartRequest false) ∷ [])) ≡ view (seen closed [] [] [] []) (seen (entered StartReq false) (DStart false ∷ []) [] [] []) false
+pub abort-discarded : after (expired ++ (gets Ground ∷ asks Ground (StartRequest false) ∷ [])) ≡ view
+    (seen closed [] [] [] []) (seen (entered StartReq false) (DStart false ∷ []) [] [] []) false
 unfolding run
 abort-discarded = refl
 
 -- the same with the start kept: the other end takes it, and then the D-ABORT closes it
-pub abort-delivered : after (asks Air (StartRequest true) ∷ turn Air (timer-expires 1) ∷ gets Ground ∷ []) ≡ view (seen closed (DAbort ∷ []) [] [] []) (seen (entered StartInd true) [] [] [] []) true
+pub abort-delivered : after (asks Air (StartRequest true) ∷ turn Air (timer-expires 1) ∷ gets Ground ∷ []) ≡ view
+    (seen closed (DAbort ∷ []) [] [] []) (seen (entered StartInd true) [] [] [] []) true
 unfolding run
 abort-delivered = refl
 
@@ -146,34 +161,44 @@ no-timer = refl
 abbrev cut : List (Turn Ask)
 cut = opening ++ (says Air 1 60 ∷ says Air 2 61 ∷ says Air 3 62 ∷ turn Air (user-call (ask UserAbort [] 0) 2) ∷ [])
 
-pub youngest-lost : after cut ≡ view (seen closed (DData ∷ DData ∷ DAbort ∷ []) (60 ∷ 61 ∷ 62 ∷ []) (50 ∷ []) (1 ∷ 2 ∷ 3 ∷ [])) (seen (entered Dialogue false) [] (50 ∷ []) [] (1 ∷ [])) true
+pub youngest-lost : after cut ≡ view
+    (seen closed (DData ∷ DData ∷ DAbort ∷ []) (60 ∷ 61 ∷ 62 ∷ []) (50 ∷ []) (1 ∷ 2 ∷ 3 ∷ []))
+    (seen (entered Dialogue false) [] (50 ∷ []) [] (1 ∷ [])) true
 unfolding run
 youngest-lost = refl
 
-pub oldest-handed : after (cut ++ (gets Ground ∷ gets Ground ∷ gets Ground ∷ [])) ≡ view (seen closed [] (60 ∷ 61 ∷ 62 ∷ []) (50 ∷ []) (1 ∷ 2 ∷ 3 ∷ [])) (seen closed [] (50 ∷ []) (60 ∷ 61 ∷ []) (1 ∷ [])) true
+pub oldest-handed : after (cut ++ (gets Ground ∷ gets Ground ∷ gets Ground ∷ [])) ≡ view
+    (seen closed [] (60 ∷ 61 ∷ 62 ∷ []) (50 ∷ []) (1 ∷ 2 ∷ 3 ∷ [])) (seen closed [] (50 ∷ []) (60 ∷ 61 ∷ []) (1 ∷ []))
+    true
 unfolding run
 oldest-handed = refl
 
 -- a system error: the end closes; a message that reaches it later is discarded
-pub error-closes : after (opening ++ (says Air 1 60 ∷ turn Ground (error-reported 0) ∷ gets Ground ∷ [])) ≡ view (seen (entered Dialogue false) [] (60 ∷ []) (50 ∷ []) (1 ∷ [])) (seen closed (DAbort ∷ []) (50 ∷ []) [] (1 ∷ [])) true
+pub error-closes : after (opening ++ (says Air 1 60 ∷ turn Ground (error-reported 0) ∷ gets Ground ∷ [])) ≡ view
+    (seen (entered Dialogue false) [] (60 ∷ []) (50 ∷ []) (1 ∷ [])) (seen closed (DAbort ∷ []) (50 ∷ []) [] (1 ∷ []))
+    true
 unfolding run
 error-closes = refl
 
 -- an undelivered start is turned away, and nothing is broken; a delivered one is not
-pub start-turned-away : after (asks Air (StartRequest true) ∷ turn Air (turn-away 0) ∷ []) ≡ view (seen closed [] [] [] []) (seen closed [] [] [] []) false
+pub start-turned-away : after (asks Air (StartRequest true) ∷ turn Air (turn-away 0) ∷ []) ≡ view
+    (seen closed [] [] [] []) (seen closed [] [] [] []) false
 unfolding run
 start-turned-away = refl
 
-pub delivered-stays : after (asks Air (StartRequest true) ∷ gets Ground ∷ turn Air (turn-away 0) ∷ []) ≡ view (seen (entered StartReq true) [] [] [] []) (seen (entered StartInd true) [] [] [] []) false
+pub delivered-stays : after (asks Air (StartRequest true) ∷ gets Ground ∷ turn Air (turn-away 0) ∷ []) ≡ view
+    (seen (entered StartReq true) [] [] [] []) (seen (entered StartInd true) [] [] [] []) false
 unfolding run
 delivered-stays = refl
 
 -- the carrier fails: both lines are empty, both ends are told, the dialogue is broken
-pub carrier-failed : after (talking ++ (turn Ground fail ∷ [])) ≡ view (seen closed [] (60 ∷ 62 ∷ 63 ∷ []) (50 ∷ []) (1 ∷ 2 ∷ 3 ∷ [])) (seen closed [] (50 ∷ []) (60 ∷ []) (1 ∷ [])) true
+pub carrier-failed : after (talking ++ (turn Ground fail ∷ [])) ≡ view
+    (seen closed [] (60 ∷ 62 ∷ 63 ∷ []) (50 ∷ []) (1 ∷ 2 ∷ 3 ∷ [])) (seen closed [] (50 ∷ []) (60 ∷ []) (1 ∷ [])) true
 unfolding run
 carrier-failed = refl
 
 -- a start that the user rejects
-pub start-rejected : after (asks Ground (StartRequest false) ∷ gets Air ∷ asks Air (StartResponse false Rejected) ∷ []) ≡ view (seen closed (DStartCnf Rejected ∷ []) [] [] []) (seen (entered StartReq false) [] [] [] []) false
+pub start-rejected : after (asks Ground (StartRequest false) ∷ gets Air ∷ asks Air (StartResponse false Rejected) ∷ [])
+    ≡ view (seen closed (DStartCnf Rejected ∷ []) [] [] []) (seen (entered StartReq false) [] [] [] []) false
 unfolding run
 start-rejected = refl

@@ -98,7 +98,8 @@ one-read l at n next b e =
     let d : length (take (8 * n) (drop (at + length (lengthBits n)) l)) / 8 ≡ n = omega arith in
     record {
       octets = take (8 * n) (drop (at + length (lengthBits n)) l);
-      whole = eq-eqb (8 * (length (take (8 * n) (drop (at + length (lengthBits n)) l)) / 8)) (length (take (8 * n) (drop (at + length (lengthBits n)) l))) (omega arith);
+      whole = eq-eqb (8 * (length (take (8 * n) (drop (at + length (lengthBits n)) l)) / 8))
+          (length (take (8 * n) (drop (at + length (lengthBits n)) l))) (omega arith);
       few = rw d (i .count);
       stands = rw d s;
     }
@@ -106,7 +107,8 @@ one-read l at n next b e =
 bits-tail : (x : ℕ) (l : List ℕ) → Bits (x ∷ l) → Bits l
 bits-tail x l b k = b (suc k)
 
-there-over : (l ms : List ℕ) (at p next : ℕ) → ones (numOf (1 ∷ ms)) ≡ suc (ones (numOf ms)) → One l at p → Over l ms p next → Over l (1 ∷ ms) at next
+there-over : (l ms : List ℕ) (at p next : ℕ) → ones (numOf (1 ∷ ms)) ≡ suc (ones (numOf ms)) → One l at p
+    → Over l ms p next → Over l (1 ∷ ms) at next
 unfolding marks contents additionsFit given
 there-over l ms at p next k a o =
     record {
@@ -117,7 +119,8 @@ there-over l ms at p next k a o =
       count = ap suc (o .count) ∙ sym k;
     }
 
-over-read : (l ms : List ℕ) → Bits l → Bits ms → (at v next : ℕ) → at ≤ length l → steppedOver l at (ones (numOf ms)) ≡ Value v next → Over l ms at next
+over-read : (l ms : List ℕ) → Bits l → Bits ms → (at v next : ℕ) → at ≤ length l
+    → steppedOver l at (ones (numOf ms)) ≡ Value v next → Over l ms at next
 unfolding marks contents additionsFit given accOf
 over-read l [] b c at v next h e =
     let p : at ≡ next = place (steppedOver-none at) in
@@ -180,17 +183,21 @@ count-is l at n p b e = first (extensionBit l at) refl e
         let d : n - 1 ≡ v = omega arith in
         record { low = omega arith; pos = omega arith; stands = rw d (subst (λ (y : ℕ). Stands l at (bitsN 1 y ++ bitsN 6 v) p) j (subst (λ (y : List ℕ). Stands l at y p) (bitsN-split 1 6 v) s)) }
       where
-        alike : (a c : ℕ) → take (length (bitsN 1 a)) (drop at l) ≡ bitsN 1 a → take (length (bitsN 1 c)) (drop at l) ≡ bitsN 1 c → bitsN 1 a ≡ bitsN 1 c
+        alike : (a c : ℕ) → take (length (bitsN 1 a)) (drop at l) ≡ bitsN 1 a
+            → take (length (bitsN 1 c)) (drop at l) ≡ bitsN 1 c → bitsN 1 a ≡ bitsN 1 c
         alike a c h g = sym h ∙ (ap (λ (k : ℕ). take k (drop at l)) (length-bitsN 1 a ∙ sym (length-bitsN 1 c)) ∙ g)
 
-    second : (z q : ℕ) → extensionBit l at ≡ Value z q → (f : Field) → bitField l at 7 ≡ f → then f (λ (v next : ℕ). Value (v + 1) next) ≡ Value n p → Counted l at n p
+    second : (z q : ℕ) → extensionBit l at ≡ Value z q → (f : Field) → bitField l at 7 ≡ f
+        → then f (λ (v next : ℕ). Value (v + 1) next) ≡ Value n p → Counted l at n p
     second z q x (Value v m) f k =
         let y : v + 1 ≡ n = cc in
         let w : m ≡ p = cc in
         made z q v x (f ∙ ap (Value v) w) (sym y)
     second z q x (Refused r) f k = never (cc)
 
-    first : (f : Field) → extensionBit l at ≡ f → then f (λ (b p : ℕ). then (bitField l at 7) (λ (v next : ℕ). Value (v + 1) next)) ≡ Value n p → Counted l at n p
+    first : (f : Field) → extensionBit l at ≡ f
+        → then f (λ (b p : ℕ). then (bitField l at 7) (λ (v next : ℕ). Value (v + 1) next)) ≡ Value n p
+        → Counted l at n p
     first (Value z q) f k = second z q f (bitField l at 7) refl k
     first (Refused r) f k = never (cc)
 
@@ -203,7 +210,8 @@ there-is : (l : List ℕ) (at n v next : ℕ) → Bits l → additionsThere l at
 unfolding additionsThere
 there-is l at n v next b e = first (bitField l at n) refl e
   where
-    made : (w q : ℕ) → bitField l at n ≡ Value w q → (t : Bool) → eqb w 0 ≡ t → cond t (refusedAt at Extension) (Value w q) ≡ Value v next → Some l at n v next
+    made : (w q : ℕ) → bitField l at n ≡ Value w q → (t : Bool) → eqb w 0 ≡ t
+        → cond t (refusedAt at Extension) (Value w q) ≡ Value v next → Some l at n v next
     made w q f true z k = never (cc)
     made w q f false z k =
         let x : w ≡ v = cc in
@@ -212,7 +220,8 @@ there-is l at n v next b e = first (bitField l at n) refl e
         let h = eqb-false w 0 z in
         record { stands = bit-field n .read-written l at v next b g; low = ltb-true v (2 ^ n) (both-right (leb n 64) (ltb v (2 ^ n)) (bit-field n .read-fits l at v next b g)); pos = omega arith }
 
-    first : (f : Field) → bitField l at n ≡ f → then f (λ (w q : ℕ). cond (eqb w 0) (refusedAt at Extension) (Value w q)) ≡ Value v next → Some l at n v next
+    first : (f : Field) → bitField l at n ≡ f
+        → then f (λ (w q : ℕ). cond (eqb w 0) (refusedAt at Extension) (Value w q)) ≡ Value v next → Some l at n v next
     first (Value w q) f k = made w q f (eqb w 0) refl k
     first (Refused r) f k = never (cc)
 
@@ -235,24 +244,30 @@ pub additions-are : (l : List ℕ) (at w next : ℕ) → Bits l → additionsAt 
 unfolding additionsAt
 additions-are l at w next b e = first (additionCount l at) refl e
   where
-    unfolded : (xs : List Addition) (n : ℕ) → length xs ≡ n → Stands l at ((bitsN 1 0 ++ bitsN 6 (n - 1)) ++ (marks xs ++ contents xs)) next → Stands l at (bitsN 1 0 ++ (bitsN 6 (length xs - 1) ++ (marks xs ++ contents xs))) next
-    unfolded xs n k s = rw k (subst (λ (x : List ℕ). Stands l at x next) (append-assoc (bitsN 1 0) (bitsN 6 (n - 1)) (marks xs ++ contents xs)) s)
+    unfolded : (xs : List Addition) (n : ℕ) → length xs ≡ n
+        → Stands l at ((bitsN 1 0 ++ bitsN 6 (n - 1)) ++ (marks xs ++ contents xs)) next
+        → Stands l at (bitsN 1 0 ++ (bitsN 6 (length xs - 1) ++ (marks xs ++ contents xs))) next
+    unfolded xs n k s = rw k (subst (λ (x : List ℕ). Stands l at x next)
+        (append-assoc (bitsN 1 0) (bitsN 6 (n - 1)) (marks xs ++ contents xs)) s)
 
     made : (n p v q : ℕ) → Counted l at n p → Some l p n v q → Over l (bitsN n v) q next → numOf (bitsN n v) ≡ v → Added l at next
     made n p v q c t o z =
         let k : length (o .additions) ≡ n = sym (length-marks (o .additions)) ∙ (ap length (o .marked) ∙ length-bitsN n v) in
         let s : Stands l p (marks (o .additions)) q = subst (λ (x : List ℕ). Stands l p x q) (sym (o .marked)) (t .stands) in
-        let g : (given (o .additions) ≡ 0) → ⊥ = λ (y : given (o .additions) ≡ 0). let x : v ≡ 0 = sym z ∙ (ap numOf (sym (o .marked)) ∙ none-given (o .additions) y) in let u = t .pos in omega arith in
+        let g : (given (o .additions) ≡ 0) → ⊥ = λ (y : given (o .additions) ≡ 0). let x : v ≡ 0 = sym z ∙
+        (ap numOf (sym (o .marked)) ∙ none-given (o .additions) y) in let u = t .pos in omega arith in
         let low = c .low in
         record {
           additions = o .additions;
           few = omega arith;
           some = positive (given (o .additions)) g;
           fits = o .fits;
-          stands = laid (o .additions) (unfolded (o .additions) n k (stands-join l at p next _ _ (c .stands) (stands-join l p q next _ _ s (o .stands))));
+          stands = laid (o .additions) (unfolded (o .additions) n k
+              (stands-join l at p next _ _ (c .stands) (stands-join l p q next _ _ s (o .stands))));
         }
 
-    third : (n p v q : ℕ) → additionCount l at ≡ Value n p → additionsThere l p n ≡ Value v q → steppedOver l q (ones v) ≡ Value w next → Added l at next
+    third : (n p v q : ℕ) → additionCount l at ≡ Value n p → additionsThere l p n ≡ Value v q
+        → steppedOver l q (ones v) ≡ Value w next → Added l at next
     third n p v q f g k =
         let c = count-is l at n p b f in
         let t = there-is l p n v q b g in
@@ -261,11 +276,14 @@ additions-are l at w next b e = first (additionCount l at) refl e
         let j = t .stands .place in
         made n p v q c t (over-read l (bitsN n v) b (bits-bitsN n v) q w next (omega arith) (rw z k)) z
 
-    second : (n p : ℕ) → additionCount l at ≡ Value n p → (f : Field) → additionsThere l p n ≡ f → then f (λ (v q : ℕ). steppedOver l q (ones v)) ≡ Value w next → Added l at next
+    second : (n p : ℕ) → additionCount l at ≡ Value n p → (f : Field) → additionsThere l p n ≡ f
+        → then f (λ (v q : ℕ). steppedOver l q (ones v)) ≡ Value w next → Added l at next
     second n p c (Value v q) f k = third n p v q c f k
     second n p c (Refused r) f k = never (cc)
 
-    first : (f : Field) → additionCount l at ≡ f → then f (λ (n p : ℕ). then (additionsThere l p n) (λ (v q : ℕ). steppedOver l q (ones v))) ≡ Value w next → Added l at next
+    first : (f : Field) → additionCount l at ≡ f
+        → then f (λ (n p : ℕ). then (additionsThere l p n) (λ (v q : ℕ). steppedOver l q (ones v))) ≡ Value w next
+        → Added l at next
     first (Value n p) f k = second n p f (additionsThere l p n) refl k
     first (Refused r) f k = never (cc)
 
@@ -291,25 +309,31 @@ module _ (l bs : List ℕ) (next : ℕ) (d : Data) (b : Bits l) (i : Led l 0 nex
   led-later : WithAdditions (λ (ys : List ℕ). Stands l 0 (bs ++ laterBits (contentIn l l l d) ys) next)
   led-later =
       let a = behind-root in
-      let e : Stands l (i .place) (bitsN 1 1) (i .place + 1) = subst (λ (m : ℕ). Stands l (i .place) (bitsN 1 m) (i .place + 1)) marked-one (i .held .extension) in
+      let e : Stands l (i .place) (bitsN 1 1) (i .place + 1) = subst
+      (λ (m : ℕ). Stands l (i .place) (bitsN 1 m) (i .place + 1)) marked-one (i .held .extension) in
       record {
         additions = a .additions;
         few = a .few;
         some = a .some;
         fits = a .fits;
-        so = stands-join l 0 (i .place) next bs _ (i .lead) (stands-join l (i .place) (i .place + 1) next (bitsN 1 1) _ e (stands-join l (i .place + 1) (rootEnd d) next (rootBits (contentIn l l l d)) _ (i .held .root) (a .stands)));
+        so = stands-join l 0 (i .place) next bs _ (i .lead) (stands-join l (i .place) (i .place + 1) next (bitsN 1 1) _
+            e (stands-join l (i .place + 1) (rootEnd d) next (rootBits (contentIn l l l d)) _ (i .held .root)
+            (a .stands)));
       }
 
-pub accepted-later-start : (pdus : PduType) (l : List ℕ) (m : ℕ) (d : Data) → Bits l → apduAt pdus l 0 ≡ decoded.Is (apdu.Start m d) → extended pdus l (apdu.Start m d) ≡ true
+pub accepted-later-start : (pdus : PduType) (l : List ℕ) (m : ℕ) (d : Data) → Bits l
+    → apduAt pdus l 0 ≡ decoded.Is (apdu.Start m d) → extended pdus l (apdu.Start m d) ≡ true
     → WithAdditions (λ (ys : List ℕ). l ≡ padded (laterStart pdus m (contentIn l l l d) ys))
 unfolding extended
 accepted-later-start pdus l m d b e x =
     let i = apdu-read pdus l 0 (apdu.Start m d) b e in
     let w = led-later l _ (i .place) d b (i .stands) x in
-    let s = subst (λ (y : List ℕ). Stands l 0 y (i .place)) (append-assoc (alternative pdus kind.Start) (modeBits pdus m) (laterBits (contentIn l l l d) (additionsBits (w .additions)))) (w .so) in
+    let s = subst (λ (y : List ℕ). Stands l 0 y (i .place)) (append-assoc (alternative pdus kind.Start)
+    (modeBits pdus m) (laterBits (contentIn l l l d) (additionsBits (w .additions)))) (w .so) in
     record { additions = w .additions; few = w .few; some = w .some; fits = w .fits; so = ended-whole l _ (i .place) (i .left) (i .end) b s (i .tail) }
 
-pub accepted-later-send : (pdus : PduType) (l : List ℕ) (d : Data) → Bits l → apduAt pdus l 0 ≡ decoded.Is (apdu.Send d) → extended pdus l (apdu.Send d) ≡ true
+pub accepted-later-send : (pdus : PduType) (l : List ℕ) (d : Data) → Bits l → apduAt pdus l 0 ≡ decoded.Is (apdu.Send d)
+    → extended pdus l (apdu.Send d) ≡ true
     → WithAdditions (λ (ys : List ℕ). l ≡ padded (laterSend pdus (contentIn l l l d) ys))
 unfolding extended
 accepted-later-send pdus l d b e x =

@@ -51,25 +51,33 @@ seen-spanned at (step.Refused r) = refl
 message-span-sound : (d : Direction) (l : List ℕ) (at : ℕ) → at ≤ length l → Sound seenField (λ (m : List ℕ). messageSpan d m at) l at
 unfolding messageSpan
 message-span-sound d l at h =
-    sound-map seenMessage seenField (λ (x : MessageRead). spanned at (x .step)) (λ (x : MessageRead). seen-spanned at (x .step)) (λ (m : List ℕ). messageAt d m at) l at (message-sound d l at h)
+    sound-map seenMessage seenField (λ (x : MessageRead). spanned at (x .step))
+    (λ (x : MessageRead). seen-spanned at (x .step)) (λ (m : List ℕ). messageAt d m at) l at
+    (message-sound d l at h)
 
 elements-span-sound : (d : Direction) (l : List ℕ) (at : ℕ) → at ≤ length l → Sound seenField (λ (m : List ℕ). elementsSpan d m at) l at
 unfolding elementsSpan
 elements-span-sound d l at h =
-    sound-map seenMessage seenField (λ (x : MessageRead). spanned at (x .step)) (λ (x : MessageRead). seen-spanned at (x .step)) (λ (m : List ℕ). bodyAt d m noHeader at) l at (body-sound d noHeader l at h)
+    sound-map seenMessage seenField (λ (x : MessageRead). spanned at (x .step))
+    (λ (x : MessageRead). seen-spanned at (x .step)) (λ (m : List ℕ). bodyAt d m noHeader at) l at
+    (body-sound d noHeader l at h)
 
 -- ---- the contents of type 2
 
 plain-send-sound : (d : Direction) (l : List ℕ) (at : ℕ) → at ≤ length l → Sound seenTaken (λ (x : List ℕ). plain.sendAt d x at) l at
 unfolding plain.sendAt
 plain-send-sound d l at h =
-    taken-field (λ (x : List ℕ). messageSpan d x at) (λ (n next : ℕ) (x : List ℕ). taken.Is (messageThere at n) next) l at (message-span-sound d l at h)
-    (λ (n next : ℕ) (e : messageSpan d l at ≡ Value n next) (a : at ≤ next) (b : next ≤ length l). sound-value seenTaken (taken.Is (messageThere at n) next) l next b refl)
+    taken-field (λ (x : List ℕ). messageSpan d x at) (λ (n next : ℕ) (x : List ℕ). taken.Is (messageThere at n) next)
+    l at (message-span-sound d l at h)
+    (λ (n next : ℕ) (e : messageSpan d l at ≡ Value n next) (a : at ≤ next) (b : next ≤ length l). sound-value
+    seenTaken (taken.Is (messageThere at n) next) l next b refl)
 
 plain-start-sound : (d : Direction) (l : List ℕ) (at : ℕ) → at ≤ length l → Sound seenTaken (λ (x : List ℕ). plain.startAt d x at) l at
 unfolding plain.startAt
 plain-start-sound d l at h =
-    taken-field (λ (x : List ℕ). bitField x at 1) (λ (i p : ℕ) (x : List ℕ). cond (eqb i 0) (taken.Is noMessage p) (plain.sendAt d x p)) l at (bit-sound l at 1 h)
+    taken-field (λ (x : List ℕ). bitField x at 1)
+    (λ (i p : ℕ) (x : List ℕ). cond (eqb i 0) (taken.Is noMessage p) (plain.sendAt d x p)) l at
+    (bit-sound l at 1 h)
     (λ (i p : ℕ) (e : bitField l at 1 ≡ Value i p) (a : at ≤ p) (b : p ≤ length l).
     sound-cond seenTaken (eqb i 0) (λ (x : List ℕ). taken.Is noMessage p) (λ (x : List ℕ). plain.sendAt d x p) l p
     (λ (z : eqb i 0 ≡ true). sound-value seenTaken (taken.Is noMessage p) l p b refl) (λ (z : eqb i 0 ≡ false). plain-send-sound d l p b))
@@ -96,20 +104,28 @@ passed-sound : (ed : Edition) (l : List ℕ) (at : ℕ) → at ≤ length l → 
 passed-sound Protected l at h = forward-sound l at h
 passed-sound Plain l at h = plain-forward-sound l at h
 
-rest-refusing : (ed : Edition) (t : PduType) (l : List ℕ) (c : Kind) (m at : ℕ) → Bits l → at ≤ length l → Refusing seenAnswer (λ (x : List ℕ). restAt ed t x c m at) l at
+rest-refusing : (ed : Edition) (t : PduType) (l : List ℕ) (c : Kind) (m at : ℕ) → Bits l → at ≤ length l
+    → Refusing seenAnswer (λ (x : List ℕ). restAt ed t x c m at) l at
 unfolding restAt
 rest-refusing ed t l kind.AbortUser m at b h =
-    answer-field (λ (x : List ℕ). extensibleIndex x at (userLast ed)) (λ (r n : ℕ) (x : List ℕ). endedAt x n (apdu.AbortUser r)) l at (index-sound l at (userLast ed) h)
-    (λ (r n : ℕ) (e : extensibleIndex l at (userLast ed) ≡ Value r n) (a : at ≤ n) (w : n ≤ length l). ended-refusing l n (apdu.AbortUser r) b w)
+    answer-field (λ (x : List ℕ). extensibleIndex x at (userLast ed))
+    (λ (r n : ℕ) (x : List ℕ). endedAt x n (apdu.AbortUser r)) l at (index-sound l at (userLast ed) h)
+    (λ (r n : ℕ) (e : extensibleIndex l at (userLast ed) ≡ Value r n) (a : at ≤ n) (w : n ≤ length l). ended-refusing l
+    n (apdu.AbortUser r) b w)
 rest-refusing ed t l kind.AbortProvider m at b h =
-    answer-field (λ (x : List ℕ). extensibleIndex x at providerLast) (λ (r n : ℕ) (x : List ℕ). endedAt x n (apdu.AbortProvider r)) l at (index-sound l at providerLast h)
-    (λ (r n : ℕ) (e : extensibleIndex l at providerLast ≡ Value r n) (a : at ≤ n) (w : n ≤ length l). ended-refusing l n (apdu.AbortProvider r) b w)
-rest-refusing ed t l kind.Start m at b h = taken-refusing (λ (x : List ℕ). startAt ed t x at) l at (apdu.Start m) b (start-sound ed t l at h)
+    answer-field (λ (x : List ℕ). extensibleIndex x at providerLast)
+    (λ (r n : ℕ) (x : List ℕ). endedAt x n (apdu.AbortProvider r)) l at (index-sound l at providerLast h)
+    (λ (r n : ℕ) (e : extensibleIndex l at providerLast ≡ Value r n) (a : at ≤ n) (w : n ≤ length l). ended-refusing l
+    n (apdu.AbortProvider r) b w)
+rest-refusing ed t l kind.Start m at b h = taken-refusing (λ (x : List ℕ). startAt ed t x at) l at (apdu.Start m) b
+    (start-sound ed t l at h)
 rest-refusing ed t l kind.Send m at b h = taken-refusing (λ (x : List ℕ). sendAt ed t x at) l at apdu.Send b (send-sound ed t l at h)
 rest-refusing ed t l kind.Forward m at b h = forwarded-refusing (λ (x : List ℕ). forwardAt ed x at) l at b (passed-sound ed l at h)
 rest-refusing ed t l kind.ForwardResponse m at b h =
-    answer-field (λ (x : List ℕ). extensibleIndex x at responseLast) (λ (r n : ℕ) (x : List ℕ). endedAt x n (apdu.ForwardResponse r)) l at (index-sound l at responseLast h)
-    (λ (r n : ℕ) (e : extensibleIndex l at responseLast ≡ Value r n) (a : at ≤ n) (w : n ≤ length l). ended-refusing l n (apdu.ForwardResponse r) b w)
+    answer-field (λ (x : List ℕ). extensibleIndex x at responseLast)
+    (λ (r n : ℕ) (x : List ℕ). endedAt x n (apdu.ForwardResponse r)) l at (index-sound l at responseLast h)
+    (λ (r n : ℕ) (e : extensibleIndex l at responseLast ≡ Value r n) (a : at ≤ n) (w : n ≤ length l). ended-refusing l
+    n (apdu.ForwardResponse r) b w)
 
 -- AN APDU OF EITHER TYPE THAT IS REFUSED: its place is within the bits, the field with the fault begins there, and bits behind that field do not matter
 pub edition-refusing : (ed : Edition) (t : PduType) (l : List ℕ) → Bits l → Refusing seenAnswer (λ (x : List ℕ). apduAt ed t x) l 0

@@ -52,10 +52,14 @@ root-written l p₁ next c h s =
     let fc : Bool = stringFits bit 0 checkMost (c .check) in
     let f = both-left (fi && fm) fc h in
     let p₂ : ℕ = p₁ + length (bitsN 2 (2 * presence (c .identifier) + presence (c .message))) in
-    let p₃ : ℕ = p₁ + length (bitsN 2 (2 * presence (c .identifier) + presence (c .message))) + length (optionalBits octet (c .identifier)) in
-    let p₄ : ℕ = p₁ + length (bitsN 2 (2 * presence (c .identifier) + presence (c .message))) + length (optionalBits octet (c .identifier)) + length (optionalBits bit (c .message)) in
-    let s₂ = stands-split l p₁ next (bitsN 2 v) (optionalBits octet (c .identifier) ++ (optionalBits bit (c .message) ++ stringBits bit (c .check))) s in
-    let s₃ = stands-split l p₂ next (optionalBits octet (c .identifier)) (optionalBits bit (c .message) ++ stringBits bit (c .check)) (s₂ .second) in
+    let p₃ : ℕ = p₁ + length (bitsN 2 (2 * presence (c .identifier) + presence (c .message))) + length
+    (optionalBits octet (c .identifier)) in
+    let p₄ : ℕ = p₁ + length (bitsN 2 (2 * presence (c .identifier) + presence (c .message))) + length
+    (optionalBits octet (c .identifier)) + length (optionalBits bit (c .message)) in
+    let s₂ = stands-split l p₁ next (bitsN 2 v)
+    (optionalBits octet (c .identifier) ++ (optionalBits bit (c .message) ++ stringBits bit (c .check))) s in
+    let s₃ = stands-split l p₂ next (optionalBits octet (c .identifier))
+    (optionalBits bit (c .message) ++ stringBits bit (c .check)) (s₂ .second) in
     let s₄ = stands-split l p₃ next (optionalBits bit (c .message)) (stringBits bit (c .check)) (s₃ .second) in
     let b = bit-field 2 .written-read l p₁ v p₂ (presence-fits (c .identifier) (c .message)) (s₂ .first) in
     let x = optional-written l p₂ p₃ octet identifierLeast identifierMost (c .identifier) (both-left fi fm f) (s₃ .first) in
@@ -72,7 +76,8 @@ root-written l p₁ next c h s =
 
 -- an extension bit of 1, a root that fits, and additions that are stepped over: read as the root's value
 module _ (xs : List Addition) (few : length xs ≤ 64) (some : 0 < givenOf xs) (fit : additionsFit xs ≡ true) where
-  pub later-data : (l : List ℕ) (at next : ℕ) (c : Content) → contentFits c ≡ true → Stands l at (laterBits c (additionsBits xs)) next → DataRead l at next c
+  pub later-data : (l : List ℕ) (at next : ℕ) (c : Content) → contentFits c ≡ true
+      → Stands l at (laterBits c (additionsBits xs)) next → DataRead l at next c
   unfolding dataWithin withAdditions
   later-data l at next c h s =
       let s₁ = stands-split l at next (bitsN 1 1) (rootBits c ++ additionsBits xs) s in
@@ -84,7 +89,8 @@ module _ (xs : List Addition) (few : length xs ≤ 64) (some : 0 < givenOf xs) (
 
   -- ---- an APDU
 
-  pub later-start-fields : (pdus : PduType) (l : List ℕ) (at m v : ℕ) (c : Content) → pduFits pdus (start v c) ≡ true → Stands l at (laterStart pdus v c (additionsBits xs)) m → FieldsRead pdus l at m (start v c)
+  pub later-start-fields : (pdus : PduType) (l : List ℕ) (at m v : ℕ) (c : Content) → pduFits pdus (start v c) ≡ true
+      → Stands l at (laterStart pdus v c (additionsBits xs)) m → FieldsRead pdus l at m (start v c)
   unfolding pduFits apduWithin leadingAt kindMode restWithin pduIn
   later-start-fields pdus l at m v c h s =
       let p : ℕ = at + length (indexBits (lastOf pdus) 2) in
@@ -96,7 +102,8 @@ module _ (xs : List Addition) (few : length xs ≤ 64) (some : 0 < givenOf xs) (
       let d = later-data l q m c (both-right (modeFits pdus v) (contentFits c) h) (u .second) in
       record { value = apdu.Start v (d .parts); read = rw (a, b, d .read); same = ap (start v) (d .content) }
 
-  pub later-send-fields : (pdus : PduType) (l : List ℕ) (at m : ℕ) (c : Content) → pduFits pdus (send c) ≡ true → Stands l at (laterSend pdus c (additionsBits xs)) m → FieldsRead pdus l at m (send c)
+  pub later-send-fields : (pdus : PduType) (l : List ℕ) (at m : ℕ) (c : Content) → pduFits pdus (send c) ≡ true
+      → Stands l at (laterSend pdus c (additionsBits xs)) m → FieldsRead pdus l at m (send c)
   unfolding pduFits apduWithin leadingAt kindMode restWithin pduIn
   later-send-fields pdus l at m c h s =
       let p : ℕ = at + length (indexBits (lastOf pdus) 3) in
@@ -109,8 +116,12 @@ module _ (xs : List Addition) (few : length xs ≤ 64) (some : 0 < givenOf xs) (
   read-whole pdus bs v f = record { value = f .value; read = f .read ∙ ended-well (padded bs) (length bs) 0 (length bs + padding (length bs)) (f .value) (tail-padded bs); same = f .same }
 
   -- AN APDU WITH ADDITIONS IS READ, AND IS THE VALUE THAT IT IS WITHOUT THEM
-  pub later-start : (pdus : PduType) (m : ℕ) (c : Content) → pduFits pdus (start m c) ≡ true → ApduRead pdus (padded (laterStart pdus m c (additionsBits xs))) 0 (start m c)
-  later-start pdus m c h = read-whole pdus (laterStart pdus m c (additionsBits xs)) (start m c) (later-start-fields pdus _ 0 _ m c h (stands-front (laterStart pdus m c (additionsBits xs))))
+  pub later-start : (pdus : PduType) (m : ℕ) (c : Content) → pduFits pdus (start m c) ≡ true
+      → ApduRead pdus (padded (laterStart pdus m c (additionsBits xs))) 0 (start m c)
+  later-start pdus m c h = read-whole pdus (laterStart pdus m c (additionsBits xs)) (start m c)
+      (later-start-fields pdus _ 0 _ m c h (stands-front (laterStart pdus m c (additionsBits xs))))
 
-  pub later-send : (pdus : PduType) (c : Content) → pduFits pdus (send c) ≡ true → ApduRead pdus (padded (laterSend pdus c (additionsBits xs))) 0 (send c)
-  later-send pdus c h = read-whole pdus (laterSend pdus c (additionsBits xs)) (send c) (later-send-fields pdus _ 0 _ c h (stands-front (laterSend pdus c (additionsBits xs))))
+  pub later-send : (pdus : PduType) (c : Content) → pduFits pdus (send c) ≡ true
+      → ApduRead pdus (padded (laterSend pdus c (additionsBits xs))) 0 (send c)
+  later-send pdus c h = read-whole pdus (laterSend pdus c (additionsBits xs)) (send c)
+      (later-send-fields pdus _ 0 _ c h (stands-front (laterSend pdus c (additionsBits xs))))

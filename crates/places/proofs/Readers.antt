@@ -62,7 +62,8 @@ pub placed-sound : {A : Type 0} (seen : A → Seen) (rd : List ℕ → A) (l : L
 placed-sound seen rd l at r told p =
     record {
       next = λ (k : ℕ) (h : seen (rd l) ≡ went k). clash k r (sym h ∙ told);
-      place = λ (q : Refusal) (h : seen (rd l) ≡ refused q). subst (λ (z : Refusal). Placed seen rd l at z) (one-refusal r q (sym told ∙ h)) p;
+      place = λ (q : Refusal) (h : seen (rd l) ≡ refused q). subst (λ (z : Refusal). Placed seen rd l at z)
+          (one-refusal r q (sym told ∙ h)) p;
     }
 
 -- a value that is not looked for in the bits
@@ -133,15 +134,18 @@ module _ {X A : Type 0} (seenX : X → Seen) (seenA : A → Seen) (up : Refusal 
         record {
           end = z .end;
           behind = z .behind;
-          cut = λ (j : ℕ) (a : r .at ≤ j) (b : j < z .end) (w : j ≤ length l). stopped-cut (take j l) (refusal (r .at) Short) (z .cut j a b w);
-          same = λ (w : z .end ≤ length l) (m : List ℕ) (q : Alike (z .end) l m). ap (λ (x : X). k x m) (z .same w m q) ∙ hands (f l) r m e ∙ sym (hands (f l) r l e);
+          cut = λ (j : ℕ) (a : r .at ≤ j) (b : j < z .end) (w : j ≤ length l). stopped-cut (take j l)
+              (refusal (r .at) Short) (z .cut j a b w);
+          same = λ (w : z .end ≤ length l) (m : List ℕ) (q : Alike (z .end) l m). ap (λ (x : X). k x m)
+              (z .same w m q) ∙ hands (f l) r m e ∙ sym (hands (f l) r l e);
           short = z .short;
         }
 
     stopped-placed : Placed seenA both l at r
     stopped-placed = record { after = stopped .after; within = stopped .within; field = λ (t : r .fault ≡ Tail → ⊥). stopped-field (stopped .field t) }
 
-  pub refusing-bind : ((n : ℕ) → seenX (f l) ≡ went n → at ≤ n → n ≤ length l → Refusing seenA (k (f l)) l n) → Refusing seenA (λ (m : List ℕ). k (f m) m) l at
+  pub refusing-bind : ((n : ℕ) → seenX (f l) ≡ went n → at ≤ n → n ≤ length l → Refusing seenA (k (f l)) l n)
+      → Refusing seenA (λ (m : List ℕ). k (f m) m) l at
   unfolding both
   refusing-bind on q h = by (seenX (f l)) refl
     where
@@ -149,7 +153,8 @@ module _ {X A : Type 0} (seenX : X → Seen) (seenA : A → Seen) (up : Refusal 
       by (went n) e = both-placed n e q (on n e (first n e .after) (first n e .within) q h)
       by (refused r) e = subst (λ (z : Refusal). Placed seenA both l at z) (one-refusal r q (sym (stopped-as r e) ∙ h)) (stopped-placed r e)
 
-  pub sound-bind : ((n : ℕ) → seenX (f l) ≡ went n → at ≤ n → n ≤ length l → Sound seenA (k (f l)) l n) → Sound seenA (λ (m : List ℕ). k (f m) m) l at
+  pub sound-bind : ((n : ℕ) → seenX (f l) ≡ went n → at ≤ n → n ≤ length l → Sound seenA (k (f l)) l n)
+      → Sound seenA (λ (m : List ℕ). k (f m) m) l at
   unfolding both
   sound-bind on = record { next = nexts; place = refusing-bind (λ (n : ℕ) (e : seenX (f l) ≡ went n) (a : at ≤ n) (b : n ≤ length l). on n e a b .place) }
     where
@@ -174,24 +179,30 @@ module _ {A : Type 0} (seen : A → Seen) (up : Refusal → A) (then′ : Field 
   hand k (Value v n) r m e = clash n r e
   hand k (Refused q) r m e = stops q _ ∙ ap up (one-refusal q r e)
 
-  pub after-field : (f : List ℕ → Field) (k : ℕ → ℕ → List ℕ → A) (l : List ℕ) (at : ℕ) → Sound seenField f l at → ((v n : ℕ) → f l ≡ Value v n → at ≤ n → n ≤ length l → Sound seen (k v n) l n)
+  pub after-field : (f : List ℕ → Field) (k : ℕ → ℕ → List ℕ → A) (l : List ℕ) (at : ℕ) → Sound seenField f l at
+      → ((v n : ℕ) → f l ≡ Value v n → at ≤ n → n ≤ length l → Sound seen (k v n) l n)
       → Sound seen (λ (m : List ℕ). then′ (f m) (λ (v n : ℕ). k v n m)) l at
-  after-field f k l at s on = sound-bind seenField seen up f (λ (x : Field) (m : List ℕ). then′ x (λ (v n : ℕ). k v n m)) l at said (hand k) s (go (f l) refl)
+  after-field f k l at s on = sound-bind seenField seen up f
+      (λ (x : Field) (m : List ℕ). then′ x (λ (v n : ℕ). k v n m)) l at said (hand k) s (go (f l) refl)
     where
-      go : (x : Field) → f l ≡ x → (n : ℕ) → seenField x ≡ went n → at ≤ n → n ≤ length l → Sound seen (λ (m : List ℕ). then′ x (λ (v j : ℕ). k v j m)) l n
+      go : (x : Field) → f l ≡ x → (n : ℕ) → seenField x ≡ went n → at ≤ n → n ≤ length l
+          → Sound seen (λ (m : List ℕ). then′ x (λ (v j : ℕ). k v j m)) l n
       go (Value v j) e n q a b =
           let i : j ≡ n = one-place j n q in
-          subst (λ (z : ℕ). Sound seen (λ (m : List ℕ). then′ (Value v j) (λ (w i : ℕ). k w i m)) l z) i (held v j (on v j e (omega arith) (omega arith)))
+          subst (λ (z : ℕ). Sound seen (λ (m : List ℕ). then′ (Value v j) (λ (w i : ℕ). k w i m)) l z) i
+          (held v j (on v j e (omega arith) (omega arith)))
         where
           held : (v j : ℕ) → Sound seen (k v j) l j → Sound seen (λ (m : List ℕ). then′ (Value v j) (λ (w i : ℕ). k w i m)) l j
           held v j s = subst (λ (rd : List ℕ → A). Sound seen rd l j) (fun-ext (λ (m : List ℕ). sym (goes v j (λ (w i : ℕ). k w i m)))) s
       go (Refused r) e n q a b = clash n r (sym q)
 
 -- and where the answer is a field again
-pub then-sound : (f : List ℕ → Field) (k : ℕ → ℕ → List ℕ → Field) (l : List ℕ) (at : ℕ) → Sound seenField f l at → ((v n : ℕ) → f l ≡ Value v n → at ≤ n → n ≤ length l → Sound seenField (k v n) l n)
+pub then-sound : (f : List ℕ → Field) (k : ℕ → ℕ → List ℕ → Field) (l : List ℕ) (at : ℕ) → Sound seenField f l at
+    → ((v n : ℕ) → f l ≡ Value v n → at ≤ n → n ≤ length l → Sound seenField (k v n) l n)
     → Sound seenField (λ (m : List ℕ). then (f m) (λ (v n : ℕ). k v n m)) l at
 then-sound f k l at s on =
-    after-field seenField Refused then (λ (r : Refusal). refl) (λ (v n : ℕ) (c : ℕ → ℕ → Field). refl) (λ (r : Refusal) (c : ℕ → ℕ → Field). refl) f k l at s on
+    after-field seenField Refused then (λ (r : Refusal). refl) (λ (v n : ℕ) (c : ℕ → ℕ → Field). refl)
+    (λ (r : Refusal) (c : ℕ → ℕ → Field). refl) f k l at s on
 
 -- ---- a field that is missing, and one that has another fault
 
@@ -237,7 +248,8 @@ part-to (x ∷ l) (suc e) (suc at) n h = part-to l e at n (omega arith)
 bits-alike : (l m : List ℕ) (at w n : ℕ) → at + w ≤ n → n ≤ length l → Alike n l m → bitField m at w ≡ bitField l at w
 unfolding bitField readBits
 bits-alike l m at w n h g a =
-    let p : take w (drop at m) ≡ take w (drop at l) = sym (part-to m n at w h) ∙ ap (λ (z : List ℕ). take w (drop at z)) (a .front) ∙ part-to l n at w h in
+    let p : take w (drop at m) ≡ take w (drop at l) = sym (part-to m n at w h) ∙ ap
+    (λ (z : List ℕ). take w (drop at z)) (a .front) ∙ part-to l n at w h in
     let k = a .long in
     rw (le-leb (at + w) (length m) (omega arith), le-leb (at + w) (length l) (omega arith), p)
 
@@ -249,7 +261,8 @@ bits-cut l at w k h b =
     let e : leb (at + w) (length (take k l)) ≡ false = lt-leb (at + w) (length (take k l)) (omega arith) in
     go (leb w 64) _ e
   where
-    go : (t c : Bool) → c ≡ false → fieldOf at (cond (t && c) (read.Number (numOf (take w (drop at (take k l)))) (at + w)) read.Short) ≡ refusedAt at Short
+    go : (t c : Bool) → c ≡ false
+        → fieldOf at (cond (t && c) (read.Number (numOf (take w (drop at (take k l)))) (at + w)) read.Short) ≡ refusedAt at Short
     go true true q = never (cc)
     go true false q = refl
     go false c q = refl
@@ -262,7 +275,9 @@ short-cut l at w k h e = go (leb w 64) (leb (at + w) (length l)) refl e (leb (at
     n : length (take k l) ≡ k
     n = length-take-le k l h
 
-    go : (a b : Bool) → leb (at + w) (length l) ≡ b → cond (a && b) (read.Number (numOf (take w (drop at l))) (at + w)) read.Short ≡ read.Short → (c : Bool) → leb (at + w) (length (take k l)) ≡ c
+    go : (a b : Bool) → leb (at + w) (length l) ≡ b
+        → cond (a && b) (read.Number (numOf (take w (drop at l))) (at + w)) read.Short ≡ read.Short → (c : Bool)
+        → leb (at + w) (length (take k l)) ≡ c
         → fieldOf at (cond (a && c) (read.Number (numOf (take w (drop at (take k l)))) (at + w)) read.Short) ≡ refusedAt at Short
     go false b p q c u = refl
     go true true p q c u = never (cc)
@@ -303,11 +318,13 @@ short-only l at w r e = go (readBits l at w) e
     go read.Short q = cc
 
 -- a field of bits that was read is missing in bits that end inside it
-pub field-cut : (l : List ℕ) (at w v n : ℕ) → bitField l at w ≡ Value v n → (k : ℕ) → at ≤ k → k < n → k ≤ length l → bitField (take k l) at w ≡ refusedAt at Short
+pub field-cut : (l : List ℕ) (at w v n : ℕ) → bitField l at w ≡ Value v n → (k : ℕ) → at ≤ k → k < n → k ≤ length l
+    → bitField (take k l) at w ≡ refusedAt at Short
 field-cut l at w v n e k a b h = let p = bits-are l at w v n e .place in bits-cut l at w k h (omega arith)
 
 -- and one that was missing stays so
-field-short : (l : List ℕ) (at w : ℕ) (r : Refusal) → bitField l at w ≡ Refused r → (k : ℕ) → k ≤ length l → bitField (take k l) at w ≡ refusedAt at Short
+field-short : (l : List ℕ) (at w : ℕ) (r : Refusal) → bitField l at w ≡ Refused r → (k : ℕ) → k ≤ length l
+    → bitField (take k l) at w ≡ refusedAt at Short
 unfolding bitField
 field-short l at w r e k h = go (readBits l at w) refl e
   where
@@ -327,7 +344,8 @@ bit-sound l at w h = go (bitField l at w) refl
         by read.Short p q =
             let i : refusal at Short ≡ r = cc in
             subst (λ (z : Refusal). Placed seenField (λ (m : List ℕ). bitField m at w) l at z) i
-            (missing-placed seenField (λ (m : List ℕ). bitField m at w) l at h (λ (k : ℕ) (a : at ≤ k) (b : k ≤ length l). ap seenField (short-cut l at w k b p)))
+            (missing-placed seenField (λ (m : List ℕ). bitField m at w) l at h
+            (λ (k : ℕ) (a : at ≤ k) (b : k ≤ length l). ap seenField (short-cut l at w k b p)))
 
     go : (x : Field) → bitField l at w ≡ x → Sound seenField (λ (m : List ℕ). bitField m at w) l at
     go (Value v n) e =
@@ -364,12 +382,14 @@ module _ (f : List ℕ → Field) (g : ℕ → ℕ → Field) (ok : ℕ → Bool
     by true p = went-sound seenField judging l at n (ap seenField (judged-as (Value (val v) n) (right v n p))) (record { after = was-read .after; within = was-read .within; same = judged-same })
     by false p =
         placed-sound seenField judging l at (refusal at why) (ap seenField (judged-as (refusedAt at why) (wrong v n p)))
-        (faulty-placed seenField judging l at n why faulty (wide v n e p) (was-read .within) judged-same (λ (k : ℕ) (a : at ≤ k) (b : k < n) (w : k ≤ length l). ap seenField (judged-cut k a b)))
+        (faulty-placed seenField judging l at n why faulty (wide v n e p) (was-read .within) judged-same
+        (λ (k : ℕ) (a : at ≤ k) (b : k < n) (w : k ≤ length l). ap seenField (judged-cut k a b)))
 
   judge : (x : Field) → f l ≡ x → Sound seenField judging l at
   unfolding judging
   judge (Value v n) e = by v n e (ok v) refl
-  judge (Refused r) e = then-sound f (λ (v n : ℕ) (m : List ℕ). g v n) l at s (λ (v n : ℕ) (p : f l ≡ Value v n) (a : at ≤ n) (b : n ≤ length l). never (cc))
+  judge (Refused r) e = then-sound f (λ (v n : ℕ) (m : List ℕ). g v n) l at s
+      (λ (v n : ℕ) (p : f l ≡ Value v n) (a : at ≤ n) (b : n ≤ length l). never (cc))
 
   pub judged : Sound seenField (λ (m : List ℕ). then (f m) g) l at
   unfolding judging
@@ -378,7 +398,8 @@ module _ (f : List ℕ → Field) (g : ℕ → ℕ → Field) (ok : ℕ → Bool
 pub extension-sound : (l : List ℕ) (at : ℕ) → at ≤ length l → Sound seenField (λ (m : List ℕ). extensionBit m at) l at
 unfolding extensionBit
 extension-sound l at h =
-    judged (λ (m : List ℕ). bitField m at 1) (λ (b n : ℕ). cond (eqb b 0) (Value 0 n) (refusedAt at Extension)) (λ (b : ℕ). eqb b 0) (λ (b : ℕ). 0) Extension l at h (bit-sound l at 1 h)
+    judged (λ (m : List ℕ). bitField m at 1) (λ (b n : ℕ). cond (eqb b 0) (Value 0 n) (refusedAt at Extension))
+    (λ (b : ℕ). eqb b 0) (λ (b : ℕ). 0) Extension l at h (bit-sound l at 1 h)
     (λ (v n : ℕ) (p : eqb v 0 ≡ true). ap (λ (t : Bool). cond t (Value 0 n) (refusedAt at Extension)) p)
     (λ (v n : ℕ) (p : eqb v 0 ≡ false). ap (λ (t : Bool). cond t (Value 0 n) (refusedAt at Extension)) p)
     (λ (t : Extension ≡ Short). never (cc))
@@ -390,7 +411,8 @@ pub extension-place : (l : List ℕ) (at b n : ℕ) → extensionBit l at ≡ Va
 unfolding extensionBit
 extension-place l at b n e = go (bitField l at 1) refl e
   where
-    go : (x : Field) → bitField l at 1 ≡ x → then x (λ (v k : ℕ). cond (eqb v 0) (Value 0 k) (refusedAt at Extension)) ≡ Value b n → n ≡ at + 1
+    go : (x : Field) → bitField l at 1 ≡ x
+        → then x (λ (v k : ℕ). cond (eqb v 0) (Value 0 k) (refusedAt at Extension)) ≡ Value b n → n ≡ at + 1
     go (Refused r) p q = never (cc)
     go (Value v k) p q = by (eqb v 0) q
       where
@@ -407,7 +429,9 @@ no-bits = num-bitsN 0 0
 pub whole-sound : (l : List ℕ) (at lo hi : ℕ) → lo ≤ hi → at ≤ length l → Sound seenField (λ (m : List ℕ). wholeNumber m at lo hi) l at
 unfolding wholeNumber
 whole-sound l at lo hi ranged h =
-    judged (λ (m : List ℕ). bitField m at (widthOf (hi - lo))) (λ (d n : ℕ). cond (leb (lo + d) hi) (Value (lo + d) n) (refusedAt at Range)) (λ (d : ℕ). leb (lo + d) hi) (λ (d : ℕ). lo + d) Range l at h
+    judged (λ (m : List ℕ). bitField m at (widthOf (hi - lo)))
+    (λ (d n : ℕ). cond (leb (lo + d) hi) (Value (lo + d) n) (refusedAt at Range)) (λ (d : ℕ). leb (lo + d) hi)
+    (λ (d : ℕ). lo + d) Range l at h
     (bit-sound l at (widthOf (hi - lo)) h)
     (λ (v n : ℕ) (p : leb (lo + v) hi ≡ true). ap (λ (t : Bool). cond t (Value (lo + v) n) (refusedAt at Range)) p)
     (λ (v n : ℕ) (p : leb (lo + v) hi ≡ false). ap (λ (t : Bool). cond t (Value (lo + v) n) (refusedAt at Range)) p)
@@ -427,7 +451,9 @@ pub whole-place : (l : List ℕ) (at lo hi v n : ℕ) → wholeNumber l at lo hi
 unfolding wholeNumber
 whole-place l at lo hi v n e = go (bitField l at (widthOf (hi - lo))) refl e
   where
-    go : (x : Field) → bitField l at (widthOf (hi - lo)) ≡ x → then x (λ (d k : ℕ). cond (leb (lo + d) hi) (Value (lo + d) k) (refusedAt at Range)) ≡ Value v n → n ≡ at + widthOf (hi - lo)
+    go : (x : Field) → bitField l at (widthOf (hi - lo)) ≡ x
+        → then x (λ (d k : ℕ). cond (leb (lo + d) hi) (Value (lo + d) k) (refusedAt at Range)) ≡ Value v n
+        → n ≡ at + widthOf (hi - lo)
     go (Refused r) p q = never (cc)
     go (Value d k) p q = by (leb (lo + d) hi) q
       where
@@ -436,11 +462,13 @@ whole-place l at lo hi v n e = go (bitField l at (widthOf (hi - lo))) refl e
         by false u = never (cc)
 
 -- and is missing in bits that end inside it
-pub whole-cut : (l : List ℕ) (at lo hi v n : ℕ) → wholeNumber l at lo hi ≡ Value v n → (k : ℕ) → at ≤ k → k < n → k ≤ length l → wholeNumber (take k l) at lo hi ≡ refusedAt at Short
+pub whole-cut : (l : List ℕ) (at lo hi v n : ℕ) → wholeNumber l at lo hi ≡ Value v n → (k : ℕ) → at ≤ k → k < n
+    → k ≤ length l → wholeNumber (take k l) at lo hi ≡ refusedAt at Short
 unfolding wholeNumber
 whole-cut l at lo hi v n e k a b h =
     let p = whole-place l at lo hi v n e in
-    ap (λ (x : Field). then x (λ (d j : ℕ). cond (leb (lo + d) hi) (Value (lo + d) j) (refusedAt at Range))) (bits-cut l at (widthOf (hi - lo)) k h (omega arith))
+    ap (λ (x : Field). then x (λ (d j : ℕ). cond (leb (lo + d) hi) (Value (lo + d) j) (refusedAt at Range)))
+    (bits-cut l at (widthOf (hi - lo)) k h (omega arith))
 
 pub index-sound : (l : List ℕ) (at last : ℕ) → at ≤ length l → Sound seenField (λ (m : List ℕ). extensibleIndex m at last) l at
 unfolding extensibleIndex
@@ -467,17 +495,22 @@ module _ (l : List ℕ) (at : ℕ) (h : at ≤ length l) where
   first-cut k a b w = first-missing (take k l) (bits-cut l at 8 k w b)
 
   -- it is decided by the bits up to n
-  decided : (n : ℕ) → at + 8 ≤ n → n ≤ length l → ((m : List ℕ) → Alike n l m → then (bitField l at 8) (lengthFrom m at) ≡ then (bitField l at 8) (lengthFrom l at)) → (m : List ℕ) → Alike n l m → reads m ≡ reads l
+  decided : (n : ℕ) → at + 8 ≤ n → n ≤ length l
+      → ((m : List ℕ) → Alike n l m → then (bitField l at 8) (lengthFrom m at) ≡ then (bitField l at 8) (lengthFrom l at))
+      → (m : List ℕ) → Alike n l m → reads m ≡ reads l
   unfolding reads lengthAt
   decided n a w s m q = ap (λ (x : Field). then x (lengthFrom m at)) (bits-alike l m at 8 n a w q) ∙ s m q
 
-  misformed : (n : ℕ) → reads l ≡ refusedAt at LengthForm → at + 8 ≤ n → n ≤ length l → ((m : List ℕ) → Alike n l m → reads m ≡ reads l) → Cut n → Sound seenField reads l at
+  misformed : (n : ℕ) → reads l ≡ refusedAt at LengthForm → at + 8 ≤ n → n ≤ length l
+      → ((m : List ℕ) → Alike n l m → reads m ≡ reads l) → Cut n → Sound seenField reads l at
   unfolding Cut
   misformed n e a w s c =
       placed-sound seenField reads l at (refusal at LengthForm) (ap seenField e)
-      (faulty-placed seenField reads l at n LengthForm (λ (t : LengthForm ≡ Short). never (cc)) (omega arith) w s (λ (k : ℕ) (i : at ≤ k) (j : k < n) (u : k ≤ length l). ap seenField (c k i j u)))
+      (faulty-placed seenField reads l at n LengthForm (λ (t : LengthForm ≡ Short). never (cc)) (omega arith) w s
+      (λ (k : ℕ) (i : at ≤ k) (j : k < n) (u : k ≤ length l). ap seenField (c k i j u)))
 
-  answers : (v n : ℕ) → reads l ≡ Value v n → at + 8 ≤ n → n ≤ length l → ((m : List ℕ) → Alike n l m → reads m ≡ reads l) → Sound seenField reads l at
+  answers : (v n : ℕ) → reads l ≡ Value v n → at + 8 ≤ n → n ≤ length l
+      → ((m : List ℕ) → Alike n l m → reads m ≡ reads l) → Sound seenField reads l at
   answers v n e a w s = went-sound seenField reads l at n (ap seenField e) (record { after = omega arith; within = w; same = s })
 
   missing : reads l ≡ refusedAt at Short → ((k : ℕ) → k ≤ length l → reads (take k l) ≡ refusedAt at Short) → Sound seenField reads l at
@@ -509,7 +542,9 @@ module _ (l : List ℕ) (at : ℕ) (h : at ≤ length l) where
             | yes g ↦ first-missing (take k l) (bits-cut l at 8 k w g)
             | no g ↦
                 let z = eight .place in
-                ap (λ (x : Field). then x (lengthFrom (take k l) at)) (bits-alike l (take k l) at 8 n (omega arith) (eight .within) (alike-cut n k l (omega arith) w) ∙ e) ∙ from (take k l) ∙ ap (λ (x : Field). then x (longLength at)) f
+                ap (λ (x : Field). then x (lengthFrom (take k l) at))
+                (bits-alike l (take k l) at 8 n (omega arith) (eight .within) (alike-cut n k l (omega arith) w) ∙ e)
+                ∙ from (take k l) ∙ ap (λ (x : Field). then x (longLength at)) f
           ]
 
       long-cut : Cut (at + 16)
@@ -524,19 +559,23 @@ module _ (l : List ℕ) (at : ℕ) (h : at ≤ length l) where
         both-same m a =
             let c = sixteen .place in
             decided k (omega arith) (sixteen .within)
-            (λ (y : List ℕ) (u : Alike k l y). leads y ∙ from y ∙ ap (λ (x : Field). then x (longLength at)) (bits-alike l y at 16 k (omega arith) (sixteen .within) u) ∙ sym (from l) ∙ sym (leads l)) m a
+            (λ (y : List ℕ) (u : Alike k l y). leads y ∙ from y ∙ ap (λ (x : Field). then x (longLength at))
+            (bits-alike l y at 16 k (omega arith) (sixteen .within) u) ∙ sym (from l) ∙ sym (leads l)) m a
 
         said : (o : Field) → longLength at v k ≡ o → reads l ≡ o
         said o r = told o (from l ∙ ap (λ (x : Field). then x (longLength at)) f ∙ r)
 
         long : (t : Bool) → ltb v (32768 + 128) ≡ t → Sound seenField reads l at
-        long true r = let c = sixteen .place in misformed k (said (refusedAt at LengthForm) (rw r)) (omega arith) (sixteen .within) both-same (subst Cut (sym c) long-cut)
-        long false r = let c = sixteen .place in answers (v - 32768) k (said (Value (v - 32768) k) (rw r)) (omega arith) (sixteen .within) both-same
+        long true r = let c = sixteen .place in misformed k (said (refusedAt at LengthForm) (rw r)) (omega arith)
+            (sixteen .within) both-same (subst Cut (sym c) long-cut)
+        long false r = let c = sixteen .place in answers (v - 32768) k (said (Value (v - 32768) k) (rw r)) (omega arith)
+            (sixteen .within) both-same
 
       sixteen-read : (x : Field) → bitField l at 16 ≡ x → Sound seenField reads l at
       sixteen-read (Value v k) f = long v k f (ltb v (32768 + 128)) refl
       sixteen-read (Refused r) f =
-          missing (told (refusedAt at Short) (from l ∙ ap (λ (x : Field). then x (longLength at)) (f ∙ ap Refused (short-only l at 16 r f))))
+          missing (told (refusedAt at Short)
+          (from l ∙ ap (λ (x : Field). then x (longLength at)) (f ∙ ap Refused (short-only l at 16 r f))))
           (λ (k : ℕ) (w : k ≤ length l). long-missing k w (field-short l at 16 r f k w))
 
     first-same : (o : Field) → ((m : List ℕ) → lengthFrom m at b n ≡ o) → (m : List ℕ) → Alike n l m → reads m ≡ reads l
@@ -547,7 +586,8 @@ module _ (l : List ℕ) (at : ℕ) (h : at ≤ length l) where
     large : ltb b 128 ≡ false → (t : Bool) → leb 192 b ≡ t → Sound seenField reads l at
     large p true q =
         let z = eight .place in
-        misformed n (told (refusedAt at LengthForm) (rw (p, q))) (omega arith) (eight .within) (first-same (refusedAt at LengthForm) (λ (m : List ℕ). rw (p, q))) (subst Cut (sym z) first-cut)
+        misformed n (told (refusedAt at LengthForm) (rw (p, q))) (omega arith) (eight .within)
+        (first-same (refusedAt at LengthForm) (λ (m : List ℕ). rw (p, q))) (subst Cut (sym z) first-cut)
     large p false q = sixteen-read p q (bitField l at 16) refl
 
     small : (t : Bool) → ltb b 128 ≡ t → Sound seenField reads l at
@@ -582,13 +622,15 @@ module _ (l : List ℕ) (at : ℕ) (h : at ≤ length l) where
   eight-read : (x : Field) → bitField l at 8 ≡ x → Sound seenField reads l at
   unfolding reads lengthAt
   eight-read (Value b n) e = small b n e (ltb b 128) refl
-  eight-read (Refused r) e = missing (first-missing l (e ∙ ap Refused (short-only l at 8 r e))) (λ (k : ℕ) (w : k ≤ length l). first-missing (take k l) (field-short l at 8 r e k w))
+  eight-read (Refused r) e = missing (first-missing l (e ∙ ap Refused (short-only l at 8 r e)))
+      (λ (k : ℕ) (w : k ≤ length l). first-missing (take k l) (field-short l at 8 r e k w))
 
   pub length-sound : Sound seenField (λ (m : List ℕ). lengthAt m at) l at
   unfolding reads
   length-sound = eight-read (bitField l at 8) refl
 
-  pub length-cut : (v n : ℕ) → lengthAt l at ≡ Value v n → (k : ℕ) → at ≤ k → k < n → k ≤ length l → lengthAt (take k l) at ≡ refusedAt at Short
+  pub length-cut : (v n : ℕ) → lengthAt l at ≡ Value v n → (k : ℕ) → at ≤ k → k < n → k ≤ length l
+      → lengthAt (take k l) at ≡ refusedAt at Short
   unfolding reads lengthAt Cut
   length-cut v n e = by (bitField l at 8) refl e
     where
@@ -613,7 +655,9 @@ module _ (l : List ℕ) (at : ℕ) (h : at ≤ length l) where
 pub within-sound : (l : List ℕ) (at least most : ℕ) → at ≤ length l → Sound seenField (λ (m : List ℕ). lengthWithin m at least most) l at
 unfolding lengthWithin reads
 within-sound l at least most h =
-    judged (λ (m : List ℕ). lengthAt m at) (λ (n next : ℕ). cond (leb least n && leb n most) (Value n next) (refusedAt at Limit)) (λ (n : ℕ). leb least n && leb n most) (λ (n : ℕ). n) Limit l at h
+    judged (λ (m : List ℕ). lengthAt m at)
+    (λ (n next : ℕ). cond (leb least n && leb n most) (Value n next) (refusedAt at Limit))
+    (λ (n : ℕ). leb least n && leb n most) (λ (n : ℕ). n) Limit l at h
     (length-sound l at h)
     (λ (v n : ℕ) (p : leb least v && leb v most ≡ true). ap (λ (t : Bool). cond t (Value v n) (refusedAt at Limit)) p)
     (λ (v n : ℕ) (p : leb least v && leb v most ≡ false). ap (λ (t : Bool). cond t (Value v n) (refusedAt at Limit)) p)
@@ -628,24 +672,32 @@ run-sound l at count n h = go (leb (at + count) (length l)) refl
     go : (t : Bool) → leb (at + count) (length l) ≡ t → Sound seenField (λ (m : List ℕ). runAt m at count n) l at
     go true p =
         let w = leb-true _ _ p in
-        went-sound seenField (λ (m : List ℕ). runAt m at count n) l at (at + count) (ap (λ (t : Bool). seenField (cond t (Value n (at + count)) (refusedAt at Short))) p)
+        went-sound seenField (λ (m : List ℕ). runAt m at count n) l at (at + count)
+        (ap (λ (t : Bool). seenField (cond t (Value n (at + count)) (refusedAt at Short))) p)
         (record { after = omega arith; within = w; same = λ (m : List ℕ) (a : Alike (at + count) l m). rw (le-leb _ _ (a .long), p) })
     go false p =
         let w : length l < at + count = leb-false _ _ p in
-        placed-sound seenField (λ (m : List ℕ). runAt m at count n) l at (refusal at Short) (ap (λ (t : Bool). seenField (cond t (Value n (at + count)) (refusedAt at Short))) p)
+        placed-sound seenField (λ (m : List ℕ). runAt m at count n) l at (refusal at Short)
+        (ap (λ (t : Bool). seenField (cond t (Value n (at + count)) (refusedAt at Short))) p)
         (missing-placed seenField (λ (m : List ℕ). runAt m at count n) l at h
-        (λ (k : ℕ) (a : at ≤ k) (b : k ≤ length l). let z : length (take k l) ≡ k = length-take-le k l b in rw (lt-leb (at + count) (length (take k l)) (omega arith))))
+        (λ (k : ℕ) (a : at ≤ k) (b : k ≤ length l). let z : length (take k l) ≡ k = length-take-le k l b in rw
+        (lt-leb (at + count) (length (take k l)) (omega arith))))
 
-pub string-sound : (l : List ℕ) (at unit least most : ℕ) → at ≤ length l → Sound seenField (λ (m : List ℕ). stringAt m at unit least most) l at
+pub string-sound : (l : List ℕ) (at unit least most : ℕ) → at ≤ length l
+    → Sound seenField (λ (m : List ℕ). stringAt m at unit least most) l at
 unfolding stringAt
 string-sound l at unit least most h =
-    then-sound (λ (m : List ℕ). lengthWithin m at least most) (λ (n from : ℕ) (m : List ℕ). contentsAt m from unit n) l at (within-sound l at least most h)
-    (λ (n from : ℕ) (e : lengthWithin l at least most ≡ Value n from) (a : at ≤ from) (b : from ≤ length l). run-sound l from (unit * n) n b)
+    then-sound (λ (m : List ℕ). lengthWithin m at least most) (λ (n from : ℕ) (m : List ℕ). contentsAt m from unit n)
+    l at (within-sound l at least most h)
+    (λ (n from : ℕ) (e : lengthWithin l at least most ≡ Value n from) (a : at ≤ from) (b : from ≤ length l). run-sound
+    l from (unit * n) n b)
 
-pub sized-sound : (l : List ℕ) (at unit least most : ℕ) → least ≤ most → at ≤ length l → Sound seenField (λ (m : List ℕ). sizedAt m at unit least most) l at
+pub sized-sound : (l : List ℕ) (at unit least most : ℕ) → least ≤ most → at ≤ length l
+    → Sound seenField (λ (m : List ℕ). sizedAt m at unit least most) l at
 unfolding sizedAt
 sized-sound l at unit least most ranged h =
-    then-sound (λ (m : List ℕ). wholeNumber m at least most) (λ (n from : ℕ) (m : List ℕ). contentsAt m from unit n) l at (whole-sound l at least most ranged h)
+    then-sound (λ (m : List ℕ). wholeNumber m at least most) (λ (n from : ℕ) (m : List ℕ). contentsAt m from unit n) l
+    at (whole-sound l at least most ranged h)
     (λ (n from : ℕ) (e : wholeNumber l at least most ≡ Value n from) (a : at ≤ from) (b : from ≤ length l). run-sound l from (unit * n) n b)
 
 -- ---- additions from a later edition
@@ -671,7 +723,8 @@ module _ (l : List ℕ) (at : ℕ) (h : at ≤ length l) where
           | yes g ↦ rw (bits-cut l at 1 k w g)
           | no g ↦
               let q : n ≡ at + 1 = extension-place l at b n e in
-              seven (take k l) (short-form .same (take k l) (alike-cut n k l (omega arith) w)) ∙ ap (λ (x : Field). then x (λ (v next : ℕ). Value (v + 1) next)) (field-short l at 7 r f k w)
+              seven (take k l) (short-form .same (take k l) (alike-cut n k l (omega arith) w)) ∙ ap
+              (λ (x : Field). then x (λ (v next : ℕ). Value (v + 1) next)) (field-short l at 7 r f k w)
         ]
 
     counted : (x : Field) → bitField l at 7 ≡ x → Sound seenField counts l at
@@ -684,18 +737,23 @@ module _ (l : List ℕ) (at : ℕ) (h : at ≤ length l) where
           after = omega arith;
           within = i .within;
           same = λ (m : List ℕ) (a : Alike k l m).
-              seven m (short-form .same m (alike-less n k l m (omega arith) a)) ∙ ap (λ (x : Field). then x (λ (w next : ℕ). Value (w + 1) next)) (bits-alike l m at 7 k (omega arith) (i .within) a) ∙ sym (seven l refl);
+              seven m (short-form .same m (alike-less n k l m (omega arith) a)) ∙ ap
+              (λ (x : Field). then x (λ (w next : ℕ). Value (w + 1) next))
+              (bits-alike l m at 7 k (omega arith) (i .within) a) ∙ sym (seven l refl);
         })
     counted (Refused r) f =
         let z : r ≡ refusal at Short = short-only l at 7 r f in
-        placed-sound seenField counts l at (refusal at Short) (ap seenField (seven l refl ∙ ap (λ (x : Field). then x (λ (w next : ℕ). Value (w + 1) next)) (f ∙ ap Refused z)))
+        placed-sound seenField counts l at (refusal at Short) (ap seenField
+        (seven l refl ∙ ap (λ (x : Field). then x (λ (w next : ℕ). Value (w + 1) next)) (f ∙ ap Refused z)))
         (missing-placed seenField counts l at h (λ (k : ℕ) (a : at ≤ k) (w : k ≤ length l). ap seenField (seven-missing r f k w)))
 
   form-read : (x : Field) → extensionBit l at ≡ x → Sound seenField counts l at
   unfolding counts additionCount
   form-read (Value b n) e = counted b n e (bitField l at 7) refl
   form-read (Refused r) e =
-      then-sound (λ (m : List ℕ). extensionBit m at) (λ (b n : ℕ) (m : List ℕ). then (bitField m at 7) (λ (v next : ℕ). Value (v + 1) next)) l at (extension-sound l at h)
+      then-sound (λ (m : List ℕ). extensionBit m at)
+      (λ (b n : ℕ) (m : List ℕ). then (bitField m at 7) (λ (v next : ℕ). Value (v + 1) next)) l at
+      (extension-sound l at h)
       (λ (b n : ℕ) (p : extensionBit l at ≡ Value b n) (a : at ≤ n) (w : n ≤ length l). never (cc))
 
   pub count-sound : Sound seenField (λ (m : List ℕ). additionCount m at) l at
@@ -718,14 +776,16 @@ count-some l at n next e = first (extensionBit l at) e
 pub there-sound : (l : List ℕ) (at n : ℕ) → 0 < n → at ≤ length l → Sound seenField (λ (m : List ℕ). additionsThere m at n) l at
 unfolding additionsThere
 there-sound l at n pos h =
-    judged (λ (m : List ℕ). bitField m at n) (λ (v next : ℕ). cond (eqb v 0) (refusedAt at Extension) (Value v next)) (λ (v : ℕ). not (eqb v 0)) (λ (v : ℕ). v) Extension l at h (bit-sound l at n h)
+    judged (λ (m : List ℕ). bitField m at n) (λ (v next : ℕ). cond (eqb v 0) (refusedAt at Extension) (Value v next))
+    (λ (v : ℕ). not (eqb v 0)) (λ (v : ℕ). v) Extension l at h (bit-sound l at n h)
     (λ (v k : ℕ) (p : not (eqb v 0) ≡ true). by true v k (eqb v 0) p)
     (λ (v k : ℕ) (p : not (eqb v 0) ≡ false). by false v k (eqb v 0) p)
     (λ (t : Extension ≡ Short). never (cc))
     (λ (v k : ℕ) (e : bitField l at n ≡ Value v k) (p : not (eqb v 0) ≡ false). let q = bits-are l at n v k e .place in omega arith)
     (field-cut l at n)
   where
-    by : (t : Bool) (v k : ℕ) (z : Bool) → not z ≡ t → cond z (refusedAt at Extension) (Value v k) ≡ cond t (Value v k) (refusedAt at Extension)
+    by : (t : Bool) (v k : ℕ) (z : Bool) → not z ≡ t
+        → cond z (refusedAt at Extension) (Value v k) ≡ cond t (Value v k) (refusedAt at Extension)
     by true v k true p = never (cc)
     by true v k false p = refl
     by false v k true p = refl
@@ -747,7 +807,10 @@ stepped-sound l (suc k) at h =
 pub additions-sound : (l : List ℕ) (at : ℕ) → at ≤ length l → Sound seenField (λ (m : List ℕ). additionsAt m at) l at
 unfolding additionsAt
 additions-sound l at h =
-    then-sound (λ (m : List ℕ). additionCount m at) (λ (n p : ℕ) (m : List ℕ). then (additionsThere m p n) (λ (v q : ℕ). steppedOver m q (ones v))) l at (count-sound l at h)
+    then-sound (λ (m : List ℕ). additionCount m at)
+    (λ (n p : ℕ) (m : List ℕ). then (additionsThere m p n) (λ (v q : ℕ). steppedOver m q (ones v))) l at
+    (count-sound l at h)
     (λ (n p : ℕ) (e : additionCount l at ≡ Value n p) (a : at ≤ p) (b : p ≤ length l).
-    then-sound (λ (m : List ℕ). additionsThere m p n) (λ (v q : ℕ) (m : List ℕ). steppedOver m q (ones v)) l p (there-sound l p n (count-some l at n p e) b)
+    then-sound (λ (m : List ℕ). additionsThere m p n) (λ (v q : ℕ) (m : List ℕ). steppedOver m q (ones v)) l p
+    (there-sound l p n (count-some l at n p e) b)
     (λ (v q : ℕ) (f : additionsThere l p n ≡ Value v q) (c : p ≤ q) (d : q ≤ length l). stepped-sound l (ones v) q d))

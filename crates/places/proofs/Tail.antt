@@ -61,7 +61,8 @@ bit-at (suc n) v (suc k) h =
 
 -- a bit of what stands at a place
 bit-of : (l : List ℕ) (at next k : ℕ) (bs : List ℕ) → Stands l at bs next → k < length bs → getD l (at + k) 0 ≡ getD bs k 0
-bit-of l at next k bs s h = sym (getD-drop at l k 0) ∙ (sym (getD-take (length bs) (drop at l) k 0 h) ∙ ap (λ (x : List ℕ). getD x k 0) (s .holds))
+bit-of l at next k bs s h = sym (getD-drop at l k 0) ∙
+    (sym (getD-take (length bs) (drop at l) k 0 h) ∙ ap (λ (x : List ℕ). getD x k 0) (s .holds))
 
 -- ---- the padding
 
@@ -73,10 +74,12 @@ module _ (l : List ℕ) (at v next : ℕ) (b : Bits l) (e : bitField l at (paddi
   stands = bit-field (padding at) .read-written l at v next b e
 
   fits : v < 2 ^ padding at
-  fits = ltb-true v (2 ^ padding at) (both-right (leb (padding at) 64) (ltb v (2 ^ padding at)) (bit-field (padding at) .read-fits l at v next b e))
+  fits = ltb-true v (2 ^ padding at)
+      (both-right (leb (padding at) 64) (ltb v (2 ^ padding at)) (bit-field (padding at) .read-fits l at v next b e))
 
   few : padding at ≤ 64
-  few = leb-true (padding at) 64 (both-left (leb (padding at) 64) (ltb v (2 ^ padding at)) (bit-field (padding at) .read-fits l at v next b e))
+  few = leb-true (padding at) 64
+      (both-left (leb (padding at) 64) (ltb v (2 ^ padding at)) (bit-field (padding at) .read-fits l at v next b e))
 
   small : v < 2 ^ 64
   small = let k : 2 ^ padding at ≤ 2 ^ 64 = pow-mono {i = padding at} {j = 64} few in omega (arith, fits)
@@ -88,7 +91,8 @@ module _ (l : List ℕ) (at v next : ℕ) (b : Bits l) (e : bitField l at (paddi
   here k h g =
       let q : at + (k - at) ≡ k = omega arith in
       let z = length-bitsN (padding at) v in
-      ap (λ (j : ℕ). getD l j 0) (sym q) ∙ (bit-of l at next (k - at) (bitsN (padding at) v) stands (omega arith) ∙ bit-at (padding at) v (k - at) (omega arith))
+      ap (λ (j : ℕ). getD l j 0) (sym q) ∙ (bit-of l at next (k - at) (bitsN (padding at) v) stands (omega arith) ∙
+      bit-at (padding at) v (k - at) (omega arith))
 
   all-clear : v ≡ 0 → (k : ℕ) → at ≤ k → k < next → getD l k 0 ≡ 0
   all-clear z k h g = here k h (omega (arith, ends)) ∙ rw z (none (2 ^ (padding at - 1 - (k - at))) (pow-pos (padding at - 1 - (k - at))))
@@ -123,7 +127,8 @@ module _ (l : List ℕ) (at v next : ℕ) (b : Bits l) (e : bitField l at (paddi
         let x : v < 2 ^ widthOf v = width-holds 64 v small in
         let y : 2 ^ (widthOf v - 1) ≤ v = width-fewest 64 v pos small in
         let w : 2 ^ widthOf v ≡ 2 ^ (widthOf v - 1) + 2 ^ (widthOf v - 1) = twice (widthOf v) s in
-        here (next - widthOf v) (omega (arith, ends)) (omega (arith, ends)) ∙ (ap (λ (j : ℕ). v / 2 ^ j % 2) m ∙ quot-one v (2 ^ (widthOf v - 1)) y (omega arith))
+        here (next - widthOf v) (omega (arith, ends)) (omega (arith, ends)) ∙
+        (ap (λ (j : ℕ). v / 2 ^ j % 2) m ∙ quot-one v (2 ^ (widthOf v - 1)) y (omega arith))
       where
         twice : (w : ℕ) → 0 < w → 2 ^ w ≡ 2 ^ (w - 1) + 2 ^ (w - 1)
         twice zero h = absurd (omega arith)
@@ -152,11 +157,14 @@ tail-place l at r b x e = by (bitField l at (padding at)) refl e
     to : (p : ℕ) → Refused (refusal p Tail) ≡ Refused r → TailAt l at p → TailAt l at (r .at)
     to p q t = subst (λ (y : Refusal). TailAt l at (y .at)) (one-refusal (refusal p Tail) r q) t
 
-    last : (v next : ℕ) → bitField l at (padding at) ≡ Value v next → v ≡ 0 → (t : Bool) → leb (next + 1) (length l) ≡ t → cond t (refusedAt next Tail) (Value 0 next) ≡ Refused r → TailAt l at (r .at)
+    last : (v next : ℕ) → bitField l at (padding at) ≡ Value v next → v ≡ 0 → (t : Bool) → leb (next + 1) (length l) ≡ t
+        → cond t (refusedAt next Tail) (Value 0 next) ≡ Refused r → TailAt l at (r .at)
     last v next f z true q u = let n = ends l at v next b f in let w : next + 1 ≤ length l = leb-true _ _ q in to next u (record { behind = omega arith; clear = all-clear l at v next b f z; there = inr (n, omega arith) })
     last v next f z false q u = never (cc)
 
-    go : (v next : ℕ) → bitField l at (padding at) ≡ Value v next → (t : Bool) → eqb v 0 ≡ t → cond t (cond (leb (next + 1) (length l)) (refusedAt next Tail) (Value 0 next)) (refusedAt (next - widthOf v) Tail) ≡ Refused r → TailAt l at (r .at)
+    go : (v next : ℕ) → bitField l at (padding at) ≡ Value v next → (t : Bool) → eqb v 0 ≡ t
+        → cond t (cond (leb (next + 1) (length l)) (refusedAt next Tail) (Value 0 next)) (refusedAt (next - widthOf v) Tail) ≡ Refused r
+        → TailAt l at (r .at)
     go v next f true p u = last v next f (eqb-true v 0 p) (leb (next + 1) (length l)) refl u
     go v next f false p u =
         let n = ends l at v next b f in
@@ -166,7 +174,9 @@ tail-place l at r b x e = by (bitField l at (padding at)) refl e
         let s = some l at v next b f pos in
         to (next - widthOf v) u (record { behind = omega arith; clear = before-clear l at v next b f pos; there = inl (omega arith, first-set l at v next b f pos) })
 
-    by : (f : Field) → bitField l at (padding at) ≡ f → then f (λ (v next : ℕ). cond (eqb v 0) (cond (leb (next + 1) (length l)) (refusedAt next Tail) (Value 0 next)) (refusedAt (next - widthOf v) Tail)) ≡ Refused r → TailAt l at (r .at)
+    by : (f : Field) → bitField l at (padding at) ≡ f
+        → then f (λ (v next : ℕ). cond (eqb v 0) (cond (leb (next + 1) (length l)) (refusedAt next Tail) (Value 0 next)) (refusedAt (next - widthOf v) Tail)) ≡ Refused r
+        → TailAt l at (r .at)
     by (Refused q) f k = absurd (bits-spared r (tail-not r x) l at (padding at) (f ∙ k))
     by (Value v next) f k = go v next f (eqb v 0) refl k
 
@@ -178,7 +188,8 @@ pub record TailPlaced (pdus : PduType) (l : List ℕ) (p : ℕ) : Type 0 where
   pub stands : Standing pdus l 0 end value
   pub place : TailAt l end p
 
-pub apdu-tail-place : (pdus : PduType) (l : List ℕ) (p : ℕ) → Bits l → apduAt pdus l 0 ≡ decoded.Refused (refusal p Tail) → TailPlaced pdus l p
+pub apdu-tail-place : (pdus : PduType) (l : List ℕ) (p : ℕ) → Bits l
+    → apduAt pdus l 0 ≡ decoded.Refused (refusal p Tail) → TailPlaced pdus l p
 apdu-tail-place pdus l p b e =
     let t = tail-last p pdus l 0 b e in
     record { value = t .value; end = t .place; stands = t .stands; place = tail-place l (t .place) (refusal p Tail) b refl (t .tail) }

@@ -69,7 +69,8 @@ module _ (pdus : PduType) (l : List ℕ) (r : Refusal) (x : r .fault ≡ Extensi
   unfolding extensibleIndex
   index-twelve at last e = go (extensionBit l at) refl e
     where
-      go : (f : Field) → extensionBit l at ≡ f → then f (λ (b next : ℕ). wholeNumber l next 0 last) ≡ Refused r → extensionBit l at ≡ Refused r
+      go : (f : Field) → extensionBit l at ≡ f → then f (λ (b next : ℕ). wholeNumber l next 0 last) ≡ Refused r
+          → extensionBit l at ≡ Refused r
       go (Refused q) p k = p ∙ k
       go (Value b n) p k = absurd (whole-spared r not-twelve l n 0 last k)
 
@@ -79,7 +80,8 @@ module _ (pdus : PduType) (l : List ℕ) (r : Refusal) (x : r .fault ≡ Extensi
   tail-twelve at =
       spared-then r not-twelve (bitField l at (padding at)) _ (bits-spared r not-twelve l at (padding at)) (λ (v next : ℕ).
       spared-cond r not-twelve (eqb v 0) _ _
-      (spared-cond r not-twelve (leb (next + 1) (length l)) (refusedAt next Tail) (Value 0 next) (spared-fault r not-twelve Tail next (tail-not Tail refl)) (spared-value r not-twelve 0 next))
+      (spared-cond r not-twelve (leb (next + 1) (length l)) (refusedAt next Tail) (Value 0 next)
+      (spared-fault r not-twelve Tail next (tail-not Tail refl)) (spared-value r not-twelve 0 next))
       (spared-fault r not-twelve Tail (next - widthOf v) (tail-not Tail refl)))
 
   ended-twelve : (at : ℕ) (a : Apdu) → endedAt l at a ≡ decoded.Refused r → ⊥
@@ -96,14 +98,17 @@ module _ (pdus : PduType) (l : List ℕ) (r : Refusal) (x : r .fault ≡ Extensi
   unfolding additionsThere
   none-twelve at n p o c e = go (bitField l p n) refl e
     where
-      by : (v k : ℕ) → bitField l p n ≡ Value v k → (t : Bool) → eqb v 0 ≡ t → cond t (refusedAt p Extension) (Value v k) ≡ Refused r → Twelve pdus l r
+      by : (v k : ℕ) → bitField l p n ≡ Value v k → (t : Bool) → eqb v 0 ≡ t
+          → cond t (refusedAt p Extension) (Value v k) ≡ Refused r → Twelve pdus l r
       by v k f true q u =
           let z : v ≡ 0 = eqb-true v 0 q in
           let w : refusal p Extension ≡ r = cc in
           of-none at n p k o c (f ∙ ap (λ (y : ℕ). Value y k) z) (sym w)
       by v k f false q u = never (cc)
 
-      go : (f : Field) → bitField l p n ≡ f → then f (λ (v next : ℕ). cond (eqb v 0) (refusedAt p Extension) (Value v next)) ≡ Refused r → Twelve pdus l r
+      go : (f : Field) → bitField l p n ≡ f
+          → then f (λ (v next : ℕ). cond (eqb v 0) (refusedAt p Extension) (Value v next)) ≡ Refused r
+          → Twelve pdus l r
       go (Refused q) f k = absurd (bits-spared r not-twelve l p n (f ∙ k))
       go (Value v k) f u = by v k f (eqb v 0) refl u
 
@@ -115,7 +120,9 @@ module _ (pdus : PduType) (l : List ℕ) (r : Refusal) (x : r .fault ≡ Extensi
       seven (Refused q) f k = absurd (bits-spared r not-twelve l at 7 (f ∙ k))
       seven (Value v n) f k = never (cc)
 
-      go : (f : Field) → extensionBit l at ≡ f → then f (λ (b p : ℕ). then (bitField l at 7) (λ (v next : ℕ). Value (v + 1) next)) ≡ Refused r → Twelve pdus l r
+      go : (f : Field) → extensionBit l at ≡ f
+          → then f (λ (b p : ℕ). then (bitField l at 7) (λ (v next : ℕ). Value (v + 1) next)) ≡ Refused r
+          → Twelve pdus l r
       go (Refused q) f k = of-count at o (f ∙ k)
       go (Value b n) f k = seven (bitField l at 7) refl k
 
@@ -123,18 +130,23 @@ module _ (pdus : PduType) (l : List ℕ) (r : Refusal) (x : r .fault ≡ Extensi
   unfolding additionsAt
   additions-twelve at o e = go (additionCount l at) refl e
     where
-      second : (n p : ℕ) → additionCount l at ≡ Value n p → (f : Field) → additionsThere l p n ≡ f → then f (λ (v q : ℕ). steppedOver l q (ones v)) ≡ Refused r → Twelve pdus l r
+      second : (n p : ℕ) → additionCount l at ≡ Value n p → (f : Field) → additionsThere l p n ≡ f
+          → then f (λ (v q : ℕ). steppedOver l q (ones v)) ≡ Refused r → Twelve pdus l r
       second n p c (Refused q) f k = none-twelve at n p o c (f ∙ k)
       second n p c (Value v q) f k = absurd (stepped-spared r not-twelve l (ones v) q k)
 
-      go : (f : Field) → additionCount l at ≡ f → then f (λ (n p : ℕ). then (additionsThere l p n) (λ (v q : ℕ). steppedOver l q (ones v))) ≡ Refused r → Twelve pdus l r
+      go : (f : Field) → additionCount l at ≡ f
+          → then f (λ (n p : ℕ). then (additionsThere l p n) (λ (v q : ℕ). steppedOver l q (ones v))) ≡ Refused r
+          → Twelve pdus l r
       go (Refused q) f k = count-twelve at o (f ∙ k)
       go (Value n p) f k = second n p f (additionsThere l p n) refl k
 
   -- ---- message data
 
   module _ (c : Kind) (m at : ℕ) (led : leadingAt pdus l 0 ≡ lead.Is c m at) (y : holdsData c ≡ true) where
-    root-twelve : (e p v q : ℕ) → bitField l at 1 ≡ Value e p → bitField l p 2 ≡ Value v q → eqb e 0 ≡ false → (t : Taken) → partsAt l q (leb 2 v) (eqb (v % 2) 1) ≡ t → withAdditions l t ≡ taken.Refused r → Twelve pdus l r
+    root-twelve : (e p v q : ℕ) → bitField l at 1 ≡ Value e p → bitField l p 2 ≡ Value v q → eqb e 0 ≡ false
+        → (t : Taken) → partsAt l q (leb 2 v) (eqb (v % 2) 1) ≡ t → withAdditions l t ≡ taken.Refused r
+        → Twelve pdus l r
     unfolding withAdditions
     root-twelve e p v q f u z (taken.Refused x₂) g k = absurd (parts-spared r not-twelve l q (leb 2 v) (eqb (v % 2) 1) (g ∙ k))
     root-twelve e p v q f u z (taken.Is d n) g k = go (additionsAt l n) refl k
@@ -142,7 +154,8 @@ module _ (pdus : PduType) (l : List ℕ) (r : Refusal) (x : r .fault ≡ Extensi
         o : Marked pdus l n
         o = record { kind = c; mode = m; begin = at; led = led; holds = y; mark = e; after = p; extension = f; set = z; flags = v; from = q; presence = u; parts = d; root = g }
 
-        go : (y : Field) → additionsAt l n ≡ y → onto taken.Refused y (λ (v after : ℕ). taken.Is d after) ≡ taken.Refused r → Twelve pdus l r
+        go : (y : Field) → additionsAt l n ≡ y
+            → onto taken.Refused y (λ (v after : ℕ). taken.Is d after) ≡ taken.Refused r → Twelve pdus l r
         go (Refused x₂) h w = additions-twelve n o (h ∙ ap Refused (taken-one r x₂ w))
         go (Value x₃ k₂) h w = never (cc)
 
@@ -151,42 +164,53 @@ module _ (pdus : PduType) (l : List ℕ) (r : Refusal) (x : r .fault ≡ Extensi
     data-twelve e = first (bitField l at 1) refl e
       where
         third : (x₁ p v q : ℕ) → bitField l at 1 ≡ Value x₁ p → bitField l p 2 ≡ Value v q → (t : Bool) → eqb x₁ 0 ≡ t
-            → cond t (partsAt l q (leb 2 v) (eqb (v % 2) 1)) (withAdditions l (partsAt l q (leb 2 v) (eqb (v % 2) 1))) ≡ taken.Refused r → Twelve pdus l r
+            → cond t (partsAt l q (leb 2 v) (eqb (v % 2) 1)) (withAdditions l (partsAt l q (leb 2 v) (eqb (v % 2) 1))) ≡
+            taken.Refused r → Twelve pdus l r
         third x₁ p v q f g true z k = absurd (parts-spared r not-twelve l q (leb 2 v) (eqb (v % 2) 1) k)
         third x₁ p v q f g false z k = root-twelve x₁ p v q f g z (partsAt l q (leb 2 v) (eqb (v % 2) 1)) refl k
 
         second : (x₁ p : ℕ) → bitField l at 1 ≡ Value x₁ p → (g : Field) → bitField l p 2 ≡ g
-            → onto taken.Refused g (λ (v q : ℕ). cond (eqb x₁ 0) (partsAt l q (leb 2 v) (eqb (v % 2) 1)) (withAdditions l (partsAt l q (leb 2 v) (eqb (v % 2) 1)))) ≡ taken.Refused r → Twelve pdus l r
+            → onto taken.Refused g (λ (v q : ℕ). cond (eqb x₁ 0) (partsAt l q (leb 2 v) (eqb (v % 2) 1))
+            (withAdditions l (partsAt l q (leb 2 v) (eqb (v % 2) 1)))) ≡ taken.Refused r → Twelve pdus l r
         second x₁ p f (Refused x₂) g k = absurd (bits-spared r not-twelve l p 2 (g ∙ ap Refused (taken-one r x₂ k)))
         second x₁ p f (Value v q) g k = third x₁ p v q f g (eqb x₁ 0) refl k
 
         first : (f : Field) → bitField l at 1 ≡ f
-            → onto taken.Refused f (λ (x₁ p : ℕ). onto taken.Refused (bitField l p 2) (λ (v q : ℕ). cond (eqb x₁ 0) (partsAt l q (leb 2 v) (eqb (v % 2) 1)) (withAdditions l (partsAt l q (leb 2 v) (eqb (v % 2) 1))))) ≡ taken.Refused r
+            → onto taken.Refused f (λ (x₁ p : ℕ). onto taken.Refused (bitField l p 2) (λ (v q : ℕ). cond (eqb x₁ 0)
+            (partsAt l q (leb 2 v) (eqb (v % 2) 1))
+            (withAdditions l (partsAt l q (leb 2 v) (eqb (v % 2) 1))))) ≡ taken.Refused r
             → Twelve pdus l r
         first (Refused x₂) f k = absurd (bits-spared r not-twelve l at 1 (f ∙ ap Refused (taken-one r x₂ k)))
         first (Value x₁ p) f k = second x₁ p f (bitField l p 2) refl k
 
-    on-data : (k : Data → ℕ → Apdu) (t : Taken) → dataAt l at ≡ t → onData t (λ (d : Data) (next : ℕ). endedAt l next (k d next)) ≡ decoded.Refused r → Twelve pdus l r
+    on-data : (k : Data → ℕ → Apdu) (t : Taken) → dataAt l at ≡ t
+        → onData t (λ (d : Data) (next : ℕ). endedAt l next (k d next)) ≡ decoded.Refused r → Twelve pdus l r
     on-data k (taken.Refused q) f e = data-twelve (f ∙ ap taken.Refused (answer-one r q e))
     on-data k (taken.Is d n) f e = absurd (ended-twelve n (k d n) e)
 
-  on-reason : (c : Kind) (m at : ℕ) → leadingAt pdus l 0 ≡ lead.Is c m at → isEnumerated c ≡ true → (last : ℕ) (k : ℕ → Apdu) (f : Field) → extensibleIndex l at last ≡ f → onto decoded.Refused f (λ (v next : ℕ). endedAt l next (k v)) ≡ decoded.Refused r → Twelve pdus l r
+  on-reason : (c : Kind) (m at : ℕ) → leadingAt pdus l 0 ≡ lead.Is c m at → isEnumerated c ≡ true
+      → (last : ℕ) (k : ℕ → Apdu) (f : Field) → extensibleIndex l at last ≡ f
+      → onto decoded.Refused f (λ (v next : ℕ). endedAt l next (k v)) ≡ decoded.Refused r → Twelve pdus l r
   on-reason c m at led y last k (Refused q) f e = of-enumerated c m at y led (index-twelve at last (f ∙ ap Refused (answer-one r q e)))
   on-reason c m at led y last k (Value v n) f e = absurd (ended-twelve n (k v) e)
 
   -- a forward message has no extension bit
-  on-forward : (at : ℕ) (t : Forwarded) → forwardAt l at ≡ t → onForward decoded.Refused t (λ (f : Forward) (next : ℕ). endedAt l next (apdu.Forward f)) ≡ decoded.Refused r → Twelve pdus l r
+  on-forward : (at : ℕ) (t : Forwarded) → forwardAt l at ≡ t
+      → onForward decoded.Refused t (λ (f : Forward) (next : ℕ). endedAt l next (apdu.Forward f)) ≡ decoded.Refused r
+      → Twelve pdus l r
   on-forward at (forwarded.Refused q) g e = absurd (forward-spared r not-twelve l at (g ∙ ap forwarded.Refused (answer-one r q e)))
   on-forward at (forwarded.Is f n) g e = absurd (ended-twelve n (apdu.Forward f) e)
 
   rest-twelve : (c : Kind) (m at : ℕ) → leadingAt pdus l 0 ≡ lead.Is c m at → restAt l c m at ≡ decoded.Refused r → Twelve pdus l r
   unfolding restWithin
   rest-twelve kind.AbortUser m at g e = on-reason kind.AbortUser m at g refl userLast apdu.AbortUser (extensibleIndex l at userLast) refl e
-  rest-twelve kind.AbortProvider m at g e = on-reason kind.AbortProvider m at g refl providerLast apdu.AbortProvider (extensibleIndex l at providerLast) refl e
+  rest-twelve kind.AbortProvider m at g e = on-reason kind.AbortProvider m at g refl providerLast apdu.AbortProvider
+      (extensibleIndex l at providerLast) refl e
   rest-twelve kind.Start m at g e = on-data kind.Start m at g refl (λ (d : Data) (next : ℕ). apdu.Start m d) (dataAt l at) refl e
   rest-twelve kind.Send m at g e = on-data kind.Send m at g refl (λ (d : Data) (next : ℕ). apdu.Send d) (dataAt l at) refl e
   rest-twelve kind.Forward m at g e = on-forward at (forwardAt l at) refl e
-  rest-twelve kind.ForwardResponse m at g e = on-reason kind.ForwardResponse m at g refl responseLast apdu.ForwardResponse (extensibleIndex l at responseLast) refl e
+  rest-twelve kind.ForwardResponse m at g e = on-reason kind.ForwardResponse m at g refl responseLast
+      apdu.ForwardResponse (extensibleIndex l at responseLast) refl e
 
   -- ---- the leading fields
 
@@ -194,11 +218,14 @@ module _ (pdus : PduType) (l : List ℕ) (r : Refusal) (x : r .fault ≡ Extensi
   unfolding leadingAt
   lead-twelve e = go (extensibleIndex l 0 (lastOf pdus)) refl e
     where
-      second : (i p : ℕ) (f : Field) → kindMode pdus l (kindOf i) p ≡ f → onto lead.Refused f (λ (m q : ℕ). lead.Is (kindOf i) m q) ≡ lead.Refused r → Twelve pdus l r
+      second : (i p : ℕ) (f : Field) → kindMode pdus l (kindOf i) p ≡ f
+          → onto lead.Refused f (λ (m q : ℕ). lead.Is (kindOf i) m q) ≡ lead.Refused r → Twelve pdus l r
       second i p (Refused q) f k = absurd (kind-mode-spared r not-twelve pdus l (kindOf i) p (f ∙ ap Refused (lead-one r q k)))
       second i p (Value v q) f k = never (cc)
 
-      go : (f : Field) → extensibleIndex l 0 (lastOf pdus) ≡ f → onto lead.Refused f (λ (i p : ℕ). onto lead.Refused (kindMode pdus l (kindOf i) p) (λ (m q : ℕ). lead.Is (kindOf i) m q)) ≡ lead.Refused r → Twelve pdus l r
+      go : (f : Field) → extensibleIndex l 0 (lastOf pdus) ≡ f
+          → onto lead.Refused f (λ (i p : ℕ). onto lead.Refused (kindMode pdus l (kindOf i) p) (λ (m q : ℕ). lead.Is (kindOf i) m q)) ≡ lead.Refused r
+          → Twelve pdus l r
       go (Refused q) f k = of-choice (index-twelve 0 (lastOf pdus) (f ∙ ap Refused (lead-one r q k)))
       go (Value i p) f k = second i p (kindMode pdus l (kindOf i) p) refl k
 
@@ -239,20 +266,23 @@ module _ (pdus : PduType) (l : List ℕ) (r : Refusal) where
   data-refused kind.Forward m at y e = never (cc)
   data-refused kind.ForwardResponse m at y e = never (cc)
 
-  rest-refused : (c : Kind) (m at : ℕ) → leadingAt pdus l 0 ≡ lead.Is c m at → restAt l c m at ≡ decoded.Refused r → apduAt pdus l 0 ≡ decoded.Refused r
+  rest-refused : (c : Kind) (m at : ℕ) → leadingAt pdus l 0 ≡ lead.Is c m at → restAt l c m at ≡ decoded.Refused r
+      → apduAt pdus l 0 ≡ decoded.Refused r
   unfolding apduWithin
   rest-refused c m at f e = rw f e
 
   -- additions that are refused, behind a root that was read
   additions-refused : (at : ℕ) → Marked pdus l at → additionsAt l at ≡ Refused r → apduAt pdus l 0 ≡ decoded.Refused r
   unfolding dataWithin withAdditions
-  additions-refused at o e = rest-refused (o .kind) (o .mode) (o .begin) (o .led) (data-refused (o .kind) (o .mode) (o .begin) (o .holds) (rw (o .extension, o .presence, o .set, o .root, e)))
+  additions-refused at o e = rest-refused (o .kind) (o .mode) (o .begin) (o .led)
+      (data-refused (o .kind) (o .mode) (o .begin) (o .holds) (rw (o .extension, o .presence, o .set, o .root, e)))
 
   count-refused : (at : ℕ) → extensionBit l at ≡ Refused r → additionsAt l at ≡ Refused r
   unfolding additionsAt additionCount
   count-refused at e = rw e
 
-  none-refused : (at n p next : ℕ) → additionCount l at ≡ Value n p → bitField l p n ≡ Value 0 next → r ≡ refusal p Extension → additionsAt l at ≡ Refused r
+  none-refused : (at n p next : ℕ) → additionCount l at ≡ Value n p → bitField l p n ≡ Value 0 next
+      → r ≡ refusal p Extension → additionsAt l at ≡ Refused r
   unfolding additionsAt additionsThere
   none-refused at n p next c f e = rw (c, f, e)
 

@@ -77,7 +77,8 @@ content i m k = record { identifier = i; message = m; check = k }
 
 content-same : (c : Content) (m : Optional) → c .identifier ≡ absent → c .check ≡ [] → c .message ≡ m → content absent m [] ≡ c
 content-same c m p q r =
-    ap (λ (x : Optional). content x m []) (sym p) ∙ ap (λ (x : Optional). content (c .identifier) x []) (sym r) ∙ ap (λ (x : List ℕ). content (c .identifier) (c .message) x) (sym q)
+    ap (λ (x : Optional). content x m []) (sym p) ∙ ap (λ (x : Optional). content (c .identifier) x []) (sym r) ∙ ap
+    (λ (x : List ℕ). content (c .identifier) (c .message) x) (sym q)
 
 -- ---- where they stand
 
@@ -111,7 +112,8 @@ none-placed l = fits-items l bit 0 checkMost (span 0 0) (record { fits = refl; h
 -- ---- a reader in place
 
 module _ (rd : List ℕ → ℕ → Field) (p : InPlace rd) (laws : RunLaws rd) where
-  read-there : (l : List ℕ) (at next : ℕ) (m : List ℕ) → Bits l → takesAll rd m ≡ true → Stands l at m next → rd l at ≡ Value (length m) next
+  read-there : (l : List ℕ) (at next : ℕ) (m : List ℕ) → Bits l → takesAll rd m ≡ true → Stands l at m next
+      → rd l at ≡ Value (length m) next
   read-there l at next m b h s =
       let e = ends-at (rd m 0) (length m) h in
       let k : Bits m = subst Bits (s .holds) (bits-take (length m) (drop at l) (bits-drop at l b)) in
@@ -136,7 +138,8 @@ module _ (rd : List ℕ → ℕ → Field) (p : InPlace rd) (laws : RunLaws rd) 
       let k : next - at ≡ n = omega arith in
       let long : length (take n (drop at l)) ≡ n = length-part l at n (omega arith) in
       let s : Ends (rd (take n (drop at l)) 0) n = rw k at (a .itself) in
-      let t : Ends (rd (take n (drop at l)) 0) (length (take n (drop at l))) = subst (λ (x : ℕ). Ends (rd (take n (drop at l)) 0) x) (sym long) s in
+      let t : Ends (rd (take n (drop at l)) 0) (length (take n (drop at l))) = subst
+      (λ (x : ℕ). Ends (rd (take n (drop at l)) 0) x) (sym long) s in
       record { end = z; held = omega arith; bits = bits-take n (drop at l) (bits-drop at l b); ends = t; whole = at-end (rd (take n (drop at l)) 0) (length (take n (drop at l))) t; stands = p .stands l at n next b e }
 
 -- ---- message data, written and read
@@ -153,7 +156,8 @@ pub record DataIs (d : Direction) (bs : Optional → List ℕ) (l : List ℕ) (a
   pub stands : Stands l at (bs (contentIn l l l x .message)) next
 
 module _ (d : Direction) where
-  pub send-written : (l : List ℕ) (at next : ℕ) (c : Content) (m : List ℕ) → Bits l → ContentIs d c → c .message ≡ given m → Stands l at m next → DataRead (sendAt d l at) l next c
+  pub send-written : (l : List ℕ) (at next : ℕ) (c : Content) (m : List ℕ) → Bits l → ContentIs d c
+      → c .message ≡ given m → Stands l at m next → DataRead (sendAt d l at) l next c
   unfolding sendAt
   send-written l at next c m b i e s =
       let h : takesAll (messageSpan d) m ≡ true = subst (λ (o : Optional). messageFits d o ≡ true) e (i .message) in
@@ -161,10 +165,12 @@ module _ (d : Direction) where
       record {
         parts = messageThere at (length m);
         read = rw r;
-        same = there-content l at (length m) ∙ ap (λ (x : List ℕ). content absent (given x) []) (s .holds) ∙ content-same c (given m) (i .identifier) (i .check) e;
+        same = there-content l at (length m) ∙ ap (λ (x : List ℕ). content absent (given x) []) (s .holds) ∙
+            content-same c (given m) (i .identifier) (i .check) e;
       }
 
-  pub start-written : (l : List ℕ) (at next : ℕ) (c : Content) → Bits l → ContentIs d c → Stands l at (perhapsBits (c .message)) next → DataRead (startAt d l at) l next c
+  pub start-written : (l : List ℕ) (at next : ℕ) (c : Content) → Bits l → ContentIs d c
+      → Stands l at (perhapsBits (c .message)) next → DataRead (startAt d l at) l next c
   unfolding startAt perhapsBits bitsIn
   start-written l at next c b i s = go (c .message) refl s
     where
@@ -221,7 +227,8 @@ module _ (d : Direction) where
       let w = s .within in
       record { placed-fits = none-placed l; fits = refl; stands = stands-join l at next next (bitsN 1 0) [] s (stands-none l next (omega arith)) }
 
-  some-is : (l : List ℕ) (at p next : ℕ) (x : Data) → Stands l at (bitsN 1 1) p → isAbsent (contentIn l l l x .message) ≡ false → DataIs d bitsIn l p next x → DataIs d perhapsBits l at next x
+  some-is : (l : List ℕ) (at p next : ℕ) (x : Data) → Stands l at (bitsN 1 1) p
+      → isAbsent (contentIn l l l x .message) ≡ false → DataIs d bitsIn l p next x → DataIs d perhapsBits l at next x
   unfolding perhapsBits
   some-is l at p next x s t i = record { placed-fits = i .placed-fits; fits = i .fits; stands = go (contentIn l l l x .message) t (i .stands) }
     where
@@ -241,12 +248,14 @@ module _ (d : Direction) where
       one-bit : (i : ℕ) → i < 2 → eqb i 0 ≡ false → i ≡ 1
       one-bit i h q = let n = eqb-false i 0 q in omega arith
 
-      go : (i p : ℕ) → bitField l at 1 ≡ Value i p → (t : Bool) → eqb i 0 ≡ t → cond t (taken.Is noMessage p) (sendAt d l p) ≡ taken.Is x next → DataIs d perhapsBits l at next x
+      go : (i p : ℕ) → bitField l at 1 ≡ Value i p → (t : Bool) → eqb i 0 ≡ t
+          → cond t (taken.Is noMessage p) (sendAt d l p) ≡ taken.Is x next → DataIs d perhapsBits l at next x
       go i p f true q k =
           let z : i ≡ 0 = eqb-true i 0 q in
           let y : p ≡ next = cc in
           let w : noMessage ≡ x = cc in
-          subst (λ (v : Data). DataIs d perhapsBits l at next v) w (none-is l at next (stands-at l at p next (bitsN 1 0) y (rw z at (bit-field 1 .read-written l at i p b f))))
+          subst (λ (v : Data). DataIs d perhapsBits l at next v) w (none-is l at next
+          (stands-at l at p next (bitsN 1 0) y (rw z at (bit-field 1 .read-written l at i p b f))))
       go i p f false q k =
           let lt : i < 2 ^ 1 = ltb-true i (2 ^ 1) (both-right (leb 1 64) (ltb i (2 ^ 1)) (bit-field 1 .read-fits l at i p b f)) in
           let z : i ≡ 1 = one-bit i (omega arith) q in
@@ -260,12 +269,14 @@ pub record ForwardRead (f : Forwarded) (l : List ℕ) (next : ℕ) (h : Heading)
   pub heading : value .heading ≡ h
   pub message : itemsIn l bit (value .message) ≡ m
 
-pub forward-written : (l : List ℕ) (at next : ℕ) (h : Heading) (m : List ℕ) → Bits l → headingFits h ≡ true → elementsFit h m ≡ true → Stands l at (headedBits h m) next → ForwardRead (forwardAt l at) l next h m
+pub forward-written : (l : List ℕ) (at next : ℕ) (h : Heading) (m : List ℕ) → Bits l → headingFits h ≡ true
+    → elementsFit h m ≡ true → Stands l at (headedBits h m) next → ForwardRead (forwardAt l at) l next h m
 unfolding forwardAt headedBits elementsFit
 forward-written l at next h m b e g s =
     let w = stands-split l at next (headingBits h) m s in
     let x = heading-written l at h (at + length (headingBits h)) e (w .first) in
-    let y = read-there (elementsSpan (directionOf (h .direction))) (elements-in-place (directionOf (h .direction))) (elements-laws (directionOf (h .direction))) l (at + length (headingBits h)) next m b g (w .second) in
+    let y = read-there (elementsSpan (directionOf (h .direction))) (elements-in-place (directionOf (h .direction)))
+    (elements-laws (directionOf (h .direction))) l (at + length (headingBits h)) next m b g (w .second) in
     record { value = record { heading = h; message = span (at + length (headingBits h)) (length m) }; read = rw (x, y); heading = refl; message = items-there l (at + length (headingBits h)) (length m) ∙ w .second .holds }
 
 pub record ForwardIs (l : List ℕ) (at : ℕ) (f : Forward) (next : ℕ) : Type 0 where
@@ -279,14 +290,16 @@ elements-is : (l : List ℕ) (at p n next : ℕ) (h : Heading) → Bits l → he
 unfolding forwardFits headedBits elementsFit
 elements-is l at p n next h b e g =
     let i = heading-read l at h p b e in
-    let r = run-there (elementsSpan (directionOf (h .direction))) (elements-in-place (directionOf (h .direction))) (elements-laws (directionOf (h .direction))) l p n next b g in
+    let r = run-there (elementsSpan (directionOf (h .direction))) (elements-in-place (directionOf (h .direction)))
+    (elements-laws (directionOf (h .direction))) l p n next b g in
     let long : length (take n (drop p l)) ≡ n = length-part l p n (r .held) in
     let k = elements-few (directionOf (h .direction)) (take n (drop p l)) (r .bits) (r .ends) in
     record {
       placed-fits = both-hold _ _ (i .fits) (fits-items l bit 0 messageMost (span p n) (record { fits = within n (omega arith); held = omega (arith, r .held) }));
       heading = i .fits;
       fits = subst (λ (v : List ℕ). takesAll (elementsSpan (directionOf (h .direction))) v ≡ true) (sym (items-there l p n)) (r .whole);
-      stands = subst (λ (v : List ℕ). Stands l at (headingBits h ++ v) next) (sym (items-there l p n)) (stands-join l at p next (headingBits h) (take n (drop p l)) (i .stands) (r .stands));
+      stands = subst (λ (v : List ℕ). Stands l at (headingBits h ++ v) next) (sym (items-there l p n))
+          (stands-join l at p next (headingBits h) (take n (drop p l)) (i .stands) (r .stands));
       end = sym (r .end);
     }
 

@@ -57,9 +57,17 @@ module _ (d : Direction) where
           let f = fits-of d (messageAt d v 0 .message) (messageText d v 0 (messageAt d v 0 .message)) (s .fits) in
           let c = whole-below 1 5 (messageAt d v 0 .message .count) (f .count) in
           let five = f .five in
-          let n : length (take (messageAt d v 0 .message .count) (messageAt d v 0 .message .places)) ≡ messageAt d v 0 .message .count = length-take-le (messageAt d v 0 .message .count) (messageAt d v 0 .message .places) (omega arith) in
-          let r = row-most d (take (messageAt d v 0 .message .count) (messageAt d v 0 .message .places)) (messageText d v 0 (messageAt d v 0 .message)) (f .row) in
-          omega (arith, length-message d (messageAt d v 0 .message) (messageText d v 0 (messageAt d v 0 .message)), header-most (messageAt d v 0 .message), s .place)
+          let n : length (take (messageAt d v 0 .message .count) (messageAt d v 0 .message .places)) ≡ messageAt d v
+          0 .message .count = length-take-le (messageAt d v 0 .message .count) (messageAt d v 0 .message .places)
+          (omega arith) in
+          let r = row-most d (take (messageAt d v 0 .message .count) (messageAt d v 0 .message .places))
+          (messageText d v 0 (messageAt d v 0 .message)) (f .row) in
+          omega (
+            arith,
+            length-message d (messageAt d v 0 .message) (messageText d v 0 (messageAt d v 0 .message)),
+            header-most (messageAt d v 0 .message),
+            s .place,
+          )
       go (step.Refused r) p q = never (cc)
 
   -- no message has no bits
@@ -104,8 +112,11 @@ forward-most v b e =
     let f = forward-found v 0 (e .value) (length v) b (e .is) in
     let x = f .value in
     let g = f .there .fits in
-    let h = both-right (headingFits (f .value .heading)) (isBits (f .value .elements) && takesAll (elementsSpan (directionOf (f .value .heading .direction))) (f .value .elements)) g in
-    let m = elements-most (directionOf (f .value .heading .direction)) (f .value .elements) _ (is-bits (f .value .elements) (both-left (isBits (f .value .elements)) _ h)) refl (both-right (isBits (f .value .elements)) _ h) in
+    let h = both-right (headingFits (f .value .heading)) (isBits (f .value .elements) && takesAll
+    (elementsSpan (directionOf (f .value .heading .direction))) (f .value .elements)) g in
+    let m = elements-most (directionOf (f .value .heading .direction)) (f .value .elements) _
+    (is-bits (f .value .elements) (both-left (isBits (f .value .elements)) _ h)) refl
+    (both-right (isBits (f .value .elements)) _ h) in
     let n = heading-most (f .value .heading) (both-left (headingFits (f .value .heading)) _ g) in
     let l = length-append (headingBits (f .value .heading)) (f .value .elements) in
     omega (arith, f .there .place)
@@ -113,7 +124,8 @@ forward-most v b e =
 -- ---- the bodies
 
 pub message-laws : (d : Direction) → RunLaws (messageSpan d)
-message-laws d = run-of (messageSpan d) (message-in-place d) (λ (v : List ℕ) (b : Bits v) (e : Ends (messageSpan d v 0) (length v)). let m = message-most d v b e in omega arith)
+message-laws d = run-of (messageSpan d) (message-in-place d) (λ (v : List ℕ) (b : Bits v)
+    (e : Ends (messageSpan d v 0) (length v)). let m = message-most d v b e in omega arith)
 
 pub elements-few : (d : Direction) (v : List ℕ) → Bits v → Ends (elementsSpan d v 0) (length v) → length v ≤ 9049
 elements-few d v b e =
@@ -121,10 +133,12 @@ elements-few d v b e =
     elements-most d v (Value (e .value) (length v)) b (e .is) (eq-eqb (e .value) (length v) (omega arith))
 
 pub elements-laws : (d : Direction) → RunLaws (elementsSpan d)
-elements-laws d = run-of (elementsSpan d) (elements-in-place d) (λ (v : List ℕ) (b : Bits v) (e : Ends (elementsSpan d v 0) (length v)). let m = elements-few d v b e in omega arith)
+elements-laws d = run-of (elementsSpan d) (elements-in-place d) (λ (v : List ℕ) (b : Bits v)
+    (e : Ends (elementsSpan d v 0) (length v)). let m = elements-few d v b e in omega arith)
 
 pub forward-laws : RunLaws forwardSpan
-forward-laws = run-of forwardSpan forward-in-place (λ (v : List ℕ) (b : Bits v) (e : Ends (forwardSpan v 0) (length v)). let m = forward-most v b e in omega arith)
+forward-laws = run-of forwardSpan forward-in-place
+    (λ (v : List ℕ) (b : Bits v) (e : Ends (forwardSpan v 0) (length v)). let m = forward-most v b e in omega arith)
 
 pub send-laws : (d : Direction) → BodyLaws (sendBody d)
 send-laws d = run-laws (messageSpan d) (message-laws d)

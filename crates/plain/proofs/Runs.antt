@@ -59,7 +59,8 @@ module _ (rd : List ℕ → ℕ → Field) (p : InPlace rd) where
       let z = ends-by l at n next b e in
       let w = s .within in
       let k : next - at ≡ n = omega arith in
-      let a = whole (take n (drop at l)) (rd (take n (drop at l)) 0) (bits-take n (drop at l) (bits-drop at l b)) refl (p .takes l at n next b e) in
+      let a = whole (take n (drop at l)) (rd (take n (drop at l)) 0) (bits-take n (drop at l) (bits-drop at l b)) refl
+      (p .takes l at n next b e) in
       record { from = omega arith; within = omega arith; itself = rw k (subst (λ (x : ℕ). Ends (rd (take n (drop at l)) 0) x) c a) }
 
   run-anywhere : (v l : List ℕ) (at next : ℕ) → Bits v → Ends (rd v 0) (length v) → trip.Stands l at v next → Ends (rd l at) next
@@ -113,7 +114,8 @@ forward-found l at n next b e = go (headingAt l at) refl e
         on (Refused r) ee j = never (cc)
     go (headed.Refused r) eh k = never (cc)
 
-pub forward-back : (l : List ℕ) (at next : ℕ) (v : Forwarded) → Stands l at (right v) (bitsOf v) next → forwardSpan l at ≡ Value (length (bitsOf v)) next
+pub forward-back : (l : List ℕ) (at next : ℕ) (v : Forwarded) → Stands l at (right v) (bitsOf v) next
+    → forwardSpan l at ≡ Value (length (bitsOf v)) next
 unfolding forwardSpan
 forward-back l at next v s =
     let h = v .heading in
@@ -122,10 +124,15 @@ forward-back l at next v s =
     let t = as-field l at next (right v) (bitsOf v) (omega arith) s in
     let x = trip.stands-split l at next (headingBits (v .heading)) (v .elements) t in
     let f = s .fits in
-    let g = both-right (headingFits (v .heading)) (isBits (v .elements) && takesAll (elementsSpan (directionOf (v .heading .direction))) (v .elements)) f in
-    let a = heading-written l at (v .heading) (at + length (headingBits (v .heading))) (both-left (headingFits (v .heading)) _ f) (x .first) in
-    let b = is-bits (v .elements) (both-left (isBits (v .elements)) (takesAll (elementsSpan (directionOf (v .heading .direction))) (v .elements)) g) in
-    let c = elements-in-place (directionOf (v .heading .direction)) .reads l (v .elements) (at + length (headingBits (v .heading))) next b (both-right (isBits (v .elements)) (takesAll (elementsSpan (directionOf (v .heading .direction))) (v .elements)) g) (x .second) in
+    let g = both-right (headingFits (v .heading))
+    (isBits (v .elements) && takesAll (elementsSpan (directionOf (v .heading .direction))) (v .elements)) f in
+    let a = heading-written l at (v .heading) (at + length (headingBits (v .heading)))
+    (both-left (headingFits (v .heading)) _ f) (x .first) in
+    let b = is-bits (v .elements) (both-left (isBits (v .elements))
+    (takesAll (elementsSpan (directionOf (v .heading .direction))) (v .elements)) g) in
+    let c = elements-in-place (directionOf (v .heading .direction)) .reads l (v .elements)
+    (at + length (headingBits (v .heading))) next b (both-right (isBits (v .elements))
+    (takesAll (elementsSpan (directionOf (v .heading .direction))) (v .elements)) g) (x .second) in
     let n : next - at ≡ length (bitsOf v) = omega (arith, t .place) in
     rw (a, c, n)
 

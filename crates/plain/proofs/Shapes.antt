@@ -61,7 +61,8 @@ module _ (rd : List ℕ → ℕ → Field) (laws : RunLaws rd) where
           let a = laws .apart l at (i .value) (at + n) b (i .is) in
           let k : at + n - at ≡ n = omega arith in
           let s : Ends (rd (take n (drop at l)) 0) n = rw k at (a .itself) in
-          at-end (rd (take n (drop at l)) 0) (length (take n (drop at l))) (subst (λ (x : ℕ). Ends (rd (take n (drop at l)) 0) x) (sym long) s)
+          at-end (rd (take n (drop at l)) 0) (length (take n (drop at l)))
+          (subst (λ (x : ℕ). Ends (rd (take n (drop at l)) 0) x) (sym long) s)
 
       there : takesAll rd (take n (drop at l)) ≡ true → endsAt (at + n) (rd l at) ≡ true
       there e =
@@ -70,7 +71,8 @@ module _ (rd : List ℕ → ℕ → Field) (laws : RunLaws rd) where
           at-end (rd l at) (at + n) (laws .anywhere (take n (drop at l)) l at (at + n) (bits-take n (drop at l) (bits-drop at l b)) i s)
 
   -- in lent bytes
-  pub run-taken : (s : List ℕ) (least most : ℕ) (x : Span) (f : Field) → itemsFit (lent s) bit least most x ≡ true → f ≡ rd (bitsTo s (x .at + x .count)) (x .at)
+  pub run-taken : (s : List ℕ) (least most : ℕ) (x : Span) (f : Field) → itemsFit (lent s) bit least most x ≡ true
+      → f ≡ rd (bitsTo s (x .at + x .count)) (x .at)
       → endsAt (x .at + x .count) f ≡ takesAll rd (itemsIn (lent s) bit x)
   run-taken s least most x f h e =
       let i = items-fits (lent s) bit least most x h in
@@ -81,7 +83,8 @@ module _ (rd : List ℕ → ℕ → Field) (laws : RunLaws rd) where
       let a : take (x .count) (drop (x .at) (bitsTo s (x .at + x .count))) ≡ take (x .count) (drop (x .at) (lent s)) =
       run-to s (x .at + x .count) (x .at) (x .count) (omega arith) ∙ sym (run-to s allBits (x .at) (x .count) (omega (arith, i .held))) in
       let b : take (x .count) (drop (x .at) (lent s)) ≡ itemsIn (lent s) bit x = ap (λ (n : ℕ). take n (drop (x .at) (lent s))) (sym k) in
-      ap (endsAt (x .at + x .count)) e ∙ taken-there (bitsTo s (x .at + x .count)) (x .at) (x .count) (bits-to s (x .at + x .count)) z ∙ ap (takesAll rd) (a ∙ b)
+      ap (endsAt (x .at + x .count)) e ∙ taken-there (bitsTo s (x .at + x .count)) (x .at) (x .count)
+      (bits-to s (x .at + x .count)) z ∙ ap (takesAll rd) (a ∙ b)
 
 -- where it ends is a number of the machine
 pub span-low : (s : List ℕ) (least most : ℕ) (x : Span) → itemsFit (lent s) bit least most x ≡ true → x .at + x .count < 2 ^ 64
@@ -90,20 +93,26 @@ span-low s least most x h =
     let t = length-to s allBits in
     omega (arith, i .held)
 
-pub part-low : (s : List ℕ) (p : Part) (x : Span) → p ≡ part.Given x → partFits (lent s) bit 0 messageMost p ≡ true → x .at + x .count < 2 ^ 64
+pub part-low : (s : List ℕ) (p : Part) (x : Span) → p ≡ part.Given x → partFits (lent s) bit 0 messageMost p ≡ true
+    → x .at + x .count < 2 ^ 64
 part-low s p x e h = span-low s 0 messageMost x (given-fits (lent s) bit messageMost p x e h)
 
-pub message-taken : (d : Direction) (s : List ℕ) (p : Part) (x : Span) (f : Field) (b : Bool) → p ≡ part.Given x → partFits (lent s) bit 0 messageMost p ≡ true
+pub message-taken : (d : Direction) (s : List ℕ) (p : Part) (x : Span) (f : Field) (b : Bool) → p ≡ part.Given x
+    → partFits (lent s) bit 0 messageMost p ≡ true
     → f ≡ messageSpan d (bitsTo s (x .at + x .count)) (x .at) → b ≡ endsAt (x .at + x .count) f → b ≡ messageFits d (partIn (lent s) bit p)
 unfolding partIn
 message-taken d s p x f b e h g k =
-    k ∙ run-taken (messageSpan d) (message-laws d) s 0 messageMost x f (given-fits (lent s) bit messageMost p x e h) g ∙ ap (λ (q : Part). messageFits d (partIn (lent s) bit q)) (sym e)
+    k ∙ run-taken (messageSpan d) (message-laws d) s 0 messageMost x f (given-fits (lent s) bit messageMost p x e h) g ∙
+    ap (λ (q : Part). messageFits d (partIn (lent s) bit q)) (sym e)
 
-pub elements-taken : (h : Heading) (s : List ℕ) (x : Span) (d : Direction) (f : Field) (b : Bool) → itemsFit (lent s) bit 0 messageMost x ≡ true → d ≡ directionOf (h .direction)
-    → f ≡ elementsSpan d (bitsTo s (x .at + x .count)) (x .at) → b ≡ endsAt (x .at + x .count) f → b ≡ elementsFit h (itemsIn (lent s) bit x)
+pub elements-taken : (h : Heading) (s : List ℕ) (x : Span) (d : Direction) (f : Field) (b : Bool)
+    → itemsFit (lent s) bit 0 messageMost x ≡ true → d ≡ directionOf (h .direction)
+    → f ≡ elementsSpan d (bitsTo s (x .at + x .count)) (x .at) → b ≡ endsAt (x .at + x .count) f → b ≡ elementsFit h
+    (itemsIn (lent s) bit x)
 unfolding elementsFit
 elements-taken h s x d f b i e g k =
-    k ∙ run-taken (elementsSpan d) (elements-laws d) s 0 messageMost x f i g ∙ ap (λ (q : Direction). takesAll (elementsSpan q) (itemsIn (lent s) bit x)) e
+    k ∙ run-taken (elementsSpan d) (elements-laws d) s 0 messageMost x f i g ∙ ap
+    (λ (q : Direction). takesAll (elementsSpan q) (itemsIn (lent s) bit x)) e
 
 -- ---- the parts of what the host gives
 
@@ -115,7 +124,8 @@ none-absent l unit (part.Given x) = refl
 items-none : (l : List ℕ) (x : Span) → x .count ≡ 0 → isEmpty (itemsIn l bit x) ≡ true
 items-none l x e = rw e
 
-items-some : (l : List ℕ) (least most : ℕ) (x : Span) → itemsFit l bit least most x ≡ true → 0 < x .count → isEmpty (itemsIn l bit x) ≡ false
+items-some : (l : List ℕ) (least most : ℕ) (x : Span) → itemsFit l bit least most x ≡ true → 0 < x .count
+    → isEmpty (itemsIn l bit x) ≡ false
 items-some l least most x h g =
     let i = items-fits l bit least most x h in
     let n = length-part l (x .at) (bit * x .count) (i .held) in
@@ -141,7 +151,8 @@ module _ (d : Direction) (li lm lc : List ℕ) (x : Data) where
         let k = data-fits li lm lc x (sym e ∙ q) .check in
         rw (← e, q, none-absent li 8 (x .identifier), ← f, r, items-some lc 0 checkMost (x .check) k g)
 
-    pub by-message : (n m : Bool) → n ≡ isNone (x .identifier) → n ≡ true → x .check .count ≤ 0 → m ≡ messageFits d (partIn lm bit (x .message)) → m ≡ givenFits d li lm lc x
+    pub by-message : (n m : Bool) → n ≡ isNone (x .identifier) → n ≡ true → x .check .count ≤ 0
+        → m ≡ messageFits d (partIn lm bit (x .message)) → m ≡ givenFits d li lm lc x
     unfolding givenFits contentFits contentIn
     by-message n m f r g h = rw (← e, q, none-absent li 8 (x .identifier), ← f, r, items-none lc (x .check) (omega arith)) h
 
@@ -154,6 +165,7 @@ module _ (lm : List ℕ) (f : Forward) where
   unfolding forwardFits
   forward-items e = both-right (headingFits (f .heading)) (itemsFit lm bit 0 messageMost (f .message)) e
 
-  pub by-elements : (t m : Bool) → t ≡ forwardFits lm f → t ≡ true → m ≡ elementsFit (f .heading) (itemsIn lm bit (f .message)) → m ≡ forwardGivenFits lm f
+  pub by-elements : (t m : Bool) → t ≡ forwardFits lm f → t ≡ true
+      → m ≡ elementsFit (f .heading) (itemsIn lm bit (f .message)) → m ≡ forwardGivenFits lm f
   unfolding forwardGivenFits
   by-elements t m e q h = rw (← e, q) h

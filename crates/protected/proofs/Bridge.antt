@@ -67,14 +67,16 @@ ended-same : (l : List ℕ) (at : ℕ) (a : Apdu) → decodedOf (endedAt l at a)
 unfolding endedAt endedThere
 ended-same l at a = rw (tail-same l at) (go (tailThere l at))
   where
-    go : (f : Field) → decodedOf (onto old.Refused f (λ (v next : ℕ). old.Is a)) ≡ onto decoded.Refused f (λ (v next : ℕ). decoded.Is (foundOf a))
+    go : (f : Field)
+        → decodedOf (onto old.Refused f (λ (v next : ℕ). old.Is a)) ≡ onto decoded.Refused f (λ (v next : ℕ). decoded.Is (foundOf a))
     go (Value v n) = refl
     go (Refused r) = refl
 
 -- ---- the alternatives
 
 number-same : (l : List ℕ) (a : ℕ → Apdu) (p : ℕ → Pdu) → ((v : ℕ) → foundOf (a v) ≡ with (p v) noContent) → (f : Field)
-    → decodedOf (onto old.Refused f (λ (v next : ℕ). endedAt l next (a v))) ≡ onReached (onto reached.Refused f (λ (v next : ℕ). reached.Is (with (p v) noContent) next)) (endedThere l)
+    → decodedOf (onto old.Refused f (λ (v next : ℕ). endedAt l next (a v))) ≡ onReached
+    (onto reached.Refused f (λ (v next : ℕ). reached.Is (with (p v) noContent) next)) (endedThere l)
 number-same l a p h (Value v n) = ended-same l n (a v) ∙ ap (λ (x : Found). endedThere l x n) (h v)
 number-same l a p h (Refused r) = refl
 
@@ -83,7 +85,8 @@ data-same : (l : List ℕ) (a : Data → Apdu) (p : Pdu) → ((d : Data) → fou
 data-same l a p h (got.Is d n) = ended-same l n (a d) ∙ ap (λ (x : Found). endedThere l x n) (h d)
 data-same l a p h (got.Refused r) = refl
 
-forward-end : (l : List ℕ) (at : ℕ) (f : Forward) (next : ℕ) → forwardAt l at ≡ forwarded.Is f next → f .message .at + f .message .count ≡ next
+forward-end : (l : List ℕ) (at : ℕ) (f : Forward) (next : ℕ) → forwardAt l at ≡ forwarded.Is f next
+    → f .message .at + f .message .count ≡ next
 unfolding forwardWithin
 forward-end l at f next e = go (headingAt l at) e
   where
@@ -101,14 +104,18 @@ forward-end l at f next e = go (headingAt l at) e
     go (headed.Refused r) k = never (cc)
 
 forward-same : (l : List ℕ) (t : Forwarded) → forwardAt l 4 ≡ t
-    → decodedOf (onForward old.Refused t (λ (f : Forward) (next : ℕ). endedAt l next (is.Forward f))) ≡ onReached (reach pdu.Forward (onto taken.Refused (fieldOf t) (λ (v next : ℕ). taken.Is (runFrom 4 next) next))) (endedThere l)
-forward-same l (forwarded.Is f n) e = ended-same l n (is.Forward f) ∙ ap (λ (m : ℕ). endedThere l (with pdu.Forward (runFrom 4 m)) n) (forward-end l 4 f n e)
+    → decodedOf (onForward old.Refused t (λ (f : Forward) (next : ℕ). endedAt l next (is.Forward f))) ≡ onReached
+    (reach pdu.Forward (onto taken.Refused (fieldOf t) (λ (v next : ℕ). taken.Is (runFrom 4 next) next)))
+    (endedThere l)
+forward-same l (forwarded.Is f n) e = ended-same l n (is.Forward f) ∙ ap
+    (λ (m : ℕ). endedThere l (with pdu.Forward (runFrom 4 m)) n) (forward-end l 4 f n e)
 forward-same l (forwarded.Refused r) e = refl
 
 -- ---- the whole
 
 start-same : (l : List ℕ) (f : Field)
-    → decodedOf (onLead (onto lead.Refused f (λ (m q : ℕ). lead.Is kind.Start m q)) (restAt l)) ≡ onReached (onto reached.Refused f (λ (m q : ℕ). reach (pdu.Start (eqb m 1)) (takenOf (dataAt l q)))) (endedThere l)
+    → decodedOf (onLead (onto lead.Refused f (λ (m q : ℕ). lead.Is kind.Start m q)) (restAt l)) ≡ onReached
+    (onto reached.Refused f (λ (m q : ℕ). reach (pdu.Start (eqb m 1)) (takenOf (dataAt l q)))) (endedThere l)
 unfolding restWithin
 start-same l (Value m q) = data-same l (is.Start m) (pdu.Start (eqb m 1)) (λ (d : Data). refl) (dataAt l q)
 start-same l (Refused r) = refl
@@ -116,15 +123,19 @@ start-same l (Refused r) = refl
 abbrev oldFrom : PduType → List ℕ → ℕ → ℕ → ApduDecoded
 oldFrom pdus l i p = onLead (onto lead.Refused (kindMode pdus l (kindOf i) p) (λ (m q : ℕ). lead.Is (kindOf i) m q)) (restAt l)
 
-aircraft-from : (l : List ℕ) (i p : ℕ) → i ≤ 3 → decodedOf (oldFrom AircraftPdus l i p) ≡ onReached (aircraftBody type22 i .read l p) (endedThere l)
+aircraft-from : (l : List ℕ) (i p : ℕ) → i ≤ 3
+    → decodedOf (oldFrom AircraftPdus l i p) ≡ onReached (aircraftBody type22 i .read l p) (endedThere l)
 unfolding kindMode restWithin
 aircraft-from l zero p h = number-same l is.AbortUser pdu.AbortUser (λ (v : ℕ). refl) (extensibleIndex l p userLast)
 aircraft-from l (suc zero) p h = number-same l is.AbortProvider pdu.AbortProvider (λ (v : ℕ). refl) (extensibleIndex l p providerLast)
-aircraft-from l (suc (suc zero)) p h = start-same l (modeAt AircraftPdus l p) ∙ ap (λ (f : Field). onReached (onto reached.Refused f (λ (m q : ℕ). reach (pdu.Start (eqb m 1)) (takenOf (dataAt l q)))) (endedThere l)) (mode-same l p)
+aircraft-from l (suc (suc zero)) p h = start-same l (modeAt AircraftPdus l p) ∙ ap (λ (f : Field). onReached
+    (onto reached.Refused f (λ (m q : ℕ). reach (pdu.Start (eqb m 1)) (takenOf (dataAt l q)))) (endedThere l))
+    (mode-same l p)
 aircraft-from l (suc (suc (suc zero))) p h = data-same l is.Send pdu.Send (λ (d : Data). refl) (dataAt l p)
 aircraft-from l (suc (suc (suc (suc n)))) p h = absurd (omega arith)
 
-ground-from : (l : List ℕ) (i p : ℕ) → i ≤ 5 → p ≡ 4 → decodedOf (oldFrom GroundPdus l i p) ≡ onReached (groundBody type22 i .read l p) (endedThere l)
+ground-from : (l : List ℕ) (i p : ℕ) → i ≤ 5 → p ≡ 4
+    → decodedOf (oldFrom GroundPdus l i p) ≡ onReached (groundBody type22 i .read l p) (endedThere l)
 unfolding kindMode modeAt restWithin
 ground-from l zero p h e = number-same l is.AbortUser pdu.AbortUser (λ (v : ℕ). refl) (extensibleIndex l p userLast)
 ground-from l (suc zero) p h e = number-same l is.AbortProvider pdu.AbortProvider (λ (v : ℕ). refl) (extensibleIndex l p providerLast)
@@ -132,7 +143,8 @@ ground-from l (suc (suc zero)) p h e = data-same l (is.Start 0) (pdu.Start false
 ground-from l (suc (suc (suc zero))) p h e = data-same l is.Send pdu.Send (λ (d : Data). refl) (dataAt l p)
 ground-from l (suc (suc (suc (suc zero)))) p h e =
     rw e (forward-same l (forwardAt l 4) refl)
-ground-from l (suc (suc (suc (suc (suc zero))))) p h e = number-same l is.ForwardResponse pdu.ForwardResponse (λ (v : ℕ). refl) (extensibleIndex l p responseLast)
+ground-from l (suc (suc (suc (suc (suc zero))))) p h e = number-same l is.ForwardResponse pdu.ForwardResponse
+    (λ (v : ℕ). refl) (extensibleIndex l p responseLast)
 ground-from l (suc (suc (suc (suc (suc (suc n)))))) p h e = absurd (omega arith)
 
 index-high : (last i : ℕ) (l : List ℕ) (p : ℕ) → last < 2 ^ 64 → Bits l → extensibleIndex l 0 last ≡ Value i p → i ≤ last
@@ -147,12 +159,14 @@ pub apdu-same : (pdus : PduType) (l : List ℕ) → Bits l → decodedOf (apduAt
 unfolding apduWithin leadingAt apduThere
 apdu-same AircraftPdus l b = go (extensibleIndex l 0 3) refl
   where
-    go : (f : Field) → extensibleIndex l 0 3 ≡ f → decodedOf (onLead (onto lead.Refused f (λ (i p : ℕ). onto lead.Refused (kindMode AircraftPdus l (kindOf i) p) (λ (m q : ℕ). lead.Is (kindOf i) m q))) (restAt l)) ≡ onto decoded.Refused f (λ (i p : ℕ). onReached (aircraftBody type22 i .read l p) (endedThere l))
+    go : (f : Field) → extensibleIndex l 0 3 ≡ f
+        → decodedOf (onLead (onto lead.Refused f (λ (i p : ℕ). onto lead.Refused (kindMode AircraftPdus l (kindOf i) p) (λ (m q : ℕ). lead.Is (kindOf i) m q))) (restAt l)) ≡ onto decoded.Refused f (λ (i p : ℕ). onReached (aircraftBody type22 i .read l p) (endedThere l))
     go (Value i p) e = aircraft-from l i p (index-high 3 i l p (omega arith) b e)
     go (Refused r) e = refl
 apdu-same GroundPdus l b = go (extensibleIndex l 0 5) refl
   where
-    go : (f : Field) → extensibleIndex l 0 5 ≡ f → decodedOf (onLead (onto lead.Refused f (λ (i p : ℕ). onto lead.Refused (kindMode GroundPdus l (kindOf i) p) (λ (m q : ℕ). lead.Is (kindOf i) m q))) (restAt l)) ≡ onto decoded.Refused f (λ (i p : ℕ). onReached (groundBody type22 i .read l p) (endedThere l))
+    go : (f : Field) → extensibleIndex l 0 5 ≡ f
+        → decodedOf (onLead (onto lead.Refused f (λ (i p : ℕ). onto lead.Refused (kindMode GroundPdus l (kindOf i) p) (λ (m q : ℕ). lead.Is (kindOf i) m q))) (restAt l)) ≡ onto decoded.Refused f (λ (i p : ℕ). onReached (groundBody type22 i .read l p) (endedThere l))
     go (Value i p) e =
         let s = extensible-index 5 (omega arith) .read-written l 0 i p b e .place in
         let n = four-bits i in

@@ -75,7 +75,8 @@ bit-there l at b next h s =
     let z : at + 0 ≡ at = omega arith in
     let k : take 1 (drop at l) ≡ bitsN 1 b = rw (length-bitsN 1 b) at (s .holds) in
     let one : getD (bitsN 1 b) 0 0 ≡ b / 2 ^ 0 % 2 = ap (λ (x : List ℕ). getD x 0 0) (bitsN-suc 0 b) in
-    ap (λ (p : ℕ). getD l p 0) (sym z) ∙ sym (getD-drop at l 0 0) ∙ sym (getD-take 1 (drop at l) 0 0 (omega arith)) ∙ ap (λ (x : List ℕ). getD x 0 0) k ∙ one ∙ low
+    ap (λ (p : ℕ). getD l p 0) (sym z) ∙ sym (getD-drop at l 0 0) ∙ sym (getD-take 1 (drop at l) 0 0 (omega arith)) ∙
+    ap (λ (x : List ℕ). getD x 0 0) k ∙ one ∙ low
   where
     low : b / 2 ^ 0 % 2 ≡ b
     low = omega arith
@@ -96,7 +97,8 @@ read-is l at next c b e = go (dataAt l at) refl e
         record { parts = d; same = ap dataOf (sym y) ∙ data-back l d (i .placed-fits); held = i }
     go (got.Refused r) f k = never (cc)
 
-protected-plain : (l : List ℕ) (at next : ℕ) (d : Data) → DataIs l at next d → bitsN 1 0 ++ take (rootEnd d - (at + 1)) (drop (at + 1) l) ≡ contentBits (contentIn l l l d)
+protected-plain : (l : List ℕ) (at next : ℕ) (d : Data) → DataIs l at next d
+    → bitsN 1 0 ++ take (rootEnd d - (at + 1)) (drop (at + 1) l) ≡ contentBits (contentIn l l l d)
 unfolding contentBits
 protected-plain l at next d i =
     let n : rootEnd d - (at + 1) ≡ length (rootBits (contentIn l l l d)) = omega (arith, i .root .place) in
@@ -119,9 +121,11 @@ pub protected-laws : BodyLaws protectedBody
 protected-laws =
     record {
       most = λ (v : Protected) (h : contentFits v ≡ true). let m = content-most v h in omega arith;
-      are-bits = λ (s : Lent) (c : Content) (k : AreBits s). content-are-bits (s .identifiers) (s .messages) (s .checks) (dataOf c) (k .identifiers) (k .messages) (k .checks);
+      are-bits = λ (s : Lent) (c : Content) (k : AreBits s). content-are-bits (s .identifiers) (s .messages)
+          (s .checks) (dataOf c) (k .identifiers) (k .messages) (k .checks);
       value-fits = λ (s : Lent) (c : Content) (k : AreBits s). data-value-fits (s .identifiers) (s .messages) (s .checks) (dataOf c);
-      written-read = λ (l : List ℕ) (at next : ℕ) (v : Protected) (b : Bits l) (h : contentFits v ≡ true) (s : Stands l at (contentBits v) next).
+      written-read = λ (l : List ℕ) (at next : ℕ) (v : Protected) (b : Bits l) (h : contentFits v ≡ true)
+          (s : Stands l at (contentBits v) next).
           let d = data-written l at next v h s in
           record { content = contentOf (d .parts); read = rw (d .read); same = rw (data-back l (d .parts) (data-read l at next (d .parts) b (d .read) .placed-fits)) (d .content) };
       read-stands = λ (l : List ℕ) (at next : ℕ) (c : Content) (b : Bits l) (e : protectedBody .read l at ≡ taken.Is c next).
@@ -129,8 +133,10 @@ protected-laws =
           rw (i .same) (i .held .placed-fits);
       read-plain = λ (l : List ℕ) (at next : ℕ) (c : Content) (b : Bits l) (e : protectedBody .read l at ≡ taken.Is c next).
           let i = read-is l at next c b e in
-          subst (λ (d : Data). bitsN 1 0 ++ take (rootEnd d - (at + 1)) (drop (at + 1) l) ≡ contentBits (contentIn l l l d)) (sym (i .same)) (protected-plain l at next (i .parts) (i .held));
-      unextended = λ (l : List ℕ) (at next : ℕ) (c : Content) (b : Bits l) (e : protectedBody .read l at ≡ taken.Is c next) (n : eqb (getD l at 0) 1 ≡ false).
+          subst (λ (d : Data). bitsN 1 0 ++ take (rootEnd d - (at + 1)) (drop (at + 1) l) ≡ contentBits
+          (contentIn l l l d)) (sym (i .same)) (protected-plain l at next (i .parts) (i .held));
+      unextended = λ (l : List ℕ) (at next : ℕ) (c : Content) (b : Bits l)
+          (e : protectedBody .read l at ≡ taken.Is c next) (n : eqb (getD l at 0) 1 ≡ false).
           let i = read-is l at next c b e in
           rw (i .same) (data-plain l at next (i .parts) (i .held) (protected-unmarked l at next (i .parts) (i .held) n));
       clear = λ (l : List ℕ) (at next : ℕ) (c : Content). protected-clear l at next (protectedBody .value (one l) c);
@@ -178,7 +184,8 @@ module _ (l : List ℕ) (at next : ℕ) (f : Forward) (b : Bits l) (e : forwardA
       let n : next - at ≡ length (forwardBits (f .heading) (itemsIn l bit (f .message))) = omega arith in
       record { from = omega arith; within = omega arith; itself = rw (forward-run, n) (forward-again _ 0 _ (itself (forwardBits (f .heading) (itemsIn l bit (f .message))))) }
 
-whole-run : (v : List ℕ) (f : Forward) → Bits v → forwardAt v 0 ≡ forwarded.Is f (length v) → v ≡ forwardBits (f .heading) (itemsIn v bit (f .message))
+whole-run : (v : List ℕ) (f : Forward) → Bits v → forwardAt v 0 ≡ forwarded.Is f (length v)
+    → v ≡ forwardBits (f .heading) (itemsIn v bit (f .message))
 whole-run v f b e =
     let z : length v - 0 ≡ length v = omega arith in
     sym (take-length v) ∙ ap (λ (n : ℕ). take n v) (sym z) ∙ forward-run v 0 (length v) f b e
@@ -188,7 +195,8 @@ forward-laws =
     record {
       most = λ (v : List ℕ) (b : Bits v) (e : Ends (forwardField v 0) (length v)).
           let i = forward-ends v 0 (e .value) (length v) (e .is) in
-          let m = forward-most (i .value .heading) (itemsIn v bit (i .value .message)) (forward-right v 0 (length v) (i .value) b (i .is)) in
+          let m = forward-most (i .value .heading) (itemsIn v bit (i .value .message))
+          (forward-right v 0 (length v) (i .value) b (i .is)) in
           let n = ap length (whole-run v (i .value) b (i .is)) in
           omega arith;
       apart = λ (l : List ℕ) (at v next : ℕ) (b : Bits l) (e : forwardField l at ≡ Value v next).
@@ -196,7 +204,8 @@ forward-laws =
           forward-apart l at next (i .value) b (i .is);
       anywhere = λ (v l : List ℕ) (at next : ℕ) (b : Bits v) (e : Ends (forwardField v 0) (length v)) (s : Stands l at v next).
           let i = forward-ends v 0 (e .value) (length v) (e .is) in
-          forward-again v 0 (length v) (i .value) b (i .is) l at next (subst (λ (x : List ℕ). Stands l at x next) (whole-run v (i .value) b (i .is)) s);
+          forward-again v 0 (length v) (i .value) b (i .is) l at next
+          (subst (λ (x : List ℕ). Stands l at x next) (whole-run v (i .value) b (i .is)) s);
     }
 
 -- ---- the edition

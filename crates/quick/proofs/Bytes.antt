@@ -65,7 +65,8 @@ passes (r ∷ rs) = steady (r .type) (r .from) (r .count) (r .says) && passes rs
 
 -- the test that is computed: 256 bytes of each type
 rows-pass : passes rows ≡ true
-unfolding passes steady byteLead leadNumber leadingAt kindMode modeAt modeValue packed numberOf extensibleIndex extensionBit wholeNumber bitField digitsIn readBits bitsOf bitsN accOf
+unfolding passes steady byteLead leadNumber leadingAt kindMode modeAt modeValue packed numberOf extensibleIndex
+    extensionBit wholeNumber bitField digitsIn readBits bitsOf bitsN accOf
 rows-pass = refl
 
 other-below : (m b : ℕ) → b < suc m → (b ≡ m → ⊥) → b < m
@@ -75,7 +76,8 @@ steady-at : (p : PduType) (from k n : ℕ) → steady p from k n ≡ true → (b
 unfolding steady
 steady-at p from zero n t b h l = absurd (omega arith)
 steady-at p from (suc k) n t b h l =
-    here-or (eqb b (from + k)) refl (λ (g : b < from + k). steady-at p from k n (both-right (eqb (byteLead p (from + k)) n) (steady p from k n) t) b h g)
+    here-or (eqb b (from + k)) refl (λ (g : b < from + k). steady-at p from k n
+    (both-right (eqb (byteLead p (from + k)) n) (steady p from k n) t) b h g)
   where
     here-or : (q : Bool) → eqb b (from + k) ≡ q → (b < from + k → n ≡ byteLead p b) → n ≡ byteLead p b
     here-or true e up = sym (rw (eqb-true b (from + k) e) (eqb-true _ _ (both-left (eqb (byteLead p (from + k)) n) (steady p from k n) t)))
@@ -84,14 +86,19 @@ steady-at p from (suc k) n t b h l =
 abbrev pub none : Row
 none = row AircraftPdus 0 0 0
 
-passed-at : (rs : List Row) → passes rs ≡ true → (i : ℕ) → i < length rs → (b : ℕ) → getD rs i none .from ≤ b → b < getD rs i none .from + getD rs i none .count → getD rs i none .says ≡ byteLead (getD rs i none .type) b
+passed-at : (rs : List Row) → passes rs ≡ true → (i : ℕ) → i < length rs → (b : ℕ) → getD rs i none .from ≤ b
+    → b < getD rs i none .from + getD rs i none .count → getD rs i none .says ≡ byteLead (getD rs i none .type) b
 unfolding passes
 passed-at [] t i h b l u = absurd (omega arith)
-passed-at (r ∷ rs) t zero h b l u = steady-at (r .type) (r .from) (r .count) (r .says) (both-left (steady (r .type) (r .from) (r .count) (r .says)) (passes rs) t) b l u
-passed-at (r ∷ rs) t (suc i) h b l u = passed-at rs (both-right (steady (r .type) (r .from) (r .count) (r .says)) (passes rs) t) i (omega arith) b l u
+passed-at (r ∷ rs) t zero h b l u = steady-at (r .type) (r .from) (r .count) (r .says)
+    (both-left (steady (r .type) (r .from) (r .count) (r .says)) (passes rs) t) b l u
+passed-at (r ∷ rs) t (suc i) h b l u = passed-at rs
+    (both-right (steady (r .type) (r .from) (r .count) (r .says)) (passes rs) t) i (omega arith) b l u
 
 -- a byte of a row says what the row says
-pub row-says : (i : ℕ) → i < length rows → (b : ℕ) → getD rows i none .from ≤ b → b < getD rows i none .from + getD rows i none .count → getD rows i none .says ≡ byteLead (getD rows i none .type) b
+pub row-says : (i : ℕ) → i < length rows → (b : ℕ) → getD rows i none .from ≤ b
+    → b < getD rows i none .from + getD rows i none .count
+    → getD rows i none .says ≡ byteLead (getD rows i none .type) b
 row-says i h b l u = passed-at rows rows-pass i h b l u
 
 -- ---- the bytes behind the first
@@ -105,7 +112,8 @@ pub first-says : (p : PduType) (s : List ℕ) → 0 < length s → byteLead p (g
 unfolding byteLead
 first-says p [] h = absurd (omega arith)
 first-says p (b ∷ s) h =
-    ap leadNumber (sym (quick-front p (bitsOf (b ∷ []))) ∙ (ap (λ (l : List ℕ). leadingAt p l 0) (sym (front-bits b s)) ∙ quick-front p (lent (b ∷ s))))
+    ap leadNumber (sym (quick-front p (bitsOf (b ∷ []))) ∙
+    (ap (λ (l : List ℕ). leadingAt p l 0) (sym (front-bits b s)) ∙ quick-front p (lent (b ∷ s))))
 
 -- where there is none, SHORT at bit 0
 pub nothing-says : (p : PduType) (s : List ℕ) → length s ≡ 0 → 10 ≡ leadNumber (leadingAt p (lent s) 0)

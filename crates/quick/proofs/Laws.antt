@@ -45,7 +45,8 @@ never e = absurd (omega arith)
 
 -- ---- refused by the leading fields: refused, and with the same refusal
 
-pub quick-refused : (limit : ℕ) (pdus : PduType) (l : List ℕ) (at : ℕ) (r : Refusal) → leadingAt pdus l at ≡ lead.Refused r → apduWithin limit pdus l at ≡ decoded.Refused r
+pub quick-refused : (limit : ℕ) (pdus : PduType) (l : List ℕ) (at : ℕ) (r : Refusal)
+    → leadingAt pdus l at ≡ lead.Refused r → apduWithin limit pdus l at ≡ decoded.Refused r
 unfolding apduWithin
 quick-refused limit pdus l at r e = rw e
 
@@ -73,15 +74,19 @@ ended-is l n x a e = by (tailAt l n) e
     by (Value v next) k = cc
     by (Refused r) k = never (cc)
 
-pub by-field : (f : Field) (l : List ℕ) (make : ℕ → Apdu) (a : Apdu) (A : Type 0) → ((r : ℕ) → make r ≡ a → A) → onto decoded.Refused f (λ (r next : ℕ). endedAt l next (make r)) ≡ decoded.Is a → A
+pub by-field : (f : Field) (l : List ℕ) (make : ℕ → Apdu) (a : Apdu) (A : Type 0) → ((r : ℕ) → make r ≡ a → A)
+    → onto decoded.Refused f (λ (r next : ℕ). endedAt l next (make r)) ≡ decoded.Is a → A
 by-field (Value r next) l make a A k e = k r (ended-is l next (make r) a e)
 by-field (Refused r) l make a A k e = never (cc)
 
-pub by-data : (t : Taken) (l : List ℕ) (make : Data → Apdu) (a : Apdu) (A : Type 0) → ((d : Data) → make d ≡ a → A) → onData t (λ (d : Data) (next : ℕ). endedAt l next (make d)) ≡ decoded.Is a → A
+pub by-data : (t : Taken) (l : List ℕ) (make : Data → Apdu) (a : Apdu) (A : Type 0) → ((d : Data) → make d ≡ a → A)
+    → onData t (λ (d : Data) (next : ℕ). endedAt l next (make d)) ≡ decoded.Is a → A
 by-data (taken.Is d next) l make a A k e = k d (ended-is l next (make d) a e)
 by-data (taken.Refused r) l make a A k e = never (cc)
 
-pub by-forward : (t : Forwarded) (l : List ℕ) (make : Forward → Apdu) (a : Apdu) (A : Type 0) → ((f : Forward) → make f ≡ a → A) → onForward decoded.Refused t (λ (f : Forward) (next : ℕ). endedAt l next (make f)) ≡ decoded.Is a → A
+pub by-forward : (t : Forwarded) (l : List ℕ) (make : Forward → Apdu) (a : Apdu) (A : Type 0)
+    → ((f : Forward) → make f ≡ a → A)
+    → onForward decoded.Refused t (λ (f : Forward) (next : ℕ). endedAt l next (make f)) ≡ decoded.Is a → A
 by-forward (forwarded.Is f next) l make a A k e = k f (ended-is l next (make f) a e)
 by-forward (forwarded.Refused r) l make a A k e = never (cc)
 
@@ -108,19 +113,25 @@ lead-mode : (pdus : PduType) (l : List ℕ) (at : ℕ) (c : Kind) (m n : ℕ) �
 unfolding leadingAt
 lead-mode pdus l at c m n e = first (extensibleIndex l at (lastOf pdus)) e
   where
-    second : (i : ℕ) (f : Field) → ((v q : ℕ) → f ≡ Value v q → v ≡ modeWith (kindOf i) v) → onto lead.Refused f (λ (v q : ℕ). lead.Is (kindOf i) v q) ≡ lead.Is c m n → m ≡ modeWith c m
+    second : (i : ℕ) (f : Field) → ((v q : ℕ) → f ≡ Value v q → v ≡ modeWith (kindOf i) v)
+        → onto lead.Refused f (λ (v q : ℕ). lead.Is (kindOf i) v q) ≡ lead.Is c m n → m ≡ modeWith c m
     second i (Value v q) k g =
         let x : kindOf i ≡ c = cc in
         let y : v ≡ m = cc in
         sym y ∙ (k v q refl ∙ rw (x, y))
     second i (Refused r) k g = never (cc)
 
-    first : (f : Field) → onto lead.Refused f (λ (i p : ℕ). onto lead.Refused (kindMode pdus l (kindOf i) p) (λ (v q : ℕ). lead.Is (kindOf i) v q)) ≡ lead.Is c m n → m ≡ modeWith c m
-    first (Value i p) g = second i (kindMode pdus l (kindOf i) p) (λ (v q : ℕ) (h : kindMode pdus l (kindOf i) p ≡ Value v q). kind-mode pdus l (kindOf i) p v q h) g
+    first : (f : Field)
+        → onto lead.Refused f (λ (i p : ℕ). onto lead.Refused (kindMode pdus l (kindOf i) p) (λ (v q : ℕ). lead.Is (kindOf i) v q)) ≡ lead.Is c m n
+        → m ≡ modeWith c m
+    first (Value i p) g = second i (kindMode pdus l (kindOf i) p)
+        (λ (v q : ℕ) (h : kindMode pdus l (kindOf i) p ≡ Value v q). kind-mode pdus l (kindOf i) p v q h) g
     first (Refused r) g = never (cc)
 
 -- over any rest that keeps its kind and mode
-pub led-accepted : (rest : Kind → ℕ → ℕ → Decoded) (pdus : PduType) (l : List ℕ) (at : ℕ) (a : Apdu) → ((c : Kind) (m n : ℕ) → rest c m n ≡ decoded.Is a → Of c m a) → onLead (leadingAt pdus l at) rest ≡ decoded.Is a → Leads (leadingAt pdus l at) a
+pub led-accepted : (rest : Kind → ℕ → ℕ → Decoded) (pdus : PduType) (l : List ℕ) (at : ℕ) (a : Apdu)
+    → ((c : Kind) (m n : ℕ) → rest c m n ≡ decoded.Is a → Of c m a) → onLead (leadingAt pdus l at) rest ≡ decoded.Is a
+    → Leads (leadingAt pdus l at) a
 led-accepted rest pdus l at a of e = by (leadingAt pdus l at) refl e
   where
     by : (t : Lead) → leadingAt pdus l at ≡ t → onLead t rest ≡ decoded.Is a → Leads (leadingAt pdus l at) a
@@ -130,12 +141,15 @@ led-accepted rest pdus l at a of e = by (leadingAt pdus l at) refl e
         record { next = n; says = g ∙ rw (o .kind, o .mode, ← q) }
     by (lead.Refused r) g k = never (cc)
 
-pub quick-accepted : (limit : ℕ) (pdus : PduType) (l : List ℕ) (at : ℕ) (a : Apdu) → apduWithin limit pdus l at ≡ decoded.Is a → Leads (leadingAt pdus l at) a
+pub quick-accepted : (limit : ℕ) (pdus : PduType) (l : List ℕ) (at : ℕ) (a : Apdu)
+    → apduWithin limit pdus l at ≡ decoded.Is a → Leads (leadingAt pdus l at) a
 unfolding apduWithin
-quick-accepted limit pdus l at a e = led-accepted (restWithin limit l) pdus l at a (λ (c : Kind) (m n : ℕ) (k : restWithin limit l c m n ≡ decoded.Is a). rest-of limit l c m n a k) e
+quick-accepted limit pdus l at a e = led-accepted (restWithin limit l) pdus l at a
+    (λ (c : Kind) (m n : ℕ) (k : restWithin limit l c m n ≡ decoded.Is a). rest-of limit l c m n a k) e
 
 -- so what it refuses is refused, and it claims no fault of the whole that it has not seen: of an accepted APDU it refuses nothing
-pub quick-never : (limit : ℕ) (pdus : PduType) (l : List ℕ) (at : ℕ) (a : Apdu) (r : Refusal) → apduWithin limit pdus l at ≡ decoded.Is a → leadingAt pdus l at ≡ lead.Refused r → ⊥
+pub quick-never : (limit : ℕ) (pdus : PduType) (l : List ℕ) (at : ℕ) (a : Apdu) (r : Refusal)
+    → apduWithin limit pdus l at ≡ decoded.Is a → leadingAt pdus l at ≡ lead.Refused r → ⊥
 quick-never limit pdus l at a r e g =
     let h = quick-refused limit pdus l at r g in
     never (cc)
@@ -173,7 +187,8 @@ on-front : {A : Type 0} (up : Refusal → A) (f : Field) (j k : ℕ → ℕ → 
 on-front up (Value v n) j k h = h v n refl
 on-front up (Refused r) j k h = refl
 
-then-read : (f : Field) (k : ℕ → ℕ → Field) (v n : ℕ) (A : Type 0) → ((x m : ℕ) → f ≡ Value x m → k x m ≡ Value v n → A) → then f k ≡ Value v n → A
+then-read : (f : Field) (k : ℕ → ℕ → Field) (v n : ℕ) (A : Type 0) → ((x m : ℕ) → f ≡ Value x m → k x m ≡ Value v n → A)
+    → then f k ≡ Value v n → A
 then-read (Value x m) k v n A g e = g x m refl e
 then-read (Refused r) k v n A g e = never (cc)
 
@@ -184,17 +199,24 @@ cond-value false x m v n at r e = never (cc)
 ext-place : (l : List ℕ) (at v n : ℕ) → extensionBit l at ≡ Value v n → n ≡ at + 1
 unfolding extensionBit
 ext-place l at v n e =
-    then-read (bitField l at 1) _ v n (n ≡ at + 1) (λ (x m : ℕ) (g : bitField l at 1 ≡ Value x m) (k : cond (eqb x 0) (Value 0 m) (refusedAt at Extension) ≡ Value v n). cond-value (eqb x 0) 0 m v n at _ k ∙ bit-place l at 1 x m g) e
+    then-read (bitField l at 1) _ v n (n ≡ at + 1) (λ (x m : ℕ) (g : bitField l at 1 ≡ Value x m)
+    (k : cond (eqb x 0) (Value 0 m) (refusedAt at Extension) ≡ Value v n). cond-value (eqb x 0) 0 m v n at _ k
+    ∙ bit-place l at 1 x m g) e
 
 whole-place : (l : List ℕ) (at hi v n : ℕ) → wholeNumber l at 0 hi ≡ Value v n → n ≡ at + widthOf (hi - 0)
 unfolding wholeNumber
 whole-place l at hi v n e =
-    then-read (bitField l at (widthOf (hi - 0))) _ v n (n ≡ at + widthOf (hi - 0)) (λ (x m : ℕ) (g : bitField l at (widthOf (hi - 0)) ≡ Value x m) (k : cond (leb (0 + x) hi) (Value (0 + x) m) (refusedAt at Range) ≡ Value v n). cond-value (leb (0 + x) hi) (0 + x) m v n at _ k ∙ bit-place l at (widthOf (hi - 0)) x m g) e
+    then-read (bitField l at (widthOf (hi - 0))) _ v n (n ≡ at + widthOf (hi - 0)) (λ (x m : ℕ)
+    (g : bitField l at (widthOf (hi - 0)) ≡ Value x m)
+    (k : cond (leb (0 + x) hi) (Value (0 + x) m) (refusedAt at Range) ≡ Value v n). cond-value (leb (0 + x) hi)
+    (0 + x) m v n at _ k ∙ bit-place l at (widthOf (hi - 0)) x m g) e
 
 index-place : (l : List ℕ) (at last v n : ℕ) → extensibleIndex l at last ≡ Value v n → n ≡ at + 1 + widthOf (last - 0)
 unfolding extensibleIndex
 index-place l at last v n e =
-    then-read (extensionBit l at) _ v n (n ≡ at + 1 + widthOf (last - 0)) (λ (x m : ℕ) (g : extensionBit l at ≡ Value x m) (k : wholeNumber l m 0 last ≡ Value v n). whole-place l m last v n k ∙ ap (λ (p : ℕ). p + widthOf (last - 0)) (ext-place l at x m g)) e
+    then-read (extensionBit l at) _ v n (n ≡ at + 1 + widthOf (last - 0)) (λ (x m : ℕ)
+    (g : extensionBit l at ≡ Value x m) (k : wholeNumber l m 0 last ≡ Value v n). whole-place l m last v n k ∙
+    ap (λ (p : ℕ). p + widthOf (last - 0)) (ext-place l at x m g)) e
 
 front-ext : (k : ℕ) (l : List ℕ) (at : ℕ) → at + 1 ≤ k → extensionBit (take k l) at ≡ extensionBit l at
 unfolding extensionBit
@@ -204,10 +226,14 @@ front-whole : (k : ℕ) (l : List ℕ) (at hi : ℕ) → at + widthOf (hi - 0) �
 unfolding wholeNumber
 front-whole k l at hi h = rw (front-bits k l at (widthOf (hi - 0)) h)
 
-front-index : (k : ℕ) (l : List ℕ) (at last : ℕ) → at + 1 + widthOf (last - 0) ≤ k → extensibleIndex (take k l) at last ≡ extensibleIndex l at last
+front-index : (k : ℕ) (l : List ℕ) (at last : ℕ) → at + 1 + widthOf (last - 0) ≤ k
+    → extensibleIndex (take k l) at last ≡ extensibleIndex l at last
 unfolding extensibleIndex
 front-index k l at last h =
-    rw (front-ext k l at (omega arith)) (on-front Refused (extensionBit l at) (λ (b next : ℕ). wholeNumber (take k l) next 0 last) (λ (b next : ℕ). wholeNumber l next 0 last) (λ (v n : ℕ) (e : extensionBit l at ≡ Value v n). front-whole k l n last (omega (arith, ext-place l at v n e))))
+    rw (front-ext k l at (omega arith)) (on-front Refused (extensionBit l at)
+    (λ (b next : ℕ). wholeNumber (take k l) next 0 last) (λ (b next : ℕ). wholeNumber l next 0 last) (λ
+    (v n : ℕ) (e : extensionBit l at ≡ Value v n). front-whole k l n last
+    (omega (arith, ext-place l at v n e))))
 
 front-value : (k : ℕ) (l : List ℕ) (at : ℕ) → at + 1 ≤ k → modeValue (take k l) at ≡ modeValue l at
 unfolding modeValue digitsIn
@@ -217,14 +243,18 @@ front-value k l at h = rw (front-whole k l at modeLast h)
 front-down : (l : List ℕ) (at : ℕ) → at ≡ 3 → modeAt AircraftPdus (take most l) at ≡ modeAt AircraftPdus l at
 unfolding modeAt
 front-down l at h =
-    rw (front-bits most l at 1 (omega arith)) (on-front Refused (bitField l at 1) (λ (p next : ℕ). cond (eqb p 0) (Value 0 next) (modeValue (take most l) next)) (λ (p next : ℕ). cond (eqb p 0) (Value 0 next) (modeValue l next)) (λ (v n : ℕ) (e : bitField l at 1 ≡ Value v n). rw (front-value most l n (omega (arith, bit-place l at 1 v n e)))))
+    rw (front-bits most l at 1 (omega arith)) (on-front Refused (bitField l at 1)
+    (λ (p next : ℕ). cond (eqb p 0) (Value 0 next) (modeValue (take most l) next))
+    (λ (p next : ℕ). cond (eqb p 0) (Value 0 next) (modeValue l next)) (λ (v n : ℕ)
+    (e : bitField l at 1 ≡ Value v n). rw (front-value most l n (omega (arith, bit-place l at 1 v n e)))))
 
 -- startup has none
 front-up : (l : List ℕ) (at : ℕ) → modeAt GroundPdus (take most l) at ≡ modeAt GroundPdus l at
 unfolding modeAt
 front-up l at = refl
 
-front-kind : (pdus : PduType) (k : ℕ) (l : List ℕ) (c : Kind) (at : ℕ) → modeAt pdus (take k l) at ≡ modeAt pdus l at → kindMode pdus (take k l) c at ≡ kindMode pdus l c at
+front-kind : (pdus : PduType) (k : ℕ) (l : List ℕ) (c : Kind) (at : ℕ) → modeAt pdus (take k l) at ≡ modeAt pdus l at
+    → kindMode pdus (take k l) c at ≡ kindMode pdus l c at
 unfolding kindMode
 front-kind pdus k l kind.AbortUser at e = refl
 front-kind pdus k l kind.AbortProvider at e = refl
@@ -237,13 +267,18 @@ pub quick-front : (pdus : PduType) (l : List ℕ) → leadingAt pdus (take most 
 unfolding leadingAt digitsIn
 quick-front pdus l = both pdus
   where
-    behind : (p : PduType) (i n : ℕ) → extensibleIndex l 0 (lastOf p) ≡ Value i n → kindMode p (take most l) (kindOf i) n ≡ kindMode p l (kindOf i) n
+    behind : (p : PduType) (i n : ℕ) → extensibleIndex l 0 (lastOf p) ≡ Value i n
+        → kindMode p (take most l) (kindOf i) n ≡ kindMode p l (kindOf i) n
     behind AircraftPdus i n e = front-kind AircraftPdus most l (kindOf i) n (front-down l n (index-place l 0 3 i n e))
     behind GroundPdus i n e = front-kind GroundPdus most l (kindOf i) n (front-up l n)
 
-    all : (p : PduType) → extensibleIndex (take most l) 0 (lastOf p) ≡ extensibleIndex l 0 (lastOf p) → onto lead.Refused (extensibleIndex (take most l) 0 (lastOf p)) (λ (i q : ℕ). onto lead.Refused (kindMode p (take most l) (kindOf i) q) (λ (m r : ℕ). lead.Is (kindOf i) m r)) ≡ onto lead.Refused (extensibleIndex l 0 (lastOf p)) (λ (i q : ℕ). onto lead.Refused (kindMode p l (kindOf i) q) (λ (m r : ℕ). lead.Is (kindOf i) m r))
-    all p e = rw e (on-front lead.Refused (extensibleIndex l 0 (lastOf p)) _ _ (λ (i n : ℕ) (g : extensibleIndex l 0 (lastOf p) ≡ Value i n). ap (λ (f : Field). onto lead.Refused f (λ (m r : ℕ). lead.Is (kindOf i) m r)) (behind p i n g)))
+    all : (p : PduType) → extensibleIndex (take most l) 0 (lastOf p) ≡ extensibleIndex l 0 (lastOf p)
+        → onto lead.Refused (extensibleIndex (take most l) 0 (lastOf p)) (λ (i q : ℕ). onto lead.Refused (kindMode p (take most l) (kindOf i) q) (λ (m r : ℕ). lead.Is (kindOf i) m r)) ≡ onto lead.Refused (extensibleIndex l 0 (lastOf p)) (λ (i q : ℕ). onto lead.Refused (kindMode p l (kindOf i) q) (λ (m r : ℕ). lead.Is (kindOf i) m r))
+    all p e = rw e (on-front lead.Refused (extensibleIndex l 0 (lastOf p)) _ _ (λ (i n : ℕ)
+        (g : extensibleIndex l 0 (lastOf p) ≡ Value i n). ap
+        (λ (f : Field). onto lead.Refused f (λ (m r : ℕ). lead.Is (kindOf i) m r)) (behind p i n g)))
 
-    both : (p : PduType) → onto lead.Refused (extensibleIndex (take most l) 0 (lastOf p)) (λ (i q : ℕ). onto lead.Refused (kindMode p (take most l) (kindOf i) q) (λ (m r : ℕ). lead.Is (kindOf i) m r)) ≡ onto lead.Refused (extensibleIndex l 0 (lastOf p)) (λ (i q : ℕ). onto lead.Refused (kindMode p l (kindOf i) q) (λ (m r : ℕ). lead.Is (kindOf i) m r))
+    both : (p : PduType)
+        → onto lead.Refused (extensibleIndex (take most l) 0 (lastOf p)) (λ (i q : ℕ). onto lead.Refused (kindMode p (take most l) (kindOf i) q) (λ (m r : ℕ). lead.Is (kindOf i) m r)) ≡ onto lead.Refused (extensibleIndex l 0 (lastOf p)) (λ (i q : ℕ). onto lead.Refused (kindMode p l (kindOf i) q) (λ (m r : ℕ). lead.Is (kindOf i) m r))
     both AircraftPdus = all AircraftPdus (front-index most l 0 3 (lit≤ tt))
     both GroundPdus = all GroundPdus (front-index most l 0 5 (lit≤ tt))

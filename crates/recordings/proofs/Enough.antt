@@ -109,7 +109,8 @@ of-one : (y : ℕ) (l c : List ℕ) → Rising l → taken l (y ∷ c) + bytes c
 of-one y [] c r = omega (arith, taken-nil (y ∷ c), taken-nil c, bytes-grow y c)
 of-one y (x ∷ xs) c (next a r) = by (alike? x y) (size x) (of-one y xs c r)
   where
-    by : Alike x y → Size x → taken xs (y ∷ c) + bytes c ≤ taken xs c + bytes (y ∷ c) → taken (x ∷ xs) (y ∷ c) + bytes c ≤ taken (x ∷ xs) c + bytes (y ∷ c)
+    by : Alike x y → Size x → taken xs (y ∷ c) + bytes c ≤ taken xs c + bytes (y ∷ c)
+        → taken (x ∷ xs) (y ∷ c) + bytes c ≤ taken (x ∷ xs) c + bytes (y ∷ c)
     by (alike e) (few s) i =
         let o = of-other y xs c (subst (λ (z : ℕ). Above z xs) e a) in
         omega (arith, taken-few x xs (y ∷ c) s, taken-few x xs c s, times-same x y c e, o, bytes-few y c (omega (arith, e, s)))
@@ -125,19 +126,30 @@ taken-most l (y ∷ c) r = omega (arith, of-one y l c r, taken-most l c r)
 
 -- ---- jobs that stand twice in two recordings
 
-kept-taken : (p : ℕ → Bool) (a b l : List ℕ) → ((x : ℕ) → p x ≡ true → 2 ≤ times x a + times x b) → 2 * bytes (keep p l) ≤ taken (keep p l) a + taken (keep p l) b
+kept-taken : (p : ℕ → Bool) (a b l : List ℕ) → ((x : ℕ) → p x ≡ true → 2 ≤ times x a + times x b)
+    → 2 * bytes (keep p l) ≤ taken (keep p l) a + taken (keep p l) b
 kept-taken p a b [] t = rw (keep-nil p, bytes-nil) (omega arith)
 kept-taken p a b (x ∷ xs) t = by (p x) refl (size x) (kept-taken p a b xs t)
   where
-    by : (v : Bool) → p x ≡ v → Size x → 2 * bytes (keep p xs) ≤ taken (keep p xs) a + taken (keep p xs) b → 2 * bytes (keep p (x ∷ xs)) ≤ taken (keep p (x ∷ xs)) a + taken (keep p (x ∷ xs)) b
-    by true e (few s) i = rw (keep-in p x xs e) (omega (arith, bytes-few x (keep p xs) s, taken-few x (keep p xs) a s, taken-few x (keep p xs) b s, t x e, i))
-    by true e (many s) i = rw (keep-in p x xs e) (omega (arith, bytes-many x (keep p xs) s, taken-many x (keep p xs) a s, taken-many x (keep p xs) b s, t x e, i))
+    by : (v : Bool) → p x ≡ v → Size x → 2 * bytes (keep p xs) ≤ taken (keep p xs) a + taken (keep p xs) b
+        → 2 * bytes (keep p (x ∷ xs)) ≤ taken (keep p (x ∷ xs)) a + taken (keep p (x ∷ xs)) b
+    by true e (few s) i = rw (keep-in p x xs e)
+        (omega (arith, bytes-few x (keep p xs) s, taken-few x (keep p xs) a s, taken-few x (keep p xs) b s, t x e, i))
+    by true e (many s) i = rw (keep-in p x xs e) (omega
+        (arith, bytes-many x (keep p xs) s, taken-many x (keep p xs) a s, taken-many x (keep p xs) b s, t x e, i))
     by false e s i = rw (keep-out p x xs e) i
 
-kept-most : (p : ℕ → Bool) (a b l : List ℕ) → Rising l → Above 0 l → ((x : ℕ) → p x ≡ true → 2 ≤ times x a + times x b) → 8 * length (keep p l) ≤ bytes a + bytes b + 254
+kept-most : (p : ℕ → Bool) (a b l : List ℕ) → Rising l → Above 0 l → ((x : ℕ) → p x ≡ true → 2 ≤ times x a + times x b)
+    → 8 * length (keep p l) ≤ bytes a + bytes b + 254
 kept-most p a b l r h t =
     let k = rising-keep p l r in
-    omega (arith, places-most 0 (keep p l) k (above-keep p 0 l h), kept-taken p a b l t, taken-most (keep p l) a k, taken-most (keep p l) b k)
+    omega (
+      arith,
+      places-most 0 (keep p l) k (above-keep p 0 l h),
+      kept-taken p a b l t,
+      taken-most (keep p l) a k,
+      taken-most (keep p l) b k,
+    )
 
 -- ---- the bytes of a recording are enough for its jobs
 
@@ -153,23 +165,46 @@ unfolding number
 number-pos v = groups-pos 9 v
 
 envelope-many : (s : List ℕ) (e : Envelope) → 128 ≤ e .job → 4 ≤ length (bytesOf (contentOf s e))
-envelope-many s e h = omega (arith, length-whole (contentOf s e), length-header (contentOf s e), number-pos (e .kind), job-groups (e .job) h, number-pos (e .bits))
+envelope-many s e h = omega (
+  arith,
+  length-whole (contentOf s e),
+  length-header (contentOf s e),
+  number-pos (e .kind),
+  job-groups (e .job) h,
+  number-pos (e .bits),
+)
 
-read-bytes : (limit : ℕ) (s : List ℕ) → AllBytes s → (at : ℕ) (z : EnvelopeRead) (k : Envelope → Walk) → envelopeAt limit s at ≡ z → ((e : Envelope) → bytes (map (λ (x : Envelope). x .job) (k e .envelopes)) ≤ length s - e .next) → bytes (map (λ (x : Envelope). x .job) (onRead z at k .envelopes)) ≤ length s - at
+read-bytes : (limit : ℕ) (s : List ℕ) → AllBytes s → (at : ℕ) (z : EnvelopeRead) (k : Envelope → Walk)
+    → envelopeAt limit s at ≡ z
+    → ((e : Envelope) → bytes (map (λ (x : Envelope). x .job) (k e .envelopes)) ≤ length s - e .next)
+    → bytes (map (λ (x : Envelope). x .job) (onRead z at k .envelopes)) ≤ length s - at
 read-bytes limit s b at (Is e) k p h = by (size (e .job)) (goes-on limit s at e (read-written limit s at b e p)) (h e)
   where
-    by : Size (e .job) → Onward s at e → bytes (map (λ (x : Envelope). x .job) (k e .envelopes)) ≤ length s - e .next → bytes (e .job ∷ map (λ (x : Envelope). x .job) (k e .envelopes)) ≤ length s - at
+    by : Size (e .job) → Onward s at e → bytes (map (λ (x : Envelope). x .job) (k e .envelopes)) ≤ length s - e .next
+        → bytes (e .job ∷ map (λ (x : Envelope). x .job) (k e .envelopes)) ≤ length s - at
     by (few f) o i = omega (arith, bytes-few (e .job) (map (λ (x : Envelope). x .job) (k e .envelopes)) f, o .on, o .within, i)
-    by (many f) o i = omega (arith, bytes-many (e .job) (map (λ (x : Envelope). x .job) (k e .envelopes)) f, envelope-many s e f, o .next, o .within, i)
+    by (many f) o i = omega (
+      arith,
+      bytes-many (e .job) (map (λ (x : Envelope). x .job) (k e .envelopes)) f,
+      envelope-many s e f,
+      o .next,
+      o .within,
+      i,
+    )
 read-bytes limit s b at (Refused r) k p h = rw bytes-nil (omega arith)
 
-walk-bytes : (limit : ℕ) (s : List ℕ) → AllBytes s → (f at : ℕ) → bytes (map (λ (x : Envelope). x .job) (walkFrom limit s f at .envelopes)) ≤ length s - at
+walk-bytes : (limit : ℕ) (s : List ℕ) → AllBytes s → (f at : ℕ)
+    → bytes (map (λ (x : Envelope). x .job) (walkFrom limit s f at .envelopes)) ≤ length s - at
 walk-bytes limit s b zero at = rw (walk-none limit s at, bytes-nil) (omega arith)
 walk-bytes limit s b (suc f) at = by (leb (length s) at) refl (λ (n : ℕ). walk-bytes limit s b f n)
   where
-    by : (t : Bool) → leb (length s) at ≡ t → ((n : ℕ) → bytes (map (λ (x : Envelope). x .job) (walkFrom limit s f n .envelopes)) ≤ length s - n) → bytes (map (λ (x : Envelope). x .job) (walkFrom limit s (suc f) at .envelopes)) ≤ length s - at
+    by : (t : Bool) → leb (length s) at ≡ t
+        → ((n : ℕ) → bytes (map (λ (x : Envelope). x .job) (walkFrom limit s f n .envelopes)) ≤ length s - n)
+        → bytes (map (λ (x : Envelope). x .job) (walkFrom limit s (suc f) at .envelopes)) ≤ length s - at
     by true e i = rw (walk-end limit s (suc f) at (leb-true (length s) at e), bytes-nil) (omega arith)
-    by false e i = rw (walk-on limit s f at (leb-false (length s) at e)) (read-bytes limit s b at (envelopeAt limit s at) (λ (x : Envelope). walkFrom limit s f (x .next)) refl (λ (x : Envelope). i (x .next)))
+    by false e i = rw (walk-on limit s f at (leb-false (length s) at e)) (read-bytes limit s b at
+        (envelopeAt limit s at) (λ (x : Envelope). walkFrom limit s f (x .next)) refl
+        (λ (x : Envelope). i (x .next)))
 
 jobs-bytes : (limit : ℕ) (s : List ℕ) → AllBytes s → bytes (jobs limit s) ≤ length s
 unfolding walk
@@ -188,30 +223,52 @@ repeats-twice a b x e = by (ltb 1 (times x a)) refl e
     by false g h = omega (arith, ltb-true 1 (times x b) h)
 
 module _ (limit : ℕ) (a b : List ℕ) (p : AllBytes a) (q : AllBytes b) where
-  shown-most : (t : ℕ → Bool) (c d : List ℕ) → ((x : ℕ) → t x ≡ true → 2 ≤ times x c + times x d) → 8 * length (keep t (rising (jobs limit a) (jobs limit b))) ≤ bytes c + bytes d + 254
-  shown-most t c d h = kept-most t c d (rising (jobs limit a) (jobs limit b)) (rising-rises (jobs limit a) (jobs limit b)) (both-above (jobs limit a) (jobs limit b) (jobs-above limit a p) (jobs-above limit b q)) h
+  shown-most : (t : ℕ → Bool) (c d : List ℕ) → ((x : ℕ) → t x ≡ true → 2 ≤ times x c + times x d)
+      → 8 * length (keep t (rising (jobs limit a) (jobs limit b))) ≤ bytes c + bytes d + 254
+  shown-most t c d h = kept-most t c d (rising (jobs limit a) (jobs limit b))
+      (rising-rises (jobs limit a) (jobs limit b))
+      (both-above (jobs limit a) (jobs limit b) (jobs-above limit a p) (jobs-above limit b q)) h
 
   pub first-fits : (list : List ℕ) → enough (length a) (length list) ≡ true → lacks (onlyFirst (jobs limit a) (jobs limit b)) list ≡ false
   unfolding onlyFirst
   first-fits list e =
-      let m = shown-most (λ (x : ℕ). only (jobs limit a) (jobs limit b) x) (jobs limit a) (jobs limit a) (only-once (jobs limit a) (jobs limit b)) in
-      le-ltb (length list / 8) (length (keep (λ (x : ℕ). only (jobs limit a) (jobs limit b) x) (rising (jobs limit a) (jobs limit b)))) (omega (arith, m, jobs-bytes limit a p, leb-true ((length a + 127) / 4) (length list / 8) e))
+      let m = shown-most (λ (x : ℕ). only (jobs limit a) (jobs limit b) x) (jobs limit a) (jobs limit a)
+      (only-once (jobs limit a) (jobs limit b)) in
+      le-ltb (length list / 8)
+      (length (keep (λ (x : ℕ). only (jobs limit a) (jobs limit b) x) (rising (jobs limit a) (jobs limit b))))
+      (omega (arith, m, jobs-bytes limit a p, leb-true ((length a + 127) / 4) (length list / 8) e))
 
   pub second-fits : (list : List ℕ) → enough (length b) (length list) ≡ true → lacks (onlySecond (jobs limit a) (jobs limit b)) list ≡ false
   unfolding onlySecond
   second-fits list e =
-      let m = shown-most (λ (x : ℕ). only (jobs limit b) (jobs limit a) x) (jobs limit b) (jobs limit b) (only-once (jobs limit b) (jobs limit a)) in
-      le-ltb (length list / 8) (length (keep (λ (x : ℕ). only (jobs limit b) (jobs limit a) x) (rising (jobs limit a) (jobs limit b)))) (omega (arith, m, jobs-bytes limit b q, leb-true ((length b + 127) / 4) (length list / 8) e))
+      let m = shown-most (λ (x : ℕ). only (jobs limit b) (jobs limit a) x) (jobs limit b) (jobs limit b)
+      (only-once (jobs limit b) (jobs limit a)) in
+      le-ltb (length list / 8)
+      (length (keep (λ (x : ℕ). only (jobs limit b) (jobs limit a) x) (rising (jobs limit a) (jobs limit b))))
+      (omega (arith, m, jobs-bytes limit b q, leb-true ((length b + 127) / 4) (length list / 8) e))
 
-  pub third-fits : (list : List ℕ) → enough ((length a + length b) / 2) (length list) ≡ true → lacks (repeated (jobs limit a) (jobs limit b)) list ≡ false
+  pub third-fits : (list : List ℕ) → enough ((length a + length b) / 2) (length list) ≡ true
+      → lacks (repeated (jobs limit a) (jobs limit b)) list ≡ false
   unfolding repeated
   third-fits list e =
-      let m = shown-most (λ (x : ℕ). repeats (jobs limit a) (jobs limit b) x) (jobs limit a) (jobs limit b) (repeats-twice (jobs limit a) (jobs limit b)) in
-      le-ltb (length list / 8) (length (keep (λ (x : ℕ). repeats (jobs limit a) (jobs limit b) x) (rising (jobs limit a) (jobs limit b)))) (omega (arith, m, jobs-bytes limit a p, jobs-bytes limit b q, leb-true (((length a + length b) / 2 + 127) / 4) (length list / 8) e))
+      let m = shown-most (λ (x : ℕ). repeats (jobs limit a) (jobs limit b) x) (jobs limit a) (jobs limit b)
+      (repeats-twice (jobs limit a) (jobs limit b)) in
+      le-ltb (length list / 8)
+      (length (keep (λ (x : ℕ). repeats (jobs limit a) (jobs limit b) x) (rising (jobs limit a) (jobs limit b)))) (
+      omega (
+        arith,
+        m,
+        jobs-bytes limit a p,
+        jobs-bytes limit b q,
+        leb-true
+            (((length a + length b) / 2 + 127) / 4) (length list / 8) e,
+      ))
 
 -- ---- lacks_room
 
-pub lacks-none : (a b x y z : List ℕ) → lacks (onlyFirst a b) x ≡ false → lacks (onlySecond a b) y ≡ false → lacks (repeated a b) z ≡ false → false ≡ (lacks (onlyFirst a b) x || (lacks (onlySecond a b) y || lacks (repeated a b) z))
+pub lacks-none : (a b x y z : List ℕ) → lacks (onlyFirst a b) x ≡ false → lacks (onlySecond a b) y ≡ false
+    → lacks (repeated a b) z ≡ false
+    → false ≡ (lacks (onlyFirst a b) x || (lacks (onlySecond a b) y || lacks (repeated a b) z))
 lacks-none a b x y z e f g = rw (e, f, g)
 
 module _ (a b x y z : List ℕ) (c : Counts) (q : c ≡ counts a b) where
@@ -227,8 +284,19 @@ module _ (a b x y z : List ℕ) (c : Counts) (q : c ≡ counts a b) where
   pub lacks-first : length x / 8 < c .first → true ≡ (lacks (onlyFirst a b) x || (lacks (onlySecond a b) y || lacks (repeated a b) z))
   lacks-first h = rw (lt-ltb (length x / 8) (length (onlyFirst a b)) (omega (arith, h, first-of)))
 
-  pub lacks-second : c .first ≤ length x / 8 → length y / 8 < c .second → true ≡ (lacks (onlyFirst a b) x || (lacks (onlySecond a b) y || lacks (repeated a b) z))
-  lacks-second g h = rw (le-ltb (length x / 8) (length (onlyFirst a b)) (omega (arith, g, first-of)), lt-ltb (length y / 8) (length (onlySecond a b)) (omega (arith, h, second-of)))
+  pub lacks-second : c .first ≤ length x / 8 → length y / 8 < c .second
+      → true ≡ (lacks (onlyFirst a b) x || (lacks (onlySecond a b) y || lacks (repeated a b) z))
+  lacks-second g h = rw (
+    le-ltb (length x / 8) (length (onlyFirst a b)) (omega (arith, g, first-of)),
+    lt-ltb
+        (length y / 8) (length (onlySecond a b)) (omega (arith, h, second-of)),
+  )
 
-  pub lacks-third : c .first ≤ length x / 8 → c .second ≤ length y / 8 → ltb (length z / 8) (c .repeated) ≡ (lacks (onlyFirst a b) x || (lacks (onlySecond a b) y || lacks (repeated a b) z))
-  lacks-third g h = rw (le-ltb (length x / 8) (length (onlyFirst a b)) (omega (arith, g, first-of)), le-ltb (length y / 8) (length (onlySecond a b)) (omega (arith, h, second-of)), repeated-of)
+  pub lacks-third : c .first ≤ length x / 8 → c .second ≤ length y / 8
+      → ltb (length z / 8) (c .repeated) ≡ (lacks (onlyFirst a b) x || (lacks (onlySecond a b) y || lacks (repeated a b) z))
+  lacks-third g h = rw (
+    le-ltb (length x / 8) (length (onlyFirst a b)) (omega (arith, g, first-of)),
+    le-ltb
+        (length y / 8) (length (onlySecond a b)) (omega (arith, h, second-of)),
+    repeated-of,
+  )

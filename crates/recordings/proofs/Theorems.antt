@@ -62,15 +62,18 @@ record Reads (limit : ℕ) (a : List ℕ) : Type 0 where
   pub bytes : a ≡ stringOf says
   pub read : contents limit a ≡ says
 
-told-reads : (limit : ℕ) (a : List ℕ) (w : Walk) → Told limit a 0 w → walk limit a ≡ w → ((r : EnvelopeRefusal) (k : ℕ) → w .ending ≡ stopped r k → ⊥) → Reads limit a
+told-reads : (limit : ℕ) (a : List ℕ) (w : Walk) → Told limit a 0 w → walk limit a ≡ w
+    → ((r : EnvelopeRefusal) (k : ℕ) → w .ending ≡ stopped r k → ⊥) → Reads limit a
 told-reads limit a w (whole cs fits e) g n = record { says = cs; bytes = e; read = ap (λ (v : Walk). contentsOf a (v .envelopes)) g ∙ contents-back limit cs fits a 0 e }
 told-reads limit a w (broken cs t r fits e h q) g n = absurd (n r (0 + length (stringOf cs)) refl)
 
-first-ends : (limit : ℕ) (a b : List ℕ) → searched limit a b ≡ Whole → (r : EnvelopeRefusal) (k : ℕ) → walk limit a .ending ≡ stopped r k → ⊥
+first-ends : (limit : ℕ) (a b : List ℕ) → searched limit a b ≡ Whole → (r : EnvelopeRefusal) (k : ℕ)
+    → walk limit a .ending ≡ stopped r k → ⊥
 unfolding searched
 first-ends limit a b e r k g = let w : Stopped r 1 k ≡ Whole = rw g at e in never (cc)
 
-second-ends : (limit : ℕ) (a b : List ℕ) → searched limit a b ≡ Whole → (r : EnvelopeRefusal) (k : ℕ) → walk limit b .ending ≡ stopped r k → ⊥
+second-ends : (limit : ℕ) (a b : List ℕ) → searched limit a b ≡ Whole → (r : EnvelopeRefusal) (k : ℕ)
+    → walk limit b .ending ≡ stopped r k → ⊥
 unfolding searched
 second-ends limit a b e r k g = by (walk limit a .ending) (rw g at e)
   where
@@ -86,7 +89,9 @@ data Begins (xs ys : List Content) : Type 0 where
 begins : (i at : ℕ) (xs ys : List Content) → differ i at xs ys ≡ Nowhere → Begins xs ys
 begins i at [] ys e = shorter ys refl
 begins i at (x ∷ xs) [] e = longer (x ∷ xs) refl
-begins i at (x ∷ xs) (y ∷ ys) e = by (alike? (fieldOf x y) 0) (λ (g : differ (i + 1) (at + length (bytesOf x)) xs ys ≡ Nowhere). begins (i + 1) (at + length (bytesOf x)) xs ys g)
+begins i at (x ∷ xs) (y ∷ ys) e = by (alike? (fieldOf x y) 0) (λ
+    (g : differ (i + 1) (at + length (bytesOf x)) xs ys ≡ Nowhere). begins (i + 1) (at + length (bytesOf x)) xs ys
+    g)
   where
     on : x ≡ y → Begins xs ys → Begins (x ∷ xs) (y ∷ ys)
     on p (longer t q) = longer t (rw (p, q))
@@ -125,7 +130,8 @@ joined a b u e l =
     let z : u ≡ [] = no-bytes u (omega arith) in
     sym (append-nil a) ∙ (ap (λ (v : List ℕ). a ++ v) (sym z) ∙ sym e)
 
-pub only-equal : (limit : ℕ) (a b : List ℕ) → AllBytes a → AllBytes b → searched limit a b ≡ Whole → difference limit a b ≡ Nowhere → restOf limit a b ≡ [] → a ≡ b
+pub only-equal : (limit : ℕ) (a b : List ℕ) → AllBytes a → AllBytes b → searched limit a b ≡ Whole
+    → difference limit a b ≡ Nowhere → restOf limit a b ≡ [] → a ≡ b
 unfolding restOf difference
 only-equal limit a b p q s d r =
     let x = told-reads limit a (walk limit a) (every-string limit a p) refl (first-ends limit a b s) in
@@ -134,5 +140,8 @@ only-equal limit a b p q s d r =
     by x y l (begins 0 0 (x .says) (y .says) (rw (x .read, y .read) at d))
   where
     by : (x : Reads limit a) (y : Reads limit b) → length a ≡ length b → Begins (x .says) (y .says) → a ≡ b
-    by x y l (longer t e) = sym (joined b a (stringOf t) (x .bytes ∙ (ap stringOf e ∙ (string-append (y .says) t ∙ ap (λ (v : List ℕ). v ++ stringOf t) (sym (y .bytes))))) (sym l))
-    by x y l (shorter t e) = joined a b (stringOf t) (y .bytes ∙ (ap stringOf e ∙ (string-append (x .says) t ∙ ap (λ (v : List ℕ). v ++ stringOf t) (sym (x .bytes))))) l
+    by x y l (longer t e) = sym (joined b a (stringOf t) (x .bytes ∙
+        (ap stringOf e ∙ (string-append (y .says) t ∙ ap (λ (v : List ℕ). v ++ stringOf t) (sym (y .bytes)))))
+        (sym l))
+    by x y l (shorter t e) = joined a b (stringOf t) (y .bytes ∙
+        (ap stringOf e ∙ (string-append (x .says) t ∙ ap (λ (v : List ℕ). v ++ stringOf t) (sym (x .bytes))))) l

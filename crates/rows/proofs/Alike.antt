@@ -65,22 +65,52 @@ unfolding outcomeOf
 alike-does r g o w e =
     let s = r .control .state in
     let d = r .control .dsc in
-    let one = both-left (eqb (number (stateAfter (o .next) s)) (number (stateAfter (w .next) s)) && same (flagAfter (o .dsc) d) (flagAfter (w .dsc) d)) ((eqb (o .timer) (w .timer) && eqb (o .user) (w .user)) && ((eqb (o .keeps) (w .keeps) && eqb (o .refusal) (w .refusal)) && ((eqb (o .sends) (w .sends) && eqb (o .reason) (w .reason)) && (eqb (o .tells) (w .tells) && eqb (o .why) (w .why))))) e in
-    let two = both-right (eqb (number (stateAfter (o .next) s)) (number (stateAfter (w .next) s)) && same (flagAfter (o .dsc) d) (flagAfter (w .dsc) d)) ((eqb (o .timer) (w .timer) && eqb (o .user) (w .user)) && ((eqb (o .keeps) (w .keeps) && eqb (o .refusal) (w .refusal)) && ((eqb (o .sends) (w .sends) && eqb (o .reason) (w .reason)) && (eqb (o .tells) (w .tells) && eqb (o .why) (w .why))))) e in
-    let three = both-right (eqb (o .timer) (w .timer) && eqb (o .user) (w .user)) ((eqb (o .keeps) (w .keeps) && eqb (o .refusal) (w .refusal)) && ((eqb (o .sends) (w .sends) && eqb (o .reason) (w .reason)) && (eqb (o .tells) (w .tells) && eqb (o .why) (w .why)))) two in
-    let four = both-right (eqb (o .keeps) (w .keeps) && eqb (o .refusal) (w .refusal)) ((eqb (o .sends) (w .sends) && eqb (o .reason) (w .reason)) && (eqb (o .tells) (w .tells) && eqb (o .why) (w .why))) three in
-    let a = number-is _ _ (both-left (eqb (number (stateAfter (o .next) s)) (number (stateAfter (w .next) s))) (same (flagAfter (o .dsc) d) (flagAfter (w .dsc) d)) one) in
-    let b = same-is _ _ (both-right (eqb (number (stateAfter (o .next) s)) (number (stateAfter (w .next) s))) (same (flagAfter (o .dsc) d) (flagAfter (w .dsc) d)) one) in
-    let tu = both-left (eqb (o .timer) (w .timer) && eqb (o .user) (w .user)) ((eqb (o .keeps) (w .keeps) && eqb (o .refusal) (w .refusal)) && ((eqb (o .sends) (w .sends) && eqb (o .reason) (w .reason)) && (eqb (o .tells) (w .tells) && eqb (o .why) (w .why)))) two in
-    let kz = both-left (eqb (o .keeps) (w .keeps) && eqb (o .refusal) (w .refusal)) ((eqb (o .sends) (w .sends) && eqb (o .reason) (w .reason)) && (eqb (o .tells) (w .tells) && eqb (o .why) (w .why))) three in
-    let sx = both-left (eqb (o .sends) (w .sends) && eqb (o .reason) (w .reason)) (eqb (o .tells) (w .tells) && eqb (o .why) (w .why)) four in
-    let yw = both-right (eqb (o .sends) (w .sends) && eqb (o .reason) (w .reason)) (eqb (o .tells) (w .tells) && eqb (o .why) (w .why)) four in
-    go (stateAfter (o .next) s) (stateAfter (w .next) s) (flagAfter (o .dsc) d) (flagAfter (w .dsc) d) (o .timer) (w .timer) (o .user) (w .user) (o .keeps) (w .keeps) (o .refusal) (w .refusal) (o .sends) (w .sends) (o .reason) (w .reason) (o .tells) (w .tells) (o .why) (w .why)
-    a b (l (o .timer) (w .timer) (eqb (o .user) (w .user)) tu) (m (eqb (o .timer) (w .timer)) (o .user) (w .user) tu) (l (o .keeps) (w .keeps) (eqb (o .refusal) (w .refusal)) kz) (m (eqb (o .keeps) (w .keeps)) (o .refusal) (w .refusal) kz)
-    (l (o .sends) (w .sends) (eqb (o .reason) (w .reason)) sx) (m (eqb (o .sends) (w .sends)) (o .reason) (w .reason) sx) (l (o .tells) (w .tells) (eqb (o .why) (w .why)) yw) (m (eqb (o .tells) (w .tells)) (o .why) (w .why) yw)
+    let one = both-left (eqb (number (stateAfter (o .next) s)) (number (stateAfter (w .next) s)) && same
+    (flagAfter (o .dsc) d) (flagAfter (w .dsc) d)) ((eqb (o .timer) (w .timer) && eqb (o .user) (w .user)) && (
+    (eqb (o .keeps) (w .keeps) && eqb (o .refusal) (w .refusal)) && (
+    (eqb (o .sends) (w .sends) && eqb (o .reason) (w .reason)) &&
+    (eqb (o .tells) (w .tells) && eqb (o .why) (w .why))))) e in
+    let two = both-right (eqb (number (stateAfter (o .next) s)) (number (stateAfter (w .next) s)) && same
+    (flagAfter (o .dsc) d) (flagAfter (w .dsc) d)) ((eqb (o .timer) (w .timer) && eqb (o .user) (w .user)) && (
+    (eqb (o .keeps) (w .keeps) && eqb (o .refusal) (w .refusal)) && (
+    (eqb (o .sends) (w .sends) && eqb (o .reason) (w .reason)) &&
+    (eqb (o .tells) (w .tells) && eqb (o .why) (w .why))))) e in
+    let three = both-right (eqb (o .timer) (w .timer) && eqb (o .user) (w .user)) (
+    (eqb (o .keeps) (w .keeps) && eqb (o .refusal) (w .refusal)) && (
+    (eqb (o .sends) (w .sends) && eqb (o .reason) (w .reason)) &&
+    (eqb (o .tells) (w .tells) && eqb (o .why) (w .why)))) two in
+    let four = both-right (eqb (o .keeps) (w .keeps) && eqb (o .refusal) (w .refusal)) (
+    (eqb (o .sends) (w .sends) && eqb (o .reason) (w .reason)) &&
+    (eqb (o .tells) (w .tells) && eqb (o .why) (w .why))) three in
+    let a = number-is _ _ (both-left (eqb (number (stateAfter (o .next) s)) (number (stateAfter (w .next) s)))
+    (same (flagAfter (o .dsc) d) (flagAfter (w .dsc) d)) one) in
+    let b = same-is _ _ (both-right (eqb (number (stateAfter (o .next) s)) (number (stateAfter (w .next) s)))
+    (same (flagAfter (o .dsc) d) (flagAfter (w .dsc) d)) one) in
+    let tu = both-left (eqb (o .timer) (w .timer) && eqb (o .user) (w .user)) (
+    (eqb (o .keeps) (w .keeps) && eqb (o .refusal) (w .refusal)) && (
+    (eqb (o .sends) (w .sends) && eqb (o .reason) (w .reason)) &&
+    (eqb (o .tells) (w .tells) && eqb (o .why) (w .why)))) two in
+    let kz = both-left (eqb (o .keeps) (w .keeps) && eqb (o .refusal) (w .refusal)) (
+    (eqb (o .sends) (w .sends) && eqb (o .reason) (w .reason)) &&
+    (eqb (o .tells) (w .tells) && eqb (o .why) (w .why))) three in
+    let sx = both-left (eqb (o .sends) (w .sends) && eqb (o .reason) (w .reason))
+    (eqb (o .tells) (w .tells) && eqb (o .why) (w .why)) four in
+    let yw = both-right (eqb (o .sends) (w .sends) && eqb (o .reason) (w .reason))
+    (eqb (o .tells) (w .tells) && eqb (o .why) (w .why)) four in
+    go (stateAfter (o .next) s) (stateAfter (w .next) s) (flagAfter (o .dsc) d) (flagAfter (w .dsc) d) (o .timer)
+    (w .timer) (o .user) (w .user) (o .keeps) (w .keeps) (o .refusal) (w .refusal) (o .sends) (w .sends) (o .reason)
+    (w .reason) (o .tells) (w .tells) (o .why) (w .why)
+    a b (l (o .timer) (w .timer) (eqb (o .user) (w .user)) tu) (m (eqb (o .timer) (w .timer)) (o .user) (w .user) tu)
+    (l (o .keeps) (w .keeps) (eqb (o .refusal) (w .refusal)) kz)
+    (m (eqb (o .keeps) (w .keeps)) (o .refusal) (w .refusal) kz)
+    (l (o .sends) (w .sends) (eqb (o .reason) (w .reason)) sx)
+    (m (eqb (o .sends) (w .sends)) (o .reason) (w .reason) sx) (l (o .tells) (w .tells) (eqb (o .why) (w .why)) yw)
+    (m (eqb (o .tells) (w .tells)) (o .why) (w .why) yw)
   where
-    go : (s s′ : State) (d d′ : Bool) (t t′ u u′ k k′ z z′ p p′ x x′ y y′ v v′ : ℕ) → s ≡ s′ → d ≡ d′ → t ≡ t′ → u ≡ u′ → k ≡ k′ → z ≡ z′ → p ≡ p′ → x ≡ x′ → y ≡ y′ → v ≡ v′
-        → built r g (entered s d) (flagAfter t (r .timer)) (flagAfter u (r .active)) k z p x y v ≡ built r g (entered s′ d′) (flagAfter t′ (r .timer)) (flagAfter u′ (r .active)) k′ z′ p′ x′ y′ v′
+    go : (s s′ : State) (d d′ : Bool) (t t′ u u′ k k′ z z′ p p′ x x′ y y′ v v′ : ℕ) → s ≡ s′ → d ≡ d′ → t ≡ t′ → u ≡ u′
+        → k ≡ k′ → z ≡ z′ → p ≡ p′ → x ≡ x′ → y ≡ y′ → v ≡ v′
+        → built r g (entered s d) (flagAfter t (r .timer)) (flagAfter u (r .active)) k z p x y v ≡ built r g
+        (entered s′ d′) (flagAfter t′ (r .timer)) (flagAfter u′ (r .active)) k′ z′ p′ x′ y′ v′
     go s s′ d d′ t t′ u u′ k k′ z z′ p p′ x x′ y y′ v v′ a b c e f h i j q w = rw (a, b, c, e, f, h, i, j, q, w)
 
     l : (a b : ℕ) (c : Bool) → (eqb a b && c) ≡ true → a ≡ b
@@ -107,10 +137,13 @@ flag-until : (i b : Bool) → flagAfter (cond i n.no n.asIs) b ≡ (not i && b)
 flag-until true b = refl
 flag-until false b = refl
 
-pub there : (r : Record) (g : Parameters) (c : Control) (t u k z s x y w : ℕ) → outcomeOf r g (out c t u k z s x y w) ≡ built r g c (flagAfter t (r .timer)) (flagAfter u (r .active)) k z s x y w
+pub there : (r : Record) (g : Parameters) (c : Control) (t u k z s x y w : ℕ)
+    → outcomeOf r g (out c t u k z s x y w) ≡ built r g c (flagAfter t (r .timer)) (flagAfter u (r .active)) k z s x y w
 unfolding outcomeOf
 there r g c t u k z s x y w =
-    ap (λ (q : Control). built r g q (flagAfter t (r .timer)) (flagAfter u (r .active)) k z s x y w) (both (stateAfter (number (c .state)) (r .control .state)) (flagAfter (flag (c .dsc)) (r .control .dsc)) (state-there (c .state) (r .control .state)) (flag-there (c .dsc) (r .control .dsc)))
+    ap (λ (q : Control). built r g q (flagAfter t (r .timer)) (flagAfter u (r .active)) k z s x y w) (both
+    (stateAfter (number (c .state)) (r .control .state)) (flagAfter (flag (c .dsc)) (r .control .dsc))
+    (state-there (c .state) (r .control .state)) (flag-there (c .dsc) (r .control .dsc)))
   where
     both : (a : State) (b : Bool) → a ≡ c .state → b ≡ c .dsc → entered a b ≡ c
     both a b e f = ap (λ (v : State). entered v b) e ∙ ap (entered (c .state)) f
@@ -130,7 +163,8 @@ keeping r g k =
       edition = r .edition;
     }
 
-pub moved : (r : Record) (g : Parameters) (c : Control) (k s x y w : ℕ) → outcomeOf r g (out c (until c n.asIs) (until c n.asIs) k n.taken s x y w) ≡ outcome (enter (keeping r g k) c) (invokes r g s) (indicationOf r g y w) (apduOf g s x) (hands y)
+pub moved : (r : Record) (g : Parameters) (c : Control) (k s x y w : ℕ)
+    → outcomeOf r g (out c (until c n.asIs) (until c n.asIs) k n.taken s x y w) ≡ outcome (enter (keeping r g k) c) (invokes r g s) (indicationOf r g y w) (apduOf g s x) (hands y)
 unfolding enter
 moved r g c k s x y w =
     there r g c (until c n.asIs) (until c n.asIs) k n.taken s x y w

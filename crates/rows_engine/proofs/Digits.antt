@@ -13,7 +13,8 @@ unfoldable pub numberOfRow : Row → ℕ
 numberOfRow x =
     let o = x .out in
     let front = (((((x .mark * 4 + x .side) * 4 + x .dsc) * 256 + x .event) * 16 + x .state) * 256 + x .condition) * 16 + o .next in
-    (((((((((front * 4 + o .dsc) * 4 + o .timer) * 4 + o .user) * 4 + o .keeps) * 16 + o .refusal) * 16 + o .sends) * 16 + o .reason) * 16 + o .tells) * 16 + o .why)
+    (((((((((front * 4 + o .dsc) * 4 + o .timer) * 4 + o .user) * 4 + o .keeps) * 16 + o .refusal) * 16 + o .sends) * 16
+    + o .reason) * 16 + o .tells) * 16 + o .why)
 
 unfoldable pub numbers : List ℕ
 numbers = map numberOfRow rows

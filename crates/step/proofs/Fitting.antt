@@ -53,7 +53,8 @@ module _ (ed : Edition) where
   meaning-fits p l b (decoded.Is (is.Start m d)) e = refl
   meaning-fits p l b (decoded.Is (is.Send d)) e = refl
   meaning-fits p l b (decoded.Is (is.Forward f)) e = refl
-  meaning-fits p l b (decoded.Is (is.ForwardResponse n)) e = low n responseLast (both-right (forwards p) (wholeFits 0 responseLast n) (laws ed .accepted p l (is.ForwardResponse n) b e .placed-fits))
+  meaning-fits p l b (decoded.Is (is.ForwardResponse n)) e = low n responseLast (both-right (forwards p)
+      (wholeFits 0 responseLast n) (laws ed .accepted p l (is.ForwardResponse n) b e .placed-fits))
 
   abort-fits : (x : Decoded) (a : Apdu) → fits x → fits (decoded.Is a) → fits (abortOf x a)
   unfolding abortOf
@@ -70,19 +71,23 @@ module _ (ed : Edition) where
   or-fits (decoded.Refused r) (decoded.Is a) p q = abort-fits (decoded.Refused r) a p q
   or-fits (decoded.Refused r) (decoded.Refused s) p q = p
 
-  pub read-fits : (sd : Side) (c : Control) (p : ServicePrimitive) (s : List ℕ) → userDataFits ed (meaning (readPdu ed sd c p (lent s))) ≡ true
+  pub read-fits : (sd : Side) (c : Control) (p : ServicePrimitive) (s : List ℕ)
+      → userDataFits ed (meaning (readPdu ed sd c p (lent s))) ≡ true
   unfolding readPdu
   read-fits sd c p s = go (readsAgain sd p)
     where
       first : fits (apduAt ed (readsAs sd c p) (lent s))
       first = meaning-fits (readsAs sd c p) (lent s) (bits-to s allBits) (apduAt ed (readsAs sd c p) (lent s)) refl
 
-      go : (t : Bool) → fits (cond t (orAbort (apduAt ed (readsAs sd c p) (lent s)) (apduAt ed pdus.GroundPdus (lent s))) (apduAt ed (readsAs sd c p) (lent s)))
-      go true = or-fits (apduAt ed (readsAs sd c p) (lent s)) (apduAt ed pdus.GroundPdus (lent s)) first (meaning-fits pdus.GroundPdus (lent s) (bits-to s allBits) (apduAt ed pdus.GroundPdus (lent s)) refl)
+      go : (t : Bool)
+          → fits (cond t (orAbort (apduAt ed (readsAs sd c p) (lent s)) (apduAt ed pdus.GroundPdus (lent s))) (apduAt ed (readsAs sd c p) (lent s)))
+      go true = or-fits (apduAt ed (readsAs sd c p) (lent s)) (apduAt ed pdus.GroundPdus (lent s)) first
+          (meaning-fits pdus.GroundPdus (lent s) (bits-to s allBits) (apduAt ed pdus.GroundPdus (lent s)) refl)
       go false = first
 
   -- the codes of a primitive, whatever was read with it
-  pub codes-same : (sd : Side) (p : ServicePrimitive) (m : UserData) → userDataFits ed m ≡ true → eventFits sd ed (Service p m) ≡ serviceFits p
+  pub codes-same : (sd : Side) (p : ServicePrimitive) (m : UserData) → userDataFits ed m ≡ true
+      → eventFits sd ed (Service p m) ≡ serviceFits p
   unfolding eventFits
   codes-same sd p m h = ap (λ (t : Bool). serviceFits p && t) h ∙ right-true (serviceFits p)
     where

@@ -105,14 +105,17 @@ module _ (sd : Side) (r : Record) (a : UserData) where
   fault : (p : ServicePrimitive) (f : Fault) → isFault f ≡ true → Fine p f
   fault p f h = quiet-hands (r .edition) a (answered r p a f) (fault-quiet r p a f h)
 
-  pdu-fine : (p : ServicePrimitive) (may fits i u : Bool) (behind : Fault) → ((isMissing a && may) ≡ true → Fine p behind) → (fits ≡ true → Fine p behind) → Fine p (pduFault may fits i u a behind)
+  pdu-fine : (p : ServicePrimitive) (may fits i u : Bool) (behind : Fault)
+      → ((isMissing a && may) ≡ true → Fine p behind) → (fits ≡ true → Fine p behind)
+      → Fine p (pduFault may fits i u a behind)
   unfolding isFault pduFault
   pdu-fine p may fits i u behind n k =
       by-test (Fine p) (isMissing a) _ _ (λ e. by-test (Fine p) may _ _ (λ g. n (rw (e, g))) (λ g. fault p Missing refl))
       (λ e. by-test (Fine p) (isInvalid a) _ _ (λ g. fault p (Invalid i) refl)
       (λ g. by-test (Fine p) (not fits) _ _ (λ h. fault p (NotPermitted u) refl) (λ h. k (not-false fits h))))
 
-  handed-hands : (q : Record) (x : Primitive) (t : Told) → passes t ≡ false → hasBody (r .edition) a ≡ true → Hands (r .edition) a (handed q x t)
+  handed-hands : (q : Record) (x : Primitive) (t : Told) → passes t ≡ false → hasBody (r .edition) a ≡ true
+      → Hands (r .edition) a (handed q x t)
   unfolding handed
   handed-hands q x t n m = record { forward = λ e. never (sym n ∙ e); body = λ e. m }
 
@@ -125,9 +128,11 @@ module _ (sd : Side) (r : Record) (a : UserData) where
   none-body : (isMissing a && spares (r .edition)) ≡ true → hasBody (r .edition) a ≡ true
   none-body h = rw h (rw (or-true (isSend a)) (or-true (isStartPdu a)))
 
-  send-fine : (p : ServicePrimitive) (q : Primitive) (may live : Bool) → ((isMissing a && may) ≡ true → Fine p NoFault) → (isSend a ≡ true → Fine p NoFault) → Fine p (sendFault sd r q may live a)
+  send-fine : (p : ServicePrimitive) (q : Primitive) (may live : Bool) → ((isMissing a && may) ≡ true → Fine p NoFault)
+      → (isSend a ≡ true → Fine p NoFault) → Fine p (sendFault sd r q may live a)
   unfolding isFault sendFault
-  send-fine p q may live n k = by-test (Fine p) (not (expects sd (r .control) q)) _ _ (λ e. fault p (NoInstruction true) refl) (λ e. pdu-fine p may (isSend a) live live NoFault n k)
+  send-fine p q may live n k = by-test (Fine p) (not (expects sd (r .control) q)) _ _
+      (λ e. fault p (NoInstruction true) refl) (λ e. pdu-fine p may (isSend a) live live NoFault n k)
 
   abort-fine : (p : ServicePrimitive) (q : Primitive) (fits : Bool) → Fine p NoFault → Fine p (abortFault sd r q fits)
   unfolding isFault abortFault
@@ -155,7 +160,8 @@ module _ (sd : Side) (r : Record) (a : UserData) where
 
     indicated : startFits sd r x a ≡ true → Fine start NoFault
     unfolding answered instructed
-    indicated f = by-test (Hands (r .edition) a) (isForward a) _ _ (λ e. arrives s v e) (λ e. handed-hands _ _ _ refl (start-body (starts x f e)))
+    indicated f = by-test (Hands (r .edition) a) (isForward a) _ _ (λ e. arrives s v e)
+        (λ e. handed-hands _ _ _ refl (start-body (starts x f e)))
 
     indication-fine : Fine start (indicationFault sd r x s q a)
     unfolding isFault indicationFault
@@ -189,13 +195,16 @@ module _ (sd : Side) (r : Record) (a : UserData) where
     response-fine =
         by-test (Fine confirmation) (turnedAway x o) _ _ (λ e. fault confirmation TurnedAway refl)
         (λ e. by-test (Fine confirmation) (differs (secures (r .edition)) s (r .request)) _ _ (λ f. fault confirmation (Security (eqb x accepted)) refl)
-        (λ f. by-test (Fine confirmation) (eqb x accepted) _ _ (λ g. pdu-fine confirmation false false true true NoFault (λ h. never (both-right (isMissing a) false h)) (λ h. never h)) (λ g. pdu-fine confirmation false (isResponse a) false true NoFault (λ h. never (both-right (isMissing a) false h)) of-response)))
+        (λ f. by-test (Fine confirmation) (eqb x accepted) _ _ (λ g. pdu-fine confirmation false false true true NoFault
+        (λ h. never (both-right (isMissing a) false h)) (λ h. never h)) (λ g. pdu-fine confirmation false
+        (isResponse a) false true NoFault (λ h. never (both-right (isMissing a) false h)) of-response)))
 
     confirmation-fine : Fine confirmation (confirmationFault sd r x o s a)
     unfolding isFault confirmationFault
     confirmation-fine =
         by-test (Fine confirmation) (not (expects sd (r .control) (DStartCnf (replyOf x)))) _ _
-        (λ e. by-test (Fine confirmation) (awaitsResponse (r .control)) _ _ (λ f. response-fine) (λ f. fault confirmation (NoInstruction true) refl))
+        (λ e. by-test (Fine confirmation) (awaitsResponse (r .control)) _ _ (λ f. response-fine)
+        (λ f. fault confirmation (NoInstruction true) refl))
         (λ e. by-test (Fine confirmation) (turnedAway x o) _ _ (λ f. fault confirmation TurnedAway refl)
         (λ f. by-test (Fine confirmation) (differs (secures (r .edition)) s (r .request)) _ _ (λ g. fault confirmation (Security (eqb x accepted)) refl)
         (λ g. pdu-fine confirmation (spares (r .edition)) (sendAllowed (spares (r .edition)) (eqb x accepted) a) (eqb x accepted) true NoFault of-none
@@ -205,9 +214,12 @@ module _ (sd : Side) (r : Record) (a : UserData) where
   unfolding firstFault answered instructed closes tell
   first-fine (DStartIndication x s q v) = indication-fine x s q v
   first-fine (DStartConfirmation x o s v) = confirmation-fine x o s v
-  first-fine DDataIndication = send-fine DDataIndication DData false true (λ h. never (both-right (isMissing a) false h)) (λ h. handed-hands _ _ _ refl (send-body h))
-  first-fine DEndIndication = send-fine DEndIndication DEnd (spares (r .edition)) true (λ h. handed-hands _ _ _ refl (none-body h)) (λ h. handed-hands _ _ _ refl (send-body h))
-  first-fine (DEndConfirmation x) = send-fine (DEndConfirmation x) (DEndCnf (replyOf x)) (spares (r .edition)) (not (eqb x accepted)) (λ h. handed-hands _ _ _ refl (none-body h)) (λ h. handed-hands _ _ _ refl (send-body h))
+  first-fine DDataIndication = send-fine DDataIndication DData false true
+      (λ h. never (both-right (isMissing a) false h)) (λ h. handed-hands _ _ _ refl (send-body h))
+  first-fine DEndIndication = send-fine DEndIndication DEnd (spares (r .edition)) true
+      (λ h. handed-hands _ _ _ refl (none-body h)) (λ h. handed-hands _ _ _ refl (send-body h))
+  first-fine (DEndConfirmation x) = send-fine (DEndConfirmation x) (DEndCnf (replyOf x)) (spares (r .edition))
+      (not (eqb x accepted)) (λ h. handed-hands _ _ _ refl (none-body h)) (λ h. handed-hands _ _ _ refl (send-body h))
   first-fine (DAbortIndication o) = abort-fine (DAbortIndication o) DAbort (abortFits o a) (quiet-hands (r .edition) a _ (record { told = abort-quiet (r .active) (isUserAbort a) _ _; delivers = refl }))
   first-fine DPAbortIndication = abort-fine DPAbortIndication DPAbort true (quiet-hands (r .edition) a _ (record { told = provider-quiet (r .active) _; delivers = refl }))
 
@@ -227,7 +239,8 @@ excepts-replies r false p s = refl
 
 arrives-replies : (r : Record) (s v : ℕ) → Replies (forwardArrives r s v)
 unfolding forwardArrives responds
-arrives-replies r s v = by-test Replies (not (r .forwards)) _ _ (λ e. refl) (λ e. by-test Replies (eqb v (r .version)) _ _ (λ f. refl) (λ f. refl))
+arrives-replies r s v = by-test Replies (not (r .forwards)) _ _ (λ e. refl)
+    (λ e. by-test Replies (eqb v (r .version)) _ _ (λ f. refl) (λ f. refl))
 
 instructed-replies : (r : Record) (p : ServicePrimitive) (a : UserData) → Replies (instructed r p a)
 unfolding instructed handed closes forwardConfirmed
@@ -297,7 +310,8 @@ called-quiet r (UserAbortServiceRequest g x) = record { told = refl; delivers = 
 
 pub user-given : (sd : Side) (r : Record) (n : ℕ) (u : UserPrimitive) (v : ℕ) → isGiven (numberedStep sd r n (User u) v .apdu) ≡ true
 unfolding numberedStep acts
-user-given sd r n u v = by-test (λ (o : Outcome). isGiven (o .apdu) ≡ true) (isNone (refusalOf sd r n (User u) v)) _ _ (λ e. called-given r u) (λ e. refl)
+user-given sd r n u v = by-test (λ (o : Outcome). isGiven (o .apdu) ≡ true) (isNone (refusalOf sd r n (User u) v)) _ _
+    (λ e. called-given r u) (λ e. refl)
 
 pub user-quiet : (sd : Side) (r : Record) (n : ℕ) (u : UserPrimitive) (v : ℕ) → Quiet (numberedStep sd r n (User u) v)
 unfolding numberedStep acts
@@ -308,6 +322,10 @@ unfolding numberedStep acts forwardRequest
 forward-quiet sd r n k s v = by-test Quiet (isNone (refusalOf sd r n (Forward k s) v)) _ _ (λ e. record { told = refl; delivers = refl }) (λ e. record { told = refl; delivers = refl })
 
 -- the APDU of a forward request that is taken
-pub forward-sends : (sd : Side) (r : Record) (n k s v : ℕ) → isNone (numberedStep sd r n (Forward k s) v .refusal) ≡ true → numberedStep sd r n (Forward k s) v .apdu ≡ Rattle.machine.specs.declared.event.UserData.the-variants.Forward
+pub forward-sends : (sd : Side) (r : Record) (n k s v : ℕ)
+    → isNone (numberedStep sd r n (Forward k s) v .refusal) ≡ true
+    → numberedStep sd r n (Forward k s) v .apdu ≡ Rattle.machine.specs.declared.event.UserData.the-variants.Forward
 unfolding numberedStep acts forwardRequest
-forward-sends sd r n k s v = by-test (λ (o : Outcome). isNone (o .refusal) ≡ true → o .apdu ≡ Rattle.machine.specs.declared.event.UserData.the-variants.Forward) (isNone (refusalOf sd r n (Forward k s) v)) _ _ (λ e h. refl) (λ e h. never (sym e ∙ h))
+forward-sends sd r n k s v = by-test (λ (o : Outcome). isNone (o .refusal) ≡ true → o .apdu ≡
+    Rattle.machine.specs.declared.event.UserData.the-variants.Forward) (isNone (refusalOf sd r n (Forward k s) v)) _
+    _ (λ e h. refl) (λ e h. never (sym e ∙ h))

@@ -77,7 +77,8 @@ send-place : (t : PduType) (l : List ℕ) (p : ℕ) → Stands l 0 (alternative 
 send-place t l p s = omega (arith, s .place, alternative-length t 3)
 
 start-place : (t : PduType) (m : ℕ) (l : List ℕ) (p : ℕ) → Stands l 0 (alternative t kind.Start ++ modeBits t m) p → p ≡ startAt t m
-start-place t m l p s = omega (arith, s .place, length-append (alternative t kind.Start) (modeBits t m), alternative-length t 2, mode-length t m)
+start-place t m l p s = omega
+    (arith, s .place, length-append (alternative t kind.Start) (modeBits t m), alternative-length t 2, mode-length t m)
 
 -- ---- a run that stands in the bits l, and is no larger than a buffer
 
@@ -110,7 +111,8 @@ module _ (l : List ℕ) (p next : ℕ) (d : Data) (i : DataIs l p next d) where
   data-run : (m : UserData) → Run l (rootOf m p d)
   unfolding apdu.contentBits
   data-run m =
-      let k : length (bitsN 1 0 ++ rootBits (contentIn l l l d)) ≤ contentMost = content-most (contentIn l l l d) (data-value-fits l l l d (i .placed-fits)) in
+      let k : length (bitsN 1 0 ++ rootBits (contentIn l l l d)) ≤ contentMost = content-most (contentIn l l l d)
+      (data-value-fits l l l d (i .placed-fits)) in
       let a = length-append (bitsN 1 0) (rootBits (contentIn l l l d)) in
       let b = length-bitsN 1 0 in
       let e = data-ends in
@@ -131,7 +133,8 @@ span-run l m x h =
 one-each : (n : ℕ) → bit * n ≡ n
 one-each n = omega arith
 
-message-body : (l : List ℕ) (m : UserData) (p : ℕ) (d : Data) (x : Part) → d .message ≡ x → dataFits l l l d ≡ true → partFits l bit 0 messageMost x ≡ true → Body Plain l m p d
+message-body : (l : List ℕ) (m : UserData) (p : ℕ) (d : Data) (x : Part) → d .message ≡ x → dataFits l l l d ≡ true
+    → partFits l bit 0 messageMost x ≡ true → Body Plain l m p d
 unfolding partFits contentIn partIn bitsIn bitsN
 message-body l m p d part.Absent e h f = record { fits = h; run = rw e (bare-run l m); bits = rw e refl }
 message-body l m p d (part.Given x) e h f = record { fits = h; run = rw e (span-run l m x f); bits = rw (e, one-each (x .count)) refl }
@@ -152,20 +155,26 @@ unfolding dataFits partFits itemsFit
 none-fits li lm lc = rw (le-leb (0 + 1 * 0) (length lc) (omega arith))
 
 module _ (ed : Edition) (l : List ℕ) (o : Outcome) (b : List ℕ) where
-  bare-second : (d : Carried) (x : Arrival) → passes (o .told) ≡ false → o .delivers ≡ false → secondTakes ed l l l d (passes (o .told)) (o .delivers) b ≡ deliveredOf ed l x o b
+  bare-second : (d : Carried) (x : Arrival) → passes (o .told) ≡ false → o .delivers ≡ false
+      → secondTakes ed l l l d (passes (o .told)) (o .delivers) b ≡ deliveredOf ed l x o b
   unfolding secondTakes deliveredOf
   bare-second d x p q = rw (p, q)
 
-  data-second : (d : Carried) (x : Arrival) → dataFits l l l (d .content) ≡ true → contentBits ed (contentIn l l l (d .content)) ≡ ledRun l (leadOf ed) (x .from) (x .count) → passes (o .told) ≡ false → secondTakes ed l l l d (passes (o .told)) (o .delivers) b ≡ deliveredOf ed l x o b
+  data-second : (d : Carried) (x : Arrival) → dataFits l l l (d .content) ≡ true
+      → contentBits ed (contentIn l l l (d .content)) ≡ ledRun l (leadOf ed) (x .from) (x .count)
+      → passes (o .told) ≡ false → secondTakes ed l l l d (passes (o .told)) (o .delivers) b ≡ deliveredOf ed l x o b
   unfolding secondTakes deliveredOf
   data-second d x f e p = rw (p, f, e)
 
-  forward-second : (d : Carried) (x : Arrival) → forwardFits l (d .forward) ≡ true → forwardBits ed (d .forward .heading) (itemsIn l bit (d .forward .message)) ≡ ledRun l 0 (x .from) (x .count) → o .delivers ≡ false → secondTakes ed l l l d (passes (o .told)) (o .delivers) b ≡ deliveredOf ed l x o b
+  forward-second : (d : Carried) (x : Arrival) → forwardFits l (d .forward) ≡ true
+      → forwardBits ed (d .forward .heading) (itemsIn l bit (d .forward .message)) ≡ ledRun l 0 (x .from) (x .count)
+      → o .delivers ≡ false → secondTakes ed l l l d (passes (o .told)) (o .delivers) b ≡ deliveredOf ed l x o b
   unfolding secondTakes deliveredOf
   forward-second d x f e q = rw (q, f, e)
 
 -- without user data, where they may be left out, a message of no bits is delivered
-pub absent-second : (ed : Edition) (l : List ℕ) (o : Outcome) (b : List ℕ) → Hands ed Absent o → secondTakes ed l l l (carriesData noData) (passes (o .told)) (o .delivers) b ≡ deliveredOf ed l (came Absent 0 0) o b
+pub absent-second : (ed : Edition) (l : List ℕ) (o : Outcome) (b : List ℕ) → Hands ed Absent o
+    → secondTakes ed l l l (carriesData noData) (passes (o .told)) (o .delivers) b ≡ deliveredOf ed l (came Absent 0 0) o b
 unfolding contentIn partIn bitsIn bitsN
 absent-second Plain l o b h = data-second Plain l o b (carriesData noData) (came Absent 0 0) (none-fits l l l) refl (no _ (h .forward))
 absent-second Protected l o b h = bare-second Protected l o b (carriesData noData) (came Absent 0 0) (no _ (h .forward)) (no _ (h .body))
@@ -177,30 +186,37 @@ lead-few Protected n e = omega (arith, e)
 
 pub record Handed (ed : Edition) (l : List ℕ) (t : PduType) (y : Decoded) : Type 0 where
   pub run : Run l (arrivalOf ed t y)
-  pub second : (o : Outcome) (b : List ℕ) → Hands ed (meaning y) o → secondTakes ed l l l (carriedBy y) (passes (o .told)) (o .delivers) b ≡ deliveredOf ed l (arrivalOf ed t y) o b
+  pub second : (o : Outcome) (b : List ℕ) → Hands ed (meaning y) o
+      → secondTakes ed l l l (carriedBy y) (passes (o .told)) (o .delivers) b ≡ deliveredOf ed l (arrivalOf ed t y) o b
 
 module _ (t : PduType) (s : List ℕ) where
   bits : Bits (lent s)
   bits = bits-to s allBits
 
   -- a start or a send of type 22
-  start-is : (m : ℕ) (d : Data) (e : reading.apduAt t (lent s) 0 ≡ decoded.Is (is.Start m d)) → DataIs (lent s) (startAt t m) (apdu-read t (lent s) 0 (is.Start m d) bits e .place) d
+  start-is : (m : ℕ) (d : Data) (e : reading.apduAt t (lent s) 0 ≡ decoded.Is (is.Start m d))
+      → DataIs (lent s) (startAt t m) (apdu-read t (lent s) 0 (is.Start m d) bits e .place) d
   start-is m d e =
       let i = apdu-read t (lent s) 0 (is.Start m d) bits e .stands in
-      subst (λ (z : ℕ). DataIs (lent s) z (apdu-read t (lent s) 0 (is.Start m d) bits e .place) d) (start-place t m (lent s) (i .place) (i .lead)) (i .held)
+      subst (λ (z : ℕ). DataIs (lent s) z (apdu-read t (lent s) 0 (is.Start m d) bits e .place) d)
+      (start-place t m (lent s) (i .place) (i .lead)) (i .held)
 
-  send-is : (d : Data) (e : reading.apduAt t (lent s) 0 ≡ decoded.Is (is.Send d)) → DataIs (lent s) (sendAt t) (apdu-read t (lent s) 0 (is.Send d) bits e .place) d
+  send-is : (d : Data) (e : reading.apduAt t (lent s) 0 ≡ decoded.Is (is.Send d))
+      → DataIs (lent s) (sendAt t) (apdu-read t (lent s) 0 (is.Send d) bits e .place) d
   send-is d e =
       let i = apdu-read t (lent s) 0 (is.Send d) bits e .stands in
-      subst (λ (z : ℕ). DataIs (lent s) z (apdu-read t (lent s) 0 (is.Send d) bits e .place) d) (send-place t (lent s) (i .place) (i .lead)) (i .held)
+      subst (λ (z : ℕ). DataIs (lent s) z (apdu-read t (lent s) 0 (is.Send d) bits e .place) d)
+      (send-place t (lent s) (i .place) (i .lead)) (i .held)
 
   protected-is : (a : Apdu) → apduAt Protected t (lent s) ≡ decoded.Is a → reading.apduAt t (lent s) 0 ≡ decoded.Is a
   protected-is a e = sym (apdu-same t (lent s)) ∙ e
 
   -- of either type
-  start-body : (ed : Edition) (u : UserData) (m : ℕ) (d : Data) → apduAt ed t (lent s) ≡ decoded.Is (is.Start m d) → Body ed (lent s) u (startAt t m) d
+  start-body : (ed : Edition) (u : UserData) (m : ℕ) (d : Data) → apduAt ed t (lent s) ≡ decoded.Is (is.Start m d)
+      → Body ed (lent s) u (startAt t m) d
   unfolding apduFits
-  start-body Plain u m d e = plain-body (lent s) u (startAt t m) d (both-right (modeFits t m) (dataFits (lent s) (lent s) (lent s) d) (laws Plain .accepted t (lent s) (is.Start m d) bits e .placed-fits))
+  start-body Plain u m d e = plain-body (lent s) u (startAt t m) d (both-right (modeFits t m)
+      (dataFits (lent s) (lent s) (lent s) d) (laws Plain .accepted t (lent s) (is.Start m d) bits e .placed-fits))
   start-body Protected u m d e = root-body (lent s) (startAt t m) _ d (start-is m d (protected-is (is.Start m d) e)) u
 
   send-body : (ed : Edition) (u : UserData) (d : Data) → apduAt ed t (lent s) ≡ decoded.Is (is.Send d) → Body ed (lent s) u (sendAt t) d
@@ -226,17 +242,20 @@ module _ (t : PduType) (s : List ℕ) where
     read-handed (decoded.Is (is.ForwardResponse x)) e = record { run = bare-run (lent s) _; second = λ o b h. bare-second ed (lent s) o b _ _ (no _ (h .forward)) (no _ (h .body)) }
 
   -- places of what was read are numbers of the machine
-  start-ends : (m : ℕ) (d : Data) → reading.apduAt t (lent s) 0 ≡ decoded.Is (is.Start m d) → (startAt t m + 1 ≤ d .check .at + d .check .count) × (d .check .at + d .check .count < 2 ^ 64)
+  start-ends : (m : ℕ) (d : Data) → reading.apduAt t (lent s) 0 ≡ decoded.Is (is.Start m d)
+      → (startAt t m + 1 ≤ d .check .at + d .check .count) × (d .check .at + d .check .count < 2 ^ 64)
   start-ends m d e =
       let k = data-ends (lent s) (startAt t m) _ d (start-is m d e) in
       (k .0, omega (arith, k .1, length-to s allBits))
 
-  send-ends : (d : Data) → reading.apduAt t (lent s) 0 ≡ decoded.Is (is.Send d) → (sendAt t + 1 ≤ d .check .at + d .check .count) × (d .check .at + d .check .count < 2 ^ 64)
+  send-ends : (d : Data) → reading.apduAt t (lent s) 0 ≡ decoded.Is (is.Send d)
+      → (sendAt t + 1 ≤ d .check .at + d .check .count) × (d .check .at + d .check .count < 2 ^ 64)
   send-ends d e =
       let k = data-ends (lent s) (sendAt t) _ d (send-is d e) in
       (k .0, omega (arith, k .1, length-to s allBits))
 
-  forward-ends : (ed : Edition) (f : Forwarded) → apduAt ed t (lent s) ≡ decoded.Is (is.Forward f) → (4 ≤ f .message .at + f .message .count) × (f .message .at + f .message .count < 2 ^ 64)
+  forward-ends : (ed : Edition) (f : Forwarded) → apduAt ed t (lent s) ≡ decoded.Is (is.Forward f)
+      → (4 ≤ f .message .at + f .message .count) × (f .message .at + f .message .count < 2 ^ 64)
   forward-ends ed f e =
       let i = laws ed .forward-run t (lent s) f bits e in
       (i .from, omega (arith, i .within, length-to s allBits))
@@ -259,7 +278,8 @@ module _ (P : Decoded → Type 0) (k : (r : ℕ) → P (decoded.Is (is.AbortProv
   or-by (decoded.Refused r) (decoded.Is a) q = abort-by (decoded.Refused r) a q
   or-by (decoded.Refused r) (decoded.Refused z) q = q
 
-  read-by : (ed : Edition) (sd : Side) (c : Control) (p : ServicePrimitive) (l : List ℕ) → P (apduAt ed (readsAs sd c p) l) → P (readPdu ed sd c p l)
+  read-by : (ed : Edition) (sd : Side) (c : Control) (p : ServicePrimitive) (l : List ℕ)
+      → P (apduAt ed (readsAs sd c p) l) → P (readPdu ed sd c p l)
   unfolding readPdu
   read-by ed sd c p l h = by-test P (readsAgain sd p) _ _ (λ e. or-by (apduAt ed (readsAs sd c p) l) (apduAt ed GroundPdus l) h) (λ e. h)
 
@@ -267,8 +287,10 @@ abort-handed : (ed : Edition) (l : List ℕ) (t : PduType) (r : ℕ) → Handed 
 unfolding arrivalOf meaning
 abort-handed ed l t r = record { run = bare-run l _; second = λ o b h. bare-second ed l o b _ _ (no _ (h .forward)) (no _ (h .body)) }
 
-pub pdu-handed : (ed : Edition) (sd : Side) (c : Control) (p : ServicePrimitive) (s : List ℕ) → Handed ed (lent s) (readsAs sd c p) (readPdu ed sd c p (lent s))
-pdu-handed ed sd c p s = read-by (Handed ed (lent s) (readsAs sd c p)) (abort-handed ed (lent s) (readsAs sd c p)) ed sd c p (lent s) (read-handed (readsAs sd c p) s ed (apduAt ed (readsAs sd c p) (lent s)) refl)
+pub pdu-handed : (ed : Edition) (sd : Side) (c : Control) (p : ServicePrimitive) (s : List ℕ)
+    → Handed ed (lent s) (readsAs sd c p) (readPdu ed sd c p (lent s))
+pdu-handed ed sd c p s = read-by (Handed ed (lent s) (readsAs sd c p)) (abort-handed ed (lent s) (readsAs sd c p)) ed sd
+    c p (lent s) (read-handed (readsAs sd c p) s ed (apduAt ed (readsAs sd c p) (lent s)) refl)
 
 body-pdu : (ed : Edition) (m : UserData) (p : ℕ) (d : Data) → bodyOf ed m p d .pdu ≡ m
 body-pdu Plain m p d = go (d .message) refl
@@ -313,11 +335,13 @@ again-same ed t (decoded.Is (is.ForwardResponse n)) y = refl
 again-same ed t (decoded.Refused r) (decoded.Is a) = again-of ed t (decoded.Refused r) a
 again-same ed t (decoded.Refused r) (decoded.Refused z) = refl
 
-pub arrived-run : (ed : Edition) (sd : Side) (c : Control) (p : ServicePrimitive) (g : ℕ) (s : List ℕ) → Run (lent s) (arrived ed sd c p g (lent s))
+pub arrived-run : (ed : Edition) (sd : Side) (c : Control) (p : ServicePrimitive) (g : ℕ) (s : List ℕ)
+    → Run (lent s) (arrived ed sd c p g (lent s))
 unfolding arrived
 arrived-run ed sd c p g s = by-test (Run (lent s)) (eqb g 1) _ _ (λ e. pdu-handed ed sd c p s .run) (λ e. bare-run (lent s) _)
 
-pub stands-there : (ed : Edition) (sd : Side) (c : Control) (p : ServicePrimitive) (g : ℕ) (s : List ℕ) (x : Arrival) → x ≡ arrived ed sd c p g (lent s) → (x .from + x .count ≤ length (lent s)) × (x .count + 8 ≤ 8 * bufferLeast)
+pub stands-there : (ed : Edition) (sd : Side) (c : Control) (p : ServicePrimitive) (g : ℕ) (s : List ℕ) (x : Arrival)
+    → x ≡ arrived ed sd c p g (lent s) → (x .from + x .count ≤ length (lent s)) × (x .count + 8 ≤ 8 * bufferLeast)
 stands-there ed sd c p g s x e =
     let k : Run (lent s) x = rw e (arrived-run ed sd c p g s) in
     (k .there, k .few)
@@ -331,17 +355,20 @@ module _ (ed : Edition) (t : PduType) (s : List ℕ) (y : Decoded) (a : Apdu) (e
   was-protected : (z : Apdu) → a ≡ z → ed ≡ Protected → reading.apduAt t (lent s) 0 ≡ decoded.Is z
   was-protected z e q = protected-is t s z (subst (λ (x : Edition). apduAt x t (lent s) ≡ decoded.Is z) q (was-read z e))
 
-  pub start-needs : (m : ℕ) (d : Data) (at : ℕ) → at ≡ startAt t m → a ≡ is.Start m d → ed ≡ Protected → (at + 1 ≤ d .check .at + d .check .count) × (d .check .at + d .check .count < 2 ^ 64)
+  pub start-needs : (m : ℕ) (d : Data) (at : ℕ) → at ≡ startAt t m → a ≡ is.Start m d → ed ≡ Protected
+      → (at + 1 ≤ d .check .at + d .check .count) × (d .check .at + d .check .count < 2 ^ 64)
   start-needs m d at p e q =
       let k = start-ends t s m d (was-protected (is.Start m d) e q) in
       (omega (arith, p, k .0), k .1)
 
-  pub send-needs : (d : Data) (at : ℕ) → at ≡ sendAt t → a ≡ is.Send d → ed ≡ Protected → (at + 1 ≤ d .check .at + d .check .count) × (d .check .at + d .check .count < 2 ^ 64)
+  pub send-needs : (d : Data) (at : ℕ) → at ≡ sendAt t → a ≡ is.Send d → ed ≡ Protected
+      → (at + 1 ≤ d .check .at + d .check .count) × (d .check .at + d .check .count < 2 ^ 64)
   send-needs d at p e q =
       let k = send-ends t s d (was-protected (is.Send d) e q) in
       (omega (arith, p, k .0), k .1)
 
-  pub forward-needs : (f : Forwarded) → a ≡ is.Forward f → (4 ≤ f .message .at + f .message .count) × (f .message .at + f .message .count < 2 ^ 64)
+  pub forward-needs : (f : Forwarded) → a ≡ is.Forward f
+      → (4 ≤ f .message .at + f .message .count) × (f .message .at + f .message .count < 2 ^ 64)
   forward-needs f e = forward-ends t s ed f (was-read (is.Forward f) e)
 
   pub says : (z : Apdu) (x : Arrival) → a ≡ z → x ≡ arrivalOf ed t (decoded.Is z) → x ≡ arrivalOf ed t (apduAt ed t (lent s))
@@ -359,4 +386,5 @@ module _ (ed : Edition) (sd : Side) (c : Control) (p : ServicePrimitive) (g : �
 
     pub read-twice : q ≡ true → (z : Arrival) → z ≡ orAgain x (apduAt ed GroundPdus l) → z ≡ arrived ed sd c p g l
     unfolding arrived readPdu
-    read-twice k z e = e ∙ ap (λ (w : Arrival). orAgain w (apduAt ed GroundPdus l)) ex ∙ again-same ed t (apduAt ed t l) (apduAt ed GroundPdus l) ∙ rw (et, h, ← eq, k)
+    read-twice k z e = e ∙ ap (λ (w : Arrival). orAgain w (apduAt ed GroundPdus l)) ex ∙ again-same ed t
+        (apduAt ed t l) (apduAt ed GroundPdus l) ∙ rw (et, h, ← eq, k)

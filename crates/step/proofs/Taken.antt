@@ -232,7 +232,8 @@ module _ (sd : Side) (r : Record) (k : Coded r) (w : awaitsResponse (r .control)
   unfolding closes enter
   closed-fits t q z = record { coded = record { request = k .request; policy = k .policy; least = k .least; most = k .most; highest = k .highest }; edition = refl; apdu = (refl, refl); body = refl; sends = λ e f. never f; invokes = refl; roomy = tt; told = rw q; dialogue = refl; plain = z }
 
-  aborted-fits : (p : ℕ) (t : Told) → wholeFits 0 providerLast p ≡ true → quiet t ≡ true → passes t ≡ false → Fit (r .edition) sd (hears a) (aborts r p t)
+  aborted-fits : (p : ℕ) (t : Told) → wholeFits 0 providerLast p ≡ true → quiet t ≡ true → passes t ≡ false
+      → Fit (r .edition) sd (hears a) (aborts r p t)
   unfolding aborts enter
   aborted-fits p t h q z = record { coded = record { request = k .request; policy = k .policy; least = k .least; most = k .most; highest = k .highest }; edition = refl; apdu = h; body = refl; sends = λ e f. never f; invokes = refl; roomy = omega arith; told = rw q; dialogue = refl; plain = z }
 
@@ -251,7 +252,8 @@ module _ (sd : Side) (r : Record) (k : Coded r) (w : awaitsResponse (r .control)
 
   none-fits : (x : Bool) → Fit (r .edition) sd (hears a) (noInstruction r x)
   unfolding noInstruction
-  none-fits x = by-test (Fit (r .edition) sd (hears a)) (isIdle (r .control)) _ _ (λ e. closed-fits Untold refl refl) (λ e. except-fits x _ _ refl)
+  none-fits x = by-test (Fit (r .edition) sd (hears a)) (isIdle (r .control)) _ _ (λ e. closed-fits Untold refl refl)
+      (λ e. except-fits x _ _ refl)
 
   handed-fits : (p : Primitive) (t : Told) → (quiet t || isSend a) ≡ true → passes t ≡ false → Fit (r .edition) sd (hears a) (handed r p t)
   unfolding handed enter
@@ -271,7 +273,9 @@ abort-plain : (a : UserData) → passes (abortTold a) ≡ false
 abort-plain a = by-test (λ (t : Told). passes t ≡ false) (isUserAbort a) _ _ (λ e. refl) (λ e. refl)
 
 module _ (sd : Side) (r : Record) (k : Coded r) (w : awaitsResponse (r .control) ≡ false) where
-  answered-fits : (p : ServicePrimitive) (a : UserData) (f : Fault) → (f ≡ NoFault → Fit (r .edition) sd (hears a) (instructed r p a)) → Fit (r .edition) sd (hears a) (answered r p a f)
+  answered-fits : (p : ServicePrimitive) (a : UserData) (f : Fault)
+      → (f ≡ NoFault → Fit (r .edition) sd (hears a) (instructed r p a))
+      → Fit (r .edition) sd (hears a) (answered r p a f)
   unfolding answered
   answered-fits p a NoFault i = i refl
   answered-fits p a (NoInstruction live) i = none-fits sd r k w a live
@@ -287,18 +291,21 @@ module _ (sd : Side) (r : Record) (k : Coded r) (w : awaitsResponse (r .control)
   confirmed-fits a x v = closed-fits sd (withTimer r false) (same-coded r false k .1) w a (ForwardConfirmation x v) refl refl
 
   -- without a fault, what a D-DATA indication tells is with a send
-  instructed-fits : (p : ServicePrimitive) (a : UserData) → JobLow sd (Service p a) → firstFault sd r p a ≡ NoFault → Fit (r .edition) sd (hears a) (instructed r p a)
+  instructed-fits : (p : ServicePrimitive) (a : UserData) → JobLow sd (Service p a) → firstFault sd r p a ≡ NoFault
+      → Fit (r .edition) sd (hears a) (instructed r p a)
   unfolding instructed firstFault
   instructed-fits (DStartIndication x s q v) a b e =
       let i = start-there sd r x s q a e in
       by-test (Fit (r .edition) sd (hears a)) (isForward a) _ _ (λ y. never (sym b ∙ forward-ground sd r x a (i .fits) y))
       (λ n. handed-fits sd (withUser r true) (same-coded r true k .0) w a (DStart (modeOf a)) _ refl refl)
   instructed-fits (DStartConfirmation x o s v) a b e =
-      by-test (Fit (r .edition) sd (hears a)) (isResponse a) _ _ (λ y. confirmed-fits a (reasonOf a) v) (λ n. handed-fits sd (withTimer r false) (same-coded r false k .1) w a (DStartCnf (replyOf x)) _ refl refl)
+      by-test (Fit (r .edition) sd (hears a)) (isResponse a) _ _ (λ y. confirmed-fits a (reasonOf a) v)
+      (λ n. handed-fits sd (withTimer r false) (same-coded r false k .1) w a (DStartCnf (replyOf x)) _ refl refl)
   instructed-fits DDataIndication a b e = handed-fits sd r k w a DData MessageIndication (send-there sd r DData true a e) refl
   instructed-fits DEndIndication a b e = handed-fits sd r k w a DEnd _ refl refl
   instructed-fits (DEndConfirmation x) a b e = handed-fits sd r k w a (DEndCnf (replyOf x)) _ refl refl
-  instructed-fits (DAbortIndication o) a b e = closed-fits sd r k w a _ (tell-quiet sd r k w a (abortTold a) (abort-quiet a)) (tell-plain sd r k w a (abortTold a) (abort-plain a))
+  instructed-fits (DAbortIndication o) a b e = closed-fits sd r k w a _
+      (tell-quiet sd r k w a (abortTold a) (abort-quiet a)) (tell-plain sd r k w a (abortTold a) (abort-plain a))
   instructed-fits DPAbortIndication a b e = closed-fits sd r k w a _ (tell-quiet sd r k w a _ refl) (tell-plain sd r k w a _ refl)
 
   reached-fits : (p : ServicePrimitive) (a : UserData) → JobLow sd (Service p a) → Fit (r .edition) sd (hears a) (reached sd r p a)
@@ -343,53 +350,73 @@ module _ (sd : Side) (r : Record) (k : Coded r) (w : awaitsResponse (r .control)
   message-there true j e = refl
   message-there false j e = never e
 
-  sent-fits : (q : Record) (c : Call) (i : Invoked) (a : UserData) (m h : Bool) → Coded q → q .edition ≡ r .edition → awaitsResponse (q .control) ≡ false → GoesOut (r .edition) true sd i a → (spares (r .edition) ≡ true → isSend a ≡ true → h ≡ true) → isDData i ≡ m → Roomy i
+  sent-fits : (q : Record) (c : Call) (i : Invoked) (a : UserData) (m h : Bool) → Coded q → q .edition ≡ r .edition
+      → awaitsResponse (q .control) ≡ false → GoesOut (r .edition) true sd i a
+      → (spares (r .edition) ≡ true → isSend a ≡ true → h ≡ true) → isDData i ≡ m → Roomy i
       → Fit (r .edition) sd (asks (withBody a) m h) (sent q c i a)
   unfolding sent enter
   sent-fits q c i a m h kq ed z g s d n = record { coded = record { request = kq .request; policy = kq .policy; least = kq .least; most = kq .most; highest = kq .highest }; edition = ed; apdu = g; body = refl; sends = s; invokes = d; roomy = n; told = refl; dialogue = goes-awaits (q .control) c z; plain = refl }
 
-  called-fits : (u : UserPrimitive) → userFits sd (r .edition) u ≡ true → takes sd (r .control) (callOf u) ≡ true → isNone (unsent (r .highest) u) ≡ true → JobLow sd (User u) → Fit (r .edition) sd (brings (r .edition) (User u)) (called r u)
+  called-fits : (u : UserPrimitive) → userFits sd (r .edition) u ≡ true → takes sd (r .control) (callOf u) ≡ true
+      → isNone (unsent (r .highest) u) ≡ true → JobLow sd (User u)
+      → Fit (r .edition) sd (brings (r .edition) (User u)) (called r u)
   unfolding called callOf unsent userFits startRequest startResponse messageRequest endRequest endResponse userAbort
   called-fits (StartServiceRequest m c s) h t n j =
       let codes = both-right (hasMode sd m) (ltb c routingClasses && ltb s securityValues) h in
       let hc = ltb-true c routingClasses (both-left (ltb c routingClasses) (ltb s securityValues) codes) in
-      let hs = security-low (secures (r .edition)) s (ltb-true s securityValues (both-right (ltb c routingClasses) (ltb s securityValues) codes)) in
+      let hs = security-low (secures (r .edition)) s
+      (ltb-true s securityValues (both-right (ltb c routingClasses) (ltb s securityValues) codes)) in
       sent-fits (withRequest (withUser (withTimer r true) true) (securitySent (secures (r .edition)) s)) (StartRequest (isDsc m)) _ _ false false (record { request = hs; policy = k .policy; least = k .least; most = k .most; highest = k .highest }) refl w (start-writable sd (isDsc m) (isIdle (r .control)) t) (λ e f. never f) refl (refl, omega arith, hs)
   called-fits (StartServiceResponse m x g) h t n j =
       let hx = ltb-true x results (both-right (not (spares (r .edition) && (eqb x accepted && g))) (ltb x results) h) in
       let hp = security-low (secures (r .edition)) (r .policy) (k .policy) in
-      sent-fits r (StartResponse m (replyOf x)) _ _ false g k refl w (spared-writable (r .edition) g) (spared-sends (r .edition) g) refl (omega arith, hp)
+      sent-fits r (StartResponse m (replyOf x)) _ _ false g k refl w (spared-writable (r .edition) g)
+      (spared-sends (r .edition) g) refl (omega arith, hp)
   called-fits (MessageServiceRequest b i) h t n j = sent-fits (withJob r i) MessageRequest _ _ true b (record { request = k .request; policy = k .policy; least = k .least; most = k .most; highest = j }) refl w refl (λ e f. message-there b i n) refl tt
-  called-fits (EndServiceRequest m g) h t n j = sent-fits r (EndRequest m) _ _ false g k refl w (spared-writable (r .edition) g) (spared-sends (r .edition) g) refl tt
+  called-fits (EndServiceRequest m g) h t n j = sent-fits r (EndRequest m) _ _ false g k refl w
+      (spared-writable (r .edition) g) (spared-sends (r .edition) g) refl tt
   called-fits (EndServiceResponse m x g) h t n j =
       let hx = ltb-true x results h in
-      sent-fits r (EndResponse m (replyOf x)) _ _ false g k refl w (spared-writable (r .edition) g) (spared-sends (r .edition) g) refl (omega arith)
+      sent-fits r (EndResponse m (replyOf x)) _ _ false g k refl w (spared-writable (r .edition) g)
+      (spared-sends (r .edition) g) refl (omega arith)
   called-fits (UserAbortServiceRequest g x) h t n j =
       let hx = reason-low (r .edition) g x (ltb-true x (userReasons (r .edition)) h) in
-      sent-fits r UserAbort _ _ false false k refl w (rw (le-leb 0 (reasonSent g x) (omega arith), le-leb (reasonSent g x) (userLast (r .edition)) hx)) (λ e f. never f) refl (omega arith)
+      sent-fits r UserAbort _ _ false false k refl w
+      (rw (le-leb 0 (reasonSent g x) (omega arith), le-leb (reasonSent g x) (userLast (r .edition)) hx))
+      (λ e f. never f) refl (omega arith)
 
-  acts-fits : (e : Event) → eventFits sd (r .edition) e ≡ true → permitted sd r e ≡ true → isNone (messageRefusal r e) ≡ true → JobLow sd e → Fit (r .edition) sd (brings (r .edition) e) (acts sd r e)
+  acts-fits : (e : Event) → eventFits sd (r .edition) e ≡ true → permitted sd r e ≡ true
+      → isNone (messageRefusal r e) ≡ true → JobLow sd e → Fit (r .edition) sd (brings (r .edition) e) (acts sd r e)
   unfolding acts eventFits permitted messageRefusal timerExpires systemError
   acts-fits (User u) h t n j = called-fits u h t n j
   acts-fits (ForwardRequested c s) h t n j = absurd j
   acts-fits (Service p a) h t n j = reached-fits p a j
   acts-fits TimerExpires h t n j = except-fits sd r k w Absent true _ _ refl
-  acts-fits UnrecoverableSystemError h t n j = by-test (Fit (r .edition) sd (hears Absent)) (isIdle (r .control)) _ _ (λ e. closed-fits sd r k w Absent Untold refl refl) (λ e. except-fits sd r k w Absent true _ _ refl)
+  acts-fits UnrecoverableSystemError h t n j = by-test (Fit (r .edition) sd (hears Absent)) (isIdle (r .control)) _ _
+      (λ e. closed-fits sd r k w Absent Untold refl refl) (λ e. except-fits sd r k w Absent true _ _ refl)
 
   -- whatever is taken
-  pub step-fits : (e : Event) → JobLow sd e → isNone (step sd r e .refusal) ≡ true → Fit (r .edition) sd (brings (r .edition) e) (step sd r e)
+  pub step-fits : (e : Event) → JobLow sd e → isNone (step sd r e .refusal) ≡ true
+      → Fit (r .edition) sd (brings (r .edition) e) (step sd r e)
   unfolding step refusalOf
   step-fits e j n = go (isNone (refusalOf sd r e)) refl n
     where
-      go : (b : Bool) → isNone (refusalOf sd r e) ≡ b → isNone (cond b (acts sd r e) (refused (refusalOf sd r e) r) .refusal) ≡ true → Fit (r .edition) sd (brings (r .edition) e) (cond b (acts sd r e) (refused (refusalOf sd r e) r))
+      go : (b : Bool) → isNone (refusalOf sd r e) ≡ b
+          → isNone (cond b (acts sd r e) (refused (refusalOf sd r e) r) .refusal) ≡ true
+          → Fit (r .edition) sd (brings (r .edition) e) (cond b (acts sd r e) (refused (refusalOf sd r e) r))
       go true q n =
-          let v = not-refused (eventFits sd (r .edition) e) (permitted sd r e) (messageRefusal r e) q in acts-fits e (v .0) (v .1 .0) (v .1 .1) j
+          let v = not-refused (eventFits sd (r .edition) e) (permitted sd r e) (messageRefusal r e) q in acts-fits e
+          (v .0) (v .1 .0) (v .1 .1) j
       go false q n = never (sym q ∙ n)
 
   -- with a dialogue number
-  pub numbered-fits : (n : ℕ) (e : Event) (v : ℕ) → JobLow sd e → isNone (numberedStep sd r n e v .refusal) ≡ true → Fit (r .edition) sd (brings (r .edition) e) (numberedStep sd r n e v)
-  numbered-fits n e v j = subst (λ (o : Outcome). isNone (o .refusal) ≡ true → Fit (r .edition) sd (brings (r .edition) e) o) (sym (numbered-is sd r n e v)) (go (eventFits sd (r .edition) e && isStale n e v))
+  pub numbered-fits : (n : ℕ) (e : Event) (v : ℕ) → JobLow sd e → isNone (numberedStep sd r n e v .refusal) ≡ true
+      → Fit (r .edition) sd (brings (r .edition) e) (numberedStep sd r n e v)
+  numbered-fits n e v j = subst
+      (λ (o : Outcome). isNone (o .refusal) ≡ true → Fit (r .edition) sd (brings (r .edition) e) o)
+      (sym (numbered-is sd r n e v)) (go (eventFits sd (r .edition) e && isStale n e v))
     where
-      go : (t : Bool) → isNone (cond t (refused Stale r) (step sd r e) .refusal) ≡ true → Fit (r .edition) sd (brings (r .edition) e) (cond t (refused Stale r) (step sd r e))
+      go : (t : Bool) → isNone (cond t (refused Stale r) (step sd r e) .refusal) ≡ true
+          → Fit (r .edition) sd (brings (r .edition) e) (cond t (refused Stale r) (step sd r e))
       go true x = never x
       go false x = step-fits e j x

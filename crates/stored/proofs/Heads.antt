@@ -19,7 +19,9 @@ use Rattle.bits.proofs.Copying.{put-byte}
 pub head-start : (d a : List ℕ) → putBits d (8 * 0) (bitsOf (drop 0 a)) ≡ putBits d 0 (bitsOf a)
 head-start d a = refl
 
-pub head-turn : (d z a : List ℕ) (i : ℕ) → Bytes a → i < length a → i < length d → putBits d (8 * i) (bitsOf (drop i a)) ≡ z → putBits (set d i (getD a i 0)) (8 * (i + 1)) (bitsOf (drop (i + 1) a)) ≡ z
+pub head-turn : (d z a : List ℕ) (i : ℕ) → Bytes a → i < length a → i < length d
+    → putBits d (8 * i) (bitsOf (drop i a)) ≡ z
+    → putBits (set d i (getD a i 0)) (8 * (i + 1)) (bitsOf (drop (i + 1) a)) ≡ z
 head-turn d z a i low h g inv =
     let x : ℕ = getD a i 0 in
     let u : 8 * i + 8 ≡ 8 * (i + 1) = omega arith in

@@ -66,7 +66,8 @@ module _ (b : List ℕ) (sized : length b ≡ recordBytes) (t : Bool) (p : t ≡
       unfolding withNumbers
       load-no-number f = rw (loads, ← ps, e, f)
 
-      pub load-is : (n last : ℕ) → s ≡ Number n last → (sd : Side) (x : State) (u : Edition) → sd ≡ sideOf (codeAt b sideByte) → x ≡ stateOf (codeAt b stateByte) → u ≡ editionIn (codeAt b sideByte)
+      pub load-is : (n last : ℕ) → s ≡ Number n last → (sd : Side) (x : State) (u : Edition)
+          → sd ≡ sideOf (codeAt b sideByte) → x ≡ stateOf (codeAt b stateByte) → u ≡ editionIn (codeAt b sideByte)
           → Is sd (record { control = record { state = x; dsc = eqb (codeAt b dscByte) 1 }; timer = eqb (codeAt b timerByte) 1; active = eqb (codeAt b activeByte) 1; highest = h; request = codeAt b requestByte; policy = codeAt b policyByte; forwards = eqb (codeAt b forwardsByte) 1; version = codeAt b versionByte; edition = u }) n ≡ loadAt b
       unfolding withNumbers
       load-is n last f sd x u y z w = rw (loads, ← ps, e, f, y, z, w)
@@ -127,42 +128,63 @@ pub store-long : (b : List ℕ) (sd : Side) (r : Record) (n : ℕ) → (length b
 unfolding storeAt
 store-long b sd r n h = rw (ne-eqb (length b) recordBytes h)
 
-pub store-request : (b : List ℕ) (sd : Side) (r : Record) (n : ℕ) → length b ≡ recordBytes → 2 ≤ r .request → kept false b ≡ storeAt b sd r n
+pub store-request : (b : List ℕ) (sd : Side) (r : Record) (n : ℕ) → length b ≡ recordBytes → 2 ≤ r .request
+    → kept false b ≡ storeAt b sd r n
 unfolding storeAt
 store-request b sd r n h g = rw (eq-eqb (length b) recordBytes h, le-ltb (r .request) 2 g)
 
-pub store-policy : (b : List ℕ) (sd : Side) (r : Record) (n : ℕ) → length b ≡ recordBytes → r .request < 2 → 2 ≤ r .policy → kept false b ≡ storeAt b sd r n
+pub store-policy : (b : List ℕ) (sd : Side) (r : Record) (n : ℕ) → length b ≡ recordBytes → r .request < 2
+    → 2 ≤ r .policy → kept false b ≡ storeAt b sd r n
 unfolding storeAt
 store-policy b sd r n h g k = rw (eq-eqb (length b) recordBytes h, lt-ltb (r .request) 2 g, le-ltb (r .policy) 2 k)
 
-pub store-no-version : (b : List ℕ) (sd : Side) (r : Record) (n : ℕ) → length b ≡ recordBytes → r .request < 2 → r .policy < 2 → r .version < 1 → kept false b ≡ storeAt b sd r n
+pub store-no-version : (b : List ℕ) (sd : Side) (r : Record) (n : ℕ) → length b ≡ recordBytes → r .request < 2
+    → r .policy < 2 → r .version < 1 → kept false b ≡ storeAt b sd r n
 unfolding storeAt
-store-no-version b sd r n h g k v = rw (eq-eqb (length b) recordBytes h, lt-ltb (r .request) 2 g, lt-ltb (r .policy) 2 k, lt-leb 1 (r .version) v)
+store-no-version b sd r n h g k v = rw
+    (eq-eqb (length b) recordBytes h, lt-ltb (r .request) 2 g, lt-ltb (r .policy) 2 k, lt-leb 1 (r .version) v)
 
-pub store-version : (b : List ℕ) (sd : Side) (r : Record) (n : ℕ) → length b ≡ recordBytes → r .request < 2 → r .policy < 2 → 1 ≤ r .version → 256 ≤ r .version → kept false b ≡ storeAt b sd r n
+pub store-version : (b : List ℕ) (sd : Side) (r : Record) (n : ℕ) → length b ≡ recordBytes → r .request < 2
+    → r .policy < 2 → 1 ≤ r .version → 256 ≤ r .version → kept false b ≡ storeAt b sd r n
 unfolding storeAt
-store-version b sd r n h g k l v = rw (eq-eqb (length b) recordBytes h, lt-ltb (r .request) 2 g, lt-ltb (r .policy) 2 k, le-leb 1 (r .version) l, le-ltb (r .version) 256 v)
+store-version b sd r n h g k l v = rw (
+  eq-eqb (length b) recordBytes h,
+  lt-ltb (r .request) 2 g,
+  lt-ltb (r .policy) 2 k,
+  le-leb 1 (r .version) l,
+  le-ltb (r .version) 256 v,
+)
 
 -- the bits of the highest job and of the dialogue number
 abbrev pub wordBits : ℕ → List ℕ
 wordBits v = bitsN 64 v
 
-word-put : (y z : List ℕ) (q : Put) (at v : ℕ) → length y ≡ recordBytes → at + 64 ≤ recordBits → v < 2 ^ 64 → left q z ≡ putNumber y recordBits at 64 v → z ≡ putBits y at (wordBits v)
+word-put : (y z : List ℕ) (q : Put) (at v : ℕ) → length y ≡ recordBytes → at + 64 ≤ recordBits → v < 2 ^ 64
+    → left q z ≡ putNumber y recordBits at 64 v → z ≡ putBits y at (wordBits v)
 unfolding putNumber
 word-put y z q at v n m h f =
     let k : length (bitsTo y recordBits) ≡ recordBits = length-to y recordBits ∙ omega arith in
     let w : length (bitsN 64 v) ≡ 64 = length-bitsN 64 v in
-    ap (λ (o : Left). o .bytes) (f ∙ put-if-yes _ y recordBits at (bitsN 64 v) (lt-ltb v (2 ^ 64) h) ∙ put-fits y recordBits at (bitsN 64 v) (omega arith))
+    ap (λ (o : Left). o .bytes) (f ∙ put-if-yes _ y recordBits at (bitsN 64 v) (lt-ltb v (2 ^ 64) h) ∙ put-fits y
+    recordBits at (bitsN 64 v) (omega arith))
 
 module _ (b y z u : List ℕ) (q s : Put) (sd : Side) (r : Record) (n : ℕ) (sized : length b ≡ recordBytes) (bs : Bytes b) (hc : Coded r) (hn : n < 2 ^ 64) where
   -- three writes are one
-  joined : length (bitsOf (headBytes sd r)) ≡ jobBit → y ≡ putBits b 0 (bitsOf (headBytes sd r)) → z ≡ putBits y jobBit (wordBits (r .highest)) → u ≡ putBits z numberBit (wordBits n) → u ≡ putBits b 0 (bitsOf (headBytes sd r) ++ (wordBits (r .highest) ++ wordBits n))
+  joined : length (bitsOf (headBytes sd r)) ≡ jobBit → y ≡ putBits b 0 (bitsOf (headBytes sd r))
+      → z ≡ putBits y jobBit (wordBits (r .highest)) → u ≡ putBits z numberBit (wordBits n)
+      → u ≡ putBits b 0 (bitsOf (headBytes sd r) ++ (wordBits (r .highest) ++ wordBits n))
   joined l f g h =
-      let i : putBits b 0 (bitsOf (headBytes sd r) ++ (wordBits (r .highest) ++ wordBits n)) ≡ putBits y jobBit (wordBits (r .highest) ++ wordBits n) = put-append (bitsOf (headBytes sd r)) (wordBits (r .highest) ++ wordBits n) b 0 ∙ rw (zero-add, l, f) in
-      let j : putBits y jobBit (wordBits (r .highest) ++ wordBits n) ≡ putBits (putBits y jobBit (wordBits (r .highest))) numberBit (wordBits n) = put-append (wordBits (r .highest)) (wordBits n) y jobBit ∙ rw (length-bitsN 64 (r .highest)) in
+      let i : putBits b 0 (bitsOf (headBytes sd r) ++ (wordBits (r .highest) ++ wordBits n)) ≡ putBits y jobBit
+      (wordBits (r .highest) ++ wordBits n) = put-append (bitsOf (headBytes sd r))
+      (wordBits (r .highest) ++ wordBits n) b 0 ∙ rw (zero-add, l, f) in
+      let j : putBits y jobBit (wordBits (r .highest) ++ wordBits n) ≡ putBits
+      (putBits y jobBit (wordBits (r .highest))) numberBit (wordBits n) = put-append (wordBits (r .highest))
+      (wordBits n) y jobBit ∙ rw (length-bitsN 64 (r .highest)) in
       h ∙ ap (λ (x : List ℕ). putBits x numberBit (wordBits n)) g ∙ sym (i ∙ j)
 
-  pub store-is : y ≡ putBits b 0 (bitsOf (headBytes sd r)) → left q z ≡ putNumber y recordBits jobBit jobBits (r .highest) → left s u ≡ putNumber z recordBits numberBit numberBits n → kept true u ≡ storeAt b sd r n
+  pub store-is : y ≡ putBits b 0 (bitsOf (headBytes sd r))
+      → left q z ≡ putNumber y recordBits jobBit jobBits (r .highest)
+      → left s u ≡ putNumber z recordBits numberBit numberBits n → kept true u ≡ storeAt b sd r n
   unfolding storeAt storedBytes
   store-is f g h =
       let m : length (headBytes sd r) ≡ jobByte = length-head sd r in
@@ -171,10 +193,25 @@ module _ (b y z u : List ℕ) (q s : Put) (sd : Side) (r : Record) (n : ℕ) (si
       let x2 = word-put y z q jobBit (r .highest) n1 (omega arith) (hc .highest) g in
       let n2 : length z ≡ recordBytes = ap length x2 ∙ length-put (wordBits (r .highest)) y jobBit ∙ n1 in
       let x3 = word-put z u s numberBit n n2 (omega arith) hn h in
-      let t : Bits (bitsOf (headBytes sd r) ++ (wordBits (r .highest) ++ wordBits n)) = bits-append (bitsOf (headBytes sd r)) (wordBits (r .highest) ++ wordBits n) (bits-bits (headBytes sd r)) (bits-append (wordBits (r .highest)) (wordBits n) (bits-bitsN 64 (r .highest)) (bits-bitsN 64 n)) in
-      let w : length (bitsOf (headBytes sd r) ++ (wordBits (r .highest) ++ wordBits n)) ≡ 8 * recordBytes = rw (length-append, length-append, l, length-bitsN, length-bitsN) in
-      let i : bytesOf recordBytes (bitsOf (headBytes sd r) ++ (wordBits (r .highest) ++ wordBits n)) ≡ headBytes sd r ++ bytesOf (jobBytes + numberBytes) (wordBits (r .highest) ++ wordBits n) = subst (λ (k : ℕ). bytesOf (k + (jobBytes + numberBytes)) (bitsOf (headBytes sd r) ++ (wordBits (r .highest) ++ wordBits n)) ≡ headBytes sd r ++ bytesOf (jobBytes + numberBytes) (wordBits (r .highest) ++ wordBits n)) m (bytes-of-bits (headBytes sd r) (wordBits (r .highest) ++ wordBits n) (jobBytes + numberBytes) (bytes-head sd r (hc .request) (hc .policy) (hc .most))) in
-      rw (eq-eqb (length b) recordBytes sized, lt-ltb (r .request) 2 (hc .request), lt-ltb (r .policy) 2 (hc .policy), le-leb 1 (r .version) (hc .least), lt-ltb (r .version) 256 (hc .most)) (ap (kept true) (joined l f x2 x3 ∙ put-whole b _ recordBytes bs t sized w ∙ i))
+      let t : Bits (bitsOf (headBytes sd r) ++ (wordBits (r .highest) ++ wordBits n)) = bits-append
+      (bitsOf (headBytes sd r)) (wordBits (r .highest) ++ wordBits n) (bits-bits (headBytes sd r))
+      (bits-append (wordBits (r .highest)) (wordBits n) (bits-bitsN 64 (r .highest)) (bits-bitsN 64 n)) in
+      let w : length (bitsOf (headBytes sd r) ++ (wordBits (r .highest) ++ wordBits n)) ≡ 8 * recordBytes = rw
+      (length-append, length-append, l, length-bitsN, length-bitsN) in
+      let i : bytesOf recordBytes (bitsOf (headBytes sd r) ++ (wordBits (r .highest) ++ wordBits n)) ≡ headBytes sd r ++
+      bytesOf (jobBytes + numberBytes) (wordBits (r .highest) ++ wordBits n) = subst (λ (k : ℕ). bytesOf
+      (k + (jobBytes + numberBytes)) (bitsOf (headBytes sd r) ++ (wordBits (r .highest) ++ wordBits n)) ≡
+      headBytes sd r ++ bytesOf (jobBytes + numberBytes) (wordBits (r .highest) ++ wordBits n)) m (bytes-of-bits
+      (headBytes sd r) (wordBits (r .highest) ++ wordBits n) (jobBytes + numberBytes)
+      (bytes-head sd r (hc .request) (hc .policy) (hc .most))) in
+      rw (
+        eq-eqb (length b) recordBytes sized,
+        lt-ltb (r .request) 2 (hc .request),
+        lt-ltb (r .policy) 2 (hc .policy),
+        le-leb 1 (r .version) (hc .least),
+        lt-ltb (r .version) 256 (hc .most),
+      )
+      (ap (kept true) (joined l f x2 x3 ∙ put-whole b _ recordBytes bs t sized w ∙ i))
 
 -- ---- what was stored is loaded
 
@@ -237,22 +274,29 @@ module _ (sd : Side) (r : Record) (n : ℕ) (hc : Coded r) (hn : n < 2 ^ 64) whe
   stored-bits : bitsOf (storedBytes sd r n) ≡ bitsOf (headBytes sd r) ++ (wordBits (r .highest) ++ wordBits n)
   unfolding storedBytes
   stored-bits =
-      let t : Bits (wordBits (r .highest) ++ wordBits n) = bits-append (wordBits (r .highest)) (wordBits n) (bits-bitsN 64 (r .highest)) (bits-bitsN 64 n) in
-      let w : length (wordBits (r .highest) ++ wordBits n) ≡ 8 * (jobBytes + numberBytes) = rw (length-append, length-bitsN, length-bitsN) in
-      bits-of-append (headBytes sd r) _ ∙ ap (λ (x : List ℕ). bitsOf (headBytes sd r) ++ x) (bits-bytes (jobBytes + numberBytes) (wordBits (r .highest) ++ wordBits n) t w)
+      let t : Bits (wordBits (r .highest) ++ wordBits n) = bits-append (wordBits (r .highest)) (wordBits n)
+      (bits-bitsN 64 (r .highest)) (bits-bitsN 64 n) in
+      let w : length (wordBits (r .highest) ++ wordBits n) ≡ 8 * (jobBytes + numberBytes) = rw
+      (length-append, length-bitsN, length-bitsN) in
+      bits-of-append (headBytes sd r) _ ∙ ap (λ (x : List ℕ). bitsOf (headBytes sd r) ++ x)
+      (bits-bytes (jobBytes + numberBytes) (wordBits (r .highest) ++ wordBits n) t w)
 
   length-head-bits : length (bitsOf (headBytes sd r)) ≡ jobBit
   length-head-bits = length-bits (headBytes sd r) ∙ rw (length-head sd r)
 
   -- v stands behind x and in front of y
-  word-stands : (x y : List ℕ) (at v : ℕ) → bitsOf (storedBytes sd r n) ≡ x ++ (wordBits v ++ y) → length x ≡ at → at + 64 ≤ recordBits → Holds (bitsTo (storedBytes sd r n) recordBits) at (wordBits v)
+  word-stands : (x y : List ℕ) (at v : ℕ) → bitsOf (storedBytes sd r n) ≡ x ++ (wordBits v ++ y) → length x ≡ at
+      → at + 64 ≤ recordBits → Holds (bitsTo (storedBytes sd r n) recordBits) at (wordBits v)
   word-stands x y at v e h m =
       let w : length (wordBits v) ≡ 64 = length-bitsN 64 v in
-      rw w (run-to _ recordBits at 64 (omega arith) ∙ run-is _ at 64 ∙ rw (e, drop-at x (wordBits v ++ y) at h) (take-at (wordBits v) y 64 w))
+      rw w (run-to _ recordBits at 64 (omega arith) ∙ run-is _ at 64 ∙ rw (e, drop-at x (wordBits v ++ y) at h)
+      (take-at (wordBits v) y 64 w))
 
-  word-read : (x y : List ℕ) (at v : ℕ) → bitsOf (storedBytes sd r n) ≡ x ++ (wordBits v ++ y) → length x ≡ at → at + 64 ≤ recordBits → v < 2 ^ 64 → readBits (bitsTo (storedBytes sd r n) recordBits) at 64 ≡ Number v (at + 64)
+  word-read : (x y : List ℕ) (at v : ℕ) → bitsOf (storedBytes sd r n) ≡ x ++ (wordBits v ++ y) → length x ≡ at
+      → at + 64 ≤ recordBits → v < 2 ^ 64 → readBits (bitsTo (storedBytes sd r n) recordBits) at 64 ≡ Number v (at + 64)
   word-read x y at v e h m low =
-      let k : length (bitsTo (storedBytes sd r n) recordBits) ≡ recordBits = length-to (storedBytes sd r n) recordBits ∙ omega (arith, length-stored) in
+      let k : length (bitsTo (storedBytes sd r n) recordBits) ≡ recordBits = length-to (storedBytes sd r n) recordBits ∙
+      omega (arith, length-stored) in
       number-read _ at 64 v (omega arith) low (omega arith) (word-stands x y at v e h m)
 
   job-read : readBits (bitsTo (storedBytes sd r n) recordBits) jobBit jobBits ≡ Number (r .highest) numberBit
@@ -260,13 +304,23 @@ module _ (sd : Side) (r : Record) (n : ℕ) (hc : Coded r) (hn : n < 2 ^ 64) whe
 
   number-back : readBits (bitsTo (storedBytes sd r n) recordBits) numberBit numberBits ≡ Number n recordBits
   number-back =
-      let e : bitsOf (headBytes sd r) ++ (wordBits (r .highest) ++ wordBits n) ≡ (bitsOf (headBytes sd r) ++ wordBits (r .highest)) ++ (wordBits n ++ []) = rw (append-nil, append-assoc) in
+      let e : bitsOf (headBytes sd r) ++ (wordBits (r .highest) ++ wordBits n) ≡
+      (bitsOf (headBytes sd r) ++ wordBits (r .highest)) ++ (wordBits n ++ []) = rw (append-nil, append-assoc) in
       let l : length (bitsOf (headBytes sd r) ++ wordBits (r .highest)) ≡ numberBit = rw (length-append, length-head-bits, length-bitsN) in
       word-read (bitsOf (headBytes sd r) ++ wordBits (r .highest)) [] numberBit n (stored-bits ∙ e) l (omega arith) hn
 
   record-back : withNumbers (storedBytes sd r n) (Number (r .highest) numberBit) (Number n recordBits) ≡ Is sd r n
   unfolding storedBytes headBytes withNumbers
-  record-back = rw (side-back sd (r .edition), edition-back sd (r .edition), state-back (r .control .state), flag-back (r .control .dsc), flag-back (r .timer), flag-back (r .active), flag-back (r .forwards))
+  record-back = rw (
+    side-back sd (r .edition),
+    edition-back sd (r .edition),
+    state-back (r .control .state),
+    flag-back
+        (r .control .dsc),
+    flag-back (r .timer),
+    flag-back (r .active),
+    flag-back (r .forwards),
+  )
 
   pub loaded-stored : loadAt (storedBytes sd r n) ≡ Is sd r n
   unfolding loadAt

@@ -19,7 +19,8 @@ pub record Lawful (sd : Side) (p : Bool) (x : Entry) (q : Bool) : Type 0 where
   pub silent : closingCall sd x ≡ true → abortIndication x ≡ false
 
 -- a refused event is none of what is counted, and keeps the law
-pub refused-uncounted : (sd : Side) (x : Entry) → x .taken ≡ false → (activation sd x ≡ false) × (closing sd x ≡ false) × (closingCall sd x ≡ false) × (abortIndication x ≡ false)
+pub refused-uncounted : (sd : Side) (x : Entry) → x .taken ≡ false
+    → (activation sd x ≡ false) × (closing sd x ≡ false) × (closingCall sd x ≡ false) × (abortIndication x ≡ false)
 refused-uncounted sd x n = (rw n, rw n, rw n, rw n)
 
 pub refused-law : (sd : Side) (p : Bool) (x : Entry) → x .taken ≡ false → Lawful sd p x p
@@ -93,21 +94,47 @@ module _ (sd : Side) (p q : Bool) (l : List Entry) (h : Chain sd p l q) where
   at : (xs ys : List Entry) → l ≡ xs ++ ys → Cut sd p xs ys q
   at xs ys e = cut sd xs ys p q (subst (λ (z : List Entry). Chain sd p z q) e h)
 
-  between-two : (xs zs ys : List Entry) (x y : Entry) → l ≡ xs ++ (x ∷ (zs ++ (y ∷ ys))) → activation sd x ≡ true → activation sd y ≡ true → activations sd zs ≡ 0 → closings sd zs ≡ 1
+  between-two : (xs zs ys : List Entry) (x y : Entry) → l ≡ xs ++ (x ∷ (zs ++ (y ∷ ys))) → activation sd x ≡ true
+      → activation sd y ≡ true → activations sd zs ≡ 0 → closings sd zs ≡ 1
   between-two xs zs ys x y e s t n =
       let a = at xs (x ∷ (zs ++ (y ∷ ys))) e in
       let b = cut sd zs (y ∷ ys) (a .rest .after) q (a .rest .rest) in
       let i = a .rest .law in
       let j = b .rest .law in
-      omega (arith, i .count, b .count, j .count, one-true _ s, one-true _ t, apart-one _ _ (i .apart) s, apart-one _ _ (j .apart) t, n, at-most (a .after), at-most (a .rest .after), at-most (b .after), at-most (b .rest .after))
+      omega (
+        arith,
+        i .count,
+        b .count,
+        j .count,
+        one-true _ s,
+        one-true _ t,
+        apart-one _ _ (i .apart) s,
+        apart-one _ _
+            (j .apart) t,
+        n,
+        at-most (a .after),
+        at-most (a .rest .after),
+        at-most (b .after),
+        at-most
+            (b .rest .after),
+      )
 
-  untold-after : (xs zs ys : List Entry) (x y : Entry) → l ≡ xs ++ (x ∷ (zs ++ (y ∷ ys))) → closingCall sd x ≡ true → activations sd zs ≡ 0 → abortIndication y ≡ false
+  untold-after : (xs zs ys : List Entry) (x y : Entry) → l ≡ xs ++ (x ∷ (zs ++ (y ∷ ys))) → closingCall sd x ≡ true
+      → activations sd zs ≡ 0 → abortIndication y ≡ false
   untold-after xs zs ys x y e s n =
       let a = at xs (x ∷ (zs ++ (y ∷ ys))) e in
       let b = cut sd zs (y ∷ ys) (a .rest .after) q (a .rest .rest) in
       let i = a .rest .law in
       let k = call-closes sd x s in
-      b .rest .law .inactive (is-one (b .after) (omega (arith, i .count, b .count, one-true (closing sd x) k, apart-other (activation sd x) (closing sd x) (i .apart) k, n, at-most (a .after))))
+      b .rest .law .inactive (is-one (b .after) (omega (
+        arith,
+        i .count,
+        b .count,
+        one-true (closing sd x) k,
+        apart-other (activation sd x) (closing sd x) (i .apart) k,
+        n,
+        at-most (a .after),
+      )))
 
 -- from a user who is not active
 pub chain-told-once : (sd : Side) (q : Bool) (l : List Entry) → Chain sd false l q → ToldOnce sd q l

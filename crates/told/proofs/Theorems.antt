@@ -17,7 +17,8 @@ use Rattle.told.proofs.Single.{Runs, event-law, event-runs, numbered-re
 
 -- ---- the theorem
 
-chained : (sd : Side) (bs : List NumberedEvent) (h : End) → Runs sd (h .dialogue) → Chain sd (h .dialogue .active) (history sd h bs) (reaches sd h bs .dialogue .active)
+chained : (sd : Side) (bs : List NumberedEvent) (h : End) → Runs sd (h .dialogue)
+    → Chain sd (h .dialogue .active) (history sd h bs) (reaches sd h bs .dialogue .active)
 unfolding history reaches
 chained sd [] h f = refl
 chained sd (b ∷ bs) h f = record { after = next sd h b .dialogue .active; law = event-law sd h b f; rest = chained sd bs (next sd h b) (event-runs sd h b f) }
@@ -26,8 +27,10 @@ chained sd (b ∷ bs) h f = record { after = next sd h b .dialogue .active; law 
 pub fresh-runs : (sd : Side) (g : Configuration) → Runs sd (freshRecord g)
 fresh-runs sd g = record { formed = fresh-formed g; ground = λ a. refl }
 
-pub told-once : (sd : Side) (g : Configuration) (bs : List NumberedEvent) → ToldOnce sd (reaches sd (fresh g) bs .dialogue .active) (history sd (fresh g) bs)
-told-once sd g bs = chain-told-once sd (reaches sd (fresh g) bs .dialogue .active) (history sd (fresh g) bs) (chained sd bs (fresh g) (fresh-runs sd g))
+pub told-once : (sd : Side) (g : Configuration) (bs : List NumberedEvent)
+    → ToldOnce sd (reaches sd (fresh g) bs .dialogue .active) (history sd (fresh g) bs)
+told-once sd g bs = chain-told-once sd (reaches sd (fresh g) bs .dialogue .active) (history sd (fresh g) bs)
+    (chained sd bs (fresh g) (fresh-runs sd g))
 
 -- ---- "Refused events count as nothing": they change neither the record nor its number, and the history without them counts the same
 
@@ -39,7 +42,9 @@ refused-leaves sd h b n = rw n (ap (λ (r : Record). end r (h .number)) (kept sd
 
 -- an event that is refused may be left out of a sequence, anywhere
 pub left-out : (sd : Side) (b : NumberedEvent) (cs : List NumberedEvent) (h : End) → isNone (outcomeOf sd h b .refusal) ≡ false
-    → (reaches sd h (b ∷ cs) ≡ reaches sd h cs) × (activations sd (history sd h (b ∷ cs)) ≡ activations sd (history sd h cs)) × (closings sd (history sd h (b ∷ cs)) ≡ closings sd (history sd h cs))
+    → (reaches sd h (b ∷ cs) ≡ reaches sd h cs) ×
+    (activations sd (history sd h (b ∷ cs)) ≡ activations sd (history sd h cs)) ×
+    (closings sd (history sd h (b ∷ cs)) ≡ closings sd (history sd h cs))
 unfolding reaches history activations closings
 left-out sd b cs h n =
     let k = refused-leaves sd h b n in

@@ -35,6 +35,10 @@ events =
     record { event = User (StartServiceRequest 0 0 0); number = 6 } ∷ []
 
 -- the start in DIALOGUE is refused, the late D-ABORT tells nobody: two activations, one closing, and active now
-pub told-of-one : (activations Ground (history Ground ground events) ≡ 2) × (closings Ground (history Ground ground events) ≡ 1) × (reaches Ground ground events .dialogue .active ≡ true)
-unfolding activations closings history reaches among begins ends numberedStep refusalOf isStale isStart isService userStarts serviceStarts heldAfter permitted messageRefusal acts eventFits userFits hasMode serviceFits userDataFits qosFits callOf unsent called reached startRequest startResponse endResponse sent enter firstFault indicationFault startFits sendFault abortFault pduFault answered instructed replyOf handed closes aborts excepts noInstruction tell
+pub told-of-one : (activations Ground (history Ground ground events) ≡ 2) ×
+    (closings Ground (history Ground ground events) ≡ 1) × (reaches Ground ground events .dialogue .active ≡ true)
+unfolding activations closings history reaches among begins ends numberedStep refusalOf isStale isStart isService
+    userStarts serviceStarts heldAfter permitted messageRefusal acts eventFits userFits hasMode serviceFits userDataFits
+    qosFits callOf unsent called reached startRequest startResponse endResponse sent enter firstFault indicationFault
+    startFits sendFault abortFault pduFault answered instructed replyOf handed closes aborts excepts noInstruction tell
 told-of-one = (refl, refl, refl)

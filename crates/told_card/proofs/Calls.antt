@@ -60,13 +60,24 @@ flag-low false = omega arith
 told-back : (t : Told) → resultFits t ≡ true → toldItem (toldNumber t) ≡ receiptOf t
 unfolding toldNumber
 told-back Untold h = refl
-told-back (StartIndication m k) h = rw (code-unpacked 1 k (flag m) (omega arith), last-unpacked 1 k (flag m) (omega arith) (flag-low m), flag-back m)
+told-back (StartIndication m k) h = rw
+    (code-unpacked 1 k (flag m) (omega arith), last-unpacked 1 k (flag m) (omega arith) (flag-low m), flag-back m)
 told-back (StartConfirmation m x) h =
-    rw (code-unpacked 2 x (flag m) (omega arith), parameter-unpacked 2 x (flag m) (omega arith) (ltb-true x codes h), last-unpacked 2 x (flag m) (omega arith) (flag-low m), flag-back m)
+    rw (
+      code-unpacked 2 x (flag m) (omega arith),
+      parameter-unpacked 2 x (flag m) (omega arith) (ltb-true x codes h),
+      last-unpacked 2 x (flag m) (omega arith) (flag-low m),
+      flag-back m,
+    )
 told-back MessageIndication h = refl
 told-back (EndIndication m) h = rw (code-unpacked 4 0 (flag m) (omega arith))
 told-back (EndConfirmation m x) h =
-    rw (code-unpacked 5 x (flag m) (omega arith), parameter-unpacked 5 x (flag m) (omega arith) (ltb-true x codes h), last-unpacked 5 x (flag m) (omega arith) (flag-low m), flag-back m)
+    rw (
+      code-unpacked 5 x (flag m) (omega arith),
+      parameter-unpacked 5 x (flag m) (omega arith) (ltb-true x codes h),
+      last-unpacked 5 x (flag m) (omega arith) (flag-low m),
+      flag-back m,
+    )
 told-back (UserAbortIndication x) h = rw (code-unpacked 6 x 0 (omega arith))
 told-back (ProviderAbortIndication x) h = rw (code-unpacked 7 x 0 (omega arith))
 told-back ForwardIndication h = refl
@@ -89,10 +100,18 @@ pub record Bytes (sd : Side) (b : List ℕ) (x : Record) (n : ℕ) : Type 0 wher
   pub low : n < 2 ^ 64
   pub runs : Runs sd x
 
-pub stored : (sd : Side) (r : List ℕ) (x : Record) (n : ℕ) → length r ≡ recordBytes → Coded x → n < 2 ^ 64 → Runs sd x → Bytes sd (storeAt r sd x n .bytes) x n
+pub stored : (sd : Side) (r : List ℕ) (x : Record) (n : ℕ) → length r ≡ recordBytes → Coded x → n < 2 ^ 64 → Runs sd x
+    → Bytes sd (storeAt r sd x n .bytes) x n
 unfolding storeAt
 stored sd r x n h k l f =
-    rw (eq-eqb (length r) recordBytes h, lt-ltb (x .request) securityValues (k .request), lt-ltb (x .policy) securityValues (k .policy), le-leb 1 (x .version) (k .least), lt-ltb (x .version) versions (k .most))
+    rw (
+      eq-eqb (length r) recordBytes h,
+      lt-ltb (x .request) securityValues (k .request),
+      lt-ltb (x .policy)
+          securityValues (k .policy),
+      le-leb 1 (x .version) (k .least),
+      lt-ltb (x .version) versions (k .most),
+    )
     (record { load = loaded-stored sd x n k l; size = length-stored sd x n k l; coded = k; low = l; runs = f })
 
 -- what a call leaves: such bytes, and the law of the entry i with the number that it answered; p: was the user active
@@ -118,7 +137,9 @@ module _ (sd : Side) (r a b : List ℕ) (x : Record) (n : ℕ) (h : Bytes sd r x
   unfolding heldAfter
   held-low e v l = by-test (λ (m : ℕ). m < 2 ^ 64) (isStart e) v n (λ q. l) (λ q. h .low)
 
-  takes : (e : Event) (v : ℕ) (one two : Done) → v < 2 ^ 64 → JobLow e → isNone (numberedStep sd x n e v .refusal) ≡ true → Leaves sd (x .active) (invocationOf e) (finished r a b sd (heldAfter n e v) (numberedStep sd x n e v) one two)
+  takes : (e : Event) (v : ℕ) (one two : Done) → v < 2 ^ 64 → JobLow e
+      → isNone (numberedStep sd x n e v .refusal) ≡ true
+      → Leaves sd (x .active) (invocationOf e) (finished r a b sd (heldAfter n e v) (numberedStep sd x n e v) one two)
   unfolding finished
   takes e v one two l j q =
       let o = numberedStep sd x n e v in
@@ -131,49 +152,63 @@ module _ (sd : Side) (r a b : List ℕ) (x : Record) (n : ℕ) (h : Bytes sd r x
         held = o .next;
         number = heldAfter n e v;
         bytes = stored sd r (o .next) (heldAfter n e v) (h .size) (k .coded) (held-low e v l) (event-runs sd (end x n) (record { event = e; number = v }) (h .runs));
-        law = lawful-as sd (x .active) (isNone (o .refusal)) (isTaken (packed i (toldNumber (o .told)) s g w)) (invocationOf e) (invocationOf e) (receiptOf (o .told)) (toldItem (toldPart (packed i (toldNumber (o .told)) s g w))) (o .next .active)
+        law = lawful-as sd (x .active) (isNone (o .refusal)) (isTaken (packed i (toldNumber (o .told)) s g w))
+            (invocationOf e) (invocationOf e) (receiptOf (o .told))
+            (toldItem (toldPart (packed i (toldNumber (o .told)) s g w))) (o .next .active)
             (q ∙ sym (eq-eqb _ 0 (refusal-unpacked i (toldNumber (o .told)) s g w))) refl
-            (sym (told-back (o .told) (k .result)) ∙ sym (ap toldItem (told-unpacked i (toldNumber (o .told)) s g w (invoked-low (o .invoked)) (told-low (o .told)))))
+            (sym (told-back (o .told) (k .result)) ∙ sym (ap toldItem
+            (told-unpacked i (toldNumber (o .told)) s g w (invoked-low (o .invoked)) (told-low (o .told)))))
             (event-law sd (end x n) (record { event = e; number = v }) (h .runs));
       }
 
   -- an event that brings the dialogue number v
-  event-leaves : (e : Event) (v : ℕ) (li lm lc : List ℕ) (d : Carried) → v < 2 ^ 64 → JobLow e → Leaves sd (x .active) (invocationOf e) (eventStep numberedStep r a b e v li lm lc d sd x n)
+  event-leaves : (e : Event) (v : ℕ) (li lm lc : List ℕ) (d : Carried) → v < 2 ^ 64 → JobLow e
+      → Leaves sd (x .active) (invocationOf e) (eventStep numberedStep r a b e v li lm lc d sd x n)
   unfolding concluded
   event-leaves e v li lm lc d l j =
       by-test (Leaves sd (x .active) (invocationOf e)) (isNone (numberedStep sd x n e v .refusal)) _ _ (takes e v _ _ l j)
-      (λ q. refuses (invocationOf e) (refusalNumber (numberedStep sd x n e v .refusal)) (refusal-untaken (numberedStep sd x n e v .refusal) q))
+      (λ q. refuses (invocationOf e) (refusalNumber (numberedStep sd x n e v .refusal))
+      (refusal-untaken (numberedStep sd x n e v .refusal) q))
 
-  entering-leaves : (i : Item) (k : Side → Record → ℕ → Called) → Leaves sd (x .active) i (k sd x n) → Leaves sd (x .active) i (entering r a b k)
+  entering-leaves : (i : Item) (k : Side → Record → ℕ → Called) → Leaves sd (x .active) i (k sd x n)
+      → Leaves sd (x .active) i (entering r a b k)
   unfolding entering withRecord
   entering-leaves i k f =
       by-test (Leaves sd (x .active) i) (ltb (length a) bufferLeast) _ _ (λ e. refuses i room refl)
       (λ e. by-test (Leaves sd (x .active) i) (ltb (length b) bufferLeast) _ _ (λ g. refuses i room refl)
       (λ g. subst (λ (z : Loaded). Leaves sd (x .active) i (withRecord r a b z k)) (sym (h .load)) f))
 
-  user-leaves : (e : Event) (v : ℕ) (ids msgs checks : List ℕ) (d : Data) → v < 2 ^ 64 → JobLow e → Leaves sd (x .active) (invocationOf e) (userCall r a b e v ids msgs checks d)
+  user-leaves : (e : Event) (v : ℕ) (ids msgs checks : List ℕ) (d : Data) → v < 2 ^ 64 → JobLow e
+      → Leaves sd (x .active) (invocationOf e) (userCall r a b e v ids msgs checks d)
   unfolding userBy userStep
   user-leaves e v ids msgs checks d l j =
       entering-leaves (invocationOf e) (userStep numberedStep r a b e v (lent ids) (lent msgs) (lent checks) d)
-      (by-test (Leaves sd (x .active) (invocationOf e)) (givenFits (x .edition) (pdusOf sd) (lent ids) (lent msgs) (lent checks) d) _ _ (λ q. event-leaves e v _ _ _ _ l j) (λ q. refuses (invocationOf e) shape refl))
+      (by-test (Leaves sd (x .active) (invocationOf e))
+      (givenFits (x .edition) (pdusOf sd) (lent ids) (lent msgs) (lent checks) d) _ _
+      (λ q. event-leaves e v _ _ _ _ l j) (λ q. refuses (invocationOf e) shape refl))
 
-  forward-leaves : (k s v : ℕ) (msgs : List ℕ) (f : Forwarded) → v < 2 ^ 64 → Leaves sd (x .active) (invocationOf (Forward k s)) (forwardCall r a b k s v msgs f)
+  forward-leaves : (k s v : ℕ) (msgs : List ℕ) (f : Forwarded) → v < 2 ^ 64
+      → Leaves sd (x .active) (invocationOf (Forward k s)) (forwardCall r a b k s v msgs f)
   unfolding forwardBy forwardStep
   forward-leaves k s v msgs f l =
       entering-leaves (invocationOf (Forward k s)) (forwardStep numberedStep r a b k s v (lent msgs) f)
-      (by-test (Leaves sd (x .active) (invocationOf (Forward k s))) (forwardGivenFits (x .edition) (lent msgs) f) _ _ (λ q. event-leaves (Forward k s) v _ _ _ _ l tt) (λ q. refuses (invocationOf (Forward k s)) shape refl))
+      (by-test (Leaves sd (x .active) (invocationOf (Forward k s))) (forwardGivenFits (x .edition) (lent msgs) f) _ _
+      (λ q. event-leaves (Forward k s) v _ _ _ _ l tt) (λ q. refuses (invocationOf (Forward k s)) shape refl))
 
-  service-leaves : (p : ServicePrimitive) (v given : ℕ) (bytes : List ℕ) → v < 2 ^ 64 → Leaves sd (x .active) unlisted (serviceCall r a b p v given bytes)
+  service-leaves : (p : ServicePrimitive) (v given : ℕ) (bytes : List ℕ) → v < 2 ^ 64
+      → Leaves sd (x .active) unlisted (serviceCall r a b p v given bytes)
   unfolding serviceBy serviceStep dataStep bareStep
   service-leaves p v given bytes l =
       entering-leaves unlisted (serviceStep numberedStep r a b p v given (lent bytes))
       (by-test (Leaves sd (x .active) unlisted) (ltb 1 given) _ _ (λ q. refuses unlisted shape refl)
-      (λ q. by-test (Leaves sd (x .active) unlisted) (eqb given 1) _ _ (λ g. event-leaves (Service p _) v _ _ _ _ l tt) (λ g. event-leaves (Service p _) v _ _ _ _ l tt)))
+      (λ q. by-test (Leaves sd (x .active) unlisted) (eqb given 1) _ _ (λ g. event-leaves (Service p _) v _ _ _ _ l tt)
+      (λ g. event-leaves (Service p _) v _ _ _ _ l tt)))
 
   -- every call
   pub call-leaves : (c : Call) → Leaves sd (x .active) (invocationBy c) (answerOf r a b c)
   call-leaves (start v m k s g) = user-leaves (User (StartServiceRequest m k s)) (v .number) _ _ _ _ (v .low) tt
-  call-leaves (start-response m y g) = user-leaves (User (StartServiceResponse m y (holdsMessage (g .bits)))) noNumber _ _ _ _ (omega arith) tt
+  call-leaves (start-response m y g) = user-leaves (User (StartServiceResponse m y (holdsMessage (g .bits)))) noNumber _
+      _ _ _ (omega arith) tt
   call-leaves (message-request j g) = user-leaves (User (messageRequested (g .bits) (j .number))) noNumber _ _ _ _ (omega arith) (j .low)
   call-leaves (end-request m g) = user-leaves (User (EndServiceRequest m (holdsMessage (g .bits)))) noNumber _ _ _ _ (omega arith) tt
   call-leaves (end-response m y g) = user-leaves (User (EndServiceResponse m y (holdsMessage (g .bits)))) noNumber _ _ _ _ (omega arith) tt

@@ -65,7 +65,10 @@ head-code : (b : List ℕ) → headOf b ≡ true → endCode (sideOf (codeAt b s
 unfolding headFits
 head-code b h =
     let y = codeAt b sideByte in
-    let q : leb 1 y && leb y 4 ≡ true = first-two (leb 1 y) (leb y 4) (ltb (codeAt b stateByte) 6) (ltb (codeAt b dscByte) 2) (ltb (codeAt b timerByte) 2) (ltb (codeAt b activeByte) 2) (ltb (codeAt b requestByte) securityValues) (ltb (codeAt b policyByte) securityValues) (ltb (codeAt b forwardsByte) 2) (versionFits (codeAt b versionByte)) h in
+    let q : leb 1 y && leb y 4 ≡ true = first-two (leb 1 y) (leb y 4) (ltb (codeAt b stateByte) 6)
+    (ltb (codeAt b dscByte) 2) (ltb (codeAt b timerByte) 2) (ltb (codeAt b activeByte) 2)
+    (ltb (codeAt b requestByte) securityValues) (ltb (codeAt b policyByte) securityValues)
+    (ltb (codeAt b forwardsByte) 2) (versionFits (codeAt b versionByte)) h in
     code-back y (leb-true 1 y (both-left (leb 1 y) (leb y 4) q)) (leb-true y 4 (both-right (leb 1 y) (leb y 4) q))
 
 -- what the bytes say
@@ -81,7 +84,8 @@ pub end-code : (b : List ℕ) (sd : Side) (x : Record) (n : ℕ) → loadAt b �
 unfolding loadAt withNumbers
 end-code b sd x n =
     by-test (λ (z : Loaded). z ≡ Is sd x n → endCode sd (x .edition) ≡ codeAt b sideByte) (eqb (length b) recordBytes && headOf b) _ _
-    (λ h. numbers (readBits (bitsTo b recordBits) jobBit jobBits) (readBits (bitsTo b recordBits) numberBit numberBits) (both-right (eqb (length b) recordBytes) (headOf b) h))
+    (λ h. numbers (readBits (bitsTo b recordBits) jobBit jobBits) (readBits (bitsTo b recordBits) numberBit numberBits)
+    (both-right (eqb (length b) recordBytes) (headOf b) h))
     (λ h e. never (ap isRecord e))
   where
     numbers : (p q : Read) → headOf b ≡ true → withNumbers b p q ≡ Is sd x n → endCode sd (x .edition) ≡ codeAt b sideByte
@@ -93,12 +97,17 @@ end-code b sd x n =
 
 numbered-edition : (sd : Side) (r : Record) (n : ℕ) (e : Event) (v : ℕ) → numberedStep sd r n e v .next .edition ≡ r .edition
 numbered-edition sd r n e v =
-    ap (λ (o : Outcome). o .next .edition) (numbered-is sd r n e v) ∙ by-test (λ (o : Outcome). o .next .edition ≡ r .edition) (eventFits sd (r .edition) e && isStale n e v) _ _ (λ q. refl) (λ q. edition-fixed sd r e)
+    ap (λ (o : Outcome). o .next .edition) (numbered-is sd r n e v) ∙ by-test
+    (λ (o : Outcome). o .next .edition ≡ r .edition) (eventFits sd (r .edition) e && isStale n e v) _ _ (λ q. refl)
+    (λ q. edition-fixed sd r e)
 
-store-keeps : (r : List ℕ) (sd : Side) (x : Record) (n : ℕ) → endCode sd (x .edition) ≡ codeAt r sideByte → codeAt (storeAt r sd x n .bytes) sideByte ≡ codeAt r sideByte
+store-keeps : (r : List ℕ) (sd : Side) (x : Record) (n : ℕ) → endCode sd (x .edition) ≡ codeAt r sideByte
+    → codeAt (storeAt r sd x n .bytes) sideByte ≡ codeAt r sideByte
 unfolding storeAt storedBytes headBytes
 store-keeps r sd x n e =
-    by-test (λ (k : Kept). codeAt (k .bytes) sideByte ≡ codeAt r sideByte) (eqb (length r) recordBytes && ltb (x .request) securityValues && ltb (x .policy) securityValues && versionFits (x .version)) _ _ (λ q. e) (λ q. refl)
+    by-test (λ (k : Kept). codeAt (k .bytes) sideByte ≡ codeAt r sideByte) (eqb (length r) recordBytes && ltb
+    (x .request) securityValues && ltb (x .policy) securityValues && versionFits (x .version)) _ _ (λ q. e)
+    (λ q. refl)
 
 -- ---- no call does, on the bytes r and the buffers a and b
 
@@ -106,16 +115,20 @@ module _ (r a b : List ℕ) where
   abbrev Same : Called → Type 0
   Same c = codeAt (c .kept) sideByte ≡ codeAt r sideByte
 
-  event-same : (e : Event) (v : ℕ) (li lm lc : List ℕ) (d : Carried) (sd : Side) (x : Record) (n : ℕ) → loadAt r ≡ Is sd x n → Same (eventStep numberedStep r a b e v li lm lc d sd x n)
+  event-same : (e : Event) (v : ℕ) (li lm lc : List ℕ) (d : Carried) (sd : Side) (x : Record) (n : ℕ)
+      → loadAt r ≡ Is sd x n → Same (eventStep numberedStep r a b e v li lm lc d sd x n)
   unfolding concluded finished
   event-same e v li lm lc d sd x n l =
       by-test Same (isNone (numberedStep sd x n e v .refusal)) _ _
-      (λ q. store-keeps r sd (numberedStep sd x n e v .next) (heldAfter n e v) (ap (endCode sd) (numbered-edition sd x n e v) ∙ end-code r sd x n l)) (λ q. refl)
+      (λ q. store-keeps r sd (numberedStep sd x n e v .next) (heldAfter n e v)
+      (ap (endCode sd) (numbered-edition sd x n e v) ∙ end-code r sd x n l)) (λ q. refl)
 
-  entering-same : (k : Side → Record → ℕ → Called) → ((sd : Side) (x : Record) (n : ℕ) → loadAt r ≡ Is sd x n → Same (k sd x n)) → Same (entering r a b k)
+  entering-same : (k : Side → Record → ℕ → Called)
+      → ((sd : Side) (x : Record) (n : ℕ) → loadAt r ≡ Is sd x n → Same (k sd x n)) → Same (entering r a b k)
   unfolding entering withRecord
   entering-same k f =
-      by-test Same (ltb (length a) bufferLeast) _ _ (λ e. refl) (λ e. by-test Same (ltb (length b) bufferLeast) _ _ (λ g. refl) (λ g. loaded (loadAt r) refl))
+      by-test Same (ltb (length a) bufferLeast) _ _ (λ e. refl)
+      (λ e. by-test Same (ltb (length b) bufferLeast) _ _ (λ g. refl) (λ g. loaded (loadAt r) refl))
     where
       loaded : (z : Loaded) → loadAt r ≡ z → Same (withRecord r a b z k)
       loaded (Is sd x n) e = f sd x n e
@@ -125,20 +138,23 @@ module _ (r a b : List ℕ) where
   unfolding userBy userStep
   user-same e v ids msgs checks d =
       entering-same (userStep numberedStep r a b e v (lent ids) (lent msgs) (lent checks) d)
-      (λ sd x n l. by-test Same (givenFits (x .edition) (pdusOf sd) (lent ids) (lent msgs) (lent checks) d) _ _ (λ q. event-same e v _ _ _ _ sd x n l) (λ q. refl))
+      (λ sd x n l. by-test Same (givenFits (x .edition) (pdusOf sd) (lent ids) (lent msgs) (lent checks) d) _ _
+      (λ q. event-same e v _ _ _ _ sd x n l) (λ q. refl))
 
   forward-same : (k s v : ℕ) (msgs : List ℕ) (f : Forwarded) → Same (forwardCall r a b k s v msgs f)
   unfolding forwardBy forwardStep
   forward-same k s v msgs f =
       entering-same (forwardStep numberedStep r a b k s v (lent msgs) f)
-      (λ sd x n l. by-test Same (forwardGivenFits (x .edition) (lent msgs) f) _ _ (λ q. event-same (Forward k s) v _ _ _ _ sd x n l) (λ q. refl))
+      (λ sd x n l. by-test Same (forwardGivenFits (x .edition) (lent msgs) f) _ _
+      (λ q. event-same (Forward k s) v _ _ _ _ sd x n l) (λ q. refl))
 
   service-same : (p : ServicePrimitive) (v given : ℕ) (bytes : List ℕ) → Same (serviceCall r a b p v given bytes)
   unfolding serviceBy serviceStep dataStep bareStep
   service-same p v given bytes =
       entering-same (serviceStep numberedStep r a b p v given (lent bytes))
       (λ sd x n l. by-test Same (ltb 1 given) _ _ (λ q. refl)
-      (λ q. by-test Same (eqb given 1) _ _ (λ g. event-same (Service p _) v _ _ _ _ sd x n l) (λ g. event-same (Service p _) v _ _ _ _ sd x n l)))
+      (λ q. by-test Same (eqb given 1) _ _ (λ g. event-same (Service p _) v _ _ _ _ sd x n l)
+      (λ g. event-same (Service p _) v _ _ _ _ sd x n l)))
 
   call-same : (c : Call) → Same (answerOf r a b c)
   call-same (start v m k s g) = user-same (User (StartServiceRequest m k s)) (v .number) _ _ _ _
@@ -159,7 +175,8 @@ end-fixed [] r = refl
 end-fixed (c ∷ cs) r = end-fixed cs (answer r c .kept) ∙ call-same r (c .first) (c .second) (c .call)
 
 -- from the bytes that peat_fresh leaves, where it answers 0: the side sd and the application type t that it was asked for
-pub type-fixed : (sd : Side) (r : List ℕ) (p f v t : ℕ) (cs : List Lent) → freshCall r (sideCode sd) p f v t .number ≡ 0 → codeAt (leaves (freshCall r (sideCode sd) p f v t .bytes) cs) sideByte ≡ endCode sd (editionOf t)
+pub type-fixed : (sd : Side) (r : List ℕ) (p f v t : ℕ) (cs : List Lent) → freshCall r (sideCode sd) p f v t .number ≡ 0
+    → codeAt (leaves (freshCall r (sideCode sd) p f v t .bytes) cs) sideByte ≡ endCode sd (editionOf t)
 type-fixed sd r p f v t cs e =
     let b = freshCall r (sideCode sd) p f v t .bytes in
     let w = fresh-bytes sd r p f v t e in

@@ -144,7 +144,8 @@ arrives-keeps : (r : Record) (s v : ℕ) → Coded r → Keeps (forwardArrives r
 unfolding forwardArrives
 arrives-keeps r s v k =
     by-test Keeps (not (r .forwards)) _ _ (λ e. responds-keeps r _ s _ Untold k refl)
-    (λ e. by-test Keeps (eqb v (r .version)) _ _ (λ f. responds-keeps r _ s _ ForwardIndication k refl) (λ f. responds-keeps r _ s _ Untold k refl))
+    (λ e. by-test Keeps (eqb v (r .version)) _ _ (λ f. responds-keeps r _ s _ ForwardIndication k refl)
+    (λ f. responds-keeps r _ s _ Untold k refl))
 
 abort-fits : (a : UserData) → resultFits (abortTold a) ≡ true
 abort-fits a = by-test (λ (t : Told). resultFits t ≡ true) (isUserAbort a) _ _ (λ e. refl) (λ e. refl)
@@ -156,10 +157,12 @@ low-fits x n h e =
 
 instructed-keeps : (r : Record) (p : ServicePrimitive) (a : UserData) → Coded r → serviceFits p ≡ true → Keeps (instructed r p a)
 unfolding instructed forwardConfirmed serviceFits
-instructed-keeps r (DStartIndication x s q v) a k f = by-test Keeps (isForward a) _ _ (λ e. arrives-keeps r s v k) (λ e. handed-keeps (withUser r true) _ _ (user-coded r true k) refl)
+instructed-keeps r (DStartIndication x s q v) a k f = by-test Keeps (isForward a) _ _ (λ e. arrives-keeps r s v k)
+    (λ e. handed-keeps (withUser r true) _ _ (user-coded r true k) refl)
 instructed-keeps r (DStartConfirmation x o s v) a k f =
     by-test Keeps (isResponse a) _ _ (λ e. closes-keeps (withTimer r false) _ (timer-coded r false k) refl)
-    (λ e. handed-keeps (withTimer r false) _ _ (timer-coded r false k) (low-fits x startResults (omega arith) (both-left (ltb x startResults) (ltb o rejectSources && (ltb s securityValues && ltb v versions)) f)))
+    (λ e. handed-keeps (withTimer r false) _ _ (timer-coded r false k) (low-fits x startResults (omega arith)
+    (both-left (ltb x startResults) (ltb o rejectSources && (ltb s securityValues && ltb v versions)) f)))
 instructed-keeps r DDataIndication a k f = handed-keeps r _ _ k refl
 instructed-keeps r DEndIndication a k f = handed-keeps r _ _ k refl
 instructed-keeps r (DEndConfirmation x) a k f = handed-keeps r _ _ k (low-fits x results (omega arith) f)
@@ -179,12 +182,15 @@ answered-keeps r p a (NotPermitted live) k h = excepts-keeps r live _ _ k
 
 -- ---- a call of the user
 
-called-keeps : (sd : Side) (r : Record) (u : UserPrimitive) → Coded r → userFits sd (r .edition) u ≡ true → JobLow (User u) → Keeps (called r u)
+called-keeps : (sd : Side) (r : Record) (u : UserPrimitive) → Coded r → userFits sd (r .edition) u ≡ true
+    → JobLow (User u) → Keeps (called r u)
 unfolding called userFits startRequest startResponse messageRequest endRequest endResponse userAbort
 called-keeps sd r (StartServiceRequest m c s) k h j =
     let both = both-right (hasMode sd m) (ltb c routingClasses && ltb s securityValues) h in
-    let low = sent-low (secures (r .edition)) s (ltb-true s securityValues (both-right (ltb c routingClasses) (ltb s securityValues) both)) in
-    sent-keeps (withRequest (withUser (withTimer r true) true) (securitySent (secures (r .edition)) s)) _ _ _ (started-coded r (securitySent (secures (r .edition)) s) low k)
+    let low = sent-low (secures (r .edition)) s
+    (ltb-true s securityValues (both-right (ltb c routingClasses) (ltb s securityValues) both)) in
+    sent-keeps (withRequest (withUser (withTimer r true) true) (securitySent (secures (r .edition)) s)) _ _ _
+    (started-coded r (securitySent (secures (r .edition)) s) low k)
 called-keeps sd r (StartServiceResponse m x g) k h j = sent-keeps r _ _ _ k
 called-keeps sd r (MessageServiceRequest b n) k h j = sent-keeps (withJob r n) _ _ _ (job-coded r n j k)
 called-keeps sd r (EndServiceRequest m g) k h j = sent-keeps r _ _ _ k
@@ -202,10 +208,13 @@ forward-keeps r c s k h =
 acts-keeps : (sd : Side) (r : Record) (e : Event) → Coded r → eventFits sd (r .edition) e ≡ true → JobLow e → Keeps (acts sd r e)
 unfolding acts eventFits reached timerExpires systemError
 acts-keeps sd r (User u) k h j = called-keeps sd r u k h j
-acts-keeps sd r (Forward c s) k h j = forward-keeps r c s k (ltb-true s securityValues (both-right (ltb c routingClasses) (ltb s securityValues) h))
-acts-keeps sd r (Service p a) k h j = answered-keeps r p a (firstFault sd r p a) k (both-left (serviceFits p) (userDataFits (r .edition) a) h)
+acts-keeps sd r (Forward c s) k h j = forward-keeps r c s k
+    (ltb-true s securityValues (both-right (ltb c routingClasses) (ltb s securityValues) h))
+acts-keeps sd r (Service p a) k h j = answered-keeps r p a (firstFault sd r p a) k
+    (both-left (serviceFits p) (userDataFits (r .edition) a) h)
 acts-keeps sd r TimerExpires k h j = excepts-keeps r true _ _ k
-acts-keeps sd r UnrecoverableSystemError k h j = by-test Keeps (isIdle (r .control)) _ _ (λ e. closes-keeps r Untold k refl) (λ e. excepts-keeps r true _ _ k)
+acts-keeps sd r UnrecoverableSystemError k h j = by-test Keeps (isIdle (r .control)) _ _
+    (λ e. closes-keeps r Untold k refl) (λ e. excepts-keeps r true _ _ k)
 
 -- with a dialogue number, refused or not
 pub numbered-keeps : (sd : Side) (r : Record) (n : ℕ) (e : Event) (v : ℕ) → Coded r → JobLow e → Keeps (numberedStep sd r n e v)

@@ -36,7 +36,8 @@ record Chained (sd : Side) (p : Bool) (b : List ℕ) (l : List Entry) : Type 0 w
   bytes : Bytes sd b held number
   chain : Chain sd p l (held .active)
 
-chained : (sd : Side) (cs : List Lent) (r : List ℕ) (x : Record) (n : ℕ) → Bytes sd r x n → Chained sd (x .active) (leaves r cs) (history r cs)
+chained : (sd : Side) (cs : List Lent) (r : List ℕ) (x : Record) (n : ℕ) → Bytes sd r x n
+    → Chained sd (x .active) (leaves r cs) (history r cs)
 unfolding history leaves
 chained sd [] r x n h = record { held = x; number = n; bytes = h; chain = refl }
 chained sd (c ∷ cs) r x n h =
@@ -52,7 +53,9 @@ pub record Fresh (sd : Side) (ed : Edition) (b : List ℕ) : Type 0 where
   pub edition : configuration .edition ≡ ed
 
 -- a record that was stored
-fresh-stored : (sd : Side) (r : List ℕ) (g : Configuration) → freshFor (storeAt r sd (freshRecord g) firstNumber) .number ≡ 0 → Fresh sd (g .edition) (freshFor (storeAt r sd (freshRecord g) firstNumber) .bytes)
+fresh-stored : (sd : Side) (r : List ℕ) (g : Configuration)
+    → freshFor (storeAt r sd (freshRecord g) firstNumber) .number ≡ 0
+    → Fresh sd (g .edition) (freshFor (storeAt r sd (freshRecord g) firstNumber) .bytes)
 unfolding freshFor storeAt
 fresh-stored sd r g e = record { configuration = g; bytes = stored sd r (freshRecord g) firstNumber (eqb-true (length r) recordBytes size) coded (omega arith) (fresh-runs sd g); edition = refl }
   where
@@ -74,19 +77,22 @@ fresh-stored sd r g e = record { configuration = g; bytes = stored sd r (freshRe
     size = both-left (eqb (length r) recordBytes) (ltb noSecurity securityValues) (both-left _ (ltb (g .policy) securityValues) before)
 
     version : versionFits (g .version) ≡ true
-    version = both-right (eqb (length r) recordBytes && ltb noSecurity securityValues && ltb (g .policy) securityValues) (versionFits (g .version)) all
+    version = both-right (eqb (length r) recordBytes && ltb noSecurity securityValues && ltb (g .policy) securityValues)
+        (versionFits (g .version)) all
 
     coded : Coded (freshRecord g)
     coded =
         record {
           request = omega arith;
-          policy = ltb-true (g .policy) securityValues (both-right (eqb (length r) recordBytes && ltb noSecurity securityValues) (ltb (g .policy) securityValues) before);
+          policy = ltb-true (g .policy) securityValues (both-right
+              (eqb (length r) recordBytes && ltb noSecurity securityValues) (ltb (g .policy) securityValues) before);
           least = leb-true 1 (g .version) (both-left (leb 1 (g .version)) (ltb (g .version) versions) version);
           most = ltb-true (g .version) versions (both-right (leb 1 (g .version)) (ltb (g .version) versions) version);
           highest = omega arith;
         }
 
-pub fresh-bytes : (sd : Side) (r : List ℕ) (p f v t : ℕ) → freshCall r (sideCode sd) p f v t .number ≡ 0 → Fresh sd (editionOf t) (freshCall r (sideCode sd) p f v t .bytes)
+pub fresh-bytes : (sd : Side) (r : List ℕ) (p f v t : ℕ) → freshCall r (sideCode sd) p f v t .number ≡ 0
+    → Fresh sd (editionOf t) (freshCall r (sideCode sd) p f v t .bytes)
 unfolding freshCall
 fresh-bytes Air r p f v t = go (ltb 1 f) (not (isType t))
   where

@@ -56,7 +56,8 @@ fails v = service-primitive DPAbortIndication v 0 []
 
 abbrev calls : List Lent
 calls =
-    full (starts (word 1 (omega arith))) ∷ narrow (starts (word 2 (omega arith))) ∷ full (starts (word 2 (omega arith))) ∷ full (fails (word 1 (omega arith))) ∷ full (fails (word 1 (omega arith))) ∷
+    full (starts (word 1 (omega arith))) ∷ narrow (starts (word 2 (omega arith))) ∷ full (starts (word 2 (omega arith)))
+    ∷ full (fails (word 1 (omega arith))) ∷ full (fails (word 1 (omega arith))) ∷
     full (starts (word 2 (omega arith))) ∷ full (user-abort noCount) ∷ full (fails (word 2 (omega arith))) ∷ []
 
 -- of an application type
@@ -65,8 +66,17 @@ bytes t = freshCall (replicate recordBytes 0) 2 0 0 1 t .bytes
 
 -- two activations, two closings, and the user is not active
 abbrev ToldOfTwo : ℕ → Type 0
-ToldOfTwo t = (activations Ground (history (bytes t) calls) ≡ 2) × (closings Ground (history (bytes t) calls) ≡ 2) × (getD (leaves (bytes t) calls) activeByte 1 ≡ 0)
+ToldOfTwo t = (activations Ground (history (bytes t) calls) ≡ 2) × (closings Ground (history (bytes t) calls) ≡ 2) ×
+    (getD (leaves (bytes t) calls) activeByte 1 ≡ 0)
 
 pub told-of-two : ToldOfTwo 22 × ToldOfTwo 2
-unfolding bitsN bitsOf accOf digitsIn bitsTo bytesOf withBit setBit putBits readBits wholeBits indexBits lengthBits stringBits optionalBits optionalFits contentBits contentFits modeBits modeFits pduBits padded bitsIn perhapsBits plain.contentFits plain.givenFits partIn contentIn pduIn itemsFit partFits dataFits apduFits writeOut sent startRequest userAbort callOf unsent called userDataFits userFits hasMode serviceFits eventFits tell closes aborts excepts noInstruction abortFault firstFault instructed answered reached enter permitted messageRefusal userStarts serviceStarts isStart isService isStale heldAfter refusalOf acts numberedStep firstTakes secondTakes finished concluded withRecord entering userStep userBy bareStep serviceStep serviceBy invokedNumber toldNumber packed headBytes storedBytes headFits withNumbers loadAt storeAt partOf givenData freshFor freshCall among begins ends activations closings history leaves
+unfolding bitsN bitsOf accOf digitsIn bitsTo bytesOf withBit setBit putBits readBits wholeBits indexBits lengthBits
+    stringBits optionalBits optionalFits contentBits contentFits modeBits modeFits pduBits padded bitsIn perhapsBits
+    plain.contentFits plain.givenFits partIn contentIn pduIn itemsFit partFits dataFits apduFits writeOut sent
+    startRequest userAbort callOf unsent called userDataFits userFits hasMode serviceFits eventFits tell closes aborts
+    excepts noInstruction abortFault firstFault instructed answered reached enter permitted messageRefusal userStarts
+    serviceStarts isStart isService isStale heldAfter refusalOf acts numberedStep firstTakes secondTakes finished
+    concluded withRecord entering userStep userBy bareStep serviceStep serviceBy invokedNumber toldNumber packed
+    headBytes storedBytes headFits withNumbers loadAt storeAt partOf givenData freshFor freshCall among begins ends
+    activations closings history leaves
 told-of-two = ((refl, refl, refl), (refl, refl, refl))

@@ -19,6 +19,7 @@ use crate::Written;
 use crate::decoder::ALL;
 use crate::shape::data_fits;
 use bits::Put;
+use fields::Lead;
 use pdus::Span;
 
 // The place after what was written.
@@ -54,7 +55,11 @@ pub(crate) fn put_items(
     requires { ⌜ (lead ≤ 8) × (led < 2 ^ lead) × (0 < unit) × (unit ≤ 64) × (itemsFit (lent (now src)) unit 0 lengthMost x ≡ true) × (at + length (bitsN lead led ++ stringBits unit (itemsIn (lent (now src)) unit x)) ≤ length (lent (now buf))) ⌝ }
     ensures { λ p. ⌜ (p ≡ at + length (bitsN lead led ++ stringBits unit (itemsIn (lent (now (src .entry))) unit x))) × (now (buf .exit) ≡ putBits (now (buf .entry)) at (bitsN lead led ++ stringBits unit (itemsIn (lent (now (src .entry))) unit x))) ⌝ }
 {
-    place(fields::put_led_string(buf, ALL, at, lead, led, unit, x.count, src, ALL, x.at))
+    let waiting = Lead {
+        width: lead,
+        number: led,
+    };
+    place(fields::put_led_string(buf, ALL, at, waiting, unit, x.count, src, ALL, x.at))
 }
 
 // The message, if it is there, and the check.

@@ -2,7 +2,7 @@
 // identifier), the bits of the message, of which `message` says how many (NONE: no message), and those of the check, of which `check` says
 // how many.
 ghost use mathlib.Core.Path.{_≡_};
-ghost use Rattle.card.specs.Face.{dataCall, givenData, numberedCall, partOf, plainCall};
+ghost use Rattle.card.specs.Face.{dataCall, givenData, partOf, plainCall};
 ghost use Rattle.step.specs.Call.{called};
 use apdu::Data;
 use apdu::Part;
@@ -28,7 +28,7 @@ fn part_of(absent: bool, n: usize) -> Part
     Part::Given(Span { at: 0, count: n })
 }
 
-fn given_data(octets: usize, message: u64, check: u64) -> Data
+pub(crate) fn given_data(octets: usize, message: u64, check: u64) -> Data
     ensures { λ d. ⌜ d ≡ givenData octets message check ⌝ }
 {
     let i = part_of(octets == 0, octets);
@@ -44,28 +44,7 @@ fn given_data(octets: usize, message: u64, check: u64) -> Data
     }
 }
 
-// A user primitive with message data, and the dialogue number that it brings.
-pub(crate) fn numbered_call(
-    rec: &mut [u8],
-    u: UserPrimitive,
-    number: u64,
-    ids: &[u8],
-    msgs: &[u8],
-    message: u64,
-    checks: &[u8],
-    check: u64,
-    first: &mut [u8],
-    second: &mut [u8],
-) -> u64
-    ensures { λ n. ⌜ called n (now (rec .exit)) (now (first .exit)) (now (second .exit)) ≡
-        numberedCall (now (rec .entry)) (now (first .entry)) (now (second .entry)) u number (now (ids .entry)) (now (msgs .entry)) message
-        (now (checks .entry)) check ⌝ }
-{
-    let d = given_data(ids.len(), message, check);
-    user_call(rec, first, second, u, number, ids, msgs, checks, d)
-}
-
-// One that brings none.
+// A user primitive with message data that brings no dialogue number.
 pub(crate) fn data_call(
     rec: &mut [u8],
     u: UserPrimitive,
@@ -81,18 +60,8 @@ pub(crate) fn data_call(
         dataCall (now (rec .entry)) (now (first .entry)) (now (second .entry)) u (now (ids .entry)) (now (msgs .entry)) message
         (now (checks .entry)) check ⌝ }
 {
-    numbered_call(
-        rec,
-        u,
-        NO_NUMBER,
-        ids,
-        msgs,
-        message,
-        checks,
-        check,
-        first,
-        second,
-    )
+    let d = given_data(ids.len(), message, check);
+    user_call(rec, first, second, u, NO_NUMBER, ids, msgs, checks, d)
 }
 
 // A user primitive without message data.

@@ -5,11 +5,12 @@ ghost use Rattle.card.specs.Face.{abortRequested, dataCall, holdsMessage
 ghost use Rattle.step.specs.Call.{called};
 use crate::given::NONE;
 use crate::given::data_call;
-use crate::given::numbered_call;
+use crate::given::given_data;
 use crate::given::plain_call;
 use machine::event::Event;
 use machine::event::UserPrimitive;
 use step::host_call;
+use step::user_call;
 
 // Start request, with its dialogue number and its mode.
 #[no_mangle]
@@ -31,18 +32,9 @@ pub extern "C" fn peat_start(
         numberedCall (now (rec .entry)) (now (first .entry)) (now (second .entry)) (UserPrimitive.StartServiceRequest mode class security)
         number (now (ids .entry)) (now (msgs .entry)) message (now (checks .entry)) check ⌝ }
 {
-    numbered_call(
-        rec,
-        UserPrimitive::StartServiceRequest(mode, class, security),
-        number,
-        ids,
-        msgs,
-        message,
-        checks,
-        check,
-        first,
-        second,
-    )
+    let d = given_data(ids.len(), message, check);
+    let u = UserPrimitive::StartServiceRequest(mode, class, security);
+    user_call(rec, first, second, u, number, ids, msgs, checks, d)
 }
 
 // CPDLC-start response.

@@ -25,6 +25,7 @@ pub use numbers::refusal_of;
 pub use numbers::refused_at;
 pub use numbers::whole;
 pub use numbers::width;
+pub use strings::Lead;
 pub use strings::contents;
 pub use strings::put_led_string;
 pub use strings::put_string;

@@ -61,29 +61,42 @@ pub fn sized(s: &[u8], end: usize, at: usize, unit: usize, least: u64, most: u64
     contents(s, end, from, unit, n as usize)
 }
 
+// A number of a few bits that waits for the length behind it.
+pub struct Lead {
+    pub width: usize,
+    pub number: u64,
+}
+
+impl Lead {
+    // No bits.
+    const NONE: Lead = Lead {
+        width: 0,
+        number: 0,
+    };
+}
+
 // A number of a few bits, and behind it a length and count bits, which stand at a place within the first send bits of src. The number and the length
 // go out as one.
 fn put_counted(
     buf: &mut [u8],
     end: usize,
     at: usize,
-    lead: usize,
-    led: u64,
+    lead: Lead,
     n: usize,
     src: &[u8],
     send: usize,
     from: usize,
     count: usize,
 ) -> Put
-    requires { ⌜ (lead ≤ 8) × (led < 2 ^ lead) × (n < 16384) ⌝ }
-    ensures { λ r. ⌜ left r (now (buf .exit)) ≡ putIf (leb (from + count) (length (bitsTo (now (src .entry)) send))) (now (buf .entry)) end at (bitsN lead led ++ (lengthBits n ++ run (now (src .entry)) from count)) ⌝ }
+    requires { ⌜ (lead .width ≤ 8) × (lead .number < 2 ^ lead .width) × (n < 16384) ⌝ }
+    ensures { λ r. ⌜ left r (now (buf .exit)) ≡ putIf (leb (from + count) (length (bitsTo (now (src .entry)) send))) (now (buf .entry)) end at (bitsN (lead .width) (lead .number) ++ (lengthBits n ++ run (now (src .entry)) from count)) ⌝ }
 {
     if n < 128 {
-        let v = led * 256 + n as u64;
-        return bits::put_led(buf, end, at, lead + 8, v, src, send, from, count);
+        let v = lead.number * 256 + n as u64;
+        return bits::put_led(buf, end, at, lead.width + 8, v, src, send, from, count);
     }
-    let v = led * 65536 + (32768 + n as u64);
-    bits::put_led(buf, end, at, lead + 16, v, src, send, from, count)
+    let v = lead.number * 65536 + (32768 + n as u64);
+    bits::put_led(buf, end, at, lead.width + 16, v, src, send, from, count)
 }
 
 // A number of at most eight bits, and behind it the length of n items, and the items, of at most 64 bits each, which stand at a place within the first
@@ -92,20 +105,19 @@ pub fn put_led_string(
     buf: &mut [u8],
     end: usize,
     at: usize,
-    lead: usize,
-    led: u64,
+    lead: Lead,
     unit: usize,
     n: usize,
     src: &[u8],
     send: usize,
     from: usize,
 ) -> Put
-    ensures { λ r. ⌜ left r (now (buf .exit)) ≡ putIf (ledFits lead led unit && (lengthFits n && leb (from + unit * n) (length (bitsTo (now (src .entry)) send)))) (now (buf .entry)) end at (bitsN lead led ++ (lengthBits n ++ run (now (src .entry)) from (unit * n))) ⌝ }
+    ensures { λ r. ⌜ left r (now (buf .exit)) ≡ putIf (ledFits (lead .width) (lead .number) unit && (lengthFits n && leb (from + unit * n) (length (bitsTo (now (src .entry)) send)))) (now (buf .entry)) end at (bitsN (lead .width) (lead .number) ++ (lengthBits n ++ run (now (src .entry)) from (unit * n))) ⌝ }
 {
-    if 8 < lead {
+    if 8 < lead.width {
         return Put::Full;
     }
-    if (1 << lead) <= led {
+    if (1 << lead.width) <= lead.number {
         return Put::Full;
     }
     if 64 < unit {
@@ -114,7 +126,7 @@ pub fn put_led_string(
     if 16384 <= n {
         return Put::Full;
     }
-    put_counted(buf, end, at, lead, led, n, src, send, from, unit * n)
+    put_counted(buf, end, at, lead, n, src, send, from, unit * n)
 }
 
 // The length of n items, and the items, of any size.
@@ -136,5 +148,5 @@ pub fn put_string(
     let Field::Value(_, after) = contents(src, send, from, unit, n) else {
         return Put::Full;
     };
-    put_counted(buf, end, at, 0, 0, n, src, send, from, after - from)
+    put_counted(buf, end, at, Lead::NONE, n, src, send, from, after - from)
 }

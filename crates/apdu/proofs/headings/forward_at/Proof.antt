@@ -59,9 +59,9 @@ returns-2 : tie.Need-returns-2
 unfolding forwardWithin
 returns-2 c =
     let c3 = c .before .before .before in
-    let c6 = c3 .before .before .before in
-    heading-went _ _ _ _ _ _ (c6 .before .heading-at .ensures) (c62 .given .1) (handed forwarded.Refused _ _ _ _ _
-    (c3 .string .ensures) (c .before .enum-told2 .given .1) (c .refusal-of .ensures))
+    let c7 = c3 .before .before .before .before in
+    heading-went _ _ _ _ _ _ (c7 .heading-at .ensures) (c3 .before .before .before2 .given .1) (handed forwarded.Refused
+    _ _ _ _ _ (c3 .string .ensures) (c .before .enum-told2 .given .1) (c .refusal-of .ensures))
 
 -- src/headings.rt:130:18
 span-to-requires : tie.Need-span-to-requires
@@ -74,9 +74,9 @@ returns-3 : tie.Need-returns-3
 unfolding forwardWithin
 returns-3 c =
     let c4 = c .before .before .before .before in
-    let c7 = c4 .before .before .before in
-    heading-went _ _ _ _ _ _ (c7 .before .heading-at .ensures) (c72 .given .1) (went forwarded.Refused _ _ _ _ _ _
-    (c4 .string .ensures) (c .before .before .bits .given .1) (rw (c .span-to .ensures)))
+    let c8 = c4 .before .before .before .before in
+    heading-went _ _ _ _ _ _ (c8 .heading-at .ensures) (c4 .before .before .before2 .given .1) (went forwarded.Refused _
+    _ _ _ _ _ (c4 .string .ensures) (c .before .before .bits .given .1) (rw (c .span-to .ensures)))
 
 pub forward-at-spec : {M : Type 1} → statement M
 forward-at-spec =

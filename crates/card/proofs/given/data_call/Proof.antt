@@ -1,9 +1,9 @@
--- `card::given::numbered_call` meets its contract.
+-- `card::given::data_call` meets its contract.
 -- Assumes nothing.
 use mathlib.Core.Path.{_∙_}
 use borrow.Author.Needs.{needs}
-use Rattle.card.proofs.given.numbered_call.Statement.{statement}
-use Rattle.card.proofs.given.numbered_call.Tie as tie
+use Rattle.card.proofs.given.data_call.Statement.{statement}
+use Rattle.card.proofs.given.data_call.Tie as tie
 
 given-data-requires : tie.Need-given-data-requires
 given-data-requires c κs = search needs
@@ -26,8 +26,8 @@ returns c =
     let c10 = c6 .before .before .before .before in
     c6 .user-call .ensures ∙ rw (c10 .given-data .ensures)
 
-pub numbered-call-spec : {M : Type 1} → statement M
-numbered-call-spec =
+pub data-call-spec : {M : Type 1} → statement M
+data-call-spec =
     tie.close
     (tie.spec
     given-data-requires

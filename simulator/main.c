@@ -2,12 +2,12 @@
  * A simulator of hosts of the card: 48 dialogues, each with an air end and a ground end, joined by a carrier in memory; and
  * another centre, to which 8 links lead, each of two ground ends. Half of the dialogues and links are of application type 2, half of type 22.
  *
- *     host --help
+ *     peat-host --help
  *
  * Users open and close dialogues at random. At each end a broker hands out jobs, each with a CPDLC message for the other
  * end, in no strict order and each until it hears that it was acknowledged. A controller's message has a number from the book
- * of its dialogue, and the flight deck's messages are the replies that close it. Meanwhile controllers forward messages to the
- * other centre, and it to them. Timers expire, ends break down, the carrier fails and the power goes, all at random from the
+ * of its dialogue, and the flight deck's messages are the replies that close it. Controllers also forward messages to the
+ * other centre and receive messages forwarded by it. Timers expire, ends break down, the carrier fails and the power goes, all at random from the
  * seed. The run ends when every line has run empty; then the account and its verdict are printed. Status 0, PASS: no clearance
  * was shown twice, no dialogue was left half closed or shown as closed twice, and every message record is right.
  *
@@ -24,7 +24,7 @@
  *   position  how often a user becomes active and is closed, by the answers alone
  *   book      the numbers of controllers' messages: open until the reply
  *   forward   two centres and their carrier: forwards, their answers, what must hold
- *   broker, user, clearance, carrier, mail   the world around the ends
+ *   broker, user, clearance, carrier, envelopes   the world around the ends
  *   account   what is counted, and the verdict
  *   story, capture, recording, moves, faults, options, chance, power   for the one who watches
  */
@@ -154,7 +154,7 @@ static int make_folder(char *name, size_t room)
 
 static int fail(const char *words, const char *name)
 {
-    fprintf(stderr, "host: %s: %s\n", words, name);
+    fprintf(stderr, "peat-host: %s: %s\n", words, name);
     return 2;
 }
 

@@ -19,7 +19,7 @@ void broker_give(struct broker *b, uint64_t clearance)
         b->room = 2 * b->room + 64;
         b->job = realloc(b->job, b->room * sizeof *b->job);
         if (b->job == NULL) {
-            fputs("host: there is no memory for the broker's jobs\n", stderr);
+            fputs("peat-host: there is no memory for the broker's jobs\n", stderr);
             exit(2);
         }
     }

@@ -14,7 +14,7 @@
 static void usage(FILE *to)
 {
     int f;
-    fputs("usage: host [SEED [STEPS]] [OPTION ..]\n"
+    fputs("usage: peat-host [SEED [STEPS]] [OPTION ..]\n"
           "\n"
           "A simulator: 48 dialogues, an air end and a ground end each, over a carrier in memory, with a broker and a user at\n"
           "each end and power that fails; and 8 links to another centre, two ground ends each, over which messages are forwarded.\n"
@@ -40,7 +40,7 @@ static void usage(FILE *to)
 
 static void refuse(const char *why, const char *word)
 {
-    fprintf(stderr, "host: %s: %s\n", why, word);
+    fprintf(stderr, "peat-host: %s: %s\n", why, word);
     usage(stderr);
     exit(2);
 }
@@ -92,7 +92,7 @@ struct options options_read(int argc, char **argv, int dialogues)
             exit(0);
         }
         if (strcmp(word, "--version") == 0)
-            exit(printf("host %s\n", PEAT_VERSION) < 0 || fflush(stdout) != 0 ? 2 : 0);
+            exit(printf("peat-host %s\n", PEAT_VERSION) < 0 || fflush(stdout) != 0 ? 2 : 0);
         if (strcmp(word, "--json") == 0)
             o.json = 1, takes = 0;
         else if (strcmp(word, "--apart") == 0)

@@ -6,7 +6,7 @@
 #include "chance.h"
 #include "end.h"
 #include "faults.h"
-#include "mail.h"
+#include "envelopes.h"
 #include "moves.h"
 #include "notices.h"
 #include "power.h"
@@ -116,7 +116,7 @@ static void decide(struct end *e, uint64_t job, const uint8_t *body, unsigned bi
 
 /* A job that comes before its turn is held back, and not acknowledged. A number far ahead is left with the broker: taken,
    it would make every job below it a REPEAT. */
-static void hold(struct end *e, const struct letter *l)
+static void hold(struct end *e, const struct envelope *l)
 {
     struct held *h = &e->held[l->job % HELD_MOST];
     if (l->job - e->memory.wanted >= HELD_MOST) {
@@ -147,7 +147,7 @@ static int out_of_turn(const struct end *e, uint64_t job)
     return fault(WITHOUT_ORDER) ? broker_knows(&e->broker, job) : fault(TAKES_FAR_AHEAD) && job - e->memory.wanted >= HELD_MOST;
 }
 
-static void take(struct end *e, const struct letter *l)
+static void take(struct end *e, const struct envelope *l)
 {
     if (l->job > e->memory.wanted && !out_of_turn(e, l->job))
         hold(e, l);
@@ -158,7 +158,7 @@ static void take(struct end *e, const struct letter *l)
 
 /* ---- the mail */
 
-static void hand_out(struct end *e, struct mail *m)
+static void hand_out(struct end *e, struct outbox_bytes *m)
 {
     uint64_t job = broker_hands_out(&e->broker);
     struct clearance c;
@@ -168,15 +168,15 @@ static void hand_out(struct end *e, struct mail *m)
     account.out_of_order += broker_job(&e->broker, job)->deliveries == 1 && job > e->memory.wanted;
     clearance_compose(&c, e->user.side, broker_job(&e->broker, job)->clearance);
     must(c.bits == 0 ? PEAT_SHAPE : PEAT_TAKEN);
-    mail_post(m, PEAT_ENVELOPE_TO_SEND, job, c.bits, c.bit);
+    outbox_post(m, PEAT_ENVELOPE_TO_SEND, job, c.bits, c.bit);
     if (account.offered % ASTRAY == 0) /* an envelope whose number went wrong on its way */
-        mail_post(m, PEAT_ENVELOPE_TO_SEND, job + FAR_AHEAD, c.bits, c.bit);
+        outbox_post(m, PEAT_ENVELOPE_TO_SEND, job + FAR_AHEAD, c.bits, c.bit);
 }
 
 void jobs_offer(struct end *e)
 {
-    struct mail m = {0};
-    struct letter l;
+    struct outbox_bytes m = {0};
+    struct envelope l;
     struct arrival a = {0};
     if (!line_has_room(&e->out, 8)) /* leaves room for what must be sent later */
         return;
@@ -185,7 +185,7 @@ void jobs_offer(struct end *e)
     hand_out(e, &m);
     if (chance(3) == 0)
         hand_out(e, &m);
-    while (mail_next(&m, &a, &l)) {
+    while (outbox_next(&m, &a, &l)) {
         if (l.kind == PEAT_ENVELOPE_TO_SEND)
             take(e, &l);
         else

@@ -4,7 +4,7 @@
 #include "end.h"
 #include "faults.h"
 #include "forward.h"
-#include "mail.h"
+#include "envelopes.h"
 #include "moves.h"
 #include "power.h"
 #include "story.h"
@@ -12,13 +12,13 @@
 /* A refusal goes as an envelope with its number; the broker reads it. */
 static void refusal_posted(uint64_t job, unsigned refusal)
 {
-    struct mail m = {0};
-    struct letter l;
+    struct outbox_bytes m = {0};
+    struct envelope l;
     struct arrival a = {0};
     uint8_t number = (uint8_t)(fault(MIXES_REFUSALS) ? PEAT_SHAPE : refusal);
-    mail_post(&m, PEAT_ENVELOPE_REFUSAL, job, 8, &number);
+    outbox_post(&m, PEAT_ENVELOPE_REFUSAL, job, 8, &number);
     account.refused_told++;
-    while (mail_next(&m, &a, &l))
+    while (outbox_next(&m, &a, &l))
         must(l.kind == PEAT_ENVELOPE_REFUSAL && l.job == job && l.body[0] == PEAT_PROHIBITED ? PEAT_TAKEN : PEAT_KIND);
 }
 

@@ -85,7 +85,7 @@ int main(int argc, char **argv)
     enum loaded answer;
     if (argc != 2)
         return 2;
-    printf("host: %d of the %d one-bit changes of a record in a dialogue are still a record\n", still_records(), 8 * PEAT_RECORD_BYTES);
+    printf("simulator: %d of the %d one-bit changes of a record in a dialogue are still a record\n", still_records(), 8 * PEAT_RECORD_BYTES);
     check(still_records() > 0, "every changed record is noticed by the card itself");
     memory_begin(&memory, rec);
     check(journal_begin(&j, argv[1], "ground-00", &memory) == 0, "no journal is begun");

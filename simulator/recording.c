@@ -6,7 +6,7 @@
 
 #include "clearance.h"
 #include "end.h"
-#include "mail.h"
+#include "envelopes.h"
 
 enum { UPLINK, DOWNLINK };
 
@@ -44,7 +44,7 @@ static void append(struct part *p, unsigned kind, uint64_t job, unsigned bits, c
         p->room = 2 * p->room + PEAT_BUFFER_LEAST;
         p->bytes = realloc(p->bytes, p->room);
         if (p->bytes == NULL) {
-            fputs("host: there is no memory for a recording\n", stderr);
+            fputs("peat-host: there is no memory for a recording\n", stderr);
             exit(2);
         }
     }
@@ -69,7 +69,7 @@ void recording_took(const struct end *e, uint64_t clearance)
         append(part_of(e, direction), PEAT_ENVELOPE_DELIVERED, job_of(clearance, direction), asked_bits, asked);
 }
 
-void recording_got(const struct end *e, const struct letter *l)
+void recording_got(const struct end *e, const struct envelope *l)
 {
     static struct clearance c;
     unsigned by = e->peer->user.side;

@@ -7,7 +7,7 @@
 #include "chance.h"
 #include "faults.h"
 #include "forward.h"
-#include "mail.h"
+#include "envelopes.h"
 #include "moves.h"
 #include "power.h"
 #include "recording.h"
@@ -99,7 +99,7 @@ static void keep(struct end *e, const struct change *c, const struct call *call)
 {
     power_point(e);
     if (journal_append(&e->journal, c, fails_here, e) != 0) {
-        fprintf(stderr, "host: the journal %s can not be written\n", e->journal.path);
+        fprintf(stderr, "peat-host: the journal %s can not be written\n", e->journal.path);
         exit(2);
     }
     memory_apply(&e->memory, c);
@@ -201,11 +201,11 @@ static unsigned message_told(const struct end *e, struct peat_answer answer, uin
 /* A delivered message goes to the broker of this end in an envelope, and from there to its user. */
 static void deliver(struct end *e, const uint8_t *message, unsigned bits)
 {
-    struct mail m = {0};
-    struct letter l;
+    struct outbox_bytes m = {0};
+    struct envelope l;
     struct arrival a = {0};
-    mail_post(&m, fault(MIXES_KINDS) ? PEAT_ENVELOPE_TO_SEND : PEAT_ENVELOPE_DELIVERED, ++e->watch.delivered, bits, message);
-    while (mail_next(&m, &a, &l)) {
+    outbox_post(&m, fault(MIXES_KINDS) ? PEAT_ENVELOPE_TO_SEND : PEAT_ENVELOPE_DELIVERED, ++e->watch.delivered, bits, message);
+    while (outbox_next(&m, &a, &l)) {
         recording_got(e, &l);
         if (l.kind == PEAT_ENVELOPE_DELIVERED)
             show(e, l.body, l.bits);
@@ -427,7 +427,7 @@ void end_loads(struct end *e)
     e->unheard.count = 0;
     loaded = journal_load(&e->journal, &e->memory);
     if (loaded == NOT_LOADED) {
-        fprintf(stderr, "host: the journal %s is damaged; its end stays down\n", e->journal.path);
+        fprintf(stderr, "peat-host: the journal %s is damaged; its end stays down\n", e->journal.path);
         exit(2);
     }
     account.loaded++;

@@ -7,7 +7,7 @@
 
 struct entry;
 
-/* begins a file of frames; -1 where it can not be written. pad: see host --help. */
+/* begins a file of frames; -1 where it can not be written. pad: see peat-host --help. */
 int capture_begin(const char *path, int pad);
 
 /* An entry that an end of a dialogue sent reaches the other end. type: enum peat_type, which a start says as its AE qualifier. Without a

@@ -18,7 +18,7 @@ static void *grown(void *list, uint64_t *room, uint64_t need, size_t size)
     *room = 2 * need + 64;
     list = realloc(list, *room * size);
     if (list == NULL) {
-        fputs("host: there is no memory for what a user knows\n", stderr);
+        fputs("peat-host: there is no memory for what a user knows\n", stderr);
         exit(2);
     }
     memset((char *)list + old * size, 0, (*room - old) * size);

@@ -1,4 +1,4 @@
-/* The code that asn1c generates from tests/per/PeatribbonPDUs.asn, behind the few calls that the bench makes of it. */
+/* The code that asn1c generates from tests/fields/PeatribbonPDUs.asn, behind the few calls that the bench makes of it. */
 #ifndef ASN1C_H
 #define ASN1C_H
 

@@ -23,7 +23,7 @@
 #include "jobs.h"
 #include "journal.h"
 #include "link.h"
-#include "mail.h"
+#include "payload.h"
 #include "metrics.h"
 #include "page.h"
 
@@ -77,7 +77,7 @@ struct dialogue {
     int queue_away;         /* it could not be consumed when it was tried last */
     enum { NOT_HANDED, HANDING, HANDED } handed; /* back to the queue: what was delivered and not read */
     struct payload *inbox, *inbox_last;
-    struct mail mail;       /* the first payload, where it was begun */
+    struct payload_reader reader; /* the first payload, where it was begun */
     int reading;            /* it was */
     int waits;              /* its envelope that was read last waits for a message number: all are open */
     struct envelope envelope;

@@ -13,7 +13,7 @@
 #include "given.h"
 #include "heads.h"
 #include "log.h"
-#include "mail.h"
+#include "payload.h"
 #include "message.h"
 #include "peatribbon_names.h"
 
@@ -602,19 +602,19 @@ int call_envelope(struct bridge *b, struct dialogue *d)
             call_dead(b, d, "too long", p->byte, p->length);
             return 0;
         }
-        mail_begin(&d->mail, p->byte, p->length);
+        payload_begin(&d->reader, p->byte, p->length);
         d->reading = 1;
     }
     if (!d->waits)
-        refusal = mail_take(&d->mail, &d->envelope);
+        refusal = payload_take(&d->reader, &d->envelope);
     d->waits = 0;
-    from = mail_place(&d->mail);
+    from = payload_place(&d->reader);
     if (refusal != PEAT_TAKEN) {
         call_dead(b, d, refusal_name(refusal), p->byte + from, p->length - from);
         return 0;
     }
-    sort_envelope(b, d, &d->envelope, p->heads, p->byte + from, d->mail.at - from);
+    sort_envelope(b, d, &d->envelope, p->heads, p->byte + from, d->reader.at - from);
     if (d->waits)
         return 1;
-    return mail_waits(&d->mail);
+    return payload_waits(&d->reader);
 }

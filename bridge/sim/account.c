@@ -4,7 +4,7 @@
 #include <string.h>
 
 #include "../jobs.h"
-#include "../mail.h"
+#include "../payload.h"
 #include "peatribbon.h"
 
 #define JOBS_MOST 10000000 /* a job above this is none that a simulator gives */
@@ -112,10 +112,10 @@ static void tell_fate(struct account *a, unsigned dialogue, int ended, const uin
 /* An envelope: a refusal, or a job that was laid aside. Other bytes that were laid aside are no job's. */
 static void tell_envelope(struct account *a, unsigned dialogue, int dead, const uint8_t *body, size_t bytes)
 {
-    struct mail m;
+    struct payload_reader m;
     struct envelope e;
-    mail_begin(&m, body, bytes);
-    if (mail_take(&m, &e) != PEAT_TAKEN || e.kind != (dead ? PEAT_ENVELOPE_TO_SEND : PEAT_ENVELOPE_REFUSAL)) {
+    payload_begin(&m, body, bytes);
+    if (payload_take(&m, &e) != PEAT_TAKEN || e.kind != (dead ? PEAT_ENVELOPE_TO_SEND : PEAT_ENVELOPE_REFUSAL)) {
         a->odd += !dead;
         return;
     }

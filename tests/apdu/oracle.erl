@@ -1,5 +1,5 @@
 #!/usr/bin/env escript
-%% An independent coder: the asn1 application of Erlang/OTP, unaligned PER, over the ASN.1 module of tests/per.
+%% An independent coder: the asn1 application of Erlang/OTP, unaligned PER, over the ASN.1 module of tests/fields.
 %%
 %%   oracle.erl encode MODULE.asn    reads lines SIDE KIND NUMBER ID MSG CHECK ADDITION.., prints BITS HEX for each
 %%   oracle.erl decode MODULE.asn    reads lines SIDE HEX, prints SIDE KIND NUMBER ID MSG CHECK for each, or `refused`

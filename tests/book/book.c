@@ -11,9 +11,10 @@
 #include <stdio.h>
 #include <stdlib.h>
 #include <string.h>
-#include <sys/mman.h>
-#include <unistd.h>
 
+#define CHANCE_SEED 20260202
+#include "../lib/chance.h"
+#include "../lib/guard.h"
 #include "calls.h"
 
 static unsigned long passed, failed;
@@ -29,21 +30,6 @@ static int check(int right, const char *name)
     return right;
 }
 
-/* ---- chance: a fixed seed, so that each run makes the same calls */
-
-static uint64_t chance_state = 20260202;
-
-static uint64_t any(void)
-{
-    uint64_t z = chance_state += UINT64_C(0x9E3779B97F4A7C15);
-    z = (z ^ z >> 30) * UINT64_C(0xBF58476D1CE4E5B9);
-    z = (z ^ z >> 27) * UINT64_C(0x94D049BB133111EB);
-    return z ^ z >> 31;
-}
-
-static unsigned below(unsigned n) { return (unsigned)(any() % n); }
-static int once_in(unsigned n) { return below(n) == 0; }
-
 /* ---- the lent range, in one page between two that can not be read */
 
 #define PLACE 4096u
@@ -54,11 +40,7 @@ static uint8_t copy[PLACE]; /* the model's */
 
 static void make_place(void)
 {
-    uint8_t *at = mmap(NULL, 3 * PLACE, PROT_READ | PROT_WRITE, MAP_PRIVATE | MAP_ANONYMOUS, -1, 0);
-    if (sysconf(_SC_PAGESIZE) > (long)PLACE || at == MAP_FAILED || mprotect(at, PLACE, PROT_NONE) != 0 ||
-        mprotect(at + 2 * PLACE, PLACE, PROT_NONE) != 0)
-        exit(2);
-    place = at + PLACE;
+    place = guarded_end(PLACE) - PLACE;
     memset(place, 0x5A, PLACE);
 }
 

@@ -16,7 +16,7 @@
 
 #include "../../bridge/clock.h"
 #include "../../bridge/jobs.h"
-#include "../../bridge/mail.h"
+#include "../../bridge/payload.h"
 #include "../../bridge/sim/clearance.h"
 #include "matrix.h"
 
@@ -107,12 +107,12 @@ static void count_fate(const struct memory_letter *l, unsigned *counts)
 /* the job of an envelope; of a delivered one that of its message */
 static uint64_t job_of(const struct memory_letter *l, int delivered)
 {
-    struct mail m;
+    struct payload_reader m;
     struct envelope e;
     unsigned number;
     uint64_t job;
-    mail_begin(&m, l->body, l->bytes);
-    if (mail_take(&m, &e) != PEAT_TAKEN)
+    payload_begin(&m, l->body, l->bytes);
+    if (payload_take(&m, &e) != PEAT_TAKEN)
         return 0;
     job = delivered ? clearance_job(e.body, e.bits, 0, &number) : e.job;
     return job <= JOBS ? job : 0;

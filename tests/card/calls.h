@@ -5,7 +5,7 @@
 #include "../lib/answers.h"
 #include "model.h"
 
-static uint64_t card_call(enum which w, const struct args *a)
+static inline uint64_t card_call(enum which w, const struct args *a)
 {
 #define REC a->rec.at, a->rec.len
 #define DATA a->ids.at, a->ids.len, a->msgs.at, a->msgs.len, a->message, a->checks.at, a->checks.len, a->check

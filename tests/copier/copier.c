@@ -7,8 +7,8 @@
 #include <stdint.h>
 #include <stdio.h>
 #include <string.h>
-#include <sys/mman.h>
-#include <unistd.h>
+
+#include "../lib/guard.h"
 
 uint64_t bench_copy(uint8_t *dst, size_t dst_len, size_t to, const uint8_t *src, size_t src_len, size_t at, size_t n);
 
@@ -18,13 +18,7 @@ static size_t page;
 static unsigned long passed, failed;
 
 /* PAGES pages between two that can't be touched */
-static uint8_t *room(void)
-{
-    uint8_t *base = mmap(NULL, (PAGES + 2) * page, PROT_NONE, MAP_PRIVATE | MAP_ANONYMOUS, -1, 0);
-    if (base == MAP_FAILED || mprotect(base + page, PAGES * page, PROT_READ | PROT_WRITE) != 0)
-        return NULL;
-    return base + page;
-}
+static uint8_t *room(void) { return guarded_end(PAGES * page) - PAGES * page; }
 
 static size_t bytes_for(size_t bits) { return (bits + 7) / 8; }
 
@@ -77,10 +71,6 @@ int main(void)
     uint8_t *from, *into;
     page = (size_t)sysconf(_SC_PAGESIZE);
     from = room(), into = room();
-    if (from == NULL || into == NULL) {
-        puts("copier: no pages");
-        return 1;
-    }
     for (size_t bits = 0; bits <= SHORT; bits++)
         try_length(from, into, bits);
     for (size_t i = 0; i < sizeof longest / sizeof *longest; i++)

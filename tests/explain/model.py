@@ -1,4 +1,4 @@
-"""What the program `explain` prints of a line, worked out from the documents: the fields by tests/per's readers, which know nothing of the card, and the
+"""What the program `explain` prints of a line, worked out from the documents: the fields by tests/fields's readers, which know nothing of the card, and the
 refusals by tests/apdu's, tests/plain's and tests/inner's models."""
 import importlib.util
 import sys

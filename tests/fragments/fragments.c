@@ -11,9 +11,10 @@
 #include <stdio.h>
 #include <stdlib.h>
 #include <string.h>
-#include <sys/mman.h>
-#include <unistd.h>
 
+#define CHANCE_SEED 20260404
+#include "../lib/chance.h"
+#include "../lib/guard.h"
 #include "model.h"
 
 #ifndef FAULT
@@ -32,20 +33,6 @@ static int check(int right, const char *name)
     return right;
 }
 
-/* ---- chance: a fixed seed, so that each run makes the same calls */
-
-static uint64_t chance_state = 20260404;
-
-static uint64_t any(void)
-{
-    uint64_t z = chance_state += UINT64_C(0x9E3779B97F4A7C15);
-    z = (z ^ z >> 30) * UINT64_C(0xBF58476D1CE4E5B9);
-    z = (z ^ z >> 27) * UINT64_C(0x94D049BB133111EB);
-    return z ^ z >> 31;
-}
-
-static unsigned below(unsigned n) { return (unsigned)(any() % n); }
-
 /* ---- lent ranges: each ends before an unreadable page; the bytes before it are known */
 
 #define ROOM 65536u
@@ -55,11 +42,9 @@ static uint8_t *record_end, *fragment_end;
 
 static uint8_t *place_end(void)
 {
-    uint8_t *at = mmap(NULL, ROOM + 65536u, PROT_READ | PROT_WRITE, MAP_PRIVATE | MAP_ANONYMOUS, -1, 0);
-    if (at == MAP_FAILED || mprotect(at + ROOM, 65536u, PROT_NONE) != 0)
-        exit(2);
-    memset(at, 0xC3, ROOM);
-    return at + ROOM;
+    uint8_t *end = guarded_end(ROOM);
+    memset(end - ROOM, 0xC3, ROOM);
+    return end;
 }
 
 static int beside(const uint8_t *at)

@@ -18,9 +18,8 @@
 #include <stdio.h>
 #include <stdlib.h>
 #include <string.h>
-#include <sys/mman.h>
-#include <unistd.h>
 
+#include "../lib/guard.h"
 #include "peatribbon.h"
 
 #define PLACE 4096u /* bytes for a range; one page */
@@ -36,13 +35,7 @@ struct range {
 
 static struct range bits, message, text, out;
 
-static void make(struct range *r)
-{
-    uint8_t *at = mmap(NULL, 2 * PLACE, PROT_READ | PROT_WRITE, MAP_PRIVATE | MAP_ANONYMOUS, -1, 0);
-    if (sysconf(_SC_PAGESIZE) > (long)PLACE || at == MAP_FAILED || mprotect(at + PLACE, PLACE, PROT_NONE) != 0)
-        exit(2);
-    r->end = at + PLACE;
-}
+static void make(struct range *r) { r->end = guarded_end(PLACE); }
 
 /* the range, of so many bytes, which hold other numbers at each question */
 static void lend(struct range *r, size_t len)

@@ -9,7 +9,7 @@ import sys
 from pathlib import Path
 
 HERE = Path(__file__).resolve().parent
-sys.path.insert(0, str(HERE.parent / "per"))
+sys.path.insert(0, str(HERE.parent / "fields"))
 import reference as per  # noqa: E402
 from reference import Refused  # noqa: E402
 

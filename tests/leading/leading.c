@@ -10,9 +10,8 @@
 #include <stdio.h>
 #include <stdlib.h>
 #include <string.h>
-#include <sys/mman.h>
-#include <unistd.h>
 #include "../lib/answers.h"
+#include "../lib/guard.h"
 
 enum { PLACE = 65536, WRONG = 8, RANDOM = 400000, DAMAGED = 40 };
 
@@ -193,10 +192,7 @@ static void ask_random(void)
 
 int main(int argc, char **argv)
 {
-    uint8_t *at = mmap(NULL, 2 * PLACE, PROT_READ | PROT_WRITE, MAP_PRIVATE | MAP_ANONYMOUS, -1, 0);
-    if (sysconf(_SC_PAGESIZE) > (long)PLACE || at == MAP_FAILED || mprotect(at + PLACE, PLACE, PROT_NONE) != 0)
-        return 2;
-    edge = at + PLACE;
+    edge = guarded_end(PLACE);
     if (argc == 3 && strcmp(argv[1], "--wrong") == 0)
         wrong = atoi(argv[2]);
     if (argc != 1 && (wrong < 0 || wrong > WRONG))

@@ -11,19 +11,16 @@
 #include <stdlib.h>
 #include <string.h>
 #include <time.h>
-#include <ucontext.h>
 
 #include "../lib/answers.h"
+#include "../lib/stack.h"
 
 #define STACK 2048
-#define PAINT 0xA5
 
 static uint8_t first[PEAT_RECORDING_MOST], second[PEAT_RECORDING_MOST], left[PEAT_LIST_MOST], right[PEAT_LIST_MOST], twice[PEAT_LIST_MOST], counts[PEAT_COUNTS_BYTES];
 static size_t m, n, places_left, places_right, places_twice;
 static uint64_t answer;
 static int empty_call;
-static uint8_t painted[65536];
-static ucontext_t here, there;
 
 static void call(void)
 {
@@ -33,19 +30,11 @@ static void call(void)
 
 static size_t stack_of(int empty)
 {
-    size_t i;
+    size_t touched;
     empty_call = empty;
-    memset(painted, PAINT, sizeof painted);
-    getcontext(&there);
-    there.uc_stack.ss_sp = painted;
-    there.uc_stack.ss_size = sizeof painted;
-    there.uc_link = &here;
-    makecontext(&there, call, 0);
-    swapcontext(&here, &there);
+    touched = stack_touched(call);
     empty_call = 0;
-    for (i = 0; painted[i] == PAINT; i++)
-        ;
-    return sizeof painted - i;
+    return touched;
 }
 
 static double milliseconds(void)

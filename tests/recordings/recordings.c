@@ -10,8 +10,10 @@
 #include <stdio.h>
 #include <stdlib.h>
 #include <string.h>
-#include <sys/mman.h>
 
+#define CHANCE_SEED 20261116
+#include "../lib/chance.h"
+#include "../lib/guard.h"
 #include "model.h"
 
 static unsigned long passed, failed;
@@ -25,20 +27,6 @@ static int check(int right, const char *name)
     return right;
 }
 
-/* ---- chance: a fixed seed, so that each run makes the same calls */
-
-static uint64_t chance_state = 20261116;
-
-static uint64_t any(void)
-{
-    uint64_t z = chance_state += UINT64_C(0x9E3779B97F4A7C15);
-    z = (z ^ z >> 30) * UINT64_C(0xBF58476D1CE4E5B9);
-    z = (z ^ z >> 27) * UINT64_C(0x94D049BB133111EB);
-    return z ^ z >> 31;
-}
-
-static unsigned below(unsigned n) { return (unsigned)(any() % n); }
-
 /* ---- lent ranges: each ends before an unreadable page; the bytes before it are known */
 
 #define ROOM 131072u
@@ -51,13 +39,10 @@ static void make_ranges(void)
 {
     int i;
     for (i = 0; i < RANGES; i++) {
-        uint8_t *at = mmap(NULL, ROOM + 65536u, PROT_READ | PROT_WRITE, MAP_PRIVATE | MAP_ANONYMOUS, -1, 0);
         size_t k;
-        if (at == MAP_FAILED || mprotect(at + ROOM, 65536u, PROT_NONE) != 0)
-            exit(2);
+        end_of[i] = guarded_end(ROOM);
         for (k = 0; k < ROOM; k++)
-            at[k] = (uint8_t)(k * 7 + (size_t)i);
-        end_of[i] = at + ROOM;
+            (end_of[i] - ROOM)[k] = (uint8_t)(k * 7 + (size_t)i);
     }
 }
 

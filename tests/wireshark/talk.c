@@ -239,7 +239,7 @@ static void messages(unsigned long count)
     }
 }
 
-/* clearances by their numbers, each with the number that the host set in it (host/clearance.h) */
+/* clearances by their numbers, each with the number that the host set in it (simulator/clearance.h) */
 static void clearances(void)
 {
     static struct clearance c;

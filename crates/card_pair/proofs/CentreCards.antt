@@ -3,7 +3,7 @@
 use mathlib.Core.Path.{_≡_, refl, ap, sym, subst, _∙_}
 use mathlib.Core.Bool.{Bool, true, false, not, cond}
 use mathlib.Core.List.{List, []}
-use Prim.Native.Nat.{ℕ, _^_, _≤_, _<_}
+use Prim.Native.Nat.{ℕ, _^_, _/_, _%_, _≤_, _<_}
 use native.Mathlib.Omega.{arith}
 use borrow.Author.Tests.{eq-eqb, ne-eqb, le-leb, lt-ltb, le-ltb, ltb-true}
 use lib.Dec.{T, eqb, ltb}
@@ -64,22 +64,22 @@ use Rattle.machine.specs.declared.outcome.Outcome as O
 use Rattle.numbered.specs.Numbers.{userStarts, serviceStarts, isStart as isStartEvent, isService, isStale, heldAfter, refusalOf, numberedStep}
 use Rattle.numbered.proofs.Laws.{shape-first, then-step}
 use Rattle.stored.specs.Stored.{recordBytes, loadAt, storeAt}
-use Rattle.packed.specs.Packed.{three, invokedNumber, toldNumber, versionNumber}
+use Rattle.packed.specs.Packed.{codes, three, invokedNumber, toldNumber, versionNumber}
 use Rattle.step.specs.Call.{Carried, Called, called as calledWith, carriesData, carriesForward, carriedBy, noData, bitsOfWritten, pduTo, firstTakes, passes, secondTakes, finished, concluded, entering, eventStep, userStep, userCall, userBy, forwardStep, forwardBy, readsAs, readsAgain, readPdu, meaning, dataStep, bareStep, serviceStep, serviceBy}
 use Rattle.stored.specs.declared.Loaded.{Loaded}
 use Rattle.stored.specs.declared.Loaded.the-variants.{Is}
 use Rattle.stored.proofs.Storing.{length-stored, loaded-stored}
 use Rattle.step.proofs.Calling.{with-record}
-use Rattle.packed.proofs.Unpacked.{invoked-low, told-low, refusal-unpacked, invoked-unpacked, sent-unpacked, version-unpacked, code-unpacked, parameter-unpacked, last-unpacked}
+use Rattle.packed.proofs.Unpacked.{invoked-low, told-low, refusal-unpacked, invoked-unpacked, told-unpacked, sent-unpacked, version-unpacked, code-unpacked, parameter-unpacked, last-unpacked}
 use Rattle.step.proofs.Taken.{Coded}
 use Rattle.card.specs.Face.{noCount, givenData, messageRequested, abortRequested, holdsMessage}
 use Rattle.pair.specs.Names.{Side, Ground, Control, isIdle, waits, entered, closed, takes}
 use Rattle.pair.specs.Names.{Forward as FORWARD}
-use Rattle.pair.specs.Carrier.{Sent, nothing, Outcome, refused, acts, begins, plain, begins?, isStart, starts}
+use Rattle.pair.specs.Carrier.{Sent, nothing, puts, Outcome, refused, acts, begins, plain, begins?, isStart, starts}
 use Rattle.pair.specs.Numbered.{Numbered}
 use Rattle.pair.specs.Wires.{Wire, sortOf, arrives, rejects}
 use Rattle.pair.proofs.TwoCentres.{Begun, Back, Starts, Returns, Comes, Quiet, Answers, Refuses, Centre}
-use Rattle.card_pair.specs.Answered.{isTaken, invokedPart, invokedOf, entryOf, handedOf}
+use Rattle.card_pair.specs.Answered.{isTaken, invokedPart, toldPart, invokedOf, entryOf, handedOf}
 use Rattle.card_pair.specs.CardMachine.{Word, Asked, start-request, start-response, message-request, end-request, end-response, user-abort, controlIn, heldBy, putOn}
 use Rattle.card_pair.specs.CentreMachine.{Passed, CentreAsked, forward-request, other-call, Desk, versionPart, betweenCentres, centreEntry, after, does, lent-first, lent-second, hears, reports, forwards, centreAsks, centreMachine}
 use Rattle.card_pair.specs.Promise.{Rests}
@@ -187,6 +187,10 @@ module _ (p : ℕ) (ed : Edition) (ver : ℕ) (d : Desk) (at : At p ed ver d) wh
     invoked-is : invokedPart (Ended m o li lm lc x .number) ≡ invokedNumber (o .invoked)
     unfolding concluded finished
     invoked-is = rw t (invoked-unpacked _ _ _ _ _ (invoked-low (o .invoked)))
+
+    told-is : toldPart (Ended m o li lm lc x .number) ≡ toldNumber (o .told)
+    unfolding concluded finished
+    told-is = rw t (told-unpacked _ _ _ _ _ (invoked-low (o .invoked)) (told-low (o .told)))
 
     loads-next : Coded (o .next) → m < 2 ^ 64 → loadAt (Ended m o li lm lc x .kept) ≡ Is Ground (o .next) m
     loads-next k l = ap loadAt kept-is ∙ stored-loads (o .next) m k l .0
@@ -335,6 +339,20 @@ Rest p ed ver d = Rests p ed ver (d .kept .bytes)
 
 clash : {A : Type 0} → true ≡ false → A
 clash e = absurd (subst T e tt)
+
+-- the call c answers a forward; the answer says success exactly where the user is told of it (a forward indication, 8)
+pub record Replies (ed : Edition) (d : Desk) (c : Called) : Type 0 where
+  pub result : ℕ
+  pub reads : apduAt ed pdu.GroundPdus (lent (centreEntry c .it .bytes)) ≡ decoded.Is (is.ForwardResponse result)
+  pub sends : does d c ≡ acts (after d c) (handedOf c) (puts (centreEntry c))
+  pub tells : eqb (toldPart (c .number) % codes) 8 ≡ eqb result success
+
+-- the call c tells the user what the answer w says (a forward confirmation, 9)
+pub record Confirms (ed : Edition) (w : Numbered Wire) (c : Called) : Type 0 where
+  pub result : ℕ
+  pub reads : apduAt ed pdu.GroundPdus (lent (w .it .bytes)) ≡ decoded.Is (is.ForwardResponse result)
+  pub code : toldPart (c .number) % codes ≡ 9
+  pub parameter : toldPart (c .number) / codes % codes ≡ result
 
 -- ---- what is read back
 
@@ -576,13 +594,16 @@ module _ (p : ℕ) (ed : Edition) (ver : ℕ) (fair : securitySent (secures ed) 
 
   -- ---- a forward arrives
 
+  abbrev Reply : Numbered Wire → ℕ → Told → Carried → Called
+  Reply w z t c = concluded (d .kept .bytes) (lent-first d) (lent-second d) (x .edition) Ground (w .no) (responds x z p noVersion t) (lent (w .it .bytes)) (lent (w .it .bytes)) (lent (w .it .bytes)) c
+
   -- it was answered by the result z, with t told to the user
   module _ (w : Numbered Wire) (z : ℕ) (t : Told) (c : Carried) (zl : ltb z forwardResults ≡ true) (sh : apduFits (x .edition) pdu.GroundPdus (lent (w .it .bytes)) (lent (w .it .bytes)) (lent (w .it .bytes)) (is.ForwardResponse z) ≡ true) (quiet : versionNumber (DStartForwardResponse p noVersion) t ≡ noVersion) (low : w .no < 2 ^ 64) where
     abbrev B : O.Outcome
     B = responds x z p noVersion t
 
     abbrev K : Called
-    K = concluded (d .kept .bytes) (lent-first d) (lent-second d) (x .edition) Ground (w .no) (responds x z p noVersion t) (lent (w .it .bytes)) (lent (w .it .bytes)) (lent (w .it .bytes)) c
+    K = Reply w z t c
 
     reply-coded : Coded (responds x z p noVersion t .next)
     unfolding responds enter
@@ -608,17 +629,34 @@ module _ (p : ℕ) (ed : Edition) (ver : ℕ) (fair : securitySent (secures ed) 
         ∙ ap (betweenCentres (versionPart (K .number))) (response-back sends (omega (arith, sends-low)))
         ∙ ap (DStartForwardResponse sends) (v ∙ quiet) ∙ ap (λ (s : ℕ). DStartForwardResponse s noVersion) sends-it
 
-    reply-good : Good p ed ver (centreEntry K)
+    reply-reads : apduAt ed pdu.GroundPdus (lent (centreEntry K .it .bytes)) ≡ decoded.Is (is.ForwardResponse z)
     unfolding responds firstTakes apduFits pduFits pduIn
-    reply-good =
+    reply-reads =
         let r = put-read (x .edition) (is.ForwardResponse z) (w .it .bytes) (lent-first d) sh (d .lends (d .kept .calls) .first-full) in
         let b = bytes-are p ed ver d at-rest (w .no) B (lent (w .it .bytes)) (lent (w .it .bytes)) (lent (w .it .bytes)) c reply-taken (is.ForwardResponse z) sh refl in
-        subst (λ (y : Edition). Good p y ver (centreEntry K)) (h .begins .edition)
-        (a-response z zl reply-primitive (ap (λ (l : List ℕ). apduAt (x .edition) pdu.GroundPdus (lent l)) b ∙ r .read ∙ ap decoded.Is (response-value _ (r .value) z (r .same))))
+        subst (λ (y : Edition). apduAt y pdu.GroundPdus (lent (centreEntry K .it .bytes)) ≡ decoded.Is (is.ForwardResponse z)) (h .begins .edition)
+        (ap (λ (l : List ℕ). apduAt (x .edition) pdu.GroundPdus (lent l)) b ∙ r .read ∙ ap decoded.Is (response-value _ (r .value) z (r .same)))
+
+    reply-good : Good p ed ver (centreEntry K)
+    reply-good = a-response z zl reply-primitive reply-reads
+
+    reply-number : isTaken (K .number) ≡ true
+    reply-number = number-taken p ed ver d at-rest (w .no) B (lent (w .it .bytes)) (lent (w .it .bytes)) (lent (w .it .bytes)) c reply-taken
+
+    -- what is told, and what the answer says
+    reply-tells : eqb (toldNumber t % codes) 8 ≡ eqb z success → Replies ed d K
+    unfolding responds
+    reply-tells e =
+        record {
+          result = z;
+          reads = reply-reads;
+          sends = ap (λ (b : Bool). cond b (acts (after d K) (handedOf K) (putOn (centreEntry K) (centreEntry K .it .primitive))) refused) reply-number ∙ ap (λ (i : Invoked). acts (after d K) (handedOf K) (putOn (centreEntry K) i)) reply-primitive;
+          tells = ap (λ (i : ℕ). eqb (i % codes) 8) (told-is p ed ver d at-rest (w .no) B (lent (w .it .bytes)) (lent (w .it .bytes)) (lent (w .it .bytes)) c reply-taken) ∙ e;
+        }
 
     replied : Answers (centreMachine p) (Rest p ed ver) (Good p ed ver) w (does d K)
     replied =
-        taken-does (Answers (centreMachine p) (Rest p ed ver) (Good p ed ver) w) d K (number-taken p ed ver d at-rest (w .no) B (lent (w .it .bytes)) (lent (w .it .bytes)) (lent (w .it .bytes)) c reply-taken)
+        taken-does (Answers (centreMachine p) (Rest p ed ver) (Good p ed ver) w) d K reply-number
         (subst (λ (i : Invoked). Answers (centreMachine p) (Rest p ed ver) (Good p ed ver) w (acts (after d K) (handedOf K) (putOn (centreEntry K) i))) (sym reply-primitive)
         (record { rest = reply-rests; good = reply-good; plain = ap sortOf reply-primitive; number = ap numberIn reply-loads; holds = ap numberIn reply-loads }))
 
@@ -645,30 +683,46 @@ module _ (p : ℕ) (ed : Edition) (ver : ℕ) (fair : securitySent (secures ed) 
     same-version : eqb ver (x .version) ≡ true
     same-version = eq-eqb ver (x .version) (sym (h .version))
 
-    forward-answered : (c : Carried) → Answers (centreMachine p) (Rest p ed ver) (Good p ed ver) w (does d (concluded (d .kept .bytes) (lent-first d) (lent-second d) (x .edition) Ground (w .no) (numberedStep Ground x y (Service I Forward) (w .no)) (lent (w .it .bytes)) (lent (w .it .bytes)) (lent (w .it .bytes)) c))
-    unfolding apduFits
-    forward-answered c = subst (λ (o : O.Outcome). Answers (centreMachine p) (Rest p ed ver) (Good p ed ver) w (does d (E o))) (sym (then-step Ground x y (Service I Forward) (w .no) not-stale)) (go (x .forwards) refl)
+    -- a property of a call that holds where the forward is answered by success and told, and by "not supported" and not told, holds of it
+    forward-answered : (c : Carried) (P : Called → Type 0) → P (Reply w success ForwardIndication c) → P (Reply w serviceNotSupported Untold c) → P (concluded (d .kept .bytes) (lent-first d) (lent-second d) (x .edition) Ground (w .no) (numberedStep Ground x y (Service I Forward) (w .no)) (lent (w .it .bytes)) (lent (w .it .bytes)) (lent (w .it .bytes)) c)
+    forward-answered c P told untold = subst (λ (o : O.Outcome). P (E o)) (sym (then-step Ground x y (Service I Forward) (w .no) not-stale)) (go (x .forwards) refl)
       where
         E : O.Outcome → Called
         E o = concluded (d .kept .bytes) (lent-first d) (lent-second d) (x .edition) Ground (w .no) o (lent (w .it .bytes)) (lent (w .it .bytes)) (lent (w .it .bytes)) c
 
-        go : (b : Bool) → x .forwards ≡ b → Answers (centreMachine p) (Rest p ed ver) (Good p ed ver) w (does d (E (step Ground x (Service I Forward))))
-        go true e = subst (λ (o : O.Outcome). Answers (centreMachine p) (Rest p ed ver) (Good p ed ver) w (does d (E o))) (sym (supported x p ver (qosAsked k) indication-fits idle right fits e same-version)) (replied w success ForwardIndication c refl refl refl low)
-        go false e = subst (λ (o : O.Outcome). Answers (centreMachine p) (Rest p ed ver) (Good p ed ver) w (does d (E o))) (sym (not-supported x p ver (qosAsked k) indication-fits idle right fits e)) (replied w serviceNotSupported Untold c refl refl refl low)
+        go : (b : Bool) → x .forwards ≡ b → P (E (step Ground x (Service I Forward)))
+        go true e = subst (λ (o : O.Outcome). P (E o)) (sym (supported x p ver (qosAsked k) indication-fits idle right fits e same-version)) told
+        go false e = subst (λ (o : O.Outcome). P (E o)) (sym (not-supported x p ver (qosAsked k) indication-fits idle right fits e)) untold
 
   -- what is read
   rest-reads : (k : ℕ) (l : List ℕ) (f : Forwarded) → apduAt ed pdu.GroundPdus l ≡ decoded.Is (is.Forward f) → meaning (readPdu (x .edition) Ground (x .control) (DStartIndication facility p (qosAsked k) ver) l) ≡ Forward
   unfolding readPdu readsAs readsAgain meaning
   rest-reads k l f e = rw (h .begins .edition, e)
 
-  pub rest-answers : (w : Numbered Wire) → Good p ed ver w → isStart (centreMachine p .at) w ≡ true → y < w .no → Answers (centreMachine p) (Rest p ed ver) (Good p ed ver) w (does d (hears d (arrives Ground (w .it .primitive)) (w .no) 1 (w .it .bytes)))
+  abbrev Heard : Numbered Wire → Called
+  Heard w = hears d (arrives Ground (w .it .primitive)) (w .no) 1 (w .it .bytes)
+
+  rest-by : (w : Numbered Wire) (P : Called → Type 0) → Good p ed ver w → isStart (centreMachine p .at) w ≡ true → y < w .no → ((c : Carried) → w .no < 2 ^ 64 → P (Reply w success ForwardIndication c)) → ((c : Carried) → w .no < 2 ^ 64 → P (Reply w serviceNotSupported Untold c)) → P (Heard w)
   unfolding heldAfter isStartEvent serviceStarts
-  rest-answers w (a-response z zl e r) st above = clash (sym st ∙ ap (λ (i : Invoked). begins? (sortOf i)) e)
-  rest-answers w (a-forward k kl e f r low) st above =
-      subst (λ (i : Invoked). Answers (centreMachine p) (Rest p ed ver) (Good p ed ver) w (does d (hears d (arrives Ground i) (w .no) 1 (w .it .bytes)))) (sym e)
-      (subst (λ (c : Called). Answers (centreMachine p) (Rest p ed ver) (Good p ed ver) w (does d c)) (sym (heard-data p ed ver d at-rest (DStartIndication facility p (qosAsked k) ver) (w .no) (w .it .bytes)))
-      (subst (λ (a : UserData). Answers (centreMachine p) (Rest p ed ver) (Good p ed ver) w (does d (concluded (d .kept .bytes) (lent-first d) (lent-second d) (x .edition) Ground (w .no) (numberedStep Ground x y (Service (DStartIndication facility p (qosAsked k) ver) a) (w .no)) (lent (w .it .bytes)) (lent (w .it .bytes)) (lent (w .it .bytes)) (carriedBy (readPdu (x .edition) Ground (x .control) (DStartIndication facility p (qosAsked k) ver) (lent (w .it .bytes)))))))
-      (sym (rest-reads k (lent (w .it .bytes)) f r)) (forward-answered w k kl low above (carriedBy (readPdu (x .edition) Ground (x .control) (DStartIndication facility p (qosAsked k) ver) (lent (w .it .bytes)))))))
+  rest-by w P (a-response z zl e r) st above told untold = clash (sym st ∙ ap (λ (i : Invoked). begins? (sortOf i)) e)
+  rest-by w P (a-forward k kl e f r low) st above told untold =
+      subst (λ (i : Invoked). P (hears d (arrives Ground i) (w .no) 1 (w .it .bytes))) (sym e)
+      (subst P (sym (heard-data p ed ver d at-rest (DStartIndication facility p (qosAsked k) ver) (w .no) (w .it .bytes)))
+      (subst (λ (a : UserData). P (concluded (d .kept .bytes) (lent-first d) (lent-second d) (x .edition) Ground (w .no) (numberedStep Ground x y (Service (DStartIndication facility p (qosAsked k) ver) a) (w .no)) (lent (w .it .bytes)) (lent (w .it .bytes)) (lent (w .it .bytes)) (carriedBy (readPdu (x .edition) Ground (x .control) (DStartIndication facility p (qosAsked k) ver) (lent (w .it .bytes))))))
+      (sym (rest-reads k (lent (w .it .bytes)) f r))
+      (forward-answered w k kl low above (carriedBy (readPdu (x .edition) Ground (x .control) (DStartIndication facility p (qosAsked k) ver) (lent (w .it .bytes)))) P (told (carriedBy (readPdu (x .edition) Ground (x .control) (DStartIndication facility p (qosAsked k) ver) (lent (w .it .bytes)))) low) (untold (carriedBy (readPdu (x .edition) Ground (x .control) (DStartIndication facility p (qosAsked k) ver) (lent (w .it .bytes)))) low))))
+
+  pub rest-answers : (w : Numbered Wire) → Good p ed ver w → isStart (centreMachine p .at) w ≡ true → y < w .no → Answers (centreMachine p) (Rest p ed ver) (Good p ed ver) w (does d (Heard w))
+  unfolding apduFits
+  rest-answers w g st above =
+      rest-by w (λ (c : Called). Answers (centreMachine p) (Rest p ed ver) (Good p ed ver) w (does d c)) g st above
+      (λ (c : Carried) (low : w .no < 2 ^ 64). replied w success ForwardIndication c refl refl refl low) (λ (c : Carried) (low : w .no < 2 ^ 64). replied w serviceNotSupported Untold c refl refl refl low)
+
+  pub rest-tells : (w : Numbered Wire) → Good p ed ver w → isStart (centreMachine p .at) w ≡ true → heldBy (d .kept .bytes) < w .no → Replies ed d (Heard w)
+  unfolding apduFits toldNumber
+  rest-tells w g st above =
+      rest-by w (Replies ed d) g st (let e = ap numberIn (h .begins .load) in omega arith)
+      (λ (c : Carried) (low : w .no < 2 ^ 64). reply-tells w success ForwardIndication c refl refl refl low refl) (λ (c : Carried) (low : w .no < 2 ^ 64). reply-tells w serviceNotSupported Untold c refl refl refl low refl)
 
   pub rest-stale : (w : Numbered Wire) → Good p ed ver w → isStart (centreMachine p .at) w ≡ true → w .no ≤ y → Refuses (centreMachine p) (does d (hears d (arrives Ground (w .it .primitive)) (w .no) 1 (w .it .bytes)))
   rest-stale w (a-response z zl e r) st below = clash (sym st ∙ ap (λ (i : Invoked). begins? (sortOf i)) e)
@@ -808,19 +862,38 @@ module _ (p : ℕ) (ed : Edition) (ver : ℕ) (d : Desk) (h : Away p ed ver d) w
   valid-away : p < securityValues
   valid-away = subst (λ (v : ℕ). v < securityValues) (h .at .policy) (h .at .coded .policy)
 
-  pub away-takes : (w : Numbered Wire) → Good p ed ver w → isStart (centreMachine p .at) w ≡ false → w .no ≡ heldBy (d .kept .bytes) → Comes (centreMachine p) (Rest p ed ver) d (does d (hears d (arrives Ground (w .it .primitive)) (w .no) 1 (w .it .bytes)))
+  abbrev Confirmed : Numbered Wire → ℕ → Called
+  Confirmed w z = concluded (d .kept .bytes) (lent-first d) (lent-second d) (rec .edition) Ground num (forwardConfirmed rec z noVersion) (lent (w .it .bytes)) (lent (w .it .bytes)) (lent (w .it .bytes)) (carriedBy (readPdu (rec .edition) Ground (rec .control) J (lent (w .it .bytes))))
+
+  -- a property of a call that holds where the answer is told, whatever its result, holds of it
+  away-by : (w : Numbered Wire) (P : Called → Type 0) → Good p ed ver w → isStart (centreMachine p .at) w ≡ false → w .no ≡ heldBy (d .kept .bytes) → ((z : ℕ) → ltb z forwardResults ≡ true → apduAt ed pdu.GroundPdus (lent (w .it .bytes)) ≡ decoded.Is (is.ForwardResponse z) → P (Confirmed w z)) → P (hears d (arrives Ground (w .it .primitive)) (w .no) 1 (w .it .bytes))
   unfolding heldAfter isStartEvent serviceStarts
-  away-takes w (a-forward k kl e f r low) st m = clash (sym (ap (λ (i : Invoked). begins? (sortOf i)) e) ∙ st)
-  away-takes w (a-response z zl e r) st m =
-      subst (λ (i : Invoked). Comes (centreMachine p) (Rest p ed ver) d (does d (hears d (arrives Ground i) (w .no) 1 (w .it .bytes)))) (sym e)
-      (subst (λ (v : ℕ). Comes (centreMachine p) (Rest p ed ver) d (does d (hears d J v 1 (w .it .bytes)))) (sym (m ∙ held-is p ed ver d (h .at)))
-      (subst (λ (c : Called). Comes (centreMachine p) (Rest p ed ver) d (does d c)) (sym (heard-data p ed ver d (h .at) J num (w .it .bytes)))
-      (subst (λ (a : UserData). Comes (centreMachine p) (Rest p ed ver) d (does d (E (numberedStep Ground rec num (Service J a) num)))) (sym (away-reads z (lent (w .it .bytes)) r))
-      (subst (λ (o : O.Outcome). Comes (centreMachine p) (Rest p ed ver) d (does d (E o))) (sym (response-confirmed z zl valid-away))
-      (shut-comes p ed ver d (h .at) (forwardConfirmed rec z noVersion) (lent (w .it .bytes)) (lent (w .it .bytes)) (lent (w .it .bytes)) (carriedBy (readPdu (rec .edition) Ground (rec .control) J (lent (w .it .bytes)))) (confirmed-shut z))))))
+  away-by w P (a-forward k kl e f r low) st m b = clash (sym (ap (λ (i : Invoked). begins? (sortOf i)) e) ∙ st)
+  away-by w P (a-response z zl e r) st m b =
+      subst (λ (i : Invoked). P (hears d (arrives Ground i) (w .no) 1 (w .it .bytes))) (sym e)
+      (subst (λ (v : ℕ). P (hears d J v 1 (w .it .bytes))) (sym (m ∙ held-is p ed ver d (h .at)))
+      (subst P (sym (heard-data p ed ver d (h .at) J num (w .it .bytes)))
+      (subst (λ (a : UserData). P (E (numberedStep Ground rec num (Service J a) num))) (sym (away-reads z (lent (w .it .bytes)) r))
+      (subst (λ (o : O.Outcome). P (E o)) (sym (response-confirmed z zl valid-away)) (b z zl r)))))
     where
       E : O.Outcome → Called
       E o = concluded (d .kept .bytes) (lent-first d) (lent-second d) (rec .edition) Ground num o (lent (w .it .bytes)) (lent (w .it .bytes)) (lent (w .it .bytes)) (carriedBy (readPdu (rec .edition) Ground (rec .control) J (lent (w .it .bytes))))
+
+  pub away-takes : (w : Numbered Wire) → Good p ed ver w → isStart (centreMachine p .at) w ≡ false → w .no ≡ heldBy (d .kept .bytes) → Comes (centreMachine p) (Rest p ed ver) d (does d (hears d (arrives Ground (w .it .primitive)) (w .no) 1 (w .it .bytes)))
+  away-takes w g st m =
+      away-by w (λ (c : Called). Comes (centreMachine p) (Rest p ed ver) d (does d c)) g st m
+      (λ (z : ℕ) (zl : ltb z forwardResults ≡ true) (r : apduAt ed pdu.GroundPdus (lent (w .it .bytes)) ≡ decoded.Is (is.ForwardResponse z)). shut-comes p ed ver d (h .at) (forwardConfirmed rec z noVersion) (lent (w .it .bytes)) (lent (w .it .bytes)) (lent (w .it .bytes)) (carriedBy (readPdu (rec .edition) Ground (rec .control) J (lent (w .it .bytes)))) (confirmed-shut z))
+
+  confirmed-told : (w : Numbered Wire) (z : ℕ) → toldPart (Confirmed w z .number) ≡ three 9 z 0
+  unfolding forwardConfirmed closes toldNumber
+  confirmed-told w z = told-is p ed ver d (h .at) num (forwardConfirmed rec z noVersion) (lent (w .it .bytes)) (lent (w .it .bytes)) (lent (w .it .bytes)) (carriedBy (readPdu (rec .edition) Ground (rec .control) J (lent (w .it .bytes)))) refl
+
+  pub away-tells : (w : Numbered Wire) → Good p ed ver w → isStart (centreMachine p .at) w ≡ false → w .no ≡ heldBy (d .kept .bytes) → Confirms ed w (hears d (arrives Ground (w .it .primitive)) (w .no) 1 (w .it .bytes))
+  away-tells w g st m =
+      away-by w (Confirms ed w) g st m
+      (λ (z : ℕ) (zl : ltb z forwardResults ≡ true) (r : apduAt ed pdu.GroundPdus (lent (w .it .bytes)) ≡ decoded.Is (is.ForwardResponse z)).
+      let l = ltb-true z forwardResults zl in
+      record { result = z; reads = r; code = ap (λ (i : ℕ). i % codes) (confirmed-told w z) ∙ code-unpacked 9 z 0 (omega arith); parameter = ap (λ (i : ℕ). i / codes % codes) (confirmed-told w z) ∙ parameter-unpacked 9 z 0 (omega arith) (omega (arith, l)) })
 
   pub away-stale : (w : Numbered Wire) → Good p ed ver w → isStart (centreMachine p .at) w ≡ false → (w .no ≡ heldBy (d .kept .bytes) → ⊥) → Refuses (centreMachine p) (does d (hears d (arrives Ground (w .it .primitive)) (w .no) 1 (w .it .bytes)))
   away-stale w (a-forward k kl e f r low) st m = clash (sym (ap (λ (i : Invoked). begins? (sortOf i)) e) ∙ st)

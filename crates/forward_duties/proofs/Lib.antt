@@ -1,0 +1,10 @@
+pub mod Against
+pub mod Laws
+pub mod Numbers
+pub mod Tally
+pub mod State
+pub mod Forwarding
+pub mod Getting
+pub mod Theorem
+pub mod CardForwards
+pub mod CardWorked

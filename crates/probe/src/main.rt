@@ -1,5 +1,5 @@
 // Asks the functions of `bits` and `fields` one by one: reads requests from standard input, and prints a line for each.
-// tests/per/PROTOCOL.md says what a request is and what is printed. Input past 65,536 bytes is not looked at.
+// tests/fields/PROTOCOL.md says what a request is and what is printed. Input past 65,536 bytes is not looked at.
 ghost use Prim.Native.Nat.{_≤_};
 ghost use lib.ListN.{length};
 

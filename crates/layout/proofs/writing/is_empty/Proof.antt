@@ -1,10 +1,10 @@
--- `inner::measuring::is_empty` meets its contract.
+-- `layout::writing::is_empty` meets its contract.
 -- Assumes nothing.
 use mathlib.Core.Path.{_∙_}
 use borrow.Author.Needs.{needs}
 use Rattle.inner.proofs.Unfilled.{place-numbered, place-worded, place-plain}
-use Rattle.inner.proofs.measuring.is_empty.Statement.{statement}
-use Rattle.inner.proofs.measuring.is_empty.Tie as tie
+use Rattle.layout.proofs.writing.is_empty.Statement.{statement}
+use Rattle.layout.proofs.writing.is_empty.Tie as tie
 
 returns : tie.Need-returns
 returns c = place-numbered _ (c .if1 .taken)

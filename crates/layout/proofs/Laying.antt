@@ -9,7 +9,7 @@ use borrow.Author.Tests.{eq-eqb, ne-eqb, lt-ltb, le-ltb, eqb-true}
 use lib.Dec.{eqb}
 use lib.ListN.{length, drop, length-append}
 use lib.Seq.{sets}
-use Rattle.words.proofs.Laws.{both-left}
+use Rattle.words.proofs.Laws.{both-left, both-right}
 use Rattle.elements.specs.declared.values.Element.{Element}
 use Rattle.elements.proofs.Steps.{never}
 use Rattle.inner.specs.declared.values.Message.{Message}
@@ -37,12 +37,12 @@ module _ (b : List ℕ) where
         known false = refl
 
 -- the message that they say
-pub laid-is : (b : List ℕ) → loadAt b .known ≡ true → (length b ≡ 132) × (loadAt b .message ≡ messageOf b)
+pub laid-is : (b : List ℕ) → loadAt b .known ≡ true → (length b ≡ 132) × (loadAt b .message ≡ messageOf b) × (placesStand 5 (drop 12 b) ≡ true)
 unfolding loadAt
 laid-is b h = go (eqb (length b) 132 && frontStands b && placesStand 5 (drop 12 b)) refl h
   where
-    go : (x : Bool) → eqb (length b) 132 && frontStands b && placesStand 5 (drop 12 b) ≡ x → cond x (isMessage (messageOf b)) noMessage .known ≡ true → (length b ≡ 132) × (cond x (isMessage (messageOf b)) noMessage .message ≡ messageOf b)
-    go true e k = (eqb-true (length b) 132 (both-left (eqb (length b) 132) (frontStands b) (both-left (eqb (length b) 132 && frontStands b) (placesStand 5 (drop 12 b)) e)), refl)
+    go : (x : Bool) → eqb (length b) 132 && frontStands b && placesStand 5 (drop 12 b) ≡ x → cond x (isMessage (messageOf b)) noMessage .known ≡ true → (length b ≡ 132) × (cond x (isMessage (messageOf b)) noMessage .message ≡ messageOf b) × (placesStand 5 (drop 12 b) ≡ true)
+    go true e k = (eqb-true (length b) 132 (both-left (eqb (length b) 132) (frontStands b) (both-left (eqb (length b) 132 && frontStands b) (placesStand 5 (drop 12 b)) e)), refl, both-right (eqb (length b) 132 && frontStands b) (placesStand 5 (drop 12 b)) e)
     go false e k = never (cc)
 
 -- ---- storing

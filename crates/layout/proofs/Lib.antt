@@ -4,6 +4,7 @@ pub mod InOrder
 pub mod Pieces
 pub mod Laying
 pub mod Fronts
+pub mod Zeros
 pub mod RoundTrip
 pub mod Typing
 pub mod Calling

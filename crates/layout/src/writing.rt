@@ -1,24 +1,23 @@
 // A message written from the range that the host keeps it in, place by place: no message is put together first. Everything that can be
 // refused is decided before the first bit is written.
 ghost use mathlib.Core.Path.{_≡_};
-ghost use mathlib.Core.Bool.{cond};
+ghost use mathlib.Core.Bool.{cond, true};
 ghost use mathlib.Core.List.{[], _∷_};
 ghost use Prim.Native.Nat.{_+_, _≤_, min};
 ghost use lib.ListN.{drop, getD, length, take};
 ghost use Rattle.bits.specs.Put.{left};
 ghost use Rattle.fields.specs.Encodings.{wholeFits};
 ghost use Rattle.elements.specs.Writing.{putPieces, whole};
-ghost use Rattle.inner.specs.Messages.{allEmpty, done, empty, messageBits, messageCarried, padding as paddingOf, writeMessage};
+ghost use Rattle.inner.specs.Messages.{allEmpty, done, messageBits, messageCarried, padding as paddingOf, writeMessage};
 ghost use Rattle.inner.specs.Places.{rowBits, rowFits};
 ghost use Rattle.inner.specs.Writing.{messagePieces, rowPieces};
-ghost use Rattle.layout.specs.Layout.{elementsOf, frontSize, messageOf, size};
+ghost use Rattle.layout.specs.Layout.{elementsOf, frontSize, messageOf, placesStand, size};
 use crate::front::load_header;
 use crate::place::load_element;
 use crate::stored::Laid;
 use bits::Put;
 use elements::measuring::element_bits;
-use elements::measuring::is_plain;
-use elements::values::Element;
+use elements::numbers::all_most;
 use elements::values::Size;
 use elements::writing::put_element;
 use inner::measuring::header_bits;
@@ -65,33 +64,12 @@ fn row_bits(direction: Direction, b: &[u8], n: usize, text: &[u8]) -> Size
     Size::Shape
 }
 
-fn is_empty(e: Element) -> bool
-    ensures { λ r. ⌜ r ≡ empty e ⌝ }
-{
-    if e.number != 0 {
-        return false;
-    }
-    if e.characters != 0 {
-        return false;
-    }
-    is_plain(e)
-}
-
-// The places behind the first n are empty.
+// The places behind the first n are empty: of bytes that say a message, these are zero then.
 fn rest_empty(b: &[u8], n: usize) -> bool
-    requires { ⌜ (n ≤ 5) × (size ≤ length (now b)) ⌝ }
+    requires { ⌜ (n ≤ 5) × (length (now b) ≡ size) × (placesStand 5 (drop frontSize (now b)) ≡ true) ⌝ }
     ensures { λ r. ⌜ r ≡ allEmpty (drop n (elementsOf 5 (drop frontSize (now (b .entry))))) ⌝ }
 {
-    let mut i = n;
-    while i < Message::PLACES {
-        let at = Laid::FRONT + Laid::PLACE * i;
-        let e = load_element(&b[at..at + Laid::PLACE]);
-        if !is_empty(e) {
-            return false;
-        }
-        i += 1;
-    }
-    true
+    all_most(0, &b[Laid::FRONT + Laid::PLACE * n..])
 }
 
 fn is_count(n: usize) -> bool
@@ -105,7 +83,7 @@ fn is_count(n: usize) -> bool
 
 // How many bits the message in a range takes. One that is none of its type, or passes the most bits, has the wrong shape.
 fn laid_bits(direction: Direction, b: &[u8], text: &[u8]) -> Size
-    requires { ⌜ size ≤ length (now b) ⌝ }
+    requires { ⌜ (length (now b) ≡ size) × (placesStand 5 (drop frontSize (now b)) ≡ true) ⌝ }
     ensures { λ r. ⌜ r ≡ cond (messageCarried direction (messageOf (now (b .entry))) (now (text .entry)))
         (Size.Bits (length (messageBits direction (messageOf (now (b .entry))) (now (text .entry))))) Size.Shape ⌝ }
 {
@@ -214,7 +192,7 @@ pub(crate) fn write_laid(
     text: &[u8],
     out: &mut [u8],
 ) -> MessageWritten
-    requires { ⌜ size ≤ length (now b) ⌝ }
+    requires { ⌜ (length (now b) ≡ size) × (placesStand 5 (drop frontSize (now b)) ≡ true) ⌝ }
     ensures { λ r. ⌜ done r (now (out .exit)) ≡ writeMessage direction (messageOf (now (b .entry))) (now (text .entry)) (now (out .entry)) ⌝ }
 {
     if out.len() < Message::ROOM {

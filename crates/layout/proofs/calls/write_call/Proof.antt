@@ -33,8 +33,9 @@ returns-3 c = write-no-way _ _ _ _ (c .before .before .before .before .before .i
     .ensures) (not-false _ (c .before .before .before .if2 .left)) _ (c .before .before .way-of .ensures) (c .enum-told .given .1)
 
 write-laid-requires : tie.Need-write-laid-requires
-write-laid-requires c κs = omega (arith, laid-is _ (sym (c .before .before .before .before .before .before .is-laid .ensures) ∙
-    not-false _ (c .before .before .before .before .before .if2 .left)) .0)
+write-laid-requires c κs = (laid-is _ (sym (c .before .before .before .before .before .before .is-laid .ensures) ∙ not-false _ (c
+    .before .before .before .before .before .if2 .left)) .0, laid-is _ (sym (c .before .before .before .before .before .before .is-laid
+    .ensures) ∙ not-false _ (c .before .before .before .before .before .if2 .left)) .2)
 
 enum-known-answer : tie.Need-enum-known-answer
 enum-known-answer c = search needs

@@ -48,8 +48,7 @@ row-bits-requires c κs = (count-few (c .before .before .before .before .before 
     (messageOf (c .before .before .before .before .before .before .before .before .before .before .args .b .now)) (c .before .before
     .before .before .before .before .before .before .before .before .args .text .now) _ (front-measured _ _ (c .before .before .before
     .before .before .before .before .load-header .ensures) _ (c .before .before .before .before .before .before .header-bits .ensures))
-    _ (c .before .before .before .before .first .given .1) _ (c .before .is-count .ensures) (c .if1 .left), c .before .before .before
-    .before .before .before .before .before .before .before .pre)
+    _ (c .before .before .before .before .first .given .1) _ (c .before .is-count .ensures) (c .if1 .left), omega arith)
 
 enum-known-rest : tie.Need-enum-known-rest
 enum-known-rest c = search needs
@@ -75,7 +74,8 @@ rest-empty-requires c κs = (count-few (c .before .before .before .before .befor
     .before .before .before .before .load-header .ensures) _ (c .before .before .before .before .before .before .before .before .before
     .before .header-bits .ensures)) _ (c .before .before .before .before .before .before .before .before .first .given .1) _ (c .before
     .before .before .before .before .is-count .ensures) (c .before .before .before .before .if1 .left), c .before .before .before
-    .before .before .before .before .before .before .before .before .before .before .before .pre)
+    .before .before .before .before .before .before .before .before .before .before .before .pre .0, c .before .before .before .before
+    .before .before .before .before .before .before .before .before .before .before .pre .1)
 
 returns-4 : tie.Need-returns-4
 unfolding messageOf

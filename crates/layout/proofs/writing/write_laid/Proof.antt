@@ -1,5 +1,6 @@
 -- `layout::writing::write_laid` meets its contract.
 -- Assumes nothing.
+use native.Mathlib.Omega.{arith}
 use Rattle.inner.proofs.MessageWritten.{too-small, not-carried, written-count, written-out}
 use Rattle.layout.specs.Layout.{messageOf}
 use borrow.Author.Needs.{needs}
@@ -31,7 +32,7 @@ put-laid-requires c κs = (written-count (c .before .before .before .before .bef
     (messageOf (c .before .before .before .before .before .before .before .before .before .args .b .now)) (c .before .before .before
     .before .before .before .before .before .before .args .text .now) (c .before .before .before .before .before .before .before .before
     .before .args .out .now) (c .before .before .before .before .before .if1 .left) _ (c .before .before .before .before .laid-bits
-    .ensures) _ (c .before .before .size .given .1), c .before .before .before .before .before .before .before .before .before .pre)
+    .ensures) _ (c .before .before .size .given .1), omega arith)
 
 padding-requires : tie.Need-padding-requires
 padding-requires c κs = search needs

@@ -7,7 +7,7 @@ ghost use Rattle.fields.specs.Encodings.{wholeFits};
 ghost use Rattle.fields.specs.Fields.{widthOf};
 ghost use Rattle.elements.specs.Arguments.{levelBits, levelTypeBits, sizedBits, sizedFits};
 ghost use Rattle.elements.specs.Measuring.{codeFitsUse, levelFitsUse, textFitsKind, timeFitsUse, typeFitsUse, usesOf};
-ghost use Rattle.elements.specs.OneElement.{argumentBits, argumentFits, elementBits, elementFits, plain};
+ghost use Rattle.elements.specs.OneElement.{argumentBits, argumentFits, elementBits, elementFits};
 use crate::arguments::highest;
 use crate::arguments::lowest;
 use crate::numbers::all_most;
@@ -176,21 +176,6 @@ fn used_by(kind: ArgumentKind) -> Uses
         ArgumentKind::FacilityDesignation => Uses::NOTHING,
         ArgumentKind::AtisCode => Uses::NOTHING,
     }
-}
-
-// Nothing of an element is used but its number and its characters.
-pub fn is_plain(e: Element) -> bool
-    ensures { λ r. ⌜ r ≡ plain e ⌝ }
-{
-    let level = e.level;
-    let other = e.other;
-    let time = e.time;
-    let code = e.code;
-    let levels = both(level_fits_use(false, level), level_fits_use(false, other));
-    both(
-        both(levels, time_fits_use(false, time)),
-        code_fits_use(false, code),
-    )
 }
 
 // What the kind uses is of its type, and what it does not use is zero.

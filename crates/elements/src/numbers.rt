@@ -26,7 +26,7 @@ fn greater(a: u8, b: u8) -> u8
 
 // Numbers of which none is above hi: the digits of a code, characters, what is unused.
 // The greatest of them is looked for, to the end, so that the compiler takes sixteen at a time.
-pub(crate) fn all_most(hi: u64, items: &[u8]) -> bool
+pub fn all_most(hi: u64, items: &[u8]) -> bool
     ensures { λ r. ⌜ r ≡ allMost hi (now (items .entry)) ⌝ }
 {
     let mut most: u8 = 0;

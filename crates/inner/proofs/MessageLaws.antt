@@ -38,7 +38,7 @@ use Rattle.inner.proofs.Rows.{row-reads, row-text, RowIs, row-is}
 
 -- ---- places that are not used
 
-empty-is : (e : Element) → empty e ≡ true → e ≡ bare 0
+pub empty-is : (e : Element) → empty e ≡ true → e ≡ bare 0
 unfolding empty
 empty-is e h =
     let p = both-left (eqb (e .number) 0 && plain e) (eqb (e .characters) 0) h in

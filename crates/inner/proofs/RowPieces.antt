@@ -72,7 +72,7 @@ module _ (t : List ℕ) (from to n : ℕ) (h : from ≤ length t) (e : to ≡ mi
   part-within = omega arith
 
 -- the element at i of the first n
-next-element : (ps : List Element) (n i : ℕ) (o : Element) → i < n → n ≤ length ps → drop i (take n ps) ≡ getD ps i o ∷ drop (suc i) (take n ps)
+pub next-element : (ps : List Element) (n i : ℕ) (o : Element) → i < n → n ≤ length ps → drop i (take n ps) ≡ getD ps i o ∷ drop (suc i) (take n ps)
 next-element ps n i o h g =
     let l = length-take-le n ps g in
     drop-cons (take n ps) i o (omega arith) ∙ rw (getD-take n ps i o h)
@@ -94,18 +94,19 @@ unfolding rowPieces
 row-nil d t = refl
 
 module _ (d : Direction) (ps : List Element) (n : ℕ) (t s : List ℕ) (e i from p : ℕ) (z : Left) (inv : putPieces s e p (rowPieces d (drop i (take n ps)) (drop from t)) ≡ z) where
-  module _ (o : Element) (to : ℕ) (h : i < n) (g : n ≤ length ps) (f : from ≤ length t) (m : to ≡ min (from + getD ps i o .characters) (length t)) (u : List ℕ) (a : Put) (k : left a u ≡ putPieces s e p (elementPieces d (getD ps i o) (part from to t))) where
-    split : putPieces s e p (elementPieces d (getD ps i o) (part from to t) ++ rowPieces d (drop (suc i) (take n ps)) (drop to t)) ≡ z
+  -- with the next of them, x
+  module _ (x : Element) (g : drop i (take n ps) ≡ x ∷ drop (suc i) (take n ps)) (to : ℕ) (f : from ≤ length t) (m : to ≡ min (from + x .characters) (length t)) (u : List ℕ) (a : Put) (k : left a u ≡ putPieces s e p (elementPieces d x (part from to t))) where
+    split : putPieces s e p (elementPieces d x (part from to t) ++ rowPieces d (drop (suc i) (take n ps)) (drop to t)) ≡ z
     split =
-        let c : ℕ = getD ps i o .characters in
-        let q : rowPieces d (drop i (take n ps)) (drop from t) ≡ elementPieces d (getD ps i o) (part from to t) ++ rowPieces d (drop (suc i) (take n ps)) (drop to t) = rw (next-element ps n i o h g, row-cons, part-is t from to c f m, part-rest t from to c f m) in
+        let c : ℕ = x .characters in
+        let q : rowPieces d (drop i (take n ps)) (drop from t) ≡ elementPieces d x (part from to t) ++ rowPieces d (drop (suc i) (take n ps)) (drop to t) = rw (g, row-cons, part-is t from to c f m, part-rest t from to c f m) in
         ap (putPieces s e p) (sym q) ∙ inv
 
     pub row-turn : (q : ℕ) → a ≡ Next q → putPieces u e q (rowPieces d (drop (i + 1) (take n ps)) (drop to t)) ≡ z
-    row-turn q r = rw add-one (run-turn s e p (elementPieces d (getD ps i o) (part from to t)) _ z split u a k q r)
+    row-turn q r = rw add-one (run-turn s e p (elementPieces d x (part from to t)) _ z split u a k q r)
 
     pub row-full : a ≡ Full → left Full u ≡ z
-    row-full r = run-full s e p (elementPieces d (getD ps i o) (part from to t)) _ z split u a k r
+    row-full r = run-full s e p (elementPieces d x (part from to t)) _ z split u a k r
 
   pub row-done : n ≤ i → left (Next p) s ≡ z
   row-done h = rw (none-left ps n i h, row-nil, pieces-nil) at inv
@@ -161,15 +162,13 @@ sized-no true bs h = never (cc)
 sized-no false bs h = refl
 
 module _ (d : Direction) (ps : List Element) (n : ℕ) (t : List ℕ) (i from total : ℕ) (inv : Measured d ps n t i from total) where
-  module _ (o : Element) (to : ℕ) (h : i < n) (g : n ≤ length ps) (f : from ≤ length t) (m : to ≡ min (from + getD ps i o .characters) (length t)) (r : Size) (k : r ≡ sized (elementFits d (getD ps i o) (part from to t)) (elementBits d (getD ps i o) (part from to t))) where
-    abbrev x : Element
-    x = getD ps i o
-
+  -- with the next of them, x
+  module _ (x : Element) (g : drop i (take n ps) ≡ x ∷ drop (suc i) (take n ps)) (to : ℕ) (f : from ≤ length t) (m : to ≡ min (from + x .characters) (length t)) (r : Size) (k : r ≡ sized (elementFits d x (part from to t)) (elementBits d x (part from to t))) where
     next-fits : elementFits d x (part from to t) && rowFits d (drop (suc i) (take n ps)) (drop to t) ≡ rowFits d (take n ps) t
-    next-fits = sym (rw (next-element ps n i o h g, fits-cons, ← part-is t from to (getD ps i o .characters) f m, ← part-rest t from to (getD ps i o .characters) f m) refl) ∙ inv .fits
+    next-fits = sym (rw (g, fits-cons, ← part-is t from to (x .characters) f m, ← part-rest t from to (x .characters) f m) refl) ∙ inv .fits
 
     next-bits : rowBits d (drop i (take n ps)) (drop from t) ≡ elementBits d x (part from to t) ++ rowBits d (drop (suc i) (take n ps)) (drop to t)
-    next-bits = rw (next-element ps n i o h g, bits-cons, part-is t from to (getD ps i o .characters) f m, part-rest t from to (getD ps i o .characters) f m)
+    next-bits = rw (g, bits-cons, part-is t from to (x .characters) f m, part-rest t from to (x .characters) f m)
 
     pub measured-turn : (c : ℕ) → r ≡ size.Bits c → Measured d ps n t (i + 1) to (total + c)
     measured-turn c q =

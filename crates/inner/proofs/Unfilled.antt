@@ -38,15 +38,15 @@ unfolding allEmpty
 all-nil = refl
 
 module _ (ps : List Element) (i : ℕ) (z : Bool) (inv : allEmpty (drop i ps) ≡ z) where
-  module _ (o : Element) (h : i < length ps) (r : Bool) (k : r ≡ empty (getD ps i o)) where
-    split : empty (getD ps i o) && allEmpty (drop (suc i) ps) ≡ z
-    split = rw (drop-cons ps i o h, all-cons) at inv
+  module _ (x : Element) (g : drop i ps ≡ x ∷ drop (suc i) ps) (r : Bool) (k : r ≡ empty x) where
+    split : empty x && allEmpty (drop (suc i) ps) ≡ z
+    split = rw (g, all-cons) at inv
 
     pub rest-turn : not r ≡ false → allEmpty (drop (i + 1) ps) ≡ z
-    rest-turn q = rw add-one (rw (yes r (empty (getD ps i o)) k q) at split)
+    rest-turn q = rw add-one (rw (yes r (empty x) k q) at split)
 
     pub rest-used : not r ≡ true → false ≡ z
-    rest-used q = rw (no r (empty (getD ps i o)) k q) at split
+    rest-used q = rw (no r (empty x) k q) at split
 
   pub rest-done : length ps ≤ i → true ≡ z
   rest-done h = rw (drop-of-length-le ps h, all-nil) at inv

@@ -1,29 +1,21 @@
-// A message written, piece after piece, once it is measured, so that none of these is refused.
+// A header written. A message is measured before it is written, so that none of these is refused then.
 ghost use mathlib.Core.Path.{_≡_};
 ghost use mathlib.Core.Bool.{true};
 ghost use mathlib.Core.List.{[], _∷_, _++_};
-ghost use Prim.Native.Nat.{_≤_, _<_};
-ghost use Rattle.inner.specs.Messages.{done, padding as paddingOf, writeMessage};
-ghost use lib.ListN.{take};
+ghost use Prim.Native.Nat.{_<_};
 ghost use Rattle.bits.specs.Bits.{numOf};
 ghost use Rattle.bits.specs.Put.{left};
 ghost use Rattle.fields.specs.Encodings.{wholeBits};
 ghost use Rattle.elements.specs.Writing.{putPieces, whole};
 ghost use Rattle.inner.specs.Headers.{dateTimeBits, dateTimeFits, headerBits, headerFits, presence, referenceBits};
-ghost use Rattle.inner.specs.Writing.{acknowledgementPieces, dateTimePieces, headerPieces, messagePieces, referencePieces, rowPieces};
+ghost use Rattle.inner.specs.Writing.{acknowledgementPieces, dateTimePieces, headerPieces, referencePieces};
 use crate::measuring::flag;
 use crate::measuring::header_bits;
-use crate::measuring::message_bits;
-use crate::measuring::part_end;
 use crate::values::DateTime;
 use crate::values::Header;
-use crate::values::Message;
-use crate::values::MessageWritten;
 use bits::Put;
 use elements::values::Size;
 use elements::values::Time;
-use elements::writing::put_element;
-use kinds::Direction;
 
 // Two whole numbers, one after the other.
 fn put_two(
@@ -198,98 +190,4 @@ pub fn put_header(buf: &mut [u8], end: usize, at: usize, h: Header) -> Put
         return bits::put_bits(buf, end, at, n, header_number(h));
     }
     put_header_by_fields(buf, end, at, h)
-}
-
-// The elements of a message; the characters of each follow those of the one before.
-fn put_row(
-    buf: &mut [u8],
-    end: usize,
-    at: usize,
-    direction: Direction,
-    m: Message,
-    text: &[u8],
-) -> Put
-    requires { ⌜ m .count ≤ 5 ⌝ }
-    ensures { λ r. ⌜ left r (now (buf .exit)) ≡
-        putPieces (now (buf .entry)) end at (rowPieces direction (take (m .count) (m .places)) (now (text .entry))) ⌝ }
-{
-    let n = m.count;
-    let mut i: usize = 0;
-    let mut from: usize = 0;
-    let mut p = at;
-    while i < n {
-        let e = m.places[i];
-        let to = part_end(text.len(), from, e.characters);
-        let one = put_element(buf, end, p, direction, e, &text[from..to]);
-        let Put::Next(next) = one else {
-            return Put::Full;
-        };
-        p = next;
-        from = to;
-        i += 1;
-    }
-    Put::Next(p)
-}
-
-// The header, that there is no constrained data, the count of elements, and the elements.
-fn put_message(
-    buf: &mut [u8],
-    end: usize,
-    at: usize,
-    direction: Direction,
-    m: Message,
-    text: &[u8],
-) -> Put
-    requires { ⌜ m .count ≤ 5 ⌝ }
-    ensures { λ r. ⌜ left r (now (buf .exit)) ≡ putPieces (now (buf .entry)) end at (messagePieces direction m (now (text .entry))) ⌝ }
-{
-    let h = m.header;
-    let first = put_header(buf, end, at, h);
-    let Put::Next(p) = first else {
-        return Put::Full;
-    };
-    let second = put_two(
-        buf,
-        end,
-        p,
-        0,
-        1,
-        0,
-        1,
-        Message::PLACES as u64,
-        m.count as u64,
-    );
-    let Put::Next(q) = second else {
-        return Put::Full;
-    };
-    put_row(buf, end, q, direction, m, text)
-}
-
-// How many zero bits follow n bits up to a whole byte.
-fn padding(n: usize) -> usize
-    ensures { λ r. ⌜ r ≡ paddingOf n ⌝ }
-{
-    (8 - n % 8) % 8
-}
-
-// The message, whose characters are `text`, from the buffer's first bit on. Everything that can be refused is decided first.
-pub fn write_message(
-    direction: Direction,
-    m: Message,
-    text: &[u8],
-    out: &mut [u8],
-) -> MessageWritten
-    ensures { λ r. ⌜ done r (now (out .exit)) ≡ writeMessage direction m (now (text .entry)) (now (out .entry)) ⌝ }
-{
-    if out.len() < Message::ROOM {
-        return MessageWritten::Room;
-    }
-    let size = message_bits(direction, m, text);
-    let Size::Bits(n) = size else {
-        return MessageWritten::Shape;
-    };
-    let end = 8 * Message::ROOM;
-    put_message(out, end, 0, direction, m, text);
-    bits::put_bits(out, end, n, padding(n), 0);
-    MessageWritten::Bits(n)
 }

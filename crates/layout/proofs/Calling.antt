@@ -1,6 +1,6 @@
 -- The ways out of the calls on bytes, as the code has them; and what reading leaves is loaded as the message that was read.
 -- Assumes nothing.
-use mathlib.Core.Path.{_≡_, refl, ap, _∙_}
+use mathlib.Core.Path.{_≡_, refl, sym, ap, _∙_}
 use mathlib.Core.Bool.{Bool, true, false, cond, _&&_}
 use mathlib.Core.List.{List}
 use Prim.Native.Nat.{ℕ, _+_, _*_, _≤_, _<_}
@@ -30,11 +30,11 @@ use Rattle.inner.specs.declared.values.MessageWritten.{MessageWritten}
 use Rattle.inner.specs.declared.values.MessageWritten.the-variants as written
 use Rattle.inner.proofs.MessageLaws.{message-stands}
 use Rattle.inner.proofs.Characters.{charactersMost, exactly-few}
-use Rattle.layout.specs.Layout.{messageBytes, bytesFit, kept, storeAt, loadAt, Kept, isMessage as loadedAs}
+use Rattle.layout.specs.Layout.{messageOf, messageBytes, bytesFit, kept, storeAt, loadAt, Kept, isMessage as loadedAs}
 use Rattle.layout.specs.Calls.{told, toldAs, toldOf, wayOf, readBy, readCall, sent, sentAs, sentOf, writeBy, writeCall}
 use Rattle.layout.specs.declared.calls.Way.{Way}
 use Rattle.layout.specs.declared.calls.Way.the-variants as way
-use Rattle.layout.specs.declared.stored.Laid.{Laid}
+use Rattle.layout.proofs.Laying.{laid-is}
 use Rattle.layout.proofs.RoundTrip.{loaded-bytes}
 use Rattle.layout.proofs.Typing.{Storable, storable}
 
@@ -159,16 +159,16 @@ module _ (d : ℕ) (b t o : List ℕ) where
   unfolding writeCall
   write-room h = rw (lt-ltb (length o) roomLeast h)
 
-  module _ (h : roomLeast ≤ length o) (l : Laid) (e : l ≡ loadAt b) where
-    pub write-unknown : l .known ≡ false → sent 2 o ≡ writeCall d b t o
+  module _ (h : roomLeast ≤ length o) (u : Bool) (e : u ≡ loadAt b .known) where
+    pub write-unknown : u ≡ false → sent 2 o ≡ writeCall d b t o
     unfolding writeCall
     write-unknown k = rw (le-ltb (length o) roomLeast h, ← e, k)
 
-    module _ (k : l .known ≡ true) (w : Way) (p : w ≡ wayOf d) where
+    module _ (k : u ≡ true) (w : Way) (p : w ≡ wayOf d) where
       pub write-no-way : w ≡ way.NoWay → sent 2 o ≡ writeCall d b t o
       unfolding writeCall writeBy
       write-no-way q = rw (le-ltb (length o) roomLeast h, ← e, k, ← p, q)
 
-      pub write-is : (x : Direction) → w ≡ way.Is x → (a v : MessageWritten) (z : List ℕ) → done a z ≡ writeMessage x (l .message) t o → a ≡ v → sentAs v z ≡ writeCall d b t o
+      pub write-is : (x : Direction) → w ≡ way.Is x → (a v : MessageWritten) (z : List ℕ) → done a z ≡ writeMessage x (messageOf b) t o → a ≡ v → sentAs v z ≡ writeCall d b t o
       unfolding writeCall writeBy sentOf
-      write-is x q a v z f g = rw (le-ltb (length o) roomLeast h, ← e, k, ← p, q, ← f, g)
+      write-is x q a v z f g = rw (le-ltb (length o) roomLeast h, ← e, k, laid-is b (sym e ∙ k) .1, ← p, q, ← f, g)

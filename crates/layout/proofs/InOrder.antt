@@ -1,9 +1,9 @@
 -- What the loops over the five places keep: i of them are done, and those that are left give what is meant.
 -- Assumes nothing.
-use mathlib.Core.Path.{_≡_, refl, sym, _∙_}
+use mathlib.Core.Path.{_≡_, refl, sym, ap, _∙_}
 use mathlib.Core.Bool.{Bool, true, false, _&&_}
 use mathlib.Core.List.{List, [], _∷_, _++_, append-assoc, append-nil}
-use Prim.Native.Nat.{ℕ, suc, _+_, _-_, _*_, _≤_, _<_}
+use Prim.Native.Nat.{ℕ, zero, suc, _+_, _-_, _*_, _≤_, _<_}
 use native.Mathlib.Omega.{arith}
 use native.Mathlib.Numerals.{add-one}
 use borrow.Author.Tests.{lt-ltb, le-ltb}
@@ -11,6 +11,7 @@ use lib.Dec.{ltb}
 use lib.ListN.{length, take, drop, set, getD, length-set}
 use lib.Seq.{sets, drop-cons, drop-drop, drop-length, take-all, take-suc-set}
 use Rattle.elements.specs.declared.values.Element.{Element}
+use Rattle.inner.proofs.RowPieces.{next-element}
 use Rattle.layout.specs.Layout.{placeBytes, placesBytes, elementOf, elementsOf, placeStands, placesStand, placesFit}
 use Rattle.layout.proofs.Copied.{sets-append}
 
@@ -78,32 +79,33 @@ standing-done b i h inv = let k : 5 - i ≡ 0 = omega arith in rw k at (inv .1)
 
 -- ---- the elements of the places
 
-pub record Loading (b : List ℕ) (m : List Element) (i : ℕ) : Type 0 where
-  pub five : length m ≡ 5
-  pub read : take i m ++ elementsOf (5 - i) (drop (12 + 24 * i) b) ≡ elementsOf 5 (drop 12 b)
-
-pub loading-start : (b : List ℕ) (m : List Element) → length m ≡ 5 → Loading b m 0
-loading-start b m h = record { five = h; read = refl }
-
-pub loading-more : (b : List ℕ) (m : List Element) (i : ℕ) (e : Element) → i < 5 → e ≡ elementOf (take (12 + 24 * i + 24 - (12 + 24 * i)) (drop (12 + 24 * i) b)) → Loading b m i → Loading b (set m i e) (i + 1)
-loading-more b m i e h p inv =
-    let five = inv .five in
-    let k : 5 - i ≡ suc (5 - (i + 1)) = omega arith in
-    let z : take i m ++ (elementOf (take 24 (drop (12 + 24 * i) b)) ∷ elementsOf (5 - (i + 1)) (drop (12 + 24 * (i + 1)) b)) ≡ elementsOf 5 (drop 12 b) = rw (k, elements-suc (5 - (i + 1)) (drop (12 + 24 * i) b), next b i) at (inv .read) in
-    let q : elementOf (take 24 (drop (12 + 24 * i) b)) ≡ e = rw (← part b i) (sym p) in
-    let t : take (i + 1) (set m i e) ≡ take i m ++ (e ∷ []) = rw (add-one i) (take-suc-set m i e (omega arith)) in
-    record {
-      five = length-set m i e ∙ five;
-      read = rw (t, append-assoc) (rw q at z);
-    }
-
-pub loading-done : (b : List ℕ) (m : List Element) (i : ℕ) → 5 ≤ i → Loading b m i → m ≡ elementsOf 5 (drop 12 b)
+pub length-elements : (n : ℕ) (b : List ℕ) → length (elementsOf n b) ≡ n
 unfolding elementsOf
-loading-done b m i h inv =
-    let five = inv .five in
-    let k : 5 - i ≡ 0 = omega arith in
-    let z : take i m ++ [] ≡ elementsOf 5 (drop 12 b) = rw k at (inv .read) in
-    rw (append-nil, take-all i m (omega arith)) at z
+length-elements zero b = refl
+length-elements (suc n) b = ap suc (length-elements n (drop 24 b))
+
+element-at : (n i : ℕ) (b : List ℕ) (o : Element) → i < n → getD (elementsOf n b) i o ≡ elementOf (take 24 (drop (24 * i) b))
+unfolding elementsOf
+element-at zero i b o h = absurd (omega arith)
+element-at (suc n) zero b o h = refl
+element-at (suc n) (suc i) b o h =
+    let e : 24 + 24 * i ≡ 24 * suc i = omega arith in
+    element-at n i (drop 24 b) o (omega arith) ∙ rw (drop-drop, e)
+
+-- the element that the code loads from the place i
+module _ (b : List ℕ) (i : ℕ) (h : i < 5) (x : Element) (p : x ≡ elementOf (take (12 + 24 * i + 24 - (12 + 24 * i)) (drop (12 + 24 * i) b))) where
+  loaded : getD (elementsOf 5 (drop 12 b)) i x ≡ x
+  loaded = element-at 5 i (drop 12 b) x h ∙ rw drop-drop (rw (← part b i) (sym p))
+
+  pub place-next : drop i (elementsOf 5 (drop 12 b)) ≡ x ∷ drop (suc i) (elementsOf 5 (drop 12 b))
+  place-next =
+      let l = length-elements 5 (drop 12 b) in
+      drop-cons (elementsOf 5 (drop 12 b)) i x (omega arith) ∙ rw loaded
+
+  pub row-next : (n : ℕ) → i < n → n ≤ 5 → drop i (take n (elementsOf 5 (drop 12 b))) ≡ x ∷ drop (suc i) (take n (elementsOf 5 (drop 12 b)))
+  row-next n g f =
+      let l = length-elements 5 (drop 12 b) in
+      next-element (elementsOf 5 (drop 12 b)) n i x g (omega arith) ∙ rw loaded
 
 -- ---- whether the places' numbers fit
 

@@ -1,40 +1,49 @@
--- The ways out of `load_message` and of `store_message`, as the code has them.
+-- The ways out of `is_laid` and of `store_message`, as the code has them; and the message of bytes that say one.
 -- Assumes nothing.
 use mathlib.Core.Path.{_≡_, refl, ap, sym, _∙_}
-use mathlib.Core.Bool.{Bool, true, false}
+use mathlib.Core.Bool.{Bool, true, false, cond, _&&_}
 use mathlib.Core.List.{List, [], _∷_, _++_}
 use Prim.Native.Nat.{ℕ, suc, _+_, _*_, _≤_, _<_}
 use native.Mathlib.Omega.{arith}
-use borrow.Author.Tests.{eq-eqb, ne-eqb, lt-ltb, le-ltb}
-use lib.ListN.{length, drop, getD, length-append}
+use borrow.Author.Tests.{eq-eqb, ne-eqb, lt-ltb, le-ltb, eqb-true}
+use lib.Dec.{eqb}
+use lib.ListN.{length, drop, length-append}
 use lib.Seq.{sets}
+use Rattle.words.proofs.Laws.{both-left, both-right}
 use Rattle.elements.specs.declared.values.Element.{Element}
-use Rattle.inner.specs.declared.values.Header.{Header}
+use Rattle.elements.proofs.Steps.{never}
 use Rattle.inner.specs.declared.values.Message.{Message}
-use Rattle.layout.specs.Layout.{frontBytes, placesBytes, messageBytes, headerOf, elementsOf, messageOf, frontStands, placesStand, noMessage, isMessage, loadAt, placesFit, bytesFit, kept, storeAt}
-use Rattle.layout.specs.declared.stored.Laid.{Laid}
+use Rattle.layout.specs.Layout.{frontBytes, placesBytes, messageBytes, messageOf, frontStands, placesStand, noMessage, isMessage, loadAt, placesFit, bytesFit, kept, storeAt}
 use Rattle.layout.proofs.Copied.{sets-append, sets-whole}
 use Rattle.layout.proofs.InOrder.{bytes-cons, length-place}
 use Rattle.layout.proofs.Pieces.{length-front}
 
-module _ (b : List ℕ) (o : Laid) where
-  pub load-long : o ≡ noMessage → (length b ≡ 132 → ⊥) → o ≡ loadAt b
+module _ (b : List ℕ) where
+  pub laid-long : (length b ≡ 132 → ⊥) → false ≡ loadAt b .known
   unfolding loadAt
-  load-long p h = p ∙ rw (ne-eqb (length b) 132 h)
+  laid-long h = rw (ne-eqb (length b) 132 h)
 
-  module _ (p : o ≡ noMessage) (sized : length b ≡ 132) (t : Bool) (q : t ≡ frontStands b) where
-    pub load-front : t ≡ false → o ≡ loadAt b
+  module _ (sized : length b ≡ 132) (t : Bool) (q : t ≡ frontStands b) where
+    pub laid-front : t ≡ false → false ≡ loadAt b .known
     unfolding loadAt
-    load-front f = p ∙ rw (eq-eqb (length b) 132 sized, ← q, f)
+    laid-front f = rw (eq-eqb (length b) 132 sized, ← q, f)
 
-    pub load-places : t ≡ true → (u : Bool) → u ≡ placesStand 5 (drop 12 b) → u ≡ false → o ≡ loadAt b
+    pub laid-places : t ≡ true → (u : Bool) → u ≡ placesStand 5 (drop 12 b) → u ≡ loadAt b .known
     unfolding loadAt
-    load-places f u r g = p ∙ rw (eq-eqb (length b) 132 sized, ← q, f, ← r, g)
+    laid-places f u r = rw (eq-eqb (length b) 132 sized, ← q, f) (r ∙ known (placesStand 5 (drop 12 b)))
+      where
+        known : (x : Bool) → x ≡ (cond x (isMessage (messageOf b)) noMessage) .known
+        known true = refl
+        known false = refl
 
-pub load-is : (b : List ℕ) (t u : Bool) (h : Header) (es : List Element) → length b ≡ 132 → t ≡ frontStands b → t ≡ true → u ≡ placesStand 5 (drop 12 b) → u ≡ true → h ≡ headerOf b → es ≡ elementsOf 5 (drop 12 b)
-    → isMessage (record { header = h; count = getD b 11 0; places = es }) ≡ loadAt b
-unfolding loadAt messageOf
-load-is b t u h es sized q f r g x y = rw (eq-eqb (length b) 132 sized, ← q, f, ← r, g, x, y)
+-- the message that they say
+pub laid-is : (b : List ℕ) → loadAt b .known ≡ true → (length b ≡ 132) × (loadAt b .message ≡ messageOf b) × (placesStand 5 (drop 12 b) ≡ true)
+unfolding loadAt
+laid-is b h = go (eqb (length b) 132 && frontStands b && placesStand 5 (drop 12 b)) refl h
+  where
+    go : (x : Bool) → eqb (length b) 132 && frontStands b && placesStand 5 (drop 12 b) ≡ x → cond x (isMessage (messageOf b)) noMessage .known ≡ true → (length b ≡ 132) × (cond x (isMessage (messageOf b)) noMessage .message ≡ messageOf b) × (placesStand 5 (drop 12 b) ≡ true)
+    go true e k = (eqb-true (length b) 132 (both-left (eqb (length b) 132) (frontStands b) (both-left (eqb (length b) 132 && frontStands b) (placesStand 5 (drop 12 b)) e)), refl, both-right (eqb (length b) 132 && frontStands b) (placesStand 5 (drop 12 b)) e)
+    go false e k = never (cc)
 
 -- ---- storing
 

@@ -3,6 +3,8 @@ pub mod Copied
 pub mod InOrder
 pub mod Pieces
 pub mod Laying
+pub mod Fronts
+pub mod Zeros
 pub mod RoundTrip
 pub mod Typing
 pub mod Calling

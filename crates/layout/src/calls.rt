@@ -2,13 +2,13 @@
 ghost use mathlib.Core.Path.{_≡_};
 ghost use Rattle.layout.specs.Calls.{readCall, sent, told, wayOf, writeCall};
 use crate::stored::Laid;
-use crate::stored::load_message;
+use crate::stored::is_laid;
 use crate::stored::store_message;
+use crate::writing::write_laid;
 use inner::opening::open_message;
 use inner::values::Message;
 use inner::values::MessageWritten;
 use inner::values::Opened;
-use inner::writing::write_message;
 use kinds::Direction;
 use words::Limit;
 
@@ -79,16 +79,14 @@ pub fn write_call(direction: u64, message: &[u8], text: &[u8], out: &mut [u8]) -
     if out.len() < Message::ROOM {
         return Limit::ROOM;
     }
-    let laid = load_message(message);
-    if !laid.known {
+    if !is_laid(message) {
         return Limit::SHAPE;
     }
     let way = way_of(direction);
     let Way::Is(d) = way else {
         return Limit::SHAPE;
     };
-    let m = laid.message;
-    let answer = write_message(d, m, text, out);
+    let answer = write_laid(d, message, text, out);
     match answer {
         MessageWritten::Bits(n) => Way::COUNTED_BITS * n as u64,
         MessageWritten::Room => Limit::ROOM,

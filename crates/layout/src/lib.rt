@@ -4,3 +4,4 @@ pub mod calls;
 mod front;
 mod place;
 pub mod stored;
+mod writing;

@@ -25,23 +25,14 @@ impl Laid {
     pub const BYTES: usize = 132;
 
     // Its front, and each of its places.
-    const FRONT: usize = 12;
+    pub(crate) const FRONT: usize = 12;
 
-    const PLACE: usize = 24;
+    pub(crate) const PLACE: usize = 24;
 
     // What the bytes of a number of characters, and of places, do not hold.
     const CHARACTERS: u64 = 65536;
 
     const COUNT: usize = 256;
-}
-
-fn no_message() -> Laid
-    ensures { λ r. ⌜ r ≡ noMessage ⌝ }
-{
-    Laid {
-        known: false,
-        message: Message::EMPTY,
-    }
 }
 
 fn places_stand(b: &[u8]) -> bool
@@ -60,44 +51,17 @@ fn places_stand(b: &[u8]) -> bool
     true
 }
 
-fn load_places(b: &[u8]) -> [Element; 5]
-    requires { ⌜ size ≤ length (now b) ⌝ }
-    ensures { λ r. ⌜ r ≡ elementsOf 5 (drop frontSize (now (b .entry))) ⌝ }
-{
-    let mut places = [Element::EMPTY; 5];
-    let mut i: usize = 0;
-    while i < Message::PLACES {
-        let at = Laid::FRONT + Laid::PLACE * i;
-        let e = load_element(&b[at..at + Laid::PLACE]);
-        places[i] = e;
-        i += 1;
-    }
-    places
-}
-
-// The message that the bytes say.
-pub fn load_message(b: &[u8]) -> Laid
-    ensures { λ r. ⌜ r ≡ loadAt (now (b .entry)) ⌝ }
+// Whether the bytes say a message.
+pub(crate) fn is_laid(b: &[u8]) -> bool
+    ensures { λ r. ⌜ r ≡ loadAt (now (b .entry)) .known ⌝ }
 {
     if b.len() != Laid::BYTES {
-        return no_message();
+        return false;
     }
     if front_stands(b) {
-        if places_stand(b) {
-            let header = load_header(b);
-            let places = load_places(b);
-            return Laid {
-                known: true,
-                message: Message {
-                    header,
-                    count: b[11] as usize,
-                    places,
-                },
-            };
-        }
-        return no_message();
+        return places_stand(b);
     }
-    no_message()
+    false
 }
 
 // That there are five is said for the caller, who knows it of the array and not of the struct that holds it.

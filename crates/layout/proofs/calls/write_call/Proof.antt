@@ -1,8 +1,10 @@
 -- `layout::calls::write_call` meets its contract.
 -- Assumes nothing.
+use mathlib.Core.Path.{sym, _∙_}
 use native.Mathlib.Omega.{arith}
 use borrow.Author.Tests.{not-true, not-false}
 use Rattle.layout.specs.Calls.{sentAs}
+use Rattle.layout.proofs.Laying.{laid-is}
 use Rattle.layout.proofs.Calling.{written-few, write-room, write-unknown, write-no-way, write-is}
 use borrow.Author.Needs.{needs}
 use Rattle.layout.proofs.calls.write_call.Statement.{statement}
@@ -11,14 +13,14 @@ use Rattle.layout.proofs.calls.write_call.Tie as tie
 returns : tie.Need-returns
 returns c = write-room _ _ _ _ (c .if1 .taken)
 
-load-message-requires : tie.Need-load-message-requires
-load-message-requires c κs = tt
+is-laid-requires : tie.Need-is-laid-requires
+is-laid-requires c κs = search needs
 
 returns-2 : tie.Need-returns-2
-returns-2 c = write-unknown _ _ _ _ (c .before .before .before .if1 .left) _ (c .before .before .load-message .ensures) (not-true _ (c .if2 .taken))
+returns-2 c = write-unknown _ _ _ _ (c .before .before .if1 .left) _ (c .before .is-laid .ensures) (not-true _ (c .if2 .taken))
 
 way-of-requires : tie.Need-way-of-requires
-way-of-requires c κs = tt
+way-of-requires c κs = search needs
 
 enum-known-way : tie.Need-enum-known-way
 enum-known-way c = search needs
@@ -27,16 +29,20 @@ enum-told : tie.Need-enum-told
 enum-told c = search needs
 
 returns-3 : tie.Need-returns-3
-returns-3 c = write-no-way _ _ _ _ (c .before .before .before .before .before .before .if1 .left) _ (c .before .before .before .before .before .load-message .ensures) (not-false _ (c .before .before .before .if2 .left)) _ (c .before .before .way-of .ensures) (c .enum-told .given .1)
+returns-3 c = write-no-way _ _ _ _ (c .before .before .before .before .before .if1 .left) _ (c .before .before .before .before .is-laid
+    .ensures) (not-false _ (c .before .before .before .if2 .left)) _ (c .before .before .way-of .ensures) (c .enum-told .given .1)
 
-write-message-requires : tie.Need-write-message-requires
-write-message-requires c κs = tt
+write-laid-requires : tie.Need-write-laid-requires
+write-laid-requires c κs = (laid-is _ (sym (c .before .before .before .before .before .before .is-laid .ensures) ∙ not-false _ (c
+    .before .before .before .before .before .if2 .left)) .0, laid-is _ (sym (c .before .before .before .before .before .before .is-laid
+    .ensures) ∙ not-false _ (c .before .before .before .before .before .if2 .left)) .2)
 
 enum-known-answer : tie.Need-enum-known-answer
 enum-known-answer c = search needs
 
 mul-result : tie.Need-mul-result
-mul-result c = omega (arith, written-few _ _ _ _ _ _ _ (c .before .before .before .before .before .write-message .ensures) (c .before .answer .given .1))
+mul-result c = omega (arith, written-few _ _ _ _ _ _ _ (c .before .before .before .before .before .write-laid .ensures) (c .before
+    .answer .given .1))
 
 enum-told-2 : tie.Need-enum-told-2
 enum-told-2 c = search needs
@@ -49,34 +55,47 @@ same-length c = search needs
 
 returns-4 : tie.Need-returns-4
 unfolding sentAs
-returns-4 c = write-is _ _ _ _ (c .before .before .before .before .before .before .before .before .before .before .before .before .before .before .before .if1 .left) _ (c .before .before .before .before .before .before .before .before .before .before .before .before .before .before .load-message .ensures) (not-false _ (c .before .before .before .before .before .before .before .before .before .before .before .before .if2 .left)) _ (c .before .before .before .before .before .before .before .before .before .before .before .way-of .ensures) _ (c .before .before .before .before .before .before .before .before .before .way .given .1) _ _ _ (c .before .before .before .before .before .write-message .ensures) (c .before .answer .given .1)
+returns-4 c = write-is _ _ _ _ (c .before .before .before .before .before .before .before .before .before .before .before .before
+    .before .if1 .left) _ (c .before .before .before .before .before .before .before .before .before .before .before .before .is-laid
+    .ensures) (not-false _ (c .before .before .before .before .before .before .before .before .before .before .before .if2 .left)) _ (c
+    .before .before .before .before .before .before .before .before .before .before .way-of .ensures) _ (c .before .before .before
+    .before .before .before .before .before .way .given .1) _ _ _ (c .before .before .before .before .before .write-laid .ensures) (c
+    .before .answer .given .1)
 
 same-length-2 : tie.Need-same-length-2
 same-length-2 c = search needs
 
 returns-5 : tie.Need-returns-5
 unfolding sentAs
-returns-5 c = write-is _ _ _ _ (c .before .before .before .before .before .before .before .before .before .before .before .before .before .before .if1 .left) _ (c .before .before .before .before .before .before .before .before .before .before .before .before .before .load-message .ensures) (not-false _ (c .before .before .before .before .before .before .before .before .before .before .before .if2 .left)) _ (c .before .before .before .before .before .before .before .before .before .before .way-of .ensures) _ (c .before .before .before .before .before .before .before .before .way .given .1) _ _ _ (c .before .before .before .before .write-message .ensures) (c .enum-told2 .given .1)
+returns-5 c = write-is _ _ _ _ (c .before .before .before .before .before .before .before .before .before .before .before .before .if1
+    .left) _ (c .before .before .before .before .before .before .before .before .before .before .before .is-laid .ensures) (not-false _
+    (c .before .before .before .before .before .before .before .before .before .before .if2 .left)) _ (c .before .before .before .before
+    .before .before .before .before .before .way-of .ensures) _ (c .before .before .before .before .before .before .before .way .given
+    .1) _ _ _ (c .before .before .before .before .write-laid .ensures) (c .enum-told2 .given .1)
 
 same-length-3 : tie.Need-same-length-3
 same-length-3 c = search needs
 
 returns-6 : tie.Need-returns-6
 unfolding sentAs
-returns-6 c = write-is _ _ _ _ (c .before .before .before .before .before .before .before .before .before .before .before .before .before .before .if1 .left) _ (c .before .before .before .before .before .before .before .before .before .before .before .before .before .load-message .ensures) (not-false _ (c .before .before .before .before .before .before .before .before .before .before .before .if2 .left)) _ (c .before .before .before .before .before .before .before .before .before .before .way-of .ensures) _ (c .before .before .before .before .before .before .before .before .way .given .1) _ _ _ (c .before .before .before .before .write-message .ensures) (c .enum-told3 .given .1)
+returns-6 c = write-is _ _ _ _ (c .before .before .before .before .before .before .before .before .before .before .before .before .if1
+    .left) _ (c .before .before .before .before .before .before .before .before .before .before .before .is-laid .ensures) (not-false _
+    (c .before .before .before .before .before .before .before .before .before .before .if2 .left)) _ (c .before .before .before .before
+    .before .before .before .before .before .way-of .ensures) _ (c .before .before .before .before .before .before .before .way .given
+    .1) _ _ _ (c .before .before .before .before .write-laid .ensures) (c .enum-told3 .given .1)
 
 pub write-call-spec : {M : Type 1} → statement M
 write-call-spec =
     tie.close
     (tie.spec
     returns
-    load-message-requires
+    is-laid-requires
     returns-2
     way-of-requires
     enum-known-way
     enum-told
     returns-3
-    write-message-requires
+    write-laid-requires
     enum-known-answer
     mul-result
     enum-told-2

@@ -6,7 +6,6 @@ pub mod HeaderWays
 pub mod HeaderLaws
 pub mod HeaderWritten
 pub mod RowPieces
-pub mod Unfilled
 pub mod Copied
 pub mod MessageLaws
 pub mod Characters

@@ -2,14 +2,14 @@
 -- Assumes nothing.
 use mathlib.Core.Path.{_≡_, refl, sym, ap, _∙_}
 use mathlib.Core.Bool.{Bool, true, false, _&&_}
-use mathlib.Core.List.{List, [], _∷_, _++_, append-assoc, append-nil}
+use mathlib.Core.List.{List, [], _∷_, _++_}
 use Prim.Native.Nat.{ℕ, zero, suc, _+_, _-_, _*_, _≤_, _<_}
 use native.Mathlib.Omega.{arith}
 use native.Mathlib.Numerals.{add-one}
 use borrow.Author.Tests.{lt-ltb, le-ltb}
 use lib.Dec.{ltb}
-use lib.ListN.{length, take, drop, set, getD, length-set}
-use lib.Seq.{sets, drop-cons, drop-drop, drop-length, take-all, take-suc-set}
+use lib.ListN.{length, take, drop, getD}
+use lib.Seq.{sets, drop-cons, drop-drop, drop-length}
 use Rattle.elements.specs.declared.values.Element.{Element}
 use Rattle.inner.proofs.RowPieces.{next-element}
 use Rattle.layout.specs.Layout.{placeBytes, placesBytes, elementOf, elementsOf, placeStands, placesStand, placesFit}

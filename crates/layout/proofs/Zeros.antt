@@ -3,7 +3,7 @@
 use mathlib.Core.Path.{_≡_, refl, sym, ap, _∙_}
 use mathlib.Core.Bool.{Bool, true, false, _&&_}
 use mathlib.Core.List.{List, [], _∷_, _++_}
-use Prim.Native.Nat.{ℕ, zero, suc, _+_, _-_, _*_, _≤_, _<_}
+use Prim.Native.Nat.{ℕ, zero, suc, _+_, _-_, _*_, _≤_}
 use native.Mathlib.Omega.{arith}
 use borrow.Author.Tests.{leb-true}
 use lib.Dec.{leb}
@@ -16,7 +16,7 @@ use Rattle.elements.specs.OneElement.{bare}
 use Rattle.inner.specs.Messages.{empty, allEmpty}
 use Rattle.inner.proofs.MessageLaws.{empty-is, places-empty}
 use Rattle.layout.specs.Layout.{placeBytes, elementOf, levelOf, elementsOf, placeStands, placesStand}
-use Rattle.layout.proofs.InOrder.{elements-suc, elements-zero, stand-suc}
+use Rattle.layout.proofs.InOrder.{elements-suc, stand-suc}
 use Rattle.layout.proofs.Pieces.{place-of}
 
 same : (a b : Bool) → (a ≡ true → b ≡ true) → (b ≡ true → a ≡ true) → a ≡ b

@@ -5,6 +5,10 @@ pub mod CardCalls
 pub mod CardReceives
 pub mod Beginnings
 pub mod Card
+pub mod CentreBytes
+pub mod CentreEntries
+pub mod CentreRests
+pub mod CentreAway
 pub mod CentreCards
 pub mod Centres
 pub mod Worked

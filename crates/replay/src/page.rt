@@ -1,5 +1,9 @@
 // What is held of one end and its host, in one range of numbers: the record, its power, and four lists. A list has its count, and its places from a first one on.
 // Nothing here is refused but what finds no room; that ends the run.
+ghost use mathlib.Core.Path.{_≡_};
+ghost use lib.Dec.{eqb};
+ghost use lib.ListN.{getD, set};
+ghost use Rattle.replay.specs.Tables.{left, pushed, member, among, noted, isNoted, entryIn, setEntry, putOnLine, markBroken};
 use control::Control;
 use control::State;
 use moves::Held;
@@ -58,14 +62,18 @@ impl Fate {
     pub const BROKEN: u64 = 3;
 }
 
-pub(crate) fn get(p: &[u64], at: usize) -> u64 {
+pub(crate) fn get(p: &[u64], at: usize) -> u64
+    ensures { λ r. ⌜ r ≡ getD (now (p .entry)) at 0 ⌝ }
+{
     if at < p.len() {
         return p[at];
     }
     0
 }
 
-pub(crate) fn put(p: &mut [u64], at: usize, v: u64) {
+pub(crate) fn put(p: &mut [u64], at: usize, v: u64)
+    ensures { λ r. ⌜ now (p .exit) ≡ set (now (p .entry)) at v ⌝ }
+{
     if at < p.len() {
         p[at] = v;
     }
@@ -110,14 +118,18 @@ pub(crate) fn hold(p: &mut [u64], r: Held) {
     put(p, Place::HIGHEST, r.highest);
 }
 
-pub(crate) fn is_idle(p: &[u64]) -> bool {
+pub(crate) fn is_idle(p: &[u64]) -> bool
+    ensures { λ r. ⌜ r ≡ eqb (getD (now (p .entry)) 0 0) 0 ⌝ }
+{
     get(p, Place::STATE) == 0
 }
 
 // ---- lists
 
 // The i-th from a place on.
-fn at(p: &[u64], from: usize, i: u64) -> u64 {
+fn at(p: &[u64], from: usize, i: u64) -> u64
+    ensures { λ r. ⌜ r ≡ member (now (p .entry)) from i ⌝ }
+{
     if 4294967296 < from {
         return 0;
     }
@@ -128,7 +140,9 @@ fn at(p: &[u64], from: usize, i: u64) -> u64 {
 }
 
 // Is x among the first so many from a place on?
-pub(crate) fn is_among(p: &[u64], from: usize, count: u64, x: u64) -> bool {
+pub(crate) fn is_among(p: &[u64], from: usize, count: u64, x: u64) -> bool
+    ensures { λ r. ⌜ r ≡ among (now (p .entry)) from count x ⌝ }
+{
     let mut i: u64 = 0;
     while i < count {
         if at(p, from, i) == x {
@@ -140,7 +154,9 @@ pub(crate) fn is_among(p: &[u64], from: usize, count: u64, x: u64) -> bool {
 }
 
 // One behind the others; false where there is no room.
-pub(crate) fn push(p: &mut [u64], counter: usize, from: usize, most: u64, x: u64) -> bool {
+pub(crate) fn push(p: &mut [u64], counter: usize, from: usize, most: u64, x: u64) -> bool
+    ensures { λ r. ⌜ left r (now (p .exit)) ≡ pushed (now (p .entry)) counter from most x ⌝ }
+{
     let n = get(p, counter);
     if most <= n {
         return false;
@@ -156,11 +172,15 @@ pub(crate) fn push(p: &mut [u64], counter: usize, from: usize, most: u64, x: u64
     true
 }
 
-pub(crate) fn is_decided(p: &[u64], job: u64) -> bool {
+pub(crate) fn is_decided(p: &[u64], job: u64) -> bool
+    ensures { λ r. ⌜ r ≡ among (now (p .entry)) 400 (getD (now (p .entry)) 8 0) job ⌝ }
+{
     is_among(p, Place::DECIDED_AT, get(p, Place::DECIDED), job)
 }
 
-pub(crate) fn decide(p: &mut [u64], job: u64) -> bool {
+pub(crate) fn decide(p: &mut [u64], job: u64) -> bool
+    ensures { λ r. ⌜ left r (now (p .exit)) ≡ pushed (now (p .entry)) 8 400 16384 job ⌝ }
+{
     push(
         p,
         Place::DECIDED,
@@ -170,13 +190,17 @@ pub(crate) fn decide(p: &mut [u64], job: u64) -> bool {
     )
 }
 
-pub(crate) fn open(p: &mut [u64], job: u64) -> bool {
+pub(crate) fn open(p: &mut [u64], job: u64) -> bool
+    ensures { λ r. ⌜ left r (now (p .exit)) ≡ pushed (now (p .entry)) 9 16784 1024 job ⌝ }
+{
     push(p, Place::OPENED, Place::OPENED_AT, Place::OPENED_MOST, job)
 }
 
 // ---- notices
 
-pub(crate) fn note(p: &mut [u64], job: u64, fate: u64) -> bool {
+pub(crate) fn note(p: &mut [u64], job: u64, fate: u64) -> bool
+    ensures { λ r. ⌜ left r (now (p .exit)) ≡ noted (now (p .entry)) job fate ⌝ }
+{
     let n = get(p, Place::NOTICES);
     if n < Place::NOTICES_MOST {
         let at = Place::NOTICES_AT + 2 * n as usize;
@@ -189,7 +213,9 @@ pub(crate) fn note(p: &mut [u64], job: u64, fate: u64) -> bool {
 }
 
 // The notice of a number, from 1 on, is this one.
-pub(crate) fn is_noted(p: &[u64], number: u64, job: u64, fate: u64) -> bool {
+pub(crate) fn is_noted(p: &[u64], number: u64, job: u64, fate: u64) -> bool
+    ensures { λ r. ⌜ r ≡ isNoted (now (p .entry)) number job fate ⌝ }
+{
     if number == 0 {
         return false;
     }
@@ -224,7 +250,9 @@ pub(crate) fn tell(p: &mut [u64], fate: u64) -> bool {
 // ---- the line
 
 // A field of an entry: 0 its kind, 1 its number, 2 its job.
-pub(crate) fn entry(p: &[u64], i: u64, field: usize) -> u64 {
+pub(crate) fn entry(p: &[u64], i: u64, field: usize) -> u64
+    ensures { λ r. ⌜ r ≡ entryIn (now (p .entry)) i field ⌝ }
+{
     if Place::LINE_MOST <= i {
         return 0;
     }
@@ -234,7 +262,9 @@ pub(crate) fn entry(p: &[u64], i: u64, field: usize) -> u64 {
     get(p, Place::LINE_AT + 3 * i as usize + field)
 }
 
-fn set_entry(p: &mut [u64], i: u64, kind: u64, number: u64, job: u64) {
+fn set_entry(p: &mut [u64], i: u64, kind: u64, number: u64, job: u64)
+    ensures { λ r. ⌜ now (p .exit) ≡ setEntry (now (p .entry)) i kind number job ⌝ }
+{
     if i < Place::LINE_MOST {
         let at = Place::LINE_AT + 3 * i as usize;
         put(p, at, kind);
@@ -244,7 +274,9 @@ fn set_entry(p: &mut [u64], i: u64, kind: u64, number: u64, job: u64) {
 }
 
 // An entry goes behind the others. It has not left.
-pub(crate) fn put_on_line(p: &mut [u64], kind: u64, number: u64, job: u64) -> bool {
+pub(crate) fn put_on_line(p: &mut [u64], kind: u64, number: u64, job: u64) -> bool
+    ensures { λ r. ⌜ left r (now (p .exit)) ≡ putOnLine (now (p .entry)) kind number job ⌝ }
+{
     let n = get(p, Place::ENTRIES);
     let unsent = get(p, Place::UNSENT);
     if Place::LINE_MOST <= n {
@@ -337,11 +369,15 @@ pub(crate) fn remove(p: &mut [u64], at: u64) {
 
 // ---- the numbers of the dialogues that broke: a count and the numbers behind it
 
-pub(crate) fn is_broken(b: &[u64], number: u64) -> bool {
+pub(crate) fn is_broken(b: &[u64], number: u64) -> bool
+    ensures { λ r. ⌜ r ≡ among (now (b .entry)) 1 (getD (now (b .entry)) 0 0) number ⌝ }
+{
     is_among(b, 1, get(b, 0), number)
 }
 
-pub(crate) fn mark_broken(b: &mut [u64], number: u64) -> bool {
+pub(crate) fn mark_broken(b: &mut [u64], number: u64) -> bool
+    ensures { λ r. ⌜ left r (now (b .exit)) ≡ markBroken (now (b .entry)) number ⌝ }
+{
     if is_broken(b, number) {
         return true;
     }

@@ -1,36 +1,42 @@
--- `replay::page::is_among` is safe and ends.
+-- `replay::page::is_among` meets its contract.
 -- Assumes nothing.
-use Prim.Native.Nat.{_-_}
 use borrow.Author.Needs.{needs}
+use borrow.Author.Tests.{eq-eqb}
+use Prim.Native.Nat.{_-_, _≤_}
+use mathlib.Core.Path.{_≡_, refl, sym, _∙_}
+use mathlib.Core.Bool.{false}
+use native.Mathlib.Omega.{arith}
+use Rattle.replay.specs.Tables.{among}
+use Rattle.replay.proofs.Tables.{among-here, among-turn, among-end}
 use Rattle.replay.proofs.page.is_among.Statement.{statement}
 use Rattle.replay.proofs.page.is_among.Tie as tie
 
 abbrev Inv-loop : tie.InvT-loop
-Inv-loop p from count x i₀ i = Unit {0}
+Inv-loop p from count x i₀ i = (i ≤ count) × (among p from i x ≡ false)
 
 abbrev μ-loop : tie.MeasureT-loop
 μ-loop p from count x i₀ i = count - i
 
 loop-holds : tie.Need-loop-holds Inv-loop μ-loop
-loop-holds c = search needs
+loop-holds c = (omega arith, refl)
 
 at-requires : tie.Need-at-requires Inv-loop μ-loop
 at-requires c κs = search needs
 
 returns : tie.Need-returns Inv-loop μ-loop
-returns c = search needs
+returns c = sym (among-here _ _ _ _ _ (c .before .before .loop-test .taken) (eq-eqb _ _ (sym (c .before .at .ensures) ∙ c .if1 .taken)))
 
 add-i : tie.Need-add-i Inv-loop μ-loop
 add-i c = search needs
 
 loop-less : tie.Need-loop-less Inv-loop μ-loop
-loop-less c = search needs
+loop-less c = omega arith
 
 loop-again : tie.Need-loop-again Inv-loop μ-loop
-loop-again c = search needs
+loop-again c = (omega arith, among-turn (c .before .before .before .before .before .args .p .now) (c .before .before .before .before .before .args .from) (c .before .before .before .loop .i) (c .before .before .before .before .before .args .x) (c .before .at .result) (c .before .at .ensures) (c .if1 .left) (c .before .before .before .loop .inv .1))
 
 returns-2 : tie.Need-returns-2 Inv-loop μ-loop
-returns-2 c = search needs
+returns-2 c = sym (among-end _ _ _ _ _ (c .before .loop .inv .0) (c .loop-test .left) (c .before .loop .inv .1))
 
 pub is-among-spec : {M : Type 1} → statement M
 is-among-spec =

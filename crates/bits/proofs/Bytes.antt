@@ -98,7 +98,8 @@ pub run-in-byte : (s : List ℕ) (p k : ℕ) → p / 8 < length s → p % 8 + k 
 unfolding run
 run-in-byte s p k h g = in-byte s p k h g
   where
-    in-byte : (s : List ℕ) (p k : ℕ) → p / 8 < length s → p % 8 + k ≤ 8 → take k (drop p (bitsOf s)) ≡ take k (drop (p % 8) (bitsN 8 (getD s (p / 8) 0)))
+    in-byte : (s : List ℕ) (p k : ℕ) → p / 8 < length s → p % 8 + k ≤ 8
+        → take k (drop p (bitsOf s)) ≡ take k (drop (p % 8) (bitsN 8 (getD s (p / 8) 0)))
     in-byte [] p k h g = absurd (omega arith)
     in-byte (x ∷ s) p k h g =
         elim (decLt p 8) [
@@ -106,12 +107,20 @@ run-in-byte s p k h g = in-byte s p k h g
               let q : p / 8 ≡ 0 = omega arith in
               let r : p % 8 ≡ p = omega arith in
               let n : length (drop p (bitsN 8 x)) ≡ 8 - p = rw (length-drop p (bitsN 8 x), length-bitsN 8 x) in
-              rw (q, r, bits-cons, drop-append-le p (bitsN 8 x) (bitsOf s) (rw (length-bitsN 8 x) (omega arith)), take-append-le k (drop p (bitsN 8 x)) (bitsOf s) (rw n (omega arith)))
+              rw (
+                q,
+                r,
+                bits-cons,
+                drop-append-le p (bitsN 8 x) (bitsOf s) (rw (length-bitsN 8 x) (omega arith)),
+                take-append-le k (drop p (bitsN 8 x)) (bitsOf s) (rw n (omega arith)),
+              )
           | no l ↦
               let q : p / 8 ≡ suc ((p - 8) / 8) = omega arith in
               let r : p % 8 ≡ (p - 8) % 8 = omega arith in
               let e : p ≡ length (bitsN 8 x) + (p - 8) = rw (length-bitsN 8 x) (omega arith) in
-              ap (λ (n : ℕ). take k (drop n (bitsOf (x ∷ s)))) e ∙ rw (bits-cons, drop-append-add (bitsN 8 x) (bitsOf s) (p - 8), q, r) (in-byte s (p - 8) k (omega arith) (omega arith))
+              ap (λ (n : ℕ). take k (drop n (bitsOf (x ∷ s)))) e ∙ rw
+              (bits-cons, drop-append-add (bitsN 8 x) (bitsOf s) (p - 8), q, r)
+              (in-byte s (p - 8) k (omega arith) (omega arith))
         ]
 
 pub bytes-drop : (s : List ℕ) (q : ℕ) → drop (8 * q) (bitsOf s) ≡ bitsOf (drop q s)
@@ -136,8 +145,10 @@ holds-split l at xs ys h =
     let n : length (take (length (xs ++ ys)) d) ≡ length (xs ++ ys) = ap length h in
     let m = simp (length-take, length-append) at n in
     let k : length (take (length xs) d) ≡ length xs = rw length-take (omega arith) in
-    let p = sym (take-at (take (length xs) d) (take (length ys) (drop (length xs) d)) (length xs) k) ∙ ap (take (length xs)) e ∙ take-at xs ys (length xs) refl in
-    let q = sym (drop-at (take (length xs) d) (take (length ys) (drop (length xs) d)) (length xs) k) ∙ ap (drop (length xs)) e ∙ drop-at xs ys (length xs) refl in
+    let p = sym (take-at (take (length xs) d) (take (length ys) (drop (length xs) d)) (length xs) k) ∙ ap
+    (take (length xs)) e ∙ take-at xs ys (length xs) refl in
+    let q = sym (drop-at (take (length xs) d) (take (length ys) (drop (length xs) d)) (length xs) k) ∙ ap
+    (drop (length xs)) e ∙ drop-at xs ys (length xs) refl in
     (p, rw drop-drop at q)
 
 pub holds-join : (l : List ℕ) (at : ℕ) (xs ys : List ℕ) → Holds l at xs → Holds l (at + length xs) ys → Holds l at (xs ++ ys)

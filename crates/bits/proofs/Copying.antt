@@ -22,11 +22,13 @@ use Rattle.bits.proofs.Putting.{put-nil, put-append, number-in-byte, re
 -- ---- runs in a row
 
 -- two runs that stand one after the other, put one after the other
-pub joined : (d s : List ℕ) (to at m n : ℕ) → at + m ≤ 8 * length s → putBits (putBits d to (run s at m)) (to + m) (run s (at + m) n) ≡ putBits d to (run s at (m + n))
+pub joined : (d s : List ℕ) (to at m n : ℕ) → at + m ≤ 8 * length s
+    → putBits (putBits d to (run s at m)) (to + m) (run s (at + m) n) ≡ putBits d to (run s at (m + n))
 joined d s to at m n h = rw (run-add s at m n, put-append, length-run s at m h)
 
 -- a run in two parts
-pub in-two : (d x z s : List ℕ) (to at m n : ℕ) → m ≤ n → at + n ≤ 8 * length s → x ≡ putBits d to (run s at m) → z ≡ putBits x (to + m) (run s (at + m) (n - m)) → z ≡ putBits d to (run s at n)
+pub in-two : (d x z s : List ℕ) (to at m n : ℕ) → m ≤ n → at + n ≤ 8 * length s → x ≡ putBits d to (run s at m)
+    → z ≡ putBits x (to + m) (run s (at + m) (n - m)) → z ≡ putBits d to (run s at n)
 in-two d x z s to at m n h g p q =
     let e : m + (n - m) ≡ n = omega arith in
     q ∙ rw p (joined d s to at m (n - m) (omega arith)) ∙ ap (λ (k : ℕ). putBits d to (run s at k)) e
@@ -35,11 +37,13 @@ pub none-left : (d s : List ℕ) (to at n : ℕ) → n ≡ 0 → putBits d to (r
 none-left d s to at n e = rw (e, run-zero, put-nil)
 
 -- at most 64 bits go as one number
-pub as-number : (d z s : List ℕ) (to at n v : ℕ) → at + n ≤ 8 * length s → v ≡ numOf (run s at n) → z ≡ putBits d to (bitsN n v) → z ≡ putBits d to (run s at n)
+pub as-number : (d z s : List ℕ) (to at n v : ℕ) → at + n ≤ 8 * length s → v ≡ numOf (run s at n)
+    → z ≡ putBits d to (bitsN n v) → z ≡ putBits d to (run s at n)
 as-number d z s to at n v h p e = e ∙ ap (putBits d to) (rw p (sym (run-bits s at n h)))
 
 -- a copy reads at the new place as it read at the old one
-pub copy-reads : (d s : List ℕ) (to at n : ℕ) → to + n ≤ 8 * length d → at + n ≤ 8 * length s → run (putBits d to (run s at n)) to n ≡ run s at n
+pub copy-reads : (d s : List ℕ) (to at n : ℕ) → to + n ≤ 8 * length d → at + n ≤ 8 * length s
+    → run (putBits d to (run s at n)) to n ≡ run s at n
 copy-reads d s to at n hd hs =
     let k = length-run s at n hs in
     rw k at (read-back d to (run s at n) (bits-run s at n) (rw k hd))
@@ -47,7 +51,8 @@ copy-reads d s to at n hd hs =
 -- ---- the head, whole bytes, and the rest
 
 pub in-three : (d x y z s : List ℕ) (to at n h m : ℕ) → h + 8 * m ≤ n → at + n ≤ 8 * length s → (0 < m → 8 * ((to + h) / 8) ≡ to + h)
-    → x ≡ putBits d to (run s at h) → y ≡ putBits x (8 * ((to + h) / 8)) (run s (at + h) (8 * m)) → z ≡ putBits y (to + h + 8 * m) (run s (at + h + 8 * m) (n - h - 8 * m))
+    → x ≡ putBits d to (run s at h) → y ≡ putBits x (8 * ((to + h) / 8)) (run s (at + h) (8 * m)) → z ≡ putBits y
+    (to + h + 8 * m) (run s (at + h + 8 * m) (n - h - 8 * m))
     → z ≡ putBits d to (run s at n)
 in-three d x y z s to at n h m f g aligned p q r =
     let b : putBits x (8 * ((to + h) / 8)) (run s (at + h) (8 * m)) ≡ putBits x (to + h) (run s (at + h) (8 * m)) = elim (decLt 0 m) [
@@ -61,12 +66,15 @@ in-three d x y z s to at n h m f g aligned p q r =
     ∙ joined d s to at h (8 * m + (n - h - 8 * m)) (omega arith) ∙ ap (λ (k : ℕ). putBits d to (run s at k)) e
 
 -- whole bytes, eight at a time and the rest
-pub in-eights : (d x z s : List ℕ) (base at m : ℕ) → at + 8 * m ≤ 8 * length s → x ≡ putBits d (8 * base) (run s at (64 * (m / 8))) → z ≡ putBits x (8 * (base + 8 * (m / 8))) (run s (at + 64 * (m / 8)) (8 * (m % 8)))
+pub in-eights : (d x z s : List ℕ) (base at m : ℕ) → at + 8 * m ≤ 8 * length s
+    → x ≡ putBits d (8 * base) (run s at (64 * (m / 8)))
+    → z ≡ putBits x (8 * (base + 8 * (m / 8))) (run s (at + 64 * (m / 8)) (8 * (m % 8)))
     → z ≡ putBits d (8 * base) (run s at (8 * m))
 in-eights d x z s base at m h p q =
     let a : 8 * (base + 8 * (m / 8)) ≡ 8 * base + 64 * (m / 8) = omega arith in
     let e : 64 * (m / 8) + 8 * (m % 8) ≡ 8 * m = omega arith in
-    q ∙ rw (p, a) (joined d s (8 * base) at (64 * (m / 8)) (8 * (m % 8)) (omega arith)) ∙ ap (λ (k : ℕ). putBits d (8 * base) (run s at k)) e
+    q ∙ rw (p, a) (joined d s (8 * base) at (64 * (m / 8)) (8 * (m % 8)) (omega arith)) ∙ ap
+    (λ (k : ℕ). putBits d (8 * base) (run s at k)) e
 
 -- ---- a turn of the loop over bytes
 
@@ -78,7 +86,8 @@ pub put-byte : (d : List ℕ) (i x : ℕ) → x < 256 → i < length d → putBi
 put-byte d i x h g =
     let q : 8 * i / 8 ≡ i = omega arith in
     let r : 8 * i % 8 ≡ 0 = omega arith in
-    let e : sets (bitsN 8 (getD d i 0)) 0 (bitsN 8 x) ≡ bitsN 8 x = all-set (bitsN 8 x) (bitsN 8 (getD d i 0)) (length-bitsN 8 (getD d i 0) ∙ sym (length-bitsN 8 x)) in
+    let e : sets (bitsN 8 (getD d i 0)) 0 (bitsN 8 x) ≡ bitsN 8 x = all-set (bitsN 8 x) (bitsN 8 (getD d i 0))
+    (length-bitsN 8 (getD d i 0) ∙ sym (length-bitsN 8 x)) in
     let v : numOf (bitsN 8 x) ≡ x = num-bitsN 8 x ∙ mod-eq-of-lt h in
     (rw (q, r) at (number-in-byte d (8 * i) 8 x (omega arith) (omega arith) (omega arith))) ∙ rw (e, v)
 
@@ -88,24 +97,36 @@ two a b h =
     bitsN-split 8 8 (a * 256 + b) ∙ rw (e, bitsN-high 8 a b)
 
 -- eight bits of two bytes
-eight-bits : (s : List ℕ) (q r : ℕ) → r < 8 → q + 1 < length s → getD s (q + 1) 0 < 256 → run s (8 * q + r) 8 ≡ bitsN 8 ((getD s q 0 * 256 + getD s (q + 1) 0) / 2 ^ (8 - r))
+eight-bits : (s : List ℕ) (q r : ℕ) → r < 8 → q + 1 < length s → getD s (q + 1) 0 < 256
+    → run s (8 * q + r) 8 ≡ bitsN 8 ((getD s q 0 * 256 + getD s (q + 1) 0) / 2 ^ (8 - r))
 unfolding run
 eight-bits s q r h g b =
     let w : ℕ = getD s q 0 * 256 + getD s (q + 1) 0 in
-    let u : drop q s ≡ getD s q 0 ∷ (getD s (q + 1) 0 ∷ drop (suc (suc q)) s) = drop-cons s q 0 (omega arith) ∙ rw (add-one, drop-cons s (suc q) 0 (omega arith)) in
+    let u : drop q s ≡ getD s q 0 ∷ (getD s (q + 1) 0 ∷ drop (suc (suc q)) s) = drop-cons s q 0 (omega arith) ∙ rw
+    (add-one, drop-cons s (suc q) 0 (omega arith)) in
     let k : r + (8 + (8 - r)) ≡ 16 = omega arith in
     let n : length (bitsN 16 w) ≡ 16 = length-bitsN 16 _ in
     let m : length (drop r (bitsN 16 w)) ≡ 16 - r = rw (length-drop, n) in
-    let z : bitsOf (drop q s) ≡ bitsN 16 w ++ bitsOf (drop (suc (suc q)) s) = ap bitsOf u ∙ rw (bits-cons, bits-cons, two (getD s q 0) (getD s (q + 1) 0) b, append-assoc) in
-    rw (← drop-drop, bytes-drop s q, z, drop-append-le r (bitsN 16 w) (bitsOf (drop (suc (suc q)) s)) (omega arith), take-append-le 8 (drop r (bitsN 16 w)) (bitsOf (drop (suc (suc q)) s)) (omega arith))
+    let z : bitsOf (drop q s) ≡ bitsN 16 w ++ bitsOf (drop (suc (suc q)) s) = ap bitsOf u ∙ rw
+    (bits-cons, bits-cons, two (getD s q 0) (getD s (q + 1) 0) b, append-assoc) in
+    rw (
+      ← drop-drop,
+      bytes-drop s q,
+      z,
+      drop-append-le r (bitsN 16 w) (bitsOf (drop (suc (suc q)) s)) (omega arith),
+      take-append-le 8 (drop r (bitsN 16 w)) (bitsOf (drop (suc (suc q)) s)) (omega arith),
+    )
     (rw k at (bitsN-part r 8 (8 - r) w))
 
-run-eight : (s : List ℕ) (q r p x : ℕ) → p ≡ 8 * q + r → r < 8 → q + 1 < length s → getD s (q + 1) 0 < 256 → x ≡ (getD s q 0 * 256 + getD s (q + 1) 0) / 2 ^ (8 - r) % 256 → run s p 8 ≡ bitsN 8 x
+run-eight : (s : List ℕ) (q r p x : ℕ) → p ≡ 8 * q + r → r < 8 → q + 1 < length s → getD s (q + 1) 0 < 256
+    → x ≡ (getD s q 0 * 256 + getD s (q + 1) 0) / 2 ^ (8 - r) % 256 → run s p 8 ≡ bitsN 8 x
 run-eight s q r p x e h g b f = rw (e, f) (eight-bits s q r h g b ∙ sym (bitsN-mod 8 ((getD s q 0 * 256 + getD s (q + 1) 0) / 2 ^ (8 - r))))
 
-pub byte-turn : (d d′ z s : List ℕ) (base at m i a b x : ℕ) → i < m → at / 8 + m < length s → base + i < length d → a ≡ getD s (at / 8 + i) 0 → b ≡ getD s (at / 8 + i + 1) 0 → b < 256
+pub byte-turn : (d d′ z s : List ℕ) (base at m i a b x : ℕ) → i < m → at / 8 + m < length s → base + i < length d
+    → a ≡ getD s (at / 8 + i) 0 → b ≡ getD s (at / 8 + i + 1) 0 → b < 256
     → x ≡ (a * 256 + b) / 2 ^ (8 - at % 8) % 256 → d′ ≡ set d (base + i) x
-    → putBits d (8 * (base + i)) (run s (at + 8 * i) (8 * (m - i))) ≡ z → putBits d′ (8 * (base + (i + 1))) (run s (at + 8 * (i + 1)) (8 * (m - (i + 1)))) ≡ z
+    → putBits d (8 * (base + i)) (run s (at + 8 * i) (8 * (m - i))) ≡ z → putBits d′ (8 * (base + (i + 1)))
+    (run s (at + 8 * (i + 1)) (8 * (m - (i + 1)))) ≡ z
 byte-turn d d′ z s base at m i a b x h g l p q hb e f inv =
     let k : 8 * (m - i) ≡ 8 + 8 * (m - (i + 1)) = omega arith in
     let t : at + 8 * i + 8 ≡ at + 8 * (i + 1) = omega arith in
@@ -113,11 +134,13 @@ byte-turn d d′ z s base at m i a b x h g l p q hb e f inv =
     let w : at + 8 * i ≡ 8 * (at / 8 + i) + at % 8 = omega arith in
     let hx : x < 256 = omega arith in
     let hq : getD s (at / 8 + i + 1) 0 < 256 = rw (← q) hb in
-    let y : run s (at + 8 * i) 8 ≡ bitsN 8 x = run-eight s (at / 8 + i) (at % 8) (at + 8 * i) x w (omega arith) (omega arith) hq (e ∙ rw (p, q)) in
+    let y : run s (at + 8 * i) 8 ≡ bitsN 8 x = run-eight s (at / 8 + i) (at % 8) (at + 8 * i) x w (omega arith)
+    (omega arith) hq (e ∙ rw (p, q)) in
     let j : putBits d (8 * (base + i)) (bitsN 8 x ++ run s (at + 8 * (i + 1)) (8 * (m - (i + 1)))) ≡ z = rw (k, run-add, t, y) at inv in
     rw f (rw (put-append, length-bitsN 8 x, u, put-byte d (base + i) x hx l) at j)
 
-pub byte-start : (d s : List ℕ) (base at m : ℕ) → putBits d (8 * (base + 0)) (run s (at + 8 * 0) (8 * (m - 0))) ≡ putBits d (8 * base) (run s at (8 * m))
+pub byte-start : (d s : List ℕ) (base at m : ℕ)
+    → putBits d (8 * (base + 0)) (run s (at + 8 * 0) (8 * (m - 0))) ≡ putBits d (8 * base) (run s at (8 * m))
 byte-start d s base at m =
     let e : m - 0 ≡ m = omega arith in
     let f : at + 8 * 0 ≡ at = omega arith in
@@ -126,11 +149,13 @@ byte-start d s base at m =
 
 -- ---- the answers of the copier, as the code has them
 
-pub is-copied : (d z s : List ℕ) (e to f at n : ℕ) → Within s f at n → Within d e to n → z ≡ putBits d to (run s at n) → left (Next (to + n)) z ≡ copyRun d e to s f at n
+pub is-copied : (d z s : List ℕ) (e to f at n : ℕ) → Within s f at n → Within d e to n → z ≡ putBits d to (run s at n)
+    → left (Next (to + n)) z ≡ copyRun d e to s f at n
 unfolding copyRun putIf putRun
 is-copied d z s e to f at n ws wd h = rw (ws .test, length-run s at n (ws .bytes), wd .test, h)
 
-pub no-room : (d s : List ℕ) (e to f at n : ℕ) → Within s f at n → leb (to + n) (length (bitsTo d e)) ≡ false → left Full d ≡ copyRun d e to s f at n
+pub no-room : (d s : List ℕ) (e to f at n : ℕ) → Within s f at n → leb (to + n) (length (bitsTo d e)) ≡ false
+    → left Full d ≡ copyRun d e to s f at n
 unfolding copyRun putIf putRun
 no-room d s e to f at n ws wd = rw (ws .test, length-run s at n (ws .bytes), wd)
 

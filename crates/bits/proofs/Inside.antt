@@ -25,7 +25,8 @@ same-leb a b p q f g =
 
 -- the last test of `within`
 pub by-bytes : (len e at n : ℕ) → at ≤ e → n ≤ e - at → leb ((at + n) / 8 + ((at + n) % 8 + 7) / 8) len ≡ leb (at + n) (min e (8 * len))
-by-bytes len e at n h g = same-leb _ _ _ _ (λ (k : (at + n) / 8 + ((at + n) % 8 + 7) / 8 ≤ len). omega arith) (λ (k : at + n ≤ min e (8 * len)). omega arith)
+by-bytes len e at n h g = same-leb _ _ _ _ (λ (k : (at + n) / 8 + ((at + n) % 8 + 7) / 8 ≤ len). omega arith)
+    (λ (k : at + n ≤ min e (8 * len)). omega arith)
 
 -- what the test says, once it held
 pub record Within (s : List ℕ) (e at n : ℕ) : Type 0 where
@@ -39,7 +40,8 @@ is-within s e at n t p q =
     let k : at + n ≤ min e (8 * length s) = leb-true _ _ z in
     record { test = rw length-to z; end = omega arith; bytes = omega arith }
 
-pub not-within : (s : List ℕ) (e at n : ℕ) (t : Bool) → t ≡ leb (at + n) (min e (8 * length s)) → t ≡ false → leb (at + n) (length (bitsTo s e)) ≡ false
+pub not-within : (s : List ℕ) (e at n : ℕ) (t : Bool) → t ≡ leb (at + n) (min e (8 * length s)) → t ≡ false
+    → leb (at + n) (length (bitsTo s e)) ≡ false
 not-within s e at n t p q = rw length-to (sym p ∙ q)
 
 -- eight bytes from a byte behind the end on

@@ -102,7 +102,11 @@ bits-set (x ∷ s) k b hb hk =
 pub bits-put : (bs s : List ℕ) (at : ℕ) → Bits bs → at + length bs ≤ 8 * length s → bitsOf (putBits s at bs) ≡ sets (bitsOf s) at bs
 bits-put [] s at hb h = rw put-nil
 bits-put (b ∷ bs) s at hb h =
-    rw (put-cons, bits-put bs (setBit s at b) (suc at) (λ (k : ℕ). hb (suc k)) (rw length-setBit (omega arith)), bits-set s at b (hb 0) (omega arith))
+    rw (
+      put-cons,
+      bits-put bs (setBit s at b) (suc at) (λ (k : ℕ). hb (suc k)) (rw length-setBit (omega arith)),
+      bits-set s at b (hb 0) (omega arith),
+    )
 
 -- ---- what a reader finds
 
@@ -111,7 +115,13 @@ pub read-back : (s : List ℕ) (at : ℕ) (bs : List ℕ) → Bits bs → at + l
 unfolding run
 read-back s at bs hb h =
     let f : at + length bs ≤ length (bitsOf s) = rw length-bits h in
-    rw (bits-put bs s at hb h, sets-eq bs (bitsOf s) at f, append-assoc, drop-at (take at (bitsOf s)) (bs ++ drop (at + length bs) (bitsOf s)) at (length-take-le at (bitsOf s) (omega arith)))
+    rw (
+      bits-put bs s at hb h,
+      sets-eq bs (bitsOf s) at f,
+      append-assoc,
+      drop-at (take at (bitsOf s))
+          (bs ++ drop (at + length bs) (bitsOf s)) at (length-take-le at (bitsOf s) (omega arith)),
+    )
     (take-at bs (drop (at + length bs) (bitsOf s)) (length bs) refl)
 
 part-set-before : (l : List ℕ) (a n i v : ℕ) → a + n ≤ i → take n (drop a (set l i v)) ≡ take n (drop a l)
@@ -129,11 +139,13 @@ part-sets-after [] l a i h = refl
 part-sets-after (v ∷ vs) l a i h = part-sets-after vs (set l i v) a (suc i) (omega arith) ∙ drop-set-lt a l i v (omega arith)
 
 -- bits before and after are as they were
-pub kept-before : (s : List ℕ) (at : ℕ) (bs : List ℕ) → Bits bs → at + length bs ≤ 8 * length s → (a n : ℕ) → a + n ≤ at → run (putBits s at bs) a n ≡ run s a n
+pub kept-before : (s : List ℕ) (at : ℕ) (bs : List ℕ) → Bits bs → at + length bs ≤ 8 * length s → (a n : ℕ) → a + n ≤ at
+    → run (putBits s at bs) a n ≡ run s a n
 unfolding run
 kept-before s at bs hb h a n g = rw (bits-put bs s at hb h) (part-sets-before bs (bitsOf s) a n at g)
 
-pub kept-after : (s : List ℕ) (at : ℕ) (bs : List ℕ) → Bits bs → at + length bs ≤ 8 * length s → (a n : ℕ) → at + length bs ≤ a → run (putBits s at bs) a n ≡ run s a n
+pub kept-after : (s : List ℕ) (at : ℕ) (bs : List ℕ) → Bits bs → at + length bs ≤ 8 * length s → (a n : ℕ)
+    → at + length bs ≤ a → run (putBits s at bs) a n ≡ run s a n
 unfolding run
 kept-after s at bs hb h a n g = rw (bits-put bs s at hb h, part-sets-after bs (bitsOf s) a at g)
 
@@ -159,7 +171,8 @@ with-sets : (bs : List ℕ) (y k b : ℕ) → Bits (b ∷ bs) → withBits y k (
 unfolding withBits withBit
 with-sets [] y k b h = refl
 with-sets (c ∷ bs) y k b h =
-    with-sets bs (withBit y k b) (suc k) c (λ (i : ℕ). h (suc i)) ∙ ap (λ (l : List ℕ). numOf (sets l (suc k) (c ∷ bs))) (byte-set y k b (h 0))
+    with-sets bs (withBit y k b) (suc k) c (λ (i : ℕ). h (suc i)) ∙ ap
+    (λ (l : List ℕ). numOf (sets l (suc k) (c ∷ bs))) (byte-set y k b (h 0))
 
 -- bits that lie within one byte change that byte alone
 pub put-in-byte : (s : List ℕ) (p b : ℕ) (bs : List ℕ) → Bits (b ∷ bs) → p / 8 < length s → p % 8 + suc (length bs) ≤ 8
@@ -176,7 +189,8 @@ put-in-byte (y ∷ s) p b bs hb h g =
           let r : p % 8 ≡ (p - 8) % 8 = omega arith in
           let e : p ≡ 8 + (p - 8) = omega arith in
           ap (λ (k : ℕ). putBits (y ∷ s) k (b ∷ bs)) e
-          ∙ rw (q, r) (put-later (b ∷ bs) y s (p - 8) ∙ ap (λ (z : List ℕ). y ∷ z) (put-in-byte s (p - 8) b bs hb (omega arith) (omega arith)))
+          ∙ rw (q, r) (put-later (b ∷ bs) y s (p - 8) ∙ ap (λ (z : List ℕ). y ∷ z)
+          (put-in-byte s (p - 8) b bs hb (omega arith) (omega arith)))
     ]
 
 -- a number of k bits put within one byte
@@ -194,7 +208,8 @@ apart a K p M c = rw (add-mul, mul-assoc)
 div-lt : (x r m : ℕ) → x < 2 ^ (r + m) → x / 2 ^ m < 2 ^ r
 div-lt x r m h = div-lt-iff-lt-mul (pow-pos m) .1 (rw pow-add at h)
 
-pub piece-put : (x r k p : ℕ) → x < 256 → r + k ≤ 8 → p < 2 ^ k → x / 2 ^ (8 - r) * 2 ^ (8 - r) + p * 2 ^ (8 - r - k) + x % 2 ^ (8 - r - k) ≡ numOf (sets (bitsN 8 x) r (bitsN k p))
+pub piece-put : (x r k p : ℕ) → x < 256 → r + k ≤ 8 → p < 2 ^ k
+    → x / 2 ^ (8 - r) * 2 ^ (8 - r) + p * 2 ^ (8 - r - k) + x % 2 ^ (8 - r - k) ≡ numOf (sets (bitsN 8 x) r (bitsN k p))
 piece-put x r k p hx h hp =
     let m : ℕ = 8 - r - k in
     let e : 8 ≡ r + (8 - r) = omega arith in
@@ -203,11 +218,14 @@ piece-put x r k p hx h hp =
     let w : 2 ^ (8 - r) ≡ 2 ^ k * 2 ^ (8 - r - k) = ap (λ (n : ℕ). 2 ^ n) f ∙ pow-add 2 k (8 - r - k) in
     let n = length-bitsN 8 x in
     let hh : x < 2 ^ (r + (8 - r)) = rw (← e) hx in
-    let a : numOf (take r (bitsN 8 x)) ≡ x / 2 ^ (8 - r) = ap (λ (j : ℕ). numOf (take r (bitsN j x))) e ∙ rw (bitsN-take r (8 - r) x, num-bitsN r (x / 2 ^ (8 - r))) (mod-eq-of-lt (div-lt x r (8 - r) hh)) in
+    let a : numOf (take r (bitsN 8 x)) ≡ x / 2 ^ (8 - r) = ap (λ (j : ℕ). numOf (take r (bitsN j x))) e ∙ rw
+    (bitsN-take r (8 - r) x, num-bitsN r (x / 2 ^ (8 - r))) (mod-eq-of-lt (div-lt x r (8 - r) hh)) in
     let b : numOf (bitsN k p) ≡ p = num-bitsN k p ∙ mod-eq-of-lt hp in
     let d : drop (r + k) (bitsN 8 x) ≡ bitsN (8 - r - k) x = rw (bitsN-drop (r + k) 8 x h, g) in
-    let z : sets (bitsN 8 x) r (bitsN k p) ≡ take r (bitsN 8 x) ++ bitsN k p ++ bitsN (8 - r - k) x = sets-eq (bitsN k p) (bitsN 8 x) r (rw (length-bitsN k p, n) h) ∙ rw (length-bitsN k p, d) in
-    rw (z, num-append, num-append, length-bitsN, length-bitsN, a, b, num-bitsN (8 - r - k) x, w) (sym (apart (x / (2 ^ k * 2 ^ (8 - r - k))) (2 ^ k) p (2 ^ (8 - r - k)) (x % 2 ^ (8 - r - k))))
+    let z : sets (bitsN 8 x) r (bitsN k p) ≡ take r (bitsN 8 x) ++ bitsN k p ++ bitsN (8 - r - k) x = sets-eq
+    (bitsN k p) (bitsN 8 x) r (rw (length-bitsN k p, n) h) ∙ rw (length-bitsN k p, d) in
+    rw (z, num-append, num-append, length-bitsN, length-bitsN, a, b, num-bitsN (8 - r - k) x, w)
+    (sym (apart (x / (2 ^ k * 2 ^ (8 - r - k))) (2 ^ k) p (2 ^ (8 - r - k)) (x % 2 ^ (8 - r - k))))
 
 pub byte-lt : (x r k p : ℕ) → numOf (sets (bitsN 8 x) r (bitsN k p)) < 256
 byte-lt x r k p =
@@ -227,7 +245,8 @@ done s at n i v h =
     let e : n - i ≡ 0 = omega arith in
     rw (e, bitsN-zero, put-nil)
 
-pub turn : (d d′ z : List ℕ) (at n i k v w part x : ℕ) → 0 < k → i + k ≤ n → (at + i) % 8 + k ≤ 8 → at + n ≤ 8 * length d → w ≡ 2 ^ k → part ≡ v / 2 ^ (n - i - k) % w
+pub turn : (d d′ z : List ℕ) (at n i k v w part x : ℕ) → 0 < k → i + k ≤ n → (at + i) % 8 + k ≤ 8
+    → at + n ≤ 8 * length d → w ≡ 2 ^ k → part ≡ v / 2 ^ (n - i - k) % w
     → x ≡ numOf (sets (bitsN 8 (getD d ((at + i) / 8) 0)) ((at + i) % 8) (bitsN k part)) → d′ ≡ set d ((at + i) / 8) x
     → putBits d (at + i) (bitsN (n - i) v) ≡ z → putBits d′ (at + (i + k)) (bitsN (n - (i + k)) v) ≡ z
 turn d d′ z at n i k v w part x pos hk g h q p u e inv =
@@ -235,14 +254,18 @@ turn d d′ z at n i k v w part x pos hk g h q p u e inv =
     let b : n - i - k ≡ n - (i + k) = omega arith in
     let t : at + i + k ≡ at + (i + k) = omega arith in
     let c : bitsN k (v / 2 ^ (n - i - k)) ≡ bitsN k part = rw (p, q) (sym (bitsN-mod k (v / 2 ^ (n - i - k)))) in
-    let s : bitsN (n - i) v ≡ bitsN k part ++ bitsN (n - (i + k)) v = ap (λ (j : ℕ). bitsN j v) a ∙ rw (bitsN-split k (n - i - k) v, c, b) in
-    let y : putBits (putBits d (at + i) (bitsN k part)) (at + (i + k)) (bitsN (n - (i + k)) v) ≡ z = rw (s, put-append, length-bitsN k part, t) at inv in
-    let o : putBits d (at + i) (bitsN k part) ≡ d′ = number-in-byte d (at + i) k part pos (omega arith) g ∙ sym (e ∙ ap (set d ((at + i) / 8)) u) in
+    let s : bitsN (n - i) v ≡ bitsN k part ++ bitsN (n - (i + k)) v = ap (λ (j : ℕ). bitsN j v) a ∙ rw
+    (bitsN-split k (n - i - k) v, c, b) in
+    let y : putBits (putBits d (at + i) (bitsN k part)) (at + (i + k)) (bitsN (n - (i + k)) v) ≡ z = rw
+    (s, put-append, length-bitsN k part, t) at inv in
+    let o : putBits d (at + i) (bitsN k part) ≡ d′ = number-in-byte d (at + i) k part pos (omega arith) g ∙ sym
+    (e ∙ ap (set d ((at + i) / 8)) u) in
     rw o at y
 
 -- ---- the answers of the writers
 
-pub put-fits : (s : List ℕ) (e at : ℕ) (bs : List ℕ) → at + length bs ≤ length (bitsTo s e) → putRun s e at bs ≡ left (Next (at + length bs)) (putBits s at bs)
+pub put-fits : (s : List ℕ) (e at : ℕ) (bs : List ℕ) → at + length bs ≤ length (bitsTo s e)
+    → putRun s e at bs ≡ left (Next (at + length bs)) (putBits s at bs)
 unfolding putRun
 put-fits s e at bs h = rw (le-leb (at + length bs) (length (bitsTo s e)) h)
 
@@ -260,7 +283,9 @@ pub put-is : (s : List ℕ) (e at : ℕ) (bs : List ℕ) (next : ℕ) (z : List 
 unfolding putRun
 put-is s e at bs next z h = go (leb (at + length bs) (length (bitsTo s e))) refl h
   where
-    go : (t : Bool) → leb (at + length bs) (length (bitsTo s e)) ≡ t → cond t (left (Next (at + length bs)) (putBits s at bs)) (left Full s) ≡ left (Next next) z → PutIs s e at bs next z
+    go : (t : Bool) → leb (at + length bs) (length (bitsTo s e)) ≡ t
+        → cond t (left (Next (at + length bs)) (putBits s at bs)) (left Full s) ≡ left (Next next) z
+        → PutIs s e at bs next z
     go true p q =
         let a : Next (at + length bs) ≡ Next next = ap (λ (l : Left). l .answer) q in
         record { place = cc; within = leb-true _ _ p; bytes = sym (ap (λ (l : Left). l .bytes) q) }
@@ -270,7 +295,8 @@ put-is s e at bs next z h = go (leb (at + length bs) (length (bitsTo s e))) refl
         absurd (omega arith)
 
 -- a number, as the code has it
-pub is-put : (s z : List ℕ) (e at n v : ℕ) (t : Bool) → t ≡ (leb n 64 && ltb v (2 ^ n)) → t ≡ true → Within s e at n → z ≡ putBits s at (bitsN n v) → left (Next (at + n)) z ≡ putNumber s e at n v
+pub is-put : (s z : List ℕ) (e at n v : ℕ) (t : Bool) → t ≡ (leb n 64 && ltb v (2 ^ n)) → t ≡ true → Within s e at n
+    → z ≡ putBits s at (bitsN n v) → left (Next (at + n)) z ≡ putNumber s e at n v
 unfolding putNumber putIf putRun
 is-put s z e at n v t p q w f = rw (← p, q, length-bitsN n v, w .test, f)
 
@@ -278,7 +304,8 @@ is-put s z e at n v t p q w f = rw (← p, q, length-bitsN n v, w .test, f)
 pub zero-held : (n : ℕ) → n ≤ 64 → true ≡ (leb n 64 && ltb 0 (2 ^ n))
 zero-held n h = rw (le-leb n 64 h, lt-ltb 0 (2 ^ n) (pow-pos n))
 
-pub is-full : (s : List ℕ) (e at n v : ℕ) (t : Bool) → t ≡ (leb n 64 && ltb v (2 ^ n)) → t ≡ true → leb (at + n) (length (bitsTo s e)) ≡ false → left Full s ≡ putNumber s e at n v
+pub is-full : (s : List ℕ) (e at n v : ℕ) (t : Bool) → t ≡ (leb n 64 && ltb v (2 ^ n)) → t ≡ true
+    → leb (at + n) (length (bitsTo s e)) ≡ false → left Full s ≡ putNumber s e at n v
 unfolding putNumber putIf putRun
 is-full s e at n v t p q w = rw (← p, q, length-bitsN n v, w)
 
@@ -301,7 +328,8 @@ unfolding putIf
 put-if-no ok s e at bs h = rw h
 
 -- where both runs fit, the second after the first is the two joined
-pub put-then : (s z : List ℕ) (e at : ℕ) (xs ys : List ℕ) (r : Put) → at + length (xs ++ ys) ≤ length (bitsTo s e) → left r z ≡ putRun s e at xs → putRun z e (at + length xs) ys ≡ putRun s e at (xs ++ ys)
+pub put-then : (s z : List ℕ) (e at : ℕ) (xs ys : List ℕ) (r : Put) → at + length (xs ++ ys) ≤ length (bitsTo s e)
+    → left r z ≡ putRun s e at xs → putRun z e (at + length xs) ys ≡ putRun s e at (xs ++ ys)
 put-then s z e at xs ys r h p =
     let n : length (xs ++ ys) ≡ length xs + length ys = length-append xs ys in
     let f : left r z ≡ left (Next (at + length xs)) (putBits s at xs) = p ∙ put-fits s e at xs (omega arith) in
@@ -312,7 +340,8 @@ put-then s z e at xs ys r h p =
 
 -- ---- what was put stands there, and what stands there already changes nothing
 
-pub put-stands : (s : List ℕ) (e at : ℕ) (bs : List ℕ) → Bits bs → at + length bs ≤ length (bitsTo s e) → Holds (bitsTo (putBits s at bs) e) at bs
+pub put-stands : (s : List ℕ) (e at : ℕ) (bs : List ℕ) → Bits bs → at + length bs ≤ length (bitsTo s e)
+    → Holds (bitsTo (putBits s at bs) e) at bs
 put-stands s e at bs hb h =
     let m = length-to s e in
     run-to (putBits s at bs) e at (length bs) (omega arith) ∙ read-back s at bs hb (omega arith)
@@ -342,13 +371,15 @@ bytes-put (x ∷ bs) s at hb b = rw put-cons (bytes-put bs (setBit s at x) (suc 
 pub same-bytes : (a b : List ℕ) → Bytes a → Bytes b → length a ≡ length b → bitsOf a ≡ bitsOf b → a ≡ b
 same-bytes a b ha hb n e = sym (bytes-bits a ha) ∙ rw (n, e) (bytes-bits b hb)
 
-restored : (s : List ℕ) (at : ℕ) (bs : List ℕ) → run s at (length bs) ≡ bs → take at (bitsOf s) ++ bs ++ drop (at + length bs) (bitsOf s) ≡ bitsOf s
+restored : (s : List ℕ) (at : ℕ) (bs : List ℕ) → run s at (length bs) ≡ bs
+    → take at (bitsOf s) ++ bs ++ drop (at + length bs) (bitsOf s) ≡ bitsOf s
 unfolding run
 restored s at bs g =
     ap (λ (l : List ℕ). take at (bitsOf s) ++ l ++ drop (at + length bs) (bitsOf s)) (sym g)
     ∙ rw (← take-add at (length bs) (bitsOf s)) (take-drop (at + length bs) (bitsOf s))
 
-pub put-same : (s : List ℕ) (e at : ℕ) (bs : List ℕ) → Bytes s → Bits bs → at + length bs ≤ length (bitsTo s e) → Holds (bitsTo s e) at bs → putBits s at bs ≡ s
+pub put-same : (s : List ℕ) (e at : ℕ) (bs : List ℕ) → Bytes s → Bits bs → at + length bs ≤ length (bitsTo s e)
+    → Holds (bitsTo s e) at bs → putBits s at bs ≡ s
 put-same s e at bs b hb h k =
     let m = length-to s e in
     let f : at + length bs ≤ length (bitsOf s) = rw length-bits (omega arith) in

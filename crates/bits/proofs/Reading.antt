@@ -30,13 +30,25 @@ piece-num b r k h =
     ap (λ (n : ℕ). numOf (take k (drop r (bitsN n b)))) e ∙ rw (bitsN-part r k (8 - r - k) b) (num-bitsN k (b / 2 ^ (8 - r - k)))
 
 -- a field that lies within one byte
-pub in-byte : (s : List ℕ) (at n z : ℕ) → at + n ≤ 8 * length s → 0 < n → at % 8 + n ≤ 8 → z ≡ getD s (at / 8) 0 / 2 ^ (8 - at % 8 - n) % 2 ^ n → z ≡ numOf (run s at n)
+pub in-byte : (s : List ℕ) (at n z : ℕ) → at + n ≤ 8 * length s → 0 < n → at % 8 + n ≤ 8
+    → z ≡ getD s (at / 8) 0 / 2 ^ (8 - at % 8 - n) % 2 ^ n → z ≡ numOf (run s at n)
 in-byte s at n z h pos g e = e ∙ sym (rw (run-in-byte s at n (omega arith) g) (piece-num (getD s (at / 8) 0) (at % 8) n g))
 
-pub turn : (s : List ℕ) (at i k v w z : ℕ) → at + i + k ≤ 8 * length s → (at + i) % 8 + k ≤ 8 → 0 < k → w ≡ 2 ^ k → z ≡ getD s ((at + i) / 8) 0 / 2 ^ (8 - (at + i) % 8 - k) % 2 ^ k
+pub turn : (s : List ℕ) (at i k v w z : ℕ) → at + i + k ≤ 8 * length s → (at + i) % 8 + k ≤ 8 → 0 < k → w ≡ 2 ^ k
+    → z ≡ getD s ((at + i) / 8) 0 / 2 ^ (8 - (at + i) % 8 - k) % 2 ^ k
     → v ≡ numOf (run s at i) → v * w + z ≡ numOf (run s at (i + k))
 turn s at i k v w z h g pos p q e =
-    rw (p, q, e, run-add, num-append, length-run s (at + i) k h, run-in-byte s (at + i) k (omega arith) g, piece-num (getD s ((at + i) / 8) 0) ((at + i) % 8) k g)
+    rw (
+      p,
+      q,
+      e,
+      run-add,
+      num-append,
+      length-run s (at + i) k h,
+      run-in-byte s (at + i) k (omega arith) g,
+      piece-num
+          (getD s ((at + i) / 8) 0) ((at + i) % 8) k g,
+    )
 
 pub piece-lt : (b m k z : ℕ) → z ≡ b / 2 ^ m % 2 ^ k → z < 2 ^ k
 piece-lt b m k z e = rw e (mod-lt (b / 2 ^ m) (pow-pos k))
@@ -59,7 +71,8 @@ pub is-short : (l : List ℕ) (at n : ℕ) → n ≤ 64 → leb (at + n) (length
 unfolding readBits
 is-short l at n h e = rw (le-leb n 64 h, e)
 
-pub is-number : (s : List ℕ) (e at n v : ℕ) → n ≤ 64 → Within s e at n → v ≡ numOf (run s at n) → Number v (at + n) ≡ readBits (bitsTo s e) at n
+pub is-number : (s : List ℕ) (e at n v : ℕ) → n ≤ 64 → Within s e at n → v ≡ numOf (run s at n)
+    → Number v (at + n) ≡ readBits (bitsTo s e) at n
 unfolding readBits
 is-number s e at n v h w p = rw (le-leb n 64 h, w .test, run-to s e at n (w .end), p)
 
@@ -75,7 +88,8 @@ pub number-is : (l : List ℕ) (at n v next : ℕ) → readBits l at n ≡ Numbe
 unfolding readBits
 number-is l at n v next e = go (leb n 64) refl (leb (at + n) (length l)) refl e
   where
-    go : (a : Bool) → leb n 64 ≡ a → (b : Bool) → leb (at + n) (length l) ≡ b → cond (a && b) (Number (numOf (take n (drop at l))) (at + n)) Short ≡ Number v next → NumberIs l at n v next
+    go : (a : Bool) → leb n 64 ≡ a → (b : Bool) → leb (at + n) (length l) ≡ b
+        → cond (a && b) (Number (numOf (take n (drop at l))) (at + n)) Short ≡ Number v next → NumberIs l at n v next
     go true p true q e = record { width = leb-true _ _ p; place = cc; within = leb-true _ _ q; value = cc }
     go true p false q e = let z : _≡_ {A = ℕ} 0 1 = cc in absurd (omega arith)
     go false p b q e = let z : _≡_ {A = ℕ} 0 1 = cc in absurd (omega arith)
@@ -92,7 +106,8 @@ number-stands l at n v next b e =
     rw length-bitsN (part-bits l at n b (i .within) ∙ ap (bitsN n) (sym (i .value)))
 
 -- a number that stands there is read
-pub number-read : (l : List ℕ) (at n v : ℕ) → n ≤ 64 → v < 2 ^ n → at + n ≤ length l → Holds l at (bitsN n v) → readBits l at n ≡ Number v (at + n)
+pub number-read : (l : List ℕ) (at n v : ℕ) → n ≤ 64 → v < 2 ^ n → at + n ≤ length l → Holds l at (bitsN n v)
+    → readBits l at n ≡ Number v (at + n)
 unfolding readBits
 number-read l at n v w f h k =
     let g : take n (drop at l) ≡ bitsN n v = rw (length-bitsN n v) at k in

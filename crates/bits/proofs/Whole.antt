@@ -56,8 +56,10 @@ put-front-bytes s l n bs bl h e =
     let k : 0 + length l ≤ length (bitsOf s) = rw length-bits (omega arith) in
     let m : 0 + length l ≡ 8 * n = omega arith in
     let z : sets (bitsOf s) 0 l ≡ l ++ bitsOf (drop n s) = sets-eq l (bitsOf s) 0 k ∙ rw (m, bytes-drop s n) in
-    let w : bitsOf (bytesOf n l ++ drop n s) ≡ l ++ bitsOf (drop n s) = bits-of-append (bytesOf n l) (drop n s) ∙ rw (bits-bytes n l bl e) in
-    same-bytes (putBits s 0 l) (bytesOf n l ++ drop n s) (bytes-put l s 0 bl bs) (bytes-append (bytesOf n l) (drop n s) (bytes-bytesOf n l bl) (bytes-after n s bs))
+    let w : bitsOf (bytesOf n l ++ drop n s) ≡ l ++ bitsOf (drop n s) = bits-of-append (bytesOf n l) (drop n s) ∙ rw
+    (bits-bytes n l bl e) in
+    same-bytes (putBits s 0 l) (bytesOf n l ++ drop n s) (bytes-put l s 0 bl bs)
+    (bytes-append (bytesOf n l) (drop n s) (bytes-bytesOf n l bl) (bytes-after n s bs))
     (rw (length-put l s 0, length-append, length-bytes n l, length-drop) (omega arith)) (bits-put l s 0 bl (omega arith) ∙ z ∙ sym w)
 
 -- a range of just so many bytes
@@ -82,7 +84,14 @@ bytes-of-bits (x ∷ a) l n h =
     let k = length-bitsN 8 x in
     let v : numOf (bitsN 8 x) ≡ x = num-bitsN 8 x ∙ mod-eq-of-lt (h 0) in
     let e : suc (length a) + n ≡ suc (length a + n) = omega arith in
-    rw (e, append-assoc, take-at (bitsN 8 x) (bitsOf a ++ l) 8 k, drop-at (bitsN 8 x) (bitsOf a ++ l) 8 k, v, bytes-of-bits a l n (λ (i : ℕ). h (suc i)))
+    rw (
+      e,
+      append-assoc,
+      take-at (bitsN 8 x) (bitsOf a ++ l) 8 k,
+      drop-at (bitsN 8 x) (bitsOf a ++ l) 8 k,
+      v,
+      bytes-of-bits a l n (λ (i : ℕ). h (suc i)),
+    )
 
 -- all the bits of bytes, as a run
 pub run-all : (s : List ℕ) → run s 0 (8 * length s) ≡ bitsOf s

@@ -58,32 +58,45 @@ record Loads (r : Record) (n : ℕ) : Type 0 where
 abbrev before : List ℕ → Bool
 before b = leb 1 (getD b 0 0) && leb (getD b 0 0) 4 && ltb (getD b 1 0) 6 && ltb (getD b 2 0) 2 && ltb (getD b 3 0) 2 && ltb (getD b 4 0) 2
 
-number-coded : (b : List ℕ) (x y : Read) (sd : Side) (r : Record) (n : ℕ) → readBits (bitsTo b recordBits) jobBit jobBits ≡ x → readBits (bitsTo b recordBits) numberBit numberBits ≡ y → headOf b ≡ true → withNumbers b x y ≡ Is sd r n → Loads r n
+number-coded : (b : List ℕ) (x y : Read) (sd : Side) (r : Record) (n : ℕ)
+    → readBits (bitsTo b recordBits) jobBit jobBits ≡ x → readBits (bitsTo b recordBits) numberBit numberBits ≡ y
+    → headOf b ≡ true → withNumbers b x y ≡ Is sd r n → Loads r n
 unfolding withNumbers headFits
 number-coded b (Number h next) (Number m last) sd r n e g t f =
-    let k = both-left (before b && ltb (getD b 5 0) securityValues && ltb (getD b 6 0) securityValues && ltb (getD b 7 0) 2) (versionFits (getD b 8 0)) t in
-    let v = both-right (before b && ltb (getD b 5 0) securityValues && ltb (getD b 6 0) securityValues && ltb (getD b 7 0) 2) (versionFits (getD b 8 0)) t in
+    let k = both-left
+    (before b && ltb (getD b 5 0) securityValues && ltb (getD b 6 0) securityValues && ltb (getD b 7 0) 2)
+    (versionFits (getD b 8 0)) t in
+    let v = both-right
+    (before b && ltb (getD b 5 0) securityValues && ltb (getD b 6 0) securityValues && ltb (getD b 7 0) 2)
+    (versionFits (getD b 8 0)) t in
     let p = both-left (before b && ltb (getD b 5 0) securityValues && ltb (getD b 6 0) securityValues) (ltb (getD b 7 0) 2) k in
     let q = both-left (before b && ltb (getD b 5 0) securityValues) (ltb (getD b 6 0) securityValues) p in
     record {
       coded = subst Coded (ap (λ (z : Loaded). recordIn z r) f)
           (record {
             request = ltb-true (getD b 5 0) securityValues (both-right (before b) (ltb (getD b 5 0) securityValues) q);
-            policy = ltb-true (getD b 6 0) securityValues (both-right (before b && ltb (getD b 5 0) securityValues) (ltb (getD b 6 0) securityValues) p);
+            policy = ltb-true (getD b 6 0) securityValues
+                (both-right (before b && ltb (getD b 5 0) securityValues) (ltb (getD b 6 0) securityValues) p);
             least = leb-true 1 (getD b 8 0) (both-left (leb 1 (getD b 8 0)) (ltb (getD b 8 0) versions) v);
             most = ltb-true (getD b 8 0) versions (both-right (leb 1 (getD b 8 0)) (ltb (getD b 8 0) versions) v);
             highest = number-lt (bitsTo b recordBits) jobBit jobBits h next (bits-to b recordBits) e;
           });
-      low = subst (λ (k : ℕ). k < 2 ^ 64) (ap numberIn f) (number-lt (bitsTo b recordBits) numberBit numberBits m last (bits-to b recordBits) g);
+      low = subst (λ (k : ℕ). k < 2 ^ 64) (ap numberIn f)
+          (number-lt (bitsTo b recordBits) numberBit numberBits m last (bits-to b recordBits) g);
     }
 number-coded b (Number h next) Short sd r n e g t f = never (ap isRecord f)
 number-coded b Short y sd r n e g t f = never (ap isRecord f)
 
-pub loaded-keeps : (b : List ℕ) (sd : Side) (r : Record) (n : ℕ) → loadAt b ≡ Is sd r n → awaitsResponse (r .control) ≡ false → Keeps (r .edition) sd b r n
+pub loaded-keeps : (b : List ℕ) (sd : Side) (r : Record) (n : ℕ) → loadAt b ≡ Is sd r n
+    → awaitsResponse (r .control) ≡ false → Keeps (r .edition) sd b r n
 unfolding loadAt
 loaded-keeps b sd r n e w =
-    let x = by-test (eqb (length b) recordBytes && headOf b) (withNumbers b (readBits (bitsTo b recordBits) jobBit jobBits) (readBits (bitsTo b recordBits) numberBit numberBits)) sd r n e in
-    let k = number-coded b (readBits (bitsTo b recordBits) jobBit jobBits) (readBits (bitsTo b recordBits) numberBit numberBits) sd r n refl refl (both-right (eqb (length b) recordBytes) (headOf b) (x .0)) (x .1) in
+    let x = by-test (eqb (length b) recordBytes && headOf b) (withNumbers b
+    (readBits (bitsTo b recordBits) jobBit jobBits) (readBits (bitsTo b recordBits) numberBit numberBits)) sd r
+    n e in
+    let k = number-coded b (readBits (bitsTo b recordBits) jobBit jobBits)
+    (readBits (bitsTo b recordBits) numberBit numberBits) sd r n refl refl
+    (both-right (eqb (length b) recordBytes) (headOf b) (x .0)) (x .1) in
     record {
       load = e;
       edition = refl;
@@ -97,7 +110,8 @@ loaded-keeps b sd r n e w =
 
 module _ (p : ℕ) (ed : Edition) (sd : Side) (b : List ℕ) (h : Begins p ed sd b) where
   pub begins-keeps : Keeps ed sd b (h .held) (h .number)
-  begins-keeps = subst (λ (z : Edition). Keeps z sd b (h .held) (h .number)) (h .edition) (loaded-keeps b sd (h .held) (h .number) (h .load) (ap awaitsResponse (h .idle)))
+  begins-keeps = subst (λ (z : Edition). Keeps z sd b (h .held) (h .number)) (h .edition)
+      (loaded-keeps b sd (h .held) (h .number) (h .load) (ap awaitsResponse (h .idle)))
 
   pub begins-idle : T (isIdle (h .held .control))
   begins-idle = subst (λ (c : Control). T (isIdle c)) (sym (h .idle)) tt
@@ -112,7 +126,8 @@ module _ (p : ℕ) (ed : Edition) (sd : Side) (b : List ℕ) (h : Begins p ed sd
           idle = λ (i : isIdle (h .held .control) ≡ true). ap (λ (c : Control). c .dsc) (h .idle);
         };
         policy = h .policy;
-        request = λ (x : T (is (h .held .control .state) StartReq)). absurd (subst (λ (c : Control). T (is (c .state) StartReq)) (h .idle) x);
+        request = λ (x : T (is (h .held .control .state) StartReq)). absurd
+            (subst (λ (c : Control). T (is (c .state) StartReq)) (h .idle) x);
         dialogue = ap awaitsResponse (h .idle);
       }
 
@@ -121,7 +136,9 @@ module _ (p : ℕ) (ed : Edition) (sd : Side) (b : List ℕ) (h : Begins p ed sd
 
 -- ---- which bytes are such
 
-stored-load : (g : Configuration) (sd : Side) (r : List ℕ) → g .policy < securityValues → 1 ≤ g .version → g .version < versions → length r ≡ recordBytes → loadAt (storeAt r sd (freshRecord g) firstNumber .bytes) ≡ Is sd (freshRecord g) firstNumber
+stored-load : (g : Configuration) (sd : Side) (r : List ℕ) → g .policy < securityValues → 1 ≤ g .version
+    → g .version < versions → length r ≡ recordBytes
+    → loadAt (storeAt r sd (freshRecord g) firstNumber .bytes) ≡ Is sd (freshRecord g) firstNumber
 stored-load g sd r v l m h = stored-keeps (g .edition) sd r (freshRecord g) firstNumber h (record { request = omega arith; policy = v; least = l; most = m; highest = omega arith }) (omega arith) refl refl .load
 
 is-type : (ed : Edition) → isType (typeOf ed) ≡ true
@@ -133,24 +150,28 @@ own-type Plain = refl
 own-type Protected = refl
 
 -- what peat_fresh made in any range of a record's size; f: whether forwarding is supported; n: the own version
-pub fresh-begins : (p : ℕ) (ed : Edition) (f n : ℕ) (sd : Side) (r : List ℕ) → p < securityValues → f ≤ 1 → 1 ≤ n → n < versions → length r ≡ recordBytes → Begins p ed sd (freshCall r (sideCode sd) p f n (typeOf ed) .bytes)
+pub fresh-begins : (p : ℕ) (ed : Edition) (f n : ℕ) (sd : Side) (r : List ℕ) → p < securityValues → f ≤ 1 → 1 ≤ n
+    → n < versions → length r ≡ recordBytes → Begins p ed sd (freshCall r (sideCode sd) p f n (typeOf ed) .bytes)
 unfolding freshCall freshFor
 fresh-begins p ed f n Air r v w l m h =
     record { held = freshRecord (configured p f n (typeOf ed)); number = firstNumber; load = rw (le-ltb 1 f w, is-type ed) (stored-load (configured p f n (typeOf ed)) Air r v l m h); edition = own-type ed; policy = refl; idle = refl; timer = refl; user = refl }
 fresh-begins p ed f n Ground r v w l m h =
     record { held = freshRecord (configured p f n (typeOf ed)); number = firstNumber; load = rw (le-ltb 1 f w, is-type ed) (stored-load (configured p f n (typeOf ed)) Ground r v l m h); edition = own-type ed; policy = refl; idle = refl; timer = refl; user = refl }
 
-pub fresh-highest : (p : ℕ) (ed : Edition) (f n : ℕ) (sd : Side) (r : List ℕ) (v : p < securityValues) (w : f ≤ 1) (l : 1 ≤ n) (m : n < versions) (h : length r ≡ recordBytes) → fresh-begins p ed f n sd r v w l m h .held .highest ≡ 0
+pub fresh-highest : (p : ℕ) (ed : Edition) (f n : ℕ) (sd : Side) (r : List ℕ) (v : p < securityValues) (w : f ≤ 1) (l : 1 ≤ n) (m : n < versions) (h : length r ≡ recordBytes)
+    → fresh-begins p ed f n sd r v w l m h .held .highest ≡ 0
 unfolding fresh-begins
 fresh-highest p ed f n Air r v w l m h = refl
 fresh-highest p ed f n Ground r v w l m h = refl
 
-pub fresh-number : (p : ℕ) (ed : Edition) (f n : ℕ) (sd : Side) (r : List ℕ) (v : p < securityValues) (w : f ≤ 1) (l : 1 ≤ n) (m : n < versions) (h : length r ≡ recordBytes) → fresh-begins p ed f n sd r v w l m h .number ≡ 0
+pub fresh-number : (p : ℕ) (ed : Edition) (f n : ℕ) (sd : Side) (r : List ℕ) (v : p < securityValues) (w : f ≤ 1) (l : 1 ≤ n) (m : n < versions) (h : length r ≡ recordBytes)
+    → fresh-begins p ed f n sd r v w l m h .number ≡ 0
 unfolding fresh-begins
 fresh-number p ed f n Air r v w l m h = refl
 fresh-number p ed f n Ground r v w l m h = refl
 
-pub fresh-version : (p : ℕ) (ed : Edition) (f n : ℕ) (sd : Side) (r : List ℕ) (v : p < securityValues) (w : f ≤ 1) (l : 1 ≤ n) (m : n < versions) (h : length r ≡ recordBytes) → fresh-begins p ed f n sd r v w l m h .held .version ≡ n
+pub fresh-version : (p : ℕ) (ed : Edition) (f n : ℕ) (sd : Side) (r : List ℕ) (v : p < securityValues) (w : f ≤ 1) (l : 1 ≤ n) (m : n < versions) (h : length r ≡ recordBytes)
+    → fresh-begins p ed f n sd r v w l m h .held .version ≡ n
 unfolding fresh-begins
 fresh-version p ed f n Air r v w l m h = refl
 fresh-version p ed f n Ground r v w l m h = refl

@@ -56,12 +56,20 @@ module _ (p : ℕ) (ed : Edition) (host : Side → ℕ → Buffers) where
       EE = Carries ed;
       ctl-is = λ (sd : Side) (r : Kept) (q : Numbered Record) (h : KeepsAt ed sd r q). ap controlIn (h .load);
       sort-is = λ (sd : Side) (e f : Numbered Wire) (h : Carries ed sd e f). ap sortOf (h .primitive);
-      call-is = λ (sd : Side) (r : Kept) (q : Numbered Record) (a : Asked) (h : KeepsAt ed sd r q). call-rel p (r .calls) (r .bytes) (host sd (r .calls)) ed sd (q .it) (q .no) h a;
-      receive-is = λ (sd : Side) (r : Kept) (q : Numbered Record) (e f : Numbered Wire) (h : KeepsAt ed sd r q) (x : Carries ed (other sd) e f). receive-rel (r .calls) (r .bytes) (host sd (r .calls)) ed sd (q .it) (q .no) h e f x;
-      expiry-is = λ (sd : Side) (r : Kept) (q : Numbered Record) (h : KeepsAt ed sd r q). does tt (report-rel p (r .calls) (r .bytes) (host sd (r .calls)) ed sd (q .it) (q .no) h TimerExpires tt refl refl refl refl);
-      error-is = λ (sd : Side) (r : Kept) (q : Numbered Record) (h : KeepsAt ed sd r q). does tt (report-rel p (r .calls) (r .bytes) (host sd (r .calls)) ed sd (q .it) (q .no) h UnrecoverableSystemError tt refl refl refl refl);
-      away-is = λ (sd : Side) (r : Kept) (q : Numbered Record) (h : KeepsAt ed sd r q). made-rel (r .calls) (r .bytes) (host sd (r .calls)) ed sd (q .it) (q .no) h rejects tt;
-      p-abort-is = λ (sd : Side) (r : Kept) (q : Numbered Record) (h : KeepsAt ed sd r q). made-rel (r .calls) (r .bytes) (host sd (r .calls)) ed sd (q .it) (q .no) h DPAbortIndication tt;
+      call-is = λ (sd : Side) (r : Kept) (q : Numbered Record) (a : Asked) (h : KeepsAt ed sd r q). call-rel p
+          (r .calls) (r .bytes) (host sd (r .calls)) ed sd (q .it) (q .no) h a;
+      receive-is = λ (sd : Side) (r : Kept) (q : Numbered Record) (e f : Numbered Wire) (h : KeepsAt ed sd r q)
+          (x : Carries ed (other sd) e f). receive-rel (r .calls) (r .bytes) (host sd (r .calls)) ed sd (q .it) (q .no)
+          h e f x;
+      expiry-is = λ (sd : Side) (r : Kept) (q : Numbered Record) (h : KeepsAt ed sd r q). does tt (report-rel p
+          (r .calls) (r .bytes) (host sd (r .calls)) ed sd (q .it) (q .no) h TimerExpires tt refl refl refl refl);
+      error-is = λ (sd : Side) (r : Kept) (q : Numbered Record) (h : KeepsAt ed sd r q). does tt (report-rel p
+          (r .calls) (r .bytes) (host sd (r .calls)) ed sd (q .it) (q .no) h UnrecoverableSystemError tt refl refl
+          refl refl);
+      away-is = λ (sd : Side) (r : Kept) (q : Numbered Record) (h : KeepsAt ed sd r q). made-rel (r .calls) (r .bytes)
+          (host sd (r .calls)) ed sd (q .it) (q .no) h rejects tt;
+      p-abort-is = λ (sd : Side) (r : Kept) (q : Numbered Record) (h : KeepsAt ed sd r q). made-rel (r .calls)
+          (r .bytes) (host sd (r .calls)) ed sd (q .it) (q .no) h DPAbortIndication tt;
     };
     holds-is = λ (sd : Side) (r : Kept) (q : Numbered Record) (h : KeepsAt ed sd r q). ap numberIn (h .load);
     carries-is = λ (sd : Side) (e f : Numbered Wire) (h : Carries ed sd e f). h .number;
@@ -83,8 +91,10 @@ module _ (p : ℕ) (ed : Edition) (host : Side → ℕ → Buffers) where
     valued : T (ltb p securityValues)
     valued = true-holds (ltb p securityValues) (lt-ltb p securityValues (begins-valid p ed Air r a))
 
-    follows : (ts : List (Turn Asked)) → NRunRel (cardMachine p host) (stepNumbered (cardCodec ed) p) agrees from (after ts) (nFresh (stepNumbered (cardCodec ed) p) air-end ground-end)
-    follows ts = n-followed (cardMachine p host) (stepNumbered (cardCodec ed) p) agrees from (newly r) (newly q) air-end ground-end (begins-keeps p ed Air r a) (begins-keeps p ed Ground q g) ts
+    follows : (ts : List (Turn Asked))
+        → NRunRel (cardMachine p host) (stepNumbered (cardCodec ed) p) agrees from (after ts) (nFresh (stepNumbered (cardCodec ed) p) air-end ground-end)
+    follows ts = n-followed (cardMachine p host) (stepNumbered (cardCodec ed) p) agrees from (newly r) (newly q) air-end
+        ground-end (begins-keeps p ed Air r a) (begins-keeps p ed Ground q g) ts
 
     abbrev stepped : List (Turn (Numbered Order)) → NSys (stepNumbered (cardCodec ed) p)
     stepped us = nRun (stepNumbered (cardCodec ed) p) from (nFresh (stepNumbered (cardCodec ed) p) air-end ground-end) us
@@ -95,8 +105,12 @@ module _ (p : ℕ) (ed : Edition) (host : Side → ℕ → Buffers) where
     pub cards-hold : (ts : List (Turn Asked)) → Promise p ed host (a .held .highest) (g .held .highest) (after ts)
     cards-hold ts =
         let f = follows ts in
-        let l = numbered-local (cardCodec ed) ed p fair valued from (a .number) (g .number) (a .held) (g .held) (begins-local p ed Air r a) (begins-idle p ed Air r a) (begins-local p ed Ground q g) (begins-idle p ed Ground q g) b (f .turns) in
-        let c = numbered-holds (cardCodec ed) ed p fair valued from (a .number) (g .number) (a .held) (g .held) (begins-local p ed Air r a) (begins-idle p ed Air r a) (begins-local p ed Ground q g) (begins-idle p ed Ground q g) b (f .turns) in
+        let l = numbered-local (cardCodec ed) ed p fair valued from (a .number) (g .number) (a .held) (g .held)
+        (begins-local p ed Air r a) (begins-idle p ed Air r a) (begins-local p ed Ground q g)
+        (begins-idle p ed Ground q g) b (f .turns) in
+        let c = numbered-holds (cardCodec ed) ed p fair valued from (a .number) (g .number) (a .held) (g .held)
+        (begins-local p ed Air r a) (begins-idle p ed Air r a) (begins-local p ed Ground q g)
+        (begins-idle p ed Ground q g) b (f .turns) in
         record {
           air = record { held = _; number = _; load = f .rel .here .rec .load; edition = l .0 .edition; policy = l .0 .policy; formed = l .0 .formed };
           ground = record { held = _; number = _; load = f .rel .there .rec .load; edition = l .1 .edition; policy = l .1 .policy; formed = l .1 .formed };
@@ -104,7 +118,8 @@ module _ (p : ℕ) (ed : Edition) (host : Side → ℕ → Buffers) where
         }
 
     -- so no job is taken twice by one record over its whole life
-    pub cards-take-once : (ts : List (Turn Asked)) (xs ys zs : List ℕ) (j : ℕ) → (after ts .here .jobs ≡ xs ++ (j ∷ (ys ++ (j ∷ zs))) → ⊥) × (after ts .there .jobs ≡ xs ++ (j ∷ (ys ++ (j ∷ zs))) → ⊥)
+    pub cards-take-once : (ts : List (Turn Asked)) (xs ys zs : List ℕ) (j : ℕ)
+        → (after ts .here .jobs ≡ xs ++ (j ∷ (ys ++ (j ∷ zs))) → ⊥) × (after ts .there .jobs ≡ xs ++ (j ∷ (ys ++ (j ∷ zs))) → ⊥)
     cards-take-once ts xs ys zs j = n-taken-once (cardMachine p host) (after ts) (cards-hold ts .claims) xs ys zs j
 
     -- and no card answers what the other card sent by a D-ABORT: it discards it, refuses it as stale, or has an action for it
@@ -112,7 +127,9 @@ module _ (p : ℕ) (ed : Edition) (host : Side → ℕ → Buffers) where
     cards-quiet ts =
         let f = follows ts in
         n-quiet-through (cardMachine p host) (stepNumbered (cardCodec ed) p) agrees (after ts) (stepped (f .turns)) (f .rel)
-        (numbered-silent (cardCodec ed) ed p fair valued from (a .number) (g .number) (a .held) (g .held) (begins-local p ed Air r a) (begins-idle p ed Air r a) (begins-local p ed Ground q g) (begins-idle p ed Ground q g) b (f .turns))
+        (numbered-silent (cardCodec ed) ed p fair valued from (a .number) (g .number) (a .held) (g .held)
+        (begins-local p ed Air r a) (begins-idle p ed Air r a) (begins-local p ed Ground q g)
+        (begins-idle p ed Ground q g) b (f .turns))
 
   -- two records that peat_fresh made, in any two ranges of a record's size, each with its own word about forwarding (e, f) and its own version (m, n); either side may be
   -- the one that starts
@@ -128,24 +145,32 @@ module _ (p : ℕ) (ed : Edition) (host : Side → ℕ → Buffers) where
     both-zero Ground n k x y = omega arith
 
     abbrev not-below : notBelow from (air-fresh .number) (ground-fresh .number)
-    not-below = both-zero from (air-fresh .number) (ground-fresh .number) (fresh-number p ed e m Air r v we lm hm hr) (fresh-number p ed f n Ground q v wf ln hn hq)
+    not-below = both-zero from (air-fresh .number) (ground-fresh .number) (fresh-number p ed e m Air r v we lm hm hr)
+        (fresh-number p ed f n Ground q v wf ln hn hq)
 
     abbrev pub fresh-after : List (Turn Asked) → NSys (cardMachine p host)
-    fresh-after = after fair from (freshCall r 1 p e m (typeOf ed) .bytes) (freshCall q 2 p f n (typeOf ed) .bytes) air-fresh ground-fresh not-below
+    fresh-after = after fair from (freshCall r 1 p e m (typeOf ed) .bytes) (freshCall q 2 p f n (typeOf ed) .bytes)
+        air-fresh ground-fresh not-below
 
     pub fresh-cards-hold : (ts : List (Turn Asked)) → Promise p ed host 0 0 (fresh-after ts)
     fresh-cards-hold ts =
         subst (λ (i : ℕ). Promise p ed host i 0 (fresh-after ts)) (fresh-highest p ed e m Air r v we lm hm hr)
-        (subst (λ (j : ℕ). Promise p ed host (air-fresh .held .highest) j (fresh-after ts)) (fresh-highest p ed f n Ground q v wf ln hn hq) (cards-hold fair from (freshCall r 1 p e m (typeOf ed) .bytes) (freshCall q 2 p f n (typeOf ed) .bytes) air-fresh ground-fresh not-below ts))
+        (subst (λ (j : ℕ). Promise p ed host (air-fresh .held .highest) j (fresh-after ts))
+        (fresh-highest p ed f n Ground q v wf ln hn hq) (cards-hold fair from
+        (freshCall r 1 p e m (typeOf ed) .bytes) (freshCall q 2 p f n (typeOf ed) .bytes) air-fresh
+        ground-fresh not-below ts))
 
 -- ---- the two editions by name
 
 -- two cards of type 22, with any security value
-pub protected-cards-hold : (p : ℕ) (host : Side → ℕ → Buffers) (from : Side) (r q : List ℕ) (a : Begins p Protected Air r) (g : Begins p Protected Ground q) (b : notBelow from (a .number) (g .number)) (ts : List (Turn Asked))
+pub protected-cards-hold : (p : ℕ) (host : Side → ℕ → Buffers) (from : Side) (r q : List ℕ)
+    (a : Begins p Protected Air r) (g : Begins p Protected Ground q) (b : notBelow from (a .number) (g .number))
+    (ts : List (Turn Asked))
     → Promise p Protected host (a .held .highest) (g .held .highest) (after p Protected host refl from r q a g b ts)
 protected-cards-hold p host from r q a g b ts = cards-hold p Protected host refl from r q a g b ts
 
 -- two cards of type 2, which has none
-pub plain-cards-hold : (host : Side → ℕ → Buffers) (from : Side) (r q : List ℕ) (a : Begins noSecurity Plain Air r) (g : Begins noSecurity Plain Ground q) (b : notBelow from (a .number) (g .number)) (ts : List (Turn Asked))
+pub plain-cards-hold : (host : Side → ℕ → Buffers) (from : Side) (r q : List ℕ) (a : Begins noSecurity Plain Air r)
+    (g : Begins noSecurity Plain Ground q) (b : notBelow from (a .number) (g .number)) (ts : List (Turn Asked))
     → Promise noSecurity Plain host (a .held .highest) (g .held .highest) (after noSecurity Plain host refl from r q a g b ts)
 plain-cards-hold host from r q a g b ts = cards-hold noSecurity Plain host refl from r q a g b ts

@@ -61,9 +61,11 @@ use Rattle.card_pair.proofs.Entries.{KeepsAt, Carries, sent-plain, sent
 
 module _ (ed : Edition) (r : List ℕ) (w : Buffers) (sd : Side) (q : Record) (h : ℕ) (keeps : Keeps ed sd r q h) where
   pub entered : (k : Side → Record → ℕ → Called) → entering r (w .first) (w .second) k ≡ k sd q h
-  entered k = sym (with-record r (w .first) (w .second) k (w .first-full) (w .second-full) (loadAt r) refl sd q h (k sd q h) (keeps .load) refl)
+  entered k = sym (with-record r (w .first) (w .second) k (w .first-full) (w .second-full) (loadAt r) refl sd q h
+      (k sd q h) (keeps .load) refl)
 
-  pub user-entered : (e : Event) (v : ℕ) (ids msgs checks : List ℕ) (d : Data) → userCall r (w .first) (w .second) e v ids msgs checks d ≡ userStep numberedStep r (w .first) (w .second) e v (lent ids) (lent msgs) (lent checks) d sd q h
+  pub user-entered : (e : Event) (v : ℕ) (ids msgs checks : List ℕ) (d : Data)
+      → userCall r (w .first) (w .second) e v ids msgs checks d ≡ userStep numberedStep r (w .first) (w .second) e v (lent ids) (lent msgs) (lent checks) d sd q h
   unfolding userBy
   user-entered e v ids msgs checks d = entered (userStep numberedStep r (w .first) (w .second) e v (lent ids) (lent msgs) (lent checks) d)
 
@@ -128,7 +130,8 @@ module _ (p n : ℕ) (r : List ℕ) (w : Buffers) (sd : Side) (q : Record) (h : 
   M = heldAfter h (User u) v
 
   abbrev E : Called
-  E = concluded r (w .first) (w .second) ed sd (heldAfter h (User u) v) (numberedStep sd q h (User u) v) (lent ids) (lent msgs) (lent checks) (carriesData d)
+  E = concluded r (w .first) (w .second) ed sd (heldAfter h (User u) v) (numberedStep sd q h (User u) v) (lent ids)
+      (lent msgs) (lent checks) (carriesData d)
 
   abbrev Shaped : Type 0
   Shaped = givenFits ed (pdusOf sd) (lent ids) (lent msgs) (lent checks) d ≡ true
@@ -143,35 +146,54 @@ module _ (p n : ℕ) (r : List ℕ) (w : Buffers) (sd : Side) (q : Record) (h : 
   abbrev pub Sends : Type 0
   Sends = (c : Called) (m : ℕ) (i : Invoked) (z : UserData) (ys : List ℕ) → entryOf c .primitive ≡ i → GoesOut ed true sd i z → isDData i ≡ brings ed (User u) .message → (writable ed sd z ≡ true → Carries ed sd (markedEntry c) (mark m (record { primitive = i; bytes = ys }))) → SentRel (Carries ed sd) (s c) (tag m (sentBy i ys (dataOf a) (jobOf a)))
 
-  pub asked-rel : JobLow sd (User u) → (Shaped → asked (cardCodec ed) p a ≡ u) → (Shaped → dataOf a ≡ cond (brings ed (User u) .body) B []) → (Shaped → brings ed (User u) .holds ≡ true → carries ed B ≡ true) → Sends
-      → Follow (left n (userCall r (w .first) (w .second) (User u) v ids msgs checks d) (s (userCall r (w .first) (w .second) (User u) v ids msgs checks d)))
+  pub asked-rel : JobLow sd (User u) → (Shaped → asked (cardCodec ed) p a ≡ u)
+      → (Shaped → dataOf a ≡ cond (brings ed (User u) .body) B [])
+      → (Shaped → brings ed (User u) .holds ≡ true → carries ed B ≡ true) → Sends
+      → Follow (left n (userCall r (w .first) (w .second) (User u) v ids msgs checks d)
+      (s (userCall r (w .first) (w .second) (User u) v ids msgs checks d)))
   unfolding userStep
   asked-rel j same ey held sends =
-      subst (λ (c : Called). Follow (left n c (s c))) (sym (user-entered ed r w sd q h keeps (User u) v ids msgs checks d)) (shape (givenFits ed (pdusOf sd) (lent ids) (lent msgs) (lent checks) d) refl)
+      subst (λ (c : Called). Follow (left n c (s c)))
+      (sym (user-entered ed r w sd q h keeps (User u) v ids msgs checks d))
+      (shape (givenFits ed (pdusOf sd) (lent ids) (lent msgs) (lent checks) d) refl)
     where
       refusal : (b : Bool) → isTaken (E .number) ≡ b → b ≡ false → Follow (cond b (C.acts (record { bytes = E .kept; calls = suc n }) (handedOf E) (s E)) C.refused)
       refusal true e f = absurd (subst T f tt)
       refusal false e f = stays tt
 
-      acts : Shaped → isNone (numberedStep sd q h (User u) v .refusal) ≡ true → OutRel (KeepsAt ed sd) (Carries ed sd) (left n E (s E)) (Ordered u)
+      acts : Shaped → isNone (numberedStep sd q h (User u) v .refusal) ≡ true
+          → OutRel (KeepsAt ed sd) (Carries ed sd) (left n E (s E)) (Ordered u)
       acts sh u-taken =
           let dh = laws ed .given-places (pdusOf sd) (lent ids) (lent msgs) (lent checks) d sh in
-          let own : brings ed (User u) .body ≡ true → contentFits ed (pdusOf sd) (contentIn (lent ids) (lent msgs) (lent checks) d) ≡ true = λ z. laws ed .given-value (pdusOf sd) (lent ids) (lent msgs) (lent checks) d sh in
+          let own : brings ed (User u) .body ≡ true → contentFits ed (pdusOf sd)
+          (contentIn (lent ids) (lent msgs) (lent checks) d) ≡ true = λ z. laws ed .given-value (pdusOf sd)
+          (lent ids) (lent msgs) (lent checks) d sh in
           let k = numbered-fits sd q (keeps .coded) (keeps .dialogue) h (User u) v j u-taken in
-          let t = ended r w sd q h (User u) v (lent ids) (lent msgs) (lent checks) (carriesData d) keeps lv (bits-to ids allBits) (bits-to msgs allBits) (bits-to checks allBits) dh own j u-taken in
-          let x = bodied r w sd q h (User u) v (lent ids) (lent msgs) (lent checks) (carriesData d) keeps lv (bits-to ids allBits) (bits-to msgs allBits) (bits-to checks allBits) dh own in
-          let g : GoesOut ed true sd (O .invoked) (O .apdu) = subst (λ (b : Bool). GoesOut ed b sd (O .invoked) (O .apdu)) (by-user ed u) (k .apdu) in
-          let f = fits-y ed sd (brings ed (User u)) M O B E t k x (held sh) (dataOf a) (ey sh) (user-writable ed sd (O .invoked) (O .apdu) g) in
-          subst (λ (b : Bool). OutRel (KeepsAt ed sd) (Carries ed sd) (left n E (s E)) (leaves M (cond (b && fits ed sd (O .apdu) (dataOf a)) (taken (cardCodec ed) sd O (dataOf a) (jobOf a) []) C.refused))) (sym u-taken)
+          let t = ended r w sd q h (User u) v (lent ids) (lent msgs) (lent checks) (carriesData d) keeps lv
+          (bits-to ids allBits) (bits-to msgs allBits) (bits-to checks allBits) dh own j u-taken in
+          let x = bodied r w sd q h (User u) v (lent ids) (lent msgs) (lent checks) (carriesData d) keeps lv
+          (bits-to ids allBits) (bits-to msgs allBits) (bits-to checks allBits) dh own in
+          let g : GoesOut ed true sd (O .invoked) (O .apdu) = subst
+          (λ (b : Bool). GoesOut ed b sd (O .invoked) (O .apdu)) (by-user ed u) (k .apdu) in
+          let f = fits-y ed sd (brings ed (User u)) M O B E t k x (held sh) (dataOf a) (ey sh)
+          (user-writable ed sd (O .invoked) (O .apdu) g) in
+          subst (λ (b : Bool). OutRel (KeepsAt ed sd) (Carries ed sd) (left n E (s E)) (leaves M (cond
+          (b && fits ed sd (O .apdu) (dataOf a)) (taken (cardCodec ed) sd O (dataOf a) (jobOf a) [])
+          C.refused))) (sym u-taken)
           (subst (λ (b : Bool). OutRel (KeepsAt ed sd) (Carries ed sd) (left n E (s E)) (leaves M (cond b (taken (cardCodec ed) sd O (dataOf a) (jobOf a) []) C.refused))) (sym f)
           (taken-rel ed sd (brings ed (User u)) M O B E t k x (held sh) (dataOf a) (ey sh) n [] (unheard ed u) (jobOf a) (s E)
-          (sends E M (O .invoked) (O .apdu) (enc ed sd (O .apdu) (dataOf a)) (t .primitive) g (k .invokes) (entry-is ed sd (brings ed (User u)) M O B E t k x (held sh) (dataOf a) (ey sh)))))
+          (sends E M (O .invoked) (O .apdu) (enc ed sd (O .apdu) (dataOf a)) (t .primitive) g (k .invokes)
+          (entry-is ed sd (brings ed (User u)) M O B E t k x (held sh) (dataOf a) (ey sh)))))
 
       refuses : Shaped → (b : Bool) → isNone (numberedStep sd q h (User u) v .refusal) ≡ b → Follow (left n E (s E))
-      refuses sh true e = does (mark v a) (subst (λ (x : UserPrimitive). OutRel (KeepsAt ed sd) (Carries ed sd) (left n E (s E)) (Ordered x)) (sym (same sh)) (acts sh e))
-      refuses sh false e = refusal (isTaken (E .number)) refl (concluded-refused r (w .first) (w .second) ed sd M O (lent ids) (lent msgs) (lent checks) (carriesData d) e)
+      refuses sh true e = does (mark v a) (subst
+          (λ (x : UserPrimitive). OutRel (KeepsAt ed sd) (Carries ed sd) (left n E (s E)) (Ordered x))
+          (sym (same sh)) (acts sh e))
+      refuses sh false e = refusal (isTaken (E .number)) refl
+          (concluded-refused r (w .first) (w .second) ed sd M O (lent ids) (lent msgs) (lent checks) (carriesData d) e)
 
-      shape : (b : Bool) → givenFits ed (pdusOf sd) (lent ids) (lent msgs) (lent checks) d ≡ b → Follow (left n (cond b E (called 2 r (w .first) (w .second))) (s (cond b E (called 2 r (w .first) (w .second)))))
+      shape : (b : Bool) → givenFits ed (pdusOf sd) (lent ids) (lent msgs) (lent checks) d ≡ b
+          → Follow (left n (cond b E (called 2 r (w .first) (w .second))) (s (cond b E (called 2 r (w .first) (w .second)))))
       shape true sh = refuses sh (isNone (numberedStep sd q h (User u) v .refusal)) refl
       shape false sh = stays tt
 
@@ -196,10 +218,16 @@ content-there : (li lm lc : List ℕ) (d : Data) → isThere (contentIn li lm lc
 unfolding contentIn
 content-there li lm lc d = part-there lm bit (d .message)
 
-given-carries : (ed : Edition) (sd : Side) (g : Given) → givenFits ed (pdusOf sd) (lent (g .ids)) (lent (g .msgs)) (lent (g .checks)) (givenData (length (g .ids)) (g .bits) (g .check)) ≡ true → carries ed (bodyGiven ed g) ≡ holdsMessage (g .bits)
+given-carries : (ed : Edition) (sd : Side) (g : Given)
+    → givenFits ed (pdusOf sd) (lent (g .ids)) (lent (g .msgs)) (lent (g .checks)) (givenData (length (g .ids)) (g .bits) (g .check)) ≡ true
+    → carries ed (bodyGiven ed g) ≡ holdsMessage (g .bits)
 given-carries ed sd g sh =
-    laws ed .carries-is (pdusOf sd) (contentIn (lent (g .ids)) (lent (g .msgs)) (lent (g .checks)) (givenData (length (g .ids)) (g .bits) (g .check))) (laws ed .given-value (pdusOf sd) (lent (g .ids)) (lent (g .msgs)) (lent (g .checks)) (givenData (length (g .ids)) (g .bits) (g .check)) sh)
-    (laws ed .content-are-bits (lent (g .ids)) (lent (g .msgs)) (lent (g .checks)) (givenData (length (g .ids)) (g .bits) (g .check)) (bits-to (g .ids) allBits) (bits-to (g .msgs) allBits) (bits-to (g .checks) allBits))
+    laws ed .carries-is (pdusOf sd) (contentIn (lent (g .ids)) (lent (g .msgs)) (lent (g .checks))
+    (givenData (length (g .ids)) (g .bits) (g .check))) (laws ed .given-value (pdusOf sd) (lent (g .ids))
+    (lent (g .msgs)) (lent (g .checks)) (givenData (length (g .ids)) (g .bits) (g .check)) sh)
+    (laws ed .content-are-bits (lent (g .ids)) (lent (g .msgs)) (lent (g .checks))
+    (givenData (length (g .ids)) (g .bits) (g .check)) (bits-to (g .ids) allBits) (bits-to (g .msgs) allBits)
+    (bits-to (g .checks) allBits))
     ∙ content-there (lent (g .ids)) (lent (g .msgs)) (lent (g .checks)) (givenData (length (g .ids)) (g .bits) (g .check))
     ∙ given-message (length (g .ids)) (g .bits) (g .check)
 
@@ -219,13 +247,21 @@ module _ (p n : ℕ) (r : List ℕ) (w : Buffers) (sd : Side) (q : Record) (h : 
   at = q .edition
 
   abbrev Fits : Given → Type 0
-  Fits g = givenFits at (pdusOf sd) (lent (g .ids)) (lent (g .msgs)) (lent (g .checks)) (givenData (length (g .ids)) (g .bits) (g .check)) ≡ true
+  Fits g = givenFits at (pdusOf sd) (lent (g .ids)) (lent (g .msgs)) (lent (g .checks))
+      (givenData (length (g .ids)) (g .bits) (g .check)) ≡ true
 
   -- a call with message data that is no message request
-  simple-rel : (u : UserPrimitive) (v : ℕ) (lv : v < 2 ^ 64) (g : Given) (a : Order) → JobLow sd (User u) → (Fits g → asked (cardCodec at) p a ≡ u) → (Fits g → dataOf a ≡ cond (brings at (User u) .body) (bodyGiven at g) []) → (Fits g → brings at (User u) .holds ≡ true → carries at (bodyGiven at g) ≡ true) → brings at (User u) .message ≡ false
-      → Follow p n r w sd q h keeps u v lv (g .ids) (g .msgs) (g .checks) (givenData (length (g .ids)) (g .bits) (g .check)) a sentOf (simply n (userCall r (w .first) (w .second) (User u) v (g .ids) (g .msgs) (g .checks) (givenData (length (g .ids)) (g .bits) (g .check))))
+  simple-rel : (u : UserPrimitive) (v : ℕ) (lv : v < 2 ^ 64) (g : Given) (a : Order) → JobLow sd (User u)
+      → (Fits g → asked (cardCodec at) p a ≡ u)
+      → (Fits g → dataOf a ≡ cond (brings at (User u) .body) (bodyGiven at g) [])
+      → (Fits g → brings at (User u) .holds ≡ true → carries at (bodyGiven at g) ≡ true)
+      → brings at (User u) .message ≡ false
+      → Follow p n r w sd q h keeps u v lv (g .ids) (g .msgs) (g .checks)
+      (givenData (length (g .ids)) (g .bits) (g .check)) a sentOf (simply n (userCall r (w .first) (w .second)
+      (User u) v (g .ids) (g .msgs) (g .checks) (givenData (length (g .ids)) (g .bits) (g .check))))
   simple-rel u v lv g a j same ey held x =
-      asked-rel p n r w sd q h keeps u v lv (g .ids) (g .msgs) (g .checks) (givenData (length (g .ids)) (g .bits) (g .check)) a sentOf j same ey held
+      asked-rel p n r w sd q h keeps u v lv (g .ids) (g .msgs) (g .checks)
+      (givenData (length (g .ids)) (g .bits) (g .check)) a sentOf j same ey held
       (λ c m i z ys e k d f. sent-plain at sd true z (markedEntry c) m ys (dataOf a) (jobOf a) i e k (d ∙ x) f)
 
   none-low : 0 < 2 ^ 64
@@ -235,38 +271,68 @@ module _ (p n : ℕ) (r : List ℕ) (w : Buffers) (sd : Side) (q : Record) (h : 
   spared : (g : Given) → Fits g → bodyGiven at g ≡ cond (withBody (unlessSpared (spares at) (holdsMessage (g .bits)))) (bodyGiven at g) []
   spared g sh = left-out at (bodyGiven at g) (holdsMessage (g .bits)) (given-carries at sd g sh)
 
-  called-rel : (a : Asked) → Follows (KeepsAt at sd) (Carries at sd) (left n (answered p w r a) (sentFor at a (answered p w r a))) (mark h q) (stepNumbered (cardCodec at) p .at .call sd (mark h q))
-  called-rel (start-request v m k g) = simple-rel (StartServiceRequest m k p) (v .number) (v .low) g (S.start-request m k (bodyGiven at g)) tt (λ sh. refl) (λ sh. refl) (λ sh e. never e) refl
-  called-rel (start-response m x g) = simple-rel (StartServiceResponse m x (holdsMessage (g .bits))) 0 none-low g (S.start-response m x (bodyGiven at g)) tt (λ sh. ap (StartServiceResponse m x) (given-carries at sd g sh)) (spared g) (λ sh e. given-carries at sd g sh ∙ e) refl
+  called-rel : (a : Asked)
+      → Follows (KeepsAt at sd) (Carries at sd) (left n (answered p w r a) (sentFor at a (answered p w r a))) (mark h q) (stepNumbered (cardCodec at) p .at .call sd (mark h q))
+  called-rel (start-request v m k g) = simple-rel (StartServiceRequest m k p) (v .number) (v .low) g
+      (S.start-request m k (bodyGiven at g)) tt (λ sh. refl) (λ sh. refl) (λ sh e. never e) refl
+  called-rel (start-response m x g) = simple-rel (StartServiceResponse m x (holdsMessage (g .bits))) 0 none-low g
+      (S.start-response m x (bodyGiven at g)) tt (λ sh. ap (StartServiceResponse m x) (given-carries at sd g sh))
+      (spared g) (λ sh e. given-carries at sd g sh ∙ e) refl
   called-rel (message-request j g) =
-      asked-rel p n r w sd q h keeps (messageRequested (g .bits) (j .number)) 0 none-low (g .ids) (g .msgs) (g .checks) (givenData (length (g .ids)) (g .bits) (g .check)) (S.message-request (bodyGiven at g) (j .number))
+      asked-rel p n r w sd q h keeps (messageRequested (g .bits) (j .number)) 0 none-low (g .ids) (g .msgs) (g .checks)
+      (givenData (length (g .ids)) (g .bits) (g .check)) (S.message-request (bodyGiven at g) (j .number))
       (λ (c : Called). C.message (markedEntry c) (bodyGiven at g) (j .number)) (j .low)
-      (λ sh. ap (λ (b : Bool). MessageServiceRequest b (j .number)) (given-carries at sd g sh)) (λ sh. refl) (λ sh e. given-carries at sd g sh ∙ e)
+      (λ sh. ap (λ (b : Bool). MessageServiceRequest b (j .number)) (given-carries at sd g sh)) (λ sh. refl)
+      (λ sh e. given-carries at sd g sh ∙ e)
       (λ c m i z ys e k d f. sent-message at sd true z (markedEntry c) m ys (bodyGiven at g) (j .number) i k d f)
-  called-rel (end-request m g) = simple-rel (EndServiceRequest m (holdsMessage (g .bits))) 0 none-low g (S.end-request m (bodyGiven at g)) tt (λ sh. ap (EndServiceRequest m) (given-carries at sd g sh)) (spared g) (λ sh e. given-carries at sd g sh ∙ e) refl
-  called-rel (end-response m x g) = simple-rel (EndServiceResponse m x (holdsMessage (g .bits))) 0 none-low g (S.end-response m x (bodyGiven at g)) tt (λ sh. ap (EndServiceResponse m x) (given-carries at sd g sh)) (spared g) (λ sh e. given-carries at sd g sh ∙ e) refl
+  called-rel (end-request m g) = simple-rel (EndServiceRequest m (holdsMessage (g .bits))) 0 none-low g
+      (S.end-request m (bodyGiven at g)) tt (λ sh. ap (EndServiceRequest m) (given-carries at sd g sh)) (spared g)
+      (λ sh e. given-carries at sd g sh ∙ e) refl
+  called-rel (end-response m x g) = simple-rel (EndServiceResponse m x (holdsMessage (g .bits))) 0 none-low g
+      (S.end-response m x (bodyGiven at g)) tt (λ sh. ap (EndServiceResponse m x) (given-carries at sd g sh)) (spared g)
+      (λ sh e. given-carries at sd g sh ∙ e) refl
   called-rel (user-abort x) =
-      asked-rel p n r w sd q h keeps (abortRequested x) 0 none-low [] [] [] noData (S.user-abort (not (eqb x noCount)) (cond (eqb x noCount) 0 x)) sentOf tt (λ sh. refl) (λ sh. refl) (λ sh e. never e)
+      asked-rel p n r w sd q h keeps (abortRequested x) 0 none-low [] [] [] noData
+      (S.user-abort (not (eqb x noCount)) (cond (eqb x noCount) 0 x)) sentOf tt (λ sh. refl) (λ sh. refl)
+      (λ sh e. never e)
       (λ c m i z ys e k d f. sent-plain at sd true z (markedEntry c) m ys [] 0 i e k d f)
 
   -- ---- an expiry, a system error
 
-  reported-rel : (e : Event) → JobLow sd e → brings at e .body ≡ false → brings at e .holds ≡ false → brings at e .message ≡ false → isSend (brings at e .apdu) ≡ false → OutRel (KeepsAt at sd) (Carries at sd) (simply n (plainCall r (w .first) (w .second) e)) (numberedly sd (mark h q) e 0 (λ (o : Outcome). happens (cardCodec at) sd o []))
+  reported-rel : (e : Event) → JobLow sd e → brings at e .body ≡ false → brings at e .holds ≡ false
+      → brings at e .message ≡ false → isSend (brings at e .apdu) ≡ false
+      → OutRel (KeepsAt at sd) (Carries at sd) (simply n (plainCall r (w .first) (w .second) e)) (numberedly sd (mark h q) e 0 (λ (o : Outcome). happens (cardCodec at) sd o []))
   unfolding userStep
   reported-rel e j hb hh hm f =
-      subst (λ (c : Called). OutRel (KeepsAt at sd) (Carries at sd) (simply n c) (numberedly sd (mark h q) e 0 (λ (o : Outcome). happens (cardCodec at) sd o []))) (sym (user-entered at r w sd q h keeps e 0 [] [] [] noData))
+      subst (λ (c : Called). OutRel (KeepsAt at sd) (Carries at sd) (simply n c)
+      (numberedly sd (mark h q) e 0 (λ (o : Outcome). happens (cardCodec at) sd o [])))
+      (sym (user-entered at r w sd q h keeps e 0 [] [] [] noData))
       (subst (λ (t : Bool). OutRel (KeepsAt at sd) (Carries at sd) (simply n (cond t (concluded r (w .first) (w .second) at sd (heldAfter h e 0) (numberedStep sd q h e 0) (lent []) (lent []) (lent []) (carriesData noData)) (called 2 r (w .first) (w .second)))) (numberedly sd (mark h q) e 0 (λ (o : Outcome). happens (cardCodec at) sd o []))) (sym (none-given at (pdusOf sd) (lent []) (lent []) (lent [])))
-      (happens-rel r w sd q h e 0 (lent []) (lent []) (lent []) (carriesData noData) keeps none-low (bits-to [] allBits) (bits-to [] allBits) (bits-to [] allBits) (none-fits (lent []) (lent []) (lent [])) (λ z. never (sym hb ∙ z)) n [] j hb hh hm (λ g. never (sym f ∙ g))))
+      (happens-rel r w sd q h e 0 (lent []) (lent []) (lent []) (carriesData noData) keeps none-low (bits-to [] allBits)
+      (bits-to [] allBits) (bits-to [] allBits) (none-fits (lent []) (lent []) (lent []))
+      (λ z. never (sym hb ∙ z)) n [] j hb hh hm (λ g. never (sym f ∙ g))))
 
 -- ---- at the record's edition
 
 module _ (p n : ℕ) (r : List ℕ) (w : Buffers) (ed : Edition) (sd : Side) (q : Record) (h : ℕ) (keeps : Keeps ed sd r q h) where
-  pub call-rel : (a : Asked) → Follows (KeepsAt ed sd) (Carries ed sd) (left n (answered p w r a) (sentFor (editionBy r) a (answered p w r a))) (mark h q) (stepNumbered (cardCodec ed) p .at .call sd (mark h q))
+  pub call-rel : (a : Asked)
+      → Follows (KeepsAt ed sd) (Carries ed sd) (left n (answered p w r a) (sentFor (editionBy r) a (answered p w r a))) (mark h q) (stepNumbered (cardCodec ed) p .at .call sd (mark h q))
   call-rel a =
-      subst (λ (z : Edition). Follows (KeepsAt ed sd) (Carries ed sd) (left n (answered p w r a) (sentFor z a (answered p w r a))) (mark h q) (stepNumbered (cardCodec ed) p .at .call sd (mark h q))) (sym (ap (inRecord (λ (x : Record) (m : ℕ). x .edition) Protected) (keeps .load)))
-      (subst (λ (z : Edition). Follows (KeepsAt z sd) (Carries z sd) (left n (answered p w r a) (sentFor (q .edition) a (answered p w r a))) (mark h q) (stepNumbered (cardCodec z) p .at .call sd (mark h q))) (keeps .edition) (called-rel p n r w sd q h (itself ed sd r q h keeps) a))
+      subst (λ (z : Edition). Follows (KeepsAt ed sd) (Carries ed sd)
+      (left n (answered p w r a) (sentFor z a (answered p w r a))) (mark h q)
+      (stepNumbered (cardCodec ed) p .at .call sd (mark h q)))
+      (sym (ap (inRecord (λ (x : Record) (m : ℕ). x .edition) Protected) (keeps .load)))
+      (subst (λ (z : Edition). Follows (KeepsAt z sd) (Carries z sd)
+      (left n (answered p w r a) (sentFor (q .edition) a (answered p w r a))) (mark h q)
+      (stepNumbered (cardCodec z) p .at .call sd (mark h q))) (keeps .edition)
+      (called-rel p n r w sd q h (itself ed sd r q h keeps) a))
 
-  pub report-rel : (e : Event) → JobLow sd e → brings (q .edition) e .body ≡ false → brings (q .edition) e .holds ≡ false → brings (q .edition) e .message ≡ false → isSend (brings (q .edition) e .apdu) ≡ false
-      → OutRel (KeepsAt ed sd) (Carries ed sd) (simply n (plainCall r (w .first) (w .second) e)) (numberedly sd (mark h q) e 0 (λ (o : Outcome). happens (cardCodec ed) sd o []))
+  pub report-rel : (e : Event) → JobLow sd e → brings (q .edition) e .body ≡ false
+      → brings (q .edition) e .holds ≡ false → brings (q .edition) e .message ≡ false
+      → isSend (brings (q .edition) e .apdu) ≡ false
+      → OutRel (KeepsAt ed sd) (Carries ed sd) (simply n (plainCall r (w .first) (w .second) e))
+      (numberedly sd (mark h q) e 0 (λ (o : Outcome). happens (cardCodec ed) sd o []))
   report-rel e j hb hh hm f =
-      subst (λ (z : Edition). OutRel (KeepsAt z sd) (Carries z sd) (simply n (plainCall r (w .first) (w .second) e)) (numberedly sd (mark h q) e 0 (λ (o : Outcome). happens (cardCodec z) sd o []))) (keeps .edition) (reported-rel p n r w sd q h (itself ed sd r q h keeps) e j hb hh hm f)
+      subst (λ (z : Edition). OutRel (KeepsAt z sd) (Carries z sd) (simply n (plainCall r (w .first) (w .second) e))
+      (numberedly sd (mark h q) e 0 (λ (o : Outcome). happens (cardCodec z) sd o []))) (keeps .edition)
+      (reported-rel p n r w sd q h (itself ed sd r q h keeps) e j hb hh hm f)

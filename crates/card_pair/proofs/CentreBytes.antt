@@ -69,14 +69,20 @@ use Rattle.card_pair.proofs.CardCalls.{none-given}
 
 -- ---- a call that is taken, or not
 
-pub taken-does : (P : Outcome Desk (Numbered Wire) → Type 0) (d : Desk) (c : Called) → isTaken (c .number) ≡ true → P (acts (after d c) (handedOf c) (putOn (centreEntry c) (centreEntry c .it .primitive))) → P (does d c)
-taken-does P d c e x = subst (λ (b : Bool). P (cond b (acts (after d c) (handedOf c) (putOn (centreEntry c) (centreEntry c .it .primitive))) refused)) (sym e) x
+pub taken-does : (P : Outcome Desk (Numbered Wire) → Type 0) (d : Desk) (c : Called) → isTaken (c .number) ≡ true
+    → P (acts (after d c) (handedOf c) (putOn (centreEntry c) (centreEntry c .it .primitive))) → P (does d c)
+taken-does P d c e x = subst (λ (b : Bool). P
+    (cond b (acts (after d c) (handedOf c) (putOn (centreEntry c) (centreEntry c .it .primitive))) refused)) (sym e)
+    x
 
 refused-does : (P : Outcome Desk (Numbered Wire) → Type 0) (d : Desk) (c : Called) → isTaken (c .number) ≡ false → P refused → P (does d c)
-refused-does P d c e x = subst (λ (b : Bool). P (cond b (acts (after d c) (handedOf c) (putOn (centreEntry c) (centreEntry c .it .primitive))) refused)) (sym e) x
+refused-does P d c e x = subst (λ (b : Bool). P
+    (cond b (acts (after d c) (handedOf c) (putOn (centreEntry c) (centreEntry c .it .primitive))) refused)) (sym e)
+    x
 
 -- what is put on the line is no start where its primitive begins nothing
-put-calm : (p : ℕ) (e : Numbered Wire) → begins? (sortOf (e .it .primitive)) ≡ false → starts (centreMachine p .at) (putOn e (e .it .primitive)) ≡ false
+put-calm : (p : ℕ) (e : Numbered Wire) → begins? (sortOf (e .it .primitive)) ≡ false
+    → starts (centreMachine p .at) (putOn e (e .it .primitive)) ≡ false
 put-calm p e b = go (e .it .primitive)
   where
     go : (i : Invoked) → starts (centreMachine p .at) (putOn e i) ≡ false
@@ -141,7 +147,9 @@ module _ (p : ℕ) (ed : Edition) (ver : ℕ) (d : Desk) (at : At p ed ver d) wh
 
   pub at-record : (k : Side → Record → ℕ → Called) → entering (d .kept .bytes) (lent-first d) (lent-second d) k ≡ k Ground q n
   at-record k =
-      sym (with-record (d .kept .bytes) (lent-first d) (lent-second d) k (d .lends (d .kept .calls) .first-full) (d .lends (d .kept .calls) .second-full) (loadAt (d .kept .bytes)) refl Ground q n (k Ground q n) (at .load) refl)
+      sym (with-record (d .kept .bytes) (lent-first d) (lent-second d) k (d .lends (d .kept .calls) .first-full)
+      (d .lends (d .kept .calls) .second-full) (loadAt (d .kept .bytes)) refl Ground q n (k Ground q n)
+      (at .load) refl)
 
   pub held-is : heldBy (d .kept .bytes) ≡ n
   held-is = ap numberIn (at .load)
@@ -149,10 +157,18 @@ module _ (p : ℕ) (ed : Edition) (ver : ℕ) (d : Desk) (at : At p ed ver d) wh
   abbrev pub Ended : ℕ → O.Outcome → List ℕ → List ℕ → List ℕ → Carried → Called
   Ended m o li lm lc x = concluded (d .kept .bytes) (lent-first d) (lent-second d) (at .held .edition) Ground m o li lm lc x
 
-  pub stored-loads : (x : Record) (m : ℕ) → Coded x → m < 2 ^ 64 → (loadAt (storeAt (d .kept .bytes) Ground x m .bytes) ≡ Is Ground x m) × (length (storeAt (d .kept .bytes) Ground x m .bytes) ≡ recordBytes)
+  pub stored-loads : (x : Record) (m : ℕ) → Coded x → m < 2 ^ 64
+      → (loadAt (storeAt (d .kept .bytes) Ground x m .bytes) ≡ Is Ground x m) × (length (storeAt (d .kept .bytes) Ground x m .bytes) ≡ recordBytes)
   unfolding storeAt
   stored-loads x m k l =
-      rw (eq-eqb (length (d .kept .bytes)) recordBytes (at .size), lt-ltb (x .request) securityValues (k .request), lt-ltb (x .policy) securityValues (k .policy), le-leb 1 (x .version) (k .least), lt-ltb (x .version) versions (k .most))
+      rw (
+        eq-eqb (length (d .kept .bytes)) recordBytes (at .size),
+        lt-ltb (x .request) securityValues (k .request),
+        lt-ltb (x .policy) securityValues (k .policy),
+        le-leb 1 (x .version) (k .least),
+        lt-ltb (x .version)
+            versions (k .most),
+      )
       (loaded-stored Ground x m k l, length-stored Ground x m k l)
 
   module _ (m : ℕ) (o : O.Outcome) (li lm lc : List ℕ) (x : Carried) (t : isNone (o .refusal) ≡ true) where
@@ -176,22 +192,39 @@ module _ (p : ℕ) (ed : Edition) (ver : ℕ) (d : Desk) (at : At p ed ver d) wh
     loads-next k l = ap loadAt kept-is ∙ stored-loads (o .next) m k l .0
 
     -- the version, and the bytes that were written
-    version-is : versionNumber (o .invoked) (o .told) < versions → versionPart (Ended m o li lm lc x .number) ≡ versionNumber (o .invoked) (o .told)
+    version-is : versionNumber (o .invoked) (o .told) < versions
+        → versionPart (Ended m o li lm lc x .number) ≡ versionNumber (o .invoked) (o .told)
     unfolding concluded finished
     version-is h = rw t (version-unpacked _ _ _ _ _ (invoked-low (o .invoked)) (told-low (o .told)) h)
 
-    bytes-are : (a : Apdu) → apduFits (q .edition) pdu.GroundPdus li lm lc a ≡ true → firstTakes (q .edition) Ground li lm lc x (o .apdu) (lent-first d) ≡ pduTo (q .edition) pdu.GroundPdus li lm lc a (lent-first d)
-        → entryOf (Ended m o li lm lc x) .bytes ≡ take (bytesFor (length (pduBits (q .edition) pdu.GroundPdus (pduIn li lm lc a)))) (putBits (lent-first d) 0 (padded (pduBits (q .edition) pdu.GroundPdus (pduIn li lm lc a))))
+    bytes-are : (a : Apdu) → apduFits (q .edition) pdu.GroundPdus li lm lc a ≡ true
+        → firstTakes (q .edition) Ground li lm lc x (o .apdu) (lent-first d) ≡ pduTo (q .edition) pdu.GroundPdus li lm lc a (lent-first d)
+        → entryOf (Ended m o li lm lc x) .bytes ≡ take
+        (bytesFor (length (pduBits (q .edition) pdu.GroundPdus (pduIn li lm lc a))))
+        (putBits (lent-first d) 0 (padded (pduBits (q .edition) pdu.GroundPdus (pduIn li lm lc a))))
     unfolding concluded finished
     bytes-are a sh e =
         let w = laws (q .edition) .pdu-most pdu.GroundPdus li lm lc a sh in
-        let z : pduTo (q .edition) pdu.GroundPdus li lm lc a (lent-first d) ≡ done (written.Bits (length (pduBits (q .edition) pdu.GroundPdus (pduIn li lm lc a)))) (putBits (lent-first d) 0 (padded (pduBits (q .edition) pdu.GroundPdus (pduIn li lm lc a)))) = rw sh (writes (lent-first d) (pduBits (q .edition) pdu.GroundPdus (pduIn li lm lc a)) (d .lends (d .kept .calls) .first-full)) in
-        rw (t, e, z, sent-unpacked (invokedNumber (o .invoked)) (toldNumber (o .told)) (length (pduBits (q .edition) pdu.GroundPdus (pduIn li lm lc a))) (bitsOfWritten (secondTakes (q .edition) li lm lc x (passes (o .told)) (o .delivers) (lent-second d) .answer)) (versionNumber (o .invoked) (o .told)) (invoked-low (o .invoked)) (told-low (o .told)) (omega arith))
+        let z : pduTo (q .edition) pdu.GroundPdus li lm lc a (lent-first d) ≡ done
+        (written.Bits (length (pduBits (q .edition) pdu.GroundPdus (pduIn li lm lc a))))
+        (putBits (lent-first d) 0 (padded (pduBits (q .edition) pdu.GroundPdus (pduIn li lm lc a)))) = rw sh (writes
+        (lent-first d) (pduBits (q .edition) pdu.GroundPdus (pduIn li lm lc a))
+        (d .lends (d .kept .calls) .first-full)) in
+        rw (
+          t,
+          e,
+          z,
+          sent-unpacked (invokedNumber (o .invoked)) (toldNumber (o .told))
+              (length (pduBits (q .edition) pdu.GroundPdus (pduIn li lm lc a))) (bitsOfWritten
+              (secondTakes (q .edition) li lm lc x (passes (o .told)) (o .delivers) (lent-second d) .answer))
+              (versionNumber (o .invoked) (o .told)) (invoked-low (o .invoked)) (told-low (o .told)) (omega arith),
+        )
 
   -- ---- back to rest
 
   module _ (o : O.Outcome) (li lm lc : List ℕ) (x : Carried) (s : Shut q o) where
-    shut-back : (z : Sent (Numbered Wire)) → starts (centreMachine p .at) z ≡ false → Back (centreMachine p) (λ (e : Desk). Rests p ed ver (e .kept .bytes)) d (after d (Ended n o li lm lc x)) z
+    shut-back : (z : Sent (Numbered Wire)) → starts (centreMachine p .at) z ≡ false
+        → Back (centreMachine p) (λ (e : Desk). Rests p ed ver (e .kept .bytes)) d (after d (Ended n o li lm lc x)) z
     shut-back z b =
         let l = loads-next n o li lm lc x (s .taken) (s .coded) (at .low) in
         record {
@@ -200,44 +233,59 @@ module _ (p : ℕ) (ed : Edition) (ver : ℕ) (d : Desk) (at : At p ed ver d) wh
           holds = ap numberIn l ∙ sym held-is;
         }
 
-    shut-calm : starts (centreMachine p .at) (putOn (centreEntry (Ended n o li lm lc x)) (centreEntry (Ended n o li lm lc x) .it .primitive)) ≡ false
+    shut-calm : starts (centreMachine p .at)
+        (putOn (centreEntry (Ended n o li lm lc x)) (centreEntry (Ended n o li lm lc x) .it .primitive)) ≡ false
     shut-calm =
         put-calm p (centreEntry (Ended n o li lm lc x))
-        (ap (λ (i : ℕ). begins? (sortOf (betweenCentres (versionPart (Ended n o li lm lc x .number)) (invokedOf i)))) (invoked-is n o li lm lc x (s .taken)) ∙ s .calm (versionPart (Ended n o li lm lc x .number)))
+        (ap (λ (i : ℕ). begins? (sortOf (betweenCentres (versionPart (Ended n o li lm lc x .number)) (invokedOf i))))
+        (invoked-is n o li lm lc x (s .taken)) ∙ s .calm (versionPart (Ended n o li lm lc x .number)))
 
     shut-comes : Comes (centreMachine p) (λ (e : Desk). Rests p ed ver (e .kept .bytes)) d (does d (Ended n o li lm lc x))
-    shut-comes = taken-does (Comes (centreMachine p) (λ (e : Desk). Rests p ed ver (e .kept .bytes)) d) d (Ended n o li lm lc x) (number-taken n o li lm lc x (s .taken)) (shut-back _ shut-calm)
+    shut-comes = taken-does (Comes (centreMachine p) (λ (e : Desk). Rests p ed ver (e .kept .bytes)) d) d
+        (Ended n o li lm lc x) (number-taken n o li lm lc x (s .taken)) (shut-back _ shut-calm)
 
   -- if it is taken
-  pub shut-returns : (o : O.Outcome) (li lm lc : List ℕ) (x : Carried) → (isNone (o .refusal) ≡ true → Shut q o) → Returns (centreMachine p) (λ (e : Desk). Rests p ed ver (e .kept .bytes)) d (does d (Ended n o li lm lc x))
+  pub shut-returns : (o : O.Outcome) (li lm lc : List ℕ) (x : Carried) → (isNone (o .refusal) ≡ true → Shut q o)
+      → Returns (centreMachine p) (λ (e : Desk). Rests p ed ver (e .kept .bytes)) d (does d (Ended n o li lm lc x))
   shut-returns o li lm lc x f = go (isNone (o .refusal)) refl
     where
-      go : (b : Bool) → isNone (o .refusal) ≡ b → Returns (centreMachine p) (λ (e : Desk). Rests p ed ver (e .kept .bytes)) d (does d (Ended n o li lm lc x))
+      go : (b : Bool) → isNone (o .refusal) ≡ b
+          → Returns (centreMachine p) (λ (e : Desk). Rests p ed ver (e .kept .bytes)) d (does d (Ended n o li lm lc x))
       go true e =
           let s = f e in
-          taken-does (Returns (centreMachine p) (λ (z : Desk). Rests p ed ver (z .kept .bytes)) d) d (Ended n o li lm lc x) (number-taken n o li lm lc x e) (shut-back o li lm lc x s _ (shut-calm o li lm lc x s))
-      go false e = refused-does (Returns (centreMachine p) (λ (z : Desk). Rests p ed ver (z .kept .bytes)) d) d (Ended n o li lm lc x) (concluded-refused _ _ _ _ Ground n o li lm lc x e) tt
+          taken-does (Returns (centreMachine p) (λ (z : Desk). Rests p ed ver (z .kept .bytes)) d) d
+          (Ended n o li lm lc x) (number-taken n o li lm lc x e)
+          (shut-back o li lm lc x s _ (shut-calm o li lm lc x s))
+      go false e = refused-does (Returns (centreMachine p) (λ (z : Desk). Rests p ed ver (z .kept .bytes)) d) d
+          (Ended n o li lm lc x) (concluded-refused _ _ _ _ Ground n o li lm lc x e) tt
 
   -- a call that the machine refuses
-  pub refused-call : (P : Outcome Desk (Numbered Wire) → Type 0) (m : ℕ) (o : O.Outcome) (li lm lc : List ℕ) (x : Carried) → isNone (o .refusal) ≡ false → P refused → P (does d (Ended m o li lm lc x))
+  pub refused-call : (P : Outcome Desk (Numbered Wire) → Type 0) (m : ℕ) (o : O.Outcome) (li lm lc : List ℕ) (x : Carried)
+      → isNone (o .refusal) ≡ false → P refused → P (does d (Ended m o li lm lc x))
   refused-call P m o li lm lc x e z = refused-does P d (Ended m o li lm lc x) (concluded-refused _ _ _ _ Ground m o li lm lc x e) z
 
   -- ---- the calls, as far as the step
 
-  pub heard-data : (a : ServicePrimitive) (v : ℕ) (s : List ℕ) → hears d a v 1 s ≡ eventStep numberedStep (d .kept .bytes) (lent-first d) (lent-second d) (Service a (meaning (readPdu (q .edition) Ground (q .control) a (lent s)))) v (lent s) (lent s) (lent s) (carriedBy (readPdu (q .edition) Ground (q .control) a (lent s))) Ground q n
+  pub heard-data : (a : ServicePrimitive) (v : ℕ) (s : List ℕ)
+      → hears d a v 1 s ≡ eventStep numberedStep (d .kept .bytes) (lent-first d) (lent-second d) (Service a (meaning (readPdu (q .edition) Ground (q .control) a (lent s)))) v (lent s) (lent s) (lent s) (carriedBy (readPdu (q .edition) Ground (q .control) a (lent s))) Ground q n
   unfolding serviceBy serviceStep dataStep
   heard-data a v s = at-record (serviceStep numberedStep (d .kept .bytes) (lent-first d) (lent-second d) a v 1 (lent s))
 
-  pub heard-bare : (a : ServicePrimitive) (v : ℕ) → hears d a v 0 [] ≡ eventStep numberedStep (d .kept .bytes) (lent-first d) (lent-second d) (Service a Absent) v (lent []) (lent []) (lent []) (carriesData noData) Ground q n
+  pub heard-bare : (a : ServicePrimitive) (v : ℕ)
+      → hears d a v 0 [] ≡ eventStep numberedStep (d .kept .bytes) (lent-first d) (lent-second d) (Service a Absent) v (lent []) (lent []) (lent []) (carriesData noData) Ground q n
   unfolding serviceBy serviceStep bareStep
   heard-bare a v = at-record (serviceStep numberedStep (d .kept .bytes) (lent-first d) (lent-second d) a v 0 (lent []))
 
-  pub reported : (e : Event) → reports d e ≡ eventStep numberedStep (d .kept .bytes) (lent-first d) (lent-second d) e 0 (lent []) (lent []) (lent []) (carriesData noData) Ground q n
+  pub reported : (e : Event)
+      → reports d e ≡ eventStep numberedStep (d .kept .bytes) (lent-first d) (lent-second d) e 0 (lent []) (lent []) (lent []) (carriesData noData) Ground q n
   unfolding userBy userStep
-  reported e = at-record (userStep numberedStep (d .kept .bytes) (lent-first d) (lent-second d) e 0 (lent []) (lent []) (lent []) noData) ∙ rw (none-given (q .edition) pdu.GroundPdus (lent []) (lent []) (lent []))
+  reported e = at-record
+      (userStep numberedStep (d .kept .bytes) (lent-first d) (lent-second d) e 0 (lent []) (lent []) (lent []) noData) ∙
+      rw (none-given (q .edition) pdu.GroundPdus (lent []) (lent []) (lent []))
 
   -- a primitive with the number that the record holds
-  pub own-number : (a : ServicePrimitive) (x : UserData) → eventFits Ground (q .edition) (Service a x) ≡ true → serviceStarts a ≡ false → numberedStep Ground q n (Service a x) n ≡ reached Ground q a x
+  pub own-number : (a : ServicePrimitive) (x : UserData) → eventFits Ground (q .edition) (Service a x) ≡ true
+      → serviceStarts a ≡ false → numberedStep Ground q n (Service a x) n ≡ reached Ground q a x
   unfolding isStale isStartEvent isService
   own-number a x sh st = then-step Ground q n (Service a x) n (rw (st, eq-eqb n n refl)) ∙ service-taken Ground q a x sh
 
@@ -251,7 +299,8 @@ module _ (p : ℕ) (ed : Edition) (ver : ℕ) (d : Desk) (at : At p ed ver d) wh
   unfolding numberedStep refusalOf
   unpermitted e v h = rw h (go (eventFits Ground (q .edition) e) (isStale n e v) (clause Ground q e))
     where
-      go : (s l : Bool) (a : O.Outcome) → isNone (cond (isNone (cond (not s) Shape (cond l Stale Prohibited))) a (N.refused (cond (not s) Shape (cond l Stale Prohibited)) q) .refusal) ≡ false
+      go : (s l : Bool) (a : O.Outcome)
+          → isNone (cond (isNone (cond (not s) Shape (cond l Stale Prohibited))) a (N.refused (cond (not s) Shape (cond l Stale Prohibited)) q) .refusal) ≡ false
       go true true a = refl
       go true false a = refl
       go false l a = refl
@@ -260,7 +309,8 @@ module _ (p : ℕ) (ed : Edition) (ver : ℕ) (d : Desk) (at : At p ed ver d) wh
   unfolding numberedStep refusalOf
   stale-refused e v h = rw h (go (eventFits Ground (q .edition) e) (clause Ground q e))
     where
-      go : (s : Bool) (a : O.Outcome) → isNone (cond (isNone (cond (not s) Shape Stale)) a (N.refused (cond (not s) Shape Stale) q) .refusal) ≡ false
+      go : (s : Bool) (a : O.Outcome)
+          → isNone (cond (isNone (cond (not s) Shape Stale)) a (N.refused (cond (not s) Shape Stale) q) .refusal) ≡ false
       go true a = refl
       go false a = refl
 
@@ -268,13 +318,19 @@ module _ (p : ℕ) (ed : Edition) (ver : ℕ) (d : Desk) (at : At p ed ver d) wh
   not-fitting e v h = ap (λ (o : O.Outcome). isNone (o .refusal)) (shape-first Ground q n e v h)
 
   -- a user call that the machine does not permit
-  pub user-refused : (P : Outcome Desk (Numbered Wire) → Type 0) (u : UserPrimitive) (v : ℕ) (ids msgs checks : List ℕ) (x : Data) → takes Ground (q .control) (callOf u) ≡ false → P refused → P (does d (userCall (d .kept .bytes) (lent-first d) (lent-second d) (User u) v ids msgs checks x))
+  pub user-refused : (P : Outcome Desk (Numbered Wire) → Type 0) (u : UserPrimitive) (v : ℕ) (ids msgs checks : List ℕ) (x : Data)
+      → takes Ground (q .control) (callOf u) ≡ false → P refused
+      → P (does d (userCall (d .kept .bytes) (lent-first d) (lent-second d) (User u) v ids msgs checks x))
   unfolding userBy userStep permitted
   user-refused P u v ids msgs checks x h z =
-      subst (λ (c : Called). P (does d c)) (sym (at-record (userStep numberedStep (d .kept .bytes) (lent-first d) (lent-second d) (User u) v (lent ids) (lent msgs) (lent checks) x))) (go (givenFits (q .edition) pdu.GroundPdus (lent ids) (lent msgs) (lent checks) x))
+      subst (λ (c : Called). P (does d c)) (sym (at-record (userStep numberedStep (d .kept .bytes) (lent-first d)
+      (lent-second d) (User u) v (lent ids) (lent msgs) (lent checks) x)))
+      (go (givenFits (q .edition) pdu.GroundPdus (lent ids) (lent msgs) (lent checks) x))
     where
-      go : (b : Bool) → P (does d (cond b (eventStep numberedStep (d .kept .bytes) (lent-first d) (lent-second d) (User u) v (lent ids) (lent msgs) (lent checks) (carriesData x) Ground q n) (calledWith 2 (d .kept .bytes) (lent-first d) (lent-second d))))
-      go true = refused-call P (heldAfter n (User u) v) (numberedStep Ground q n (User u) v) (lent ids) (lent msgs) (lent checks) (carriesData x) (unpermitted (User u) v h) z
+      go : (b : Bool)
+          → P (does d (cond b (eventStep numberedStep (d .kept .bytes) (lent-first d) (lent-second d) (User u) v (lent ids) (lent msgs) (lent checks) (carriesData x) Ground q n) (calledWith 2 (d .kept .bytes) (lent-first d) (lent-second d))))
+      go true = refused-call P (heldAfter n (User u) v) (numberedStep Ground q n (User u) v) (lent ids) (lent msgs)
+          (lent checks) (carriesData x) (unpermitted (User u) v h) z
       go false = z
 
   -- a forward request with a number that is not above, or with a class that there is none
@@ -282,16 +338,19 @@ module _ (p : ℕ) (ed : Edition) (ver : ℕ) (d : Desk) (at : At p ed ver d) wh
   unfolding isStale isStartEvent
   forward-stale k v lt = stale-refused (ForwardRequested k p) v (ap not lt)
 
-  pub forward-not-fitting : (k v : ℕ) → ltb k routingClasses ≡ false → isNone (numberedStep Ground q n (ForwardRequested k p) v .refusal) ≡ false
+  pub forward-not-fitting : (k v : ℕ) → ltb k routingClasses ≡ false
+      → isNone (numberedStep Ground q n (ForwardRequested k p) v .refusal) ≡ false
   unfolding eventFits
   forward-not-fitting k v e = not-fitting (ForwardRequested k p) v (rw e)
 
   -- an entry of another number
-  pub heard-stale : (a : ServicePrimitive) (v : ℕ) (s : List ℕ) → ((b : UserData) → isStale n (Service a b) v ≡ true) → Refuses (centreMachine p) (does d (hears d a v 1 s))
+  pub heard-stale : (a : ServicePrimitive) (v : ℕ) (s : List ℕ) → ((b : UserData) → isStale n (Service a b) v ≡ true)
+      → Refuses (centreMachine p) (does d (hears d a v 1 s))
   heard-stale a v s f =
       subst (λ (c : Called). Refuses (centreMachine p) (does d c)) (sym (heard-data a v s))
       (refused-call (Refuses (centreMachine p)) (heldAfter n (Service a (meaning (readPdu (q .edition) Ground (q .control) a (lent s)))) v) (numberedStep Ground q n (Service a (meaning (readPdu (q .edition) Ground (q .control) a (lent s)))) v) (lent s) (lent s) (lent s) (carriedBy (readPdu (q .edition) Ground (q .control) a (lent s)))
-      (stale-refused (Service a (meaning (readPdu (q .edition) Ground (q .control) a (lent s)))) v (f (meaning (readPdu (q .edition) Ground (q .control) a (lent s))))) tt)
+      (stale-refused (Service a (meaning (readPdu (q .edition) Ground (q .control) a (lent s)))) v
+      (f (meaning (readPdu (q .edition) Ground (q .control) a (lent s))))) tt)
 
   pub start-stale : (x s : ℕ) (k : Qos) (w v : ℕ) → v ≤ n → (b : UserData) → isStale n (Service (DStartIndication x s k w) b) v ≡ true
   unfolding isStale isStartEvent serviceStarts

@@ -29,15 +29,25 @@ centre p ed ver fair = record {
   Rest = Rest p ed ver;
   Away = Away p ed ver;
   Good = Good p ed ver;
-  rest-idle = λ (d : Desk) (h : Rests p ed ver (d .kept .bytes)). ap (λ (l : Loaded). isIdle (controlIn l)) (h .begins .load) ∙ ap isIdle (h .begins .idle);
-  rest-waits = λ (d : Desk) (h : Rests p ed ver (d .kept .bytes)). ap (λ (l : Loaded). waits (controlIn l .state)) (h .begins .load) ∙ ap (λ (c : Control). waits (c .state)) (h .begins .idle);
+  rest-idle = λ (d : Desk) (h : Rests p ed ver (d .kept .bytes)). ap (λ (l : Loaded). isIdle (controlIn l))
+      (h .begins .load) ∙ ap isIdle (h .begins .idle);
+  rest-waits = λ (d : Desk) (h : Rests p ed ver (d .kept .bytes)). ap (λ (l : Loaded). waits (controlIn l .state))
+      (h .begins .load) ∙ ap (λ (c : Control). waits (c .state)) (h .begins .idle);
   away-idle = λ (d : Desk) (h : Away p ed ver d). ap (λ (l : Loaded). isIdle (controlIn l)) (h .at .load) ∙ ap isIdle (h .control);
   call-rest = λ (d : Desk) (a : CentreAsked) (h : Rests p ed ver (d .kept .bytes)). rest-asks p ed ver fair d h a;
   call-away = λ (d : Desk) (a : CentreAsked) (h : Away p ed ver d). away-asks p ed ver d h a;
-  start-answered = λ (d : Desk) (w : Numbered Wire) (h : Rests p ed ver (d .kept .bytes)) (g : Good p ed ver w) (s : isStart (centreMachine p .at) w ≡ true) (b : heldBy (d .kept .bytes) < w .no). rest-answers p ed ver fair d h w g s (let e = ap numberIn (h .begins .load) in omega arith);
-  start-stale = λ (d : Desk) (w : Numbered Wire) (h : Rests p ed ver (d .kept .bytes)) (g : Good p ed ver w) (s : isStart (centreMachine p .at) w ≡ true) (b : w .no ≤ heldBy (d .kept .bytes)). rest-stale p ed ver fair d h w g s (let e = ap numberIn (h .begins .load) in omega arith);
-  answer-taken = λ (d : Desk) (w : Numbered Wire) (h : Away p ed ver d) (g : Good p ed ver w) (s : isStart (centreMachine p .at) w ≡ false) (m : w .no ≡ heldBy (d .kept .bytes)). away-takes p ed ver d h w g s m;
-  answer-stale = λ (d : Desk) (w : Numbered Wire) (h : Away p ed ver d) (g : Good p ed ver w) (s : isStart (centreMachine p .at) w ≡ false) (m : w .no ≡ heldBy (d .kept .bytes) → ⊥). away-stale p ed ver d h w g s m;
+  start-answered = λ (d : Desk) (w : Numbered Wire) (h : Rests p ed ver (d .kept .bytes)) (g : Good p ed ver w)
+      (s : isStart (centreMachine p .at) w ≡ true) (b : heldBy (d .kept .bytes) < w .no). rest-answers p ed ver fair d
+      h w g s (let e = ap numberIn (h .begins .load) in omega arith);
+  start-stale = λ (d : Desk) (w : Numbered Wire) (h : Rests p ed ver (d .kept .bytes)) (g : Good p ed ver w)
+      (s : isStart (centreMachine p .at) w ≡ true) (b : w .no ≤ heldBy (d .kept .bytes)). rest-stale p ed ver fair d h
+      w g s (let e = ap numberIn (h .begins .load) in omega arith);
+  answer-taken = λ (d : Desk) (w : Numbered Wire) (h : Away p ed ver d) (g : Good p ed ver w)
+      (s : isStart (centreMachine p .at) w ≡ false) (m : w .no ≡ heldBy (d .kept .bytes)). away-takes p ed ver d h w g
+      s m;
+  answer-stale = λ (d : Desk) (w : Numbered Wire) (h : Away p ed ver d) (g : Good p ed ver w)
+      (s : isStart (centreMachine p .at) w ≡ false) (m : w .no ≡ heldBy (d .kept .bytes) → ⊥). away-stale p ed ver d h
+      w g s m;
   expiry-rest = λ (d : Desk) (h : Rests p ed ver (d .kept .bytes)). rest-expires p ed ver fair d h;
   expiry-away = λ (d : Desk) (h : Away p ed ver d). away-expires p ed ver d h;
   error-rest = λ (d : Desk) (h : Rests p ed ver (d .kept .bytes)). rest-errs p ed ver fair d h;

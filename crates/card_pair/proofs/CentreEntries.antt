@@ -56,8 +56,11 @@ pub record Away (p : ℕ) (ed : Edition) (ver : ℕ) (d : Desk) : Type 0 where
 
 -- a forward with its message, or its response
 pub data Good (p : ℕ) (ed : Edition) (ver : ℕ) (w : Numbered Wire) : Type 0 where
-  a-forward : (k : ℕ) → ltb k routingClasses ≡ true → w .it .primitive ≡ DStartForwardRequest (qosAsked k) p ver → (f : Forwarded) → apduAt ed pdu.GroundPdus (lent (w .it .bytes)) ≡ decoded.Is (is.Forward f) → w .no < 2 ^ 64 → Good p ed ver w
-  a-response : (x : ℕ) → ltb x forwardResults ≡ true → w .it .primitive ≡ DStartForwardResponse p noVersion → apduAt ed pdu.GroundPdus (lent (w .it .bytes)) ≡ decoded.Is (is.ForwardResponse x) → Good p ed ver w
+  a-forward : (k : ℕ) → ltb k routingClasses ≡ true → w .it .primitive ≡ DStartForwardRequest (qosAsked k) p ver
+      → (f : Forwarded) → apduAt ed pdu.GroundPdus (lent (w .it .bytes)) ≡ decoded.Is (is.Forward f) → w .no < 2 ^ 64
+      → Good p ed ver w
+  a-response : (x : ℕ) → ltb x forwardResults ≡ true → w .it .primitive ≡ DStartForwardResponse p noVersion
+      → apduAt ed pdu.GroundPdus (lent (w .it .bytes)) ≡ decoded.Is (is.ForwardResponse x) → Good p ed ver w
 
 abbrev pub Rest : ℕ → Edition → ℕ → Desk → Type 0
 Rest p ed ver d = Rests p ed ver (d .kept .bytes)
@@ -82,9 +85,15 @@ pub record Confirms (ed : Edition) (w : Numbered Wire) (c : Called) : Type 0 whe
 -- ---- what is read back
 
 -- what stands in lent bytes, put into a buffer, is read as it was
-pub put-read : (ed : Edition) (a : Apdu) (msgs t : List ℕ) → pduFits ed pdu.GroundPdus (pduIn (lent msgs) (lent msgs) (lent msgs) a) ≡ true → bufferLeast ≤ length t
-    → ApduRead ed pdu.GroundPdus (lent (take (bytesFor (length (pduBits ed pdu.GroundPdus (pduIn (lent msgs) (lent msgs) (lent msgs) a)))) (putBits t 0 (padded (pduBits ed pdu.GroundPdus (pduIn (lent msgs) (lent msgs) (lent msgs) a)))))) (pduIn (lent msgs) (lent msgs) (lent msgs) a)
-put-read ed a msgs t h g = laws ed .written-read pdu.GroundPdus (pduIn (lent msgs) (lent msgs) (lent msgs) a) t (laws ed .pdu-are-bits pdu.GroundPdus (lent msgs) (lent msgs) (lent msgs) a (bits-to msgs allBits) (bits-to msgs allBits) (bits-to msgs allBits)) h g
+pub put-read : (ed : Edition) (a : Apdu) (msgs t : List ℕ)
+    → pduFits ed pdu.GroundPdus (pduIn (lent msgs) (lent msgs) (lent msgs) a) ≡ true → bufferLeast ≤ length t
+    → ApduRead ed pdu.GroundPdus (lent (take
+    (bytesFor (length (pduBits ed pdu.GroundPdus (pduIn (lent msgs) (lent msgs) (lent msgs) a))))
+    (putBits t 0 (padded (pduBits ed pdu.GroundPdus (pduIn (lent msgs) (lent msgs) (lent msgs) a))))))
+    (pduIn (lent msgs) (lent msgs) (lent msgs) a)
+put-read ed a msgs t h g = laws ed .written-read pdu.GroundPdus (pduIn (lent msgs) (lent msgs) (lent msgs) a) t (laws
+    ed .pdu-are-bits pdu.GroundPdus (lent msgs) (lent msgs) (lent msgs) a (bits-to msgs allBits)
+    (bits-to msgs allBits) (bits-to msgs allBits)) h g
 
 record IsForward (a : Apdu) : Type 0 where
   pub message : Forwarded
@@ -114,7 +123,12 @@ pub request-back : (k s : ℕ) → k < 16 → s < 2 → invokedOf (three 1 k s) 
 request-back k s h g = rw (code-unpacked 1 k s (omega arith), parameter-unpacked 1 k s (omega arith) h, last-unpacked 1 k s (omega arith) g)
 
 pub response-back : (s : ℕ) → s < 2 → invokedOf (three 2 permanent s) ≡ DStartResponse permanent s
-response-back s g = rw (code-unpacked 2 permanent s (omega arith), parameter-unpacked 2 permanent s (omega arith) (omega arith), last-unpacked 2 permanent s (omega arith) g)
+response-back s g = rw (
+  code-unpacked 2 permanent s (omega arith),
+  parameter-unpacked 2 permanent s (omega arith)
+      (omega arith),
+  last-unpacked 2 permanent s (omega arith) g,
+)
 
 pub own-version : (v : ℕ) → 1 ≤ v → cond (eqb v 0) 0 v ≡ v
 own-version v h = rw (ne-eqb v 0 (λ (e : v ≡ 0). omega arith))

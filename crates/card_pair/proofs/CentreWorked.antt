@@ -83,7 +83,9 @@ ofParty x = seen (heldBy (x .rec .kept .bytes)) (controlIn (loadAt (x .rec .kept
 -- from two records of type 22 that peat_fresh made with "secured exchange" and version 3; f: does the other one support forwarding
 abbrev after : ℕ → List (CentreTurn CentreAsked) → View
 after f ts =
-    let s = centreRun (centreMachine 1) (nFresh (centreMachine 1) (newDesk (freshCall (replicate recordBytes 0) 2 1 0 3 22 .bytes) lends) (newDesk (freshCall (replicate recordBytes 0) 2 1 f 3 22 .bytes) lends)) ts in
+    let s = centreRun (centreMachine 1) (nFresh (centreMachine 1)
+    (newDesk (freshCall (replicate recordBytes 0) 2 1 0 3 22 .bytes) lends)
+    (newDesk (freshCall (replicate recordBytes 0) 2 1 f 3 22 .bytes) lends)) ts in
     record { here = ofParty (s .here); there = ofParty (s .there) }
 
 abbrev view : Seen → Seen → View
@@ -93,26 +95,95 @@ abbrev wire : Invoked → List ℕ → Numbered Wire
 wire i l = mark 1 (record { primitive = i; bytes = l })
 
 -- on its way
-pub on-its-way : after 1 (asks ∷ []) ≡ view (seen 1 (entered Forward false) (wire (DStartForwardRequest (qosAsked 3) 1 3) (67 ∷ 212 ∷ 234 ∷ 61 ∷ 218 ∷ 131 ∷ 9 ∷ 139 ∷ 42 ∷ 188 ∷ 222 ∷ 248 ∷ 85 ∷ 46 ∷ []) ∷ [])) (seen 0 closed [])
-unfolding bitsN bitsOf accOf bitsTo bytesOf withBit setBit putBits readBits wholeBits indexBits lengthBits bitField extensionBit digitsIn wholeNumber extensibleIndex lengthAt lengthWithin runAt stringAt stringBits optionalBits contentBits modeBits modeFits pduBits padded partIn contentIn pduIn optionalAt partAt partsWithin dataWithin modeValue modeAt kindMode leadingAt tailAt endedAt restAt apduAt itemsFit partFits dataFits apduFits writeOut replyOf sent startRequest startResponse messageRequest endRequest endResponse userAbort callOf unsent called userDataFits qosFits userFits hasMode serviceFits eventFits tell closes aborts excepts timerExpires systemError noInstruction pduFault sendFault abortFault startFits indicationFault confirmationFault firstFault handed instructed answered reached enter permitted messageRefusal userStarts serviceStarts isStart isService isStale heldAfter refusalOf acts numberedStep firstTakes secondTakes finished concluded withRecord entering userStep userBy readsAs readsAgain abortOf orAbort readPdu meaning dataOf dataStep bareStep serviceStep serviceBy invokedNumber toldNumber packed headBytes storedBytes headFits withNumbers loadAt storeAt partOf givenData freshFor freshCall forwardRequest responds forwardArrives forwardConfirmed responseFault forwardBy forwardStep forwardOf tripleAt headingAt forwardWithin tripleBits tripleFits aircraftBits headingBits aircraftFits headingFits forwardBits forwardFits centreRun
+pub on-its-way : after 1 (asks ∷ []) ≡ view (seen 1 (entered Forward false) (wire
+    (DStartForwardRequest (qosAsked 3) 1 3)
+    (67 ∷ 212 ∷ 234 ∷ 61 ∷ 218 ∷ 131 ∷ 9 ∷ 139 ∷ 42 ∷ 188 ∷ 222 ∷ 248 ∷ 85 ∷ 46 ∷ []) ∷ [])) (seen 0 closed [])
+unfolding bitsN bitsOf accOf bitsTo bytesOf withBit setBit putBits readBits wholeBits indexBits lengthBits bitField
+    extensionBit digitsIn wholeNumber extensibleIndex lengthAt lengthWithin runAt stringAt stringBits optionalBits
+    contentBits modeBits modeFits pduBits padded partIn contentIn pduIn optionalAt partAt partsWithin dataWithin
+    modeValue modeAt kindMode leadingAt tailAt endedAt restAt apduAt itemsFit partFits dataFits apduFits writeOut
+    replyOf sent startRequest startResponse messageRequest endRequest endResponse userAbort callOf unsent called
+    userDataFits qosFits userFits hasMode serviceFits eventFits tell closes aborts excepts timerExpires systemError
+    noInstruction pduFault sendFault abortFault startFits indicationFault confirmationFault firstFault handed instructed
+    answered reached enter permitted messageRefusal userStarts serviceStarts isStart isService isStale heldAfter
+    refusalOf acts numberedStep firstTakes secondTakes finished concluded withRecord entering userStep userBy readsAs
+    readsAgain abortOf orAbort readPdu meaning dataOf dataStep bareStep serviceStep serviceBy invokedNumber toldNumber
+    packed headBytes storedBytes headFits withNumbers loadAt storeAt partOf givenData freshFor freshCall forwardRequest
+    responds forwardArrives forwardConfirmed responseFault forwardBy forwardStep forwardOf tripleAt headingAt
+    forwardWithin tripleBits tripleFits aircraftBits headingBits aircraftFits headingFits forwardBits forwardFits
+    centreRun
 on-its-way = refl
 
 -- answered: success
-pub answered-success : after 1 (asks ∷ gets false ∷ []) ≡ view (seen 1 (entered Forward false) []) (seen 1 closed (wire (DStartForwardResponse 1 0) (80 ∷ []) ∷ []))
-unfolding bitsN bitsOf accOf bitsTo bytesOf withBit setBit putBits readBits wholeBits indexBits lengthBits bitField extensionBit digitsIn wholeNumber extensibleIndex lengthAt lengthWithin runAt stringAt stringBits optionalBits contentBits modeBits modeFits pduBits padded partIn contentIn pduIn optionalAt partAt partsWithin dataWithin modeValue modeAt kindMode leadingAt tailAt endedAt restAt apduAt itemsFit partFits dataFits apduFits writeOut replyOf sent startRequest startResponse messageRequest endRequest endResponse userAbort callOf unsent called userDataFits qosFits userFits hasMode serviceFits eventFits tell closes aborts excepts timerExpires systemError noInstruction pduFault sendFault abortFault startFits indicationFault confirmationFault firstFault handed instructed answered reached enter permitted messageRefusal userStarts serviceStarts isStart isService isStale heldAfter refusalOf acts numberedStep firstTakes secondTakes finished concluded withRecord entering userStep userBy readsAs readsAgain abortOf orAbort readPdu meaning dataOf dataStep bareStep serviceStep serviceBy invokedNumber toldNumber packed headBytes storedBytes headFits withNumbers loadAt storeAt partOf givenData freshFor freshCall forwardRequest responds forwardArrives forwardConfirmed responseFault forwardBy forwardStep forwardOf tripleAt headingAt forwardWithin tripleBits tripleFits aircraftBits headingBits aircraftFits headingFits forwardBits forwardFits centreRun
+pub answered-success : after 1 (asks ∷ gets false ∷ []) ≡ view (seen 1 (entered Forward false) [])
+    (seen 1 closed (wire (DStartForwardResponse 1 0) (80 ∷ []) ∷ []))
+unfolding bitsN bitsOf accOf bitsTo bytesOf withBit setBit putBits readBits wholeBits indexBits lengthBits bitField
+    extensionBit digitsIn wholeNumber extensibleIndex lengthAt lengthWithin runAt stringAt stringBits optionalBits
+    contentBits modeBits modeFits pduBits padded partIn contentIn pduIn optionalAt partAt partsWithin dataWithin
+    modeValue modeAt kindMode leadingAt tailAt endedAt restAt apduAt itemsFit partFits dataFits apduFits writeOut
+    replyOf sent startRequest startResponse messageRequest endRequest endResponse userAbort callOf unsent called
+    userDataFits qosFits userFits hasMode serviceFits eventFits tell closes aborts excepts timerExpires systemError
+    noInstruction pduFault sendFault abortFault startFits indicationFault confirmationFault firstFault handed instructed
+    answered reached enter permitted messageRefusal userStarts serviceStarts isStart isService isStale heldAfter
+    refusalOf acts numberedStep firstTakes secondTakes finished concluded withRecord entering userStep userBy readsAs
+    readsAgain abortOf orAbort readPdu meaning dataOf dataStep bareStep serviceStep serviceBy invokedNumber toldNumber
+    packed headBytes storedBytes headFits withNumbers loadAt storeAt partOf givenData freshFor freshCall forwardRequest
+    responds forwardArrives forwardConfirmed responseFault forwardBy forwardStep forwardOf tripleAt headingAt
+    forwardWithin tripleBits tripleFits aircraftBits headingBits aircraftFits headingFits forwardBits forwardFits
+    centreRun
 answered-success = refl
 
 -- both IDLE again
 pub over-again : after 1 (asks ∷ gets false ∷ gets true ∷ []) ≡ view (seen 1 closed []) (seen 1 closed [])
-unfolding bitsN bitsOf accOf bitsTo bytesOf withBit setBit putBits readBits wholeBits indexBits lengthBits bitField extensionBit digitsIn wholeNumber extensibleIndex lengthAt lengthWithin runAt stringAt stringBits optionalBits contentBits modeBits modeFits pduBits padded partIn contentIn pduIn optionalAt partAt partsWithin dataWithin modeValue modeAt kindMode leadingAt tailAt endedAt restAt apduAt itemsFit partFits dataFits apduFits writeOut replyOf sent startRequest startResponse messageRequest endRequest endResponse userAbort callOf unsent called userDataFits qosFits userFits hasMode serviceFits eventFits tell closes aborts excepts timerExpires systemError noInstruction pduFault sendFault abortFault startFits indicationFault confirmationFault firstFault handed instructed answered reached enter permitted messageRefusal userStarts serviceStarts isStart isService isStale heldAfter refusalOf acts numberedStep firstTakes secondTakes finished concluded withRecord entering userStep userBy readsAs readsAgain abortOf orAbort readPdu meaning dataOf dataStep bareStep serviceStep serviceBy invokedNumber toldNumber packed headBytes storedBytes headFits withNumbers loadAt storeAt partOf givenData freshFor freshCall forwardRequest responds forwardArrives forwardConfirmed responseFault forwardBy forwardStep forwardOf tripleAt headingAt forwardWithin tripleBits tripleFits aircraftBits headingBits aircraftFits headingFits forwardBits forwardFits centreRun
+unfolding bitsN bitsOf accOf bitsTo bytesOf withBit setBit putBits readBits wholeBits indexBits lengthBits bitField
+    extensionBit digitsIn wholeNumber extensibleIndex lengthAt lengthWithin runAt stringAt stringBits optionalBits
+    contentBits modeBits modeFits pduBits padded partIn contentIn pduIn optionalAt partAt partsWithin dataWithin
+    modeValue modeAt kindMode leadingAt tailAt endedAt restAt apduAt itemsFit partFits dataFits apduFits writeOut
+    replyOf sent startRequest startResponse messageRequest endRequest endResponse userAbort callOf unsent called
+    userDataFits qosFits userFits hasMode serviceFits eventFits tell closes aborts excepts timerExpires systemError
+    noInstruction pduFault sendFault abortFault startFits indicationFault confirmationFault firstFault handed instructed
+    answered reached enter permitted messageRefusal userStarts serviceStarts isStart isService isStale heldAfter
+    refusalOf acts numberedStep firstTakes secondTakes finished concluded withRecord entering userStep userBy readsAs
+    readsAgain abortOf orAbort readPdu meaning dataOf dataStep bareStep serviceStep serviceBy invokedNumber toldNumber
+    packed headBytes storedBytes headFits withNumbers loadAt storeAt partOf givenData freshFor freshCall forwardRequest
+    responds forwardArrives forwardConfirmed responseFault forwardBy forwardStep forwardOf tripleAt headingAt
+    forwardWithin tripleBits tripleFits aircraftBits headingBits aircraftFits headingFits forwardBits forwardFits
+    centreRun
 over-again = refl
 
 -- answered: service not supported
-pub answered-unsupported : after 0 (asks ∷ gets false ∷ []) ≡ view (seen 1 (entered Forward false) []) (seen 1 closed (wire (DStartForwardResponse 1 0) (82 ∷ []) ∷ []))
-unfolding bitsN bitsOf accOf bitsTo bytesOf withBit setBit putBits readBits wholeBits indexBits lengthBits bitField extensionBit digitsIn wholeNumber extensibleIndex lengthAt lengthWithin runAt stringAt stringBits optionalBits contentBits modeBits modeFits pduBits padded partIn contentIn pduIn optionalAt partAt partsWithin dataWithin modeValue modeAt kindMode leadingAt tailAt endedAt restAt apduAt itemsFit partFits dataFits apduFits writeOut replyOf sent startRequest startResponse messageRequest endRequest endResponse userAbort callOf unsent called userDataFits qosFits userFits hasMode serviceFits eventFits tell closes aborts excepts timerExpires systemError noInstruction pduFault sendFault abortFault startFits indicationFault confirmationFault firstFault handed instructed answered reached enter permitted messageRefusal userStarts serviceStarts isStart isService isStale heldAfter refusalOf acts numberedStep firstTakes secondTakes finished concluded withRecord entering userStep userBy readsAs readsAgain abortOf orAbort readPdu meaning dataOf dataStep bareStep serviceStep serviceBy invokedNumber toldNumber packed headBytes storedBytes headFits withNumbers loadAt storeAt partOf givenData freshFor freshCall forwardRequest responds forwardArrives forwardConfirmed responseFault forwardBy forwardStep forwardOf tripleAt headingAt forwardWithin tripleBits tripleFits aircraftBits headingBits aircraftFits headingFits forwardBits forwardFits centreRun
+pub answered-unsupported : after 0 (asks ∷ gets false ∷ []) ≡ view (seen 1 (entered Forward false) [])
+    (seen 1 closed (wire (DStartForwardResponse 1 0) (82 ∷ []) ∷ []))
+unfolding bitsN bitsOf accOf bitsTo bytesOf withBit setBit putBits readBits wholeBits indexBits lengthBits bitField
+    extensionBit digitsIn wholeNumber extensibleIndex lengthAt lengthWithin runAt stringAt stringBits optionalBits
+    contentBits modeBits modeFits pduBits padded partIn contentIn pduIn optionalAt partAt partsWithin dataWithin
+    modeValue modeAt kindMode leadingAt tailAt endedAt restAt apduAt itemsFit partFits dataFits apduFits writeOut
+    replyOf sent startRequest startResponse messageRequest endRequest endResponse userAbort callOf unsent called
+    userDataFits qosFits userFits hasMode serviceFits eventFits tell closes aborts excepts timerExpires systemError
+    noInstruction pduFault sendFault abortFault startFits indicationFault confirmationFault firstFault handed instructed
+    answered reached enter permitted messageRefusal userStarts serviceStarts isStart isService isStale heldAfter
+    refusalOf acts numberedStep firstTakes secondTakes finished concluded withRecord entering userStep userBy readsAs
+    readsAgain abortOf orAbort readPdu meaning dataOf dataStep bareStep serviceStep serviceBy invokedNumber toldNumber
+    packed headBytes storedBytes headFits withNumbers loadAt storeAt partOf givenData freshFor freshCall forwardRequest
+    responds forwardArrives forwardConfirmed responseFault forwardBy forwardStep forwardOf tripleAt headingAt
+    forwardWithin tripleBits tripleFits aircraftBits headingBits aircraftFits headingFits forwardBits forwardFits
+    centreRun
 answered-unsupported = refl
 
 -- turned away by the carrier
 pub turned-away-again : after 1 (asks ∷ record { starting = true; step = turn-away 0 } ∷ []) ≡ view (seen 1 closed []) (seen 0 closed [])
-unfolding bitsN bitsOf accOf bitsTo bytesOf withBit setBit putBits readBits wholeBits indexBits lengthBits bitField extensionBit digitsIn wholeNumber extensibleIndex lengthAt lengthWithin runAt stringAt stringBits optionalBits contentBits modeBits modeFits pduBits padded partIn contentIn pduIn optionalAt partAt partsWithin dataWithin modeValue modeAt kindMode leadingAt tailAt endedAt restAt apduAt itemsFit partFits dataFits apduFits writeOut replyOf sent startRequest startResponse messageRequest endRequest endResponse userAbort callOf unsent called userDataFits qosFits userFits hasMode serviceFits eventFits tell closes aborts excepts timerExpires systemError noInstruction pduFault sendFault abortFault startFits indicationFault confirmationFault firstFault handed instructed answered reached enter permitted messageRefusal userStarts serviceStarts isStart isService isStale heldAfter refusalOf acts numberedStep firstTakes secondTakes finished concluded withRecord entering userStep userBy readsAs readsAgain abortOf orAbort readPdu meaning dataOf dataStep bareStep serviceStep serviceBy invokedNumber toldNumber packed headBytes storedBytes headFits withNumbers loadAt storeAt partOf givenData freshFor freshCall forwardRequest responds forwardArrives forwardConfirmed responseFault forwardBy forwardStep forwardOf tripleAt headingAt forwardWithin tripleBits tripleFits aircraftBits headingBits aircraftFits headingFits forwardBits forwardFits centreRun
+unfolding bitsN bitsOf accOf bitsTo bytesOf withBit setBit putBits readBits wholeBits indexBits lengthBits bitField
+    extensionBit digitsIn wholeNumber extensibleIndex lengthAt lengthWithin runAt stringAt stringBits optionalBits
+    contentBits modeBits modeFits pduBits padded partIn contentIn pduIn optionalAt partAt partsWithin dataWithin
+    modeValue modeAt kindMode leadingAt tailAt endedAt restAt apduAt itemsFit partFits dataFits apduFits writeOut
+    replyOf sent startRequest startResponse messageRequest endRequest endResponse userAbort callOf unsent called
+    userDataFits qosFits userFits hasMode serviceFits eventFits tell closes aborts excepts timerExpires systemError
+    noInstruction pduFault sendFault abortFault startFits indicationFault confirmationFault firstFault handed instructed
+    answered reached enter permitted messageRefusal userStarts serviceStarts isStart isService isStale heldAfter
+    refusalOf acts numberedStep firstTakes secondTakes finished concluded withRecord entering userStep userBy readsAs
+    readsAgain abortOf orAbort readPdu meaning dataOf dataStep bareStep serviceStep serviceBy invokedNumber toldNumber
+    packed headBytes storedBytes headFits withNumbers loadAt storeAt partOf givenData freshFor freshCall forwardRequest
+    responds forwardArrives forwardConfirmed responseFault forwardBy forwardStep forwardOf tripleAt headingAt
+    forwardWithin tripleBits tripleFits aircraftBits headingBits aircraftFits headingFits forwardBits forwardFits
+    centreRun
 turned-away-again = refl

@@ -39,11 +39,15 @@ module _ (p : ℕ) (ed : Edition) (v : ℕ) (fair : securitySent (secures ed) p 
         omega arith
 
     -- THE theorem: after any steps, where nothing is on its way, both ends' bytes are ground records of the edition that are IDLE, as at the beginning
-    pub centres-hold : (ts : List (CentreTurn CentreAsked)) → after r q ts .here .line ≡ [] → after r q ts .there .line ≡ [] → Rests p ed v (after r q ts .here .rec .kept .bytes) × Rests p ed v (after r q ts .there .rec .kept .bytes)
+    pub centres-hold : (ts : List (CentreTurn CentreAsked)) → after r q ts .here .line ≡ []
+        → after r q ts .there .line ≡ []
+        → Rests p ed v (after r q ts .here .rec .kept .bytes) × Rests p ed v (after r q ts .there .rec .kept .bytes)
     centres-hold ts = centres-rest (centreMachine p) (centre p ed v fair) (newDesk r u) (newDesk q w) a g below ts
 
     -- and E8's own words, which say less
-    pub centres-match : (ts : List (CentreTurn CentreAsked)) → after r q ts .here .line ≡ [] → after r q ts .there .line ≡ [] → T (forwardPair (controlIn (loadAt (after r q ts .here .rec .kept .bytes))) (controlIn (loadAt (after r q ts .there .rec .kept .bytes))))
+    pub centres-match : (ts : List (CentreTurn CentreAsked)) → after r q ts .here .line ≡ []
+        → after r q ts .there .line ≡ []
+        → T (forwardPair (controlIn (loadAt (after r q ts .here .rec .kept .bytes))) (controlIn (loadAt (after r q ts .there .rec .kept .bytes))))
     centres-match ts = centres-pair (centreMachine p) (centre p ed v fair) (newDesk r u) (newDesk q w) a g below ts
 
   -- two records that peat_fresh made, in any two ranges of a record's size; each with its own word about forwarding (e, f)
@@ -64,5 +68,8 @@ module _ (p : ℕ) (ed : Edition) (v : ℕ) (fair : securitySent (secures ed) p 
     abbrev pub fresh-after : List (CentreTurn CentreAsked) → NSys (centreMachine p)
     fresh-after ts = after (freshCall r 2 p e v (typeOf ed) .bytes) (freshCall q 2 p f v (typeOf ed) .bytes) ts
 
-    pub fresh-centres-hold : (ts : List (CentreTurn CentreAsked)) → fresh-after ts .here .line ≡ [] → fresh-after ts .there .line ≡ [] → Rests p ed v (fresh-after ts .here .rec .kept .bytes) × Rests p ed v (fresh-after ts .there .rec .kept .bytes)
-    fresh-centres-hold ts = centres-hold (freshCall r 2 p e v (typeOf ed) .bytes) (freshCall q 2 p f v (typeOf ed) .bytes) one other not-below ts
+    pub fresh-centres-hold : (ts : List (CentreTurn CentreAsked)) → fresh-after ts .here .line ≡ []
+        → fresh-after ts .there .line ≡ []
+        → Rests p ed v (fresh-after ts .here .rec .kept .bytes) × Rests p ed v (fresh-after ts .there .rec .kept .bytes)
+    fresh-centres-hold ts = centres-hold (freshCall r 2 p e v (typeOf ed) .bytes)
+        (freshCall q 2 p f v (typeOf ed) .bytes) one other not-below ts

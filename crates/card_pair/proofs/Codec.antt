@@ -108,7 +108,8 @@ nothing-read ed pdu.AircraftPdus = refl
 nothing-read ed pdu.GroundPdus = refl
 
 -- bytes that are read as a PDU are some
-dec-read : (ed : Edition) (sd : Side) (w : List ℕ) → isRead (apduAt ed (pdusOf sd) (lent w)) ≡ true → dec ed sd w ≡ readOf ed (lent w) (apduAt ed (pdusOf sd) (lent w))
+dec-read : (ed : Edition) (sd : Side) (w : List ℕ) → isRead (apduAt ed (pdusOf sd) (lent w)) ≡ true
+    → dec ed sd w ≡ readOf ed (lent w) (apduAt ed (pdusOf sd) (lent w))
 dec-read ed sd [] e = never (sym (nothing-read ed (pdusOf sd)) ∙ e)
 dec-read ed sd (x ∷ w) e = refl
 
@@ -133,20 +134,27 @@ start-bits Plain c b = bits-append (bitsN 1 (presence (c .message))) (bitsIn (c 
 module _ (ed : Edition) (sd : Side) (c : Content) (f : contentFits ed (pdusOf sd) c ≡ true) (b : Bits (contentBits ed c)) where
   send-back : mustHold ed (isThere (c .message)) ≡ true → dec ed sd (enc ed sd Send (contentBits ed c)) ≡ got Send (contentBits ed c)
   unfolding apduBits pduBits pduFits
-  send-back m = value-back ed sd (send c) (bits-append (indexBits (lastOf (pdusOf sd)) 3) (contentBits ed c) (index-are-bits (pdusOf sd) 3) b) (rw (f, m))
+  send-back m = value-back ed sd (send c)
+      (bits-append (indexBits (lastOf (pdusOf sd)) 3) (contentBits ed c) (index-are-bits (pdusOf sd) 3) b) (rw (f, m))
 
-  start-value : (n : ℕ) → modeFits (pdusOf sd) n ≡ true → dec ed sd (frontOf zeros (alternative (pdusOf sd) kind.Start ++ (modeBits (pdusOf sd) n ++ startBits ed c))) ≡ got (Start (eqb n 1)) (contentBits ed c)
+  start-value : (n : ℕ) → modeFits (pdusOf sd) n ≡ true
+      → dec ed sd (frontOf zeros (alternative (pdusOf sd) kind.Start ++ (modeBits (pdusOf sd) n ++ startBits ed c))) ≡ got (Start (eqb n 1)) (contentBits ed c)
   unfolding pduBits pduFits
   start-value n m =
       value-back ed sd (start n c)
-      (bits-append (indexBits (lastOf (pdusOf sd)) 2) _ (index-are-bits (pdusOf sd) 2) (bits-append (modeBits (pdusOf sd) n) (startBits ed c) (mode-are-bits (pdusOf sd) n) (start-bits ed c b)))
+      (bits-append (indexBits (lastOf (pdusOf sd)) 2) _ (index-are-bits (pdusOf sd) 2)
+      (bits-append (modeBits (pdusOf sd) n) (startBits ed c) (mode-are-bits (pdusOf sd) n) (start-bits ed c b)))
       (rw m f)
 
-  start-held : (n : ℕ) → modeFits (pdusOf sd) n ≡ true → dec ed sd (frontOf zeros (alternative (pdusOf sd) kind.Start ++ (modeBits (pdusOf sd) n ++ startOf ed (contentBits ed c)))) ≡ got (Start (eqb n 1)) (contentBits ed c)
+  start-held : (n : ℕ) → modeFits (pdusOf sd) n ≡ true
+      → dec ed sd (frontOf zeros (alternative (pdusOf sd) kind.Start ++ (modeBits (pdusOf sd) n ++ startOf ed (contentBits ed c)))) ≡ got (Start (eqb n 1)) (contentBits ed c)
   start-held n m =
-      subst (λ (z : List ℕ). dec ed sd (frontOf zeros (alternative (pdusOf sd) kind.Start ++ (modeBits (pdusOf sd) n ++ z))) ≡ got (Start (eqb n 1)) (contentBits ed c)) (laws ed .start-of (pdusOf sd) c f b) (start-value n m)
+      subst (λ (z : List ℕ). dec ed sd
+      (frontOf zeros (alternative (pdusOf sd) kind.Start ++ (modeBits (pdusOf sd) n ++ z))) ≡ got
+      (Start (eqb n 1)) (contentBits ed c)) (laws ed .start-of (pdusOf sd) c f b) (start-value n m)
 
-  start-back : (m : Bool) → modeFits (pdusOf sd) (flag m) ≡ true → dec ed sd (enc ed sd (Start m) (contentBits ed c)) ≡ got (Start m) (contentBits ed c)
+  start-back : (m : Bool) → modeFits (pdusOf sd) (flag m) ≡ true
+      → dec ed sd (enc ed sd (Start m) (contentBits ed c)) ≡ got (Start m) (contentBits ed c)
   unfolding apduBits
   start-back true m = start-held 1 m
   start-back false m = start-held 0 m
@@ -161,11 +169,14 @@ user-bits ed x = let l = last-low ed in extensible-index (userLast ed) (omega ar
 module _ (ed : Edition) (sd : Side) (x : ℕ) where
   user-back : wholeFits 0 (userLast ed) x ≡ true → dec ed sd (enc ed sd (AbortUser x) []) ≡ got (AbortUser x) []
   unfolding apduBits pduBits pduFits
-  user-back h = value-back ed sd (abortUser x) (bits-append (indexBits (lastOf (pdusOf sd)) 0) (indexBits (userLast ed) x) (index-are-bits (pdusOf sd) 0) (user-bits ed x)) h
+  user-back h = value-back ed sd (abortUser x) (bits-append (indexBits (lastOf (pdusOf sd)) 0)
+      (indexBits (userLast ed) x) (index-are-bits (pdusOf sd) 0) (user-bits ed x)) h
 
   provider-back : wholeFits 0 providerLast x ≡ true → dec ed sd (enc ed sd (AbortProvider x) []) ≡ got (AbortProvider x) []
   unfolding apduBits pduBits pduFits
-  provider-back h = value-back ed sd (abortProvider x) (bits-append (indexBits (lastOf (pdusOf sd)) 1) (indexBits providerLast x) (index-are-bits (pdusOf sd) 1) (extensible-index providerLast (omega arith) .are-bits x)) h
+  provider-back h = value-back ed sd (abortProvider x) (bits-append (indexBits (lastOf (pdusOf sd)) 1)
+      (indexBits providerLast x) (index-are-bits (pdusOf sd) 1)
+      (extensible-index providerLast (omega arith) .are-bits x)) h
 
 pub holds : (b : Bool) → T b → b ≡ true
 holds true t = refl
@@ -190,21 +201,28 @@ back ed sd NotValid b t = absurd t
 back ed sd (Start m) b t =
     let e = holds (modeFits (pdusOf sd) (flag m) && isBody ed (pdusOf sd) b) t in
     let i = laws ed .body-is (pdusOf sd) b (both-right (modeFits (pdusOf sd) (flag m)) (isBody ed (pdusOf sd) b) e) in
-    subst (λ (x : Body). dec ed sd (enc ed sd (Start m) x) ≡ got (Start m) x) (sym (i .bits)) (start-back ed sd (i .content) (i .fits) (subst Bits (i .bits) (i .are-bits)) m (both-left (modeFits (pdusOf sd) (flag m)) (isBody ed (pdusOf sd) b) e))
+    subst (λ (x : Body). dec ed sd (enc ed sd (Start m) x) ≡ got (Start m) x) (sym (i .bits)) (start-back ed sd
+    (i .content) (i .fits) (subst Bits (i .bits) (i .are-bits)) m
+    (both-left (modeFits (pdusOf sd) (flag m)) (isBody ed (pdusOf sd) b) e))
 back ed sd Send b t =
     let e = holds (isBody ed (pdusOf sd) b && mustHold ed (carries ed b)) t in
     let i = laws ed .body-is (pdusOf sd) b (both-left (isBody ed (pdusOf sd) b) (mustHold ed (carries ed b)) e) in
     let y = subst Bits (i .bits) (i .are-bits) in
     let h = both-right (isBody ed (pdusOf sd) b) (mustHold ed (carries ed b)) e in
     let c = laws ed .carries-is (pdusOf sd) (i .content) (i .fits) y in
-    let m : mustHold ed (isThere (i .content .message)) ≡ true = ap (mustHold ed) (sym c) ∙ ap (λ (x : Body). mustHold ed (carries ed x)) (sym (i .bits)) ∙ h in
+    let m : mustHold ed (isThere (i .content .message)) ≡ true = ap (mustHold ed) (sym c) ∙ ap
+    (λ (x : Body). mustHold ed (carries ed x)) (sym (i .bits)) ∙ h in
     subst (λ (x : Body). dec ed sd (enc ed sd Send x) ≡ got Send x) (sym (i .bits)) (send-back ed sd (i .content) (i .fits) y m)
 back ed sd (AbortUser x) b t =
     let e = holds (wholeFits 0 (userLast ed) x && isNil b) t in
-    subst (λ (y : Body). dec ed sd (enc ed sd (AbortUser x) y) ≡ got (AbortUser x) y) (sym (nil-is b (both-right (wholeFits 0 (userLast ed) x) (isNil b) e))) (user-back ed sd x (both-left (wholeFits 0 (userLast ed) x) (isNil b) e))
+    subst (λ (y : Body). dec ed sd (enc ed sd (AbortUser x) y) ≡ got (AbortUser x) y)
+    (sym (nil-is b (both-right (wholeFits 0 (userLast ed) x) (isNil b) e)))
+    (user-back ed sd x (both-left (wholeFits 0 (userLast ed) x) (isNil b) e))
 back ed sd (AbortProvider x) b t =
     let e = holds (wholeFits 0 providerLast x && isNil b) t in
-    subst (λ (y : Body). dec ed sd (enc ed sd (AbortProvider x) y) ≡ got (AbortProvider x) y) (sym (nil-is b (both-right (wholeFits 0 providerLast x) (isNil b) e))) (provider-back ed sd x (both-left (wholeFits 0 providerLast x) (isNil b) e))
+    subst (λ (y : Body). dec ed sd (enc ed sd (AbortProvider x) y) ≡ got (AbortProvider x) y)
+    (sym (nil-is b (both-right (wholeFits 0 providerLast x) (isNil b) e)))
+    (provider-back ed sd x (both-left (wholeFits 0 providerLast x) (isNil b) e))
 back ed sd Forward b t = absurd t
 back ed sd (ForwardResponse x) b t = absurd t
 

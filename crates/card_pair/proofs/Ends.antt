@@ -62,7 +62,8 @@ pub record Wrote (bs : List ℕ) (x : Done) : Type 0 where
   pub zeroed : lent (frontOf zeros bs) ≡ padded bs
   pub small : length bs < counts
 
-write-is : (ok : Bool) (s bs : List ℕ) → ok ≡ true → Bits bs → length bs + 7 ≤ 8 * bufferLeast → bufferLeast ≤ length s → Wrote bs (writeOut ok s bs)
+write-is : (ok : Bool) (s bs : List ℕ) → ok ≡ true → Bits bs → length bs + 7 ≤ 8 * bufferLeast → bufferLeast ≤ length s
+    → Wrote bs (writeOut ok s bs)
 write-is ok s bs e b h g = rw (e, writes s bs g) (record { count = refl; bytes = front s bs b h g .bits; zeroed = front zeros bs b h full .bits; small = omega arith })
 
 nothing-is : (s : List ℕ) → Wrote [] (nothingTo s)
@@ -76,18 +77,24 @@ module _ (ed : Edition) (sd : Side) (li lm lc : List ℕ) (d : Carried) (hi : Bi
   body-bits : Bits (contentBits ed (contentIn li lm lc (d .content)))
   body-bits = laws ed .content-are-bits li lm lc (d .content) hi hm hc
 
-  pdu-is : (a : Apdu) (s : List ℕ) → apduFits ed (pdusOf sd) li lm lc a ≡ true → bufferLeast ≤ length s → Wrote (pduBits ed (pdusOf sd) (pduIn li lm lc a)) (pduTo ed (pdusOf sd) li lm lc a s)
+  pdu-is : (a : Apdu) (s : List ℕ) → apduFits ed (pdusOf sd) li lm lc a ≡ true → bufferLeast ≤ length s
+      → Wrote (pduBits ed (pdusOf sd) (pduIn li lm lc a)) (pduTo ed (pdusOf sd) li lm lc a s)
   pdu-is a s e g =
       let m = laws ed .pdu-most (pdusOf sd) li lm lc a e in
-      write-is (apduFits ed (pdusOf sd) li lm lc a) s (pduBits ed (pdusOf sd) (pduIn li lm lc a)) e (laws ed .pdu-are-bits (pdusOf sd) li lm lc a hi hm hc) (omega arith) g
+      write-is (apduFits ed (pdusOf sd) li lm lc a) s (pduBits ed (pdusOf sd) (pduIn li lm lc a)) e
+      (laws ed .pdu-are-bits (pdusOf sd) li lm lc a hi hm hc) (omega arith) g
 
   -- the first buffer takes an APDU that is writable; message data that go out in it are the side's own
-  first-is : (a : UserData) (s : List ℕ) → writable ed sd a ≡ true → (withBody a ≡ true → contentFits ed (pdusOf sd) (contentIn li lm lc (d .content)) ≡ true) → bufferLeast ≤ length s → Wrote (apduBits ed sd a body) (firstTakes ed sd li lm lc d a s)
+  first-is : (a : UserData) (s : List ℕ) → writable ed sd a ≡ true
+      → (withBody a ≡ true → contentFits ed (pdusOf sd) (contentIn li lm lc (d .content)) ≡ true)
+      → bufferLeast ≤ length s → Wrote (apduBits ed sd a body) (firstTakes ed sd li lm lc d a s)
   unfolding firstTakes apduBits pduBits pduIn apduFits
   first-is Absent s e own g = nothing-is s
   first-is NotValid s e own g = never e
   first-is (Start m) s e own g =
-      subst (λ (z : List ℕ). Wrote (alternative (pdusOf sd) kind.Start ++ (modeBits (pdusOf sd) (flag m) ++ z)) (firstTakes ed sd li lm lc d (Start m) s)) (laws ed .start-of (pdusOf sd) (contentIn li lm lc (d .content)) (own refl) body-bits)
+      subst (λ (z : List ℕ). Wrote (alternative (pdusOf sd) kind.Start ++ (modeBits (pdusOf sd) (flag m) ++ z))
+      (firstTakes ed sd li lm lc d (Start m) s))
+      (laws ed .start-of (pdusOf sd) (contentIn li lm lc (d .content)) (own refl) body-bits)
       (pdu-is (is.Start (flag m) (d .content)) s (rw (e, sh)) g)
   first-is Send s e own g = pdu-is (is.Send (d .content)) s sh g
   first-is (AbortUser x) s e own g = pdu-is (is.AbortUser x) s e g
@@ -99,7 +106,9 @@ module _ (ed : Edition) (sd : Side) (li lm lc : List ℕ) (d : Carried) (hi : Bi
   unfolding firstTakes apduBits
   absent-is a s e = subst (λ (z : UserData). Wrote (apduBits ed sd z body) (firstTakes ed sd li lm lc d z s)) (sym e) (nothing-is s)
 
-  goes-is : (u : Bool) (i : Invoked) (a : UserData) (s : List ℕ) → GoesOut ed u sd i a → (withBody a ≡ true → contentFits ed (pdusOf sd) (contentIn li lm lc (d .content)) ≡ true) → bufferLeast ≤ length s → Wrote (apduBits ed sd a body) (firstTakes ed sd li lm lc d a s)
+  goes-is : (u : Bool) (i : Invoked) (a : UserData) (s : List ℕ) → GoesOut ed u sd i a
+      → (withBody a ≡ true → contentFits ed (pdusOf sd) (contentIn li lm lc (d .content)) ≡ true)
+      → bufferLeast ≤ length s → Wrote (apduBits ed sd a body) (firstTakes ed sd li lm lc d a s)
   goes-is u Silent a s h own g = absent-is a s (h .1)
   goes-is u (DStartRequest q x) a s h own g = first-is a s h own g
   goes-is u (DStartResponse x y) a s h own g = first-is a s h own g
@@ -111,7 +120,8 @@ module _ (ed : Edition) (sd : Side) (li lm lc : List ℕ) (d : Carried) (hi : Bi
   goes-is u (DStartForwardResponse x v) a s h own g = absurd h
 
   -- the second takes message data that are delivered
-  second-is : (passed delivers : Bool) (s : List ℕ) → passed ≡ false → bufferLeast ≤ length s → Wrote (cond delivers body []) (secondTakes ed li lm lc d passed delivers s)
+  second-is : (passed delivers : Bool) (s : List ℕ) → passed ≡ false → bufferLeast ≤ length s
+      → Wrote (cond delivers body []) (secondTakes ed li lm lc d passed delivers s)
   unfolding secondTakes
   second-is true delivers s e g = absurd (subst T e tt)
   second-is false true s e g =
@@ -125,8 +135,17 @@ invoked-back : (i : Invoked) → Roomy i → invokedOf (invokedNumber i) ≡ i
 unfolding invokedNumber
 invoked-back Silent h = refl
 invoked-back (DStartRequest q s) h =
-    rw (code-unpacked 1 (q .routing) s (omega arith), parameter-unpacked 1 (q .routing) s (omega arith) (h .1), last-unpacked 1 (q .routing) s (omega arith) (h .2)) (ap (λ (z : Qos). DStartRequest z s) (sym (h .0)))
-invoked-back (DStartResponse x s) h = rw (code-unpacked 2 x s (omega arith), parameter-unpacked 2 x s (omega arith) (h .0), last-unpacked 2 x s (omega arith) (h .1))
+    rw (
+      code-unpacked 1 (q .routing) s (omega arith),
+      parameter-unpacked 1 (q .routing) s (omega arith) (h .1),
+      last-unpacked 1 (q .routing) s (omega arith) (h .2),
+    ) (ap (λ (z : Qos). DStartRequest z s) (sym (h .0)))
+invoked-back (DStartResponse x s) h = rw (
+  code-unpacked 2 x s (omega arith),
+  parameter-unpacked 2 x s (omega arith)
+      (h .0),
+  last-unpacked 2 x s (omega arith) (h .1),
+)
 invoked-back DDataRequest h = refl
 invoked-back DEndRequest h = refl
 invoked-back (DEndResponse x) h = rw (code-unpacked 5 x 0 (omega arith), parameter-unpacked 5 x 0 (omega arith) h)
@@ -167,10 +186,18 @@ pub record Keeps (ed : Edition) (sd : Side) (b : List ℕ) (r : Record) (n : ℕ
   -- no forward is under way
   pub dialogue : awaitsResponse (r .control) ≡ false
 
-pub stored-keeps : (ed : Edition) (sd : Side) (r : List ℕ) (x : Record) (n : ℕ) → length r ≡ recordBytes → Coded x → n < 2 ^ 64 → awaitsResponse (x .control) ≡ false → x .edition ≡ ed → Keeps ed sd (storeAt r sd x n .bytes) x n
+pub stored-keeps : (ed : Edition) (sd : Side) (r : List ℕ) (x : Record) (n : ℕ) → length r ≡ recordBytes → Coded x
+    → n < 2 ^ 64 → awaitsResponse (x .control) ≡ false → x .edition ≡ ed → Keeps ed sd (storeAt r sd x n .bytes) x n
 unfolding storeAt
 stored-keeps ed sd r x n h k l w e =
-    rw (eq-eqb (length r) recordBytes h, lt-ltb (x .request) securityValues (k .request), lt-ltb (x .policy) securityValues (k .policy), le-leb 1 (x .version) (k .least), lt-ltb (x .version) versions (k .most))
+    rw (
+      eq-eqb (length r) recordBytes h,
+      lt-ltb (x .request) securityValues (k .request),
+      lt-ltb (x .policy)
+          securityValues (k .policy),
+      le-leb 1 (x .version) (k .least),
+      lt-ltb (x .version) versions (k .most),
+    )
     (record { load = loaded-stored sd x n k l; edition = e; size = length-stored sd x n k l; coded = k; low = l; dialogue = w })
 
 -- ---- all of it
@@ -187,7 +214,9 @@ take-padded : (bs : List ℕ) → take (length bs) (padded bs) ≡ bs
 unfolding padded
 take-padded bs = take-at bs (bitsN (padding (length bs)) 0) (length bs) refl
 
-handed-told : (t : Told) (delivers sends : Bool) (b x z : Body) → (quiet t || (delivers && sends)) ≡ true → (delivers ≡ true → z ≡ b) → (sends ≡ true → b ≡ x) → cond (not (quiet t)) (z ∷ []) [] ≡ cond delivers (handedBy t x) []
+handed-told : (t : Told) (delivers sends : Bool) (b x z : Body) → (quiet t || (delivers && sends)) ≡ true
+    → (delivers ≡ true → z ≡ b) → (sends ≡ true → b ≡ x)
+    → cond (not (quiet t)) (z ∷ []) [] ≡ cond delivers (handedBy t x) []
 handed-told Untold true s b x z h e f = refl
 handed-told Untold false s b x z h e f = refl
 handed-told (StartIndication m k) true s b x z h e f = refl
@@ -228,7 +257,8 @@ module _ (i t s g v : ℕ) (hi : i < primitives) (ht : t < primitives) (hs : s <
 -- from what the two buffers took
 module _ (r a b : List ℕ) (ed : Edition) (sd : Side) (v : Brings) (m : ℕ) (o : Outcome) (y : Body) (one two : Done) (size : length r ≡ recordBytes) (low : m < 2 ^ 64) (k : Fit ed sd v o) (w : Wrote (apduBits ed sd (o .apdu) y) one) (z : Wrote (cond (o .delivers) y []) two) where
   abbrev N : ℕ
-  N = packed (invokedNumber (o .invoked)) (toldNumber (o .told)) (length (apduBits ed sd (o .apdu) y)) (length (cond (o .delivers) y [])) (versionNumber (o .invoked) (o .told))
+  N = packed (invokedNumber (o .invoked)) (toldNumber (o .told)) (length (apduBits ed sd (o .apdu) y))
+      (length (cond (o .delivers) y [])) (versionNumber (o .invoked) (o .told))
 
   hi : invokedNumber (o .invoked) < primitives
   hi = invoked-low (o .invoked)
@@ -250,15 +280,18 @@ module _ (r a b : List ℕ) (ed : Edition) (sd : Side) (v : Brings) (m : ℕ) (o
   number-given = ap givenBits number-is ∙ given-part _ _ _ _ _ hi ht (w .small) (z .small)
 
   number-invoked : invokedOf (invokedPart (finished r a b sd m o one two .number)) ≡ o .invoked
-  number-invoked = ap (λ (n : ℕ). invokedOf (invokedPart n)) number-is ∙ ap invokedOf (invoked-part _ _ _ _ _ hi ht (w .small) (z .small)) ∙ invoked-back (o .invoked) (k .roomy)
+  number-invoked = ap (λ (n : ℕ). invokedOf (invokedPart n)) number-is ∙ ap invokedOf
+      (invoked-part _ _ _ _ _ hi ht (w .small) (z .small)) ∙ invoked-back (o .invoked) (k .roomy)
 
   number-told : isMessage (toldPart (finished r a b sd m o one two .number)) ≡ not (quiet (o .told))
-  number-told = ap (λ (n : ℕ). isMessage (toldPart n)) number-is ∙ ap isMessage (told-part _ _ _ _ _ hi ht (w .small) (z .small)) ∙ told-back (o .told)
+  number-told = ap (λ (n : ℕ). isMessage (toldPart n)) number-is ∙ ap isMessage
+      (told-part _ _ _ _ _ hi ht (w .small) (z .small)) ∙ told-back (o .told)
 
   -- the message data in the second buffer
   data-is : dataIn (finished r a b sd m o one two) ≡ cond (o .delivers) y []
   unfolding finished
-  data-is = ap (λ (n : ℕ). take n (lent (take (bytesFor n) (two .bytes)))) number-given ∙ ap (take (length (cond (o .delivers) y []))) (z .bytes) ∙ take-padded (cond (o .delivers) y [])
+  data-is = ap (λ (n : ℕ). take n (lent (take (bytesFor n) (two .bytes)))) number-given ∙ ap
+      (take (length (cond (o .delivers) y []))) (z .bytes) ∙ take-padded (cond (o .delivers) y [])
 
   finished-is : Ended ed sd v m o y (finished r a b sd m o one two)
   unfolding finished
@@ -270,16 +303,22 @@ module _ (r a b : List ℕ) (ed : Edition) (sd : Side) (v : Brings) (m : ℕ) (o
         bits = ap (λ (n : ℕ). lent (take (bytesFor n) (one .bytes))) number-sent ∙ w .bytes ∙ sym (w .zeroed);
         handed = λ (x : Body) (f : isSend (v .apdu) ≡ true → y ≡ x).
             ap (λ (t : Bool). cond t (dataIn (finished r a b sd m o one two) ∷ []) []) number-told
-            ∙ handed-told (o .told) (o .delivers) (isSend (v .apdu)) y x (dataIn (finished r a b sd m o one two)) (k .told) (λ (e : o .delivers ≡ true). data-is ∙ ap (λ (t : Bool). cond t y []) e) f;
+            ∙ handed-told (o .told) (o .delivers) (isSend (v .apdu)) y x (dataIn (finished r a b sd m o one two))
+            (k .told) (λ (e : o .delivers ≡ true). data-is ∙ ap (λ (t : Bool). cond t y []) e) f;
       }
 
 -- a step that was taken
-pub concluded-is : (r a b : List ℕ) (ed : Edition) (sd : Side) (v : Brings) (m : ℕ) (o : Outcome) (li lm lc : List ℕ) (d : Carried) → bufferLeast ≤ length a → bufferLeast ≤ length b → length r ≡ recordBytes → m < 2 ^ 64 → Bits li → Bits lm → Bits lc → dataFits li lm lc (d .content) ≡ true
-    → (v .body ≡ true → contentFits ed (pdusOf sd) (contentIn li lm lc (d .content)) ≡ true) → isNone (o .refusal) ≡ true → Fit ed sd v o → Ended ed sd v m o (contentBits ed (contentIn li lm lc (d .content))) (concluded r a b ed sd m o li lm lc d)
+pub concluded-is : (r a b : List ℕ) (ed : Edition) (sd : Side) (v : Brings) (m : ℕ) (o : Outcome) (li lm lc : List ℕ) (d : Carried)
+    → bufferLeast ≤ length a → bufferLeast ≤ length b → length r ≡ recordBytes → m < 2 ^ 64 → Bits li → Bits lm
+    → Bits lc → dataFits li lm lc (d .content) ≡ true
+    → (v .body ≡ true → contentFits ed (pdusOf sd) (contentIn li lm lc (d .content)) ≡ true) → isNone (o .refusal) ≡
+    true → Fit ed sd v o → Ended ed sd v m o (contentBits ed (contentIn li lm lc (d .content)))
+    (concluded r a b ed sd m o li lm lc d)
 unfolding concluded
 concluded-is r a b ed sd v m o li lm lc d ha hb size low hi hm hc sh own n k =
     rw n (finished-is r a b ed sd v m o (contentBits ed (contentIn li lm lc (d .content))) (firstTakes ed sd li lm lc d (o .apdu) a) (secondTakes ed li lm lc d (passes (o .told)) (o .delivers) b) size low k
-    (goes-is ed sd li lm lc d hi hm hc sh (v .user) (o .invoked) (o .apdu) a (k .apdu) (λ (e : withBody (o .apdu) ≡ true). own (sym (k .body) ∙ e)) ha)
+    (goes-is ed sd li lm lc d hi hm hc sh (v .user) (o .invoked) (o .apdu) a (k .apdu)
+    (λ (e : withBody (o .apdu) ≡ true). own (sym (k .body) ∙ e)) ha)
     (second-is ed sd li lm lc d hi hm hc sh (passes (o .told)) (o .delivers) b (k .plain) hb))
 
 refusal-told : (w : StepRefusal) → isNone w ≡ false → isTaken (refusalNumber w) ≡ false
@@ -291,6 +330,7 @@ refusal-told NoMessage e = refl
 refusal-told Repeat e = refl
 
 -- one that was refused
-pub concluded-refused : (r a b : List ℕ) (ed : Edition) (sd : Side) (m : ℕ) (o : Outcome) (li lm lc : List ℕ) (d : Carried) → isNone (o .refusal) ≡ false → isTaken (concluded r a b ed sd m o li lm lc d .number) ≡ false
+pub concluded-refused : (r a b : List ℕ) (ed : Edition) (sd : Side) (m : ℕ) (o : Outcome) (li lm lc : List ℕ) (d : Carried)
+    → isNone (o .refusal) ≡ false → isTaken (concluded r a b ed sd m o li lm lc d .number) ≡ false
 unfolding concluded
 concluded-refused r a b ed sd m o li lm lc d n = rw n (refusal-told (o .refusal) n)

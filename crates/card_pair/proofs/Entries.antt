@@ -89,7 +89,9 @@ must : (ed : Edition) (h : Bool) → (spares ed ≡ true → h ≡ true) → mus
 must Plain h f = f refl
 must Protected h f = refl
 
-fits-is : (ed : Edition) (sd : Side) (a : UserData) (b : Body) → writable ed sd a ≡ true → (withBody a ≡ true → isBody ed (pdusOf sd) b ≡ true) → (isSend a ≡ true → mustHold ed (carries ed b) ≡ true) → fits ed sd a (cond (withBody a) b []) ≡ true
+fits-is : (ed : Edition) (sd : Side) (a : UserData) (b : Body) → writable ed sd a ≡ true
+    → (withBody a ≡ true → isBody ed (pdusOf sd) b ≡ true) → (isSend a ≡ true → mustHold ed (carries ed b) ≡ true)
+    → fits ed sd a (cond (withBody a) b []) ≡ true
 fits-is ed sd Absent b e h m = refl
 fits-is ed sd NotValid b e h m = never e
 fits-is ed sd (Start x) b e h m = rw (e, h refl)
@@ -117,7 +119,8 @@ module _ (ed : Edition) (sd : Side) (u : Bool) (a : UserData) (w : Numbered Wire
   abbrev pub Entered : Invoked → Type 0
   Entered i = writable ed sd a ≡ true → Carries ed sd w (mark m (record { primitive = i; bytes = ys }))
 
-  plain : (i : Invoked) → GoesOut ed u sd i a → isDData i ≡ false → Entered i → SentRel (Carries ed sd) (putOn w i) (tag m (sentBy i ys y j))
+  plain : (i : Invoked) → GoesOut ed u sd i a → isDData i ≡ false → Entered i
+      → SentRel (Carries ed sd) (putOn w i) (tag m (sentBy i ys y j))
   plain Silent g n f = tt
   plain (DStartRequest q s) g n f = f g
   plain (DStartResponse x s) g n f = f g
@@ -128,11 +131,13 @@ module _ (ed : Edition) (sd : Side) (u : Bool) (a : UserData) (w : Numbered Wire
   plain (DStartForwardRequest q s v) g n f = absurd g
   plain (DStartForwardResponse s v) g n f = absurd g
 
-  pub sent-plain : (i : Invoked) → w .it .primitive ≡ i → GoesOut ed u sd i a → isDData i ≡ false → Entered i → SentRel (Carries ed sd) (putOn w (w .it .primitive)) (tag m (sentBy i ys y j))
+  pub sent-plain : (i : Invoked) → w .it .primitive ≡ i → GoesOut ed u sd i a → isDData i ≡ false → Entered i
+      → SentRel (Carries ed sd) (putOn w (w .it .primitive)) (tag m (sentBy i ys y j))
   sent-plain i e g n f = subst (λ (z : Invoked). SentRel (Carries ed sd) (putOn w z) (tag m (sentBy i ys y j))) (sym e) (plain i g n f)
 
   -- by a message request
-  pub sent-message : (i : Invoked) → GoesOut ed u sd i a → isDData i ≡ true → Entered i → SentRel (Carries ed sd) (message w y j) (tag m (sentBy i ys y j))
+  pub sent-message : (i : Invoked) → GoesOut ed u sd i a → isDData i ≡ true → Entered i
+      → SentRel (Carries ed sd) (message w y j) (tag m (sentBy i ys y j))
   sent-message Silent g n f = never n
   sent-message (DStartRequest q s) g n f = never n
   sent-message (DStartResponse x s) g n f = never n
@@ -151,7 +156,8 @@ module _ (ed : Edition) (sd : Side) (v : Brings) (m : ℕ) (o : Outcome) (b : Bo
   y-is = ey ∙ ap (λ (h : Bool). cond h b []) (sym (k .body))
 
   pub fits-y : writable ed sd (o .apdu) ≡ true → fits ed sd (o .apdu) y ≡ true
-  fits-y e = rw y-is (fits-is ed sd (o .apdu) b e (λ (h : withBody (o .apdu) ≡ true). hb (sym (k .body) ∙ h)) (λ (h : isSend (o .apdu) ≡ true). must ed (carries ed b) (λ (x : spares ed ≡ true). hs (k .sends x h))))
+  fits-y e = rw y-is (fits-is ed sd (o .apdu) b e (λ (h : withBody (o .apdu) ≡ true). hb (sym (k .body) ∙ h))
+      (λ (h : isSend (o .apdu) ≡ true). must ed (carries ed b) (λ (x : spares ed ≡ true). hs (k .sends x h))))
 
   enc-y : enc ed sd (o .apdu) y ≡ enc ed sd (o .apdu) b
   enc-y = ap (frontOf zeros) (ap (apduBits ed sd (o .apdu)) y-is ∙ bits-same ed sd (o .apdu) b)
@@ -163,11 +169,14 @@ module _ (ed : Edition) (sd : Side) (v : Brings) (m : ℕ) (o : Outcome) (b : Bo
         low = t .keeps .low;
         primitive = t .primitive;
         bits = t .bits ∙ ap lent (sym enc-y);
-        read = read-from ed sd (enc ed sd (o .apdu) y) (o .apdu) y (back ed sd (o .apdu) y (true-holds (fits ed sd (o .apdu) y) (fits-y e)));
+        read = read-from ed sd (enc ed sd (o .apdu) y) (o .apdu) y
+            (back ed sd (o .apdu) y (true-holds (fits ed sd (o .apdu) y) (fits-y e)));
         dialogue = roomy-dialogue (o .invoked) (k .roomy);
       }
 
-  pub taken-rel : (n : ℕ) (x : Body) → (isSend (v .apdu) ≡ true → b ≡ x) → (j : ℕ) (s : Sent (Numbered Wire)) → SentRel (Carries ed sd) s (tag m (sentBy (o .invoked) (enc ed sd (o .apdu) y) y j)) → OutRel (KeepsAt ed sd) (Carries ed sd) (left n c s) (leaves m (taken (cardCodec ed) sd o y j x))
+  pub taken-rel : (n : ℕ) (x : Body) → (isSend (v .apdu) ≡ true → b ≡ x) → (j : ℕ) (s : Sent (Numbered Wire))
+      → SentRel (Carries ed sd) s (tag m (sentBy (o .invoked) (enc ed sd (o .apdu) y) y j))
+      → OutRel (KeepsAt ed sd) (Carries ed sd) (left n c s) (leaves m (taken (cardCodec ed) sd o y j x))
   taken-rel n x f j s h =
       subst (λ (q : Bool). OutRel (KeepsAt ed sd) (Carries ed sd) (cond q (C.acts (record { bytes = c .kept; calls = suc n }) (handedOf c) s) C.refused) (leaves m (taken (cardCodec ed) sd o y j x))) (sym (t .taken))
       (t .keeps, t .handed x f, h)
@@ -188,30 +197,43 @@ module _ (r : List ℕ) (w : Buffers) (sd : Side) (q : Record) (h : ℕ) (e : Ev
   abbrev K : Called
   K = concluded r (w .first) (w .second) (q .edition) sd (heldAfter h e v) (numberedStep sd q h e v) li lm lc d
 
-  pub bodied : brings (q .edition) e .body ≡ true → isBody (q .edition) (pdusOf sd) (contentBits (q .edition) (contentIn li lm lc (d .content))) ≡ true
-  bodied x = laws (q .edition) .is-body (pdusOf sd) (contentIn li lm lc (d .content)) (own x) (laws (q .edition) .content-are-bits li lm lc (d .content) hi hm hc)
+  pub bodied : brings (q .edition) e .body ≡ true
+      → isBody (q .edition) (pdusOf sd) (contentBits (q .edition) (contentIn li lm lc (d .content))) ≡ true
+  bodied x = laws (q .edition) .is-body (pdusOf sd) (contentIn li lm lc (d .content)) (own x)
+      (laws (q .edition) .content-are-bits li lm lc (d .content) hi hm hc)
 
   pub ended : JobLow sd e → isNone (numberedStep sd q h e v .refusal) ≡ true
-      → Ended (q .edition) sd (brings (q .edition) e) (heldAfter h e v) (numberedStep sd q h e v) (contentBits (q .edition) (contentIn li lm lc (d .content))) (concluded r (w .first) (w .second) (q .edition) sd (heldAfter h e v) (numberedStep sd q h e v) li lm lc d)
-  ended j n = concluded-is r (w .first) (w .second) (q .edition) sd (brings (q .edition) e) M O li lm lc d (w .first-full) (w .second-full) (keeps .size) (held-low h e v (keeps .low) lv) hi hm hc sh own n (numbered-fits sd q (keeps .coded) (keeps .dialogue) h e v j n)
+      → Ended (q .edition) sd (brings (q .edition) e) (heldAfter h e v) (numberedStep sd q h e v)
+      (contentBits (q .edition) (contentIn li lm lc (d .content)))
+      (concluded r (w .first) (w .second) (q .edition) sd (heldAfter h e v) (numberedStep sd q h e v) li lm lc d)
+  ended j n = concluded-is r (w .first) (w .second) (q .edition) sd (brings (q .edition) e) M O li lm lc d
+      (w .first-full) (w .second-full) (keeps .size) (held-low h e v (keeps .low) lv) hi hm hc sh own n
+      (numbered-fits sd q (keeps .coded) (keeps .dialogue) h e v j n)
 
   -- it is no user primitive
-  pub happens-rel : (calls : ℕ) (x : Body) → JobLow sd e → brings (q .edition) e .body ≡ false → brings (q .edition) e .holds ≡ false → brings (q .edition) e .message ≡ false → (isSend (brings (q .edition) e .apdu) ≡ true → contentBits (q .edition) (contentIn li lm lc (d .content)) ≡ x)
-      → OutRel (KeepsAt (q .edition) sd) (Carries (q .edition) sd) (simply calls (concluded r (w .first) (w .second) (q .edition) sd (heldAfter h e v) (numberedStep sd q h e v) li lm lc d)) (leaves (heldAfter h e v) (happens (cardCodec (q .edition)) sd (numberedStep sd q h e v) x))
+  pub happens-rel : (calls : ℕ) (x : Body) → JobLow sd e → brings (q .edition) e .body ≡ false
+      → brings (q .edition) e .holds ≡ false → brings (q .edition) e .message ≡ false
+      → (isSend (brings (q .edition) e .apdu) ≡ true → contentBits (q .edition) (contentIn li lm lc (d .content)) ≡ x)
+      → OutRel (KeepsAt (q .edition) sd) (Carries (q .edition) sd) (simply calls (concluded r (w .first) (w .second)
+      (q .edition) sd (heldAfter h e v) (numberedStep sd q h e v) li lm lc d))
+      (leaves (heldAfter h e v) (happens (cardCodec (q .edition)) sd (numberedStep sd q h e v) x))
   happens-rel calls x j hb hh hm f = go (isNone (numberedStep sd q h e v .refusal)) refl
     where
       unheld : brings (q .edition) e .holds ≡ true → carries (q .edition) B ≡ true
       unheld z = never (sym hh ∙ z)
 
-      go : (n : Bool) → isNone (numberedStep sd q h e v .refusal) ≡ n → OutRel (KeepsAt (q .edition) sd) (Carries (q .edition) sd) (simply calls K) (leaves M (happens (cardCodec (q .edition)) sd O x))
+      go : (n : Bool) → isNone (numberedStep sd q h e v .refusal) ≡ n
+          → OutRel (KeepsAt (q .edition) sd) (Carries (q .edition) sd) (simply calls K) (leaves M (happens (cardCodec (q .edition)) sd O x))
       go true n =
           let k = numbered-fits sd q (keeps .coded) (keeps .dialogue) h e v j n in
           let t = ended j n in
           let ey : [] ≡ cond (brings (q .edition) e .body) B [] = rw hb in
-          subst (λ (z : Bool). OutRel (KeepsAt (q .edition) sd) (Carries (q .edition) sd) (simply calls K) (leaves M (cond z (taken (cardCodec (q .edition)) sd O [] 0 x) C.refused))) (sym n)
+          subst (λ (z : Bool). OutRel (KeepsAt (q .edition) sd) (Carries (q .edition) sd) (simply calls K)
+          (leaves M (cond z (taken (cardCodec (q .edition)) sd O [] 0 x) C.refused))) (sym n)
           (taken-rel (q .edition) sd (brings (q .edition) e) M O B K t k bodied unheld [] ey calls x f 0 (sentOf K)
           (sent-plain (q .edition) sd (brings (q .edition) e .user) (O .apdu) (markedEntry K) M (enc (q .edition) sd (O .apdu) []) [] 0 (O .invoked) (t .primitive) (k .apdu) (k .invokes ∙ hm)
           (entry-is (q .edition) sd (brings (q .edition) e) M O B K t k bodied unheld [] ey)))
       go false n =
-          subst (λ (z : Bool). OutRel (KeepsAt (q .edition) sd) (Carries (q .edition) sd) (simply calls K) (leaves M (cond z (taken (cardCodec (q .edition)) sd O [] 0 x) C.refused))) (sym n)
+          subst (λ (z : Bool). OutRel (KeepsAt (q .edition) sd) (Carries (q .edition) sd) (simply calls K)
+          (leaves M (cond z (taken (cardCodec (q .edition)) sd O [] 0 x) C.refused))) (sym n)
           (subst (λ (z : Bool). OutRel (KeepsAt (q .edition) sd) (Carries (q .edition) sd) (cond z (C.acts (record { bytes = K .kept; calls = suc calls }) (handedOf K) (sentOf K)) C.refused) C.refused) (sym (concluded-refused r (w .first) (w .second) (q .edition) sd M O li lm lc d n)) tt)

@@ -82,7 +82,8 @@ means-yes ed p DDataRequest x f e t = absurd t
 means-yes ed p DEndRequest x f e t = absurd t
 means-yes ed p (DEndResponse y) fault f e t = never f e
 means-yes ed p (DEndResponse y) (got a b) f e t =
-    subst (λ (k : Primitive). T (saysYes k)) (send-kind (spares ed) true (DEndCnf (replyOf y)) a b f (known-if (ltb y results) (sendOf (spares ed) true (DEndCnf (replyOf y)) a b) f e .1)) (reply-yes y t)
+    subst (λ (k : Primitive). T (saysYes k)) (send-kind (spares ed) true (DEndCnf (replyOf y)) a b f
+    (known-if (ltb y results) (sendOf (spares ed) true (DEndCnf (replyOf y)) a b) f e .1)) (reply-yes y t)
 means-yes ed p (DAbortRequest o) x f e t = absurd t
 means-yes ed p (DStartForwardRequest q s v) x f e t = absurd t
 means-yes ed p (DStartForwardResponse s v) x f e t = absurd t
@@ -112,27 +113,42 @@ module _ (p : ℕ) (ed : Edition) (host : Side → ℕ → Buffers) (fair : secu
       let N = numbered (stepMachine (cardCodec ed) p) in
       let same = same-step (cardCodec ed) ed p in
       let low = with-number (stepMachine (cardCodec ed) p) control (agrees (cardCodec ed) ed p fair valued) in
-      let f = n-followed (cardMachine p host) K (card-agrees p ed host) from (newly r) (newly q) x y (begins-keeps p ed Air r a) (begins-keeps p ed Ground q g) ts in
+      let f = n-followed (cardMachine p host) K (card-agrees p ed host) from (newly r) (newly q) x y
+      (begins-keeps p ed Air r a) (begins-keeps p ed Ground q g) ts in
       let h = n-followed K N same from x y x y refl refl (f .turns) in
-      let i = n-followed N (numbered control) low from x y u v (refl, idle-same (cardCodec ed) ed p fair valued (a .held) (begins-local p ed Air r a) (begins-idle p ed Air r a)) (refl, idle-same (cardCodec ed) ed p fair valued (g .held) (begins-local p ed Ground q g) (begins-idle p ed Ground q g)) (h .turns) in
+      let i = n-followed N (numbered control) low from x y u v (
+        refl,
+        idle-same (cardCodec ed) ed p fair valued
+            (a .held) (begins-local p ed Air r a) (begins-idle p ed Air r a),
+      ) (
+        refl,
+        idle-same (cardCodec ed) ed p
+            fair valued (g .held) (begins-local p ed Ground q g) (begins-idle p ed Ground q g),
+      ) (h .turns) in
       let s1 = nRun K from (nFresh K x y) (f .turns) in
       let s2 = nRun N from (nFresh N x y) (h .turns) in
       let s3 = nRun (numbered control) from (nFresh (numbered control) u v) (i .turns) in
       record {
         wholes =
             both-whole-too (cardMachine p host) K (card-agrees p ed host) cardAccepts cardAccepts
-            (λ (sd : Side) (e w : Numbered Wire) (z : Carries ed sd e w). subst (λ (j : Invoked). T (agreesTo j)) (z .primitive)) (Reached ts) s1 (f .rel)
+            (λ (sd : Side) (e w : Numbered Wire) (z : Carries ed sd e w). subst (λ (j : Invoked). T (agreesTo j))
+            (z .primitive)) (Reached ts) s1 (f .rel)
             (both-whole-too K N same cardAccepts cardAccepts (λ (sd : Side) (e w : Numbered Wire) (z : e ≡ w). subst (λ (j : Numbered Wire). T (cardAccepts j)) z) s1 s2 (h .rel)
             (both-whole-too N (numbered control) low cardAccepts answersYes
-            (λ (sd : Side) (e : Numbered Wire) (w : Numbered Ent) (z : With (Means (cardCodec ed) ed p sd) e w). means-yes ed p (e .it .primitive) (cardCodec ed .dec sd (e .it .bytes)) (w .it) (z .1)) s2 s3 (i .rel)
+            (λ (sd : Side) (e : Numbered Wire) (w : Numbered Ent) (z : With (Means (cardCodec ed) ed p sd) e w).
+            means-yes ed p (e .it .primitive) (cardCodec ed .dec sd (e .it .bytes)) (w .it) (z .1)) s2 s3
+            (i .rel)
             (control-whole from u v refl refl b (i .turns))));
         hands =
             both-hands-too (cardMachine p host) K (card-agrees p ed host) (Reached ts) s1 (f .rel)
-            (both-hands-too K N same s1 s2 (h .rel) (both-hands-too N (numbered control) low s2 s3 (i .rel) (control-hands Air s3, control-hands Ground (nSwap (numbered control) s3))));
+            (both-hands-too K N same s1 s2 (h .rel) (both-hands-too N (numbered control) low s2 s3 (i .rel)
+            (control-hands Air s3, control-hands Ground (nSwap (numbered control) s3))));
       }
 
-  pub card-whole : (ts : List (Turn Asked)) → Whole (cardMachine p host) cardAccepts Air (nRun (cardMachine p host) from (nFresh (cardMachine p host) (newly r) (newly q)) ts) × Whole (cardMachine p host) cardAccepts Ground (nSwap (cardMachine p host) (nRun (cardMachine p host) from (nFresh (cardMachine p host) (newly r) (newly q)) ts))
+  pub card-whole : (ts : List (Turn Asked))
+      → Whole (cardMachine p host) cardAccepts Air (nRun (cardMachine p host) from (nFresh (cardMachine p host) (newly r) (newly q)) ts) × Whole (cardMachine p host) cardAccepts Ground (nSwap (cardMachine p host) (nRun (cardMachine p host) from (nFresh (cardMachine p host) (newly r) (newly q)) ts))
   card-whole ts = cards ts .wholes
 
-  pub card-hands : (ts : List (Turn Asked)) → Hands (cardMachine p host) Air (nRun (cardMachine p host) from (nFresh (cardMachine p host) (newly r) (newly q)) ts) × Hands (cardMachine p host) Ground (nSwap (cardMachine p host) (nRun (cardMachine p host) from (nFresh (cardMachine p host) (newly r) (newly q)) ts))
+  pub card-hands : (ts : List (Turn Asked))
+      → Hands (cardMachine p host) Air (nRun (cardMachine p host) from (nFresh (cardMachine p host) (newly r) (newly q)) ts) × Hands (cardMachine p host) Ground (nSwap (cardMachine p host) (nRun (cardMachine p host) from (nFresh (cardMachine p host) (newly r) (newly q)) ts))
   card-hands ts = cards ts .hands

@@ -100,11 +100,13 @@ module _ (m : NMachine) where
   added-none true x = ap length (append-nil x)
   added-none false x = refl
 
-  none-did : (s : NSys m) (o : Outcome (m .at .R) (m .at .E)) (keep : ℕ) → None m o → (n : ℕ) → length (nDid m s o keep .here .handed n) ≡ length (s .here .handed n)
+  none-did : (s : NSys m) (o : Outcome (m .at .R) (m .at .E)) (keep : ℕ) → None m o → (n : ℕ)
+      → length (nDid m s o keep .here .handed n) ≡ length (s .here .handed n)
   none-did s refused keep h n = refl
   none-did s (acts r l p) keep h n =
       let x = nSent m s p keep .here .handed n in
-      ap (λ (k : List Body). length (cond (eqb (m .holds r) n) (x ++ k) x)) h ∙ added-none (eqb (m .holds r) n) x ∙ ap length (sent-sends s p keep .handed n)
+      ap (λ (k : List Body). length (cond (eqb (m .holds r) n) (x ++ k) x)) h ∙ added-none (eqb (m .holds r) n) x ∙ ap
+      length (sent-sends s p keep .handed n)
 
   pub did-event : (s : NSys m) (o : Outcome (m .at .R) (m .at .E)) (keep : ℕ) → Hush m o → Event m s (nDid m s o keep)
   did-event s refused keep h = event-refl s
@@ -112,7 +114,8 @@ module _ (m : NMachine) where
       let w = sent-sends s p keep in
       record { far = λ (n : ℕ). ap (λ (q : NParty m). q .handed n) (w .there); rec = ap (λ (q : NParty m). q .rec) (w .there); broken = w .broken; here = λ (n : ℕ). go l h n (eqb (m .holds r) n) refl }
     where
-      go : (l : List Body) → Hush m (acts r l p) → (n : ℕ) (b : Bool) → eqb (m .holds r) n ≡ b → Heed m (s .here) (nDid m s (acts r l p) keep .here) n
+      go : (l : List Body) → Hush m (acts r l p) → (n : ℕ) (b : Bool) → eqb (m .holds r) n ≡ b
+          → Heed m (s .here) (nDid m s (acts r l p) keep .here) n
       go [] h n b e = kept (none-did s (acts r [] p) keep refl n)
       go (c ∷ l) h n true e = inside (ap (λ (x : Bool). not x && eqb (m .holds r) n) h ∙ e)
       go (c ∷ l) h n false e =
@@ -125,17 +128,20 @@ module _ (m : NMachine) where
 
   called-event : (may : Bool) (s : NSys m) (o : Outcome (m .at .R) (m .at .E)) (keep : ℕ) → None m o → Event m s (nCalled m may s o keep)
   called-event may s refused keep h = event-refl s
-  called-event may s (acts r l p) keep h = either (not (starts (m .at) p) || (may && nReady m s)) s (nDid m s (acts r l p) keep) s (did-event s (acts r l p) keep (none-hush (acts r l p) h)) (event-refl s)
+  called-event may s (acts r l p) keep h = either (not (starts (m .at) p) || (may && nReady m s)) s
+      (nDid m s (acts r l p) keep) s (did-event s (acts r l p) keep (none-hush (acts r l p) h)) (event-refl s)
 
   off-event : (s u : NSys m) (l : List (m .at .E)) → Event m (nOff m s l) u → Event m s u
   off-event s u l w = record { far = w .far; rec = w .rec; broken = w .broken; here = w .here }
 
-  over-event : (sd : Side) (s : NSys m) (l : List (m .at .E)) (keep : ℕ) → First m sd (s .here .rec) l → Event m s (nHandedOver m sd s l keep)
+  over-event : (sd : Side) (s : NSys m) (l : List (m .at .E)) (keep : ℕ) → First m sd (s .here .rec) l
+      → Event m s (nHandedOver m sd s l keep)
   over-event sd s [] keep h = event-refl s
   over-event sd s (e ∷ l) keep h =
       either (discards (m .at) (s .here .rec) e) s (nOff m s l) (nDid m (nOff m s l) (m .at .receive sd (s .here .rec) e) keep)
       (off-event s (nOff m s l) l (event-refl (nOff m s l)))
-      (off-event s (nDid m (nOff m s l) (m .at .receive sd (s .here .rec) e) keep) l (did-event (nOff m s l) (m .at .receive sd (s .here .rec) e) keep h))
+      (off-event s (nDid m (nOff m s l) (m .at .receive sd (s .here .rec) e) keep) l
+      (did-event (nOff m s l) (m .at .receive sd (s .here .rec) e) keep h))
 
   recalled-heed : (s : NSys m) (y : NParty m) (n : ℕ) → Heed m (nRecalled m s .here) y n → Heed m (s .here) y n
   recalled-heed s y n (kept e) = kept e
@@ -147,7 +153,8 @@ module _ (m : NMachine) where
   away-event : (sd : Side) (s : NSys m) (keep : ℕ) → None m (m .at .away sd (s .here .rec)) → Event m s (nTurnedAway m sd s keep)
   away-event sd s keep h =
       either (nMayTurnAway m s) s (nDid m (nRecalled m s) (m .at .away sd (s .here .rec)) keep) s
-      (recalled-event s (nDid m (nRecalled m s) (m .at .away sd (s .here .rec)) keep) (did-event (nRecalled m s) (m .at .away sd (s .here .rec)) keep (none-hush (m .at .away sd (s .here .rec)) h))) (event-refl s)
+      (recalled-event s (nDid m (nRecalled m s) (m .at .away sd (s .here .rec)) keep) (did-event (nRecalled m s)
+      (m .at .away sd (s .here .rec)) keep (none-hush (m .at .away sd (s .here .rec)) h))) (event-refl s)
 
   abbrev pub Lasting : Step (m .at .A) → Type 0
   Lasting (user-call a k) = Unit {0}
@@ -157,18 +164,23 @@ module _ (m : NMachine) where
   Lasting (turn-away k) = Unit {0}
   Lasting fail = ⊥
 
-  pub step-event : (may : Bool) (sd : Side) (s : NSys m) (c : Step (m .at .A)) → Hands m sd s → Lasting c → Event m s (nStepped m may sd s c)
+  pub step-event : (may : Bool) (sd : Side) (s : NSys m) (c : Step (m .at .A)) → Hands m sd s → Lasting c
+      → Event m s (nStepped m may sd s c)
   step-event may sd s (user-call a k) h t = called-event may s (m .at .call sd (s .here .rec) a) k (h .call a)
   step-event may sd s (hand-over k) h t = over-event sd s (s .there .line) k (h .receive)
-  step-event may sd s (timer-expires k) h t = did-event s (m .at .expiry sd (s .here .rec)) k (none-hush (m .at .expiry sd (s .here .rec)) (h .expiry))
-  step-event may sd s (error-reported k) h t = did-event s (m .at .error sd (s .here .rec)) k (none-hush (m .at .error sd (s .here .rec)) (h .error))
+  step-event may sd s (timer-expires k) h t = did-event s (m .at .expiry sd (s .here .rec)) k
+      (none-hush (m .at .expiry sd (s .here .rec)) (h .expiry))
+  step-event may sd s (error-reported k) h t = did-event s (m .at .error sd (s .here .rec)) k
+      (none-hush (m .at .error sd (s .here .rec)) (h .error))
   step-event may sd s (turn-away k) h t = away-event sd s k (h .away)
   step-event may sd s fail h t = absurd t
 
   told-event : (sd : Side) (s : NSys m) → None m (m .at .pAbort sd (s .here .rec)) → Event m s (nToldLost m sd s)
-  told-event sd s h = either (idle (m .at) (s .here .rec)) s s (nDid m s (m .at .pAbort sd (s .here .rec)) 0) (event-refl s) (did-event s (m .at .pAbort sd (s .here .rec)) 0 (none-hush (m .at .pAbort sd (s .here .rec)) h))
+  told-event sd s h = either (idle (m .at) (s .here .rec)) s s (nDid m s (m .at .pAbort sd (s .here .rec)) 0)
+      (event-refl s) (did-event s (m .at .pAbort sd (s .here .rec)) 0 (none-hush (m .at .pAbort sd (s .here .rec)) h))
 
-  told-none : (sd : Side) (s : NSys m) → None m (m .at .pAbort sd (s .here .rec)) → (n : ℕ) → length (nToldLost m sd s .here .handed n) ≡ length (s .here .handed n)
+  told-none : (sd : Side) (s : NSys m) → None m (m .at .pAbort sd (s .here .rec)) → (n : ℕ)
+      → length (nToldLost m sd s .here .handed n) ≡ length (s .here .handed n)
   told-none sd s h n = go (idle (m .at) (s .here .rec))
     where
       go : (b : Bool) → length (cond b s (nDid m s (m .at .pAbort sd (s .here .rec)) 0) .here .handed n) ≡ length (s .here .handed n)
@@ -179,7 +191,8 @@ module _ (m : NMachine) where
   fell sd s h g =
       let a : NSys m = nToldLost m sd (nEmptied m s) in
       let v : Event m (nEmptied m s) a = told-event sd (nEmptied m s) (h .p-abort) in
-      let q : None m (m .at .pAbort (other sd) (a .there .rec)) = subst (λ (r : m .at .R). None m (m .at .pAbort (other sd) r)) (sym (v .rec)) (g .p-abort) in
+      let q : None m (m .at .pAbort (other sd) (a .there .rec)) = subst
+      (λ (r : m .at .R). None m (m .at .pAbort (other sd) r)) (sym (v .rec)) (g .p-abort) in
       let w : Event m (nSwap m a) (nToldLost m (other sd) (nSwap m a)) = told-event (other sd) (nSwap m a) q in
       record {
         here = λ (n : ℕ). ap length (w .far n) ∙ told-none sd (nEmptied m s) (h .p-abort) n;
@@ -215,7 +228,8 @@ module _ (m : NMachine) where
   within-rec x y n e q = ap (λ (r : m .at .R). not (idle (m .at) r) && eqb (m .holds r) n) e ∙ q
 
   -- an event at the other end
-  pub heard-far : (s t : NSys m) (seen : ℕ → ℕ) (w : Bool) (p : Power) → Event m s t → Heard (s .broken) (s .there) seen w p → Heard (t .broken) (t .there) seen w p
+  pub heard-far : (s t : NSys m) (seen : ℕ → ℕ) (w : Bool) (p : Power) → Event m s t
+      → Heard (s .broken) (s .there) seen w p → Heard (t .broken) (t .there) seen w p
   heard-far s t seen w p e g =
       record {
         most = λ (n : ℕ). omega (arith, g .most n, ap length (e .far n));
@@ -233,13 +247,18 @@ module _ (m : NMachine) where
       sure n (gone q) = gone (e .broken n q)
 
   -- an event here: its user waited for nothing. out: whether it handed out something
-  pub heard-here : (s t : NSys m) (seen : ℕ → ℕ) (w : Bool) (p : Power) → Event m s t → ((n : ℕ) → length (s .here .handed n) ≤ length (t .here .handed n)) → w ≡ false → p ≡ up → Heard (s .broken) (s .here) seen w p
-      → Heard (t .broken) (t .here) seen (not (eqb (length (s .here .handed (m .holds (t .here .rec)))) (length (t .here .handed (m .holds (t .here .rec))))) || w) p
+  pub heard-here : (s t : NSys m) (seen : ℕ → ℕ) (w : Bool) (p : Power) → Event m s t
+      → ((n : ℕ) → length (s .here .handed n) ≤ length (t .here .handed n)) → w ≡ false → p ≡ up
+      → Heard (s .broken) (s .here) seen w p
+      → Heard (t .broken) (t .here) seen (not (eqb (length (s .here .handed (m .holds (t .here .rec))))
+      (length (t .here .handed (m .holds (t .here .rec))))) || w) p
   heard-here s t seen w p e k a b g =
       record {
         most = λ (n : ℕ). omega (arith, g .most n, k n);
         fine = λ (n : ℕ). fine n (e .here n) (g .calm a b n);
-        calm = λ (c : (not (eqb (length (s .here .handed d)) (length (t .here .handed d))) || w) ≡ false) (b : p ≡ up) (n : ℕ). sure n (quiet (eqb (length (s .here .handed d)) (length (t .here .handed d))) w c) (e .here n) (g .calm a b n);
+        calm = λ (c : (not (eqb (length (s .here .handed d)) (length (t .here .handed d))) || w) ≡ false) (b : p ≡ up)
+            (n : ℕ). sure n (quiet (eqb (length (s .here .handed d)) (length (t .here .handed d))) w c) (e .here n)
+            (g .calm a b n);
       }
     where
       d : ℕ
@@ -254,18 +273,23 @@ module _ (m : NMachine) where
       fine n (kept q) (gone z) = broke (e .broken n z)
       fine n (inside q) z = in-it q
 
-      again : (n : ℕ) → length (t .here .handed n) ≡ length (s .here .handed n) → Sure (s .broken) (s .here) seen n → Sure (t .broken) (t .here) seen n
+      again : (n : ℕ) → length (t .here .handed n) ≡ length (s .here .handed n) → Sure (s .broken) (s .here) seen n
+          → Sure (t .broken) (t .here) seen n
       again n q (whole z) = whole (z ∙ sym q)
       again n q (gone z) = gone (e .broken n z)
 
-      sure : (n : ℕ) → eqb (length (s .here .handed (m .holds (t .here .rec)))) (length (t .here .handed (m .holds (t .here .rec)))) ≡ true → Heed m (s .here) (t .here) n → Sure (s .broken) (s .here) seen n → Sure (t .broken) (t .here) seen n
+      sure : (n : ℕ)
+          → eqb (length (s .here .handed (m .holds (t .here .rec)))) (length (t .here .handed (m .holds (t .here .rec)))) ≡ true
+          → Heed m (s .here) (t .here) n → Sure (s .broken) (s .here) seen n → Sure (t .broken) (t .here) seen n
       sure n c (kept q) z = again n q z
       sure n c (inside q) z =
           let i : m .holds (t .here .rec) ≡ n = eq-no (m .holds (t .here .rec)) n (within-no (t .here) n q) in
-          again n (sym (eq-no (length (s .here .handed n)) (length (t .here .handed n)) (subst (λ (v : ℕ). eqb (length (s .here .handed v)) (length (t .here .handed v)) ≡ true) i c))) z
+          again n (sym (eq-no (length (s .here .handed n)) (length (t .here .handed n))
+          (subst (λ (v : ℕ). eqb (length (s .here .handed v)) (length (t .here .handed v)) ≡ true) i c))) z
 
   -- the user is shown what was handed out in the dialogue that the record holds
-  pub heard-shown : (broken : ℕ → Bool) (x : NParty m) (seen : ℕ → ℕ) (w : Bool) (p : Power) → Heard broken x seen w p → Heard broken x (λ (n : ℕ). cond (eqb (m .holds (x .rec)) n) (length (x .handed n)) (seen n)) false p
+  pub heard-shown : (broken : ℕ → Bool) (x : NParty m) (seen : ℕ → ℕ) (w : Bool) (p : Power) → Heard broken x seen w p
+      → Heard broken x (λ (n : ℕ). cond (eqb (m .holds (x .rec)) n) (length (x .handed n)) (seen n)) false p
   heard-shown broken x seen w p g =
       record {
         most = λ (n : ℕ). most n (eqb (m .holds (x .rec)) n);
@@ -280,18 +304,22 @@ module _ (m : NMachine) where
       most n true = omega arith
       most n false = g .most n
 
-      sure : (n : ℕ) (b : Bool) → eqb (m .holds (x .rec)) n ≡ b → Fine broken x seen n → Sure broken x (λ (n : ℕ). cond (eqb (m .holds (x .rec)) n) (length (x .handed n)) (seen n)) n
+      sure : (n : ℕ) (b : Bool) → eqb (m .holds (x .rec)) n ≡ b → Fine broken x seen n
+          → Sure broken x (λ (n : ℕ). cond (eqb (m .holds (x .rec)) n) (length (x .handed n)) (seen n)) n
       sure n true e f = whole (ap (λ (b : Bool). cond b (length (x .handed n)) (seen n)) e)
       sure n false e (all q) = whole (ap (λ (b : Bool). cond b (length (x .handed n)) (seen n)) e ∙ q)
       sure n false e (broke q) = gone q
       sure n false e (in-it q) = absurd (subst T (sym (within-no x n q) ∙ e) tt)
 
-      fine : (n : ℕ) → Sure broken x (λ (n : ℕ). cond (eqb (m .holds (x .rec)) n) (length (x .handed n)) (seen n)) n → Fine broken x (λ (n : ℕ). cond (eqb (m .holds (x .rec)) n) (length (x .handed n)) (seen n)) n
+      fine : (n : ℕ) → Sure broken x (λ (n : ℕ). cond (eqb (m .holds (x .rec)) n) (length (x .handed n)) (seen n)) n
+          → Fine broken x (λ (n : ℕ). cond (eqb (m .holds (x .rec)) n) (length (x .handed n)) (seen n)) n
       fine n (whole q) = all q
       fine n (gone q) = broke q
 
   -- the carrier fails
-  pub heard-fell : (broken more : ℕ → Bool) (x y : NParty m) (seen : ℕ → ℕ) (w : Bool) (p q : Power) → ((n : ℕ) → length (y .handed n) ≡ length (x .handed n)) → ((n : ℕ) → (within m x n || broken n) ≡ true → more n ≡ true) → Heard broken x seen w p → Heard more y seen w q
+  pub heard-fell : (broken more : ℕ → Bool) (x y : NParty m) (seen : ℕ → ℕ) (w : Bool) (p q : Power)
+      → ((n : ℕ) → length (y .handed n) ≡ length (x .handed n))
+      → ((n : ℕ) → (within m x n || broken n) ≡ true → more n ≡ true) → Heard broken x seen w p → Heard more y seen w q
   heard-fell broken more x y seen w p q e f g =
       record {
         most = λ (n : ℕ). omega (arith, g .most n, e n);
@@ -315,7 +343,9 @@ module _ (m : NMachine) where
   isUp down = false
 
   -- the host goes down, or has no carrier
-  pub heard-off : (broken : ℕ → Bool) (x y : NParty m) (seen : ℕ → ℕ) (w v : Bool) (p q : Power) → ((n : ℕ) → y .handed n ≡ x .handed n) → y .rec ≡ x .rec → T (not (isUp q)) → Heard broken x seen w p → Heard broken y seen v q
+  pub heard-off : (broken : ℕ → Bool) (x y : NParty m) (seen : ℕ → ℕ) (w v : Bool) (p q : Power)
+      → ((n : ℕ) → y .handed n ≡ x .handed n) → y .rec ≡ x .rec → T (not (isUp q)) → Heard broken x seen w p
+      → Heard broken y seen v q
   heard-off broken x y seen w v p q e r t g =
       record {
         most = λ (n : ℕ). omega (arith, g .most n, ap length (e n));
@@ -329,7 +359,8 @@ module _ (m : NMachine) where
       fine n (in-it z) = in-it (within-rec x y n r z)
 
   -- the end has left a dialogue that nothing broke: its user was shown all of it
-  pub seen-all : (broken : ℕ → Bool) (x : NParty m) (seen : ℕ → ℕ) (w : Bool) (p : Power) (n : ℕ) → broken n ≡ false → within m x n ≡ false → Heard broken x seen w p → seen n ≡ length (x .handed n)
+  pub seen-all : (broken : ℕ → Bool) (x : NParty m) (seen : ℕ → ℕ) (w : Bool) (p : Power) (n : ℕ) → broken n ≡ false
+      → within m x n ≡ false → Heard broken x seen w p → seen n ≡ length (x .handed n)
   seen-all broken x seen w p n b i g = go (g .fine n)
     where
       go : Fine broken x seen n → seen n ≡ length (x .handed n)

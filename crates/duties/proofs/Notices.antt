@@ -43,7 +43,8 @@ module _ (m : NMachine) (letter : Side → ℕ → m .at .A) (fresh : Side → m
   either true s t u p q = p
   either false s t u p q = q
 
-  after-grows : (broke : Bool) (r q : m .at .R) (n : Notes) → Grows (n .notices) (afterwards m right letter fresh accepts broke r q n .notices)
+  after-grows : (broke : Bool) (r q : m .at .R) (n : Notes)
+      → Grows (n .notices) (afterwards m right letter fresh accepts broke r q n .notices)
   after-grows broke r q n = go (broke || not (eqb (m .holds r) (m .holds q)))
     where
       go : (b : Bool) → Grows (n .notices) (cond b (tells told-broken n) n .notices)
@@ -56,28 +57,39 @@ module _ (m : NMachine) (letter : Side → ℕ → m .at .A) (fresh : Side → m
   taking-stays : (may : Bool) (sd : Side) (s : Hosts m) (j : ℕ) (k : Took) → Stays m s (taking m right letter fresh accepts may sd s j k)
   taking-stays may sd s j k =
       let t = nStepped m may sd (s .ends) (user-call (letter sd j) 0) in
-      alone-stays s t (taking m right letter fresh accepts may sd s j k .here) (after-grows false (s .ends .here .rec) (t .here .rec) (s .here .notes))
+      alone-stays s t (taking m right letter fresh accepts may sd s j k .here)
+      (after-grows false (s .ends .here .rec) (t .here .rec) (s .here .notes))
 
-  offered-stays : (may : Bool) (sd : Side) (s : Hosts m) (j : ℕ) (o : Outcome (m .at .R) (m .at .E)) → Stays m s (offered m right letter fresh accepts may sd s j o)
+  offered-stays : (may : Bool) (sd : Side) (s : Hosts m) (j : ℕ) (o : Outcome (m .at .R) (m .at .E))
+      → Stays m s (offered m right letter fresh accepts may sd s j o)
   offered-stays may sd s j refused = refusing-stays s j
   offered-stays may sd s j (acts r l nothing) = stays-refl s
   offered-stays may sd s j (acts r l (puts e)) = stays-refl s
   offered-stays may sd s j (acts r l (message e b i)) = either (sendsJob m right letter fresh accepts j r e i) s (taking m right letter fresh accepts may sd s j (record { job = j; no = m .carries e; body = b })) s (taking-stays may sd s j (record { job = j; no = m .carries e; body = b })) (stays-refl s)
 
   delivered-stays : (may : Bool) (sd : Side) (s : Hosts m) (j : ℕ) → Stays m s (delivered m right letter fresh accepts may sd s j)
-  delivered-stays may sd s j = either (passes m right letter fresh accepts s j) s s (offered m right letter fresh accepts may sd s j (m .at .call sd (s .ends .here .rec) (letter sd j))) (stays-refl s) (offered-stays may sd s j (m .at .call sd (s .ends .here .rec) (letter sd j)))
+  delivered-stays may sd s j = either (passes m right letter fresh accepts s j) s s
+      (offered m right letter fresh accepts may sd s j (m .at .call sd (s .ends .here .rec) (letter sd j)))
+      (stays-refl s) (offered-stays may sd s j (m .at .call sd (s .ends .here .rec) (letter sd j)))
 
   aside-stays : (s : Hosts m) (j : ℕ) → Stays m s (laidAside m right letter fresh accepts s j)
-  aside-stays s j = either (isDecided (s .here .notes .decision j)) s s (refusing m right letter fresh accepts s j) (stays-refl s) (refusing-stays s j)
+  aside-stays s j = either (isDecided (s .here .notes .decision j)) s s (refusing m right letter fresh accepts s j)
+      (stays-refl s) (refusing-stays s j)
 
-  happened-stays : (may : Bool) (sd : Side) (s : Hosts m) (c : Step (m .at .A)) → Stays m s (happened m right letter fresh accepts may sd s c)
-  happened-stays may sd s c = alone-stays s (nStepped m may sd (s .ends) c) (happened m right letter fresh accepts may sd s c .here) (after-grows (seesBreak m right letter fresh accepts sd (s .ends) c) (s .ends .here .rec) (nStepped m may sd (s .ends) c .here .rec) (s .here .notes))
+  happened-stays : (may : Bool) (sd : Side) (s : Hosts m) (c : Step (m .at .A))
+      → Stays m s (happened m right letter fresh accepts may sd s c)
+  happened-stays may sd s c = alone-stays s (nStepped m may sd (s .ends) c)
+      (happened m right letter fresh accepts may sd s c .here) (after-grows
+      (seesBreak m right letter fresh accepts sd (s .ends) c) (s .ends .here .rec)
+      (nStepped m may sd (s .ends) c .here .rec) (s .here .notes))
 
   ending-stays : (may : Bool) (sd : Side) (s : Hosts m) → Stays m s (ending m right letter fresh accepts may sd s)
-  ending-stays may sd s = alone-stays s (nStepped m may sd (s .ends) (hand-over 0)) (ending m right letter fresh accepts may sd s .here) (grows-by (s .here .notes .notices) _)
+  ending-stays may sd s = alone-stays s (nStepped m may sd (s .ends) (hand-over 0))
+      (ending m right letter fresh accepts may sd s .here) (grows-by (s .here .notes .notices) _)
 
   acked-stays : (s : Hosts m) (j : ℕ) → Stays m s (record { ends = s .ends; here = acknowledges m right letter fresh accepts j (s .here); there = s .there })
-  acked-stays s j = alone-stays s (s .ends) (acknowledges m right letter fresh accepts j (s .here)) (go (isDecided (s .here .kept .decision j)))
+  acked-stays s j = alone-stays s (s .ends) (acknowledges m right letter fresh accepts j (s .here))
+      (go (isDecided (s .here .kept .decision j)))
     where
       go : (b : Bool) → Grows (s .here .notes .notices) (cond b (record { notes = s .here .notes; kept = s .here .kept; keptRec = s .here .keptRec; unsent = s .here .unsent; power = s .here .power; done = λ (i : ℕ). eqb i j || s .here .done i; log = s .here .log; waiting = s .here .waiting; seen = s .here .seen }) (s .here) .notes .notices)
       go true = grows-refl (s .here .notes .notices)
@@ -85,18 +97,31 @@ module _ (m : NMachine) (letter : Side → ℕ → m .at .A) (fresh : Side → m
 
   -- what comes up is what was kept
   lost-stays : (sd : Side) (s : Hosts m) → DGood m s → Stays m s (lost m right letter fresh accepts sd s)
-  lost-stays sd s g = alone-stays s (lost m right letter fresh accepts sd s .ends) (lost m right letter fresh accepts sd s .here) (subst (λ (n : Notes). Grows (s .here .notes .notices) (n .notices)) (sym (g .near .notes-kept)) (grows-refl (s .here .notes .notices)))
+  lost-stays sd s g = alone-stays s (lost m right letter fresh accepts sd s .ends)
+      (lost m right letter fresh accepts sd s .here) (subst
+      (λ (n : Notes). Grows (s .here .notes .notices) (n .notices)) (sym (g .near .notes-kept))
+      (grows-refl (s .here .notes .notices)))
 
-  acted-stays : (may : Bool) (sd : Side) (s : Hosts m) (a : Act (m .at .A)) → DGood m s → Stays m s (acted m right letter fresh accepts may sd s a)
-  acted-stays may sd s (deliver j) g = either (ready m right letter fresh accepts (s .here)) s (delivered m right letter fresh accepts may sd s j) s (delivered-stays may sd s j) (stays-refl s)
+  acted-stays : (may : Bool) (sd : Side) (s : Hosts m) (a : Act (m .at .A)) → DGood m s
+      → Stays m s (acted m right letter fresh accepts may sd s a)
+  acted-stays may sd s (deliver j) g = either (ready m right letter fresh accepts (s .here)) s
+      (delivered m right letter fresh accepts may sd s j) s (delivered-stays may sd s j) (stays-refl s)
   acted-stays may sd s (lay-aside j) g = aside-stays s j
-  acted-stays may sd s (happens c) g = either (ready m right letter fresh accepts (s .here) && may-happen m right letter fresh accepts sd s c) s (happened m right letter fresh accepts may sd s c) s (happened-stays may sd s c) (stays-refl s)
-  acted-stays may sd s end-confirmed g = either (ready m right letter fresh accepts (s .here) && (arrived m right letter fresh accepts s && endArrives m accepts sd (s .ends .here .rec) (s .ends .there .line))) s (ending m right letter fresh accepts may sd s) s (ending-stays may sd s) (stays-refl s)
+  acted-stays may sd s (happens c) g = either
+      (ready m right letter fresh accepts (s .here) && may-happen m right letter fresh accepts sd s c) s
+      (happened m right letter fresh accepts may sd s c) s (happened-stays may sd s c) (stays-refl s)
+  acted-stays may sd s end-confirmed g = either (ready m right letter fresh accepts (s .here) && (arrived m right letter
+      fresh accepts s && endArrives m accepts sd (s .ends .here .rec) (s .ends .there .line))) s
+      (ending m right letter fresh accepts may sd s) s (ending-stays may sd s) (stays-refl s)
   acted-stays may sd s shows g = record { near = grows-refl (s .here .notes .notices); far = grows-refl (s .there .notes .notices) }
   acted-stays may sd s release g = record { near = grows-refl (s .here .notes .notices); far = grows-refl (s .there .notes .notices) }
   acted-stays may sd s (acknowledge j) g = acked-stays s j
-  acted-stays may sd s connection-released g = either (seesRelease m right letter fresh accepts (s .ends)) s (settled m right letter fresh accepts told-ended s) s (alone-stays s (s .ends) (settled m right letter fresh accepts told-ended s .here) (grows-by (s .here .notes .notices) _)) (stays-refl s)
-  acted-stays may sd s give-up g = alone-stays s (s .ends) (settled m right letter fresh accepts told-broken s .here) (grows-by (s .here .notes .notices) _)
+  acted-stays may sd s connection-released g = either (seesRelease m right letter fresh accepts (s .ends)) s
+      (settled m right letter fresh accepts told-ended s) s (alone-stays s (s .ends)
+      (settled m right letter fresh accepts told-ended s .here) (grows-by (s .here .notes .notices) _))
+      (stays-refl s)
+  acted-stays may sd s give-up g = alone-stays s (s .ends) (settled m right letter fresh accepts told-broken s .here)
+      (grows-by (s .here .notes .notices) _)
   acted-stays may sd s keep g = record { near = grows-refl (s .here .notes .notices); far = grows-refl (s .there .notes .notices) }
   acted-stays may sd s power-fails g = lost-stays sd s g
   acted-stays may sd s cut-off g = record { near = grows-by (s .here .notes .notices) _; far = grows-refl (s .there .notes .notices) }
@@ -132,7 +157,8 @@ module _ (m : NMachine) (letter : Side → ℕ → m .at .A) (fresh : Side → m
   waited-stays sd s cut-off = record { near = grows-by (s .here .notes .notices) _; far = grows-refl (s .there .notes .notices) }
   waited-stays sd s carrier-fails = record { near = grows-by (s .here .notes .notices) _; far = grows-by (s .there .notes .notices) _ }
 
-  pub step-stays : (may : Bool) (sd : Side) (s : Hosts m) (a : Act (m .at .A)) → DGood m s → Stays m s (dStepped m right letter fresh accepts may sd s a)
+  pub step-stays : (may : Bool) (sd : Side) (s : Hosts m) (a : Act (m .at .A)) → DGood m s
+      → Stays m s (dStepped m right letter fresh accepts may sd s a)
   step-stays may sd s a g = go (s .here .power)
     where
       go : (p : Power) → Stays m s (powered m right letter fresh accepts p may sd s a)

@@ -20,7 +20,9 @@ by-holder [] = []
 by-holder (v ∷ vs) = record { side = v .side; shift = holder (v .act) } ∷ by-holder vs
 
 abbrev after : Bool → List (LMove (Numbered Ask)) → Shared (numbered control)
-after fence vs = lRun (numbered control) right letterOf freshOf answersYes fence Ground (alone-first (numbered control) right letterOf freshOf answersYes fence (dFresh (numbered control) right letterOf freshOf answersYes (mark 0 new) (mark 0 new))) vs
+after fence vs = lRun (numbered control) right letterOf freshOf answersYes fence Ground (alone-first (numbered control)
+    right letterOf freshOf answersYes fence
+    (dFresh (numbered control) right letterOf freshOf answersYes (mark 0 new) (mark 0 new))) vs
 
 -- a second host of the ground takes over, opens the dialogue anew, and job 2 is shown; the first one wakes up and takes job 1; the power fails, and job 2 comes again
 abbrev wakes-late : List (LMove (Numbered Ask))
@@ -36,7 +38,8 @@ leaves-late =
     ++ (record { side = Air; shift = holder carrier-fails } ∷ by-holder (opening 2 ++ (sends 1 ++ (sends 2 ++ closing)))))
 
 -- without the fence job 2 is shown twice, and with it no claim is false
-pub fence-is-needed : falseAt (after false wakes-late .hosts) ∷ falseAt (after true wakes-late .hosts) ∷ falseAt (after true leaves-late .hosts) ∷ [] ≡ (1 ∷ []) ∷ [] ∷ [] ∷ []
+pub fence-is-needed : falseAt (after false wakes-late .hosts) ∷ falseAt (after true wakes-late .hosts) ∷ falseAt
+    (after true leaves-late .hosts) ∷ [] ≡ (1 ∷ []) ∷ [] ∷ [] ∷ []
 unfolding lRun
 fence-is-needed = refl
 
@@ -49,7 +52,8 @@ abbrev seen : List Notice → ℕ → ℕ → Seen
 seen n a b = record { told = n; first = a; second = b }
 
 abbrev toldOn : Bool → List (LMove (Numbered Ask)) → Seen
-toldOn fence vs = let s = after fence vs .hosts in seen (s .there .kept .notices) (times (numbered control) (s .there) (s .here) 1) (times (numbered control) (s .there) (s .here) 2)
+toldOn fence vs = let s = after fence vs .hosts in seen (s .there .kept .notices)
+    (times (numbered control) (s .there) (s .here) 1) (times (numbered control) (s .there) (s .here) 2)
 
 pub woken-told : toldOn true wakes-late ≡ seen (note 2 told-broken ∷ []) 0 1
 unfolding lRun

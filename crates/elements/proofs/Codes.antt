@@ -19,7 +19,9 @@ use Rattle.elements.proofs.Whole.{ranged, whole-reads, whole-stands}
 use Rattle.elements.proofs.Steps.{never, onto-is}
 
 -- a digit, and those after it
-digit-reads : (l : List ℕ) (at next d : ℕ) (ds : List ℕ) (k : ℕ → ℕ → CodeRead) (o : CodeRead) → Stands l at (digitsFit (d ∷ ds)) (digitsBits (d ∷ ds)) next → ((m : ℕ) → Stands l m (digitsFit ds) (digitsBits ds) next → k d m ≡ o) → digit l at k ≡ o
+digit-reads : (l : List ℕ) (at next d : ℕ) (ds : List ℕ) (k : ℕ → ℕ → CodeRead) (o : CodeRead)
+    → Stands l at (digitsFit (d ∷ ds)) (digitsBits (d ∷ ds)) next
+    → ((m : ℕ) → Stands l m (digitsFit ds) (digitsBits ds) next → k d m ≡ o) → digit l at k ≡ o
 unfolding digitsFit digitsBits
 digit-reads l at next d ds k o s go =
     let p = stands-split l at next _ _ (wholeBits 0 7 d) _ s in
@@ -29,7 +31,8 @@ digit-stands : {R : Type 0} (l : List ℕ) (at : ℕ) (k : ℕ → ℕ → CodeR
 digit-stands l at k ds next b go e =
     onto-is noCode (wholeNumber l at 0 7) k (isCode next ds)
     (λ (d m : ℕ) (p : wholeNumber l at 0 7 ≡ field.Value d m) (q : k d m ≡ isCode next ds). go d m (whole-stands l at 0 7 d m b p) q)
-    (λ (z : Refusal) (f : noCode z ≡ isCode next ds). let g : step.Refused z ≡ step.Next next = ap (λ (c : CodeRead). c .step) f in never (cc))
+    (λ (z : Refusal) (f : noCode z ≡ isCode next ds). let g : step.Refused z ≡ step.Next next = ap
+    (λ (c : CodeRead). c .step) f in never (cc))
     e
 
 -- after the last digit
@@ -37,15 +40,19 @@ ended : (l : List ℕ) (m next : ℕ) → Stands l m (digitsFit []) (digitsBits 
 unfolding digitsBits
 ended l m next s = sym (s .place ∙ add-zero m)
 
-last-stands : (l : List ℕ) (m next d : ℕ) → Stands l m (wholeFits 0 7 d) (wholeBits 0 7 d) next → Stands l m (digitsFit (d ∷ [])) (digitsBits (d ∷ [])) next
+last-stands : (l : List ℕ) (m next d : ℕ) → Stands l m (wholeFits 0 7 d) (wholeBits 0 7 d) next
+    → Stands l m (digitsFit (d ∷ [])) (digitsBits (d ∷ [])) next
 unfolding digitsFit digitsBits
 last-stands l m next d s = stands-join l m next next _ _ _ [] s (stands-nothing l next true refl)
 
-more-stands : (l : List ℕ) (at m next d : ℕ) (ds : List ℕ) → Stands l at (wholeFits 0 7 d) (wholeBits 0 7 d) m → Stands l m (digitsFit ds) (digitsBits ds) next → Stands l at (digitsFit (d ∷ ds)) (digitsBits (d ∷ ds)) next
+more-stands : (l : List ℕ) (at m next d : ℕ) (ds : List ℕ) → Stands l at (wholeFits 0 7 d) (wholeBits 0 7 d) m
+    → Stands l m (digitsFit ds) (digitsBits ds) next → Stands l at (digitsFit (d ∷ ds)) (digitsBits (d ∷ ds)) next
 unfolding digitsFit digitsBits
 more-stands l at m next d ds s t = stands-join l at m next _ _ _ _ s t
 
-pub code-reads : (l : List ℕ) (at next a b c d : ℕ) → Stands l at (digitsFit (a ∷ b ∷ c ∷ d ∷ [])) (digitsBits (a ∷ b ∷ c ∷ d ∷ [])) next → codeAt l at ≡ isCode next (a ∷ b ∷ c ∷ d ∷ [])
+pub code-reads : (l : List ℕ) (at next a b c d : ℕ)
+    → Stands l at (digitsFit (a ∷ b ∷ c ∷ d ∷ [])) (digitsBits (a ∷ b ∷ c ∷ d ∷ [])) next
+    → codeAt l at ≡ isCode next (a ∷ b ∷ c ∷ d ∷ [])
 unfolding codeAt
 code-reads l at next a b c d s =
     digit-reads l at next a _ _ _ s
@@ -53,11 +60,14 @@ code-reads l at next a b c d s =
     (λ (m : ℕ) (s : _). digit-reads l m next c _ _ _ s
     (λ (m : ℕ) (s : _). digit-reads l m next d _ _ _ s (λ (m : ℕ) (s : _). rw (ended l m next s)))))
 
-of-four : (l : List ℕ) (at next a b c d : ℕ) → Stands l at (digitsFit (a ∷ b ∷ c ∷ d ∷ [])) (digitsBits (a ∷ b ∷ c ∷ d ∷ [])) next → Stands l at (codeFits (a ∷ b ∷ c ∷ d ∷ [])) (digitsBits (a ∷ b ∷ c ∷ d ∷ [])) next
+of-four : (l : List ℕ) (at next a b c d : ℕ)
+    → Stands l at (digitsFit (a ∷ b ∷ c ∷ d ∷ [])) (digitsBits (a ∷ b ∷ c ∷ d ∷ [])) next
+    → Stands l at (codeFits (a ∷ b ∷ c ∷ d ∷ [])) (digitsBits (a ∷ b ∷ c ∷ d ∷ [])) next
 unfolding codeFits
 of-four l at next a b c d s = stands-as l at next _ _ _ (s .fits) s
 
-pub code-stands : (l : List ℕ) (at next : ℕ) (ds : List ℕ) → Bits l → codeAt l at ≡ isCode next ds → Stands l at (codeFits ds) (digitsBits ds) next
+pub code-stands : (l : List ℕ) (at next : ℕ) (ds : List ℕ) → Bits l → codeAt l at ≡ isCode next ds
+    → Stands l at (codeFits ds) (digitsBits ds) next
 unfolding codeAt
 code-stands l at next ds bits e =
     digit-stands l at _ ds next bits
@@ -68,7 +78,8 @@ code-stands l at next ds bits e =
     let g : step.Next n ≡ step.Next next = ap (λ (x : CodeRead). x .step) ed in
     let i : n ≡ next = cc in
     let j : a ∷ b ∷ c ∷ d ∷ [] ≡ ds = ap (λ (x : CodeRead). x .digits) ed in
-    rw (← i, ← j) (of-four l at n a b c d (more-stands l at p n a _ sa (more-stands l p q n b _ sb (more-stands l q r n c _ sc (last-stands l r n d sd))))))
+    rw (← i, ← j) (of-four l at n a b c d (more-stands l at p n a _ sa
+    (more-stands l p q n b _ sb (more-stands l q r n c _ sc (last-stands l r n d sd))))))
     ec)
     eb)
     ea)

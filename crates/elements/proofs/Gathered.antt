@@ -49,14 +49,17 @@ pub gather-none : (xs : List ℕ) → bitsN (7 * 0) 0 ≡ charactersBits (take 0
 unfolding charactersBits
 gather-none xs = bitsN-zero 0
 
-pub gather-turn : (xs : List ℕ) (i v c : ℕ) → i < length xs → c ≡ getD xs i 0 → c < 128 → bitsN (7 * i) v ≡ charactersBits (take i xs) → bitsN (7 * (i + 1)) (v * 128 + c) ≡ charactersBits (take (i + 1) xs)
+pub gather-turn : (xs : List ℕ) (i v c : ℕ) → i < length xs → c ≡ getD xs i 0 → c < 128
+    → bitsN (7 * i) v ≡ charactersBits (take i xs)
+    → bitsN (7 * (i + 1)) (v * 128 + c) ≡ charactersBits (take (i + 1) xs)
 gather-turn xs i v c h e k inv =
     let n : 7 * (i + 1) ≡ 7 * i + 7 = omega arith in
     let d : (v * 128 + c) / 2 ^ 7 ≡ v = omega arith in
     let t : take (i + 1) xs ≡ take i xs ++ (c ∷ []) = rw (add-one, e) (take-suc xs i 0 h) in
     rw (n, bitsN-split (7 * i) 7 (v * 128 + c), d, bitsN-high 7 v c, inv, t, characters-append, one-character)
 
-pub gather-done : (xs : List ℕ) (i v : ℕ) → i ≤ length xs → length xs ≤ i → bitsN (7 * i) v ≡ charactersBits (take i xs) → v < 2 ^ (7 * i) → (bitsN (7 * length xs) v ≡ charactersBits xs) × (v < 2 ^ (7 * length xs))
+pub gather-done : (xs : List ℕ) (i v : ℕ) → i ≤ length xs → length xs ≤ i → bitsN (7 * i) v ≡ charactersBits (take i xs)
+    → v < 2 ^ (7 * i) → (bitsN (7 * length xs) v ≡ charactersBits xs) × (v < 2 ^ (7 * length xs))
 gather-done xs i v h g e l =
     let n : i ≡ length xs = omega arith in
     let t : take i xs ≡ xs = take-all i xs g in
@@ -83,19 +86,23 @@ pieces-fit (x ∷ xs) f =
     rw (le-leb 0 x (omega arith), le-leb x 127 (omega arith)) (pieces-fit xs (both-right (ltb x 128) (charactersFit xs) f))
 
 -- characters that have room
-pub characters-left : (s : List ℕ) (e at : ℕ) (xs : List ℕ) → charactersFit xs ≡ true → at + 7 * length xs ≤ min e (8 * length s) → putPieces s e at (numberPieces 127 xs) ≡ left (Next (at + 7 * length xs)) (putBits s at (charactersBits xs))
+pub characters-left : (s : List ℕ) (e at : ℕ) (xs : List ℕ) → charactersFit xs ≡ true
+    → at + 7 * length xs ≤ min e (8 * length s)
+    → putPieces s e at (numberPieces 127 xs) ≡ left (Next (at + 7 * length xs)) (putBits s at (charactersBits xs))
 characters-left s e at xs f r =
     let y : piecesBits (numberPieces 127 xs) ≡ charactersBits xs = characters-bits xs in
     let k = length-charactersBits xs in
     rw (y, k) at (pieces-left (numberPieces 127 xs) s e at (pieces-fit xs f) (rw (y, k, length-to s e) r))
 
 -- the number of their bits, put
-pub few-put : (s : List ℕ) (e at v : ℕ) (xs : List ℕ) → length xs ≤ 8 → at + 7 * length xs ≤ min e (8 * length s) → bitsN (7 * length xs) v ≡ charactersBits xs → v < 2 ^ (7 * length xs)
+pub few-put : (s : List ℕ) (e at v : ℕ) (xs : List ℕ) → length xs ≤ 8 → at + 7 * length xs ≤ min e (8 * length s)
+    → bitsN (7 * length xs) v ≡ charactersBits xs → v < 2 ^ (7 * length xs)
     → putNumber s e at (7 * length xs) v ≡ left (Next (at + 7 * length xs)) (putBits s at (charactersBits xs))
 unfolding putNumber putIf
 few-put s e at v xs m r b l =
     let k = length-charactersBits xs in
-    rw (le-leb (7 * length xs) 64 (omega arith), lt-ltb v (2 ^ (7 * length xs)) l, b) (rw k at (put-fits s e at (charactersBits xs) (rw (k, length-to s e) r)))
+    rw (le-leb (7 * length xs) 64 (omega arith), lt-ltb v (2 ^ (7 * length xs)) l, b)
+    (rw k at (put-fits s e at (charactersBits xs) (rw (k, length-to s e) r)))
 
 -- the first k of them from a place on, and the rest
 fit-drop : (i : ℕ) (xs : List ℕ) → charactersFit xs ≡ true → charactersFit (drop i xs) ≡ true
@@ -108,7 +115,8 @@ fit-take : (k : ℕ) (xs : List ℕ) → charactersFit xs ≡ true → character
 unfolding charactersFit
 fit-take zero xs f = refl
 fit-take (suc k) [] f = refl
-fit-take (suc k) (x ∷ xs) f = both-hold (ltb x 128) (charactersFit (take k xs)) (both-left (ltb x 128) (charactersFit xs) f) (fit-take k xs (both-right (ltb x 128) (charactersFit xs) f))
+fit-take (suc k) (x ∷ xs) f = both-hold (ltb x 128) (charactersFit (take k xs))
+    (both-left (ltb x 128) (charactersFit xs) f) (fit-take k xs (both-right (ltb x 128) (charactersFit xs) f))
 
 pub fit-part : (i k : ℕ) (xs : List ℕ) → charactersFit xs ≡ true → charactersFit (take k (drop i xs)) ≡ true
 fit-part i k xs f = fit-take k (drop i xs) (fit-drop i xs f)
@@ -118,7 +126,8 @@ unfolding numberPieces
 numbers-append hi [] ys = refl
 numbers-append hi (x ∷ xs) ys = rw (numbers-append hi xs ys)
 
-pub in-parts : (hi i k : ℕ) (xs : List ℕ) → numberPieces hi (drop i xs) ≡ numberPieces hi (take k (drop i xs)) ++ numberPieces hi (drop (i + k) xs)
+pub in-parts : (hi i k : ℕ) (xs : List ℕ)
+    → numberPieces hi (drop i xs) ≡ numberPieces hi (take k (drop i xs)) ++ numberPieces hi (drop (i + k) xs)
 in-parts hi i k xs =
     let d : drop k (drop i xs) ≡ drop (i + k) xs = rw drop-drop in
     ap (numberPieces hi) (sym (take-append-drop k (drop i xs))) ∙ rw (numbers-append, d)
@@ -137,11 +146,14 @@ module _ (s t : List ℕ) (e p i k n v : ℕ) (xs : List ℕ) (a : Put) (f : cha
   pub part-put : left a t ≡ putPieces s e p (numberPieces 127 (take k (drop i xs)))
   part-put = let c = many in part ∙ sym (characters-left s e p (take k (drop i xs)) (fit-part i k xs f) (omega arith))
 
-  pub part-next : (j o : ℕ) → i + k ≡ j → p + 7 * k ≡ o → putPieces t e o (numberPieces 127 (drop j xs)) ≡ putPieces s e p (numberPieces 127 (drop i xs))
+  pub part-next : (j o : ℕ) → i + k ≡ j → p + 7 * k ≡ o
+      → putPieces t e o (numberPieces 127 (drop j xs)) ≡ putPieces s e p (numberPieces 127 (drop i xs))
   part-next j o x y =
       let u : a ≡ Next (p + 7 * length (take k (drop i xs))) = ap (λ (l : Left). l .answer) part in
       let l = putPieces t e (p + 7 * k) (numberPieces 127 (drop (i + k) xs)) in
-      rw (← x, ← y) (pieces-next (numberPieces 127 (take k (drop i xs))) (numberPieces 127 (drop (i + k) xs)) s t (l .bytes) e p (p + 7 * k) a (l .answer) part-put (rw many at u) refl ∙ ap (putPieces s e p) (sym (in-parts 127 i k xs)))
+      rw (← x, ← y) (pieces-next (numberPieces 127 (take k (drop i xs))) (numberPieces 127 (drop (i + k) xs)) s t
+      (l .bytes) e p (p + 7 * k) a (l .answer) part-put (rw many at u) refl ∙ ap (putPieces s e p)
+      (sym (in-parts 127 i k xs)))
 
 -- the rest from a place on
 pub the-rest : (xs : List ℕ) (i : ℕ) → take (length xs - i) (drop i xs) ≡ drop i xs

@@ -37,18 +37,22 @@ pub index-as : (l : List ℕ) (at last last′ : ℕ) (f : Field) → f ≡ exte
 index-as l at last last′ f e p = rw (← p) e
 
 module _ (l : List ℕ) (at last i next : ℕ) where
-  pub index-reads : Ranged 0 last → Stands l at (wholeFits 0 last i) (indexBits last i) next → extensibleIndex l at last ≡ field.Value i next
+  pub index-reads : Ranged 0 last → Stands l at (wholeFits 0 last i) (indexBits last i) next
+      → extensibleIndex l at last ≡ field.Value i next
   index-reads r s = field-reads (extensible-index last (r .small)) l at i next some s
     where
       some : 0 < length (indexBits last i)
       some = omega (arith, length-index last i)
 
-  pub index-stands : Ranged 0 last → Bits l → extensibleIndex l at last ≡ field.Value i next → Stands l at (wholeFits 0 last i) (indexBits last i) next
+  pub index-stands : Ranged 0 last → Bits l → extensibleIndex l at last ≡ field.Value i next
+      → Stands l at (wholeFits 0 last i) (indexBits last i) next
   index-stands r b e = field-stands (extensible-index last (r .small)) l at i next b e
 
   pub index-most : (f : Field) → f ≡ extensibleIndex l at last → f ≡ field.Value i next → i ≤ last
   unfolding extensibleIndex
-  index-most f p q = via (i ≤ last) (extensionBit l at) (λ (v m : ℕ). wholeNumber l m 0 last) i next (λ (v m : ℕ) (a : _) (e : wholeNumber l m 0 last ≡ field.Value i next). whole-most l m 0 last i next (wholeNumber l m 0 last) refl e) (sym p ∙ q)
+  index-most f p q = via (i ≤ last) (extensionBit l at) (λ (v m : ℕ). wholeNumber l m 0 last) i next (λ (v m : ℕ)
+      (a : _) (e : wholeNumber l m 0 last ≡ field.Value i next). whole-most l m 0 last i next
+      (wholeNumber l m 0 last) refl e) (sym p ∙ q)
 
   -- it stands behind its extension bit
   pub index-behind : Ranged 0 last → Bits l → (f : Field) → f ≡ extensibleIndex l at last → f ≡ field.Value i next → at + 1 ≤ next

@@ -33,7 +33,9 @@ use Rattle.elements.proofs.Written.{level-bits}
 
 -- ---- any pieces
 
-pub joined-put : (xs : List Piece) (s z : List ℕ) (e at n v : ℕ) (a : Put) → piecesFit xs ≡ true → Bits (piecesBits xs) → n ≡ length (piecesBits xs) → v ≡ numOf (piecesBits xs) → n ≤ 64 → Within s e at n → left a z ≡ putNumber s e at n v → left a z ≡ putPieces s e at xs
+pub joined-put : (xs : List Piece) (s z : List ℕ) (e at n v : ℕ) (a : Put) → piecesFit xs ≡ true → Bits (piecesBits xs)
+    → n ≡ length (piecesBits xs) → v ≡ numOf (piecesBits xs) → n ≤ 64 → Within s e at n
+    → left a z ≡ putNumber s e at n v → left a z ≡ putPieces s e at xs
 joined-put xs s z e at n v a f b pn pv m w h =
     let bs : List ℕ = piecesBits xs in
     let k : at + length bs ≤ length (bitsTo s e) = rw pn at (leb-true (at + n) (length (bitsTo s e)) (w .test)) in
@@ -55,7 +57,8 @@ num-whole lo hi v s f =
     let k : hi - lo < 2 ^ widthOf (hi - lo) = width-holds 64 (hi - lo) (omega arith) in
     num-bitsN (widthOf (hi - lo)) (v - lo) ∙ mod-eq-of-lt (omega arith)
 
-pub whole-behind : (xs : List ℕ) (lo hi v : ℕ) → hi < 2 ^ 64 → wholeFits lo hi v ≡ true → numOf (xs ++ wholeBits lo hi v) ≡ numOf xs * 2 ^ widthOf (hi - lo) + (v - lo)
+pub whole-behind : (xs : List ℕ) (lo hi v : ℕ) → hi < 2 ^ 64 → wholeFits lo hi v ≡ true
+    → numOf (xs ++ wholeBits lo hi v) ≡ numOf xs * 2 ^ widthOf (hi - lo) + (v - lo)
 whole-behind xs lo hi v s f = rw (num-append, length-whole, num-whole lo hi v s f)
 
 -- ---- a level in one unit
@@ -92,24 +95,33 @@ module _ (x : LevelType) (f : levelTypeFits x ≡ true) where
     unit-shifted = mod-eq-of-lt (omega (arith, shifted))
 
     pub type-small : x .unit * 2 ^ n % 2 ^ 64 + (x .number - low) < 2 ^ 64
-    type-small = rw unit-shifted (omega (arith, shifted, whole-below (lowest (x .unit)) (highest (x .unit)) (x .number) number-fits, highest-small (x .unit)))
+    type-small = rw unit-shifted (omega (
+      arith,
+      shifted,
+      whole-below (lowest (x .unit)) (highest (x .unit)) (x .number)
+          number-fits,
+      highest-small (x .unit),
+    ))
 
     pub type-said : x .unit * 2 ^ n % 2 ^ 64 + (x .number - low) ≡ numOf (levelTypeBits x)
     unfolding levelTypeBits
     type-said =
         let small : highest (x .unit) < 2 ^ 64 = omega (arith, highest-small (x .unit)) in
         let u : numOf (wholeBits 0 3 (x .unit)) ≡ x .unit = num-whole 0 3 (x .unit) (omega arith) unit-fits ∙ omega arith in
-        rw unit-shifted (rw (pn, pl, ph) (sym (whole-behind (wholeBits 0 3 (x .unit)) (lowest (x .unit)) (highest (x .unit)) (x .number) small number-fits ∙ rw u)))
+        rw unit-shifted (rw (pn, pl, ph) (sym (whole-behind (wholeBits 0 3 (x .unit)) (lowest (x .unit))
+        (highest (x .unit)) (x .number) small number-fits ∙ rw u)))
 
 -- ---- a level that is no block
 
 type-are-bits : (x : LevelType) → Bits (levelTypeBits x)
 unfolding levelTypeBits
-type-are-bits x = bits-append (wholeBits 0 3 (x .unit)) _ (whole-are-bits 0 3 (x .unit)) (whole-are-bits (lowest (x .unit)) (highest (x .unit)) (x .number))
+type-are-bits x = bits-append (wholeBits 0 3 (x .unit)) _ (whole-are-bits 0 3 (x .unit))
+    (whole-are-bits (lowest (x .unit)) (highest (x .unit)) (x .number))
 
 level-are-bits : (x : Level) → x .block ≡ false → Bits (levelBits x)
 unfolding levelBits
-level-are-bits x b = rw (b, append-nil) (bits-append (wholeBits 0 1 0) (levelTypeBits (x .first)) (whole-are-bits 0 1 0) (type-are-bits (x .first)))
+level-are-bits x b = rw (b, append-nil)
+    (bits-append (wholeBits 0 1 0) (levelTypeBits (x .first)) (whole-are-bits 0 1 0) (type-are-bits (x .first)))
 
 level-single-fit : (x : Level) → x .block ≡ false → levelTypeFits (x .first) ≡ true → piecesFit (levelPieces x) ≡ true
 unfolding levelPieces
@@ -121,7 +133,12 @@ level-number x b =
     let z : numOf (wholeBits 0 1 0) ≡ 0 = num-whole 0 1 0 (omega arith) refl in
     rw (b, append-nil, num-append, z) (omega arith)
 
-pub level-joined : (x : Level) (s t : List ℕ) (e at n v : ℕ) (a : Put) → (x .block ≡ false) × (levelTypeFits (x .first) ≡ true) → n ≡ length (levelBits x) → v ≡ numOf (levelTypeBits (x .first)) → Within s e at n → left a t ≡ putNumber s e at n v → left a t ≡ putPieces s e at (levelPieces x)
+pub level-joined : (x : Level) (s t : List ℕ) (e at n v : ℕ) (a : Put)
+    → (x .block ≡ false) × (levelTypeFits (x .first) ≡ true) → n ≡ length (levelBits x)
+    → v ≡ numOf (levelTypeBits (x .first)) → Within s e at n → left a t ≡ putNumber s e at n v
+    → left a t ≡ putPieces s e at (levelPieces x)
 level-joined x s t e at n v a f pn pv w h =
     let bs = level-bits x in
-    joined-put (levelPieces x) s t e at n v a (level-single-fit x (f .0) (f .1)) (rw bs (level-are-bits x (f .0))) (rw bs pn) (rw bs (pv ∙ level-number x (f .0))) (omega (arith, pn, length-single x (f .0), level-type-most (x .first))) w h
+    joined-put (levelPieces x) s t e at n v a (level-single-fit x (f .0) (f .1)) (rw bs (level-are-bits x (f .0)))
+    (rw bs pn) (rw bs (pv ∙ level-number x (f .0)))
+    (omega (arith, pn, length-single x (f .0), level-type-most (x .first))) w h

@@ -30,8 +30,10 @@ unfolding lastOf indexWidth digitsIn
 index-width Downlink = refl
 index-width Uplink = refl
 
-pub element-largest : (d : Direction) (e : Element) (t : List ℕ) → elementFits d e t ≡ true → length (elementBits d e t) ≤ indexWidth d + largestOf (kindOf d (e .number))
-element-largest d e t p = omega (arith, length-element d e t, index-width d, argument-largest (kindOf d (e .number)) e t (its-argument d e t p))
+pub element-largest : (d : Direction) (e : Element) (t : List ℕ) → elementFits d e t ≡ true
+    → length (elementBits d e t) ≤ indexWidth d + largestOf (kindOf d (e .number))
+element-largest d e t p = omega
+    (arith, length-element d e t, index-width d, argument-largest (kindOf d (e .number)) e t (its-argument d e t p))
 
 -- ---- as many
 
@@ -93,7 +95,8 @@ counted kind.FacilityDesignation i = refl
 counted kind.AtisCode i = refl
 
 fit : (k : ArgumentKind) (i : ℕ) → (k ≡ kind.NotCarried → ⊥) → argumentFits k (largest k i) (most k) ≡ true
-unfolding largest most block metres lowest highest levelTypeFits levelFits timeFits digitsFit codeFits charactersFit sizedFits facilityFits atisFits levelUnused timeUnused zeros codeUnused levelsUnused plain argumentFits
+unfolding largest most block metres lowest highest levelTypeFits levelFits timeFits digitsFit codeFits charactersFit
+    sizedFits facilityFits atisFits levelUnused timeUnused zeros codeUnused levelsUnused plain argumentFits
 fit kind.NotCarried i c = absurd (c refl)
 fit kind.None i c = refl
 fit kind.Level i c = refl
@@ -122,7 +125,8 @@ long kind.TwoLevels i = omega (arith, length-append (levelBits block) (levelBits
 long kind.Time i = length-time (bare i .time)
 long kind.Code i = length-digits (bare i .code)
 long kind.FreeText i = length-sized 1 256 (replicate 256 65)
-long kind.Facility i = length-facility (replicate 8 65) (λ (z : 8 ≡ 0). omega arith) ∙ ap (λ (n : ℕ). 1 + n) (length-sized 4 8 (replicate 8 65))
+long kind.Facility i = length-facility (replicate 8 65) (λ (z : 8 ≡ 0). omega arith) ∙ ap (λ (n : ℕ). 1 + n)
+    (length-sized 4 8 (replicate 8 65))
 long kind.FacilityDesignation i = length-sized 4 8 (replicate 8 65)
 long kind.AtisCode i = length-charactersBits (replicate 1 65)
 
@@ -141,4 +145,9 @@ module _ (d : Direction) (i : ℕ) where
   by-number j e = rw e (long (kindOf d i) i)
 
   pub largest-reached : length (elementBits d (largest (kindOf d i) i) (most (kindOf d i))) ≡ indexWidth d + largestOf (kindOf d i)
-  largest-reached = omega (arith, length-element d (largest (kindOf d i) i) (most (kindOf d i)), index-width d, by-number (largest (kindOf d i) i .number) (numbered (kindOf d i) i))
+  largest-reached = omega (
+    arith,
+    length-element d (largest (kindOf d i) i) (most (kindOf d i)),
+    index-width d,
+    by-number (largest (kindOf d i) i .number) (numbered (kindOf d i) i),
+  )

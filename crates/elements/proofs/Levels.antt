@@ -67,11 +67,13 @@ units = ranged _ _ tt tt
 made : ℕ → ℕ → ℕ → LevelTypeRead
 made u v next = type.Got (record { unit = u; number = v }) next
 
-pub level-type-reads : (l : List ℕ) (at next : ℕ) (x : LevelType) → Stands l at (levelTypeFits x) (levelTypeBits x) next → levelTypeAt l at ≡ type.Got x next
+pub level-type-reads : (l : List ℕ) (at next : ℕ) (x : LevelType) → Stands l at (levelTypeFits x) (levelTypeBits x) next
+    → levelTypeAt l at ≡ type.Got x next
 unfolding levelTypeFits levelTypeBits levelTypeAt made
 level-type-reads l at next x s = pair-reads type.Refused made 0 3 lowest highest units in-range l at (x .unit) (x .number) next s
 
-pub level-type-stands : (l : List ℕ) (at next : ℕ) (x : LevelType) → Bits l → levelTypeAt l at ≡ type.Got x next → Stands l at (levelTypeFits x) (levelTypeBits x) next
+pub level-type-stands : (l : List ℕ) (at next : ℕ) (x : LevelType) → Bits l → levelTypeAt l at ≡ type.Got x next
+    → Stands l at (levelTypeFits x) (levelTypeBits x) next
 unfolding levelTypeFits levelTypeBits levelTypeAt made
 level-type-stands l at next x b e =
     pair-is type.Refused made 0 3 lowest highest units in-range l at (type.Got x next) b
@@ -91,10 +93,12 @@ type-is (type.Got x n) k o go bad e = go x n refl e
 type-is (type.Refused r) k o go bad e = bad r e
 
 -- as the code takes them
-pub type-handed : (f g : LevelTypeRead) (r x : Refusal) (k : LevelType → ℕ → LevelRead) → f ≡ g → f ≡ type.Refused r → x ≡ typeRefusal f → level.Refused x ≡ ontoType g k
+pub type-handed : (f g : LevelTypeRead) (r x : Refusal) (k : LevelType → ℕ → LevelRead) → f ≡ g → f ≡ type.Refused r
+    → x ≡ typeRefusal f → level.Refused x ≡ ontoType g k
 type-handed f g r x k p q e = rw (← p, e, q)
 
-pub type-went : (f g : LevelTypeRead) (x : LevelType) (n : ℕ) (k : LevelType → ℕ → LevelRead) (o : LevelRead) → f ≡ g → f ≡ type.Got x n → o ≡ k x n → o ≡ ontoType g k
+pub type-went : (f g : LevelTypeRead) (x : LevelType) (n : ℕ) (k : LevelType → ℕ → LevelRead) (o : LevelRead) → f ≡ g
+    → f ≡ type.Got x n → o ≡ k x n → o ≡ ontoType g k
 type-went f g x n k o p q e = rw (← p, q, e)
 
 pub same-is : (x y : LevelType) → same? x y ≡ true → x ≡ y
@@ -108,17 +112,29 @@ same-is x y e =
 
 -- the bits of a level are the choice, the first type, and what a block has besides
 reads-level : (l : List ℕ) (at next : ℕ) (block : Bool) (x y : LevelType)
-    → Stands l at (true && levelTypeFits x && cond block (levelTypeFits y) (same? y noType)) (wholeBits 0 1 (flag block) ++ levelTypeBits x ++ cond block (levelTypeBits y) []) next
+    → Stands l at (true && levelTypeFits x && cond block (levelTypeFits y) (same? y noType))
+    (wholeBits 0 1 (flag block) ++ levelTypeBits x ++ cond block (levelTypeBits y) []) next
     → levelAt l at ≡ level.Got (record { block = block; first = x; second = y }) next
 unfolding levelAt
 reads-level l at next true x y s =
     let p = stands-split l at next _ _ (wholeBits 0 1 1 ++ levelTypeBits x) (levelTypeBits y) s in
     let q = stands-split l at _ true _ (wholeBits 0 1 1) (levelTypeBits x) (p .0) in
-    rw (whole-reads l at 0 1 1 _ (ranged 0 1 tt tt) (stands-as l at _ _ _ _ refl (q .0)), level-type-reads l _ _ x (q .1), level-type-reads l _ next y (p .1))
+    rw (
+      whole-reads l at 0 1 1 _ (ranged 0 1 tt tt) (stands-as l at _ _ _ _ refl (q .0)),
+      level-type-reads l _ _ x
+          (q .1),
+      level-type-reads l _ next y (p .1),
+    )
 reads-level l at next false x y s =
     let p = stands-split l at next _ _ (wholeBits 0 1 0 ++ levelTypeBits x) [] s in
     let q = stands-split l at _ true _ (wholeBits 0 1 0) (levelTypeBits x) (p .0) in
-    rw (whole-reads l at 0 1 0 _ (ranged 0 1 tt tt) (stands-as l at _ _ _ _ refl (q .0)), level-type-reads l _ _ x (q .1), p .1 .place ∙ add-zero _, same-is y noType (p .1 .fits))
+    rw (
+      whole-reads l at 0 1 0 _ (ranged 0 1 tt tt) (stands-as l at _ _ _ _ refl (q .0)),
+      level-type-reads l _ _ x
+          (q .1),
+      p .1 .place ∙ add-zero _,
+      same-is y noType (p .1 .fits),
+    )
 
 pub level-reads : (l : List ℕ) (at next : ℕ) (x : Level) → Stands l at (levelFits x) (levelBits x) next → levelAt l at ≡ level.Got x next
 unfolding levelFits levelBits
@@ -145,7 +161,9 @@ module _ (l : List ℕ) (at next : ℕ) (x : Level) (b : Bits l) where
   Goal : Type 0
   Goal = Stands l at (levelFits x) (levelBits x) next
 
-  second-stands : (v m : ℕ) (f : LevelType) (n : ℕ) → Stands l at (wholeFits 0 1 v) (wholeBits 0 1 v) m → Stands l m (levelTypeFits f) (levelTypeBits f) n → (t : Bool) → eqb v 0 ≡ t → secondOf l v f n ≡ level.Got x next → Goal
+  second-stands : (v m : ℕ) (f : LevelType) (n : ℕ) → Stands l at (wholeFits 0 1 v) (wholeBits 0 1 v) m
+      → Stands l m (levelTypeFits f) (levelTypeBits f) n → (t : Bool) → eqb v 0 ≡ t
+      → secondOf l v f n ≡ level.Got x next → Goal
   unfolding Goal
   second-stands v m f n p q true h e =
       let g : level.Got (record { block = false; first = f; second = noType }) n ≡ level.Got x next = rw h at e in
@@ -162,7 +180,8 @@ module _ (l : List ℕ) (at next : ℕ) (x : Level) (b : Bits l) where
       (λ (z : Refusal) (g : level.Refused z ≡ level.Got x next). never (cc))
       (rw h at e)
 
-pub level-stands : (l : List ℕ) (at next : ℕ) (x : Level) → Bits l → levelAt l at ≡ level.Got x next → Stands l at (levelFits x) (levelBits x) next
+pub level-stands : (l : List ℕ) (at next : ℕ) (x : Level) → Bits l → levelAt l at ≡ level.Got x next
+    → Stands l at (levelFits x) (levelBits x) next
 unfolding levelAt Goal
 level-stands l at next x b e =
     onto-is level.Refused (wholeNumber l at 0 1) (λ (v m : ℕ). ontoType (levelTypeAt l m) (secondOf l v)) (level.Got x next)

@@ -44,7 +44,9 @@ both-as r a b x y p q s = rw (p, q, s)
 pub fits-as : (r : Bool) (lo hi lo′ hi′ v : ℕ) → r ≡ wholeFits lo hi v → lo ≡ lo′ → hi ≡ hi′ → r ≡ wholeFits lo′ hi′ v
 fits-as r lo hi lo′ hi′ v e p q = rw (← p, ← q) e
 
-pub element-fits-by : (d : Direction) (e : Element) (t : List ℕ) (r a f g : Bool) (last : ℕ) (k : ArgumentKind) → r ≡ a && g → a ≡ f && eqb (e .characters) (length t) → f ≡ wholeFits 0 last (e .number) → g ≡ argumentFits k e t → last ≡ lastOf d → k ≡ kindOf d (e .number) → r ≡ elementFits d e t
+pub element-fits-by : (d : Direction) (e : Element) (t : List ℕ) (r a f g : Bool) (last : ℕ) (k : ArgumentKind)
+    → r ≡ a && g → a ≡ f && eqb (e .characters) (length t) → f ≡ wholeFits 0 last (e .number) → g ≡ argumentFits k e t
+    → last ≡ lastOf d → k ≡ kindOf d (e .number) → r ≡ elementFits d e t
 unfolding elementFits
 element-fits-by d e t r a f g last k h i j m p q = rw (h, i, j, m, p, q)
 
@@ -123,7 +125,8 @@ module _ (r : Bool) (xs : List ℕ) (n : length xs ≡ 4) where
   unfolding codeFitsUse codeUnused
   code-unused e = rw (eq-eqb (length xs) 4 n) (e ∙ zeros-most xs)
 
-pub sized-fits-by : (r a b : Bool) (least most n : ℕ) (xs : List ℕ) → r ≡ a && b → a ≡ wholeFits least most n → n ≡ length xs → b ≡ allMost 127 xs → r ≡ sizedFits least most xs
+pub sized-fits-by : (r a b : Bool) (least most n : ℕ) (xs : List ℕ) → r ≡ a && b → a ≡ wholeFits least most n
+    → n ≡ length xs → b ≡ allMost 127 xs → r ≡ sizedFits least most xs
 unfolding sizedFits
 sized-fits-by r a b least most n xs p q m s = rw (p, q, m, s, characters-most xs)
 
@@ -143,11 +146,13 @@ atis-fits-by r b xs p s = rw (p, s, characters-most xs)
 
 -- ---- levels
 
-pub level-used : (r p q : Bool) (x : Level) → r ≡ p && q → p ≡ typeFitsUse true (x .first) → q ≡ typeFitsUse (x .block) (x .second) → r ≡ levelFitsUse true x
+pub level-used : (r p q : Bool) (x : Level) → r ≡ p && q → p ≡ typeFitsUse true (x .first)
+    → q ≡ typeFitsUse (x .block) (x .second) → r ≡ levelFitsUse true x
 unfolding levelFitsUse levelFits typeFitsUse
 level-used r p q x h i j = rw (h, i, j)
 
-pub level-zero : (r a p q : Bool) (x : Level) → r ≡ a && q → a ≡ not (x .block) && p → p ≡ typeFitsUse false (x .first) → q ≡ typeFitsUse false (x .second) → r ≡ levelFitsUse false x
+pub level-zero : (r a p q : Bool) (x : Level) → r ≡ a && q → a ≡ not (x .block) && p → p ≡ typeFitsUse false (x .first)
+    → q ≡ typeFitsUse false (x .second) → r ≡ levelFitsUse false x
 unfolding levelFitsUse levelUnused typeFitsUse
 level-zero r a p q x h i j k = rw (h, i, j, k)
 
@@ -157,9 +162,11 @@ never-both : (a : Bool) → a && false ≡ false
 never-both true = refl
 never-both false = refl
 
-argument-parts : (k : ArgumentKind) (e : Element) (t : List ℕ) → levelFitsUse (leb 1 (usesOf k .levels)) (e .level) && levelFitsUse (leb 2 (usesOf k .levels)) (e .other) && timeFitsUse (usesOf k .time) (e .time) && codeFitsUse (usesOf k .code) (e .code) && textFitsKind k t ≡ argumentFits k e t
+argument-parts : (k : ArgumentKind) (e : Element) (t : List ℕ)
+    → levelFitsUse (leb 1 (usesOf k .levels)) (e .level) && levelFitsUse (leb 2 (usesOf k .levels)) (e .other) && timeFitsUse (usesOf k .time) (e .time) && codeFitsUse (usesOf k .code) (e .code) && textFitsKind k t ≡ argumentFits k e t
 unfolding usesOf levelFitsUse timeFitsUse codeFitsUse textFitsKind argumentFits plain levelsUnused
-argument-parts kind.NotCarried e t = never-both (levelUnused (e .level) && levelUnused (e .other) && timeUnused (e .time) && codeUnused (e .code))
+argument-parts kind.NotCarried e t = never-both
+    (levelUnused (e .level) && levelUnused (e .other) && timeUnused (e .time) && codeUnused (e .code))
 argument-parts kind.None e t = refl
 argument-parts kind.Level e t = refl
 argument-parts kind.TwoLevels e t = refl
@@ -170,7 +177,10 @@ argument-parts kind.Facility e t = refl
 argument-parts kind.FacilityDesignation e t = refl
 argument-parts kind.AtisCode e t = refl
 
-pub argument-fits-by : (k : ArgumentKind) (e : Element) (t : List ℕ) (u : Uses) (r a b c p q m n o : Bool) → r ≡ c && o → c ≡ b && n → b ≡ a && m → a ≡ p && q → p ≡ levelFitsUse (leb 1 (u .levels)) (e .level) → q ≡ levelFitsUse (leb 2 (u .levels)) (e .other) → m ≡ timeFitsUse (u .time) (e .time) → n ≡ codeFitsUse (u .code) (e .code) → o ≡ textFitsKind k t → u ≡ usesOf k → r ≡ argumentFits k e t
+pub argument-fits-by : (k : ArgumentKind) (e : Element) (t : List ℕ) (u : Uses) (r a b c p q m n o : Bool) → r ≡ c && o
+    → c ≡ b && n → b ≡ a && m → a ≡ p && q → p ≡ levelFitsUse (leb 1 (u .levels)) (e .level)
+    → q ≡ levelFitsUse (leb 2 (u .levels)) (e .other) → m ≡ timeFitsUse (u .time) (e .time)
+    → n ≡ codeFitsUse (u .code) (e .code) → o ≡ textFitsKind k t → u ≡ usesOf k → r ≡ argumentFits k e t
 argument-fits-by k e t u r a b c p q m n o h₁ h₂ h₃ h₄ h₅ h₆ h₇ h₈ h₉ h = rw (h₁, h₂, h₃, h₄, h₅, h₆, h₇, h₈, h₉, h) (argument-parts k e t)
 
 -- ---- lengths
@@ -192,7 +202,9 @@ widest (suc (suc (suc (suc u)))) = omega arith
 
 pub length-level-type : (x : LevelType) → length (levelTypeBits x) ≡ widthOf (3 - 0) + widthOf (highest (x .unit) - lowest (x .unit))
 unfolding levelTypeBits
-length-level-type x = length-append (wholeBits 0 3 (x .unit)) (wholeBits (lowest (x .unit)) (highest (x .unit)) (x .number)) ∙ rw (length-whole 0 3 (x .unit), length-whole (lowest (x .unit)) (highest (x .unit)) (x .number))
+length-level-type x = length-append (wholeBits 0 3 (x .unit))
+    (wholeBits (lowest (x .unit)) (highest (x .unit)) (x .number)) ∙ rw
+    (length-whole 0 3 (x .unit), length-whole (lowest (x .unit)) (highest (x .unit)) (x .number))
 
 pub level-type-most : (x : LevelType) → length (levelTypeBits x) ≤ 17
 level-type-most x = omega (arith, length-level-type x, units, widest (x .unit))
@@ -201,7 +213,8 @@ pub length-choice : (b : Bool) → length (wholeBits 0 1 (flag b)) ≡ 1
 unfolding digitsIn
 length-choice b = length-whole 0 1 (flag b)
 
-pub length-block : (x : Level) → x .block ≡ true → length (levelBits x) ≡ 1 + length (levelTypeBits (x .first)) + length (levelTypeBits (x .second))
+pub length-block : (x : Level) → x .block ≡ true
+    → length (levelBits x) ≡ 1 + length (levelTypeBits (x .first)) + length (levelTypeBits (x .second))
 unfolding levelBits
 length-block x e = rw (e, length-append, length-append, length-choice true)
 
@@ -218,7 +231,8 @@ level-most x = go (x .block) refl
 
 pub length-time : (x : Time) → length (timeBits x) ≡ 11
 unfolding timeBits digitsIn
-length-time x = length-append (wholeBits 0 23 (x .hours)) (wholeBits 0 59 (x .minutes)) ∙ rw (length-whole 0 23 (x .hours), length-whole 0 59 (x .minutes))
+length-time x = length-append (wholeBits 0 23 (x .hours)) (wholeBits 0 59 (x .minutes)) ∙ rw
+    (length-whole 0 23 (x .hours), length-whole 0 59 (x .minutes))
 
 pub length-digits : (ds : List ℕ) → length (digitsBits ds) ≡ 3 * length ds
 unfolding digitsBits digitsIn
@@ -249,10 +263,12 @@ pub choice-width : widthOf (1 - 0) ≡ 1
 unfolding digitsIn
 choice-width = refl
 
-pub level-type-by : (x : LevelType) (a b lo hi : ℕ) → a ≡ widthOf (3 - 0) → b ≡ widthOf (hi - lo) → lo ≡ lowest (x .unit) → hi ≡ highest (x .unit) → a + b ≡ length (levelTypeBits x)
+pub level-type-by : (x : LevelType) (a b lo hi : ℕ) → a ≡ widthOf (3 - 0) → b ≡ widthOf (hi - lo)
+    → lo ≡ lowest (x .unit) → hi ≡ highest (x .unit) → a + b ≡ length (levelTypeBits x)
 level-type-by x a b lo hi p q s t = sym (length-level-type x ∙ rw (← s, ← t, ← p, ← q))
 
-pub two-levels-by : (x y : Level) (a b : ℕ) → a ≡ length (levelBits x) → b ≡ length (levelBits y) → a + b ≡ length (levelBits x ++ levelBits y)
+pub two-levels-by : (x y : Level) (a b : ℕ) → a ≡ length (levelBits x) → b ≡ length (levelBits y)
+    → a + b ≡ length (levelBits x ++ levelBits y)
 two-levels-by x y a b p q = rw (p, q) (sym (length-append (levelBits x) (levelBits y)))
 
 pub time-by : (x : Time) (a b : ℕ) → a ≡ widthOf (23 - 0) → b ≡ widthOf (59 - 0) → a + b ≡ length (timeBits x)
@@ -283,7 +299,8 @@ designation-largest t p = omega (arith, length-sized 4 8 t, designation-width, s
 facility-largest : (t : List ℕ) → facilityFits t ≡ true → length (facilityBits t) ≤ 60
 unfolding facilityFits
 facility-largest [] p = omega (arith, length-no-facility [] refl)
-facility-largest (c ∷ cs) p = omega (arith, length-facility (c ∷ cs) (λ (z : suc (length cs) ≡ 0). omega arith), designation-largest (c ∷ cs) p)
+facility-largest (c ∷ cs) p = omega
+    (arith, length-facility (c ∷ cs) (λ (z : suc (length cs) ≡ 0). omega arith), designation-largest (c ∷ cs) p)
 
 facility-few : (t : List ℕ) → facilityFits t ≡ true → length t ≤ 8
 unfolding facilityFits
@@ -306,10 +323,18 @@ unfolding argumentFits argumentBits largestOf levelsUnused
 argument-largest kind.NotCarried e t p = never (cc)
 argument-largest kind.None e t p = omega arith
 argument-largest kind.Level e t p = level-most (e .level)
-argument-largest kind.TwoLevels e t p = omega (arith, length-append (levelBits (e .level)) (levelBits (e .other)), level-most (e .level), level-most (e .other))
+argument-largest kind.TwoLevels e t p = omega
+    (arith, length-append (levelBits (e .level)) (levelBits (e .other)), level-most (e .level), level-most (e .other))
 argument-largest kind.Time e t p = omega (arith, length-time (e .time))
-argument-largest kind.Code e t p = omega (arith, length-digits (e .code), code-four (e .code) (parts (levelUnused (e .level)) (levelUnused (e .other)) (timeUnused (e .time)) (codeFits (e .code)) (noText t) p .fourth))
-argument-largest kind.FreeText e t p = omega (arith, length-sized 1 256 t, text-width, sized-largest 1 256 t (both-right (plain e) (sizedFits 1 256 t) p))
+argument-largest kind.Code e t p = omega (
+  arith,
+  length-digits (e .code),
+  code-four (e .code) (parts
+      (levelUnused (e .level)) (levelUnused (e .other)) (timeUnused (e .time)) (codeFits (e .code)) (noText t)
+      p .fourth),
+)
+argument-largest kind.FreeText e t p = omega
+    (arith, length-sized 1 256 t, text-width, sized-largest 1 256 t (both-right (plain e) (sizedFits 1 256 t) p))
 argument-largest kind.Facility e t p = facility-largest t (both-right (plain e) (facilityFits t) p)
 argument-largest kind.FacilityDesignation e t p = designation-largest t (both-right (plain e) (sizedFits 4 8 t) p)
 argument-largest kind.AtisCode e t p = omega (arith, length-charactersBits t, atis-one t (both-right (plain e) (atisFits t) p))
@@ -318,8 +343,10 @@ few : (k : ArgumentKind) (e : Element) (t : List ℕ) → argumentFits k e t ≡
 unfolding argumentFits
 few kind.NotCarried e t p = never (cc)
 few kind.None e t p = none t (both-right (plain e) (noText t) p)
-few kind.Level e t p = none t (both-right (levelFits (e .level) && levelUnused (e .other) && timeUnused (e .time) && codeUnused (e .code)) (noText t) p)
-few kind.TwoLevels e t p = none t (both-right (levelFits (e .level) && levelFits (e .other) && timeUnused (e .time) && codeUnused (e .code)) (noText t) p)
+few kind.Level e t p = none t (both-right
+    (levelFits (e .level) && levelUnused (e .other) && timeUnused (e .time) && codeUnused (e .code)) (noText t) p)
+few kind.TwoLevels e t p = none t (both-right
+    (levelFits (e .level) && levelFits (e .other) && timeUnused (e .time) && codeUnused (e .code)) (noText t) p)
 few kind.Time e t p = none t (both-right (levelsUnused e && timeFits (e .time) && codeUnused (e .code)) (noText t) p)
 few kind.Code e t p = none t (both-right (levelsUnused e && timeUnused (e .time) && codeFits (e .code)) (noText t) p)
 few kind.FreeText e t p = sized-largest 1 256 t (both-right (plain e) (sizedFits 1 256 t) p)
@@ -342,14 +369,21 @@ largest-small kind.AtisCode = omega arith
 
 -- ---- an element
 
-pub length-element : (d : Direction) (e : Element) (t : List ℕ) → length (elementBits d e t) ≡ 1 + widthOf (lastOf d - 0) + length (argumentBits (kindOf d (e .number)) e t)
+pub length-element : (d : Direction) (e : Element) (t : List ℕ)
+    → length (elementBits d e t) ≡ 1 + widthOf (lastOf d - 0) + length (argumentBits (kindOf d (e .number)) e t)
 unfolding elementBits
-length-element d e t = omega (arith, length-append (indexBits (lastOf d) (e .number)) (argumentBits (kindOf d (e .number)) e t), length-index (lastOf d) (e .number))
+length-element d e t = omega (
+  arith,
+  length-append (indexBits (lastOf d) (e .number))
+      (argumentBits (kindOf d (e .number)) e t),
+  length-index (lastOf d) (e .number),
+)
 
 module _ (d : Direction) (e : Element) (t : List ℕ) (p : elementFits d e t ≡ true) where
   pub its-argument : argumentFits (kindOf d (e .number)) e t ≡ true
   unfolding elementFits
-  its-argument = both-right (wholeFits 0 (lastOf d) (e .number) && eqb (e .characters) (length t)) (argumentFits (kindOf d (e .number)) e t) p
+  its-argument = both-right (wholeFits 0 (lastOf d) (e .number) && eqb (e .characters) (length t))
+      (argumentFits (kindOf d (e .number)) e t) p
 
   pub few-characters : length t ≤ 256
   few-characters = few (kindOf d (e .number)) e t its-argument
@@ -358,7 +392,9 @@ module _ (d : Direction) (e : Element) (t : List ℕ) (p : elementFits d e t ≡
   argument-small k q = rw q (omega (arith, argument-largest (kindOf d (e .number)) e t its-argument, largest-small (kindOf d (e .number))))
 
 module _ (d : Direction) (e : Element) (t : List ℕ) (ok : Bool) (h : ok ≡ elementFits d e t) where
-  pub measured : (w last n : ℕ) (k : ArgumentKind) → ok ≡ true → w ≡ widthOf (last - 0) → last ≡ lastOf d → k ≡ kindOf d (e .number) → n ≡ length (argumentBits k e t) → size.Bits (1 + w + n) ≡ cond (elementFits d e t) (size.Bits (length (elementBits d e t))) size.Shape
+  pub measured : (w last n : ℕ) (k : ArgumentKind) → ok ≡ true → w ≡ widthOf (last - 0) → last ≡ lastOf d
+      → k ≡ kindOf d (e .number) → n ≡ length (argumentBits k e t)
+      → size.Bits (1 + w + n) ≡ cond (elementFits d e t) (size.Bits (length (elementBits d e t))) size.Shape
   measured w last n k p a b c m = rw (← h, p, length-element d e t, ← c, ← m, ← b, ← a)
 
   pub no-shape : ok ≡ false → size.Shape ≡ cond (elementFits d e t) (size.Bits (length (elementBits d e t))) size.Shape

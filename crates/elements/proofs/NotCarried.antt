@@ -11,6 +11,7 @@ use Rattle.kinds.specs.declared.ArgumentKind.the-variants as kind
 use Rattle.kinds.specs.Elements.{kindOf}
 use Rattle.elements.specs.OneElement.{noElement, lastOf, argumentAt, elementAt}
 
-pub not-carried : (d : Direction) (l : List ℕ) (at i next : ℕ) → extensibleIndex l at (lastOf d) ≡ Value i next → kindOf d i ≡ kind.NotCarried → elementAt d l at ≡ noElement (refusalOf (refusedAt (at + 1) fault.NotCarried))
+pub not-carried : (d : Direction) (l : List ℕ) (at i next : ℕ) → extensibleIndex l at (lastOf d) ≡ Value i next
+    → kindOf d i ≡ kind.NotCarried → elementAt d l at ≡ noElement (refusalOf (refusedAt (at + 1) fault.NotCarried))
 unfolding elementAt argumentAt
 not-carried d l at i next p q = rw (p, q)

@@ -15,7 +15,9 @@ use Rattle.elements.proofs.Whole.{Ranged, whole-reads, whole-stands, wh
 use Rattle.elements.proofs.Steps.{onto-is}
 
 module _ {A : Type 0} (refused : Refusal → A) (got : ℕ → ℕ → ℕ → A) (lo hi : ℕ) (low high : ℕ → ℕ) (first : Ranged lo hi) (second : (u : ℕ) → u ≤ hi → Ranged (low u) (high u)) (l : List ℕ) (at : ℕ) where
-  pub pair-reads : (u v next : ℕ) → Stands l at (wholeFits lo hi u && wholeFits (low u) (high u) v) (wholeBits lo hi u ++ wholeBits (low u) (high u) v) next → onto refused (wholeNumber l at lo hi) (λ (u m : ℕ). onto refused (wholeNumber l m (low u) (high u)) (got u)) ≡ got u v next
+  pub pair-reads : (u v next : ℕ)
+      → Stands l at (wholeFits lo hi u && wholeFits (low u) (high u) v) (wholeBits lo hi u ++ wholeBits (low u) (high u) v) next
+      → onto refused (wholeNumber l at lo hi) (λ (u m : ℕ). onto refused (wholeNumber l m (low u) (high u)) (got u)) ≡ got u v next
   pair-reads u v next s =
       let p = stands-split l at next _ _ (wholeBits lo hi u) _ s in
       let r = second u (whole-below lo hi u (p .0 .fits)) in

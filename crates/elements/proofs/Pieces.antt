@@ -30,14 +30,16 @@ pub pieces-nil : (s : List ℕ) (e at : ℕ) → putPieces s e at [] ≡ left (N
 unfolding putPieces
 pieces-nil s e at = refl
 
-pub pieces-cons : (s : List ℕ) (e at : ℕ) (x : Piece) (xs : List Piece) → putPieces s e at (x ∷ xs) ≡ onPut (putIf (x .fits) s e at (x .bits) .answer) (putIf (x .fits) s e at (x .bits) .bytes) (λ (t : List ℕ) (p : ℕ). putPieces t e p xs)
+pub pieces-cons : (s : List ℕ) (e at : ℕ) (x : Piece) (xs : List Piece)
+    → putPieces s e at (x ∷ xs) ≡ onPut (putIf (x .fits) s e at (x .bits) .answer) (putIf (x .fits) s e at (x .bits) .bytes) (λ (t : List ℕ) (p : ℕ). putPieces t e p xs)
 unfolding putPieces
 pieces-cons s e at x xs = refl
 
 -- ---- as the code writes them
 
 -- one piece alone
-pub one-piece : (s z : List ℕ) (e at : ℕ) (a : Put) (x : Piece) → left a z ≡ putIf (x .fits) s e at (x .bits) → left a z ≡ putPieces s e at (x ∷ [])
+pub one-piece : (s z : List ℕ) (e at : ℕ) (a : Put) (x : Piece) → left a z ≡ putIf (x .fits) s e at (x .bits)
+    → left a z ≡ putPieces s e at (x ∷ [])
 one-piece s z e at a x h = sym (rw (pieces-cons, ← h) (last a))
   where
     last : (a : Put) → onPut a z (λ (t : List ℕ) (p : ℕ). putPieces t e p []) ≡ left a z
@@ -45,19 +47,26 @@ one-piece s z e at a x h = sym (rw (pieces-cons, ← h) (last a))
     last Full = refl
 
 -- pieces before others
-pub pieces-append : (xs ys : List Piece) (s : List ℕ) (e at : ℕ) → putPieces s e at (xs ++ ys) ≡ onPut (putPieces s e at xs .answer) (putPieces s e at xs .bytes) (λ (t : List ℕ) (p : ℕ). putPieces t e p ys)
+pub pieces-append : (xs ys : List Piece) (s : List ℕ) (e at : ℕ)
+    → putPieces s e at (xs ++ ys) ≡ onPut (putPieces s e at xs .answer) (putPieces s e at xs .bytes) (λ (t : List ℕ) (p : ℕ). putPieces t e p ys)
 pieces-append [] ys s e at = rw (pieces-nil)
-pieces-append (x ∷ xs) ys s e at = rw (pieces-cons s e at x (xs ++ ys), pieces-cons s e at x xs) (go (putIf (x .fits) s e at (x .bits) .answer) (putIf (x .fits) s e at (x .bits) .bytes) (λ (t : List ℕ) (p : ℕ). pieces-append xs ys t e p))
+pieces-append (x ∷ xs) ys s e at = rw (pieces-cons s e at x (xs ++ ys), pieces-cons s e at x xs) (go
+    (putIf (x .fits) s e at (x .bits) .answer) (putIf (x .fits) s e at (x .bits) .bytes)
+    (λ (t : List ℕ) (p : ℕ). pieces-append xs ys t e p))
   where
-    go : (a : Put) (t : List ℕ) → ((t : List ℕ) (p : ℕ) → putPieces t e p (xs ++ ys) ≡ onPut (putPieces t e p xs .answer) (putPieces t e p xs .bytes) (λ (t : List ℕ) (p : ℕ). putPieces t e p ys)) → onPut a t (λ (t : List ℕ) (p : ℕ). putPieces t e p (xs ++ ys)) ≡ onPut (onPut a t (λ (t : List ℕ) (p : ℕ). putPieces t e p xs) .answer) (onPut a t (λ (t : List ℕ) (p : ℕ). putPieces t e p xs) .bytes) (λ (t : List ℕ) (p : ℕ). putPieces t e p ys)
+    go : (a : Put) (t : List ℕ)
+        → ((t : List ℕ) (p : ℕ) → putPieces t e p (xs ++ ys) ≡ onPut (putPieces t e p xs .answer) (putPieces t e p xs .bytes) (λ (t : List ℕ) (p : ℕ). putPieces t e p ys))
+        → onPut a t (λ (t : List ℕ) (p : ℕ). putPieces t e p (xs ++ ys)) ≡ onPut (onPut a t (λ (t : List ℕ) (p : ℕ). putPieces t e p xs) .answer) (onPut a t (λ (t : List ℕ) (p : ℕ). putPieces t e p xs) .bytes) (λ (t : List ℕ) (p : ℕ). putPieces t e p ys)
     go (Next p) t h = h t p
     go Full t h = refl
 
 -- the first of two was refused; or both were written
-pub pieces-full : (xs ys : List Piece) (s t : List ℕ) (e at : ℕ) (a : Put) → left a t ≡ putPieces s e at xs → a ≡ Full → left Full t ≡ putPieces s e at (xs ++ ys)
+pub pieces-full : (xs ys : List Piece) (s t : List ℕ) (e at : ℕ) (a : Put) → left a t ≡ putPieces s e at xs → a ≡ Full
+    → left Full t ≡ putPieces s e at (xs ++ ys)
 pieces-full xs ys s t e at a h q = sym (rw (pieces-append, ← h, q))
 
-pub pieces-next : (xs ys : List Piece) (s t z : List ℕ) (e at p : ℕ) (a b : Put) → left a t ≡ putPieces s e at xs → a ≡ Next p → left b z ≡ putPieces t e p ys → left b z ≡ putPieces s e at (xs ++ ys)
+pub pieces-next : (xs ys : List Piece) (s t z : List ℕ) (e at p : ℕ) (a b : Put) → left a t ≡ putPieces s e at xs
+    → a ≡ Next p → left b z ≡ putPieces t e p ys → left b z ≡ putPieces s e at (xs ++ ys)
 pieces-next xs ys s t z e at p a b h q k = rw (pieces-append, ← h, q) k
 
 -- ---- what they leave
@@ -70,7 +79,9 @@ if-false : (s : List ℕ) (e at : ℕ) (bs : List ℕ) → left Full s ≡ putIf
 unfolding putIf
 if-false s e at bs = refl
 
-pub pieces-left : (xs : List Piece) (s : List ℕ) (e at : ℕ) → piecesFit xs ≡ true → at + length (piecesBits xs) ≤ length (bitsTo s e) → putPieces s e at xs ≡ left (Next (at + length (piecesBits xs))) (putBits s at (piecesBits xs))
+pub pieces-left : (xs : List Piece) (s : List ℕ) (e at : ℕ) → piecesFit xs ≡ true
+    → at + length (piecesBits xs) ≤ length (bitsTo s e)
+    → putPieces s e at xs ≡ left (Next (at + length (piecesBits xs))) (putBits s at (piecesBits xs))
 unfolding piecesFit piecesBits
 pieces-left [] s e at f h = rw (pieces-nil, add-zero at, put-nil s at)
 pieces-left (x ∷ xs) s e at f h =
@@ -85,13 +96,17 @@ pieces-left (x ∷ xs) s e at f h =
 
 -- ---- two pieces, the range of the second looked up
 
-pub two-full : (x y : Piece) (s t : List ℕ) (e at : ℕ) (a : Put) → left a t ≡ putIf (x .fits) s e at (x .bits) → a ≡ Full → left Full t ≡ putPieces s e at (x ∷ y ∷ [])
+pub two-full : (x y : Piece) (s t : List ℕ) (e at : ℕ) (a : Put) → left a t ≡ putIf (x .fits) s e at (x .bits)
+    → a ≡ Full → left Full t ≡ putPieces s e at (x ∷ y ∷ [])
 two-full x y s t e at a h q = pieces-full (x ∷ []) (y ∷ []) s t e at a (one-piece s t e at a x h) q
 
-pub two-next : (x y : Piece) (s t z : List ℕ) (e at p : ℕ) (a b : Put) → left a t ≡ putIf (x .fits) s e at (x .bits) → a ≡ Next p → left b z ≡ putIf (y .fits) t e p (y .bits) → left b z ≡ putPieces s e at (x ∷ y ∷ [])
+pub two-next : (x y : Piece) (s t z : List ℕ) (e at p : ℕ) (a b : Put) → left a t ≡ putIf (x .fits) s e at (x .bits)
+    → a ≡ Next p → left b z ≡ putIf (y .fits) t e p (y .bits) → left b z ≡ putPieces s e at (x ∷ y ∷ [])
 two-next x y s t z e at p a b h q k = pieces-next (x ∷ []) (y ∷ []) s t z e at p a b (one-piece s t e at a x h) q (one-piece t z e p b y k)
 
-pub whole-put-as : (s z : List ℕ) (e at lo hi lo′ hi′ v : ℕ) (a : Put) → left a z ≡ putIf (wholeFits lo hi v) s e at (wholeBits lo hi v) → lo ≡ lo′ → hi ≡ hi′ → left a z ≡ putIf (wholeFits lo′ hi′ v) s e at (wholeBits lo′ hi′ v)
+pub whole-put-as : (s z : List ℕ) (e at lo hi lo′ hi′ v : ℕ) (a : Put)
+    → left a z ≡ putIf (wholeFits lo hi v) s e at (wholeBits lo hi v) → lo ≡ lo′ → hi ≡ hi′
+    → left a z ≡ putIf (wholeFits lo′ hi′ v) s e at (wholeBits lo′ hi′ v)
 whole-put-as s z e at lo hi lo′ hi′ v a h p q = rw (← p, ← q) h
 
 -- ---- three runs of pieces
@@ -104,7 +119,8 @@ module _ (xs ys zs : List Piece) (s : List ℕ) (e at : ℕ) where
     pub second-full : (u : List ℕ) (b : Put) → left b u ≡ putPieces t e p ys → b ≡ Full → left Full u ≡ putPieces s e at (xs ++ ys ++ zs)
     second-full u b k r = pieces-full (xs ++ ys) zs s u e at b (pieces-next xs ys s t u e at p a b h q k) r
 
-    pub third-next : (u z : List ℕ) (n : ℕ) (b c : Put) → left b u ≡ putPieces t e p ys → b ≡ Next n → left c z ≡ putPieces u e n zs → left c z ≡ putPieces s e at (xs ++ ys ++ zs)
+    pub third-next : (u z : List ℕ) (n : ℕ) (b c : Put) → left b u ≡ putPieces t e p ys → b ≡ Next n
+        → left c z ≡ putPieces u e n zs → left c z ≡ putPieces s e at (xs ++ ys ++ zs)
     third-next u z n b c k r w = pieces-next (xs ++ ys) zs s u z e at n b c (pieces-next xs ys s t u e at p a b h q k) r w
 
 -- nothing more to write
@@ -116,18 +132,24 @@ nothing-more s e n b h = rw (pieces-nil, h)
 module _ (x : Level) (s t : List ℕ) (e at : ℕ) (a : Put) (h : left a t ≡ putPieces s e at (choicePiece (x .block))) where
   pub level-first : a ≡ Full → left Full t ≡ putPieces s e at (levelPieces x)
   unfolding levelPieces
-  level-first q = first-full (choicePiece (x .block)) (levelTypePieces (x .first)) (cond (x .block) (levelTypePieces (x .second)) []) s e at t a h q
+  level-first q = first-full (choicePiece (x .block)) (levelTypePieces (x .first))
+      (cond (x .block) (levelTypePieces (x .second)) []) s e at t a h q
 
   module _ (p : ℕ) (q : a ≡ Next p) (u : List ℕ) (b : Put) (k : left b u ≡ putPieces t e p (levelTypePieces (x .first))) where
     pub level-second : b ≡ Full → left Full u ≡ putPieces s e at (levelPieces x)
     unfolding levelPieces
-    level-second r = second-full (choicePiece (x .block)) (levelTypePieces (x .first)) (cond (x .block) (levelTypePieces (x .second)) []) s e at t p a h q u b k r
+    level-second r = second-full (choicePiece (x .block)) (levelTypePieces (x .first))
+        (cond (x .block) (levelTypePieces (x .second)) []) s e at t p a h q u b k r
 
-    rest : (n : ℕ) (z : List ℕ) (c : Put) → b ≡ Next n → left c z ≡ putPieces u e n (cond (x .block) (levelTypePieces (x .second)) []) → left c z ≡ putPieces s e at (levelPieces x)
+    rest : (n : ℕ) (z : List ℕ) (c : Put) → b ≡ Next n
+        → left c z ≡ putPieces u e n (cond (x .block) (levelTypePieces (x .second)) [])
+        → left c z ≡ putPieces s e at (levelPieces x)
     unfolding levelPieces
-    rest n z c r w = third-next (choicePiece (x .block)) (levelTypePieces (x .first)) (cond (x .block) (levelTypePieces (x .second)) []) s e at t p a h q u z n b c k r w
+    rest n z c r w = third-next (choicePiece (x .block)) (levelTypePieces (x .first))
+        (cond (x .block) (levelTypePieces (x .second)) []) s e at t p a h q u z n b c k r w
 
-    pub level-block : (n : ℕ) (z : List ℕ) (c : Put) → x .block ≡ true → b ≡ Next n → left c z ≡ putPieces u e n (levelTypePieces (x .second)) → left c z ≡ putPieces s e at (levelPieces x)
+    pub level-block : (n : ℕ) (z : List ℕ) (c : Put) → x .block ≡ true → b ≡ Next n
+        → left c z ≡ putPieces u e n (levelTypePieces (x .second)) → left c z ≡ putPieces s e at (levelPieces x)
     level-block n z c i r w = rest n z c r (rw i w)
 
     pub level-single : (n : ℕ) → x .block ≡ false → b ≡ Next n → left (Next n) u ≡ putPieces s e at (levelPieces x)
@@ -164,29 +186,39 @@ module _ (xs : List ℕ) (i p e hi : ℕ) (s : List ℕ) (z : Left) (inv : putPi
   numbers-done h = rw (drop-all xs i h, numbers-nil, pieces-nil) at inv
 
 -- the same number, by another name
-pub put-as : (s t : List ℕ) (e at hi v w : ℕ) (a : Put) → left a t ≡ putIf (wholeFits 0 hi v) s e at (wholeBits 0 hi v) → v ≡ w → left a t ≡ putIf (wholeFits 0 hi w) s e at (wholeBits 0 hi w)
+pub put-as : (s t : List ℕ) (e at hi v w : ℕ) (a : Put) → left a t ≡ putIf (wholeFits 0 hi v) s e at (wholeBits 0 hi v)
+    → v ≡ w → left a t ≡ putIf (wholeFits 0 hi w) s e at (wholeBits 0 hi w)
 put-as s t e at hi v w a h p = rw (← p) h
 
 -- ---- a string with a size, a facility
 
-pub sized-full : (least most : ℕ) (xs : List ℕ) (s t : List ℕ) (e at n : ℕ) (a : Put) → left a t ≡ putIf (wholeFits least most n) s e at (wholeBits least most n) → n ≡ length xs → a ≡ Full → left Full t ≡ putPieces s e at (sizedPieces least most xs)
+pub sized-full : (least most : ℕ) (xs : List ℕ) (s t : List ℕ) (e at n : ℕ) (a : Put)
+    → left a t ≡ putIf (wholeFits least most n) s e at (wholeBits least most n) → n ≡ length xs → a ≡ Full
+    → left Full t ≡ putPieces s e at (sizedPieces least most xs)
 unfolding sizedPieces
-sized-full least most xs s t e at n a h i q = pieces-full (whole least most (length xs) ∷ []) (numberPieces 127 xs) s t e at a (one-piece s t e at a (whole least most (length xs)) (rw i at h)) q
+sized-full least most xs s t e at n a h i q = pieces-full (whole least most (length xs) ∷ []) (numberPieces 127 xs) s t
+    e at a (one-piece s t e at a (whole least most (length xs)) (rw i at h)) q
 
-pub sized-next : (least most : ℕ) (xs : List ℕ) (s t z : List ℕ) (e at n p : ℕ) (a b : Put) → left a t ≡ putIf (wholeFits least most n) s e at (wholeBits least most n) → n ≡ length xs → a ≡ Next p → left b z ≡ putPieces t e p (numberPieces 127 xs) → left b z ≡ putPieces s e at (sizedPieces least most xs)
+pub sized-next : (least most : ℕ) (xs : List ℕ) (s t z : List ℕ) (e at n p : ℕ) (a b : Put)
+    → left a t ≡ putIf (wholeFits least most n) s e at (wholeBits least most n) → n ≡ length xs → a ≡ Next p
+    → left b z ≡ putPieces t e p (numberPieces 127 xs) → left b z ≡ putPieces s e at (sizedPieces least most xs)
 unfolding sizedPieces
-sized-next least most xs s t z e at n p a b h i q k = pieces-next (whole least most (length xs) ∷ []) (numberPieces 127 xs) s t z e at p a b (one-piece s t e at a (whole least most (length xs)) (rw i at h)) q k
+sized-next least most xs s t z e at n p a b h i q k = pieces-next (whole least most (length xs) ∷ [])
+    (numberPieces 127 xs) s t z e at p a b (one-piece s t e at a (whole least most (length xs)) (rw i at h)) q k
 
 module _ (xs : List ℕ) (s t : List ℕ) (e at : ℕ) (a : Put) where
   pub no-facility : length xs ≡ 0 → left a t ≡ putPieces s e at (choicePiece false) → left a t ≡ putPieces s e at (facilityPieces xs)
   unfolding facilityPieces
   no-facility i h = rw (eq-eqb (length xs) 0 i) h
 
-  pub facility-full : (length xs ≡ 0 → ⊥) → left a t ≡ putPieces s e at (choicePiece true) → a ≡ Full → left Full t ≡ putPieces s e at (facilityPieces xs)
+  pub facility-full : (length xs ≡ 0 → ⊥) → left a t ≡ putPieces s e at (choicePiece true) → a ≡ Full
+      → left Full t ≡ putPieces s e at (facilityPieces xs)
   unfolding facilityPieces
   facility-full i h q = rw (ne-eqb (length xs) 0 i) (pieces-full (choicePiece true) (sizedPieces 4 8 xs) s t e at a h q)
 
-  pub facility-next : (length xs ≡ 0 → ⊥) → (z : List ℕ) (p : ℕ) (b : Put) → left a t ≡ putPieces s e at (choicePiece true) → a ≡ Next p → left b z ≡ putPieces t e p (sizedPieces 4 8 xs) → left b z ≡ putPieces s e at (facilityPieces xs)
+  pub facility-next : (length xs ≡ 0 → ⊥) → (z : List ℕ) (p : ℕ) (b : Put)
+      → left a t ≡ putPieces s e at (choicePiece true) → a ≡ Next p → left b z ≡ putPieces t e p (sizedPieces 4 8 xs)
+      → left b z ≡ putPieces s e at (facilityPieces xs)
   unfolding facilityPieces
   facility-next i z p b h q k = rw (ne-eqb (length xs) 0 i) (pieces-next (choicePiece true) (sizedPieces 4 8 xs) s t z e at p a b h q k)
 
@@ -205,8 +237,11 @@ module _ (d : Direction) (e : Element) (xs s t : List ℕ) (end at last : ℕ) (
 
   pub element-full : a ≡ Full → left Full t ≡ putPieces s end at (elementPieces d e xs)
   unfolding elementPieces
-  element-full q = pieces-full (indexPiece (lastOf d) (e .number) ∷ []) (argumentPieces (kindOf d (e .number)) e xs) s t end at a index-put q
+  element-full q = pieces-full (indexPiece (lastOf d) (e .number) ∷ []) (argumentPieces (kindOf d (e .number)) e xs) s t
+      end at a index-put q
 
-  pub element-next : (z : List ℕ) (p : ℕ) (k : ArgumentKind) (b : Put) → a ≡ Next p → k ≡ kindOf d (e .number) → left b z ≡ putPieces t end p (argumentPieces k e xs) → left b z ≡ putPieces s end at (elementPieces d e xs)
+  pub element-next : (z : List ℕ) (p : ℕ) (k : ArgumentKind) (b : Put) → a ≡ Next p → k ≡ kindOf d (e .number)
+      → left b z ≡ putPieces t end p (argumentPieces k e xs) → left b z ≡ putPieces s end at (elementPieces d e xs)
   unfolding elementPieces
-  element-next z p k b q i w = pieces-next (indexPiece (lastOf d) (e .number) ∷ []) (argumentPieces (kindOf d (e .number)) e xs) s t z end at p a b index-put q (rw i at w)
+  element-next z p k b q i w = pieces-next (indexPiece (lastOf d) (e .number) ∷ [])
+      (argumentPieces (kindOf d (e .number)) e xs) s t z end at p a b index-put q (rw i at w)

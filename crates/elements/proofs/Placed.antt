@@ -31,19 +31,27 @@ module _ (d : Direction) (l : List ℕ) (at next : ℕ) (e : Element) where
   pub element-reads : (t : List ℕ) → Stands l at (elementFits d e t) (elementBits d e t) next → elementAt d l at ≡ isElement e next
   unfolding elementFits elementBits elementAt
   element-reads t s =
-      let p = stands-split l at next (wholeFits 0 (lastOf d) (e .number) && eqb (e .characters) (length t)) (argumentFits (kindOf d (e .number)) e t) (indexBits (lastOf d) (e .number)) (argumentBits (kindOf d (e .number)) e t) s in
+      let p = stands-split l at next (wholeFits 0 (lastOf d) (e .number) && eqb (e .characters) (length t))
+      (argumentFits (kindOf d (e .number)) e t) (indexBits (lastOf d) (e .number))
+      (argumentBits (kindOf d (e .number)) e t) s in
       let f = both-left (wholeFits 0 (lastOf d) (e .number)) (eqb (e .characters) (length t)) (p .0 .fits) in
-      let n = eqb-true (e .characters) (length t) (both-right (wholeFits 0 (lastOf d) (e .number)) (eqb (e .characters) (length t)) (p .0 .fits)) in
-      rw (index-reads l at (lastOf d) (e .number) _ (last-ranged d) (stands-as l at _ _ _ _ f (p .0))) (argument-reads l _ next e t n (at + 1) (kindOf d (e .number)) (p .1))
+      let n = eqb-true (e .characters) (length t)
+      (both-right (wholeFits 0 (lastOf d) (e .number)) (eqb (e .characters) (length t)) (p .0 .fits)) in
+      rw (index-reads l at (lastOf d) (e .number) _ (last-ranged d) (stands-as l at _ _ _ _ f (p .0)))
+      (argument-reads l _ next e t n (at + 1) (kindOf d (e .number)) (p .1))
 
   pub element-text : (t : List ℕ) → Stands l at (elementFits d e t) (elementBits d e t) next → textOf l e next ≡ t
   unfolding elementFits elementBits
   element-text t s =
-      let p = stands-split l at next (wholeFits 0 (lastOf d) (e .number) && eqb (e .characters) (length t)) (argumentFits (kindOf d (e .number)) e t) (indexBits (lastOf d) (e .number)) (argumentBits (kindOf d (e .number)) e t) s in
-      let n = eqb-true (e .characters) (length t) (both-right (wholeFits 0 (lastOf d) (e .number)) (eqb (e .characters) (length t)) (p .0 .fits)) in
+      let p = stands-split l at next (wholeFits 0 (lastOf d) (e .number) && eqb (e .characters) (length t))
+      (argumentFits (kindOf d (e .number)) e t) (indexBits (lastOf d) (e .number))
+      (argumentBits (kindOf d (e .number)) e t) s in
+      let n = eqb-true (e .characters) (length t)
+      (both-right (wholeFits 0 (lastOf d) (e .number)) (eqb (e .characters) (length t)) (p .0 .fits)) in
       rw n (argument-text l _ next e t n (kindOf d (e .number)) (p .1))
 
-  pub element-stands : Bits l → elementAt d l at ≡ isElement e next → Stands l at (elementFits d e (textOf l e next)) (elementBits d e (textOf l e next)) next
+  pub element-stands : Bits l → elementAt d l at ≡ isElement e next
+      → Stands l at (elementFits d e (textOf l e next)) (elementBits d e (textOf l e next)) next
   unfolding elementFits elementBits elementAt
   element-stands b h =
       onto-is noElement (extensibleIndex l at (lastOf d)) (λ (i m : ℕ). argumentAt (kindOf d i) i (at + 1) l m) (isElement e next)

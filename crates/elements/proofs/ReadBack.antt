@@ -59,7 +59,8 @@ parts false b c d e h = never (cc)
 
 module _ (l : List ℕ) (at next : ℕ) (e : Element) (t : List ℕ) (n : e .characters ≡ length t) where
   -- an element of a kind whose argument is characters
-  characters-read : (ok : Bool) (f : Field) → plain e && ok ≡ true → f ≡ field.Value (length t) next → charactersOf (e .number) f ≡ isElement e next
+  characters-read : (ok : Bool) (f : Field) → plain e && ok ≡ true → f ≡ field.Value (length t) next
+      → charactersOf (e .number) f ≡ isElement e next
   characters-read ok f h p =
       let q = plain-is e (both-left (plain e) ok h) in
       rw (p, ← element-is e noLevel noLevel noTime noDigits (length t) (q .level) (q .other) (q .time) (q .code) n)
@@ -77,24 +78,32 @@ module _ (l : List ℕ) (at next : ℕ) (e : Element) (t : List ℕ) (n : e .cha
   level-reads-in s =
       let q = parts (levelFits (e .level)) (levelUnused (e .other)) (timeUnused (e .time)) (codeUnused (e .code)) (noText t) (s .fits) in
       let z : length t ≡ 0 = ap length (no-text t (q .fifth)) in
-      let m = element-is e (e .level) noLevel noTime noDigits 0 refl (level-unused (e .other) (q .second)) (time-unused (e .time) (q .third)) (code-unused (e .code) (q .fourth)) (n ∙ z) in
+      let m = element-is e (e .level) noLevel noTime noDigits 0 refl (level-unused (e .other) (q .second))
+      (time-unused (e .time) (q .third)) (code-unused (e .code) (q .fourth)) (n ∙ z) in
       rw (level-reads l at next (e .level) (stands-as l at next _ _ _ (q .first) s)) (ap (λ (x : Element). isElement x next) (sym m))
 
-  two-levels-read : Stands l at (argumentFits kind.TwoLevels e t) (levelBits (e .level) ++ levelBits (e .other)) next → twoLevelsArgument (e .number) l at ≡ isElement e next
+  two-levels-read : Stands l at (argumentFits kind.TwoLevels e t) (levelBits (e .level) ++ levelBits (e .other)) next
+      → twoLevelsArgument (e .number) l at ≡ isElement e next
   unfolding argumentFits twoLevelsArgument
   two-levels-read s =
       let q = parts (levelFits (e .level)) (levelFits (e .other)) (timeUnused (e .time)) (codeUnused (e .code)) (noText t) (s .fits) in
       let z : length t ≡ 0 = ap length (no-text t (q .fifth)) in
-      let m = element-is e (e .level) (e .other) noTime noDigits 0 refl refl (time-unused (e .time) (q .third)) (code-unused (e .code) (q .fourth)) (n ∙ z) in
+      let m = element-is e (e .level) (e .other) noTime noDigits 0 refl refl (time-unused (e .time) (q .third))
+      (code-unused (e .code) (q .fourth)) (n ∙ z) in
       let p = stands-split l at next true true (levelBits (e .level)) (levelBits (e .other)) (stands-as l at next _ _ _ refl s) in
-      rw (level-reads l at _ (e .level) (stands-as l at _ _ _ _ (q .first) (p .0)), level-reads l _ next (e .other) (stands-as l _ next _ _ _ (q .second) (p .1))) (ap (λ (x : Element). isElement x next) (sym m))
+      rw (
+        level-reads l at _ (e .level) (stands-as l at _ _ _ _ (q .first) (p .0)),
+        level-reads l _ next (e .other)
+            (stands-as l _ next _ _ _ (q .second) (p .1)),
+      ) (ap (λ (x : Element). isElement x next) (sym m))
 
   time-reads-in : Stands l at (argumentFits kind.Time e t) (timeBits (e .time)) next → timeArgument (e .number) l at ≡ isElement e next
   unfolding argumentFits levelsUnused timeArgument
   time-reads-in s =
       let q = parts (levelUnused (e .level)) (levelUnused (e .other)) (timeFits (e .time)) (codeUnused (e .code)) (noText t) (s .fits) in
       let z : length t ≡ 0 = ap length (no-text t (q .fifth)) in
-      let m = element-is e noLevel noLevel (e .time) noDigits 0 (level-unused (e .level) (q .first)) (level-unused (e .other) (q .second)) refl (code-unused (e .code) (q .fourth)) (n ∙ z) in
+      let m = element-is e noLevel noLevel (e .time) noDigits 0 (level-unused (e .level) (q .first))
+      (level-unused (e .other) (q .second)) refl (code-unused (e .code) (q .fourth)) (n ∙ z) in
       rw (time-reads l at next (e .time) (stands-as l at next _ _ _ (q .third) s)) (ap (λ (x : Element). isElement x next) (sym m))
 
   code-found : (c : List ℕ) → codeFits c ≡ true → (ok : Bool) → Stands l at ok (digitsBits c) next → codeAt l at ≡ isCode next c
@@ -109,30 +118,42 @@ module _ (l : List ℕ) (at next : ℕ) (e : Element) (t : List ℕ) (n : e .cha
   code-reads-in s =
       let q = parts (levelUnused (e .level)) (levelUnused (e .other)) (timeUnused (e .time)) (codeFits (e .code)) (noText t) (s .fits) in
       let z : length t ≡ 0 = ap length (no-text t (q .fifth)) in
-      let m = element-is e noLevel noLevel noTime (e .code) 0 (level-unused (e .level) (q .first)) (level-unused (e .other) (q .second)) (time-unused (e .time) (q .third)) refl (n ∙ z) in
+      let m = element-is e noLevel noLevel noTime (e .code) 0 (level-unused (e .level) (q .first))
+      (level-unused (e .other) (q .second)) (time-unused (e .time) (q .third)) refl (n ∙ z) in
       rw (code-found (e .code) (q .fourth) _ s) (ap (λ (x : Element). isElement x next) (sym m))
 
   not-carried : {R : Type 0} → argumentFits kind.NotCarried e t ≡ true → R
   unfolding argumentFits
   not-carried h = never (cc)
 
-  free-text-reads : Stands l at (argumentFits kind.FreeText e t) (sizedBits 1 256 t) next → charactersOf (e .number) (freeTextAt l at) ≡ isElement e next
+  free-text-reads : Stands l at (argumentFits kind.FreeText e t) (sizedBits 1 256 t) next
+      → charactersOf (e .number) (freeTextAt l at) ≡ isElement e next
   unfolding argumentFits
-  free-text-reads s = characters-read (sizedFits 1 256 t) (freeTextAt l at) (s .fits) (sized-reads l at 1 256 next (ranged 1 256 tt tt) (omega arith) t (stands-as l at next _ _ _ (both-right (plain e) (sizedFits 1 256 t) (s .fits)) s))
+  free-text-reads s = characters-read (sizedFits 1 256 t) (freeTextAt l at) (s .fits) (sized-reads l at 1 256 next
+      (ranged 1 256 tt tt) (omega arith) t
+      (stands-as l at next _ _ _ (both-right (plain e) (sizedFits 1 256 t) (s .fits)) s))
 
-  designation-reads : Stands l at (argumentFits kind.FacilityDesignation e t) (sizedBits 4 8 t) next → charactersOf (e .number) (designationAt l at) ≡ isElement e next
+  designation-reads : Stands l at (argumentFits kind.FacilityDesignation e t) (sizedBits 4 8 t) next
+      → charactersOf (e .number) (designationAt l at) ≡ isElement e next
   unfolding argumentFits
-  designation-reads s = characters-read (sizedFits 4 8 t) (designationAt l at) (s .fits) (sized-reads l at 4 8 next (ranged 4 8 tt tt) (omega arith) t (stands-as l at next _ _ _ (both-right (plain e) (sizedFits 4 8 t) (s .fits)) s))
+  designation-reads s = characters-read (sizedFits 4 8 t) (designationAt l at) (s .fits) (sized-reads l at 4 8 next
+      (ranged 4 8 tt tt) (omega arith) t
+      (stands-as l at next _ _ _ (both-right (plain e) (sizedFits 4 8 t) (s .fits)) s))
 
-  facility-reads-in : Stands l at (argumentFits kind.Facility e t) (facilityBits t) next → charactersOf (e .number) (facilityAt l at) ≡ isElement e next
+  facility-reads-in : Stands l at (argumentFits kind.Facility e t) (facilityBits t) next
+      → charactersOf (e .number) (facilityAt l at) ≡ isElement e next
   unfolding argumentFits
-  facility-reads-in s = characters-read (facilityFits t) (facilityAt l at) (s .fits) (facility-reads l at next t (stands-as l at next _ _ _ (both-right (plain e) (facilityFits t) (s .fits)) s))
+  facility-reads-in s = characters-read (facilityFits t) (facilityAt l at) (s .fits)
+      (facility-reads l at next t (stands-as l at next _ _ _ (both-right (plain e) (facilityFits t) (s .fits)) s))
 
-  atis-reads-in : Stands l at (argumentFits kind.AtisCode e t) (charactersBits t) next → charactersOf (e .number) (atisAt l at) ≡ isElement e next
+  atis-reads-in : Stands l at (argumentFits kind.AtisCode e t) (charactersBits t) next
+      → charactersOf (e .number) (atisAt l at) ≡ isElement e next
   unfolding argumentFits
-  atis-reads-in s = characters-read (atisFits t) (atisAt l at) (s .fits) (atis-reads l at next t (stands-as l at next _ _ _ (both-right (plain e) (atisFits t) (s .fits)) s))
+  atis-reads-in s = characters-read (atisFits t) (atisAt l at) (s .fits)
+      (atis-reads l at next t (stands-as l at next _ _ _ (both-right (plain e) (atisFits t) (s .fits)) s))
 
-  pub argument-reads : (index : ℕ) (k : ArgumentKind) → Stands l at (argumentFits k e t) (argumentBits k e t) next → argumentAt k (e .number) index l at ≡ isElement e next
+  pub argument-reads : (index : ℕ) (k : ArgumentKind) → Stands l at (argumentFits k e t) (argumentBits k e t) next
+      → argumentAt k (e .number) index l at ≡ isElement e next
   unfolding argumentBits argumentAt
   argument-reads index kind.NotCarried s = not-carried (s .fits)
   argument-reads index kind.None s = none-reads s
@@ -151,15 +172,22 @@ module _ (l : List ℕ) (at next : ℕ) (e : Element) (t : List ℕ) (n : e .cha
   unfolding charactersIn
   without h = rw (no-text t h)
 
-  pub argument-text : (k : ArgumentKind) → Stands l at (argumentFits k e t) (argumentBits k e t) next → charactersIn l (next - 7 * length t) (length t) ≡ t
+  pub argument-text : (k : ArgumentKind) → Stands l at (argumentFits k e t) (argumentBits k e t) next
+      → charactersIn l (next - 7 * length t) (length t) ≡ t
   unfolding argumentBits argumentFits levelsUnused
   argument-text kind.NotCarried s = not-carried (s .fits)
   argument-text kind.None s = without (both-right (plain e) (noText t) (s .fits))
-  argument-text kind.Level s = without (parts (levelFits (e .level)) (levelUnused (e .other)) (timeUnused (e .time)) (codeUnused (e .code)) (noText t) (s .fits) .fifth)
-  argument-text kind.TwoLevels s = without (parts (levelFits (e .level)) (levelFits (e .other)) (timeUnused (e .time)) (codeUnused (e .code)) (noText t) (s .fits) .fifth)
-  argument-text kind.Time s = without (parts (levelUnused (e .level)) (levelUnused (e .other)) (timeFits (e .time)) (codeUnused (e .code)) (noText t) (s .fits) .fifth)
-  argument-text kind.Code s = without (parts (levelUnused (e .level)) (levelUnused (e .other)) (timeUnused (e .time)) (codeFits (e .code)) (noText t) (s .fits) .fifth)
-  argument-text kind.FreeText s = sized-text l at 1 256 next t (stands-as l at next _ _ _ (both-right (plain e) (sizedFits 1 256 t) (s .fits)) s)
+  argument-text kind.Level s = without (parts (levelFits (e .level)) (levelUnused (e .other)) (timeUnused (e .time))
+      (codeUnused (e .code)) (noText t) (s .fits) .fifth)
+  argument-text kind.TwoLevels s = without (parts (levelFits (e .level)) (levelFits (e .other)) (timeUnused (e .time))
+      (codeUnused (e .code)) (noText t) (s .fits) .fifth)
+  argument-text kind.Time s = without (parts (levelUnused (e .level)) (levelUnused (e .other)) (timeFits (e .time))
+      (codeUnused (e .code)) (noText t) (s .fits) .fifth)
+  argument-text kind.Code s = without (parts (levelUnused (e .level)) (levelUnused (e .other)) (timeUnused (e .time))
+      (codeFits (e .code)) (noText t) (s .fits) .fifth)
+  argument-text kind.FreeText s = sized-text l at 1 256 next t
+      (stands-as l at next _ _ _ (both-right (plain e) (sizedFits 1 256 t) (s .fits)) s)
   argument-text kind.Facility s = facility-text l at next t (stands-as l at next _ _ _ (both-right (plain e) (facilityFits t) (s .fits)) s)
-  argument-text kind.FacilityDesignation s = sized-text l at 4 8 next t (stands-as l at next _ _ _ (both-right (plain e) (sizedFits 4 8 t) (s .fits)) s)
+  argument-text kind.FacilityDesignation s = sized-text l at 4 8 next t
+      (stands-as l at next _ _ _ (both-right (plain e) (sizedFits 4 8 t) (s .fits)) s)
   argument-text kind.AtisCode s = atis-text l at next t (stands-as l at next _ _ _ (both-right (plain e) (atisFits t) (s .fits)) s)

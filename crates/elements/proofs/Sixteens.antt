@@ -32,23 +32,28 @@ set-swap (a ∷ l) (suc p) (suc q) x y h = ap (λ (r : List ℕ). a ∷ r) (set-
 
 set-before : (ys l : List ℕ) (p q x : ℕ) → p < q → set (sets l q ys) p x ≡ sets (set l p x) q ys
 set-before [] l p q x h = refl
-set-before (y ∷ ys) l p q x h = set-before ys (set l q y) p (suc q) x (omega arith) ∙ ap (λ (r : List ℕ). sets r (suc q) ys) (set-swap l p q x y h)
+set-before (y ∷ ys) l p q x h = set-before ys (set l q y) p (suc q) x (omega arith) ∙ ap
+    (λ (r : List ℕ). sets r (suc q) ys) (set-swap l p q x y h)
 
 sets-before : (xs ys l : List ℕ) (p q : ℕ) → p + length xs ≤ q → sets (sets l q ys) p xs ≡ sets (sets l p xs) q ys
 sets-before [] ys l p q h = refl
-sets-before (x ∷ xs) ys l p q h = ap (λ (r : List ℕ). sets r (suc p) xs) (set-before ys l p q x (omega arith)) ∙ sets-before xs ys (set l p x) (suc p) q (omega arith)
+sets-before (x ∷ xs) ys l p q h = ap (λ (r : List ℕ). sets r (suc p) xs) (set-before ys l p q x (omega arith)) ∙
+    sets-before xs ys (set l p x) (suc p) q (omega arith)
 
 sets-append : (xs ys l : List ℕ) (p : ℕ) → sets l p (xs ++ ys) ≡ sets (sets l p xs) (p + length xs) ys
 sets-append [] ys l p = rw (add-zero p)
 sets-append (x ∷ xs) ys l p = let a : p + suc (length xs) ≡ suc p + length xs = omega arith in rw a (sets-append xs ys (set l p x) (suc p))
 
-put-before : (s xs ys : List ℕ) (at : ℕ) → Bytes s → Bits xs → Bits ys → at + (length xs + length ys) ≤ 8 * length s → putBits (putBits s (at + length xs) ys) at xs ≡ putBits s at (xs ++ ys)
+put-before : (s xs ys : List ℕ) (at : ℕ) → Bytes s → Bits xs → Bits ys → at + (length xs + length ys) ≤ 8 * length s
+    → putBits (putBits s (at + length xs) ys) at xs ≡ putBits s at (xs ++ ys)
 put-before s xs ys at b hx hy h =
     let q : ℕ = at + length xs in
     let u : List ℕ = putBits s q ys in
     let n : length u ≡ length s = length-put ys s q in
     let m = length-append xs ys in
-    same-bytes _ _ (bytes-put xs u at hx (bytes-put ys s q hy b)) (bytes-put (xs ++ ys) s at (bits-append xs ys hx hy) b) (length-put xs u at ∙ n ∙ sym (length-put (xs ++ ys) s at))
+    same-bytes _ _ (bytes-put xs u at hx (bytes-put ys s q hy b))
+    (bytes-put (xs ++ ys) s at (bits-append xs ys hx hy) b)
+    (length-put xs u at ∙ n ∙ sym (length-put (xs ++ ys) s at))
     (bits-put xs u at hx (omega arith)
     ∙ ap (λ (l : List ℕ). sets l at xs) (bits-put ys s q hy (omega arith))
     ∙ sets-before xs ys (bitsOf s) at q (omega arith)
@@ -68,7 +73,8 @@ characters-are-bits (c ∷ cs) = bits-append (bitsN 7 c) (charactersBits cs) (bi
 abbrev pub Gather : ℕ → List ℕ → Type 0
 Gather v xs = (bitsN (7 * length xs) v ≡ charactersBits xs) × (v < 2 ^ (7 * length xs))
 
-eight-put : (s z : List ℕ) (e at v : ℕ) (xs : List ℕ) (a : Put) → length xs ≡ 8 → at + 56 ≤ min e (8 * length s) → Gather v xs → left a z ≡ putNumber s e at 56 v → z ≡ putBits s at (charactersBits xs)
+eight-put : (s z : List ℕ) (e at v : ℕ) (xs : List ℕ) (a : Put) → length xs ≡ 8 → at + 56 ≤ min e (8 * length s)
+    → Gather v xs → left a z ≡ putNumber s e at 56 v → z ≡ putBits s at (charactersBits xs)
 eight-put s z e at v xs a n r g h =
     let k : 56 ≡ 7 * length xs = omega arith in
     ap (λ (l : Left). l .bytes) (rw k at h ∙ few-put s e at v xs (omega arith) (omega arith) (g .0) (g .1))
@@ -76,7 +82,9 @@ eight-put s z e at v xs a n r g h =
 halves : (zs : List ℕ) → take 8 zs ++ take (length zs - 8) (drop 8 zs) ≡ zs
 halves zs = rw (the-rest zs 8) (take-append-drop 8 zs)
 
-pub sixteen-put : (s u z : List ℕ) (e at p v w : ℕ) (zs : List ℕ) (a b : Put) → Bytes s → length zs ≡ 16 → at + 112 ≤ min e (8 * length s) → Gather v (take 8 zs) → Gather w (take (length zs - 8) (drop 8 zs)) → p ≡ at + 56 → left a u ≡ putNumber s e p 56 w → left b z ≡ putNumber u e at 56 v → z ≡ putBits s at (charactersBits zs)
+pub sixteen-put : (s u z : List ℕ) (e at p v w : ℕ) (zs : List ℕ) (a b : Put) → Bytes s → length zs ≡ 16
+    → at + 112 ≤ min e (8 * length s) → Gather v (take 8 zs) → Gather w (take (length zs - 8) (drop 8 zs)) → p ≡ at + 56
+    → left a u ≡ putNumber s e p 56 w → left b z ≡ putNumber u e at 56 v → z ≡ putBits s at (charactersBits zs)
 sixteen-put s u z e at p v w zs a b bs many r g f q h k =
     let xs : List ℕ = take 8 zs in
     let ys : List ℕ = take (length zs - 8) (drop 8 zs) in
@@ -93,9 +101,14 @@ sixteen-put s u z e at p v w zs a b bs many r g f q h k =
     ∙ ap (putBits s at) (sym (characters-append xs ys) ∙ ap charactersBits (halves zs))
 
 -- and then those that follow
-pub sixteen-next : (s t : List ℕ) (e p i k : ℕ) (xs : List ℕ) → charactersFit xs ≡ true → i + k ≤ length xs → p + 7 * k ≤ min e (8 * length s) → t ≡ putBits s p (charactersBits (take k (drop i xs))) → (j o : ℕ) → i + k ≡ j → p + 7 * k ≡ o → putPieces t e o (numberPieces 127 (drop j xs)) ≡ putPieces s e p (numberPieces 127 (drop i xs))
+pub sixteen-next : (s t : List ℕ) (e p i k : ℕ) (xs : List ℕ) → charactersFit xs ≡ true → i + k ≤ length xs
+    → p + 7 * k ≤ min e (8 * length s) → t ≡ putBits s p (charactersBits (take k (drop i xs))) → (j o : ℕ) → i + k ≡ j
+    → p + 7 * k ≡ o → putPieces t e o (numberPieces 127 (drop j xs)) ≡ putPieces s e p (numberPieces 127 (drop i xs))
 sixteen-next s t e p i k xs f w r h j o x y =
     let many : length (take k (drop i xs)) ≡ k = omega (arith, length-take k (drop i xs), length-drop i xs) in
     let l = putPieces t e (p + 7 * k) (numberPieces 127 (drop (i + k) xs)) in
-    let c : putPieces s e p (numberPieces 127 (take k (drop i xs))) ≡ left (Next (p + 7 * k)) t = rw (many, ← h) at (characters-left s e p (take k (drop i xs)) (fit-part i k xs f) (omega arith)) in
-    rw (← x, ← y) (pieces-next (numberPieces 127 (take k (drop i xs))) (numberPieces 127 (drop (i + k) xs)) s t (l .bytes) e p (p + 7 * k) (Next (p + 7 * k)) (l .answer) (sym c) refl refl ∙ ap (putPieces s e p) (sym (in-parts 127 i k xs)))
+    let c : putPieces s e p (numberPieces 127 (take k (drop i xs))) ≡ left (Next (p + 7 * k)) t = rw (many, ← h) at
+    (characters-left s e p (take k (drop i xs)) (fit-part i k xs f) (omega arith)) in
+    rw (← x, ← y) (pieces-next (numberPieces 127 (take k (drop i xs))) (numberPieces 127 (drop (i + k) xs)) s t
+    (l .bytes) e p (p + 7 * k) (Next (p + 7 * k)) (l .answer) (sym c) refl refl ∙ ap (putPieces s e p)
+    (sym (in-parts 127 i k xs)))

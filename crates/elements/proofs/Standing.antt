@@ -25,7 +25,8 @@ pub both-hold : (a b : Bool) → a ≡ true → b ≡ true → a && b ≡ true
 both-hold a b p q = rw (p, q)
 
 -- one value after another
-pub stands-join : (l : List ℕ) (at m next : ℕ) (a b : Bool) (xs ys : List ℕ) → Stands l at a xs m → Stands l m b ys next → Stands l at (a && b) (xs ++ ys) next
+pub stands-join : (l : List ℕ) (at m next : ℕ) (a b : Bool) (xs ys : List ℕ) → Stands l at a xs m → Stands l m b ys next
+    → Stands l at (a && b) (xs ++ ys) next
 stands-join l at m next a b xs ys p q =
     record {
       fits = both-hold a b (p .fits) (q .fits);
@@ -33,7 +34,8 @@ stands-join l at m next a b xs ys p q =
       place = let n = length-append xs ys in let h = p .place in let k = q .place in omega arith;
     }
 
-pub stands-split : (l : List ℕ) (at next : ℕ) (a b : Bool) (xs ys : List ℕ) → Stands l at (a && b) (xs ++ ys) next → (Stands l at a xs (at + length xs) × Stands l (at + length xs) b ys next)
+pub stands-split : (l : List ℕ) (at next : ℕ) (a b : Bool) (xs ys : List ℕ) → Stands l at (a && b) (xs ++ ys) next
+    → (Stands l at a xs (at + length xs) × Stands l (at + length xs) b ys next)
 stands-split l at next a b xs ys s =
     let h = holds-split l at xs ys (s .holds) in (
       record { fits = both-left a b (s .fits); holds = h .0; place = refl },

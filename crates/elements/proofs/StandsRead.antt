@@ -68,7 +68,8 @@ module _ (l : List ℕ) (at i next : ℕ) (b : Bits l) where
   unfolding argumentFits argumentBits levelUnused timeUnused codeUnused zeros charactersIn
   level-argued x s = record { number = refl; stands = stands-as l at next _ _ _ (rw (s .fits)) s }
 
-  levels-argued : (x y : Level) (m : ℕ) → Stands l at (levelFits x) (levelBits x) m → Stands l m (levelFits y) (levelBits y) next → Argued l at i kind.TwoLevels (withLevels i x y) next
+  levels-argued : (x y : Level) (m : ℕ) → Stands l at (levelFits x) (levelBits x) m
+      → Stands l m (levelFits y) (levelBits y) next → Argued l at i kind.TwoLevels (withLevels i x y) next
   unfolding argumentFits argumentBits timeUnused codeUnused zeros charactersIn
   levels-argued x y m s t = record { number = refl; stands = stands-as l at next _ _ _ (rw (s .fits, t .fits)) (stands-join l at m next _ _ _ _ s t) }
 
@@ -81,7 +82,10 @@ module _ (l : List ℕ) (at i next : ℕ) (b : Bits l) where
   code-argued x s = record { number = refl; stands = stands-as l at next _ _ _ (rw (s .fits)) s }
 
   -- the kinds whose argument is characters
-  text-argued : (k : ArgumentKind) (n : ℕ) (ok : Bool) (bs : List ℕ) → argumentFits k (withCharacters i n) (charactersIn l (next - 7 * n) n) ≡ true && ok → argumentBits k (withCharacters i n) (charactersIn l (next - 7 * n) n) ≡ bs → Stands l at ok bs next → Argued l at i k (withCharacters i n) next
+  text-argued : (k : ArgumentKind) (n : ℕ) (ok : Bool) (bs : List ℕ)
+      → argumentFits k (withCharacters i n) (charactersIn l (next - 7 * n) n) ≡ true && ok
+      → argumentBits k (withCharacters i n) (charactersIn l (next - 7 * n) n) ≡ bs → Stands l at ok bs next
+      → Argued l at i k (withCharacters i n) next
   text-argued k n ok bs p q s = record { number = refl; stands = stands-as l at next _ _ _ (p ∙ s .fits) (rw (← q) at s) }
 
   module _ (e : Element) where
@@ -92,7 +96,9 @@ module _ (l : List ℕ) (at i next : ℕ) (b : Bits l) where
     unfolding Goal
     moved k x m h a = rw (← same-place e x m next h, ← same-element e x m next h) a
 
-    characters-are : (k : ArgumentKind) (f : Field) → ((n m : ℕ) → f ≡ field.Value n m → m ≡ next → Argued l at i k (withCharacters i n) next) → charactersOf i f ≡ isElement e next → Goal k
+    characters-are : (k : ArgumentKind) (f : Field)
+        → ((n m : ℕ) → f ≡ field.Value n m → m ≡ next → Argued l at i k (withCharacters i n) next)
+        → charactersOf i f ≡ isElement e next → Goal k
     characters-are k f go h =
         onto-is noElement f (λ (n m : ℕ). isElement (withCharacters i n) m) (isElement e next)
         (λ (n m : ℕ) (p : f ≡ field.Value n m) (q : isElement (withCharacters i n) m ≡ isElement e next).
@@ -117,12 +123,15 @@ module _ (l : List ℕ) (at i next : ℕ) (b : Bits l) where
     two-levels-found : twoLevelsArgument i l at ≡ isElement e next → Goal kind.TwoLevels
     unfolding twoLevelsArgument
     two-levels-found h =
-        level-is (levelAt l at) (λ (x : Level) (m : ℕ). ontoLevel (levelAt l m) (λ (y : Level) (n : ℕ). isElement (withLevels i x y) n)) (isElement e next)
+        level-is (levelAt l at)
+        (λ (x : Level) (m : ℕ). ontoLevel (levelAt l m) (λ (y : Level) (n : ℕ). isElement (withLevels i x y) n))
+        (isElement e next)
         (λ (x : Level) (m : ℕ) (p : levelAt l at ≡ level.Got x m) (g : ontoLevel (levelAt l m) (λ (y : Level) (n : ℕ). isElement (withLevels i x y) n) ≡ isElement e next).
         level-is (levelAt l m) (λ (y : Level) (n : ℕ). isElement (withLevels i x y) n) (isElement e next)
         (λ (y : Level) (n : ℕ) (r : levelAt l m ≡ level.Got y n) (q : isElement (withLevels i x y) n ≡ isElement e next).
         let j = same-place e (withLevels i x y) n next q in
-        moved kind.TwoLevels (withLevels i x y) next (rw j at q) (levels-argued x y m (level-stands l at m x b p) (rw j at (level-stands l m n y b r))))
+        moved kind.TwoLevels (withLevels i x y) next (rw j at q)
+        (levels-argued x y m (level-stands l at m x b p) (rw j at (level-stands l m n y b r))))
         refused
         g)
         refused
@@ -145,7 +154,8 @@ module _ (l : List ℕ) (at i next : ℕ) (b : Bits l) where
         (λ (n : ℕ) (p : codeAt l at .step ≡ step.Next n) (q : isElement (withCode i (codeAt l at .digits)) n ≡ isElement e next).
         let j = same-place e (withCode i (codeAt l at .digits)) n next q in
         let c : codeAt l at ≡ isCode next (codeAt l at .digits) = made (codeAt l at) (p ∙ ap step.Next j) in
-        moved kind.Code (withCode i (codeAt l at .digits)) next (rw j at q) (code-argued (codeAt l at .digits) (code-stands l at next (codeAt l at .digits) b c)))
+        moved kind.Code (withCode i (codeAt l at .digits)) next (rw j at q)
+        (code-argued (codeAt l at .digits) (code-stands l at next (codeAt l at .digits) b c)))
         refused
         h
       where

@@ -38,7 +38,8 @@ length-charactersBits (c ∷ cs) =
     omega arith
 
 -- characters that stand at a place are found there
-pub characters-found : (l : List ℕ) (at : ℕ) (cs : List ℕ) → charactersFit cs ≡ true → Holds l at (charactersBits cs) → charactersIn l at (length cs) ≡ cs
+pub characters-found : (l : List ℕ) (at : ℕ) (cs : List ℕ) → charactersFit cs ≡ true → Holds l at (charactersBits cs)
+    → charactersIn l at (length cs) ≡ cs
 unfolding charactersFit charactersBits charactersIn
 characters-found l at [] f h = refl
 characters-found l at (c ∷ cs) f h =
@@ -67,7 +68,8 @@ characters-stand l at (suc n) b h =
     holds-join l at (bitsN 7 v) (charactersBits (charactersIn l (at + 7) n)) (rw k e) (rw k (characters-stand l (at + 7) n b (omega arith)))
 
 -- the characters are the last of a string
-text-of : (l : List ℕ) (m next : ℕ) (ok : Bool) (t : List ℕ) → charactersFit t ≡ true → Stands l m ok (charactersBits t) next → charactersIn l (next - 7 * length t) (length t) ≡ t
+text-of : (l : List ℕ) (m next : ℕ) (ok : Bool) (t : List ℕ) → charactersFit t ≡ true
+    → Stands l m ok (charactersBits t) next → charactersIn l (next - 7 * length t) (length t) ≡ t
 text-of l m next ok t f s =
     let n = length-charactersBits t in
     let p = s .place in
@@ -77,7 +79,9 @@ text-of l m next ok t f s =
 -- ---- a string with a size
 
 module _ (l : List ℕ) (at least most next : ℕ) where
-  pub sized-reads : Ranged least most → 0 < least → (t : List ℕ) → Stands l at (sizedFits least most t) (sizedBits least most t) next → sizedAt l at 7 least most ≡ field.Value (length t) next
+  pub sized-reads : Ranged least most → 0 < least → (t : List ℕ)
+      → Stands l at (sizedFits least most t) (sizedBits least most t) next
+      → sizedAt l at 7 least most ≡ field.Value (length t) next
   unfolding sizedFits sizedBits
   sized-reads r p t s =
       let h = both-left (wholeFits least most (length t)) (charactersFit t) (s .fits) in
@@ -86,13 +90,16 @@ module _ (l : List ℕ) (at least most next : ℕ) where
       let c = length-charactersBits t in
       sized-written l at 7 least most (length t) next (charactersBits t) (r .small) h c (as-field l at next _ _ (omega arith) s)
 
-  pub sized-text : (t : List ℕ) → Stands l at (sizedFits least most t) (sizedBits least most t) next → charactersIn l (next - 7 * length t) (length t) ≡ t
+  pub sized-text : (t : List ℕ) → Stands l at (sizedFits least most t) (sizedBits least most t) next
+      → charactersIn l (next - 7 * length t) (length t) ≡ t
   unfolding sizedFits sizedBits
   sized-text t s =
-      let q = stands-split l at next (wholeFits least most (length t)) (charactersFit t) (wholeBits least most (length t)) (charactersBits t) s in
+      let q = stands-split l at next (wholeFits least most (length t)) (charactersFit t)
+      (wholeBits least most (length t)) (charactersBits t) s in
       text-of l _ next _ t (q .1 .fits) (q .1)
 
-  pub sized-stands : Ranged least most → (n : ℕ) → Bits l → sizedAt l at 7 least most ≡ field.Value n next → Stands l at (sizedFits least most (charactersIn l (next - 7 * n) n)) (sizedBits least most (charactersIn l (next - 7 * n) n)) next
+  pub sized-stands : Ranged least most → (n : ℕ) → Bits l → sizedAt l at 7 least most ≡ field.Value n next
+      → Stands l at (sizedFits least most (charactersIn l (next - 7 * n) n)) (sizedBits least most (charactersIn l (next - 7 * n) n)) next
   unfolding sizedFits sizedBits
   sized-stands r n b e =
       let s = sized-read l at 7 least most n next (r .small) b e in
@@ -103,19 +110,23 @@ module _ (l : List ℕ) (at least most next : ℕ) where
       let a : next - 7 * n ≡ m = omega arith in
       let c : length (charactersIn l m n) ≡ n = length-characters l m n in
       let i : m + 7 * n ≤ length l = omega arith in
-      let t : take (7 * n) (drop m l) ≡ charactersBits (charactersIn l m n) = rw (length-charactersBits (charactersIn l m n), c) at (characters-stand l m n b i) in
+      let t : take (7 * n) (drop m l) ≡ charactersBits (charactersIn l m n) = rw
+      (length-charactersBits (charactersIn l m n), c) at (characters-stand l m n b i) in
       rw (a, c) (of-field l at next _ _ (both-hold (wholeFits least most n) _ (s .count) (characters-fit l m n b i)) (rw t at (s .stands)))
 
 -- ---- a facility
 
-pub facility-reads : (l : List ℕ) (at next : ℕ) (t : List ℕ) → Stands l at (facilityFits t) (facilityBits t) next → facilityAt l at ≡ field.Value (length t) next
+pub facility-reads : (l : List ℕ) (at next : ℕ) (t : List ℕ) → Stands l at (facilityFits t) (facilityBits t) next
+    → facilityAt l at ≡ field.Value (length t) next
 unfolding facilityFits facilityBits facilityAt
 facility-reads l at next [] s = rw (whole-reads l at 0 1 0 next (ranged 0 1 tt tt) (stands-as l at next _ _ _ refl s))
 facility-reads l at next (c ∷ cs) s =
     let q = stands-split l at next true (sizedFits 4 8 (c ∷ cs)) (wholeBits 0 1 1) (sizedBits 4 8 (c ∷ cs)) s in
-    rw (whole-reads l at 0 1 1 _ (ranged 0 1 tt tt) (stands-as l at _ _ _ _ refl (q .0))) (sized-reads l _ 4 8 next (ranged 4 8 tt tt) (omega arith) (c ∷ cs) (q .1))
+    rw (whole-reads l at 0 1 1 _ (ranged 0 1 tt tt) (stands-as l at _ _ _ _ refl (q .0)))
+    (sized-reads l _ 4 8 next (ranged 4 8 tt tt) (omega arith) (c ∷ cs) (q .1))
 
-pub facility-text : (l : List ℕ) (at next : ℕ) (t : List ℕ) → Stands l at (facilityFits t) (facilityBits t) next → charactersIn l (next - 7 * length t) (length t) ≡ t
+pub facility-text : (l : List ℕ) (at next : ℕ) (t : List ℕ) → Stands l at (facilityFits t) (facilityBits t) next
+    → charactersIn l (next - 7 * length t) (length t) ≡ t
 unfolding facilityFits facilityBits charactersIn
 facility-text l at next [] s = refl
 facility-text l at next (c ∷ cs) s =
@@ -123,20 +134,28 @@ facility-text l at next (c ∷ cs) s =
     sized-text l _ 4 8 next (c ∷ cs) (q .1)
 
 module _ (l : List ℕ) (at next : ℕ) where
-  some : (m : ℕ) (t : List ℕ) → Stands l at (wholeFits 0 1 1) (wholeBits 0 1 1) m → Stands l m (sizedFits 4 8 t) (sizedBits 4 8 t) next → Stands l at (facilityFits t) (facilityBits t) next
+  some : (m : ℕ) (t : List ℕ) → Stands l at (wholeFits 0 1 1) (wholeBits 0 1 1) m
+      → Stands l m (sizedFits 4 8 t) (sizedBits 4 8 t) next → Stands l at (facilityFits t) (facilityBits t) next
   unfolding facilityFits facilityBits sizedFits
   some m [] p q = let z : false ≡ true = q .fits in never (cc)
   some m (c ∷ cs) p q = stands-join l at m next true _ _ _ (stands-as l at m _ _ _ refl p) q
 
-  none : (m x k : ℕ) → k ≡ 0 → Stands l at (wholeFits 0 1 k) (wholeBits 0 1 k) m → Stands l at (facilityFits (charactersIn l x 0)) (facilityBits (charactersIn l x 0)) m
+  none : (m x k : ℕ) → k ≡ 0 → Stands l at (wholeFits 0 1 k) (wholeBits 0 1 k) m
+      → Stands l at (facilityFits (charactersIn l x 0)) (facilityBits (charactersIn l x 0)) m
   unfolding facilityFits facilityBits charactersIn
   none m x k e p = stands-as l at m _ _ _ refl (rw e at p)
 
-  pub facility-stands : (n : ℕ) → Bits l → facilityAt l at ≡ field.Value n next → Stands l at (facilityFits (charactersIn l (next - 7 * n) n)) (facilityBits (charactersIn l (next - 7 * n) n)) next
+  pub facility-stands : (n : ℕ) → Bits l → facilityAt l at ≡ field.Value n next
+      → Stands l at (facilityFits (charactersIn l (next - 7 * n) n)) (facilityBits (charactersIn l (next - 7 * n) n)) next
   unfolding facilityAt
-  facility-stands n b e = via _ (wholeNumber l at 0 1) _ n next (λ (k m : ℕ) (p : wholeNumber l at 0 1 ≡ field.Value k m) (q : cond (eqb k 0) (field.Value 0 m) (designationAt l m) ≡ field.Value n next). chosen k m (whole-stands l at 0 1 k m b p) (eqb k 0) refl q) e
+  facility-stands n b e = via _ (wholeNumber l at 0 1) _ n next (λ (k m : ℕ)
+      (p : wholeNumber l at 0 1 ≡ field.Value k m)
+      (q : cond (eqb k 0) (field.Value 0 m) (designationAt l m) ≡ field.Value n next). chosen k m
+      (whole-stands l at 0 1 k m b p) (eqb k 0) refl q) e
     where
-      chosen : (k m : ℕ) → Stands l at (wholeFits 0 1 k) (wholeBits 0 1 k) m → (z : Bool) → eqb k 0 ≡ z → cond z (field.Value 0 m) (designationAt l m) ≡ field.Value n next → Stands l at (facilityFits (charactersIn l (next - 7 * n) n)) (facilityBits (charactersIn l (next - 7 * n) n)) next
+      chosen : (k m : ℕ) → Stands l at (wholeFits 0 1 k) (wholeBits 0 1 k) m → (z : Bool) → eqb k 0 ≡ z
+          → cond z (field.Value 0 m) (designationAt l m) ≡ field.Value n next
+          → Stands l at (facilityFits (charactersIn l (next - 7 * n) n)) (facilityBits (charactersIn l (next - 7 * n) n)) next
       chosen k m s true h q =
           let i : 0 ≡ n = cc in
           let j : m ≡ next = cc in
@@ -147,7 +166,8 @@ module _ (l : List ℕ) (at next : ℕ) where
 
 -- ---- an ATIS code
 
-pub atis-reads : (l : List ℕ) (at next : ℕ) (t : List ℕ) → Stands l at (atisFits t) (charactersBits t) next → atisAt l at ≡ field.Value (length t) next
+pub atis-reads : (l : List ℕ) (at next : ℕ) (t : List ℕ) → Stands l at (atisFits t) (charactersBits t) next
+    → atisAt l at ≡ field.Value (length t) next
 unfolding atisFits runAt
 atis-reads l at next t s =
     let n : length t ≡ 1 = eqb-true (length t) 1 (both-left (eqb (length t) 1) (charactersFit t) (s .fits)) in
@@ -157,11 +177,13 @@ atis-reads l at next t s =
     let e : next ≡ at + 7 = omega arith in
     rw (le-leb (at + 7) (length l) (omega arith), n, e)
 
-pub atis-text : (l : List ℕ) (at next : ℕ) (t : List ℕ) → Stands l at (atisFits t) (charactersBits t) next → charactersIn l (next - 7 * length t) (length t) ≡ t
+pub atis-text : (l : List ℕ) (at next : ℕ) (t : List ℕ) → Stands l at (atisFits t) (charactersBits t) next
+    → charactersIn l (next - 7 * length t) (length t) ≡ t
 unfolding atisFits
 atis-text l at next t s = text-of l at next _ t (both-right (eqb (length t) 1) (charactersFit t) (s .fits)) s
 
-pub atis-stands : (l : List ℕ) (at n next : ℕ) → Bits l → atisAt l at ≡ field.Value n next → Stands l at (atisFits (charactersIn l (next - 7 * n) n)) (charactersBits (charactersIn l (next - 7 * n) n)) next
+pub atis-stands : (l : List ℕ) (at n next : ℕ) → Bits l → atisAt l at ≡ field.Value n next
+    → Stands l at (atisFits (charactersIn l (next - 7 * n) n)) (charactersBits (charactersIn l (next - 7 * n) n)) next
 unfolding atisFits
 atis-stands l at n next b e =
     let r = run-is l at 7 1 n next e in

@@ -29,7 +29,8 @@ pub time-reads : (l : List ℕ) (at next : ℕ) (x : Time) → Stands l at (time
 unfolding timeFits timeBits timeAt made
 time-reads l at next x s = pair-reads time.Refused made 0 23 (λ _. 0) (λ _. 59) hours minutes l at (x .hours) (x .minutes) next s
 
-pub time-stands : (l : List ℕ) (at next : ℕ) (x : Time) → Bits l → timeAt l at ≡ time.Got x next → Stands l at (timeFits x) (timeBits x) next
+pub time-stands : (l : List ℕ) (at next : ℕ) (x : Time) → Bits l → timeAt l at ≡ time.Got x next
+    → Stands l at (timeFits x) (timeBits x) next
 unfolding timeFits timeBits timeAt made
 time-stands l at next x b e =
     pair-is time.Refused made 0 23 (λ _. 0) (λ _. 59) hours minutes l at (time.Got x next) b

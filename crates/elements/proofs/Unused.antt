@@ -87,7 +87,8 @@ plain-is e h =
       level = level-unused (e .level) (both-left (levelUnused (e .level)) (levelUnused (e .other)) q);
       other = level-unused (e .other) (both-right (levelUnused (e .level)) (levelUnused (e .other)) q);
       time = time-unused (e .time) (both-right (levelUnused (e .level) && levelUnused (e .other)) (timeUnused (e .time)) p);
-      code = code-unused (e .code) (both-right (levelUnused (e .level) && levelUnused (e .other) && timeUnused (e .time)) (codeUnused (e .code)) h);
+      code = code-unused (e .code) (both-right
+          (levelUnused (e .level) && levelUnused (e .other) && timeUnused (e .time)) (codeUnused (e .code)) h);
     }
 
 pub no-text : (t : List ℕ) → noText t ≡ true → t ≡ []

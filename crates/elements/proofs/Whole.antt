@@ -43,7 +43,8 @@ pub length-whole : (lo hi v : ℕ) → length (wholeBits lo hi v) ≡ widthOf (h
 unfolding wholeBits
 length-whole lo hi v = length-bitsN (widthOf (hi - lo)) (v - lo)
 
-pub whole-reads : (l : List ℕ) (at lo hi v next : ℕ) → Ranged lo hi → Stands l at (wholeFits lo hi v) (wholeBits lo hi v) next → wholeNumber l at lo hi ≡ field.Value v next
+pub whole-reads : (l : List ℕ) (at lo hi v next : ℕ) → Ranged lo hi
+    → Stands l at (wholeFits lo hi v) (wholeBits lo hi v) next → wholeNumber l at lo hi ≡ field.Value v next
 whole-reads l at lo hi v next r s =
     let h = r .rising in
     let k = r .small in
@@ -51,7 +52,9 @@ whole-reads l at lo hi v next r s =
     field-reads (whole-number lo hi k) l at v next (rw (length-whole lo hi v) p) s
 
 -- the distance that was read, for a range of any size
-whole-back : (R : Type 0) (l : List ℕ) (at lo hi v next : ℕ) → ((d : ℕ) → lo + d ≡ v → v ≤ hi → bitField l at (widthOf (hi - lo)) ≡ field.Value d next → R) → wholeNumber l at lo hi ≡ field.Value v next → R
+whole-back : (R : Type 0) (l : List ℕ) (at lo hi v next : ℕ)
+    → ((d : ℕ) → lo + d ≡ v → v ≤ hi → bitField l at (widthOf (hi - lo)) ≡ field.Value d next → R)
+    → wholeNumber l at lo hi ≡ field.Value v next → R
 unfolding wholeNumber
 whole-back R l at lo hi v next c e =
     via R (bitField l at (widthOf (hi - lo))) _ v next (λ (d m : ℕ) (p : bitField l at (widthOf (hi - lo)) ≡ field.Value d m).
@@ -60,18 +63,21 @@ whole-back R l at lo hi v next c e =
     let b : m ≡ next = cc in
     c d a (rw a at (leb-true (lo + d) hi t)) (rw b at p))) e
 
-pub whole-stands : (l : List ℕ) (at lo hi v next : ℕ) → Bits l → wholeNumber l at lo hi ≡ field.Value v next → Stands l at (wholeFits lo hi v) (wholeBits lo hi v) next
+pub whole-stands : (l : List ℕ) (at lo hi v next : ℕ) → Bits l → wholeNumber l at lo hi ≡ field.Value v next
+    → Stands l at (wholeFits lo hi v) (wholeBits lo hi v) next
 unfolding wholeBits
 whole-stands l at lo hi v next b e =
     whole-back (Stands l at (wholeFits lo hi v) (bitsN (widthOf (hi - lo)) (v - lo)) next) l at lo hi v next
     (λ (d : ℕ) (p : lo + d ≡ v) (h : v ≤ hi) (q : bitField l at (widthOf (hi - lo)) ≡ field.Value d next).
     let k : v - lo ≡ d = omega arith in
-    rw k (of-field l at next _ _ (both-hold (leb lo v) (leb v hi) (le-leb lo v (omega arith)) (le-leb v hi h)) (bit-field (widthOf (hi - lo)) .read-written l at d next b q))) e
+    rw k (of-field l at next _ _ (both-hold (leb lo v) (leb v hi) (le-leb lo v (omega arith)) (le-leb v hi h))
+    (bit-field (widthOf (hi - lo)) .read-written l at d next b q))) e
 
 -- a number that was read is at most the highest
 pub whole-most : (l : List ℕ) (at lo hi v next : ℕ) (f : Field) → f ≡ wholeNumber l at lo hi → f ≡ field.Value v next → v ≤ hi
 whole-most l at lo hi v next f p q = whole-back (v ≤ hi) l at lo hi v next (λ (d : ℕ) (a : lo + d ≡ v) (h : v ≤ hi) (b : _). h) (sym p ∙ q)
 
 -- the same number, of a range that was looked up
-pub whole-as : (l : List ℕ) (at lo hi lo′ hi′ : ℕ) (f : Field) → f ≡ wholeNumber l at lo hi → lo ≡ lo′ → hi ≡ hi′ → f ≡ wholeNumber l at lo′ hi′
+pub whole-as : (l : List ℕ) (at lo hi lo′ hi′ : ℕ) (f : Field) → f ≡ wholeNumber l at lo hi → lo ≡ lo′ → hi ≡ hi′
+    → f ≡ wholeNumber l at lo′ hi′
 whole-as l at lo hi lo′ hi′ f e p q = rw (← p, ← q) e

@@ -45,7 +45,8 @@ pub level-bits : (x : Level) → piecesBits (levelPieces x) ≡ levelBits x
 unfolding levelPieces levelBits
 level-bits x = rw (bits-append, bits-append, one-bits, level-type-bits) (second (x .block))
   where
-    second : (b : Bool) → wholeBits 0 1 (flag b) ++ levelTypeBits (x .first) ++ piecesBits (cond b (levelTypePieces (x .second)) []) ≡ wholeBits 0 1 (flag b) ++ levelTypeBits (x .first) ++ cond b (levelTypeBits (x .second)) []
+    second : (b : Bool)
+        → wholeBits 0 1 (flag b) ++ levelTypeBits (x .first) ++ piecesBits (cond b (levelTypePieces (x .second)) []) ≡ wholeBits 0 1 (flag b) ++ levelTypeBits (x .first) ++ cond b (levelTypeBits (x .second)) []
     second true = rw level-type-bits
     second false = rw no-bits
 

@@ -48,7 +48,8 @@ abbrev ends : Desk → Sent Entry → Outcome Desk Entry
 ends d s = cond (d .away) (acts (desk (d .no) false (d .ok)) [] s) refused
 
 abbrev takes : Desk → Entry → Outcome Desk Entry
-takes d (a-start n) = cond (not (d .away) && ltb (d .no) n) (acts (desk n false (d .ok)) [] (puts (cond (d .ok) (a-success n) (another-answer n)))) refused
+takes d (a-start n) = cond (not (d .away) && ltb (d .no) n)
+    (acts (desk n false (d .ok)) [] (puts (cond (d .ok) (a-success n) (another-answer n)))) refused
 takes d (a-success n) = cond (eqb n (d .no)) (ends d nothing) refused
 takes d (another-answer n) = cond (eqb n (d .no)) (ends d nothing) refused
 takes d (an-abort n) = cond (eqb n (d .no)) (ends d nothing) refused
@@ -89,7 +90,9 @@ words = record { indicates = λ (d : Desk) (e : Entry). hasStart e && d .ok; con
 
 -- a right host takes the number above the record's
 abbrev after : Bool → Habits → List (Move ℕ) → Desks toy
-after ok h vs = fRun toy words h (λ (d : Desk) (j : ℕ). suc (d .no)) (λ (sd : Side). desk 0 false ok) (fFresh toy words h (λ (d : Desk) (j : ℕ). suc (d .no)) (λ (sd : Side). desk 0 false ok) (desk 0 false true) (desk 0 false ok)) vs
+after ok h vs = fRun toy words h (λ (d : Desk) (j : ℕ). suc (d .no)) (λ (sd : Side). desk 0 false ok) (fFresh toy
+    words h (λ (d : Desk) (j : ℕ). suc (d .no)) (λ (sd : Side). desk 0 false ok) (desk 0 false true)
+    (desk 0 false ok)) vs
 
 -- ---- the test: the numbers of the claims that are false of jobs 1 and 2
 
@@ -104,7 +107,9 @@ falseOf d j =
     unless (leb n 1) 1
     (unless (eqb (saysRefused j (x .notes .notices)) 0 || eqb (count j (jobsOf (x .log))) 0) 2
     (unless ((eqb (saysEnded j (x .notes .notices)) 0 || (not (eqb (count j (d .declined)) 0) || eqb n 1)) && (eqb (count j (d .declined)) 0 || eqb n 0)) 3
-    (unless ((not (x .done j) || isDecided (x .kept .decision j)) && eqb (fates j (x .kept .notices) + count j (x .kept .opened)) (one (isDecided (x .kept .decision j)))) 4 [])))
+    (unless ((not (x .done j) || isDecided (x .kept .decision j)) && eqb
+    (fates j (x .kept .notices) + count j (x .kept .opened)) (one (isDecided (x .kept .decision j)))) 4 [])
+    ))
 
 abbrev falseIn : Habits → List (Move ℕ) → List ℕ
 falseIn h vs = let d = after true h vs in falseOf d 1 ++ falseOf d 2
@@ -156,11 +161,14 @@ expires = sends 1 ++ (here (happens (timer-expires 0)) ∷ here release ∷ arri
 
 -- the answer of an old forward comes late
 abbrev late : List (Move ℕ)
-late = sends 1 ++ (arrives ++ (there shows ∷ there release ∷ here (happens (timer-expires 0)) ∷ here release ∷ sends 2 ++ (answered ∷ here (happens (hand-over 0)) ∷ here release ∷ arrives ++ (there release ∷ arrives ++ answers))))
+late = sends 1 ++ (arrives ++ (there shows ∷ there release ∷ here (happens (timer-expires 0)) ∷ here release ∷ sends 2
+    ++
+    (answered ∷ here (happens (hand-over 0)) ∷ here release ∷ arrives ++ (there release ∷ arrives ++ answers))))
 
 -- it comes up before the other centre has heard, and refuses job 2; what had left arrives; then both have heard
 abbrev apartFor : List (Move ℕ)
-apartFor = sends 1 ++ (here power-fails ∷ here cut-off ∷ job (deliver 1) ∷ job (deliver 2) ∷ arrives ++ (there shows ∷ there release ∷ answered ∷ there carrier-fails ∷ sends 1 ++ (sends 2 ++ (arrives ++ answers))))
+apartFor = sends 1 ++ (here power-fails ∷ here cut-off ∷ job (deliver 1) ∷ job (deliver 2) ∷ arrives ++
+    (there shows ∷ there release ∷ answered ∷ there carrier-fails ∷ sends 1 ++ (sends 2 ++ (arrives ++ answers))))
 
 -- the power fails before the user is shown the forward; the host comes up, and the answer that had not left does not leave
 abbrev unleft : List (Move ℕ)
@@ -187,11 +195,16 @@ abbrev answersFirst : Habits
 answersFirst = record { keepsFirst = true; acknowledgesLast = true; keepsRecord = true; keepsNotes = true; looksUp = true; tellsBroken = true; awaitsEnd = true; showsFirst = false }
 
 -- shown twice, three times over; sent and told as refused; lost in silence; told as answered and never shown, twice
-pub each-is-needed : falseIn forwardsAgain again ∷ falseIn freshJournal again-late ∷ falseIn keepsLate again-late ∷ falseIn forwardsAgain refusedFirst ∷ falseIn acknowledgesEarly acknowledgedFirst ∷ falseIn silent expires ∷ falseIn answersFirst unheard ∷ [] ≡ (1 ∷ 3 ∷ 4 ∷ []) ∷ (1 ∷ 3 ∷ []) ∷ (1 ∷ []) ∷ (2 ∷ 4 ∷ []) ∷ (4 ∷ []) ∷ (3 ∷ []) ∷ (3 ∷ []) ∷ []
+pub each-is-needed : falseIn forwardsAgain again ∷ falseIn freshJournal again-late ∷ falseIn keepsLate again-late ∷
+    falseIn forwardsAgain refusedFirst ∷ falseIn acknowledgesEarly acknowledgedFirst ∷ falseIn silent expires ∷ falseIn
+    answersFirst unheard ∷ [] ≡ (1 ∷ 3 ∷ 4 ∷ []) ∷ (1 ∷ 3 ∷ []) ∷ (1 ∷ []) ∷ (2 ∷ 4 ∷ []) ∷ (4 ∷ []) ∷ (3 ∷ []) ∷
+    (3 ∷ []) ∷ []
 unfolding fRun
 each-is-needed = refl
 
-pub none-false : falseIn right again ∷ falseIn right again-late ∷ falseIn right refusedFirst ∷ falseIn right acknowledgedFirst ∷ falseIn right expires ∷ falseIn right unheard ∷ falseIn right late ∷ falseIn right apartFor ∷ falseIn right unleft ∷ [] ≡ [] ∷ [] ∷ [] ∷ [] ∷ [] ∷ [] ∷ [] ∷ [] ∷ [] ∷ []
+pub none-false : falseIn right again ∷ falseIn right again-late ∷ falseIn right refusedFirst ∷ falseIn right
+    acknowledgedFirst ∷ falseIn right expires ∷ falseIn right unheard ∷ falseIn right late ∷ falseIn right apartFor ∷
+    falseIn right unleft ∷ [] ≡ [] ∷ [] ∷ [] ∷ [] ∷ [] ∷ [] ∷ [] ∷ [] ∷ [] ∷ []
 unfolding fRun
 none-false = refl
 
@@ -211,7 +224,8 @@ abbrev toldOn : Bool → List (Move ℕ) → Seen
 toldOn ok vs =
     let d = after ok right vs in
     let x = d .both .here in
-    seen (x .kept .notices) (d .declined) (x .kept .opened) (often (d .both .there .seen) 1 (x .log)) (often (d .both .there .seen) 2 (x .log))
+    seen (x .kept .notices) (d .declined) (x .kept .opened) (often (d .both .there .seen) 1 (x .log))
+    (often (d .both .there .seen) 2 (x .log))
 
 pub again-told : toldOn true again ≡ seen (note 1 told-ended ∷ []) [] [] 1 0
 unfolding fRun

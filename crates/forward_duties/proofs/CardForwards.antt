@@ -57,16 +57,21 @@ sentIn w (acts r l nothing) = w
 sentIn w (acts r l (puts f)) = f
 sentIn w (acts r l (message f b i)) = f
 
-card-truth : (p : ℕ) (ed : Edition) (v : ℕ) (fair : securitySent (secures ed) p ≡ p) → Truth (centreMachine p) (centre p ed v fair) (cardWords p)
+card-truth : (p : ℕ) (ed : Edition) (v : ℕ) (fair : securitySent (secures ed) p ≡ p)
+    → Truth (centreMachine p) (centre p ed v fair) (cardWords p)
 card-truth p ed v fair = record {
   says = says;
-  answer-says = λ (r q : Desk) (e f : Numbered Wire) (l : List Body) (h : Rest p ed v r) (g : Good p ed v e) (s : isStart (centreMachine p .at) e ≡ true) (a : heldBy (r .kept .bytes) < e .no) (o : does r (hears r (arrives Ground (e .it .primitive)) (e .no) 1 (e .it .bytes)) ≡ acts q l (puts f)).
+  answer-says = λ (r q : Desk) (e f : Numbered Wire) (l : List Body) (h : Rest p ed v r) (g : Good p ed v e)
+      (s : isStart (centreMachine p .at) e ≡ true) (a : heldBy (r .kept .bytes) < e .no)
+      (o : does r (hears r (arrives Ground (e .it .primitive)) (e .no) 1 (e .it .bytes)) ≡ acts q l (puts f)).
       let z = rest-tells p ed v fair r h e g s a in
       ap says (ap (sentIn f) (sym o ∙ z .sends)) ∙ ap isSaid (z .reads) ∙ sym (z .tells);
-  result-is = λ (r : Desk) (f : Numbered Wire) (h : Away p ed v r) (g : Good p ed v f) (s : isStart (centreMachine p .at) f ≡ false) (n : f .no ≡ heldBy (r .kept .bytes)).
+  result-is = λ (r : Desk) (f : Numbered Wire) (h : Away p ed v r) (g : Good p ed v f)
+      (s : isStart (centreMachine p .at) f ≡ false) (n : f .no ≡ heldBy (r .kept .bytes)).
       let z = away-tells p ed v r h f g s n in
       ap (λ (i : ℕ). cond (eqb i 9) (cond (eqb (toldPart (answerTo r f) / codes % codes) success) succeeded another) none) (z .code)
-      ∙ (ap (λ (i : ℕ). cond (eqb i success) succeeded another) (z .parameter) ∙ (choice (eqb (z .result) success) ∙ ap resultOf (sym (ap isSaid (z .reads)))));
+      ∙ (ap (λ (i : ℕ). cond (eqb i success) succeeded another) (z .parameter) ∙
+      (choice (eqb (z .result) success) ∙ ap resultOf (sym (ap isSaid (z .reads)))));
 }
   where
     says : Numbered Wire → Bool
@@ -81,7 +86,10 @@ card-truth p ed v fair = record {
 -- p: the security value of both ends; ed: their edition, which sends that value (fair); v: the version of both ends; u, w: the buffers that each end lends; order: the call that a job asks for, whatever a host chooses; a right one is peat_forward_request with the number above the record's
 module _ (p : ℕ) (ed : Edition) (v : ℕ) (fair : securitySent (secures ed) p ≡ p) (u w : ℕ → Buffers) (order : Desk → ℕ → CentreAsked) (fresh : Side → Desk) where
   -- from the bytes of any two ground records that are IDLE, of which the one that forwards holds a number not below the other's
-  pub card-forwards : (r q : List ℕ) (a : Rests p ed v r) (g : Rests p ed v q) → g .begins .number ≤ a .begins .number → (vs : List (Move CentreAsked)) → ForwardPromise (centreMachine p) (fRun (centreMachine p) (cardWords p) right order fresh (fFresh (centreMachine p) (cardWords p) right order fresh (newDesk r u) (newDesk q w)) vs)
+  pub card-forwards : (r q : List ℕ) (a : Rests p ed v r) (g : Rests p ed v q) → g .begins .number ≤ a .begins .number
+      → (vs : List (Move CentreAsked))
+      → ForwardPromise (centreMachine p) (fRun (centreMachine p) (cardWords p) right order fresh (fFresh (centreMachine p) (cardWords p) right order fresh (newDesk r u) (newDesk q w)) vs)
   card-forwards r q a g b vs =
-      forwards-hold (centreMachine p) (centre p ed v fair) (cardWords p) (card-truth p ed v fair) order fresh (newDesk r u) (newDesk q w) a g
+      forwards-hold (centreMachine p) (centre p ed v fair) (cardWords p) (card-truth p ed v fair) order fresh
+      (newDesk r u) (newDesk q w) a g
       (let e = ap numberIn (a .begins .load) in let f = ap numberIn (g .begins .load) in omega arith) vs

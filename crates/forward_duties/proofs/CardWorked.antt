@@ -68,7 +68,8 @@ abbrev new : ℕ → Desk
 new f = newDesk (freshCall (replicate recordBytes 0) 2 1 f 3 22 .bytes) lends
 
 abbrev moves : List (Move CentreAsked)
-moves = job (deliver 7) ∷ at true release ∷ at false (happens (hand-over 0)) ∷ at false shows ∷ at false release ∷ getsAnswer ∷ job (deliver 7) ∷ []
+moves = job (deliver 7) ∷ at true release ∷ at false (happens (hand-over 0)) ∷ at false shows ∷ at false release ∷
+    getsAnswer ∷ job (deliver 7) ∷ []
 
 record Seen : Type 0 where
   told : List Notice
@@ -81,13 +82,38 @@ seen n x a = record { told = n; declined = x; shown = a }
 -- f: does the other one support forwarding
 abbrev after : ℕ → Seen
 after f =
-    let d = fRun (centreMachine 1) (cardWords 1) right order (λ (sd : Side). new 0) (fFresh (centreMachine 1) (cardWords 1) right order (λ (sd : Side). new 0) (new 0) (new f)) moves in
+    let d = fRun (centreMachine 1) (cardWords 1) right order (λ (sd : Side). new 0)
+    (fFresh (centreMachine 1) (cardWords 1) right order (λ (sd : Side). new 0) (new 0) (new f)) moves in
     seen (d .both .here .kept .notices) (d .declined) (often (d .both .there .seen) 7 (d .both .here .log))
 
 pub forwarded-once : after 1 ≡ seen (note 7 told-ended ∷ []) [] 1
-unfolding bitsN bitsOf accOf bitsTo bytesOf withBit setBit putBits readBits wholeBits indexBits lengthBits bitField extensionBit digitsIn wholeNumber extensibleIndex lengthAt lengthWithin runAt stringAt stringBits optionalBits contentBits modeBits modeFits pduBits padded partIn contentIn pduIn optionalAt partAt partsWithin dataWithin modeValue modeAt kindMode leadingAt tailAt endedAt restAt apduAt itemsFit partFits dataFits apduFits writeOut replyOf sent startRequest startResponse messageRequest endRequest endResponse userAbort callOf unsent called userDataFits qosFits userFits hasMode serviceFits eventFits tell closes aborts excepts timerExpires systemError noInstruction pduFault sendFault abortFault startFits indicationFault confirmationFault firstFault handed instructed answered reached enter permitted messageRefusal userStarts serviceStarts isStart isService isStale heldAfter refusalOf acts numberedStep firstTakes secondTakes finished concluded withRecord entering userStep userBy readsAs readsAgain abortOf orAbort readPdu meaning dataOf dataStep bareStep serviceStep serviceBy invokedNumber toldNumber packed headBytes storedBytes headFits withNumbers loadAt storeAt partOf givenData freshFor freshCall forwardRequest responds forwardArrives forwardConfirmed responseFault forwardBy forwardStep forwardOf tripleAt headingAt forwardWithin tripleBits tripleFits aircraftBits headingBits aircraftFits headingFits forwardBits forwardFits fRun
+unfolding bitsN bitsOf accOf bitsTo bytesOf withBit setBit putBits readBits wholeBits indexBits lengthBits bitField
+    extensionBit digitsIn wholeNumber extensibleIndex lengthAt lengthWithin runAt stringAt stringBits optionalBits
+    contentBits modeBits modeFits pduBits padded partIn contentIn pduIn optionalAt partAt partsWithin dataWithin
+    modeValue modeAt kindMode leadingAt tailAt endedAt restAt apduAt itemsFit partFits dataFits apduFits writeOut
+    replyOf sent startRequest startResponse messageRequest endRequest endResponse userAbort callOf unsent called
+    userDataFits qosFits userFits hasMode serviceFits eventFits tell closes aborts excepts timerExpires systemError
+    noInstruction pduFault sendFault abortFault startFits indicationFault confirmationFault firstFault handed instructed
+    answered reached enter permitted messageRefusal userStarts serviceStarts isStart isService isStale heldAfter
+    refusalOf acts numberedStep firstTakes secondTakes finished concluded withRecord entering userStep userBy readsAs
+    readsAgain abortOf orAbort readPdu meaning dataOf dataStep bareStep serviceStep serviceBy invokedNumber toldNumber
+    packed headBytes storedBytes headFits withNumbers loadAt storeAt partOf givenData freshFor freshCall forwardRequest
+    responds forwardArrives forwardConfirmed responseFault forwardBy forwardStep forwardOf tripleAt headingAt
+    forwardWithin tripleBits tripleFits aircraftBits headingBits aircraftFits headingFits forwardBits forwardFits fRun
 forwarded-once = refl
 
 pub not-supported-there : after 0 ≡ seen (note 7 told-ended ∷ []) (7 ∷ []) 0
-unfolding bitsN bitsOf accOf bitsTo bytesOf withBit setBit putBits readBits wholeBits indexBits lengthBits bitField extensionBit digitsIn wholeNumber extensibleIndex lengthAt lengthWithin runAt stringAt stringBits optionalBits contentBits modeBits modeFits pduBits padded partIn contentIn pduIn optionalAt partAt partsWithin dataWithin modeValue modeAt kindMode leadingAt tailAt endedAt restAt apduAt itemsFit partFits dataFits apduFits writeOut replyOf sent startRequest startResponse messageRequest endRequest endResponse userAbort callOf unsent called userDataFits qosFits userFits hasMode serviceFits eventFits tell closes aborts excepts timerExpires systemError noInstruction pduFault sendFault abortFault startFits indicationFault confirmationFault firstFault handed instructed answered reached enter permitted messageRefusal userStarts serviceStarts isStart isService isStale heldAfter refusalOf acts numberedStep firstTakes secondTakes finished concluded withRecord entering userStep userBy readsAs readsAgain abortOf orAbort readPdu meaning dataOf dataStep bareStep serviceStep serviceBy invokedNumber toldNumber packed headBytes storedBytes headFits withNumbers loadAt storeAt partOf givenData freshFor freshCall forwardRequest responds forwardArrives forwardConfirmed responseFault forwardBy forwardStep forwardOf tripleAt headingAt forwardWithin tripleBits tripleFits aircraftBits headingBits aircraftFits headingFits forwardBits forwardFits fRun
+unfolding bitsN bitsOf accOf bitsTo bytesOf withBit setBit putBits readBits wholeBits indexBits lengthBits bitField
+    extensionBit digitsIn wholeNumber extensibleIndex lengthAt lengthWithin runAt stringAt stringBits optionalBits
+    contentBits modeBits modeFits pduBits padded partIn contentIn pduIn optionalAt partAt partsWithin dataWithin
+    modeValue modeAt kindMode leadingAt tailAt endedAt restAt apduAt itemsFit partFits dataFits apduFits writeOut
+    replyOf sent startRequest startResponse messageRequest endRequest endResponse userAbort callOf unsent called
+    userDataFits qosFits userFits hasMode serviceFits eventFits tell closes aborts excepts timerExpires systemError
+    noInstruction pduFault sendFault abortFault startFits indicationFault confirmationFault firstFault handed instructed
+    answered reached enter permitted messageRefusal userStarts serviceStarts isStart isService isStale heldAfter
+    refusalOf acts numberedStep firstTakes secondTakes finished concluded withRecord entering userStep userBy readsAs
+    readsAgain abortOf orAbort readPdu meaning dataOf dataStep bareStep serviceStep serviceBy invokedNumber toldNumber
+    packed headBytes storedBytes headFits withNumbers loadAt storeAt partOf givenData freshFor freshCall forwardRequest
+    responds forwardArrives forwardConfirmed responseFault forwardBy forwardStep forwardOf tripleAt headingAt
+    forwardWithin tripleBits tripleFits aircraftBits headingBits aircraftFits headingFits forwardBits forwardFits fRun
 not-supported-there = refl

@@ -40,48 +40,65 @@ module _ (m : NMachine) (c : Centre m) (w : Words m) (k : Truth m c w) (order : 
   keepsHere r n more out x = keeps m c w k order fresh r n more out x
 
   -- this centre goes on, from e to t, and the other one does not
-  there-holds : (e t : NSys m) (a z v : Host m) (dl : List ℕ) → Holds m c w k e a z dl → t .here .rec ≡ e .here .rec → Ways m c w k (t .here .rec) (t .there .rec) (t .here .line) (a .log) → Later m (e .there .rec) (t .there .rec) z v → Far m c w k (a .log) (t .there .rec) (t .there .line) v → c .Rest (t .there .rec) → Holds m c w k t a v dl
+  there-holds : (e t : NSys m) (a z v : Host m) (dl : List ℕ) → Holds m c w k e a z dl → t .here .rec ≡ e .here .rec
+      → Ways m c w k (t .here .rec) (t .there .rec) (t .here .line) (a .log)
+      → Later m (e .there .rec) (t .there .rec) z v → Far m c w k (a .log) (t .there .rec) (t .there .line) v
+      → c .Rest (t .there .rec) → Holds m c w k t a v dl
   there-holds e t a z v dl g p x l f r =
       record {
         ways = x;
-        near = subst (λ (y : m .at .R). Near m c w k y (t .there .rec) a v dl) (sym p) (near-later m c w k (e .here .rec) (e .there .rec) (t .there .rec) a z v dl l (g .near));
+        near = subst (λ (y : m .at .R). Near m c w k y (t .there .rec) a v dl) (sym p)
+            (near-later m c w k (e .here .rec) (e .there .rec) (t .there .rec) a z v dl l (g .near));
         far = f;
         rest = r;
         who = subst (Who m c w k) (sym p) (g .who);
       }
 
   -- nothing was shown, and no answer was added
-  still-holds : (e t : NSys m) (a z v : Host m) (dl : List ℕ) → Holds m c w k e a z dl → t .here .rec ≡ e .here .rec → All (Out m c w k (t .here .rec) (a .log)) (t .here .line) → t .there .line ≡ e .there .line → Still m c w k (e .there .rec) (t .there .rec) z v → c .Rest (t .there .rec) → Holds m c w k t a v dl
+  still-holds : (e t : NSys m) (a z v : Host m) (dl : List ℕ) → Holds m c w k e a z dl → t .here .rec ≡ e .here .rec
+      → All (Out m c w k (t .here .rec) (a .log)) (t .here .line) → t .there .line ≡ e .there .line
+      → Still m c w k (e .there .rec) (t .there .rec) z v → c .Rest (t .there .rec) → Holds m c w k t a v dl
   still-holds e t a z v dl g p o l s r =
       there-holds e t a z v dl g p
       (record { below = subst (λ (y : m .at .R). m .holds (t .there .rec) ≤ m .holds y) (sym p) (omega (arith, g .ways .below, s .holds)); rise = g .ways .rise; least = subst (λ (y : m .at .R). All (λ (n : ℕ). n ≤ m .holds y) (numbers (a .log))) (sym p) (g .ways .least); out = o })
       (still-later m c w k (e .there .rec) (t .there .rec) z v s)
-      (subst (λ (y : List (m .at .E)). Far m c w k (a .log) (t .there .rec) y v) (sym l) (still-far m c w k (a .log) (e .there .rec) (t .there .rec) (e .there .line) z v s (g .far))) r
+      (subst (λ (y : List (m .at .E)). Far m c w k (a .log) (t .there .rec) y v) (sym l)
+      (still-far m c w k (a .log) (e .there .rec) (t .there .rec) (e .there .line) z v s (g .far))) r
 
   -- an event that hands nothing out, at a record that rests before and after
   module _ (e : NSys m) (a z : Host m) (dl : List ℕ) (n : Notes) (g : Holds m c w k e a z dl) where
-    kept-still : (q : m .at .R) → m .holds q ≡ m .holds (e .there .rec) → Still m c w k (e .there .rec) q z (keepsHere q n (suc (z .unsent)) false z)
+    kept-still : (q : m .at .R) → m .holds q ≡ m .holds (e .there .rec)
+        → Still m c w k (e .there .rec) q z (keepsHere q n (suc (z .unsent)) false z)
     kept-still q h = record { kept = refl; holds = h; seen = λ (i : ℕ). refl; waits = λ (p : z .waiting ≡ true). p; is-up = λ (p : z .power ≡ up). (p, λ (y : z .waiting ≡ true). y); unsent = omega arith }
 
     unmoved : Holds m c w k e a (keepsHere (e .there .rec) n (suc (z .unsent)) false z) dl
-    unmoved = still-holds e e a z (keepsHere (e .there .rec) n (suc (z .unsent)) false z) dl g refl (g .ways .out) refl (kept-still (e .there .rec) refl) (g .rest)
+    unmoved = still-holds e e a z (keepsHere (e .there .rec) n (suc (z .unsent)) false z) dl g refl (g .ways .out) refl
+        (kept-still (e .there .rec) refl) (g .rest)
 
-    quiet-there : (o : Outcome (m .at .R) (m .at .E)) (keep : ℕ) → Quiet m (c .Rest) (e .there .rec) o → Holds m c w k (nSwap m (nDid m (nSwap m e) o keep)) a (keepsHere (nDid m (nSwap m e) o keep .here .rec) n (suc (z .unsent)) false z) dl
+    quiet-there : (o : Outcome (m .at .R) (m .at .E)) (keep : ℕ) → Quiet m (c .Rest) (e .there .rec) o
+        → Holds m c w k (nSwap m (nDid m (nSwap m e) o keep)) a (keepsHere (nDid m (nSwap m e) o keep .here .rec) n (suc (z .unsent)) false z) dl
     quiet-there refused keep b = record { ways = unmoved .ways; near = unmoved .near; far = unmoved .far; rest = unmoved .rest; who = unmoved .who }
-    quiet-there (acts q l nothing) keep b = still-holds e (nSwap m (nDid m (nSwap m e) (acts q l nothing) keep)) a z (keepsHere q n (suc (z .unsent)) false z) dl g refl (g .ways .out) refl (kept-still q (b .holds)) (b .rest)
+    quiet-there (acts q l nothing) keep b = still-holds e (nSwap m (nDid m (nSwap m e) (acts q l nothing) keep)) a z
+        (keepsHere q n (suc (z .unsent)) false z) dl g refl (g .ways .out) refl (kept-still q (b .holds)) (b .rest)
     quiet-there (acts q l (puts f)) keep b = absurd b
     quiet-there (acts q l (message f x i)) keep b = absurd b
 
     -- it starts nothing
-    call-there : (o : Outcome (m .at .R) (m .at .E)) (keep : ℕ) → not (forwards m w right order fresh o) ≡ true → Starts m (c .Away) (c .Good) (e .there .rec) o → Holds m c w k (nSwap m (nCalled m false (nSwap m e) o keep)) a (keepsHere (nCalled m false (nSwap m e) o keep .here .rec) n (suc (z .unsent)) false z) dl
+    call-there : (o : Outcome (m .at .R) (m .at .E)) (keep : ℕ) → not (forwards m w right order fresh o) ≡ true
+        → Starts m (c .Away) (c .Good) (e .there .rec) o
+        → Holds m c w k (nSwap m (nCalled m false (nSwap m e) o keep)) a (keepsHere (nCalled m false (nSwap m e) o keep .here .rec) n (suc (z .unsent)) false z) dl
     call-there refused keep h b = record { ways = unmoved .ways; near = unmoved .near; far = unmoved .far; rest = unmoved .rest; who = unmoved .who }
     call-there (acts q l nothing) keep h b = absurd b
     call-there (acts q l (message f x i)) keep h b = absurd b
     call-there (acts q l (puts f)) keep h b = clash (sym h ∙ ap not (b .start))
 
     -- the oldest entry that comes to it is gone, and nothing else
-    gone-by : (f : m .at .E) (l : List (m .at .E)) → e .here .line ≡ f ∷ l → Holds m c w k (nSwap m (nOff m (nSwap m e) l)) a (keepsHere (e .there .rec) n (suc (z .unsent)) false z) dl
-    gone-by f l p = still-holds e (nSwap m (nOff m (nSwap m e) l)) a z (keepsHere (e .there .rec) n (suc (z .unsent)) false z) dl g refl (subst (All (Out m c w k (e .here .rec) (a .log))) p (g .ways .out) .1) refl (kept-still (e .there .rec) refl) (g .rest)
+    gone-by : (f : m .at .E) (l : List (m .at .E)) → e .here .line ≡ f ∷ l
+        → Holds m c w k (nSwap m (nOff m (nSwap m e) l)) a (keepsHere (e .there .rec) n (suc (z .unsent)) false z) dl
+    gone-by f l p = still-holds e (nSwap m (nOff m (nSwap m e) l)) a z
+        (keepsHere (e .there .rec) n (suc (z .unsent)) false z) dl g refl
+        (subst (All (Out m c w k (e .here .rec) (a .log))) p (g .ways .out) .1) refl (kept-still (e .there .rec) refl)
+        (g .rest)
 
   -- ---- a forward is answered, in the event that tells the user of it
 
@@ -140,8 +157,13 @@ module _ (m : NMachine) (c : Centre m) (w : Words m) (k : Truth m c w) (order : 
             ordered = g .far .ordered;
             unseen = λ (r : (v .waiting) ≡ true). unshown (m .holds q) higher;
             awaited = λ (r : (v .waiting) ≡ true). subst (λ (j : ℕ). 1 ≤ count j (numbers (a .log))) (sym (b .holds)) (out-is .1 .1);
-            back = all-snoc (In m c w k q v) (e .there .line) y (all-map (In m c w k (e .there .rec) z) (In m c w k q v) (λ (x : m .at .E) (h : In m c w k (e .there .rec) z x). (h .0, (h .1 .0, λ (r : k .says x ≡ false). later .never (m .carries x) (h .1 .1 r)))) (e .there .line) (g .far .back)) new-in;
-            soon = λ (r : z .power ≡ up). all-snoc (SoonIf m c w k q v) (e .there .line) y (all-map (SoonIf m c w k (e .there .rec) z) (SoonIf m c w k q v) old-soon (e .there .line) (g .far .soon r)) (λ (s : k .says y ≡ true). awaits-it (waits-so ∙ (sym told ∙ s)) number);
+            back = all-snoc (In m c w k q v) (e .there .line) y (all-map (In m c w k (e .there .rec) z) (In m c w k q v) (
+                λ (x : m .at .E) (h : In m c w k (e .there .rec) z x).
+                (h .0, (h .1 .0, λ (r : k .says x ≡ false). later .never (m .carries x) (h .1 .1 r))))
+                (e .there .line) (g .far .back)) new-in;
+            soon = λ (r : z .power ≡ up). all-snoc (SoonIf m c w k q v) (e .there .line) y (all-map
+                (SoonIf m c w k (e .there .rec) z) (SoonIf m c w k q v) old-soon (e .there .line) (g .far .soon r))
+                (λ (s : k .says y ≡ true). awaits-it (waits-so ∙ (sym told ∙ s)) number);
             left = left-snoc (ShownIf m c w k v) (z .unsent) (e .there .line) y (g .far .left);
           }
 
@@ -162,9 +184,11 @@ module _ (m : NMachine) (c : Centre m) (w : Words m) (k : Truth m c w) (order : 
     abbrev After : Outcome (m .at .R) (m .at .E) → Type 0
     After o =
         let t = nDid m (nOff m (nSwap m e) l) o keep in
-        Holds m c w k (nSwap m t) a (keepsHere (t .here .rec) n (suc (z .unsent)) (isDone m w right order fresh o && w .indicates (e .there .rec) f) z) dl
+        Holds m c w k (nSwap m t) a (keepsHere (t .here .rec) n (suc (z .unsent))
+        (isDone m w right order fresh o && w .indicates (e .there .rec) f) z) dl
 
-    answers : (o : Outcome (m .at .R) (m .at .E)) → m .at .receive Ground (e .there .rec) f ≡ o → m .holds (e .there .rec) < m .carries f → Answers m (c .Rest) (c .Good) f o → After o
+    answers : (o : Outcome (m .at .R) (m .at .E)) → m .at .receive Ground (e .there .rec) f ≡ o
+        → m .holds (e .there .rec) < m .carries f → Answers m (c .Rest) (c .Good) f o → After o
     answers refused r h b = absurd b
     answers (acts q i nothing) r h b = absurd b
     answers (acts q i (message y x j)) r h b = absurd b
@@ -178,10 +202,14 @@ module _ (m : NMachine) (c : Centre m) (w : Words m) (k : Truth m c w) (order : 
     start-there = go (ltb (m .holds (e .there .rec)) (m .carries f)) refl
       where
         go : (b : Bool) → ltb (m .holds (e .there .rec)) (m .carries f) ≡ b → After (m .at .receive Ground (e .there .rec) f)
-        go true r = answers (m .at .receive Ground (e .there .rec) f) refl (ltb-true _ _ r) (c .start-answered (e .there .rec) f (g .rest) (out-is .0) st (ltb-true _ _ r))
-        go false r = refuses (m .at .receive Ground (e .there .rec) f) (c .start-stale (e .there .rec) f (g .rest) (out-is .0) st (ltb-false _ _ r))
+        go true r = answers (m .at .receive Ground (e .there .rec) f) refl (ltb-true _ _ r)
+            (c .start-answered (e .there .rec) f (g .rest) (out-is .0) st (ltb-true _ _ r))
+        go false r = refuses (m .at .receive Ground (e .there .rec) f)
+            (c .start-stale (e .there .rec) f (g .rest) (out-is .0) st (ltb-false _ _ r))
 
-  handed-there : (e : NSys m) (a z : Host m) (dl : List ℕ) (n : m .at .R → Notes) (keep : ℕ) (x : List (m .at .E)) → e .here .line ≡ x → z .waiting ≡ false → Holds m c w k e a z dl → Holds m c w k (nSwap m (nHandedOver m Ground (nSwap m e) x keep)) a (keepsHere (nHandedOver m Ground (nSwap m e) x keep .here .rec) (n (nHandedOver m Ground (nSwap m e) x keep .here .rec)) (suc (z .unsent)) (heardForward m w right order fresh (e .there .rec) x) z) dl
+  handed-there : (e : NSys m) (a z : Host m) (dl : List ℕ) (n : m .at .R → Notes) (keep : ℕ) (x : List (m .at .E))
+      → e .here .line ≡ x → z .waiting ≡ false → Holds m c w k e a z dl
+      → Holds m c w k (nSwap m (nHandedOver m Ground (nSwap m e) x keep)) a (keepsHere (nHandedOver m Ground (nSwap m e) x keep .here .rec) (n (nHandedOver m Ground (nSwap m e) x keep .here .rec)) (suc (z .unsent)) (heardForward m w right order fresh (e .there .rec) x) z) dl
   handed-there e a z dl n keep [] p r g = let u = unmoved e a z dl (n (e .there .rec)) g in record { ways = u .ways; near = u .near; far = u .far; rest = u .rest; who = u .who }
   handed-there e a z dl n keep (f ∷ l) p r g = go (isStart (m .at) f) refl
     where
@@ -191,36 +219,62 @@ module _ (m : NMachine) (c : Centre m) (w : Words m) (k : Truth m c w) (order : 
       Handed : Bool → Type 0
       Handed b =
           let t = cond b (nOff m (nSwap m e) l) (nDid m (nOff m (nSwap m e) l) (m .at .receive Ground (e .there .rec) f) keep) in
-          Holds m c w k (nSwap m t) a (keepsHere (t .here .rec) (n (t .here .rec)) (suc (z .unsent)) (not b && (isDone m w right order fresh (m .at .receive Ground (e .there .rec) f) && w .indicates (e .there .rec) f)) z) dl
+          Holds m c w k (nSwap m t) a (keepsHere (t .here .rec) (n (t .here .rec)) (suc (z .unsent)) (not b && (isDone m
+          w right order fresh (m .at .receive Ground (e .there .rec) f) && w .indicates (e .there .rec)
+          f)) z) dl
 
       go : (t : Bool) → isStart (m .at) f ≡ t → Handed (discards (m .at) (e .there .rec) f)
       go true t =
           subst Handed (sym (ap (λ (b : Bool). idle (m .at) (e .there .rec) && not b) t ∙ none (idle (m .at) (e .there .rec))))
-          (start-there e a z dl (n (nDid m (nOff m (nSwap m e) l) (m .at .receive Ground (e .there .rec) f) keep .here .rec)) keep f l g p r t)
+          (start-there e a z dl
+          (n (nDid m (nOff m (nSwap m e) l) (m .at .receive Ground (e .there .rec) f) keep .here .rec)) keep f l
+          g p r t)
         where
           none : (b : Bool) → (b && false) ≡ false
           none true = refl
           none false = refl
-      go false t = subst Handed (sym (ap (λ (b : Bool). b && not (isStart (m .at) f)) idle-there ∙ ap not t)) (gone-by e a z dl (n (e .there .rec)) g f l p)
+      go false t = subst Handed (sym (ap (λ (b : Bool). b && not (isStart (m .at) f)) idle-there ∙ ap not t))
+          (gone-by e a z dl (n (e .there .rec)) g f l p)
 
   -- ---- its events
 
-  pub got-holds : (s : Hosts m) (dl : List ℕ) (v : Step (m .at .A)) → s .there .waiting ≡ false → mayHappen m w right order fresh (swapped m w right order fresh s) v ≡ true → HoldsOf m c w k s dl → HoldsOf m c w k (swapped m w right order fresh (happened m w right order fresh false (swapped m w right order fresh s) v)) dl
-  got-holds s dl (user-call x keep) r b g = call-there (s .ends) (s .here) (s .there) dl (afterwards m w right order fresh (s .ends .there .rec) (nCalled m false (nSwap m (s .ends)) (m .at .call Ground (s .ends .there .rec) x) keep .here .rec) (s .there .notes)) g (m .at .call Ground (s .ends .there .rec) x) keep b (c .call-rest (s .ends .there .rec) x (g .rest))
-  got-holds s dl (hand-over keep) r b g = handed-there (s .ends) (s .here) (s .there) dl (λ (q : m .at .R). afterwards m w right order fresh (s .ends .there .rec) q (s .there .notes)) keep (s .ends .here .line) refl r g
-  got-holds s dl (timer-expires keep) r b g = quiet-there (s .ends) (s .here) (s .there) dl (afterwards m w right order fresh (s .ends .there .rec) (nDid m (nSwap m (s .ends)) (m .at .expiry Ground (s .ends .there .rec)) keep .here .rec) (s .there .notes)) g (m .at .expiry Ground (s .ends .there .rec)) keep (c .expiry-rest (s .ends .there .rec) (g .rest))
-  got-holds s dl (error-reported keep) r b g = quiet-there (s .ends) (s .here) (s .there) dl (afterwards m w right order fresh (s .ends .there .rec) (nDid m (nSwap m (s .ends)) (m .at .error Ground (s .ends .there .rec)) keep .here .rec) (s .there .notes)) g (m .at .error Ground (s .ends .there .rec)) keep (c .error-rest (s .ends .there .rec) (g .rest))
+  pub got-holds : (s : Hosts m) (dl : List ℕ) (v : Step (m .at .A)) → s .there .waiting ≡ false
+      → mayHappen m w right order fresh (swapped m w right order fresh s) v ≡ true → HoldsOf m c w k s dl
+      → HoldsOf m c w k (swapped m w right order fresh (happened m w right order fresh false (swapped m w right order fresh s) v)) dl
+  got-holds s dl (user-call x keep) r b g = call-there (s .ends) (s .here) (s .there) dl (afterwards m w right order
+      fresh (s .ends .there .rec)
+      (nCalled m false (nSwap m (s .ends)) (m .at .call Ground (s .ends .there .rec) x) keep .here .rec)
+      (s .there .notes)) g (m .at .call Ground (s .ends .there .rec) x) keep b
+      (c .call-rest (s .ends .there .rec) x (g .rest))
+  got-holds s dl (hand-over keep) r b g = handed-there (s .ends) (s .here) (s .there) dl
+      (λ (q : m .at .R). afterwards m w right order fresh (s .ends .there .rec) q (s .there .notes)) keep
+      (s .ends .here .line) refl r g
+  got-holds s dl (timer-expires keep) r b g = quiet-there (s .ends) (s .here) (s .there) dl (afterwards m w right order
+      fresh (s .ends .there .rec)
+      (nDid m (nSwap m (s .ends)) (m .at .expiry Ground (s .ends .there .rec)) keep .here .rec) (s .there .notes)) g
+      (m .at .expiry Ground (s .ends .there .rec)) keep (c .expiry-rest (s .ends .there .rec) (g .rest))
+  got-holds s dl (error-reported keep) r b g = quiet-there (s .ends) (s .here) (s .there) dl (afterwards m w right order
+      fresh (s .ends .there .rec)
+      (nDid m (nSwap m (s .ends)) (m .at .error Ground (s .ends .there .rec)) keep .here .rec) (s .there .notes)) g
+      (m .at .error Ground (s .ends .there .rec)) keep (c .error-rest (s .ends .there .rec) (g .rest))
   got-holds s dl (turn-away keep) r b g =
-      subst (λ (d : Bool). Turned (cond d (nDid m (nRecalled m (nSwap m (s .ends))) (m .at .away Ground (s .ends .there .rec)) keep) (nSwap m (s .ends)))) (sym (ap (λ (d : Bool). d && nHasStart m (m .holds (s .ends .there .rec)) (s .ends .there .line)) (c .rest-waits (s .ends .there .rec) (g .rest))))
+      subst (λ (d : Bool). Turned (cond d
+      (nDid m (nRecalled m (nSwap m (s .ends))) (m .at .away Ground (s .ends .there .rec)) keep)
+      (nSwap m (s .ends)))) (sym (ap
+      (λ (d : Bool). d && nHasStart m (m .holds (s .ends .there .rec)) (s .ends .there .line))
+      (c .rest-waits (s .ends .there .rec) (g .rest))))
       (let u = unmoved (s .ends) (s .here) (s .there) dl (afterwards m w right order fresh (s .ends .there .rec) (s .ends .there .rec) (s .there .notes)) g in record { ways = u .ways; near = u .near; far = u .far; rest = u .rest; who = u .who })
     where
       Turned : NSys m → Type 0
-      Turned t = Holds m c w k (nSwap m t) (s .here) (keepsHere (t .here .rec) (afterwards m w right order fresh (s .ends .there .rec) (t .here .rec) (s .there .notes)) (suc (s .there .unsent)) false (s .there)) dl
+      Turned t = Holds m c w k (nSwap m t) (s .here) (keepsHere (t .here .rec)
+          (afterwards m w right order fresh (s .ends .there .rec) (t .here .rec) (s .there .notes))
+          (suc (s .there .unsent)) false (s .there)) dl
   got-holds s dl fail r b g = clash (sym b)
 
   -- ---- its user is shown the forward that was handed out
 
-  pub shown-holds : (s : Hosts m) (dl : List ℕ) → HoldsOf m c w k s dl → HoldsOf m c w k (swapped m w right order fresh (showing m w right order fresh (swapped m w right order fresh s))) dl
+  pub shown-holds : (s : Hosts m) (dl : List ℕ) → HoldsOf m c w k s dl
+      → HoldsOf m c w k (swapped m w right order fresh (showing m w right order fresh (swapped m w right order fresh s))) dl
   shown-holds s dl g = go (s .there .waiting) refl
     where
       by : Bool → Host m
@@ -249,15 +303,31 @@ module _ (m : NMachine) (c : Centre m) (w : Words m) (k : Truth m c w) (order : 
           record {
             kept = g .far .kept;
             most = λ (n : ℕ). place n (one (eqb (m .holds (s .ends .there .rec)) n) + s .there .seen n ≤ 1)
-                (λ (p : m .holds (s .ends .there .rec) ≡ n). let u : s .there .seen n ≡ 0 = subst (λ (i : ℕ). s .there .seen i ≡ 0) p (g .far .unseen e) in omega (arith, u, most (eqb (m .holds (s .ends .there .rec)) n)))
+                (λ (p : m .holds (s .ends .there .rec) ≡ n). let u : s .there .seen n ≡ 0 = subst
+                (λ (i : ℕ). s .there .seen i ≡ 0) p (g .far .unseen e) in omega
+                (arith, u, most (eqb (m .holds (s .ends .there .rec)) n)))
                 (λ (p : one (eqb (m .holds (s .ends .there .rec)) n) ≡ 0). omega (arith, p, g .far .most n));
-            past = λ (n : ℕ) (q : 1 ≤ one (eqb (m .holds (s .ends .there .rec)) n) + s .there .seen n). place n (n ≤ m .holds (s .ends .there .rec)) (λ (p : m .holds (s .ends .there .rec) ≡ n). omega (arith, p)) (λ (p : one (eqb (m .holds (s .ends .there .rec)) n) ≡ 0). g .far .past n (omega (arith, p, q)));
-            ordered = λ (n : ℕ) (q : 1 ≤ one (eqb (m .holds (s .ends .there .rec)) n) + s .there .seen n). place n (1 ≤ count n (numbers (s .here .log))) (λ (p : m .holds (s .ends .there .rec) ≡ n). subst (λ (i : ℕ). 1 ≤ count i (numbers (s .here .log))) p (g .far .awaited e)) (λ (p : one (eqb (m .holds (s .ends .there .rec)) n) ≡ 0). g .far .ordered n (omega (arith, p, q)));
+            past = λ (n : ℕ) (q : 1 ≤ one (eqb (m .holds (s .ends .there .rec)) n) + s .there .seen n). place n
+                (n ≤ m .holds (s .ends .there .rec)) (λ (p : m .holds (s .ends .there .rec) ≡ n). omega (arith, p))
+                (λ (p : one (eqb (m .holds (s .ends .there .rec)) n) ≡ 0). g .far .past n (omega (arith, p, q)));
+            ordered = λ (n : ℕ) (q : 1 ≤ one (eqb (m .holds (s .ends .there .rec)) n) + s .there .seen n). place n
+                (1 ≤ count n (numbers (s .here .log))) (λ (p : m .holds (s .ends .there .rec) ≡ n). subst
+                (λ (i : ℕ). 1 ≤ count i (numbers (s .here .log))) p (g .far .awaited e))
+                (λ (p : one (eqb (m .holds (s .ends .there .rec)) n) ≡ 0). g .far .ordered n (omega (arith, p, q)));
             unseen = λ (p : false ≡ true). clash (sym p);
             awaited = λ (p : false ≡ true). clash (sym p);
-            back = all-map (In m c w k (s .ends .there .rec) (s .there)) (In m c w k (s .ends .there .rec) (by true)) (λ (x : m .at .E) (h : In m c w k (s .ends .there .rec) (s .there) x). (h .0, (h .1 .0, λ (r : k .says x ≡ false). later e .never (m .carries x) (h .1 .1 r)))) (s .ends .there .line) (g .far .back);
-            soon = λ (p : s .there .power ≡ up). all-map (SoonIf m c w k (s .ends .there .rec) (s .there)) (SoonIf m c w k (s .ends .there .rec) (by true)) (λ (x : m .at .E) (h : SoonIf m c w k (s .ends .there .rec) (s .there) x) (r : k .says x ≡ true). soon x (h r)) (s .ends .there .line) (g .far .soon p);
-            left = left-map (ShownIf m c w k (s .there)) (ShownIf m c w k (by true)) (s .there .unsent) (s .there .unsent) (omega arith) (λ (x : m .at .E) (h : ShownIf m c w k (s .there) x) (r : k .says x ≡ true). omega (arith, h r)) (s .ends .there .line) (g .far .left);
+            back = all-map (In m c w k (s .ends .there .rec) (s .there)) (In m c w k (s .ends .there .rec) (by true)) (λ
+                (x : m .at .E) (h : In m c w k (s .ends .there .rec) (s .there) x).
+                (h .0, (h .1 .0, λ (r : k .says x ≡ false). later e .never (m .carries x) (h .1 .1 r))))
+                (s .ends .there .line) (g .far .back);
+            soon = λ (p : s .there .power ≡ up). all-map (SoonIf m c w k (s .ends .there .rec) (s .there))
+                (SoonIf m c w k (s .ends .there .rec) (by true)) (λ (x : m .at .E)
+                (h : SoonIf m c w k (s .ends .there .rec) (s .there) x) (r : k .says x ≡ true). soon x (h r))
+                (s .ends .there .line) (g .far .soon p);
+            left = left-map (ShownIf m c w k (s .there)) (ShownIf m c w k (by true)) (s .there .unsent)
+                (s .there .unsent) (omega arith)
+                (λ (x : m .at .E) (h : ShownIf m c w k (s .there) x) (r : k .says x ≡ true). omega (arith, h r))
+                (s .ends .there .line) (g .far .left);
           }
         where
           most : (b : Bool) → one b ≤ 1
@@ -266,7 +336,11 @@ module _ (m : NMachine) (c : Centre m) (w : Words m) (k : Truth m c w) (order : 
 
           soon : (x : m .at .E) → Soon m c w k (s .ends .there .rec) (s .there) x → Soon m c w k (s .ends .there .rec) (by true) x
           soon x (shown-it p) = shown-it (omega (arith, p, grows (m .carries x)))
-          soon x (awaits-it p q) = shown-it (omega (arith, ap one (ap (λ (i : ℕ). eqb (m .holds (s .ends .there .rec)) i) q ∙ self (m .holds (s .ends .there .rec)))))
+          soon x (awaits-it p q) = shown-it (omega (
+            arith,
+            ap one (ap
+                (λ (i : ℕ). eqb (m .holds (s .ends .there .rec)) i) q ∙ self (m .holds (s .ends .there .rec))),
+          ))
 
       go : (b : Bool) → s .there .waiting ≡ b → Holds m c w k (s .ends) (s .here) (by b) dl
       go true e = there-holds (s .ends) (s .ends) (s .here) (s .there) (by true) dl g refl (g .ways) (later e) (far e) (g .rest)
@@ -274,11 +348,14 @@ module _ (m : NMachine) (c : Centre m) (w : Words m) (k : Truth m c w) (order : 
 
   -- ---- an entry leaves: its user has what was handed out
 
-  pub left-holds : (s : Hosts m) (dl : List ℕ) → s .there .power ≡ up → HoldsOf m c w k s dl → HoldsOf m c w k (swapped m w right order fresh (releasing m w right order fresh (swapped m w right order fresh s))) dl
+  pub left-holds : (s : Hosts m) (dl : List ℕ) → s .there .power ≡ up → HoldsOf m c w k s dl
+      → HoldsOf m c w k (swapped m w right order fresh (releasing m w right order fresh (swapped m w right order fresh s))) dl
   left-holds s dl u g = go (s .there .waiting) refl
     where
       all-shown : s .there .waiting ≡ false → All (ShownIf m c w k (s .there)) (s .ends .there .line)
-      all-shown e = all-map (SoonIf m c w k (s .ends .there .rec) (s .there)) (ShownIf m c w k (s .there)) (λ (x : m .at .E) (h : SoonIf m c w k (s .ends .there .rec) (s .there) x) (r : k .says x ≡ true). it x (h r)) (s .ends .there .line) (g .far .soon u)
+      all-shown e = all-map (SoonIf m c w k (s .ends .there .rec) (s .there)) (ShownIf m c w k (s .there))
+          (λ (x : m .at .E) (h : SoonIf m c w k (s .ends .there .rec) (s .there) x) (r : k .says x ≡ true). it x (h r))
+          (s .ends .there .line) (g .far .soon u)
         where
           it : (x : m .at .E) → Soon m c w k (s .ends .there .rec) (s .there) x → 1 ≤ s .there .seen (m .carries x)
           it x (shown-it p) = p
@@ -288,7 +365,8 @@ module _ (m : NMachine) (c : Centre m) (w : Words m) (k : Truth m c w) (order : 
       go true e = record { ways = g .ways; near = g .near; far = g .far; rest = g .rest; who = g .who }
       go false e =
           let f = g .far in
-          there-holds (s .ends) (nSwap m (nSwap m (s .ends))) (s .here) (s .there) (released m right L fresh A (s .there)) dl g refl (g .ways)
+          there-holds (s .ends) (nSwap m (nSwap m (s .ends))) (s .here) (s .there)
+          (released m right L fresh A (s .there)) dl g refl (g .ways)
           (record { grows = λ (n : ℕ). omega arith; never = λ (n : ℕ) (x : Never m (s .ends .there .rec) (s .there) n). record { unseen = x .unseen; past = x .past; unwaited = x .unwaited } })
           (record { kept = f .kept; most = f .most; past = f .past; ordered = f .ordered; unseen = f .unseen; awaited = f .awaited; back = all-map (In m c w k (s .ends .there .rec) (s .there)) (In m c w k (s .ends .there .rec) (released m right L fresh A (s .there))) (λ (x : m .at .E) (h : In m c w k (s .ends .there .rec) (s .there) x). (h .0, (h .1 .0, λ (r : k .says x ≡ false). let y = h .1 .1 r in record { unseen = y .unseen; past = y .past; unwaited = y .unwaited }))) (s .ends .there .line) (f .back); soon = λ (p : s .there .power ≡ up). all-map (ShownIf m c w k (s .there)) (SoonIf m c w k (s .ends .there .rec) (released m right L fresh A (s .there))) (λ (x : m .at .E) (h : ShownIf m c w k (s .there) x) (r : k .says x ≡ true). shown-it (h r)) (s .ends .there .line) (all-shown e); left = left-all (ShownIf m c w k (released m right L fresh A (s .there))) (less (s .there .unsent)) (s .ends .there .line) (all-shown e) })
           (g .rest)
@@ -298,15 +376,20 @@ module _ (m : NMachine) (c : Centre m) (w : Words m) (k : Truth m c w) (order : 
   down-not-up : {P : Type 0} → down ≡ up → P
   down-not-up e = clash (ap upward (sym e))
 
-  pub gone-holds : (s : Hosts m) (dl : List ℕ) → HoldsOf m c w k s dl → HoldsOf m c w k (swapped m w right order fresh (lost m right L fresh A Ground (swapped m w right order fresh s))) dl
+  pub gone-holds : (s : Hosts m) (dl : List ℕ) → HoldsOf m c w k s dl
+      → HoldsOf m c w k (swapped m w right order fresh (lost m right L fresh A Ground (swapped m w right order fresh s))) dl
   gone-holds s dl g =
-      still-holds (s .ends) (nSwap m (withRec m right L fresh A (nSwap m (s .ends)) (s .there .keptRec))) (s .here) (s .there) (lost m right L fresh A Ground (swapped m w right order fresh s) .here) dl g refl (g .ways .out) refl
+      still-holds (s .ends) (nSwap m (withRec m right L fresh A (nSwap m (s .ends)) (s .there .keptRec))) (s .here)
+      (s .there) (lost m right L fresh A Ground (swapped m w right order fresh s) .here) dl g refl (g .ways .out)
+      refl
       (record { kept = refl; holds = ap (m .holds) (g .far .kept); seen = λ (n : ℕ). refl; waits = λ (p : false ≡ true). clash (sym p); is-up = λ (p : down ≡ up). down-not-up p; unsent = omega arith })
       (subst (c .Rest) (sym (g .far .kept)) (g .rest))
 
-  pub parted-holds : (s : Hosts m) (dl : List ℕ) → HoldsOf m c w k s dl → HoldsOf m c w k (swapped m w right order fresh (cutOff m w right order fresh (swapped m w right order fresh s))) dl
+  pub parted-holds : (s : Hosts m) (dl : List ℕ) → HoldsOf m c w k s dl
+      → HoldsOf m c w k (swapped m w right order fresh (cutOff m w right order fresh (swapped m w right order fresh s))) dl
   parted-holds s dl g =
-      still-holds (s .ends) (nSwap m (nSwap m (s .ends))) (s .here) (s .there) (cutOff m w right order fresh (swapped m w right order fresh s) .here) dl g refl (g .ways .out) refl
+      still-holds (s .ends) (nSwap m (nSwap m (s .ends))) (s .here) (s .there)
+      (cutOff m w right order fresh (swapped m w right order fresh s) .here) dl g refl (g .ways .out) refl
       (record { kept = refl; holds = refl; seen = λ (n : ℕ). refl; waits = λ (p : s .there .waiting ≡ true). p; is-up = λ (p : apart ≡ up). clash (ap upward (sym p)); unsent = omega arith })
       (g .rest)
 
@@ -314,13 +397,20 @@ module _ (m : NMachine) (c : Centre m) (w : Words m) (k : Truth m c w) (order : 
 
   pub fails-here : (s : Hosts m) (dl : List ℕ) → HoldsOf m c w k s dl → HoldsOf m c w k (carrierFailed m w right order fresh s) dl
   fails-here s dl g =
-      let j = failed m c w k order fresh (s .ends) (nEmptied m (s .ends)) (s .here) (s .there) dl up (rejoins m right L fresh A (s .there .power)) g refl refl refl refl in
-      subst (λ (y : NSys m). Holds m c w k (nSwap m y) (toldOf m right L fresh A (nSwap m y .here .rec) up (s .here)) (toldOf m right L fresh A (nSwap m y .there .rec) (rejoins m right L fresh A (s .there .power)) (s .there)) dl)
+      let j = failed m c w k order fresh (s .ends) (nEmptied m (s .ends)) (s .here) (s .there) dl up
+      (rejoins m right L fresh A (s .there .power)) g refl refl refl refl in
+      subst (λ (y : NSys m). Holds m c w k (nSwap m y) (toldOf m right L fresh A (nSwap m y .here .rec) up (s .here)) (
+      toldOf m right L fresh A (nSwap m y .there .rec) (rejoins m right L fresh A (s .there .power))
+      (s .there)) dl)
       (sym (untold m c w k order fresh (nSwap m (nToldLost m Ground (nEmptied m (s .ends)))) (j .rest))) (record { ways = j .ways; near = j .near; far = j .far; rest = j .rest; who = j .who })
 
-  pub fails-there : (s : Hosts m) (dl : List ℕ) → HoldsOf m c w k s dl → HoldsOf m c w k (swapped m w right order fresh (carrierFailed m w right order fresh (swapped m w right order fresh s))) dl
+  pub fails-there : (s : Hosts m) (dl : List ℕ) → HoldsOf m c w k s dl
+      → HoldsOf m c w k (swapped m w right order fresh (carrierFailed m w right order fresh (swapped m w right order fresh s))) dl
   fails-there s dl g =
       let u : NSys m = nEmptied m (nSwap m (s .ends)) in
-      let j = failed m c w k order fresh (s .ends) (nSwap m u) (s .here) (s .there) dl (rejoins m right L fresh A (s .here .power)) up g refl refl refl refl in
-      subst (λ (y : NSys m). Holds m c w k (nSwap m (nSwap m (nToldLost m Ground (nSwap m y)))) (toldOf m right L fresh A (nToldLost m Ground (nSwap m y) .here .rec) (rejoins m right L fresh A (s .here .power)) (s .here)) (toldOf m right L fresh A (nToldLost m Ground (nSwap m y) .there .rec) up (s .there)) dl)
+      let j = failed m c w k order fresh (s .ends) (nSwap m u) (s .here) (s .there) dl
+      (rejoins m right L fresh A (s .here .power)) up g refl refl refl refl in
+      subst (λ (y : NSys m). Holds m c w k (nSwap m (nSwap m (nToldLost m Ground (nSwap m y)))) (toldOf m right L fresh
+      A (nToldLost m Ground (nSwap m y) .here .rec) (rejoins m right L fresh A (s .here .power)) (s .here))
+      (toldOf m right L fresh A (nToldLost m Ground (nSwap m y) .there .rec) up (s .there)) dl)
       (sym (untold m c w k order fresh (nEmptied m (nSwap m (s .ends))) (g .rest))) (record { ways = j .ways; near = j .near; far = j .far; rest = j .rest; who = j .who })

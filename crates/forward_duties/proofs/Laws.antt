@@ -18,5 +18,7 @@ resultOf false = another
 -- says: the answer is success
 pub record Truth (m : NMachine) (c : Centre m) (w : Words m) : Type 0 where
   pub says : m .at .E → Bool
-  pub answer-says : (r q : m .at .R) (e f : m .at .E) (l : List Body) → c .Rest r → c .Good e → isStart (m .at) e ≡ true → m .holds r < m .carries e → m .at .receive Ground r e ≡ acts q l (puts f) → says f ≡ w .indicates r e
-  pub result-is : (r : m .at .R) (f : m .at .E) → c .Away r → c .Good f → isStart (m .at) f ≡ false → m .carries f ≡ m .holds r → w .confirms r f ≡ resultOf (says f)
+  pub answer-says : (r q : m .at .R) (e f : m .at .E) (l : List Body) → c .Rest r → c .Good e → isStart (m .at) e ≡ true
+      → m .holds r < m .carries e → m .at .receive Ground r e ≡ acts q l (puts f) → says f ≡ w .indicates r e
+  pub result-is : (r : m .at .R) (f : m .at .E) → c .Away r → c .Good f → isStart (m .at) f ≡ false
+      → m .carries f ≡ m .holds r → w .confirms r f ≡ resultOf (says f)

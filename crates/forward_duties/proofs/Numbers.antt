@@ -55,8 +55,12 @@ left-all P k (x ∷ l) h = ((λ (e : ltb k (length (x ∷ l)) ≡ true). h .0), 
 
 pub left-map : {X : Type 0} (P Q : X → Type 0) (j k : ℕ) → j ≤ k → ((x : X) → P x → Q x) → (l : List X) → Left P j l → Left Q k l
 left-map P Q j k b f [] h = tt
-left-map P Q j k b f (x ∷ l) h =
-    ((λ (e : ltb k (length (x ∷ l)) ≡ true). f x (h .0 (lt-ltb j (length (x ∷ l)) (omega (arith, b, ltb-true k (length (x ∷ l)) e))))), left-map P Q j k b f l (h .1))
+left-map P Q j k b f (x ∷ l) h = (
+  (λ (e : ltb k (length (x ∷ l)) ≡ true). f x
+      (h .0 (lt-ltb j (length (x ∷ l)) (omega (arith, b, ltb-true k (length (x ∷ l)) e))))),
+  left-map P Q j k
+      b f l (h .1),
+)
 
 longer : {X : Type 0} (l : List X) (x : X) → length (l ++ (x ∷ [])) ≡ suc (length l)
 longer [] x = refl
@@ -64,8 +68,12 @@ longer (y ∷ l) x = ap suc (longer l x)
 
 pub left-snoc : {X : Type 0} (P : X → Type 0) (k : ℕ) (l : List X) (x : X) → Left P k l → Left P (suc k) (l ++ (x ∷ []))
 left-snoc P k [] x h = ((λ (e : ltb (suc k) 1 ≡ true). absurd (omega (arith, ltb-true (suc k) 1 e))), tt)
-left-snoc P k (y ∷ l) x h =
-    ((λ (e : ltb (suc k) (suc (length (l ++ (x ∷ [])))) ≡ true). h .0 (lt-ltb k (suc (length l)) (omega (arith, ltb-true (suc k) (suc (length (l ++ (x ∷ [])))) e, longer l x)))), left-snoc P k l x (h .1))
+left-snoc P k (y ∷ l) x h = (
+  (λ (e : ltb (suc k) (suc (length (l ++ (x ∷ [])))) ≡ true). h .0 (lt-ltb k (suc (length l))
+      (omega (arith, ltb-true (suc k) (suc (length (l ++ (x ∷ [])))) e, longer l x)))),
+  left-snoc P k l x
+      (h .1),
+)
 
 -- ---- numbers
 
@@ -75,7 +83,8 @@ numbers-snoc (x ∷ l) t = ap (λ (k : List ℕ). x .no ∷ k) (numbers-snoc l t
 
 pub rising-snoc : (n b v : ℕ) (l : List ℕ) → T (rising n l) → All (λ (i : ℕ). i ≤ b) l → n ≤ b → b < v → T (rising n (l ++ (v ∷ [])))
 rising-snoc n b v [] r a h g = both (ltb n v) true (T-is (ltb n v) (lt-ltb n v (omega (arith, h, g)))) tt
-rising-snoc n b v (i ∷ l) r a h g = both (ltb n i) (rising i (l ++ (v ∷ []))) (and-l (ltb n i) (rising i l) r) (rising-snoc i b v l (and-r (ltb n i) (rising i l) r) (a .1) (a .0) g)
+rising-snoc n b v (i ∷ l) r a h g = both (ltb n i) (rising i (l ++ (v ∷ []))) (and-l (ltb n i) (rising i l) r)
+    (rising-snoc i b v l (and-r (ltb n i) (rising i l) r) (a .1) (a .0) g)
 
 pub count-first : (n : ℕ) (l k : List ℕ) → count n l ≤ count n (l ++ k)
 count-first n [] k = omega arith
@@ -93,14 +102,16 @@ part-mono false k l h = omega arith
 
 pub often-mono : (seen more : ℕ → ℕ) (j : ℕ) (l : List Took) → ((n : ℕ) → seen n ≤ more n) → often seen j l ≤ often more j l
 often-mono seen more j [] h = omega arith
-often-mono seen more j (t ∷ l) h = omega (arith, part-mono (eqb (t .job) j) (seen (t .no)) (more (t .no)) (h (t .no)), often-mono seen more j l h)
+often-mono seen more j (t ∷ l) h = omega
+    (arith, part-mono (eqb (t .job) j) (seen (t .no)) (more (t .no)) (h (t .no)), often-mono seen more j l h)
 
 -- a job that is in the history with number v was shown where v was
 pub often-in : (seen : ℕ → ℕ) (v j : ℕ) (l : List Took) → 1 ≤ seen v → 1 ≤ inNo v j l → 1 ≤ often seen j l
 often-in seen v j [] h p = p
 often-in seen v j (t ∷ l) h p = go (often-in seen v j l h) (eqb (t .job) j) refl (eqb (t .no) v) refl
   where
-    go : (1 ≤ inNo v j l → 1 ≤ often seen j l) → (a : Bool) → eqb (t .job) j ≡ a → (b : Bool) → eqb (t .no) v ≡ b → 1 ≤ cond (eqb (t .job) j) (seen (t .no)) 0 + often seen j l
+    go : (1 ≤ inNo v j l → 1 ≤ often seen j l) → (a : Bool) → eqb (t .job) j ≡ a → (b : Bool) → eqb (t .no) v ≡ b
+        → 1 ≤ cond (eqb (t .job) j) (seen (t .no)) 0 + often seen j l
     go i true e true f =
         let q : 1 ≤ seen (t .no) = subst (λ (n : ℕ). 1 ≤ seen n) (sym (eqb-true (t .no) v f)) h in
         omega (arith, q, ap (λ (b : Bool). cond b (seen (t .no)) 0) e)
@@ -124,7 +135,8 @@ none-of j [] P h = tt
 none-of j (t ∷ l) P h = ((λ (e : eqb (t .job) j ≡ true). absurd (omega (arith, h, ap one e))), none-of j l P (omega (arith, h)))
 
 -- it is there once, with number v
-pub only-one : (j v : ℕ) (l : List Took) (P : ℕ → Type 0) → count j (jobsOf l) ≤ 1 → 1 ≤ inNo v j l → P v → All (λ (t : Took). eqb (t .job) j ≡ true → P (t .no)) l
+pub only-one : (j v : ℕ) (l : List Took) (P : ℕ → Type 0) → count j (jobsOf l) ≤ 1 → 1 ≤ inNo v j l → P v
+    → All (λ (t : Took). eqb (t .job) j ≡ true → P (t .no)) l
 only-one j v [] P m h p = tt
 only-one j v (t ∷ l) P m h p = go (λ (a : count j (jobsOf l) ≤ 1) (b : 1 ≤ inNo v j l). only-one j v l P a b p) (eqb (t .job) j) refl
   where
@@ -136,13 +148,20 @@ only-one j v (t ∷ l) P m h p = go (λ (a : count j (jobsOf l) ≤ 1) (b : 1 �
         none true = refl
         none false = refl
 
-    go : (count j (jobsOf l) ≤ 1 → 1 ≤ inNo v j l → All (λ (t : Took). eqb (t .job) j ≡ true → P (t .no)) l) → (b : Bool) → eqb (t .job) j ≡ b → (eqb (t .job) j ≡ true → P (t .no)) × All (λ (t : Took). eqb (t .job) j ≡ true → P (t .no)) l
+    go : (count j (jobsOf l) ≤ 1 → 1 ≤ inNo v j l → All (λ (t : Took). eqb (t .job) j ≡ true → P (t .no)) l)
+        → (b : Bool) → eqb (t .job) j ≡ b
+        → (eqb (t .job) j ≡ true → P (t .no)) × All (λ (t : Took). eqb (t .job) j ≡ true → P (t .no)) l
     go i true e =
         let z : count j (jobsOf l) ≡ 0 = omega (arith, m, ap one e) in
         ((λ (q : eqb (t .job) j ≡ true). number z (eqb (t .no) v) refl), none-of j l P z)
-    go i false e = ((λ (q : eqb (t .job) j ≡ true). clash (sym q ∙ e)), i (omega (arith, m)) (omega (arith, h, ap (λ (x : Bool). one (x && eqb (t .no) v)) e)))
+    go i false e = (
+      (λ (q : eqb (t .job) j ≡ true). clash (sym q ∙ e)),
+      i (omega (arith, m))
+          (omega (arith, h, ap (λ (x : Bool). one (x && eqb (t .no) v)) e)),
+    )
 
-pub often-zero : (seen : ℕ → ℕ) (j : ℕ) (l : List Took) → All (λ (t : Took). eqb (t .job) j ≡ true → seen (t .no) ≡ 0) l → often seen j l ≡ 0
+pub often-zero : (seen : ℕ → ℕ) (j : ℕ) (l : List Took)
+    → All (λ (t : Took). eqb (t .job) j ≡ true → seen (t .no) ≡ 0) l → often seen j l ≡ 0
 often-zero seen j [] h = refl
 often-zero seen j (t ∷ l) h = omega (arith, part (eqb (t .job) j) refl, often-zero seen j l (h .1))
   where
@@ -154,7 +173,8 @@ pub often-most : (seen : ℕ → ℕ) (j : ℕ) (l : List Took) → count j (job
 often-most seen j [] m h = omega arith
 often-most seen j (t ∷ l) m h = go (λ (a : count j (jobsOf l) ≤ 1). often-most seen j l a h) (eqb (t .job) j) refl
   where
-    go : (count j (jobsOf l) ≤ 1 → often seen j l ≤ 1) → (b : Bool) → eqb (t .job) j ≡ b → cond (eqb (t .job) j) (seen (t .no)) 0 + often seen j l ≤ 1
+    go : (count j (jobsOf l) ≤ 1 → often seen j l ≤ 1) → (b : Bool) → eqb (t .job) j ≡ b
+        → cond (eqb (t .job) j) (seen (t .no)) 0 + often seen j l ≤ 1
     go i true e =
         let z : often seen j l ≡ 0 = often-zero seen j l (none-of j l (λ (n : ℕ). seen n ≡ 0) (omega (arith, m, ap one e))) in
         omega (arith, z, h (t .no), ap (λ (b : Bool). cond b (seen (t .no)) 0) e)

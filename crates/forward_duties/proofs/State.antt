@@ -125,9 +125,13 @@ module _ (m : NMachine) (c : Centre m) (w : Words m) (k : Truth m c w) where
         ordered = λ (n : ℕ) (p : 1 ≤ v .seen n). g .ordered n (omega (arith, p, s .seen n));
         unseen = λ (p : v .waiting ≡ true). ap (v .seen) (s .holds) ∙ (s .seen (m .holds t) ∙ g .unseen (s .waits p));
         awaited = λ (p : v .waiting ≡ true). subst (λ (n : ℕ). 1 ≤ count n (numbers log)) (sym (s .holds)) (g .awaited (s .waits p));
-        back = all-map (In t z) (In u v) (λ (f : m .at .E) (q : In t z f). (q .0, (q .1 .0, λ (e : k .says f ≡ false). still-never t u z v s (m .carries f) (q .1 .1 e)))) y (g .back);
+        back = all-map (In t z) (In u v) (λ (f : m .at .E) (q : In t z f).
+            (q .0, (q .1 .0, λ (e : k .says f ≡ false). still-never t u z v s (m .carries f) (q .1 .1 e)))) y
+            (g .back);
         soon = λ (p : v .power ≡ up). all-map (SoonIf t z) (SoonIf u v) (still-soon t u z v s p) y (g .soon (s .is-up p .0));
-        left = left-map (ShownIf z) (ShownIf v) (z .unsent) (v .unsent) (s .unsent) (λ (f : m .at .E) (q : ShownIf z f) (e : k .says f ≡ true). omega (arith, q e, s .seen (m .carries f))) y (g .left);
+        left = left-map (ShownIf z) (ShownIf v) (z .unsent) (v .unsent) (s .unsent)
+            (λ (f : m .at .E) (q : ShownIf z f) (e : k .says f ≡ true). omega (arith, q e, s .seen (m .carries f))) y
+            (g .left);
       }
 
   -- with one more sent
@@ -146,4 +150,5 @@ module _ (m : NMachine) (c : Centre m) (w : Words m) (k : Truth m c w) where
       }
     where
       more : (n : ℕ) → 1 ≤ count n (numbers log) → 1 ≤ count n (numbers (log ++ (x ∷ [])))
-      more n p = subst (λ (l : List ℕ). 1 ≤ count n l) (sym (numbers-snoc log x)) (omega (arith, p, count-first n (numbers log) (x .no ∷ [])))
+      more n p = subst (λ (l : List ℕ). 1 ≤ count n l) (sym (numbers-snoc log x))
+          (omega (arith, p, count-first n (numbers log) (x .no ∷ [])))

@@ -36,15 +36,20 @@ module _ (m : NMachine) where
     pub told : (j : ℕ) → count j dl ≤ saysEnded j (n .notices)
     pub declined : (j : ℕ) → 1 ≤ count j dl → All (λ (x : Took). eqb (x .job) j ≡ true → Never t z (x .no)) log
 
-  pub tally-later : (v : ℕ) (n : Notes) (log : List Took) (done : ℕ → Bool) (t u : m .at .R) (z y : Host m) (dl : List ℕ) → Later t u z y → Tally v n log done t z dl → Tally v n log done u y dl
+  pub tally-later : (v : ℕ) (n : Notes) (log : List Took) (done : ℕ → Bool) (t u : m .at .R) (z y : Host m) (dl : List ℕ)
+      → Later t u z y → Tally v n log done t z dl → Tally v n log done u y dl
   tally-later v n log done t u z y dl a g =
       record {
         book = g .book;
         present = g .present;
-        ended = λ (j : ℕ) (p : 1 ≤ saysEnded j (n .notices)) (q : count j dl ≡ 0). omega (arith, g .ended j p q, often-mono (z .seen) (y .seen) j log (a .grows));
+        ended = λ (j : ℕ) (p : 1 ≤ saysEnded j (n .notices)) (q : count j dl ≡ 0). omega
+            (arith, g .ended j p q, often-mono (z .seen) (y .seen) j log (a .grows));
         told = g .told;
         declined = λ (j : ℕ) (p : 1 ≤ count j dl).
-            all-map (λ (x : Took). eqb (x .job) j ≡ true → Never t z (x .no)) (λ (x : Took). eqb (x .job) j ≡ true → Never u y (x .no)) (λ (x : Took) (f : eqb (x .job) j ≡ true → Never t z (x .no)) (e : eqb (x .job) j ≡ true). a .never (x .no) (f e)) log (g .declined j p);
+            all-map (λ (x : Took). eqb (x .job) j ≡ true → Never t z (x .no))
+            (λ (x : Took). eqb (x .job) j ≡ true → Never u y (x .no)) (λ (x : Took)
+            (f : eqb (x .job) j ≡ true → Never t z (x .no)) (e : eqb (x .job) j ≡ true). a .never (x .no) (f e))
+            log (g .declined j p);
       }
 
   module _ (v : ℕ) (n : Notes) (log : List Took) (done : ℕ → Bool) (t : m .at .R) (z : Host m) (dl : List ℕ) (g : Tally v n log done t z dl) where
@@ -54,7 +59,9 @@ module _ (m : NMachine) where
         record {
           book = broken-book n log done (g .book);
           present = λ (j : ℕ) (p : 1 ≤ 0). absurd (omega (arith, p));
-          ended = λ (j : ℕ) (p : 1 ≤ saysEnded j (n .notices ++ each told-broken (n .opened))) (q : count j dl ≡ 0). g .ended j (omega (arith, p, ended-app j (n .notices) (each told-broken (n .opened)), ended-broken j (n .opened))) q;
+          ended = λ (j : ℕ) (p : 1 ≤ saysEnded j (n .notices ++ each told-broken (n .opened))) (q : count j dl ≡ 0).
+              g .ended j
+              (omega (arith, p, ended-app j (n .notices) (each told-broken (n .opened)), ended-broken j (n .opened))) q;
           told = λ (j : ℕ). omega (arith, g .told j, ended-app j (n .notices) (each told-broken (n .opened)));
           declined = g .declined;
         }
@@ -71,7 +78,8 @@ module _ (m : NMachine) where
         record {
           book = refused-book n log done j u (g .book);
           present = g .present;
-          ended = λ (i : ℕ) (p : 1 ≤ saysEnded i (n .notices ++ (note j told-refused ∷ []))) (q : count i dl ≡ 0). g .ended i (omega (arith, p, refused-none j i)) q;
+          ended = λ (i : ℕ) (p : 1 ≤ saysEnded i (n .notices ++ (note j told-refused ∷ []))) (q : count i dl ≡ 0).
+              g .ended i (omega (arith, p, refused-none j i)) q;
           told = λ (i : ℕ). omega (arith, g .told i, refused-none j i);
           declined = g .declined;
         }
@@ -88,7 +96,8 @@ module _ (m : NMachine) where
     tally-taken j u d e =
         record {
           book = taken-book n log done j d (g .book) u [];
-          present = λ (i : ℕ) (p : 1 ≤ count i (n .opened ++ (j ∷ []))). present i (subst (λ (l : List ℕ). 1 ≤ count i (l ++ (j ∷ []))) e p);
+          present = λ (i : ℕ) (p : 1 ≤ count i (n .opened ++ (j ∷ []))). present i
+              (subst (λ (l : List ℕ). 1 ≤ count i (l ++ (j ∷ []))) e p);
           ended = λ (i : ℕ) (p : 1 ≤ saysEnded i (n .notices)) (q : count i dl ≡ 0). omega (arith, g .ended i p q, often-first (z .seen) i log (record { job = j; no = u; body = [] } ∷ []));
           told = g .told;
           declined = λ (i : ℕ) (p : 1 ≤ count i dl). all-snoc (λ (x : Took). eqb (x .job) i ≡ true → Never t z (x .no)) log (record { job = j; no = u; body = [] }) (g .declined i p) (λ (q : eqb j i ≡ true). absurd (told-decided i j d p q));
@@ -111,7 +120,9 @@ module _ (m : NMachine) where
           book = ended-book n log done (g .book);
           present = λ (j : ℕ) (p : 1 ≤ 0). absurd (omega (arith, p));
           ended = λ (j : ℕ) (p : 1 ≤ saysEnded j (n .notices ++ each told-ended (n .opened))) (q : count j dl ≡ 0).
-              either-one (saysEnded j (n .notices)) (count j (n .opened)) (1 ≤ often (z .seen) j log) (λ (x : 1 ≤ saysEnded j (n .notices)). g .ended j x q) (λ (x : 1 ≤ count j (n .opened)). often-in (z .seen) v j log s (g .present j x))
+              either-one (saysEnded j (n .notices)) (count j (n .opened)) (1 ≤ often (z .seen) j log)
+              (λ (x : 1 ≤ saysEnded j (n .notices)). g .ended j x q)
+              (λ (x : 1 ≤ count j (n .opened)). often-in (z .seen) v j log s (g .present j x))
               (omega (arith, p, ended-app j (n .notices) (each told-ended (n .opened)), ended-ended j (n .opened)));
           told = λ (j : ℕ). omega (arith, g .told j, ended-app j (n .notices) (each told-ended (n .opened)));
           declined = g .declined;
@@ -125,10 +136,27 @@ module _ (m : NMachine) where
           present = λ (j : ℕ) (p : 1 ≤ 0). absurd (omega (arith, p));
           ended = λ (j : ℕ) (p : 1 ≤ saysEnded j (n .notices ++ each told-ended (n .opened))) (q : count j (dl ++ n .opened) ≡ 0).
               let a = count-app j dl (n .opened) in
-              g .ended j (omega (arith, p, q, a, ended-app j (n .notices) (each told-ended (n .opened)), ended-ended j (n .opened))) (omega (arith, q, a));
-          told = λ (j : ℕ). omega (arith, g .told j, count-app j dl (n .opened), ended-app j (n .notices) (each told-ended (n .opened)), ended-ended j (n .opened));
+              g .ended j (omega (
+                arith,
+                p,
+                q,
+                a,
+                ended-app j (n .notices) (each told-ended (n .opened)),
+                ended-ended j
+                    (n .opened),
+              )) (omega (arith, q, a));
+          told = λ (j : ℕ). omega (
+            arith,
+            g .told j,
+            count-app j dl (n .opened),
+            ended-app j (n .notices)
+                (each told-ended (n .opened)),
+            ended-ended j (n .opened),
+          );
           declined = λ (j : ℕ) (p : 1 ≤ count j (dl ++ n .opened)).
-              either-one (count j dl) (count j (n .opened)) (All (λ (x : Took). eqb (x .job) j ≡ true → Never t z (x .no)) log) (g .declined j) (λ (x : 1 ≤ count j (n .opened)). only-one j v log (Never t z) (once j) (g .present j x) s)
+              either-one (count j dl) (count j (n .opened))
+              (All (λ (x : Took). eqb (x .job) j ≡ true → Never t z (x .no)) log) (g .declined j)
+              (λ (x : 1 ≤ count j (n .opened)). only-one j v log (Never t z) (once j) (g .present j x) s)
               (omega (arith, p, count-app j dl (n .opened)));
         }
       where

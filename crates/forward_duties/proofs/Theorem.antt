@@ -45,17 +45,24 @@ module _ (m : NMachine) (c : Centre m) (w : Words m) (k : Truth m c w) (order : 
   -- ---- an event at the centre that forwards
 
   shows-here : (s : Hosts m) (dl : List ℕ) → Good s dl → Good (showing m w right order fresh s) dl
-  shows-here s dl g = host-holds m c w k order fresh (s .ends) (s .here) (showing m w right order fresh s .here) (s .there) dl g refl refl refl refl refl
+  shows-here s dl g = host-holds m c w k order fresh (s .ends) (s .here) (showing m w right order fresh s .here)
+      (s .there) dl g refl refl refl refl refl
 
   leaves-here : (s : Hosts m) (dl : List ℕ) → Good s dl → Good (releasing m w right order fresh s) dl
   leaves-here s dl g =
       either m c w k (ready m right L fresh A (s .here)) (record { ends = s .ends; here = released m right L fresh A (s .here); there = s .there }) s dl
-      (λ (b : ready m right L fresh A (s .here) ≡ true). host-holds m c w k order fresh (s .ends) (s .here) (released m right L fresh A (s .here)) (s .there) dl g refl refl refl refl refl) (λ (b : ready m right L fresh A (s .here) ≡ false). g)
+      (λ (b : ready m right L fresh A (s .here) ≡ true). host-holds m c w k order fresh (s .ends) (s .here)
+      (released m right L fresh A (s .here)) (s .there) dl g refl refl refl refl refl)
+      (λ (b : ready m right L fresh A (s .here) ≡ false). g)
 
-  here-keeps : (p : Power) (s : Hosts m) (dl : List ℕ) (a : Event (m .at .A)) → Good s dl → Good (occurs m w right order fresh true p s a) dl
+  here-keeps : (p : Power) (s : Hosts m) (dl : List ℕ) (a : Event (m .at .A)) → Good s dl
+      → Good (occurs m w right order fresh true p s a) dl
   here-keeps up s dl (happens v) g =
-      either m c w k (ready m right L fresh A (s .here) && mayHappen m w right order fresh s v) (happened m w right order fresh true s v) s dl
-      (λ (b : (ready m right L fresh A (s .here) && mayHappen m w right order fresh s v) ≡ true). happened-holds m c w k order fresh s dl v (and-second (ready m right L fresh A (s .here)) (mayHappen m w right order fresh s v) b) g)
+      either m c w k (ready m right L fresh A (s .here) && mayHappen m w right order fresh s v)
+      (happened m w right order fresh true s v) s dl
+      (λ (b : (ready m right L fresh A (s .here) && mayHappen m w right order fresh s v) ≡ true). happened-holds m c w
+      k order fresh s dl v
+      (and-second (ready m right L fresh A (s .here)) (mayHappen m w right order fresh s v) b) g)
       (λ (b : (ready m right L fresh A (s .here) && mayHappen m w right order fresh s v) ≡ false). g)
   here-keeps apart s dl (happens v) g = g
   here-keeps down s dl (happens v) g = g
@@ -80,15 +87,19 @@ module _ (m : NMachine) (c : Centre m) (w : Words m) (k : Truth m c w) (order : 
   same : (s : Hosts m) (dl : List ℕ) → Good s dl → Good (swapped m w right order fresh (swapped m w right order fresh s)) dl
   same s dl g = record { ways = g .ways; near = g .near; far = g .far; rest = g .rest; who = g .who }
 
-  happens-there : (s : Hosts m) (dl : List ℕ) (v : Step (m .at .A)) → Good s dl → Good (swapped m w right order fresh (occurs m w right order fresh false up (swapped m w right order fresh s) (happens v))) dl
+  happens-there : (s : Hosts m) (dl : List ℕ) (v : Step (m .at .A)) → Good s dl
+      → Good (swapped m w right order fresh (occurs m w right order fresh false up (swapped m w right order fresh s) (happens v))) dl
   happens-there s dl v g = go (s .there .waiting) refl (mayHappen m w right order fresh (swapped m w right order fresh s) v) refl
     where
-      go : (b : Bool) → s .there .waiting ≡ b → (d : Bool) → mayHappen m w right order fresh (swapped m w right order fresh s) v ≡ d → Good (swapped m w right order fresh (cond (not b && d) (happened m w right order fresh false (swapped m w right order fresh s) v) (swapped m w right order fresh s))) dl
+      go : (b : Bool) → s .there .waiting ≡ b → (d : Bool)
+          → mayHappen m w right order fresh (swapped m w right order fresh s) v ≡ d
+          → Good (swapped m w right order fresh (cond (not b && d) (happened m w right order fresh false (swapped m w right order fresh s) v) (swapped m w right order fresh s))) dl
       go true e d f = same s dl g
       go false e false f = same s dl g
       go false e true f = got-holds m c w k order fresh s dl v e f g
 
-  there-keeps : (p : Power) (s : Hosts m) (dl : List ℕ) (a : Event (m .at .A)) → s .there .power ≡ p → Good s dl → Good (swapped m w right order fresh (occurs m w right order fresh false p (swapped m w right order fresh s) a)) dl
+  there-keeps : (p : Power) (s : Hosts m) (dl : List ℕ) (a : Event (m .at .A)) → s .there .power ≡ p → Good s dl
+      → Good (swapped m w right order fresh (occurs m w right order fresh false p (swapped m w right order fresh s) a)) dl
   there-keeps up s dl (happens v) q g = happens-there s dl v g
   there-keeps apart s dl (happens v) q g = same s dl g
   there-keeps down s dl (happens v) q g = same s dl g
@@ -118,19 +129,25 @@ module _ (m : NMachine) (c : Centre m) (w : Words m) (k : Truth m c w) (order : 
   either-way true e x y f g = f
   either-way false e x y f g = g
 
-  offered-follows : (s : Hosts m) (j : ℕ) (o : Outcome (m .at .R) (m .at .E)) → Follows (s .ends) (offered m w right order fresh s j o .ends)
+  offered-follows : (s : Hosts m) (j : ℕ) (o : Outcome (m .at .R) (m .at .E))
+      → Follows (s .ends) (offered m w right order fresh s j o .ends)
   offered-follows s j refused = stays refl
   offered-follows s j (acts r l nothing) = stays refl
   offered-follows s j (acts r l (message e b i)) = stays refl
-  offered-follows s j (acts r l (puts e)) = either-way (isStart (m .at) e && nReady m (s .ends)) (s .ends) (taking m w right order fresh s j e) s (steps true (user-call (order (s .ends .here .rec) j) 0) refl) (stays refl)
+  offered-follows s j (acts r l (puts e)) = either-way (isStart (m .at) e && nReady m (s .ends)) (s .ends)
+      (taking m w right order fresh s j e) s (steps true (user-call (order (s .ends .here .rec) j) 0) refl) (stays refl)
 
   aside-follows : (s : Hosts m) (j : ℕ) → Follows (s .ends) (laidAside m right L fresh A s j .ends)
-  aside-follows s j = either-way (isDecided (s .here .notes .decision j)) (s .ends) s (refusing m right L fresh A s j) (stays refl) (stays refl)
+  aside-follows s j = either-way (isDecided (s .here .notes .decision j)) (s .ends) s (refusing m right L fresh A s j)
+      (stays refl) (stays refl)
 
   served-follows : (p : Power) (s : Hosts m) (b : Job) → Follows (s .ends) (served m w right order fresh p s b .ends)
   served-follows up s (deliver j) =
       either-way (ready m right L fresh A (s .here)) (s .ends) (delivered m w right order fresh s j) s
-      (either-way (isDecided (s .here .notes .decision j)) (s .ends) s (offered m w right order fresh s j (m .at .call Ground (s .ends .here .rec) (order (s .ends .here .rec) j))) (stays refl) (offered-follows s j (m .at .call Ground (s .ends .here .rec) (order (s .ends .here .rec) j)))) (stays refl)
+      (either-way (isDecided (s .here .notes .decision j)) (s .ends) s (offered m w right order fresh s j
+      (m .at .call Ground (s .ends .here .rec) (order (s .ends .here .rec) j))) (stays refl)
+      (offered-follows s j (m .at .call Ground (s .ends .here .rec) (order (s .ends .here .rec) j))))
+      (stays refl)
   served-follows up s (lay-aside j) = aside-follows s j
   served-follows up s (acknowledge j) = stays refl
   served-follows up s give-up = stays refl
@@ -146,14 +163,19 @@ module _ (m : NMachine) (c : Centre m) (w : Words m) (k : Truth m c w) (order : 
   told-follows d another = steps true (hand-over 0) refl
 
   answer-follows : (d : Desks m) → Follows (d .both .ends) (getsAnswer m w right order fresh d .both .ends)
-  answer-follows d = go (isUp m w right order fresh (d .both .here .power) && (ready m right L fresh A (d .both .here) && arrived m right L fresh A (d .both)))
+  answer-follows d = go (isUp m w right order fresh (d .both .here .power) &&
+      (ready m right L fresh A (d .both .here) && arrived m right L fresh A (d .both)))
     where
-      go : (b : Bool) → Follows (d .both .ends) (cond b (told m w right order fresh (heardResult m w right order fresh (d .both .ends .here .rec) (d .both .ends .there .line)) d) d .both .ends)
+      go : (b : Bool)
+          → Follows (d .both .ends) (cond b (told m w right order fresh (heardResult m w right order fresh (d .both .ends .here .rec) (d .both .ends .there .line)) d) d .both .ends)
       go true = told-follows d (heardResult m w right order fresh (d .both .ends .here .rec) (d .both .ends .there .line))
       go false = stays refl
 
-  here-follows : (p : Power) (s : Hosts m) (a : Event (m .at .A)) → s .here .keptRec ≡ s .ends .here .rec → Follows (s .ends) (occurs m w right order fresh true p s a .ends)
-  here-follows up s (happens v) k = either-way (ready m right L fresh A (s .here) && mayHappen m w right order fresh s v) (s .ends) (happened m w right order fresh true s v) s (steps true v refl) (stays refl)
+  here-follows : (p : Power) (s : Hosts m) (a : Event (m .at .A)) → s .here .keptRec ≡ s .ends .here .rec
+      → Follows (s .ends) (occurs m w right order fresh true p s a .ends)
+  here-follows up s (happens v) k = either-way
+      (ready m right L fresh A (s .here) && mayHappen m w right order fresh s v) (s .ends)
+      (happened m w right order fresh true s v) s (steps true v refl) (stays refl)
   here-follows apart s (happens v) k = stays refl
   here-follows down s (happens v) k = stays refl
   here-follows up s shows k = stays refl
@@ -173,13 +195,18 @@ module _ (m : NMachine) (c : Centre m) (w : Words m) (k : Truth m c w) (order : 
   here-follows down s carrier-fails k = steps true fail refl
 
   -- the other centre, whose ends are seen the other way round
-  either-there : (b : Bool) (e : NSys m) (x y : Hosts m) → Follows e (nSwap m (x .ends)) → Follows e (nSwap m (y .ends)) → Follows e (nSwap m (cond b x y .ends))
+  either-there : (b : Bool) (e : NSys m) (x y : Hosts m) → Follows e (nSwap m (x .ends)) → Follows e (nSwap m (y .ends))
+      → Follows e (nSwap m (cond b x y .ends))
   either-there true e x y f g = f
   either-there false e x y f g = g
 
-  there-follows : (p : Power) (s : Hosts m) (a : Event (m .at .A)) → s .there .keptRec ≡ s .ends .there .rec → Follows (s .ends) (nSwap m (occurs m w right order fresh false p (swapped m w right order fresh s) a .ends))
+  there-follows : (p : Power) (s : Hosts m) (a : Event (m .at .A)) → s .there .keptRec ≡ s .ends .there .rec
+      → Follows (s .ends) (nSwap m (occurs m w right order fresh false p (swapped m w right order fresh s) a .ends))
   there-follows up s (happens v) k =
-      either-there (ready m right L fresh A (s .there) && mayHappen m w right order fresh (swapped m w right order fresh s) v) (s .ends) (happened m w right order fresh false (swapped m w right order fresh s) v) (swapped m w right order fresh s) (steps false v refl) (stays refl)
+      either-there
+      (ready m right L fresh A (s .there) && mayHappen m w right order fresh (swapped m w right order fresh s) v)
+      (s .ends) (happened m w right order fresh false (swapped m w right order fresh s) v)
+      (swapped m w right order fresh s) (steps false v refl) (stays refl)
   there-follows apart s (happens v) k = stays refl
   there-follows down s (happens v) k = stays refl
   there-follows up s shows k = stays refl
@@ -215,7 +242,9 @@ module _ (m : NMachine) (c : Centre m) (w : Words m) (k : Truth m c w) (order : 
   move-follows d (at true a) g = here-follows (d .both .here .power) (d .both) a (g .near .rec-kept)
   move-follows d (at false a) g = there-follows (d .both .there .power) (d .both) a (g .far .kept)
 
-  promised : (d : Desks m) → GoodDesks d → (d .both .ends .here .line ≡ [] → d .both .ends .there .line ≡ [] → (idle (m .at) (d .both .ends .here .rec) ≡ true) × (idle (m .at) (d .both .ends .there .rec) ≡ true)) → ForwardPromise m d
+  promised : (d : Desks m) → GoodDesks d
+      → (d .both .ends .here .line ≡ [] → d .both .ends .there .line ≡ [] → (idle (m .at) (d .both .ends .here .rec) ≡ true) × (idle (m .at) (d .both .ends .there .rec) ≡ true))
+      → ForwardPromise m d
   promised d g i =
       let y = g .near .tally in
       let b = y .book in
@@ -223,18 +252,29 @@ module _ (m : NMachine) (c : Centre m) (w : Words m) (k : Truth m c w) (order : 
         at-most-once = most;
         numbers-rise = g .ways .rise;
         shown-sent = g .far .ordered;
-        refused-unsent = λ (j : ℕ) (p : 1 ≤ saysRefused j (d .both .here .notes .notices)). b .logged j ∙ refused-is (d .both .here .notes .decision j) (subst (λ (n : ℕ). 1 ≤ n) (b .turned j) p);
-        success-shown = λ (j : ℕ) (p : 1 ≤ saysEnded j (d .both .here .notes .notices)) (q : count j (d .declined) ≡ 0). omega (arith, most j, y .ended j p q);
+        refused-unsent = λ (j : ℕ) (p : 1 ≤ saysRefused j (d .both .here .notes .notices)). b .logged j ∙ refused-is
+            (d .both .here .notes .decision j) (subst (λ (n : ℕ). 1 ≤ n) (b .turned j) p);
+        success-shown = λ (j : ℕ) (p : 1 ≤ saysEnded j (d .both .here .notes .notices))
+            (q : count j (d .declined) ≡ 0). omega (arith, most j, y .ended j p q);
         declined-unshown = λ (j : ℕ) (p : 1 ≤ count j (d .declined)).
-            often-zero (d .both .there .seen) j (d .both .here .log) (all-map (λ (x : Took). eqb (x .job) j ≡ true → Never m (d .both .ends .there .rec) (d .both .there) (x .no)) (λ (x : Took). eqb (x .job) j ≡ true → d .both .there .seen (x .no) ≡ 0) (λ (x : Took) (f : eqb (x .job) j ≡ true → Never m (d .both .ends .there .rec) (d .both .there) (x .no)) (e : eqb (x .job) j ≡ true). f e .unseen) (d .both .here .log) (y .declined j p));
+            often-zero (d .both .there .seen) j (d .both .here .log) (all-map (λ (x : Took). eqb (x .job) j ≡ true →
+            Never m (d .both .ends .there .rec) (d .both .there) (x .no))
+            (λ (x : Took). eqb (x .job) j ≡ true → d .both .there .seen (x .no) ≡ 0) (λ (x : Took)
+            (f : eqb (x .job) j ≡ true → Never m (d .both .ends .there .rec) (d .both .there) (x .no))
+            (e : eqb (x .job) j ≡ true). f e .unseen) (d .both .here .log) (y .declined j p));
         declined-answered = y .told;
-        acknowledged-decided = λ (j : ℕ) (p : d .both .here .done j ≡ true). subst (λ (n : Notes). isDecided (n .decision j) ≡ true) (sym (g .near .notes-kept)) (b .acked j p);
-        one-fate = λ (j : ℕ). subst (λ (n : Notes). fates j (n .notices) + count j (n .opened) ≡ one (isDecided (n .decision j))) (sym (g .near .notes-kept)) (b .ledger j);
+        acknowledged-decided = λ (j : ℕ) (p : d .both .here .done j ≡ true). subst
+            (λ (n : Notes). isDecided (n .decision j) ≡ true) (sym (g .near .notes-kept)) (b .acked j p);
+        one-fate = λ (j : ℕ). subst
+            (λ (n : Notes). fates j (n .notices) + count j (n .opened) ≡ one (isDecided (n .decision j)))
+            (sym (g .near .notes-kept)) (b .ledger j);
         both-idle = i;
       }
     where
       most : (j : ℕ) → often (d .both .there .seen) j (d .both .here .log) ≤ 1
-      most j = often-most (d .both .there .seen) j (d .both .here .log) (omega (arith, g .near .tally .book .logged j, one-most (isTaken (d .both .here .notes .decision j)))) (g .far .most)
+      most j = often-most (d .both .there .seen) j (d .both .here .log)
+          (omega (arith, g .near .tally .book .logged j, one-most (isTaken (d .both .here .notes .decision j))))
+          (g .far .most)
 
   -- from any two records that rest, of which the one that forwards holds a number not below the other's
   module _ (r q : m .at .R) (hr : c .Rest r) (hq : c .Rest q) (b : m .holds q ≤ m .holds r) where
@@ -264,7 +304,8 @@ module _ (m : NMachine) (c : Centre m) (w : Words m) (k : Truth m c w) (order : 
       turns : List (CentreTurn (m .at .A))
       reached : centreRun m (nFresh m r q) turns ≡ d .both .ends
 
-    run-snoc : (ts : List (CentreTurn (m .at .A))) (e : NSys m) (t : CentreTurn (m .at .A)) → centreRun m e (ts ++ (t ∷ [])) ≡ centreTurned m (t .starting) (centreRun m e ts) (t .step)
+    run-snoc : (ts : List (CentreTurn (m .at .A))) (e : NSys m) (t : CentreTurn (m .at .A))
+        → centreRun m e (ts ++ (t ∷ [])) ≡ centreTurned m (t .starting) (centreRun m e ts) (t .step)
     unfolding centreRun
     run-snoc [] e t = refl
     run-snoc (x ∷ ts) e t = run-snoc ts (centreTurned m (x .starting) e (x .step)) t
@@ -285,11 +326,15 @@ module _ (m : NMachine) (c : Centre m) (w : Words m) (k : Truth m c w) (order : 
     unfolding centreRun
     begins = record { good = begin; turns = []; reached = refl }
 
-    idle-both : (d : Desks m) → State d → d .both .ends .here .line ≡ [] → d .both .ends .there .line ≡ [] → (idle (m .at) (d .both .ends .here .rec) ≡ true) × (idle (m .at) (d .both .ends .there .rec) ≡ true)
-    idle-both d h = subst (λ (e : NSys m). e .here .line ≡ [] → e .there .line ≡ [] → (idle (m .at) (e .here .rec) ≡ true) × (idle (m .at) (e .there .rec) ≡ true)) (h .reached) (centres-idle m c r q hr hq b (h .turns))
+    idle-both : (d : Desks m) → State d → d .both .ends .here .line ≡ [] → d .both .ends .there .line ≡ []
+        → (idle (m .at) (d .both .ends .here .rec) ≡ true) × (idle (m .at) (d .both .ends .there .rec) ≡ true)
+    idle-both d h = subst (λ (e : NSys m). e .here .line ≡ [] → e .there .line ≡ [] →
+        (idle (m .at) (e .here .rec) ≡ true) × (idle (m .at) (e .there .rec) ≡ true)) (h .reached)
+        (centres-idle m c r q hr hq b (h .turns))
 
     -- THE theorem: after any moves of two centres, their hosts, a broker, the carrier and the power
     pub forwards-hold : (vs : List (Move (m .at .A))) → ForwardPromise m (fRun m w right order fresh (fFresh m w right order fresh r q) vs)
     forwards-hold vs =
         let h = run-state vs (fFresh m w right order fresh r q) begins in
-        promised (fRun m w right order fresh (fFresh m w right order fresh r q) vs) (h .good) (idle-both (fRun m w right order fresh (fFresh m w right order fresh r q) vs) h)
+        promised (fRun m w right order fresh (fFresh m w right order fresh r q) vs) (h .good)
+        (idle-both (fRun m w right order fresh (fFresh m w right order fresh r q) vs) h)

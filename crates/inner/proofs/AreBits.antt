@@ -42,11 +42,14 @@ index-bits last i = bits-append (bitsN 1 0) (wholeBits 0 last i) (bits-bitsN 1 0
 
 level-type-bits : (x : LevelType) → Bits (levelTypeBits x)
 unfolding levelTypeBits
-level-type-bits x = bits-append (wholeBits 0 3 (x .unit)) _ (whole-bits 0 3 (x .unit)) (whole-bits (lowest (x .unit)) (highest (x .unit)) (x .number))
+level-type-bits x = bits-append (wholeBits 0 3 (x .unit)) _ (whole-bits 0 3 (x .unit))
+    (whole-bits (lowest (x .unit)) (highest (x .unit)) (x .number))
 
 level-bits : (x : Level) → Bits (levelBits x)
 unfolding levelBits
-level-bits x = bits-append (wholeBits 0 1 (flag (x .block)) ++ levelTypeBits (x .first)) _ (bits-append (wholeBits 0 1 (flag (x .block))) _ (whole-bits 0 1 (flag (x .block))) (level-type-bits (x .first))) (second (x .block))
+level-bits x = bits-append (wholeBits 0 1 (flag (x .block)) ++ levelTypeBits (x .first)) _
+    (bits-append (wholeBits 0 1 (flag (x .block))) _ (whole-bits 0 1 (flag (x .block))) (level-type-bits (x .first)))
+    (second (x .block))
   where
     second : (b : Bool) → Bits (cond b (levelTypeBits (x .second)) [])
     second true = level-type-bits (x .second)
@@ -68,7 +71,8 @@ characters-bits (c ∷ cs) = bits-append (bitsN 7 c) (charactersBits cs) (bits-b
 
 sized-bits : (least most : ℕ) (t : List ℕ) → Bits (sizedBits least most t)
 unfolding sizedBits
-sized-bits least most t = bits-append (wholeBits least most (length t)) (charactersBits t) (whole-bits least most (length t)) (characters-bits t)
+sized-bits least most t = bits-append (wholeBits least most (length t)) (charactersBits t)
+    (whole-bits least most (length t)) (characters-bits t)
 
 facility-bits : (t : List ℕ) → Bits (facilityBits t)
 unfolding facilityBits
@@ -94,8 +98,10 @@ row-bits : (d : Direction) (es : List Element) (t : List ℕ) → Bits (rowBits 
 unfolding rowBits elementBits
 row-bits d [] t = none
 row-bits d (e ∷ es) t =
-    bits-append (indexBits (lastOf d) (e .number) ++ argumentBits (kindOf d (e .number)) e (take (e .characters) t)) (rowBits d es (drop (e .characters) t))
-    (bits-append (indexBits (lastOf d) (e .number)) _ (index-bits (lastOf d) (e .number)) (argument-bits (kindOf d (e .number)) e (take (e .characters) t)))
+    bits-append (indexBits (lastOf d) (e .number) ++ argumentBits (kindOf d (e .number)) e (take (e .characters) t))
+    (rowBits d es (drop (e .characters) t))
+    (bits-append (indexBits (lastOf d) (e .number)) _ (index-bits (lastOf d) (e .number))
+    (argument-bits (kindOf d (e .number)) e (take (e .characters) t)))
     (row-bits d es (drop (e .characters) t))
 
 pub date-time-are-bits : (x : DateTime) → Bits (dateTimeBits x)
@@ -126,14 +132,18 @@ header-are-bits x =
     let i : List ℕ = wholeBits 0 63 (x .identification) in
     let r : List ℕ = referenceBits (x .referenced) (x .reference) in
     bits-append (p ++ i ++ r ++ dateTimeBits (x .dated)) _
-    (bits-append (p ++ i ++ r) _ (bits-append (p ++ i) r (bits-append p i (whole-bits 0 3 (presence (x .referenced) (x .acknowledged))) (whole-bits 0 63 (x .identification))) (reference-bits (x .referenced) (x .reference))) (date-time-are-bits (x .dated)))
+    (bits-append (p ++ i ++ r) _ (bits-append (p ++ i) r (bits-append p i
+    (whole-bits 0 3 (presence (x .referenced) (x .acknowledged))) (whole-bits 0 63 (x .identification)))
+    (reference-bits (x .referenced) (x .reference))) (date-time-are-bits (x .dated)))
     (acknowledgement-bits (x .acknowledged))
 
 pub message-are-bits : (d : Direction) (m : Message) (t : List ℕ) → Bits (messageBits d m t)
 unfolding messageBits
 message-are-bits d m t =
     bits-append (headerBits (m .header) ++ wholeBits 0 1 0 ++ wholeBits 1 5 (m .count)) _
-    (bits-append (headerBits (m .header) ++ wholeBits 0 1 0) _ (bits-append (headerBits (m .header)) _ (header-are-bits (m .header)) (whole-bits 0 1 0)) (whole-bits 1 5 (m .count)))
+    (bits-append (headerBits (m .header) ++ wholeBits 0 1 0) _
+    (bits-append (headerBits (m .header)) _ (header-are-bits (m .header)) (whole-bits 0 1 0))
+    (whole-bits 1 5 (m .count)))
     (row-bits d (take (m .count) (m .places)) t)
 
 pub padded-are-bits : (l : List ℕ) → Bits l → Bits (padded l)

@@ -34,13 +34,16 @@ pub exactly-is : (d : Direction) (l : List ℕ) (next : ℕ) → exactly d l .st
 unfolding exactly
 exactly-is d l next h = go (messageAt d l 0 .step) refl h
   where
-    ended : (k : ℕ) → messageAt d l 0 .step ≡ step.Next k → (b : Bool) → leb (k + 1) (length l) ≡ b → cond b (noMessage (refusal k fault.Tail)) (isMessage (messageAt d l 0 .message) k) .step ≡ step.Next next → ReadIs d l (cond b (noMessage (refusal k fault.Tail)) (isMessage (messageAt d l 0 .message) k) .message) next
+    ended : (k : ℕ) → messageAt d l 0 .step ≡ step.Next k → (b : Bool) → leb (k + 1) (length l) ≡ b
+        → cond b (noMessage (refusal k fault.Tail)) (isMessage (messageAt d l 0 .message) k) .step ≡ step.Next next
+        → ReadIs d l (cond b (noMessage (refusal k fault.Tail)) (isMessage (messageAt d l 0 .message) k) .message) next
     ended k p true q e = never (cc)
     ended k p false q e =
         let j : k ≡ next = cc in
         record { there = rw (← j, ← p); ends = let o = leb-false (k + 1) (length l) q in omega arith }
 
-    go : (s : Step) → messageAt d l 0 .step ≡ s → endedAt l (messageAt d l 0 .message) s .step ≡ step.Next next → ReadIs d l (endedAt l (messageAt d l 0 .message) s .message) next
+    go : (s : Step) → messageAt d l 0 .step ≡ s → endedAt l (messageAt d l 0 .message) s .step ≡ step.Next next
+        → ReadIs d l (endedAt l (messageAt d l 0 .message) s .message) next
     go (step.Next k) p e = ended k p (leb (k + 1) (length l)) refl e
     go (step.Refused r) p e = never (cc)
 
@@ -69,7 +72,8 @@ message-few d m t h =
     omega arith
 
 -- of a message that was read
-pub exactly-few : (d : Direction) (l : List ℕ) (next : ℕ) → Bits l → exactly d l .step ≡ step.Next next → length (messageText d l 0 (exactly d l .message)) ≤ charactersMost
+pub exactly-few : (d : Direction) (l : List ℕ) (next : ℕ) → Bits l → exactly d l .step ≡ step.Next next
+    → length (messageText d l 0 (exactly d l .message)) ≤ charactersMost
 exactly-few d l next b h =
     let m : Message = exactly d l .message in
     message-few d m (messageText d l 0 m) (message-stands d l 0 next m b (exactly-is d l next h .there) .fits)

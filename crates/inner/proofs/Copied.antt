@@ -44,7 +44,8 @@ module _ (l : List ℕ) (at n : ℕ) (r : Read) (e : r ≡ readBits l at n) wher
 
   pub not-short : at + n ≤ length l → n ≤ 64 → r ≡ Short → {A : Type 0} → A
   unfolding readBits
-  not-short h w q = let z : Number (numOf (take n (drop at l))) (at + n) ≡ Short = rw (le-leb n 64 w, le-leb (at + n) (length l) h) at (sym e ∙ q) in never (cc)
+  not-short h w q = let z : Number (numOf (take n (drop at l))) (at + n) ≡ Short = rw
+      (le-leb n 64 w, le-leb (at + n) (length l) h) at (sym e ∙ q) in never (cc)
 
 -- ---- characters one after another
 
@@ -56,7 +57,8 @@ characters-none : (l : List ℕ) (at : ℕ) → charactersIn l at 0 ≡ []
 unfolding charactersIn
 characters-none l at = refl
 
-pub characters-start : (z l : List ℕ) (from at n : ℕ) → sets z (from + 0) (charactersIn l (at + 7 * 0) (n - 0)) ≡ sets z from (charactersIn l at n)
+pub characters-start : (z l : List ℕ) (from at n : ℕ)
+    → sets z (from + 0) (charactersIn l (at + 7 * 0) (n - 0)) ≡ sets z from (charactersIn l at n)
 characters-start z l from at n =
     let a : from + 0 ≡ from = omega arith in
     let b : at + 7 * 0 ≡ at = omega arith in
@@ -64,7 +66,8 @@ characters-start z l from at n =
     rw (a, b, c)
 
 module _ (z l o : List ℕ) (from at n i : ℕ) (inv : sets z (from + i) (charactersIn l (at + 7 * i) (n - i)) ≡ o) where
-  pub characters-turn : i < n → (v : ℕ) → v ≡ numOf (take 7 (drop (at + 7 * i) l)) → sets (set z (from + i) v) (from + (i + 1)) (charactersIn l (at + 7 * (i + 1)) (n - (i + 1))) ≡ o
+  pub characters-turn : i < n → (v : ℕ) → v ≡ numOf (take 7 (drop (at + 7 * i) l))
+      → sets (set z (from + i) v) (from + (i + 1)) (charactersIn l (at + 7 * (i + 1)) (n - (i + 1))) ≡ o
   characters-turn h v e =
       let a : n - i ≡ suc (n - (i + 1)) = omega arith in
       let b : from + (i + 1) ≡ suc (from + i) = omega arith in
@@ -88,7 +91,9 @@ sets-append : (xs ys z : List ℕ) (k : ℕ) → sets z k (xs ++ ys) ≡ sets (s
 sets-append [] ys z k = rw (add-zero k)
 sets-append (x ∷ xs) ys z k = let a : k + suc (length xs) ≡ suc k + length xs = omega arith in rw a (sets-append xs ys (set z k x) (suc k))
 
-pub eight-turn : (z z′ l o : List ℕ) (from at n i : ℕ) → 8 ≤ n - i → sets z (from + i) (charactersIn l (at + 7 * i) (n - i)) ≡ o → z′ ≡ sets z (from + i) (charactersIn l (at + 7 * i) 8)
+pub eight-turn : (z z′ l o : List ℕ) (from at n i : ℕ) → 8 ≤ n - i
+    → sets z (from + i) (charactersIn l (at + 7 * i) (n - i)) ≡ o
+    → z′ ≡ sets z (from + i) (charactersIn l (at + 7 * i) 8)
     → sets z′ (from + (i + 8)) (charactersIn l (at + 7 * (i + 8)) (n - (i + 8))) ≡ o
 eight-turn z z′ l o from at n i h inv e =
     let a : n - i ≡ 8 + (n - (i + 8)) = omega arith in
@@ -101,16 +106,21 @@ pub spread-at : (n v i : ℕ) → i < n → v / 2 ^ (7 * (n - 1 - i)) % 128 ≡ 
 spread-at n v i h =
     let e : 7 * n ≡ 7 * i + (7 + 7 * (n - 1 - i)) = omega arith in
     let f : 0 + 7 * i ≡ 7 * i = omega arith in
-    sym (ap (λ (j : ℕ). numOf (take 7 (drop (0 + 7 * i) (bitsN j v)))) e ∙ rw (f, bitsN-part (7 * i) 7 (7 * (n - 1 - i)) v) (num-bitsN 7 (v / 2 ^ (7 * (n - 1 - i)))))
+    sym (ap (λ (j : ℕ). numOf (take 7 (drop (0 + 7 * i) (bitsN j v)))) e ∙ rw
+    (f, bitsN-part (7 * i) 7 (7 * (n - 1 - i)) v) (num-bitsN 7 (v / 2 ^ (7 * (n - 1 - i)))))
 
 -- and those of the bits that say the number
-pub few-are : (z l t : List ℕ) (from at n k v : ℕ) → Bits l → k ≡ 7 * n → at + 7 * n ≤ length l → v ≡ numOf (take k (drop at l)) → z ≡ sets t from (charactersIn (bitsN (7 * n) v) 0 n) → z ≡ sets t from (charactersIn l at n)
+pub few-are : (z l t : List ℕ) (from at n k v : ℕ) → Bits l → k ≡ 7 * n → at + 7 * n ≤ length l
+    → v ≡ numOf (take k (drop at l)) → z ≡ sets t from (charactersIn (bitsN (7 * n) v) 0 n)
+    → z ≡ sets t from (charactersIn l at n)
 few-are z l t from at n k v b m h e q =
     let c : length (charactersIn l at n) ≡ n = length-characters l at n in
     let w : length (charactersBits (charactersIn l at n)) ≡ 7 * n = length-charactersBits (charactersIn l at n) ∙ ap (λ (j : ℕ). 7 * j) c in
     let p : take (7 * n) (drop at l) ≡ bitsN (7 * n) v = part-bits l at (7 * n) b h ∙ ap (bitsN (7 * n)) (sym (rw m at e)) in
     let y : bitsN (7 * n) v ≡ charactersBits (charactersIn l at n) = sym p ∙ (rw w at (characters-stand l at n b h)) in
-    let g : charactersIn (charactersBits (charactersIn l at n)) 0 (length (charactersIn l at n)) ≡ charactersIn l at n = characters-found (charactersBits (charactersIn l at n)) 0 (charactersIn l at n) (characters-fit l at n b h) (take-length (charactersBits (charactersIn l at n))) in
+    let g : charactersIn (charactersBits (charactersIn l at n)) 0 (length (charactersIn l at n)) ≡ charactersIn l at n =
+    characters-found (charactersBits (charactersIn l at n)) 0 (charactersIn l at n) (characters-fit l at n b h)
+    (take-length (charactersBits (charactersIn l at n))) in
     let o : charactersIn (bitsN (7 * n) v) 0 n ≡ charactersIn l at n = rw y (rw c at g) in
     q ∙ ap (sets t from) o
 
@@ -120,10 +130,26 @@ argument-holds : (k : ArgumentKind) (e : Element) (t : List ℕ) → argumentFit
 unfolding argumentFits argumentBits levelsUnused
 argument-holds kind.NotCarried e t p = never (cc)
 argument-holds kind.None e t p = omega (arith, eqb-true (length t) 0 (both-right (plain e) (noText t) p))
-argument-holds kind.Level e t p = omega (arith, eqb-true (length t) 0 (parts (levelFits (e .level)) (levelUnused (e .other)) (timeUnused (e .time)) (codeUnused (e .code)) (noText t) p .fifth))
-argument-holds kind.TwoLevels e t p = omega (arith, eqb-true (length t) 0 (parts (levelFits (e .level)) (levelFits (e .other)) (timeUnused (e .time)) (codeUnused (e .code)) (noText t) p .fifth))
-argument-holds kind.Time e t p = omega (arith, eqb-true (length t) 0 (parts (levelUnused (e .level)) (levelUnused (e .other)) (timeFits (e .time)) (codeUnused (e .code)) (noText t) p .fifth))
-argument-holds kind.Code e t p = omega (arith, eqb-true (length t) 0 (parts (levelUnused (e .level)) (levelUnused (e .other)) (timeUnused (e .time)) (codeFits (e .code)) (noText t) p .fifth))
+argument-holds kind.Level e t p = omega (
+  arith,
+  eqb-true (length t) 0 (parts (levelFits (e .level))
+      (levelUnused (e .other)) (timeUnused (e .time)) (codeUnused (e .code)) (noText t) p .fifth),
+)
+argument-holds kind.TwoLevels e t p = omega (
+  arith,
+  eqb-true (length t) 0 (parts (levelFits (e .level))
+      (levelFits (e .other)) (timeUnused (e .time)) (codeUnused (e .code)) (noText t) p .fifth),
+)
+argument-holds kind.Time e t p = omega (
+  arith,
+  eqb-true (length t) 0 (parts (levelUnused (e .level))
+      (levelUnused (e .other)) (timeFits (e .time)) (codeUnused (e .code)) (noText t) p .fifth),
+)
+argument-holds kind.Code e t p = omega (
+  arith,
+  eqb-true (length t) 0 (parts (levelUnused (e .level))
+      (levelUnused (e .other)) (timeUnused (e .time)) (codeFits (e .code)) (noText t) p .fifth),
+)
 argument-holds kind.FreeText e t p = omega (arith, length-sized 1 256 t)
 argument-holds kind.Facility e t p = facility t
   where
@@ -135,13 +161,15 @@ argument-holds kind.AtisCode e t p = omega (arith, length-charactersBits t)
 
 its-argument : (d : Direction) (e : Element) (t : List ℕ) → elementFits d e t ≡ true → argumentFits (kindOf d (e .number)) e t ≡ true
 unfolding elementFits
-its-argument d e t p = both-right (wholeFits 0 (lastOf d) (e .number) && eqb (e .characters) (length t)) (argumentFits (kindOf d (e .number)) e t) p
+its-argument d e t p = both-right (wholeFits 0 (lastOf d) (e .number) && eqb (e .characters) (length t))
+    (argumentFits (kindOf d (e .number)) e t) p
 
 pub record Inside (l : List ℕ) (at next n : ℕ) : Type 0 where
   pub after : at + 7 * n ≤ next
   pub within : next ≤ length l
 
-pub element-inside : (d : Direction) (l : List ℕ) (at next : ℕ) (r : ElementRead) → Bits l → r ≡ elementAt d l at → r .step ≡ step.Next next → Inside l at next (r .element .characters)
+pub element-inside : (d : Direction) (l : List ℕ) (at next : ℕ) (r : ElementRead) → Bits l → r ≡ elementAt d l at
+    → r .step ≡ step.Next next → Inside l at next (r .element .characters)
 element-inside d l at next r b h q =
     let e : Element = r .element in
     let t : List ℕ = textOf l e next in
@@ -156,7 +184,8 @@ element-inside d l at next r b h q =
 
 -- ---- the characters of elements: those of the first i are copied, up to place k of the text
 
-pub text-suc : (d : Direction) (l : List ℕ) (at n : ℕ) → textAt d l at (suc n) ≡ ontoText (elementAt d l at .step) (λ (next : ℕ). textOf l (elementAt d l at .element) next ++ textAt d l next n)
+pub text-suc : (d : Direction) (l : List ℕ) (at n : ℕ)
+    → textAt d l at (suc n) ≡ ontoText (elementAt d l at .step) (λ (next : ℕ). textOf l (elementAt d l at .element) next ++ textAt d l next n)
 unfolding textAt
 text-suc d l at n = refl
 
@@ -188,7 +217,8 @@ module _ (d : Direction) (l : List ℕ) (at n : ℕ) (z₀ : List ℕ) (i p k : 
       counted = length-characters l (next - 7 * r .element .characters) (r .element .characters)
 
       -- they are there, and a text that takes all characters has room for them
-      pub copied-room : Bits l → length (textAt d l at n) ≤ length z₀ → (next - 7 * r .element .characters + 7 * r .element .characters ≤ length l) × (k + r .element .characters ≤ length z)
+      pub copied-room : Bits l → length (textAt d l at n) ≤ length z₀
+          → (next - 7 * r .element .characters + 7 * r .element .characters ≤ length l) × (k + r .element .characters ≤ length z)
       copied-room b h =
           let o = element-inside d l p next r b e q in
           let a = o .after in
@@ -200,14 +230,17 @@ module _ (d : Direction) (l : List ℕ) (at n : ℕ) (z₀ : List ℕ) (i p k : 
           let g = inv .size in
           (omega arith, omega arith)
 
-    pub copied-turn : (next : ℕ) → r .step ≡ step.Next next → (y : List ℕ) → y ≡ sets z k (charactersIn l (next - 7 * r .element .characters) (r .element .characters)) → Copied d l at n z₀ (i + 1) next (k + r .element .characters) y
+    pub copied-turn : (next : ℕ) → r .step ≡ step.Next next → (y : List ℕ)
+        → y ≡ sets z k (charactersIn l (next - 7 * r .element .characters) (r .element .characters))
+        → Copied d l at n z₀ (i + 1) next (k + r .element .characters) y
     copied-turn next q y w =
         let c : ℕ = r .element .characters in
         let t : List ℕ = textOf l (r .element) next in
         let u : textAt d l p (n - i) ≡ t ++ textAt d l next (n - (i + 1)) = left next q in
         let m : length t ≡ c = counted next q in
         let v = length-append t (textAt d l next (n - (i + 1))) in
-        let x : sets (sets z k t) (k + length t) (textAt d l next (n - (i + 1))) ≡ sets z₀ 0 (textAt d l at n) = sym (sets-append t (textAt d l next (n - (i + 1))) z k) ∙ rw u at (inv .text) in
+        let x : sets (sets z k t) (k + length t) (textAt d l next (n - (i + 1))) ≡ sets z₀ 0 (textAt d l at n) = sym
+        (sets-append t (textAt d l next (n - (i + 1))) z k) ∙ rw u at (inv .text) in
         record {
           text = rw w (rw m at x);
           count = let f = inv .count in let g = ap length u in omega arith;

@@ -65,11 +65,13 @@ few-fit (suc (suc (suc zero))) h = refl
 few-fit (suc (suc (suc (suc zero)))) h = refl
 few-fit (suc (suc (suc (suc (suc v))))) h = absurd (omega arith)
 
-pub count-is : (s : List ℕ) (e at v next : ℕ) (r : Read) → r ≡ readBits (bitsTo s e) at 4 → r ≡ Number v next → v < 5 → field.Value (v + 1) next ≡ counted (bitsTo s e) at
+pub count-is : (s : List ℕ) (e at v next : ℕ) (r : Read) → r ≡ readBits (bitsTo s e) at 4 → r ≡ Number v next → v < 5
+    → field.Value (v + 1) next ≡ counted (bitsTo s e) at
 count-is s e at v next r p q h =
     let l : List ℕ = bitsTo s e in
     let k = number-is l at 4 v next (sym p ∙ q) in
-    let w : Holds l at (wholeBits 0 1 0 ++ wholeBits 1 5 (v + 1)) = rw (four-bits v h) at (number-stands l at 4 v next (bits-to s e) (sym p ∙ q)) in
+    let w : Holds l at (wholeBits 0 1 0 ++ wholeBits 1 5 (v + 1)) = rw (four-bits v h) at
+    (number-stands l at 4 v next (bits-to s e) (sym p ∙ q)) in
     let z = holds-split l at (wholeBits 0 1 0) (wholeBits 1 5 (v + 1)) w in
     let a : wholeNumber l at 0 1 ≡ field.Value 0 (at + 1) = whole-reads l at 0 1 0 (at + 1) (ranged 0 1 tt tt) (record { fits = refl; holds = z .0; place = ap (λ (n : ℕ). at + n) (sym one-bit) }) in
     let g : Holds l (at + 1) (wholeBits 1 5 (v + 1)) = rw one-bit at (z .1) in
@@ -78,16 +80,19 @@ count-is s e at v next r p q h =
 
 -- ---- what follows the header
 
-by-count : (d : Direction) (l : List ℕ) (h : Header) (at : ℕ) (f : Field) → wholeNumber l at 0 1 ≡ f → bodyAt d l h at ≡ onto noMessage (counted l at) (λ (n q : ℕ). messageOf h n (laid (rowAt d l q n)))
+by-count : (d : Direction) (l : List ℕ) (h : Header) (at : ℕ) (f : Field) → wholeNumber l at 0 1 ≡ f
+    → bodyAt d l h at ≡ onto noMessage (counted l at) (λ (n q : ℕ). messageOf h n (laid (rowAt d l q n)))
 unfolding bodyAt
 by-count d l h at (field.Value c p) e = rw e (go (eqb c 0))
   where
-    go : (t : Bool) → cond t (onto noMessage (wholeNumber l p 1 5) (λ (n q : ℕ). messageOf h n (laid (rowAt d l q n)))) (noMessage (refusalOf (refusedAt at fault.NotCarried))) ≡ onto noMessage (cond t (wholeNumber l p 1 5) (refusedAt at fault.NotCarried)) (λ (n q : ℕ). messageOf h n (laid (rowAt d l q n)))
+    go : (t : Bool)
+        → cond t (onto noMessage (wholeNumber l p 1 5) (λ (n q : ℕ). messageOf h n (laid (rowAt d l q n)))) (noMessage (refusalOf (refusedAt at fault.NotCarried))) ≡ onto noMessage (cond t (wholeNumber l p 1 5) (refusedAt at fault.NotCarried)) (λ (n q : ℕ). messageOf h n (laid (rowAt d l q n)))
     go true = refl
     go false = refl
 by-count d l h at (field.Refused r) e = rw e
 
-pub body-by-count : (d : Direction) (l : List ℕ) (h : Header) (at : ℕ) → bodyAt d l h at ≡ onto noMessage (counted l at) (λ (n q : ℕ). messageOf h n (laid (rowAt d l q n)))
+pub body-by-count : (d : Direction) (l : List ℕ) (h : Header) (at : ℕ)
+    → bodyAt d l h at ≡ onto noMessage (counted l at) (λ (n q : ℕ). messageOf h n (laid (rowAt d l q n)))
 body-by-count d l h at = by-count d l h at (wholeNumber l at 0 1) refl
 
 pub count-most : (l : List ℕ) (at n q : ℕ) (f : Field) → f ≡ counted l at → f ≡ field.Value n q → n ≤ 5
@@ -97,6 +102,8 @@ count-most l at n q f e h = go (wholeNumber l at 0 1) refl (sym h ∙ e)
     known p true z = whole-most l p 1 5 n q (field.Value n q) z refl
     known p false z = never (cc)
 
-    go : (g : Field) → wholeNumber l at 0 1 ≡ g → field.Value n q ≡ then g (λ (c p : ℕ). cond (eqb c 0) (wholeNumber l p 1 5) (refusedAt at fault.NotCarried)) → n ≤ 5
+    go : (g : Field) → wholeNumber l at 0 1 ≡ g
+        → field.Value n q ≡ then g (λ (c p : ℕ). cond (eqb c 0) (wholeNumber l p 1 5) (refusedAt at fault.NotCarried))
+        → n ≤ 5
     go (field.Value c p) w z = known p (eqb c 0) z
     go (field.Refused r) w z = never (cc)

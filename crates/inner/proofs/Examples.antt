@@ -56,8 +56,11 @@ examples =
 
 abbrev pub holds : List Row → Bool
 holds [] = true
-holds (r ∷ rs) = eqb (length (r .bits)) (r .count) && same (r .bits ++ replicate (8 * length (r .bytes) - r .count) 0) (bitsOf (r .bytes)) && holds rs
+holds (r ∷ rs) = eqb (length (r .bits)) (r .count) && same (r .bits ++ replicate (8 * length (r .bytes) - r .count) 0)
+    (bitsOf (r .bytes)) && holds rs
 
 pub all-hold : holds examples ≡ true
-unfolding digitsBits levelBits levelTypeBits lowest highest timeBits messageBits headerBits dateTimeBits referenceBits acknowledgementBits rowBits elementBits argumentBits lastOf kindOf rowsOf uplink kinds indexBits wholeBits digitsIn bitsN bitsOf accOf
+unfolding digitsBits levelBits levelTypeBits lowest highest timeBits messageBits headerBits dateTimeBits referenceBits
+    acknowledgementBits rowBits elementBits argumentBits lastOf kindOf rowsOf uplink kinds indexBits wholeBits digitsIn
+    bitsN bitsOf accOf
 all-hold = refl

@@ -26,7 +26,8 @@ after-nil : (z : Row) → after [] z ≡ z
 after-nil (these zs n) = refl
 after-nil (refused e) = refl
 
-pub row-suc : (d : Direction) (l : List ℕ) (at k : ℕ) → rowAt d l at (suc k) ≡ ontoRow (elementAt d l at .step) (λ (next : ℕ). after (elementAt d l at .element ∷ []) (rowAt d l next k))
+pub row-suc : (d : Direction) (l : List ℕ) (at k : ℕ)
+    → rowAt d l at (suc k) ≡ ontoRow (elementAt d l at .step) (λ (next : ℕ). after (elementAt d l at .element ∷ []) (rowAt d l next k))
 unfolding rowAt
 row-suc d l at k = refl
 
@@ -46,13 +47,16 @@ filled-start d l at n = record { five = refl; read = start; rest = refl }
     start : after [] (rowAt d l at (n - 0)) ≡ rowAt d l at n
     start = let e : n - 0 ≡ n = omega arith in rw e (after-nil (rowAt d l at n))
 
-pub filled-turn : (d : Direction) (l : List ℕ) (at n i p q : ℕ) (m : List Element) (r : ElementRead) → i < n → n ≤ 5 → r ≡ elementAt d l p → r .step ≡ step.Next q → Filled d l at n i p m → Filled d l at n (i + 1) q (set m i (r .element))
+pub filled-turn : (d : Direction) (l : List ℕ) (at n i p q : ℕ) (m : List Element) (r : ElementRead) → i < n → n ≤ 5
+    → r ≡ elementAt d l p → r .step ≡ step.Next q → Filled d l at n i p m
+    → Filled d l at n (i + 1) q (set m i (r .element))
 filled-turn d l at n i p q m r h g e f inv =
     let five = inv .five in
     let x : Element = r .element in
     let k : n - i ≡ suc (n - suc i) = omega arith in
     let j : 5 - i ≡ suc (5 - suc i) = omega arith in
-    let z : after (take i m) (after (r .element ∷ []) (rowAt d l q (n - suc i))) ≡ rowAt d l at n = rw (k, row-suc, ← e, f) at (inv .read) in
+    let z : after (take i m) (after (r .element ∷ []) (rowAt d l q (n - suc i))) ≡ rowAt d l at n = rw
+    (k, row-suc, ← e, f) at (inv .read) in
     let t : drop 1 (drop i m) ≡ replicate (5 - suc i) (bare 0) = rw (inv .rest, j) in
     record {
       five = length-set m i (r .element) ∙ five;
@@ -61,7 +65,9 @@ filled-turn d l at n i p q m r h g e f inv =
     }
 
 -- the two ends of the loop, as the code has them
-pub filled-bad : (d : Direction) (l : List ℕ) (at n i p : ℕ) (m : List Element) (r : ElementRead) (e x : Refusal) (o : PlacesRead) → i < n → r ≡ elementAt d l p → r .step ≡ step.Refused e → x ≡ stepRefusal (r .step) → o ≡ noPlaces x → Filled d l at n i p m → o ≡ laid (rowAt d l at n)
+pub filled-bad : (d : Direction) (l : List ℕ) (at n i p : ℕ) (m : List Element) (r : ElementRead) (e x : Refusal) (o : PlacesRead)
+    → i < n → r ≡ elementAt d l p → r .step ≡ step.Refused e → x ≡ stepRefusal (r .step) → o ≡ noPlaces x
+    → Filled d l at n i p m → o ≡ laid (rowAt d l at n)
 filled-bad d l at n i p m r e x o h g f a b inv =
     let k : n - i ≡ suc (n - (i + 1)) = omega arith in
     let z : rowAt d l at n ≡ refused e = sym (inv .read) ∙ rw (k, row-suc, ← g, f) in

@@ -32,7 +32,8 @@ use Rattle.inner.proofs.HeaderWritten.{header-bits, header-fit, date-le
 use Rattle.inner.proofs.RowPieces.{sized, sized-yes}
 
 -- a whole number behind others, by how many numbers its bits hold
-behind : (xs : List ℕ) (lo hi v k p : ℕ) → hi < 2 ^ 64 → widthOf (hi - lo) ≡ k → 2 ^ k ≡ p → wholeFits lo hi v ≡ true → numOf (xs ++ wholeBits lo hi v) ≡ numOf xs * p + (v - lo)
+behind : (xs : List ℕ) (lo hi v k p : ℕ) → hi < 2 ^ 64 → widthOf (hi - lo) ≡ k → 2 ^ k ≡ p → wholeFits lo hi v ≡ true
+    → numOf (xs ++ wholeBits lo hi v) ≡ numOf xs * p + (v - lo)
 behind xs lo hi v k p s w q f = rw (← q, ← w) (whole-behind xs lo hi v s f)
 
 -- ---- date and time
@@ -69,9 +70,15 @@ dated x h =
 
 module _ (x : DateTime) (h : dateTimeFits x ≡ true) where
   pub date-above : (1996 ≤ x .year) × (1 ≤ x .month) × (1 ≤ x .day)
-  date-above = let d = dated x h in (whole-above 1996 2095 (x .year) (d .year), whole-above 1 12 (x .month) (d .month), whole-above 1 31 (x .day) (d .day))
+  date-above = let d = dated x h in (
+    whole-above 1996 2095 (x .year) (d .year),
+    whole-above 1 12 (x .month) (d .month),
+    whole-above 1 31 (x .day) (d .day),
+  )
 
-  pub date-said : (((((x .year - 1996) * 16 + (x .month - 1)) * 32 + (x .day - 1)) * 32 + x .time .hours) * 64 + x .time .minutes) * 64 + x .seconds ≡ numOf (dateTimeBits x)
+  pub date-said :
+      (((((x .year - 1996) * 16 + (x .month - 1)) * 32 + (x .day - 1)) * 32 + x .time .hours) * 64 + x .time .minutes) *
+      64 + x .seconds ≡ numOf (dateTimeBits x)
   unfolding dateTimeBits timeBits digitsIn
   date-said =
       let d = dated x h in
@@ -84,9 +91,14 @@ module _ (x : DateTime) (h : dateTimeFits x ≡ true) where
       let em : numOf m ≡ numOf y * 16 + (x .month - 1) = behind y 1 12 (x .month) 4 16 (omega arith) refl refl (d .month) in
       let ea : numOf a ≡ numOf m * 32 + (x .day - 1) = behind m 1 31 (x .day) 5 32 (omega arith) refl refl (d .day) in
       let eo : numOf o ≡ numOf a * 32 + (x .time .hours - 0) = behind a 0 23 (x .time .hours) 5 32 (omega arith) refl refl (d .hours) in
-      let ei : numOf i ≡ numOf o * 64 + (x .time .minutes - 0) = behind o 0 59 (x .time .minutes) 6 64 (omega arith) refl refl (d .minutes) in
-      let es : numOf (i ++ wholeBits 0 59 (x .seconds)) ≡ numOf i * 64 + (x .seconds - 0) = behind i 0 59 (x .seconds) 6 64 (omega arith) refl refl (d .seconds) in
-      let j : numOf (a ++ (wholeBits 0 23 (x .time .hours) ++ wholeBits 0 59 (x .time .minutes)) ++ wholeBits 0 59 (x .seconds)) ≡ numOf (i ++ wholeBits 0 59 (x .seconds)) = ap (λ (l : List ℕ). numOf (l ++ wholeBits 0 59 (x .seconds))) (sym (append-assoc a (wholeBits 0 23 (x .time .hours)) (wholeBits 0 59 (x .time .minutes)))) in
+      let ei : numOf i ≡ numOf o * 64 + (x .time .minutes - 0) = behind o 0 59 (x .time .minutes) 6 64 (omega arith)
+      refl refl (d .minutes) in
+      let es : numOf (i ++ wholeBits 0 59 (x .seconds)) ≡ numOf i * 64 + (x .seconds - 0) = behind i 0 59 (x .seconds) 6
+      64 (omega arith) refl refl (d .seconds) in
+      let j : numOf
+      (a ++ (wholeBits 0 23 (x .time .hours) ++ wholeBits 0 59 (x .time .minutes)) ++ wholeBits 0 59 (x .seconds)) ≡
+      numOf (i ++ wholeBits 0 59 (x .seconds)) = ap (λ (l : List ℕ). numOf (l ++ wholeBits 0 59 (x .seconds)))
+      (sym (append-assoc a (wholeBits 0 23 (x .time .hours)) (wholeBits 0 59 (x .time .minutes)))) in
       sym (j ∙ omega (arith, ey, em, ea, eo, ei, es))
 
 -- it lies in 33 bits
@@ -96,16 +108,21 @@ date-small h = rw (date-length h (h .dated)) at (num-lt (dateTimeBits (h .dated)
 -- ---- the header
 
 abbrev front : Header → List ℕ
-front x = wholeBits 0 3 (presence (x .referenced) (x .acknowledged)) ++ wholeBits 0 63 (x .identification) ++ referenceBits (x .referenced) (x .reference)
+front x = wholeBits 0 3 (presence (x .referenced) (x .acknowledged)) ++ wholeBits 0 63 (x .identification) ++
+    referenceBits (x .referenced) (x .reference)
 
 module _ (x : Header) (h : headerFits x ≡ true) where
   number-fits : wholeFits 0 63 (x .identification) ≡ true
   unfolding headerFits
-  number-fits = both-left (wholeFits 0 63 (x .identification)) (referenceFits (x .referenced) (x .reference)) (both-left (wholeFits 0 63 (x .identification) && referenceFits (x .referenced) (x .reference)) (dateTimeFits (x .dated)) h)
+  number-fits = both-left (wholeFits 0 63 (x .identification)) (referenceFits (x .referenced) (x .reference)) (both-left
+      (wholeFits 0 63 (x .identification) && referenceFits (x .referenced) (x .reference)) (dateTimeFits (x .dated))
+      h)
 
   pub reference-fits : referenceFits (x .referenced) (x .reference) ≡ true
   unfolding headerFits
-  reference-fits = both-right (wholeFits 0 63 (x .identification)) (referenceFits (x .referenced) (x .reference)) (both-left (wholeFits 0 63 (x .identification) && referenceFits (x .referenced) (x .reference)) (dateTimeFits (x .dated)) h)
+  reference-fits = both-right (wholeFits 0 63 (x .identification)) (referenceFits (x .referenced) (x .reference)) (
+      both-left (wholeFits 0 63 (x .identification) && referenceFits (x .referenced) (x .reference))
+      (dateTimeFits (x .dated)) h)
 
   pub dated-fits : dateTimeFits (x .dated) ≡ true
   unfolding headerFits
@@ -115,27 +132,37 @@ module _ (x : Header) (h : headerFits x ≡ true) where
   number-most = whole-below 0 63 (x .identification) number-fits
 
   module _ (f g : ℕ) (hf : f ≡ flag (x .referenced)) (hg : g ≡ flag (x .acknowledged)) where
-    lead : numOf (wholeBits 0 3 (presence (x .referenced) (x .acknowledged)) ++ wholeBits 0 63 (x .identification)) ≡ (2 * f + g) * 64 + x .identification
+    lead : numOf (wholeBits 0 3 (presence (x .referenced) (x .acknowledged)) ++ wholeBits 0 63 (x .identification)) ≡
+        (2 * f + g) * 64 + x .identification
     unfolding digitsIn
     lead =
         let p : List ℕ = wholeBits 0 3 (presence (x .referenced) (x .acknowledged)) in
-        let a : numOf p ≡ presence (x .referenced) (x .acknowledged) - 0 = num-whole 0 3 (presence (x .referenced) (x .acknowledged)) (omega arith) (presence-fits (x .referenced) (x .acknowledged)) in
-        let b : numOf (p ++ wholeBits 0 63 (x .identification)) ≡ numOf p * 64 + (x .identification - 0) = behind p 0 63 (x .identification) 6 64 (omega arith) refl refl number-fits in
+        let a : numOf p ≡ presence (x .referenced) (x .acknowledged) - 0 = num-whole 0 3
+        (presence (x .referenced) (x .acknowledged)) (omega arith) (presence-fits (x .referenced) (x .acknowledged))
+        in
+        let b : numOf (p ++ wholeBits 0 63 (x .identification)) ≡ numOf p * 64 + (x .identification - 0) = behind p 0 63
+        (x .identification) 6 64 (omega arith) refl refl number-fits in
         omega (arith, a, b, hf, hg)
 
     bounds : (f ≤ 1) × (g ≤ 1)
     bounds = (flag-most (x .referenced) f hf, flag-most (x .acknowledged) g hg)
 
-    pub front-with : x .referenced ≡ true → (((2 * f + g) * 64 + x .identification) * 64 + x .reference < 16384) × (((2 * f + g) * 64 + x .identification) * 64 + x .reference ≡ numOf (front x))
+    pub front-with : x .referenced ≡ true
+        → (((2 * f + g) * 64 + x .identification) * 64 + x .reference < 16384) × (((2 * f + g) * 64 + x .identification) * 64 + x .reference ≡ numOf (front x))
     unfolding referenceFits referenceBits digitsIn
     front-with t =
         let e : wholeFits 0 63 (x .reference) ≡ true = rw t at reference-fits in
         let l : List ℕ = wholeBits 0 3 (presence (x .referenced) (x .acknowledged)) ++ wholeBits 0 63 (x .identification) in
-        let b : numOf (l ++ wholeBits 0 63 (x .reference)) ≡ numOf l * 64 + (x .reference - 0) = behind l 0 63 (x .reference) 6 64 (omega arith) refl refl e in
-        let r : referenceBits (x .referenced) (x .reference) ≡ wholeBits 0 63 (x .reference) = rw t in
-        (omega (arith, number-most, bounds, whole-below 0 63 (x .reference) e), omega (arith, lead, b) ∙ ap (λ (k : List ℕ). numOf (l ++ k)) (sym r))
+        let b : numOf (l ++ wholeBits 0 63 (x .reference)) ≡ numOf l * 64 + (x .reference - 0) = behind l 0 63
+        (x .reference) 6 64 (omega arith) refl refl e in
+        let r : referenceBits (x .referenced) (x .reference) ≡ wholeBits 0 63 (x .reference) = rw t in (
+          omega (arith, number-most, bounds, whole-below 0 63 (x .reference) e),
+          omega (arith, lead, b) ∙ ap
+              (λ (k : List ℕ). numOf (l ++ k)) (sym r),
+        )
 
-    pub front-without : x .referenced ≡ false → ((2 * f + g) * 64 + x .identification < 16384) × ((2 * f + g) * 64 + x .identification ≡ numOf (front x))
+    pub front-without : x .referenced ≡ false
+        → ((2 * f + g) * 64 + x .identification < 16384) × ((2 * f + g) * 64 + x .identification ≡ numOf (front x))
     unfolding referenceBits
     front-without t =
         let l : List ℕ = wholeBits 0 3 (presence (x .referenced) (x .acknowledged)) ++ wholeBits 0 63 (x .identification) in
@@ -166,10 +193,16 @@ module _ (x : Header) (h : headerFits x ≡ true) where
 
 -- ---- written as one number
 
-pub header-joined : (x : Header) (s t : List ℕ) (e at n v : ℕ) (a : Put) → left a t ≡ putNumber s e at n v → (headerFits x ≡ true) × (n ≡ length (headerBits x)) → v ≡ numOf (headerBits x) → (b : Bool) → b ≡ leb (at + n) (min e (8 * length s)) → b ≡ true → left a t ≡ putPieces s e at (headerPieces x)
+pub header-joined : (x : Header) (s t : List ℕ) (e at n v : ℕ) (a : Put) → left a t ≡ putNumber s e at n v
+    → (headerFits x ≡ true) × (n ≡ length (headerBits x)) → v ≡ numOf (headerBits x) → (b : Bool)
+    → b ≡ leb (at + n) (min e (8 * length s)) → b ≡ true → left a t ≡ putPieces s e at (headerPieces x)
 header-joined x s t e at n v a h f pv b p q =
     let bs = header-bits x in
-    joined-put (headerPieces x) s t e at n v a (header-fit x (f .0)) (rw bs (header-are-bits x)) (rw bs (f .1)) (rw bs pv) (omega (arith, f .1, length-header x, flag-most (x .referenced) _ refl, flag-most (x .acknowledged) _ refl)) (is-within s e at n b p q) h
+    joined-put (headerPieces x) s t e at n v a (header-fit x (f .0)) (rw bs (header-are-bits x)) (rw bs (f .1))
+    (rw bs pv)
+    (omega (arith, f .1, length-header x, flag-most (x .referenced) _ refl, flag-most (x .acknowledged) _ refl))
+    (is-within s e at n b p q) h
 
-pub header-sized : (x : Header) (o : Size) (n : ℕ) → o ≡ sized (headerFits x) (headerBits x) → o ≡ size.Bits n → (headerFits x ≡ true) × (n ≡ length (headerBits x))
+pub header-sized : (x : Header) (o : Size) (n : ℕ) → o ≡ sized (headerFits x) (headerBits x) → o ≡ size.Bits n
+    → (headerFits x ≡ true) × (n ≡ length (headerBits x))
 header-sized x o n p q = sized-yes (headerFits x) (headerBits x) n (sym q ∙ p)

@@ -45,7 +45,9 @@ module _ (x : DateTime) (s : List ℕ) (e at : ℕ) (t : List ℕ) (a : Put) (k 
     unfolding second
     date-second r = run-full t e p second third _ after-first u b m r
 
-    pub date-third : (n : ℕ) → b ≡ Next n → (z : List ℕ) (c : Put) → left c z ≡ putPieces u e n (whole 0 59 (x .time .minutes) ∷ whole 0 59 (x .seconds) ∷ []) → left c z ≡ putPieces s e at (dateTimePieces x)
+    pub date-third : (n : ℕ) → b ≡ Next n → (z : List ℕ) (c : Put)
+        → left c z ≡ putPieces u e n (whole 0 59 (x .time .minutes) ∷ whole 0 59 (x .seconds) ∷ [])
+        → left c z ≡ putPieces s e at (dateTimePieces x)
     unfolding second third
     date-third n r z c w = w ∙ run-turn t e p second third _ after-first u b m n r
 
@@ -53,7 +55,9 @@ module _ (x : Header) (s : List ℕ) (e at f g : ℕ) (hf : f ≡ flag (x .refer
   rest : List Piece
   rest = referencePieces (x .referenced) (x .reference) ++ (dateTimePieces (x .dated) ++ acknowledgementPieces (x .acknowledged))
 
-  header-is : putPieces s e at ((whole 0 3 (presence (x .referenced) (x .acknowledged)) ∷ whole 0 63 (x .identification) ∷ []) ++ rest) ≡ putPieces s e at (headerPieces x)
+  header-is : putPieces s e at
+      ((whole 0 3 (presence (x .referenced) (x .acknowledged)) ∷ whole 0 63 (x .identification) ∷ []) ++ rest) ≡
+      putPieces s e at (headerPieces x)
   unfolding headerPieces rest
   header-is = refl
 
@@ -61,17 +65,24 @@ module _ (x : Header) (s : List ℕ) (e at f g : ℕ) (hf : f ≡ flag (x .refer
   lead = rw (hf, hg) at k
 
   pub header-first : a ≡ Full → left Full t ≡ putPieces s e at (headerPieces x)
-  header-first q = run-full s e at (whole 0 3 (presence (x .referenced) (x .acknowledged)) ∷ whole 0 63 (x .identification) ∷ []) rest _ header-is t a lead q
+  header-first q = run-full s e at
+      (whole 0 3 (presence (x .referenced) (x .acknowledged)) ∷ whole 0 63 (x .identification) ∷ []) rest _ header-is t
+      a lead q
 
   module _ (p : ℕ) (q : a ≡ Next p) (u : List ℕ) (b : Put) (m : left b u ≡ putPieces t e p (referencePieces (x .referenced) (x .reference))) where
-    after-lead : putPieces t e p (referencePieces (x .referenced) (x .reference) ++ (dateTimePieces (x .dated) ++ acknowledgementPieces (x .acknowledged))) ≡ putPieces s e at (headerPieces x)
+    after-lead : putPieces t e p (referencePieces (x .referenced) (x .reference) ++
+        (dateTimePieces (x .dated) ++ acknowledgementPieces (x .acknowledged))) ≡ putPieces s e at (headerPieces x)
     unfolding rest
-    after-lead = run-turn s e at (whole 0 3 (presence (x .referenced) (x .acknowledged)) ∷ whole 0 63 (x .identification) ∷ []) rest _ header-is t a lead p q
+    after-lead = run-turn s e at
+        (whole 0 3 (presence (x .referenced) (x .acknowledged)) ∷ whole 0 63 (x .identification) ∷ []) rest _ header-is
+        t a lead p q
 
     pub header-second : b ≡ Full → left Full u ≡ putPieces s e at (headerPieces x)
     header-second r = run-full t e p (referencePieces (x .referenced) (x .reference)) _ _ after-lead u b m r
 
-    pub header-third : (n : ℕ) → b ≡ Next n → (z : List ℕ) (c : Put) → left c z ≡ putPieces u e n (dateTimePieces (x .dated) ++ acknowledgementPieces (x .acknowledged)) → left c z ≡ putPieces s e at (headerPieces x)
+    pub header-third : (n : ℕ) → b ≡ Next n → (z : List ℕ) (c : Put)
+        → left c z ≡ putPieces u e n (dateTimePieces (x .dated) ++ acknowledgementPieces (x .acknowledged))
+        → left c z ≡ putPieces s e at (headerPieces x)
     header-third n r z c w = w ∙ run-turn t e p (referencePieces (x .referenced) (x .reference)) _ _ after-lead u b m n r
 
 -- the numbers of the presence bits

@@ -32,16 +32,29 @@ use Rattle.inner.proofs.HeaderWritten.{length-header}
 -- ---- as `header_from` has it
 
 -- each number and the rest are the number before
-numbers-back : (w minute hour day month year r a b c d e f : ℕ) → w ≡ minute * 64 + a → minute ≡ hour * 64 + b → hour ≡ day * 32 + c → day ≡ month * 32 + d → month ≡ year * 16 + e → year ≡ r * 128 + f → w < 549755813888 → (r < 64) × (r * 8589934592 + (((((f * 16 + e) * 32 + d) * 32 + c) * 64 + b) * 64 + a) ≡ w)
+numbers-back : (w minute hour day month year r a b c d e f : ℕ) → w ≡ minute * 64 + a → minute ≡ hour * 64 + b
+    → hour ≡ day * 32 + c → day ≡ month * 32 + d → month ≡ year * 16 + e → year ≡ r * 128 + f → w < 549755813888
+    → (r < 64) × (r * 8589934592 + (((((f * 16 + e) * 32 + d) * 32 + c) * 64 + b) * 64 + a) ≡ w)
 numbers-back w minute hour day month year r a b c d e f p q s t u v h = (omega arith, omega arith)
 
 divided : (n k : ℕ) → n ≡ n / k * k + n % k
 divided n k = sym (div-add-mod' n k)
 
-pub numbers-say : (w : ℕ) → w < 549755813888 → w / 64 / 64 / 32 / 32 / 16 / 128 % 64 * 8589934592 + (((((((1996 + w / 64 / 64 / 32 / 32 / 16 % 128) - 1996) * 16 + ((1 + w / 64 / 64 / 32 / 32 % 16) - 1)) * 32 + ((1 + w / 64 / 64 / 32 % 32) - 1)) * 32 + w / 64 / 64 % 32) * 64 + w / 64 % 64) * 64 + w % 64) ≡ w
+pub numbers-say : (w : ℕ) → w < 549755813888
+    → w / 64 / 64 / 32 / 32 / 16 / 128 % 64 * 8589934592 + (((((((1996 + w / 64 / 64 / 32 / 32 / 16 % 128) - 1996) * 16 + ((1 + w / 64 / 64 / 32 / 32 % 16) - 1)) * 32 + ((1 + w / 64 / 64 / 32 % 32) - 1)) * 32 + w / 64 / 64 % 32) * 64 + w / 64 % 64) * 64 + w % 64) ≡ w
 numbers-say w h =
-    let z = numbers-back w (w / 64) (w / 64 / 64) (w / 64 / 64 / 32) (w / 64 / 64 / 32 / 32) (w / 64 / 64 / 32 / 32 / 16) (w / 64 / 64 / 32 / 32 / 16 / 128) (w % 64) (w / 64 % 64) (w / 64 / 64 % 32) (w / 64 / 64 / 32 % 32) (w / 64 / 64 / 32 / 32 % 16) (w / 64 / 64 / 32 / 32 / 16 % 128) (divided w 64) (divided (w / 64) 64) (divided (w / 64 / 64) 32) (divided (w / 64 / 64 / 32) 32) (divided (w / 64 / 64 / 32 / 32) 16) (divided (w / 64 / 64 / 32 / 32 / 16) 128) h in
-    rw (mod-eq-of-lt (z .0), less 1996 (w / 64 / 64 / 32 / 32 / 16 % 128), less 1 (w / 64 / 64 / 32 / 32 % 16), less 1 (w / 64 / 64 / 32 % 32)) (z .1)
+    let z = numbers-back w (w / 64) (w / 64 / 64) (w / 64 / 64 / 32) (w / 64 / 64 / 32 / 32)
+    (w / 64 / 64 / 32 / 32 / 16) (w / 64 / 64 / 32 / 32 / 16 / 128) (w % 64) (w / 64 % 64) (w / 64 / 64 % 32)
+    (w / 64 / 64 / 32 % 32) (w / 64 / 64 / 32 / 32 % 16) (w / 64 / 64 / 32 / 32 / 16 % 128) (divided w 64)
+    (divided (w / 64) 64) (divided (w / 64 / 64) 32) (divided (w / 64 / 64 / 32) 32)
+    (divided (w / 64 / 64 / 32 / 32) 16) (divided (w / 64 / 64 / 32 / 32 / 16) 128) h in
+    rw (
+      mod-eq-of-lt (z .0),
+      less 1996 (w / 64 / 64 / 32 / 32 / 16 % 128),
+      less 1 (w / 64 / 64 / 32 / 32 % 16),
+      less 1
+          (w / 64 / 64 / 32 % 32),
+    ) (z .1)
   where
     less : (k n : ℕ) → k + n - k ≡ n
     less k n = omega arith
@@ -49,7 +62,9 @@ numbers-say w h =
 -- ---- the number that the bits of a header say
 
 abbrev date-number : DateTime → ℕ
-date-number x = (((((x .year - 1996) * 16 + (x .month - 1)) * 32 + (x .day - 1)) * 32 + x .time .hours) * 64 + x .time .minutes) * 64 + x .seconds
+date-number x =
+    (((((x .year - 1996) * 16 + (x .month - 1)) * 32 + (x .day - 1)) * 32 + x .time .hours) * 64 + x .time .minutes) *
+    64 + x .seconds
 
 -- what is read, of a header x whose bits are `front` and then those of w, with a bit 0 behind them for an acknowledgement
 module _ (x : Header) (fits : headerFits x ≡ true) (front w d : ℕ) (hd : d ≡ numOf (dateTimeBits (x .dated))) (lead : front ≡ presence (x .referenced) (x .acknowledged) * 64 + x .identification) (rest : x .reference * 8589934592 + d ≡ w) where
@@ -57,7 +72,8 @@ module _ (x : Header) (fits : headerFits x ≡ true) (front w d : ℕ) (hd : d �
   unfolding referenceFits
   none r = eqb-true (x .reference) 0 (rw r at (reference-fits x fits))
 
-  said : (r a : Bool) → x .referenced ≡ r → x .acknowledged ≡ a → (numOf (headerBits x) ≡ front * 2 ^ (33 + 6 * flag r + flag a) + w * 2 ^ flag a) × (length (headerBits x) ≡ 8 + (33 + 6 * flag r + flag a))
+  said : (r a : Bool) → x .referenced ≡ r → x .acknowledged ≡ a
+      → (numOf (headerBits x) ≡ front * 2 ^ (33 + 6 * flag r + flag a) + w * 2 ^ flag a) × (length (headerBits x) ≡ 8 + (33 + 6 * flag r + flag a))
   said true false p q =
       let v = front-with x fits _ _ refl refl p in
       let n = header-plain x fits _ d v hd q in
@@ -88,8 +104,10 @@ module _ (x : Header) (fits : headerFits x ≡ true) (front w d : ℕ) (hd : d �
       (omega (arith, n, i, j, lead, rest, none p), omega (arith, l, i, j))
 
 -- bits by their number
-two-numbers : (bs : List ℕ) (n front v : ℕ) → Bits bs → length bs ≡ 8 + n → numOf bs ≡ front * 2 ^ n + v → v < 2 ^ n → bs ≡ bitsN 8 front ++ bitsN n v
-two-numbers bs n front v b e h s = sym (bitsN-num bs b) ∙ rw (e, h, bitsN-split 8 n (front * 2 ^ n + v), high front n s, bitsN-high n front v)
+two-numbers : (bs : List ℕ) (n front v : ℕ) → Bits bs → length bs ≡ 8 + n → numOf bs ≡ front * 2 ^ n + v → v < 2 ^ n
+    → bs ≡ bitsN 8 front ++ bitsN n v
+two-numbers bs n front v b e h s = sym (bitsN-num bs b) ∙ rw
+    (e, h, bitsN-split 8 n (front * 2 ^ n + v), high front n s, bitsN-high n front v)
 
 -- ---- as `read_header` has it
 
@@ -114,13 +132,16 @@ module _ (l : List ℕ) (at p next n front v : ℕ) (bits : Bits l) (first : rea
         let b = both-present (front / 64) (omega arith) in
         let f = flags (front / 64) (omega arith) in
         let lead : front ≡ presence (x .referenced) (x .acknowledged) * 64 + x .identification = rw (r, a, i, b) (omega arith) in
-        let o = said x fits front w (date-number (x .dated)) (date-said (x .dated) (dated-fits x fits)) lead rest (x .referenced) (x .acknowledged) refl refl in
+        let o = said x fits front w (date-number (x .dated)) (date-said (x .dated) (dated-fits x fits)) lead rest
+        (x .referenced) (x .acknowledged) refl refl in
         let m : 33 + 6 * flag (x .referenced) + flag (x .acknowledged) ≡ n = rw (r, a, f .0, f .1) (sym width) in
         let t = two-numbers (headerBits x) n front v (header-are-bits x) (rw m at (o .1)) (rw (m, ← same) at (o .0)) rest-small in
         let u = number-is l at 8 front p first in
         let y = number-is l p n v next second in
-        let g : Holds l (at + length (bitsN 8 front)) (bitsN n v) = rw (length-bitsN 8 front, ← u .place) (number-stands l p n v next bits second) in
-        let k : Holds l at (bitsN 8 front ++ bitsN n v) = holds-join l at (bitsN 8 front) (bitsN n v) (number-stands l at 8 front p bits first) g in
+        let g : Holds l (at + length (bitsN 8 front)) (bitsN n v) = rw (length-bitsN 8 front, ← u .place)
+        (number-stands l p n v next bits second) in
+        let k : Holds l at (bitsN 8 front ++ bitsN n v) = holds-join l at (bitsN 8 front) (bitsN n v)
+        (number-stands l at 8 front p bits first) g in
         let z : next ≡ at + length (headerBits x) = rw (o .1, m) (omega (arith, u .place, y .place)) in
         sym (header-reads l at next x (record { fits = fits; holds = rw t k; place = z }))
 
@@ -144,7 +165,8 @@ module _ (s : List ℕ) (e at p next n front v : ℕ) (f g : Read) (hf : f ≡ r
 
   module _ (x : Header) (w : ℕ) (parts : (x .referenced ≡ leb 2 (front / 64)) × (x .acknowledged ≡ eqb (front / 64 % 2) 1) × (x .identification ≡ front % 64) × (x .reference * 8589934592 + date-number (x .dated) ≡ w)) (b : Bool) (hb : b ≡ headerFits x) (tb : b ≡ true) where
     found : v ≡ w * 2 ^ flag (x .acknowledged) → header.Got x next ≡ headerAt (bitsTo s e) at
-    found same = header-is (bitsTo s e) at p next n front v (bits-to s e) (sym hf ∙ gf) (sym hg ∙ gg) width x (sym hb ∙ tb) w (parts .0) (parts .1) (parts .2) (parts .3) same
+    found same = header-is (bitsTo s e) at p next n front v (bits-to s e) (sym hf ∙ gf) (sym hg ∙ gg) width x
+        (sym hb ∙ tb) w (parts .0) (parts .1) (parts .2) (parts .3) same
 
     pub found-acknowledged : front / 64 % 2 ≡ 1 → (v % 2 ≡ 1 → ⊥) → w ≡ v / 2 → header.Got x next ≡ headerAt (bitsTo s e) at
     found-acknowledged t o q =

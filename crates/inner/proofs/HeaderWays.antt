@@ -34,25 +34,32 @@ use Rattle.inner.specs.Messages.{noMessage, messageOf, ontoHeader, messa
 use Rattle.elements.proofs.Steps.{never}
 use Rattle.elements.proofs.Whole.{whole-most}
 
-pub minute-handed : (f g : TimeRead) (r x : Refusal) (k : Time → ℕ → DateTimeRead) → f ≡ g → f ≡ time.Refused r → x ≡ timeRefusal f → date.Refused x ≡ ontoTimeOfDay g k
+pub minute-handed : (f g : TimeRead) (r x : Refusal) (k : Time → ℕ → DateTimeRead) → f ≡ g → f ≡ time.Refused r
+    → x ≡ timeRefusal f → date.Refused x ≡ ontoTimeOfDay g k
 minute-handed f g r x k p q e = rw (← p, e, q)
 
-pub minute-went : (f g : TimeRead) (x : Time) (n : ℕ) (k : Time → ℕ → DateTimeRead) (o : DateTimeRead) → f ≡ g → f ≡ time.Got x n → o ≡ k x n → o ≡ ontoTimeOfDay g k
+pub minute-went : (f g : TimeRead) (x : Time) (n : ℕ) (k : Time → ℕ → DateTimeRead) (o : DateTimeRead) → f ≡ g
+    → f ≡ time.Got x n → o ≡ k x n → o ≡ ontoTimeOfDay g k
 minute-went f g x n k o p q e = rw (← p, q, e)
 
-pub date-handed : (f g : DateTimeRead) (r x : Refusal) (k : DateTime → ℕ → HeaderRead) → f ≡ g → f ≡ date.Refused r → x ≡ dateRefusal f → header.Refused x ≡ ontoDate g k
+pub date-handed : (f g : DateTimeRead) (r x : Refusal) (k : DateTime → ℕ → HeaderRead) → f ≡ g → f ≡ date.Refused r
+    → x ≡ dateRefusal f → header.Refused x ≡ ontoDate g k
 date-handed f g r x k p q e = rw (← p, e, q)
 
-pub date-went : (f g : DateTimeRead) (x : DateTime) (n : ℕ) (k : DateTime → ℕ → HeaderRead) (o : HeaderRead) → f ≡ g → f ≡ date.Got x n → o ≡ k x n → o ≡ ontoDate g k
+pub date-went : (f g : DateTimeRead) (x : DateTime) (n : ℕ) (k : DateTime → ℕ → HeaderRead) (o : HeaderRead) → f ≡ g
+    → f ≡ date.Got x n → o ≡ k x n → o ≡ ontoDate g k
 date-went f g x n k o p q e = rw (← p, q, e)
 
-pub header-handed : (f g : HeaderRead) (r x : Refusal) (k : Header → ℕ → MessageRead) (o : MessageRead) → f ≡ g → f ≡ header.Refused r → x ≡ headerRefusal f → o ≡ noMessage x → o ≡ ontoHeader g k
+pub header-handed : (f g : HeaderRead) (r x : Refusal) (k : Header → ℕ → MessageRead) (o : MessageRead) → f ≡ g
+    → f ≡ header.Refused r → x ≡ headerRefusal f → o ≡ noMessage x → o ≡ ontoHeader g k
 header-handed f g r x k o p q e h = rw (← p, h, e, q)
 
-pub header-went : (f g : HeaderRead) (x : Header) (n : ℕ) (k : Header → ℕ → MessageRead) (o : MessageRead) → f ≡ g → f ≡ header.Got x n → o ≡ k x n → o ≡ ontoHeader g k
+pub header-went : (f g : HeaderRead) (x : Header) (n : ℕ) (k : Header → ℕ → MessageRead) (o : MessageRead) → f ≡ g
+    → f ≡ header.Got x n → o ≡ k x n → o ≡ ontoHeader g k
 header-went f g x n k o p q e = rw (← p, q, e)
 
-pub places-handed : (h : Header) (n : ℕ) (f g : PlacesRead) (r x : Refusal) (o : MessageRead) → f ≡ g → f .step ≡ step.Refused r → x ≡ stepRefusal (f .step) → o ≡ noMessage x → o ≡ messageOf h n g
+pub places-handed : (h : Header) (n : ℕ) (f g : PlacesRead) (r x : Refusal) (o : MessageRead) → f ≡ g
+    → f .step ≡ step.Refused r → x ≡ stepRefusal (f .step) → o ≡ noMessage x → o ≡ messageOf h n g
 places-handed h n f g r x o p q e z = rw (← p, z, e, q)
 
 pub places-went : (h : Header) (n m : ℕ) (f g : PlacesRead) → f ≡ g → f .step ≡ step.Next m → record { step = step.Next m; message = record { header = h; count = n; places = f .places } } ≡ messageOf h n g
@@ -87,18 +94,21 @@ module _ (l : List ℕ) (at : ℕ) (b : Bool) where
     unfolding acknowledgementAt
     ack-required v next q e = rw h (answers.went f _ _ v next _ p q (rw (eq-eqb v 0 e)))
 
-    pub ack-default : (v next : ℕ) (o : Field) → f ≡ field.Value v next → (v ≡ 0 → ⊥) → o ≡ refusedAt at fault.Default → o ≡ acknowledgementAt l at b
+    pub ack-default : (v next : ℕ) (o : Field) → f ≡ field.Value v next → (v ≡ 0 → ⊥) → o ≡ refusedAt at fault.Default
+        → o ≡ acknowledgementAt l at b
     unfolding acknowledgementAt
     ack-default v next o q e d = rw h (answers.went f _ _ v next _ p q (rw (ne-eqb v 0 e) d))
 
 -- ---- nothing after it
 
 module _ (d : Direction) (l : List ℕ) (f : MessageRead) (p : f ≡ messageAt d l 0) where
-  pub exactly-handed : (r x : Refusal) (o : MessageRead) → f .step ≡ step.Refused r → x ≡ stepRefusal (f .step) → o ≡ noMessage x → o ≡ exactly d l
+  pub exactly-handed : (r x : Refusal) (o : MessageRead) → f .step ≡ step.Refused r → x ≡ stepRefusal (f .step)
+      → o ≡ noMessage x → o ≡ exactly d l
   unfolding exactly
   exactly-handed r x o q e z = rw (← p, q, z, e, q)
 
-  pub exactly-more : (n : ℕ) (t : Field) (x : Refusal) (o : MessageRead) → f .step ≡ step.Next n → leb (n + 1) (length l) ≡ true → t ≡ refusedAt n fault.Tail → x ≡ refusalOf t → o ≡ noMessage x → o ≡ exactly d l
+  pub exactly-more : (n : ℕ) (t : Field) (x : Refusal) (o : MessageRead) → f .step ≡ step.Next n
+      → leb (n + 1) (length l) ≡ true → t ≡ refusedAt n fault.Tail → x ≡ refusalOf t → o ≡ noMessage x → o ≡ exactly d l
   unfolding exactly
   exactly-more n t x o q e r y z = z ∙ ap noMessage (y ∙ ap refusalOf r) ∙ rw (← p, q, e)
 

@@ -67,7 +67,8 @@ fit-none = refl
 pub fit-join : (xs ys : List Piece) → piecesFit xs ≡ true → piecesFit ys ≡ true → piecesFit (xs ++ ys) ≡ true
 unfolding piecesFit
 fit-join [] ys p q = q
-fit-join (x ∷ xs) ys p q = both-hold (x .fits) (piecesFit (xs ++ ys)) (both-left (x .fits) (piecesFit xs) p) (fit-join xs ys (both-right (x .fits) (piecesFit xs) p) q)
+fit-join (x ∷ xs) ys p q = both-hold (x .fits) (piecesFit (xs ++ ys)) (both-left (x .fits) (piecesFit xs) p)
+    (fit-join xs ys (both-right (x .fits) (piecesFit xs) p) q)
 
 pub date-time-fit : (x : DateTime) → dateTimeFits x ≡ true → piecesFit (dateTimePieces x) ≡ true
 unfolding dateTimePieces dateTimeFits
@@ -103,7 +104,8 @@ header-fit x h =
     fit-cons (whole 0 3 (presence (x .referenced) (x .acknowledged))) _ (presence-fits (x .referenced) (x .acknowledged))
     (fit-cons (whole 0 63 (x .identification)) _ (both-left i r p)
     (fit-join (referencePieces (x .referenced) (x .reference)) _ (reference-fit (x .referenced) (x .reference) (both-right i r p))
-    (fit-join (dateTimePieces (x .dated)) _ (date-time-fit (x .dated) (both-right (i && r) (dateTimeFits (x .dated)) h)) (acknowledgement-fit (x .acknowledged)))))
+    (fit-join (dateTimePieces (x .dated)) _ (date-time-fit (x .dated) (both-right (i && r) (dateTimeFits (x .dated)) h))
+    (acknowledgement-fit (x .acknowledged)))))
 
 -- ---- how many bits there are: 41, six for a reference, one for an acknowledgement
 
@@ -125,14 +127,21 @@ module _ (x : Header) where
   pub length-header : length (headerBits x) ≡ 41 + 6 * flag (x .referenced) + flag (x .acknowledged)
   unfolding headerBits digitsIn
   length-header =
-      let a : length (wholeBits 0 3 (presence (x .referenced) (x .acknowledged))) ≡ 2 = length-whole 0 3 (presence (x .referenced) (x .acknowledged)) in
+      let a : length (wholeBits 0 3 (presence (x .referenced) (x .acknowledged))) ≡ 2 = length-whole 0 3
+      (presence (x .referenced) (x .acknowledged)) in
       let b : length (wholeBits 0 63 (x .identification)) ≡ 6 = length-whole 0 63 (x .identification) in
-      simp (length-append) (omega (arith, reference-length (x .referenced) (x .reference), date-length (x .dated), acknowledgement-length (x .acknowledged)))
+      simp (length-append) (omega (
+        arith,
+        reference-length (x .referenced) (x .reference),
+        date-length (x .dated),
+        acknowledgement-length (x .acknowledged),
+      ))
 
 -- ---- the header measured, as the code has it
 
 module _ (x : Header) (ok : Bool) (h : ok ≡ headerFits x) where
-  pub header-measured : (f g : ℕ) → ok ≡ true → f ≡ flag (x .referenced) → g ≡ flag (x .acknowledged) → size.Bits (41 + (6 * f + g)) ≡ cond (headerFits x) (size.Bits (length (headerBits x))) size.Shape
+  pub header-measured : (f g : ℕ) → ok ≡ true → f ≡ flag (x .referenced) → g ≡ flag (x .acknowledged)
+      → size.Bits (41 + (6 * f + g)) ≡ cond (headerFits x) (size.Bits (length (headerBits x))) size.Shape
   header-measured f g t p q =
       let n : 41 + (6 * f + g) ≡ length (headerBits x) = let l = length-header x in omega arith in
       rw (← h, t, n)

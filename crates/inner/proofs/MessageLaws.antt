@@ -61,7 +61,9 @@ places-empty zero = refl
 places-empty (suc n) = places-empty n
 
 -- five places are the elements and empty ones
-five-places : (m : Message) → wholeFits 1 5 (m .count) ≡ true → length (m .places) ≡ 5 → allEmpty (drop (m .count) (m .places)) ≡ true → take (m .count) (m .places) ++ replicate (5 - length (take (m .count) (m .places))) (bare 0) ≡ m .places
+five-places : (m : Message) → wholeFits 1 5 (m .count) ≡ true → length (m .places) ≡ 5
+    → allEmpty (drop (m .count) (m .places)) ≡ true
+    → take (m .count) (m .places) ++ replicate (5 - length (take (m .count) (m .places))) (bare 0) ≡ m .places
 five-places m f five h =
     let k = whole-below 1 5 (m .count) f in
     let n : length (take (m .count) (m .places)) ≡ m .count = length-take-le (m .count) (m .places) (omega arith) in
@@ -160,7 +162,10 @@ length-replicate : {A : Type 0} (n : ℕ) (x : A) → length (replicate n x) ≡
 length-replicate zero x = refl
 length-replicate (suc n) x = ap suc (length-replicate n x)
 
-message-made : (d : Direction) (l : List ℕ) (at p q r next n : ℕ) (h : Header) (es : List Element) (t : List ℕ) → length es ≡ n → Stands l at (headerFits h) (headerBits h) p → Stands l p true (wholeBits 0 1 0) q → Stands l q (wholeFits 1 5 n) (wholeBits 1 5 n) r → Stands l r (rowFits d es t) (rowBits d es t) next → Stands l at (messageFits d (made h n es) t) (messageBits d (made h n es) t) next
+message-made : (d : Direction) (l : List ℕ) (at p q r next n : ℕ) (h : Header) (es : List Element) (t : List ℕ)
+    → length es ≡ n → Stands l at (headerFits h) (headerBits h) p → Stands l p true (wholeBits 0 1 0) q
+    → Stands l q (wholeFits 1 5 n) (wholeBits 1 5 n) r → Stands l r (rowFits d es t) (rowBits d es t) next
+    → Stands l at (messageFits d (made h n es) t) (messageBits d (made h n es) t) next
 unfolding messageFits messageBits
 message-made d l at p q r next n h es t c sh sp sn sr =
     let k = whole-below 1 5 n (sn .fits) in
@@ -185,7 +190,9 @@ module _ (d : Direction) (l : List ℕ) (at next : ℕ) (m : Message) (bits : Bi
   no-message r h = let g : step.Refused r ≡ step.Next next = ap (λ (x : MessageRead). x .step) h in never (cc)
 
   -- the elements were read
-  row-found : (x : Header) (p q r n : ℕ) → headerAt l at ≡ header.Got x p → Stands l p true (wholeBits 0 1 0) q → Stands l q (wholeFits 1 5 n) (wholeBits 1 5 n) r → (w : Row) → rowAt d l r n ≡ w → messageOf x n (laid w) ≡ isMessage m next → Goal
+  row-found : (x : Header) (p q r n : ℕ) → headerAt l at ≡ header.Got x p → Stands l p true (wholeBits 0 1 0) q
+      → Stands l q (wholeFits 1 5 n) (wholeBits 1 5 n) r → (w : Row) → rowAt d l r n ≡ w
+      → messageOf x n (laid w) ≡ isMessage m next → Goal
   unfolding Goal messageText
   row-found x p q r n eh sp sn (these es k) er h =
       let i : made x n es ≡ m = ap (λ (z : MessageRead). z .message) h in
@@ -200,7 +207,9 @@ module _ (d : Direction) (l : List ℕ) (at next : ℕ) (m : Message) (bits : Bi
       rw (← i, eh, v, ← j) (message-made d l at p q r k n x es _ (e .count) (header-stands l at p x bits eh) sp sn (e .stands))
   row-found x p q r n eh sp sn (refused z) er h = no-message z h
 
-  count-found : (x : Header) (p q : ℕ) → headerAt l at ≡ header.Got x p → Stands l p true (wholeBits 0 1 0) q → onto noMessage (wholeNumber l q 1 5) (λ (n r : ℕ). messageOf x n (laid (rowAt d l r n))) ≡ isMessage m next → Goal
+  count-found : (x : Header) (p q : ℕ) → headerAt l at ≡ header.Got x p → Stands l p true (wholeBits 0 1 0) q
+      → onto noMessage (wholeNumber l q 1 5) (λ (n r : ℕ). messageOf x n (laid (rowAt d l r n))) ≡ isMessage m next
+      → Goal
   count-found x p q eh sp h =
       onto-is noMessage (wholeNumber l q 1 5) (λ (n r : ℕ). messageOf x n (laid (rowAt d l r n))) (isMessage m next)
       (λ (n r : ℕ) (e : wholeNumber l q 1 5 ≡ field.Value n r) (g : messageOf x n (laid (rowAt d l r n)) ≡ isMessage m next).
@@ -208,11 +217,16 @@ module _ (d : Direction) (l : List ℕ) (at next : ℕ) (m : Message) (bits : Bi
       no-message
       h
 
-  body-found : (x : Header) (p c q : ℕ) → headerAt l at ≡ header.Got x p → wholeNumber l p 0 1 ≡ field.Value c q → (t : Bool) → eqb c 0 ≡ t → cond t (onto noMessage (wholeNumber l q 1 5) (λ (n r : ℕ). messageOf x n (laid (rowAt d l r n)))) (noMessage (refusalOf (refusedAt p fault.NotCarried))) ≡ isMessage m next → Goal
-  body-found x p c q eh ec true z h = count-found x p q eh (stands-as l p q _ _ _ refl (rw (eqb-true c 0 z) at (whole-stands l p 0 1 c q bits ec))) h
+  body-found : (x : Header) (p c q : ℕ) → headerAt l at ≡ header.Got x p → wholeNumber l p 0 1 ≡ field.Value c q
+      → (t : Bool) → eqb c 0 ≡ t
+      → cond t (onto noMessage (wholeNumber l q 1 5) (λ (n r : ℕ). messageOf x n (laid (rowAt d l r n)))) (noMessage (refusalOf (refusedAt p fault.NotCarried))) ≡ isMessage m next
+      → Goal
+  body-found x p c q eh ec true z h = count-found x p q eh
+      (stands-as l p q _ _ _ refl (rw (eqb-true c 0 z) at (whole-stands l p 0 1 c q bits ec))) h
   body-found x p c q eh ec false z h = no-message _ h
 
-  pub message-stands : messageAt d l at ≡ isMessage m next → Stands l at (messageFits d m (messageText d l at m)) (messageBits d m (messageText d l at m)) next
+  pub message-stands : messageAt d l at ≡ isMessage m next
+      → Stands l at (messageFits d m (messageText d l at m)) (messageBits d m (messageText d l at m)) next
   unfolding messageAt bodyAt Goal
   message-stands h =
       header-is (headerAt l at) (bodyAt d l) (isMessage m next)
@@ -225,6 +239,7 @@ module _ (d : Direction) (l : List ℕ) (at next : ℕ) (m : Message) (bits : Bi
       h
 
 -- document 01, refusal 16: constrained data marked present, before the count of elements is looked at
-pub constrained : (d : Direction) (l : List ℕ) (x : Header) (at next : ℕ) → wholeNumber l at 0 1 ≡ field.Value 1 next → bodyAt d l x at ≡ noMessage (refusalOf (refusedAt at fault.NotCarried))
+pub constrained : (d : Direction) (l : List ℕ) (x : Header) (at next : ℕ) → wholeNumber l at 0 1 ≡ field.Value 1 next
+    → bodyAt d l x at ≡ noMessage (refusalOf (refusedAt at fault.NotCarried))
 unfolding bodyAt
 constrained d l x at next e = rw e

@@ -43,7 +43,13 @@ use Rattle.inner.proofs.MessageLaws.{fits-of, one-bit, three-bits}
 -- ---- how many bits there are at most
 
 pub header-most : (m : Message) → length (headerBits (m .header)) ≤ 48
-header-most m = omega (arith, length-header (m .header), flag-most (m .header .referenced) _ refl, flag-most (m .header .acknowledged) _ refl)
+header-most m = omega (
+  arith,
+  length-header (m .header),
+  flag-most (m .header .referenced) _ refl,
+  flag-most
+      (m .header .acknowledged) _ refl,
+)
 
 pub row-most : (d : Direction) (xs : List Element) (t : List ℕ) → rowFits d xs t ≡ true → length (rowBits d xs t) ≤ elementMost * length xs
 unfolding rowFits rowBits
@@ -82,7 +88,13 @@ module _ (d : Direction) (m : Message) (t : List ℕ) where
         module _ (five : length (m .places) ≡ 5) (s : Size) (ks : s ≡ sized (rowFits d (take (m .count) (m .places)) t) (rowBits d (take (m .count) (m .places)) t)) where
           pub no-row : s ≡ size.Shape → size.Shape ≡ sized (messageCarried d m t) (messageBits d m t)
           unfolding messageFits
-          no-row z = rw (header-right .0, yes c (wholeFits 1 5 (m .count)) kc p, eq-eqb (length (m .places)) 5 five, sized-no (rowFits d (take (m .count) (m .places)) t) (rowBits d (take (m .count) (m .places)) t) (sym z ∙ ks))
+          no-row z = rw (
+            header-right .0,
+            yes c (wholeFits 1 5 (m .count)) kc p,
+            eq-eqb (length (m .places)) 5 five,
+            sized-no (rowFits d (take (m .count) (m .places)) t) (rowBits d (take (m .count) (m .places)) t)
+                (sym z ∙ ks),
+          )
 
           module _ (b : ℕ) (z : s ≡ size.Bits b) where
             row-right : (rowFits d (take (m .count) (m .places)) t ≡ true) × (b ≡ length (rowBits d (take (m .count) (m .places)) t))
@@ -100,12 +112,26 @@ module _ (d : Direction) (m : Message) (t : List ℕ) where
             module _ (u : Bool) (ku : u ≡ allEmpty (drop (m .count) (m .places))) where
               pub no-rest : not u ≡ true → size.Shape ≡ sized (messageCarried d m t) (messageBits d m t)
               unfolding messageFits
-              no-rest w = rw (header-right .0, yes c (wholeFits 1 5 (m .count)) kc p, eq-eqb (length (m .places)) 5 five, row-right .0, no u (allEmpty (drop (m .count) (m .places))) ku w)
+              no-rest w = rw (
+                header-right .0,
+                yes c (wholeFits 1 5 (m .count)) kc p,
+                eq-eqb (length (m .places)) 5
+                    five,
+                row-right .0,
+                no u (allEmpty (drop (m .count) (m .places))) ku w,
+              )
 
               module _ (w : not u ≡ false) where
                 all-right : messageFits d m t ≡ true
                 unfolding messageFits
-                all-right = rw (header-right .0, yes c (wholeFits 1 5 (m .count)) kc p, eq-eqb (length (m .places)) 5 five, row-right .0, yes u (allEmpty (drop (m .count) (m .places))) ku w)
+                all-right = rw (
+                  header-right .0,
+                  yes c (wholeFits 1 5 (m .count)) kc p,
+                  eq-eqb (length (m .places)) 5
+                      five,
+                  row-right .0,
+                  yes u (allEmpty (drop (m .count) (m .places))) ku w,
+                )
 
                 total : a + 4 + b ≡ length (messageBits d m t)
                 total = let e = header-right .1 in let f = row-right .1 in let g = length-message in omega arith
@@ -135,7 +161,9 @@ module _ (d : Direction) (m : Message) (t : List ℕ) where
 
   -- as the code writes them
   module _ (s : List ℕ) (e at : ℕ) (u : List ℕ) (a : Put) (k : left a u ≡ putPieces s e at (headerPieces (m .header))) where
-    pieces-are : putPieces s e at (headerPieces (m .header) ++ ((whole 0 1 0 ∷ whole 1 5 (m .count) ∷ []) ++ rowPieces d (take (m .count) (m .places)) t)) ≡ putPieces s e at (messagePieces d m t)
+    pieces-are : putPieces s e at (headerPieces (m .header) ++
+        ((whole 0 1 0 ∷ whole 1 5 (m .count) ∷ []) ++ rowPieces d (take (m .count) (m .places)) t)) ≡ putPieces s e
+        at (messagePieces d m t)
     unfolding messagePieces
     pieces-are = refl
 
@@ -143,13 +171,17 @@ module _ (d : Direction) (m : Message) (t : List ℕ) where
     message-first q = run-full s e at (headerPieces (m .header)) _ _ pieces-are u a k q
 
     module _ (p : ℕ) (q : a ≡ Next p) (v : List ℕ) (b : Put) (l : left b v ≡ putPieces u e p (whole 0 1 0 ∷ whole 1 5 (m .count) ∷ [])) where
-      after-header : putPieces u e p ((whole 0 1 0 ∷ whole 1 5 (m .count) ∷ []) ++ rowPieces d (take (m .count) (m .places)) t) ≡ putPieces s e at (messagePieces d m t)
+      after-header : putPieces u e p
+          ((whole 0 1 0 ∷ whole 1 5 (m .count) ∷ []) ++ rowPieces d (take (m .count) (m .places)) t) ≡ putPieces s e at
+          (messagePieces d m t)
       after-header = run-turn s e at (headerPieces (m .header)) _ _ pieces-are u a k p q
 
       pub message-second : b ≡ Full → left Full v ≡ putPieces s e at (messagePieces d m t)
       message-second r = run-full u e p (whole 0 1 0 ∷ whole 1 5 (m .count) ∷ []) _ _ after-header v b l r
 
-      pub message-third : (n : ℕ) → b ≡ Next n → (z : List ℕ) (c : Put) → left c z ≡ putPieces v e n (rowPieces d (take (m .count) (m .places)) t) → left c z ≡ putPieces s e at (messagePieces d m t)
+      pub message-third : (n : ℕ) → b ≡ Next n → (z : List ℕ) (c : Put)
+          → left c z ≡ putPieces v e n (rowPieces d (take (m .count) (m .places)) t)
+          → left c z ≡ putPieces s e at (messagePieces d m t)
       message-third n r z c w = w ∙ run-turn u e p (whole 0 1 0 ∷ whole 1 5 (m .count) ∷ []) _ _ after-header v b l n r
 
 -- ---- the whole call
@@ -175,24 +207,33 @@ module _ (d : Direction) (m : Message) (t s : List ℕ) where
       fits = both-left (messageFits d m t) (leb (length (messageBits d m t)) bitsMost) (carried .0)
 
       within : length (messageBits d m t) ≤ bitsMost
-      within = leb-true (length (messageBits d m t)) bitsMost (both-right (messageFits d m t) (leb (length (messageBits d m t)) bitsMost) (carried .0))
+      within = leb-true (length (messageBits d m t)) bitsMost
+          (both-right (messageFits d m t) (leb (length (messageBits d m t)) bitsMost) (carried .0))
 
       pub written-count : m .count ≤ 5
       written-count = whole-below 1 5 (m .count) (fits-of d m t fits .count)
 
-      pub written-out : (z y : List ℕ) (a b : Put) (w : ℕ) → left a z ≡ putPieces s (8 * roomLeast) 0 (messagePieces d m t) → w ≡ padding n → left b y ≡ putNumber z (8 * roomLeast) n w 0 → done (written.Bits n) y ≡ writeMessage d m t s
+      pub written-out : (z y : List ℕ) (a b : Put) (w : ℕ)
+          → left a z ≡ putPieces s (8 * roomLeast) 0 (messagePieces d m t) → w ≡ padding n
+          → left b y ≡ putNumber z (8 * roomLeast) n w 0 → done (written.Bits n) y ≡ writeMessage d m t s
       unfolding writeMessage padded
       written-out z y a b w f i g =
           let bs : List ℕ = messageBits d m t in
           let e = carried .1 in
           let len = within in
-          let p : putPieces s (8 * roomLeast) 0 (messagePieces d m t) ≡ left (Next (0 + length bs)) (putBits s 0 bs) = rw (message-bits d m t) at (pieces-left (messagePieces d m t) s (8 * roomLeast) 0 (message-fit d m t fits) (rw (message-bits d m t) (room-for s (0 + length bs) h (omega arith)))) in
+          let p : putPieces s (8 * roomLeast) 0 (messagePieces d m t) ≡ left (Next (0 + length bs)) (putBits s 0 bs) =
+          rw (message-bits d m t) at (pieces-left (messagePieces d m t) s (8 * roomLeast) 0 (message-fit d m t fits)
+          (rw (message-bits d m t) (room-for s (0 + length bs) h (omega arith)))) in
           let zz : z ≡ putBits s 0 bs = ap (λ (l : Left). l .bytes) (f ∙ p) in
           let j : w ≡ padding (length bs) = i ∙ ap padding e in
           let x = length-bitsN w 0 in
           let lz : length z ≡ length s = ap length zz ∙ length-put bs s 0 in
           let o : putNumber z (8 * roomLeast) n w 0 ≡ left (Next (n + length (bitsN w 0))) (putBits z n (bitsN w 0)) =
-          as-number z (8 * roomLeast) n w 0 true (bitsN w 0) (omega arith) (pow-pos w) refl refl ∙ put-if-yes true z (8 * roomLeast) n (bitsN w 0) refl ∙ put-fits z (8 * roomLeast) n (bitsN w 0) (room-for z (n + length (bitsN w 0)) (omega arith) (omega arith)) in
+          as-number z (8 * roomLeast) n w 0 true (bitsN w 0) (omega arith) (pow-pos w) refl refl ∙ put-if-yes true z
+          (8 * roomLeast) n (bitsN w 0) refl ∙ put-fits z (8 * roomLeast) n (bitsN w 0)
+          (room-for z (n + length (bitsN w 0)) (omega arith) (omega arith)) in
           let yy : y ≡ putBits z n (bitsN w 0) = ap (λ (l : Left). l .bytes) (g ∙ o) in
-          let v : putBits z n (bitsN w 0) ≡ putBits s 0 (bs ++ bitsN (padding (length bs)) 0) = let c : 0 + length bs ≡ length bs = omega arith in rw (zz, j, e) (rw c at (sym (put-append bs (bitsN (padding (length bs)) 0) s 0))) in
+          let v : putBits z n (bitsN w 0) ≡ putBits s 0 (bs ++ bitsN (padding (length bs)) 0) = let c : 0 + length bs ≡
+          length bs = omega arith in rw (zz, j, e)
+          (rw c at (sym (put-append bs (bitsN (padding (length bs)) 0) s 0))) in
           rw (le-ltb (length s) roomLeast h, carried .0, yy, v, e)

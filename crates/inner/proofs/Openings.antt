@@ -50,10 +50,13 @@ module _ (d : Direction) (l : List ℕ) (bits : Bits l) (r : MessageRead) (e : r
   text-place : (p n : ℕ) → p ≡ length (headerBits (r .message .header)) + 4 → elementsText d l 0 n ≡ textAt d l p n
   text-place p n q = rw (header-first, q)
 
-  pub text-at : (p n k : ℕ) (z y : List ℕ) → p ≡ length (headerBits (r .message .header)) + 4 → (k ≡ length (textAt d l p n)) × (y ≡ sets z 0 (textAt d l p n)) → (k ≡ length (elementsText d l 0 n)) × (y ≡ sets z 0 (elementsText d l 0 n))
+  pub text-at : (p n k : ℕ) (z y : List ℕ) → p ≡ length (headerBits (r .message .header)) + 4
+      → (k ≡ length (textAt d l p n)) × (y ≡ sets z 0 (textAt d l p n))
+      → (k ≡ length (elementsText d l 0 n)) × (y ≡ sets z 0 (elementsText d l 0 n))
   text-at p n k z y q h = rw (text-place p n q) h
 
-  pub text-fits : (p n m : ℕ) → p ≡ length (headerBits (r .message .header)) + 4 → length (elementsText d l 0 n) ≤ m → length (textAt d l p n) ≤ m
+  pub text-fits : (p n m : ℕ) → p ≡ length (headerBits (r .message .header)) + 4 → length (elementsText d l 0 n) ≤ m
+      → length (textAt d l p n) ≤ m
   text-fits p n m q h = rw (text-place p n q) at h
 
 -- ---- the call
@@ -70,14 +73,16 @@ module _ (d : Direction) (s : List ℕ) (n : ℕ) (z : List ℕ) (a : MessageOpe
 
     module _ (g : n ≤ bitsMost) (w : Bool) (k : w ≡ leb (0 + n) (min n (8 * length s))) where
       lent : w ≡ leb n (8 * length s)
-      lent = k ∙ same-leb (0 + n) (min n (8 * length s)) n (8 * length s) (λ (q : 0 + n ≤ min n (8 * length s)). omega arith) (λ (q : n ≤ 8 * length s). omega arith)
+      lent = k ∙ same-leb (0 + n) (min n (8 * length s)) n (8 * length s)
+          (λ (q : 0 + n ≤ min n (8 * length s)). omega arith) (λ (q : n ≤ 8 * length s). omega arith)
 
       pub open-past : w ≡ false → a ≡ notOpened opened.Shape → opening a z ≡ openMessage d s n z
       unfolding openMessage
       open-past q e = rw (le-ltb (length z) roomLeast h, le-leb n bitsMost g, ← lent, q, e)
 
       module _ (q : w ≡ true) (r : MessageRead) (e : r ≡ exactly d (bitsTo s n)) where
-        pub open-refused : (f x : Refusal) → r .step ≡ step.Refused f → x ≡ stepRefusal (r .step) → a ≡ notOpened (opened.Refused x) → opening a z ≡ openMessage d s n z
+        pub open-refused : (f x : Refusal) → r .step ≡ step.Refused f → x ≡ stepRefusal (r .step)
+            → a ≡ notOpened (opened.Refused x) → opening a z ≡ openMessage d s n z
         unfolding openMessage
         open-refused f x i j o = rw (le-ltb (length z) roomLeast h, le-leb n bitsMost g, ← lent, q, ← e, i, o, j, i)
 
@@ -86,7 +91,8 @@ module _ (d : Direction) (s : List ℕ) (n : ℕ) (z : List ℕ) (h : roomLeast 
   pub open-space : length (elementsText d (bitsTo s n) 0 (r .message .count)) ≤ length z
   unfolding messageText
   open-space =
-      let f : length (elementsText d (bitsTo s n) 0 (r .message .count)) ≤ charactersMost = rw e (exactly-few d (bitsTo s n) next (bits-to s n) (rw e at i)) in
+      let f : length (elementsText d (bitsTo s n) 0 (r .message .count)) ≤ charactersMost = rw e
+      (exactly-few d (bitsTo s n) next (bits-to s n) (rw e at i)) in
       omega arith
 
 module _ (d : Direction) (s : List ℕ) (n : ℕ) (z : List ℕ) (h : roomLeast ≤ length z) (g : n ≤ bitsMost) (w : Bool) (k : w ≡ leb (0 + n) (min n (8 * length s))) (q : w ≡ true) where

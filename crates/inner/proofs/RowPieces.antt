@@ -72,7 +72,8 @@ module _ (t : List ℕ) (from to n : ℕ) (h : from ≤ length t) (e : to ≡ mi
   part-within = omega arith
 
 -- the element at i of the first n
-pub next-element : (ps : List Element) (n i : ℕ) (o : Element) → i < n → n ≤ length ps → drop i (take n ps) ≡ getD ps i o ∷ drop (suc i) (take n ps)
+pub next-element : (ps : List Element) (n i : ℕ) (o : Element) → i < n → n ≤ length ps
+    → drop i (take n ps) ≡ getD ps i o ∷ drop (suc i) (take n ps)
 next-element ps n i o h g =
     let l = length-take-le n ps g in
     drop-cons (take n ps) i o (omega arith) ∙ rw (getD-take n ps i o h)
@@ -85,7 +86,8 @@ none-left ps n i h =
 
 -- ---- written
 
-row-cons : (d : Direction) (x : Element) (xs : List Element) (t : List ℕ) → rowPieces d (x ∷ xs) t ≡ elementPieces d x (take (x .characters) t) ++ rowPieces d xs (drop (x .characters) t)
+row-cons : (d : Direction) (x : Element) (xs : List Element) (t : List ℕ)
+    → rowPieces d (x ∷ xs) t ≡ elementPieces d x (take (x .characters) t) ++ rowPieces d xs (drop (x .characters) t)
 unfolding rowPieces
 row-cons d x xs t = refl
 
@@ -99,7 +101,9 @@ module _ (d : Direction) (ps : List Element) (n : ℕ) (t s : List ℕ) (e i fro
     split : putPieces s e p (elementPieces d x (part from to t) ++ rowPieces d (drop (suc i) (take n ps)) (drop to t)) ≡ z
     split =
         let c : ℕ = x .characters in
-        let q : rowPieces d (drop i (take n ps)) (drop from t) ≡ elementPieces d x (part from to t) ++ rowPieces d (drop (suc i) (take n ps)) (drop to t) = rw (g, row-cons, part-is t from to c f m, part-rest t from to c f m) in
+        let q : rowPieces d (drop i (take n ps)) (drop from t) ≡ elementPieces d x (part from to t) ++ rowPieces d
+        (drop (suc i) (take n ps)) (drop to t) = rw
+        (g, row-cons, part-is t from to c f m, part-rest t from to c f m) in
         ap (putPieces s e p) (sym q) ∙ inv
 
     pub row-turn : (q : ℕ) → a ≡ Next q → putPieces u e q (rowPieces d (drop (i + 1) (take n ps)) (drop to t)) ≡ z
@@ -113,7 +117,8 @@ module _ (d : Direction) (ps : List Element) (n : ℕ) (t s : List ℕ) (e i fro
 
 -- ---- measured
 
-fits-cons : (d : Direction) (x : Element) (xs : List Element) (t : List ℕ) → rowFits d (x ∷ xs) t ≡ elementFits d x (take (x .characters) t) && rowFits d xs (drop (x .characters) t)
+fits-cons : (d : Direction) (x : Element) (xs : List Element) (t : List ℕ)
+    → rowFits d (x ∷ xs) t ≡ elementFits d x (take (x .characters) t) && rowFits d xs (drop (x .characters) t)
 unfolding rowFits
 fits-cons d x xs t = refl
 
@@ -121,7 +126,8 @@ fits-nil : (d : Direction) (t : List ℕ) → rowFits d [] t ≡ eqb (length t) 
 unfolding rowFits
 fits-nil d t = refl
 
-bits-cons : (d : Direction) (x : Element) (xs : List Element) (t : List ℕ) → rowBits d (x ∷ xs) t ≡ elementBits d x (take (x .characters) t) ++ rowBits d xs (drop (x .characters) t)
+bits-cons : (d : Direction) (x : Element) (xs : List Element) (t : List ℕ)
+    → rowBits d (x ∷ xs) t ≡ elementBits d x (take (x .characters) t) ++ rowBits d xs (drop (x .characters) t)
 unfolding rowBits
 bits-cons d x xs t = refl
 
@@ -167,7 +173,8 @@ module _ (d : Direction) (ps : List Element) (n : ℕ) (t : List ℕ) (i from to
     next-fits : elementFits d x (part from to t) && rowFits d (drop (suc i) (take n ps)) (drop to t) ≡ rowFits d (take n ps) t
     next-fits = sym (rw (g, fits-cons, ← part-is t from to (x .characters) f m, ← part-rest t from to (x .characters) f m) refl) ∙ inv .fits
 
-    next-bits : rowBits d (drop i (take n ps)) (drop from t) ≡ elementBits d x (part from to t) ++ rowBits d (drop (suc i) (take n ps)) (drop to t)
+    next-bits : rowBits d (drop i (take n ps)) (drop from t) ≡ elementBits d x (part from to t) ++ rowBits d
+        (drop (suc i) (take n ps)) (drop to t)
     next-bits = rw (g, bits-cons, part-is t from to (x .characters) f m, part-rest t from to (x .characters) f m)
 
     pub measured-turn : (c : ℕ) → r ≡ size.Bits c → Measured d ps n t (i + 1) to (total + c)
@@ -225,4 +232,6 @@ unfolding rowPieces rowFits
 row-fit d [] t h = fit-none
 row-fit d (x ∷ xs) t h =
     let c : ℕ = x .characters in
-    fit-join (elementPieces d x (take c t)) (rowPieces d xs (drop c t)) (element-fit d x (take c t) (both-left (elementFits d x (take c t)) (rowFits d xs (drop c t)) h)) (row-fit d xs (drop c t) (both-right (elementFits d x (take c t)) (rowFits d xs (drop c t)) h))
+    fit-join (elementPieces d x (take c t)) (rowPieces d xs (drop c t))
+    (element-fit d x (take c t) (both-left (elementFits d x (take c t)) (rowFits d xs (drop c t)) h))
+    (row-fit d xs (drop c t) (both-right (elementFits d x (take c t)) (rowFits d xs (drop c t)) h))

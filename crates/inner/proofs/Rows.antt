@@ -22,21 +22,30 @@ use Rattle.elements.proofs.Texts.{length-characters}
 use Rattle.elements.proofs.Unused.{no-text}
 use Rattle.elements.proofs.Placed.{element-reads, element-text, element-stands}
 
-pub row-reads : (d : Direction) (l : List ℕ) (es : List Element) (t : List ℕ) (at next : ℕ) → Stands l at (rowFits d es t) (rowBits d es t) next → rowAt d l at (length es) ≡ these es next
+pub row-reads : (d : Direction) (l : List ℕ) (es : List Element) (t : List ℕ) (at next : ℕ)
+    → Stands l at (rowFits d es t) (rowBits d es t) next → rowAt d l at (length es) ≡ these es next
 unfolding rowFits rowBits rowAt
 row-reads d l [] t at next s = ap (these []) (sym (s .place ∙ add-zero at))
 row-reads d l (e ∷ es) t at next s =
     let c : ℕ = e .characters in
-    let p = stands-split l at next (elementFits d e (take c t)) (rowFits d es (drop c t)) (elementBits d e (take c t)) (rowBits d es (drop c t)) s in
+    let p = stands-split l at next (elementFits d e (take c t)) (rowFits d es (drop c t)) (elementBits d e (take c t))
+    (rowBits d es (drop c t)) s in
     rw (element-reads d l at _ e (take c t) (p .0), row-reads d l es (drop c t) _ next (p .1))
 
-pub row-text : (d : Direction) (l : List ℕ) (es : List Element) (t : List ℕ) (at next : ℕ) → Stands l at (rowFits d es t) (rowBits d es t) next → textAt d l at (length es) ≡ t
+pub row-text : (d : Direction) (l : List ℕ) (es : List Element) (t : List ℕ) (at next : ℕ)
+    → Stands l at (rowFits d es t) (rowBits d es t) next → textAt d l at (length es) ≡ t
 unfolding rowFits rowBits textAt
 row-text d l [] t at next s = sym (no-text t (s .fits))
 row-text d l (e ∷ es) t at next s =
     let c : ℕ = e .characters in
-    let p = stands-split l at next (elementFits d e (take c t)) (rowFits d es (drop c t)) (elementBits d e (take c t)) (rowBits d es (drop c t)) s in
-    rw (element-reads d l at _ e (take c t) (p .0), element-text d l at _ e (take c t) (p .0), row-text d l es (drop c t) _ next (p .1)) (take-append-drop c t)
+    let p = stands-split l at next (elementFits d e (take c t)) (rowFits d es (drop c t)) (elementBits d e (take c t))
+    (rowBits d es (drop c t)) s in
+    rw (
+      element-reads d l at _ e (take c t) (p .0),
+      element-text d l at _ e (take c t) (p .0),
+      row-text d l es
+          (drop c t) _ next (p .1),
+    ) (take-append-drop c t)
 
 -- ---- what was read
 
@@ -52,7 +61,9 @@ unfolding rowFits rowBits textAt
 no-row d l at = record { count = refl; stands = stands-nothing l at true refl }
 
 -- an element before those that follow
-row-more : (d : Direction) (l : List ℕ) (at m k next : ℕ) (ys : List Element) → Bits l → elementAt d l at .step ≡ step.Next m → RowIs d l m k ys next → RowIs d l at (suc k) (elementAt d l at .element ∷ ys) next
+row-more : (d : Direction) (l : List ℕ) (at m k next : ℕ) (ys : List Element) → Bits l
+    → elementAt d l at .step ≡ step.Next m → RowIs d l m k ys next
+    → RowIs d l at (suc k) (elementAt d l at .element ∷ ys) next
 unfolding rowFits rowBits textAt
 row-more d l at m k next ys b p r =
     let e : Element = elementAt d l at .element in
@@ -75,7 +86,8 @@ place-of (these es n) = n
 place-of (refused r) = 0
 
 module _ (d : Direction) (l : List ℕ) (at k next : ℕ) (es : List Element) (b : Bits l) (more : (m n : ℕ) (ys : List Element) → rowAt d l m k ≡ these ys n → RowIs d l m k ys n) where
-  then-row : (m : ℕ) → elementAt d l at .step ≡ step.Next m → (w : Row) → rowAt d l m k ≡ w → after (elementAt d l at .element ∷ []) w ≡ these es next → RowIs d l at (suc k) es next
+  then-row : (m : ℕ) → elementAt d l at .step ≡ step.Next m → (w : Row) → rowAt d l m k ≡ w
+      → after (elementAt d l at .element ∷ []) w ≡ these es next → RowIs d l at (suc k) es next
   unfolding elements-of place-of
   then-row m p (these ys n) q h =
       let i : elementAt d l at .element ∷ ys ≡ es = ap elements-of h in
@@ -83,15 +95,20 @@ module _ (d : Direction) (l : List ℕ) (at k next : ℕ) (es : List Element) (b
       rw (← i, ← j) (row-more d l at m k n ys b p (more m n ys q))
   then-row m p (refused r) q h = never (cc)
 
-  row-step : (s : Step) → elementAt d l at .step ≡ s → ontoRow s (λ (m : ℕ). after (elementAt d l at .element ∷ []) (rowAt d l m k)) ≡ these es next → RowIs d l at (suc k) es next
+  row-step : (s : Step) → elementAt d l at .step ≡ s
+      → ontoRow s (λ (m : ℕ). after (elementAt d l at .element ∷ []) (rowAt d l m k)) ≡ these es next
+      → RowIs d l at (suc k) es next
   row-step (step.Next m) p h = then-row m p (rowAt d l m k) refl h
   row-step (step.Refused r) p h = never (cc)
 
-pub row-is : (d : Direction) (l : List ℕ) (n at next : ℕ) (es : List Element) → Bits l → rowAt d l at n ≡ these es next → RowIs d l at n es next
+pub row-is : (d : Direction) (l : List ℕ) (n at next : ℕ) (es : List Element) → Bits l → rowAt d l at n ≡ these es next
+    → RowIs d l at n es next
 unfolding rowAt elements-of place-of
 row-is d l zero at next es b h =
     let i : [] ≡ es = ap elements-of h in
     let j : at ≡ next = ap place-of h in
     rw (← i, ← j) (no-row d l at)
 row-is d l (suc k) at next es b h =
-    row-step d l at k next es b (λ (m n : ℕ) (ys : List Element) (q : rowAt d l m k ≡ these ys n). row-is d l k m n ys b q) (elementAt d l at .step) refl h
+    row-step d l at k next es b
+    (λ (m n : ℕ) (ys : List Element) (q : rowAt d l m k ≡ these ys n). row-is d l k m n ys b q)
+    (elementAt d l at .step) refl h

@@ -20,7 +20,8 @@ module _ (s : List ℕ) (e at : ℕ) (x : Piece) (xs : List Piece) (z : Left) (i
   piece-full r = rw (pieces-cons, ← k, r) at inv
 
 -- the last piece
-pub piece-last : (s : List ℕ) (e at : ℕ) (x : Piece) (z : Left) → putPieces s e at (x ∷ []) ≡ z → (t : List ℕ) (a : Put) → left a t ≡ putIf (x .fits) s e at (x .bits) → left a t ≡ z
+pub piece-last : (s : List ℕ) (e at : ℕ) (x : Piece) (z : Left) → putPieces s e at (x ∷ []) ≡ z → (t : List ℕ) (a : Put)
+    → left a t ≡ putIf (x .fits) s e at (x .bits) → left a t ≡ z
 piece-last s e at x z inv t a k = one-piece s t e at a x k ∙ inv
 
 -- pieces of a part, before those that follow
@@ -32,7 +33,8 @@ module _ (s : List ℕ) (e at : ℕ) (xs ys : List Piece) (z : Left) (inv : putP
   run-full r = rw (pieces-append, ← k, r) at inv
 
 -- a piece that may be absent
-pub piece-there : (s z : List ℕ) (e at : ℕ) (b : Bool) (x : Piece) (a : Put) → b ≡ true → left a z ≡ putIf (x .fits) s e at (x .bits) → left a z ≡ putPieces s e at (cond b (x ∷ []) [])
+pub piece-there : (s z : List ℕ) (e at : ℕ) (b : Bool) (x : Piece) (a : Put) → b ≡ true
+    → left a z ≡ putIf (x .fits) s e at (x .bits) → left a z ≡ putPieces s e at (cond b (x ∷ []) [])
 piece-there s z e at b x a h k = rw h (one-piece s z e at a x k)
 
 pub piece-absent : (s : List ℕ) (e at : ℕ) (b : Bool) (x : Piece) → b ≡ false → left (Next at) s ≡ putPieces s e at (cond b (x ∷ []) [])

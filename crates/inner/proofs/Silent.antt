@@ -67,7 +67,9 @@ unfolding allMost
 silent-take zero ps h = refl
 silent-take (suc n) [] h = refl
 silent-take (suc n) (e ∷ ps) h =
-    both-hold (leb (e .characters) 0) (allMost 0 (counts (take n ps))) (both-left (leb (e .characters) 0) (allMost 0 (counts ps)) h) (silent-take n ps (both-right (leb (e .characters) 0) (allMost 0 (counts ps)) h))
+    both-hold (leb (e .characters) 0) (allMost 0 (counts (take n ps)))
+    (both-left (leb (e .characters) 0) (allMost 0 (counts ps)) h)
+    (silent-take n ps (both-right (leb (e .characters) 0) (allMost 0 (counts ps)) h))
 
 row-silent : (d : Direction) (es : List Element) (t : List ℕ) → rowFits d es t ≡ true → allMost 0 (counts es) ≡ true → t ≡ []
 unfolding rowFits allMost
@@ -75,16 +77,21 @@ row-silent d [] t h s = no-item t (eqb-true (length t) 0 h)
 row-silent d (e ∷ es) t h s =
     let k : e .characters ≤ 0 = leb-true (e .characters) 0 (both-left (leb (e .characters) 0) (allMost 0 (counts es)) s) in
     let c : e .characters ≡ 0 = omega arith in
-    let r : rowFits d es (drop (e .characters) t) ≡ true = both-right (elementFits d e (take (e .characters) t)) (rowFits d es (drop (e .characters) t)) h in
+    let r : rowFits d es (drop (e .characters) t) ≡ true = both-right (elementFits d e (take (e .characters) t))
+    (rowFits d es (drop (e .characters) t)) h in
     row-silent d es t (rw c at r) (both-right (leb (e .characters) 0) (allMost 0 (counts es)) s)
 
-exactly-silent : (d : Direction) (l : List ℕ) (next : ℕ) → Bits l → exactly d l .step ≡ step.Next next → allMost 0 (counts (exactly d l .message .places)) ≡ true → messageText d l 0 (exactly d l .message) ≡ []
+exactly-silent : (d : Direction) (l : List ℕ) (next : ℕ) → Bits l → exactly d l .step ≡ step.Next next
+    → allMost 0 (counts (exactly d l .message .places)) ≡ true → messageText d l 0 (exactly d l .message) ≡ []
 exactly-silent d l next b h s =
     let m : Message = exactly d l .message in
-    row-silent d (take (m .count) (m .places)) (messageText d l 0 m) (fits-of d m (messageText d l 0 m) (message-stands d l 0 next m b (exactly-is d l next h .there) .fits) .row) (silent-take (m .count) (m .places) s)
+    row-silent d (take (m .count) (m .places)) (messageText d l 0 m)
+    (fits-of d m (messageText d l 0 m) (message-stands d l 0 next m b (exactly-is d l next h .there) .fits) .row)
+    (silent-take (m .count) (m .places) s)
 
 -- so there is nothing to copy
-pub silent-text : (d : Direction) (l z : List ℕ) (r : MessageRead) (next : ℕ) (q : Bool) → Bits l → r ≡ exactly d l → r .step ≡ step.Next next → q ≡ allMost 0 (counts (r .message .places)) → q ≡ true
+pub silent-text : (d : Direction) (l z : List ℕ) (r : MessageRead) (next : ℕ) (q : Bool) → Bits l → r ≡ exactly d l
+    → r .step ≡ step.Next next → q ≡ allMost 0 (counts (r .message .places)) → q ≡ true
     → (0 ≡ length (elementsText d l 0 (r .message .count))) × (z ≡ sets z 0 (elementsText d l 0 (r .message .count)))
 unfolding messageText
 silent-text d l z r next q b e i p s =

@@ -51,14 +51,18 @@ record WrittenIs (d : Direction) (m : Message) (t out : List ℕ) (n : ℕ) : Ty
   count : n ≡ length (messageBits d m t)
   bytes : writeMessage d m t out .bytes ≡ putBits out 0 (padded (messageBits d m t))
 
-written-is : (d : Direction) (m : Message) (t out : List ℕ) (n : ℕ) → writeMessage d m t out .answer ≡ written.Bits n → WrittenIs d m t out n
+written-is : (d : Direction) (m : Message) (t out : List ℕ) (n : ℕ) → writeMessage d m t out .answer ≡ written.Bits n
+    → WrittenIs d m t out n
 unfolding writeMessage
 written-is d m t out n h = go (ltb (length out) roomLeast) refl (messageCarried d m t) refl h refl
   where
     both : Bool → Bool → Done
-    both a b = cond a (done written.Room out) (cond b (done (written.Bits (length (messageBits d m t))) (putBits out 0 (padded (messageBits d m t)))) (done written.Shape out))
+    both a b = cond a (done written.Room out) (cond b
+        (done (written.Bits (length (messageBits d m t))) (putBits out 0 (padded (messageBits d m t))))
+        (done written.Shape out))
 
-    go : (a : Bool) → ltb (length out) roomLeast ≡ a → (b : Bool) → messageCarried d m t ≡ b → both a b .answer ≡ written.Bits n → writeMessage d m t out .bytes ≡ both a b .bytes → WrittenIs d m t out n
+    go : (a : Bool) → ltb (length out) roomLeast ≡ a → (b : Bool) → messageCarried d m t ≡ b
+        → both a b .answer ≡ written.Bits n → writeMessage d m t out .bytes ≡ both a b .bytes → WrittenIs d m t out n
     go true p b q e f = never (cc)
     go false p false q e f = never (cc)
     go false p true q e f = record { room = ltb-false (length out) roomLeast p; carried = q; count = cc; bytes = f }
@@ -75,20 +79,24 @@ record OpenedIs (d : Direction) (s : List ℕ) (n : ℕ) (z : List ℕ) (k : ℕ
 
 opened-is : (d : Direction) (s : List ℕ) (n : ℕ) (z : List ℕ) (k : ℕ) (m : Message) → openMessage d s n z .answer ≡ record { answer = opened.Characters k; message = m } → OpenedIs d s n z k m
 unfolding openMessage
-opened-is d s n z k m h = go (ltb (length z) roomLeast) refl (leb n bitsMost && leb n (8 * length s)) refl (exactly d (bitsTo s n) .step) refl h refl
+opened-is d s n z k m h = go (ltb (length z) roomLeast) refl (leb n bitsMost && leb n (8 * length s)) refl
+    (exactly d (bitsTo s n) .step) refl h refl
   where
     got : Message
     got = exactly d (bitsTo s n) .message
 
     tells : Bool → Bool → Step → Opening
-    tells a b w = cond a (opening (notOpened opened.Room) z) (cond b (openedAs z got (messageText d (bitsTo s n) 0 got) w) (opening (notOpened opened.Shape) z))
+    tells a b w = cond a (opening (notOpened opened.Room) z)
+        (cond b (openedAs z got (messageText d (bitsTo s n) 0 got) w) (opening (notOpened opened.Shape) z))
 
     go : (a : Bool) → ltb (length z) roomLeast ≡ a → (b : Bool) → leb n bitsMost && leb n (8 * length s) ≡ b → (w : Step) → exactly d (bitsTo s n) .step ≡ w → tells a b w .answer ≡ record { answer = opened.Characters k; message = m } → openMessage d s n z .text ≡ tells a b w .text → OpenedIs d s n z k m
     go true p b q w i e f = let g : opened.Room ≡ opened.Characters k = ap (λ (x : MessageOpened). x .answer) e in never (cc)
     go false p false q w i e f = let g : opened.Shape ≡ opened.Characters k = ap (λ (x : MessageOpened). x .answer) e in never (cc)
-    go false p true q (step.Refused r) i e f = let g : opened.Refused r ≡ opened.Characters k = ap (λ (x : MessageOpened). x .answer) e in never (cc)
+    go false p true q (step.Refused r) i e f = let g : opened.Refused r ≡ opened.Characters k = ap
+        (λ (x : MessageOpened). x .answer) e in never (cc)
     go false p true q (step.Next next) i e f =
-        let g : opened.Characters (length (messageText d (bitsTo s n) 0 got)) ≡ opened.Characters k = ap (λ (x : MessageOpened). x .answer) e in
+        let g : opened.Characters (length (messageText d (bitsTo s n) 0 got)) ≡ opened.Characters k = ap
+        (λ (x : MessageOpened). x .answer) e in
         let j : got ≡ m = ap (λ (x : MessageOpened). x .message) e in
         record {
           room = ltb-false (length z) roomLeast p;
@@ -108,7 +116,8 @@ front-bits out bs b h =
     let p : List ℕ = bs ++ bitsN (padding (length bs)) 0 in
     let n = length-append bs (bitsN (padding (length bs)) 0) in
     let r : take (length p) (bitsOf (putBits out 0 p)) ≡ p = read-back out 0 p (padded-are-bits bs b) (omega arith) in
-    sym (take-take (length bs) (length p) (bitsOf (putBits out 0 p)) (omega arith)) ∙ ap (take (length bs)) r ∙ take-at bs (bitsN (padding (length bs)) 0) (length bs) refl
+    sym (take-take (length bs) (length p) (bitsOf (putBits out 0 p)) (omega arith)) ∙ ap (take (length bs)) r ∙ take-at
+    bs (bitsN (padding (length bs)) 0) (length bs) refl
 
 length-padded : (bs : List ℕ) → length (padded bs) ≤ length bs + 7
 unfolding padded
@@ -124,7 +133,11 @@ module _ (d : Direction) (m : Message) (t : List ℕ) (h : messageFits d m t ≡
 
   read-alone : exactly d (messageBits d m t) ≡ isMessage m (length (messageBits d m t))
   unfolding exactly
-  read-alone = rw (message-reads d (messageBits d m t) 0 (length (messageBits d m t)) m t alone, lt-leb (length (messageBits d m t) + 1) (length (messageBits d m t)) (omega arith))
+  read-alone = rw (
+    message-reads d (messageBits d m t) 0 (length (messageBits d m t)) m t alone,
+    lt-leb
+        (length (messageBits d m t) + 1) (length (messageBits d m t)) (omega arith),
+  )
 
   text-alone : messageText d (messageBits d m t) 0 m ≡ t
   text-alone = message-text d (messageBits d m t) 0 (length (messageBits d m t)) m t alone
@@ -144,7 +157,17 @@ module _ (d : Direction) (m : Message) (t out text : List ℕ) (n : ℕ) where
       let p = length-padded bs in
       let k : length (putBits out 0 (padded bs)) ≡ length out = length-put (padded bs) out 0 in
       let b : bitsTo (putBits out 0 (padded bs)) (length bs) ≡ bs = front-bits out bs (message-are-bits d m t) (omega arith) in
-      rw (w .bytes, c, le-ltb (length text) roomLeast r, le-leb (length bs) bitsMost l, le-leb (length bs) (8 * length (putBits out 0 (padded bs))) (omega arith), b, read-alone d m t f, text-alone d m t f)
+      rw (
+        w .bytes,
+        c,
+        le-ltb (length text) roomLeast r,
+        le-leb (length bs) bitsMost l,
+        le-leb (length bs)
+            (8 * length (putBits out 0 (padded bs))) (omega arith),
+        b,
+        read-alone d m t f,
+        text-alone d m t f,
+      )
 
 -- ---- READ THEN WRITE: a message that was read is written as the same bits
 
@@ -169,7 +192,8 @@ module _ (d : Direction) (s : List ℕ) (n : ℕ) (text : List ℕ) (k : ℕ) (m
       let e = opened-is d s n text k m h .read .ends in
       sym (stands .holds) ∙ take-all (length (messageBits d m characters)) (bitsTo s n) (omega arith)
 
-  pub read-written : (out : List ℕ) → roomLeast ≤ length out → writeMessage d m characters out ≡ done (written.Bits n) (putBits out 0 (padded (bitsTo s n)))
+  pub read-written : (out : List ℕ) → roomLeast ≤ length out
+      → writeMessage d m characters out ≡ done (written.Bits n) (putBits out 0 (padded (bitsTo s n)))
   unfolding writeMessage
   read-written out r =
       let o = opened-is d s n text k m h in
@@ -180,21 +204,26 @@ module _ (d : Direction) (s : List ℕ) (n : ℕ) (text : List ℕ) (k : ℕ) (m
 
 -- ---- A REFUSED CALL LEAVES EVERY BYTE
 
-pub refused-leaves : (d : Direction) (m : Message) (t out : List ℕ) → ((n : ℕ) → writeMessage d m t out .answer ≡ written.Bits n → ⊥) → writeMessage d m t out .bytes ≡ out
+pub refused-leaves : (d : Direction) (m : Message) (t out : List ℕ)
+    → ((n : ℕ) → writeMessage d m t out .answer ≡ written.Bits n → ⊥) → writeMessage d m t out .bytes ≡ out
 unfolding writeMessage
 refused-leaves d m t out h = go (ltb (length out) roomLeast) (messageCarried d m t) h
   where
-    go : (a b : Bool) → ((n : ℕ) → cond a (done written.Room out) (cond b (done (written.Bits (length (messageBits d m t))) (putBits out 0 (padded (messageBits d m t)))) (done written.Shape out)) .answer ≡ written.Bits n → ⊥) → cond a (done written.Room out) (cond b (done (written.Bits (length (messageBits d m t))) (putBits out 0 (padded (messageBits d m t)))) (done written.Shape out)) .bytes ≡ out
+    go : (a b : Bool)
+        → ((n : ℕ) → cond a (done written.Room out) (cond b (done (written.Bits (length (messageBits d m t))) (putBits out 0 (padded (messageBits d m t)))) (done written.Shape out)) .answer ≡ written.Bits n → ⊥)
+        → cond a (done written.Room out) (cond b (done (written.Bits (length (messageBits d m t))) (putBits out 0 (padded (messageBits d m t)))) (done written.Shape out)) .bytes ≡ out
     go true b f = refl
     go false true f = absurd (f (length (messageBits d m t)) refl)
     go false false f = refl
 
-pub unread-leaves : (d : Direction) (s : List ℕ) (n : ℕ) (z : List ℕ) → ((k : ℕ) → openMessage d s n z .answer .answer ≡ opened.Characters k → ⊥) → openMessage d s n z .text ≡ z
+pub unread-leaves : (d : Direction) (s : List ℕ) (n : ℕ) (z : List ℕ)
+    → ((k : ℕ) → openMessage d s n z .answer .answer ≡ opened.Characters k → ⊥) → openMessage d s n z .text ≡ z
 unfolding openMessage
 unread-leaves d s n z h = go (ltb (length z) roomLeast) (leb n bitsMost && leb n (8 * length s)) (exactly d (bitsTo s n) .step) h
   where
     tells : Bool → Bool → Step → Opening
-    tells a b w = cond a (opening (notOpened opened.Room) z) (cond b (openedAs z (exactly d (bitsTo s n) .message) (messageText d (bitsTo s n) 0 (exactly d (bitsTo s n) .message)) w) (opening (notOpened opened.Shape) z))
+    tells a b w = cond a (opening (notOpened opened.Room) z) (cond b (openedAs z (exactly d (bitsTo s n) .message)
+        (messageText d (bitsTo s n) 0 (exactly d (bitsTo s n) .message)) w) (opening (notOpened opened.Shape) z))
 
     go : (a b : Bool) (w : Step) → ((k : ℕ) → tells a b w .answer .answer ≡ opened.Characters k → ⊥) → tells a b w .text ≡ z
     go true b w f = refl
@@ -243,12 +272,17 @@ times (suc n) t = t ++ times n t
 module _ (d : Direction) (e : Element) (t : List ℕ) (h : elementFits d e t ≡ true) where
   its-characters : length t ≡ e .characters
   unfolding elementFits
-  its-characters = sym (eqb-true (e .characters) (length t) (both-right (wholeFits 0 (lastOf d) (e .number)) (eqb (e .characters) (length t)) (both-left (wholeFits 0 (lastOf d) (e .number) && eqb (e .characters) (length t)) (argumentFits (kindOf d (e .number)) e t) h)))
+  its-characters = sym (eqb-true (e .characters) (length t) (both-right (wholeFits 0 (lastOf d) (e .number))
+      (eqb (e .characters) (length t)) (both-left
+      (wholeFits 0 (lastOf d) (e .number) && eqb (e .characters) (length t))
+      (argumentFits (kindOf d (e .number)) e t) h)))
 
   times-fit : (n : ℕ) → rowFits d (replicate n e) (times n t) ≡ true
   unfolding rowFits times
   times-fit zero = refl
-  times-fit (suc n) = rw (take-at t (times n t) (e .characters) its-characters, drop-at t (times n t) (e .characters) its-characters, h) (times-fit n)
+  times-fit (suc n) = rw
+      (take-at t (times n t) (e .characters) its-characters, drop-at t (times n t) (e .characters) its-characters, h)
+      (times-fit n)
 
   times-long : (n : ℕ) → length (rowBits d (replicate n e) (times n t)) ≡ n * length (elementBits d e t)
   unfolding rowBits times
@@ -256,7 +290,13 @@ module _ (d : Direction) (e : Element) (t : List ℕ) (h : elementFits d e t ≡
   times-long (suc n) =
       let k = times-long n in
       let a = length-append (elementBits d e t) (rowBits d (replicate n e) (times n t)) in
-      rw (take-at t (times n t) (e .characters) its-characters, drop-at t (times n t) (e .characters) its-characters, a, k, suc-mul) (add-comm (length (elementBits d e t)) (n * length (elementBits d e t)))
+      rw (
+        take-at t (times n t) (e .characters) its-characters,
+        drop-at t (times n t) (e .characters) its-characters,
+        a,
+        k,
+        suc-mul,
+      ) (add-comm (length (elementBits d e t)) (n * length (elementBits d e t)))
 
 module _ (d : Direction) (i n : ℕ) (x : Header) (hx : headerFits x ≡ true) (least : 1 ≤ n) (up : n ≤ 5) (hi : i ≤ lastOf d) (carried : kindOf d i ≡ kind.NotCarried → ⊥) where
   abbrev one : Element
@@ -277,8 +317,20 @@ module _ (d : Direction) (i n : ℕ) (x : Header) (hx : headerFits x ≡ true) (
       let a = length-append (replicate n one) (replicate (5 - n) (bare 0)) in
       let b = length-replicate n one in
       let c = length-replicate (5 - n) (bare 0) in
-      rw (hx, le-leb 1 n least, le-leb n 5 up, eq-eqb (length (replicate n one ++ replicate (5 - n) (bare 0))) 5 (omega arith), firsts, drop-at (replicate n one) (replicate (5 - n) (bare 0)) n b, times-fit d one (most (kindOf d i)) (largest-fits d i hi carried) n, places-empty (5 - n))
+      rw (
+        hx,
+        le-leb 1 n least,
+        le-leb n 5 up,
+        eq-eqb (length (replicate n one ++ replicate (5 - n) (bare 0))) 5
+            (omega arith),
+        firsts,
+        drop-at (replicate n one) (replicate (5 - n) (bare 0)) n b,
+        times-fit d one
+            (most (kindOf d i)) (largest-fits d i hi carried) n,
+        places-empty (5 - n),
+      )
 
   pub fullest-reached : length (messageBits d fullest fullestText) ≡ length (headerBits x) + 4 + n * (indexWidth d + largestOf (kindOf d i))
   fullest-reached =
-      length-message d fullest fullestText ∙ rw (firsts, times-long d one (most (kindOf d i)) (largest-fits d i hi carried) n, largest-reached d i)
+      length-message d fullest fullestText ∙ rw
+      (firsts, times-long d one (most (kindOf d i)) (largest-fits d i hi carried) n, largest-reached d i)

@@ -45,7 +45,8 @@ pub record InPlace (rd : List ℕ → ℕ → Field) : Type 0 where
   pub takes : (l : List ℕ) (at n next : ℕ) → Bits l → rd l at ≡ field.Value n next → takesAll rd (take n (drop at l)) ≡ true
   pub count : (l : List ℕ) (at n next : ℕ) → Bits l → rd l at ≡ field.Value n next → length (take n (drop at l)) ≡ n
   -- what is taken whole is read wherever it stands
-  pub reads : (l bs : List ℕ) (at next : ℕ) → Bits bs → takesAll rd bs ≡ true → trip.Stands l at bs next → rd l at ≡ field.Value (length bs) next
+  pub reads : (l bs : List ℕ) (at next : ℕ) → Bits bs → takesAll rd bs ≡ true → trip.Stands l at bs next
+      → rd l at ≡ field.Value (length bs) next
 
 -- ---- from values with bits
 
@@ -62,9 +63,11 @@ module _ {Val : Type 0} (ok : Val → Bool) (bits : Val → List ℕ) (rd : List
     there-is = let f = found l at n next b e in ap (λ (x : ℕ). take x (drop at l)) (f .long) ∙ f .there .holds
 
     stands-there : trip.Stands l at (take n (drop at l)) next
-    stands-there = let f = found l at n next b e in subst (λ (x : List ℕ). trip.Stands l at x next) (sym there-is) (as-field l at next _ (bits (f .value)) (f .some) (f .there))
+    stands-there = let f = found l at n next b e in subst (λ (x : List ℕ). trip.Stands l at x next) (sym there-is)
+        (as-field l at next _ (bits (f .value)) (f .some) (f .there))
 
-    alone : rd (bits (found l at n next b e .value)) 0 ≡ field.Value (length (bits (found l at n next b e .value))) (length (bits (found l at n next b e .value)))
+    alone : rd (bits (found l at n next b e .value)) 0 ≡ field.Value (length (bits (found l at n next b e .value)))
+        (length (bits (found l at n next b e .value)))
     alone =
         let f = found l at n next b e in
         let v : Val = found l at n next b e .value in
@@ -72,7 +75,8 @@ module _ {Val : Type 0} (ok : Val → Bool) (bits : Val → List ℕ) (rd : List
 
     takes-alone : takesAll rd (bits (found l at n next b e .value)) ≡ true
     unfolding takesAll
-    takes-alone = ap (isAll (length (bits (found l at n next b e .value)))) alone ∙ eq-eqb (length (bits (found l at n next b e .value))) (length (bits (found l at n next b e .value))) refl
+    takes-alone = ap (isAll (length (bits (found l at n next b e .value)))) alone ∙ eq-eqb
+        (length (bits (found l at n next b e .value))) (length (bits (found l at n next b e .value))) refl
 
     takes-whole : takesAll rd (take n (drop at l)) ≡ true
     takes-whole = subst (λ (x : List ℕ). takesAll rd x ≡ true) (sym there-is) takes-alone
@@ -130,7 +134,8 @@ module _ (d : Direction) where
           record { value = record { message = messageAt d l at .message; text = messageText d l at (messageAt d l at .message) }; there = rw (← j) s; some = omega arith; long = omega arith }
       go (step.Refused r) p q = never (cc)
 
-  message-back : (l : List ℕ) (at next : ℕ) (v : Written) → Stands l at (okMessage v) (bitsMessage v) next → messageSpan d l at ≡ field.Value (length (bitsMessage v)) next
+  message-back : (l : List ℕ) (at next : ℕ) (v : Written) → Stands l at (okMessage v) (bitsMessage v) next
+      → messageSpan d l at ≡ field.Value (length (bitsMessage v)) next
   unfolding messageSpan
   message-back l at next v s =
       let e = message-reads d l at next (v .message) (v .text) s in
@@ -154,7 +159,8 @@ module _ (d : Direction) where
   abbrev bitsElements : Listed → List ℕ
   bitsElements v = bodyBits d (v .elements) (v .text)
 
-  elements-found : (l : List ℕ) (at n next : ℕ) → Bits l → elementsSpan d l at ≡ field.Value n next → Found okElements bitsElements l at n next
+  elements-found : (l : List ℕ) (at n next : ℕ) → Bits l → elementsSpan d l at ≡ field.Value n next
+      → Found okElements bitsElements l at n next
   unfolding elementsSpan
   elements-found l at n next b e = go (bodyAt d l noHeader at .step) refl e
     where
@@ -169,7 +175,8 @@ module _ (d : Direction) where
           record { value = record { elements = f .es; text = f .text }; there = rw (← j) (f .there); some = omega arith; long = omega arith }
       go (step.Refused r) p q = never (cc)
 
-  elements-back : (l : List ℕ) (at next : ℕ) (v : Listed) → Stands l at (okElements v) (bitsElements v) next → elementsSpan d l at ≡ field.Value (length (bitsElements v)) next
+  elements-back : (l : List ℕ) (at next : ℕ) (v : Listed) → Stands l at (okElements v) (bitsElements v) next
+      → elementsSpan d l at ≡ field.Value (length (bitsElements v)) next
   unfolding elementsSpan
   elements-back l at next v s =
       let e = body-reads d l at next noHeader (v .elements) (v .text) s in

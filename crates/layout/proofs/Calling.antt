@@ -71,7 +71,8 @@ module _ (d : Direction) (s : List ℕ) (n : ℕ) (t u : List ℕ) (r : MessageO
 
   read-is : Read
   unfolding openMessage
-  read-is = go (ltb (length t) roomLeast) (leb n bitsMost && leb n (8 * length s)) (exactly d (bitsTo s n) .message) (exactly d (bitsTo s n) .step) refl e
+  read-is = go (ltb (length t) roomLeast) (leb n bitsMost && leb n (8 * length s)) (exactly d (bitsTo s n) .message)
+      (exactly d (bitsTo s n) .step) refl e
     where
       go : (a b : Bool) (y : Message) (z : Step) → exactly d (bitsTo s n) ≡ record { step = z; message = y } → opening r u ≡ cond a (opening (notOpened opened.Room) t) (cond b (openedAs t y (messageText d (bitsTo s n) 0 y) z) (opening (notOpened opened.Shape) t)) → Read
       go true b y z x q = let g : r .answer ≡ opened.Room = ap (λ (o : Opening). o .answer .answer) q in never (cc)
@@ -94,7 +95,8 @@ module _ (d : Direction) (s : List ℕ) (n : ℕ) (t u : List ℕ) (r : MessageO
   opened-few =
       let x = read-is in
       let k = x .count in
-      let g : length (messageText d (bitsTo s n) 0 (r .message)) ≤ charactersMost = rw (x .exact) at (exactly-few d (bitsTo s n) (x .next) (bits-to s n) (ap (λ (o : MessageRead). o .step) (x .exact))) in
+      let g : length (messageText d (bitsTo s n) 0 (r .message)) ≤ charactersMost = rw (x .exact) at
+      (exactly-few d (bitsTo s n) (x .next) (bits-to s n) (ap (λ (o : MessageRead). o .step) (x .exact))) in
       omega arith
 
 -- ---- the ways out of `read_call`
@@ -130,27 +132,34 @@ module _ (d : ℕ) (s : List ℕ) (n : ℕ) (m t : List ℕ) where
       unfolding toldAs
       read-refused f c g k = rw k (read-as (opened.Refused f) g)
 
-      pub read-taken : (c : ℕ) (b : Bool) (z : List ℕ) → r .answer ≡ opened.Characters c → kept b z ≡ storeAt m (r .message) → told (256 * c) z u ≡ readCall d s n m t
+      pub read-taken : (c : ℕ) (b : Bool) (z : List ℕ) → r .answer ≡ opened.Characters c
+          → kept b z ≡ storeAt m (r .message) → told (256 * c) z u ≡ readCall d s n m t
       unfolding toldAs
-      read-taken c b z f g = rw (stored-is m z (r .message) b sized (opened-storable x s n t u r e c f .fit) g) (read-as (opened.Characters c) f)
+      read-taken c b z f g = rw (stored-is m z (r .message) b sized (opened-storable x s n t u r e c f .fit) g)
+          (read-as (opened.Characters c) f)
 
       -- what reading leaves is loaded as the message that was read
       pub read-loaded : (c : ℕ) → r .answer ≡ opened.Characters c → loadAt (readCall d s n m t .message) ≡ loadedAs (r .message)
       unfolding toldAs
-      read-loaded c f = let y = opened-storable x s n t u r e c f in rw (← read-as (opened.Characters c) f) (loaded-bytes (r .message) (y .typed) (y .fit))
+      read-loaded c f = let y = opened-storable x s n t u r e c f in rw (← read-as (opened.Characters c) f)
+          (loaded-bytes (r .message) (y .typed) (y .fit))
 
 -- ---- the ways out of `write_call`
 
-pub written-few : (d : Direction) (m : Message) (t o z : List ℕ) (a : MessageWritten) (n : ℕ) → done a z ≡ writeMessage d m t o → a ≡ written.Bits n → n ≤ bitsMost
+pub written-few : (d : Direction) (m : Message) (t o z : List ℕ) (a : MessageWritten) (n : ℕ)
+    → done a z ≡ writeMessage d m t o → a ≡ written.Bits n → n ≤ bitsMost
 unfolding writeMessage
 written-few d m t o z a n e h = go (ltb (length o) roomLeast) (messageCarried d m t) refl e
   where
-    go : (x y : Bool) → messageCarried d m t ≡ y → done a z ≡ cond x (done written.Room o) (cond y (done (written.Bits (length (messageBits d m t))) (putBits o 0 (padded (messageBits d m t)))) (done written.Shape o)) → n ≤ bitsMost
+    go : (x y : Bool) → messageCarried d m t ≡ y
+        → done a z ≡ cond x (done written.Room o) (cond y (done (written.Bits (length (messageBits d m t))) (putBits o 0 (padded (messageBits d m t)))) (done written.Shape o))
+        → n ≤ bitsMost
     go true y p q = let g : a ≡ written.Room = ap (λ (w : Done). w .answer) q in never (cc)
     go false true p q =
         let g : a ≡ written.Bits (length (messageBits d m t)) = ap (λ (w : Done). w .answer) q in
         let f : n ≡ length (messageBits d m t) = cc in
-        let k = leb-true (length (messageBits d m t)) bitsMost (both-right (messageFits d m t) (leb (length (messageBits d m t)) bitsMost) p) in
+        let k = leb-true (length (messageBits d m t)) bitsMost
+        (both-right (messageFits d m t) (leb (length (messageBits d m t)) bitsMost) p) in
         omega arith
     go false false p q = let g : a ≡ written.Shape = ap (λ (w : Done). w .answer) q in never (cc)
 
@@ -169,6 +178,7 @@ module _ (d : ℕ) (b t o : List ℕ) where
       unfolding writeCall writeBy
       write-no-way q = rw (le-ltb (length o) roomLeast h, ← e, k, ← p, q)
 
-      pub write-is : (x : Direction) → w ≡ way.Is x → (a v : MessageWritten) (z : List ℕ) → done a z ≡ writeMessage x (messageOf b) t o → a ≡ v → sentAs v z ≡ writeCall d b t o
+      pub write-is : (x : Direction) → w ≡ way.Is x → (a v : MessageWritten) (z : List ℕ)
+          → done a z ≡ writeMessage x (messageOf b) t o → a ≡ v → sentAs v z ≡ writeCall d b t o
       unfolding writeCall writeBy sentOf
       write-is x q a v z f g = rw (le-ltb (length o) roomLeast h, ← e, k, laid-is b (sym e ∙ k) .1, ← p, q, ← f, g)

@@ -14,10 +14,12 @@ use Rattle.inner.proofs.RowPieces.{sized}
 use Rattle.layout.specs.Layout.{headerOf, messageOf}
 
 module _ (b : List ℕ) (h : Header) (p : h ≡ headerOf b) where
-  pub front-measured : (r : Size) → r ≡ sized (headerFits h) (headerBits h) → r ≡ sized (headerFits (messageOf b .header)) (headerBits (messageOf b .header))
+  pub front-measured : (r : Size) → r ≡ sized (headerFits h) (headerBits h)
+      → r ≡ sized (headerFits (messageOf b .header)) (headerBits (messageOf b .header))
   unfolding messageOf
   front-measured r k = rw (← p) k
 
-  pub front-put : (s u : List ℕ) (e at : ℕ) (a : Put) → left a u ≡ putPieces s e at (headerPieces h) → left a u ≡ putPieces s e at (headerPieces (messageOf b .header))
+  pub front-put : (s u : List ℕ) (e at : ℕ) (a : Put) → left a u ≡ putPieces s e at (headerPieces h)
+      → left a u ≡ putPieces s e at (headerPieces (messageOf b .header))
   unfolding messageOf
   front-put s u e at a k = rw (← p) k

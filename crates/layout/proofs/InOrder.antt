@@ -58,17 +58,20 @@ abbrev pub Standing : List ℕ → ℕ → Type 0
 Standing b i = (i ≤ 5) × (placesStand (5 - i) (drop (12 + 24 * i) b) ≡ placesStand 5 (drop 12 b))
 
 module _ (b : List ℕ) (i : ℕ) (h : i < 5) where
-  standing-suc : placesStand (5 - i) (drop (12 + 24 * i) b) ≡ (placeStands (take 24 (drop (12 + 24 * i) b)) && placesStand (5 - (i + 1)) (drop (12 + 24 * (i + 1)) b))
+  standing-suc : placesStand (5 - i) (drop (12 + 24 * i) b) ≡
+      (placeStands (take 24 (drop (12 + 24 * i) b)) && placesStand (5 - (i + 1)) (drop (12 + 24 * (i + 1)) b))
   standing-suc =
       let k : 5 - i ≡ suc (5 - (i + 1)) = omega arith in
       rw (k, stand-suc, next b i)
 
-  pub standing-more : (t : Bool) → t ≡ placeStands (take (12 + 24 * i + 24 - (12 + 24 * i)) (drop (12 + 24 * i) b)) → t ≡ true → Standing b i → Standing b (i + 1)
+  pub standing-more : (t : Bool) → t ≡ placeStands (take (12 + 24 * i + 24 - (12 + 24 * i)) (drop (12 + 24 * i) b))
+      → t ≡ true → Standing b i → Standing b (i + 1)
   standing-more t p q inv =
       let e : placeStands (take 24 (drop (12 + 24 * i) b)) ≡ true = rw (← part b i, ← p, q) in
       (omega arith, rw (standing-suc, e) at (inv .1))
 
-  pub standing-not : (t : Bool) → t ≡ placeStands (take (12 + 24 * i + 24 - (12 + 24 * i)) (drop (12 + 24 * i) b)) → t ≡ false → Standing b i → false ≡ placesStand 5 (drop 12 b)
+  pub standing-not : (t : Bool) → t ≡ placeStands (take (12 + 24 * i + 24 - (12 + 24 * i)) (drop (12 + 24 * i) b))
+      → t ≡ false → Standing b i → false ≡ placesStand 5 (drop 12 b)
   standing-not t p q inv =
       let e : placeStands (take 24 (drop (12 + 24 * i) b)) ≡ false = rw (← part b i, ← p, q) in
       rw (standing-suc, e) at (inv .1)
@@ -138,11 +141,14 @@ pub record Putting (s₀ s : List ℕ) (m : List Element) (i : ℕ) : Type 0 whe
 pub putting-start : (s : List ℕ) (m : List Element) → Putting s s m 0
 putting-start s m = record { count = omega arith; same = refl; rest = refl }
 
-pub putting-more : (s₀ s z a : List ℕ) (m : List Element) (d : Element) (i : ℕ) → length m ≡ 5 → i < 5 → a ≡ placeBytes (getD m i d) → z ≡ sets s (12 + 24 * i) a → length z ≡ length s → Putting s₀ s m i → Putting s₀ z m (i + 1)
+pub putting-more : (s₀ s z a : List ℕ) (m : List Element) (d : Element) (i : ℕ) → length m ≡ 5 → i < 5
+    → a ≡ placeBytes (getD m i d) → z ≡ sets s (12 + 24 * i) a → length z ≡ length s → Putting s₀ s m i
+    → Putting s₀ z m (i + 1)
 putting-more s₀ s z a m d i five h p q l inv =
     let k : drop i m ≡ getD m i d ∷ drop (i + 1) m = rw (add-one i) (drop-cons m i d (omega arith)) in
     let n : 12 + 24 * i + 24 ≡ 12 + 24 * (i + 1) = omega arith in
-    let y : sets (sets s (12 + 24 * i) a) (12 + 24 * (i + 1)) (placesBytes (drop (i + 1) m)) ≡ sets s₀ 12 (placesBytes m) = rw (k, bytes-cons, sets-append, length-place, n, ← p) at (inv .rest) in
+    let y : sets (sets s (12 + 24 * i) a) (12 + 24 * (i + 1)) (placesBytes (drop (i + 1) m)) ≡ sets s₀ 12
+    (placesBytes m) = rw (k, bytes-cons, sets-append, length-place, n, ← p) at (inv .rest) in
     record { count = omega arith; same = l ∙ inv .same; rest = rw q y }
 
 pub putting-done : (s₀ s : List ℕ) (m : List Element) (i : ℕ) → length m ≡ 5 → 5 ≤ i → Putting s₀ s m i → s ≡ sets s₀ 12 (placesBytes m)

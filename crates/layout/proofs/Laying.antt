@@ -37,12 +37,21 @@ module _ (b : List ℕ) where
         known false = refl
 
 -- the message that they say
-pub laid-is : (b : List ℕ) → loadAt b .known ≡ true → (length b ≡ 132) × (loadAt b .message ≡ messageOf b) × (placesStand 5 (drop 12 b) ≡ true)
+pub laid-is : (b : List ℕ) → loadAt b .known ≡ true
+    → (length b ≡ 132) × (loadAt b .message ≡ messageOf b) × (placesStand 5 (drop 12 b) ≡ true)
 unfolding loadAt
 laid-is b h = go (eqb (length b) 132 && frontStands b && placesStand 5 (drop 12 b)) refl h
   where
-    go : (x : Bool) → eqb (length b) 132 && frontStands b && placesStand 5 (drop 12 b) ≡ x → cond x (isMessage (messageOf b)) noMessage .known ≡ true → (length b ≡ 132) × (cond x (isMessage (messageOf b)) noMessage .message ≡ messageOf b) × (placesStand 5 (drop 12 b) ≡ true)
-    go true e k = (eqb-true (length b) 132 (both-left (eqb (length b) 132) (frontStands b) (both-left (eqb (length b) 132 && frontStands b) (placesStand 5 (drop 12 b)) e)), refl, both-right (eqb (length b) 132 && frontStands b) (placesStand 5 (drop 12 b)) e)
+    go : (x : Bool) → eqb (length b) 132 && frontStands b && placesStand 5 (drop 12 b) ≡ x
+        → cond x (isMessage (messageOf b)) noMessage .known ≡ true
+        → (length b ≡ 132) × (cond x (isMessage (messageOf b)) noMessage .message ≡ messageOf b) × (placesStand 5 (drop 12 b) ≡ true)
+    go true e k = (
+      eqb-true (length b) 132 (both-left (eqb (length b) 132) (frontStands b)
+          (both-left (eqb (length b) 132 && frontStands b) (placesStand 5 (drop 12 b)) e)),
+      refl,
+      both-right
+          (eqb (length b) 132 && frontStands b) (placesStand 5 (drop 12 b)) e,
+    )
     go false e k = never (cc)
 
 -- ---- storing
@@ -74,7 +83,8 @@ module _ (b : List ℕ) (m : Message) where
       unfolding storeAt bytesFit
       store-places q = rw (eq-eqb (length b) 132 sized, lt-ltb (m .count) 256 h, ← p, q)
 
-      pub store-is : t ≡ true → (a y z : List ℕ) → length (m .places) ≡ 5 → a ≡ frontBytes (m .header) (m .count) → y ≡ sets b 0 a → z ≡ sets y 12 (placesBytes (m .places)) → kept true z ≡ storeAt b m
+      pub store-is : t ≡ true → (a y z : List ℕ) → length (m .places) ≡ 5 → a ≡ frontBytes (m .header) (m .count)
+          → y ≡ sets b 0 a → z ≡ sets y 12 (placesBytes (m .places)) → kept true z ≡ storeAt b m
       unfolding storeAt bytesFit messageBytes
       store-is q a y z five f g k = rw (eq-eqb (length b) 132 sized, lt-ltb (m .count) 256 h, ← p, q) (ap (kept true) whole)
         where

@@ -22,17 +22,24 @@ use Rattle.layout.proofs.StructTypes.{LevelTyped, ElementTyped}
 
 -- ---- the bytes, as the code has them
 
-pub front-is : (h : Header) (n r y₁ y₀ a : ℕ) → r ≡ flag (h .referenced) → y₁ ≡ h .dated .year / 256 % 256 → y₀ ≡ h .dated .year % 256 → a ≡ flag (h .acknowledged)
-    → h .identification ∷ r ∷ h .reference ∷ y₁ ∷ y₀ ∷ h .dated .month ∷ h .dated .day ∷ h .dated .time .hours ∷ h .dated .time .minutes ∷ h .dated .seconds ∷ a ∷ n ∷ [] ≡ frontBytes h n
+pub front-is : (h : Header) (n r y₁ y₀ a : ℕ) → r ≡ flag (h .referenced) → y₁ ≡ h .dated .year / 256 % 256
+    → y₀ ≡ h .dated .year % 256 → a ≡ flag (h .acknowledged)
+    → h .identification ∷ r ∷ h .reference ∷ y₁ ∷ y₀ ∷ h .dated .month ∷ h .dated .day ∷ h .dated .time .hours ∷
+    h .dated .time .minutes ∷ h .dated .seconds ∷ a ∷ n ∷ [] ≡ frontBytes h n
 unfolding frontBytes
 front-is h n r y₁ y₀ a p q s t = rw (p, q, s, t)
 
 pub place-is : (e : Element) (c₁ c₀ f a₁ a₀ b₁ b₀ g p₁ p₀ q₁ q₀ z : ℕ) → c₁ ≡ e .characters / 256 % 256 → c₀ ≡ e .characters % 256
-    → f ≡ flag (e .level .block) → a₁ ≡ e .level .first .number / 256 % 256 → a₀ ≡ e .level .first .number % 256 → b₁ ≡ e .level .second .number / 256 % 256 → b₀ ≡ e .level .second .number % 256
-    → g ≡ flag (e .other .block) → p₁ ≡ e .other .first .number / 256 % 256 → p₀ ≡ e .other .first .number % 256 → q₁ ≡ e .other .second .number / 256 % 256 → q₀ ≡ e .other .second .number % 256 → z ≡ 0
-    → e .number ∷ c₁ ∷ c₀ ∷ f ∷ e .level .first .unit ∷ a₁ ∷ a₀ ∷ e .level .second .unit ∷ b₁ ∷ b₀ ∷ g ∷ e .other .first .unit ∷ p₁ ∷ p₀ ∷ e .other .second .unit ∷ q₁ ∷ q₀ ∷ e .time .hours ∷ e .time .minutes ∷ getD (e .code) 0 0 ∷ getD (e .code) 1 0 ∷ getD (e .code) 2 0 ∷ getD (e .code) 3 0 ∷ z ∷ [] ≡ placeBytes e
+    → f ≡ flag (e .level .block) → a₁ ≡ e .level .first .number / 256 % 256 → a₀ ≡ e .level .first .number % 256 → b₁ ≡
+    e .level .second .number / 256 % 256 → b₀ ≡ e .level .second .number % 256
+    → g ≡ flag (e .other .block) → p₁ ≡ e .other .first .number / 256 % 256 → p₀ ≡ e .other .first .number % 256 → q₁ ≡
+    e .other .second .number / 256 % 256 → q₀ ≡ e .other .second .number % 256 → z ≡ 0
+    → e .number ∷ c₁ ∷ c₀ ∷ f ∷ e .level .first .unit ∷ a₁ ∷ a₀ ∷ e .level .second .unit ∷ b₁ ∷ b₀ ∷ g ∷
+    e .other .first .unit ∷ p₁ ∷ p₀ ∷ e .other .second .unit ∷ q₁ ∷ q₀ ∷ e .time .hours ∷ e .time .minutes ∷ getD
+    (e .code) 0 0 ∷ getD (e .code) 1 0 ∷ getD (e .code) 2 0 ∷ getD (e .code) 3 0 ∷ z ∷ [] ≡ placeBytes e
 unfolding placeBytes
-place-is e c₁ c₀ f a₁ a₀ b₁ b₀ g p₁ p₀ q₁ q₀ z h₁ h₂ h₃ h₄ h₅ h₆ h₇ h₈ h₉ k₁ k₂ k₃ k₄ = rw (h₁, h₂, h₃, h₄, h₅, h₆, h₇, h₈, h₉, k₁, k₂, k₃, k₄)
+place-is e c₁ c₀ f a₁ a₀ b₁ b₀ g p₁ p₀ q₁ q₀ z h₁ h₂ h₃ h₄ h₅ h₆ h₇ h₈ h₉ k₁ k₂ k₃ k₄ = rw
+    (h₁, h₂, h₃, h₄, h₅, h₆, h₇, h₈, h₉, k₁, k₂, k₃, k₄)
 
 pub length-front : (h : Header) (n : ℕ) → length (frontBytes h n) ≡ 12
 unfolding frontBytes
@@ -74,11 +81,19 @@ count-back h n rest = refl
 
 pub front-stands : (h : Header) (n : ℕ) (rest : List ℕ) → frontStands (frontBytes h n ++ rest) ≡ true
 unfolding frontStands frontBytes
-front-stands h n rest = rw (lt-ltb (flag (h .referenced)) 2 (flag-low (h .referenced)), lt-ltb (flag (h .acknowledged)) 2 (flag-low (h .acknowledged)))
+front-stands h n rest = rw (
+  lt-ltb (flag (h .referenced)) 2 (flag-low (h .referenced)),
+  lt-ltb (flag (h .acknowledged))
+      2 (flag-low (h .acknowledged)),
+)
 
 pub place-stands : (e : Element) → placeStands (placeBytes e) ≡ true
 unfolding placeStands placeBytes
-place-stands e = rw (lt-ltb (flag (e .level .block)) 2 (flag-low (e .level .block)), lt-ltb (flag (e .other .block)) 2 (flag-low (e .other .block)))
+place-stands e = rw (
+  lt-ltb (flag (e .level .block)) 2 (flag-low (e .level .block)),
+  lt-ltb (flag (e .other .block)) 2
+      (flag-low (e .other .block)),
+)
 
 level-back : (x : Level) → LevelTyped x → _≡_ {A = Level} (record { block = eqb (flag (x .block)) 1; first = record { unit = x .first .unit; number = x .first .number / 256 % 256 * 256 + x .first .number % 256 }; second = record { unit = x .second .unit; number = x .second .number / 256 % 256 * 256 + x .second .number % 256 } }) x
 level-back x t = rw (flag-back (x .block), two-back (x .first .number) (t .number), two-back (x .second .number) (t .secondNumber))

@@ -109,7 +109,9 @@ said (suc n) p h s t =
     let b = bytes-take 24 p s in
     let r = said n (drop 24 p) d (bytes-drop 24 p s) (both-right (placeStands (take 24 p)) (placesStand n (drop 24 p)) u) in
     record {
-      bytes = rw (place-of (take 24 p) l b (both-left (placeStands (take 24 p)) (placesStand n (drop 24 p)) u), r .bytes) (take-append-drop 24 p);
+      bytes = rw
+          (place-of (take 24 p) l b (both-left (placeStands (take 24 p)) (placesStand n (drop 24 p)) u), r .bytes)
+          (take-append-drop 24 p);
       fit = rw (lt-ltb (elementOf (take 24 p) .characters) 65536 (characters-of (take 24 p) b)) (r .fit);
       count = ap suc (r .count);
       typed = more (elementOf (take 24 p)) (elementsOf n (drop 24 p)) (element-typed (take 24 p) b) (r .typed);
@@ -167,13 +169,15 @@ loaded b m s e = known _ refl e
           sized = sized;
         }
 
-    known : (t : Bool) → (eqb (length b) 132 && frontStands b && placesStand 5 (drop 12 b)) ≡ t → cond t (isMessage (messageOf b)) noMessage ≡ isMessage m → Loaded b m
+    known : (t : Bool) → (eqb (length b) 132 && frontStands b && placesStand 5 (drop 12 b)) ≡ t
+        → cond t (isMessage (messageOf b)) noMessage ≡ isMessage m → Loaded b m
     known true p f = subst (Loaded b) (ap (λ (o : Laid). o .message) f) (is p)
     known false p f = let z : false ≡ true = ap (λ (o : Laid). o .known) f in let n : _≡_ {A = ℕ} 0 1 = cc in absurd (omega arith)
 
 -- ---- over the calls
 
-stored : (b z : List ℕ) (m : Message) (t : Bool) → (eqb (length b) 132 && bytesFit m) ≡ t → cond t (kept true (messageBytes m)) (kept false b) ≡ kept true z → (bytesFit m ≡ true) × (messageBytes m ≡ z)
+stored : (b z : List ℕ) (m : Message) (t : Bool) → (eqb (length b) 132 && bytesFit m) ≡ t
+    → cond t (kept true (messageBytes m)) (kept false b) ≡ kept true z → (bytesFit m ≡ true) × (messageBytes m ≡ z)
 stored b z m true p e = (both-right (eqb (length b) 132) (bytesFit m) p, ap (λ (k : Kept). k .bytes) e)
 stored b z m false p e = let y : false ≡ true = ap (λ (k : Kept). k .done) e in let n : _≡_ {A = ℕ} 0 1 = cc in absurd (omega arith)
 

@@ -40,7 +40,9 @@ record Took (d : ℕ) (s : List ℕ) (n : ℕ) (m t : List ℕ) (c : ℕ) : Type
   text : readCall d s n m t .text ≡ openMessage direction s n t .text
 
 module _ (d : ℕ) (s : List ℕ) (n : ℕ) (m t : List ℕ) (c : ℕ) where
-  took-as : (x : Direction) → wayOf d ≡ way.Is x → (a : Opened) → openMessage x s n t .answer .answer ≡ a → readCall d s n m t ≡ toldAs m (openMessage x s n t .answer .message) (openMessage x s n t .text) a → readCall d s n m t .number ≡ 256 * c → Took d s n m t c
+  took-as : (x : Direction) → wayOf d ≡ way.Is x → (a : Opened) → openMessage x s n t .answer .answer ≡ a
+      → readCall d s n m t ≡ toldAs m (openMessage x s n t .answer .message) (openMessage x s n t .text) a
+      → readCall d s n m t .number ≡ 256 * c → Took d s n m t c
   unfolding toldAs
   took-as x p (opened.Characters k) f e h =
       let g = ap (λ (o : Told). o .number) e in
@@ -77,7 +79,8 @@ module _ (d : ℕ) (s : List ℕ) (n : ℕ) (m t : List ℕ) (c : ℕ) (h : read
       let y = opened-storable (k .direction) s n t (o .text) (o .answer) refl c (k .answer) in
       ap loadAt (k .message) ∙ loaded-bytes (o .answer .message) (y .typed) (y .fit)
 
-  pub call-read-written : (out : List ℕ) → roomLeast ≤ length out → writeCall d (readCall d s n m t .message) (take c (readCall d s n m t .text)) out ≡ sent (16777216 * n) (putBits out 0 (padded (bitsTo s n)))
+  pub call-read-written : (out : List ℕ) → roomLeast ≤ length out
+      → writeCall d (readCall d s n m t .message) (take c (readCall d s n m t .text)) out ≡ sent (16777216 * n) (putBits out 0 (padded (bitsTo s n)))
   unfolding writeCall writeBy sentOf sentAs
   call-read-written out r =
       let k = took d s n m t c h in
@@ -95,7 +98,10 @@ record Gave (d : ℕ) (b t out : List ℕ) (n : ℕ) : Type 0 where
   bytes : writeCall d b t out .bytes ≡ writeMessage direction (loadAt b .message) t out .bytes
 
 module _ (d : ℕ) (b t out : List ℕ) (n : ℕ) where
-  gave-as : (x : Direction) → wayOf d ≡ way.Is x → loadAt b ≡ loadedAs (loadAt b .message) → (a : MessageWritten) → writeMessage x (loadAt b .message) t out .answer ≡ a → writeCall d b t out ≡ sentAs a (writeMessage x (loadAt b .message) t out .bytes) → writeCall d b t out .number ≡ 16777216 * n → Gave d b t out n
+  gave-as : (x : Direction) → wayOf d ≡ way.Is x → loadAt b ≡ loadedAs (loadAt b .message) → (a : MessageWritten)
+      → writeMessage x (loadAt b .message) t out .answer ≡ a
+      → writeCall d b t out ≡ sentAs a (writeMessage x (loadAt b .message) t out .bytes)
+      → writeCall d b t out .number ≡ 16777216 * n → Gave d b t out n
   unfolding sentAs
   gave-as x p l (written.Bits k) f e h =
       let g = ap (λ (o : Sent). o .number) e in
@@ -104,7 +110,9 @@ module _ (d : ℕ) (b t out : List ℕ) (n : ℕ) where
   gave-as x p l written.Room f e h = let g = ap (λ (o : Sent). o .number) e in absurd (omega arith)
   gave-as x p l written.Shape f e h = let g = ap (λ (o : Sent). o .number) e in absurd (omega arith)
 
-  gave-by : (w : Way) → wayOf d ≡ w → loadAt b ≡ loadedAs (loadAt b .message) → writeCall d b t out ≡ writeBy (loadAt b .message) t out w → writeCall d b t out .number ≡ 16777216 * n → Gave d b t out n
+  gave-by : (w : Way) → wayOf d ≡ w → loadAt b ≡ loadedAs (loadAt b .message)
+      → writeCall d b t out ≡ writeBy (loadAt b .message) t out w → writeCall d b t out .number ≡ 16777216 * n
+      → Gave d b t out n
   unfolding writeBy sentOf
   gave-by (way.Is x) p l e h = gave-as x p l (writeMessage x (loadAt b .message) t out .answer) refl e h
   gave-by way.NoWay p l e h = let g = ap (λ (o : Sent). o .number) e in absurd (omega arith)
@@ -116,12 +124,16 @@ module _ (d : ℕ) (b t out : List ℕ) (n : ℕ) where
       known : (l : Laid) → l .known ≡ true → l ≡ loadedAs (l .message)
       known l e = rw (← e)
 
-      go : (a k : Bool) → loadAt b .known ≡ k → writeCall d b t out ≡ cond a (sent 1 out) (cond k (writeBy (loadAt b .message) t out (wayOf d)) (sent 2 out)) → Gave d b t out n
+      go : (a k : Bool) → loadAt b .known ≡ k
+          → writeCall d b t out ≡ cond a (sent 1 out) (cond k (writeBy (loadAt b .message) t out (wayOf d)) (sent 2 out))
+          → Gave d b t out n
       go true k p e = let g = ap (λ (o : Sent). o .number) e in absurd (omega arith)
       go false true p e = gave-by (wayOf d) refl (known (loadAt b) p) e h
       go false false p e = let g = ap (λ (o : Sent). o .number) e in absurd (omega arith)
 
-pub call-written-read : (d : ℕ) (b t out : List ℕ) (n : ℕ) → Bytes b → writeCall d b t out .number ≡ 16777216 * n → (m z : List ℕ) → length m ≡ 132 → roomLeast ≤ length z → readCall d (writeCall d b t out .bytes) n m z ≡ told (256 * length t) b (t ++ drop (length t) z)
+pub call-written-read : (d : ℕ) (b t out : List ℕ) (n : ℕ) → Bytes b → writeCall d b t out .number ≡ 16777216 * n
+    → (m z : List ℕ) → length m ≡ 132 → roomLeast ≤ length z
+    → readCall d (writeCall d b t out .bytes) n m z ≡ told (256 * length t) b (t ++ drop (length t) z)
 unfolding readCall readBy toldOf toldAs
 call-written-read d b t out n s h m z sized r =
     let k = gave d b t out n h in
@@ -153,7 +165,11 @@ told-count m x u a k e = rw e
 module _ (d : ℕ) (s : List ℕ) (n : ℕ) (m t : List ℕ) (h : (c : ℕ) → readCall d s n m t .number ≡ 256 * c → ⊥) where
   stays-by : (w : Way) → readCall d s n m t ≡ readBy s n m t w → (readCall d s n m t .message ≡ m) × (readCall d s n m t .text ≡ t)
   unfolding readBy toldOf
-  stays-by (way.Is x) e = (ap (λ (o : Told). o .message) e ∙ told-message m _ _ _ not-taken, ap (λ (o : Told). o .text) e ∙ told-text m _ _ _ ∙ unread-leaves x s n t not-taken)
+  stays-by (way.Is x) e = (
+    ap (λ (o : Told). o .message) e ∙ told-message m _ _ _ not-taken,
+    ap
+        (λ (o : Told). o .text) e ∙ told-text m _ _ _ ∙ unread-leaves x s n t not-taken,
+  )
     where
       not-taken : (k : ℕ) → openMessage x s n t .answer .answer ≡ opened.Characters k → ⊥
       not-taken k g = h k (ap (λ (o : Told). o .number) e ∙ told-count m _ _ _ k g)
@@ -163,7 +179,8 @@ module _ (d : ℕ) (s : List ℕ) (n : ℕ) (m t : List ℕ) (h : (c : ℕ) → 
   unfolding readCall
   call-unread = go (ltb (length t) roomLeast) (eqb (length m) 132) refl
     where
-      go : (a b : Bool) → readCall d s n m t ≡ cond a (told 1 m t) (cond b (readBy s n m t (wayOf d)) (told 2 m t)) → (readCall d s n m t .message ≡ m) × (readCall d s n m t .text ≡ t)
+      go : (a b : Bool) → readCall d s n m t ≡ cond a (told 1 m t) (cond b (readBy s n m t (wayOf d)) (told 2 m t))
+          → (readCall d s n m t .message ≡ m) × (readCall d s n m t .text ≡ t)
       go true b e = (ap (λ (o : Told). o .message) e, ap (λ (o : Told). o .text) e)
       go false true e = stays-by (wayOf d) e
       go false false e = (ap (λ (o : Told). o .message) e, ap (λ (o : Told). o .text) e)
@@ -191,7 +208,9 @@ module _ (d : ℕ) (b t out : List ℕ) (h : (n : ℕ) → writeCall d b t out .
   unfolding writeCall
   call-unwritten = go (ltb (length out) roomLeast) (loadAt b .known) refl
     where
-      go : (a k : Bool) → writeCall d b t out ≡ cond a (sent 1 out) (cond k (writeBy (loadAt b .message) t out (wayOf d)) (sent 2 out)) → writeCall d b t out .bytes ≡ out
+      go : (a k : Bool)
+          → writeCall d b t out ≡ cond a (sent 1 out) (cond k (writeBy (loadAt b .message) t out (wayOf d)) (sent 2 out))
+          → writeCall d b t out .bytes ≡ out
       go true k e = ap (λ (o : Sent). o .bytes) e
       go false true e = kept-by (wayOf d) e
       go false false e = ap (λ (o : Sent). o .bytes) e

@@ -47,8 +47,10 @@ record TypeTyped (y : LevelType) : Type 0 where
 type-typed : (y : LevelType) → levelTypeFits y ≡ true → TypeTyped y
 unfolding levelTypeFits
 type-typed y h =
-    let a = whole-below 0 3 (y .unit) (both-left (wholeFits 0 3 (y .unit)) (wholeFits (lowest (y .unit)) (highest (y .unit)) (y .number)) h) in
-    let b = whole-below (lowest (y .unit)) (highest (y .unit)) (y .number) (both-right (wholeFits 0 3 (y .unit)) (wholeFits (lowest (y .unit)) (highest (y .unit)) (y .number)) h) in
+    let a = whole-below 0 3 (y .unit)
+    (both-left (wholeFits 0 3 (y .unit)) (wholeFits (lowest (y .unit)) (highest (y .unit)) (y .number)) h) in
+    let b = whole-below (lowest (y .unit)) (highest (y .unit)) (y .number)
+    (both-right (wholeFits 0 3 (y .unit)) (wholeFits (lowest (y .unit)) (highest (y .unit)) (y .number)) h) in
     let c = highest-small (y .unit) in
     record { unit = omega arith; number = omega arith }
 
@@ -70,7 +72,8 @@ level-fits x h =
     two-typed x (type-typed (x .first) (both-left a b h)) (second-typed (x .block) (x .second) (both-right a b h))
 
 level-none : (x : Level) → x ≡ noLevel → LevelTyped x
-level-none x e = two-typed x (none-typed (x .first) (ap (λ (z : Level). z .first) e)) (none-typed (x .second) (ap (λ (z : Level). z .second) e))
+level-none x e = two-typed x (none-typed (x .first) (ap (λ (z : Level). z .first) e))
+    (none-typed (x .second) (ap (λ (z : Level). z .second) e))
 
 record TimeTyped (x : Time) : Type 0 where
   hours : x .hours < 256
@@ -139,7 +142,8 @@ no-characters t h = let a = ap length (no-text t h) in omega arith
 
 sized-short : (least most : ℕ) (t : List ℕ) → most ≤ 256 → sizedFits least most t ≡ true → length t ≤ 256
 unfolding sizedFits
-sized-short least most t n h = let a = whole-below least most (length t) (both-left (wholeFits least most (length t)) (charactersFit t) h) in omega arith
+sized-short least most t n h = let a = whole-below least most (length t)
+    (both-left (wholeFits least most (length t)) (charactersFit t) h) in omega arith
 
 facility-short : (t : List ℕ) → facilityFits t ≡ true → length t ≤ 256
 unfolding facilityFits
@@ -152,11 +156,16 @@ atis-short t h = let a = eqb-true (length t) 1 (both-left (eqb (length t) 1) (ch
 
 no-levels : (e : Element) → levelsUnused e ≡ true → (LevelTyped (e .level) × LevelTyped (e .other))
 unfolding levelsUnused
-no-levels e h =
-    (level-none (e .level) (level-unused (e .level) (both-left (levelUnused (e .level)) (levelUnused (e .other)) h)), level-none (e .other) (level-unused (e .other) (both-right (levelUnused (e .level)) (levelUnused (e .other)) h)))
+no-levels e h = (
+  level-none (e .level) (level-unused (e .level) (both-left (levelUnused (e .level)) (levelUnused (e .other)) h)),
+  level-none (e .other)
+      (level-unused (e .other) (both-right (levelUnused (e .level)) (levelUnused (e .other)) h)),
+)
 
 -- levels and nothing else, and a time or a code
-with-levels : (e : Element) (t : List ℕ) (a b : Bool) → (a ≡ true → LevelTyped (e .level)) → (b ≡ true → LevelTyped (e .other)) → (a && b && timeUnused (e .time) && codeUnused (e .code) && noText t) ≡ true → Argument e t
+with-levels : (e : Element) (t : List ℕ) (a b : Bool) → (a ≡ true → LevelTyped (e .level))
+    → (b ≡ true → LevelTyped (e .other)) → (a && b && timeUnused (e .time) && codeUnused (e .code) && noText t) ≡ true
+    → Argument e t
 with-levels e t a b x y h =
     let c = timeUnused (e .time) in
     let d = codeUnused (e .code) in
@@ -171,7 +180,8 @@ with-levels e t a b x y h =
       short = no-characters t (both-right (a && b && c && d) (noText t) h);
     }
 
-without-levels : (e : Element) (t : List ℕ) (b c : Bool) → (b ≡ true → TimeTyped (e .time)) → (c ≡ true → CodeTyped (e .code)) → (levelsUnused e && b && c && noText t) ≡ true → Argument e t
+without-levels : (e : Element) (t : List ℕ) (b c : Bool) → (b ≡ true → TimeTyped (e .time))
+    → (c ≡ true → CodeTyped (e .code)) → (levelsUnused e && b && c && noText t) ≡ true → Argument e t
 without-levels e t b c x y h =
     let a = levelsUnused e in
     let p = both-left (a && b && c) (noText t) h in
@@ -189,13 +199,19 @@ argument : (k : ArgumentKind) (e : Element) (t : List ℕ) → argumentFits k e 
 unfolding argumentFits
 argument kind.NotCarried e t h = never h
 argument kind.None e t h = plain-argument e t (both-left (plain e) (noText t) h) (no-characters t (both-right (plain e) (noText t) h))
-argument kind.Level e t h = with-levels e t _ _ (level-fits (e .level)) (λ (p : levelUnused (e .other) ≡ true). level-none (e .other) (level-unused (e .other) p)) h
+argument kind.Level e t h = with-levels e t _ _ (level-fits (e .level))
+    (λ (p : levelUnused (e .other) ≡ true). level-none (e .other) (level-unused (e .other) p)) h
 argument kind.TwoLevels e t h = with-levels e t _ _ (level-fits (e .level)) (level-fits (e .other)) h
-argument kind.Time e t h = without-levels e t _ _ (time-fits (e .time)) (λ (p : codeUnused (e .code) ≡ true). code-none (e .code) (code-unused (e .code) p)) h
-argument kind.Code e t h = without-levels e t _ _ (λ (p : timeUnused (e .time) ≡ true). time-none (e .time) (time-unused (e .time) p)) (code-fits (e .code)) h
-argument kind.FreeText e t h = plain-argument e t (both-left (plain e) (sizedFits 1 256 t) h) (sized-short 1 256 t (omega arith) (both-right (plain e) (sizedFits 1 256 t) h))
-argument kind.Facility e t h = plain-argument e t (both-left (plain e) (facilityFits t) h) (facility-short t (both-right (plain e) (facilityFits t) h))
-argument kind.FacilityDesignation e t h = plain-argument e t (both-left (plain e) (sizedFits 4 8 t) h) (sized-short 4 8 t (omega arith) (both-right (plain e) (sizedFits 4 8 t) h))
+argument kind.Time e t h = without-levels e t _ _ (time-fits (e .time))
+    (λ (p : codeUnused (e .code) ≡ true). code-none (e .code) (code-unused (e .code) p)) h
+argument kind.Code e t h = without-levels e t _ _
+    (λ (p : timeUnused (e .time) ≡ true). time-none (e .time) (time-unused (e .time) p)) (code-fits (e .code)) h
+argument kind.FreeText e t h = plain-argument e t (both-left (plain e) (sizedFits 1 256 t) h)
+    (sized-short 1 256 t (omega arith) (both-right (plain e) (sizedFits 1 256 t) h))
+argument kind.Facility e t h = plain-argument e t (both-left (plain e) (facilityFits t) h)
+    (facility-short t (both-right (plain e) (facilityFits t) h))
+argument kind.FacilityDesignation e t h = plain-argument e t (both-left (plain e) (sizedFits 4 8 t) h)
+    (sized-short 4 8 t (omega arith) (both-right (plain e) (sizedFits 4 8 t) h))
 argument kind.AtisCode e t h = plain-argument e t (both-left (plain e) (atisFits t) h) (atis-short t (both-right (plain e) (atisFits t) h))
 
 -- ---- an element, and a row of them
@@ -235,7 +251,8 @@ element-good d e t h =
     let p = both-left (a && b) c h in
     let n = whole-below 0 (lastOf d) (e .number) (both-left a b p) in
     let l = last-low d in
-    good e t (omega arith) (eqb-true (e .characters) (length t) (both-right a b p)) (argument (kindOf d (e .number)) e t (both-right (a && b) c h))
+    good e t (omega arith) (eqb-true (e .characters) (length t) (both-right a b p))
+    (argument (kindOf d (e .number)) e t (both-right (a && b) c h))
 
 empty-good : (e : Element) → empty e ≡ true → Good e
 unfolding empty
@@ -244,7 +261,8 @@ empty-good e h =
     let c = eqb (e .characters) 0 in
     let p = both-left (a && plain e) c h in
     let n = eqb-true (e .number) 0 (both-left a (plain e) p) in
-    good e [] (omega arith) (eqb-true (e .characters) 0 (both-right (a && plain e) c h)) (plain-argument e [] (both-right a (plain e) p) (omega arith))
+    good e [] (omega arith) (eqb-true (e .characters) 0 (both-right (a && plain e) c h))
+    (plain-argument e [] (both-right a (plain e) p) (omega arith))
 
 record AllGood (es : List Element) : Type 0 where
   typed : ElementsTyped es
@@ -264,12 +282,14 @@ row-good d [] us t h q = q
 row-good d (e ∷ es) us t h q =
     let a = elementFits d e (take (e .characters) t) in
     let b = rowFits d es (drop (e .characters) t) in
-    good-more e (es ++ us) (element-good d e (take (e .characters) t) (both-left a b h)) (row-good d es us (drop (e .characters) t) (both-right a b h) q)
+    good-more e (es ++ us) (element-good d e (take (e .characters) t) (both-left a b h))
+    (row-good d es us (drop (e .characters) t) (both-right a b h) q)
 
 empties-good : (us : List Element) → allEmpty us ≡ true → AllGood us
 unfolding allEmpty
 empties-good [] h = good-none
-empties-good (e ∷ us) h = good-more e us (empty-good e (both-left (empty e) (allEmpty us) h)) (empties-good us (both-right (empty e) (allEmpty us) h))
+empties-good (e ∷ us) h = good-more e us (empty-good e (both-left (empty e) (allEmpty us) h))
+    (empties-good us (both-right (empty e) (allEmpty us) h))
 
 -- ---- the header
 
@@ -333,7 +353,8 @@ storable d m t h =
     let f = fits-of d m t h in
     let k = whole-below 1 5 (m .count) (f .count) in
     let x = header-fits (m .header) (f .header) in
-    let g = row-good d (take (m .count) (m .places)) (drop (m .count) (m .places)) t (f .row) (empties-good (drop (m .count) (m .places)) (f .unused)) in
+    let g = row-good d (take (m .count) (m .places)) (drop (m .count) (m .places)) t (f .row)
+    (empties-good (drop (m .count) (m .places)) (f .unused)) in
     let l : AllGood (m .places) = subst AllGood (take-append-drop (m .count) (m .places)) g in
     record {
       typed =

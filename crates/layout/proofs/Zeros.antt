@@ -57,7 +57,8 @@ place-zero : (p : List ℕ) → length p ≡ 24 → Bytes p → placeStands p �
 place-zero p l s h = same (allMost 0 p) (empty (elementOf p)) there back
   where
     there : allMost 0 p ≡ true → empty (elementOf p) ≡ true
-    there z = let q : p ≡ replicate 24 0 = rw l at (zeros-are p z) in ap (λ (x : List ℕ). empty (elementOf x)) q ∙ ap empty nothing ∙ bare-empty
+    there z = let q : p ≡ replicate 24 0 = rw l at (zeros-are p z) in ap (λ (x : List ℕ). empty (elementOf x)) q ∙ ap
+        empty nothing ∙ bare-empty
 
     back : empty (elementOf p) ≡ true → allMost 0 p ≡ true
     back e = ap (allMost 0) (sym (place-of p l s h) ∙ ap placeBytes (empty-is (elementOf p) e)) ∙ no-bytes
@@ -86,12 +87,15 @@ zeros-empty (suc k) b l s h =
     let i = rw (stand-suc k b) at h in
     let n = length-take 24 b in
     let d = length-drop 24 b in
-    let one = place-zero (take 24 b) (omega arith) (first-bytes 24 b s) (both-left (placeStands (take 24 b)) (placesStand k (drop 24 b)) i) in
-    let more = zeros-empty k (drop 24 b) (omega arith) (some-bytes 24 b s) (both-right (placeStands (take 24 b)) (placesStand k (drop 24 b)) i) in
+    let one = place-zero (take 24 b) (omega arith) (first-bytes 24 b s)
+    (both-left (placeStands (take 24 b)) (placesStand k (drop 24 b)) i) in
+    let more = zeros-empty k (drop 24 b) (omega arith) (some-bytes 24 b s)
+    (both-right (placeStands (take 24 b)) (placesStand k (drop 24 b)) i) in
     ap (allMost 0) (sym (take-drop 24 b)) ∙ most-append (take 24 b) (drop 24 b) ∙ rw (one, more) (sym (all-suc k b))
 
 -- k places behind n
-behind : (n k : ℕ) (b : List ℕ) → length b ≡ 24 * (n + k) → Bytes b → placesStand (n + k) b ≡ true → allMost 0 (drop (24 * n) b) ≡ allEmpty (drop n (elementsOf (n + k) b))
+behind : (n k : ℕ) (b : List ℕ) → length b ≡ 24 * (n + k) → Bytes b → placesStand (n + k) b ≡ true
+    → allMost 0 (drop (24 * n) b) ≡ allEmpty (drop n (elementsOf (n + k) b))
 behind zero k b l s h =
     let z : 0 + k ≡ k = omega arith in
     rw z (zeros-empty k b (rw z at l) s (rw z at h))
@@ -110,6 +114,7 @@ rest-zero b n f l s h =
     let k : n + (5 - n) ≡ 5 = omega arith in
     let d = length-drop 12 b in
     let e = length-drop (12 + 24 * n) b in
-    let w : take (length b - (12 + 24 * n)) (drop (12 + 24 * n) b) ≡ drop (12 + 24 * n) b = take-all (length b - (12 + 24 * n)) (drop (12 + 24 * n) b) (omega arith) in
+    let w : take (length b - (12 + 24 * n)) (drop (12 + 24 * n) b) ≡ drop (12 + 24 * n) b = take-all
+    (length b - (12 + 24 * n)) (drop (12 + 24 * n) b) (omega arith) in
     let r = behind n (5 - n) (drop 12 b) (rw k (omega arith)) (some-bytes 12 b s) (rw k h) in
     ap (allMost 0) (w ∙ sym (drop-drop (24 * n) 12 b)) ∙ (rw k at r)

@@ -154,13 +154,7 @@ fn put_count(buf: &mut [u8], end: usize, at: usize, n: u64) -> Put
 }
 
 // The header, that there is no constrained data, the count of elements, and the elements.
-fn put_laid(
-    buf: &mut [u8],
-    end: usize,
-    direction: Direction,
-    b: &[u8],
-    text: &[u8],
-) -> Put
+fn put_laid(buf: &mut [u8], end: usize, direction: Direction, b: &[u8], text: &[u8]) -> Put
     requires { ⌜ (getD (now b) 11 0 ≤ 5) × (size ≤ length (now b)) ⌝ }
     ensures { λ r. ⌜ left r (now (buf .exit)) ≡
         putPieces (now (buf .entry)) end 0 (messagePieces direction (messageOf (now (b .entry))) (now (text .entry))) ⌝ }

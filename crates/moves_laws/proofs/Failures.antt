@@ -45,17 +45,20 @@ module _ (text : Side → ℕ → Body) (fresh : Side → Numbered Held) where
     abbrev pub brokeToo : ℕ → Bool
     brokeToo j = alive M (record { here = partyOf (page r l n u x up) g; there = partyOf (page t m o w y d) k; broken = br }) j || br j
 
-    hosts-heard : (q : Power) → carrierFailed M right (letters text) fresh answersYes sd (stateOf (page r l n u x q) (page t m o w y d) br g k) ≡ stateOf (page (lostOf (isIdle (r .control)) r) [] (tells told-broken n) 0 x up) (page (lostOf (isIdle (t .control)) t) [] (tells told-broken o) 0 y (rejoins M right (letters text) fresh answersYes d)) brokeToo (lostBeside (isIdle (r .control)) r g) (lostBeside (isIdle (t .control)) t k)
+    hosts-heard : (q : Power)
+        → carrierFailed M right (letters text) fresh answersYes sd (stateOf (page r l n u x q) (page t m o w y d) br g k) ≡ stateOf (page (lostOf (isIdle (r .control)) r) [] (tells told-broken n) 0 x up) (page (lostOf (isIdle (t .control)) t) [] (tells told-broken o) 0 y (rejoins M right (letters text) fresh answersYes d)) brokeToo (lostBeside (isIdle (r .control)) r g) (lostBeside (isIdle (t .control)) t k)
     hosts-heard q =
         let a : NParty M = record { rec = recOf t; line = []; taken = k .taken; handed = k .handed; jobs = k .jobs } in
         let b : NParty M = record { rec = recOf (lostOf (isIdle (r .control)) r); line = []; taken = g .taken; handed = lostBeside (isIdle (r .control)) r g .handed; jobs = g .jobs } in
-        ap (λ (s : NSys M). all q (nSwap M (nToldLost M (other sd) (nSwap M s)))) (lost-one sd r (page r l n u x q) g a brokeToo (isIdle (r .control)) refl)
+        ap (λ (s : NSys M). all q (nSwap M (nToldLost M (other sd) (nSwap M s))))
+        (lost-one sd r (page r l n u x q) g a brokeToo (isIdle (r .control)) refl)
         ∙ ap (λ (s : NSys M). all q (nSwap M s)) (lost-one (other sd) t (page t m o w y d) k b brokeToo (isIdle (t .control)) refl)
       where
         all : Power → NSys M → Hosts M
         all p s = record { ends = s; here = toldOf M right (letters text) fresh answersYes (s .here .rec) up (hostOf (page r l n u x p) g); there = toldOf M right (letters text) fresh answersYes (s .there .rec) (rejoins M right (letters text) fresh answersYes d) (hostOf (page t m o w y d) k) }
 
-    pub fail-lands : (q : Power) → Lands text fresh may sd (page r l n u x q) (page t m o w y d) br carrier-fails (page (lostOf (isIdle (r .control)) r) [] (tells told-broken n) 0 x up) (page (lostOf (isIdle (t .control)) t) [] (tells told-broken o) 0 y (rejoins M right (letters text) fresh answersYes d)) brokeToo g k
+    pub fail-lands : (q : Power)
+        → Lands text fresh may sd (page r l n u x q) (page t m o w y d) br carrier-fails (page (lostOf (isIdle (r .control)) r) [] (tells told-broken n) 0 x up) (page (lostOf (isIdle (t .control)) t) [] (tells told-broken o) 0 y (rejoins M right (letters text) fresh answersYes d)) brokeToo g k
     fail-lands up = record { near = lostBeside (isIdle (r .control)) r g; far = lostBeside (isIdle (t .control)) t k; lands = hosts-heard up }
     fail-lands apart = record { near = lostBeside (isIdle (r .control)) r g; far = lostBeside (isIdle (t .control)) t k; lands = hosts-heard apart }
     fail-lands down = record { near = lostBeside (isIdle (r .control)) r g; far = lostBeside (isIdle (t .control)) t k; lands = hosts-heard down }
@@ -67,7 +70,10 @@ module _ (text : Side → ℕ → Body) (fresh : Side → Numbered Held) where
       let t : NSys M = cond b (nDid M (nRecalled M (s .ends)) x 0) (s .ends) in
       kept text fresh s (noted text fresh b s t) t
 
-  pub turned-lands : (may : Bool) (sd : Side) (r : Holds) (l : List (Numbered Ent)) (n : Notes) (u : ℕ) (z : Page) (br : ℕ → Bool) (g k : Beside) (f : Holds) → nMayTurnAway M (stateOf (page r l n u false up) z br g k .ends) ≡ true → M .at .away sd (recOf r) ≡ acts (recOf f) [] nothing → Lands text fresh may sd (page r l n u false up) z br (happens (turn-away 0)) (page f (nWithoutStart M (r .number) l) (tells told-broken n) (suc u) false up) z br g k
+  pub turned-lands : (may : Bool) (sd : Side) (r : Holds) (l : List (Numbered Ent)) (n : Notes) (u : ℕ) (z : Page) (br : ℕ → Bool) (g k : Beside) (f : Holds)
+      → nMayTurnAway M (stateOf (page r l n u false up) z br g k .ends) ≡ true
+      → M .at .away sd (recOf r) ≡ acts (recOf f) [] nothing
+      → Lands text fresh may sd (page r l n u false up) z br (happens (turn-away 0)) (page f (nWithoutStart M (r .number) l) (tells told-broken n) (suc u) false up) z br g k
   turned-lands may sd r l n u z br g k f a h =
       let s : Hosts M = stateOf (page r l n u false up) z br g k in
       record {
@@ -76,7 +82,8 @@ module _ (text : Side → ℕ → Body) (fresh : Side → Numbered Held) where
         lands =
             ap (λ (b : Bool). turnedAs s b (M .at .away sd (recOf r))) a
             ∙ ap (turnedAs s true) h
-            ∙ ap (λ (b : Bool). stateOf (page f (nWithoutStart M (r .number) l) (tells told-broken n) (suc u) b up) z br (handing (f .number) [] g) k) (out-none (g .handed) (f .number));
+            ∙ ap (λ (b : Bool). stateOf (page f (nWithoutStart M (r .number) l) (tells told-broken n) (suc u) b up) z
+            br (handing (f .number) [] g) k) (out-none (g .handed) (f .number));
       }
 
   -- ---- the end that this host asked for is confirmed, "accepted"
@@ -86,7 +93,11 @@ module _ (text : Side → ℕ → Body) (fresh : Side → Numbered Held) where
       let t : NSys M = cond d (nOff M (s .ends) m) (nDid M (nOff M (s .ends) m) x 0) in
       cond b (kept text fresh s (tells told-ended (s .here .notes)) t) s
 
-  pub confirmed-lands : (may : Bool) (sd : Side) (r : Holds) (l : List (Numbered Ent)) (n : Notes) (u : ℕ) (t : Holds) (v : ℕ) (b : Body) (m : List (Numbered Ent)) (o : Notes) (w : ℕ) (y : Bool) (d : Power) (br : ℕ → Bool) (g k : Beside) (f : Holds) → (ltb w (length (mark v (ent (DEndCnf Accepted) b) ∷ m)) && (eqb v (r .number) && expects sd (r .control) (DEndCnf Accepted))) ≡ true → isIdle (r .control) ≡ false → M .at .receive sd (recOf r) (mark v (ent (DEndCnf Accepted) b)) ≡ acts (recOf f) [] nothing → Lands text fresh may sd (page r l n u false up) (page t (mark v (ent (DEndCnf Accepted) b) ∷ m) o w y d) br end-confirmed (page f l (tells told-ended n) (suc u) false up) (page t m o w y d) br g k
+  pub confirmed-lands : (may : Bool) (sd : Side) (r : Holds) (l : List (Numbered Ent)) (n : Notes) (u : ℕ) (t : Holds) (v : ℕ) (b : Body) (m : List (Numbered Ent)) (o : Notes) (w : ℕ) (y : Bool) (d : Power) (br : ℕ → Bool) (g k : Beside) (f : Holds)
+      → (ltb w (length (mark v (ent (DEndCnf Accepted) b) ∷ m)) && (eqb v (r .number) && expects sd (r .control) (DEndCnf Accepted))) ≡ true
+      → isIdle (r .control) ≡ false
+      → M .at .receive sd (recOf r) (mark v (ent (DEndCnf Accepted) b)) ≡ acts (recOf f) [] nothing
+      → Lands text fresh may sd (page r l n u false up) (page t (mark v (ent (DEndCnf Accepted) b) ∷ m) o w y d) br end-confirmed (page f l (tells told-ended n) (suc u) false up) (page t m o w y d) br g k
   confirmed-lands may sd r l n u t v b m o w y d br g k f a i h =
       let e : Numbered Ent = mark v (ent (DEndCnf Accepted) b) in
       let s : Hosts M = stateOf (page r l n u false up) (page t (e ∷ m) o w y d) br g k in
@@ -97,5 +108,6 @@ module _ (text : Side → ℕ → Body) (fresh : Side → Numbered Held) where
             ap (λ (c : Bool). confirmedAs s m c (isIdle (r .control) && true) (M .at .receive sd (recOf r) e)) a
             ∙ ap (λ (c : Bool). confirmedAs s m true (c && true) (M .at .receive sd (recOf r) e)) i
             ∙ ap (confirmedAs s m true false) h
-            ∙ ap (λ (c : Bool). stateOf (page f l (tells told-ended n) (suc u) c up) (page t m o w y d) br (handing (f .number) [] g) k) (out-none (g .handed) (f .number));
+            ∙ ap (λ (c : Bool). stateOf (page f l (tells told-ended n) (suc u) c up) (page t m o w y d) br
+            (handing (f .number) [] g) k) (out-none (g .handed) (f .number));
       }

@@ -47,7 +47,8 @@ abbrev pub stateOf : Page → Page → (ℕ → Bool) → Beside → Beside → 
 stateOf = pages.stateOf M
 
 -- the act leads from these pages to those
-abbrev pub Lands : (Side → ℕ → Body) → (Side → Numbered Held) → Bool → Side → Page → Page → (ℕ → Bool) → Act (Numbered Ask) → Page → Page → (ℕ → Bool) → Beside → Beside → Type 0
+abbrev pub Lands : (Side → ℕ → Body) → (Side → Numbered Held) → Bool → Side → Page → Page → (ℕ → Bool) → Act
+    (Numbered Ask) → Page → Page → (ℕ → Bool) → Beside → Beside → Type 0
 Lands text fresh = pages.Lands M (letters text) fresh answersYes
 
 -- ---- small facts
@@ -72,24 +73,30 @@ pub out-one : (f : ℕ → List Body) (n : ℕ) (b : Body) → (not (eqb (length
 out-one f n b =
     ap (λ (t : Bool). not (eqb (length (f n)) (length (cond t (f n ++ (b ∷ [])) (f n)))) || false) (self n)
     ∙ ap (λ (m : ℕ). not (eqb (length (f n)) m) || false) (length-snoc (f n) b)
-    ∙ ap (λ (t : Bool). not t || false) (differ (length (f n)) (suc (length (f n))) (λ (e : length (f n) ≡ suc (length (f n))). omega (arith, e)))
+    ∙ ap (λ (t : Bool). not t || false)
+    (differ (length (f n)) (suc (length (f n))) (λ (e : length (f n) ≡ suc (length (f n))). omega (arith, e)))
 
 module _ (text : Side → ℕ → Body) (fresh : Side → Numbered Held) where
   -- ---- the host alone
 
   -- refused without the card, or by it: undecided before
-  pub refuses-lands : (may : Bool) (sd : Side) (r : Holds) (l : List (Numbered Ent)) (n : Notes) (u : ℕ) (w : Bool) (z : Page) (br : ℕ → Bool) (g k : Beside) (j : ℕ) → isDecided (n .decision j) ≡ false → Lands text fresh may sd (page r l n u w up) z br (lay-aside j) (page r l (declines j n) u w up) z br g k
+  pub refuses-lands : (may : Bool) (sd : Side) (r : Holds) (l : List (Numbered Ent)) (n : Notes) (u : ℕ) (w : Bool) (z : Page) (br : ℕ → Bool) (g k : Beside) (j : ℕ)
+      → isDecided (n .decision j) ≡ false
+      → Lands text fresh may sd (page r l n u w up) z br (lay-aside j) (page r l (declines j n) u w up) z br g k
   refuses-lands may sd r l n u w z br g k j d =
       let s : Hosts M = stateOf (page r l n u w up) z br g k in
       record { near = g; far = k; lands = ap (λ (b : Bool). cond b s (refusing M right (letters text) fresh answersYes s j)) d }
 
   -- the same of a host without the carrier
-  pub refuses-apart-lands : (may : Bool) (sd : Side) (r : Holds) (l : List (Numbered Ent)) (n : Notes) (u : ℕ) (w : Bool) (z : Page) (br : ℕ → Bool) (g k : Beside) (j : ℕ) → isDecided (n .decision j) ≡ false → Lands text fresh may sd (page r l n u w apart) z br (lay-aside j) (page r l (declines j n) u w apart) z br g k
+  pub refuses-apart-lands : (may : Bool) (sd : Side) (r : Holds) (l : List (Numbered Ent)) (n : Notes) (u : ℕ) (w : Bool) (z : Page) (br : ℕ → Bool) (g k : Beside) (j : ℕ)
+      → isDecided (n .decision j) ≡ false
+      → Lands text fresh may sd (page r l n u w apart) z br (lay-aside j) (page r l (declines j n) u w apart) z br g k
   refuses-apart-lands may sd r l n u w z br g k j d =
       let s : Hosts M = stateOf (page r l n u w apart) z br g k in
       record { near = g; far = k; lands = ap (λ (b : Bool). cond b s (refusing M right (letters text) fresh answersYes s j)) d }
 
-  pub shows-lands : (may : Bool) (sd : Side) (r : Holds) (l : List (Numbered Ent)) (n : Notes) (u : ℕ) (w : Bool) (z : Page) (br : ℕ → Bool) (g k : Beside) → Lands text fresh may sd (page r l n u w up) z br shows (page r l n u false up) z br g k
+  pub shows-lands : (may : Bool) (sd : Side) (r : Holds) (l : List (Numbered Ent)) (n : Notes) (u : ℕ) (w : Bool) (z : Page) (br : ℕ → Bool) (g k : Beside)
+      → Lands text fresh may sd (page r l n u w up) z br shows (page r l n u false up) z br g k
   shows-lands may sd r l n u w z br g k =
       record {
         near = record { taken = g .taken; handed = g .handed; jobs = g .jobs; done = g .done; log = g .log; seen = λ (v : ℕ). cond (eqb (r .number) v) (length (g .handed v)) (g .seen v) };
@@ -97,32 +104,41 @@ module _ (text : Side → ℕ → Body) (fresh : Side → Numbered Held) where
         lands = refl;
       }
 
-  pub sends-lands : (may : Bool) (sd : Side) (r : Holds) (l : List (Numbered Ent)) (n : Notes) (u : ℕ) (w : Bool) (z : Page) (br : ℕ → Bool) (g k : Beside) → Lands text fresh may sd (page r l n (suc u) w up) z br release (page r l n u w up) z br g k
+  pub sends-lands : (may : Bool) (sd : Side) (r : Holds) (l : List (Numbered Ent)) (n : Notes) (u : ℕ) (w : Bool) (z : Page) (br : ℕ → Bool) (g k : Beside)
+      → Lands text fresh may sd (page r l n (suc u) w up) z br release (page r l n u w up) z br g k
   sends-lands may sd r l n u w z br g k = record { near = g; far = k; lands = refl }
 
-  pub gives-up-lands : (may : Bool) (sd : Side) (r : Holds) (l : List (Numbered Ent)) (n : Notes) (u : ℕ) (w : Bool) (z : Page) (br : ℕ → Bool) (g k : Beside) → Lands text fresh may sd (page r l n u w up) z br give-up (page r l (tells told-broken n) u w up) z br g k
+  pub gives-up-lands : (may : Bool) (sd : Side) (r : Holds) (l : List (Numbered Ent)) (n : Notes) (u : ℕ) (w : Bool) (z : Page) (br : ℕ → Bool) (g k : Beside)
+      → Lands text fresh may sd (page r l n u w up) z br give-up (page r l (tells told-broken n) u w up) z br g k
   gives-up-lands may sd r l n u w z br g k = record { near = g; far = k; lands = refl }
 
   -- both lines are empty, both ends are IDLE, nothing broke the dialogue
-  pub released-lands : (may : Bool) (sd : Side) (r : Holds) (n : Notes) (u : ℕ) (w : Bool) (t : Holds) (o : Notes) (v : ℕ) (x : Bool) (e : Power) (br : ℕ → Bool) (g k : Beside) → isReleased M (recOf r) (recOf t) br ≡ true → Lands text fresh may sd (page r [] n u w up) (page t [] o v x e) br connection-released (page r [] (tells told-ended n) u w up) (page t [] o v x e) br g k
+  pub released-lands : (may : Bool) (sd : Side) (r : Holds) (n : Notes) (u : ℕ) (w : Bool) (t : Holds) (o : Notes) (v : ℕ) (x : Bool) (e : Power) (br : ℕ → Bool) (g k : Beside)
+      → isReleased M (recOf r) (recOf t) br ≡ true
+      → Lands text fresh may sd (page r [] n u w up) (page t [] o v x e) br connection-released (page r [] (tells told-ended n) u w up) (page t [] o v x e) br g k
   released-lands may sd r n u w t o v x e br g k h =
       let s : Hosts M = stateOf (page r [] n u w up) (page t [] o v x e) br g k in
       record { near = g; far = k; lands = ap (λ (b : Bool). cond b (settled M right (letters text) fresh answersYes told-ended s) s) h }
 
   -- a job that was decided is acknowledged
-  pub acknowledges-lands : (may : Bool) (sd : Side) (r : Holds) (l : List (Numbered Ent)) (n : Notes) (u : ℕ) (w : Bool) (z : Page) (br : ℕ → Bool) (g k : Beside) (j : ℕ) → isDecided (n .decision j) ≡ true → Lands text fresh may sd (page r l n u w up) z br (acknowledge j) (page r l n u w up) z br g k
+  pub acknowledges-lands : (may : Bool) (sd : Side) (r : Holds) (l : List (Numbered Ent)) (n : Notes) (u : ℕ) (w : Bool) (z : Page) (br : ℕ → Bool) (g k : Beside) (j : ℕ)
+      → isDecided (n .decision j) ≡ true
+      → Lands text fresh may sd (page r l n u w up) z br (acknowledge j) (page r l n u w up) z br g k
   acknowledges-lands may sd r l n u w z br g k j d =
       let s : Hosts M = stateOf (page r l n u w up) z br g k in
       let b : Beside = record { taken = g .taken; handed = g .handed; jobs = g .jobs; done = λ (i : ℕ). eqb i j || g .done i; log = g .log; seen = g .seen } in
       record { near = b; far = k; lands = ap (λ (t : Bool). record { ends = s .ends; here = cond t (hostOf (page r l n u w up) b) (hostOf (page r l n u w up) g); there = s .there }) d }
 
-  pub acknowledges-apart-lands : (may : Bool) (sd : Side) (r : Holds) (l : List (Numbered Ent)) (n : Notes) (u : ℕ) (w : Bool) (z : Page) (br : ℕ → Bool) (g k : Beside) (j : ℕ) → isDecided (n .decision j) ≡ true → Lands text fresh may sd (page r l n u w apart) z br (acknowledge j) (page r l n u w apart) z br g k
+  pub acknowledges-apart-lands : (may : Bool) (sd : Side) (r : Holds) (l : List (Numbered Ent)) (n : Notes) (u : ℕ) (w : Bool) (z : Page) (br : ℕ → Bool) (g k : Beside) (j : ℕ)
+      → isDecided (n .decision j) ≡ true
+      → Lands text fresh may sd (page r l n u w apart) z br (acknowledge j) (page r l n u w apart) z br g k
   acknowledges-apart-lands may sd r l n u w z br g k j d =
       let s : Hosts M = stateOf (page r l n u w apart) z br g k in
       let b : Beside = record { taken = g .taken; handed = g .handed; jobs = g .jobs; done = λ (i : ℕ). eqb i j || g .done i; log = g .log; seen = g .seen } in
       record { near = b; far = k; lands = ap (λ (t : Bool). record { ends = s .ends; here = cond t (hostOf (page r l n u w apart) b) (hostOf (page r l n u w apart) g); there = s .there }) d }
 
-  pub shows-apart-lands : (may : Bool) (sd : Side) (r : Holds) (l : List (Numbered Ent)) (n : Notes) (u : ℕ) (w : Bool) (z : Page) (br : ℕ → Bool) (g k : Beside) → Lands text fresh may sd (page r l n u w apart) z br shows (page r l n u false apart) z br g k
+  pub shows-apart-lands : (may : Bool) (sd : Side) (r : Holds) (l : List (Numbered Ent)) (n : Notes) (u : ℕ) (w : Bool) (z : Page) (br : ℕ → Bool) (g k : Beside)
+      → Lands text fresh may sd (page r l n u w apart) z br shows (page r l n u false apart) z br g k
   shows-apart-lands may sd r l n u w z br g k =
       record {
         near = record { taken = g .taken; handed = g .handed; jobs = g .jobs; done = g .done; log = g .log; seen = λ (v : ℕ). cond (eqb (r .number) v) (length (g .handed v)) (g .seen v) };
@@ -133,54 +149,69 @@ module _ (text : Side → ℕ → Body) (fresh : Side → Numbered Held) where
   -- ---- what changes nothing
 
   -- an event at a host without the carrier, or that has a message to show first; it is cut off already; its power failed already
-  pub apart-lands : (may : Bool) (sd : Side) (r : Holds) (l : List (Numbered Ent)) (n : Notes) (u : ℕ) (w : Bool) (z : Page) (br : ℕ → Bool) (g k : Beside) (c : Step (Numbered Ask)) → Lands text fresh may sd (page r l n u w apart) z br (happens c) (page r l n u w apart) z br g k
+  pub apart-lands : (may : Bool) (sd : Side) (r : Holds) (l : List (Numbered Ent)) (n : Notes) (u : ℕ) (w : Bool) (z : Page) (br : ℕ → Bool) (g k : Beside) (c : Step (Numbered Ask))
+      → Lands text fresh may sd (page r l n u w apart) z br (happens c) (page r l n u w apart) z br g k
   apart-lands may sd r l n u w z br g k c = record { near = g; far = k; lands = refl }
 
-  pub waiting-lands : (may : Bool) (sd : Side) (r : Holds) (l : List (Numbered Ent)) (n : Notes) (u : ℕ) (z : Page) (br : ℕ → Bool) (g k : Beside) (c : Step (Numbered Ask)) → Lands text fresh may sd (page r l n u true up) z br (happens c) (page r l n u true up) z br g k
+  pub waiting-lands : (may : Bool) (sd : Side) (r : Holds) (l : List (Numbered Ent)) (n : Notes) (u : ℕ) (z : Page) (br : ℕ → Bool) (g k : Beside) (c : Step (Numbered Ask))
+      → Lands text fresh may sd (page r l n u true up) z br (happens c) (page r l n u true up) z br g k
   waiting-lands may sd r l n u z br g k c = record { near = g; far = k; lands = refl }
 
-  pub cut-apart-lands : (may : Bool) (sd : Side) (r : Holds) (l : List (Numbered Ent)) (n : Notes) (u : ℕ) (w : Bool) (z : Page) (br : ℕ → Bool) (g k : Beside) → Lands text fresh may sd (page r l n u w apart) z br cut-off (page r l n u w apart) z br g k
+  pub cut-apart-lands : (may : Bool) (sd : Side) (r : Holds) (l : List (Numbered Ent)) (n : Notes) (u : ℕ) (w : Bool) (z : Page) (br : ℕ → Bool) (g k : Beside)
+      → Lands text fresh may sd (page r l n u w apart) z br cut-off (page r l n u w apart) z br g k
   cut-apart-lands may sd r l n u w z br g k = record { near = g; far = k; lands = refl }
 
-  pub power-down-lands : (may : Bool) (sd : Side) (r : Holds) (l : List (Numbered Ent)) (n : Notes) (u : ℕ) (w : Bool) (z : Page) (br : ℕ → Bool) (g k : Beside) → Lands text fresh may sd (page r l n u w down) z br power-fails (page r l n u w down) z br g k
+  pub power-down-lands : (may : Bool) (sd : Side) (r : Holds) (l : List (Numbered Ent)) (n : Notes) (u : ℕ) (w : Bool) (z : Page) (br : ℕ → Bool) (g k : Beside)
+      → Lands text fresh may sd (page r l n u w down) z br power-fails (page r l n u w down) z br g k
   power-down-lands may sd r l n u w z br g k = record { near = g; far = k; lands = refl }
 
   -- ---- the power and the carrier
 
-  pub power-lands : (may : Bool) (sd : Side) (r : Holds) (l : List (Numbered Ent)) (n : Notes) (u : ℕ) (w : Bool) (z : Page) (br : ℕ → Bool) (g k : Beside) → Lands text fresh may sd (page r l n u w up) z br power-fails (page r l n u false down) z br g k
+  pub power-lands : (may : Bool) (sd : Side) (r : Holds) (l : List (Numbered Ent)) (n : Notes) (u : ℕ) (w : Bool) (z : Page) (br : ℕ → Bool) (g k : Beside)
+      → Lands text fresh may sd (page r l n u w up) z br power-fails (page r l n u false down) z br g k
   power-lands may sd r l n u w z br g k = record { near = g; far = k; lands = refl }
 
-  pub power-apart-lands : (may : Bool) (sd : Side) (r : Holds) (l : List (Numbered Ent)) (n : Notes) (u : ℕ) (w : Bool) (z : Page) (br : ℕ → Bool) (g k : Beside) → Lands text fresh may sd (page r l n u w apart) z br power-fails (page r l n u false down) z br g k
+  pub power-apart-lands : (may : Bool) (sd : Side) (r : Holds) (l : List (Numbered Ent)) (n : Notes) (u : ℕ) (w : Bool) (z : Page) (br : ℕ → Bool) (g k : Beside)
+      → Lands text fresh may sd (page r l n u w apart) z br power-fails (page r l n u false down) z br g k
   power-apart-lands may sd r l n u w z br g k = record { near = g; far = k; lands = refl }
 
-  pub cut-lands : (may : Bool) (sd : Side) (r : Holds) (l : List (Numbered Ent)) (n : Notes) (u : ℕ) (w : Bool) (z : Page) (br : ℕ → Bool) (g k : Beside) → Lands text fresh may sd (page r l n u w up) z br cut-off (page r l (tells told-broken n) 0 w apart) z br g k
+  pub cut-lands : (may : Bool) (sd : Side) (r : Holds) (l : List (Numbered Ent)) (n : Notes) (u : ℕ) (w : Bool) (z : Page) (br : ℕ → Bool) (g k : Beside)
+      → Lands text fresh may sd (page r l n u w up) z br cut-off (page r l (tells told-broken n) 0 w apart) z br g k
   cut-lands may sd r l n u w z br g k = record { near = g; far = k; lands = refl }
 
-  pub cut-down-lands : (may : Bool) (sd : Side) (r : Holds) (l : List (Numbered Ent)) (n : Notes) (u : ℕ) (w : Bool) (z : Page) (br : ℕ → Bool) (g k : Beside) → Lands text fresh may sd (page r l n u w down) z br cut-off (page r l (tells told-broken n) 0 w apart) z br g k
+  pub cut-down-lands : (may : Bool) (sd : Side) (r : Holds) (l : List (Numbered Ent)) (n : Notes) (u : ℕ) (w : Bool) (z : Page) (br : ℕ → Bool) (g k : Beside)
+      → Lands text fresh may sd (page r l n u w down) z br cut-off (page r l (tells told-broken n) 0 w apart) z br g k
   cut-down-lands may sd r l n u w z br g k = record { near = g; far = k; lands = refl }
 
   -- ---- a job
 
   -- it is taken: undecided before, and the card takes it
-  pub takes-lands : (may : Bool) (sd : Side) (r : Holds) (l : List (Numbered Ent)) (n : Notes) (u : ℕ) (z : Page) (br : ℕ → Bool) (g k : Beside) (j : ℕ) → isDecided (n .decision j) ≡ false → mayDo sd r MessageRequest 0 j ≡ true → Lands text fresh may sd (page r l n u false up) z br (deliver j) (page (movedBy r MessageRequest 0 j) (l ++ (mark (r .number) (ent DData (text sd j)) ∷ [])) (takes j n) (suc u) false up) z br g k
+  pub takes-lands : (may : Bool) (sd : Side) (r : Holds) (l : List (Numbered Ent)) (n : Notes) (u : ℕ) (z : Page) (br : ℕ → Bool) (g k : Beside) (j : ℕ)
+      → isDecided (n .decision j) ≡ false → mayDo sd r MessageRequest 0 j ≡ true
+      → Lands text fresh may sd (page r l n u false up) z br (deliver j) (page (movedBy r MessageRequest 0 j) (l ++ (mark (r .number) (ent DData (text sd j)) ∷ [])) (takes j n) (suc u) false up) z br g k
   takes-lands may sd r l n u z br g k j d c =
       let s : Hosts M = stateOf (page r l n u false up) z br g k in
       let b : Body = text sd j in
       let e : Numbered Ent = mark (r .number) (ent DData b) in
       let t : Took = record { job = j; no = r .number; body = b } in
       let f : Holds = movedBy r MessageRequest 0 j in
-      let o : M .at .call sd (recOf r) (letters text sd j) ≡ acts (recOf f) [] (message e b j) = call-is sd r MessageRequest 0 b j ∙ ap (λ (x : Bool). callDone MessageRequest b j (cond x (Sends f) Refused)) c in
+      let o : M .at .call sd (recOf r) (letters text sd j) ≡ acts (recOf f) [] (message e b j) = call-is sd r
+      MessageRequest 0 b j ∙ ap (λ (x : Bool). callDone MessageRequest b j (cond x (Sends f) Refused)) c in
       let v : Beside = record { taken = more (g .taken) (r .number) (b ∷ []); handed = more (g .handed) (r .number) []; jobs = g .jobs ++ (j ∷ []); done = g .done; log = g .log ++ (t ∷ []); seen = g .seen } in
       record {
         near = v;
         far = k;
         lands =
-            ap (λ (x : Bool). cond x s (offered M right (letters text) fresh answersYes may sd s j (M .at .call sd (recOf r) (letters text sd j)))) d
+            ap (λ (x : Bool). cond x s (offered M right (letters text) fresh answersYes may sd s j
+            (M .at .call sd (recOf r) (letters text sd j)))) d
             ∙ ap (λ (x : Outcome (Numbered Held) (Numbered Ent)). offered M right (letters text) fresh answersYes may sd s j x) o
-            ∙ ap (λ (x : Bool). cond (x && eqb (r .number) (r .number)) (taking M right (letters text) fresh answersYes may sd s j t) s) (self j)
+            ∙ ap (λ (x : Bool). cond (x && eqb (r .number) (r .number))
+            (taking M right (letters text) fresh answersYes may sd s j t) s) (self j)
             ∙ ap (λ (x : Bool). cond x (taking M right (letters text) fresh answersYes may sd s j t) s) (self (r .number))
             ∙ ap (λ (x : Outcome (Numbered Held) (Numbered Ent)). took (nCalled M may (s .ends) x 0)) o
-            ∙ ap (λ (x : Bool). left (cond (not x) (tells told-broken n) n) (handsOut M right (letters text) fresh answersYes (s .ends) (nCalled M may (s .ends) (acts (recOf f) [] (message e b j)) 0) || false)) (self (r .number))
+            ∙ ap (λ (x : Bool). left (cond (not x) (tells told-broken n) n) (handsOut M right (letters text) fresh
+            answersYes (s .ends) (nCalled M may (s .ends) (acts (recOf f) [] (message e b j)) 0) || false))
+            (self (r .number))
             ∙ ap (λ (x : Bool). left n x) (out-none (g .handed) (r .number));
       }
     where

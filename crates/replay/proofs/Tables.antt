@@ -41,18 +41,22 @@ pub among-here : (l : List ℕ) (from n i x : ℕ) → i < n → eqb (member l f
 among-here l from zero i x h e = absurd (omega (arith, h))
 among-here l from (suc n) i x h e = go (among-here l from n i x) (eqb i n) refl
   where
-    go : (i < n → eqb (member l from i) x ≡ true → among l from n x ≡ true) → (b : Bool) → eqb i n ≡ b → (among l from n x || eqb (member l from n) x) ≡ true
-    go f true q = subst (λ (j : ℕ). (among l from n x || eqb (member l from j) x) ≡ true) (eqb-true i n q) (ap (λ (b : Bool). among l from n x || b) e ∙ or-true (among l from n x))
+    go : (i < n → eqb (member l from i) x ≡ true → among l from n x ≡ true) → (b : Bool) → eqb i n ≡ b
+        → (among l from n x || eqb (member l from n) x) ≡ true
+    go f true q = subst (λ (j : ℕ). (among l from n x || eqb (member l from j) x) ≡ true) (eqb-true i n q)
+        (ap (λ (b : Bool). among l from n x || b) e ∙ or-true (among l from n x))
     go f false q = ap (λ (b : Bool). b || eqb (member l from n) x) (f (omega (arith, h, eqb-false i n q)) e)
 
 -- one that is not leaves it to the others
 pub among-next : (l : List ℕ) (from i x : ℕ) → among l from i x ≡ false → eqb (member l from i) x ≡ false → among l from (suc i) x ≡ false
 among-next l from i x h e = rw (h, e)
 
-pub among-turn : (l : List ℕ) (from i x v : ℕ) → v ≡ member l from i → (v ≡ x → ⊥) → among l from i x ≡ false → among l from (i + 1) x ≡ false
+pub among-turn : (l : List ℕ) (from i x v : ℕ) → v ≡ member l from i → (v ≡ x → ⊥) → among l from i x ≡ false
+    → among l from (i + 1) x ≡ false
 among-turn l from i x v e n h =
     let q : suc i ≡ i + 1 = omega arith in
-    subst (λ (k : ℕ). among l from k x ≡ false) q (among-next l from i x h (ne-eqb (member l from i) x (λ (r : member l from i ≡ x). n (e ∙ r))))
+    subst (λ (k : ℕ). among l from k x ≡ false) q
+    (among-next l from i x h (ne-eqb (member l from i) x (λ (r : member l from i ≡ x). n (e ∙ r))))
 
 pub among-end : (l : List ℕ) (from i n x : ℕ) → i ≤ n → n ≤ i → among l from i x ≡ false → among l from n x ≡ false
 among-end l from i n x a b h =
@@ -70,16 +74,25 @@ module _ (l : List ℕ) (n job fate : ℕ) (full : size ≤ length l) (room : n 
   noticed = set (set (set l (17808 + 2 * n) job) (17808 + 2 * n + 1) fate) 10 (n + 1)
 
   count-there : getD noticed 10 0 ≡ n + 1
-  count-there = get-same (set (set l (17808 + 2 * n) job) (17808 + 2 * n + 1) fate) 10 (n + 1) (omega (arith, full, length-set (set l (17808 + 2 * n) job) (17808 + 2 * n + 1) fate, length-set l (17808 + 2 * n) job))
+  count-there = get-same (set (set l (17808 + 2 * n) job) (17808 + 2 * n + 1) fate) 10 (n + 1) (omega (
+    arith,
+    full,
+    length-set (set l (17808 + 2 * n) job) (17808 + 2 * n + 1) fate,
+    length-set l (17808 + 2 * n) job,
+  ))
 
   job-there : getD noticed (17808 + 2 * n) 0 ≡ job
   job-there =
-      get-other (set (set l (17808 + 2 * n) job) (17808 + 2 * n + 1) fate) 10 (17808 + 2 * n) (n + 1) (λ (e : 17808 + 2 * n ≡ 10). omega (arith, e))
-      ∙ (get-other (set l (17808 + 2 * n) job) (17808 + 2 * n + 1) (17808 + 2 * n) fate (λ (e : 17808 + 2 * n ≡ 17808 + 2 * n + 1). omega (arith, e)) ∙ get-same l (17808 + 2 * n) job (omega (arith, full, room)))
+      get-other (set (set l (17808 + 2 * n) job) (17808 + 2 * n + 1) fate) 10 (17808 + 2 * n) (n + 1)
+      (λ (e : 17808 + 2 * n ≡ 10). omega (arith, e))
+      ∙ (get-other (set l (17808 + 2 * n) job) (17808 + 2 * n + 1) (17808 + 2 * n) fate
+      (λ (e : 17808 + 2 * n ≡ 17808 + 2 * n + 1). omega (arith, e)) ∙ get-same l (17808 + 2 * n) job
+      (omega (arith, full, room)))
 
   fate-there : getD noticed (17808 + 2 * n + 1) 0 ≡ fate
   fate-there =
-      get-other (set (set l (17808 + 2 * n) job) (17808 + 2 * n + 1) fate) 10 (17808 + 2 * n + 1) (n + 1) (λ (e : 17808 + 2 * n + 1 ≡ 10). omega (arith, e))
+      get-other (set (set l (17808 + 2 * n) job) (17808 + 2 * n + 1) fate) 10 (17808 + 2 * n + 1) (n + 1)
+      (λ (e : 17808 + 2 * n + 1 ≡ 10). omega (arith, e))
       ∙ get-same (set l (17808 + 2 * n) job) (17808 + 2 * n + 1) fate (omega (arith, full, room, length-set l (17808 + 2 * n) job))
 
   -- a notice is the one of its number
@@ -87,21 +100,39 @@ module _ (l : List ℕ) (n job fate : ℕ) (full : size ≤ length l) (room : n 
   unfolding isNoted
   notice-there =
       let a : n + 1 - 1 ≡ n = omega arith in
-      rw (ne-eqb (n + 1) 0 (λ (e : n + 1 ≡ 0). omega (arith, e)), count-there, le-ltb (n + 1) (n + 1) (omega arith), le-ltb 16384 (n + 1) (omega (arith, room)), a, job-there, fate-there, eq-eqb job job refl, eq-eqb fate fate refl)
+      rw (
+        ne-eqb (n + 1) 0 (λ (e : n + 1 ≡ 0). omega (arith, e)),
+        count-there,
+        le-ltb (n + 1) (n + 1) (omega arith),
+        le-ltb 16384 (n + 1) (omega (arith, room)),
+        a,
+        job-there,
+        fate-there,
+        eq-eqb job job refl,
+        eq-eqb fate
+            fate refl,
+      )
 
-pub noted-there : (l : List ℕ) (job fate : ℕ) → size ≤ length l → getD l 10 0 < 16384 → isNoted (noted l job fate .page) (getD l 10 0 + 1) job fate ≡ true
+pub noted-there : (l : List ℕ) (job fate : ℕ) → size ≤ length l → getD l 10 0 < 16384
+    → isNoted (noted l job fate .page) (getD l 10 0 + 1) job fate ≡ true
 unfolding noted
-noted-there l job fate full room = subst (λ (b : Bool). isNoted (cond b (left true (set (set (set l (17808 + 2 * getD l 10 0) job) (17808 + 2 * getD l 10 0 + 1) fate) 10 (getD l 10 0 + 1))) (left false l) .page) (getD l 10 0 + 1) job fate ≡ true) (sym (lt-ltb (getD l 10 0) 16384 room)) (notice-there l (getD l 10 0) job fate full room)
+noted-there l job fate full room = subst (λ (b : Bool). isNoted (cond b (left true (set
+    (set (set l (17808 + 2 * getD l 10 0) job) (17808 + 2 * getD l 10 0 + 1) fate) 10 (getD l 10 0 + 1)))
+    (left false l) .page) (getD l 10 0 + 1) job fate ≡ true) (sym (lt-ltb (getD l 10 0) 16384 room))
+    (notice-there l (getD l 10 0) job fate full room)
 
 -- one that was put behind the others is among them; the count stands before the list
-pub pushed-there : (l : List ℕ) (counter from most x : ℕ) → from ≤ 4294967296 → most ≤ 4294967296 → from + most ≤ length l → counter < from → getD l counter 0 < most → among (pushed l counter from most x .page) from (getD (pushed l counter from most x .page) counter 0) x ≡ true
+pub pushed-there : (l : List ℕ) (counter from most x : ℕ) → from ≤ 4294967296 → most ≤ 4294967296
+    → from + most ≤ length l → counter < from → getD l counter 0 < most
+    → among (pushed l counter from most x .page) from (getD (pushed l counter from most x .page) counter 0) x ≡ true
 unfolding pushed
 pushed-there l counter from most x a b c e r =
     let n : ℕ = getD l counter 0 in
     let q : List ℕ = set (set l (from + getD l counter 0) x) counter (getD l counter 0 + 1) in
     let z = length-set l (from + getD l counter 0) x in
     let k : getD q counter 0 ≡ n + 1 = get-same (set l (from + getD l counter 0) x) counter (n + 1) (omega (arith, c, e, z)) in
-    let v : getD q (from + n) 0 ≡ x = get-other (set l (from + n) x) counter (from + n) (n + 1) (λ (y : from + n ≡ counter). omega (arith, y, e)) ∙ get-same l (from + n) x (omega (arith, c, r)) in
+    let v : getD q (from + n) 0 ≡ x = get-other (set l (from + n) x) counter (from + n) (n + 1)
+    (λ (y : from + n ≡ counter). omega (arith, y, e)) ∙ get-same l (from + n) x (omega (arith, c, r)) in
     let u : member q from n ≡ x = rw (le-ltb 4294967296 from a, le-ltb 4294967296 n (omega (arith, b, r)), v) in
     let w : among q from (n + 1) x ≡ true = among-here q from (n + 1) n x (omega arith) (eq-eqb (member q from n) x u) in
     let y : among q from (getD q counter 0) x ≡ true = subst (λ (i : ℕ). among q from i x ≡ true) (sym k) w in
@@ -122,8 +153,13 @@ entry-there l i kind number job full room =
     let s = length-set l (16 + 3 * i) kind in
     let t = length-set x (16 + 3 * i + 1) number in
     let f : 16 + 3 * i + 0 ≡ 16 + 3 * i = omega arith in
-    let a : getD z (16 + 3 * i) 0 ≡ kind = get-other y (16 + 3 * i + 2) (16 + 3 * i) job (λ (e : 16 + 3 * i ≡ 16 + 3 * i + 2). omega (arith, e)) ∙ (get-other x (16 + 3 * i + 1) (16 + 3 * i) number (λ (e : 16 + 3 * i ≡ 16 + 3 * i + 1). omega (arith, e)) ∙ get-same l (16 + 3 * i) kind (omega (arith, full, room))) in
-    let b : getD z (16 + 3 * i + 1) 0 ≡ number = get-other y (16 + 3 * i + 2) (16 + 3 * i + 1) job (λ (e : 16 + 3 * i + 1 ≡ 16 + 3 * i + 2). omega (arith, e)) ∙ get-same x (16 + 3 * i + 1) number (omega (arith, full, room, s)) in
+    let a : getD z (16 + 3 * i) 0 ≡ kind = get-other y (16 + 3 * i + 2) (16 + 3 * i) job
+    (λ (e : 16 + 3 * i ≡ 16 + 3 * i + 2). omega (arith, e)) ∙ (get-other x (16 + 3 * i + 1) (16 + 3 * i) number
+    (λ (e : 16 + 3 * i ≡ 16 + 3 * i + 1). omega (arith, e)) ∙ get-same l (16 + 3 * i) kind
+    (omega (arith, full, room))) in
+    let b : getD z (16 + 3 * i + 1) 0 ≡ number = get-other y (16 + 3 * i + 2) (16 + 3 * i + 1) job
+    (λ (e : 16 + 3 * i + 1 ≡ 16 + 3 * i + 2). omega (arith, e)) ∙ get-same x (16 + 3 * i + 1) number
+    (omega (arith, full, room, s)) in
     let d : getD z (16 + 3 * i + 2) 0 ≡ job = get-same y (16 + 3 * i + 2) job (omega (arith, full, room, s, t)) in
     record {
       kind-there = rw (lt-ltb i 128 room, lt-leb 128 i room, f, a);

@@ -16,7 +16,8 @@ kind-at-requires c κs = omega (arith, all-rows)
 
 returns : tie.Need-returns
 unfolding rowsOf
-returns c = rw (c .before .before .enum-told .given .1) (c .kind-at .ensures ∙ downlink-at _ (omega (arith, downlink-rows)))
+returns c =
+    rw (c .before .before .enum-told .given .1) (c .kind-at .ensures ∙ downlink-at _ (omega (arith, downlink-rows)))
 
 enum-told-2 : tie.Need-enum-told-2
 enum-told-2 c = search needs
@@ -29,7 +30,9 @@ kind-at-requires-2 c κs = omega (arith, all-rows)
 
 returns-2 : tie.Need-returns-2
 unfolding downlink
-returns-2 c = rw (c .before .before .enum-told2 .given .1) (c .kind-at2 .ensures ∙ uplink-at (c .before .before .before .before .args .number))
+returns-2 c =
+    let c4 = c .before .before .before .before in
+    rw (c .before .before .enum-told2 .given .1) (c .kind-at2 .ensures ∙ uplink-at (c4 .args .number))
 
 returns-3 : tie.Need-returns-3
 returns-3 c = rw (c .before .enum-told .given .1) (no-row _ _ (omega (arith, downlink-rows)))

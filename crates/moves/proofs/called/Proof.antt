@@ -14,13 +14,29 @@ moved-requires : tie.Need-moved-requires
 moved-requires c κs = search needs
 
 returns : tie.Need-returns
-returns c = rw (← c .before .before .before .before .may-do .ensures, c .before .before .before .if1 .taken, ← c .before .before .is-abort .ensures, c .before .if2 .taken, c .moved .ensures)
+returns c =
+    let c3 = c .before .before .before in
+    rw (
+      ← c3 .before .may-do .ensures,
+      c3 .if1 .taken,
+      ← c .before .before .is-abort .ensures,
+      c .before .if2 .taken,
+      c .moved .ensures,
+    )
 
 moved-requires-2 : tie.Need-moved-requires-2
 moved-requires-2 c κs = search needs
 
 returns-2 : tie.Need-returns-2
-returns-2 c = rw (← c .before .before .before .before .may-do .ensures, c .before .before .before .if1 .taken, ← c .before .before .is-abort .ensures, c .before .if2 .left, c .moved2 .ensures)
+returns-2 c =
+    let c3 = c .before .before .before in
+    rw (
+      ← c3 .before .may-do .ensures,
+      c3 .if1 .taken,
+      ← c .before .before .is-abort .ensures,
+      c .before .if2 .left,
+      c .moved2 .ensures,
+    )
 
 returns-3 : tie.Need-returns-3
 returns-3 c = rw (← c .before .may-do .ensures, c .if1 .left)

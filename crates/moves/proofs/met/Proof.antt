@@ -16,11 +16,27 @@ is-data-requires c κs = search needs
 
 returns : tie.Need-returns
 unfolding metBy
-returns c = rw (← c .before .before .before .before .expects .ensures, c .before .before .before .if1 .taken, ← c .before .is-data .ensures, c .if2 .taken, c .before .before .after .ensures)
+returns c =
+    let c3 = c .before .before .before in
+    rw (
+      ← c3 .before .expects .ensures,
+      c3 .if1 .taken,
+      ← c .before .is-data .ensures,
+      c .if2 .taken,
+      c .before .before .after .ensures,
+    )
 
 returns-2 : tie.Need-returns-2
 unfolding metBy
-returns-2 c = rw (← c .before .before .before .before .expects .ensures, c .before .before .before .if1 .taken, ← c .before .is-data .ensures, c .if2 .left, c .before .before .after .ensures)
+returns-2 c =
+    let c3 = c .before .before .before in
+    rw (
+      ← c3 .before .expects .ensures,
+      c3 .if1 .taken,
+      ← c .before .is-data .ensures,
+      c .if2 .left,
+      c .before .before .after .ensures,
+    )
 
 is-requires : tie.Need-is-requires
 is-requires c κs = search needs
@@ -30,15 +46,35 @@ is-opening-requires c κs = search needs
 
 returns-3 : tie.Need-returns-3
 unfolding metBy
-returns-3 c = rw (← c .before .before .before .before .before .expects .ensures, c .before .before .before .before .if1 .left, ← c .before .before .before .is .ensures, c .before .before .if3 .taken, ← c .before .is-opening .ensures, c .if4 .taken)
+returns-3 c =
+    let c3 = c .before .before .before in
+    rw (
+      ← c3 .before .before .expects .ensures,
+      c3 .before .if1 .left,
+      ← c3 .is .ensures,
+      c .before .before .if3 .taken,
+      ← c .before .is-opening .ensures,
+      c .if4 .taken,
+    )
 
 returns-4 : tie.Need-returns-4
 unfolding metBy
-returns-4 c = rw (← c .before .before .before .before .before .expects .ensures, c .before .before .before .before .if1 .left, ← c .before .before .before .is .ensures, c .before .before .if3 .taken, ← c .before .is-opening .ensures, c .if4 .left)
+returns-4 c =
+    let c3 = c .before .before .before in
+    rw (
+      ← c3 .before .before .expects .ensures,
+      c3 .before .if1 .left,
+      ← c3 .is .ensures,
+      c .before .before .if3 .taken,
+      ← c .before .is-opening .ensures,
+      c .if4 .left,
+    )
 
 returns-5 : tie.Need-returns-5
 unfolding metBy
-returns-5 c = rw (← c .before .before .before .expects .ensures, c .before .before .if1 .left, ← c .before .is .ensures, c .if3 .left)
+returns-5 c =
+    let c3 = c .before .before .before in
+    rw (← c3 .expects .ensures, c .before .before .if1 .left, ← c .before .is .ensures, c .if3 .left)
 
 pub met-spec : {M : Type 1} → statement M
 met-spec =

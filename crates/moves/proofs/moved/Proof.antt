@@ -17,10 +17,26 @@ is-start-requires : tie.Need-is-start-requires
 is-start-requires c κs = search needs
 
 returns-2 : tie.Need-returns-2
-returns-2 c = rw (← c .before .before .before .is-message .ensures, c .before .before .if1 .left, ← c .before .is-start .ensures, c .if2 .taken, c .before .before .before .before .goes .ensures)
+returns-2 c =
+    let c3 = c .before .before .before in
+    rw (
+      ← c3 .is-message .ensures,
+      c .before .before .if1 .left,
+      ← c .before .is-start .ensures,
+      c .if2 .taken,
+      c3 .before .goes .ensures,
+    )
 
 returns-3 : tie.Need-returns-3
-returns-3 c = rw (← c .before .before .before .is-message .ensures, c .before .before .if1 .left, ← c .before .is-start .ensures, c .if2 .left, c .before .before .before .before .goes .ensures)
+returns-3 c =
+    let c3 = c .before .before .before in
+    rw (
+      ← c3 .is-message .ensures,
+      c .before .before .if1 .left,
+      ← c .before .is-start .ensures,
+      c .if2 .left,
+      c3 .before .goes .ensures,
+    )
 
 pub moved-spec : {M : Type 1} → statement M
 moved-spec =

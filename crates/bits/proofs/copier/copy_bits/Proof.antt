@@ -29,10 +29,14 @@ same-length : tie.Need-same-length
 same-length c = search needs
 
 returns : tie.Need-returns
-returns c = is-copied _ _ _ _ _ _ _ _ (there (c .before .before .before .before .before .before)) (room (c .before .before .before .before)) (c .before .before .copy-run .ensures)
+returns c =
+    let c4 = c .before .before .before .before in
+    is-copied _ _ _ _ _ _ _ _ (there (c4 .before .before)) (room (c4)) (c .before .before .copy-run .ensures)
 
 returns-2 : tie.Need-returns-2
-returns-2 c = no-room _ _ _ _ _ _ _ (there (c .before .before)) (not-within _ _ _ _ _ (c .before .within2 .ensures) (c .if2 .left))
+returns-2 c =
+    no-room _ _ _ _ _ _ _ (there (c .before .before))
+    (not-within _ _ _ _ _ (c .before .within2 .ensures) (c .if2 .left))
 
 returns-3 : tie.Need-returns-3
 returns-3 c = not-there _ _ _ _ _ _ _ (not-within _ _ _ _ _ (c .before .within .ensures) (c .if1 .left))

@@ -42,7 +42,17 @@ wide-requires-2 : tie.Need-wide-requires-2 Inv-loop μ-loop
 wide-requires-2 c κs = tt
 
 eight-requires : tie.Need-eight-requires Inv-loop μ-loop
-eight-requires c κs = omega (arith, c .before .before .wide .ensures, c .wide2 .ensures, c .before .before .before .before .before .before .shared-slice-known .given (c .before .before .before .before .before .before .before .before .args .at / 8 + c .before .before .before .before .before .loop .i), c .before .before .before .before .before .before .shared-slice-known .given (c .before .before .before .before .before .before .before .before .args .at / 8 + c .before .before .before .before .before .loop .i + 1))
+eight-requires c κs =
+    let c5 = c .before .before .before .before .before in
+    let c8 = c5 .before .before .before in
+    omega (
+      arith,
+      c .before .before .wide .ensures,
+      c .wide2 .ensures,
+      c5 .before .shared-slice-known .given
+          (c8 .args .at / 8 + c5 .loop .i),
+      c5 .before .shared-slice-known .given (c8 .args .at / 8 + c5 .loop .i + 1),
+    )
 
 add-dst : tie.Need-add-dst Inv-loop μ-loop
 add-dst c = search needs
@@ -57,7 +67,20 @@ loop-less : tie.Need-loop-less Inv-loop μ-loop
 loop-less c = search needs
 
 loop-again : tie.Need-loop-again Inv-loop μ-loop
-loop-again c = (search needs, simp length-set (c .before .before .before .before .before .before .loop .inv .1), byte-turn _ _ _ _ _ _ _ _ _ _ _ (omega arith) (omega arith) (omega arith) (c .before .before .before .wide .ensures) (c .before .wide2 .ensures) (omega (arith, c .before .wide2 .ensures, c .before .before .before .before .before .before .before .shared-slice-known .given (c .before .before .before .before .before .before .before .before .before .args .at / 8 + c .before .before .before .before .before .before .loop .i + 1))) (c .eight .ensures) refl (c .before .before .before .before .before .before .loop .inv .2))
+loop-again c =
+    let c3 = c .before .before .before in
+    let c6 = c3 .before .before .before in
+    let c9 = c6 .before .before .before in (
+      search needs,
+      simp length-set (c6 .loop .inv .1),
+      byte-turn _ _ _ _ _ _ _ _ _ _ _ (omega arith) (omega arith)
+          (omega arith) (c3 .wide .ensures) (c .before .wide2 .ensures) (omega (
+            arith,
+            c .before .wide2 .ensures,
+            c6 .before .shared-slice-known .given (c9 .args .at / 8 + c6 .loop .i + 1),
+          )) (c .eight .ensures)
+          refl (c6 .loop .inv .2),
+    )
 
 same-length : tie.Need-same-length Inv-loop μ-loop
 same-length c = search needs

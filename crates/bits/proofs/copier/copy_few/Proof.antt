@@ -13,13 +13,16 @@ number-at-requires : tie.Need-number-at-requires
 number-at-requires c κs = search needs
 
 put-number-at-requires : tie.Need-put-number-at-requires
-put-number-at-requires c κs = (search needs, search needs, search needs, run-lt _ _ _ _ (omega arith) (c .before .number-at .ensures))
+put-number-at-requires c κs =
+    (search needs, search needs, search needs, run-lt _ _ _ _ (omega arith) (c .before .number-at .ensures))
 
 same-length : tie.Need-same-length
 same-length c = search needs
 
 returns : tie.Need-returns
-returns c = as-number _ _ _ _ _ _ _ (omega arith) (c .before .before .before .before .number-at .ensures) (c .before .before .put-number-at .ensures)
+returns c =
+    let c4 = c .before .before .before .before in
+    as-number _ _ _ _ _ _ _ (omega arith) (c4 .number-at .ensures) (c .before .before .put-number-at .ensures)
 
 returns-2 : tie.Need-returns-2
 returns-2 c = rw (c .if1 .left, run-zero, put-nil)

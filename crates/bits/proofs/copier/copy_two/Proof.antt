@@ -25,7 +25,9 @@ same-length : tie.Need-same-length
 same-length c = search needs
 
 returns : tie.Need-returns
-returns c = in-two _ _ _ _ _ _ 56 _ (omega arith) (omega arith) (c .before .before .before .before .before .before .copy-few .ensures) (c .before .before .copy-few2 .ensures)
+returns c =
+    let c6 = c .before .before .before .before .before .before in
+    in-two _ _ _ _ _ _ 56 _ (omega arith) (omega arith) (c6 .copy-few .ensures) (c .before .before .copy-few2 .ensures)
 
 pub copy-two-spec : {M : Type 1} → statement M
 copy-two-spec =

@@ -28,7 +28,9 @@ same-length : tie.Need-same-length
 same-length c = search needs
 
 returns : tie.Need-returns
-returns c = in-eights _ _ _ _ _ _ _ (omega arith) (c .before .before .before .before .before .before .copy-eights .ensures) (c .before .before .copy-bytes .ensures)
+returns c =
+    let c6 = c .before .before .before .before .before .before in
+    in-eights _ _ _ _ _ _ _ (omega arith) (c6 .copy-eights .ensures) (c .before .before .copy-bytes .ensures)
 
 pub copy-whole-spec : {M : Type 1} → statement M
 copy-whole-spec =

@@ -10,10 +10,13 @@ use Rattle.bits.proofs.eight_bytes.eight_of_nine.Statement.{statement}
 use Rattle.bits.proofs.eight_bytes.eight_of_nine.Tie as tie
 
 byte : (c : tie.After-wide) → c .wide .result < 256
-byte c = omega (arith, c .wide .ensures, c .before .shared-slice-known2 .given (c .before .before .before .before .args .q + 8))
+byte c =
+    let c4 = c .before .before .before .before in
+    omega (arith, c .wide .ensures, c .before .shared-slice-known2 .given (c4 .args .q + 8))
 
 sum : (c : tie.After-wide) → c .before .before .eight-at .result * 2 ^ c .before .before .before .before .args .r % 2 ^ 64 + c .wide .result / 2 ^ (8 - c .before .before .before .before .args .r) ≡ numOf (run (c .before .before .before .before .args .s .now) (8 * c .before .before .before .before .args .q + c .before .before .before .before .args .r) 64)
-sum c = nine-is _ _ _ _ _ (search needs) (search needs) (c .before .before .eight-at .ensures) (c .wide .ensures) (byte c)
+sum c =
+    nine-is _ _ _ _ _ (search needs) (search needs) (c .before .before .eight-at .ensures) (c .wide .ensures) (byte c)
 
 eight-at-requires : tie.Need-eight-at-requires
 eight-at-requires c κs = search needs

@@ -22,7 +22,12 @@ loop-holds : tie.Need-loop-holds Inv-loop μ-loop
 loop-holds c = (search needs, sym (rw run-zero num-nil), search needs)
 
 mul-v : tie.Need-mul-v Inv-loop μ-loop
-mul-v c = omega (arith, turn-fits (c .before .loop .v) 256 0 (8 * c .before .loop .i) 8 (c .before .loop .inv .2) refl (omega arith) (omega arith))
+mul-v c =
+    omega (
+      arith,
+      turn-fits (c .before .loop .v) 256 0 (8 * c .before .loop .i) 8 (c .before .loop .inv .2) refl
+          (omega arith) (omega arith),
+    )
 
 add-wide : tie.Need-add-wide Inv-loop μ-loop
 add-wide c = search needs
@@ -34,10 +39,18 @@ wide-requires : tie.Need-wide-requires Inv-loop μ-loop
 wide-requires c κs = tt
 
 byte : (c : tie.After-wide Inv-loop μ-loop) → c .wide .result < 256
-byte c = omega (arith, c .wide .ensures, c .before .before .before .before .shared-slice-known .given (c .before .before .before .before .before .args .q + c .before .before .before .loop .i))
+byte c =
+    let c3 = c .before .before .before in
+    omega (arith, c .wide .ensures, c3 .before .shared-slice-known .given (c3 .before .before .args .q + c3 .loop .i))
 
 add-v : tie.Need-add-v Inv-loop μ-loop
-add-v c = omega (arith, turn-fits (c .before .before .before .loop .v) 256 (c .wide .result) (8 * c .before .before .before .loop .i) 8 (c .before .before .before .loop .inv .2) refl (byte c) (omega arith))
+add-v c =
+    let c3 = c .before .before .before in
+    omega (
+      arith,
+      turn-fits (c3 .loop .v) 256 (c .wide .result) (8 * c3 .loop .i) 8 (c3 .loop .inv .2) refl (byte c)
+          (omega arith),
+    )
 
 add-i : tie.Need-add-i Inv-loop μ-loop
 add-i c = search needs

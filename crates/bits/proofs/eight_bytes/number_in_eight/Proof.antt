@@ -25,7 +25,9 @@ part-of-requires : tie.Need-part-of-requires
 part-of-requires c κs = search needs
 
 returns : tie.Need-returns
-returns c = in-word _ 64 (c .before .before .least .result) _ _ _ _ _ (omega arith) (omega arith) (omega arith) (c .before .eight-at .ensures) (c .part-of .ensures)
+returns c =
+    in-word _ 64 (c .before .before .least .result) _ _ _ _ _ (omega arith) (omega arith) (omega arith)
+    (c .before .eight-at .ensures) (c .part-of .ensures)
 
 pub number-in-eight-spec : {M : Type 1} → statement M
 number-in-eight-spec =

@@ -45,7 +45,12 @@ loop-less : tie.Need-loop-less Inv-loop μ-loop
 loop-less c = search needs
 
 loop-again : tie.Need-loop-again Inv-loop μ-loop
-loop-again c = (search needs, simp length-set (c .before .loop .inv .1), put-turn _ _ _ _ _ _ _ (omega arith) (omega arith) refl refl (c .before .loop .inv .2))
+loop-again c = (
+  search needs,
+  simp length-set (c .before .loop .inv .1),
+  put-turn _ _ _ _ _ _ _ (omega arith) (omega arith) refl
+      refl (c .before .loop .inv .2),
+)
 
 same-length : tie.Need-same-length Inv-loop μ-loop
 same-length c = search needs

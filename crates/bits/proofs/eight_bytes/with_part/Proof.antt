@@ -11,10 +11,14 @@ use Rattle.bits.proofs.eight_bytes.with_part.Statement.{statement}
 use Rattle.bits.proofs.eight_bytes.with_part.Tie as tie
 
 le : (c : tie.After-pow2) → c .before .part-of .result * c .pow2 .result ≤ c .before .before .args .w
-le c = rw (c .pow2 .ensures) (part-le (c .before .before .args .w) _ (c .before .before .args .n) _ (c .before .part-of .ensures))
+le c =
+    rw (c .pow2 .ensures)
+    (part-le (c .before .before .args .w) _ (c .before .before .args .n) _ (c .before .part-of .ensures))
 
 sum : (c : tie.After-pow2) → c .before .before .args .w - c .before .part-of .result * c .pow2 .result + c .before .before .args .v * c .pow2 .result ≡ numOf (sets (bitsN 64 (c .before .before .args .w)) (c .before .before .args .r) (bitsN (c .before .before .args .n) (c .before .before .args .v)))
-sum c = rw (c .pow2 .ensures) (part-put _ _ _ _ _ (search needs) (search needs) (search needs) (c .before .part-of .ensures))
+sum c =
+    rw (c .pow2 .ensures)
+    (part-put _ _ _ _ _ (search needs) (search needs) (search needs) (c .before .part-of .ensures))
 
 lt : (c : tie.After-pow2) → c .before .before .args .w - c .before .part-of .result * c .pow2 .result + c .before .before .args .v * c .pow2 .result < 2 ^ 64
 lt c = rw (sum c) (put-lt _ _ _ _)

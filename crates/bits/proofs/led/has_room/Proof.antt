@@ -11,11 +11,15 @@ use Rattle.bits.proofs.extent.within.Reads as within-reads
 
 -- src/led.rt:48:9
 returns : tie.Need-returns
-returns c = no-room-before (c .before .args .len) (c .before .args .end) (c .before .args .at) (c .before .args .n) (c .before .args .count) (omega arith)
+returns c =
+    no-room-before (c .before .args .len) (c .before .args .end) (c .before .args .at) (c .before .args .n)
+    (c .before .args .count) (omega arith)
 
 -- src/led.rt:51:9
 returns-2 : tie.Need-returns-2
-returns-2 c = no-room-before (c .before .before .args .len) (c .before .before .args .end) (c .before .before .args .at) (c .before .before .args .n) (c .before .before .args .count) (omega arith)
+returns-2 c =
+    no-room-before (c .before .before .args .len) (c .before .before .args .end) (c .before .before .args .at)
+    (c .before .before .args .n) (c .before .before .args .count) (omega arith)
 
 -- src/led.rt:53:26
 add-within : tie.Need-add-within

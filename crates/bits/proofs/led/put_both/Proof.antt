@@ -56,7 +56,10 @@ same-length-2 c = search needs
 
 -- src/led.rt:30:1
 returns-2 : tie.Need-returns-2
-returns-2 c = with-rest _ _ _ _ _ _ _ _ _ _ (omega arith) (omega arith) (omega arith) (c .before .before .before .before .before .before .put-joined2 .ensures) (c .before .before .copy-run .ensures)
+returns-2 c =
+    let c6 = c .before .before .before .before .before .before in
+    with-rest _ _ _ _ _ _ _ _ _ _ (omega arith) (omega arith) (omega arith) (c6 .put-joined2 .ensures)
+    (c .before .before .copy-run .ensures)
 
 pub put-both-spec : {M : Type 1} → statement M
 put-both-spec =

@@ -15,10 +15,14 @@ use Rattle.bits.proofs.reader.number_at.Reads as number-at-reads
 use Rattle.bits.proofs.writer.put_number_at.Reads as put-number-at-reads
 
 small : (c : tie.After-pow2) → c .before .before .number-at .result < 2 ^ c .before .before .before .before .before .args .k
-small c = run-lt _ _ _ _ (omega (arith, c .before .before .before .before .before .pre)) (c .before .before .number-at .ensures)
+small c =
+    let c5 = c .before .before .before .before .before in
+    run-lt _ _ _ _ (omega (arith, c5 .pre)) (c .before .before .number-at .ensures)
 
 sum : (c : tie.After-pow2) → c .before .before .before .before .before .args .v * c .pow2 .result + c .before .before .number-at .result < 2 ^ 64
-sum c = turn-fits _ _ _ (c .before .before .before .before .before .args .n) (c .before .before .before .before .before .args .k) (c .before .before .before .before .before .pre .1) (c .pow2 .ensures) (small c) (omega (arith, c .before .before .before .before .before .pre))
+sum c =
+    let c5 = c .before .before .before .before .before in
+    turn-fits _ _ _ (c5 .args .n) (c5 .args .k) (c5 .pre .1) (c .pow2 .ensures) (small c) (omega (arith, c5 .pre))
 
 -- src/led.rt:25:9
 number-at-requires : tie.Need-number-at-requires
@@ -42,7 +46,14 @@ add-put-number-at-2 c = omega (arith, sum c)
 
 -- src/led.rt:26:5
 put-number-at-requires : tie.Need-put-number-at-requires
-put-number-at-requires c κs = (omega (arith, c .before .before .before .before .before .pre), omega (arith, c .before .before .before .before .before .pre), omega (arith, c .before .before .before .before .before .pre), turn-lt _ _ _ _ _ (c .before .before .before .before .before .pre .1) (c .pow2 .ensures) (small c))
+put-number-at-requires c κs =
+    let c5 = c .before .before .before .before .before in (
+      omega (arith, c5 .pre),
+      omega (arith, c5 .pre),
+      omega (arith, c5 .pre),
+      turn-lt _ _ _ _ _ (c5 .pre .1)
+          (c .pow2 .ensures) (small c),
+    )
 
 -- src/led.rt:21:1
 same-length : tie.Need-same-length
@@ -50,7 +61,11 @@ same-length c = search needs
 
 -- src/led.rt:21:1
 returns : tie.Need-returns
-returns c = joined _ _ _ _ _ _ _ _ _ _ (omega (arith, c .before .before .before .before .before .before .before .before .pre)) (c .before .before .before .pow2 .ensures) (c .before .before .before .before .before .number-at .ensures) (c .before .before .put-number-at .ensures)
+returns c =
+    let c3 = c .before .before .before in
+    let c8 = c3 .before .before .before .before .before in
+    joined _ _ _ _ _ _ _ _ _ _ (omega (arith, c8 .pre)) (c3 .pow2 .ensures) (c3 .before .before .number-at .ensures)
+    (c .before .before .put-number-at .ensures)
 
 pub put-joined-spec : {M : Type 1} → statement M
 put-joined-spec =

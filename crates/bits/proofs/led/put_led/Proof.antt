@@ -25,7 +25,9 @@ room : (c : tie.Then4) → Within (c .before .before .before .before .before .be
 room c = is-within _ _ _ _ _ (c .before .has-room .ensures) (c .if4 .taken)
 
 small : (c : tie.Then2) → c .before .before .before .before .before .args .v < 2 ^ c .before .before .before .before .before .args .n
-small c = ltb-true _ _ (both-right (leb (c .before .before .before .before .before .args .n) 64) _ (sym (c .before .holds .ensures) ∙ c .if2 .taken))
+small c =
+    let c5 = c .before .before .before .before .before in
+    ltb-true _ _ (both-right (leb (c5 .args .n) 64) _ (sym (c .before .holds .ensures) ∙ c .if2 .taken))
 
 -- src/led.rt:71:9
 returns : tie.Need-returns
@@ -45,7 +47,17 @@ has-room-requires c κs = search needs
 
 -- src/led.rt:76:17
 put-both-requires : tie.Need-put-both-requires
-put-both-requires c κs = (omega (arith, c .before .before .before .before .before .before .before .if1 .left), small (c .before .before .before .before .before), omega (arith, room (c .before)), omega (arith, room (c .before)), omega (arith, there (c .before .before .before)), omega (arith, there (c .before .before .before)))
+put-both-requires c κs =
+    let c3 = c .before .before .before in
+    let c7 = c3 .before .before .before .before in (
+      omega (arith, c7 .if1 .left),
+      small (c3 .before .before),
+      omega (arith, room (c .before)),
+      omega
+          (arith, room (c .before)),
+      omega (arith, there (c3)),
+      omega (arith, there (c3)),
+    )
 
 -- src/led.rt:77:40
 add-t19 : tie.Need-add-t19
@@ -61,19 +73,31 @@ same-length c = search needs
 
 -- src/led.rt:77:17
 returns-2 : tie.Need-returns-2
-returns-2 c = is-led _ _ _ _ _ _ _ _ _ _ _ (omega (arith, c .before .before .before .before .before .before .before .before .before .before .if1 .left)) (c .before .before .before .before .before .before .before .before .before .holds .ensures) (c .before .before .before .before .before .before .before .before .if2 .taken) (there (c .before .before .before .before .before .before)) (room (c .before .before .before .before)) (c .before .before .put-both .ensures)
+returns-2 c =
+    let c4 = c .before .before .before .before in
+    let c8 = c4 .before .before .before .before in
+    is-led _ _ _ _ _ _ _ _ _ _ _ (omega (arith, c8 .before .before .if1 .left)) (c8 .before .holds .ensures)
+    (c8 .if2 .taken) (there (c4 .before .before)) (room (c4)) (c .before .before .put-both .ensures)
 
 -- src/led.rt:79:13
 returns-3 : tie.Need-returns-3
-returns-3 c = led-full _ _ _ _ _ _ _ _ _ _ (omega (arith, c .before .before .before .before .before .before .if1 .left)) (c .before .before .before .before .before .holds .ensures) (c .before .before .before .before .if2 .taken) (there (c .before .before)) (not-within _ _ _ _ _ (c .before .has-room .ensures) (c .if4 .left))
+returns-3 c =
+    let c4 = c .before .before .before .before in
+    led-full _ _ _ _ _ _ _ _ _ _ (omega (arith, c4 .before .before .if1 .left)) (c4 .before .holds .ensures)
+    (c4 .if2 .taken) (there (c .before .before))
+    (not-within _ _ _ _ _ (c .before .has-room .ensures) (c .if4 .left))
 
 -- src/led.rt:81:9
 returns-4 : tie.Need-returns-4
-returns-4 c = led-lost _ _ _ _ _ _ _ _ _ _ (omega (arith, c .before .before .before .before .if1 .left)) (c .before .before .before .holds .ensures) (c .before .before .if2 .taken) (not-within _ _ _ _ _ (c .before .within .ensures) (c .if3 .left))
+returns-4 c =
+    let c3 = c .before .before .before in
+    led-lost _ _ _ _ _ _ _ _ _ _ (omega (arith, c3 .before .if1 .left)) (c3 .holds .ensures)
+    (c .before .before .if2 .taken) (not-within _ _ _ _ _ (c .before .within .ensures) (c .if3 .left))
 
 -- src/led.rt:57:1
 returns-5 : tie.Need-returns-5
-returns-5 c = led-odd _ _ _ _ _ _ _ _ _ _ (omega (arith, c .before .before .if1 .left)) (c .before .holds .ensures) (c .if2 .left)
+returns-5 c =
+    led-odd _ _ _ _ _ _ _ _ _ _ (omega (arith, c .before .before .if1 .left)) (c .before .holds .ensures) (c .if2 .left)
 
 pub put-led-spec : {M : Type 1} → statement M
 put-led-spec =

@@ -16,7 +16,10 @@ piece-requires : tie.Need-piece-requires
 piece-requires c κs = omega (arith, c .before .before .in-one .ensures (c .before .if1 .taken))
 
 returns : tie.Need-returns
-returns c = in-byte _ _ _ _ (omega arith) (c .before .before .before .in-one .ensures (c .before .before .if1 .taken) .0) (c .before .before .before .in-one .ensures (c .before .before .if1 .taken) .1) (c .piece .ensures)
+returns c =
+    let c3 = c .before .before .before in
+    in-byte _ _ _ _ (omega arith) (c3 .in-one .ensures (c .before .before .if1 .taken) .0)
+    (c3 .in-one .ensures (c .before .before .if1 .taken) .1) (c .piece .ensures)
 
 number-over-bytes-requires : tie.Need-number-over-bytes-requires
 number-over-bytes-requires c κs = search needs

@@ -37,7 +37,13 @@ pow2-requires : tie.Need-pow2-requires Inv-loop μ-loop
 pow2-requires c κs = search needs
 
 mul-v : tie.Need-mul-v Inv-loop μ-loop
-mul-v c = omega (arith, turn-fits (c .before .before .before .loop .v) (c .pow2 .result) 0 (c .before .before .before .loop .i) (c .before .least .result) (c .before .before .before .loop .inv .2) (c .pow2 .ensures) (pow-pos _) (omega arith))
+mul-v c =
+    let c3 = c .before .before .before in
+    omega (
+      arith,
+      turn-fits (c3 .loop .v) (c .pow2 .result) 0 (c3 .loop .i) (c .before .least .result)
+          (c3 .loop .inv .2) (c .pow2 .ensures) (pow-pos _) (omega arith),
+    )
 
 shared-slice-read-piece : tie.Need-shared-slice-read-piece Inv-loop μ-loop
 shared-slice-read-piece c = search needs
@@ -46,7 +52,14 @@ piece-requires : tie.Need-piece-requires Inv-loop μ-loop
 piece-requires c κs = search needs
 
 add-v : tie.Need-add-v Inv-loop μ-loop
-add-v c = omega (arith, turn-fits (c .before .before .before .before .before .loop .v) (c .before .before .pow2 .result) (c .piece .result) (c .before .before .before .before .before .loop .i) (c .before .before .before .least .result) (c .before .before .before .before .before .loop .inv .2) (c .before .before .pow2 .ensures) (piece-lt _ _ _ _ (c .piece .ensures)) (omega arith))
+add-v c =
+    let c3 = c .before .before .before in
+    omega (
+      arith,
+      turn-fits (c3 .before .before .loop .v) (c .before .before .pow2 .result) (c .piece .result)
+          (c3 .before .before .loop .i) (c3 .least .result) (c3 .before .before .loop .inv .2)
+          (c .before .before .pow2 .ensures) (piece-lt _ _ _ _ (c .piece .ensures)) (omega arith),
+    )
 
 add-i : tie.Need-add-i Inv-loop μ-loop
 add-i c = search needs
@@ -55,7 +68,16 @@ loop-less : tie.Need-loop-less Inv-loop μ-loop
 loop-less c = omega arith
 
 loop-again : tie.Need-loop-again Inv-loop μ-loop
-loop-again c = (search needs, turn (c .before .before .before .before .before .before .before .args .s .now) (c .before .before .before .before .before .before .before .args .at) (c .before .before .before .before .before .loop .i) (c .before .before .before .least .result) _ _ _ (omega arith) (omega arith) (omega arith) (c .before .before .pow2 .ensures) (c .piece .ensures) (c .before .before .before .before .before .loop .inv .1), turn-lt _ _ _ _ _ (c .before .before .before .before .before .loop .inv .2) (c .before .before .pow2 .ensures) (piece-lt _ _ _ _ (c .piece .ensures)))
+loop-again c =
+    let c3 = c .before .before .before in
+    let c7 = c3 .before .before .before .before in (
+      search needs,
+      turn (c7 .args .s .now) (c7 .args .at) (c3 .before .before .loop .i) (c3 .least .result) _ _ _
+          (omega arith) (omega arith) (omega arith) (c .before .before .pow2 .ensures) (c .piece .ensures)
+          (c3 .before .before .loop .inv .1),
+      turn-lt _ _ _ _ _ (c3 .before .before .loop .inv .2)
+          (c .before .before .pow2 .ensures) (piece-lt _ _ _ _ (c .piece .ensures)),
+    )
 
 returns : tie.Need-returns Inv-loop μ-loop
 returns c = let e : c .before .loop .i ≡ c .before .before .before .args .n = omega arith in rw (← e) (c .before .loop .inv .1)

@@ -18,21 +18,21 @@ add-piece-of-two : tie.Need-add-piece-of-two
 add-piece-of-two c = search needs
 
 shared-slice-read-piece-of-two-2 : tie.Need-shared-slice-read-piece-of-two-2
-shared-slice-read-piece-of-two-2 c = omega (arith, c .before .before .before .in-two .ensures (c .before .before .if1 .taken))
+shared-slice-read-piece-of-two-2 c =
+    let c3 = c .before .before .before in
+    omega (arith, c3 .in-two .ensures (c .before .before .if1 .taken))
 
 piece-of-two-requires : tie.Need-piece-of-two-requires
 piece-of-two-requires c κs = omega (arith, c .before .before .before .in-two .ensures (c .before .before .if1 .taken))
 
 returns : tie.Need-returns
 returns c =
-    in-two-bytes _ _ _ _ _ _
-    (omega (arith, c .before .before .before .before .in-two .ensures (c .before .before .before .if1 .taken)))
-    (c .before .before .before .before .in-two .ensures (c .before .before .before .if1 .taken) .1)
-    refl
-    (omega (arith, c .before .before .before .before .before .shared-slice-known .given (c .before .before .before .before .before .before .args .at / 8)))
-    refl
-    (omega (arith, c .before .before .before .before .before .shared-slice-known .given (c .before .before .before .before .before .before .args .at / 8 + 1)))
-    (c .piece-of-two .ensures)
+    let c3 = c .before .before .before in
+    let c6 = c3 .before .before .before in
+    in-two-bytes _ _ _ _ _ _ (omega (arith, c3 .before .in-two .ensures (c3 .if1 .taken)))
+    (c3 .before .in-two .ensures (c3 .if1 .taken) .1) refl
+    (omega (arith, c3 .before .before .shared-slice-known .given (c6 .args .at / 8))) refl
+    (omega (arith, c3 .before .before .shared-slice-known .given (c6 .args .at / 8 + 1))) (c .piece-of-two .ensures)
 
 in-eight-requires : tie.Need-in-eight-requires
 in-eight-requires c κs = search needs

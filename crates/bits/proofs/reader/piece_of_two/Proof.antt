@@ -36,7 +36,9 @@ rem-result : tie.Need-rem-result
 rem-result c = rw (c .pow22 .ensures) (pow-pos _)
 
 returns : tie.Need-returns
-returns c = rw (c .pow22 .ensures, c .before .pow2 .ensures, c .before .before .wide2 .ensures, c .before .before .before .wide .ensures)
+returns c =
+    let c3 = c .before .before .before in
+    rw (c .pow22 .ensures, c .before .pow2 .ensures, c .before .before .wide2 .ensures, c3 .wide .ensures)
 
 pub piece-of-two-spec : {M : Type 1} → statement M
 piece-of-two-spec =

@@ -26,7 +26,8 @@ returns-2 : tie.Need-returns-2
 returns-2 c = is-number _ _ _ _ _ (c .before .before .before .if1 .left) (inside (c .before)) (c .number-at .ensures)
 
 returns-3 : tie.Need-returns-3
-returns-3 c = is-short _ _ _ (c .before .before .if1 .left) (not-within _ _ _ _ _ (c .before .within .ensures) (c .if2 .left))
+returns-3 c =
+    is-short _ _ _ (c .before .before .if1 .left) (not-within _ _ _ _ _ (c .before .within .ensures) (c .if2 .left))
 
 pub read-bits-spec : {M : Type 1} → statement M
 read-bits-spec =

@@ -8,7 +8,8 @@ use Rattle.bits.proofs.whole_bytes.eight_within.Statement.{statement}
 use Rattle.bits.proofs.whole_bytes.eight_within.Tie as tie
 
 returns : tie.Need-returns
-returns c = sym (eight-beyond (c .before .args .len) (c .before .args .end) (c .before .args .q) (omega (arith, c .if1 .taken)))
+returns c =
+    sym (eight-beyond (c .before .args .len) (c .before .args .end) (c .before .args .q) (omega (arith, c .if1 .taken)))
 
 mul-within : tie.Need-mul-within
 mul-within c = omega (arith, c .if1 .left, c .before .fits .end)

@@ -33,10 +33,15 @@ same-length : tie.Need-same-length
 same-length c = search needs
 
 returns : tie.Need-returns
-returns c = is-put _ _ _ _ _ _ _ refl (small (c .before .before .before .before .before .before .before)) (inside (c .before .before .before .before)) (c .before .before .put-eight .ensures)
+returns c =
+    let c4 = c .before .before .before .before in
+    let c7 = c4 .before .before .before in
+    is-put _ _ _ _ _ _ _ refl (small (c7)) (inside (c4)) (c .before .before .put-eight .ensures)
 
 returns-2 : tie.Need-returns-2
-returns-2 c = is-full _ _ _ _ _ _ refl (small (c .before .before .before)) (not-within _ _ _ _ _ (c .before .eight-within .ensures) (c .if1 .left))
+returns-2 c =
+    let c3 = c .before .before .before in
+    is-full _ _ _ _ _ _ refl (small (c3)) (not-within _ _ _ _ _ (c .before .eight-within .ensures) (c .if1 .left))
 
 pub put-eight-bytes-spec : {M : Type 1} → statement M
 put-eight-bytes-spec =

@@ -38,11 +38,18 @@ same-length c = search needs
 
 -- src/writer.rt:89:9
 returns : tie.Need-returns
-returns c = is-put _ _ _ _ _ _ _ (zero-held ((8 - c .before .before .before .before .before .before .before .args .at % 8) % 8) (omega arith)) refl (inside (c .before .before .before .before)) (c .before .before .put-zeros .ensures)
+returns c =
+    let c4 = c .before .before .before .before in
+    let c7 = c4 .before .before .before in
+    is-put _ _ _ _ _ _ _ (zero-held ((8 - c7 .args .at % 8) % 8) (omega arith)) refl (inside (c4))
+    (c .before .before .put-zeros .ensures)
 
 -- src/writer.rt:83:1
 returns-2 : tie.Need-returns-2
-returns-2 c = is-full _ _ _ _ _ _ (zero-held ((8 - c .before .before .before .args .at % 8) % 8) (omega arith)) refl (not-within _ _ _ _ _ (c .before .within .ensures) (c .if1 .left))
+returns-2 c =
+    let c3 = c .before .before .before in
+    is-full _ _ _ _ _ _ (zero-held ((8 - c3 .args .at % 8) % 8) (omega arith)) refl
+    (not-within _ _ _ _ _ (c .before .within .ensures) (c .if1 .left))
 
 pub pad-spec : {M : Type 1} → statement M
 pad-spec =

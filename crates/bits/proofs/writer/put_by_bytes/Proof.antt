@@ -65,7 +65,14 @@ loop-less : tie.Need-loop-less Inv-loop μ-loop
 loop-less c = omega arith
 
 loop-again : tie.Need-loop-again Inv-loop μ-loop
-loop-again c = (search needs, simp length-set (c .before .before .before .before .before .loop .inv .1), turn _ _ _ _ _ _ (c .before .before .before .least .result) _ _ _ _ (omega arith) (omega arith) (omega arith) (omega arith) (c .before .before .pow2 .ensures) refl (c .with-piece .ensures) refl (c .before .before .before .before .before .loop .inv .2))
+loop-again c =
+    let c3 = c .before .before .before in (
+      search needs,
+      simp length-set (c3 .before .before .loop .inv .1),
+      turn _ _ _ _ _ _ (c3 .least .result) _ _ _ _
+          (omega arith) (omega arith) (omega arith) (omega arith) (c .before .before .pow2 .ensures) refl
+          (c .with-piece .ensures) refl (c3 .before .before .loop .inv .2),
+    )
 
 same-length : tie.Need-same-length Inv-loop μ-loop
 same-length c = search needs

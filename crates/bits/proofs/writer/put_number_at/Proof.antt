@@ -16,7 +16,9 @@ slice-read-with-piece : tie.Need-slice-read-with-piece
 slice-read-with-piece c = omega (arith, c .before .before .in-one .ensures (c .before .if1 .taken))
 
 with-piece-requires : tie.Need-with-piece-requires
-with-piece-requires c κs = omega (arith, c .before .before .before .before .pre, c .before .before .in-one .ensures (c .before .if1 .taken))
+with-piece-requires c κs =
+    let c4 = c .before .before .before .before in
+    omega (arith, c4 .pre, c .before .before .in-one .ensures (c .before .if1 .taken))
 
 slice-write-buf : tie.Need-slice-write-buf
 slice-write-buf c = omega (arith, c .before .before .before .in-one .ensures (c .before .before .if1 .taken))

@@ -9,7 +9,9 @@ in-eight-requires : tie.Need-in-eight-requires
 in-eight-requires c κs = search needs
 
 put-in-eight-requires : tie.Need-put-in-eight-requires
-put-in-eight-requires c κs = omega (arith, c .before .before .before .before .pre, c .before .before .in-eight .ensures (c .before .if1 .taken))
+put-in-eight-requires c κs =
+    let c4 = c .before .before .before .before in
+    omega (arith, c4 .pre, c .before .before .in-eight .ensures (c .before .if1 .taken))
 
 put-by-bytes-requires : tie.Need-put-by-bytes-requires
 put-by-bytes-requires c κs = search needs

@@ -32,7 +32,10 @@ same-length c = search needs
 
 -- src/writer.rt:72:1
 returns : tie.Need-returns
-returns c = ap (set (c .before .before .before .before .args .buf .now) (c .before .before .before .before .args .at / 8)) (c .with-piece .ensures) ∙ sym (number-in-byte (c .before .before .before .before .args .buf .now) (c .before .before .before .before .args .at) (c .before .before .before .before .args .n) 0 (omega arith) (omega arith) (omega (arith, c .before .before .before .before .pre)))
+returns c =
+    let c4 = c .before .before .before .before in
+    ap (set (c4 .args .buf .now) (c4 .args .at / 8)) (c .with-piece .ensures) ∙ sym (number-in-byte (c4 .args .buf .now)
+    (c4 .args .at) (c4 .args .n) 0 (omega arith) (omega arith) (omega (arith, c4 .pre)))
 
 -- src/writer.rt:72:1
 returns-2 : tie.Need-returns-2

@@ -10,7 +10,15 @@ use Rattle.bits.proofs.writer.with_piece.Statement.{statement}
 use Rattle.bits.proofs.writer.with_piece.Tie as tie
 
 sum : (c : tie.After-wide) → c .wide .result / c .before .pow22 .result * c .before .pow22 .result + c .before .before .before .args .p * c .before .before .pow2 .result + c .wide .result % c .before .before .pow2 .result < 256
-sum c = rw (c .wide .ensures, c .before .pow22 .ensures, c .before .before .pow2 .ensures, piece-put (c .before .before .before .args .x) (c .before .before .before .args .r) (c .before .before .before .args .k) (c .before .before .before .args .p) (search needs) (c .before .before .before .pre .0) (c .before .before .before .pre .1)) (byte-lt _ _ _ _)
+sum c =
+    let c3 = c .before .before .before in
+    rw (
+      c .wide .ensures,
+      c .before .pow22 .ensures,
+      c .before .before .pow2 .ensures,
+      piece-put (c3 .args .x)
+          (c3 .args .r) (c3 .args .k) (c3 .args .p) (search needs) (c3 .pre .0) (c3 .pre .1),
+    ) (byte-lt _ _ _ _)
 
 sub-pow2 : tie.Need-sub-pow2
 sub-pow2 c = search needs
@@ -52,7 +60,10 @@ cast-result : tie.Need-cast-result
 cast-result c = omega (arith, sum c)
 
 returns : tie.Need-returns
-returns c = rw (c .wide .ensures, c .before .pow22 .ensures, c .before .before .pow2 .ensures) (piece-put _ _ _ _ (search needs) (c .before .before .before .pre .0) (c .before .before .before .pre .1))
+returns c =
+    let c3 = c .before .before .before in
+    rw (c .wide .ensures, c .before .pow22 .ensures, c .before .before .pow2 .ensures)
+    (piece-put _ _ _ _ (search needs) (c3 .pre .0) (c3 .pre .1))
 
 pub with-piece-spec : {M : Type 1} → statement M
 with-piece-spec =

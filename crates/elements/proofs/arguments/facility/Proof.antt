@@ -22,14 +22,19 @@ returns c = handed _ _ _ _ (c .before .before .whole .ensures) (c .enum-told .gi
 
 returns-2 : tie.Need-returns-2
 unfolding facilityAt
-returns-2 c = went _ _ _ _ _ _ (c .before .before .before .before .whole .ensures) (c .before .before .choice .given .1) (rw (eq-eqb _ _ (c .if1 .taken)))
+returns-2 c =
+    let c4 = c .before .before .before .before in
+    went _ _ _ _ _ _ (c4 .whole .ensures) (c .before .before .choice .given .1) (rw (eq-eqb _ _ (c .if1 .taken)))
 
 sized-requires : tie.Need-sized-requires
 sized-requires c κs = search needs
 
 returns-3 : tie.Need-returns-3
 unfolding facilityAt
-returns-3 c = went _ _ _ _ _ _ (c .before .before .before .before .before .whole .ensures) (c .before .before .before .choice .given .1) (rw (ne-eqb _ _ (c .before .if1 .left)) (c .sized .ensures))
+returns-3 c =
+    let c3 = c .before .before .before in
+    went _ _ _ _ _ _ (c3 .before .before .whole .ensures) (c3 .choice .given .1)
+    (rw (ne-eqb _ _ (c .before .if1 .left)) (c .sized .ensures))
 
 pub facility-spec : {M : Type 1} → statement M
 facility-spec =

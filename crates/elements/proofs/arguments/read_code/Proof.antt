@@ -26,7 +26,10 @@ no-code-requires c κs = search needs
 
 returns : tie.Need-returns
 unfolding codeAt
-returns c = c .no-code .ensures ∙ handed-up noCode _ _ _ _ _ (c .before .before .before .before .whole .ensures) (c .before .before .enum-told .given .1) (c .before .refusal-of .ensures)
+returns c =
+    let c4 = c .before .before .before .before in
+    c .no-code .ensures ∙ handed-up noCode _ _ _ _ _ (c4 .whole .ensures) (c .before .before .enum-told .given .1)
+    (c .before .refusal-of .ensures)
 
 whole-requires-2 : tie.Need-whole-requires-2
 whole-requires-2 c κs = search needs
@@ -45,7 +48,12 @@ no-code-requires-2 c κs = search needs
 
 returns-2 : tie.Need-returns-2
 unfolding codeAt
-returns-2 c = went noCode _ _ _ _ _ _ (c .before .before .before .before .before .before .before .before .whole .ensures) (c .before .before .before .before .before .before .first .given .1) (c .no-code2 .ensures ∙ handed-up noCode _ _ _ _ _ (c .before .before .before .before .whole2 .ensures) (c .before .before .enum-told2 .given .1) (c .before .refusal-of2 .ensures))
+returns-2 c =
+    let c4 = c .before .before .before .before in
+    let c8 = c4 .before .before .before .before in
+    went noCode _ _ _ _ _ _ (c8 .whole .ensures) (c4 .before .before .first .given .1) (c .no-code2 .ensures ∙ handed-up
+    noCode _ _ _ _ _ (c4 .whole2 .ensures) (c .before .before .enum-told2 .given .1)
+    (c .before .refusal-of2 .ensures))
 
 whole-requires-3 : tie.Need-whole-requires-3
 whole-requires-3 c κs = search needs
@@ -64,7 +72,13 @@ no-code-requires-3 c κs = search needs
 
 returns-3 : tie.Need-returns-3
 unfolding codeAt
-returns-3 c = went noCode _ _ _ _ _ _ (c .before .before .before .before .before .before .before .before .before .before .before .before .whole .ensures) (c .before .before .before .before .before .before .before .before .before .before .first .given .1) (went noCode _ _ _ _ _ _ (c .before .before .before .before .before .before .before .before .whole2 .ensures) (c .before .before .before .before .before .before .second .given .1) (c .no-code3 .ensures ∙ handed-up noCode _ _ _ _ _ (c .before .before .before .before .whole3 .ensures) (c .before .before .enum-told3 .given .1) (c .before .refusal-of3 .ensures)))
+returns-3 c =
+    let c4 = c .before .before .before .before in
+    let c8 = c4 .before .before .before .before in
+    let c12 = c8 .before .before .before .before in
+    went noCode _ _ _ _ _ _ (c12 .whole .ensures) (c8 .before .before .first .given .1) (went noCode _ _ _ _ _ _
+    (c8 .whole2 .ensures) (c4 .before .before .second .given .1) (c .no-code3 .ensures ∙ handed-up noCode _ _ _
+    _ _ (c4 .whole3 .ensures) (c .before .before .enum-told3 .given .1) (c .before .refusal-of3 .ensures)))
 
 whole-requires-4 : tie.Need-whole-requires-4
 whole-requires-4 c κs = search needs
@@ -83,23 +97,47 @@ no-code-requires-4 c κs = search needs
 
 returns-4 : tie.Need-returns-4
 unfolding codeAt
-returns-4 c = went noCode _ _ _ _ _ _ (c .before .before .before .before .before .before .before .before .before .before .before .before .before .before .before .before .whole .ensures) (c .before .before .before .before .before .before .before .before .before .before .before .before .before .before .first .given .1) (went noCode _ _ _ _ _ _ (c .before .before .before .before .before .before .before .before .before .before .before .before .whole2 .ensures) (c .before .before .before .before .before .before .before .before .before .before .second .given .1) (went noCode _ _ _ _ _ _ (c .before .before .before .before .before .before .before .before .whole3 .ensures) (c .before .before .before .before .before .before .third .given .1) (c .no-code4 .ensures ∙ handed-up noCode _ _ _ _ _ (c .before .before .before .before .whole4 .ensures) (c .before .before .enum-told4 .given .1) (c .before .refusal-of4 .ensures))))
+returns-4 c =
+    let c4 = c .before .before .before .before in
+    let c8 = c4 .before .before .before .before in
+    let c12 = c8 .before .before .before .before in
+    let c16 = c12 .before .before .before .before in
+    went noCode _ _ _ _ _ _ (c16 .whole .ensures) (c12 .before .before .first .given .1) (went noCode _ _ _ _ _ _
+    (c12 .whole2 .ensures) (c8 .before .before .second .given .1) (went noCode _ _ _ _ _ _ (c8 .whole3 .ensures)
+    (c4 .before .before .third .given .1) (c .no-code4 .ensures ∙ handed-up noCode _ _ _ _ _
+    (c4 .whole4 .ensures) (c .before .before .enum-told4 .given .1) (c .before .refusal-of4 .ensures))))
 
 cast-t21 : tie.Need-cast-t21
-cast-t21 c = omega (arith, whole-most _ _ 0 7 _ _ _ (c .before .before .before .before .before .before .before .before .before .before .before .before .before .before .before .whole .ensures) (c .before .before .before .before .before .before .before .before .before .before .before .before .before .first .given .1))
+cast-t21 c =
+    let c13 = c .before .before .before .before .before .before .before .before .before .before .before .before .before in
+    omega (arith, whole-most _ _ 0 7 _ _ _ (c13 .before .before .whole .ensures) (c13 .first .given .1))
 
 cast-t22 : tie.Need-cast-t22
-cast-t22 c = omega (arith, whole-most _ _ 0 7 _ _ _ (c .before .before .before .before .before .before .before .before .before .before .before .whole2 .ensures) (c .before .before .before .before .before .before .before .before .before .second .given .1))
+cast-t22 c =
+    let c9 = c .before .before .before .before .before .before .before .before .before in
+    omega (arith, whole-most _ _ 0 7 _ _ _ (c9 .before .before .whole2 .ensures) (c9 .second .given .1))
 
 cast-t23 : tie.Need-cast-t23
-cast-t23 c = omega (arith, whole-most _ _ 0 7 _ _ _ (c .before .before .before .before .before .before .before .whole3 .ensures) (c .before .before .before .before .before .third .given .1))
+cast-t23 c =
+    let c5 = c .before .before .before .before .before in
+    omega (arith, whole-most _ _ 0 7 _ _ _ (c5 .before .before .whole3 .ensures) (c5 .third .given .1))
 
 cast-t24 : tie.Need-cast-t24
-cast-t24 c = omega (arith, whole-most _ _ 0 7 _ _ _ (c .before .before .before .whole4 .ensures) (c .before .fourth .given .1))
+cast-t24 c =
+    let c3 = c .before .before .before in
+    omega (arith, whole-most _ _ 0 7 _ _ _ (c3 .whole4 .ensures) (c .before .fourth .given .1))
 
 returns-5 : tie.Need-returns-5
 unfolding codeAt
-returns-5 c = went noCode _ _ _ _ _ _ (c .before .before .before .before .before .before .before .before .before .before .before .before .before .before .before .whole .ensures) (c .before .before .before .before .before .before .before .before .before .before .before .before .before .first .given .1) (went noCode _ _ _ _ _ _ (c .before .before .before .before .before .before .before .before .before .before .before .whole2 .ensures) (c .before .before .before .before .before .before .before .before .before .second .given .1) (went noCode _ _ _ _ _ _ (c .before .before .before .before .before .before .before .whole3 .ensures) (c .before .before .before .before .before .third .given .1) (went noCode _ _ _ _ _ _ (c .before .before .before .whole4 .ensures) (c .before .fourth .given .1) (refl))))
+returns-5 c =
+    let c3 = c .before .before .before in
+    let c7 = c3 .before .before .before .before in
+    let c11 = c7 .before .before .before .before in
+    let c15 = c11 .before .before .before .before in
+    went noCode _ _ _ _ _ _ (c15 .whole .ensures) (c11 .before .before .first .given .1) (went noCode _ _ _ _ _ _
+    (c11 .whole2 .ensures) (c7 .before .before .second .given .1) (went noCode _ _ _ _ _ _ (c7 .whole3 .ensures)
+    (c3 .before .before .third .given .1)
+    (went noCode _ _ _ _ _ _ (c3 .whole4 .ensures) (c .before .fourth .given .1) (refl))))
 
 pub read-code-spec : {M : Type 1} → statement M
 read-code-spec =

@@ -24,7 +24,9 @@ refusal-of-requires c κs = search needs
 
 returns : tie.Need-returns
 unfolding levelAt
-returns c = handed-up level.Refused _ _ _ _ _ (c .before .before .before .whole .ensures) (c .before .enum-told .given .1) (c .refusal-of .ensures)
+returns c =
+    let c3 = c .before .before .before in
+    handed-up level.Refused _ _ _ _ _ (c3 .whole .ensures) (c .before .enum-told .given .1) (c .refusal-of .ensures)
 
 read-level-type-requires : tie.Need-read-level-type-requires
 read-level-type-requires c κs = search needs
@@ -40,11 +42,19 @@ type-refusal-requires c κs = search needs
 
 returns-2 : tie.Need-returns-2
 unfolding levelAt
-returns-2 c = went level.Refused _ _ _ _ _ _ (c .before .before .before .before .before .before .before .whole .ensures) (c .before .before .before .before .before .choice .given .1) (type-handed _ _ _ _ _ (c .before .before .before .read-level-type .ensures) (c .before .enum-told2 .given .1) (c .type-refusal .ensures))
+returns-2 c =
+    let c3 = c .before .before .before in
+    let c7 = c3 .before .before .before .before in
+    went level.Refused _ _ _ _ _ _ (c7 .whole .ensures) (c3 .before .before .choice .given .1) (type-handed _ _ _ _ _
+    (c3 .read-level-type .ensures) (c .before .enum-told2 .given .1) (c .type-refusal .ensures))
 
 returns-3 : tie.Need-returns-3
 unfolding levelAt
-returns-3 c = went level.Refused _ _ _ _ _ _ (c .before .before .before .before .before .before .before .before .whole .ensures) (c .before .before .before .before .before .before .choice .given .1) (type-went _ _ _ _ _ _ (c .before .before .before .before .read-level-type .ensures) (c .before .before .one .given .1) (rw (eq-eqb _ _ (c .if1 .taken))))
+returns-3 c =
+    let c4 = c .before .before .before .before in
+    let c8 = c4 .before .before .before .before in
+    went level.Refused _ _ _ _ _ _ (c8 .whole .ensures) (c4 .before .before .choice .given .1) (type-went _ _ _ _ _ _
+    (c4 .read-level-type .ensures) (c .before .before .one .given .1) (rw (eq-eqb _ _ (c .if1 .taken))))
 
 read-level-type-requires-2 : tie.Need-read-level-type-requires-2
 read-level-type-requires-2 c κs = search needs
@@ -60,11 +70,24 @@ type-refusal-requires-2 c κs = search needs
 
 returns-4 : tie.Need-returns-4
 unfolding levelAt
-returns-4 c = went level.Refused _ _ _ _ _ _ (c .before .before .before .before .before .before .before .before .before .before .before .before .whole .ensures) (c .before .before .before .before .before .before .before .before .before .before .choice .given .1) (type-went _ _ _ _ _ _ (c .before .before .before .before .before .before .before .before .read-level-type .ensures) (c .before .before .before .before .before .before .one .given .1) (rw (ne-eqb _ _ (c .before .before .before .before .if1 .left)) (type-handed _ _ _ _ _ (c .before .before .before .read-level-type2 .ensures) (c .before .enum-told3 .given .1) (c .type-refusal2 .ensures))))
+returns-4 c =
+    let c3 = c .before .before .before in
+    let c6 = c3 .before .before .before in
+    let c10 = c6 .before .before .before .before in
+    went level.Refused _ _ _ _ _ _ (c10 .before .before .whole .ensures) (c10 .choice .given .1) (type-went _ _ _ _ _ _
+    (c6 .before .before .read-level-type .ensures) (c6 .one .given .1) (rw (ne-eqb _ _ (c3 .before .if1 .left)) (
+    type-handed _ _ _ _ _ (c3 .read-level-type2 .ensures) (c .before .enum-told3 .given .1)
+    (c .type-refusal2 .ensures))))
 
 returns-5 : tie.Need-returns-5
 unfolding levelAt
-returns-5 c = went level.Refused _ _ _ _ _ _ (c .before .before .before .before .before .before .before .before .before .before .before .before .whole .ensures) (c .before .before .before .before .before .before .before .before .before .before .choice .given .1) (type-went _ _ _ _ _ _ (c .before .before .before .before .before .before .before .before .read-level-type .ensures) (c .before .before .before .before .before .before .one .given .1) (rw (ne-eqb _ _ (c .before .before .before .before .if1 .left)) (type-went _ _ _ _ _ _ (c .before .before .before .read-level-type2 .ensures) (c .before .two .given .1) refl)))
+returns-5 c =
+    let c3 = c .before .before .before in
+    let c6 = c3 .before .before .before in
+    let c10 = c6 .before .before .before .before in
+    went level.Refused _ _ _ _ _ _ (c10 .before .before .whole .ensures) (c10 .choice .given .1) (type-went _ _ _ _ _ _
+    (c6 .before .before .read-level-type .ensures) (c6 .one .given .1) (rw (ne-eqb _ _ (c3 .before .if1 .left))
+    (type-went _ _ _ _ _ _ (c3 .read-level-type2 .ensures) (c .before .two .given .1) refl)))
 
 pub read-level-spec : {M : Type 1} → statement M
 read-level-spec =

@@ -25,7 +25,9 @@ refusal-of-requires c κs = search needs
 
 returns : tie.Need-returns
 unfolding levelTypeAt
-returns c = handed-up type.Refused _ _ _ _ _ (c .before .before .before .whole .ensures) (c .before .enum-told .given .1) (c .refusal-of .ensures)
+returns c =
+    let c3 = c .before .before .before in
+    handed-up type.Refused _ _ _ _ _ (c3 .whole .ensures) (c .before .enum-told .given .1) (c .refusal-of .ensures)
 
 lowest-requires : tie.Need-lowest-requires
 lowest-requires c κs = search needs
@@ -47,17 +49,39 @@ refusal-of-requires-2 c κs = search needs
 
 returns-2 : tie.Need-returns-2
 unfolding levelTypeAt
-returns-2 c = went type.Refused _ _ _ _ _ _ (c .before .before .before .before .before .before .before .before .before .whole .ensures) (c .before .before .before .before .before .before .before .choice .given .1) (handed-up type.Refused _ _ _ _ _ (whole-as _ _ _ _ _ _ _ (c .before .before .before .whole2 .ensures) (c .before .before .before .before .before .lowest .ensures) (c .before .before .before .before .highest .ensures)) (c .before .enum-told2 .given .1) (c .refusal-of2 .ensures))
+returns-2 c =
+    let c3 = c .before .before .before in
+    let c7 = c3 .before .before .before .before in
+    went type.Refused _ _ _ _ _ _ (c7 .before .before .whole .ensures) (c7 .choice .given .1) (handed-up type.Refused _
+    _ _ _ _ (whole-as _ _ _ _ _ _ _ (c3 .whole2 .ensures) (c3 .before .before .lowest .ensures)
+    (c3 .before .highest .ensures)) (c .before .enum-told2 .given .1) (c .refusal-of2 .ensures))
 
 cast-t14 : tie.Need-cast-t14
-cast-t14 c = omega (arith, whole-most _ _ 0 3 _ _ _ (c .before .before .before .before .before .before .before .before .before .whole .ensures) (c .before .before .before .before .before .before .before .choice .given .1))
+cast-t14 c =
+    let c7 = c .before .before .before .before .before .before .before in
+    omega (arith, whole-most _ _ 0 3 _ _ _ (c7 .before .before .whole .ensures) (c7 .choice .given .1))
 
 cast-t15 : tie.Need-cast-t15
-cast-t15 c = omega (arith, whole-most _ _ (c .before .before .before .before .before .lowest .result) (c .before .before .before .before .highest .result) _ _ _ (c .before .before .before .whole2 .ensures) (c .before .amount .given .1), c .before .before .before .before .highest .ensures, highest-small (c .before .before .before .before .before .before .before .choice .given .0 .0))
+cast-t15 c =
+    let c3 = c .before .before .before in
+    let c7 = c3 .before .before .before .before in
+    omega (
+      arith,
+      whole-most _ _ (c3 .before .before .lowest .result) (c3 .before .highest .result) _ _ _
+          (c3 .whole2 .ensures) (c .before .amount .given .1),
+      c3 .before .highest .ensures,
+      highest-small
+          (c7 .choice .given .0 .0),
+    )
 
 returns-3 : tie.Need-returns-3
 unfolding levelTypeAt
-returns-3 c = went type.Refused _ _ _ _ _ _ (c .before .before .before .before .before .before .before .before .before .whole .ensures) (c .before .before .before .before .before .before .before .choice .given .1) (went type.Refused _ _ _ _ _ _ (whole-as _ _ _ _ _ _ _ (c .before .before .before .whole2 .ensures) (c .before .before .before .before .before .lowest .ensures) (c .before .before .before .before .highest .ensures)) (c .before .amount .given .1) refl)
+returns-3 c =
+    let c3 = c .before .before .before in
+    let c7 = c3 .before .before .before .before in
+    went type.Refused _ _ _ _ _ _ (c7 .before .before .whole .ensures) (c7 .choice .given .1) (went type.Refused _ _ _ _
+    _ _ (whole-as _ _ _ _ _ _ _ (c3 .whole2 .ensures) (c3 .before .before .lowest .ensures)
+    (c3 .before .highest .ensures)) (c .before .amount .given .1) refl)
 
 pub read-level-type-spec : {M : Type 1} → statement M
 read-level-type-spec =

@@ -24,7 +24,9 @@ refusal-of-requires c κs = search needs
 
 returns : tie.Need-returns
 unfolding timeAt
-returns c = handed-up time.Refused _ _ _ _ _ (c .before .before .before .whole .ensures) (c .before .enum-told .given .1) (c .refusal-of .ensures)
+returns c =
+    let c3 = c .before .before .before in
+    handed-up time.Refused _ _ _ _ _ (c3 .whole .ensures) (c .before .enum-told .given .1) (c .refusal-of .ensures)
 
 whole-requires-2 : tie.Need-whole-requires-2
 whole-requires-2 c κs = search needs
@@ -40,17 +42,29 @@ refusal-of-requires-2 c κs = search needs
 
 returns-2 : tie.Need-returns-2
 unfolding timeAt
-returns-2 c = went time.Refused _ _ _ _ _ _ (c .before .before .before .before .before .before .before .whole .ensures) (c .before .before .before .before .before .first .given .1) (handed-up time.Refused _ _ _ _ _ (c .before .before .before .whole2 .ensures) (c .before .enum-told2 .given .1) (c .refusal-of2 .ensures))
+returns-2 c =
+    let c3 = c .before .before .before in
+    let c7 = c3 .before .before .before .before in
+    went time.Refused _ _ _ _ _ _ (c7 .whole .ensures) (c3 .before .before .first .given .1) (handed-up time.Refused _ _
+    _ _ _ (c3 .whole2 .ensures) (c .before .enum-told2 .given .1) (c .refusal-of2 .ensures))
 
 cast-t12 : tie.Need-cast-t12
-cast-t12 c = omega (arith, whole-most _ _ 0 23 _ _ _ (c .before .before .before .before .before .before .before .whole .ensures) (c .before .before .before .before .before .first .given .1))
+cast-t12 c =
+    let c5 = c .before .before .before .before .before in
+    omega (arith, whole-most _ _ 0 23 _ _ _ (c5 .before .before .whole .ensures) (c5 .first .given .1))
 
 cast-t13 : tie.Need-cast-t13
-cast-t13 c = omega (arith, whole-most _ _ 0 59 _ _ _ (c .before .before .before .whole2 .ensures) (c .before .second .given .1))
+cast-t13 c =
+    let c3 = c .before .before .before in
+    omega (arith, whole-most _ _ 0 59 _ _ _ (c3 .whole2 .ensures) (c .before .second .given .1))
 
 returns-3 : tie.Need-returns-3
 unfolding timeAt
-returns-3 c = went time.Refused _ _ _ _ _ _ (c .before .before .before .before .before .before .before .whole .ensures) (c .before .before .before .before .before .first .given .1) (went time.Refused _ _ _ _ _ _ (c .before .before .before .whole2 .ensures) (c .before .second .given .1) refl)
+returns-3 c =
+    let c3 = c .before .before .before in
+    let c7 = c3 .before .before .before .before in
+    went time.Refused _ _ _ _ _ _ (c7 .whole .ensures) (c3 .before .before .first .given .1)
+    (went time.Refused _ _ _ _ _ _ (c3 .whole2 .ensures) (c .before .second .given .1) refl)
 
 pub read-time-spec : {M : Type 1} → statement M
 read-time-spec =

@@ -32,7 +32,16 @@ level-bits-requires-3 : tie.Need-level-bits-requires-3
 level-bits-requires-3 c κs = search needs
 
 add-result : tie.Need-add-result
-add-result c = omega (arith, c .before .level-bits2 .ensures, c .level-bits3 .ensures, level-most (c .before .before .before .before .before .before .before .args .e .level), level-most (c .before .before .before .before .before .before .before .args .e .other))
+add-result c =
+    let c7 = c .before .before .before .before .before .before .before in
+    omega (
+      arith,
+      c .before .level-bits2 .ensures,
+      c .level-bits3 .ensures,
+      level-most (c7 .args .e .level),
+      level-most
+          (c7 .args .e .other),
+    )
 
 enum-told-5 : tie.Need-enum-told-5
 enum-told-5 c = search needs
@@ -44,7 +53,8 @@ whole-bits-requires-2 : tie.Need-whole-bits-requires-2
 whole-bits-requires-2 c κs = search needs
 
 add-result-2 : tie.Need-add-result-2
-add-result-2 c = omega (arith, c .before .whole-bits .ensures, c .whole-bits2 .ensures, width-small (23 - 0), width-small (59 - 0))
+add-result-2 c =
+    omega (arith, c .before .whole-bits .ensures, c .whole-bits2 .ensures, width-small (23 - 0), width-small (59 - 0))
 
 enum-told-6 : tie.Need-enum-told-6
 enum-told-6 c = search needs
@@ -69,13 +79,29 @@ whole-bits-requires-4 c κs = search needs
 
 returns : tie.Need-returns
 unfolding argumentBits
-returns c = rw (c .before .before .enum-told8 .given .1) (omega (arith, c .before .whole-bits4 .ensures, choice-width, length-no-facility (c .before .before .before .before .before .before .before .args .text .now) (c .if1 .taken)))
+returns c =
+    let c7 = c .before .before .before .before .before .before .before in
+    rw (c .before .before .enum-told8 .given .1) (omega (
+      arith,
+      c .before .whole-bits4 .ensures,
+      choice-width,
+      length-no-facility (c7 .args .text .now) (c .if1 .taken),
+    ))
 
 sized-bits-requires-2 : tie.Need-sized-bits-requires-2
 sized-bits-requires-2 c κs = search needs
 
 add-result-3 : tie.Need-add-result-3
-add-result-3 c = omega (arith, c .before .before .whole-bits4 .ensures, choice-width, c .sized-bits2 .ensures, width-small (8 - 4), length-sized 4 8 (c .before .before .before .before .before .before .before .before .args .text .now))
+add-result-3 c =
+    let c8 = c .before .before .before .before .before .before .before .before in
+    omega (
+      arith,
+      c .before .before .whole-bits4 .ensures,
+      choice-width,
+      c .sized-bits2 .ensures,
+      width-small (8 - 4),
+      length-sized 4 8 (c8 .args .text .now),
+    )
 
 enum-told-9 : tie.Need-enum-told-9
 enum-told-9 c = search needs
@@ -103,11 +129,15 @@ returns-4 c = rw (c .before .enum-told3 .given .1) (c .level-bits .ensures)
 
 returns-5 : tie.Need-returns-5
 unfolding argumentBits
-returns-5 c = rw (c .before .before .enum-told4 .given .1) (two-levels-by _ _ _ _ (c .before .level-bits2 .ensures) (c .level-bits3 .ensures))
+returns-5 c =
+    rw (c .before .before .enum-told4 .given .1)
+    (two-levels-by _ _ _ _ (c .before .level-bits2 .ensures) (c .level-bits3 .ensures))
 
 returns-6 : tie.Need-returns-6
 unfolding argumentBits
-returns-6 c = rw (c .before .before .enum-told5 .given .1) (time-by _ _ _ (c .before .whole-bits .ensures) (c .whole-bits2 .ensures))
+returns-6 c =
+    rw (c .before .before .enum-told5 .given .1)
+    (time-by _ _ _ (c .before .whole-bits .ensures) (c .whole-bits2 .ensures))
 
 returns-7 : tie.Need-returns-7
 unfolding argumentBits
@@ -119,7 +149,16 @@ returns-8 c = rw (c .before .enum-told7 .given .1) (c .sized-bits .ensures)
 
 returns-9 : tie.Need-returns-9
 unfolding argumentBits
-returns-9 c = rw (c .before .before .before .enum-told8 .given .1) (omega (arith, c .before .before .whole-bits4 .ensures, choice-width, c .sized-bits2 .ensures, length-facility (c .before .before .before .before .before .before .before .before .args .text .now) (c .before .if1 .left)))
+returns-9 c =
+    let c3 = c .before .before .before in
+    let c8 = c3 .before .before .before .before .before in
+    rw (c3 .enum-told8 .given .1) (omega (
+      arith,
+      c .before .before .whole-bits4 .ensures,
+      choice-width,
+      c .sized-bits2 .ensures,
+      length-facility (c8 .args .text .now) (c .before .if1 .left),
+    ))
 
 returns-10 : tie.Need-returns-10
 unfolding argumentBits

@@ -36,7 +36,14 @@ both-requires-4 : tie.Need-both-requires-4
 both-requires-4 c κs = search needs
 
 returns : tie.Need-returns
-returns c = argument-fits-by _ _ _ _ _ _ _ _ _ _ _ _ _ (c .both4 .ensures) (c .before .before .both3 .ensures) (c .before .before .before .before .both2 .ensures) (c .before .before .before .before .before .before .both .ensures) (c .before .before .before .before .before .before .before .before .before .level-fits-use .ensures) (c .before .before .before .before .before .before .before .level-fits-use2 .ensures) (c .before .before .before .before .before .time-fits-use .ensures) (c .before .before .before .code-fits-use .ensures) (c .before .text-fits-kind .ensures) (c .before .before .before .before .before .before .before .before .before .before .before .used-by .ensures)
+returns c =
+    let c3 = c .before .before .before in
+    let c6 = c3 .before .before .before in
+    let c9 = c6 .before .before .before in
+    argument-fits-by _ _ _ _ _ _ _ _ _ _ _ _ _ (c .both4 .ensures) (c .before .before .both3 .ensures)
+    (c3 .before .both2 .ensures) (c6 .both .ensures) (c9 .level-fits-use .ensures)
+    (c6 .before .level-fits-use2 .ensures) (c3 .before .before .time-fits-use .ensures) (c3 .code-fits-use .ensures)
+    (c .before .text-fits-kind .ensures) (c9 .before .before .used-by .ensures)
 
 pub argument-fits-spec : {M : Type 1} → statement M
 argument-fits-spec =

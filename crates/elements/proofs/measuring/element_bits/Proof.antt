@@ -10,7 +10,10 @@ use Rattle.elements.proofs.measuring.element_bits.Statement.{statement}
 use Rattle.elements.proofs.measuring.element_bits.Tie as tie
 
 its-test : (c : tie.After-both2) → c .both2 .result ≡ elementFits (c .before .before .before .before .before .before .before .before .args .direction) (c .before .before .before .before .before .before .before .before .args .e) (c .before .before .before .before .before .before .before .before .args .text .now)
-its-test c = element-fits-by _ _ _ _ _ _ _ _ _ (c .both2 .ensures) (c .before .before .both .ensures) (c .before .before .before .before .fits2 .ensures) (c .before .argument-fits .ensures) (c .before .before .before .before .before .last-of .ensures) (c .before .before .before .before .before .before .kind-of .ensures)
+its-test c =
+    let c4 = c .before .before .before .before in
+    element-fits-by _ _ _ _ _ _ _ _ _ (c .both2 .ensures) (c .before .before .both .ensures) (c4 .fits2 .ensures)
+    (c .before .argument-fits .ensures) (c4 .before .last-of .ensures) (c4 .before .before .kind-of .ensures)
 
 kind-of-requires : tie.Need-kind-of-requires
 kind-of-requires c κs = search needs
@@ -37,16 +40,31 @@ whole-bits-requires : tie.Need-whole-bits-requires
 whole-bits-requires c κs = search needs
 
 add-index : tie.Need-add-index
-add-index c = omega (arith, c .whole-bits .ensures, width-small (c .before .before .before .before .before .before .before .last-of .result - 0))
+add-index c =
+    let c7 = c .before .before .before .before .before .before .before in
+    omega (arith, c .whole-bits .ensures, width-small (c7 .last-of .result - 0))
 
 argument-bits-requires : tie.Need-argument-bits-requires
 argument-bits-requires c κs = few-characters _ _ _ (sym (its-test (c .before .before)) ∙ c .before .if1 .taken)
 
 add-t16 : tie.Need-add-t16
-add-t16 c = omega (arith, c .before .whole-bits .ensures, width-small (c .before .before .before .before .before .before .before .before .last-of .result - 0), c .argument-bits .ensures, argument-small _ _ _ (sym (its-test (c .before .before .before)) ∙ c .before .before .if1 .taken) _ (c .before .before .before .before .before .before .before .before .before .kind-of .ensures))
+add-t16 c =
+    let c3 = c .before .before .before in
+    let c8 = c3 .before .before .before .before .before in
+    omega (
+      arith,
+      c .before .whole-bits .ensures,
+      width-small (c8 .last-of .result - 0),
+      c .argument-bits .ensures,
+      argument-small _ _ _ (sym (its-test (c3)) ∙ c .before .before .if1 .taken) _ (c8 .before .kind-of .ensures),
+    )
 
 returns : tie.Need-returns
-returns c = measured _ _ _ _ (its-test (c .before .before .before)) _ _ _ _ (c .before .before .if1 .taken) (c .before .whole-bits .ensures) (c .before .before .before .before .before .before .before .before .last-of .ensures) (c .before .before .before .before .before .before .before .before .before .kind-of .ensures) (c .argument-bits .ensures)
+returns c =
+    let c3 = c .before .before .before in
+    let c8 = c3 .before .before .before .before .before in
+    measured _ _ _ _ (its-test (c3)) _ _ _ _ (c .before .before .if1 .taken) (c .before .whole-bits .ensures)
+    (c8 .last-of .ensures) (c8 .before .kind-of .ensures) (c .argument-bits .ensures)
 
 returns-2 : tie.Need-returns-2
 returns-2 c = no-shape _ _ _ _ (its-test (c .before)) (c .if1 .left)

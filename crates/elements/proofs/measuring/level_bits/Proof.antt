@@ -13,19 +13,58 @@ level-type-bits-requires : tie.Need-level-type-bits-requires
 level-type-bits-requires c κs = search needs
 
 add-one : tie.Need-add-one
-add-one c = omega (arith, c .before .whole-bits .ensures, choice-width, c .level-type-bits .ensures, level-type-most (c .before .before .before .args .x .first))
+add-one c =
+    let c3 = c .before .before .before in
+    omega (
+      arith,
+      c .before .whole-bits .ensures,
+      choice-width,
+      c .level-type-bits .ensures,
+      level-type-most
+          (c3 .args .x .first),
+    )
 
 level-type-bits-requires-2 : tie.Need-level-type-bits-requires-2
 level-type-bits-requires-2 c κs = search needs
 
 add-result : tie.Need-add-result
-add-result c = omega (arith, c .before .before .before .before .whole-bits .ensures, choice-width, c .before .before .before .level-type-bits .ensures, level-type-most (c .before .before .before .before .before .before .args .x .first), c .level-type-bits2 .ensures, level-type-most (c .before .before .before .before .before .before .args .x .second))
+add-result c =
+    let c3 = c .before .before .before in
+    let c6 = c3 .before .before .before in
+    omega (
+      arith,
+      c3 .before .whole-bits .ensures,
+      choice-width,
+      c3 .level-type-bits .ensures,
+      level-type-most
+          (c6 .args .x .first),
+      c .level-type-bits2 .ensures,
+      level-type-most (c6 .args .x .second),
+    )
 
 returns : tie.Need-returns
-returns c = omega (arith, c .before .before .before .before .whole-bits .ensures, choice-width, c .before .before .before .level-type-bits .ensures, c .level-type-bits2 .ensures, length-block (c .before .before .before .before .before .before .args .x) (c .before .before .if1 .taken))
+returns c =
+    let c3 = c .before .before .before in
+    let c6 = c3 .before .before .before in
+    omega (
+      arith,
+      c3 .before .whole-bits .ensures,
+      choice-width,
+      c3 .level-type-bits .ensures,
+      c .level-type-bits2 .ensures,
+      length-block (c6 .args .x) (c .before .before .if1 .taken),
+    )
 
 returns-2 : tie.Need-returns-2
-returns-2 c = omega (arith, c .before .before .whole-bits .ensures, choice-width, c .before .level-type-bits .ensures, length-single (c .before .before .before .before .args .x) (c .if1 .left))
+returns-2 c =
+    let c4 = c .before .before .before .before in
+    omega (
+      arith,
+      c .before .before .whole-bits .ensures,
+      choice-width,
+      c .before .level-type-bits .ensures,
+      length-single (c4 .args .x) (c .if1 .left),
+    )
 
 pub level-bits-spec : {M : Type 1} → statement M
 level-bits-spec =

@@ -15,7 +15,10 @@ both-requires : tie.Need-both-requires
 both-requires c κs = search needs
 
 returns : tie.Need-returns
-returns c = rw (c .before .before .before .if1 .taken) (level-used _ _ _ _ (c .both .ensures) (c .before .before .type-fits-use .ensures) (c .before .type-fits-use2 .ensures))
+returns c =
+    let c3 = c .before .before .before in
+    rw (c3 .if1 .taken) (level-used _ _ _ _ (c .both .ensures) (c .before .before .type-fits-use .ensures)
+    (c .before .type-fits-use2 .ensures))
 
 type-fits-use-requires-3 : tie.Need-type-fits-use-requires-3
 type-fits-use-requires-3 c κs = search needs
@@ -30,7 +33,10 @@ both-requires-3 : tie.Need-both-requires-3
 both-requires-3 c κs = search needs
 
 returns-2 : tie.Need-returns-2
-returns-2 c = rw (c .before .before .before .before .before .if1 .left) (level-zero _ _ _ _ _ (c .both3 .ensures) (c .before .before .both2 .ensures) (c .before .before .before .type-fits-use3 .ensures) (c .before .type-fits-use4 .ensures))
+returns-2 c =
+    let c3 = c .before .before .before in
+    rw (c3 .before .before .if1 .left) (level-zero _ _ _ _ _ (c .both3 .ensures) (c .before .before .both2 .ensures)
+    (c3 .type-fits-use3 .ensures) (c .before .type-fits-use4 .ensures))
 
 pub level-fits-use-spec : {M : Type 1} → statement M
 level-fits-use-spec =

@@ -23,10 +23,22 @@ whole-bits-requires-2 : tie.Need-whole-bits-requires-2
 whole-bits-requires-2 c κs = search needs
 
 add-result : tie.Need-add-result
-add-result c = omega (arith, c .before .before .before .whole-bits .ensures, c .whole-bits2 .ensures, width-small (3 - 0), width-small (c .before .highest .result - c .before .before .lowest .result))
+add-result c =
+    let c3 = c .before .before .before in
+    omega (
+      arith,
+      c3 .whole-bits .ensures,
+      c .whole-bits2 .ensures,
+      width-small (3 - 0),
+      width-small
+          (c .before .highest .result - c .before .before .lowest .result),
+    )
 
 returns : tie.Need-returns
-returns c = level-type-by _ _ _ _ _ (c .before .before .before .whole-bits .ensures) (c .whole-bits2 .ensures) (c .before .before .lowest .ensures) (c .before .highest .ensures)
+returns c =
+    let c3 = c .before .before .before in
+    level-type-by _ _ _ _ _ (c3 .whole-bits .ensures) (c .whole-bits2 .ensures) (c .before .before .lowest .ensures)
+    (c .before .highest .ensures)
 
 pub level-type-bits-spec : {M : Type 1} → statement M
 level-type-bits-spec =

@@ -14,10 +14,17 @@ mul-result : tie.Need-mul-result
 mul-result c = search needs
 
 add-result : tie.Need-add-result
-add-result c = omega (arith, c .whole-bits .ensures, width-small (c .before .before .args .most - c .before .before .args .least))
+add-result c =
+    omega (arith, c .whole-bits .ensures, width-small (c .before .before .args .most - c .before .before .args .least))
 
 returns : tie.Need-returns
-returns c = omega (arith, c .whole-bits .ensures, length-sized (c .before .before .args .least) (c .before .before .args .most) (c .before .before .args .text .now))
+returns c =
+    omega (
+      arith,
+      c .whole-bits .ensures,
+      length-sized (c .before .before .args .least) (c .before .before .args .most)
+          (c .before .before .args .text .now),
+    )
 
 pub sized-bits-spec : {M : Type 1} → statement M
 sized-bits-spec = tie.close (tie.spec whole-bits-requires mul-result add-result returns)

@@ -16,7 +16,9 @@ both-requires : tie.Need-both-requires
 both-requires c κs = search needs
 
 returns : tie.Need-returns
-returns c = sized-fits-by _ _ _ _ _ _ _ (c .both .ensures) (c .before .before .fits2 .ensures) refl (c .before .all-most .ensures)
+returns c =
+    sized-fits-by _ _ _ _ _ _ _ (c .both .ensures) (c .before .before .fits2 .ensures) refl
+    (c .before .all-most .ensures)
 
 pub sized-fits-spec : {M : Type 1} → statement M
 sized-fits-spec = tie.close (tie.spec fits-requires all-most-requires both-requires returns)

@@ -85,7 +85,8 @@ returns-8 c = rw (c .before .enum-told7 .given .1) (c .sized-fits .ensures)
 
 returns-9 : tie.Need-returns-9
 unfolding textFitsKind
-returns-9 c = rw (c .before .before .enum-told8 .given .1) (facility-fits-by _ _ (c .before .if1 .left) (c .sized-fits2 .ensures))
+returns-9 c =
+    rw (c .before .before .enum-told8 .given .1) (facility-fits-by _ _ (c .before .if1 .left) (c .sized-fits2 .ensures))
 
 returns-10 : tie.Need-returns-10
 unfolding textFitsKind
@@ -93,7 +94,8 @@ returns-10 c = rw (c .before .enum-told9 .given .1) (c .sized-fits3 .ensures)
 
 returns-11 : tie.Need-returns-11
 unfolding textFitsKind
-returns-11 c = rw (c .before .before .enum-told10 .given .1) (atis-fits-by _ _ _ (c .both .ensures) (c .before .all-most .ensures))
+returns-11 c =
+    rw (c .before .before .enum-told10 .given .1) (atis-fits-by _ _ _ (c .both .ensures) (c .before .all-most .ensures))
 
 pub text-fits-kind-spec : {M : Type 1} → statement M
 text-fits-kind-spec =

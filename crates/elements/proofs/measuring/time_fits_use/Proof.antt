@@ -25,7 +25,10 @@ both-requires c κs = search needs
 
 returns : tie.Need-returns
 unfolding timeFitsUse timeFits
-returns c = rw (c .before .before .before .before .before .if1 .taken) (both-as _ _ _ _ _ (c .both .ensures) (c .before .before .before .fits2 .ensures) (c .before .fits3 .ensures))
+returns c =
+    let c3 = c .before .before .before in
+    rw (c3 .before .before .if1 .taken)
+    (both-as _ _ _ _ _ (c .both .ensures) (c3 .fits2 .ensures) (c .before .fits3 .ensures))
 
 both-requires-2 : tie.Need-both-requires-2
 both-requires-2 c κs = search needs

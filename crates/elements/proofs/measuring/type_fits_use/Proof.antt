@@ -30,7 +30,11 @@ both-requires c κs = search needs
 
 returns : tie.Need-returns
 unfolding typeFitsUse levelTypeFits
-returns c = rw (c .before .before .before .before .before .before .if1 .taken) (both-as _ _ _ _ _ (c .both .ensures) (c .before .before .before .before .before .fits2 .ensures) (fits-as _ _ _ _ _ _ (c .before .fits3 .ensures) (c .before .before .before .before .lowest .ensures) (c .before .before .before .highest .ensures)))
+returns c =
+    let c3 = c .before .before .before in
+    let c6 = c3 .before .before .before in
+    rw (c6 .if1 .taken) (both-as _ _ _ _ _ (c .both .ensures) (c3 .before .before .fits2 .ensures)
+    (fits-as _ _ _ _ _ _ (c .before .fits3 .ensures) (c3 .before .lowest .ensures) (c3 .highest .ensures)))
 
 both-requires-2 : tie.Need-both-requires-2
 both-requires-2 c κs = search needs

@@ -34,13 +34,18 @@ loop-less : tie.Need-loop-less Inv-loop μ-loop
 loop-less c = search needs
 
 loop-again : tie.Need-loop-again Inv-loop μ-loop
-loop-again c = (search needs, most-turn _ _ _ _ _ (c .before .before .before .loop .inv .1) (c .before .before .loop-test .taken) _ (c .greater .ensures))
+loop-again c =
+    let c3 = c .before .before .before in
+    (search needs, most-turn _ _ _ _ _ (c3 .loop .inv .1) (c .before .before .loop-test .taken) _ (c .greater .ensures))
 
 wide-requires : tie.Need-wide-requires Inv-loop μ-loop
 wide-requires c κs = tt
 
 returns : tie.Need-returns Inv-loop μ-loop
-returns c = rw (c .wide .ensures) (most-done (c .before .before .before .before .args .hi) (c .before .before .loop .most) _ _ _ (c .before .before .loop .inv .1) (c .before .loop-test .left))
+returns c =
+    let c4 = c .before .before .before .before in
+    rw (c .wide .ensures) (most-done (c4 .args .hi) (c .before .before .loop .most) _ _ _
+    (c .before .before .loop .inv .1) (c .before .loop-test .left))
 
 pub all-most-spec : {M : Type 1} → statement M
 all-most-spec =

@@ -22,7 +22,13 @@ loop-holds : tie.Need-loop-holds Inv-loop μ-loop
 loop-holds c = (search needs, gather-none (c .before .args .items .now), search needs)
 
 mul-v : tie.Need-mul-v Inv-loop μ-loop
-mul-v c = omega (arith, turn-fits (c .before .loop .v) 128 0 (7 * c .before .loop .i) 7 (c .before .loop .inv .2) refl (omega arith) (omega (arith, c .before .before .before .pre .0)))
+mul-v c =
+    let c3 = c .before .before .before in
+    omega (
+      arith,
+      turn-fits (c .before .loop .v) 128 0 (7 * c .before .loop .i) 7 (c .before .loop .inv .2) refl
+          (omega arith) (omega (arith, c3 .pre .0)),
+    )
 
 shared-slice-read-wide : tie.Need-shared-slice-read-wide Inv-loop μ-loop
 shared-slice-read-wide c = search needs
@@ -31,10 +37,19 @@ wide-requires : tie.Need-wide-requires Inv-loop μ-loop
 wide-requires c κs = tt
 
 small : (c : tie.After-wide Inv-loop μ-loop) → c .wide .result < 128
-small c = rw (c .wide .ensures) (fit-at (c .before .before .before .before .before .args .items .now) (c .before .before .before .loop .i) (c .before .before .before .before .before .pre .1) (c .before .before .loop-test .taken))
+small c =
+    let c3 = c .before .before .before in
+    rw (c .wide .ensures) (fit-at (c3 .before .before .args .items .now) (c3 .loop .i) (c3 .before .before .pre .1)
+    (c .before .before .loop-test .taken))
 
 add-v : tie.Need-add-v Inv-loop μ-loop
-add-v c = omega (arith, turn-fits (c .before .before .before .loop .v) 128 (c .wide .result) (7 * c .before .before .before .loop .i) 7 (c .before .before .before .loop .inv .2) refl (small c) (omega (arith, c .before .before .before .before .before .pre .0)))
+add-v c =
+    let c3 = c .before .before .before in
+    omega (
+      arith,
+      turn-fits (c3 .loop .v) 128 (c .wide .result) (7 * c3 .loop .i) 7 (c3 .loop .inv .2) refl (small c)
+          (omega (arith, c3 .before .before .pre .0)),
+    )
 
 add-i : tie.Need-add-i Inv-loop μ-loop
 add-i c = search needs
@@ -48,7 +63,8 @@ loop-again c =
     (search needs, gather-turn _ _ _ _ (c .before .before .loop-test .taken) (c .wide .ensures) (small c) (c .before .before .before .loop .inv .1), rw e (turn-lt _ 128 _ _ 7 (c .before .before .before .loop .inv .2) refl (small c)))
 
 returns : tie.Need-returns Inv-loop μ-loop
-returns c = gather-done _ _ _ (c .before .loop .inv .0) (c .loop-test .left) (c .before .loop .inv .1) (c .before .loop .inv .2)
+returns c =
+    gather-done _ _ _ (c .before .loop .inv .0) (c .loop-test .left) (c .before .loop .inv .1) (c .before .loop .inv .2)
 
 pub gathered-spec : {M : Type 1} → statement M
 gathered-spec =

@@ -36,7 +36,16 @@ part-gathered-end : tie.Need-part-gathered-end Inv-loop μ-loop
 part-gathered-end c = omega arith
 
 gathered-requires : tie.Need-gathered-requires Inv-loop μ-loop
-gathered-requires c κs = (omega (arith, length-take (c .before .before .loop .i + 8 - c .before .before .loop .i) (drop (c .before .before .loop .i) (c .before .before .before .before .before .args .items .now))), fit-part (c .before .before .loop .i) (c .before .before .loop .i + 8 - c .before .before .loop .i) _ (c .before .before .before .before .before .pre .0))
+gathered-requires c κs =
+    let c5 = c .before .before .before .before .before in (
+      omega (
+        arith,
+        length-take (c .before .before .loop .i + 8 - c .before .before .loop .i)
+            (drop (c .before .before .loop .i) (c5 .args .items .now)),
+      ),
+      fit-part (c .before .before .loop .i)
+          (c .before .before .loop .i + 8 - c .before .before .loop .i) _ (c5 .pre .0),
+    )
 
 mul-put-bits : tie.Need-mul-put-bits Inv-loop μ-loop
 mul-put-bits c = omega (arith, c .before .before .before .before .before .before .before .pre .1)
@@ -57,7 +66,18 @@ loop-less : tie.Need-loop-less Inv-loop μ-loop
 loop-less c = omega arith
 
 loop-again : tie.Need-loop-again Inv-loop μ-loop
-loop-again c = (omega arith, c .before .before .put-bits .kept .0 ∙ c .before .before .before .before .before .before .before .loop .inv .1, part-next _ _ _ (c .before .before .before .before .before .before .before .before .before .before .args .at + 7 * c .before .before .before .before .before .before .before .loop .i) (c .before .before .before .before .before .before .before .loop .i) (c .before .before .before .before .before .before .before .loop .i + 8 - c .before .before .before .before .before .before .before .loop .i) 56 _ _ _ (c .before .before .before .before .before .before .before .before .before .before .pre .0) (omega arith) (omega arith) (omega (arith, c .before .before .before .before .before .before .before .before .before .before .pre .1)) (c .before .before .before .before .gathered .ensures) (omega arith) (c .before .before .put-bits .ensures) (c .before .before .before .before .before .before .before .loop .i + 8) (c .before .before .before .before .before .before .before .before .before .before .args .at + 7 * (c .before .before .before .before .before .before .before .loop .i + 8)) (omega arith) (omega arith) ∙ c .before .before .before .before .before .before .before .loop .inv .2)
+loop-again c =
+    let c4 = c .before .before .before .before in
+    let c7 = c4 .before .before .before in
+    let c10 = c7 .before .before .before in (
+      omega arith,
+      c .before .before .put-bits .kept .0 ∙ c7 .loop .inv .1,
+      part-next _ _ _
+          (c10 .args .at + 7 * c7 .loop .i) (c7 .loop .i) (c7 .loop .i + 8 - c7 .loop .i) 56 _ _ _ (c10 .pre .0)
+          (omega arith) (omega arith) (omega (arith, c10 .pre .1)) (c4 .gathered .ensures) (omega arith)
+          (c .before .before .put-bits .ensures) (c7 .loop .i + 8) (c10 .args .at + 7 * (c7 .loop .i + 8))
+          (omega arith) (omega arith) ∙ c7 .loop .inv .2,
+    )
 
 sub-gathered-2 : tie.Need-sub-gathered-2 Inv-loop μ-loop
 sub-gathered-2 c = search needs
@@ -69,7 +89,16 @@ part-gathered-end-2 : tie.Need-part-gathered-end-2 Inv-loop μ-loop
 part-gathered-end-2 c = search needs
 
 gathered-requires-2 : tie.Need-gathered-requires-2 Inv-loop μ-loop
-gathered-requires-2 c κs = (omega (arith, length-take (length (c .before .before .before .before .before .args .items .now) - c .before .before .loop .i) (drop (c .before .before .loop .i) (c .before .before .before .before .before .args .items .now))), fit-part (c .before .before .loop .i) (length (c .before .before .before .before .before .args .items .now) - c .before .before .loop .i) _ (c .before .before .before .before .before .pre .0))
+gathered-requires-2 c κs =
+    let c5 = c .before .before .before .before .before in (
+      omega (
+        arith,
+        length-take (length (c5 .args .items .now) - c .before .before .loop .i)
+            (drop (c .before .before .loop .i) (c5 .args .items .now)),
+      ),
+      fit-part (c .before .before .loop .i)
+          (length (c5 .args .items .now) - c .before .before .loop .i) _ (c5 .pre .0),
+    )
 
 mul-put-bits-3 : tie.Need-mul-put-bits-3 Inv-loop μ-loop
 mul-put-bits-3 c = omega (arith, c .before .before .before .before .before .before .before .pre .1)
@@ -87,7 +116,9 @@ put-bits-requires-2 : tie.Need-put-bits-requires-2 Inv-loop μ-loop
 put-bits-requires-2 c κs = search needs
 
 same-length : tie.Need-same-length Inv-loop μ-loop
-same-length c = c .before .before .put-bits2 .kept .0 ∙ c .before .before .before .before .before .before .before .loop .inv .1
+same-length c =
+    let c7 = c .before .before .before .before .before .before .before in
+    c .before .before .put-bits2 .kept .0 ∙ c7 .loop .inv .1
 
 returns : tie.Need-returns Inv-loop μ-loop
 returns c = part-put _ _ _ _ (c .before .before .before .before .before .before .before .loop .i) (length (c .before .before .before .before .before .before .before .before .before .before .args .items .now) - c .before .before .before .before .before .before .before .loop .i) _ _ _ _ (c .before .before .before .before .before .before .before .before .before .before .pre .0) (omega arith) (omega arith) (omega (arith, c .before .before .before .before .before .before .before .before .before .before .pre .1)) (c .before .before .before .before .gathered2 .ensures) refl (c .before .before .put-bits2 .ensures) ∙ ap (λ (l : List ℕ). putPieces (c .before .before .before .before .before .before .before .loop .buf) (c .before .before .before .before .before .before .before .before .before .before .args .end) (c .before .before .before .before .before .before .before .before .before .before .args .at + 7 * c .before .before .before .before .before .before .before .loop .i) (numberPieces 127 l)) (the-rest (c .before .before .before .before .before .before .before .before .before .before .args .items .now) (c .before .before .before .before .before .before .before .loop .i)) ∙ c .before .before .before .before .before .before .before .loop .inv .2

@@ -35,10 +35,17 @@ enum-told : tie.Need-enum-told Inv-loop μ-loop
 enum-told c = c .match .keys2
 
 same-length : tie.Need-same-length Inv-loop μ-loop
-same-length c = c .before .before .before .before .put-whole .kept .0 ∙ c .before .before .before .before .before .before .before .before .before .loop .inv .1
+same-length c =
+    let c4 = c .before .before .before .before in
+    let c9 = c4 .before .before .before .before .before in
+    c4 .put-whole .kept .0 ∙ c9 .loop .inv .1
 
 returns : tie.Need-returns Inv-loop μ-loop
-returns c = numbers-full _ _ _ _ _ _ _ (c .before .before .before .before .before .before .before .before .before .loop .inv .2) (c .before .before .before .before .before .before .before .before .loop-test .taken) _ _ (put-as _ _ _ _ _ _ _ _ (c .before .before .before .before .put-whole .ensures) (c .before .before .before .before .before .wide .ensures)) (c .enum-told .given .1)
+returns c =
+    let c4 = c .before .before .before .before in
+    let c8 = c4 .before .before .before .before in
+    numbers-full _ _ _ _ _ _ _ (c8 .before .loop .inv .2) (c8 .loop-test .taken) _ _
+    (put-as _ _ _ _ _ _ _ _ (c4 .put-whole .ensures) (c4 .before .wide .ensures)) (c .enum-told .given .1)
 
 add-i : tie.Need-add-i Inv-loop μ-loop
 add-i c = search needs
@@ -47,7 +54,15 @@ loop-less : tie.Need-loop-less Inv-loop μ-loop
 loop-less c = search needs
 
 loop-again : tie.Need-loop-again Inv-loop μ-loop
-loop-again c = (search needs, c .before .before .before .before .before .put-whole .kept .0 ∙ c .before .before .before .before .before .before .before .before .before .before .loop .inv .1, numbers-turn _ _ _ _ _ _ _ (c .before .before .before .before .before .before .before .before .before .before .loop .inv .2) (c .before .before .before .before .before .before .before .before .before .loop-test .taken) _ _ (put-as _ _ _ _ _ _ _ _ (c .before .before .before .before .before .put-whole .ensures) (c .before .before .before .before .before .before .wide .ensures)) _ (c .before .one .given .1))
+loop-again c =
+    let c5 = c .before .before .before .before .before in
+    let c9 = c5 .before .before .before .before in (
+      search needs,
+      c5 .put-whole .kept .0 ∙ c9 .before .loop .inv .1,
+      numbers-turn _ _ _ _ _ _ _
+          (c9 .before .loop .inv .2) (c9 .loop-test .taken) _ _
+          (put-as _ _ _ _ _ _ _ _ (c5 .put-whole .ensures) (c5 .before .wide .ensures)) _ (c .before .one .given .1),
+    )
 
 same-length-2 : tie.Need-same-length-2 Inv-loop μ-loop
 same-length-2 c = c .before .loop .inv .1

@@ -19,7 +19,9 @@ part-gathered-end : tie.Need-part-gathered-end
 part-gathered-end c = search needs
 
 gathered-requires : tie.Need-gathered-requires
-gathered-requires c κs = (omega (arith, length-take 8 (c .before .before .before .args .items .now)), fit-part 0 8 _ (c .before .before .before .pre .1))
+gathered-requires c κs =
+    let c3 = c .before .before .before in
+    (omega (arith, length-take 8 (c3 .args .items .now)), fit-part 0 8 _ (c3 .pre .1))
 
 sub-gathered-2 : tie.Need-sub-gathered-2
 sub-gathered-2 c = search needs
@@ -31,7 +33,16 @@ part-gathered-end-2 : tie.Need-part-gathered-end-2
 part-gathered-end-2 c = search needs
 
 gathered-requires-2 : tie.Need-gathered-requires-2
-gathered-requires-2 c κs = (omega (arith, c .before .before .before .before .before .pre .0, length-take (length (c .before .before .before .before .before .args .items .now) - 8) (drop 8 (c .before .before .before .before .before .args .items .now)), length-drop 8 (c .before .before .before .before .before .args .items .now)), fit-part 8 (length (c .before .before .before .before .before .args .items .now) - 8) _ (c .before .before .before .before .before .pre .1))
+gathered-requires-2 c κs =
+    let c5 = c .before .before .before .before .before in (
+      omega (
+        arith,
+        c5 .pre .0,
+        length-take (length (c5 .args .items .now) - 8) (drop 8 (c5 .args .items .now)),
+        length-drop 8 (c5 .args .items .now),
+      ),
+      fit-part 8 (length (c5 .args .items .now) - 8) _ (c5 .pre .1),
+    )
 
 mul-eight : tie.Need-mul-eight
 mul-eight c = search needs

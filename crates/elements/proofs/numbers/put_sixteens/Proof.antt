@@ -43,7 +43,19 @@ part-put-sixteen-end : tie.Need-part-put-sixteen-end Inv-loop μ-loop
 part-put-sixteen-end c = omega arith
 
 put-sixteen-requires : tie.Need-put-sixteen-requires Inv-loop μ-loop
-put-sixteen-requires c κs = (omega (arith, length-take (c .before .before .before .loop .i + 16 - c .before .before .before .loop .i) (drop (c .before .before .before .loop .i) (c .before .before .before .before .before .before .args .items .now)), length-drop (c .before .before .before .loop .i) (c .before .before .before .before .before .before .args .items .now)), fit-part (c .before .before .before .loop .i) (c .before .before .before .loop .i + 16 - c .before .before .before .loop .i) _ (c .before .before .before .before .before .before .pre .0), omega (arith, c .before .before .before .before .before .before .pre .1, c .before .before .before .loop .inv .1))
+put-sixteen-requires c κs =
+    let c3 = c .before .before .before in
+    let c6 = c3 .before .before .before in (
+      omega (
+        arith,
+        length-take (c3 .loop .i + 16 - c3 .loop .i) (drop (c3 .loop .i) (c6 .args .items .now)),
+        length-drop
+            (c3 .loop .i) (c6 .args .items .now),
+      ),
+      fit-part (c3 .loop .i) (c3 .loop .i + 16 - c3 .loop .i) _
+          (c6 .pre .0),
+      omega (arith, c6 .pre .1, c3 .loop .inv .1),
+    )
 
 add-i : tie.Need-add-i Inv-loop μ-loop
 add-i c = omega arith
@@ -52,7 +64,16 @@ loop-less : tie.Need-loop-less Inv-loop μ-loop
 loop-less c = omega arith
 
 loop-again : tie.Need-loop-again Inv-loop μ-loop
-loop-again c = (omega arith, c .before .before .put-sixteen .kept .0 ∙ c .before .before .before .before .before .before .loop .inv .1, sixteen-next _ _ _ (c .before .before .before .before .before .before .before .before .before .args .at + 7 * c .before .before .before .before .before .before .loop .i) (c .before .before .before .before .before .before .loop .i) (c .before .before .before .before .before .before .loop .i + 16 - c .before .before .before .before .before .before .loop .i) _ (c .before .before .before .before .before .before .before .before .before .pre .0) (omega arith) (omega (arith, c .before .before .before .before .before .before .before .before .before .pre .1, c .before .before .before .before .before .before .loop .inv .1)) (c .before .before .put-sixteen .ensures) (c .before .before .before .before .before .before .loop .i + 16) (c .before .before .before .before .before .before .before .before .before .args .at + 7 * (c .before .before .before .before .before .before .loop .i + 16)) (omega arith) (omega arith) ∙ c .before .before .before .before .before .before .loop .inv .2)
+loop-again c =
+    let c6 = c .before .before .before .before .before .before in
+    let c9 = c6 .before .before .before in (
+      omega arith,
+      c .before .before .put-sixteen .kept .0 ∙ c6 .loop .inv .1,
+      sixteen-next _ _ _
+          (c9 .args .at + 7 * c6 .loop .i) (c6 .loop .i) (c6 .loop .i + 16 - c6 .loop .i) _ (c9 .pre .0) (omega arith)
+          (omega (arith, c9 .pre .1, c6 .loop .inv .1)) (c .before .before .put-sixteen .ensures) (c6 .loop .i + 16)
+          (c9 .args .at + 7 * (c6 .loop .i + 16)) (omega arith) (omega arith) ∙ c6 .loop .inv .2,
+    )
 
 mul-put-eights : tie.Need-mul-put-eights Inv-loop μ-loop
 mul-put-eights c = omega (arith, c .before .before .before .before .before .pre .1)
@@ -70,7 +91,19 @@ part-put-eights-end : tie.Need-part-put-eights-end Inv-loop μ-loop
 part-put-eights-end c = search needs
 
 put-eights-requires : tie.Need-put-eights-requires Inv-loop μ-loop
-put-eights-requires c κs = (fit-part (c .before .before .before .loop .i) (length (c .before .before .before .before .before .before .args .items .now) - c .before .before .before .loop .i) _ (c .before .before .before .before .before .before .pre .0), omega (arith, c .before .before .before .before .before .before .pre .1, c .before .before .before .loop .inv .1, length-take (length (c .before .before .before .before .before .before .args .items .now) - c .before .before .before .loop .i) (drop (c .before .before .before .loop .i) (c .before .before .before .before .before .before .args .items .now)), length-drop (c .before .before .before .loop .i) (c .before .before .before .before .before .before .args .items .now)))
+put-eights-requires c κs =
+    let c3 = c .before .before .before in
+    let c6 = c3 .before .before .before in (
+      fit-part (c3 .loop .i) (length (c6 .args .items .now) - c3 .loop .i) _ (c6 .pre .0),
+      omega (
+        arith,
+        c6 .pre .1,
+        c3 .loop .inv .1,
+        length-take (length (c6 .args .items .now) - c3 .loop .i)
+            (drop (c3 .loop .i) (c6 .args .items .now)),
+        length-drop (c3 .loop .i) (c6 .args .items .now),
+      ),
+    )
 
 same-length : tie.Need-same-length Inv-loop μ-loop
 same-length c = c .before .before .put-eights .kept .0 ∙ c .before .before .before .before .before .before .loop .inv .1

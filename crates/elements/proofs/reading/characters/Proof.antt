@@ -20,7 +20,9 @@ no-element-requires : tie.Need-no-element-requires
 no-element-requires c κs = search needs
 
 returns : tie.Need-returns
-returns c = c .no-element .ensures ∙ handed-up noElement _ _ _ _ _ refl (c .before .before .enum-told .given .1) (c .before .refusal-of .ensures)
+returns c =
+    c .no-element .ensures ∙ handed-up noElement _ _ _ _ _ refl (c .before .before .enum-told .given .1)
+    (c .before .refusal-of .ensures)
 
 returns-2 : tie.Need-returns-2
 returns-2 c = went noElement _ _ _ _ _ _ refl (c .before .count .given .1) refl

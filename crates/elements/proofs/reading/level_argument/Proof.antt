@@ -24,7 +24,10 @@ no-element-requires c κs = search needs
 
 returns : tie.Need-returns
 unfolding levelArgument
-returns c = level-handed _ _ _ _ _ _ (c .before .before .before .before .read-level .ensures) (c .before .before .enum-told .given .1) (c .before .level-refusal .ensures) (c .no-element .ensures)
+returns c =
+    let c4 = c .before .before .before .before in
+    level-handed _ _ _ _ _ _ (c4 .read-level .ensures) (c .before .before .enum-told .given .1)
+    (c .before .level-refusal .ensures) (c .no-element .ensures)
 
 returns-2 : tie.Need-returns-2
 unfolding levelArgument

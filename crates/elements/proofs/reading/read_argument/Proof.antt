@@ -84,7 +84,10 @@ characters-requires-4 c κs = search needs
 
 returns : tie.Need-returns
 unfolding argumentAt
-returns c = rw (c .before .before .before .enum-told .given .1) (c .no-element .ensures ∙ ap noElement (c .before .refusal-of .ensures ∙ ap refusalOf (c .before .before .refused-at .ensures)))
+returns c =
+    let c3 = c .before .before .before in
+    rw (c3 .enum-told .given .1) (c .no-element .ensures ∙ ap noElement
+    (c .before .refusal-of .ensures ∙ ap refusalOf (c .before .before .refused-at .ensures)))
 
 returns-2 : tie.Need-returns-2
 unfolding argumentAt

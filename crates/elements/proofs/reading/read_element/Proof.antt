@@ -30,23 +30,49 @@ no-element-requires c κs = search needs
 
 returns : tie.Need-returns
 unfolding elementAt
-returns c = c .no-element .ensures ∙ handed-up noElement _ _ _ _ _ (index-as _ _ _ _ _ (c .before .before .before .before .extensible-index .ensures) (c .before .before .before .before .before .last-of .ensures)) (c .before .before .enum-told .given .1) (c .before .refusal-of .ensures)
+returns c =
+    let c4 = c .before .before .before .before in
+    c .no-element .ensures ∙ handed-up noElement _ _ _ _ _
+    (index-as _ _ _ _ _ (c4 .extensible-index .ensures) (c4 .before .last-of .ensures))
+    (c .before .before .enum-told .given .1) (c .before .refusal-of .ensures)
 
 cast-number : tie.Need-cast-number
-cast-number c = omega (arith, index-most _ _ (c .before .before .before .before .last-of .result) _ _ _ (c .before .before .before .extensible-index .ensures) (c .before .index .given .1), c .before .before .before .before .last-of .ensures, last-small (c .before .before .before .before .before .before .args .direction))
+cast-number c =
+    let c3 = c .before .before .before in
+    let c6 = c3 .before .before .before in
+    omega (
+      arith,
+      index-most _ _ (c3 .before .last-of .result) _ _ _ (c3 .extensible-index .ensures)
+          (c .before .index .given .1),
+      c3 .before .last-of .ensures,
+      last-small (c6 .args .direction),
+    )
 
 kind-of-requires : tie.Need-kind-of-requires
 kind-of-requires c κs = search needs
 
 add-read-argument : tie.Need-add-read-argument
-add-read-argument c = omega (arith, index-behind _ _ _ _ _ (last-ranged (c .before .before .before .before .before .before .before .args .direction)) (bits-to _ _) _ (index-as _ _ _ _ _ (c .before .before .before .before .extensible-index .ensures) (c .before .before .before .before .before .last-of .ensures)) (c .before .before .index .given .1))
+add-read-argument c =
+    let c4 = c .before .before .before .before in
+    let c7 = c4 .before .before .before in
+    omega (
+      arith,
+      index-behind _ _ _ _ _ (last-ranged (c7 .args .direction)) (bits-to _ _) _
+          (index-as _ _ _ _ _ (c4 .extensible-index .ensures) (c4 .before .last-of .ensures))
+          (c .before .before .index .given .1),
+    )
 
 read-argument-requires : tie.Need-read-argument-requires
 read-argument-requires c κs = search needs
 
 returns-2 : tie.Need-returns-2
 unfolding elementAt
-returns-2 c = went noElement _ _ _ _ _ _ (index-as _ _ _ _ _ (c .before .before .before .before .before .extensible-index .ensures) (c .before .before .before .before .before .before .last-of .ensures)) (c .before .before .before .index .given .1) (rw (← c .before .kind-of .ensures) (c .read-argument .ensures))
+returns-2 c =
+    let c3 = c .before .before .before in
+    let c6 = c3 .before .before .before in
+    went noElement _ _ _ _ _ _
+    (index-as _ _ _ _ _ (c3 .before .before .extensible-index .ensures) (c6 .last-of .ensures))
+    (c3 .index .given .1) (rw (← c .before .kind-of .ensures) (c .read-argument .ensures))
 
 pub read-element-spec : {M : Type 1} → statement M
 read-element-spec =

@@ -24,7 +24,10 @@ no-element-requires c κs = search needs
 
 returns : tie.Need-returns
 unfolding timeArgument
-returns c = time-handed _ _ _ _ _ _ (c .before .before .before .before .read-time .ensures) (c .before .before .enum-told .given .1) (c .before .time-refusal .ensures) (c .no-element .ensures)
+returns c =
+    let c4 = c .before .before .before .before in
+    time-handed _ _ _ _ _ _ (c4 .read-time .ensures) (c .before .before .enum-told .given .1)
+    (c .before .time-refusal .ensures) (c .no-element .ensures)
 
 returns-2 : tie.Need-returns-2
 unfolding timeArgument

@@ -24,7 +24,10 @@ no-element-requires c κs = search needs
 
 returns : tie.Need-returns
 unfolding twoLevelsArgument
-returns c = level-handed _ _ _ _ _ _ (c .before .before .before .before .read-level .ensures) (c .before .before .enum-told .given .1) (c .before .level-refusal .ensures) (c .no-element .ensures)
+returns c =
+    let c4 = c .before .before .before .before in
+    level-handed _ _ _ _ _ _ (c4 .read-level .ensures) (c .before .before .enum-told .given .1)
+    (c .before .level-refusal .ensures) (c .no-element .ensures)
 
 read-level-requires-2 : tie.Need-read-level-requires-2
 read-level-requires-2 c κs = search needs
@@ -43,11 +46,20 @@ no-element-requires-2 c κs = search needs
 
 returns-2 : tie.Need-returns-2
 unfolding twoLevelsArgument
-returns-2 c = level-went _ _ _ _ _ _ (c .before .before .before .before .before .before .before .before .read-level .ensures) (c .before .before .before .before .before .before .one .given .1) (level-handed _ _ _ _ _ _ (c .before .before .before .before .read-level2 .ensures) (c .before .before .enum-told2 .given .1) (c .before .level-refusal2 .ensures) (c .no-element2 .ensures))
+returns-2 c =
+    let c4 = c .before .before .before .before in
+    let c8 = c4 .before .before .before .before in
+    level-went _ _ _ _ _ _ (c8 .read-level .ensures) (c4 .before .before .one .given .1) (level-handed _ _ _ _ _ _
+    (c4 .read-level2 .ensures) (c .before .before .enum-told2 .given .1) (c .before .level-refusal2 .ensures)
+    (c .no-element2 .ensures))
 
 returns-3 : tie.Need-returns-3
 unfolding twoLevelsArgument
-returns-3 c = level-went _ _ _ _ _ _ (c .before .before .before .before .before .before .before .read-level .ensures) (c .before .before .before .before .before .one .given .1) (level-went _ _ _ _ _ _ (c .before .before .before .read-level2 .ensures) (c .before .two .given .1) refl)
+returns-3 c =
+    let c3 = c .before .before .before in
+    let c7 = c3 .before .before .before .before in
+    level-went _ _ _ _ _ _ (c7 .read-level .ensures) (c3 .before .before .one .given .1)
+    (level-went _ _ _ _ _ _ (c3 .read-level2 .ensures) (c .before .two .given .1) refl)
 
 pub two-levels-argument-spec : {M : Type 1} → statement M
 two-levels-argument-spec =

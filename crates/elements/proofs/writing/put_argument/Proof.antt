@@ -74,28 +74,36 @@ same-length c = search needs
 
 returns-3 : tie.Need-returns-3
 unfolding argumentPieces
-returns-3 c = rw (c .before .before .before .before .before .enum-told3 .given .1) (c .before .before .put-level .ensures)
+returns-3 c =
+    let c5 = c .before .before .before .before .before in
+    rw (c5 .enum-told3 .given .1) (c .before .before .put-level .ensures)
 
 same-length-2 : tie.Need-same-length-2
 same-length-2 c = search needs
 
 returns-4 : tie.Need-returns-4
 unfolding argumentPieces
-returns-4 c = rw (c .before .before .before .before .before .before .enum-told4 .given .1) (c .before .before .put-two-levels .ensures)
+returns-4 c =
+    let c6 = c .before .before .before .before .before .before in
+    rw (c6 .enum-told4 .given .1) (c .before .before .put-two-levels .ensures)
 
 same-length-3 : tie.Need-same-length-3
 same-length-3 c = search needs
 
 returns-5 : tie.Need-returns-5
 unfolding argumentPieces
-returns-5 c = rw (c .before .before .before .before .before .enum-told5 .given .1) (c .before .before .put-time .ensures)
+returns-5 c =
+    let c5 = c .before .before .before .before .before in
+    rw (c5 .enum-told5 .given .1) (c .before .before .put-time .ensures)
 
 same-length-4 : tie.Need-same-length-4
 same-length-4 c = search needs
 
 returns-6 : tie.Need-returns-6
 unfolding argumentPieces
-returns-6 c = rw (c .before .before .before .before .before .enum-told6 .given .1) (c .before .before .put-code .ensures)
+returns-6 c =
+    let c5 = c .before .before .before .before .before in
+    rw (c5 .enum-told6 .given .1) (c .before .before .put-code .ensures)
 
 same-length-5 : tie.Need-same-length-5
 same-length-5 c = search needs

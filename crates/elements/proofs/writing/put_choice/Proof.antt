@@ -13,7 +13,9 @@ same-length : tie.Need-same-length
 same-length c = search needs
 
 returns : tie.Need-returns
-returns c = rw (c .before .before .before .before .if1 .taken) (one-piece _ _ _ _ _ (whole 0 1 1) (c .before .before .put-whole .ensures))
+returns c =
+    let c4 = c .before .before .before .before in
+    rw (c4 .if1 .taken) (one-piece _ _ _ _ _ (whole 0 1 1) (c .before .before .put-whole .ensures))
 
 put-whole-requires-2 : tie.Need-put-whole-requires-2
 put-whole-requires-2 c κs = search needs
@@ -22,7 +24,9 @@ same-length-2 : tie.Need-same-length-2
 same-length-2 c = search needs
 
 returns-2 : tie.Need-returns-2
-returns-2 c = rw (c .before .before .before .before .if1 .left) (one-piece _ _ _ _ _ (whole 0 1 0) (c .before .before .put-whole2 .ensures))
+returns-2 c =
+    let c4 = c .before .before .before .before in
+    rw (c4 .if1 .left) (one-piece _ _ _ _ _ (whole 0 1 0) (c .before .before .put-whole2 .ensures))
 
 pub put-choice-spec : {M : Type 1} → statement M
 put-choice-spec =

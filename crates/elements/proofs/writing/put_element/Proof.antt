@@ -24,7 +24,10 @@ same-length : tie.Need-same-length
 same-length c = search needs
 
 returns : tie.Need-returns
-returns c = element-full _ _ _ _ _ _ _ _ _ (c .before .before .before .before .before .last-of .ensures) (c .before .before .before .before .put-extensible-index .ensures) (c .enum-told .given .1)
+returns c =
+    let c4 = c .before .before .before .before in
+    element-full _ _ _ _ _ _ _ _ _ (c4 .before .last-of .ensures) (c4 .put-extensible-index .ensures)
+    (c .enum-told .given .1)
 
 kind-of-requires : tie.Need-kind-of-requires
 kind-of-requires c κs = search needs
@@ -36,7 +39,11 @@ same-length-2 : tie.Need-same-length-2
 same-length-2 c = search needs
 
 returns-2 : tie.Need-returns-2
-returns-2 c = element-next _ _ _ _ _ _ _ _ _ (c .before .before .before .before .before .before .before .before .before .before .before .last-of .ensures) (c .before .before .before .before .before .before .before .before .before .before .put-extensible-index .ensures) _ _ _ _ (c .before .before .before .before .before .before .index .given .1) (c .before .before .before .before .kind-of .ensures) (c .before .before .put-argument .ensures)
+returns-2 c =
+    let c4 = c .before .before .before .before in
+    let c10 = c4 .before .before .before .before .before .before in
+    element-next _ _ _ _ _ _ _ _ _ (c10 .before .last-of .ensures) (c10 .put-extensible-index .ensures) _ _ _ _
+    (c4 .before .before .index .given .1) (c4 .kind-of .ensures) (c .before .before .put-argument .ensures)
 
 pub put-element-spec : {M : Type 1} → statement M
 put-element-spec =

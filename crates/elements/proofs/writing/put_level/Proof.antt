@@ -16,7 +16,9 @@ within-requires : tie.Need-within-requires
 within-requires c κs = search needs
 
 type-number-requires : tie.Need-type-number-requires
-type-number-requires c κs = c .before .before .before .before .before .before .is-single .ensures (c .before .before .before .before .before .if1 .taken) .1
+type-number-requires c κs =
+    let c5 = c .before .before .before .before .before in
+    c5 .before .is-single .ensures (c5 .if1 .taken) .1
 
 put-bits-requires : tie.Need-put-bits-requires
 put-bits-requires c κs = search needs
@@ -25,7 +27,15 @@ same-length : tie.Need-same-length
 same-length c = search needs
 
 returns : tie.Need-returns
-returns c = level-joined _ _ _ _ _ _ _ _ (c .before .before .before .before .before .before .before .before .before .before .is-single .ensures (c .before .before .before .before .before .before .before .before .before .if1 .taken)) (c .before .before .before .before .before .before .before .before .level-bits .ensures) (c .before .before .before .type-number .ensures) (is-within (c .before .before .before .before .before .before .before .before .before .before .before .before .args .buf .now) (c .before .before .before .before .before .before .before .before .before .before .before .before .args .end) (c .before .before .before .before .before .before .before .before .before .before .before .before .args .at) (c .before .before .before .before .before .before .before .before .level-bits .result) _ (c .before .before .before .before .before .before .before .within .ensures) (c .before .before .before .before .before .before .if2 .taken)) (c .before .before .put-bits .ensures)
+returns c =
+    let c3 = c .before .before .before in
+    let c6 = c3 .before .before .before in
+    let c9 = c6 .before .before .before in
+    let c12 = c9 .before .before .before in
+    level-joined _ _ _ _ _ _ _ _ (c9 .before .is-single .ensures (c9 .if1 .taken))
+    (c6 .before .before .level-bits .ensures) (c3 .type-number .ensures) (is-within (c12 .args .buf .now)
+    (c12 .args .end) (c12 .args .at) (c6 .before .before .level-bits .result) _ (c6 .before .within .ensures)
+    (c6 .if2 .taken)) (c .before .before .put-bits .ensures)
 
 put-level-by-fields-requires : tie.Need-put-level-by-fields-requires
 put-level-by-fields-requires c κs = search needs

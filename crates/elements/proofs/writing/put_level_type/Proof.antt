@@ -42,7 +42,12 @@ same-length-2 c = search needs
 
 returns-2 : tie.Need-returns-2
 unfolding levelTypePieces
-returns-2 c = two-next _ _ _ _ _ _ _ _ _ _ (c .before .before .before .before .before .before .before .before .before .before .before .before .put-whole .ensures) (c .before .before .before .before .before .before .before .before .first .given .1) (whole-put-as _ _ _ _ _ _ _ _ _ _ (c .before .before .put-whole2 .ensures) (c .before .before .before .before .before .lowest .ensures) (c .before .before .before .before .highest .ensures))
+returns-2 c =
+    let c4 = c .before .before .before .before in
+    let c8 = c4 .before .before .before .before in
+    let c12 = c8 .before .before .before .before in
+    two-next _ _ _ _ _ _ _ _ _ _ (c12 .put-whole .ensures) (c8 .first .given .1) (whole-put-as _ _ _ _ _ _ _ _ _ _
+    (c .before .before .put-whole2 .ensures) (c4 .before .lowest .ensures) (c4 .highest .ensures))
 
 pub put-level-type-spec : {M : Type 1} → statement M
 put-level-type-spec =

@@ -19,7 +19,9 @@ same-length : tie.Need-same-length
 same-length c = search needs
 
 returns : tie.Need-returns
-returns c = sized-full _ _ _ _ _ _ _ _ _ (c .before .before .before .before .put-whole .ensures) refl (c .enum-told .given .1)
+returns c =
+    let c4 = c .before .before .before .before in
+    sized-full _ _ _ _ _ _ _ _ _ (c4 .put-whole .ensures) refl (c .enum-told .given .1)
 
 put-characters-requires : tie.Need-put-characters-requires
 put-characters-requires c κs = search needs
@@ -28,7 +30,11 @@ same-length-2 : tie.Need-same-length-2
 same-length-2 c = search needs
 
 returns-2 : tie.Need-returns-2
-returns-2 c = sized-next _ _ _ _ _ _ _ _ _ _ _ _ (c .before .before .before .before .before .before .before .before .before .put-whole .ensures) refl (c .before .before .before .before .before .size .given .1) (c .before .before .put-characters .ensures)
+returns-2 c =
+    let c5 = c .before .before .before .before .before in
+    let c9 = c5 .before .before .before .before in
+    sized-next _ _ _ _ _ _ _ _ _ _ _ _ (c9 .put-whole .ensures) refl (c5 .size .given .1)
+    (c .before .before .put-characters .ensures)
 
 pub put-sized-spec : {M : Type 1} → statement M
 put-sized-spec =

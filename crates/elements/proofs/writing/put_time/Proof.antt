@@ -36,7 +36,11 @@ same-length-2 c = search needs
 
 returns-2 : tie.Need-returns-2
 unfolding timePieces
-returns-2 c = two-next _ _ _ _ _ _ _ _ _ _ (c .before .before .before .before .before .before .before .before .before .before .put-whole .ensures) (c .before .before .before .before .before .before .first .given .1) (c .before .before .put-whole2 .ensures)
+returns-2 c =
+    let c6 = c .before .before .before .before .before .before in
+    let c10 = c6 .before .before .before .before in
+    two-next _ _ _ _ _ _ _ _ _ _ (c10 .put-whole .ensures) (c6 .first .given .1)
+    (c .before .before .put-whole2 .ensures)
 
 pub put-time-spec : {M : Type 1} → statement M
 put-time-spec =

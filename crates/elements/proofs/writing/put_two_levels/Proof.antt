@@ -19,7 +19,11 @@ same-length : tie.Need-same-length
 same-length c = search needs
 
 returns : tie.Need-returns
-returns c = pieces-full (levelPieces (c .before .before .before .before .before .before .before .args .x)) (levelPieces (c .before .before .before .before .before .before .before .args .y)) _ _ _ _ _ (c .before .before .before .before .put-level .ensures) (c .enum-told .given .1)
+returns c =
+    let c4 = c .before .before .before .before in
+    let c7 = c4 .before .before .before in
+    pieces-full (levelPieces (c7 .args .x)) (levelPieces (c7 .args .y)) _ _ _ _ _ (c4 .put-level .ensures)
+    (c .enum-told .given .1)
 
 put-level-requires-2 : tie.Need-put-level-requires-2
 put-level-requires-2 c κs = search needs
@@ -28,7 +32,12 @@ same-length-2 : tie.Need-same-length-2
 same-length-2 c = search needs
 
 returns-2 : tie.Need-returns-2
-returns-2 c = pieces-next (levelPieces (c .before .before .before .before .before .before .before .before .before .before .before .before .args .x)) (levelPieces (c .before .before .before .before .before .before .before .before .before .before .before .before .args .y)) _ _ _ _ _ _ _ _ (c .before .before .before .before .before .before .before .before .before .put-level .ensures) (c .before .before .before .before .before .first .given .1) (c .before .before .put-level2 .ensures)
+returns-2 c =
+    let c5 = c .before .before .before .before .before in
+    let c9 = c5 .before .before .before .before in
+    let c12 = c9 .before .before .before in
+    pieces-next (levelPieces (c12 .args .x)) (levelPieces (c12 .args .y)) _ _ _ _ _ _ _ _ (c9 .put-level .ensures)
+    (c5 .first .given .1) (c .before .before .put-level2 .ensures)
 
 pub put-two-levels-spec : {M : Type 1} → statement M
 put-two-levels-spec =

@@ -19,19 +19,37 @@ whole-bits-requires : tie.Need-whole-bits-requires
 whole-bits-requires c κs = search needs
 
 shl-result : tie.Need-shl-result
-shl-result c = omega (arith, width-few (c .before .before .before .before .args .x) (c .before .before .before .before .pre) _ _ _ (c .before .before .lowest .ensures) (c .before .highest .ensures) (c .whole-bits .ensures))
+shl-result c =
+    let c4 = c .before .before .before .before in
+    omega (
+      arith,
+      width-few (c4 .args .x) (c4 .pre) _ _ _ (c .before .before .lowest .ensures)
+          (c .before .highest .ensures) (c .whole-bits .ensures),
+    )
 
 cast-result : tie.Need-cast-result
 cast-result c = search needs
 
 sub-result : tie.Need-sub-result
-sub-result c = number-above (c .before .before .before .before .before .args .x) (c .before .before .before .before .before .pre) _ _ _ (c .before .before .before .lowest .ensures) (c .before .before .highest .ensures) (c .before .whole-bits .ensures)
+sub-result c =
+    let c3 = c .before .before .before in
+    number-above (c3 .before .before .args .x) (c3 .before .before .pre) _ _ _ (c3 .lowest .ensures)
+    (c .before .before .highest .ensures) (c .before .whole-bits .ensures)
 
 add-result : tie.Need-add-result
-add-result c = omega (arith, type-small (c .before .before .before .before .before .args .x) (c .before .before .before .before .before .pre) _ _ _ (c .before .before .before .lowest .ensures) (c .before .before .highest .ensures) (c .before .whole-bits .ensures))
+add-result c =
+    let c3 = c .before .before .before in
+    omega (
+      arith,
+      type-small (c3 .before .before .args .x) (c3 .before .before .pre) _ _ _ (c3 .lowest .ensures)
+          (c .before .before .highest .ensures) (c .before .whole-bits .ensures),
+    )
 
 returns : tie.Need-returns
-returns c = type-said (c .before .before .before .before .before .args .x) (c .before .before .before .before .before .pre) _ _ _ (c .before .before .before .lowest .ensures) (c .before .before .highest .ensures) (c .before .whole-bits .ensures)
+returns c =
+    let c3 = c .before .before .before in
+    type-said (c3 .before .before .args .x) (c3 .before .before .pre) _ _ _ (c3 .lowest .ensures)
+    (c .before .before .highest .ensures) (c .before .whole-bits .ensures)
 
 pub type-number-spec : {M : Type 1} → statement M
 type-number-spec =

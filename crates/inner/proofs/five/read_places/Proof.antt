@@ -34,7 +34,11 @@ no-places-requires : tie.Need-no-places-requires Inv-loop μ-loop
 no-places-requires c κs = tt
 
 returns : tie.Need-returns Inv-loop μ-loop
-returns c = filled-bad _ _ _ _ _ _ _ _ _ _ _ (c .before .before .before .before .before .loop-test .taken) (c .before .before .before .before .read-element .ensures) (c .before .before .enum-told .given .1) (c .before .step-refusal .ensures) (c .no-places .ensures) (c .before .before .before .before .before .before .loop .inv .2)
+returns c =
+    let c4 = c .before .before .before .before in
+    filled-bad _ _ _ _ _ _ _ _ _ _ _ (c4 .before .loop-test .taken) (c4 .read-element .ensures)
+    (c .before .before .enum-told .given .1) (c .before .step-refusal .ensures) (c .no-places .ensures)
+    (c4 .before .before .loop .inv .2)
 
 mul-places : tie.Need-mul-places Inv-loop μ-loop
 mul-places c = omega arith
@@ -49,10 +53,18 @@ loop-less : tie.Need-loop-less Inv-loop μ-loop
 loop-less c = search needs
 
 loop-again : tie.Need-loop-again Inv-loop μ-loop
-loop-again c = (search needs, search needs, filled-turn _ _ _ _ _ _ _ _ _ (omega arith) (omega arith) (c .before .before .before .before .read-element .ensures) (c .before .before .step .given .1) (c .before .before .before .before .before .before .loop .inv .2))
+loop-again c =
+    let c4 = c .before .before .before .before in (
+      search needs,
+      search needs,
+      filled-turn _ _ _ _ _ _ _ _ _ (omega arith) (omega arith) (c4 .read-element .ensures)
+          (c .before .before .step .given .1) (c4 .before .before .loop .inv .2),
+    )
 
 returns-2 : tie.Need-returns-2 Inv-loop μ-loop
-returns-2 c = filled-done _ _ _ _ _ _ _ (c .loop-test .left) (c .before .loop .inv .0) (c .before .loop .inv .1) (c .before .loop .inv .2)
+returns-2 c =
+    filled-done _ _ _ _ _ _ _ (c .loop-test .left) (c .before .loop .inv .0) (c .before .loop .inv .1)
+    (c .before .loop .inv .2)
 
 pub read-places-spec : {M : Type 1} → statement M
 read-places-spec =

@@ -23,7 +23,9 @@ refusal-of-requires c κs = search needs
 
 returns : tie.Need-returns
 unfolding dateTimeAt
-returns c = handed-up date.Refused _ _ _ _ _ (c .before .before .before .whole .ensures) (c .before .enum-told .given .1) (c .refusal-of .ensures)
+returns c =
+    let c3 = c .before .before .before in
+    handed-up date.Refused _ _ _ _ _ (c3 .whole .ensures) (c .before .enum-told .given .1) (c .refusal-of .ensures)
 
 whole-requires-2 : tie.Need-whole-requires-2
 whole-requires-2 c κs = search needs
@@ -39,7 +41,11 @@ refusal-of-requires-2 c κs = search needs
 
 returns-2 : tie.Need-returns-2
 unfolding dateTimeAt
-returns-2 c = went date.Refused _ _ _ _ _ _ (c .before .before .before .before .before .before .before .whole .ensures) (c .before .before .before .before .before .first .given .1) (handed-up date.Refused _ _ _ _ _ (c .before .before .before .whole2 .ensures) (c .before .enum-told2 .given .1) (c .refusal-of2 .ensures))
+returns-2 c =
+    let c3 = c .before .before .before in
+    let c7 = c3 .before .before .before .before in
+    went date.Refused _ _ _ _ _ _ (c7 .whole .ensures) (c3 .before .before .first .given .1) (handed-up date.Refused _ _
+    _ _ _ (c3 .whole2 .ensures) (c .before .enum-told2 .given .1) (c .refusal-of2 .ensures))
 
 whole-requires-3 : tie.Need-whole-requires-3
 whole-requires-3 c κs = search needs
@@ -55,23 +61,41 @@ refusal-of-requires-3 c κs = search needs
 
 returns-3 : tie.Need-returns-3
 unfolding dateTimeAt
-returns-3 c = went date.Refused _ _ _ _ _ _ (c .before .before .before .before .before .before .before .before .before .before .before .whole .ensures) (c .before .before .before .before .before .before .before .before .before .first .given .1) (went date.Refused _ _ _ _ _ _ (c .before .before .before .before .before .before .before .whole2 .ensures) (c .before .before .before .before .before .second .given .1) (handed-up date.Refused _ _ _ _ _ (c .before .before .before .whole3 .ensures) (c .before .enum-told3 .given .1) (c .refusal-of3 .ensures)))
+returns-3 c =
+    let c3 = c .before .before .before in
+    let c7 = c3 .before .before .before .before in
+    let c11 = c7 .before .before .before .before in
+    went date.Refused _ _ _ _ _ _ (c11 .whole .ensures) (c7 .before .before .first .given .1) (went date.Refused _ _ _ _
+    _ _ (c7 .whole2 .ensures) (c3 .before .before .second .given .1) (handed-up date.Refused _ _ _ _ _
+    (c3 .whole3 .ensures) (c .before .enum-told3 .given .1) (c .refusal-of3 .ensures)))
 
 cast-read-time-of-day : tie.Need-cast-read-time-of-day
-cast-read-time-of-day c = omega (arith, whole-most _ _ 1996 2095 _ _ _ (c .before .before .before .before .before .before .before .before .before .before .before .whole .ensures) (c .before .before .before .before .before .before .before .before .before .first .given .1))
+cast-read-time-of-day c =
+    let c9 = c .before .before .before .before .before .before .before .before .before in
+    omega (arith, whole-most _ _ 1996 2095 _ _ _ (c9 .before .before .whole .ensures) (c9 .first .given .1))
 
 cast-read-time-of-day-2 : tie.Need-cast-read-time-of-day-2
-cast-read-time-of-day-2 c = omega (arith, whole-most _ _ 1 12 _ _ _ (c .before .before .before .before .before .before .before .whole2 .ensures) (c .before .before .before .before .before .second .given .1))
+cast-read-time-of-day-2 c =
+    let c5 = c .before .before .before .before .before in
+    omega (arith, whole-most _ _ 1 12 _ _ _ (c5 .before .before .whole2 .ensures) (c5 .second .given .1))
 
 cast-read-time-of-day-3 : tie.Need-cast-read-time-of-day-3
-cast-read-time-of-day-3 c = omega (arith, whole-most _ _ 1 31 _ _ _ (c .before .before .before .whole3 .ensures) (c .before .third .given .1))
+cast-read-time-of-day-3 c =
+    let c3 = c .before .before .before in
+    omega (arith, whole-most _ _ 1 31 _ _ _ (c3 .whole3 .ensures) (c .before .third .given .1))
 
 read-time-of-day-requires : tie.Need-read-time-of-day-requires
 read-time-of-day-requires c κs = search needs
 
 returns-4 : tie.Need-returns-4
 unfolding dateTimeAt
-returns-4 c = went date.Refused _ _ _ _ _ _ (c .before .before .before .before .before .before .before .before .before .before .before .before .whole .ensures) (c .before .before .before .before .before .before .before .before .before .before .first .given .1) (went date.Refused _ _ _ _ _ _ (c .before .before .before .before .before .before .before .before .whole2 .ensures) (c .before .before .before .before .before .before .second .given .1) (went date.Refused _ _ _ _ _ _ (c .before .before .before .before .whole3 .ensures) (c .before .before .third .given .1) (c .read-time-of-day .ensures)))
+returns-4 c =
+    let c4 = c .before .before .before .before in
+    let c8 = c4 .before .before .before .before in
+    let c12 = c8 .before .before .before .before in
+    went date.Refused _ _ _ _ _ _ (c12 .whole .ensures) (c8 .before .before .first .given .1) (went date.Refused _ _ _ _
+    _ _ (c8 .whole2 .ensures) (c4 .before .before .second .given .1) (went date.Refused _ _ _ _ _ _
+    (c4 .whole3 .ensures) (c .before .before .third .given .1) (c .read-time-of-day .ensures)))
 
 pub read-date-time-spec : {M : Type 1} → statement M
 read-date-time-spec =

@@ -23,7 +23,9 @@ date-refusal-requires c κs = search needs
 
 returns : tie.Need-returns
 unfolding datedAt
-returns c = date-handed _ _ _ _ _ (c .before .before .before .read-date-time .ensures) (c .before .enum-told .given .1) (c .date-refusal .ensures)
+returns c =
+    let c3 = c .before .before .before in
+    date-handed _ _ _ _ _ (c3 .read-date-time .ensures) (c .before .enum-told .given .1) (c .date-refusal .ensures)
 
 read-acknowledgement-requires : tie.Need-read-acknowledgement-requires
 read-acknowledgement-requires c κs = search needs
@@ -39,11 +41,19 @@ refusal-of-requires c κs = search needs
 
 returns-2 : tie.Need-returns-2
 unfolding datedAt
-returns-2 c = date-went _ _ _ _ _ _ (c .before .before .before .before .before .before .before .read-date-time .ensures) (c .before .before .before .before .before .date .given .1) (handed-up header.Refused _ _ _ _ _ (c .before .before .before .read-acknowledgement .ensures) (c .before .enum-told2 .given .1) (c .refusal-of .ensures))
+returns-2 c =
+    let c3 = c .before .before .before in
+    let c7 = c3 .before .before .before .before in
+    date-went _ _ _ _ _ _ (c7 .read-date-time .ensures) (c3 .before .before .date .given .1) (handed-up header.Refused _
+    _ _ _ _ (c3 .read-acknowledgement .ensures) (c .before .enum-told2 .given .1) (c .refusal-of .ensures))
 
 returns-3 : tie.Need-returns-3
 unfolding datedAt
-returns-3 c = date-went _ _ _ _ _ _ (c .before .before .before .before .before .before .before .read-date-time .ensures) (c .before .before .before .before .before .date .given .1) (went header.Refused _ _ _ _ _ _ (c .before .before .before .read-acknowledgement .ensures) (c .before .last .given .1) refl)
+returns-3 c =
+    let c3 = c .before .before .before in
+    let c7 = c3 .before .before .before .before in
+    date-went _ _ _ _ _ _ (c7 .read-date-time .ensures) (c3 .before .before .date .given .1)
+    (went header.Refused _ _ _ _ _ _ (c3 .read-acknowledgement .ensures) (c .before .last .given .1) refl)
 
 pub read-dated-spec : {M : Type 1} → statement M
 read-dated-spec =

@@ -52,13 +52,24 @@ returns-3 : tie.Need-returns-3
 returns-3 c = search needs
 
 header-from-requires : tie.Need-header-from-requires
-header-from-requires c κs = room-acknowledged _ _ _ _ _ _ _ _ _ _ (c .before .before .before .before .before .before .before .before .before .read-bits .ensures) (c .before .before .before .before .before .before .before .first .given .1) (c .before .before .before .before .before .read-bits2 .ensures) (c .before .before .before .rest .given .1) refl (c .before .if1 .taken)
+header-from-requires c κs =
+    let c3 = c .before .before .before in
+    let c7 = c3 .before .before .before .before in
+    room-acknowledged _ _ _ _ _ _ _ _ _ _ (c7 .before .before .read-bits .ensures) (c7 .first .given .1)
+    (c3 .before .before .read-bits2 .ensures) (c3 .rest .given .1) refl (c .before .if1 .taken)
 
 header-fits-requires : tie.Need-header-fits-requires
 header-fits-requires c κs = search needs
 
 returns-4 : tie.Need-returns-4
-returns-4 c = found-acknowledged _ _ _ _ _ _ _ _ _ _ (c .before .before .before .before .before .before .before .before .before .before .before .before .read-bits .ensures) (c .before .before .before .before .before .before .before .before .before .before .first .given .1) (c .before .before .before .before .before .before .before .before .read-bits2 .ensures) (c .before .before .before .before .before .before .rest .given .1) refl _ _ (c .before .before .header-from .ensures) _ (c .before .header-fits .ensures) (c .if3 .taken) (c .before .before .before .before .if1 .taken) (c .before .before .before .if2 .left) refl
+returns-4 c =
+    let c3 = c .before .before .before in
+    let c6 = c3 .before .before .before in
+    let c10 = c6 .before .before .before .before in
+    found-acknowledged _ _ _ _ _ _ _ _ _ _ (c10 .before .before .read-bits .ensures) (c10 .first .given .1)
+    (c6 .before .before .read-bits2 .ensures) (c6 .rest .given .1) refl _ _
+    (c .before .before .header-from .ensures) _ (c .before .header-fits .ensures) (c .if3 .taken)
+    (c3 .before .if1 .taken) (c3 .if2 .left) refl
 
 read-header-by-fields-requires-4 : tie.Need-read-header-by-fields-requires-4
 read-header-by-fields-requires-4 c κs = search needs
@@ -67,13 +78,24 @@ returns-5 : tie.Need-returns-5
 returns-5 c = search needs
 
 header-from-requires-2 : tie.Need-header-from-requires-2
-header-from-requires-2 c κs = room-plain _ _ _ _ _ _ _ _ _ _ (c .before .before .before .before .before .before .before .before .read-bits .ensures) (c .before .before .before .before .before .before .first .given .1) (c .before .before .before .before .read-bits2 .ensures) (c .before .before .rest .given .1) refl (c .if1 .left)
+header-from-requires-2 c κs =
+    let c4 = c .before .before .before .before in
+    let c8 = c4 .before .before .before .before in
+    room-plain _ _ _ _ _ _ _ _ _ _ (c8 .read-bits .ensures) (c4 .before .before .first .given .1)
+    (c4 .read-bits2 .ensures) (c .before .before .rest .given .1) refl (c .if1 .left)
 
 header-fits-requires-2 : tie.Need-header-fits-requires-2
 header-fits-requires-2 c κs = search needs
 
 returns-6 : tie.Need-returns-6
-returns-6 c = found-plain _ _ _ _ _ _ _ _ _ _ (c .before .before .before .before .before .before .before .before .before .before .before .read-bits .ensures) (c .before .before .before .before .before .before .before .before .before .first .given .1) (c .before .before .before .before .before .before .before .read-bits2 .ensures) (c .before .before .before .before .before .rest .given .1) refl _ _ (c .before .before .header-from2 .ensures) _ (c .before .header-fits2 .ensures) (c .if4 .taken) (c .before .before .before .if1 .left) refl
+returns-6 c =
+    let c3 = c .before .before .before in
+    let c7 = c3 .before .before .before .before in
+    let c11 = c7 .before .before .before .before in
+    found-plain _ _ _ _ _ _ _ _ _ _ (c11 .read-bits .ensures) (c7 .before .before .first .given .1)
+    (c7 .read-bits2 .ensures) (c3 .before .before .rest .given .1) refl _ _
+    (c .before .before .header-from2 .ensures) _ (c .before .header-fits2 .ensures) (c .if4 .taken) (c3 .if1 .left)
+    refl
 
 read-header-by-fields-requires-5 : tie.Need-read-header-by-fields-requires-5
 read-header-by-fields-requires-5 c κs = search needs

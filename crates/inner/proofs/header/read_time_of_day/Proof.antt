@@ -25,7 +25,9 @@ time-refusal-requires c κs = search needs
 
 returns : tie.Need-returns
 unfolding timeOfDayAt
-returns c = minute-handed _ _ _ _ _ (c .before .before .before .read-time .ensures) (c .before .enum-told .given .1) (c .time-refusal .ensures)
+returns c =
+    let c3 = c .before .before .before in
+    minute-handed _ _ _ _ _ (c3 .read-time .ensures) (c .before .enum-told .given .1) (c .time-refusal .ensures)
 
 whole-requires : tie.Need-whole-requires
 whole-requires c κs = search needs
@@ -41,14 +43,24 @@ refusal-of-requires c κs = search needs
 
 returns-2 : tie.Need-returns-2
 unfolding timeOfDayAt
-returns-2 c = minute-went _ _ _ _ _ _ (c .before .before .before .before .before .before .before .read-time .ensures) (c .before .before .before .before .before .minute .given .1) (handed-up date.Refused _ _ _ _ _ (c .before .before .before .whole .ensures) (c .before .enum-told2 .given .1) (c .refusal-of .ensures))
+returns-2 c =
+    let c3 = c .before .before .before in
+    let c7 = c3 .before .before .before .before in
+    minute-went _ _ _ _ _ _ (c7 .read-time .ensures) (c3 .before .before .minute .given .1) (handed-up date.Refused _ _
+    _ _ _ (c3 .whole .ensures) (c .before .enum-told2 .given .1) (c .refusal-of .ensures))
 
 cast-t15 : tie.Need-cast-t15
-cast-t15 c = omega (arith, whole-most _ _ 0 59 _ _ _ (c .before .before .before .whole .ensures) (c .before .last .given .1))
+cast-t15 c =
+    let c3 = c .before .before .before in
+    omega (arith, whole-most _ _ 0 59 _ _ _ (c3 .whole .ensures) (c .before .last .given .1))
 
 returns-3 : tie.Need-returns-3
 unfolding timeOfDayAt
-returns-3 c = minute-went _ _ _ _ _ _ (c .before .before .before .before .before .before .before .read-time .ensures) (c .before .before .before .before .before .minute .given .1) (went date.Refused _ _ _ _ _ _ (c .before .before .before .whole .ensures) (c .before .last .given .1) refl)
+returns-3 c =
+    let c3 = c .before .before .before in
+    let c7 = c3 .before .before .before .before in
+    minute-went _ _ _ _ _ _ (c7 .read-time .ensures) (c3 .before .before .minute .given .1)
+    (went date.Refused _ _ _ _ _ _ (c3 .whole .ensures) (c .before .last .given .1) refl)
 
 pub read-time-of-day-spec : {M : Type 1} → statement M
 read-time-of-day-spec =

@@ -25,7 +25,9 @@ in-range-requires-2 c κs = search needs
 
 returns-2 : tie.Need-returns-2
 unfolding dateTimeFits
-returns-2 c = rw (yes _ _ (c .before .before .before .before .in-range .ensures) (c .before .before .before .if1 .left), no _ _ (c .before .in-range2 .ensures) (c .if2 .taken))
+returns-2 c =
+    let c3 = c .before .before .before in
+    rw (yes _ _ (c3 .before .in-range .ensures) (c3 .if1 .left), no _ _ (c .before .in-range2 .ensures) (c .if2 .taken))
 
 cast-in-range-3 : tie.Need-cast-in-range-3
 cast-in-range-3 c = search needs
@@ -35,7 +37,15 @@ in-range-requires-3 c κs = search needs
 
 returns-3 : tie.Need-returns-3
 unfolding dateTimeFits
-returns-3 c = rw (yes _ _ (c .before .before .before .before .before .before .before .in-range .ensures) (c .before .before .before .before .before .before .if1 .left), yes _ _ (c .before .before .before .before .in-range2 .ensures) (c .before .before .before .if2 .left), no _ _ (c .before .in-range3 .ensures) (c .if3 .taken))
+returns-3 c =
+    let c3 = c .before .before .before in
+    let c6 = c3 .before .before .before in
+    rw (
+      yes _ _ (c6 .before .in-range .ensures) (c6 .if1 .left),
+      yes _ _ (c3 .before .in-range2 .ensures)
+          (c3 .if2 .left),
+      no _ _ (c .before .in-range3 .ensures) (c .if3 .taken),
+    )
 
 cast-in-range-4 : tie.Need-cast-in-range-4
 cast-in-range-4 c = search needs
@@ -45,7 +55,18 @@ in-range-requires-4 c κs = search needs
 
 returns-4 : tie.Need-returns-4
 unfolding dateTimeFits timeFits
-returns-4 c = rw (yes _ _ (c .before .before .before .before .before .before .before .before .before .before .in-range .ensures) (c .before .before .before .before .before .before .before .before .before .if1 .left), yes _ _ (c .before .before .before .before .before .before .before .in-range2 .ensures) (c .before .before .before .before .before .before .if2 .left), yes _ _ (c .before .before .before .before .in-range3 .ensures) (c .before .before .before .if3 .left), no _ _ (c .before .in-range4 .ensures) (c .if4 .taken))
+returns-4 c =
+    let c3 = c .before .before .before in
+    let c6 = c3 .before .before .before in
+    let c9 = c6 .before .before .before in
+    rw (
+      yes _ _ (c9 .before .in-range .ensures) (c9 .if1 .left),
+      yes _ _ (c6 .before .in-range2 .ensures)
+          (c6 .if2 .left),
+      yes _ _ (c3 .before .in-range3 .ensures) (c3 .if3 .left),
+      no _ _
+          (c .before .in-range4 .ensures) (c .if4 .taken),
+    )
 
 cast-in-range-5 : tie.Need-cast-in-range-5
 cast-in-range-5 c = search needs
@@ -55,7 +76,20 @@ in-range-requires-5 c κs = search needs
 
 returns-5 : tie.Need-returns-5
 unfolding dateTimeFits timeFits
-returns-5 c = rw (yes _ _ (c .before .before .before .before .before .before .before .before .before .before .before .before .before .in-range .ensures) (c .before .before .before .before .before .before .before .before .before .before .before .before .if1 .left), yes _ _ (c .before .before .before .before .before .before .before .before .before .before .in-range2 .ensures) (c .before .before .before .before .before .before .before .before .before .if2 .left), yes _ _ (c .before .before .before .before .before .before .before .in-range3 .ensures) (c .before .before .before .before .before .before .if3 .left), yes _ _ (c .before .before .before .before .in-range4 .ensures) (c .before .before .before .if4 .left), no _ _ (c .before .in-range5 .ensures) (c .if5 .taken))
+returns-5 c =
+    let c3 = c .before .before .before in
+    let c6 = c3 .before .before .before in
+    let c9 = c6 .before .before .before in
+    let c12 = c9 .before .before .before in
+    rw (
+      yes _ _ (c12 .before .in-range .ensures) (c12 .if1 .left),
+      yes _ _ (c9 .before .in-range2 .ensures)
+          (c9 .if2 .left),
+      yes _ _ (c6 .before .in-range3 .ensures) (c6 .if3 .left),
+      yes _ _
+          (c3 .before .in-range4 .ensures) (c3 .if4 .left),
+      no _ _ (c .before .in-range5 .ensures) (c .if5 .taken),
+    )
 
 cast-in-range-6 : tie.Need-cast-in-range-6
 cast-in-range-6 c = search needs
@@ -65,7 +99,22 @@ in-range-requires-6 c κs = search needs
 
 returns-6 : tie.Need-returns-6
 unfolding dateTimeFits timeFits
-returns-6 c = rw (yes _ _ (c .before .before .before .before .before .before .before .before .before .before .before .before .before .before .before .in-range .ensures) (c .before .before .before .before .before .before .before .before .before .before .before .before .before .before .if1 .left), yes _ _ (c .before .before .before .before .before .before .before .before .before .before .before .before .in-range2 .ensures) (c .before .before .before .before .before .before .before .before .before .before .before .if2 .left), yes _ _ (c .before .before .before .before .before .before .before .before .before .in-range3 .ensures) (c .before .before .before .before .before .before .before .before .if3 .left), yes _ _ (c .before .before .before .before .before .before .in-range4 .ensures) (c .before .before .before .before .before .if4 .left), yes _ _ (c .before .before .before .in-range5 .ensures) (c .before .before .if5 .left)) (c .in-range6 .ensures)
+returns-6 c =
+    let c3 = c .before .before .before in
+    let c6 = c3 .before .before .before in
+    let c9 = c6 .before .before .before in
+    let c12 = c9 .before .before .before in
+    let c15 = c12 .before .before .before in
+    rw (
+      yes _ _ (c15 .in-range .ensures) (c12 .before .before .if1 .left),
+      yes _ _ (c12 .in-range2 .ensures)
+          (c9 .before .before .if2 .left),
+      yes _ _ (c9 .in-range3 .ensures) (c6 .before .before .if3 .left),
+      yes _ _
+          (c6 .in-range4 .ensures) (c3 .before .before .if4 .left),
+      yes _ _ (c3 .in-range5 .ensures)
+          (c .before .before .if5 .left),
+    ) (c .in-range6 .ensures)
 
 pub date-time-fits-spec : {M : Type 1} → statement M
 date-time-fits-spec =

@@ -20,13 +20,30 @@ flag-requires-2 : tie.Need-flag-requires-2
 flag-requires-2 c κs = search needs
 
 add-optional : tie.Need-add-optional
-add-optional c = omega (arith, flag-most (c .before .before .before .before .args .h .referenced) _ (c .before .flag .ensures), flag-most (c .before .before .before .before .args .h .acknowledged) _ (c .flag2 .ensures))
+add-optional c =
+    let c4 = c .before .before .before .before in
+    omega (
+      arith,
+      flag-most (c4 .args .h .referenced) _ (c .before .flag .ensures),
+      flag-most
+          (c4 .args .h .acknowledged) _ (c .flag2 .ensures),
+    )
 
 add-t4 : tie.Need-add-t4
-add-t4 c = omega (arith, flag-most (c .before .before .before .before .args .h .referenced) _ (c .before .flag .ensures), flag-most (c .before .before .before .before .args .h .acknowledged) _ (c .flag2 .ensures))
+add-t4 c =
+    let c4 = c .before .before .before .before in
+    omega (
+      arith,
+      flag-most (c4 .args .h .referenced) _ (c .before .flag .ensures),
+      flag-most
+          (c4 .args .h .acknowledged) _ (c .flag2 .ensures),
+    )
 
 returns : tie.Need-returns
-returns c = header-measured _ _ (c .before .before .before .header-fits .ensures) _ _ (c .before .before .if1 .taken) (c .before .flag .ensures) (c .flag2 .ensures)
+returns c =
+    let c3 = c .before .before .before in
+    header-measured _ _ (c3 .header-fits .ensures) _ _ (c .before .before .if1 .taken) (c .before .flag .ensures)
+    (c .flag2 .ensures)
 
 returns-2 : tie.Need-returns-2
 returns-2 c = header-shapeless _ _ (c .before .header-fits .ensures) (c .if1 .left)

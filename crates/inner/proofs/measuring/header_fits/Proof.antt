@@ -24,14 +24,27 @@ reference-fits-requires c κs = search needs
 
 returns-2 : tie.Need-returns-2
 unfolding headerFits
-returns-2 c = rw (yes _ _ (c .before .before .before .before .in-range .ensures) (c .before .before .before .if1 .left), no _ _ (c .before .reference-fits .ensures) (c .if2 .taken))
+returns-2 c =
+    let c3 = c .before .before .before in
+    rw (
+      yes _ _ (c3 .before .in-range .ensures) (c3 .if1 .left),
+      no _ _ (c .before .reference-fits .ensures)
+          (c .if2 .taken),
+    )
 
 date-time-fits-requires : tie.Need-date-time-fits-requires
 date-time-fits-requires c κs = search needs
 
 returns-3 : tie.Need-returns-3
 unfolding headerFits
-returns-3 c = rw (yes _ _ (c .before .before .before .before .before .before .in-range .ensures) (c .before .before .before .before .before .if1 .left), yes _ _ (c .before .before .before .reference-fits .ensures) (c .before .before .if2 .left)) (c .date-time-fits .ensures)
+returns-3 c =
+    let c3 = c .before .before .before in
+    let c6 = c3 .before .before .before in
+    rw (
+      yes _ _ (c6 .in-range .ensures) (c3 .before .before .if1 .left),
+      yes _ _ (c3 .reference-fits .ensures)
+          (c .before .before .if2 .left),
+    ) (c .date-time-fits .ensures)
 
 pub header-fits-spec : {M : Type 1} → statement M
 header-fits-spec =

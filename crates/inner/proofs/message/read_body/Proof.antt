@@ -26,10 +26,15 @@ no-message-requires : tie.Need-no-message-requires
 no-message-requires c κs = search needs
 
 returns : tie.Need-returns
-returns c = rw body-by-count (c .no-message .ensures ∙ handed-up noMessage _ _ _ _ _ (c .before .before .before .before .read-count .ensures) (c .before .before .enum-told .given .1) (c .before .refusal-of .ensures))
+returns c =
+    let c4 = c .before .before .before .before in
+    rw body-by-count (c .no-message .ensures ∙ handed-up noMessage _ _ _ _ _ (c4 .read-count .ensures)
+    (c .before .before .enum-told .given .1) (c .before .refusal-of .ensures))
 
 read-places-requires : tie.Need-read-places-requires
-read-places-requires c κs = omega (arith, count-most _ _ _ _ _ (c .before .before .before .read-count .ensures) (c .before .size .given .1))
+read-places-requires c κs =
+    let c3 = c .before .before .before in
+    omega (arith, count-most _ _ _ _ _ (c3 .read-count .ensures) (c .before .size .given .1))
 
 enum-known-step : tie.Need-enum-known-step
 enum-known-step c = search needs
@@ -44,10 +49,19 @@ no-message-requires-2 : tie.Need-no-message-requires-2
 no-message-requires-2 c κs = search needs
 
 returns-2 : tie.Need-returns-2
-returns-2 c = rw body-by-count (went noMessage _ _ _ _ _ _ (c .before .before .before .before .before .before .before .before .read-count .ensures) (c .before .before .before .before .before .before .size .given .1) (places-handed _ _ _ _ _ _ _ (c .before .before .before .before .read-places .ensures) (c .before .before .enum-told2 .given .1) (c .before .step-refusal .ensures) (c .no-message2 .ensures)))
+returns-2 c =
+    let c4 = c .before .before .before .before in
+    let c8 = c4 .before .before .before .before in
+    rw body-by-count (went noMessage _ _ _ _ _ _ (c8 .read-count .ensures) (c4 .before .before .size .given .1) (
+    places-handed _ _ _ _ _ _ _ (c4 .read-places .ensures) (c .before .before .enum-told2 .given .1)
+    (c .before .step-refusal .ensures) (c .no-message2 .ensures)))
 
 returns-3 : tie.Need-returns-3
-returns-3 c = rw body-by-count (went noMessage _ _ _ _ _ _ (c .before .before .before .before .before .before .before .before .read-count .ensures) (c .before .before .before .before .before .before .size .given .1) (places-went _ _ _ _ _ (c .before .before .before .before .read-places .ensures) (c .before .before .step .given .1)))
+returns-3 c =
+    let c4 = c .before .before .before .before in
+    let c8 = c4 .before .before .before .before in
+    rw body-by-count (went noMessage _ _ _ _ _ _ (c8 .read-count .ensures) (c4 .before .before .size .given .1)
+    (places-went _ _ _ _ _ (c4 .read-places .ensures) (c .before .before .step .given .1)))
 
 pub read-body-spec : {M : Type 1} → statement M
 read-body-spec =

@@ -25,7 +25,9 @@ add-n : tie.Need-add-n
 add-n c = omega arith
 
 returns-2 : tie.Need-returns-2
-returns-2 c = count-is _ _ _ _ _ _ (c .before .before .before .before .read-bits .ensures) (c .before .before .both .given .1) (c .if1 .taken)
+returns-2 c =
+    let c4 = c .before .before .before .before in
+    count-is _ _ _ _ _ _ (c4 .read-bits .ensures) (c .before .before .both .given .1) (c .if1 .taken)
 
 read-count-by-fields-requires-2 : tie.Need-read-count-by-fields-requires-2
 read-count-by-fields-requires-2 c κs = search needs

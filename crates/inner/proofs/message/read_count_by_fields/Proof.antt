@@ -21,13 +21,19 @@ whole-requires-2 : tie.Need-whole-requires-2
 whole-requires-2 c κs = search needs
 
 returns-2 : tie.Need-returns-2
-returns-2 c = count-follows _ _ _ (c .before .before .before .before .before .whole .ensures) _ _ _ (c .before .before .before .presence .given .1) (c .before .if1 .taken) (c .whole2 .ensures)
+returns-2 c =
+    let c3 = c .before .before .before in
+    count-follows _ _ _ (c3 .before .before .whole .ensures) _ _ _ (c3 .presence .given .1) (c .before .if1 .taken)
+    (c .whole2 .ensures)
 
 refused-at-requires : tie.Need-refused-at-requires
 refused-at-requires c κs = search needs
 
 returns-3 : tie.Need-returns-3
-returns-3 c = count-constrained _ _ _ (c .before .before .before .before .before .whole .ensures) _ _ _ (c .before .before .before .presence .given .1) (c .before .if1 .left) (c .refused-at .ensures)
+returns-3 c =
+    let c3 = c .before .before .before in
+    count-constrained _ _ _ (c3 .before .before .whole .ensures) _ _ _ (c3 .presence .given .1) (c .before .if1 .left)
+    (c .refused-at .ensures)
 
 pub read-count-by-fields-spec : {M : Type 1} → statement M
 read-count-by-fields-spec =

@@ -22,7 +22,10 @@ no-message-requires : tie.Need-no-message-requires
 no-message-requires c κs = search needs
 
 returns : tie.Need-returns
-returns c = exactly-handed _ _ _ (c .before .before .before .before .read-message .ensures) _ _ _ (c .before .before .enum-told .given .1) (c .before .step-refusal .ensures) (c .no-message .ensures)
+returns c =
+    let c4 = c .before .before .before .before in
+    exactly-handed _ _ _ (c4 .read-message .ensures) _ _ _ (c .before .before .enum-told .given .1)
+    (c .before .step-refusal .ensures) (c .no-message .ensures)
 
 within-requires : tie.Need-within-requires
 within-requires c κs = search needs
@@ -37,10 +40,18 @@ no-message-requires-2 : tie.Need-no-message-requires-2
 no-message-requires-2 c κs = search needs
 
 returns-2 : tie.Need-returns-2
-returns-2 c = exactly-more _ _ _ (c .before .before .before .before .before .before .before .before .read-message .ensures) _ _ _ _ (c .before .before .before .before .before .before .step .given .1) (is-within _ _ _ _ _ (c .before .before .before .before .within .ensures) (c .before .before .before .if1 .taken) .test) (c .before .before .refused-at .ensures) (c .before .refusal-of .ensures) (c .no-message2 .ensures)
+returns-2 c =
+    let c3 = c .before .before .before in
+    let c6 = c3 .before .before .before in
+    exactly-more _ _ _ (c6 .before .before .read-message .ensures) _ _ _ _ (c6 .step .given .1)
+    (is-within _ _ _ _ _ (c3 .before .within .ensures) (c3 .if1 .taken) .test)
+    (c .before .before .refused-at .ensures) (c .before .refusal-of .ensures) (c .no-message2 .ensures)
 
 returns-3 : tie.Need-returns-3
-returns-3 c = exactly-done _ _ _ (c .before .before .before .before .before .read-message .ensures) _ (c .before .before .before .step .given .1) (not-within _ _ _ _ _ (c .before .within .ensures) (c .if1 .left))
+returns-3 c =
+    let c3 = c .before .before .before in
+    exactly-done _ _ _ (c3 .before .before .read-message .ensures) _ (c3 .step .given .1)
+    (not-within _ _ _ _ _ (c .before .within .ensures) (c .if1 .left))
 
 pub read-exactly-spec : {M : Type 1} → statement M
 read-exactly-spec =

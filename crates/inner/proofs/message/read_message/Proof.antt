@@ -23,14 +23,19 @@ no-message-requires c κs = search needs
 
 returns : tie.Need-returns
 unfolding messageAt
-returns c = header-handed _ _ _ _ _ _ (c .before .before .before .before .read-header .ensures) (c .before .before .enum-told .given .1) (c .before .header-refusal .ensures) (c .no-message .ensures)
+returns c =
+    let c4 = c .before .before .before .before in
+    header-handed _ _ _ _ _ _ (c4 .read-header .ensures) (c .before .before .enum-told .given .1)
+    (c .before .header-refusal .ensures) (c .no-message .ensures)
 
 read-body-requires : tie.Need-read-body-requires
 read-body-requires c κs = search needs
 
 returns-2 : tie.Need-returns-2
 unfolding messageAt
-returns-2 c = header-went _ _ _ _ _ _ (c .before .before .before .before .read-header .ensures) (c .before .before .first .given .1) (c .read-body .ensures)
+returns-2 c =
+    let c4 = c .before .before .before .before in
+    header-went _ _ _ _ _ _ (c4 .read-header .ensures) (c .before .before .first .given .1) (c .read-body .ensures)
 
 pub read-message-spec : {M : Type 1} → statement M
 read-message-spec =

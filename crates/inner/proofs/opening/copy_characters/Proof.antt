@@ -26,10 +26,14 @@ sub-loop : tie.Need-sub-loop Inv-loop μ-loop
 sub-loop c = search needs
 
 mul-copy-few : tie.Need-mul-copy-few Inv-loop μ-loop
-mul-copy-few c = omega (arith, length-to (c .before .before .before .before .args .s .now) (c .before .before .before .before .args .end))
+mul-copy-few c =
+    let c4 = c .before .before .before .before in
+    omega (arith, length-to (c4 .args .s .now) (c4 .args .end))
 
 add-copy-few : tie.Need-add-copy-few Inv-loop μ-loop
-add-copy-few c = omega (arith, length-to (c .before .before .before .before .args .s .now) (c .before .before .before .before .args .end))
+add-copy-few c =
+    let c4 = c .before .before .before .before in
+    omega (arith, length-to (c4 .args .s .now) (c4 .args .end))
 
 add-copy-few-2 : tie.Need-add-copy-few-2 Inv-loop μ-loop
 add-copy-few-2 c = omega arith
@@ -44,13 +48,27 @@ loop-less : tie.Need-loop-less Inv-loop μ-loop
 loop-less c = omega arith
 
 loop-again : tie.Need-loop-again Inv-loop μ-loop
-loop-again c = (omega arith, ap length (c .before .before .copy-few .ensures) ∙ length-sets (c .before .before .before .before .before .loop .text) (c .before .before .before .before .before .before .before .before .args .from + c .before .before .before .before .before .loop .i) (charactersIn (bitsTo (c .before .before .before .before .before .before .before .before .args .s .now) (c .before .before .before .before .before .before .before .before .args .end)) (c .before .before .before .before .before .before .before .before .args .at + 7 * c .before .before .before .before .before .loop .i) 8) ∙ c .before .before .before .before .before .loop .inv .1, eight-turn _ _ _ _ _ _ _ (c .before .before .before .before .before .loop .i) (c .before .before .before .before .loop-test .taken) (c .before .before .before .before .before .loop .inv .2) (c .before .before .copy-few .ensures))
+loop-again c =
+    let c4 = c .before .before .before .before in
+    let c8 = c4 .before .before .before .before in (
+      omega arith,
+      ap length (c .before .before .copy-few .ensures) ∙ length-sets (c4 .before .loop .text)
+          (c8 .args .from + c4 .before .loop .i)
+          (charactersIn (bitsTo (c8 .args .s .now) (c8 .args .end)) (c8 .args .at + 7 * c4 .before .loop .i) 8) ∙
+          c4 .before .loop .inv .1,
+      eight-turn _ _ _ _ _ _ _ (c4 .before .loop .i) (c4 .loop-test .taken)
+          (c4 .before .loop .inv .2) (c .before .before .copy-few .ensures),
+    )
 
 mul-copy-few-2 : tie.Need-mul-copy-few-2 Inv-loop μ-loop
-mul-copy-few-2 c = omega (arith, length-to (c .before .before .before .before .args .s .now) (c .before .before .before .before .args .end))
+mul-copy-few-2 c =
+    let c4 = c .before .before .before .before in
+    omega (arith, length-to (c4 .args .s .now) (c4 .args .end))
 
 add-copy-few-3 : tie.Need-add-copy-few-3 Inv-loop μ-loop
-add-copy-few-3 c = omega (arith, length-to (c .before .before .before .before .args .s .now) (c .before .before .before .before .args .end))
+add-copy-few-3 c =
+    let c4 = c .before .before .before .before in
+    omega (arith, length-to (c4 .args .s .now) (c4 .args .end))
 
 sub-copy-few : tie.Need-sub-copy-few Inv-loop μ-loop
 sub-copy-few c = search needs
@@ -62,7 +80,12 @@ copy-few-requires-2 : tie.Need-copy-few-requires-2 Inv-loop μ-loop
 copy-few-requires-2 c κs = omega arith
 
 same-length : tie.Need-same-length Inv-loop μ-loop
-same-length c = ap length (c .before .before .copy-few2 .ensures) ∙ length-sets (c .before .before .before .before .before .loop .text) (c .before .before .before .before .before .before .before .before .args .from + c .before .before .before .before .before .loop .i) (charactersIn (bitsTo (c .before .before .before .before .before .before .before .before .args .s .now) (c .before .before .before .before .before .before .before .before .args .end)) (c .before .before .before .before .before .before .before .before .args .at + 7 * c .before .before .before .before .before .loop .i) (c .before .before .before .before .before .before .before .before .args .n - c .before .before .before .before .before .loop .i)) ∙ c .before .before .before .before .before .loop .inv .1
+same-length c =
+    let c5 = c .before .before .before .before .before in
+    let c8 = c5 .before .before .before in
+    ap length (c .before .before .copy-few2 .ensures) ∙ length-sets (c5 .loop .text) (c8 .args .from + c5 .loop .i) (
+    charactersIn (bitsTo (c8 .args .s .now) (c8 .args .end)) (c8 .args .at + 7 * c5 .loop .i)
+    (c8 .args .n - c5 .loop .i)) ∙ c5 .loop .inv .1
 
 returns : tie.Need-returns Inv-loop μ-loop
 returns c = c .before .before .copy-few2 .ensures ∙ c .before .before .before .before .before .loop .inv .2

@@ -21,7 +21,11 @@ same-length : tie.Need-same-length
 same-length c = search needs
 
 returns : tie.Need-returns
-returns c = few-are _ _ _ _ _ _ _ _ (bits-to _ _) refl (c .before .before .before .before .before .before .before .pre .0) (c .before .before .before .before .number-of .ensures) (c .before .before .spread .ensures)
+returns c =
+    let c4 = c .before .before .before .before in
+    let c7 = c4 .before .before .before in
+    few-are _ _ _ _ _ _ _ _ (bits-to _ _) refl (c7 .pre .0) (c4 .number-of .ensures)
+    (c .before .before .spread .ensures)
 
 pub copy-few-spec : {M : Type 1} → statement M
 copy-few-spec =

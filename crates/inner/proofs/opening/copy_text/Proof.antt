@@ -31,19 +31,46 @@ same-length : tie.Need-same-length Inv-loop μ-loop
 same-length c = c .before .before .before .before .loop .inv .1 .size
 
 returns : tie.Need-returns Inv-loop μ-loop
-returns c = copied-cut _ _ _ _ _ _ _ _ _ (c .before .before .before .before .loop .inv .1) (c .before .before .before .loop-test .taken) _ (c .before .before .read-element .ensures) _ (c .enum-told .given .1)
+returns c =
+    let c3 = c .before .before .before in
+    copied-cut _ _ _ _ _ _ _ _ _ (c3 .before .loop .inv .1) (c3 .loop-test .taken) _
+    (c .before .before .read-element .ensures) _ (c .enum-told .given .1)
 
 mul-copy-characters : tie.Need-mul-copy-characters Inv-loop μ-loop
-mul-copy-characters c = omega (arith, length-to (c .before .before .before .before .before .before .before .before .before .args .s .now) (c .before .before .before .before .before .before .before .before .before .args .end), element-inside _ _ _ _ _ (bits-to _ _) (c .before .before .before .before .read-element .ensures) (c .before .before .step .given .1))
+mul-copy-characters c =
+    let c4 = c .before .before .before .before in
+    let c9 = c4 .before .before .before .before .before in
+    omega (
+      arith,
+      length-to (c9 .args .s .now) (c9 .args .end),
+      element-inside _ _ _ _ _ (bits-to _ _)
+          (c4 .read-element .ensures) (c .before .before .step .given .1),
+    )
 
 sub-copy-characters : tie.Need-sub-copy-characters Inv-loop μ-loop
-sub-copy-characters c = omega (arith, element-inside _ _ _ _ _ (bits-to _ _) (c .before .before .before .before .read-element .ensures) (c .before .before .step .given .1))
+sub-copy-characters c =
+    let c4 = c .before .before .before .before in
+    omega
+    (arith, element-inside _ _ _ _ _ (bits-to _ _) (c4 .read-element .ensures) (c .before .before .step .given .1))
 
 copy-characters-requires : tie.Need-copy-characters-requires Inv-loop μ-loop
-copy-characters-requires c κs = copied-room _ _ _ _ _ _ _ _ _ (c .before .before .before .before .before .before .before .loop .inv .1) (c .before .before .before .before .before .before .loop-test .taken) _ (c .before .before .before .before .before .read-element .ensures) _ (c .before .before .before .step .given .1) (bits-to _ _) (c .before .before .before .before .before .before .before .before .before .before .pre)
+copy-characters-requires c κs =
+    let c3 = c .before .before .before in
+    let c6 = c3 .before .before .before in
+    let c10 = c6 .before .before .before .before in
+    copied-room _ _ _ _ _ _ _ _ _ (c6 .before .loop .inv .1) (c6 .loop-test .taken) _
+    (c3 .before .before .read-element .ensures) _ (c3 .step .given .1) (bits-to _ _) (c10 .pre)
 
 add-t : tie.Need-add-t Inv-loop μ-loop
-add-t c = omega (arith, copied-room _ _ _ _ _ _ _ _ _ (c .before .before .before .before .before .before .before .before .before .before .loop .inv .1) (c .before .before .before .before .before .before .before .before .before .loop-test .taken) _ (c .before .before .before .before .before .before .before .before .read-element .ensures) _ (c .before .before .before .before .before .before .step .given .1) (bits-to _ _) (c .before .before .before .before .before .before .before .before .before .before .before .before .before .pre) .1)
+add-t c =
+    let c6 = c .before .before .before .before .before .before in
+    let c9 = c6 .before .before .before in
+    let c13 = c9 .before .before .before .before in
+    omega (
+      arith,
+      copied-room _ _ _ _ _ _ _ _ _ (c9 .before .loop .inv .1) (c9 .loop-test .taken) _
+          (c6 .before .before .read-element .ensures) _ (c6 .step .given .1) (bits-to _ _) (c13 .pre) .1,
+    )
 
 add-i : tie.Need-add-i Inv-loop μ-loop
 add-i c = search needs
@@ -52,7 +79,14 @@ loop-less : tie.Need-loop-less Inv-loop μ-loop
 loop-less c = search needs
 
 loop-again : tie.Need-loop-again Inv-loop μ-loop
-loop-again c = (search needs, copied-turn _ _ _ _ _ _ _ _ _ (c .before .before .before .before .before .before .before .before .before .before .loop .inv .1) (c .before .before .before .before .before .before .before .before .before .loop-test .taken) _ (c .before .before .before .before .before .before .before .before .read-element .ensures) _ (c .before .before .before .before .before .before .step .given .1) _ (c .before .before .copy-characters .ensures))
+loop-again c =
+    let c6 = c .before .before .before .before .before .before in
+    let c9 = c6 .before .before .before in (
+      search needs,
+      copied-turn _ _ _ _ _ _ _ _ _ (c9 .before .loop .inv .1) (c9 .loop-test .taken) _
+          (c6 .before .before .read-element .ensures) _ (c6 .step .given .1) _
+          (c .before .before .copy-characters .ensures),
+    )
 
 same-length-2 : tie.Need-same-length-2 Inv-loop μ-loop
 same-length-2 c = c .before .loop .inv .1 .size

@@ -17,13 +17,31 @@ flag-requires-2 : tie.Need-flag-requires-2
 flag-requires-2 c κs = search needs
 
 add-optional : tie.Need-add-optional
-add-optional c = omega (arith, flag-most (c .before .before .args .h .referenced) _ (c .before .flag .ensures), flag-most (c .before .before .args .h .acknowledged) _ (c .flag2 .ensures))
+add-optional c =
+    omega (
+      arith,
+      flag-most (c .before .before .args .h .referenced) _ (c .before .flag .ensures),
+      flag-most
+          (c .before .before .args .h .acknowledged) _ (c .flag2 .ensures),
+    )
 
 add-size : tie.Need-add-size
-add-size c = omega (arith, flag-most (c .before .before .args .h .referenced) _ (c .before .flag .ensures), flag-most (c .before .before .args .h .acknowledged) _ (c .flag2 .ensures))
+add-size c =
+    omega (
+      arith,
+      flag-most (c .before .before .args .h .referenced) _ (c .before .flag .ensures),
+      flag-most
+          (c .before .before .args .h .acknowledged) _ (c .flag2 .ensures),
+    )
 
 add-result : tie.Need-add-result
-add-result c = omega (arith, flag-most (c .before .before .args .h .referenced) _ (c .before .flag .ensures), flag-most (c .before .before .args .h .acknowledged) _ (c .flag2 .ensures))
+add-result c =
+    omega (
+      arith,
+      flag-most (c .before .before .args .h .referenced) _ (c .before .flag .ensures),
+      flag-most
+          (c .before .before .args .h .acknowledged) _ (c .flag2 .ensures),
+    )
 
 returns : tie.Need-returns
 returns c = omega (arith, length-header (c .before .before .args .h), c .before .flag .ensures, c .flag2 .ensures)

@@ -26,7 +26,9 @@ element-copy-out-e : tie.Need-element-copy-out-e Inv-loop μ-loop
 element-copy-out-e c = omega arith
 
 returns : tie.Need-returns Inv-loop μ-loop
-returns c = not-silent (c .before .before .before .before .before .args .t1 .places) _ _ (c .before .before .before .before .loop .inv .2) _ (omega arith) (c .if1 .taken)
+returns c =
+    let c4 = c .before .before .before .before in
+    not-silent (c4 .before .args .t1 .places) _ _ (c4 .loop .inv .2) _ (omega arith) (c .if1 .taken)
 
 add-i : tie.Need-add-i Inv-loop μ-loop
 add-i c = search needs
@@ -35,10 +37,17 @@ loop-less : tie.Need-loop-less Inv-loop μ-loop
 loop-less c = search needs
 
 loop-again : tie.Need-loop-again Inv-loop μ-loop
-loop-again c = (search needs, search needs, silent-turn (c .before .before .before .before .before .args .t1 .places) _ _ (c .before .before .before .before .loop .inv .2) _ (omega arith) (c .if1 .left))
+loop-again c =
+    let c4 = c .before .before .before .before in (
+      search needs,
+      search needs,
+      silent-turn (c4 .before .args .t1 .places) _ _ (c4 .loop .inv .2) _ (omega arith)
+          (c .if1 .left),
+    )
 
 returns-2 : tie.Need-returns-2 Inv-loop μ-loop
-returns-2 c = silent-done (c .before .before .args .t1 .places) (c .before .loop .i) _ (c .before .loop .inv .2) (omega arith)
+returns-2 c =
+    silent-done (c .before .before .args .t1 .places) (c .before .loop .i) _ (c .before .loop .inv .2) (omega arith)
 
 pub is-silent-spec : {M : Type 1} → statement M
 is-silent-spec =

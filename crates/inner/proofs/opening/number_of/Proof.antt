@@ -16,7 +16,9 @@ enum-told : tie.Need-enum-told
 enum-told c = search needs
 
 returns : tie.Need-returns
-returns c = not-short _ _ _ _ (c .before .before .read-bits .ensures) (c .before .before .before .before .pre .0) (c .before .before .before .before .pre .1) (c .enum-told .given .1)
+returns c =
+    let c4 = c .before .before .before .before in
+    not-short _ _ _ _ (c .before .before .read-bits .ensures) (c4 .pre .0) (c4 .pre .1) (c .enum-told .given .1)
 
 returns-2 : tie.Need-returns-2
 returns-2 c = number-there _ _ _ _ (c .before .before .before .read-bits .ensures) _ _ (c .before .v .given .1)

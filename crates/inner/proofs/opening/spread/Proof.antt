@@ -49,13 +49,21 @@ loop-less : tie.Need-loop-less Inv-loop μ-loop
 loop-less c = search needs
 
 loop-again : tie.Need-loop-again Inv-loop μ-loop
-loop-again c = (search needs, simp length-set (c .before .loop .inv .1), characters-turn _ _ _ _ _ _ _ (c .before .loop .inv .2) (c .loop-test .taken) _ (spread-at _ _ _ (c .loop-test .taken)))
+loop-again c = (
+  search needs,
+  simp length-set (c .before .loop .inv .1),
+  characters-turn _ _ _ _ _ _ _ (c .before .loop .inv .2)
+      (c .loop-test .taken) _ (spread-at _ _ _ (c .loop-test .taken)),
+)
 
 same-length : tie.Need-same-length Inv-loop μ-loop
 same-length c = c .before .loop .inv .1
 
 returns : tie.Need-returns Inv-loop μ-loop
-returns c = characters-done _ (bitsN (7 * c .before .before .args .n) (c .before .before .args .v)) _ (c .before .before .args .from) 0 (c .before .before .args .n) (c .before .loop .i) (c .before .loop .inv .2) (c .loop-test .left)
+returns c =
+    characters-done _ (bitsN (7 * c .before .before .args .n) (c .before .before .args .v)) _
+    (c .before .before .args .from) 0 (c .before .before .args .n) (c .before .loop .i) (c .before .loop .inv .2)
+    (c .loop-test .left)
 
 pub spread-spec : {M : Type 1} → statement M
 spread-spec =

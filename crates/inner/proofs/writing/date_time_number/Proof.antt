@@ -63,7 +63,9 @@ add-result-2 : tie.Need-add-result-2
 add-result-2 c = search needs
 
 returns : tie.Need-returns
-returns c = date-said (c .before .before .before .before .before .before .before .args .x) (c .before .before .before .before .before .before .before .pre)
+returns c =
+    let c7 = c .before .before .before .before .before .before .before in
+    date-said (c7 .args .x) (c7 .pre)
 
 pub date-time-number-spec : {M : Type 1} → statement M
 date-time-number-spec =

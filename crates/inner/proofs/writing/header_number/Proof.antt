@@ -16,16 +16,34 @@ date-time-number-requires : tie.Need-date-time-number-requires
 date-time-number-requires c κs = dated-fits (c .before .before .args .h) (c .before .before .pre)
 
 add-all : tie.Need-add-all
-add-all c = omega (arith, number-small (c .before .before .before .args .h) (c .before .before .before .pre) _ _ (c .before .front-number .ensures) (c .date-time-number .ensures))
+add-all c =
+    let c3 = c .before .before .before in
+    omega (
+      arith,
+      number-small (c3 .args .h) (c3 .pre) _ _ (c .before .front-number .ensures)
+          (c .date-time-number .ensures),
+    )
 
 mul-result : tie.Need-mul-result
-mul-result c = omega (arith, number-small (c .before .before .before .before .args .h) (c .before .before .before .before .pre) _ _ (c .before .before .front-number .ensures) (c .before .date-time-number .ensures))
+mul-result c =
+    let c4 = c .before .before .before .before in
+    omega (
+      arith,
+      number-small (c4 .args .h) (c4 .pre) _ _ (c .before .before .front-number .ensures)
+          (c .before .date-time-number .ensures),
+    )
 
 returns : tie.Need-returns
-returns c = header-acknowledged (c .before .before .before .before .args .h) (c .before .before .before .before .pre) _ _ (c .before .before .front-number .ensures) (c .before .date-time-number .ensures) (c .if1 .taken)
+returns c =
+    let c4 = c .before .before .before .before in
+    header-acknowledged (c4 .args .h) (c4 .pre) _ _ (c .before .before .front-number .ensures)
+    (c .before .date-time-number .ensures) (c .if1 .taken)
 
 returns-2 : tie.Need-returns-2
-returns-2 c = header-plain (c .before .before .before .before .args .h) (c .before .before .before .before .pre) _ _ (c .before .before .front-number .ensures) (c .before .date-time-number .ensures) (c .if1 .left)
+returns-2 c =
+    let c4 = c .before .before .before .before in
+    header-plain (c4 .args .h) (c4 .pre) _ _ (c .before .before .front-number .ensures)
+    (c .before .date-time-number .ensures) (c .if1 .left)
 
 pub header-number-spec : {M : Type 1} → statement M
 header-number-spec =

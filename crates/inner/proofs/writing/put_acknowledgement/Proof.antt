@@ -15,7 +15,9 @@ same-length c = search needs
 
 returns : tie.Need-returns
 unfolding acknowledgementPieces
-returns c = piece-there _ _ _ _ _ (whole 0 1 0) _ (c .before .before .before .before .if1 .taken) (c .before .before .put-whole .ensures)
+returns c =
+    let c4 = c .before .before .before .before in
+    piece-there _ _ _ _ _ (whole 0 1 0) _ (c4 .if1 .taken) (c .before .before .put-whole .ensures)
 
 returns-2 : tie.Need-returns-2
 unfolding acknowledgementPieces

@@ -45,7 +45,12 @@ same-length-2 : tie.Need-same-length-2
 same-length-2 c = search needs
 
 returns-2 : tie.Need-returns-2
-returns-2 c = date-second _ _ _ _ _ _ (c .before .before .before .before .before .before .before .before .before .before .before .before .before .put-two .ensures) _ (c .before .before .before .before .before .before .before .before .before .first .given .1) _ _ (c .before .before .before .before .put-two2 .ensures) (c .enum-told2 .given .1)
+returns-2 c =
+    let c4 = c .before .before .before .before in
+    let c9 = c4 .before .before .before .before .before in
+    let c13 = c9 .before .before .before .before in
+    date-second _ _ _ _ _ _ (c13 .put-two .ensures) _ (c9 .first .given .1) _ _ (c4 .put-two2 .ensures)
+    (c .enum-told2 .given .1)
 
 cast-put-two-5 : tie.Need-cast-put-two-5
 cast-put-two-5 c = search needs
@@ -60,7 +65,13 @@ same-length-3 : tie.Need-same-length-3
 same-length-3 c = search needs
 
 returns-3 : tie.Need-returns-3
-returns-3 c = date-third _ _ _ _ _ _ (c .before .before .before .before .before .before .before .before .before .before .before .before .before .before .before .before .before .before .before .before .put-two .ensures) _ (c .before .before .before .before .before .before .before .before .before .before .before .before .before .before .before .before .first .given .1) _ _ (c .before .before .before .before .before .before .before .before .before .before .before .put-two2 .ensures) _ (c .before .before .before .before .before .before .before .second .given .1) _ _ (c .before .before .put-two3 .ensures)
+returns-3 c =
+    let c7 = c .before .before .before .before .before .before .before in
+    let c11 = c7 .before .before .before .before in
+    let c16 = c11 .before .before .before .before .before in
+    let c20 = c16 .before .before .before .before in
+    date-third _ _ _ _ _ _ (c20 .put-two .ensures) _ (c16 .first .given .1) _ _ (c11 .put-two2 .ensures) _
+    (c7 .second .given .1) _ _ (c .before .before .put-two3 .ensures)
 
 pub put-date-time-spec : {M : Type 1} → statement M
 put-date-time-spec =

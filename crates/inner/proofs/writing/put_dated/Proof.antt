@@ -18,7 +18,9 @@ same-length : tie.Need-same-length
 same-length c = search needs
 
 returns : tie.Need-returns
-returns c = pieces-full _ _ _ _ _ _ _ (c .before .before .before .before .put-date-time .ensures) (c .enum-told .given .1)
+returns c =
+    let c4 = c .before .before .before .before in
+    pieces-full _ _ _ _ _ _ _ (c4 .put-date-time .ensures) (c .enum-told .given .1)
 
 put-acknowledgement-requires : tie.Need-put-acknowledgement-requires
 put-acknowledgement-requires c κs = search needs
@@ -27,7 +29,11 @@ same-length-2 : tie.Need-same-length-2
 same-length-2 c = search needs
 
 returns-2 : tie.Need-returns-2
-returns-2 c = pieces-next _ _ _ _ _ _ _ _ _ _ (c .before .before .before .before .before .before .before .before .before .put-date-time .ensures) (c .before .before .before .before .before .first .given .1) (c .before .before .put-acknowledgement .ensures)
+returns-2 c =
+    let c5 = c .before .before .before .before .before in
+    let c9 = c5 .before .before .before .before in
+    pieces-next _ _ _ _ _ _ _ _ _ _ (c9 .put-date-time .ensures) (c5 .first .given .1)
+    (c .before .before .put-acknowledgement .ensures)
 
 pub put-dated-spec : {M : Type 1} → statement M
 put-dated-spec =

@@ -27,7 +27,9 @@ within-requires : tie.Need-within-requires
 within-requires c κs = search needs
 
 header-number-requires : tie.Need-header-number-requires
-header-number-requires c κs = header-sized _ _ _ (c .before .before .before .before .before .before .header-bits .ensures) (c .before .before .before .before .size .given .1) .0
+header-number-requires c κs =
+    let c4 = c .before .before .before .before in
+    header-sized _ _ _ (c4 .before .before .header-bits .ensures) (c4 .size .given .1) .0
 
 put-bits-requires : tie.Need-put-bits-requires
 put-bits-requires c κs = search needs
@@ -36,7 +38,13 @@ same-length-2 : tie.Need-same-length-2
 same-length-2 c = search needs
 
 returns-2 : tie.Need-returns-2
-returns-2 c = header-joined _ _ _ _ _ _ _ _ (c .before .before .put-bits .ensures) (header-sized _ _ _ (c .before .before .before .before .before .before .before .before .before .before .header-bits .ensures) (c .before .before .before .before .before .before .before .before .size .given .1)) (c .before .before .before .header-number .ensures) _ (c .before .before .before .before .before .before .within .ensures) (c .before .before .before .before .before .if1 .taken)
+returns-2 c =
+    let c3 = c .before .before .before in
+    let c6 = c3 .before .before .before in
+    let c10 = c6 .before .before .before .before in
+    header-joined _ _ _ _ _ _ _ _ (c .before .before .put-bits .ensures)
+    (header-sized _ _ _ (c10 .header-bits .ensures) (c6 .before .before .size .given .1))
+    (c3 .header-number .ensures) _ (c6 .within .ensures) (c3 .before .before .if1 .taken)
 
 put-header-by-fields-requires-2 : tie.Need-put-header-by-fields-requires-2
 put-header-by-fields-requires-2 c κs = search needs

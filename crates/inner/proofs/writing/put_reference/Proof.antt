@@ -15,7 +15,10 @@ same-length c = search needs
 
 returns : tie.Need-returns
 unfolding referencePieces
-returns c = piece-there _ _ _ _ _ (whole 0 63 (c .before .before .before .before .before .before .args .n)) _ (c .before .before .before .before .if1 .taken) (c .before .before .put-whole .ensures)
+returns c =
+    let c4 = c .before .before .before .before in
+    piece-there _ _ _ _ _ (whole 0 63 (c4 .before .before .args .n)) _ (c4 .if1 .taken)
+    (c .before .before .put-whole .ensures)
 
 returns-2 : tie.Need-returns-2
 unfolding referencePieces

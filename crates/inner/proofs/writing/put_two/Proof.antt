@@ -19,7 +19,11 @@ same-length : tie.Need-same-length
 same-length c = search needs
 
 returns : tie.Need-returns
-returns c = two-full (whole (c .before .before .before .before .before .before .before .args .lo) (c .before .before .before .before .before .before .before .args .hi) (c .before .before .before .before .before .before .before .args .v)) (whole (c .before .before .before .before .before .before .before .args .low) (c .before .before .before .before .before .before .before .args .high) (c .before .before .before .before .before .before .before .args .w)) _ _ _ _ _ (c .before .before .before .before .put-whole .ensures) (c .enum-told .given .1)
+returns c =
+    let c4 = c .before .before .before .before in
+    let c7 = c4 .before .before .before in
+    two-full (whole (c7 .args .lo) (c7 .args .hi) (c7 .args .v)) (whole (c7 .args .low) (c7 .args .high) (c7 .args .w))
+    _ _ _ _ _ (c4 .put-whole .ensures) (c .enum-told .given .1)
 
 put-whole-requires-2 : tie.Need-put-whole-requires-2
 put-whole-requires-2 c κs = search needs
@@ -28,7 +32,13 @@ same-length-2 : tie.Need-same-length-2
 same-length-2 c = search needs
 
 returns-2 : tie.Need-returns-2
-returns-2 c = two-next (whole (c .before .before .before .before .before .before .before .before .before .before .before .before .args .lo) (c .before .before .before .before .before .before .before .before .before .before .before .before .args .hi) (c .before .before .before .before .before .before .before .before .before .before .before .before .args .v)) (whole (c .before .before .before .before .before .before .before .before .before .before .before .before .args .low) (c .before .before .before .before .before .before .before .before .before .before .before .before .args .high) (c .before .before .before .before .before .before .before .before .before .before .before .before .args .w)) _ _ _ _ _ _ _ _ (c .before .before .before .before .before .before .before .before .before .put-whole .ensures) (c .before .before .before .before .before .first .given .1) (c .before .before .put-whole2 .ensures)
+returns-2 c =
+    let c5 = c .before .before .before .before .before in
+    let c9 = c5 .before .before .before .before in
+    let c12 = c9 .before .before .before in
+    two-next (whole (c12 .args .lo) (c12 .args .hi) (c12 .args .v))
+    (whole (c12 .args .low) (c12 .args .high) (c12 .args .w)) _ _ _ _ _ _ _ _ (c9 .put-whole .ensures)
+    (c5 .first .given .1) (c .before .before .put-whole2 .ensures)
 
 pub put-two-spec : {M : Type 1} → statement M
 put-two-spec =

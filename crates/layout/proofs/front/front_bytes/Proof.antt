@@ -21,7 +21,10 @@ cast-t9 : tie.Need-cast-t9
 cast-t9 c = search needs
 
 returns : tie.Need-returns
-returns c = front-is _ _ _ _ _ _ (c .before .before .before .flag-code .ensures) (c .before .before .upper .ensures) (c .before .lower .ensures) (c .flag-code2 .ensures)
+returns c =
+    let c3 = c .before .before .before in
+    front-is _ _ _ _ _ _ (c3 .flag-code .ensures) (c .before .before .upper .ensures) (c .before .lower .ensures)
+    (c .flag-code2 .ensures)
 
 pub front-bytes-spec : {M : Type 1} → statement M
 front-bytes-spec =

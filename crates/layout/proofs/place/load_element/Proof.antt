@@ -46,7 +46,10 @@ cast-t23 c = search needs
 
 returns : tie.Need-returns
 unfolding elementOf
-returns c = rw (c .before .before .before .before .before .before .before .before .before .before .before .load-level .ensures, c .before .before .before .before .before .before .before .before .before .before .load-level2 .ensures, c .before .before .before .before .before .before .before .of-two .ensures)
+returns c =
+    let c7 = c .before .before .before .before .before .before .before in
+    let c10 = c7 .before .before .before in
+    rw (c10 .before .load-level .ensures, c10 .load-level2 .ensures, c7 .of-two .ensures)
 
 pub load-element-spec : {M : Type 1} → statement M
 load-element-spec =

@@ -52,7 +52,10 @@ shared-slice-read-t18 c = search needs
 
 returns : tie.Need-returns
 unfolding levelOf
-returns c = rw (c .before .before .before .before .before .before .of-two .ensures, c .before .before .before .of-two2 .ensures)
+returns c =
+    let c3 = c .before .before .before in
+    let c6 = c3 .before .before .before in
+    rw (c6 .of-two .ensures, c3 .of-two2 .ensures)
 
 pub load-level-spec : {M : Type 1} → statement M
 load-level-spec =

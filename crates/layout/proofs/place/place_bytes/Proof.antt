@@ -55,7 +55,14 @@ array-read-t33 : tie.Need-array-read-t33
 array-read-t33 c = search needs
 
 returns : tie.Need-returns
-returns c = place-is _ _ _ _ _ _ _ _ _ _ _ _ _ _ (c .before .before .before .before .before .before .before .before .before .before .before .high .ensures) (c .before .before .before .before .before .before .before .before .before .before .low .ensures) (c .before .before .before .before .before .before .before .before .before .flag-code .ensures) (c .before .before .before .before .before .before .before .before .upper .ensures) (c .before .before .before .before .before .before .before .lower .ensures) (c .before .before .before .before .before .before .upper2 .ensures) (c .before .before .before .before .before .lower2 .ensures) (c .before .before .before .before .flag-code2 .ensures) (c .before .before .before .upper3 .ensures) (c .before .before .lower3 .ensures) (c .before .upper4 .ensures) (c .lower4 .ensures) refl
+returns c =
+    let c3 = c .before .before .before in
+    let c6 = c3 .before .before .before in
+    let c9 = c6 .before .before .before in
+    place-is _ _ _ _ _ _ _ _ _ _ _ _ _ _ (c9 .before .before .high .ensures) (c9 .before .low .ensures)
+    (c9 .flag-code .ensures) (c6 .before .before .upper .ensures) (c6 .before .lower .ensures) (c6 .upper2 .ensures)
+    (c3 .before .before .lower2 .ensures) (c3 .before .flag-code2 .ensures) (c3 .upper3 .ensures)
+    (c .before .before .lower3 .ensures) (c .before .upper4 .ensures) (c .lower4 .ensures) refl
 
 pub place-bytes-spec : {M : Type 1} → statement M
 place-bytes-spec =

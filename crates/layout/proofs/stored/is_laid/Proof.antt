@@ -15,8 +15,10 @@ places-stand-requires : tie.Need-places-stand-requires
 places-stand-requires c κs = search needs
 
 returns-2 : tie.Need-returns-2
-returns-2 c = laid-places _ (c .before .before .before .if1 .left) _ (c .before .before .front-stands .ensures) (c .before .if2 .taken)
-    _ (c .places-stand .ensures)
+returns-2 c =
+    let c3 = c .before .before .before in
+    laid-places _ (c3 .if1 .left) _ (c .before .before .front-stands .ensures) (c .before .if2 .taken) _
+    (c .places-stand .ensures)
 
 returns-3 : tie.Need-returns-3
 returns-3 c = laid-front _ (c .before .before .if1 .left) _ (c .before .front-stands .ensures) (c .if2 .left)

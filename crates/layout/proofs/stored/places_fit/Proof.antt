@@ -24,7 +24,9 @@ array-copy-out-e : tie.Need-array-copy-out-e Inv-loop μ-loop
 array-copy-out-e c = omega arith
 
 returns : tie.Need-returns Inv-loop μ-loop
-returns c = (fitting-not _ _ (search needs) _ (c .before .before .before .loop-test .taken) (c .if1 .taken) (c .before .before .before .before .loop .inv), search needs)
+returns c =
+    let c3 = c .before .before .before in
+    (fitting-not _ _ (search needs) _ (c3 .loop-test .taken) (c .if1 .taken) (c3 .before .loop .inv), search needs)
 
 add-i : tie.Need-add-i Inv-loop μ-loop
 add-i c = omega arith
@@ -33,7 +35,9 @@ loop-less : tie.Need-loop-less Inv-loop μ-loop
 loop-less c = omega arith
 
 loop-again : tie.Need-loop-again Inv-loop μ-loop
-loop-again c = fitting-more _ _ (search needs) _ (c .before .before .before .loop-test .taken) (c .if1 .left) (c .before .before .before .before .loop .inv)
+loop-again c =
+    let c3 = c .before .before .before in
+    fitting-more _ _ (search needs) _ (c3 .loop-test .taken) (c .if1 .left) (c3 .before .loop .inv)
 
 returns-2 : tie.Need-returns-2 Inv-loop μ-loop
 returns-2 c = (fitting-done _ _ (search needs) (c .loop-test .left) (c .before .loop .inv), search needs)

@@ -45,10 +45,15 @@ loop-less : tie.Need-loop-less Inv-loop μ-loop
 loop-less c = omega arith
 
 loop-again : tie.Need-loop-again Inv-loop μ-loop
-loop-again c = standing-more _ _ (c .before .before .before .loop-test .taken) _ (c .before .place-stands .ensures) (c .if1 .taken) (c .before .before .before .before .loop .inv)
+loop-again c =
+    let c3 = c .before .before .before in
+    standing-more _ _ (c3 .loop-test .taken) _ (c .before .place-stands .ensures) (c .if1 .taken)
+    (c3 .before .loop .inv)
 
 returns : tie.Need-returns Inv-loop μ-loop
-returns c = standing-not _ _ (c .before .before .before .loop-test .taken) _ (c .before .place-stands .ensures) (c .if1 .left) (c .before .before .before .before .loop .inv)
+returns c =
+    let c3 = c .before .before .before in
+    standing-not _ _ (c3 .loop-test .taken) _ (c .before .place-stands .ensures) (c .if1 .left) (c3 .before .loop .inv)
 
 returns-2 : tie.Need-returns-2 Inv-loop μ-loop
 returns-2 c = standing-done _ _ (c .loop-test .left) (c .before .loop .inv)

@@ -37,7 +37,9 @@ slice-aggregate-put-bytes : tie.Need-slice-aggregate-put-bytes Inv-loop μ-loop
 slice-aggregate-put-bytes c = search needs
 
 put-bytes-requires : tie.Need-put-bytes-requires Inv-loop μ-loop
-put-bytes-requires c κs = omega (arith, c .before .before .before .before .before .loop .inv .same, ap length (c .before .before .place-bytes .ensures) ∙ length-place _)
+put-bytes-requires c κs =
+    let c5 = c .before .before .before .before .before in
+    omega (arith, c5 .loop .inv .same, ap length (c .before .before .place-bytes .ensures) ∙ length-place _)
 
 add-i : tie.Need-add-i Inv-loop μ-loop
 add-i c = omega arith
@@ -46,7 +48,11 @@ loop-less : tie.Need-loop-less Inv-loop μ-loop
 loop-less c = omega arith
 
 loop-again : tie.Need-loop-again Inv-loop μ-loop
-loop-again c = putting-more _ _ _ _ _ _ _ (search needs) (c .before .before .before .before .before .before .before .loop-test .taken) (c .before .before .before .before .before .place-bytes .ensures) (c .before .before .put-bytes .ensures) (c .before .before .put-bytes .kept .0) (c .before .before .before .before .before .before .before .before .loop .inv)
+loop-again c =
+    let c5 = c .before .before .before .before .before in
+    let c8 = c5 .before .before .before in
+    putting-more _ _ _ _ _ _ _ (search needs) (c5 .before .before .loop-test .taken) (c5 .place-bytes .ensures)
+    (c .before .before .put-bytes .ensures) (c .before .before .put-bytes .kept .0) (c8 .loop .inv)
 
 same-length : tie.Need-same-length Inv-loop μ-loop
 same-length c = c .before .loop .inv .same

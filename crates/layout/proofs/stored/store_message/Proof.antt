@@ -30,10 +30,20 @@ same-length : tie.Need-same-length
 same-length c = search needs
 
 returns-3 : tie.Need-returns-3
-returns-3 c = store-is _ _ (c .before .before .before .before .before .before .before .before .before .before .before .before .before .before .before .before .if1 .left) (c .before .before .before .before .before .before .before .before .before .before .before .before .before .before .if2 .left) _ (c .before .before .before .before .before .before .before .before .before .before .before .before .places-fit .ensures .0) (c .before .before .before .before .before .before .before .before .before .before .before .if3 .taken) _ _ _ (c .before .before .before .before .before .before .before .before .before .before .before .before .places-fit .ensures .1) (c .before .before .before .before .before .before .before .before .before .front-bytes .ensures) (c .before .before .before .before .before .before .put-bytes .ensures) (c .before .before .put-places .ensures)
+returns-3 c =
+    let c6 = c .before .before .before .before .before .before in
+    let c9 = c6 .before .before .before in
+    let c12 = c9 .before .before .before in
+    let c16 = c12 .before .before .before .before in
+    store-is _ _ (c16 .if1 .left) (c12 .before .before .if2 .left) _ (c12 .places-fit .ensures .0)
+    (c9 .before .before .if3 .taken) _ _ _ (c12 .places-fit .ensures .1) (c9 .front-bytes .ensures)
+    (c6 .put-bytes .ensures) (c .before .before .put-places .ensures)
 
 returns-4 : tie.Need-returns-4
-returns-4 c = store-places _ _ (c .before .before .before .before .before .if1 .left) (c .before .before .before .if2 .left) _ (c .before .places-fit .ensures .0) (c .if3 .left)
+returns-4 c =
+    let c3 = c .before .before .before in
+    store-places _ _ (c3 .before .before .if1 .left) (c3 .if2 .left) _ (c .before .places-fit .ensures .0)
+    (c .if3 .left)
 
 pub store-message-spec : {M : Type 1} → statement M
 store-message-spec =

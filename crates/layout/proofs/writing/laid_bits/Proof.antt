@@ -23,8 +23,12 @@ enum-told : tie.Need-enum-told
 enum-told c = search needs
 
 returns : tie.Need-returns
-returns c = no-header _ (messageOf (c .before .before .before .before .before .before .args .b .now)) _ _ (front-measured _ _ (c .before
-    .before .before .load-header .ensures) _ (c .before .before .header-bits .ensures)) (c .enum-told .given .1)
+returns c =
+    let c3 = c .before .before .before in
+    let c6 = c3 .before .before .before in
+    no-header _ (messageOf (c6 .args .b .now)) _ _
+    (front-measured _ _ (c3 .load-header .ensures) _ (c .before .before .header-bits .ensures))
+    (c .enum-told .given .1)
 
 shared-slice-read-n : tie.Need-shared-slice-read-n
 shared-slice-read-n c = search needs
@@ -37,18 +41,25 @@ is-count-requires c κs = search needs
 
 returns-2 : tie.Need-returns-2
 unfolding messageOf
-returns-2 c = no-count _ (messageOf (c .before .before .before .before .before .before .before .before .before .before .args .b .now)) _
-    _ (front-measured _ _ (c .before .before .before .before .before .before .before .load-header .ensures) _ (c .before .before .before
-    .before .before .before .header-bits .ensures)) _ (c .before .before .before .before .first .given .1) _ (c .before .is-count
-    .ensures) (c .if1 .taken)
+returns-2 c =
+    let c4 = c .before .before .before .before in
+    let c7 = c4 .before .before .before in
+    let c10 = c7 .before .before .before in
+    no-count _ (messageOf (c10 .args .b .now)) _ _
+    (front-measured _ _ (c7 .load-header .ensures) _ (c4 .before .before .header-bits .ensures)) _
+    (c4 .first .given .1) _ (c .before .is-count .ensures) (c .if1 .taken)
 
 row-bits-requires : tie.Need-row-bits-requires
 unfolding messageOf
-row-bits-requires c κs = (count-few (c .before .before .before .before .before .before .before .before .before .before .args .direction)
-    (messageOf (c .before .before .before .before .before .before .before .before .before .before .args .b .now)) (c .before .before
-    .before .before .before .before .before .before .before .before .args .text .now) _ (front-measured _ _ (c .before .before .before
-    .before .before .before .before .load-header .ensures) _ (c .before .before .before .before .before .before .header-bits .ensures))
-    _ (c .before .before .before .before .first .given .1) _ (c .before .is-count .ensures) (c .if1 .left), omega arith)
+row-bits-requires c κs =
+    let c4 = c .before .before .before .before in
+    let c7 = c4 .before .before .before in
+    let c10 = c7 .before .before .before in (
+      count-few (c10 .args .direction) (messageOf (c10 .args .b .now)) (c10 .args .text .now) _
+          (front-measured _ _ (c7 .load-header .ensures) _ (c4 .before .before .header-bits .ensures)) _
+          (c4 .first .given .1) _ (c .before .is-count .ensures) (c .if1 .left),
+      omega arith,
+    )
 
 enum-known-rest : tie.Need-enum-known-rest
 enum-known-rest c = search needs
@@ -58,95 +69,112 @@ enum-told-2 c = search needs
 
 returns-3 : tie.Need-returns-3
 unfolding messageOf
-returns-3 c = no-row _ (messageOf (c .before .before .before .before .before .before .before .before .before .before .before .before
-    .before .args .b .now)) _ _ (front-measured _ _ (c .before .before .before .before .before .before .before .before .before .before
-    .load-header .ensures) _ (c .before .before .before .before .before .before .before .before .before .header-bits .ensures)) _ (c
-    .before .before .before .before .before .before .before .first .given .1) _ (c .before .before .before .before .is-count .ensures)
-    (c .before .before .before .if1 .left) (length-elements 5 (drop 12 (c .before .before .before .before .before .before .before
-    .before .before .before .before .before .before .args .b .now))) _ (c .before .before .row-bits .ensures) (c .enum-told2 .given .1)
+returns-3 c =
+    let c3 = c .before .before .before in
+    let c7 = c3 .before .before .before .before in
+    let c10 = c7 .before .before .before in
+    let c13 = c10 .before .before .before in
+    no-row _ (messageOf (c13 .args .b .now)) _ _
+    (front-measured _ _ (c10 .load-header .ensures) _ (c7 .before .before .header-bits .ensures)) _
+    (c7 .first .given .1) _ (c3 .before .is-count .ensures) (c3 .if1 .left)
+    (length-elements 5 (drop 12 (c13 .args .b .now))) _ (c .before .before .row-bits .ensures)
+    (c .enum-told2 .given .1)
 
 rest-empty-requires : tie.Need-rest-empty-requires
 unfolding messageOf
-rest-empty-requires c κs = (count-few (c .before .before .before .before .before .before .before .before .before .before .before .before
-    .before .before .args .direction) (messageOf (c .before .before .before .before .before .before .before .before .before .before
-    .before .before .before .before .args .b .now)) (c .before .before .before .before .before .before .before .before .before .before
-    .before .before .before .before .args .text .now) _ (front-measured _ _ (c .before .before .before .before .before .before .before
-    .before .before .before .before .load-header .ensures) _ (c .before .before .before .before .before .before .before .before .before
-    .before .header-bits .ensures)) _ (c .before .before .before .before .before .before .before .before .first .given .1) _ (c .before
-    .before .before .before .before .is-count .ensures) (c .before .before .before .before .if1 .left), c .before .before .before
-    .before .before .before .before .before .before .before .before .before .before .before .pre .0, c .before .before .before .before
-    .before .before .before .before .before .before .before .before .before .before .pre .1)
+rest-empty-requires c κs =
+    let c4 = c .before .before .before .before in
+    let c8 = c4 .before .before .before .before in
+    let c11 = c8 .before .before .before in
+    let c14 = c11 .before .before .before in (
+      count-few (c14 .args .direction) (messageOf (c14 .args .b .now)) (c14 .args .text .now) _
+          (front-measured _ _ (c11 .load-header .ensures) _ (c8 .before .before .header-bits .ensures)) _
+          (c8 .first .given .1) _ (c4 .before .is-count .ensures) (c4 .if1 .left),
+      c14 .pre .0,
+      c14 .pre .1,
+    )
 
 returns-4 : tie.Need-returns-4
 unfolding messageOf
-returns-4 c = no-rest _ (messageOf (c .before .before .before .before .before .before .before .before .before .before .before .before
-    .before .before .before .before .args .b .now)) _ _ (front-measured _ _ (c .before .before .before .before .before .before .before
-    .before .before .before .before .before .before .load-header .ensures) _ (c .before .before .before .before .before .before .before
-    .before .before .before .before .before .header-bits .ensures)) _ (c .before .before .before .before .before .before .before .before
-    .before .before .first .given .1) _ (c .before .before .before .before .before .before .before .is-count .ensures) (c .before
-    .before .before .before .before .before .if1 .left) (length-elements 5 (drop 12 (c .before .before .before .before .before .before
-    .before .before .before .before .before .before .before .before .before .before .args .b .now))) _ (c .before .before .before
-    .before .before .row-bits .ensures) _ (c .before .before .before .rest .given .1) _ (c .before .rest-empty .ensures) (c .if2 .taken)
+returns-4 c =
+    let c3 = c .before .before .before in
+    let c6 = c3 .before .before .before in
+    let c10 = c6 .before .before .before .before in
+    let c13 = c10 .before .before .before in
+    let c16 = c13 .before .before .before in
+    no-rest _ (messageOf (c16 .args .b .now)) _ _
+    (front-measured _ _ (c13 .load-header .ensures) _ (c10 .before .before .header-bits .ensures)) _
+    (c10 .first .given .1) _ (c6 .before .is-count .ensures) (c6 .if1 .left)
+    (length-elements 5 (drop 12 (c16 .args .b .now))) _ (c3 .before .before .row-bits .ensures) _
+    (c3 .rest .given .1) _ (c .before .rest-empty .ensures) (c .if2 .taken)
 
 add-all : tie.Need-add-all
 unfolding messageOf
-add-all c = omega (arith, sum-small (c .before .before .before .before .before .before .before .before .before .before .before .before
-    .before .before .before .before .args .direction) (messageOf (c .before .before .before .before .before .before .before .before
-    .before .before .before .before .before .before .before .before .args .b .now)) (c .before .before .before .before .before .before
-    .before .before .before .before .before .before .before .before .before .before .args .text .now) _ (front-measured _ _ (c .before
-    .before .before .before .before .before .before .before .before .before .before .before .before .load-header .ensures) _ (c .before
-    .before .before .before .before .before .before .before .before .before .before .before .header-bits .ensures)) _ (c .before .before
-    .before .before .before .before .before .before .before .before .first .given .1) _ (c .before .before .before .before .before
-    .before .before .is-count .ensures) (c .before .before .before .before .before .before .if1 .left) (length-elements 5 (drop 12 (c
-    .before .before .before .before .before .before .before .before .before .before .before .before .before .before .before .before
-    .args .b .now))) _ (c .before .before .before .before .before .row-bits .ensures) _ (c .before .before .before .rest .given .1) .0)
+add-all c =
+    let c3 = c .before .before .before in
+    let c6 = c3 .before .before .before in
+    let c10 = c6 .before .before .before .before in
+    let c13 = c10 .before .before .before in
+    let c16 = c13 .before .before .before in
+    omega (
+      arith,
+      sum-small (c16 .args .direction) (messageOf (c16 .args .b .now)) (c16 .args .text .now) _
+          (front-measured _ _ (c13 .load-header .ensures) _ (c10 .before .before .header-bits .ensures)) _
+          (c10 .first .given .1) _ (c6 .before .is-count .ensures) (c6 .if1 .left)
+          (length-elements 5 (drop 12 (c16 .args .b .now))) _ (c3 .before .before .row-bits .ensures) _
+          (c3 .rest .given .1) .0,
+    )
 
 add-all-2 : tie.Need-add-all-2
 unfolding messageOf
-add-all-2 c = omega (arith, sum-small (c .before .before .before .before .before .before .before .before .before .before .before .before
-    .before .before .before .before .args .direction) (messageOf (c .before .before .before .before .before .before .before .before
-    .before .before .before .before .before .before .before .before .args .b .now)) (c .before .before .before .before .before .before
-    .before .before .before .before .before .before .before .before .before .before .args .text .now) _ (front-measured _ _ (c .before
-    .before .before .before .before .before .before .before .before .before .before .before .before .load-header .ensures) _ (c .before
-    .before .before .before .before .before .before .before .before .before .before .before .header-bits .ensures)) _ (c .before .before
-    .before .before .before .before .before .before .before .before .first .given .1) _ (c .before .before .before .before .before
-    .before .before .is-count .ensures) (c .before .before .before .before .before .before .if1 .left) (length-elements 5 (drop 12 (c
-    .before .before .before .before .before .before .before .before .before .before .before .before .before .before .before .before
-    .args .b .now))) _ (c .before .before .before .before .before .row-bits .ensures) _ (c .before .before .before .rest .given .1) .0,
-    sum-small (c .before .before .before .before .before .before .before .before .before .before .before .before .before .before .before
-    .before .args .direction) (messageOf (c .before .before .before .before .before .before .before .before .before .before .before
-    .before .before .before .before .before .args .b .now)) (c .before .before .before .before .before .before .before .before .before
-    .before .before .before .before .before .before .before .args .text .now) _ (front-measured _ _ (c .before .before .before .before
-    .before .before .before .before .before .before .before .before .before .load-header .ensures) _ (c .before .before .before .before
-    .before .before .before .before .before .before .before .before .header-bits .ensures)) _ (c .before .before .before .before .before
-    .before .before .before .before .before .first .given .1) _ (c .before .before .before .before .before .before .before .is-count
-    .ensures) (c .before .before .before .before .before .before .if1 .left) (length-elements 5 (drop 12 (c .before .before .before
-    .before .before .before .before .before .before .before .before .before .before .before .before .before .args .b .now))) _ (c
-    .before .before .before .before .before .row-bits .ensures) _ (c .before .before .before .rest .given .1) .1)
+add-all-2 c =
+    let c3 = c .before .before .before in
+    let c6 = c3 .before .before .before in
+    let c10 = c6 .before .before .before .before in
+    let c13 = c10 .before .before .before in
+    let c16 = c13 .before .before .before in
+    omega (
+      arith,
+      sum-small (c16 .args .direction) (messageOf (c16 .args .b .now)) (c16 .args .text .now) _
+          (front-measured _ _ (c13 .load-header .ensures) _ (c10 .before .before .header-bits .ensures)) _
+          (c10 .first .given .1) _ (c6 .before .is-count .ensures) (c6 .if1 .left)
+          (length-elements 5 (drop 12 (c16 .args .b .now))) _ (c3 .before .before .row-bits .ensures) _
+          (c3 .rest .given .1) .0,
+      sum-small (c16 .args .direction) (messageOf (c16 .args .b .now))
+          (c16 .args .text .now) _
+          (front-measured _ _ (c13 .load-header .ensures) _ (c10 .before .before .header-bits .ensures)) _
+          (c10 .first .given .1) _ (c6 .before .is-count .ensures) (c6 .if1 .left)
+          (length-elements 5 (drop 12 (c16 .args .b .now))) _ (c3 .before .before .row-bits .ensures) _
+          (c3 .rest .given .1) .1,
+    )
 
 returns-5 : tie.Need-returns-5
 unfolding messageOf
-returns-5 c = too-long _ (messageOf (c .before .before .before .before .before .before .before .before .before .before .before .before
-    .before .before .before .before .before .args .b .now)) _ _ (front-measured _ _ (c .before .before .before .before .before .before
-    .before .before .before .before .before .before .before .before .load-header .ensures) _ (c .before .before .before .before .before
-    .before .before .before .before .before .before .before .before .header-bits .ensures)) _ (c .before .before .before .before .before
-    .before .before .before .before .before .before .first .given .1) _ (c .before .before .before .before .before .before .before
-    .before .is-count .ensures) (c .before .before .before .before .before .before .before .if1 .left) (length-elements 5 (drop 12 (c
-    .before .before .before .before .before .before .before .before .before .before .before .before .before .before .before .before
-    .before .args .b .now))) _ (c .before .before .before .before .before .before .row-bits .ensures) _ (c .before .before .before
-    .before .rest .given .1) _ (c .before .before .rest-empty .ensures) (c .before .if2 .left) (c .if3 .taken)
+returns-5 c =
+    let c4 = c .before .before .before .before in
+    let c7 = c4 .before .before .before in
+    let c11 = c7 .before .before .before .before in
+    let c14 = c11 .before .before .before in
+    let c17 = c14 .before .before .before in
+    too-long _ (messageOf (c17 .args .b .now)) _ _
+    (front-measured _ _ (c14 .load-header .ensures) _ (c11 .before .before .header-bits .ensures)) _
+    (c11 .first .given .1) _ (c7 .before .is-count .ensures) (c7 .if1 .left)
+    (length-elements 5 (drop 12 (c17 .args .b .now))) _ (c4 .before .before .row-bits .ensures) _
+    (c4 .rest .given .1) _ (c .before .before .rest-empty .ensures) (c .before .if2 .left) (c .if3 .taken)
 
 returns-6 : tie.Need-returns-6
 unfolding messageOf
-returns-6 c = measured-message _ (messageOf (c .before .before .before .before .before .before .before .before .before .before .before
-    .before .before .before .before .before .before .args .b .now)) _ _ (front-measured _ _ (c .before .before .before .before .before
-    .before .before .before .before .before .before .before .before .before .load-header .ensures) _ (c .before .before .before .before
-    .before .before .before .before .before .before .before .before .before .header-bits .ensures)) _ (c .before .before .before .before
-    .before .before .before .before .before .before .before .first .given .1) _ (c .before .before .before .before .before .before
-    .before .before .is-count .ensures) (c .before .before .before .before .before .before .before .if1 .left) (length-elements 5 (drop
-    12 (c .before .before .before .before .before .before .before .before .before .before .before .before .before .before .before
-    .before .before .args .b .now))) _ (c .before .before .before .before .before .before .row-bits .ensures) _ (c .before .before
-    .before .before .rest .given .1) _ (c .before .before .rest-empty .ensures) (c .before .if2 .left) (c .if3 .left)
+returns-6 c =
+    let c4 = c .before .before .before .before in
+    let c7 = c4 .before .before .before in
+    let c11 = c7 .before .before .before .before in
+    let c14 = c11 .before .before .before in
+    let c17 = c14 .before .before .before in
+    measured-message _ (messageOf (c17 .args .b .now)) _ _
+    (front-measured _ _ (c14 .load-header .ensures) _ (c11 .before .before .header-bits .ensures)) _
+    (c11 .first .given .1) _ (c7 .before .is-count .ensures) (c7 .if1 .left)
+    (length-elements 5 (drop 12 (c17 .args .b .now))) _ (c4 .before .before .row-bits .ensures) _
+    (c4 .rest .given .1) _ (c .before .before .rest-empty .ensures) (c .before .if2 .left) (c .if3 .left)
 
 pub laid-bits-spec : {M : Type 1} → statement M
 laid-bits-spec =

@@ -19,8 +19,10 @@ same-length : tie.Need-same-length
 same-length c = search needs
 
 returns : tie.Need-returns
-returns c = two-full (whole 0 1 0) (whole 1 5 (c .before .before .before .before .before .before .before .args .n)) _ _ _ _ _
-    (c .before .before .before .before .put-whole .ensures) (c .enum-told .given .1)
+returns c =
+    let c4 = c .before .before .before .before in
+    let c7 = c4 .before .before .before in
+    two-full (whole 0 1 0) (whole 1 5 (c7 .args .n)) _ _ _ _ _ (c4 .put-whole .ensures) (c .enum-told .given .1)
 
 put-whole-requires-2 : tie.Need-put-whole-requires-2
 put-whole-requires-2 c κs = search needs
@@ -29,9 +31,12 @@ same-length-2 : tie.Need-same-length-2
 same-length-2 c = search needs
 
 returns-2 : tie.Need-returns-2
-returns-2 c = two-next (whole 0 1 0) (whole 1 5 (c .before .before .before .before .before .before .before .before .before .before .before
-    .before .args .n)) _ _ _ _ _ _ _ _ (c .before .before .before .before .before .before .before .before .before .put-whole .ensures)
-    (c .before .before .before .before .before .first .given .1) (c .before .before .put-whole2 .ensures)
+returns-2 c =
+    let c5 = c .before .before .before .before .before in
+    let c9 = c5 .before .before .before .before in
+    let c12 = c9 .before .before .before in
+    two-next (whole 0 1 0) (whole 1 5 (c12 .args .n)) _ _ _ _ _ _ _ _ (c9 .put-whole .ensures) (c5 .first .given .1)
+    (c .before .before .put-whole2 .ensures)
 
 pub put-count-spec : {M : Type 1} → statement M
 put-count-spec =

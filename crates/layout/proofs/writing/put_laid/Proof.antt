@@ -23,9 +23,12 @@ same-length : tie.Need-same-length
 same-length c = search needs
 
 returns : tie.Need-returns
-returns c = message-first _ (messageOf (c .before .before .before .before .before .before .before .before .before .before .args .b
-    .now)) _ _ _ _ _ _ (front-put _ _ (c .before .before .before .before .before .before .load-header .ensures) _ _ _ _ _ (c .before
-    .before .before .before .put-header .ensures)) (c .enum-told .given .1)
+returns c =
+    let c4 = c .before .before .before .before in
+    let c10 = c4 .before .before .before .before .before .before in
+    message-first _ (messageOf (c10 .args .b .now)) _ _ _ _ _ _
+    (front-put _ _ (c4 .before .before .load-header .ensures) _ _ _ _ _ (c4 .put-header .ensures))
+    (c .enum-told .given .1)
 
 shared-slice-read-n : tie.Need-shared-slice-read-n
 shared-slice-read-n c = search needs
@@ -47,12 +50,14 @@ same-length-2 c = search needs
 
 returns-2 : tie.Need-returns-2
 unfolding messageOf
-returns-2 c = message-second _ (messageOf (c .before .before .before .before .before .before .before .before .before .before .before
-    .before .before .before .before .before .before .before .args .b .now)) _ _ _ _ _ _ (front-put _ _ (c .before .before .before
-    .before .before .before .before .before .before .before .before .before .before .before .load-header .ensures) _ _ _ _ _ (c .before
-    .before .before .before .before .before .before .before .before .before .before .before .put-header .ensures)) _ (c .before .before
-    .before .before .before .before .before .before .first .given .1) _ _ (c .before .before .before .before .put-count .ensures) (c
-    .enum-told2 .given .1)
+returns-2 c =
+    let c4 = c .before .before .before .before in
+    let c8 = c4 .before .before .before .before in
+    let c12 = c8 .before .before .before .before in
+    let c18 = c12 .before .before .before .before .before .before in
+    message-second _ (messageOf (c18 .args .b .now)) _ _ _ _ _ _
+    (front-put _ _ (c12 .before .before .load-header .ensures) _ _ _ _ _ (c12 .put-header .ensures)) _
+    (c8 .first .given .1) _ _ (c4 .put-count .ensures) (c .enum-told2 .given .1)
 
 cast-put-row : tie.Need-cast-put-row
 cast-put-row c = search needs
@@ -65,14 +70,16 @@ same-length-3 c = search needs
 
 returns-3 : tie.Need-returns-3
 unfolding messageOf
-returns-3 c = message-third _ (messageOf (c .before .before .before .before .before .before .before .before .before .before .before
-    .before .before .before .before .before .before .before .before .before .before .before .before .args .b .now)) _ _ _ _ _ _
-    (front-put _ _ (c .before .before .before .before .before .before .before .before .before .before .before .before .before .before
-    .before .before .before .before .before .load-header .ensures) _ _ _ _ _ (c .before .before .before .before .before .before .before
-    .before .before .before .before .before .before .before .before .before .before .put-header .ensures)) _ (c .before .before .before
-    .before .before .before .before .before .before .before .before .before .before .first .given .1) _ _ (c .before .before .before
-    .before .before .before .before .before .before .put-count .ensures) _ (c .before .before .before .before .before .second .given .1)
-    _ _ (c .before .before .put-row .ensures)
+returns-3 c =
+    let c5 = c .before .before .before .before .before in
+    let c9 = c5 .before .before .before .before in
+    let c13 = c9 .before .before .before .before in
+    let c17 = c13 .before .before .before .before in
+    let c23 = c17 .before .before .before .before .before .before in
+    message-third _ (messageOf (c23 .args .b .now)) _ _ _ _ _ _
+    (front-put _ _ (c17 .before .before .load-header .ensures) _ _ _ _ _ (c17 .put-header .ensures)) _
+    (c13 .first .given .1) _ _ (c9 .put-count .ensures) _ (c5 .second .given .1) _ _
+    (c .before .before .put-row .ensures)
 
 pub put-laid-spec : {M : Type 1} → statement M
 put-laid-spec =

@@ -67,19 +67,21 @@ enum-told : tie.Need-enum-told Inv-loop μ-loop
 enum-told c = c .match .keys2
 
 same-length : tie.Need-same-length Inv-loop μ-loop
-same-length c = c .before .before .before .before .put-element .kept .0 ∙ c .before .before .before .before .before .before .before
-    .before .before .before .before .loop .inv .3
+same-length c =
+    let c4 = c .before .before .before .before in
+    let c11 = c4 .before .before .before .before .before .before .before in
+    c4 .put-element .kept .0 ∙ c11 .loop .inv .3
 
 returns : tie.Need-returns Inv-loop μ-loop
-returns c = row-full _ (elementsOf 5 (drop 12 (c .before .before .before .before .before .before .before .before .before .before .before
-    .before .before .before .before .args .b .now))) (c .before .before .before .before .before .before .before .before .before .before
-    .before .before .before .before .before .args .n) _ _ _ (c .before .before .before .before .before .before .before .before .before
-    .before .before .loop .i) _ _ _ (c .before .before .before .before .before .before .before .before .before .before .before .loop
-    .inv .4) _ (row-next _ _ (omega arith) _ (c .before .before .before .before .before .before .before .before .load-element .ensures)
-    _ (c .before .before .before .before .before .before .before .before .before .before .loop-test .taken) (c .before .before .before
-    .before .before .before .before .before .before .before .before .loop .inv .1)) _ (c .before .before .before .before .before .before
-    .before .before .before .before .before .loop .inv .2) (c .before .before .before .before .before .before .before .part-end
-    .ensures) _ _ (c .before .before .before .before .put-element .ensures) (c .enum-told .given .1)
+returns c =
+    let c4 = c .before .before .before .before in
+    let c7 = c4 .before .before .before in
+    let c10 = c7 .before .before .before in
+    let c15 = c10 .before .before .before .before .before in
+    row-full _ (elementsOf 5 (drop 12 (c15 .args .b .now))) (c15 .args .n) _ _ _ (c10 .before .loop .i) _ _ _
+    (c10 .before .loop .inv .4) _ (row-next _ _ (omega arith) _ (c7 .before .load-element .ensures) _
+    (c10 .loop-test .taken) (c10 .before .loop .inv .1)) _ (c10 .before .loop .inv .2) (c7 .part-end .ensures) _
+    _ (c4 .put-element .ensures) (c .enum-told .given .1)
 
 add-i : tie.Need-add-i Inv-loop μ-loop
 add-i c = search needs
@@ -88,25 +90,31 @@ loop-less : tie.Need-loop-less Inv-loop μ-loop
 loop-less c = search needs
 
 loop-again : tie.Need-loop-again Inv-loop μ-loop
-loop-again c = (search needs, search needs, omega (arith, c .before .before .before .before .before .before .before .before .part-end
-    .ensures), c .before .before .before .before .before .put-element .kept .0 ∙ c .before .before .before .before .before .before
-    .before .before .before .before .before .before .loop .inv .3, row-turn _ (elementsOf 5 (drop 12 (c .before .before .before .before
-    .before .before .before .before .before .before .before .before .before .before .before .before .args .b .now))) (c .before .before
-    .before .before .before .before .before .before .before .before .before .before .before .before .before .before .args .n) _ _ _ (c
-    .before .before .before .before .before .before .before .before .before .before .before .before .loop .i) _ _ _ (c .before .before
-    .before .before .before .before .before .before .before .before .before .before .loop .inv .4) _ (row-next _ _ (omega arith) _ (c
-    .before .before .before .before .before .before .before .before .before .load-element .ensures) _ (c .before .before .before .before
-    .before .before .before .before .before .before .before .loop-test .taken) (c .before .before .before .before .before .before
-    .before .before .before .before .before .before .loop .inv .1)) _ (c .before .before .before .before .before .before .before .before
-    .before .before .before .before .loop .inv .2) (c .before .before .before .before .before .before .before .before .part-end
-    .ensures) _ _ (c .before .before .before .before .before .put-element .ensures) _ (c .before .one .given .1))
+loop-again c =
+    let c5 = c .before .before .before .before .before in
+    let c8 = c5 .before .before .before in
+    let c11 = c8 .before .before .before in
+    let c16 = c11 .before .before .before .before .before in (
+      search needs,
+      search needs,
+      omega (arith, c8 .part-end .ensures),
+      c5 .put-element .kept .0 ∙
+          c11 .before .loop .inv .3,
+      row-turn _ (elementsOf 5 (drop 12 (c16 .args .b .now))) (c16 .args .n) _ _ _
+          (c11 .before .loop .i) _ _ _ (c11 .before .loop .inv .4) _ (row-next _ _ (omega arith) _
+          (c8 .before .load-element .ensures) _ (c11 .loop-test .taken) (c11 .before .loop .inv .1)) _
+          (c11 .before .loop .inv .2) (c8 .part-end .ensures) _ _ (c5 .put-element .ensures) _
+          (c .before .one .given .1),
+    )
 
 same-length-2 : tie.Need-same-length-2 Inv-loop μ-loop
 same-length-2 c = c .before .loop .inv .3
 
 returns-2 : tie.Need-returns-2 Inv-loop μ-loop
-returns-2 c = row-done _ _ _ (c .before .before .before .before .before .args .text .now) _ _ _ (c .before .loop .from) _ _ (c .before
-    .loop .inv .4) (c .loop-test .left)
+returns-2 c =
+    let c5 = c .before .before .before .before .before in
+    row-done _ _ _ (c5 .args .text .now) _ _ _ (c .before .loop .from) _ _ (c .before .loop .inv .4)
+    (c .loop-test .left)
 
 pub put-row-spec : {M : Type 1} → statement M
 put-row-spec =

@@ -63,19 +63,27 @@ enum-told : tie.Need-enum-told Inv-loop μ-loop
 enum-told c = c .match .keys2
 
 returns : tie.Need-returns Inv-loop μ-loop
-returns c = measured-bad _ _ _ _ _ _ _ (c .before .before .before .before .before .before .before .before .loop .inv .3) _ (row-next _ _
-    (omega arith) _ (c .before .before .before .before .before .load-element .ensures) _ (c .before .before .before .before .before
-    .before .before .loop-test .taken) (c .before .before .before .before .before .before .before .before .loop .inv .1)) _ (c .before
-    .before .before .before .before .before .before .before .loop .inv .2) (c .before .before .before .before .part-end .ensures) _ (c
-    .before .before .element-bits .ensures) (c .enum-told .given .1)
+returns c =
+    let c4 = c .before .before .before .before in
+    let c7 = c4 .before .before .before in
+    measured-bad _ _ _ _ _ _ _ (c7 .before .loop .inv .3) _ (row-next _ _ (omega arith) _
+    (c4 .before .load-element .ensures) _ (c7 .loop-test .taken) (c7 .before .loop .inv .1)) _
+    (c7 .before .loop .inv .2) (c4 .part-end .ensures) _ (c .before .before .element-bits .ensures)
+    (c .enum-told .given .1)
 
 add-total : tie.Need-add-total Inv-loop μ-loop
-add-total c = omega (arith, measured-small _ _ _ _ _ _ _ (c .before .before .before .before .before .before .before .before .before
-    .loop .inv .3) _ (row-next _ _ (omega arith) _ (c .before .before .before .before .before .before .load-element .ensures) _ (c
-    .before .before .before .before .before .before .before .before .loop-test .taken) (c .before .before .before .before .before
-    .before .before .before .before .loop .inv .1)) _ (c .before .before .before .before .before .before .before .before .before .loop
-    .inv .2) (c .before .before .before .before .before .part-end .ensures) _ (c .before .before .before .element-bits .ensures) _ (c
-    .before .one .given .1), c .before .before .before .before .before .before .before .before .before .loop .inv .3 .most)
+add-total c =
+    let c3 = c .before .before .before in
+    let c6 = c3 .before .before .before in
+    let c9 = c6 .before .before .before in
+    omega (
+      arith,
+      measured-small _ _ _ _ _ _ _ (c9 .loop .inv .3) _ (row-next _ _ (omega arith) _
+          (c6 .load-element .ensures) _ (c6 .before .before .loop-test .taken) (c9 .loop .inv .1)) _
+          (c9 .loop .inv .2) (c3 .before .before .part-end .ensures) _ (c3 .element-bits .ensures) _
+          (c .before .one .given .1),
+      c9 .loop .inv .3 .most,
+    )
 
 add-i : tie.Need-add-i Inv-loop μ-loop
 add-i c = search needs
@@ -84,19 +92,26 @@ loop-less : tie.Need-loop-less Inv-loop μ-loop
 loop-less c = search needs
 
 loop-again : tie.Need-loop-again Inv-loop μ-loop
-loop-again c = (search needs, search needs, omega (arith, c .before .before .before .before .before .part-end .ensures), measured-turn _
-    _ _ _ _ _ _ (c .before .before .before .before .before .before .before .before .before .loop .inv .3) _ (row-next _ _ (omega arith)
-    _ (c .before .before .before .before .before .before .load-element .ensures) _ (c .before .before .before .before .before .before
-    .before .before .loop-test .taken) (c .before .before .before .before .before .before .before .before .before .loop .inv .1)) _ (c
-    .before .before .before .before .before .before .before .before .before .loop .inv .2) (c .before .before .before .before .before
-    .part-end .ensures) _ (c .before .before .before .element-bits .ensures) _ (c .before .one .given .1))
+loop-again c =
+    let c3 = c .before .before .before in
+    let c6 = c3 .before .before .before in
+    let c9 = c6 .before .before .before in (
+      search needs,
+      search needs,
+      omega (arith, c3 .before .before .part-end .ensures),
+      measured-turn _ _ _ _ _ _ _
+          (c9 .loop .inv .3) _ (row-next _ _ (omega arith) _ (c6 .load-element .ensures) _
+          (c6 .before .before .loop-test .taken) (c9 .loop .inv .1)) _ (c9 .loop .inv .2)
+          (c3 .before .before .part-end .ensures) _ (c3 .element-bits .ensures) _ (c .before .one .given .1),
+    )
 
 returns-2 : tie.Need-returns-2 Inv-loop μ-loop
 returns-2 c = measured-done _ _ _ _ _ _ _ (c .before .before .loop .inv .3) (c .before .loop-test .left) (c .if1 .taken)
 
 returns-3 : tie.Need-returns-3 Inv-loop μ-loop
-returns-3 c = measured-over _ _ _ _ _ _ _ (c .before .before .loop .inv .3) (c .before .loop-test .left) (c .before .before .loop .inv
-    .2) (c .if1 .left)
+returns-3 c =
+    measured-over _ _ _ _ _ _ _ (c .before .before .loop .inv .3) (c .before .loop-test .left)
+    (c .before .before .loop .inv .2) (c .if1 .left)
 
 pub row-bits-spec : {M : Type 1} → statement M
 row-bits-spec =

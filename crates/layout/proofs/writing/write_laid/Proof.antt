@@ -20,19 +20,22 @@ enum-told : tie.Need-enum-told
 enum-told c = search needs
 
 returns-2 : tie.Need-returns-2
-returns-2 c = not-carried _ _ _ _ (c .before .before .before .if1 .left) _ (c .before .before .laid-bits .ensures) (c .enum-told .given
-    .1)
+returns-2 c =
+    let c3 = c .before .before .before in
+    not-carried _ _ _ _ (c3 .if1 .left) _ (c .before .before .laid-bits .ensures) (c .enum-told .given .1)
 
 mul-end : tie.Need-mul-end
 mul-end c = search needs
 
 put-laid-requires : tie.Need-put-laid-requires
 unfolding messageOf
-put-laid-requires c κs = (written-count (c .before .before .before .before .before .before .before .before .before .args .direction)
-    (messageOf (c .before .before .before .before .before .before .before .before .before .args .b .now)) (c .before .before .before
-    .before .before .before .before .before .before .args .text .now) (c .before .before .before .before .before .before .before .before
-    .before .args .out .now) (c .before .before .before .before .before .if1 .left) _ (c .before .before .before .before .laid-bits
-    .ensures) _ (c .before .before .size .given .1), omega arith)
+put-laid-requires c κs =
+    let c4 = c .before .before .before .before in
+    let c9 = c4 .before .before .before .before .before in (
+      written-count (c9 .args .direction) (messageOf (c9 .args .b .now)) (c9 .args .text .now) (c9 .args .out .now)
+          (c4 .before .if1 .left) _ (c4 .laid-bits .ensures) _ (c .before .before .size .given .1),
+      omega arith,
+    )
 
 padding-requires : tie.Need-padding-requires
 padding-requires c κs = search needs
@@ -44,11 +47,13 @@ same-length : tie.Need-same-length
 same-length c = search needs
 
 returns-3 : tie.Need-returns-3
-returns-3 c = written-out _ _ _ _ (c .before .before .before .before .before .before .before .before .before .before .before .before
-    .before .if1 .left) _ (c .before .before .before .before .before .before .before .before .before .before .before .before .laid-bits
-    .ensures) _ (c .before .before .before .before .before .before .before .before .before .before .size .given .1) _ _ _ _ _ (c .before
-    .before .before .before .before .before .before .put-laid .ensures) (c .before .before .before .padding .ensures) (c .before .before
-    .put-bits .ensures)
+returns-3 c =
+    let c3 = c .before .before .before in
+    let c7 = c3 .before .before .before .before in
+    let c10 = c7 .before .before .before in
+    let c13 = c10 .before .before .before in
+    written-out _ _ _ _ (c13 .if1 .left) _ (c10 .before .before .laid-bits .ensures) _ (c10 .size .given .1) _ _ _ _ _
+    (c7 .put-laid .ensures) (c3 .padding .ensures) (c .before .before .put-bits .ensures)
 
 pub write-laid-spec : {M : Type 1} → statement M
 write-laid-spec =

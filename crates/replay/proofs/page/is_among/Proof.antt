@@ -24,7 +24,9 @@ at-requires : tie.Need-at-requires Inv-loop μ-loop
 at-requires c κs = search needs
 
 returns : tie.Need-returns Inv-loop μ-loop
-returns c = sym (among-here _ _ _ _ _ (c .before .before .loop-test .taken) (eq-eqb _ _ (sym (c .before .at .ensures) ∙ c .if1 .taken)))
+returns c =
+    sym (among-here _ _ _ _ _ (c .before .before .loop-test .taken)
+    (eq-eqb _ _ (sym (c .before .at .ensures) ∙ c .if1 .taken)))
 
 add-i : tie.Need-add-i Inv-loop μ-loop
 add-i c = search needs
@@ -33,7 +35,13 @@ loop-less : tie.Need-loop-less Inv-loop μ-loop
 loop-less c = omega arith
 
 loop-again : tie.Need-loop-again Inv-loop μ-loop
-loop-again c = (omega arith, among-turn (c .before .before .before .before .before .args .p .now) (c .before .before .before .before .before .args .from) (c .before .before .before .loop .i) (c .before .before .before .before .before .args .x) (c .before .at .result) (c .before .at .ensures) (c .if1 .left) (c .before .before .before .loop .inv .1))
+loop-again c =
+    let c3 = c .before .before .before in (
+      omega arith,
+      among-turn (c3 .before .before .args .p .now) (c3 .before .before .args .from) (c3 .loop .i)
+          (c3 .before .before .args .x) (c .before .at .result) (c .before .at .ensures) (c .if1 .left)
+          (c3 .loop .inv .1),
+    )
 
 returns-2 : tie.Need-returns-2 Inv-loop μ-loop
 returns-2 c = sym (among-end _ _ _ _ _ (c .before .loop .inv .0) (c .loop-test .left) (c .before .loop .inv .1))

@@ -19,7 +19,15 @@ returns-2 c = rw (ne-eqb _ _ (c .before .before .if1 .left), ← c .before .get 
 
 returns-3 : tie.Need-returns-3
 unfolding isNoted
-returns-3 c = rw (ne-eqb _ _ (c .before .before .before .if1 .left), ← c .before .before .get .ensures, le-ltb _ _ (c .before .if2 .left), lt-ltb _ _ (c .if3 .taken))
+returns-3 c =
+    let c3 = c .before .before .before in
+    rw (
+      ne-eqb _ _ (c3 .if1 .left),
+      ← c .before .before .get .ensures,
+      le-ltb _ _ (c .before .if2 .left),
+      lt-ltb _ _
+          (c .if3 .taken),
+    )
 
 sub-at : tie.Need-sub-at
 sub-at c = search needs
@@ -41,11 +49,33 @@ get-requires-3 c κs = search needs
 
 returns-4 : tie.Need-returns-4
 unfolding isNoted
-returns-4 c = rw (ne-eqb _ _ (c .before .before .before .before .before .before .if1 .left), ← c .before .before .before .before .before .get .ensures, le-ltb _ _ (c .before .before .before .before .if2 .left), le-ltb _ _ (c .before .before .before .if3 .left), ← c .before .before .get2 .ensures, ← c .get3 .ensures, eq-eqb _ _ (c .before .if4 .taken))
+returns-4 c =
+    let c3 = c .before .before .before in
+    let c6 = c3 .before .before .before in
+    rw (
+      ne-eqb _ _ (c6 .if1 .left),
+      ← c3 .before .before .get .ensures,
+      le-ltb _ _ (c3 .before .if2 .left),
+      le-ltb _ _
+          (c3 .if3 .left),
+      ← c .before .before .get2 .ensures,
+      ← c .get3 .ensures,
+      eq-eqb _ _ (c .before .if4 .taken),
+    )
 
 returns-5 : tie.Need-returns-5
 unfolding isNoted
-returns-5 c = rw (ne-eqb _ _ (c .before .before .before .before .before .if1 .left), ← c .before .before .before .before .get .ensures, le-ltb _ _ (c .before .before .before .if2 .left), le-ltb _ _ (c .before .before .if3 .left), ← c .before .get2 .ensures, ne-eqb _ _ (c .if4 .left))
+returns-5 c =
+    let c3 = c .before .before .before in
+    rw (
+      ne-eqb _ _ (c3 .before .before .if1 .left),
+      ← c3 .before .get .ensures,
+      le-ltb _ _ (c3 .if2 .left),
+      le-ltb _ _
+          (c .before .before .if3 .left),
+      ← c .before .get2 .ensures,
+      ne-eqb _ _ (c .if4 .left),
+    )
 
 pub is-noted-spec : {M : Type 1} → statement M
 is-noted-spec =

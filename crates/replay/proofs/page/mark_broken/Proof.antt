@@ -20,7 +20,9 @@ same-length-2 : tie.Need-same-length-2
 same-length-2 c = search needs
 
 returns-2 : tie.Need-returns-2
-returns-2 c = rw (← c .before .before .before .before .before .is-broken .ensures, c .before .before .before .before .if1 .left, ← c .before .before .push .ensures)
+returns-2 c =
+    let c4 = c .before .before .before .before in
+    rw (← c4 .before .is-broken .ensures, c4 .if1 .left, ← c .before .before .push .ensures)
 
 pub mark-broken-spec : {M : Type 1} → statement M
 mark-broken-spec =

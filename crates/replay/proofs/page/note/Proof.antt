@@ -35,7 +35,18 @@ same-length c = search needs
 
 returns : tie.Need-returns
 unfolding noted
-returns c = rw (← c .before .before .before .before .before .before .before .before .before .before .before .before .before .get .ensures, lt-ltb _ _ (c .before .before .before .before .before .before .before .before .before .before .before .before .if1 .taken), ← c .before .before .before .before .before .before .before .before .before .before .put .ensures, ← c .before .before .before .before .before .before .put2 .ensures, ← c .before .before .put3 .ensures)
+returns c =
+    let c6 = c .before .before .before .before .before .before in
+    let c10 = c6 .before .before .before .before in
+    let c13 = c10 .before .before .before in
+    rw (
+      ← c13 .get .ensures,
+      lt-ltb _ _ (c10 .before .before .if1 .taken),
+      ← c10 .put .ensures,
+      ← c6 .put2 .ensures,
+      ←
+          c .before .before .put3 .ensures,
+    )
 
 same-length-2 : tie.Need-same-length-2
 same-length-2 c = search needs

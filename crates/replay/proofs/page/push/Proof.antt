@@ -28,7 +28,15 @@ same-length-3 c = search needs
 
 returns-3 : tie.Need-returns-3
 unfolding pushed
-returns-3 c = rw (← c .before .before .before .get .ensures, lt-leb _ _ (c .before .before .if1 .left), le-ltb _ _ (c .before .if2 .left), lt-ltb _ _ (c .if3 .taken))
+returns-3 c =
+    let c3 = c .before .before .before in
+    rw (
+      ← c3 .get .ensures,
+      lt-leb _ _ (c .before .before .if1 .left),
+      le-ltb _ _ (c .before .if2 .left),
+      lt-ltb _ _
+          (c .if3 .taken),
+    )
 
 add-put : tie.Need-add-put
 add-put c = search needs
@@ -47,7 +55,18 @@ same-length-4 c = search needs
 
 returns-4 : tie.Need-returns-4
 unfolding pushed
-returns-4 c = rw (← c .before .before .before .before .before .before .before .before .before .before .before .get .ensures, lt-leb _ _ (c .before .before .before .before .before .before .before .before .before .before .if1 .left), le-ltb _ _ (c .before .before .before .before .before .before .before .before .before .if2 .left), le-ltb _ _ (c .before .before .before .before .before .before .before .before .if3 .left), ← c .before .before .before .before .before .before .put .ensures, ← c .before .before .put2 .ensures)
+returns-4 c =
+    let c6 = c .before .before .before .before .before .before in
+    let c9 = c6 .before .before .before in
+    rw (
+      ← c9 .before .before .get .ensures,
+      lt-leb _ _ (c9 .before .if1 .left),
+      le-ltb _ _ (c9 .if2 .left),
+      le-ltb _ _
+          (c6 .before .before .if3 .left),
+      ← c6 .put .ensures,
+      ← c .before .before .put2 .ensures,
+    )
 
 pub push-spec : {M : Type 1} → statement M
 push-spec =

@@ -24,7 +24,15 @@ same-length-2 c = search needs
 
 returns-2 : tie.Need-returns-2
 unfolding putOnLine
-returns-2 c = rw (← c .before .before .before .before .get .ensures, ← c .before .before .get2 .ensures, lt-leb _ _ (c .before .if1 .left), le-leb _ _ (c .if2 .taken))
+returns-2 c =
+    let c4 = c .before .before .before .before in
+    rw (
+      ← c4 .get .ensures,
+      ← c .before .before .get2 .ensures,
+      lt-leb _ _ (c .before .if1 .left),
+      le-leb _ _
+          (c .if2 .taken),
+    )
 
 set-entry-requires : tie.Need-set-entry-requires
 set-entry-requires c κs = search needs
@@ -46,7 +54,22 @@ same-length-3 c = search needs
 
 returns-3 : tie.Need-returns-3
 unfolding putOnLine
-returns-3 c = rw (← c .before .before .before .before .before .before .before .before .before .before .before .before .before .before .before .before .get .ensures, ← c .before .before .before .before .before .before .before .before .before .before .before .before .before .before .get2 .ensures, lt-leb _ _ (c .before .before .before .before .before .before .before .before .before .before .before .before .before .if1 .left), lt-leb _ _ (c .before .before .before .before .before .before .before .before .before .before .before .before .if2 .left), ← c .before .before .before .before .before .before .before .before .before .before .set-entry .ensures, ← c .before .before .before .before .before .before .put .ensures, ← c .before .before .put2 .ensures)
+returns-3 c =
+    let c6 = c .before .before .before .before .before .before in
+    let c10 = c6 .before .before .before .before in
+    let c13 = c10 .before .before .before in
+    let c16 = c13 .before .before .before in
+    rw (
+      ← c16 .get .ensures,
+      ← c13 .before .get2 .ensures,
+      lt-leb _ _ (c13 .if1 .left),
+      lt-leb _ _
+          (c10 .before .before .if2 .left),
+      ← c10 .set-entry .ensures,
+      ← c6 .put .ensures,
+      ←
+          c .before .before .put2 .ensures,
+    )
 
 pub put-on-line-spec : {M : Type 1} → statement M
 put-on-line-spec =

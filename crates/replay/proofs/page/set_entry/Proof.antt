@@ -32,7 +32,16 @@ same-length c = search needs
 
 returns : tie.Need-returns
 unfolding setEntry
-returns c = rw (lt-ltb _ _ (c .before .before .before .before .before .before .before .before .before .before .before .before .if1 .taken), ← c .before .before .before .before .before .before .before .before .before .before .put .ensures, ← c .before .before .before .before .before .before .put2 .ensures, ← c .before .before .put3 .ensures)
+returns c =
+    let c6 = c .before .before .before .before .before .before in
+    let c10 = c6 .before .before .before .before in
+    rw (
+      lt-ltb _ _ (c10 .before .before .if1 .taken),
+      ← c10 .put .ensures,
+      ← c6 .put2 .ensures,
+      ←
+          c .before .before .put3 .ensures,
+    )
 
 returns-2 : tie.Need-returns-2
 unfolding setEntry

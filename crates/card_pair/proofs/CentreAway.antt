@@ -2,7 +2,7 @@
 -- Assumes nothing.
 use mathlib.Core.Path.{_≡_, refl, ap, sym, subst, _∙_}
 use mathlib.Core.Bool.{Bool, true, false, not, cond}
-use mathlib.Core.List.{List}
+use mathlib.Core.List.{List, []}
 use Prim.Native.Nat.{ℕ, _/_, _%_, _<_}
 use native.Mathlib.Omega.{arith}
 use borrow.Author.Tests.{eq-eqb, lt-ltb, ltb-true}
@@ -58,8 +58,8 @@ use Rattle.pair.proofs.TwoCentres.{Returns, Comes, Refuses}
 use Rattle.card_pair.specs.Answered.{toldPart}
 use Rattle.card_pair.specs.CardMachine.{Word, Asked, start-request, start-response, message-request, end-request, end-response, user-abort, heldBy}
 use Rattle.card_pair.specs.CentreMachine.{Passed, CentreAsked, forward-request, other-call, Desk, does, lent-first, lent-second, hears, reports, forwards, centreAsks, centreMachine}
-use Rattle.card_pair.proofs.CentreBytes.{abort-shut, aborts-shut, at-record, calm, closes-shut, coded, control, edition, heard-bare, heard-data, heard-stale, held, held-is, low, no-number, not-fitting, number, other-stale, own-number, policy, q, refused-call, reported, shut-returns, taken, timer, unpermitted, user, user-refused, version}
-use Rattle.card_pair.proofs.CentreEntries.{Away, Confirms, Good, Rest, a-forward, a-response, at, clash, code, control, message, no-difference, parameter, reads, request, result}
+use Rattle.card_pair.proofs.CentreBytes.{Shut, abort-shut, aborts-shut, at-record, closes-shut, heard-bare, heard-data, heard-stale, held-is, no-number, not-fitting, other-stale, own-number, q, refused-call, reported, shut-comes, shut-returns, told-is, unpermitted, user-refused}
+use Rattle.card_pair.proofs.CentreEntries.{Away, Confirms, Good, Rest, a-forward, a-response, clash, no-difference}
 use Rattle.card_pair.proofs.CentreRests.{y}
 
 -- ---- away

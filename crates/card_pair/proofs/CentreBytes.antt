@@ -2,7 +2,7 @@
 -- Assumes nothing.
 use mathlib.Core.Path.{_≡_, refl, ap, sym, subst, _∙_}
 use mathlib.Core.Bool.{Bool, true, false, not, cond}
-use mathlib.Core.List.{List}
+use mathlib.Core.List.{List, []}
 use Prim.Native.Nat.{ℕ, _^_, _≤_, _<_}
 use native.Mathlib.Omega.{arith}
 use borrow.Author.Tests.{eq-eqb, ne-eqb, le-leb, lt-ltb, le-ltb}
@@ -98,7 +98,7 @@ put-calm p e b = go (e .it .primitive)
 
 -- ---- outcomes that end in IDLE and begin nothing
 
-record Shut (q : Record) (o : O.Outcome) : Type 0 where
+pub record Shut (q : Record) (o : O.Outcome) : Type 0 where
   pub taken : isNone (o .refusal) ≡ true
   pub control : o .next .control ≡ closed
   pub timer : o .next .timer ≡ false
@@ -172,32 +172,32 @@ module _ (p : ℕ) (ed : Edition) (ver : ℕ) (d : Desk) (at : At p ed ver d) wh
       (loaded-stored Ground x m k l, length-stored Ground x m k l)
 
   module _ (m : ℕ) (o : O.Outcome) (li lm lc : List ℕ) (x : Carried) (t : isNone (o .refusal) ≡ true) where
-    number-taken : isTaken (Ended m o li lm lc x .number) ≡ true
+    pub number-taken : isTaken (Ended m o li lm lc x .number) ≡ true
     unfolding concluded finished
     number-taken = rw t (eq-eqb _ 0 (refusal-unpacked _ _ _ _ _))
 
-    kept-is : Ended m o li lm lc x .kept ≡ storeAt (d .kept .bytes) Ground (o .next) m .bytes
+    pub kept-is : Ended m o li lm lc x .kept ≡ storeAt (d .kept .bytes) Ground (o .next) m .bytes
     unfolding concluded finished
     kept-is = rw t
 
-    invoked-is : invokedPart (Ended m o li lm lc x .number) ≡ invokedNumber (o .invoked)
+    pub invoked-is : invokedPart (Ended m o li lm lc x .number) ≡ invokedNumber (o .invoked)
     unfolding concluded finished
     invoked-is = rw t (invoked-unpacked _ _ _ _ _ (invoked-low (o .invoked)))
 
-    told-is : toldPart (Ended m o li lm lc x .number) ≡ toldNumber (o .told)
+    pub told-is : toldPart (Ended m o li lm lc x .number) ≡ toldNumber (o .told)
     unfolding concluded finished
     told-is = rw t (told-unpacked _ _ _ _ _ (invoked-low (o .invoked)) (told-low (o .told)))
 
-    loads-next : Coded (o .next) → m < 2 ^ 64 → loadAt (Ended m o li lm lc x .kept) ≡ Is Ground (o .next) m
+    pub loads-next : Coded (o .next) → m < 2 ^ 64 → loadAt (Ended m o li lm lc x .kept) ≡ Is Ground (o .next) m
     loads-next k l = ap loadAt kept-is ∙ stored-loads (o .next) m k l .0
 
     -- the version, and the bytes that were written
-    version-is : versionNumber (o .invoked) (o .told) < versions
+    pub version-is : versionNumber (o .invoked) (o .told) < versions
         → versionPart (Ended m o li lm lc x .number) ≡ versionNumber (o .invoked) (o .told)
     unfolding concluded finished
     version-is h = rw t (version-unpacked _ _ _ _ _ (invoked-low (o .invoked)) (told-low (o .told)) h)
 
-    bytes-are : (a : Apdu) → apduFits (q .edition) pdu.GroundPdus li lm lc a ≡ true
+    pub bytes-are : (a : Apdu) → apduFits (q .edition) pdu.GroundPdus li lm lc a ≡ true
         → firstTakes (q .edition) Ground li lm lc x (o .apdu) (lent-first d) ≡ pduTo (q .edition) pdu.GroundPdus li lm lc a (lent-first d)
         → entryOf (Ended m o li lm lc x) .bytes ≡ take
         (bytesFor (length (pduBits (q .edition) pdu.GroundPdus (pduIn li lm lc a))))
@@ -223,7 +223,7 @@ module _ (p : ℕ) (ed : Edition) (ver : ℕ) (d : Desk) (at : At p ed ver d) wh
   -- ---- back to rest
 
   module _ (o : O.Outcome) (li lm lc : List ℕ) (x : Carried) (s : Shut q o) where
-    shut-back : (z : Sent (Numbered Wire)) → starts (centreMachine p .at) z ≡ false
+    pub shut-back : (z : Sent (Numbered Wire)) → starts (centreMachine p .at) z ≡ false
         → Back (centreMachine p) (λ (e : Desk). Rests p ed ver (e .kept .bytes)) d (after d (Ended n o li lm lc x)) z
     shut-back z b =
         let l = loads-next n o li lm lc x (s .taken) (s .coded) (at .low) in
@@ -240,7 +240,7 @@ module _ (p : ℕ) (ed : Edition) (ver : ℕ) (d : Desk) (at : At p ed ver d) wh
         (ap (λ (i : ℕ). begins? (sortOf (betweenCentres (versionPart (Ended n o li lm lc x .number)) (invokedOf i))))
         (invoked-is n o li lm lc x (s .taken)) ∙ s .calm (versionPart (Ended n o li lm lc x .number)))
 
-    shut-comes : Comes (centreMachine p) (λ (e : Desk). Rests p ed ver (e .kept .bytes)) d (does d (Ended n o li lm lc x))
+    pub shut-comes : Comes (centreMachine p) (λ (e : Desk). Rests p ed ver (e .kept .bytes)) d (does d (Ended n o li lm lc x))
     shut-comes = taken-does (Comes (centreMachine p) (λ (e : Desk). Rests p ed ver (e .kept .bytes)) d) d
         (Ended n o li lm lc x) (number-taken n o li lm lc x (s .taken)) (shut-back _ shut-calm)
 

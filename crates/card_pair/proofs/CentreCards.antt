@@ -17,8 +17,8 @@ use Rattle.card_pair.specs.CardMachine.{controlIn, heldBy}
 use Rattle.card_pair.specs.CentreMachine.{CentreAsked, Desk, centreMachine}
 use Rattle.card_pair.specs.Promise.{Rests}
 use Rattle.card_pair.proofs.Ends.{numberIn}
-use Rattle.card_pair.proofs.CentreBytes.{control, load, start-stale}
-use Rattle.card_pair.proofs.CentreEntries.{Away, Good, Rest, at, control}
+use Rattle.card_pair.proofs.CentreBytes.{start-stale}
+use Rattle.card_pair.proofs.CentreEntries.{Away, Good, Rest}
 use Rattle.card_pair.proofs.CentreRests.{idle, rest-answers, rest-asks, rest-errs, rest-expires, rest-stale}
 use Rattle.card_pair.proofs.CentreAway.{away-asks, away-away, away-errs, away-expires, away-p-abort, away-stale, away-takes}
 

@@ -44,7 +44,7 @@ use Rattle.pair.specs.Wires.{Wire}
 use Rattle.card_pair.specs.Answered.{toldPart, invokedOf, handedOf}
 use Rattle.card_pair.specs.CentreMachine.{Desk, centreEntry, after, does}
 use Rattle.card_pair.specs.Promise.{Rests}
-use Rattle.card_pair.proofs.CentreBytes.{At, held, number}
+use Rattle.card_pair.proofs.CentreBytes.{At}
 
 -- ---- a centre that rests, one that is away, and their entries
 
@@ -95,7 +95,7 @@ put-read ed a msgs t h g = laws ed .written-read pdu.GroundPdus (pduIn (lent msg
     ed .pdu-are-bits pdu.GroundPdus (lent msgs) (lent msgs) (lent msgs) a (bits-to msgs allBits)
     (bits-to msgs allBits) (bits-to msgs allBits)) h g
 
-record IsForward (a : Apdu) : Type 0 where
+pub record IsForward (a : Apdu) : Type 0 where
   pub message : Forwarded
   pub same : a ≡ is.Forward message
 

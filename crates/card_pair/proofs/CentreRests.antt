@@ -2,7 +2,7 @@
 -- Assumes nothing.
 use mathlib.Core.Path.{_≡_, refl, ap, sym, subst, _∙_}
 use mathlib.Core.Bool.{Bool, true, false, cond}
-use mathlib.Core.List.{List}
+use mathlib.Core.List.{List, []}
 use Prim.Native.Nat.{ℕ, _^_, _%_, _≤_, _<_}
 use native.Mathlib.Omega.{arith}
 use borrow.Author.Tests.{eq-eqb, lt-ltb, ltb-true}
@@ -64,8 +64,8 @@ use Rattle.card_pair.specs.CentreMachine.{Passed, CentreAsked, forward-r
 use Rattle.card_pair.specs.Promise.{Rests}
 use Rattle.card_pair.proofs.Ends.{numberIn, Keeps}
 use Rattle.card_pair.proofs.Beginnings.{begins-keeps, begins-valid}
-use Rattle.card_pair.proofs.CentreBytes.{At, Ended, at-record, closes-shut, coded, control, edition, forward-not-fitting, forward-stale, heard-data, heard-stale, held, held-is, load, low, no-number, number, policy, refused-call, reported, size, start-stale, stored-loads, taken, taken-does, timer, unpermitted, user, user-refused, version}
-use Rattle.card_pair.proofs.CentreEntries.{Away, Good, Replies, Rest, a-forward, a-response, at, clash, control, forward-value, idle-takes, message, no-difference, own-version, put-read, reads, request, request-back, response-back, response-value, result, same, tells}
+use Rattle.card_pair.proofs.CentreBytes.{At, Ended, Shut, at-record, bytes-are, closes-shut, forward-not-fitting, forward-stale, heard-data, heard-stale, held-is, invoked-is, kept-is, loads-next, no-number, number-taken, refused-call, reported, shut-back, start-stale, stored-loads, taken-does, told-is, unpermitted, user-refused, version-is}
+use Rattle.card_pair.proofs.CentreEntries.{Away, Good, Replies, Rest, a-forward, a-response, clash, forward-value, idle-takes, no-difference, own-version, put-read, request-back, response-back, response-value}
 
 -- ---- at rest
 

@@ -47,7 +47,8 @@ module _ (p : ℕ) (ed : Edition) (v : ℕ) (fair : securitySent (secures ed) p 
     -- and E8's own words, which say less
     pub centres-match : (ts : List (CentreTurn CentreAsked)) → after r q ts .here .line ≡ []
         → after r q ts .there .line ≡ []
-        → T (forwardPair (controlIn (loadAt (after r q ts .here .rec .kept .bytes))) (controlIn (loadAt (after r q ts .there .rec .kept .bytes))))
+        → T (forwardPair (controlIn (loadAt (after r q ts .here .rec .kept .bytes)))
+        (controlIn (loadAt (after r q ts .there .rec .kept .bytes))))
     centres-match ts = centres-pair (centreMachine p) (centre p ed v fair) (newDesk r u) (newDesk q w) a g below ts
 
   -- two records that peat_fresh made, in any two ranges of a record's size; each with its own word about forwarding (e, f)

@@ -27,7 +27,10 @@ use Rattle.card_pair.specs.CardMachine.{Buffers, heldBy}
 use Rattle.card_pair.specs.CentreMachine.{CentreAsked, Desk, newDesk, does, hears, centreMachine}
 use Rattle.card_pair.specs.Promise.{Rests}
 use Rattle.card_pair.proofs.Ends.{numberIn}
-use Rattle.card_pair.proofs.CentreCards.{Rest, Away, Good, rest-tells, away-tells, centre}
+use Rattle.card_pair.proofs.CentreEntries.{Rest, Away, Good}
+use Rattle.card_pair.proofs.CentreRests.{rest-tells}
+use Rattle.card_pair.proofs.CentreAway.{away-tells}
+use Rattle.card_pair.proofs.CentreCards.{centre}
 use Rattle.duties.specs.Host.{right}
 use Rattle.forward_duties.specs.Desks.{none, another, Move, fRun, fFresh}
 use Rattle.forward_duties.specs.Desks.{success as succeeded}

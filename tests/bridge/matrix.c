@@ -585,7 +585,6 @@ static void odd_payloads(void)
     if (!chosen(name))
         return;
     set(1);
-    stage.config.moves[0] = '\0'; /* a line of more entries than replay has room for */
     stage_aircraft(&stage, 0, 0);
     for (i = 0; i < sizeof bad / sizeof *bad; i++)
         memory_put(memory, 0, bad[i].byte, bad[i].bytes, 0);

@@ -67,33 +67,33 @@ among-end l from i n x a b h =
 
 -- a page of full size
 abbrev pub size : ℕ
-size = 50576
+size = 53264
 
 module _ (l : List ℕ) (n job fate : ℕ) (full : size ≤ length l) (room : n < 16384) where
   abbrev noticed : List ℕ
-  noticed = set (set (set l (17808 + 2 * n) job) (17808 + 2 * n + 1) fate) 10 (n + 1)
+  noticed = set (set (set l (20496 + 2 * n) job) (20496 + 2 * n + 1) fate) 10 (n + 1)
 
   count-there : getD noticed 10 0 ≡ n + 1
-  count-there = get-same (set (set l (17808 + 2 * n) job) (17808 + 2 * n + 1) fate) 10 (n + 1) (omega (
+  count-there = get-same (set (set l (20496 + 2 * n) job) (20496 + 2 * n + 1) fate) 10 (n + 1) (omega (
     arith,
     full,
-    length-set (set l (17808 + 2 * n) job) (17808 + 2 * n + 1) fate,
-    length-set l (17808 + 2 * n) job,
+    length-set (set l (20496 + 2 * n) job) (20496 + 2 * n + 1) fate,
+    length-set l (20496 + 2 * n) job,
   ))
 
-  job-there : getD noticed (17808 + 2 * n) 0 ≡ job
+  job-there : getD noticed (20496 + 2 * n) 0 ≡ job
   job-there =
-      get-other (set (set l (17808 + 2 * n) job) (17808 + 2 * n + 1) fate) 10 (17808 + 2 * n) (n + 1)
-      (λ (e : 17808 + 2 * n ≡ 10). omega (arith, e))
-      ∙ (get-other (set l (17808 + 2 * n) job) (17808 + 2 * n + 1) (17808 + 2 * n) fate
-      (λ (e : 17808 + 2 * n ≡ 17808 + 2 * n + 1). omega (arith, e)) ∙ get-same l (17808 + 2 * n) job
+      get-other (set (set l (20496 + 2 * n) job) (20496 + 2 * n + 1) fate) 10 (20496 + 2 * n) (n + 1)
+      (λ (e : 20496 + 2 * n ≡ 10). omega (arith, e))
+      ∙ (get-other (set l (20496 + 2 * n) job) (20496 + 2 * n + 1) (20496 + 2 * n) fate
+      (λ (e : 20496 + 2 * n ≡ 20496 + 2 * n + 1). omega (arith, e)) ∙ get-same l (20496 + 2 * n) job
       (omega (arith, full, room)))
 
-  fate-there : getD noticed (17808 + 2 * n + 1) 0 ≡ fate
+  fate-there : getD noticed (20496 + 2 * n + 1) 0 ≡ fate
   fate-there =
-      get-other (set (set l (17808 + 2 * n) job) (17808 + 2 * n + 1) fate) 10 (17808 + 2 * n + 1) (n + 1)
-      (λ (e : 17808 + 2 * n + 1 ≡ 10). omega (arith, e))
-      ∙ get-same (set l (17808 + 2 * n) job) (17808 + 2 * n + 1) fate (omega (arith, full, room, length-set l (17808 + 2 * n) job))
+      get-other (set (set l (20496 + 2 * n) job) (20496 + 2 * n + 1) fate) 10 (20496 + 2 * n + 1) (n + 1)
+      (λ (e : 20496 + 2 * n + 1 ≡ 10). omega (arith, e))
+      ∙ get-same (set l (20496 + 2 * n) job) (20496 + 2 * n + 1) fate (omega (arith, full, room, length-set l (20496 + 2 * n) job))
 
   -- a notice is the one of its number
   notice-there : isNoted noticed (n + 1) job fate ≡ true
@@ -117,7 +117,7 @@ pub noted-there : (l : List ℕ) (job fate : ℕ) → size ≤ length l → getD
     → isNoted (noted l job fate .page) (getD l 10 0 + 1) job fate ≡ true
 unfolding noted
 noted-there l job fate full room = subst (λ (b : Bool). isNoted (cond b (left true (set
-    (set (set l (17808 + 2 * getD l 10 0) job) (17808 + 2 * getD l 10 0 + 1) fate) 10 (getD l 10 0 + 1)))
+    (set (set l (20496 + 2 * getD l 10 0) job) (20496 + 2 * getD l 10 0 + 1) fate) 10 (getD l 10 0 + 1)))
     (left false l) .page) (getD l 10 0 + 1) job fate ≡ true) (sym (lt-ltb (getD l 10 0) 16384 room))
     (notice-there l (getD l 10 0) job fate full room)
 
@@ -144,7 +144,7 @@ pub record Entry (l : List ℕ) (i kind number job : ℕ) : Type 0 where
   pub number-there : entryIn l i 1 ≡ number
   pub entry-job-there : entryIn l i 2 ≡ job
 
-pub entry-there : (l : List ℕ) (i kind number job : ℕ) → size ≤ length l → i < 128 → Entry (setEntry l i kind number job) i kind number job
+pub entry-there : (l : List ℕ) (i kind number job : ℕ) → size ≤ length l → i < 1024 → Entry (setEntry l i kind number job) i kind number job
 unfolding setEntry entryIn
 entry-there l i kind number job full room =
     let x : List ℕ = set l (16 + 3 * i) kind in
@@ -162,7 +162,7 @@ entry-there l i kind number job full room =
     (omega (arith, full, room, s)) in
     let d : getD z (16 + 3 * i + 2) 0 ≡ job = get-same y (16 + 3 * i + 2) job (omega (arith, full, room, s, t)) in
     record {
-      kind-there = rw (lt-ltb i 128 room, lt-leb 128 i room, f, a);
-      number-there = rw (lt-ltb i 128 room, lt-leb 128 i room, b);
-      entry-job-there = rw (lt-ltb i 128 room, lt-leb 128 i room, d);
+      kind-there = rw (lt-ltb i 1024 room, lt-leb 1024 i room, f, a);
+      number-there = rw (lt-ltb i 1024 room, lt-leb 1024 i room, b);
+      entry-job-there = rw (lt-ltb i 1024 room, lt-leb 1024 i room, d);
     }

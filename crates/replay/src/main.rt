@@ -23,8 +23,8 @@ use page::put;
 use rules::Rule;
 use rules::say_rule;
 
-fn new_page() -> [u64; 50576] {
-    [0u64; 50576]
+fn new_page() -> [u64; 53264] {
+    [0u64; 53264]
 }
 
 fn new_broken() -> [u64; 4097] {

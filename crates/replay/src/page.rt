@@ -11,7 +11,7 @@ use moves::Held;
 pub struct Place {}
 
 impl Place {
-    pub const SIZE: usize = 50576;
+    pub const SIZE: usize = 53264;
 
     pub const STATE: usize = 0;
 
@@ -37,17 +37,17 @@ impl Place {
     // the line that leaves the end, oldest first: kind, number of the dialogue and job of each
     pub const LINE_AT: usize = 16;
 
-    pub const LINE_MOST: u64 = 128;
+    pub const LINE_MOST: u64 = 1024;
     // the jobs that were decided
-    pub const DECIDED_AT: usize = 400;
+    pub const DECIDED_AT: usize = 3088;
 
     pub const DECIDED_MOST: u64 = 16384;
     // the open jobs
-    pub const OPENED_AT: usize = 16784;
+    pub const OPENED_AT: usize = 19472;
 
     pub const OPENED_MOST: u64 = 1024;
     // job and fate of each notice
-    pub const NOTICES_AT: usize = 17808;
+    pub const NOTICES_AT: usize = 20496;
 
     pub const NOTICES_MOST: u64 = 16384;
 }
@@ -173,13 +173,13 @@ pub(crate) fn push(p: &mut [u64], counter: usize, from: usize, most: u64, x: u64
 }
 
 pub(crate) fn is_decided(p: &[u64], job: u64) -> bool
-    ensures { λ r. ⌜ r ≡ among (now (p .entry)) 400 (getD (now (p .entry)) 8 0) job ⌝ }
+    ensures { λ r. ⌜ r ≡ among (now (p .entry)) 3088 (getD (now (p .entry)) 8 0) job ⌝ }
 {
     is_among(p, Place::DECIDED_AT, get(p, Place::DECIDED), job)
 }
 
 pub(crate) fn decide(p: &mut [u64], job: u64) -> bool
-    ensures { λ r. ⌜ left r (now (p .exit)) ≡ pushed (now (p .entry)) 8 400 16384 job ⌝ }
+    ensures { λ r. ⌜ left r (now (p .exit)) ≡ pushed (now (p .entry)) 8 3088 16384 job ⌝ }
 {
     push(
         p,
@@ -191,7 +191,7 @@ pub(crate) fn decide(p: &mut [u64], job: u64) -> bool
 }
 
 pub(crate) fn open(p: &mut [u64], job: u64) -> bool
-    ensures { λ r. ⌜ left r (now (p .exit)) ≡ pushed (now (p .entry)) 9 16784 1024 job ⌝ }
+    ensures { λ r. ⌜ left r (now (p .exit)) ≡ pushed (now (p .entry)) 9 19472 1024 job ⌝ }
 {
     push(p, Place::OPENED, Place::OPENED_AT, Place::OPENED_MOST, job)
 }

@@ -1,10 +1,12 @@
 -- Writing: pieces one after another, each a run of bits that is written whole, or not where its value is none of its type.
 -- A piece that does not fit ends the writing; what was written before it stands. So a message is measured before its first bit is written.
-use Prim.Native.Nat.{ℕ}
+use Prim.Native.Nat.{ℕ, _^_, _≤_, _<_}
+use mathlib.Core.Path.{_≡_}
 use mathlib.Core.List.{List, [], _∷_, _++_}
 use mathlib.Core.Bool.{Bool, true, false, cond, _&&_}
 use lib.ListN.{length}
 use lib.Dec.{eqb}
+use Rattle.bits.specs.Bits.{bitsN}
 use Rattle.bits.specs.Put.{Left, left, putIf}
 use Rattle.bits.specs.declared.Put.{Put}
 use Rattle.bits.specs.declared.Put.the-variants.{Next, Full}
@@ -44,6 +46,13 @@ piecesFit (x ∷ xs) = x .fits && piecesFit xs
 unfoldable pub piecesBits : List Piece → List ℕ
 piecesBits [] = []
 piecesBits (x ∷ xs) = x .bits ++ piecesBits xs
+
+-- pieces of their types whose bits are the number v in n bits
+pub record OneNumber (xs : List Piece) (n v : ℕ) : Type 0 where
+  pub all-fit : piecesFit xs ≡ true
+  pub said : piecesBits xs ≡ bitsN n v
+  pub small : v < 2 ^ n
+  pub few : n ≤ 18
 
 -- ---- the arguments
 

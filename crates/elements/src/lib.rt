@@ -3,5 +3,6 @@ pub mod arguments;
 pub mod measuring;
 pub mod numbers;
 pub mod reading;
+mod short;
 pub mod values;
 pub mod writing;

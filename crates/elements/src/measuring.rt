@@ -64,7 +64,7 @@ fn level_fits_use(used: bool, x: Level) -> bool
     )
 }
 
-fn time_fits_use(used: bool, x: Time) -> bool
+pub(crate) fn time_fits_use(used: bool, x: Time) -> bool
     ensures { λ r. ⌜ r ≡ timeFitsUse used x ⌝ }
 {
     if used {

@@ -1,20 +1,17 @@
 // Elements and their arguments written, piece after piece. A message is measured before it is written, so that none of these is refused
 // then.
 ghost use mathlib.Core.Path.{_≡_};
-ghost use mathlib.Core.Bool.{true, false};
 ghost use mathlib.Core.List.{_++_};
-ghost use Rattle.bits.specs.Bits.{numOf};
 ghost use Rattle.bits.specs.Put.{left};
-ghost use Rattle.elements.specs.Arguments.{levelTypeBits, levelTypeFits};
 ghost use Rattle.elements.specs.Writing.{argumentPieces, choicePiece, elementPieces, facilityPieces, levelPieces, levelTypePieces, numberPieces, putPieces, sizedPieces, timePieces};
 use crate::arguments::highest;
 use crate::arguments::lowest;
-use crate::measuring::level_bits;
-use crate::measuring::type_fits_use;
 use crate::measuring::whole_bits;
 use crate::numbers::put_characters;
 use crate::numbers::put_numbers;
 use crate::reading::last_of;
+use crate::short::short_argument;
+use crate::short::short_level;
 use crate::values::Element;
 use crate::values::Level;
 use crate::values::LevelType;
@@ -75,37 +72,14 @@ fn put_level_by_fields(buf: &mut [u8], end: usize, at: usize, x: Level) -> Put
     first
 }
 
-// Whether a level is no block, and what is written of it is of its type.
-fn is_single(x: Level) -> bool
-    ensures { λ r. ⌜ (r ≡ true → (x .block ≡ false) × (levelTypeFits (x .first) ≡ true)) ⌝ }
-{
-    if x.block {
-        return false;
-    }
-    let first = x.first;
-    type_fits_use(true, first)
-}
-
-// The number that the bits of a level in one unit say: the unit, and how far it lies above the lowest.
-fn type_number(x: LevelType) -> u64
-    requires { ⌜ levelTypeFits x ≡ true ⌝ }
-    ensures { λ v. ⌜ v ≡ numOf (levelTypeBits x) ⌝ }
-{
-    let unit = x.unit as u64;
-    let low = lowest(unit);
-    let n = whole_bits(low, highest(unit));
-    (unit << n) + (x.number as u64 - low)
-}
-
 // A level: one that is no block as one number, of which the first bit is the index 0 of the CHOICE; else piece after piece.
 fn put_level(buf: &mut [u8], end: usize, at: usize, x: Level) -> Put
     ensures { λ r. ⌜ left r (now (buf .exit)) ≡ putPieces (now (buf .entry)) end at (levelPieces x) ⌝ }
 {
-    if is_single(x) {
-        let n = level_bits(x);
-        if bits::within(buf.len(), end, at, n) {
-            let first = x.first;
-            return bits::put_bits(buf, end, at, n, type_number(first));
+    let short = short_level(x);
+    if short.known {
+        if bits::within(buf.len(), end, at, short.bits) {
+            return bits::put_bits(buf, end, at, short.bits, short.number);
         }
     }
     put_level_by_fields(buf, end, at, x)
@@ -211,7 +185,7 @@ fn put_argument(
     }
 }
 
-// An element, whose characters are `text`.
+// An element, whose characters are `text`: index and argument as one number where they are one; else piece after piece.
 pub fn put_element(
     buf: &mut [u8],
     end: usize,
@@ -222,11 +196,21 @@ pub fn put_element(
 ) -> Put
     ensures { λ r. ⌜ left r (now (buf .exit)) ≡ putPieces (now (buf .entry)) end at (elementPieces direction e (now (text .entry))) ⌝ }
 {
-    let number = e.number;
-    let index = fields::put_extensible_index(buf, end, at, last_of(direction), number as u64);
+    let number = e.number as u64;
+    let kind = kind_of(direction, e.number);
+    let last = last_of(direction);
+    let short = short_argument(kind, e);
+    if short.known {
+        let n = 1 + whole_bits(0, last) + short.bits;
+        if number <= last {
+            if bits::within(buf.len(), end, at, n) {
+                return bits::put_bits(buf, end, at, n, (number << short.bits) + short.number);
+            }
+        }
+    }
+    let index = fields::put_extensible_index(buf, end, at, last, number);
     let Put::Next(next) = index else {
         return Put::Full;
     };
-    let kind = kind_of(direction, number);
     put_argument(buf, end, next, kind, e, text)
 }

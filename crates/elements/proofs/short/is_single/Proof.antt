@@ -1,12 +1,12 @@
--- `elements::writing::is_single` meets its contract.
+-- `elements::short::is_single` meets its contract.
 -- Assumes nothing.
 use mathlib.Core.Path.{_≡_, sym, _∙_}
 use mathlib.Core.Bool.{true, false}
 use Rattle.bits.proofs.Inside.{never}
 use Rattle.elements.specs.Measuring.{typeFitsUse}
 use borrow.Author.Needs.{needs}
-use Rattle.elements.proofs.writing.is_single.Statement.{statement}
-use Rattle.elements.proofs.writing.is_single.Tie as tie
+use Rattle.elements.proofs.short.is_single.Statement.{statement}
+use Rattle.elements.proofs.short.is_single.Tie as tie
 
 returns : tie.Need-returns
 returns c = λ (q : false ≡ true). never q

@@ -1,10 +1,10 @@
--- `elements::writing::type_number` meets its contract.
+-- `elements::short::type_number` meets its contract.
 -- Assumes nothing.
 use native.Mathlib.Omega.{arith}
 use Rattle.elements.proofs.Joined.{width-few, number-above, type-small, type-said}
 use borrow.Author.Needs.{needs}
-use Rattle.elements.proofs.writing.type_number.Statement.{statement}
-use Rattle.elements.proofs.writing.type_number.Tie as tie
+use Rattle.elements.proofs.short.type_number.Statement.{statement}
+use Rattle.elements.proofs.short.type_number.Tie as tie
 
 cast-unit : tie.Need-cast-unit
 cast-unit c = search needs

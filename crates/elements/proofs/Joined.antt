@@ -197,7 +197,7 @@ digits-behind : (d : ℕ) (ds : List ℕ) → digitsFit (d ∷ ds) ≡ true → 
 unfolding digitsFit
 digits-behind d ds f = both-right (wholeFits 0 7 d) (digitsFit ds) f
 
-four : (a b c d : ℕ) → b ≤ 7 → c ≤ 7 → d ≤ 7 → digitsBits (a ∷ b ∷ c ∷ d ∷ []) ≡ bitsN 12 (((a * 8 + b) * 8 + c) * 8 + d)
+pub four : (a b c d : ℕ) → b ≤ 7 → c ≤ 7 → d ≤ 7 → digitsBits (a ∷ b ∷ c ∷ d ∷ []) ≡ bitsN 12 (((a * 8 + b) * 8 + c) * 8 + d)
 unfolding digitsBits digitsIn
 four a b c d p q r =
     let x : bitsN 12 (((a * 8 + b) * 8 + c) * 8 + d) ≡ bitsN 9 ((a * 8 + b) * 8 + c) ++ bitsN 3 d = bitsN-join 9 3

@@ -149,7 +149,7 @@ block-stands l at m n next b x y e p q r =
     (stands-join l at m n true (levelTypeFits x) (wholeBits 0 1 1) (levelTypeBits x) c q)
     r
 
-single-stands : (l : List ℕ) (at m n b : ℕ) (x : LevelType) → b ≡ 0 → Stands l at (wholeFits 0 1 b) (wholeBits 0 1 b) m → Stands l m (levelTypeFits x) (levelTypeBits x) n → Stands l at (levelFits (record { block = false; first = x; second = noType })) (levelBits (record { block = false; first = x; second = noType })) n
+pub single-stands : (l : List ℕ) (at m n b : ℕ) (x : LevelType) → b ≡ 0 → Stands l at (wholeFits 0 1 b) (wholeBits 0 1 b) m → Stands l m (levelTypeFits x) (levelTypeBits x) n → Stands l at (levelFits (record { block = false; first = x; second = noType })) (levelBits (record { block = false; first = x; second = noType })) n
 unfolding levelFits levelBits
 single-stands l at m n b x e p q =
     let c : Stands l at true (wholeBits 0 1 0) m = stands-as l at m _ true _ refl (rw e at p) in

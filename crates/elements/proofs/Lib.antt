@@ -20,4 +20,5 @@ pub mod Measured
 pub mod Gathered
 pub mod Sixteens
 pub mod Joined
+pub mod OneRead
 pub mod Largest

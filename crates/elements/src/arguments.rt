@@ -12,6 +12,7 @@ use crate::values::Step;
 use crate::values::Time;
 use crate::values::TimeRead;
 use crate::values::type_refusal;
+use bits::Read;
 use fields::Field;
 use fields::Refusal;
 use fields::refusal_of;
@@ -54,7 +55,7 @@ pub fn read_level_type(s: &[u8], end: usize, at: usize) -> LevelTypeRead
     )
 }
 
-pub fn read_level(s: &[u8], end: usize, at: usize) -> LevelRead
+fn read_level_by_fields(s: &[u8], end: usize, at: usize) -> LevelRead
     ensures { λ r. ⌜ r ≡ levelAt (bitsTo (now (s .entry)) end) at ⌝ }
 {
     let choice = fields::whole(s, end, at, 0, 1);
@@ -89,6 +90,34 @@ pub fn read_level(s: &[u8], end: usize, at: usize) -> LevelRead
     )
 }
 
+// A level that is no block: the index 0 of the CHOICE and the unit as one number; else, and where something is refused, field by field.
+pub fn read_level(s: &[u8], end: usize, at: usize) -> LevelRead
+    ensures { λ r. ⌜ r ≡ levelAt (bitsTo (now (s .entry)) end) at ⌝ }
+{
+    let front = bits::read_bits(s, end, at, Level::FRONT_BITS);
+    let Read::Number(unit, next) = front else {
+        return read_level_by_fields(s, end, at);
+    };
+    if LevelType::LAST_UNIT < unit {
+        return read_level_by_fields(s, end, at);
+    }
+    let amount = fields::whole(s, end, next, lowest(unit), highest(unit));
+    let Field::Value(number, last) = amount else {
+        return read_level_by_fields(s, end, at);
+    };
+    LevelRead::Got(
+        Level {
+            block: false,
+            first: LevelType {
+                unit: unit as u8,
+                number: number as u16,
+            },
+            second: LevelType::EMPTY,
+        },
+        last,
+    )
+}
+
 pub fn read_time(s: &[u8], end: usize, at: usize) -> TimeRead
     ensures { λ r. ⌜ r ≡ timeAt (bitsTo (now (s .entry)) end) at ⌝ }
 {
@@ -118,7 +147,7 @@ fn no_code(r: Refusal) -> CodeRead
     }
 }
 
-pub fn read_code(s: &[u8], end: usize, at: usize) -> CodeRead
+fn read_code_by_fields(s: &[u8], end: usize, at: usize) -> CodeRead
     ensures { λ r. ⌜ r ≡ codeAt (bitsTo (now (s .entry)) end) at ⌝ }
 {
     let first = fields::whole(s, end, at, 0, Element::LAST_DIGIT);
@@ -140,6 +169,23 @@ pub fn read_code(s: &[u8], end: usize, at: usize) -> CodeRead
     CodeRead {
         step: Step::Next(next),
         digits: [a as u8, b as u8, c as u8, d as u8],
+    }
+}
+
+// The four digits as one number, or one by one.
+pub fn read_code(s: &[u8], end: usize, at: usize) -> CodeRead
+    ensures { λ r. ⌜ r ≡ codeAt (bitsTo (now (s .entry)) end) at ⌝ }
+{
+    let all = bits::read_bits(s, end, at, Element::CODE_BITS);
+    let Read::Number(v, next) = all else {
+        return read_code_by_fields(s, end, at);
+    };
+    let c = v / 8;
+    let b = c / 8;
+    let a = b / 8;
+    CodeRead {
+        step: Step::Next(next),
+        digits: [(a % 8) as u8, (b % 8) as u8, (c % 8) as u8, (v % 8) as u8],
     }
 }
 

@@ -100,7 +100,7 @@ fn short_code(x: [u8; 4]) -> Short
         let d = x[3] as u64;
         return Short {
             known: true,
-            bits: 12,
+            bits: Element::CODE_BITS,
             number: ((a * 8 + b) * 8 + c) * 8 + d,
         };
     }

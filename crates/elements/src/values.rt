@@ -46,6 +46,9 @@ impl LevelType {
 }
 
 impl Level {
+    // The index of the CHOICE, and the unit.
+    pub const FRONT_BITS: usize = 3;
+
     pub const EMPTY: Level = Level {
         block: false,
         first: LevelType::EMPTY,
@@ -68,6 +71,8 @@ impl Time {
 impl Element {
     // CodeOctalDigit (0..7).
     pub const LAST_DIGIT: u64 = 7;
+
+    pub const CODE_BITS: usize = 12;
     // IA5String: the characters are 0 to 127, in seven bits each.
     pub const CHARACTER_BITS: usize = 7;
 

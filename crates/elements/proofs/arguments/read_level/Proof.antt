@@ -1,112 +1,95 @@
 -- `elements::arguments::read_level` meets its contract.
 -- Assumes nothing.
-use mathlib.Core.Path.{refl}
-use borrow.Author.Tests.{eq-eqb, ne-eqb}
-use Rattle.elements.specs.declared.values.LevelRead.the-variants as level
-use Rattle.elements.specs.Arguments.{levelAt}
-use Rattle.elements.proofs.Steps.{handed-up, went}
-use Rattle.elements.proofs.Levels.{type-handed, type-went}
+use native.Mathlib.Omega.{arith}
+use Rattle.elements.proofs.OneRead.{amount-small, single-is}
 use borrow.Author.Needs.{needs}
 use Rattle.elements.proofs.arguments.read_level.Statement.{statement}
 use Rattle.elements.proofs.arguments.read_level.Tie as tie
 
-whole-requires : tie.Need-whole-requires
-whole-requires c κs = search needs
+read-bits-requires : tie.Need-read-bits-requires
+read-bits-requires c κs = search needs
 
-enum-known-choice : tie.Need-enum-known-choice
-enum-known-choice c = search needs
+enum-known-front : tie.Need-enum-known-front
+enum-known-front c = search needs
 
 enum-told : tie.Need-enum-told
 enum-told c = search needs
 
-refusal-of-requires : tie.Need-refusal-of-requires
-refusal-of-requires c κs = search needs
+read-level-by-fields-requires : tie.Need-read-level-by-fields-requires
+read-level-by-fields-requires c κs = search needs
 
 returns : tie.Need-returns
-unfolding levelAt
-returns c =
-    let c3 = c .before .before .before in
-    handed-up level.Refused _ _ _ _ _ (c3 .whole .ensures) (c .before .enum-told .given .1) (c .refusal-of .ensures)
+returns c = search needs
 
-read-level-type-requires : tie.Need-read-level-type-requires
-read-level-type-requires c κs = search needs
+read-level-by-fields-requires-2 : tie.Need-read-level-by-fields-requires-2
+read-level-by-fields-requires-2 c κs = search needs
 
-enum-known-one : tie.Need-enum-known-one
-enum-known-one c = search needs
+returns-2 : tie.Need-returns-2
+returns-2 c = search needs
+
+lowest-requires : tie.Need-lowest-requires
+lowest-requires c κs = search needs
+
+highest-requires : tie.Need-highest-requires
+highest-requires c κs = search needs
+
+whole-requires : tie.Need-whole-requires
+whole-requires c κs = search needs
+
+enum-known-amount : tie.Need-enum-known-amount
+enum-known-amount c = search needs
 
 enum-told-2 : tie.Need-enum-told-2
 enum-told-2 c = search needs
 
-type-refusal-requires : tie.Need-type-refusal-requires
-type-refusal-requires c κs = search needs
-
-returns-2 : tie.Need-returns-2
-unfolding levelAt
-returns-2 c =
-    let c3 = c .before .before .before in
-    let c7 = c3 .before .before .before .before in
-    went level.Refused _ _ _ _ _ _ (c7 .whole .ensures) (c3 .before .before .choice .given .1) (type-handed _ _ _ _ _
-    (c3 .read-level-type .ensures) (c .before .enum-told2 .given .1) (c .type-refusal .ensures))
+read-level-by-fields-requires-3 : tie.Need-read-level-by-fields-requires-3
+read-level-by-fields-requires-3 c κs = search needs
 
 returns-3 : tie.Need-returns-3
-unfolding levelAt
-returns-3 c =
-    let c4 = c .before .before .before .before in
-    let c8 = c4 .before .before .before .before in
-    went level.Refused _ _ _ _ _ _ (c8 .whole .ensures) (c4 .before .before .choice .given .1) (type-went _ _ _ _ _ _
-    (c4 .read-level-type .ensures) (c .before .before .one .given .1) (rw (eq-eqb _ _ (c .if1 .taken))))
+returns-3 c = search needs
 
-read-level-type-requires-2 : tie.Need-read-level-type-requires-2
-read-level-type-requires-2 c κs = search needs
+cast-t13 : tie.Need-cast-t13
+cast-t13 c = search needs
 
-enum-known-two : tie.Need-enum-known-two
-enum-known-two c = search needs
-
-enum-told-3 : tie.Need-enum-told-3
-enum-told-3 c = search needs
-
-type-refusal-requires-2 : tie.Need-type-refusal-requires-2
-type-refusal-requires-2 c κs = search needs
+cast-t14 : tie.Need-cast-t14
+cast-t14 c =
+    let c3 = c .before .before .before in
+    let c6 = c3 .before .before .before in
+    let c10 = c6 .before .before .before .before in
+    omega (
+      arith,
+      amount-small _ _ _ _ _ _ _ _ _ _ _ (c10 .read-bits .ensures) (c6 .before .before .front .given .1)
+          (omega (arith, c6 .if1 .left)) (c3 .before .before .lowest .ensures) (c3 .before .highest .ensures)
+          (c3 .whole .ensures) (c .before .amount .given .1),
+    )
 
 returns-4 : tie.Need-returns-4
-unfolding levelAt
 returns-4 c =
     let c3 = c .before .before .before in
     let c6 = c3 .before .before .before in
     let c10 = c6 .before .before .before .before in
-    went level.Refused _ _ _ _ _ _ (c10 .before .before .whole .ensures) (c10 .choice .given .1) (type-went _ _ _ _ _ _
-    (c6 .before .before .read-level-type .ensures) (c6 .one .given .1) (rw (ne-eqb _ _ (c3 .before .if1 .left)) (
-    type-handed _ _ _ _ _ (c3 .read-level-type2 .ensures) (c .before .enum-told3 .given .1)
-    (c .type-refusal2 .ensures))))
-
-returns-5 : tie.Need-returns-5
-unfolding levelAt
-returns-5 c =
-    let c3 = c .before .before .before in
-    let c6 = c3 .before .before .before in
-    let c10 = c6 .before .before .before .before in
-    went level.Refused _ _ _ _ _ _ (c10 .before .before .whole .ensures) (c10 .choice .given .1) (type-went _ _ _ _ _ _
-    (c6 .before .before .read-level-type .ensures) (c6 .one .given .1) (rw (ne-eqb _ _ (c3 .before .if1 .left))
-    (type-went _ _ _ _ _ _ (c3 .read-level-type2 .ensures) (c .before .two .given .1) refl)))
+    single-is _ _ _ _ _ _ _ _ _ _ _ (c10 .read-bits .ensures) (c6 .before .before .front .given .1)
+    (omega (arith, c6 .if1 .left)) (c3 .before .before .lowest .ensures) (c3 .before .highest .ensures)
+    (c3 .whole .ensures) (c .before .amount .given .1)
 
 pub read-level-spec : {M : Type 1} → statement M
 read-level-spec =
     tie.close
     (tie.spec
-    whole-requires
-    enum-known-choice
+    read-bits-requires
+    enum-known-front
     enum-told
-    refusal-of-requires
+    read-level-by-fields-requires
     returns
-    read-level-type-requires
-    enum-known-one
-    enum-told-2
-    type-refusal-requires
+    read-level-by-fields-requires-2
     returns-2
+    lowest-requires
+    highest-requires
+    whole-requires
+    enum-known-amount
+    enum-told-2
+    read-level-by-fields-requires-3
     returns-3
-    read-level-type-requires-2
-    enum-known-two
-    enum-told-3
-    type-refusal-requires-2
-    returns-4
-    returns-5)
+    cast-t13
+    cast-t14
+    returns-4)

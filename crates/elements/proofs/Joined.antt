@@ -31,10 +31,9 @@ use Rattle.elements.specs.declared.values.Element.{Element}
 use Rattle.kinds.specs.declared.ArgumentKind.{ArgumentKind}
 use Rattle.kinds.specs.declared.Direction.{Direction}
 use Rattle.kinds.specs.declared.Direction.the-variants as direction
-use Rattle.kinds.specs.Elements.{kindOf}
 use Rattle.elements.specs.Arguments.{lowest, highest, levelTypeFits, levelTypeBits, levelBits, timeFits, timeBits, digitsFit, digitsBits}
 use Rattle.elements.specs.OneElement.{lastOf}
-use Rattle.elements.specs.Writing.{Piece, OneNumber, whole, putPieces, piecesFit, piecesBits, levelPieces, timePieces, numberPieces, argumentPieces, elementPieces}
+use Rattle.elements.specs.Writing.{Piece, OneNumber, whole, putPieces, piecesFit, piecesBits, levelPieces, timePieces, numberPieces, argumentPieces, elementPiecesAs}
 use Rattle.elements.proofs.Fitting.{fit-append, level-type-fit, choice-fits, no-piece, time-fit, code-fit}
 use Rattle.elements.proofs.Standing.{both-hold}
 use Rattle.elements.proofs.Indices.{last-small}
@@ -242,39 +241,40 @@ code-said (a ∷ b ∷ c ∷ d ∷ e ∷ xs) l f = absurd (omega (arith, l))
 
 -- ---- an element whose argument is one number
 
-pub record ElementNumber (d : Direction) (e : Element) (t : List ℕ) (n v : ℕ) : Type 0 where
-  pub all-fit : piecesFit (elementPieces d e t) ≡ true
-  pub said : piecesBits (elementPieces d e t) ≡ bitsN n v
+pub record ElementNumber (d : Direction) (k : ArgumentKind) (e : Element) (t : List ℕ) (n v : ℕ) : Type 0 where
+  pub all-fit : piecesFit (elementPiecesAs d k e t) ≡ true
+  pub said : piecesBits (elementPiecesAs d k e t) ≡ bitsN n v
   pub small : v < 2 ^ n
   pub few : n ≤ 64
 
-element-with : (d : Direction) (e : Element) (t : List ℕ) (w n v : ℕ) → lastOf d < 2 ^ w → w ≤ 8 → w ≡ widthOf (lastOf d - 0)
-    → e .number ≤ lastOf d → OneNumber (argumentPieces (kindOf d (e .number)) e t) n v
-    → ElementNumber d e t (1 + w + n) (e .number * 2 ^ n + v)
-unfolding elementPieces piecesFit piecesBits indexBits
-element-with d e t w n v z y x l o =
+element-with : (d : Direction) (k : ArgumentKind) (e : Element) (t : List ℕ) (w n v : ℕ) → lastOf d < 2 ^ w → w ≤ 8
+    → w ≡ widthOf (lastOf d - 0)
+    → e .number ≤ lastOf d → OneNumber (argumentPieces k e t) n v
+    → ElementNumber d k e t (1 + w + n) (e .number * 2 ^ n + v)
+unfolding piecesFit piecesBits indexBits
+element-with d k e t w n v z y x l o =
     let i : ℕ = e .number in
     let j : bitsN (1 + w) (0 * 2 ^ w + i) ≡ bitsN 1 0 ++ bitsN w i = bitsN-join 1 w 0 i (omega (arith, l, z)) in
-    let k : bitsN (1 + w + n) (i * 2 ^ n + v) ≡ bitsN (1 + w) i ++ bitsN n v = bitsN-join (1 + w) n i v (o .small) in
+    let m : bitsN (1 + w + n) (i * 2 ^ n + v) ≡ bitsN (1 + w) i ++ bitsN n v = bitsN-join (1 + w) n i v (o .small) in
     let g : 0 * 2 ^ w + i ≡ i = omega arith in
     let h : 2 ^ w ≤ 2 ^ (1 + w) = pow-mono {i = w} {j = 1 + w} (omega arith) in
     let u : i * 2 ^ n + v < 2 ^ (1 + w) * 2 ^ n = digits-lt (omega (arith, l, z, h)) (o .small) in
     record {
       all-fit = both-hold (wholeFits 0 (lastOf d) i) _
           (both-hold (leb 0 i) (leb i (lastOf d)) (le-leb 0 i (omega arith)) (le-leb i (lastOf d) l)) (o .all-fit);
-      said = rw (o .said, from-zero, ← x, k) (ap (λ (b : List ℕ). b ++ bitsN n v) (sym (rw g at j)));
+      said = rw (o .said, from-zero, ← x, m) (ap (λ (b : List ℕ). b ++ bitsN n v) (sym (rw g at j)));
       small = rw (pow-add 2 (1 + w) n) u;
       few = omega (arith, y, o .few);
     }
 
-pub element-said : (d : Direction) (e : Element) (t : List ℕ) (w n v : ℕ) → w ≡ widthOf (lastOf d - 0)
-    → e .number ≤ lastOf d → OneNumber (argumentPieces (kindOf d (e .number)) e t) n v
-    → ElementNumber d e t (1 + w + n) (e .number * 2 ^ n + v)
+pub element-said : (d : Direction) (k : ArgumentKind) (e : Element) (t : List ℕ) (w n v : ℕ) → w ≡ widthOf (lastOf d - 0)
+    → e .number ≤ lastOf d → OneNumber (argumentPieces k e t) n v
+    → ElementNumber d k e t (1 + w + n) (e .number * 2 ^ n + v)
 unfolding digitsIn lastOf
-element-said direction.Downlink e t w n v p l o = rw p (element-with direction.Downlink e t 7 n v (omega arith) (omega arith) refl l o)
-element-said direction.Uplink e t w n v p l o = rw p (element-with direction.Uplink e t 8 n v (omega arith) (omega arith) refl l o)
+element-said direction.Downlink k e t w n v p l o = rw p (element-with direction.Downlink k e t 7 n v (omega arith) (omega arith) refl l o)
+element-said direction.Uplink k e t w n v p l o = rw p (element-with direction.Uplink k e t 8 n v (omega arith) (omega arith) refl l o)
 
-module _ (d : Direction) (e : Element) (t : List ℕ) (last w n v : ℕ) (k : ArgumentKind) (pl : last ≡ lastOf d) (pw : w ≡ widthOf (last - 0)) (pk : k ≡ kindOf d (e .number)) (o : OneNumber (argumentPieces k e t) n v) (l : e .number ≤ last) where
+module _ (d : Direction) (k : ArgumentKind) (e : Element) (t : List ℕ) (last w n v : ℕ) (pl : last ≡ lastOf d) (pw : w ≡ widthOf (last - 0)) (o : OneNumber (argumentPieces k e t) n v) (l : e .number ≤ last) where
   shifted-small : e .number * 2 ^ n ≤ 236 * 262144
   shifted-small =
       let b : 2 ^ n ≤ 2 ^ 18 = pow-mono {i = n} {j = 18} (o .few) in
@@ -291,8 +291,8 @@ module _ (d : Direction) (e : Element) (t : List ℕ) (last w n v : ℕ) (k : Ar
 
   pub element-put : (s z : List ℕ) (end at : ℕ) (a : Put) → Within s end at (1 + w + n)
       → left a z ≡ putNumber s end at (1 + w + n) (e .number * 2 ^ n % 2 ^ 64 + v)
-      → left a z ≡ putPieces s end at (elementPieces d e t)
+      → left a z ≡ putPieces s end at (elementPiecesAs d k e t)
   element-put s z end at a h q =
-      let u = element-said d e t w n v (rw pl at pw) (rw pl at l) (rw pk at o) in
-      one-put (elementPieces d e t) s z end at (1 + w + n) (e .number * 2 ^ n + v) a (u .all-fit) (u .said) (u .small)
+      let u = element-said d k e t w n v (rw pl at pw) (rw pl at l) o in
+      one-put (elementPiecesAs d k e t) s z end at (1 + w + n) (e .number * 2 ^ n + v) a (u .all-fit) (u .said) (u .small)
       (u .few) h (rw not-cut at q)

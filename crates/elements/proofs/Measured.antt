@@ -25,7 +25,7 @@ use Rattle.elements.specs.declared.measuring.Uses.{Uses}
 use Rattle.elements.specs.declared.values.Size.the-variants as size
 use Rattle.kinds.specs.Elements.{kindOf}
 use Rattle.elements.specs.Arguments.{flag, lowest, highest, levelTypeBits, levelFits, levelBits, timeFits, timeBits, digitsFit, codeFits, digitsBits, charactersFit, sizedFits, sizedBits, facilityFits, facilityBits, atisFits}
-use Rattle.elements.specs.OneElement.{zeros, codeUnused, levelUnused, timeUnused, levelsUnused, plain, noText, argumentFits, argumentBits, lastOf, elementFits, elementBits}
+use Rattle.elements.specs.OneElement.{zeros, codeUnused, levelUnused, timeUnused, levelsUnused, plain, noText, argumentFits, argumentBits, lastOf, elementFits, elementBits, elementFitsAs, elementBitsAs}
 use Rattle.elements.specs.Measuring.{allMost, typeFitsUse, levelFitsUse, timeFitsUse, codeFitsUse, textFitsKind, usesOf, largestOf}
 use Rattle.words.proofs.Laws.{both-left, both-right}
 use Rattle.elements.proofs.Steps.{never}
@@ -46,9 +46,8 @@ fits-as r lo hi lo′ hi′ v e p q = rw (← p, ← q) e
 
 pub element-fits-by : (d : Direction) (e : Element) (t : List ℕ) (r a f g : Bool) (last : ℕ) (k : ArgumentKind)
     → r ≡ a && g → a ≡ f && eqb (e .characters) (length t) → f ≡ wholeFits 0 last (e .number) → g ≡ argumentFits k e t
-    → last ≡ lastOf d → k ≡ kindOf d (e .number) → r ≡ elementFits d e t
-unfolding elementFits
-element-fits-by d e t r a f g last k h i j m p q = rw (h, i, j, m, p, q)
+    → last ≡ lastOf d → r ≡ elementFitsAs d k e t
+element-fits-by d e t r a f g last k h i j m p = rw (h, i, j, m, p)
 
 -- ---- several numbers: the loop has seen the first i of them
 
@@ -163,7 +162,9 @@ never-both true = refl
 never-both false = refl
 
 argument-parts : (k : ArgumentKind) (e : Element) (t : List ℕ)
-    → levelFitsUse (leb 1 (usesOf k .levels)) (e .level) && levelFitsUse (leb 2 (usesOf k .levels)) (e .other) && timeFitsUse (usesOf k .time) (e .time) && codeFitsUse (usesOf k .code) (e .code) && textFitsKind k t ≡ argumentFits k e t
+    → levelFitsUse (leb 1 (usesOf k .levels)) (e .level) && levelFitsUse (leb 2 (usesOf k .levels)) (e .other) &&
+    timeFitsUse (usesOf k .time) (e .time) && codeFitsUse (usesOf k .code) (e .code) && textFitsKind k t ≡
+    argumentFits k e t
 unfolding usesOf levelFitsUse timeFitsUse codeFitsUse textFitsKind argumentFits plain levelsUnused
 argument-parts kind.NotCarried e t = never-both
     (levelUnused (e .level) && levelUnused (e .other) && timeUnused (e .time) && codeUnused (e .code))
@@ -391,11 +392,27 @@ module _ (d : Direction) (e : Element) (t : List ℕ) (p : elementFits d e t ≡
   pub argument-small : (k : ArgumentKind) → k ≡ kindOf d (e .number) → length (argumentBits k e t) ≤ 1800
   argument-small k q = rw q (omega (arith, argument-largest (kindOf d (e .number)) e t its-argument, largest-small (kindOf d (e .number))))
 
-module _ (d : Direction) (e : Element) (t : List ℕ) (ok : Bool) (h : ok ≡ elementFits d e t) where
-  pub measured : (w last n : ℕ) (k : ArgumentKind) → ok ≡ true → w ≡ widthOf (last - 0) → last ≡ lastOf d
-      → k ≡ kindOf d (e .number) → n ≡ length (argumentBits k e t)
-      → size.Bits (1 + w + n) ≡ cond (elementFits d e t) (size.Bits (length (elementBits d e t))) size.Shape
-  measured w last n k p a b c m = rw (← h, p, length-element d e t, ← c, ← m, ← b, ← a)
+-- the same of an argument of any kind
+module _ (d : Direction) (k : ArgumentKind) (e : Element) (t : List ℕ) (p : elementFitsAs d k e t ≡ true) where
+  argument-as : argumentFits k e t ≡ true
+  argument-as = both-right (wholeFits 0 (lastOf d) (e .number) && eqb (e .characters) (length t)) (argumentFits k e t) p
 
-  pub no-shape : ok ≡ false → size.Shape ≡ cond (elementFits d e t) (size.Bits (length (elementBits d e t))) size.Shape
+  pub few-as : length t ≤ 256
+  few-as = few k e t argument-as
+
+  pub small-as : length (argumentBits k e t) ≤ 1800
+  small-as = omega (arith, argument-largest k e t argument-as, largest-small k)
+
+module _ (d : Direction) (k : ArgumentKind) (e : Element) (t : List ℕ) (ok : Bool) (h : ok ≡ elementFitsAs d k e t) where
+  pub measured : (w last n : ℕ) → ok ≡ true → w ≡ widthOf (last - 0) → last ≡ lastOf d → n ≡ length (argumentBits k e t)
+      → size.Bits (1 + w + n) ≡ cond (elementFitsAs d k e t) (size.Bits (length (elementBitsAs d k e t))) size.Shape
+  measured w last n p a b m =
+      let l : length (elementBitsAs d k e t) ≡ 1 + widthOf (lastOf d - 0) + length (argumentBits k e t) = omega (
+        arith,
+        length-append (indexBits (lastOf d) (e .number)) (argumentBits k e t),
+        length-index (lastOf d) (e .number),
+      ) in
+      rw (← h, p, l, ← m, ← b, ← a)
+
+  pub no-shape : ok ≡ false → size.Shape ≡ cond (elementFitsAs d k e t) (size.Bits (length (elementBitsAs d k e t))) size.Shape
   no-shape p = rw (← h, p)

@@ -22,16 +22,16 @@ use Rattle.kinds.specs.declared.Direction.{Direction}
 use Rattle.kinds.specs.declared.ArgumentKind.{ArgumentKind}
 use Rattle.elements.specs.declared.values.Level.{Level}
 use Rattle.elements.specs.declared.values.Element.{Element}
-use Rattle.kinds.specs.Elements.{kindOf}
 use Rattle.elements.specs.OneElement.{lastOf}
-use Rattle.elements.specs.Writing.{Piece, onPut, putPieces, piecesFit, piecesBits, whole, choicePiece, levelTypePieces, levelPieces, numberPieces, sizedPieces, facilityPieces, argumentPieces, indexPiece, elementPieces}
+use Rattle.elements.specs.Writing.{Piece, onPut, putPieces, piecesFit, piecesBits, whole, choicePiece, levelTypePieces, levelPieces, numberPieces, sizedPieces, facilityPieces, argumentPieces, indexPiece, elementPiecesAs}
 
 pub pieces-nil : (s : List ℕ) (e at : ℕ) → putPieces s e at [] ≡ left (Next at) s
 unfolding putPieces
 pieces-nil s e at = refl
 
 pub pieces-cons : (s : List ℕ) (e at : ℕ) (x : Piece) (xs : List Piece)
-    → putPieces s e at (x ∷ xs) ≡ onPut (putIf (x .fits) s e at (x .bits) .answer) (putIf (x .fits) s e at (x .bits) .bytes) (λ (t : List ℕ) (p : ℕ). putPieces t e p xs)
+    → putPieces s e at (x ∷ xs) ≡ onPut (putIf (x .fits) s e at (x .bits) .answer)
+    (putIf (x .fits) s e at (x .bits) .bytes) (λ (t : List ℕ) (p : ℕ). putPieces t e p xs)
 unfolding putPieces
 pieces-cons s e at x xs = refl
 
@@ -48,15 +48,20 @@ one-piece s z e at a x h = sym (rw (pieces-cons, ← h) (last a))
 
 -- pieces before others
 pub pieces-append : (xs ys : List Piece) (s : List ℕ) (e at : ℕ)
-    → putPieces s e at (xs ++ ys) ≡ onPut (putPieces s e at xs .answer) (putPieces s e at xs .bytes) (λ (t : List ℕ) (p : ℕ). putPieces t e p ys)
+    → putPieces s e at (xs ++ ys) ≡ onPut (putPieces s e at xs .answer) (putPieces s e at xs .bytes)
+    (λ (t : List ℕ) (p : ℕ). putPieces t e p ys)
 pieces-append [] ys s e at = rw (pieces-nil)
 pieces-append (x ∷ xs) ys s e at = rw (pieces-cons s e at x (xs ++ ys), pieces-cons s e at x xs) (go
     (putIf (x .fits) s e at (x .bits) .answer) (putIf (x .fits) s e at (x .bits) .bytes)
     (λ (t : List ℕ) (p : ℕ). pieces-append xs ys t e p))
   where
     go : (a : Put) (t : List ℕ)
-        → ((t : List ℕ) (p : ℕ) → putPieces t e p (xs ++ ys) ≡ onPut (putPieces t e p xs .answer) (putPieces t e p xs .bytes) (λ (t : List ℕ) (p : ℕ). putPieces t e p ys))
-        → onPut a t (λ (t : List ℕ) (p : ℕ). putPieces t e p (xs ++ ys)) ≡ onPut (onPut a t (λ (t : List ℕ) (p : ℕ). putPieces t e p xs) .answer) (onPut a t (λ (t : List ℕ) (p : ℕ). putPieces t e p xs) .bytes) (λ (t : List ℕ) (p : ℕ). putPieces t e p ys)
+        → ((t : List ℕ) (p : ℕ) → putPieces t e p (xs ++ ys) ≡ onPut (putPieces t e p xs .answer)
+        (putPieces t e p xs .bytes) (λ (t : List ℕ) (p : ℕ). putPieces t e p ys))
+        → onPut a t (λ (t : List ℕ) (p : ℕ). putPieces t e p (xs ++ ys)) ≡ onPut
+        (onPut a t (λ (t : List ℕ) (p : ℕ). putPieces t e p xs) .answer)
+        (onPut a t (λ (t : List ℕ) (p : ℕ). putPieces t e p xs) .bytes)
+        (λ (t : List ℕ) (p : ℕ). putPieces t e p ys)
     go (Next p) t h = h t p
     go Full t h = refl
 
@@ -235,13 +240,10 @@ module _ (d : Direction) (e : Element) (xs s t : List ℕ) (end at last : ℕ) (
   index-put : left a t ≡ putPieces s end at (indexPiece (lastOf d) (e .number) ∷ [])
   index-put = one-piece s t end at a (indexPiece (lastOf d) (e .number)) (rw l at h)
 
-  pub element-full : a ≡ Full → left Full t ≡ putPieces s end at (elementPieces d e xs)
-  unfolding elementPieces
-  element-full q = pieces-full (indexPiece (lastOf d) (e .number) ∷ []) (argumentPieces (kindOf d (e .number)) e xs) s t
-      end at a index-put q
+  pub element-full : (k : ArgumentKind) → a ≡ Full → left Full t ≡ putPieces s end at (elementPiecesAs d k e xs)
+  element-full k q = pieces-full (indexPiece (lastOf d) (e .number) ∷ []) (argumentPieces k e xs) s t end at a index-put q
 
-  pub element-next : (z : List ℕ) (p : ℕ) (k : ArgumentKind) (b : Put) → a ≡ Next p → k ≡ kindOf d (e .number)
-      → left b z ≡ putPieces t end p (argumentPieces k e xs) → left b z ≡ putPieces s end at (elementPieces d e xs)
-  unfolding elementPieces
-  element-next z p k b q i w = pieces-next (indexPiece (lastOf d) (e .number) ∷ [])
-      (argumentPieces (kindOf d (e .number)) e xs) s t z end at p a b index-put q (rw i at w)
+  pub element-next : (z : List ℕ) (p : ℕ) (k : ArgumentKind) (b : Put) → a ≡ Next p
+      → left b z ≡ putPieces t end p (argumentPieces k e xs) → left b z ≡ putPieces s end at (elementPiecesAs d k e xs)
+  element-next z p k b q w = pieces-next (indexPiece (lastOf d) (e .number) ∷ []) (argumentPieces k e xs) s t z end at p a
+      b index-put q w

@@ -168,12 +168,19 @@ argumentBits kind.Facility e t = facilityBits t
 argumentBits kind.FacilityDesignation e t = sizedBits 4 8 t
 argumentBits kind.AtisCode e t = charactersBits t
 
+-- with an argument of the kind k
+abbrev pub elementFitsAs : Direction → ArgumentKind → Element → List ℕ → Bool
+elementFitsAs d k e t = wholeFits 0 (lastOf d) (e .number) && eqb (e .characters) (length t) && argumentFits k e t
+
+abbrev pub elementBitsAs : Direction → ArgumentKind → Element → List ℕ → List ℕ
+elementBitsAs d k e t = indexBits (lastOf d) (e .number) ++ argumentBits k e t
+
+-- with one of its own
 unfoldable pub elementFits : Direction → Element → List ℕ → Bool
-elementFits d e t =
-    wholeFits 0 (lastOf d) (e .number) && eqb (e .characters) (length t) && argumentFits (kindOf d (e .number)) e t
+elementFits d e t = elementFitsAs d (kindOf d (e .number)) e t
 
 unfoldable pub elementBits : Direction → Element → List ℕ → List ℕ
-elementBits d e t = indexBits (lastOf d) (e .number) ++ argumentBits (kindOf d (e .number)) e t
+elementBits d e t = elementBitsAs d (kindOf d (e .number)) e t
 
 -- the characters at the end of an element that was read
 abbrev pub textOf : List ℕ → Element → ℕ → List ℕ

@@ -98,5 +98,8 @@ argumentPieces kind.AtisCode e t = numberPieces 127 t
 abbrev pub indexPiece : ℕ → ℕ → Piece
 indexPiece last i = record { fits = wholeFits 0 last i; bits = indexBits last i }
 
+abbrev pub elementPiecesAs : Direction → ArgumentKind → Element → List ℕ → List Piece
+elementPiecesAs d k e t = (indexPiece (lastOf d) (e .number) ∷ []) ++ argumentPieces k e t
+
 unfoldable pub elementPieces : Direction → Element → List ℕ → List Piece
-elementPieces d e t = (indexPiece (lastOf d) (e .number) ∷ []) ++ argumentPieces (kindOf d (e .number)) e t
+elementPieces d e t = elementPiecesAs d (kindOf d (e .number)) e t

@@ -7,7 +7,7 @@ ghost use Rattle.fields.specs.Encodings.{wholeFits};
 ghost use Rattle.fields.specs.Fields.{widthOf};
 ghost use Rattle.elements.specs.Arguments.{levelBits, levelTypeBits, sizedBits, sizedFits};
 ghost use Rattle.elements.specs.Measuring.{codeFitsUse, levelFitsUse, textFitsKind, timeFitsUse, typeFitsUse, usesOf};
-ghost use Rattle.elements.specs.OneElement.{argumentBits, argumentFits, elementBits, elementFits};
+ghost use Rattle.elements.specs.OneElement.{argumentBits, argumentFits, elementBitsAs, elementFitsAs};
 use crate::arguments::highest;
 use crate::arguments::lowest;
 use crate::numbers::all_most;
@@ -19,7 +19,6 @@ use crate::values::Size;
 use crate::values::Time;
 use kinds::ArgumentKind;
 use kinds::Direction;
-use kinds::kind_of;
 
 fn both(a: bool, b: bool) -> bool
     ensures { λ r. ⌜ r ≡ a && b ⌝ }
@@ -269,16 +268,14 @@ fn argument_bits(kind: ArgumentKind, e: Element, text: &[u8]) -> usize
     }
 }
 
-// How many bits an element takes whose characters are `text`; an element that is none of its type has the wrong shape.
-pub fn element_bits(direction: Direction, e: Element, text: &[u8]) -> Size
-    ensures { λ r. ⌜ r ≡ cond (elementFits direction e (now (text .entry)))
-        (Size.Bits (length (elementBits direction e (now (text .entry))))) Size.Shape ⌝ }
+// How many bits an element takes with an argument of a kind, whose characters are `text`; one that is none of its type has the wrong shape.
+pub fn element_bits(direction: Direction, kind: ArgumentKind, e: Element, text: &[u8]) -> Size
+    ensures { λ r. ⌜ r ≡ cond (elementFitsAs direction kind e (now (text .entry)))
+        (Size.Bits (length (elementBitsAs direction kind e (now (text .entry))))) Size.Shape ⌝ }
 {
-    let number = e.number;
-    let kind = kind_of(direction, number);
     let last = last_of(direction);
     let own = both(
-        fits(0, last, number as u64),
+        fits(0, last, e.number as u64),
         e.characters == text.len() as u64,
     );
     if both(own, argument_fits(kind, e, text)) {

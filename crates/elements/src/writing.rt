@@ -3,7 +3,7 @@
 ghost use mathlib.Core.Path.{_≡_};
 ghost use mathlib.Core.List.{_++_};
 ghost use Rattle.bits.specs.Put.{left};
-ghost use Rattle.elements.specs.Writing.{argumentPieces, choicePiece, elementPieces, facilityPieces, levelPieces, levelTypePieces, numberPieces, putPieces, sizedPieces, timePieces};
+ghost use Rattle.elements.specs.Writing.{argumentPieces, choicePiece, elementPiecesAs, facilityPieces, levelPieces, levelTypePieces, numberPieces, putPieces, sizedPieces, timePieces};
 use crate::arguments::highest;
 use crate::arguments::lowest;
 use crate::measuring::whole_bits;
@@ -19,7 +19,6 @@ use crate::values::Time;
 use bits::Put;
 use kinds::ArgumentKind;
 use kinds::Direction;
-use kinds::kind_of;
 
 fn put_level_type(buf: &mut [u8], end: usize, at: usize, x: LevelType) -> Put
     ensures { λ r. ⌜ left r (now (buf .exit)) ≡ putPieces (now (buf .entry)) end at (levelTypePieces x) ⌝ }
@@ -185,19 +184,19 @@ fn put_argument(
     }
 }
 
-// An element, whose characters are `text`: index and argument as one number where they are one; else piece after piece.
+// An element with an argument of a kind, whose characters are `text`: index and argument as one number where they are one; else piece after piece.
 pub fn put_element(
     buf: &mut [u8],
     end: usize,
     at: usize,
     direction: Direction,
+    kind: ArgumentKind,
     e: Element,
     text: &[u8],
 ) -> Put
-    ensures { λ r. ⌜ left r (now (buf .exit)) ≡ putPieces (now (buf .entry)) end at (elementPieces direction e (now (text .entry))) ⌝ }
+    ensures { λ r. ⌜ left r (now (buf .exit)) ≡ putPieces (now (buf .entry)) end at (elementPiecesAs direction kind e (now (text .entry))) ⌝ }
 {
     let number = e.number as u64;
-    let kind = kind_of(direction, e.number);
     let last = last_of(direction);
     let short = short_argument(kind, e);
     if short.known {

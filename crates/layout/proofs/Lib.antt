@@ -1,6 +1,7 @@
 pub mod StructTypes
 pub mod Copied
 pub mod InOrder
+pub mod KindsOnce
 pub mod Pieces
 pub mod Laying
 pub mod Fronts

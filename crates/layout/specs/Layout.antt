@@ -27,11 +27,16 @@
 -- The characters of all elements stand in a text beside the message, one element's after another's. A number may be any that its bytes
 -- hold:
 -- whether it is one of its type, and whether what is not used is zero, the writer asks.
-use Prim.Native.Nat.{ℕ, zero, suc, _+_, _*_, _/_, _%_}
+use Prim.Native.Nat.{ℕ, zero, suc, _+_, _*_, _/_, _%_, _<_}
+use mathlib.Core.Path.{_≡_}
 use mathlib.Core.Bool.{Bool, true, false, cond, _&&_}
 use mathlib.Core.List.{List, [], _∷_, _++_}
 use lib.Dec.{ltb, eqb}
 use lib.ListN.{length, getD, take, drop}
+use Rattle.kinds.specs.Elements.{kindOf}
+use Rattle.kinds.specs.declared.ArgumentKind.{ArgumentKind}
+use Rattle.kinds.specs.declared.ArgumentKind.the-variants.{NotCarried}
+use Rattle.kinds.specs.declared.Direction.{Direction}
 use Rattle.elements.specs.Arguments.{flag}
 use Rattle.elements.specs.declared.values.Level.{Level}
 use Rattle.elements.specs.declared.values.Element.{Element}
@@ -123,6 +128,11 @@ elementOf p =
 unfoldable pub elementsOf : ℕ → List ℕ → List Element
 elementsOf zero b = []
 elementsOf (suc n) b = elementOf (take placeSize b) ∷ elementsOf n (drop placeSize b)
+
+-- ks has the kinds of the arguments in the first n places, of five
+pub record KindsOf (d : Direction) (b : List ℕ) (n : ℕ) (ks : List ArgumentKind) : Type 0 where
+  pub five : length ks ≡ 5
+  pub each : (i : ℕ) → i < n → i < 5 → getD ks i NotCarried ≡ kindOf d (getD b (frontSize + placeSize * i) 0)
 
 unfoldable pub messageOf : List ℕ → Message
 messageOf b = record { header = headerOf b; count = getD b 11 0; places = elementsOf 5 (drop frontSize b) }

@@ -11,7 +11,7 @@ ghost use Rattle.elements.specs.Writing.{putPieces, whole};
 ghost use Rattle.inner.specs.Messages.{allEmpty, done, messageBits, messageCarried, padding as paddingOf, writeMessage};
 ghost use Rattle.inner.specs.Places.{rowBits, rowFits};
 ghost use Rattle.inner.specs.Writing.{messagePieces, rowPieces};
-ghost use Rattle.layout.specs.Layout.{elementsOf, frontSize, messageOf, placesStand, size};
+ghost use Rattle.layout.specs.Layout.{KindsOf, elementsOf, frontSize, messageOf, placesStand, size};
 use crate::front::load_header;
 use crate::place::load_element;
 use crate::stored::Laid;
@@ -24,7 +24,9 @@ use inner::measuring::header_bits;
 use inner::values::Message;
 use inner::values::MessageWritten;
 use inner::writing::put_header;
+use kinds::ArgumentKind;
 use kinds::Direction;
+use kinds::kind_of;
 
 // Where n characters end that begin at a place of a text: not behind the text's end.
 fn part_end(len: usize, from: usize, n: u64) -> usize
@@ -37,9 +39,35 @@ fn part_end(len: usize, from: usize, n: u64) -> usize
     from + n as usize
 }
 
+// How many of the five places are used, where n are said to be.
+fn used(n: u8) -> usize
+    ensures { λ r. ⌜ r ≡ min n 5 ⌝ }
+{
+    let many = n as usize;
+    if many < Message::PLACES {
+        return many;
+    }
+    Message::PLACES
+}
+
+// The kinds of the arguments in the first n places, of which there are five: each is looked up once.
+fn kinds_of(direction: Direction, b: &[u8], n: u8) -> [ArgumentKind; 5]
+    requires { ⌜ size ≤ length (now b) ⌝ }
+    ensures { λ ks. ⌜ KindsOf direction (now (b .entry)) n ks ⌝ }
+{
+    let many = used(n);
+    let mut ks = [ArgumentKind::NotCarried; 5];
+    let mut i: usize = 0;
+    while i < many {
+        ks[i] = kind_of(direction, b[Laid::FRONT + Laid::PLACE * i]);
+        i += 1;
+    }
+    ks
+}
+
 // How many bits the elements in the first n places take; their characters are the whole text.
-fn row_bits(direction: Direction, b: &[u8], n: usize, text: &[u8]) -> Size
-    requires { ⌜ (n ≤ 5) × (size ≤ length (now b)) ⌝ }
+fn row_bits(direction: Direction, ks: [ArgumentKind; 5], b: &[u8], n: usize, text: &[u8]) -> Size
+    requires { ⌜ (n ≤ 5) × (size ≤ length (now b)) × KindsOf direction (now b) n ks ⌝ }
     ensures { λ r. ⌜ r ≡ cond (rowFits direction (take n (elementsOf 5 (drop frontSize (now (b .entry))))) (now (text .entry)))
         (Size.Bits (length (rowBits direction (take n (elementsOf 5 (drop frontSize (now (b .entry))))) (now (text .entry))))) Size.Shape ⌝ }
 {
@@ -50,7 +78,7 @@ fn row_bits(direction: Direction, b: &[u8], n: usize, text: &[u8]) -> Size
         let at = Laid::FRONT + Laid::PLACE * i;
         let e = load_element(&b[at..at + Laid::PLACE]);
         let to = part_end(text.len(), from, e.characters);
-        let one = element_bits(direction, e, &text[from..to]);
+        let one = element_bits(direction, ks[i], e, &text[from..to]);
         let Size::Bits(k) = one else {
             return Size::Shape;
         };
@@ -82,8 +110,8 @@ fn is_count(n: usize) -> bool
 }
 
 // How many bits the message in a range takes. One that is none of its type, or passes the most bits, has the wrong shape.
-fn laid_bits(direction: Direction, b: &[u8], text: &[u8]) -> Size
-    requires { ⌜ (length (now b) ≡ size) × (placesStand 5 (drop frontSize (now b)) ≡ true) ⌝ }
+fn laid_bits(direction: Direction, ks: [ArgumentKind; 5], b: &[u8], text: &[u8]) -> Size
+    requires { ⌜ (length (now b) ≡ size) × (placesStand 5 (drop frontSize (now b)) ≡ true) × KindsOf direction (now b) (getD (now b) 11 0) ks ⌝ }
     ensures { λ r. ⌜ r ≡ cond (messageCarried direction (messageOf (now (b .entry))) (now (text .entry)))
         (Size.Bits (length (messageBits direction (messageOf (now (b .entry))) (now (text .entry))))) Size.Shape ⌝ }
 {
@@ -96,7 +124,7 @@ fn laid_bits(direction: Direction, b: &[u8], text: &[u8]) -> Size
     if !is_count(n) {
         return Size::Shape;
     }
-    let rest = row_bits(direction, b, n, text);
+    let rest = row_bits(direction, ks, b, n, text);
     let Size::Bits(k) = rest else {
         return Size::Shape;
     };
@@ -116,11 +144,12 @@ fn put_row(
     end: usize,
     at: usize,
     direction: Direction,
+    ks: [ArgumentKind; 5],
     b: &[u8],
     n: usize,
     text: &[u8],
 ) -> Put
-    requires { ⌜ (n ≤ 5) × (size ≤ length (now b)) ⌝ }
+    requires { ⌜ (n ≤ 5) × (size ≤ length (now b)) × KindsOf direction (now b) n ks ⌝ }
     ensures { λ r. ⌜ left r (now (buf .exit)) ≡
         putPieces (now (buf .entry)) end at (rowPieces direction (take n (elementsOf 5 (drop frontSize (now (b .entry))))) (now (text .entry))) ⌝ }
 {
@@ -131,7 +160,7 @@ fn put_row(
         let q = Laid::FRONT + Laid::PLACE * i;
         let e = load_element(&b[q..q + Laid::PLACE]);
         let to = part_end(text.len(), from, e.characters);
-        let one = put_element(buf, end, p, direction, e, &text[from..to]);
+        let one = put_element(buf, end, p, direction, ks[i], e, &text[from..to]);
         let Put::Next(next) = one else {
             return Put::Full;
         };
@@ -154,8 +183,15 @@ fn put_count(buf: &mut [u8], end: usize, at: usize, n: u64) -> Put
 }
 
 // The header, that there is no constrained data, the count of elements, and the elements.
-fn put_laid(buf: &mut [u8], end: usize, direction: Direction, b: &[u8], text: &[u8]) -> Put
-    requires { ⌜ (getD (now b) 11 0 ≤ 5) × (size ≤ length (now b)) ⌝ }
+fn put_laid(
+    buf: &mut [u8],
+    end: usize,
+    direction: Direction,
+    ks: [ArgumentKind; 5],
+    b: &[u8],
+    text: &[u8],
+) -> Put
+    requires { ⌜ (getD (now b) 11 0 ≤ 5) × (size ≤ length (now b)) × KindsOf direction (now b) (getD (now b) 11 0) ks ⌝ }
     ensures { λ r. ⌜ left r (now (buf .exit)) ≡
         putPieces (now (buf .entry)) end 0 (messagePieces direction (messageOf (now (b .entry))) (now (text .entry))) ⌝ }
 {
@@ -169,7 +205,7 @@ fn put_laid(buf: &mut [u8], end: usize, direction: Direction, b: &[u8], text: &[
     let Put::Next(q) = second else {
         return Put::Full;
     };
-    put_row(buf, end, q, direction, b, n as usize, text)
+    put_row(buf, end, q, direction, ks, b, n as usize, text)
 }
 
 // How many zero bits follow n bits up to a whole byte.
@@ -192,12 +228,13 @@ pub(crate) fn write_laid(
     if out.len() < Message::ROOM {
         return MessageWritten::Room;
     }
-    let size = laid_bits(direction, b, text);
+    let ks = kinds_of(direction, b, b[11]);
+    let size = laid_bits(direction, ks, b, text);
     let Size::Bits(n) = size else {
         return MessageWritten::Shape;
     };
     let end = 8 * Message::ROOM;
-    put_laid(out, end, direction, b, text);
+    put_laid(out, end, direction, ks, b, text);
     bits::put_bits(out, end, n, padding(n), 0);
     MessageWritten::Bits(n)
 }

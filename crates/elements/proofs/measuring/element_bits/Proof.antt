@@ -3,20 +3,19 @@
 use mathlib.Core.Path.{_≡_, sym, _∙_}
 use native.Mathlib.Omega.{arith}
 use Prim.Native.Nat.{_-_}
-use Rattle.elements.specs.OneElement.{elementFits}
-use Rattle.elements.proofs.Measured.{width-small, element-fits-by, few-characters, argument-small, measured, no-shape}
+use Rattle.elements.specs.OneElement.{elementFitsAs}
+use Rattle.elements.proofs.Measured.{width-small, element-fits-by, few-as, small-as, measured, no-shape}
 use borrow.Author.Needs.{needs}
 use Rattle.elements.proofs.measuring.element_bits.Statement.{statement}
 use Rattle.elements.proofs.measuring.element_bits.Tie as tie
 
-its-test : (c : tie.After-both2) → c .both2 .result ≡ elementFits (c .before .before .before .before .before .before .before .before .args .direction) (c .before .before .before .before .before .before .before .before .args .e) (c .before .before .before .before .before .before .before .before .args .text .now)
+its-test : (c : tie.After-both2) → c .both2 .result ≡ elementFitsAs (c .before .before .before .before .before .before .before .before .args .direction) (c .before .before .before .before .before .before .before .before .args .kind) (c .before .before .before .before .before .before .before .before .args .e) (c .before .before .before .before .before .before .before .before .args .text .now)
 its-test c =
     let c4 = c .before .before .before .before in
-    element-fits-by _ _ _ _ _ _ _ _ _ (c .both2 .ensures) (c .before .before .both .ensures) (c4 .fits2 .ensures)
-    (c .before .argument-fits .ensures) (c4 .before .last-of .ensures) (c4 .before .before .kind-of .ensures)
-
-kind-of-requires : tie.Need-kind-of-requires
-kind-of-requires c κs = search needs
+    let c8 = c4 .before .before .before .before in
+    element-fits-by (c8 .args .direction) (c8 .args .e) (c8 .args .text .now) _ _ _ _ _ _ (c .both2 .ensures)
+    (c .before .before .both .ensures) (c4 .fits2 .ensures) (c .before .argument-fits .ensures)
+    (c4 .before .before .last-of .ensures)
 
 last-of-requires : tie.Need-last-of-requires
 last-of-requires c κs = search needs
@@ -41,39 +40,47 @@ whole-bits-requires c κs = search needs
 
 add-index : tie.Need-add-index
 add-index c =
-    let c7 = c .before .before .before .before .before .before .before in
-    omega (arith, c .whole-bits .ensures, width-small (c7 .last-of .result - 0))
+    let c8 = c .before .before .before .before .before .before .before .before in
+    omega (arith, c .whole-bits .ensures, width-small (c8 .last-of .result - 0))
 
 argument-bits-requires : tie.Need-argument-bits-requires
-argument-bits-requires c κs = few-characters _ _ _ (sym (its-test (c .before .before)) ∙ c .before .if1 .taken)
+argument-bits-requires c κs =
+    let c10 = c .before .before .before .before .before .before .before .before .before .before in
+    few-as (c10 .args .direction) (c10 .args .kind) (c10 .args .e) (c10 .args .text .now)
+    (sym (its-test ((c .before .before))) ∙ c .before .if1 .taken)
 
-add-t16 : tie.Need-add-t16
-add-t16 c =
+add-t15 : tie.Need-add-t15
+add-t15 c =
     let c3 = c .before .before .before in
-    let c8 = c3 .before .before .before .before .before in
+    let c9 = c3 .before .before .before .before .before .before in
     omega (
       arith,
       c .before .whole-bits .ensures,
-      width-small (c8 .last-of .result - 0),
+      width-small (c9 .last-of .result - 0),
       c .argument-bits .ensures,
-      argument-small _ _ _ (sym (its-test (c3)) ∙ c .before .before .if1 .taken) _ (c8 .before .kind-of .ensures),
+      small-as (c9 .before .before .args .direction) (c9 .before .before .args .kind)
+          (c9 .before .before .args .e) (c9 .before .before .args .text .now)
+          (sym (its-test ((c3))) ∙ c .before .before .if1 .taken),
     )
 
 returns : tie.Need-returns
 returns c =
     let c3 = c .before .before .before in
-    let c8 = c3 .before .before .before .before .before in
-    measured _ _ _ _ (its-test (c3)) _ _ _ _ (c .before .before .if1 .taken) (c .before .whole-bits .ensures)
-    (c8 .last-of .ensures) (c8 .before .kind-of .ensures) (c .argument-bits .ensures)
+    let c9 = c3 .before .before .before .before .before .before in
+    measured (c9 .before .before .args .direction) (c9 .before .before .args .kind) (c9 .before .before .args .e)
+    (c9 .before .before .args .text .now) _ (its-test ((c3))) _ _ _ (c .before .before .if1 .taken)
+    (c .before .whole-bits .ensures) (c9 .last-of .ensures) (c .argument-bits .ensures)
 
 returns-2 : tie.Need-returns-2
-returns-2 c = no-shape _ _ _ _ (its-test (c .before)) (c .if1 .left)
+returns-2 c =
+    let c9 = c .before .before .before .before .before .before .before .before .before in
+    no-shape (c9 .args .direction) (c9 .args .kind) (c9 .args .e) (c9 .args .text .now) _ (its-test ((c .before)))
+    (c .if1 .left)
 
 pub element-bits-spec : {M : Type 1} → statement M
 element-bits-spec =
     tie.close
     (tie.spec
-    kind-of-requires
     last-of-requires
     cast-fits
     fits-requires
@@ -83,6 +90,6 @@ element-bits-spec =
     whole-bits-requires
     add-index
     argument-bits-requires
-    add-t16
+    add-t15
     returns
     returns-2)

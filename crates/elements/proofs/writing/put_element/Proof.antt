@@ -13,9 +13,6 @@ use Rattle.elements.proofs.writing.put_element.Tie as tie
 cast-number : tie.Need-cast-number
 cast-number c = search needs
 
-kind-of-requires : tie.Need-kind-of-requires
-kind-of-requires c κs = search needs
-
 last-of-requires : tie.Need-last-of-requires
 last-of-requires c κs = search needs
 
@@ -31,12 +28,12 @@ add-n c = omega (arith, c .whole-bits .ensures, width-small (c .before .before .
 add-n-2 : tie.Need-add-n-2
 add-n-2 c =
     let c3 = c .before .before .before in
-    let c9 = c3 .before .before .before .before .before .before in
+    let c8 = c3 .before .before .before .before .before in
     omega (
       arith,
       c .before .whole-bits .ensures,
       width-small (c3 .before .last-of .result - 0),
-      c3 .short-argument .ensures (c9 .args .text .now) (c .before .before .if1 .taken) .few,
+      c3 .short-argument .ensures (c8 .args .text .now) (c .before .before .if1 .taken) .few,
     )
 
 within-requires : tie.Need-within-requires
@@ -45,20 +42,19 @@ within-requires c κs = search needs
 shl-put-bits : tie.Need-shl-put-bits
 shl-put-bits c =
     let c6 = c .before .before .before .before .before .before in
-    let c13 = c6 .before .before .before .before .before .before .before in
-    omega (arith, c6 .before .short-argument .ensures (c13 .args .text .now) (c6 .if1 .taken) .few)
+    let c12 = c6 .before .before .before .before .before .before in
+    omega (arith, c6 .before .short-argument .ensures (c12 .args .text .now) (c6 .if1 .taken) .few)
 
 add-put-bits : tie.Need-add-put-bits
 add-put-bits c =
     let c4 = c .before .before .before .before in
     let c7 = c4 .before .before .before in
-    let c10 = c7 .before .before .before in
-    let c14 = c10 .before .before .before .before in
+    let c13 = c7 .before .before .before .before .before .before in
     omega (
       arith,
-      element-fits-one _ _ _ _ _ _ _ _ (c7 .before .before .last-of .ensures) (c4 .before .before .whole-bits .ensures)
-          (c10 .kind-of .ensures) (c7 .before .short-argument .ensures (c14 .args .text .now) (c7 .if1 .taken))
-          (c4 .if2 .taken),
+      element-fits-one (c13 .args .direction) (c13 .args .kind) (c13 .args .e) (c13 .args .text .now) _ _ _
+          _ (c7 .before .before .last-of .ensures) (c4 .before .before .whole-bits .ensures)
+          (c7 .before .short-argument .ensures (c13 .args .text .now) (c7 .if1 .taken)) (c4 .if2 .taken),
     )
 
 put-bits-requires : tie.Need-put-bits-requires
@@ -72,10 +68,11 @@ returns c =
     let c5 = c .before .before .before .before .before in
     let c9 = c5 .before .before .before .before in
     let c12 = c9 .before .before .before in
-    let c17 = c12 .before .before .before .before .before in
-    element-put _ _ _ _ _ _ _ _ (c12 .last-of .ensures) (c9 .whole-bits .ensures) (c12 .before .kind-of .ensures)
-    (c9 .before .before .short-argument .ensures (c17 .args .text .now) (c9 .before .if1 .taken))
-    (c5 .before .before .if2 .taken) _ _ _ _ _ (is-within (c17 .args .buf .now) (c17 .args .end) (c17 .args .at) _ _
+    let c16 = c12 .before .before .before .before in
+    element-put (c16 .args .direction) (c16 .args .kind) (c16 .args .e) (c16 .args .text .now) _ _ _ _
+    (c12 .last-of .ensures) (c9 .whole-bits .ensures)
+    (c9 .before .before .short-argument .ensures (c16 .args .text .now) (c9 .before .if1 .taken))
+    (c5 .before .before .if2 .taken) _ _ _ _ _ (is-within (c16 .args .buf .now) (c16 .args .end) (c16 .args .at) _ _
     (c5 .before .within .ensures) (c5 .if3 .taken)) (c .before .before .put-bits .ensures)
 
 put-extensible-index-requires : tie.Need-put-extensible-index-requires
@@ -94,7 +91,9 @@ returns-2 : tie.Need-returns-2
 returns-2 c =
     let c4 = c .before .before .before .before in
     let c8 = c4 .before .before .before .before in
-    element-full _ _ _ _ _ _ _ _ _ (c8 .last-of .ensures) (c4 .put-extensible-index .ensures) (c .enum-told .given .1)
+    let c12 = c8 .before .before .before .before in
+    element-full (c12 .args .direction) (c12 .args .e) (c12 .args .text .now) _ _ _ _ _ _ (c8 .last-of .ensures)
+    (c4 .put-extensible-index .ensures) (c12 .args .kind) (c .enum-told .given .1)
 
 put-argument-requires : tie.Need-put-argument-requires
 put-argument-requires c κs = search needs
@@ -107,15 +106,15 @@ returns-3 c =
     let c5 = c .before .before .before .before .before in
     let c9 = c5 .before .before .before .before in
     let c13 = c9 .before .before .before .before in
-    element-next _ _ _ _ _ _ _ _ _ (c13 .last-of .ensures) (c9 .put-extensible-index .ensures) _ _ _ _
-    (c5 .index .given .1) (c13 .before .kind-of .ensures) (c .before .before .put-argument .ensures)
+    let c17 = c13 .before .before .before .before in
+    element-next (c17 .args .direction) (c17 .args .e) (c17 .args .text .now) _ _ _ _ _ _ (c13 .last-of .ensures)
+    (c9 .put-extensible-index .ensures) _ _ _ _ (c5 .index .given .1) (c .before .before .put-argument .ensures)
 
 pub put-element-spec : {M : Type 1} → statement M
 put-element-spec =
     tie.close
     (tie.spec
     cast-number
-    kind-of-requires
     last-of-requires
     short-argument-requires
     whole-bits-requires

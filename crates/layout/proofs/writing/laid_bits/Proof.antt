@@ -59,6 +59,7 @@ row-bits-requires c κs =
           (front-measured _ _ (c7 .load-header .ensures) _ (c4 .before .before .header-bits .ensures)) _
           (c4 .first .given .1) _ (c .before .is-count .ensures) (c .if1 .left),
       omega arith,
+      c10 .pre .2,
     )
 
 enum-known-rest : tie.Need-enum-known-rest

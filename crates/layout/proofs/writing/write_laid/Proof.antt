@@ -10,6 +10,12 @@ use Rattle.layout.proofs.writing.write_laid.Tie as tie
 returns : tie.Need-returns
 returns c = too-small _ _ _ _ (c .if1 .taken)
 
+shared-slice-read-kinds-of : tie.Need-shared-slice-read-kinds-of
+shared-slice-read-kinds-of c = search needs
+
+kinds-of-requires : tie.Need-kinds-of-requires
+kinds-of-requires c κs = search needs
+
 laid-bits-requires : tie.Need-laid-bits-requires
 laid-bits-requires c κs = search needs
 
@@ -21,8 +27,8 @@ enum-told c = search needs
 
 returns-2 : tie.Need-returns-2
 returns-2 c =
-    let c3 = c .before .before .before in
-    not-carried _ _ _ _ (c3 .if1 .left) _ (c .before .before .laid-bits .ensures) (c .enum-told .given .1)
+    let c5 = c .before .before .before .before .before in
+    not-carried _ _ _ _ (c5 .if1 .left) _ (c .before .before .laid-bits .ensures) (c .enum-told .given .1)
 
 mul-end : tie.Need-mul-end
 mul-end c = search needs
@@ -31,10 +37,12 @@ put-laid-requires : tie.Need-put-laid-requires
 unfolding messageOf
 put-laid-requires c κs =
     let c4 = c .before .before .before .before in
-    let c9 = c4 .before .before .before .before .before in (
-      written-count (c9 .args .direction) (messageOf (c9 .args .b .now)) (c9 .args .text .now) (c9 .args .out .now)
-          (c4 .before .if1 .left) _ (c4 .laid-bits .ensures) _ (c .before .before .size .given .1),
+    let c7 = c4 .before .before .before in
+    let c11 = c7 .before .before .before .before in (
+      written-count (c11 .args .direction) (messageOf (c11 .args .b .now)) (c11 .args .text .now) (c11 .args .out .now)
+          (c7 .if1 .left) _ (c4 .laid-bits .ensures) _ (c .before .before .size .given .1),
       omega arith,
+      c4 .before .kinds-of .ensures,
     )
 
 padding-requires : tie.Need-padding-requires
@@ -51,8 +59,8 @@ returns-3 c =
     let c3 = c .before .before .before in
     let c7 = c3 .before .before .before .before in
     let c10 = c7 .before .before .before in
-    let c13 = c10 .before .before .before in
-    written-out _ _ _ _ (c13 .if1 .left) _ (c10 .before .before .laid-bits .ensures) _ (c10 .size .given .1) _ _ _ _ _
+    let c15 = c10 .before .before .before .before .before in
+    written-out _ _ _ _ (c15 .if1 .left) _ (c10 .before .before .laid-bits .ensures) _ (c10 .size .given .1) _ _ _ _ _
     (c7 .put-laid .ensures) (c3 .padding .ensures) (c .before .before .put-bits .ensures)
 
 pub write-laid-spec : {M : Type 1} → statement M
@@ -60,6 +68,8 @@ write-laid-spec =
     tie.close
     (tie.spec
     returns
+    shared-slice-read-kinds-of
+    kinds-of-requires
     laid-bits-requires
     enum-known-size
     enum-told

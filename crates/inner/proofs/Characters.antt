@@ -1,15 +1,14 @@
--- A message and nothing after it, as it was read; and how many characters it has: by its type at most 256 an element.
+-- A message and nothing after it, as it was read; and how many characters elements have: by their types at most 256 each.
 -- Assumes nothing.
 use mathlib.Core.Path.{_≡_, refl, ap}
 use mathlib.Core.Bool.{Bool, true, false, cond}
 use mathlib.Core.List.{List, [], _∷_}
 use Prim.Native.Nat.{ℕ, _+_, _*_, _≤_}
 use native.Mathlib.Omega.{arith}
-use lib.ListN.{length, take, drop, length-append, length-take, take-append-drop}
+use lib.ListN.{length, take, drop, length-append, take-append-drop}
 use lib.Dec.{leb}
 use borrow.Author.Tests.{eqb-true, leb-false}
 use Rattle.words.proofs.Laws.{both-left, both-right}
-use Rattle.bits.proofs.Numbers.{Bits}
 use Rattle.fields.specs.Fields.{refusal}
 use Rattle.fields.specs.declared.Fault.the-variants as fault
 use Rattle.kinds.specs.declared.Direction.{Direction}
@@ -21,8 +20,7 @@ use Rattle.elements.proofs.Measured.{few-characters}
 use Rattle.elements.proofs.Steps.{never}
 use Rattle.inner.specs.declared.values.Message.{Message}
 use Rattle.inner.specs.Places.{rowFits}
-use Rattle.inner.specs.Messages.{noMessage, messageAt, endedAt, exactly, isMessage, messageText, messageFits}
-use Rattle.inner.proofs.MessageLaws.{message-stands, fits-of}
+use Rattle.inner.specs.Messages.{noMessage, messageAt, endedAt, exactly, isMessage}
 
 -- ---- a message and nothing after it was read
 
@@ -52,7 +50,7 @@ exactly-is d l next h = go (messageAt d l 0 .step) refl h
 abbrev pub charactersMost : ℕ
 charactersMost = 5 * 256
 
-row-few : (d : Direction) (es : List Element) (t : List ℕ) → rowFits d es t ≡ true → length t ≤ 256 * length es
+pub row-few : (d : Direction) (es : List Element) (t : List ℕ) → rowFits d es t ≡ true → length t ≤ 256 * length es
 unfolding rowFits
 row-few d [] t h = omega (arith, eqb-true (length t) 0 h)
 row-few d (e ∷ es) t h =
@@ -62,18 +60,3 @@ row-few d (e ∷ es) t h =
     let n = length-append (take c t) (drop c t) in
     let w = ap length (take-append-drop c t) in
     omega arith
-
-pub message-few : (d : Direction) (m : Message) (t : List ℕ) → messageFits d m t ≡ true → length t ≤ charactersMost
-message-few d m t h =
-    let f = fits-of d m t h in
-    let five = f .five in
-    let n = length-take (m .count) (m .places) in
-    let r = row-few d (take (m .count) (m .places)) t (f .row) in
-    omega arith
-
--- of a message that was read
-pub exactly-few : (d : Direction) (l : List ℕ) (next : ℕ) → Bits l → exactly d l .step ≡ step.Next next
-    → length (messageText d l 0 (exactly d l .message)) ≤ charactersMost
-exactly-few d l next b h =
-    let m : Message = exactly d l .message in
-    message-few d m (messageText d l 0 m) (message-stands d l 0 next m b (exactly-is d l next h .there) .fits)

@@ -6,8 +6,7 @@ use mathlib.Core.List.{List, _++_}
 use Prim.Native.Nat.{ℕ, zero, suc, _+_, _≤_, _<_}
 use native.Mathlib.Omega.{arith}
 use lib.Dec.{eqb}
-use lib.ListN.{length}
-use borrow.Author.Tests.{eq-eqb, ne-eqb}
+use borrow.Author.Tests.{eq-eqb, eqb-true, ne-eqb}
 use Rattle.bits.specs.Bits.{bitsN, bitsTo}
 use Rattle.bits.specs.Read.{readBits}
 use Rattle.bits.specs.declared.Read.{Read}
@@ -23,27 +22,22 @@ use Rattle.fields.specs.declared.Field.{Field}
 use Rattle.fields.specs.declared.Field.the-variants as field
 use Rattle.kinds.specs.declared.Direction.{Direction}
 use Rattle.elements.proofs.Steps.{never}
-use Rattle.elements.proofs.Whole.{ranged, whole-most, whole-reads}
+use Rattle.elements.proofs.Whole.{ranged, whole-most, whole-reads, whole-stands}
 use Rattle.inner.specs.declared.values.Header.{Header}
-use Rattle.inner.specs.declared.values.MessageRead.{MessageRead}
 use Rattle.inner.specs.Places.{laid, rowAt}
-use Rattle.inner.specs.Messages.{bodyAt, messageOf, noMessage}
+use Rattle.inner.specs.Messages.{bodyAt, countAt, messageOf, noMessage}
 use Rattle.inner.proofs.MessageLaws.{one-bit, three-bits}
-
--- as the contracts have it
-abbrev pub counted : List ℕ → ℕ → Field
-counted l at = then (wholeNumber l at 0 1) (λ (c p : ℕ). cond (eqb c 0) (wholeNumber l p 1 5) (refusedAt at fault.NotCarried))
 
 -- ---- field by field
 
 module _ (l : List ℕ) (at : ℕ) (f : Field) (e : f ≡ wholeNumber l at 0 1) where
-  pub count-refused : (r : Refusal) → f ≡ field.Refused r → f ≡ counted l at
+  pub count-refused : (r : Refusal) → f ≡ field.Refused r → f ≡ countAt l at
   count-refused r q = rw (← e, q)
 
-  pub count-follows : (c p : ℕ) (g : Field) → f ≡ field.Value c p → c ≡ 0 → g ≡ wholeNumber l p 1 5 → g ≡ counted l at
+  pub count-follows : (c p : ℕ) (g : Field) → f ≡ field.Value c p → c ≡ 0 → g ≡ wholeNumber l p 1 5 → g ≡ countAt l at
   count-follows c p g q z h = rw (← e, q, eq-eqb c 0 z, h)
 
-  pub count-constrained : (c p : ℕ) (g : Field) → f ≡ field.Value c p → (c ≡ 0 → ⊥) → g ≡ refusedAt at fault.NotCarried → g ≡ counted l at
+  pub count-constrained : (c p : ℕ) (g : Field) → f ≡ field.Value c p → (c ≡ 0 → ⊥) → g ≡ refusedAt at fault.NotCarried → g ≡ countAt l at
   count-constrained c p g q z h = rw (← e, q, ne-eqb c 0 z, h)
 
 -- ---- as one number
@@ -66,7 +60,7 @@ few-fit (suc (suc (suc (suc zero)))) h = refl
 few-fit (suc (suc (suc (suc (suc v))))) h = absurd (omega arith)
 
 pub count-is : (s : List ℕ) (e at v next : ℕ) (r : Read) → r ≡ readBits (bitsTo s e) at 4 → r ≡ Number v next → v < 5
-    → field.Value (v + 1) next ≡ counted (bitsTo s e) at
+    → field.Value (v + 1) next ≡ countAt (bitsTo s e) at
 count-is s e at v next r p q h =
     let l : List ℕ = bitsTo s e in
     let k = number-is l at 4 v next (sym p ∙ q) in
@@ -81,21 +75,24 @@ count-is s e at v next r p q h =
 -- ---- what follows the header
 
 by-count : (d : Direction) (l : List ℕ) (h : Header) (at : ℕ) (f : Field) → wholeNumber l at 0 1 ≡ f
-    → bodyAt d l h at ≡ onto noMessage (counted l at) (λ (n q : ℕ). messageOf h n (laid (rowAt d l q n)))
+    → bodyAt d l h at ≡ onto noMessage (countAt l at) (λ (n q : ℕ). messageOf h n (laid (rowAt d l q n)))
 unfolding bodyAt
 by-count d l h at (field.Value c p) e = rw e (go (eqb c 0))
   where
     go : (t : Bool)
-        → cond t (onto noMessage (wholeNumber l p 1 5) (λ (n q : ℕ). messageOf h n (laid (rowAt d l q n)))) (noMessage (refusalOf (refusedAt at fault.NotCarried))) ≡ onto noMessage (cond t (wholeNumber l p 1 5) (refusedAt at fault.NotCarried)) (λ (n q : ℕ). messageOf h n (laid (rowAt d l q n)))
+        → cond t (onto noMessage (wholeNumber l p 1 5) (λ (n q : ℕ). messageOf h n (laid (rowAt d l q n))))
+        (noMessage (refusalOf (refusedAt at fault.NotCarried))) ≡ onto noMessage
+        (cond t (wholeNumber l p 1 5) (refusedAt at fault.NotCarried))
+        (λ (n q : ℕ). messageOf h n (laid (rowAt d l q n)))
     go true = refl
     go false = refl
 by-count d l h at (field.Refused r) e = rw e
 
 pub body-by-count : (d : Direction) (l : List ℕ) (h : Header) (at : ℕ)
-    → bodyAt d l h at ≡ onto noMessage (counted l at) (λ (n q : ℕ). messageOf h n (laid (rowAt d l q n)))
+    → bodyAt d l h at ≡ onto noMessage (countAt l at) (λ (n q : ℕ). messageOf h n (laid (rowAt d l q n)))
 body-by-count d l h at = by-count d l h at (wholeNumber l at 0 1) refl
 
-pub count-most : (l : List ℕ) (at n q : ℕ) (f : Field) → f ≡ counted l at → f ≡ field.Value n q → n ≤ 5
+pub count-most : (l : List ℕ) (at n q : ℕ) (f : Field) → f ≡ countAt l at → f ≡ field.Value n q → n ≤ 5
 count-most l at n q f e h = go (wholeNumber l at 0 1) refl (sym h ∙ e)
   where
     known : (p : ℕ) (t : Bool) → field.Value n q ≡ cond t (wholeNumber l p 1 5) (refusedAt at fault.NotCarried) → n ≤ 5
@@ -106,4 +103,24 @@ count-most l at n q f e h = go (wholeNumber l at 0 1) refl (sym h ∙ e)
         → field.Value n q ≡ then g (λ (c p : ℕ). cond (eqb c 0) (wholeNumber l p 1 5) (refusedAt at fault.NotCarried))
         → n ≤ 5
     go (field.Value c p) w z = known p (eqb c 0) z
+    go (field.Refused r) w z = never (cc)
+
+-- the elements begin four bits behind the header
+pub count-place : (l : List ℕ) (at n q : ℕ) (f : Field) → Bits l → f ≡ countAt l at → f ≡ field.Value n q → q ≡ at + 4
+count-place l at n q f b e h = go (wholeNumber l at 0 1) refl (sym h ∙ e)
+  where
+    known : (c p : ℕ) → wholeNumber l at 0 1 ≡ field.Value c p → (t : Bool) → eqb c 0 ≡ t
+        → field.Value n q ≡ cond t (wholeNumber l p 1 5) (refusedAt at fault.NotCarried) → q ≡ at + 4
+    known c p w true k z =
+        let a = whole-stands l at 0 1 0 p b (rw (eqb-true c 0 k) at w) .place in
+        let d = whole-stands l p 1 5 n q b (sym z) .place in
+        let o = one-bit in
+        let u = three-bits n in
+        omega arith
+    known c p w false k z = never (cc)
+
+    go : (g : Field) → wholeNumber l at 0 1 ≡ g
+        → field.Value n q ≡ then g (λ (c p : ℕ). cond (eqb c 0) (wholeNumber l p 1 5) (refusedAt at fault.NotCarried))
+        → q ≡ at + 4
+    go (field.Value c p) w z = known c p w (eqb c 0) refl z
     go (field.Refused r) w z = never (cc)

@@ -18,7 +18,7 @@ use Rattle.elements.specs.Arguments.{stepRefusal}
 use Rattle.elements.specs.OneElement.{bare, elementAt}
 use Rattle.inner.specs.Places.{Row, these, refused, after, ontoRow, rowAt, noPlaces, laid}
 
-after-after : (xs ys : List Element) (z : Row) → after xs (after ys z) ≡ after (xs ++ ys) z
+pub after-after : (xs ys : List Element) (z : Row) → after xs (after ys z) ≡ after (xs ++ ys) z
 after-after xs ys (these zs n) = rw append-assoc
 after-after xs ys (refused e) = refl
 

@@ -6,15 +6,12 @@ pub mod HeaderWays
 pub mod HeaderLaws
 pub mod HeaderWritten
 pub mod RowPieces
-pub mod Copied
 pub mod MessageLaws
 pub mod Characters
 pub mod MessageWritten
-pub mod Openings
 pub mod AreBits
 pub mod HeaderNumber
 pub mod HeaderRead
 pub mod Counted
-pub mod Silent
 pub mod Theorems
 pub mod Examples

@@ -7,10 +7,11 @@ use lib.Dec.{eqb, leb, ltb}
 use Rattle.words.specs.Limits as limits
 use Rattle.bits.specs.Bits.{bitsN, bitsTo}
 use Rattle.bits.specs.Put.{putBits}
-use Rattle.fields.specs.Fields.{refusedAt, wholeNumber, onto, refusalOf}
+use Rattle.fields.specs.Fields.{refusedAt, then, wholeNumber, onto, refusalOf}
 use Rattle.fields.specs.Encodings.{wholeBits, wholeFits}
 use Rattle.fields.specs.declared.Refusal.{Refusal}
 use Rattle.fields.specs.declared.Fault.the-variants as fault
+use Rattle.fields.specs.declared.Field.{Field}
 use Rattle.kinds.specs.declared.Direction.{Direction}
 use Rattle.inner.specs.declared.values.Header.{Header}
 use Rattle.inner.specs.declared.values.HeaderRead.{HeaderRead}
@@ -56,6 +57,10 @@ messageOf h n r = ontoPlaces h n (r .places) (r .step)
 abbrev pub ontoHeader : HeaderRead → (Header → ℕ → MessageRead) → MessageRead
 ontoHeader (header.Got x next) k = k x next
 ontoHeader (header.Refused r) k = noMessage r
+
+-- the count of elements, behind the bit that says whether there is constrained data
+abbrev pub countAt : List ℕ → ℕ → Field
+countAt l at = then (wholeNumber l at 0 1) (λ (c p : ℕ). cond (eqb c 0) (wholeNumber l p 1 5) (refusedAt at fault.NotCarried))
 
 -- constrained data marked present is not carried, which is a fault of its presence bit; that stands before the count of elements
 unfoldable pub bodyAt : Direction → List ℕ → Header → ℕ → MessageRead

@@ -120,7 +120,7 @@ fn read_dated(
 }
 
 // Field by field.
-pub fn read_header_by_fields(s: &[u8], end: usize, at: usize) -> HeaderRead
+fn read_header_by_fields(s: &[u8], end: usize, at: usize) -> HeaderRead
     ensures { λ r. ⌜ r ≡ headerAt (bitsTo (now (s .entry)) end) at ⌝ }
 {
     let presence = fields::whole(s, end, at, 0, 3);

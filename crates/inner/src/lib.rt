@@ -3,6 +3,5 @@ mod five;
 pub mod header;
 pub mod measuring;
 pub mod message;
-pub mod opening;
 pub mod values;
 pub mod writing;

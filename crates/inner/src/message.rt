@@ -1,11 +1,7 @@
 // A message read from its bits at any place.
 ghost use mathlib.Core.Path.{_≡_};
-ghost use mathlib.Core.Bool.{cond};
-ghost use Prim.Native.Nat.{ℕ};
-ghost use lib.Dec.{eqb};
-ghost use Rattle.fields.specs.Fields.{refusedAt, then, wholeNumber};
 ghost use Rattle.bits.specs.Bits.{bitsTo};
-ghost use Rattle.inner.specs.Messages.{bodyAt, exactly, messageAt, noMessage};
+ghost use Rattle.inner.specs.Messages.{bodyAt, countAt, exactly, messageAt, noMessage};
 use crate::five::read_places;
 use crate::header::read_header;
 use crate::values::Header;
@@ -33,8 +29,7 @@ fn no_message(r: Refusal) -> MessageRead
 
 // The count of elements, behind the bit that says whether there is constrained data, which is not carried.
 fn read_count_by_fields(s: &[u8], end: usize, at: usize) -> Field
-    ensures { λ f. ⌜ f ≡ then (wholeNumber (bitsTo (now (s .entry)) end) at 0 1)
-        (λ (c p : ℕ). cond (eqb c 0) (wholeNumber (bitsTo (now (s .entry)) end) p 1 5) (refusedAt at Fault.NotCarried)) ⌝ }
+    ensures { λ f. ⌜ f ≡ countAt (bitsTo (now (s .entry)) end) at ⌝ }
 {
     let presence = fields::whole(s, end, at, 0, 1);
     let Field::Value(constrained, p) = presence else {
@@ -46,10 +41,9 @@ fn read_count_by_fields(s: &[u8], end: usize, at: usize) -> Field
     fields::refused_at(at, Fault::NotCarried)
 }
 
-// Both as one number where neither is refused, else field by field, which names the fault.
-fn read_count(s: &[u8], end: usize, at: usize) -> Field
-    ensures { λ f. ⌜ f ≡ then (wholeNumber (bitsTo (now (s .entry)) end) at 0 1)
-        (λ (c p : ℕ). cond (eqb c 0) (wholeNumber (bitsTo (now (s .entry)) end) p 1 5) (refusedAt at Fault.NotCarried)) ⌝ }
+// The count and the bit before it: as one number where neither is refused, else field by field, which names the fault.
+pub fn read_count(s: &[u8], end: usize, at: usize) -> Field
+    ensures { λ f. ⌜ f ≡ countAt (bitsTo (now (s .entry)) end) at ⌝ }
 {
     let both = bits::read_bits(s, end, at, Message::BETWEEN);
     let Read::Number(v, next) = both else {

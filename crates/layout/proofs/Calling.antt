@@ -13,8 +13,6 @@ use Rattle.bits.specs.Bits.{bitsTo}
 use Rattle.bits.specs.Put.{putBits}
 use Rattle.bits.proofs.Numbers.{Bits}
 use Rattle.bits.proofs.Bytes.{bits-to}
-use Rattle.fields.specs.Refusals.{packed}
-use Rattle.fields.specs.declared.Refusal.{Refusal}
 use Rattle.fields.specs.Fields.{refusal}
 use Rattle.fields.specs.declared.Fault.the-variants as fault
 use Rattle.kinds.specs.declared.Direction.{Direction}
@@ -24,18 +22,15 @@ use Rattle.inner.specs.Messages.{noMessage, endedAt, messageAt, exactly, isMess
 use Rattle.inner.specs.declared.values.Message.{Message}
 use Rattle.inner.specs.declared.values.MessageRead.{MessageRead}
 use Rattle.inner.specs.declared.values.MessageOpened.{MessageOpened}
-use Rattle.inner.specs.declared.values.Opened.{Opened}
 use Rattle.inner.specs.declared.values.Opened.the-variants as opened
 use Rattle.inner.specs.declared.values.MessageWritten.{MessageWritten}
 use Rattle.inner.specs.declared.values.MessageWritten.the-variants as written
 use Rattle.inner.proofs.MessageLaws.{message-stands}
-use Rattle.inner.proofs.Characters.{charactersMost, exactly-few}
-use Rattle.layout.specs.Layout.{messageOf, messageBytes, bytesFit, kept, storeAt, loadAt, Kept, isMessage as loadedAs}
-use Rattle.layout.specs.Calls.{told, toldAs, toldOf, wayOf, readBy, readCall, sent, sentAs, sentOf, writeBy, writeCall}
+use Rattle.layout.specs.Layout.{messageOf, loadAt}
+use Rattle.layout.specs.Calls.{told, toldOf, wayOf, readBy, readCall, sent, sentAs, sentOf, writeBy, writeCall}
 use Rattle.layout.specs.declared.calls.Way.{Way}
 use Rattle.layout.specs.declared.calls.Way.the-variants as way
 use Rattle.layout.proofs.Laying.{laid-is}
-use Rattle.layout.proofs.RoundTrip.{loaded-bytes}
 use Rattle.layout.proofs.Typing.{Storable, storable}
 
 never : {A : Type 0} → _≡_ {A = ℕ} 0 1 → A
@@ -57,17 +52,10 @@ unfolding exactly
 read-storable d l m next b e =
     storable d m _ (message-stands d l 0 next m b (ended l (messageAt d l 0 .message) m next (messageAt d l 0 .step) e) .fits)
 
-stored-is : (b z : List ℕ) (m : Message) (t : Bool) → length b ≡ 132 → bytesFit m ≡ true → kept t z ≡ storeAt b m → z ≡ messageBytes m
-unfolding storeAt
-stored-is b z m t h f e =
-    let q : kept t z ≡ kept true (messageBytes m) = e ∙ rw (eq-eqb (length b) 132 h, f) in
-    ap (λ (k : Kept). k .bytes) q
-
 module _ (d : Direction) (s : List ℕ) (n : ℕ) (t u : List ℕ) (r : MessageOpened) (e : opening r u ≡ openMessage d s n t) (c : ℕ) (h : r .answer ≡ opened.Characters c) where
   record Read : Type 0 where
     next : ℕ
     exact : exactly d (bitsTo s n) ≡ isMessage (r .message) next
-    count : c ≡ length (messageText d (bitsTo s n) 0 (r .message))
 
   read-is : Read
   unfolding openMessage
@@ -79,25 +67,11 @@ module _ (d : Direction) (s : List ℕ) (n : ℕ) (t u : List ℕ) (r : MessageO
       go false false y z x q = let g : r .answer ≡ opened.Shape = ap (λ (o : Opening). o .answer .answer) q in never (cc)
       go false true y (step.Next k) x q =
           let i : r .message ≡ y = ap (λ (o : Opening). o .answer .message) q in
-          let j : r .answer ≡ opened.Characters (length (messageText d (bitsTo s n) 0 y)) = ap (λ (o : Opening). o .answer .answer) q in
-          let f : c ≡ length (messageText d (bitsTo s n) 0 y) = cc in
-          record {
-            next = k;
-            exact = rw i x;
-            count = rw i f;
-          }
+          record { next = k; exact = rw i x }
       go false true y (step.Refused f) x q = let g : r .answer ≡ opened.Refused f = ap (λ (o : Opening). o .answer .answer) q in never (cc)
 
   pub opened-storable : Storable (r .message)
   opened-storable = read-storable d (bitsTo s n) (r .message) (read-is .next) (bits-to s n) (read-is .exact)
-
-  pub opened-few : c ≤ charactersMost
-  opened-few =
-      let x = read-is in
-      let k = x .count in
-      let g : length (messageText d (bitsTo s n) 0 (r .message)) ≤ charactersMost = rw (x .exact) at
-      (exactly-few d (bitsTo s n) (x .next) (bits-to s n) (ap (λ (o : MessageRead). o .step) (x .exact))) in
-      omega arith
 
 -- ---- the ways out of `read_call`
 
@@ -115,34 +89,10 @@ module _ (d : ℕ) (s : List ℕ) (n : ℕ) (m t : List ℕ) where
     unfolding readCall readBy
     read-no-way q = rw (le-ltb (length t) roomLeast h, eq-eqb (length m) 132 sized, ← p, q)
 
-    module _ (x : Direction) (q : w ≡ way.Is x) (r : MessageOpened) (u : List ℕ) (e : opening r u ≡ openMessage x s n t) where
-      read-as : (a : Opened) → r .answer ≡ a → toldAs m (r .message) u a ≡ readCall d s n m t
-      unfolding readCall readBy toldOf
-      read-as a f = rw (le-ltb (length t) roomLeast h, eq-eqb (length m) 132 sized, ← p, q, ← e, f)
-
-      pub read-small : r .answer ≡ opened.Room → told 1 m u ≡ readCall d s n m t
-      unfolding toldAs
-      read-small f = read-as opened.Room f
-
-      pub read-shape : r .answer ≡ opened.Shape → told 2 m u ≡ readCall d s n m t
-      unfolding toldAs
-      read-shape f = read-as opened.Shape f
-
-      pub read-refused : (f : Refusal) (c : ℕ) → r .answer ≡ opened.Refused f → c ≡ packed f → told c m u ≡ readCall d s n m t
-      unfolding toldAs
-      read-refused f c g k = rw k (read-as (opened.Refused f) g)
-
-      pub read-taken : (c : ℕ) (b : Bool) (z : List ℕ) → r .answer ≡ opened.Characters c
-          → kept b z ≡ storeAt m (r .message) → told (256 * c) z u ≡ readCall d s n m t
-      unfolding toldAs
-      read-taken c b z f g = rw (stored-is m z (r .message) b sized (opened-storable x s n t u r e c f .fit) g)
-          (read-as (opened.Characters c) f)
-
-      -- what reading leaves is loaded as the message that was read
-      pub read-loaded : (c : ℕ) → r .answer ≡ opened.Characters c → loadAt (readCall d s n m t .message) ≡ loadedAs (r .message)
-      unfolding toldAs
-      read-loaded c f = let y = opened-storable x s n t u r e c f in rw (← read-as (opened.Characters c) f)
-          (loaded-bytes (r .message) (y .typed) (y .fit))
+    pub read-way : (x : Direction) → w ≡ way.Is x → (r : ℕ) (z u : List ℕ) → told r z u ≡ toldOf m (openMessage x s n t)
+        → told r z u ≡ readCall d s n m t
+    unfolding readCall readBy
+    read-way x q r z u e = rw (le-ltb (length t) roomLeast h, eq-eqb (length m) 132 sized, ← p, q) e
 
 -- ---- the ways out of `write_call`
 
@@ -152,7 +102,9 @@ unfolding writeMessage
 written-few d m t o z a n e h = go (ltb (length o) roomLeast) (messageCarried d m t) refl e
   where
     go : (x y : Bool) → messageCarried d m t ≡ y
-        → done a z ≡ cond x (done written.Room o) (cond y (done (written.Bits (length (messageBits d m t))) (putBits o 0 (padded (messageBits d m t)))) (done written.Shape o))
+        → done a z ≡ cond x (done written.Room o) (cond y
+        (done (written.Bits (length (messageBits d m t))) (putBits o 0 (padded (messageBits d m t))))
+        (done written.Shape o))
         → n ≤ bitsMost
     go true y p q = let g : a ≡ written.Room = ap (λ (w : Done). w .answer) q in never (cc)
     go false true p q =

@@ -1,19 +1,20 @@
--- The ways out of `is_laid` and of `store_message`, as the code has them; and the message of bytes that say one.
+-- The ways out of `is_laid`, as the code has them; the message of bytes that say one; and a message put into its range.
 -- Assumes nothing.
 use mathlib.Core.Path.{_≡_, refl, ap, sym, _∙_}
 use mathlib.Core.Bool.{Bool, true, false, cond, _&&_}
 use mathlib.Core.List.{List, [], _∷_, _++_}
-use Prim.Native.Nat.{ℕ, suc, _+_, _*_, _≤_, _<_}
+use Prim.Native.Nat.{ℕ, suc, _+_, _*_}
 use native.Mathlib.Omega.{arith}
-use borrow.Author.Tests.{eq-eqb, ne-eqb, lt-ltb, le-ltb, eqb-true}
+use borrow.Author.Tests.{eq-eqb, ne-eqb, eqb-true}
 use lib.Dec.{eqb}
 use lib.ListN.{length, drop, length-append}
 use lib.Seq.{sets}
 use Rattle.words.proofs.Laws.{both-left, both-right}
 use Rattle.elements.specs.declared.values.Element.{Element}
 use Rattle.elements.proofs.Steps.{never}
+use Rattle.inner.specs.declared.values.Header.{Header}
 use Rattle.inner.specs.declared.values.Message.{Message}
-use Rattle.layout.specs.Layout.{frontBytes, placesBytes, messageBytes, messageOf, frontStands, placesStand, noMessage, isMessage, loadAt, placesFit, bytesFit, kept, storeAt}
+use Rattle.layout.specs.Layout.{frontBytes, placesBytes, messageBytes, messageOf, frontStands, placesStand, noMessage, isMessage, loadAt}
 use Rattle.layout.proofs.Copied.{sets-append, sets-whole}
 use Rattle.layout.proofs.InOrder.{bytes-cons, length-place}
 use Rattle.layout.proofs.Pieces.{length-front}
@@ -68,34 +69,11 @@ pub length-message : (m : Message) → length (m .places) ≡ 5 → length (mess
 unfolding messageBytes
 length-message m five = rw (length-append, length-front, length-places, five)
 
-module _ (b : List ℕ) (m : Message) where
-  pub store-long : (length b ≡ 132 → ⊥) → kept false b ≡ storeAt b m
-  unfolding storeAt
-  store-long h = rw (ne-eqb (length b) 132 h)
-
-  module _ (sized : length b ≡ 132) where
-    pub store-count : 256 ≤ m .count → kept false b ≡ storeAt b m
-    unfolding storeAt bytesFit
-    store-count h = rw (eq-eqb (length b) 132 sized, le-ltb (m .count) 256 h)
-
-    module _ (h : m .count < 256) (t : Bool) (p : t ≡ placesFit (m .places)) where
-      pub store-places : t ≡ false → kept false b ≡ storeAt b m
-      unfolding storeAt bytesFit
-      store-places q = rw (eq-eqb (length b) 132 sized, lt-ltb (m .count) 256 h, ← p, q)
-
-      pub store-is : t ≡ true → (a y z : List ℕ) → length (m .places) ≡ 5 → a ≡ frontBytes (m .header) (m .count)
-          → y ≡ sets b 0 a → z ≡ sets y 12 (placesBytes (m .places)) → kept true z ≡ storeAt b m
-      unfolding storeAt bytesFit messageBytes
-      store-is q a y z five f g k = rw (eq-eqb (length b) 132 sized, lt-ltb (m .count) 256 h, ← p, q) (ap (kept true) whole)
-        where
-          n : length a ≡ 12
-          n = ap length f ∙ length-front (m .header) (m .count)
-
-          w : length (a ++ placesBytes (m .places)) ≡ 132
-          w = rw (length-append, n, length-places, five)
-
-          both : z ≡ sets b 0 (a ++ placesBytes (m .places))
-          both = rw (sets-append b 0 a (placesBytes (m .places)), n, ← g) k
-
-          whole : z ≡ messageBytes m
-          whole = both ∙ sets-whole b _ (sized ∙ sym w) ∙ ap (λ (x : List ℕ). x ++ placesBytes (m .places)) f
+-- the front and the places put into a range of their size
+pub laid-whole : (b a y z : List ℕ) (h : Header) (n : ℕ) (ps : List Element) → length b ≡ 132 → length ps ≡ 5 → a ≡ frontBytes h n
+    → y ≡ sets b 0 a → z ≡ sets y 12 (placesBytes ps) → z ≡ frontBytes h n ++ placesBytes ps
+laid-whole b a y z h n ps sized five f g k =
+    let c : length a ≡ 12 = ap length f ∙ length-front h n in
+    let w : length (a ++ placesBytes ps) ≡ 132 = rw (length-append, c, length-places, five) in
+    let both : z ≡ sets b 0 (a ++ placesBytes ps) = rw (sets-append b 0 a (placesBytes ps), c, ← g) k in
+    both ∙ sets-whole b _ (sized ∙ sym w) ∙ ap (λ (x : List ℕ). x ++ placesBytes ps) f

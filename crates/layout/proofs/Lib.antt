@@ -4,6 +4,9 @@ pub mod InOrder
 pub mod KindsOnce
 pub mod Pieces
 pub mod Laying
+pub mod Texts
+pub mod RowsRead
+pub mod ReadWays
 pub mod Fronts
 pub mod Zeros
 pub mod RoundTrip

@@ -160,11 +160,7 @@ place-of p h s t =
     (eqb-true (getD p 23 0) 0 (both-right (isFlag (getD p 3 0) && isFlag (getD p 10 0)) (eqb (getD p 23 0) 0) t)))
     ∙ gets-take 24 0 p (omega arith) ∙ take-all 24 p (omega arith)
 
--- what bytes say is of its types, and fits into its bytes
-
-pub characters-of : (p : List ℕ) → Bytes p → elementOf p .characters < 65536
-unfolding elementOf
-characters-of p s = omega (arith, s 1, s 2)
+-- what bytes say is of its types
 
 level-typed : (p : List ℕ) (at : ℕ) → Bytes p → LevelTyped (levelOf p at)
 unfolding levelOf

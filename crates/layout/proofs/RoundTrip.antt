@@ -1,11 +1,11 @@
--- A message that was stored is loaded again, and bytes that are loaded are those that storing writes.
+-- A message's bytes are loaded as the message, and bytes that are loaded are those of the message that they say.
 -- Assumes nothing.
 use mathlib.Core.Path.{_≡_, refl, ap, sym, subst, _∙_}
 use mathlib.Core.Bool.{Bool, true, false, cond, _&&_}
 use mathlib.Core.List.{List, [], _∷_, _++_}
 use Prim.Native.Nat.{ℕ, zero, suc, _+_, _*_}
 use native.Mathlib.Omega.{arith}
-use borrow.Author.Tests.{eq-eqb, eqb-true, lt-ltb, ltb-true}
+use borrow.Author.Tests.{eqb-true, ltb-true}
 use lib.Dec.{ltb, eqb}
 use lib.ListN.{length, take, drop, getD, length-drop, take-append-drop}
 use lib.Seq.{take-at, drop-at, getD-drop, length-take-le}
@@ -14,11 +14,11 @@ use Rattle.bits.proofs.Bytes.{Bytes}
 use Rattle.elements.specs.declared.values.Element.{Element}
 use Rattle.inner.specs.declared.values.Header.{Header}
 use Rattle.inner.specs.declared.values.Message.{Message}
-use Rattle.layout.specs.Layout.{frontBytes, placeBytes, placesBytes, messageBytes, headerOf, elementOf, elementsOf, messageOf, frontStands, placeStands, placesStand, isMessage, noMessage, loadAt, placesFit, bytesFit, Kept, kept, storeAt}
-use Rattle.layout.proofs.StructTypes.{ElementsTyped, none, more, Typed}
+use Rattle.layout.specs.Layout.{frontBytes, placeBytes, placesBytes, messageBytes, headerOf, elementOf, elementsOf, messageOf, frontStands, placeStands, placesStand, isMessage, noMessage, loadAt}
+use Rattle.layout.proofs.StructTypes.{ElementsTyped, none, more, Typed, placesFit, bytesFit}
 use Rattle.layout.specs.declared.stored.Laid.{Laid}
 use Rattle.layout.proofs.InOrder.{elements-zero, elements-suc, stand-zero, stand-suc, fit-cons, bytes-cons, length-place}
-use Rattle.layout.proofs.Pieces.{length-front, header-back, count-back, front-stands, place-stands, element-back, front-of, place-of, characters-of, element-typed}
+use Rattle.layout.proofs.Pieces.{length-front, header-back, count-back, front-stands, place-stands, element-back, front-of, place-of, element-typed}
 use Rattle.layout.proofs.Laying.{length-message}
 
 -- the first place, and those behind it
@@ -95,13 +95,12 @@ no-bytes (x ∷ p) h = absurd (omega arith)
 -- n places, with what their bytes say
 record Said (n : ℕ) (p : List ℕ) : Type 0 where
   pub bytes : placesBytes (elementsOf n p) ≡ p
-  pub fit : placesFit (elementsOf n p) ≡ true
   pub count : length (elementsOf n p) ≡ n
   pub typed : ElementsTyped (elementsOf n p)
 
 said : (n : ℕ) (p : List ℕ) → length p ≡ 24 * n → Bytes p → placesStand n p ≡ true → Said n p
-unfolding elementsOf placesBytes placesFit
-said zero p h s t = record { bytes = no-bytes p (omega arith); fit = refl; count = refl; typed = none }
+unfolding elementsOf placesBytes
+said zero p h s t = record { bytes = no-bytes p (omega arith); count = refl; typed = none }
 said (suc n) p h s t =
     let l : length (take 24 p) ≡ 24 = length-take-le 24 p (omega arith) in
     let d : length (drop 24 p) ≡ 24 * n = length-drop 24 p ∙ omega arith in
@@ -112,7 +111,6 @@ said (suc n) p h s t =
       bytes = rw
           (place-of (take 24 p) l b (both-left (placeStands (take 24 p)) (placesStand n (drop 24 p)) u), r .bytes)
           (take-append-drop 24 p);
-      fit = rw (lt-ltb (elementOf (take 24 p) .characters) 65536 (characters-of (take 24 p) b)) (r .fit);
       count = ap suc (r .count);
       typed = more (elementOf (take 24 p)) (elementsOf n (drop 24 p)) (element-typed (take 24 p) b) (r .typed);
     }
@@ -124,10 +122,6 @@ module _ (b : List ℕ) (sized : length b ≡ 132) (s : Bytes b) (front : frontS
   bytes-are : messageBytes (messageOf b) ≡ b
   unfolding messageBytes messageOf
   bytes-are = rw (front-of b (omega arith) s front, places .bytes) (take-append-drop 12 b)
-
-  bytes-fit : bytesFit (messageOf b) ≡ true
-  unfolding bytesFit messageOf
-  bytes-fit = rw (lt-ltb (getD b 11 0) 256 (s 11), places .fit)
 
   bytes-typed : Typed (messageOf b)
   unfolding messageOf headerOf
@@ -148,7 +142,6 @@ module _ (b : List ℕ) (sized : length b ≡ 132) (s : Bytes b) (front : frontS
 -- what loading a message says
 pub record Loaded (b : List ℕ) (m : Message) : Type 0 where
   pub bytes : messageBytes m ≡ b
-  pub fit : bytesFit m ≡ true
   pub typed : Typed m
   pub sized : length b ≡ 132
 
@@ -164,7 +157,6 @@ loaded b m s e = known _ refl e
         let front = both-right (eqb (length b) 132) (frontStands b) q in
         record {
           bytes = bytes-are b sized s front stand;
-          fit = bytes-fit b sized s front stand;
           typed = bytes-typed b sized s front stand;
           sized = sized;
         }
@@ -173,22 +165,3 @@ loaded b m s e = known _ refl e
         → cond t (isMessage (messageOf b)) noMessage ≡ isMessage m → Loaded b m
     known true p f = subst (Loaded b) (ap (λ (o : Laid). o .message) f) (is p)
     known false p f = let z : false ≡ true = ap (λ (o : Laid). o .known) f in let n : _≡_ {A = ℕ} 0 1 = cc in absurd (omega arith)
-
--- ---- over the calls
-
-stored : (b z : List ℕ) (m : Message) (t : Bool) → (eqb (length b) 132 && bytesFit m) ≡ t
-    → cond t (kept true (messageBytes m)) (kept false b) ≡ kept true z → (bytesFit m ≡ true) × (messageBytes m ≡ z)
-stored b z m true p e = (both-right (eqb (length b) 132) (bytesFit m) p, ap (λ (k : Kept). k .bytes) e)
-stored b z m false p e = let y : false ≡ true = ap (λ (k : Kept). k .done) e in let n : _≡_ {A = ℕ} 0 1 = cc in absurd (omega arith)
-
--- what was stored is loaded as it was
-pub loaded-stored : (b z : List ℕ) (m : Message) → Typed m → storeAt b m ≡ kept true z → loadAt z ≡ isMessage m
-unfolding storeAt
-loaded-stored b z m t e =
-    let r = stored b z m _ refl e in
-    subst (λ (y : List ℕ). loadAt y ≡ isMessage m) (r .1) (loaded-bytes m t (r .0))
-
--- what was loaded is stored in the same bytes
-pub stored-loaded : (b z : List ℕ) (m : Message) → Bytes b → loadAt b ≡ isMessage m → length z ≡ 132 → storeAt z m ≡ kept true b
-unfolding storeAt
-stored-loaded b z m s e h = let r = loaded b m s e in rw (eq-eqb (length z) 132 h, r .fit, r .bytes)

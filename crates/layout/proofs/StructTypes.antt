@@ -1,8 +1,10 @@
--- What the types of the struct say of a message: bytes, numbers of two bytes, four digits and five places.
+-- What the types of the struct say of a message: bytes, numbers of two bytes, four digits and five places. And which messages have bytes.
 -- Assumes nothing.
 use Prim.Native.Nat.{ℕ, _<_}
 use mathlib.Core.Path.{_≡_}
+use mathlib.Core.Bool.{Bool, true, _&&_}
 use mathlib.Core.List.{List, [], _∷_}
+use lib.Dec.{ltb}
 use lib.ListN.{length, getD}
 use Rattle.elements.specs.declared.values.Level.{Level}
 use Rattle.elements.specs.declared.values.Element.{Element}
@@ -38,3 +40,12 @@ pub record Typed (m : Message) : Type 0 where
   pub seconds : m .header .dated .seconds < 256
   pub five : length (m .places) ≡ 5
   pub elements : ElementsTyped (m .places)
+
+-- ---- those whose numbers fit into their bytes
+
+unfoldable pub placesFit : List Element → Bool
+placesFit [] = true
+placesFit (e ∷ es) = ltb (e .characters) 65536 && placesFit es
+
+unfoldable pub bytesFit : Message → Bool
+bytesFit m = ltb (m .count) 256 && placesFit (m .places)

@@ -31,8 +31,7 @@ use Rattle.inner.proofs.MessageLaws.{fits-of}
 use Rattle.inner.specs.declared.values.Header.{Header}
 use Rattle.inner.specs.declared.values.DateTime.{DateTime}
 use Rattle.inner.specs.declared.values.Message.{Message}
-use Rattle.layout.specs.Layout.{placesFit, bytesFit}
-use Rattle.layout.proofs.StructTypes.{LevelTyped, ElementTyped, ElementsTyped, none, more, Typed}
+use Rattle.layout.proofs.StructTypes.{LevelTyped, ElementTyped, ElementsTyped, none, more, Typed, placesFit, bytesFit}
 use Rattle.layout.proofs.InOrder.{fit-cons}
 
 never : {A : Type 0} → false ≡ true → A

@@ -160,23 +160,3 @@ noMessage = record { known = false; message = emptyMessage }
 
 unfoldable pub loadAt : List ℕ → Laid
 loadAt b = cond (eqb (length b) size && frontStands b && placesStand 5 (drop frontSize b)) (isMessage (messageOf b)) noMessage
-
--- ---- which messages have bytes: those whose numbers fit into theirs
-
-unfoldable pub placesFit : List Element → Bool
-placesFit [] = true
-placesFit (e ∷ es) = ltb (e .characters) 65536 && placesFit es
-
-unfoldable pub bytesFit : Message → Bool
-bytesFit m = ltb (m .count) 256 && placesFit (m .places)
-
--- what storing leaves: whether the message was stored, and the bytes
-pub record Kept : Type 0 where
-  pub done : Bool
-  pub bytes : List ℕ
-
-abbrev pub kept : Bool → List ℕ → Kept
-kept d b = record { done = d; bytes = b }
-
-unfoldable pub storeAt : List ℕ → Message → Kept
-storeAt b m = cond (eqb (length b) size && bytesFit m) (kept true (messageBytes m)) (kept false b)

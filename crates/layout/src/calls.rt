@@ -1,14 +1,12 @@
 // The calls on bytes that the card exports.
 ghost use mathlib.Core.Path.{_≡_};
 ghost use Rattle.layout.specs.Calls.{readCall, sent, told, wayOf, writeCall};
+use crate::reading::read_laid;
 use crate::stored::Laid;
 use crate::stored::is_laid;
-use crate::stored::store_message;
 use crate::writing::write_laid;
-use inner::opening::open_message;
 use inner::values::Message;
 use inner::values::MessageWritten;
-use inner::values::Opened;
 use kinds::Direction;
 use words::Limit;
 
@@ -20,7 +18,7 @@ pub enum Way {
 
 impl Way {
     // A count of characters is answered in the bits above a refusal's number, a count of bits in those above it.
-    const COUNTED: u64 = 256;
+    pub(crate) const COUNTED: u64 = 256;
 
     const COUNTED_BITS: u64 = 16777216;
 }
@@ -58,18 +56,7 @@ pub fn read_call(
     let Way::Is(d) = way else {
         return Limit::SHAPE;
     };
-    let read = open_message(d, bits, count as usize, text);
-    let answer = read.answer;
-    match answer {
-        Opened::Characters(n) => {
-            let m = read.message;
-            store_message(message, m);
-            Way::COUNTED * n as u64
-        }
-        Opened::Room => Limit::ROOM,
-        Opened::Shape => Limit::SHAPE,
-        Opened::Refused(r) => fields::packed(r),
-    }
+    read_laid(d, bits, count as usize, message, text)
 }
 
 // The message in the range `message`, whose characters are `text`, from the buffer's first bit on.

@@ -1,4 +1,4 @@
--- `inner::opening::spread` meets its contract.
+-- `layout::characters::spread` meets its contract.
 -- Assumes nothing.
 use mathlib.Core.Path.{_≡_, refl}
 use Prim.Native.Nat.{_+_, _*_, _≤_, _-_}
@@ -8,9 +8,9 @@ use lib.Seq.{sets}
 use borrow.Author.Needs.{needs}
 use Rattle.bits.specs.Bits.{bitsN}
 use Rattle.elements.specs.Arguments.{charactersIn}
-use Rattle.inner.proofs.Copied.{characters-start, characters-turn, characters-done, spread-at}
-use Rattle.inner.proofs.opening.spread.Statement.{statement}
-use Rattle.inner.proofs.opening.spread.Tie as tie
+use Rattle.layout.proofs.Texts.{characters-start, characters-turn, characters-done, spread-at}
+use Rattle.layout.proofs.characters.spread.Statement.{statement}
+use Rattle.layout.proofs.characters.spread.Tie as tie
 
 abbrev Inv-loop : tie.InvT-loop
 Inv-loop text₀ from n v i₀ text i = (i ≤ n) × (length text ≡ length text₀) × (sets text (from + i) (charactersIn (bitsN (7 * n) v) (0 + 7 * i) (n - i)) ≡ sets text₀ from (charactersIn (bitsN (7 * n) v) 0 n))

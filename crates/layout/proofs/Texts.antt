@@ -1,15 +1,16 @@
--- The characters of a message, as the code copies them into a text.
+-- The characters of elements, as the code copies them into a text.
 -- Assumes nothing.
 use mathlib.Core.Path.{_≡_, refl, sym, ap, _∙_}
-use mathlib.Core.Bool.{true, _&&_}
+use mathlib.Core.Bool.{Bool, true, false, _&&_}
 use mathlib.Core.List.{List, [], _∷_, _++_}
 use Prim.Native.Nat.{ℕ, zero, suc, _+_, _*_, _-_, _/_, _%_, _^_, _≤_, _<_}
 use native.Mathlib.Omega.{arith}
 use native.Mathlib.Nat.{add-zero, zero-add, suc-add}
-use lib.ListN.{length, take, drop, set, length-append}
-use lib.Seq.{sets, sets-eq, length-sets, take-length}
+use native.Mathlib.Numerals.{add-one}
+use lib.ListN.{length, take, drop, set, getD, length-append}
+use lib.Seq.{sets, sets-eq, length-sets, take-length, getD-set-same, getD-set-other}
 use lib.Dec.{eqb}
-use borrow.Author.Tests.{eqb-true, le-leb}
+use borrow.Author.Tests.{eqb-true, eqb-false, le-leb}
 use Rattle.words.proofs.Laws.{both-right}
 use Rattle.bits.specs.Bits.{bitsN, numOf}
 use Rattle.bits.specs.Read.{readBits}
@@ -19,7 +20,6 @@ use Rattle.bits.proofs.Numbers.{Bits, bitsN-part, num-bitsN}
 use Rattle.bits.proofs.Bytes.{holds-within, part-bits}
 use Rattle.bits.proofs.Reading.{number-is}
 use Rattle.fields.specs.Encodings.{wholeFits}
-use Rattle.fields.specs.declared.Refusal.{Refusal}
 use Rattle.kinds.specs.declared.Direction.{Direction}
 use Rattle.kinds.specs.declared.ArgumentKind.{ArgumentKind}
 use Rattle.kinds.specs.declared.ArgumentKind.the-variants as kind
@@ -34,7 +34,9 @@ use Rattle.elements.proofs.ReadBack.{parts}
 use Rattle.elements.proofs.Texts.{length-characters, length-charactersBits, characters-found, characters-fit, characters-stand}
 use Rattle.elements.proofs.Measured.{length-element, length-sized, length-facility}
 use Rattle.elements.proofs.Placed.{element-stands}
 use Rattle.inner.specs.Places.{ontoText, textAt}
+use Rattle.layout.specs.Rows.{textsOf}
+use Rattle.layout.proofs.Copied.{sets-append}
 
 -- ---- bits that are there, as a number
 
@@ -86,10 +88,6 @@ characters-add l at zero n =
 characters-add l at (suc m) n =
     let a : at + 7 + 7 * m ≡ at + 7 * suc m = omega arith in
     rw (suc-add m n, characters-suc, characters-suc, characters-add l (at + 7) m n, a)
-
-sets-append : (xs ys z : List ℕ) (k : ℕ) → sets z k (xs ++ ys) ≡ sets (sets z k xs) (k + length xs) ys
-sets-append [] ys z k = rw (add-zero k)
-sets-append (x ∷ xs) ys z k = let a : k + suc (length xs) ≡ suc k + length xs = omega arith in rw a (sets-append xs ys (set z k x) (suc k))
 
 pub eight-turn : (z z′ l o : List ℕ) (from at n i : ℕ) → 8 ≤ n - i
     → sets z (from + i) (charactersIn l (at + 7 * i) (n - i)) ≡ o
@@ -182,10 +180,11 @@ element-inside d l at next r b h q =
     let w = holds-within l at (elementBits d e t) (omega arith) (s .holds) in
     record { after = omega arith; within = omega arith }
 
--- ---- the characters of elements: those of the first i are copied, up to place k of the text
+-- ---- the characters of elements
 
 pub text-suc : (d : Direction) (l : List ℕ) (at n : ℕ)
-    → textAt d l at (suc n) ≡ ontoText (elementAt d l at .step) (λ (next : ℕ). textOf l (elementAt d l at .element) next ++ textAt d l next n)
+    → textAt d l at (suc n) ≡ ontoText (elementAt d l at .step)
+    (λ (next : ℕ). textOf l (elementAt d l at .element) next ++ textAt d l next n)
 unfolding textAt
 text-suc d l at n = refl
 
@@ -193,72 +192,82 @@ pub text-none : (d : Direction) (l : List ℕ) (at : ℕ) → textAt d l at 0 �
 unfolding textAt
 text-none d l at = refl
 
-pub record Copied (d : Direction) (l : List ℕ) (at n : ℕ) (z₀ : List ℕ) (i p k : ℕ) (z : List ℕ) : Type 0 where
-  pub text : sets z k (textAt d l p (n - i)) ≡ sets z₀ 0 (textAt d l at n)
-  pub count : k + length (textAt d l p (n - i)) ≡ length (textAt d l at n)
-  pub size : length z ≡ length z₀
+pub texts-suc : (l cs fs : List ℕ) (k : ℕ) → textsOf l cs fs (suc k) ≡ textsOf l cs fs k ++ charactersIn l (getD fs k 0) (getD cs k 0)
+unfolding textsOf
+texts-suc l cs fs k = refl
 
-pub copied-start : (d : Direction) (l : List ℕ) (at n : ℕ) (z : List ℕ) → Copied d l at n z 0 at 0 z
-copied-start d l at n z =
-    let e : n - 0 ≡ n = omega arith in
-    record { text = rw e; count = rw e (omega arith); size = refl }
+texts-grow : (l cs fs : List ℕ) (k j : ℕ) → length (textsOf l cs fs k) ≤ length (textsOf l cs fs (k + j))
+texts-grow l cs fs k zero = rw (add-zero k) (omega arith)
+texts-grow l cs fs k (suc j) =
+    let e : k + suc j ≡ suc (k + j) = omega arith in
+    let a = texts-grow l cs fs k j in
+    let b = length-append (textsOf l cs fs (k + j)) (charactersIn l (getD fs (k + j) 0) (getD cs (k + j) 0)) in
+    rw (e, texts-suc) (omega arith)
 
-module _ (d : Direction) (l : List ℕ) (at n : ℕ) (z₀ : List ℕ) (i p k : ℕ) (z : List ℕ) (inv : Copied d l at n z₀ i p k z) where
-  module _ (h : i < n) (r : ElementRead) (e : r ≡ elementAt d l p) where
-    one-more : n - i ≡ suc (n - (i + 1))
-    one-more = omega arith
+-- those of the first k elements are copied, up to place t of the text
+pub record Taken (l cs fs z₀ : List ℕ) (k t : ℕ) (z : List ℕ) : Type 0 where
+  pub count : t ≡ length (textsOf l cs fs k)
+  pub text : z ≡ sets z₀ 0 (textsOf l cs fs k)
 
-    -- the characters that are left are the next element's, and those behind it
-    module _ (next : ℕ) (q : r .step ≡ step.Next next) where
-      left : textAt d l p (n - i) ≡ textOf l (r .element) next ++ textAt d l next (n - (i + 1))
-      left = rw (one-more, text-suc, ← e, q)
+pub taken-start : (l cs fs z : List ℕ) → Taken l cs fs z 0 0 z
+unfolding textsOf
+taken-start l cs fs z = record { count = refl; text = refl }
 
-      counted : length (textOf l (r .element) next) ≡ r .element .characters
-      counted = length-characters l (next - 7 * r .element .characters) (r .element .characters)
+module _ (l cs fs z₀ : List ℕ) (k t : ℕ) (z : List ℕ) (inv : Taken l cs fs z₀ k t z) where
+  pub taken-size : length z ≡ length z₀
+  taken-size = ap length (inv .text) ∙ length-sets z₀ 0 (textsOf l cs fs k)
 
-      -- they are there, and a text that takes all characters has room for them
-      pub copied-room : Bits l → length (textAt d l at n) ≤ length z₀
-          → (next - 7 * r .element .characters + 7 * r .element .characters ≤ length l) × (k + r .element .characters ≤ length z)
-      copied-room b h =
-          let o = element-inside d l p next r b e q in
-          let a = o .after in
-          let w = o .within in
-          let v = length-append (textOf l (r .element) next) (textAt d l next (n - (i + 1))) in
-          let u = ap length left in
-          let m = counted in
-          let f = inv .count in
-          let g = inv .size in
-          (omega arith, omega arith)
+  one-longer : length (textsOf l cs fs (suc k)) ≡ t + getD cs k 0
+  one-longer = rw (texts-suc, length-append, length-characters, ← inv .count)
 
-    pub copied-turn : (next : ℕ) → r .step ≡ step.Next next → (y : List ℕ)
-        → y ≡ sets z k (charactersIn l (next - 7 * r .element .characters) (r .element .characters))
-        → Copied d l at n z₀ (i + 1) next (k + r .element .characters) y
-    copied-turn next q y w =
-        let c : ℕ = r .element .characters in
-        let t : List ℕ = textOf l (r .element) next in
-        let u : textAt d l p (n - i) ≡ t ++ textAt d l next (n - (i + 1)) = left next q in
-        let m : length t ≡ c = counted next q in
-        let v = length-append t (textAt d l next (n - (i + 1))) in
-        let x : sets (sets z k t) (k + length t) (textAt d l next (n - (i + 1))) ≡ sets z₀ 0 (textAt d l at n) = sym
-        (sets-append t (textAt d l next (n - (i + 1))) z k) ∙ rw u at (inv .text) in
-        record {
-          text = rw w (rw m at x);
-          count = let f = inv .count in let g = ap length u in omega arith;
-          size = ap length w ∙ length-sets z k t ∙ inv .size;
-        }
+  pub taken-room : (n : ℕ) → k < n → length (textsOf l cs fs n) ≤ length z₀ → t + getD cs k 0 ≤ length z
+  taken-room n h r =
+      let e : suc k + (n - suc k) ≡ n = omega arith in
+      let g : length (textsOf l cs fs (suc k)) ≤ length (textsOf l cs fs n) = rw e at (texts-grow l cs fs (suc k) (n - suc k)) in
+      let a = one-longer in
+      let b = taken-size in
+      omega arith
 
-    module _ (f : Refusal) (q : r .step ≡ step.Refused f) where
-      none-more : textAt d l p (n - i) ≡ []
-      none-more = rw (one-more, text-suc, ← e, q)
+  pub taken-turn : (y : List ℕ) → y ≡ sets z t (charactersIn l (getD fs k 0) (getD cs k 0)) → Taken l cs fs z₀ (k + 1) (t + getD cs k 0) y
+  taken-turn y e =
+      let a : sets z₀ 0 (textsOf l cs fs (suc k)) ≡ sets z t (charactersIn l (getD fs k 0) (getD cs k 0)) = rw
+      (texts-suc, sets-append, zero-add, ← inv .count, ← inv .text) in
+      record { count = rw (add-one k) (sym one-longer); text = rw (add-one k) (e ∙ sym a) }
 
-      pub copied-cut : (k ≡ length (textAt d l at n)) × (z ≡ sets z₀ 0 (textAt d l at n))
-      copied-cut = (let a = inv .count in let b = ap length none-more in omega arith, rw none-more at (inv .text))
+  pub taken-done : (n : ℕ) → k ≤ n → n ≤ k → (t ≡ length (textsOf l cs fs n)) × (z ≡ sets z₀ 0 (textsOf l cs fs n))
+  taken-done n h g = let e : k ≡ n = omega arith in (rw (← e) (inv .count), rw (← e) (inv .text))
 
-  pub copied-done : n ≤ i → (k ≡ length (textAt d l at n)) × (z ≡ sets z₀ 0 (textAt d l at n))
-  copied-done h =
-      let e : n - i ≡ 0 = omega arith in
-      let a : textAt d l p (n - i) ≡ [] = rw (e, text-none) in
-      (let f = inv .count in let g = ap length a in omega arith, rw a at (inv .text))
+-- the two lists changed behind the first k elements
+pub texts-frame : (l cs fs : List ℕ) (k i x y : ℕ) → k ≤ i → textsOf l (set cs i x) (set fs i y) k ≡ textsOf l cs fs k
+unfolding textsOf
+texts-frame l cs fs zero i x y h = refl
+texts-frame l cs fs (suc k) i x y h =
+    let n : k ≡ i → ⊥ = λ (e : k ≡ i). omega arith in
+    rw (
+      texts-suc,
+      texts-suc,
+      texts-frame l cs fs k i x y (omega arith),
+      getD-set-other cs i k x 0 n,
+      getD-set-other fs i k y 0 n,
+    )
+
+module _ (l cs fs : List ℕ) (i x y : ℕ) (h : i < length cs) (g : i < length fs) where
+  pub texts-more : textsOf l (set cs i x) (set fs i y) (suc i) ≡ textsOf l cs fs i ++ charactersIn l y x
+  texts-more = rw (texts-suc, texts-frame l cs fs i i x y (omega arith), getD-set-same cs i x 0 h, getD-set-same fs i y 0 g)
+
+  -- where they end
+  pub inside-more : y + 7 * x ≤ length l → ((k : ℕ) → k < i → getD fs k 0 + 7 * getD cs k 0 ≤ length l)
+      → (k : ℕ) → k < suc i → getD (set fs i y) k 0 + 7 * getD (set cs i x) k 0 ≤ length l
+  inside-more e rest k m = go (eqb k i) refl
+    where
+      go : (t : Bool) → eqb k i ≡ t → getD (set fs i y) k 0 + 7 * getD (set cs i x) k 0 ≤ length l
+      go true z = let u : k ≡ i = eqb-true k i z in rw (u, getD-set-same cs i x 0 h, getD-set-same fs i y 0 g) e
+      go false z =
+          let u : k ≡ i → ⊥ = eqb-false k i z in
+          rw (getD-set-other cs i k x 0 u, getD-set-other fs i k y 0 u) (rest k (below u))
+        where
+          below : (k ≡ i → ⊥) → k < i
+          below u = omega (arith, u)
 
 -- what was copied lies before the bytes that stay
 pub copied-front : (z t : List ℕ) → length t ≤ length z → sets z 0 t ≡ t ++ drop (length t) z

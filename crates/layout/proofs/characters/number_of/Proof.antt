@@ -1,10 +1,10 @@
--- `inner::opening::number_of` meets its contract.
+-- `layout::characters::number_of` meets its contract.
 -- Assumes nothing.
 use native.Mathlib.Omega.{arith}
 use borrow.Author.Needs.{needs}
-use Rattle.inner.proofs.Copied.{number-there, not-short}
-use Rattle.inner.proofs.opening.number_of.Statement.{statement}
-use Rattle.inner.proofs.opening.number_of.Tie as tie
+use Rattle.layout.proofs.Texts.{number-there, not-short}
+use Rattle.layout.proofs.characters.number_of.Statement.{statement}
+use Rattle.layout.proofs.characters.number_of.Tie as tie
 
 read-bits-requires : tie.Need-read-bits-requires
 read-bits-requires c κs = search needs

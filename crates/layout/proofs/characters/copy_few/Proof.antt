@@ -1,12 +1,12 @@
--- `inner::opening::copy_few` meets its contract.
+-- `layout::characters::copy_few` meets its contract.
 -- Assumes nothing.
 use mathlib.Core.Path.{refl}
 use native.Mathlib.Omega.{arith}
 use borrow.Author.Needs.{needs}
 use Rattle.bits.proofs.Bytes.{bits-to}
-use Rattle.inner.proofs.Copied.{few-are}
-use Rattle.inner.proofs.opening.copy_few.Statement.{statement}
-use Rattle.inner.proofs.opening.copy_few.Tie as tie
+use Rattle.layout.proofs.Texts.{few-are}
+use Rattle.layout.proofs.characters.copy_few.Statement.{statement}
+use Rattle.layout.proofs.characters.copy_few.Tie as tie
 
 mul-number-of : tie.Need-mul-number-of
 mul-number-of c = search needs

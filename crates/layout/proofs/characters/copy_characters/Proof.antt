@@ -1,4 +1,4 @@
--- `inner::opening::copy_characters` meets its contract.
+-- `layout::characters::copy_characters` meets its contract.
 -- Assumes nothing.
 use mathlib.Core.Path.{_≡_, refl, ap, _∙_}
 use Prim.Native.Nat.{_+_, _*_, _≤_, _-_}
@@ -9,9 +9,9 @@ use borrow.Author.Needs.{needs}
 use Rattle.bits.specs.Bits.{bitsTo}
 use Rattle.bits.proofs.Bytes.{length-to}
 use Rattle.elements.specs.Arguments.{charactersIn}
-use Rattle.inner.proofs.Copied.{characters-start, eight-turn}
-use Rattle.inner.proofs.opening.copy_characters.Statement.{statement}
-use Rattle.inner.proofs.opening.copy_characters.Tie as tie
+use Rattle.layout.proofs.Texts.{characters-start, eight-turn}
+use Rattle.layout.proofs.characters.copy_characters.Statement.{statement}
+use Rattle.layout.proofs.characters.copy_characters.Tie as tie
 
 abbrev Inv-loop : tie.InvT-loop
 Inv-loop s end at n text₀ from i₀ text i = (i ≤ n) × (length text ≡ length text₀) × (sets text (from + i) (charactersIn (bitsTo s end) (at + 7 * i) (n - i)) ≡ sets text₀ from (charactersIn (bitsTo s end) at n))

@@ -8,6 +8,7 @@ ghost use lib.ListN.{drop, getD, length, take};
 ghost use Rattle.bits.specs.Put.{left};
 ghost use Rattle.fields.specs.Encodings.{wholeFits};
 ghost use Rattle.elements.specs.Writing.{putPieces, whole};
+ghost use Rattle.inner.specs.Headers.{headerBits, headerFits};
 ghost use Rattle.inner.specs.Messages.{allEmpty, done, messageBits, messageCarried, padding as paddingOf, writeMessage};
 ghost use Rattle.inner.specs.Places.{rowBits, rowFits};
 ghost use Rattle.inner.specs.Writing.{messagePieces, rowPieces};
@@ -109,17 +110,13 @@ fn is_count(n: usize) -> bool
     n <= Message::PLACES
 }
 
-// How many bits the message in a range takes. One that is none of its type, or passes the most bits, has the wrong shape.
-fn laid_bits(direction: Direction, ks: [ArgumentKind; 5], b: &[u8], text: &[u8]) -> Size
-    requires { ⌜ (length (now b) ≡ size) × (placesStand 5 (drop frontSize (now b)) ≡ true) × KindsOf direction (now b) (getD (now b) 11 0) ks ⌝ }
+// How many bits the message in a range takes whose header takes a bits. One that is none of its type, or passes the most bits, has the wrong shape.
+fn laid_bits(direction: Direction, ks: [ArgumentKind; 5], b: &[u8], a: usize, text: &[u8]) -> Size
+    requires { ⌜ (length (now b) ≡ size) × (placesStand 5 (drop frontSize (now b)) ≡ true) × KindsOf direction (now b) (getD (now b) 11 0) ks
+        × (Size.Bits a ≡ cond (headerFits (messageOf (now b) .header)) (Size.Bits (length (headerBits (messageOf (now b) .header)))) Size.Shape) ⌝ }
     ensures { λ r. ⌜ r ≡ cond (messageCarried direction (messageOf (now (b .entry))) (now (text .entry)))
         (Size.Bits (length (messageBits direction (messageOf (now (b .entry))) (now (text .entry))))) Size.Shape ⌝ }
 {
-    let h = load_header(b);
-    let first = header_bits(h);
-    let Size::Bits(a) = first else {
-        return Size::Shape;
-    };
     let n = b[11] as usize;
     if !is_count(n) {
         return Size::Shape;
@@ -228,8 +225,13 @@ pub(crate) fn write_laid(
     if out.len() < Message::ROOM {
         return MessageWritten::Room;
     }
+    let h = load_header(b);
+    let first = header_bits(h);
+    let Size::Bits(a) = first else {
+        return MessageWritten::Shape;
+    };
     let ks = kinds_of(direction, b, b[11]);
-    let size = laid_bits(direction, ks, b, text);
+    let size = laid_bits(direction, ks, b, a, text);
     let Size::Bits(n) = size else {
         return MessageWritten::Shape;
     };

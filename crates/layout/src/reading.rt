@@ -31,8 +31,8 @@ use kinds::Direction;
 use words::Limit;
 
 // The n elements at a place behind a header, and nothing after them. Their places are put together first, and of each element is kept how
-// many characters it has and where they begin. The places alone are copied in the end, since the compiler makes a call of C's memcpy of a
-// copy that is longer than 128 bytes.
+// many characters it has and where they begin. The front is put by itself: of a copy of all 132 bytes the compiler makes a call of C's
+// memcpy.
 fn read_row(
     direction: Direction,
     s: &[u8],

@@ -169,7 +169,7 @@ fn put_row(
 }
 
 // That there is no constrained data, and the count of elements.
-fn put_count(buf: &mut [u8], end: usize, at: usize, n: u64) -> Put
+fn put_count_by_fields(buf: &mut [u8], end: usize, at: usize, n: u64) -> Put
     ensures { λ r. ⌜ left r (now (buf .exit)) ≡ putPieces (now (buf .entry)) end at (whole 0 1 0 ∷ whole 1 5 n ∷ []) ⌝ }
 {
     let first = fields::put_whole(buf, end, at, 0, 1, 0);
@@ -177,6 +177,19 @@ fn put_count(buf: &mut [u8], end: usize, at: usize, n: u64) -> Put
         return Put::Full;
     };
     fields::put_whole(buf, end, next, 1, Message::PLACES as u64, n)
+}
+
+// Both as one number where it is a count and there is room for them, else field by field.
+fn put_count(buf: &mut [u8], end: usize, at: usize, n: u64) -> Put
+    ensures { λ r. ⌜ left r (now (buf .exit)) ≡ putPieces (now (buf .entry)) end at (whole 0 1 0 ∷ whole 1 5 n ∷ []) ⌝ }
+{
+    if !is_count(n as usize) {
+        return put_count_by_fields(buf, end, at, n);
+    }
+    if bits::within(buf.len(), end, at, Message::BETWEEN) {
+        return bits::put_bits(buf, end, at, Message::BETWEEN, n - 1);
+    }
+    put_count_by_fields(buf, end, at, n)
 }
 
 // The header, that there is no constrained data, the count of elements, and the elements.

@@ -5,12 +5,14 @@ use mathlib.Core.Bool.{Bool, true, false, _&&_}
 use mathlib.Core.List.{List, [], _∷_, _++_}
 use Prim.Native.Nat.{ℕ, zero, suc, _+_, _-_, _*_, _≤_, _<_}
 use native.Mathlib.Omega.{arith}
+use native.Mathlib.Numerals.{add-one}
 use lib.Dec.{ltb}
 use lib.ListN.{length, take, drop, getD}
-use lib.Seq.{drop-drop}
+use lib.Seq.{sets, drop-cons, drop-drop, drop-length}
 use Rattle.elements.specs.declared.values.Element.{Element}
 use Rattle.inner.proofs.RowPieces.{next-element}
 use Rattle.layout.specs.Layout.{placeBytes, placesBytes, elementOf, elementsOf, placeStands, placesStand}
+use Rattle.layout.proofs.Copied.{sets-append}
 use Rattle.layout.proofs.StructTypes.{placesFit}
 
 -- ---- one place and those behind it
@@ -102,3 +104,29 @@ module _ (b : List ℕ) (i : ℕ) (h : i < 5) (x : Element) (p : x ≡ elementOf
   row-next n g f =
       let l = length-elements 5 (drop 12 b) in
       next-element (elementsOf 5 (drop 12 b)) n i x g (omega arith) ∙ rw loaded
+
+-- ---- the bytes of the places
+
+pub record Putting (s₀ s : List ℕ) (m : List Element) (i : ℕ) : Type 0 where
+  pub count : i ≤ 5
+  pub same : length s ≡ length s₀
+  pub rest : sets s (12 + 24 * i) (placesBytes (drop i m)) ≡ sets s₀ 12 (placesBytes m)
+
+pub putting-start : (s : List ℕ) (m : List Element) → Putting s s m 0
+putting-start s m = record { count = omega arith; same = refl; rest = refl }
+
+pub putting-more : (s₀ s z a : List ℕ) (m : List Element) (d : Element) (i : ℕ) → length m ≡ 5 → i < 5
+    → a ≡ placeBytes (getD m i d) → z ≡ sets s (12 + 24 * i) a → length z ≡ length s → Putting s₀ s m i
+    → Putting s₀ z m (i + 1)
+putting-more s₀ s z a m d i five h p q l inv =
+    let k : drop i m ≡ getD m i d ∷ drop (i + 1) m = rw (add-one i) (drop-cons m i d (omega arith)) in
+    let n : 12 + 24 * i + 24 ≡ 12 + 24 * (i + 1) = omega arith in
+    let y : sets (sets s (12 + 24 * i) a) (12 + 24 * (i + 1)) (placesBytes (drop (i + 1) m)) ≡ sets s₀ 12
+    (placesBytes m) = rw (k, bytes-cons, sets-append, length-place, n, ← p) at (inv .rest) in
+    record { count = omega arith; same = l ∙ inv .same; rest = rw q y }
+
+pub putting-done : (s₀ s : List ℕ) (m : List Element) (i : ℕ) → length m ≡ 5 → 5 ≤ i → Putting s₀ s m i → s ≡ sets s₀ 12 (placesBytes m)
+unfolding placesBytes
+putting-done s₀ s m i five h inv =
+    let e : i ≡ length m = omega (arith, inv .count) in
+    rw (e, drop-length m) at (inv .rest)

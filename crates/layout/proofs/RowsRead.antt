@@ -35,73 +35,41 @@ use Rattle.layout.proofs.Copied.{sets-append}
 use Rattle.layout.proofs.Laying.{length-places, laid-whole}
 use Rattle.layout.proofs.Texts.{element-inside, text-suc, text-none, texts-more, inside-more, copied-front}
 
--- ---- the bytes of places
-
-places-append : (es fs : List Element) → placesBytes (es ++ fs) ≡ placesBytes es ++ placesBytes fs
-unfolding placesBytes
-places-append [] fs = refl
-places-append (e ∷ es) fs = rw (places-append es fs) (sym (append-assoc (placeBytes e) (placesBytes es) (placesBytes fs)))
-
-places-one : (e : Element) → placesBytes (e ∷ []) ≡ placeBytes e
-unfolding placesBytes
-places-one e = append-nil (placeBytes e)
-
--- an empty place is zero
-empty-place : placeBytes (bare 0) ≡ replicate 24 0
-unfolding placeBytes
-empty-place = refl
-
-empty-bytes : (k : ℕ) → placesBytes (replicate k (bare 0)) ≡ replicate (24 * k) 0
-unfolding placesBytes
-empty-bytes zero = refl
-empty-bytes (suc k) =
-    let e : 24 + 24 * k ≡ 24 * suc k = omega arith in
-    rw (empty-bytes k, empty-place) (rw e at (replicate-append-replicate {A = ℕ} 24 (24 * k) 0))
-
-drop-zeros : (k n : ℕ) → drop {A = ℕ} k (replicate n 0) ≡ replicate (n - k) 0
-drop-zeros zero n = let e : n - 0 ≡ n = omega arith in rw e
-drop-zeros (suc k) zero = let e : 0 - suc k ≡ 0 = omega arith in rw e
-drop-zeros (suc k) (suc n) = let e : suc n - suc k ≡ n - k = omega arith in rw e (drop-zeros k n)
-
--- elements laid over five empty places
-pub places-laid : (es : List Element) → length es ≤ 5
-    → sets (replicate 120 0) 0 (placesBytes es) ≡ placesBytes (es ++ replicate (5 - length es) (bare 0))
-places-laid es h =
-    let n = length-places es in
-    let z = length-replicate {A = ℕ} 120 0 in
-    let k : 120 - length (placesBytes es) ≡ 24 * (5 - length es) = omega arith in
-    copied-front (replicate 120 0) (placesBytes es) (omega arith) ∙ rw (drop-zeros, k, places-append, empty-bytes)
+-- the first behind others is put anew
+set-behind : (es fs : List Element) (x y : Element) → set (es ++ (x ∷ fs)) (length es) y ≡ es ++ (y ∷ fs)
+set-behind [] fs x y = refl
+set-behind (e ∷ es) fs x y = ap (λ (l : List Element). e ∷ l) (set-behind es fs x y)
 
 -- ---- the loop: i elements were read, and p is the place after them
 
-pub record Reading (d : Direction) (l : List ℕ) (at n i p : ℕ) (b cs fs : List ℕ) : Type 0 where
+pub record Reading (d : Direction) (l : List ℕ) (at n i p : ℕ) (ps : List Element) (cs fs : List ℕ) : Type 0 where
   pub es : List Element
   pub many : length es ≡ i
   pub read : after es (rowAt d l p (n - i)) ≡ rowAt d l at n
-  pub bytes : b ≡ sets (replicate 120 0) 0 (placesBytes es)
-  pub size : length b ≡ 120
+  pub filled : ps ≡ es ++ replicate (5 - i) (bare 0)
+  pub five : length ps ≡ 5
   pub counts : length cs ≡ 5
   pub starts : length fs ≡ 5
   pub text : textsOf l cs fs i ++ textAt d l p (n - i) ≡ textAt d l at n
   pub inside : (k : ℕ) → k < i → getD fs k 0 + 7 * getD cs k 0 ≤ length l
 
-pub reading-start : (d : Direction) (l : List ℕ) (at n : ℕ) → Reading d l at n 0 at (replicate 120 0) (replicate 5 0) (replicate 5 0)
-unfolding textsOf placesBytes
+pub reading-start : (d : Direction) (l : List ℕ) (at n : ℕ) → Reading d l at n 0 at (replicate 5 (bare 0)) (replicate 5 0) (replicate 5 0)
+unfolding textsOf
 reading-start d l at n =
     let e : n - 0 ≡ n = omega arith in
     record {
       es = [];
       many = refl;
       read = filled-start d l at n .read;
-      bytes = refl;
-      size = refl;
+      filled = refl;
+      five = refl;
       counts = refl;
       starts = refl;
       text = rw e;
       inside = λ (k : ℕ) (h : k < 0). omega arith;
     }
 
-module _ (d : Direction) (l : List ℕ) (at n i p : ℕ) (b cs fs : List ℕ) (inv : Reading d l at n i p b cs fs) where
+module _ (d : Direction) (l : List ℕ) (at n i p : ℕ) (ps : List Element) (cs fs : List ℕ) (inv : Reading d l at n i p ps cs fs) where
   module _ (h : i < n) (r : ElementRead) (e : r ≡ elementAt d l p) where
     one-more : n - i ≡ suc (n - suc i)
     one-more = omega arith
@@ -109,20 +77,22 @@ module _ (d : Direction) (l : List ℕ) (at n i p : ℕ) (b cs fs : List ℕ) (i
     pub reading-bad : (f : Refusal) → r .step ≡ step.Refused f → rowAt d l at n ≡ refused f
     reading-bad f q = sym (inv .read) ∙ rw (one-more, row-suc, ← e, q)
 
-    module _ (five : n ≤ 5) (bits : Bits l) (q : ℕ) (g : r .step ≡ step.Next q) (b′ x : List ℕ) (w : x ≡ placeBytes (r .element)) (y : b′ ≡ sets b (24 * i) x) (same : length b′ ≡ length b) where
+    module _ (five : n ≤ 5) (bits : Bits l) (q : ℕ) (g : r .step ≡ step.Next q) where
       its-text : textAt d l p (n - i) ≡ textOf l (r .element) q ++ textAt d l q (n - suc i)
       its-text = rw (one-more, text-suc, ← e, g)
 
       its-inside : q - 7 * r .element .characters + 7 * r .element .characters ≤ length l
       its-inside = let o = element-inside d l p q r bits e g in let a = o .after in let m = o .within in omega arith
 
-      put : b′ ≡ sets (replicate 120 0) 0 (placesBytes (inv .es ++ (r .element ∷ [])))
+      put : set ps i (r .element) ≡ (inv .es ++ (r .element ∷ [])) ++ replicate (5 - suc i) (bare 0)
       put =
           let m = inv .many in
-          let k : length (placesBytes (inv .es)) ≡ 24 * i = length-places (inv .es) ∙ ap (λ (j : ℕ). 24 * j) m in
-          y ∙ rw (places-append, places-one, sets-append, zero-add, k, ← inv .bytes, ← w)
+          let k : 5 - i ≡ suc (5 - suc i) = omega (arith, h, five) in
+          let w : ps ≡ inv .es ++ (bare 0 ∷ replicate (5 - suc i) (bare 0)) = rw k at (inv .filled) in
+          rw (w, ← m, set-behind, append-assoc)
 
-      pub reading-turn : Reading d l at n (i + 1) q b′ (set cs i (r .element .characters)) (set fs i (q - 7 * r .element .characters))
+      pub reading-turn : Reading d l at n (i + 1) q (set ps i (r .element)) (set cs i (r .element .characters))
+          (set fs i (q - 7 * r .element .characters))
       reading-turn =
           let a : after (inv .es) (after (r .element ∷ []) (rowAt d l q (n - suc i))) ≡ rowAt d l at n = rw
           (one-more, row-suc, ← e, g) at (inv .read) in
@@ -136,8 +106,8 @@ module _ (d : Direction) (l : List ℕ) (at n i p : ℕ) (b cs fs : List ℕ) (i
             es = inv .es ++ (r .element ∷ []);
             many = omega arith;
             read = rw (← after-after) a;
-            bytes = put;
-            size = same ∙ inv .size;
+            filled = put;
+            five = length-set ps i (r .element) ∙ inv .five;
             counts = length-set cs i (r .element .characters) ∙ inv .counts;
             starts = length-set fs i (q - 7 * r .element .characters) ∙ inv .starts;
             text = rw (
@@ -176,20 +146,20 @@ module _ (d : Direction) (l : List ℕ) (at n i p : ℕ) (b cs fs : List ℕ) (i
     pub reading-inside : (k : ℕ) → k < n → getD fs k 0 + 7 * getD cs k 0 ≤ length l
     reading-inside k m = inv .inside k (let e = all in omega arith)
 
-    pub reading-places : b ≡ placesBytes (inv .es ++ replicate (5 - length (inv .es)) (bare 0))
-    reading-places = let m = inv .many in let e = all in inv .bytes ∙ places-laid (inv .es) (omega arith)
+    pub reading-places : ps ≡ inv .es ++ replicate (5 - length (inv .es)) (bare 0)
+    reading-places = rw (inv .many) (inv .filled)
 
 -- ---- the ways out
 
-module _ (d : Direction) (l : List ℕ) (at n i p : ℕ) (b cs fs : List ℕ) (inv : Reading d l at n i p b cs fs) (h : Header) (m t : List ℕ) where
+module _ (d : Direction) (l : List ℕ) (at n i p : ℕ) (ps : List Element) (cs fs : List ℕ) (inv : Reading d l at n i p ps cs fs) (h : Header) (m t : List ℕ) where
   pub row-refused : i < n → (r : ElementRead) → r ≡ elementAt d l p → (f x : Refusal) (k : ℕ) → r .step ≡ step.Refused f
       → x ≡ stepRefusal (r .step) → k ≡ packed x → told k m t ≡ rowTold d l h at n m t
   unfolding rowTold toldOf toldAs
-  row-refused g r e f x k q a w = rw (reading-bad d l at n i p b cs fs inv g r e f q, w, a, q)
+  row-refused g r e f x k q a w = rw (reading-bad d l at n i p ps cs fs inv g r e f q, w, a, q)
 
   module _ (over : n ≤ i) (most : i ≤ n) (five : n ≤ 5) (bits : Bits l) where
     row : rowAt d l at n ≡ these (inv .es) p
-    row = reading-row d l at n i p b cs fs inv over most five bits
+    row = reading-row d l at n i p ps cs fs inv over most five bits
 
     pub row-tail : leb (p + 1) (length l) ≡ true → (u : Field) (x : Refusal) (k : ℕ) → u ≡ refusedAt p fault.Tail → x ≡ refusalOf u
         → k ≡ packed x → told k m t ≡ rowTold d l h at n m t
@@ -203,17 +173,17 @@ module _ (d : Direction) (l : List ℕ) (at n i p : ℕ) (b cs fs : List ℕ) (i
     taken g c z v a k w = rw (row, g, a, k, w)
 
     pub row-taken : leb (p + 1) (length l) ≡ false → length m ≡ 132 → roomLeast ≤ length t → (a y z : List ℕ) → a ≡ frontBytes h n
-        → y ≡ sets m 0 a → z ≡ sets y 12 b → (c : ℕ) (v : List ℕ)
+        → y ≡ sets m 0 a → z ≡ sets y 12 (placesBytes ps) → (c : ℕ) (v : List ℕ)
         → (c ≡ length (textsOf l cs fs n)) × (v ≡ sets t 0 (textsOf l cs fs n)) → told (256 * c) z v ≡ rowTold d l h at n m t
     row-taken g sized room a y z f q k c v o =
         let e : List Element = replicate (5 - length (inv .es)) (bare 0) in
         let many = inv .many in
         let x = length-append (inv .es) e in
         let w = length-replicate (5 - length (inv .es)) (bare 0) in
-        let text = reading-text d l at n i p b cs fs inv over most five bits in
+        let text = reading-text d l at n i p ps cs fs inv over most five bits in
         let few : length (textAt d l at n) ≤ charactersMost = rw text at
-        (reading-few d l at n i p b cs fs inv over most five bits) in
+        (reading-few d l at n i p ps cs fs inv over most five bits) in
         taken g c z v
         (laid-whole m a y z h n (inv .es ++ e) sized (omega arith) f q
-        (k ∙ ap (sets y 12) (reading-places d l at n i p b cs fs inv over most five bits)))
+        (k ∙ ap (λ (x : List Element). sets y 12 (placesBytes x)) (reading-places d l at n i p ps cs fs inv over most five bits)))
         (o .0 ∙ ap length text) (o .1 ∙ ap (sets t 0) text ∙ copied-front t (textAt d l at n) (omega arith))

@@ -30,9 +30,8 @@ use inner::values::header_refusal;
 use kinds::Direction;
 use words::Limit;
 
-// The n elements at a place behind a header, and nothing after them. Their places are put together first, and of each element is kept how
-// many characters it has and where they begin. The front is put by itself: of a copy of all 132 bytes the compiler makes a call of C's
-// memcpy.
+// The n elements at a place behind a header, and nothing after them. They fill the five places in order, and of each is kept how many
+// characters it has and where they begin; then all of it is laid into the range and the text.
 fn read_row(
     direction: Direction,
     s: &[u8],
@@ -47,7 +46,7 @@ fn read_row(
     ensures { λ r. ⌜ told r (now (message .exit)) (now (text .exit)) ≡
         rowTold direction (bitsTo (now (s .entry)) end) header at n (now (message .entry)) (now (text .entry)) ⌝ }
 {
-    let mut places = [0u8; Laid::PLACES];
+    let mut places = [Element::EMPTY; 5];
     let mut counts = [0usize; 5];
     let mut starts = [0usize; 5];
     let mut i: usize = 0;
@@ -59,8 +58,7 @@ fn read_row(
             return fields::packed(step_refusal(step));
         };
         let e = one.element;
-        let b = place_bytes(e);
-        put_bytes(&mut places, Laid::PLACE * i, &b);
+        places[i] = e;
         let c = e.characters as usize;
         counts[i] = c;
         starts[i] = next - Element::CHARACTER_BITS * c;
@@ -72,7 +70,13 @@ fn read_row(
     }
     let front = front_bytes(header, n);
     put_bytes(message, 0, &front);
-    put_bytes(message, Laid::FRONT, &places);
+    let mut k: usize = 0;
+    while k < Message::PLACES {
+        let e = places[k];
+        let b = place_bytes(e);
+        put_bytes(message, Laid::FRONT + Laid::PLACE * k, &b);
+        k += 1;
+    }
     let characters = copy_texts(s, end, counts, starts, n, text);
     Way::COUNTED * characters as u64
 }

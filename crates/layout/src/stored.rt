@@ -17,12 +17,10 @@ impl Laid {
     // The bytes of a message.
     pub const BYTES: usize = 132;
 
-    // Its front, each of its places, and all five.
+    // Its front, and each of its places.
     pub(crate) const FRONT: usize = 12;
 
     pub(crate) const PLACE: usize = 24;
-
-    pub(crate) const PLACES: usize = 120;
 }
 
 fn places_stand(b: &[u8]) -> bool

@@ -33,7 +33,7 @@ use Rattle.kinds.specs.declared.Direction.{Direction}
 use Rattle.kinds.specs.declared.Direction.the-variants as direction
 use Rattle.elements.specs.Arguments.{lowest, highest, levelTypeFits, levelTypeBits, levelBits, timeFits, timeBits, digitsFit, digitsBits}
 use Rattle.elements.specs.OneElement.{lastOf}
-use Rattle.elements.specs.Writing.{Piece, OneNumber, whole, putPieces, piecesFit, piecesBits, levelPieces, timePieces, numberPieces, argumentPieces, elementPiecesAs}
+use Rattle.elements.specs.Writing.{Piece, OneNumber, putPieces, piecesFit, piecesBits, levelPieces, timePieces, numberPieces, argumentPieces, elementPiecesAs}
 use Rattle.elements.proofs.Fitting.{fit-append, level-type-fit, choice-fits, no-piece, time-fit, code-fit}
 use Rattle.elements.proofs.Standing.{both-hold}
 use Rattle.elements.proofs.Indices.{last-small}

@@ -12,7 +12,7 @@ use Rattle.bits.specs.Bits.{bitsN, bitsTo}
 use Rattle.bits.specs.Read.{readBits}
 use Rattle.bits.specs.declared.Read.{Read}
 use Rattle.bits.specs.declared.Read.the-variants.{Number}
-use Rattle.bits.proofs.Bytes.{Holds, bits-to}
+use Rattle.bits.proofs.Bytes.{bits-to}
 use Rattle.bits.proofs.Numbers.{length-bitsN}
 use Rattle.bits.proofs.Reading.{number-is, number-lt, number-stands}
 use Rattle.fields.specs.Fields.{digitsIn, wholeNumber}

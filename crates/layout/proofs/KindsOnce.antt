@@ -1,6 +1,6 @@
 -- The kinds of the arguments in the places, looked up once for each.
 -- Assumes nothing.
-use mathlib.Core.Path.{_≡_, refl, sym, ap, subst, _∙_}
+use mathlib.Core.Path.{_≡_, refl, sym, ap, _∙_}
 use mathlib.Core.Bool.{Bool, true, false, cond}
 use mathlib.Core.List.{List, [], _∷_}
 use Prim.Native.Nat.{ℕ, zero, suc, _+_, _-_, _*_, _≤_, _<_, min}
@@ -17,7 +17,7 @@ use Rattle.elements.specs.declared.values.Element.{Element}
 use Rattle.elements.specs.declared.values.Size.{Size}
 use Rattle.elements.specs.declared.values.Size.the-variants as size
 use Rattle.elements.specs.OneElement.{elementFits, elementBits, elementFitsAs, elementBitsAs}
-use Rattle.elements.specs.Writing.{Piece, elementPieces, elementPiecesAs}
+use Rattle.elements.specs.Writing.{elementPieces, elementPiecesAs}
 use Rattle.layout.specs.Layout.{KindsOf, elementOf}
 
 -- ---- the loop that looks them up

@@ -3,12 +3,11 @@
 use mathlib.Core.Path.{_≡_, refl, sym, ap, _∙_}
 use mathlib.Core.Bool.{true, false}
 use mathlib.Core.List.{List, [], _∷_, _++_, append-assoc, append-nil}
-use Prim.Native.Nat.{ℕ, zero, suc, _+_, _-_, _*_, _≤_, _<_}
+use Prim.Native.Nat.{ℕ, suc, _+_, _-_, _*_, _≤_, _<_}
 use native.Mathlib.Omega.{arith}
-use native.Mathlib.Nat.{zero-add}
 use native.Mathlib.Numerals.{add-one}
 use lib.Dec.{leb}
-use lib.ListN.{length, drop, set, getD, replicate, length-append, length-set, length-replicate, replicate-append-replicate}
+use lib.ListN.{length, drop, set, getD, replicate, length-append, length-set, length-replicate}
 use lib.Seq.{sets}
 use Rattle.bits.proofs.Numbers.{Bits}
 use Rattle.fields.specs.Refusals.{packed}
@@ -28,11 +27,10 @@ use Rattle.inner.specs.Messages.{roomLeast}
 use Rattle.inner.proofs.Filling.{after-after, filled-start, row-suc, row-zero}
 use Rattle.inner.proofs.Rows.{row-is}
 use Rattle.inner.proofs.Characters.{charactersMost, row-few}
-use Rattle.layout.specs.Layout.{placeBytes, placesBytes, messageBytes, frontBytes}
+use Rattle.layout.specs.Layout.{placesBytes, messageBytes, frontBytes}
 use Rattle.layout.specs.Calls.{told, toldAs, toldOf}
 use Rattle.layout.specs.Rows.{textsOf, rowTold}
-use Rattle.layout.proofs.Copied.{sets-append}
-use Rattle.layout.proofs.Laying.{length-places, laid-whole}
+use Rattle.layout.proofs.Laying.{laid-whole}
 use Rattle.layout.proofs.Texts.{element-inside, text-suc, text-none, texts-more, inside-more, copied-front}
 
 -- the first behind others is put anew

@@ -1,6 +1,5 @@
 -- `layout::characters::number_of` meets its contract.
 -- Assumes nothing.
-use native.Mathlib.Omega.{arith}
 use borrow.Author.Needs.{needs}
 use Rattle.layout.proofs.Texts.{number-there, not-short}
 use Rattle.layout.proofs.characters.number_of.Statement.{statement}

@@ -3,7 +3,7 @@
 ghost use mathlib.Core.Path.{_≡_};
 ghost use lib.Dec.{eqb};
 ghost use lib.ListN.{getD, set};
-ghost use Rattle.replay.specs.Tables.{left, pushed, member, among, noted, isNoted, entryIn, setEntry, putOnLine, markBroken};
+ghost use Rattle.tables.specs.Tables.{left, stateOf, flagOf, heldIn, holding, pushed, member, among, noted, isNoted, told, entryIn, setEntry, putOnLine, countedIf, settled, staysOf, trimmed, isStartOf, startIn, drawn, removed, markBroken, markedLine};
 use control::Control;
 use control::State;
 use moves::Held;
@@ -81,7 +81,9 @@ pub(crate) fn put(p: &mut [u64], at: usize, v: u64)
 
 // ---- the record
 
-fn state_of(code: u64) -> State {
+fn state_of(code: u64) -> State
+    ensures { λ s. ⌜ s ≡ stateOf code ⌝ }
+{
     match code {
         0 => State::Idle,
         1 => State::StartReq,
@@ -92,7 +94,9 @@ fn state_of(code: u64) -> State {
     }
 }
 
-pub(crate) fn held(p: &[u64]) -> Held {
+pub(crate) fn held(p: &[u64]) -> Held
+    ensures { λ r. ⌜ r ≡ heldIn (now (p .entry)) ⌝ }
+{
     let state = state_of(get(p, Place::STATE));
     let control = Control {
         state,
@@ -105,11 +109,15 @@ pub(crate) fn held(p: &[u64]) -> Held {
     }
 }
 
-fn flag(b: bool) -> u64 {
+fn flag(b: bool) -> u64
+    ensures { λ r. ⌜ r ≡ flagOf b ⌝ }
+{
     if b { 1 } else { 0 }
 }
 
-pub(crate) fn hold(p: &mut [u64], r: Held) {
+pub(crate) fn hold(p: &mut [u64], r: Held)
+    ensures { λ x. ⌜ now (p .exit) ≡ holding (now (p .entry)) r ⌝ }
+{
     let c = r.control;
     let s = c.state;
     put(p, Place::STATE, control::number(s));
@@ -190,7 +198,7 @@ pub(crate) fn decide(p: &mut [u64], job: u64) -> bool
     )
 }
 
-pub(crate) fn open(p: &mut [u64], job: u64) -> bool
+pub(crate) fn open_job(p: &mut [u64], job: u64) -> bool
     ensures { λ r. ⌜ left r (now (p .exit)) ≡ pushed (now (p .entry)) 9 19472 1024 job ⌝ }
 {
     push(p, Place::OPENED, Place::OPENED_AT, Place::OPENED_MOST, job)
@@ -230,7 +238,9 @@ pub(crate) fn is_noted(p: &[u64], number: u64, job: u64, fate: u64) -> bool
 }
 
 // Every open job gets its fate.
-pub(crate) fn tell(p: &mut [u64], fate: u64) -> bool {
+pub(crate) fn tell(p: &mut [u64], fate: u64) -> bool
+    ensures { λ r. ⌜ left r (now (p .exit)) ≡ told (now (p .entry)) fate ⌝ }
+{
     let n = get(p, Place::OPENED);
     let mut i: u64 = 0;
     while i < n {
@@ -292,7 +302,9 @@ pub(crate) fn put_on_line(p: &mut [u64], kind: u64, number: u64, job: u64) -> bo
 }
 
 // A count that does not go past the largest number.
-fn counted(n: u64, yes: bool) -> u64 {
+fn counted(n: u64, yes: bool) -> u64
+    ensures { λ r. ⌜ r ≡ countedIf n yes ⌝ }
+{
     if !yes {
         return n;
     }
@@ -303,21 +315,35 @@ fn counted(n: u64, yes: bool) -> u64 {
 }
 
 // An entry that stays goes to its new place.
-fn settle(p: &mut [u64], i: u64, to: u64, stays: bool) {
+fn settle(p: &mut [u64], i: u64, to: u64, stays: bool)
+    ensures { λ r. ⌜ now (p .exit) ≡ settled (now (p .entry)) i to stays ⌝ }
+{
     if stays {
         set_entry(p, to, entry(p, i, 0), entry(p, i, 1), entry(p, i, 2));
     }
 }
 
+// Does an entry stay? of: it is of the dialogue; met: so many of it stood before it.
+fn may_stay(of: bool, met: u64, left: u64) -> bool
+    ensures { λ r. ⌜ r ≡ staysOf of met left ⌝ }
+{
+    if of {
+        return met < left;
+    }
+    true
+}
+
 // Of the entries of a dialogue the first so many are left.
-pub(crate) fn trim(p: &mut [u64], number: u64, left: u64) {
+pub(crate) fn trim(p: &mut [u64], number: u64, left: u64)
+    ensures { λ r. ⌜ now (p .exit) ≡ trimmed (now (p .entry)) number left ⌝ }
+{
     let n = get(p, Place::ENTRIES);
     let mut i: u64 = 0;
     let mut kept: u64 = 0;
     let mut met: u64 = 0;
     while i < n {
         let of = entry(p, i, 1) == number;
-        let stays = !of || met < left;
+        let stays = may_stay(of, met, left);
         settle(p, i, kept, stays);
         kept = counted(kept, stays);
         met = counted(met, of);
@@ -326,12 +352,24 @@ pub(crate) fn trim(p: &mut [u64], number: u64, left: u64) {
     put(p, Place::ENTRIES, kept);
 }
 
+// Is an entry the start of a dialogue?
+fn is_start_of(p: &[u64], i: u64, number: u64) -> bool
+    ensures { λ r. ⌜ r ≡ isStartOf (now (p .entry)) i number ⌝ }
+{
+    if entry(p, i, 0) < 2 {
+        return entry(p, i, 1) == number;
+    }
+    false
+}
+
 // Where the start of a dialogue is on the line; or the count of entries.
-pub(crate) fn start_at(p: &[u64], number: u64) -> u64 {
+pub(crate) fn start_at(p: &[u64], number: u64) -> u64
+    ensures { λ r. ⌜ r ≡ startIn (now (p .entry)) number ⌝ }
+{
     let n = get(p, Place::ENTRIES);
     let mut i: u64 = 0;
     while i < n {
-        if entry(p, i, 0) < 2 && entry(p, i, 1) == number {
+        if is_start_of(p, i, number) {
             return i;
         }
         i += 1;
@@ -340,7 +378,9 @@ pub(crate) fn start_at(p: &[u64], number: u64) -> u64 {
 }
 
 // The entry behind a place comes to it.
-fn draw(p: &mut [u64], i: u64) {
+fn draw(p: &mut [u64], i: u64)
+    ensures { λ r. ⌜ now (p .exit) ≡ drawn (now (p .entry)) i ⌝ }
+{
     if Place::LINE_MOST <= i {
         return;
     }
@@ -354,7 +394,9 @@ fn draw(p: &mut [u64], i: u64) {
 }
 
 // The entry at a place is gone.
-pub(crate) fn remove(p: &mut [u64], at: u64) {
+pub(crate) fn remove(p: &mut [u64], at: u64)
+    ensures { λ r. ⌜ now (p .exit) ≡ removed (now (p .entry)) at ⌝ }
+{
     let n = get(p, Place::ENTRIES);
     if n <= at {
         return;
@@ -385,7 +427,9 @@ pub(crate) fn mark_broken(b: &mut [u64], number: u64) -> bool
 }
 
 // Each dialogue that has an entry on the line is broken.
-pub(crate) fn mark_line(b: &mut [u64], p: &[u64]) -> bool {
+pub(crate) fn mark_line(b: &mut [u64], p: &[u64]) -> bool
+    ensures { λ r. ⌜ left r (now (b .exit)) ≡ markedLine (now (b .entry)) (now (p .entry)) ⌝ }
+{
     let n = get(p, Place::ENTRIES);
     let mut i: u64 = 0;
     while i < n {

@@ -1,5 +1,9 @@
 // One move of a host, beside the model. `here` is the end whose host makes it. Each function answers the rule that the move breaks, or 0: then the pages
 // hold what the model holds after it.
+ghost use mathlib.Core.Path.{_≡_};
+ghost use mathlib.Core.Bool.{_&&_};
+ghost use Rattle.tables.specs.Tables.{left, flagOf};
+ghost use Rattle.tables.specs.Steps.{one, two, all, room, isUp, isDown, readyRule, replied, kindSent, primitiveOf, aborted, sent, madeCall, startTold, startedBy, reported, turnedTo, turnedBack, takenJob, taken, refusedJob, acknowledged, published, isKind, isJob, firstRule, quieted, showed, isDeaf, meeting, fateOf, heard, heardEnd, shownTo, departed, releasedBy, gaveUp, powerFailed, cutOff, closedIn, lost, markedAlive, rejoined, carrierFailed, recordRule, quietRule};
 use crate::page::Fate;
 use crate::page::Place;
 use crate::page::decide;
@@ -14,7 +18,7 @@ use crate::page::is_noted;
 use crate::page::mark_broken;
 use crate::page::mark_line;
 use crate::page::note;
-use crate::page::open;
+use crate::page::open_job;
 use crate::page::put;
 use crate::page::put_on_line;
 use crate::page::remove;
@@ -30,20 +34,28 @@ use control::Side;
 use moves::Done;
 use moves::Held;
 
-fn room(b: bool) -> u64 {
+fn room(b: bool) -> u64
+    ensures { λ r. ⌜ r ≡ room b ⌝ }
+{
     if b { 0 } else { Rule::ROOM }
 }
 
-fn is_up(p: &[u64]) -> bool {
+fn is_up(p: &[u64]) -> bool
+    ensures { λ r. ⌜ r ≡ isUp (now (p .entry)) ⌝ }
+{
     get(p, Place::POWER) == 0
 }
 
-fn is_down(p: &[u64]) -> bool {
+fn is_down(p: &[u64]) -> bool
+    ensures { λ r. ⌜ r ≡ isDown (now (p .entry)) ⌝ }
+{
     get(p, Place::POWER) == 2
 }
 
 // May the next call be made?
-fn ready(p: &[u64]) -> u64 {
+fn ready(p: &[u64]) -> u64
+    ensures { λ r. ⌜ r ≡ readyRule (now (p .entry)) ⌝ }
+{
     if !is_up(p) {
         return 3;
     }
@@ -56,7 +68,9 @@ fn ready(p: &[u64]) -> u64 {
 // ---- entries
 
 // The kind of the primitive that a call sends.
-fn kind_sent(call: Call) -> u64 {
+fn kind_sent(call: Call) -> u64
+    ensures { λ r. ⌜ r ≡ kindSent call ⌝ }
+{
     match call {
         Call::StartRequest(dsc) => mode(dsc),
         Call::StartResponse(_, reply) => answer(reply, 2, 3),
@@ -69,18 +83,24 @@ fn kind_sent(call: Call) -> u64 {
     }
 }
 
-fn mode(dsc: bool) -> u64 {
+fn mode(dsc: bool) -> u64
+    ensures { λ r. ⌜ r ≡ flagOf dsc ⌝ }
+{
     if dsc { 1 } else { 0 }
 }
 
-fn answer(reply: Reply, accepted: u64, rejected: u64) -> u64 {
+fn answer(reply: Reply, accepted: u64, rejected: u64) -> u64
+    ensures { λ r. ⌜ r ≡ replied reply accepted rejected ⌝ }
+{
     match reply {
         Reply::Accepted => accepted,
         Reply::Rejected => rejected,
     }
 }
 
-fn primitive_of(kind: u64) -> Primitive {
+fn primitive_of(kind: u64) -> Primitive
+    ensures { λ r. ⌜ r ≡ primitiveOf kind ⌝ }
+{
     match kind {
         0 => Primitive::DStart(false),
         1 => Primitive::DStart(true),
@@ -97,7 +117,9 @@ fn primitive_of(kind: u64) -> Primitive {
 // ---- calls
 
 // A D-ABORT goes on the line, and `left` of the entries before it in this dialogue stay. The dialogue is broken, and so are its jobs.
-fn abort(here: &mut [u64], broken: &mut [u64], next: Held, left: u64) -> u64 {
+fn abort(here: &mut [u64], broken: &mut [u64], next: Held, left: u64) -> u64
+    ensures { λ r. ⌜ two r (now (here .exit)) (now (broken .exit)) ≡ aborted (now (here .entry)) (now (broken .entry)) next left ⌝ }
+{
     hold(here, next);
     trim(here, next.number, left);
     if !put_on_line(here, 8, next.number, 0) {
@@ -109,7 +131,9 @@ fn abort(here: &mut [u64], broken: &mut [u64], next: Held, left: u64) -> u64 {
     room(tell(here, Fate::BROKEN))
 }
 
-fn send(here: &mut [u64], call: Call, next: Held, job: u64) -> u64 {
+fn send(here: &mut [u64], call: Call, next: Held, job: u64) -> u64
+    ensures { λ r. ⌜ one r (now (here .exit)) ≡ sent (now (here .entry)) call next job ⌝ }
+{
     hold(here, next);
     room(put_on_line(here, kind_sent(call), next.number, job))
 }
@@ -121,7 +145,9 @@ pub(crate) fn make_call(
     side: Side,
     call: Call,
     left: u64,
-) -> u64 {
+) -> u64
+    ensures { λ r. ⌜ two r (now (here .exit)) (now (broken .exit)) ≡ madeCall (now (here .entry)) (now (broken .entry)) side call left ⌝ }
+{
     let rule = ready(here);
     if rule != 0 {
         return rule;
@@ -137,7 +163,17 @@ pub(crate) fn make_call(
     }
 }
 
-// All starts come from one end, and both ends are IDLE. What is open of an older dialogue is broken.
+// What is open of an older dialogue is broken.
+fn start_with(here: &mut [u64], dsc: bool, next: Held) -> u64
+    ensures { λ r. ⌜ one r (now (here .exit)) ≡ startTold (now (here .entry)) dsc next ⌝ }
+{
+    if !tell(here, Fate::BROKEN) {
+        return Rule::ROOM;
+    }
+    send(here, Call::StartRequest(dsc), next, 0)
+}
+
+// All starts come from one end, and both ends are IDLE.
 pub(crate) fn start(
     here: &mut [u64],
     there: &[u64],
@@ -145,7 +181,9 @@ pub(crate) fn start(
     may: bool,
     dsc: bool,
     number: u64,
-) -> u64 {
+) -> u64
+    ensures { λ r. ⌜ one r (now (here .exit)) ≡ startedBy (now (here .entry)) (now (there .entry)) side may dsc number ⌝ }
+{
     let rule = ready(here);
     if rule != 0 {
         return rule;
@@ -161,17 +199,19 @@ pub(crate) fn start(
         return 12;
     }
     let done = moves::called(side, r, Call::StartRequest(dsc), number, 0);
-    let Done::Sends(next) = done else {
-        return Rule::CARD;
-    };
-    if !tell(here, Fate::BROKEN) {
-        return Rule::ROOM;
+    match done {
+        Done::Refused => Rule::CARD,
+        Done::Quiet(_) => Rule::CARD,
+        Done::Shows(_) => Rule::CARD,
+        Done::Sends(next) => start_with(here, dsc, next),
+        Done::Aborts(_) => Rule::CARD,
     }
-    send(here, Call::StartRequest(dsc), next, 0)
 }
 
 // A system error at an IDLE end, or at one without the carrier, does nothing.
-pub(crate) fn error(here: &mut [u64], broken: &mut [u64], side: Side, left: u64) -> u64 {
+pub(crate) fn error(here: &mut [u64], broken: &mut [u64], side: Side, left: u64) -> u64
+    ensures { λ r. ⌜ two r (now (here .exit)) (now (broken .exit)) ≡ reported (now (here .entry)) (now (broken .entry)) side left ⌝ }
+{
     if is_down(here) {
         return 3;
     }
@@ -184,29 +224,58 @@ pub(crate) fn error(here: &mut [u64], broken: &mut [u64], side: Side, left: u64)
     make_call(here, broken, side, Call::SystemError, left)
 }
 
+// The start is gone, and the open jobs are broken.
+fn turn_to(here: &mut [u64], at: u64, next: Held) -> u64
+    ensures { λ r. ⌜ one r (now (here .exit)) ≡ turnedTo (now (here .entry)) at next ⌝ }
+{
+    remove(here, at);
+    hold(here, next);
+    room(tell(here, Fate::BROKEN))
+}
+
 // The carrier removes the start and turns it away.
-pub(crate) fn turn_back(here: &mut [u64], side: Side) -> u64 {
+pub(crate) fn turn_back(here: &mut [u64], side: Side) -> u64
+    ensures { λ r. ⌜ one r (now (here .exit)) ≡ turnedBack (now (here .entry)) side ⌝ }
+{
     let rule = ready(here);
     if rule != 0 {
         return rule;
     }
     let r = held(here);
     let at = start_at(here, r.number);
-    if get(here, Place::STATE) != 1 || get(here, Place::ENTRIES) <= at {
+    if get(here, Place::STATE) != 1 {
+        return Rule::CARRIER;
+    }
+    if get(here, Place::ENTRIES) <= at {
         return Rule::CARRIER;
     }
     let done = moves::received(side, r, Primitive::DTurnedAway, r.number);
-    let Done::Quiet(next) = done else {
-        return Rule::CARD;
-    };
-    remove(here, at);
-    hold(here, next);
-    room(tell(here, Fate::BROKEN))
+    match done {
+        Done::Refused => Rule::CARD,
+        Done::Quiet(next) => turn_to(here, at, next),
+        Done::Shows(_) => Rule::CARD,
+        Done::Sends(_) => Rule::CARD,
+        Done::Aborts(_) => Rule::CARD,
+    }
 }
 
 // ---- jobs
 
-pub(crate) fn take(here: &mut [u64], side: Side, job: u64) -> u64 {
+fn take_job(here: &mut [u64], next: Held, job: u64) -> u64
+    ensures { λ r. ⌜ one r (now (here .exit)) ≡ takenJob (now (here .entry)) next job ⌝ }
+{
+    if !decide(here, job) {
+        return Rule::ROOM;
+    }
+    if !open_job(here, job) {
+        return Rule::ROOM;
+    }
+    send(here, Call::MessageRequest, next, job)
+}
+
+pub(crate) fn take(here: &mut [u64], side: Side, job: u64) -> u64
+    ensures { λ r. ⌜ one r (now (here .exit)) ≡ taken (now (here .entry)) side job ⌝ }
+{
     let rule = ready(here);
     if rule != 0 {
         return rule;
@@ -216,19 +285,18 @@ pub(crate) fn take(here: &mut [u64], side: Side, job: u64) -> u64 {
     }
     let r = held(here);
     let done = moves::called(side, r, Call::MessageRequest, 0, job);
-    let Done::Sends(next) = done else {
-        return Rule::CARD;
-    };
-    if !decide(here, job) {
-        return Rule::ROOM;
+    match done {
+        Done::Refused => Rule::CARD,
+        Done::Quiet(_) => Rule::CARD,
+        Done::Shows(_) => Rule::CARD,
+        Done::Sends(next) => take_job(here, next, job),
+        Done::Aborts(_) => Rule::CARD,
     }
-    if !open(here, job) {
-        return Rule::ROOM;
-    }
-    send(here, Call::MessageRequest, next, job)
 }
 
-pub(crate) fn refuse(here: &mut [u64], job: u64) -> u64 {
+pub(crate) fn refuse(here: &mut [u64], job: u64) -> u64
+    ensures { λ r. ⌜ one r (now (here .exit)) ≡ refusedJob (now (here .entry)) job ⌝ }
+{
     if is_down(here) {
         return 3;
     }
@@ -241,45 +309,76 @@ pub(crate) fn refuse(here: &mut [u64], job: u64) -> u64 {
     room(note(here, job, Fate::REFUSED))
 }
 
-pub(crate) fn acknowledge(here: &[u64], job: u64) -> u64 {
+pub(crate) fn acknowledge(here: &[u64], job: u64) -> u64
+    ensures { λ r. ⌜ r ≡ acknowledged (now (here .entry)) job ⌝ }
+{
     if is_down(here) {
         return 3;
     }
-    if is_decided(here, job) { 0 } else { 1 }
+    if is_decided(here, job) {
+        return 0;
+    }
+    1
 }
 
-pub(crate) fn publish(here: &[u64], number: u64, job: u64, fate: u64) -> u64 {
+pub(crate) fn publish(here: &[u64], number: u64, job: u64, fate: u64) -> u64
+    ensures { λ r. ⌜ r ≡ published (now (here .entry)) number job fate ⌝ }
+{
     if is_down(here) {
         return 3;
     }
     if is_noted(here, number, job, fate) {
-        0
-    } else {
-        4
+        return 0;
     }
+    4
 }
 
 // ---- a primitive
 
-// The first on the other end's line that has left is this one; of a start either kind is meant by 0.
-fn check_first(there: &[u64], kind: u64, number: u64, job: u64) -> u64 {
+// Of a start either kind is meant by 0.
+fn is_kind(first: u64, kind: u64) -> bool
+    ensures { λ r. ⌜ r ≡ isKind first kind ⌝ }
+{
+    if first == kind {
+        return true;
+    }
+    if kind == 0 {
+        return first == 1;
+    }
+    false
+}
+
+fn is_job(there: &[u64], kind: u64, job: u64) -> bool
+    ensures { λ r. ⌜ r ≡ isJob (now (there .entry)) kind job ⌝ }
+{
+    if kind == 4 {
+        return entry(there, 0, 2) == job;
+    }
+    true
+}
+
+// The first on the other end's line that has left is this one.
+fn check_first(there: &[u64], kind: u64, number: u64, job: u64) -> u64
+    ensures { λ r. ⌜ r ≡ firstRule (now (there .entry)) kind number job ⌝ }
+{
     if get(there, Place::ENTRIES) <= get(there, Place::UNSENT) {
         return 7;
     }
-    let first = entry(there, 0, 0);
-    if first != kind && !(kind == 0 && first == 1) {
+    if !is_kind(entry(there, 0, 0), kind) {
         return 7;
     }
     if entry(there, 0, 1) != number {
         return 12;
     }
-    if kind == 4 && entry(there, 0, 2) != job {
+    if !is_job(there, kind, job) {
         return 7;
     }
     0
 }
 
-fn quiet(here: &mut [u64], next: Held, fate: u64) -> u64 {
+fn quiet(here: &mut [u64], next: Held, fate: u64) -> u64
+    ensures { λ r. ⌜ one r (now (here .exit)) ≡ quieted (now (here .entry)) next fate ⌝ }
+{
     hold(here, next);
     if fate == 0 {
         return 0;
@@ -287,10 +386,22 @@ fn quiet(here: &mut [u64], next: Held, fate: u64) -> u64 {
     room(tell(here, fate))
 }
 
-fn show(here: &mut [u64], next: Held) -> u64 {
+fn show(here: &mut [u64], next: Held) -> u64
+    ensures { λ r. ⌜ one r (now (here .exit)) ≡ showed (now (here .entry)) next ⌝ }
+{
     hold(here, next);
     put(here, Place::WAITING, 1);
     0
+}
+
+// An IDLE end takes no notice of anything but a start.
+fn is_deaf(here: &[u64], p: Primitive) -> bool
+    ensures { λ r. ⌜ r ≡ isDeaf (now (here .entry)) p ⌝ }
+{
+    if is_idle(here) {
+        return !moves::is_opening(p);
+    }
+    false
 }
 
 // It is handed over; fate: of the open jobs, where it says it.
@@ -302,9 +413,11 @@ fn meet(
     number: u64,
     left: u64,
     fate: u64,
-) -> u64 {
+) -> u64
+    ensures { λ r. ⌜ two r (now (here .exit)) (now (broken .exit)) ≡ meeting (now (here .entry)) (now (broken .entry)) side p number left fate ⌝ }
+{
     let r = held(here);
-    if is_idle(here) && !moves::is_opening(p) {
+    if is_deaf(here, p) {
         return quiet(here, r, fate);
     }
     let done = moves::received(side, r, p, number);
@@ -317,12 +430,20 @@ fn meet(
     }
 }
 
+fn both(a: bool, b: bool) -> bool
+    ensures { λ r. ⌜ r ≡ (a && b) ⌝ }
+{
+    if a { b } else { false }
+}
+
 // What the arrival of a primitive says of the open jobs: a D-ABORT of this dialogue, and the start of another, that they are broken.
-fn fate_of(kind: u64, number: u64, holds: u64) -> u64 {
-    if kind == 8 && number == holds {
+fn fate_of(kind: u64, number: u64, holds: u64) -> u64
+    ensures { λ r. ⌜ r ≡ fateOf kind number holds ⌝ }
+{
+    if both(kind == 8, number == holds) {
         return Fate::BROKEN;
     }
-    if kind < 2 && holds < number {
+    if both(kind < 2, holds < number) {
         return Fate::BROKEN;
     }
     0
@@ -337,7 +458,9 @@ pub(crate) fn hear(
     number: u64,
     left: u64,
     job: u64,
-) -> u64 {
+) -> u64
+    ensures { λ r. ⌜ all r (now (here .exit)) (now (there .exit)) (now (broken .exit)) ≡ heard (now (here .entry)) (now (there .entry)) (now (broken .entry)) side kind number left job ⌝ }
+{
     let rule = ready(here);
     if rule != 0 {
         return rule;
@@ -359,7 +482,9 @@ pub(crate) fn hear_end(
     broken: &mut [u64],
     side: Side,
     number: u64,
-) -> u64 {
+) -> u64
+    ensures { λ r. ⌜ all r (now (here .exit)) (now (there .exit)) (now (broken .exit)) ≡ heardEnd (now (here .entry)) (now (there .entry)) (now (broken .entry)) side number ⌝ }
+{
     let rule = ready(here);
     if rule != 0 {
         return rule;
@@ -390,7 +515,9 @@ pub(crate) fn hear_end(
 
 // ---- the host
 
-pub(crate) fn shown(here: &mut [u64]) -> u64 {
+pub(crate) fn shown(here: &mut [u64]) -> u64
+    ensures { λ r. ⌜ one r (now (here .exit)) ≡ shownTo (now (here .entry)) ⌝ }
+{
     if is_down(here) {
         return 3;
     }
@@ -401,7 +528,9 @@ pub(crate) fn shown(here: &mut [u64]) -> u64 {
     0
 }
 
-pub(crate) fn leave(here: &mut [u64]) -> u64 {
+pub(crate) fn leave(here: &mut [u64]) -> u64
+    ensures { λ r. ⌜ one r (now (here .exit)) ≡ departed (now (here .entry)) ⌝ }
+{
     if !is_up(here) {
         return 3;
     }
@@ -414,14 +543,22 @@ pub(crate) fn leave(here: &mut [u64]) -> u64 {
 }
 
 // The connection was released in order: the open jobs have ended.
-pub(crate) fn release(here: &mut [u64], there: &[u64], broken: &[u64]) -> u64 {
+pub(crate) fn release(here: &mut [u64], there: &[u64], broken: &[u64]) -> u64
+    ensures { λ r. ⌜ one r (now (here .exit)) ≡ releasedBy (now (here .entry)) (now (there .entry)) (now (broken .entry)) ⌝ }
+{
     if !is_up(here) {
         return 3;
     }
-    if 0 < get(here, Place::ENTRIES) || 0 < get(there, Place::ENTRIES) {
+    if 0 < get(here, Place::ENTRIES) {
         return 4;
     }
-    if !is_idle(here) || !is_idle(there) {
+    if 0 < get(there, Place::ENTRIES) {
+        return 4;
+    }
+    if !is_idle(here) {
+        return 4;
+    }
+    if !is_idle(there) {
         return 4;
     }
     if is_broken(broken, get(here, Place::NUMBER)) {
@@ -430,20 +567,26 @@ pub(crate) fn release(here: &mut [u64], there: &[u64], broken: &[u64]) -> u64 {
     room(tell(here, Fate::ENDED))
 }
 
-pub(crate) fn give_up(here: &mut [u64]) -> u64 {
+pub(crate) fn give_up(here: &mut [u64]) -> u64
+    ensures { λ r. ⌜ one r (now (here .exit)) ≡ gaveUp (now (here .entry)) ⌝ }
+{
     if !is_up(here) {
         return 3;
     }
     room(tell(here, Fate::BROKEN))
 }
 
-pub(crate) fn fail_power(here: &mut [u64]) -> u64 {
+pub(crate) fn fail_power(here: &mut [u64]) -> u64
+    ensures { λ r. ⌜ one r (now (here .exit)) ≡ powerFailed (now (here .entry)) ⌝ }
+{
     put(here, Place::POWER, 2);
     put(here, Place::WAITING, 0);
     0
 }
 
-pub(crate) fn cut_off(here: &mut [u64]) -> u64 {
+pub(crate) fn cut_off(here: &mut [u64]) -> u64
+    ensures { λ r. ⌜ one r (now (here .exit)) ≡ cutOff (now (here .entry)) ⌝ }
+{
     if get(here, Place::POWER) == 1 {
         return 0;
     }
@@ -452,20 +595,25 @@ pub(crate) fn cut_off(here: &mut [u64]) -> u64 {
     room(tell(here, Fate::BROKEN))
 }
 
-fn close(p: &mut [u64]) {
-    let r = held(p);
-    if !is_idle(p) {
-        let closed = Held {
-            control: Control::CLOSED,
-            number: r.number,
-            highest: r.highest,
-        };
-        hold(p, closed);
+fn close(p: &mut [u64])
+    ensures { λ r. ⌜ now (p .exit) ≡ closedIn (now (p .entry)) ⌝ }
+{
+    if is_idle(p) {
+        return;
     }
+    let r = held(p);
+    let closed = Held {
+        control: Control::CLOSED,
+        number: r.number,
+        highest: r.highest,
+    };
+    hold(p, closed);
 }
 
 // One end hears that the carrier failed: its line is empty, it is IDLE, and its jobs are broken.
-fn lose(p: &mut [u64]) -> u64 {
+fn lose(p: &mut [u64]) -> u64
+    ensures { λ r. ⌜ one r (now (p .exit)) ≡ lost (now (p .entry)) ⌝ }
+{
     put(p, Place::ENTRIES, 0);
     put(p, Place::UNSENT, 0);
     close(p);
@@ -473,7 +621,9 @@ fn lose(p: &mut [u64]) -> u64 {
 }
 
 // The dialogues that an end is in, or that have an entry on its line, are broken.
-fn mark_alive(broken: &mut [u64], p: &[u64]) -> bool {
+fn mark_alive(broken: &mut [u64], p: &[u64]) -> bool
+    ensures { λ r. ⌜ left r (now (broken .exit)) ≡ markedAlive (now (broken .entry)) (now (p .entry)) ⌝ }
+{
     if is_idle(p) {
         return mark_line(broken, p);
     }
@@ -484,13 +634,17 @@ fn mark_alive(broken: &mut [u64], p: &[u64]) -> bool {
 }
 
 // It is up again, if it has power.
-fn rejoin(p: &mut [u64]) {
+fn rejoin(p: &mut [u64])
+    ensures { λ r. ⌜ now (p .exit) ≡ rejoined (now (p .entry)) ⌝ }
+{
     if get(p, Place::POWER) == 1 {
         put(p, Place::POWER, 0);
     }
 }
 
-pub(crate) fn fail_carrier(here: &mut [u64], there: &mut [u64], broken: &mut [u64]) -> u64 {
+pub(crate) fn fail_carrier(here: &mut [u64], there: &mut [u64], broken: &mut [u64]) -> u64
+    ensures { λ r. ⌜ all r (now (here .exit)) (now (there .exit)) (now (broken .exit)) ≡ carrierFailed (now (here .entry)) (now (there .entry)) (now (broken .entry)) ⌝ }
+{
     if !mark_alive(broken, here) {
         return Rule::ROOM;
     }
@@ -508,21 +662,34 @@ pub(crate) fn fail_carrier(here: &mut [u64], there: &mut [u64], broken: &mut [u6
 
 // ---- what a host shows
 
-pub(crate) fn show_record(here: &[u64], state: u64, dsc: u64, number: u64, highest: u64) -> u64 {
+pub(crate) fn show_record(here: &[u64], state: u64, dsc: u64, number: u64, highest: u64) -> u64
+    ensures { λ r. ⌜ r ≡ recordRule (now (here .entry)) state dsc number highest ⌝ }
+{
     if !is_up(here) {
         return 0;
     }
-    if get(here, Place::STATE) != state || get(here, Place::DSC) != dsc {
+    if get(here, Place::STATE) != state {
         return 2;
     }
-    if get(here, Place::NUMBER) != number || get(here, Place::HIGHEST) != highest {
+    if get(here, Place::DSC) != dsc {
+        return 2;
+    }
+    if get(here, Place::NUMBER) != number {
+        return 2;
+    }
+    if get(here, Place::HIGHEST) != highest {
         return 2;
     }
     0
 }
 
-pub(crate) fn show_quiet(here: &[u64], there: &[u64]) -> u64 {
-    if 0 < get(here, Place::ENTRIES) || 0 < get(there, Place::ENTRIES) {
+pub(crate) fn show_quiet(here: &[u64], there: &[u64]) -> u64
+    ensures { λ r. ⌜ r ≡ quietRule (now (here .entry)) (now (there .entry)) ⌝ }
+{
+    if 0 < get(here, Place::ENTRIES) {
+        return Rule::CARRIER;
+    }
+    if 0 < get(there, Place::ENTRIES) {
         return Rule::CARRIER;
     }
     0

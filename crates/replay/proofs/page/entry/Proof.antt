@@ -1,7 +1,7 @@
 -- `replay::page::entry` meets its contract.
 -- Assumes nothing.
 use borrow.Author.Tests.{le-leb, lt-leb, lt-ltb, le-ltb}
-use Rattle.replay.specs.Tables.{entryIn}
+use Rattle.tables.specs.Tables.{entryIn}
 use borrow.Author.Needs.{needs}
 use Rattle.replay.proofs.page.entry.Statement.{statement}
 use Rattle.replay.proofs.page.entry.Tie as tie

@@ -6,8 +6,8 @@ use Prim.Native.Nat.{_-_, _≤_}
 use mathlib.Core.Path.{_≡_, refl, sym, _∙_}
 use mathlib.Core.Bool.{false}
 use native.Mathlib.Omega.{arith}
-use Rattle.replay.specs.Tables.{among}
-use Rattle.replay.proofs.Tables.{among-here, among-turn, among-end}
+use Rattle.tables.specs.Tables.{among}
+use Rattle.tables.proofs.Tables.{among-here, among-turn, among-end}
 use Rattle.replay.proofs.page.is_among.Statement.{statement}
 use Rattle.replay.proofs.page.is_among.Tie as tie
 

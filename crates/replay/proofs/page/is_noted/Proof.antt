@@ -1,7 +1,7 @@
 -- `replay::page::is_noted` meets its contract.
 -- Assumes nothing.
 use borrow.Author.Tests.{lt-ltb, le-ltb, eq-eqb, ne-eqb}
-use Rattle.replay.specs.Tables.{isNoted}
+use Rattle.tables.specs.Tables.{isNoted}
 use borrow.Author.Needs.{needs}
 use Rattle.replay.proofs.page.is_noted.Statement.{statement}
 use Rattle.replay.proofs.page.is_noted.Tie as tie

@@ -1,7 +1,7 @@
 -- `replay::page::note` meets its contract.
 -- Assumes nothing.
 use borrow.Author.Tests.{lt-ltb, le-ltb}
-use Rattle.replay.specs.Tables.{noted}
+use Rattle.tables.specs.Tables.{noted}
 use borrow.Author.Needs.{needs}
 use Rattle.replay.proofs.page.note.Statement.{statement}
 use Rattle.replay.proofs.page.note.Tie as tie

@@ -1,6 +1,6 @@
 -- `replay::page::push` meets its contract.
 -- Assumes nothing.
-use Rattle.replay.specs.Tables.{pushed}
+use Rattle.tables.specs.Tables.{pushed}
 use borrow.Author.Tests.{le-leb, lt-leb, lt-ltb, le-ltb}
 use borrow.Author.Needs.{needs}
 use Rattle.replay.proofs.page.push.Statement.{statement}

@@ -2,7 +2,7 @@
 -- Assumes nothing.
 use borrow.Author.Needs.{needs}
 use mathlib.Core.Path.{sym}
-use Rattle.replay.proofs.Tables.{set-out}
+use Rattle.tables.proofs.Tables.{set-out}
 use Rattle.replay.proofs.page.put.Statement.{statement}
 use Rattle.replay.proofs.page.put.Tie as tie
 

@@ -1,7 +1,7 @@
 -- `replay::page::put_on_line` meets its contract.
 -- Assumes nothing.
 use borrow.Author.Tests.{le-leb, lt-leb}
-use Rattle.replay.specs.Tables.{putOnLine}
+use Rattle.tables.specs.Tables.{putOnLine}
 use borrow.Author.Needs.{needs}
 use Rattle.replay.proofs.page.put_on_line.Statement.{statement}
 use Rattle.replay.proofs.page.put_on_line.Tie as tie

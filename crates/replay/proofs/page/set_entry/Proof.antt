@@ -1,7 +1,7 @@
 -- `replay::page::set_entry` meets its contract.
 -- Assumes nothing.
 use borrow.Author.Tests.{lt-ltb, le-ltb}
-use Rattle.replay.specs.Tables.{setEntry}
+use Rattle.tables.specs.Tables.{setEntry}
 use borrow.Author.Needs.{needs}
 use Rattle.replay.proofs.page.set_entry.Statement.{statement}
 use Rattle.replay.proofs.page.set_entry.Tie as tie

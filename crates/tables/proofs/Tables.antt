@@ -8,7 +8,7 @@ use native.Mathlib.Omega.{arith}
 use borrow.Author.Tests.{eq-eqb, eqb-true, eqb-false, ne-eqb, lt-leb, lt-ltb, le-ltb}
 use lib.Dec.{eqb}
 use lib.ListN.{length, getD, set, length-set}
-use Rattle.replay.specs.Tables.{left, member, among, pushed, noted, isNoted, entryIn, setEntry}
+use Rattle.tables.specs.Tables.{left, member, among, pushed, noted, isNoted, entryIn, setEntry}
 
 -- what stands outside the page is not put
 pub set-out : (l : List ℕ) (n v : ℕ) → length l ≤ n → set l n v ≡ l

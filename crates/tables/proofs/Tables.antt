@@ -8,7 +8,12 @@ use native.Mathlib.Omega.{arith}
 use borrow.Author.Tests.{eq-eqb, eqb-true, eqb-false, ne-eqb, lt-leb, lt-ltb, le-ltb}
 use lib.Dec.{eqb}
 use lib.ListN.{length, getD, set, length-set}
-use Rattle.tables.specs.Tables.{left, member, among, pushed, noted, isNoted, entryIn, setEntry}
+use Rattle.control.specs.declared.State.{State}
+use Rattle.control.specs.declared.State.the-variants.{Idle, StartReq, StartInd, Dialogue, End, Forward}
+use Rattle.control.specs.Control.{number, entered}
+use Rattle.moves.specs.declared.Held.{Held}
+use Rattle.moves.specs.Machine.{holding as recordOf}
+use Rattle.tables.specs.Tables.{left, stateOf, flagOf, heldIn, holding, member, among, pushed, noted, isNoted, entryIn, setEntry}
 
 -- what stands outside the page is not put
 pub set-out : (l : List ℕ) (n v : ℕ) → length l ≤ n → set l n v ≡ l
@@ -29,6 +34,46 @@ get-other (x ∷ l) zero zero v h = absurd (h refl)
 get-other (x ∷ l) zero (suc i) v h = refl
 get-other (x ∷ l) (suc n) zero v h = refl
 get-other (x ∷ l) (suc n) (suc i) v h = get-other l n i v (λ (e : i ≡ n). h (ap suc e))
+
+-- ---- the record
+
+state-back : (s : State) → stateOf (number s) ≡ s
+state-back Idle = refl
+state-back StartReq = refl
+state-back StartInd = refl
+state-back Dialogue = refl
+state-back End = refl
+state-back Forward = refl
+
+flag-back : (b : Bool) → eqb (flagOf b) 1 ≡ b
+flag-back true = refl
+flag-back false = refl
+
+-- what was held is what is held
+pub held-back : (l : List ℕ) (r : Held) → 4 ≤ length l → heldIn (holding l r) ≡ r
+unfolding heldIn holding
+held-back l r h =
+    let w : List ℕ = set l 0 (number (r .control .state)) in
+    let x : List ℕ = set w 1 (flagOf (r .control .dsc)) in
+    let y : List ℕ = set x 2 (r .number) in
+    let z : List ℕ = set y 3 (r .highest) in
+    let p = length-set l 0 (number (r .control .state)) in
+    let q = length-set w 1 (flagOf (r .control .dsc)) in
+    let t = length-set x 2 (r .number) in
+    let a : getD z 0 0 ≡ number (r .control .state) = get-other y 3 0 (r .highest) (λ (e : 0 ≡ 3). omega (arith, e))
+    ∙ get-other x 2 0 (r .number) (λ (e : 0 ≡ 2). omega (arith, e)) ∙ get-other w 1 0 (flagOf (r .control .dsc)) (λ (e : 0 ≡ 1). omega (arith, e))
+    ∙ get-same l 0 (number (r .control .state)) (omega (arith, h)) in
+    let b : getD z 1 0 ≡ flagOf (r .control .dsc) = get-other y 3 1 (r .highest) (λ (e : 1 ≡ 3). omega (arith, e))
+    ∙ get-other x 2 1 (r .number) (λ (e : 1 ≡ 2). omega (arith, e)) ∙ get-same w 1 (flagOf (r .control .dsc)) (omega (arith, h, p)) in
+    let c : getD z 2 0 ≡ r .number = get-other y 3 2 (r .highest) (λ (e : 2 ≡ 3). omega (arith, e))
+    ∙ get-same x 2 (r .number) (omega (arith, h, p, q)) in
+    let d : getD z 3 0 ≡ r .highest = get-same y 3 (r .highest) (omega (arith, h, p, q, t)) in
+    ap (λ (v : ℕ). recordOf (entered (stateOf v) (eqb (getD z 1 0) 1)) (getD z 2 0) (getD z 3 0)) a
+    ∙ ap (λ (v : State). recordOf (entered v (eqb (getD z 1 0) 1)) (getD z 2 0) (getD z 3 0)) (state-back (r .control .state))
+    ∙ ap (λ (v : ℕ). recordOf (entered (r .control .state) (eqb v 1)) (getD z 2 0) (getD z 3 0)) b
+    ∙ ap (λ (v : Bool). recordOf (entered (r .control .state) v) (getD z 2 0) (getD z 3 0)) (flag-back (r .control .dsc))
+    ∙ ap (λ (v : ℕ). recordOf (r .control) v (getD z 3 0)) c
+    ∙ ap (λ (v : ℕ). recordOf (r .control) (r .number) v) d
 
 -- ---- lists
 

@@ -169,3 +169,128 @@ module _ (text : Side → ℕ → Body) (sd : Side) (number most : ℕ) where
   pub trims-line : (l : List ℕ) → size ≤ length l → getD l 7 0 ≤ 1024 → Trims l (trimmed l number most) (getD l 7 0) 0 0 0
   unfolding trimmed
   trims-line l full h = trims-turns (getD l 7 0) l 0 0 0 full (omega (arith, h)) (omega arith) (omega arith)
+
+-- ---- a dialogue is broken
+
+or-true : (a : Bool) → (a || true) ≡ true
+or-true true = refl
+or-true false = refl
+
+or-swap : (a b : Bool) → (a || b) ≡ (b || a)
+or-swap true true = refl
+or-swap true false = refl
+or-swap false true = refl
+or-swap false false = refl
+
+pub record Breaks (b m : List ℕ) (v : ℕ) : Type 0 where
+  pub counted : Counted m
+  pub broken : (j : ℕ) → brokenOf m j ≡ (eqb v j || brokenOf b j)
+
+module _ (b : List ℕ) (v : ℕ) (c : Counted b) where
+  broken-before : among b 1 (getD b 0 0) v ≡ true → Breaks b b v
+  broken-before h = record { counted = c; broken = λ (j : ℕ). go j (eqb v j) refl }
+    where
+      go : (j : ℕ) (e : Bool) → eqb v j ≡ e → brokenOf b j ≡ (e || brokenOf b j)
+      go j true e = ap (brokenOf b) (sym (eqb-true v j e)) ∙ h
+      go j false e = refl
+
+  broken-now : getD b 0 0 < 4096 → Breaks b (pushedOn b 0 1 v) v
+  broken-now room =
+      let n : ℕ = getD b 0 0 in
+      let x : List ℕ = set b (1 + n) v in
+      let m : List ℕ = set x 0 (n + 1) in
+      let p = length-set b (1 + n) v in
+      let q : getD m 0 0 ≡ n + 1 = get-same x 0 (n + 1) (omega (arith, c .full, p)) in
+      let q′ : getD m 0 0 ≡ suc n = q ∙ omega arith in
+      let g : getD m (1 + n) 0 ≡ v = get-other x 0 (1 + n) (n + 1) (λ (e : 1 + n ≡ 0). omega (arith, e)) ∙ get-same b (1 + n) v (omega (arith, c .full, room)) in
+      let there : member m 1 n ≡ v = ap (λ (w : Bool). cond (ltb 4294967296 1) 0 (cond w 0 (getD m (1 + n) 0))) (le-ltb 4294967296 n (omega (arith, room))) ∙ g in
+      record {
+        counted = record { full = omega (arith, c .full, p, length-set x 0 (n + 1)); count = omega (arith, q, room) };
+        broken = λ (j : ℕ). ap (λ (k : ℕ). among m 1 k j) q′
+            ∙ ap (λ (w : Bool). w || eqb (member m 1 n) j) (among-same b m 1 j n (λ (i : ℕ) (u : 1 ≤ i) (w : i < 1 + n). same-above x 0 (n + 1) 1 (1 + n) (omega arith) i u w ∙ same-below b (1 + n) v 1 i u w))
+            ∙ ap (λ (w : ℕ). among b 1 n j || eqb w j) there
+            ∙ or-swap (among b 1 n j) (eqb v j);
+      }
+
+pub breaks-one : (b : List ℕ) (v : ℕ) → Counted b → markBroken b v .answer ≡ true → Breaks b (markBroken b v .page) v
+unfolding markBroken
+breaks-one b v c h = go (among b 1 (getD b 0 0) v) refl h
+  where
+    go : (e : Bool) → among b 1 (getD b 0 0) v ≡ e → cond e (left true b) (pushed b 0 1 4096 v) .answer ≡ true
+        → Breaks b (cond e (left true b) (pushed b 0 1 4096 v) .page) v
+    go true e w = broken-before b v c e
+    go false e w =
+        let a = put-pushed b 0 1 4096 v w in
+        subst (λ (m : List ℕ). Breaks b m v) (sym (a .page-is)) (broken-now b v c (a .room))
+
+-- ---- a D-ABORT
+
+pub trims-sound : (text : Side → ℕ → Body) (sd : Side) (d : ℕ → Decision) (l : List ℕ) (number most : ℕ) → Sound d l → Sound d (trimmed l number most)
+trims-sound text sd d l number most s =
+    let a = trims-line text sd number most l (s .full) (s .entries) in
+    let m : List ℕ = trimmed l number most in
+    let g4 = a .below 4 (omega arith) (omega arith) in
+    let g5 = a .below 5 (omega arith) (omega arith) in
+    let g8 = a .between 8 (omega arith) (omega arith) in
+    let g9 = a .between 9 (omega arith) (omega arith) in
+    let g10 = a .between 10 (omega arith) (omega arith) in
+    record {
+      full = omega (arith, a .size-same, s .full);
+      entries = a .count;
+      decided = omega (arith, g8, s .decided);
+      opened = omega (arith, g9, s .opened);
+      notices = omega (arith, g10, s .notices);
+      known = λ (j : ℕ). s .known j ∙ sym (decided-stays d l m s (λ (i : ℕ) (u : 8 ≤ i) (v : i < 9). a .between i u (omega (arith, v))) (λ (i : ℕ) (u : 3088 ≤ i) (v : i < 19472). a .above 19472 i u v) j);
+      powered = omega (arith, g4, s .powered);
+      rests = λ (e : getD m 4 0 ≡ 2). g5 ∙ s .rests (sym g4 ∙ e);
+    }
+
+pub record AbortsOne (text : Side → ℕ → Body) (sd : Side) (d : ℕ → Decision) (l b m c : List ℕ) (r : Holds) (most : ℕ) : Type 0 where
+  pub page-is : pageOf text sd d m ≡ page r (nCut M most (lineOf text sd l) (mark (r .number) (ent DAbort []))) (tells told-broken (notesOf text d l)) (suc (getD l 6 0)) (not (eqb (getD l 5 0) 0)) (powerOf (getD l 4 0))
+  pub sound : Sound d m
+  pub breaks : Breaks b c (r .number)
+
+abbrev rule2 : Two → ℕ
+rule2 o = o .rule
+
+pub aborts-one : (text : Side → ℕ → Body) (sd : Side) (d : ℕ → Decision) (l b : List ℕ) (r : Holds) (most : ℕ) → Sound d l → Counted b → aborted l b r most .rule ≡ 0
+    → AbortsOne text sd d l b (aborted l b r most .here) (aborted l b r most .broken) r most
+unfolding aborted
+aborts-one text sd d l b r most s k h =
+    let n : ℕ = r .number in
+    let w : List ℕ = holding l r in
+    let x : List ℕ = trimmed w n most in
+    let p : Leaves = putOnLine x 8 n 0 in
+    let y : List ℕ = p .page in
+    let q : Leaves = markBroken b n in
+    let c : List ℕ = q .page in
+    let t : Leaves = told y 3 in
+    let o2 : Two = onMark q y in
+    let a1 = upon rule2 (p .answer) o2 (two 23 y b) (λ (v : 23 ≡ 0). omega (arith, v)) h in
+    let a2 = upon rule2 (q .answer) (onTold t c) (two 23 y c) (λ (v : 23 ≡ 0). omega (arith, v)) (ap rule2 (sym (a1 .1)) ∙ h) in
+    let all = a1 .1 ∙ a2 .1 in
+    let sw = held-sound d l r s in
+    let sx = trims-sound text sd d w n most sw in
+    let ax = trims-line text sd n most w (sw .full) (sw .entries) in
+    let ay = puts-one text sd d x 8 n 0 sx (a1 .0) in
+    let am = tells-all text sd d y 3 (ay .sound) (roomy (t .answer) (ap rule2 (sym all) ∙ h)) in
+    let high : Same l w 4 53264 = hold-same l r 53264 in
+    let lists : Same l w 7 53264 = λ (i : ℕ) (u : 7 ≤ i) (v : i < 53264). high i (omega (arith, u)) v in
+    let m0 : most - 0 ≡ most = omega arith in
+    let cut : lineOf text sd x ≡ trim M n most (lineOf text sd l) = ax .line ∙ ap (λ (i : ℕ). trim M n i (lineOf text sd w)) m0 ∙ ap (trim M n most) (low-line d l w s text sd lists) in
+    subst (λ (o : Two). AbortsOne text sd d l b (o .here) (o .broken) r most) (sym all)
+    record {
+      page-is =
+          page-path
+          (held-same y (t .page) (λ (i : ℕ) (u : 0 ≤ i) (v : i < 4). am .low i u (omega (arith, v))) ∙ held-same x y (λ (i : ℕ) (u : 0 ≤ i) (v : i < 4). ay .low i u (omega (arith, v)))
+          ∙ held-same w x (λ (i : ℕ) (u : 0 ≤ i) (v : i < 4). ax .below i u (omega (arith, v))) ∙ held-back l r (omega (arith, s .full)))
+          (am .line ∙ ay .line ∙ ap (λ (i : List (Numbered Ent)). i ++ (mark n (ent DAbort []) ∷ [])) cut)
+          (am .notes ∙ ap (tells told-broken) (ay .notes
+          ∙ notes-stay d w x sw text (λ (i : ℕ) (u : 9 ≤ i) (v : i < 11). ax .between i (omega (arith, u)) (omega (arith, v))) (λ (i : ℕ) (u : 19472 ≤ i) (v : i < 53264). ax .above 53264 i (omega (arith, u)) v)
+          ∙ low-notes d l w s text lists))
+          (am .low 6 (omega arith) (omega arith) ∙ ay .unsent ∙ ap suc (ax .below 6 (omega arith) (omega arith) ∙ high 6 (omega arith) (omega arith)))
+          (ap (λ (v : ℕ). not (eqb v 0)) (am .low 5 (omega arith) (omega arith) ∙ ay .low 5 (omega arith) (omega arith) ∙ ax .below 5 (omega arith) (omega arith) ∙ high 5 (omega arith) (omega arith)))
+          (ap powerOf (am .low 4 (omega arith) (omega arith) ∙ ay .low 4 (omega arith) (omega arith) ∙ ax .below 4 (omega arith) (omega arith) ∙ high 4 (omega arith) (omega arith)));
+      sound = am .sound;
+      breaks = breaks-one b n k (a2 .0);
+    }

@@ -104,7 +104,7 @@ module _ (text : Side → ℕ → Body) (fresh : Side → Numbered Held) (from :
       (refuses-any j (s .known j ∙ a2 .0) (powerOf (getD l 4 0)) (not (eqb (getD l 5 0) 0)) (live-power (getD l 4 0) (s .powered) (a1 .0))))
 
   -- the page before a call
-  ready-page : readyRule l ≡ 0 → pageOf text sd d l ≡ p₀ up false
+  pub ready-page : readyRule l ≡ 0 → pageOf text sd d l ≡ p₀ up false
   ready-page h = let r = ready-is l h in page-path refl refl refl refl (ap not (r .shown)) (up-power l (r .is-up))
 
   -- ---- a job is taken

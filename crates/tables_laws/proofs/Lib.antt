@@ -6,3 +6,6 @@ pub mod HostMoves
 pub mod Lines
 pub mod JobMoves
 pub mod Cuts
+pub mod AbortMoves
+pub mod Removes
+pub mod HearMoves

@@ -8,7 +8,8 @@ use native.Mathlib.Omega.{arith}
 use borrow.Author.Tests.{eqb-true, eqb-false, ltb-true, leb-false, lt-ltb, eq-eqb}
 use lib.Dec.{eqb, leb, ltb}
 use lib.ListN.{length, getD, set, length-set}
-use Rattle.pair.specs.Names.{Side, other, Control, Accepted, Primitive, DStart, DStartCnf, DTurnedAway, DData, DEnd, DEndCnf, DAbort, DPAbort, isIdle, closed, expects, after}
+use Rattle.control.specs.Control.{ender}
+use Rattle.pair.specs.Names.{State, Idle, StartReq, StartInd, Dialogue, End, Forward, is, Side, other, Control, Accepted, Primitive, DStart, DStartCnf, DTurnedAway, DData, DEnd, DEndCnf, DAbort, DPAbort, isIdle, closed, expects, after}
 use Rattle.pair.specs.Carrier.{Body, nothing, puts, Outcome, refused, acts, begins?, hand-over}
 use Rattle.pair.specs.Numbered.{Numbered, mark, starter, nCut}
 use Rattle.pair.proofs.ControlMachine.{Held, Ent, ent, Ask, sortOf}
@@ -321,6 +322,57 @@ module _ (text : Side → ℕ → Body) (fresh : Side → Numbered Held) (from :
       (o .page-is ∙ page-path refl refl (sym (tells-twice (brokenBy || not (eqb (heldIn l .number) (f .number))) (notesOf text d l))) refl waits-not is-up) (fun-ext (λ (j : ℕ). o .breaks .broken j)) w
       (λ (g j : Beside). gives-up-lands text fresh (starter from sd) sd f cut n (suc (getD l 6 0)) false far₂ cr g j)
 
+  -- ---- the end that this host asked for is confirmed, "accepted"
+
+  busy : (c : Control) → expects sd c (DEndCnf Accepted) ≡ true → isIdle c ≡ false
+  busy c h = go (c .state) (ender sd (c .dsc)) h
+    where
+      go : (x : State) (y : Bool) → (is x End && y) ≡ true → is x Idle ≡ false
+      go Idle y w = never w
+      go StartReq y w = refl
+      go StartInd y w = refl
+      go Dialogue y w = refl
+      go End y w = refl
+      go Forward y w = refl
+
+  abbrev ended₁ : Holds
+  ended₁ = recordOf (after (heldIn l .control) (DEndCnf Accepted)) (heldIn l .number) (heldIn l .highest)
+
+  met-end : expects sd (heldIn l .control) (DEndCnf Accepted) ≡ true → metBy sd (heldIn l) (DEndCnf Accepted) ≡ Quiet ended₁
+  unfolding metBy
+  met-end h = ap (λ (v : Bool). cond v (Quiet ended₁) (cond (isIdle (heldIn l .control) && true) (Quiet (recordOf closed (heldIn l .number) (heldIn l .highest))) (Aborts (recordOf closed (heldIn l .number) (heldIn l .highest))))) h
+
+  met-ended : (x : Done) → x ≡ Quiet ended₁ → metDone l b 0 2 x ≡ beside (quieted l ended₁ 2) b
+  unfolding metDone
+  met-ended x h = ap (metDone l b 0 2) h
+
+  end-met : no ≡ heldIn l .number → expects sd (heldIn l .control) (DEndCnf Accepted) ≡ true → meeting l b sd (DEndCnf Accepted) no 0 2 ≡ beside (quieted l ended₁ 2) b
+  unfolding meeting
+  end-met q h =
+      let i : steps.isIdle l ≡ false = sym (idle-is l) ∙ busy (heldIn l .control) h in
+      let r : receivedOf sd (heldIn l) (DEndCnf Accepted) no ≡ Quiet ended₁ = ap (λ (v : Bool). cond v (metBy sd (heldIn l) (DEndCnf Accepted)) Refused) (eq-eqb no (heldIn l .number) q) ∙ met-end h in
+      ap (λ (v : Bool). cond (cond v true false) (beside (quieted l (heldIn l) 2) b) (metDone l b 0 2 (receivedOf sd (heldIn l) (DEndCnf Accepted) no))) i
+      ∙ met-ended (receivedOf sd (heldIn l) (DEndCnf Accepted) no) r
+
+  end-follows : kd ≡ 6 → no ≡ heldIn l .number → expects sd (heldIn l .control) (DEndCnf Accepted) ≡ true → meeting l b sd (DEndCnf Accepted) no 0 2 .rule ≡ 0
+      → Follows text fresh from sd d e l z b (meeting l b sd (DEndCnf Accepted) no 0 2 .here) y₀ (meeting l b sd (DEndCnf Accepted) no 0 2 .broken)
+  end-follows six q x h =
+      let m = end-met q x in
+      let o = quiets-one text sd d l ended₁ s 2 (ap rule2 (sym m) ∙ h) in
+      let n : Notes = tells told-ended (notesOf text d l) in
+      let one₁ : Numbered Ent = mark no (ent (DEndCnf Accepted) []) in
+      let f : first ≡ one₁ = ap (λ (v : ℕ). mark no (ent (primitiveOf v) (cond (eqb v 4) (text (other sd) (entryIn z 0 2)) []))) six in
+      let r : M .at .receive sd (recOf (heldIn l)) one₁ ≡ acts (recOf ended₁) [] nothing = receive-is sd (heldIn l) (DEndCnf Accepted) no []
+      ∙ ap (λ (v : Bool). arrivalDone [] (cond v (metBy sd (heldIn l) (DEndCnf Accepted)) Refused)) (eq-eqb no (heldIn l .number) q) ∙ ap (arrivalDone []) (met-end x) in
+      let a : (ltb (getD z 6 0) (length (one₁ ∷ rest)) && (eqb no (heldIn l .number) && expects sd (heldIn l .control) (DEndCnf Accepted))) ≡ true =
+      ap (λ (v : Bool). v && (eqb no (heldIn l .number) && expects sd (heldIn l .control) (DEndCnf Accepted))) came ∙ ap (λ (v : Bool). v && expects sd (heldIn l .control) (DEndCnf Accepted)) (eq-eqb no (heldIn l .number) q) ∙ x in
+      subst (λ (v : Two). Follows text fresh from sd d e l z b (v .here) y₀ (v .broken)) (sym m)
+      (two-follow end-confirmed release (page ended₁ (lineOf text sd l) n (suc (getD l 6 0)) false up) (page ended₁ (lineOf text sd l) n (getD l 6 0) false up) (brokenOf b) (quieted l ended₁ 2 .here) b (o .sound) k
+      (o .page-is ∙ page-path refl refl refl refl waits-not is-up) refl
+      (subst (λ (v : Numbered Ent). Lands1 text fresh from sd before₁ (page (heldIn z) (v ∷ rest) (notesOf text e z) (getD z 6 0) (not (eqb (getD z 5 0) 0)) (powerOf (getD z 4 0))) (brokenOf b) end-confirmed (page ended₁ (lineOf text sd l) n (suc (getD l 6 0)) false up) far₂ (brokenOf b)) (sym f)
+      (λ (g j : Beside). confirmed-lands text fresh (starter from sd) sd (heldIn l) (lineOf text sd l) (notesOf text d l) (getD l 6 0) (heldIn z) no [] rest (notesOf text e z) (getD z 6 0) (not (eqb (getD z 5 0) 0)) (powerOf (getD z 4 0)) (brokenOf b) g j ended₁ a (busy (heldIn l .control) x) r))
+      (leaves ended₁ n false))
+
   -- ---- the model's step, by the machine's answer
 
   module _ (low : kd ≤ 8) (most : ℕ) where
@@ -332,7 +384,7 @@ module _ (text : Side → ℕ → Body) (fresh : Side → Numbered Held) (from :
 
     deaf-is : (isIdle (heldIn l .control) && not (begins? (sortOf p₁))) ≡ isDeaf l p₁
     deaf-is =
-        ap (λ (v : Bool). v && not (begins? (sortOf p₁))) (idle-is text fresh from sd d e l z b s t k l)
+        ap (λ (v : Bool). v && not (begins? (sortOf p₁))) (idle-is l)
         ∙ ap (λ (v : Bool). steps.isIdle l && not v) (begins-is p₁)
         ∙ and-cond (steps.isIdle l) (not (isOpening p₁))
 
@@ -343,7 +395,7 @@ module _ (text : Side → ℕ → Body) (fresh : Side → Numbered Held) (from :
     broke-is : (eqb kd 8 && eqb no (getD l 2 0)) ≡ brokenBy
     broke-is =
         ap (λ (v : Bool). v && eqb no (getD l 2 0)) (kind-is kd low .breaks-is)
-        ∙ ap (λ (v : ℕ). breaks? (sortOf p₁) && eqb no v) (sym (number-is text fresh from sd d e l z b s t k l))
+        ∙ ap (λ (v : ℕ). breaks? (sortOf p₁) && eqb no v) (sym (number-is l))
 
     -- no start, and the record keeps its number
     same-plain : (f : Holds) → isOpening p₁ ≡ false → f .number ≡ heldIn l .number → SameFate f
@@ -357,7 +409,7 @@ module _ (text : Side → ℕ → Body) (fresh : Side → Numbered Held) (from :
     same-start f o q n =
         ap (λ (v : Bool). v || (ltb kd 2 && ltb (getD l 2 0) no)) broke-is
         ∙ ap (λ (v : Bool). brokenBy || (v && ltb (getD l 2 0) no)) (kind-is kd low .opens-is ∙ o)
-        ∙ ap (λ (v : Bool). brokenBy || v) (ap (λ (v : ℕ). ltb v no) (sym (number-is text fresh from sd d e l z b s t k l)) ∙ q)
+        ∙ ap (λ (v : Bool). brokenBy || v) (ap (λ (v : ℕ). ltb v no) (sym (number-is l)) ∙ q)
         ∙ sym (ap (λ (v : ℕ). brokenBy || not (eqb (heldIn l .number) v)) n ∙ ap (λ (v : Bool). brokenBy || not v)
         (differ (heldIn l .number) no (λ (w : heldIn l .number ≡ no). omega (arith, w, ltb-true (heldIn l .number) no q))))
 
@@ -479,3 +531,29 @@ heard-follows text fresh from sd d e l z b s t k kind number most job low h =
     let q = a1 .1 ∙ a2 .1 ∙ ap m (sym (f .number-fits)) in
     subst (λ (o : All). Follows text fresh from sd d e l z b (o .here) (o .there) (o .broken)) (sym q)
     (meeting-follows text fresh from sd d e l z b s t k (a1 .0) (f .departed) (kind-low kd kind low (f .kind-fits)) most (ap rule3 (sym q) ∙ h))
+
+pub heard-end-follows : (text : Side → ℕ → Body) (fresh : Side → Numbered Held) (from : Side) (sd : Side) (d e : ℕ → Decision) (l z b : List ℕ) → Sound d l → Sound e z → Counted b
+    → (number : ℕ) → heardEnd l z b sd number .rule ≡ 0
+    → Follows text fresh from sd d e l z b (heardEnd l z b sd number .here) (heardEnd l z b sd number .there) (heardEnd l z b sd number .broken)
+unfolding heardEnd
+heard-end-follows text fresh from sd d e l z b s t k number h =
+    let r : Holds = heldIn l in
+    let m : ℕ → All = λ (v : ℕ). facing (meeting l b sd (DEndCnf Accepted) v 0 2) (removed z 0) in
+    let o4 : All = cond (expects sd (r .control) (DEndCnf Accepted)) (m number) (all 4 l z b) in
+    let o3 : All = cond (eqb number (r .number)) o4 (all 4 l z b) in
+    let o2 : All = cond (eqb (firstRule z 6 number 0) 0) o3 (all (firstRule z 6 number 0) l z b) in
+    let a1 = first-rule rule3 (readyRule l) o2 (all (readyRule l) l z b) refl h in
+    let a2 = first-rule rule3 (firstRule z 6 number 0) o3 (all (firstRule z 6 number 0) l z b) refl (ap rule3 (sym (a1 .1)) ∙ h) in
+    let a3 = upon rule3 (eqb number (r .number)) o4 (all 4 l z b) (λ (v : 4 ≡ 0). omega (arith, v)) (ap rule3 (sym (a1 .1 ∙ a2 .1)) ∙ h) in
+    let a4 = upon rule3 (expects sd (r .control) (DEndCnf Accepted)) (m number) (all 4 l z b) (λ (v : 4 ≡ 0). omega (arith, v)) (ap rule3 (sym (a1 .1 ∙ a2 .1 ∙ a3 .1)) ∙ h) in
+    let f = first-is z 6 number 0 (a2 .0) in
+    let q = a1 .1 ∙ a2 .1 ∙ a3 .1 ∙ a4 .1 ∙ ap m (sym (f .number-fits)) in
+    subst (λ (o : All). Follows text fresh from sd d e l z b (o .here) (o .there) (o .broken)) (sym q)
+    (end-follows text fresh from sd d e l z b s t k (a1 .0) (f .departed) (six (entryIn z 0 0) (f .kind-fits)) (f .number-fits ∙ eqb-true number (r .number) (a3 .0)) (a4 .0) (ap rule3 (sym q) ∙ h))
+  where
+    six : (x : ℕ) → isKind x 6 ≡ true → x ≡ 6
+    six x w = go (eqb x 6) refl w
+      where
+        go : (c : Bool) → eqb x 6 ≡ c → cond c true false ≡ true → x ≡ 6
+        go true c v = eqb-true x 6 c
+        go false c v = never v

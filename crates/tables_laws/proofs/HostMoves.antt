@@ -49,6 +49,24 @@ up-power l h = ap powerOf (eqb-true (getD l 4 0) 0 h)
 pub dead : {X : Type 0} → live down ≡ true → X
 dead h = never h
 
+-- ---- the record
+
+pub idle-is : (m : List ℕ) → isIdle (heldIn m .control) ≡ eqb (getD m 0 0) 0
+unfolding heldIn
+idle-is m = go (getD m 0 0)
+  where
+    go : (x : ℕ) → isIdle (record { state = stateOf x; dsc = eqb (getD m 1 0) 1 }) ≡ eqb x 0
+    go zero = refl
+    go (suc zero) = refl
+    go (suc (suc zero)) = refl
+    go (suc (suc (suc zero))) = refl
+    go (suc (suc (suc (suc zero)))) = refl
+    go (suc (suc (suc (suc (suc n))))) = sym (eqb·suc-zero (suc (suc (suc (suc n)))))
+
+pub number-is : (m : List ℕ) → heldIn m .number ≡ getD m 2 0
+unfolding heldIn
+number-is m = refl
+
 module _ (text : Side → ℕ → Body) (fresh : Side → Numbered Held) (from : Side) (sd : Side) (d e : ℕ → Decision) (l z b : List ℕ) (s : Sound d l) (t : Sound e z) (k : Counted b) where
   abbrev z₀ : Page
   z₀ = pageOf text (other sd) e z
@@ -236,26 +254,10 @@ module _ (text : Side → ℕ → Body) (fresh : Side → Numbered Held) (from :
 
   -- ---- the connection was released in order
 
-  pub idle-is : (m : List ℕ) → isIdle (heldIn m .control) ≡ eqb (getD m 0 0) 0
-  unfolding heldIn
-  idle-is m = go (getD m 0 0)
-    where
-      go : (x : ℕ) → isIdle (record { state = stateOf x; dsc = eqb (getD m 1 0) 1 }) ≡ eqb x 0
-      go zero = refl
-      go (suc zero) = refl
-      go (suc (suc zero)) = refl
-      go (suc (suc (suc zero))) = refl
-      go (suc (suc (suc (suc zero)))) = refl
-      go (suc (suc (suc (suc (suc n))))) = sym (eqb·suc-zero (suc (suc (suc (suc n)))))
-
   empty-line : (sd : Side) (m : List ℕ) → ltb 0 (getD m 7 0) ≡ false → lineOf text sd m ≡ []
   empty-line sd m h =
       let c : getD m 7 0 ≡ 0 = omega (arith, ltb-false 0 (getD m 7 0) h) in
       ap (λ (n : ℕ). lineFrom text sd m n 0) c
-
-  pub number-is : (m : List ℕ) → heldIn m .number ≡ getD m 2 0
-  unfolding heldIn
-  number-is m = refl
 
   pub released-follows : releasedBy l z b .rule ≡ 0 → Follows text fresh from sd d e l z b (releasedBy l z b .here) z b
   unfolding releasedBy

@@ -183,7 +183,7 @@ module _ (text : Side → ℕ → Body) (fresh : Side → Numbered Held) (from :
       (ap powerOf (c .low 4 (omega arith) (omega arith)) ∙ up-power l (u .is-up)))
       (λ (g i : Beside). subst (λ (v : Bool). Lands text fresh v sd (p₀ up false) far₀ (brokenOf b) (happens (user-call (mark n (ask (StartRequest dsc) [] 0)) 0)) (page r (lineOf text sd l ++ (mark n (ent (DStart dsc) []) ∷ [])) (tells told-broken (notesOf text d l)) (suc (getD l 6 0)) false up) far₀ (brokenOf b) g i) (sym from-here)
       (start-lands text fresh sd (heldIn l) (lineOf text sd l) (notesOf text d l) (getD l 6 0) (heldIn z) (lineOf text (other sd) z) (notesOf text e z) (getD z 6 0) (not (eqb (getD z 5 0) 0)) (powerOf (getD z 4 0)) (brokenOf b) g i dsc n
-      (and-right (takes sd (heldIn l .control) (StartRequest dsc)) (ltb (heldIn l .number) n) may) (ap (λ (v : Bool). v && isIdle (heldIn z .control)) here-idle ∙ idle-is text fresh from sd d e l z b s t k z ∙ idle)
+      (and-right (takes sd (heldIn l .control) (StartRequest dsc)) (ltb (heldIn l .number) n) may) (ap (λ (v : Bool). v && isIdle (heldIn z .control)) here-idle ∙ idle-is z ∙ idle)
       (ap (λ (v : Bool). cond v (Sends r) Refused) may))))
 
   start-done : (dsc : Bool) (n : ℕ) (c : Bool) → mayDo sd (heldIn l) (StartRequest dsc) n 0 ≡ c → starter from sd ≡ true → readyRule l ≡ 0 → steps.isIdle z ≡ true

@@ -9,3 +9,4 @@ pub mod Cuts
 pub mod AbortMoves
 pub mod Removes
 pub mod HearMoves
+pub mod FailMoves

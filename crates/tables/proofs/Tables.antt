@@ -61,7 +61,8 @@ held-back l r h =
     let q = length-set w 1 (flagOf (r .control .dsc)) in
     let t = length-set x 2 (r .number) in
     let a : getD z 0 0 ≡ number (r .control .state) = get-other y 3 0 (r .highest) (λ (e : 0 ≡ 3). omega (arith, e))
-    ∙ get-other x 2 0 (r .number) (λ (e : 0 ≡ 2). omega (arith, e)) ∙ get-other w 1 0 (flagOf (r .control .dsc)) (λ (e : 0 ≡ 1). omega (arith, e))
+    ∙ get-other x 2 0 (r .number) (λ (e : 0 ≡ 2). omega (arith, e)) ∙ get-other w 1 0 (flagOf (r .control .dsc))
+    (λ (e : 0 ≡ 1). omega (arith, e))
     ∙ get-same l 0 (number (r .control .state)) (omega (arith, h)) in
     let b : getD z 1 0 ≡ flagOf (r .control .dsc) = get-other y 3 1 (r .highest) (λ (e : 1 ≡ 3). omega (arith, e))
     ∙ get-other x 2 1 (r .number) (λ (e : 1 ≡ 2). omega (arith, e)) ∙ get-same w 1 (flagOf (r .control .dsc)) (omega (arith, h, p)) in

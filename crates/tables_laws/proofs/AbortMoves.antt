@@ -45,13 +45,16 @@ module _ (text : Side → ℕ → Body) (fresh : Side → Numbered Held) (from :
   after₀ = recordOf closed (heldIn l .number) (heldIn l .highest)
 
   abbrev left₀ : ℕ → Page
-  left₀ most = page after₀ (nCut M most (lineOf text sd l) (mark (heldIn l .number) (ent DAbort []))) (tells told-broken (notesOf text d l)) (suc (getD l 6 0)) false up
+  left₀ most = page after₀ (nCut M most (lineOf text sd l) (mark (heldIn l .number) (ent DAbort [])))
+      (tells told-broken (notesOf text d l)) (suc (getD l 6 0)) false up
 
   abbrev brokeToo : ℕ → Bool
   brokeToo j = eqb (heldIn l .number) j || brokenOf b j
 
-  aborts-follow : (a : Act (Numbered Ask)) (most : ℕ) → readyRule l ≡ 0 → Lands1 text fresh from sd before₀ far₀ (brokenOf b) a (left₀ most) far₀ brokeToo
-      → aborted l b after₀ most .rule ≡ 0 → Follows text fresh from sd d e l z b (aborted l b after₀ most .here) z (aborted l b after₀ most .broken)
+  aborts-follow : (a : Act (Numbered Ask)) (most : ℕ) → readyRule l ≡ 0
+      → Lands1 text fresh from sd before₀ far₀ (brokenOf b) a (left₀ most) far₀ brokeToo
+      → aborted l b after₀ most .rule ≡ 0 → Follows text fresh from sd d e l z b (aborted l b after₀ most .here) z
+      (aborted l b after₀ most .broken)
   aborts-follow a most ready w h =
       let o = aborts-one text sd d l b after₀ most s k h in
       let v = ready-is l ready in
@@ -64,21 +67,28 @@ module _ (text : Side → ℕ → Body) (fresh : Side → Numbered Held) (from :
         far = t;
         counted = o .breaks .counted;
         makes =
-            as-pages text fresh from sd (moveOf text fresh from sd a ∷ []) (pageOf text sd d l) before₀ far₀ far₀ (pageOf text sd d m) (left₀ most) far₀ far₀ (brokenOf b) (brokenOf c) brokeToo
-            (ready-page text fresh from sd d e l z b s t k ready) refl (o .page-is ∙ page-path refl refl refl refl (ap not (v .shown)) (up-power l (v .is-up))) refl (fun-ext (λ (j : ℕ). o .breaks .broken j))
+            as-pages text fresh from sd (moveOf text fresh from sd a ∷ []) (pageOf text sd d l) before₀ far₀ far₀
+            (pageOf text sd d m) (left₀ most) far₀ far₀ (brokenOf b) (brokenOf c) brokeToo
+            (ready-page text fresh from sd d e l z b s t k ready) refl
+            (o .page-is ∙ page-path refl refl refl refl (ap not (v .shown)) (up-power l (v .is-up))) refl
+            (fun-ext (λ (j : ℕ). o .breaks .broken j))
             (one-act text fresh from sd a before₀ far₀ (left₀ most) far₀ (brokenOf b) brokeToo w);
       }
 
-  abort-done : (u : Call) (a : Act (Numbered Ask)) (most : ℕ) (c : Bool) → readyRule l ≡ 0 → (c ≡ true → Lands1 text fresh from sd before₀ far₀ (brokenOf b) a (left₀ most) far₀ brokeToo)
+  abort-done : (u : Call) (a : Act (Numbered Ask)) (most : ℕ) (c : Bool) → readyRule l ≡ 0
+      → (c ≡ true → Lands1 text fresh from sd before₀ far₀ (brokenOf b) a (left₀ most) far₀ brokeToo)
       → callDone l b u most (cond c (Aborts after₀) Refused) .rule ≡ 0
-      → Follows text fresh from sd d e l z b (callDone l b u most (cond c (Aborts after₀) Refused) .here) z (callDone l b u most (cond c (Aborts after₀) Refused) .broken)
+      → Follows text fresh from sd d e l z b (callDone l b u most (cond c (Aborts after₀) Refused) .here) z
+      (callDone l b u most (cond c (Aborts after₀) Refused) .broken)
   unfolding callDone
   abort-done u a most true ready w h = aborts-follow a most ready (w refl) h
   abort-done u a most false ready w h = absurd (omega (arith, h))
 
-  aborting-follows : (u : Call) (a : Act (Numbered Ask)) (most : ℕ) (c : Bool) → calledOf sd (heldIn l) u 0 0 ≡ cond c (Aborts after₀) Refused
+  aborting-follows : (u : Call) (a : Act (Numbered Ask)) (most : ℕ) (c : Bool)
+      → calledOf sd (heldIn l) u 0 0 ≡ cond c (Aborts after₀) Refused
       → (c ≡ true → Lands1 text fresh from sd before₀ far₀ (brokenOf b) a (left₀ most) far₀ brokeToo)
-      → madeCall l b sd u most .rule ≡ 0 → Follows text fresh from sd d e l z b (madeCall l b sd u most .here) z (madeCall l b sd u most .broken)
+      → madeCall l b sd u most .rule ≡ 0 → Follows text fresh from sd d e l z b (madeCall l b sd u most .here) z
+      (madeCall l b sd u most .broken)
   unfolding madeCall
   aborting-follows u a most c called w h =
       let a1 = first-rule rule2 (readyRule l) (callDone l b u most (calledOf sd (heldIn l) u 0 0)) (two (readyRule l) l b) refl h in
@@ -91,35 +101,43 @@ module _ (text : Side → ℕ → Body) (fresh : Side → Numbered Held) (from :
   abort-follows most h =
       aborting-follows UserAbort (happens (user-call (mark 0 (ask UserAbort [] 0)) most)) most (takes sd (heldIn l .control) UserAbort) refl
       (λ (c : takes sd (heldIn l .control) UserAbort ≡ true) (g i : Beside).
-      abort-lands text fresh (starter from sd) sd (heldIn l) (lineOf text sd l) (notesOf text d l) (getD l 6 0) far₀ (brokenOf b) g i UserAbort closed most refl (ap (λ (v : Bool). cond v (Aborts after₀) Refused) c)) h
+      abort-lands text fresh (starter from sd) sd (heldIn l) (lineOf text sd l) (notesOf text d l) (getD l 6 0) far₀
+      (brokenOf b) g i UserAbort closed most refl (ap (λ (v : Bool). cond v (Aborts after₀) Refused) c)) h
 
   pub expiry-follows : (most : ℕ) → madeCall l b sd TimerExpiry most .rule ≡ 0
       → Follows text fresh from sd d e l z b (madeCall l b sd TimerExpiry most .here) z (madeCall l b sd TimerExpiry most .broken)
   expiry-follows most h =
       aborting-follows TimerExpiry (happens (timer-expires most)) most (takes sd (heldIn l .control) TimerExpiry) refl
       (λ (c : takes sd (heldIn l .control) TimerExpiry ≡ true) (g i : Beside).
-      expiry-lands text fresh (starter from sd) sd (heldIn l) (lineOf text sd l) (notesOf text d l) (getD l 6 0) far₀ (brokenOf b) g i closed most (ap (λ (v : Bool). cond v (Aborts after₀) Refused) c)) h
+      expiry-lands text fresh (starter from sd) sd (heldIn l) (lineOf text sd l) (notesOf text d l) (getD l 6 0) far₀
+      (brokenOf b) g i closed most (ap (λ (v : Bool). cond v (Aborts after₀) Refused) c)) h
 
   error-up : (most : ℕ) → madeCall l b sd SystemError most .rule ≡ 0
       → Follows text fresh from sd d e l z b (madeCall l b sd SystemError most .here) z (madeCall l b sd SystemError most .broken)
   error-up most h =
       aborting-follows SystemError (happens (error-reported most)) most (takes sd (heldIn l .control) SystemError) refl
       (λ (c : takes sd (heldIn l .control) SystemError ≡ true) (g i : Beside).
-      error-lands text fresh (starter from sd) sd (heldIn l) (lineOf text sd l) (notesOf text d l) (getD l 6 0) far₀ (brokenOf b) g i closed most (ap (λ (v : Bool). cond v (Aborts after₀) Refused) c)) h
+      error-lands text fresh (starter from sd) sd (heldIn l) (lineOf text sd l) (notesOf text d l) (getD l 6 0) far₀
+      (brokenOf b) g i closed most (ap (λ (v : Bool). cond v (Aborts after₀) Refused) c)) h
 
   pub stays-follows : Follows text fresh from sd d e l z b l z b
   stays-follows = record { moves = []; then = d; near = s; far = t; counted = k; makes = no-act text fresh from sd (pageOf text sd d l) far₀ (brokenOf b) }
 
   -- at an IDLE end, or at one without the carrier, it does nothing
-  pub error-follows : (most : ℕ) → reported l b sd most .rule ≡ 0 → Follows text fresh from sd d e l z b (reported l b sd most .here) z (reported l b sd most .broken)
+  pub error-follows : (most : ℕ) → reported l b sd most .rule ≡ 0
+      → Follows text fresh from sd d e l z b (reported l b sd most .here) z (reported l b sd most .broken)
   unfolding reported
   error-follows most h =
-      let a1 = past rule2 (isDown l) (two 3 l b) (cond (steps.isIdle l) (two 0 l b) (cond (isUp l) (madeCall l b sd SystemError most) (two 0 l b))) (λ (v : 3 ≡ 0). omega (arith, v)) h in
+      let a1 = past rule2 (isDown l) (two 3 l b)
+      (cond (steps.isIdle l) (two 0 l b) (cond (isUp l) (madeCall l b sd SystemError most) (two 0 l b)))
+      (λ (v : 3 ≡ 0). omega (arith, v)) h in
       subst (λ (o : Two). Follows text fresh from sd d e l z b (o .here) z (o .broken)) (sym (a1 .1))
       (go (steps.isIdle l) (isUp l) (ap rule2 (sym (a1 .1)) ∙ h))
     where
       go : (i u : Bool) → cond i (two 0 l b) (cond u (madeCall l b sd SystemError most) (two 0 l b)) .rule ≡ 0
-          → Follows text fresh from sd d e l z b (cond i (two 0 l b) (cond u (madeCall l b sd SystemError most) (two 0 l b)) .here) z (cond i (two 0 l b) (cond u (madeCall l b sd SystemError most) (two 0 l b)) .broken)
+          → Follows text fresh from sd d e l z b
+          (cond i (two 0 l b) (cond u (madeCall l b sd SystemError most) (two 0 l b)) .here) z
+          (cond i (two 0 l b) (cond u (madeCall l b sd SystemError most) (two 0 l b)) .broken)
       go true u w = stays-follows
       go false true w = error-up most w
       go false false w = stays-follows

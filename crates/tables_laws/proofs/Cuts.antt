@@ -35,11 +35,14 @@ trim-other : (n k : ℕ) (x : Numbered Ent) (t : List (Numbered Ent)) → eqb (x
 trim-other n zero x t e = ap (λ (b : Bool). cond b (trim M n zero t) (x ∷ trim M n zero t)) e
 trim-other n (suc k) x t e = ap (λ (b : Bool). cond b (x ∷ trim M n k t) (x ∷ trim M n (suc k) t)) e
 
-trim-kept : (n k j : ℕ) (x : Numbered Ent) (t : List (Numbered Ent)) → k ≡ suc j → eqb (x .no) n ≡ true → trim M n k (x ∷ t) ≡ x ∷ trim M n j t
+trim-kept : (n k j : ℕ) (x : Numbered Ent) (t : List (Numbered Ent)) → k ≡ suc j → eqb (x .no) n ≡ true
+    → trim M n k (x ∷ t) ≡ x ∷ trim M n j t
 trim-kept n k j x t h e = ap (λ (i : ℕ). trim M n i (x ∷ t)) h ∙ ap (λ (b : Bool). cond b (x ∷ trim M n j t) (x ∷ trim M n (suc j) t)) e
 
-trim-lost : (n k j : ℕ) (x : Numbered Ent) (t : List (Numbered Ent)) → k ≡ 0 → j ≡ 0 → eqb (x .no) n ≡ true → trim M n k (x ∷ t) ≡ trim M n j t
-trim-lost n k j x t h g e = ap (λ (i : ℕ). trim M n i (x ∷ t)) h ∙ ap (λ (b : Bool). cond b (trim M n zero t) (x ∷ trim M n zero t)) e ∙ ap (λ (i : ℕ). trim M n i t) (sym g)
+trim-lost : (n k j : ℕ) (x : Numbered Ent) (t : List (Numbered Ent)) → k ≡ 0 → j ≡ 0 → eqb (x .no) n ≡ true
+    → trim M n k (x ∷ t) ≡ trim M n j t
+trim-lost n k j x t h g e = ap (λ (i : ℕ). trim M n i (x ∷ t)) h ∙ ap
+    (λ (b : Bool). cond b (trim M n zero t) (x ∷ trim M n zero t)) e ∙ ap (λ (i : ℕ). trim M n i t) (sym g)
 
 app-nil : {X : Type 0} (l : List X) → l ++ [] ≡ l
 app-nil [] = refl
@@ -64,8 +67,10 @@ module _ (text : Side → ℕ → Body) (sd : Side) (number most : ℕ) where
         count = omega (arith, c, h);
         line =
             ap (λ (n : ℕ). lineFrom text sd m n 0) c
-            ∙ line-within text sd l m 8 3088 (same-above l 7 kept 8 3088 (omega arith)) kept 0 (omega arith) (omega (arith, h)) (omega (arith, h))
-            ∙ sym (ap (λ (t : List (Numbered Ent)). lineFrom text sd l kept 0 ++ t) (trim-nil number (most - met)) ∙ app-nil (lineFrom text sd l kept 0));
+            ∙ line-within text sd l m 8 3088 (same-above l 7 kept 8 3088 (omega arith)) kept 0 (omega arith)
+            (omega (arith, h)) (omega (arith, h))
+            ∙ sym (ap (λ (t : List (Numbered Ent)). lineFrom text sd l kept 0 ++ t) (trim-nil number (most - met)) ∙
+            app-nil (lineFrom text sd l kept 0));
         below = same-below l 7 kept 0;
         between = same-above l 7 kept 8 16 (omega arith);
         above = λ (b : ℕ). same-above l 7 kept 3088 b (omega arith);
@@ -74,7 +79,8 @@ module _ (text : Side → ℕ → Body) (sd : Side) (number most : ℕ) where
 
   -- an entry stays
   stays-on : (l m : List ℕ) (k i kept met kept′ met′ : ℕ) → size ≤ length l → i + suc k ≤ 1024 → kept ≤ i → kept′ ≡ kept + 1
-      → trim M number (most - met) (entryAt text sd l i ∷ lineFrom text sd l k (suc i)) ≡ entryAt text sd l i ∷ trim M number (most - met′) (lineFrom text sd l k (suc i))
+      → trim M number (most - met) (entryAt text sd l i ∷ lineFrom text sd l k (suc i)) ≡ entryAt text sd l i ∷ trim M
+      number (most - met′) (lineFrom text sd l k (suc i))
       → Trims (setEntry l kept (entryIn l i 0) (entryIn l i 1) (entryIn l i 2)) m k (i + 1) kept′ met′ → Trims l m (suc k) i kept met
   stays-on l m k i kept met kept′ met′ full h g c q a =
       let x : List ℕ = setEntry l kept (entryIn l i 0) (entryIn l i 1) (entryIn l i 2) in
@@ -85,34 +91,46 @@ module _ (text : Side → ℕ → Body) (sd : Side) (number most : ℕ) where
       ap (λ (n : ℕ). lineFrom text sd x n 0) c′
       ∙ line-last text sd x kept
       ∙ ap (λ (t : List (Numbered Ent)). t ++ (entryAt text sd x kept ∷ []))
-      (line-within text sd l x 0 (16 + 3 * kept) (entry-before l kept (entryIn l i 0) (entryIn l i 1) (entryIn l i 2) 0 (16 + 3 * kept) (omega arith)) kept 0 (omega arith) (omega arith) (omega (arith, h, g)))
-      ∙ ap (λ (t : Numbered Ent). lineFrom text sd l kept 0 ++ (t ∷ [])) (entry-path text sd (e .kind-there) (e .number-there) (e .entry-job-there)) in
+      (line-within text sd l x 0 (16 + 3 * kept)
+      (entry-before l kept (entryIn l i 0) (entryIn l i 1) (entryIn l i 2) 0 (16 + 3 * kept) (omega arith)) kept
+      0 (omega arith) (omega arith) (omega (arith, h, g)))
+      ∙ ap (λ (t : Numbered Ent). lineFrom text sd l kept 0 ++ (t ∷ []))
+      (entry-path text sd (e .kind-there) (e .number-there) (e .entry-job-there)) in
       let rest : lineFrom text sd x k (i + 1) ≡ lineFrom text sd l k (suc i) =
-      line-within text sd l x (16 + 3 * kept + 3) 3088 (entry-behind l kept (entryIn l i 0) (entryIn l i 1) (entryIn l i 2) (16 + 3 * kept + 3) 3088 (omega arith)) k (i + 1) (omega (arith, g)) (omega (arith, h)) (omega (arith, h))
+      line-within text sd l x (16 + 3 * kept + 3) 3088
+      (entry-behind l kept (entryIn l i 0) (entryIn l i 1) (entryIn l i 2) (16 + 3 * kept + 3) 3088 (omega arith)) k
+      (i + 1) (omega (arith, g)) (omega (arith, h)) (omega (arith, h))
       ∙ ap (lineFrom text sd l k) j in
       record {
         count = a .count;
         line =
             a .line
             ∙ ap (λ (t : List (Numbered Ent)). t ++ trim M number (most - met′) (lineFrom text sd x k (i + 1))) front
-            ∙ ap (λ (t : List (Numbered Ent)). (lineFrom text sd l kept 0 ++ (entryAt text sd l i ∷ [])) ++ trim M number (most - met′) t) rest
+            ∙ ap (λ (t : List (Numbered Ent)). (lineFrom text sd l kept 0 ++ (entryAt text sd l i ∷ [])) ++ trim M
+            number (most - met′) t) rest
             ∙ app-assoc (lineFrom text sd l kept 0) (entryAt text sd l i ∷ []) (trim M number (most - met′) (lineFrom text sd l k (suc i)))
             ∙ ap (λ (t : List (Numbered Ent)). lineFrom text sd l kept 0 ++ t) (sym q);
-        below = λ (n : ℕ) (u : 0 ≤ n) (v : n < 7). a .below n u v ∙ entry-before l kept (entryIn l i 0) (entryIn l i 1) (entryIn l i 2) 0 7 (omega arith) n u v;
-        between = λ (n : ℕ) (u : 8 ≤ n) (v : n < 16). a .between n u v ∙ entry-before l kept (entryIn l i 0) (entryIn l i 1) (entryIn l i 2) 8 16 (omega arith) n u v;
-        above = λ (b n : ℕ) (u : 3088 ≤ n) (v : n < b). a .above b n u v ∙ entry-behind l kept (entryIn l i 0) (entryIn l i 1) (entryIn l i 2) 3088 b (omega (arith, h, g)) n u v;
+        below = λ (n : ℕ) (u : 0 ≤ n) (v : n < 7). a .below n u v ∙ entry-before l kept (entryIn l i 0) (entryIn l i 1)
+            (entryIn l i 2) 0 7 (omega arith) n u v;
+        between = λ (n : ℕ) (u : 8 ≤ n) (v : n < 16). a .between n u v ∙ entry-before l kept (entryIn l i 0)
+            (entryIn l i 1) (entryIn l i 2) 8 16 (omega arith) n u v;
+        above = λ (b n : ℕ) (u : 3088 ≤ n) (v : n < b). a .above b n u v ∙ entry-behind l kept (entryIn l i 0)
+            (entryIn l i 1) (entryIn l i 2) 3088 b (omega (arith, h, g)) n u v;
         size-same = a .size-same ∙ length-entry l kept (entryIn l i 0) (entryIn l i 1) (entryIn l i 2);
       }
 
   -- or goes
   goes-off : (l m : List ℕ) (k i kept met met′ : ℕ)
-      → trim M number (most - met) (entryAt text sd l i ∷ lineFrom text sd l k (suc i)) ≡ trim M number (most - met′) (lineFrom text sd l k (suc i))
+      → trim M number (most - met) (entryAt text sd l i ∷ lineFrom text sd l k (suc i)) ≡ trim M number (most - met′)
+      (lineFrom text sd l k (suc i))
       → Trims l m k (i + 1) kept met′ → Trims l m (suc k) i kept met
   goes-off l m k i kept met met′ q a =
       let j : i + 1 ≡ suc i = omega arith in
       record {
         count = a .count;
-        line = a .line ∙ ap (λ (n : ℕ). lineFrom text sd l kept 0 ++ trim M number (most - met′) (lineFrom text sd l k n)) j ∙ ap (λ (t : List (Numbered Ent)). lineFrom text sd l kept 0 ++ t) (sym q);
+        line = a .line ∙ ap
+            (λ (n : ℕ). lineFrom text sd l kept 0 ++ trim M number (most - met′) (lineFrom text sd l k n)) j ∙ ap
+            (λ (t : List (Numbered Ent)). lineFrom text sd l kept 0 ++ t) (sym q);
         below = a .below;
         between = a .between;
         above = a .above;
@@ -131,32 +149,42 @@ module _ (text : Side → ℕ → Body) (sd : Side) (number most : ℕ) where
   settled-gone l i to = refl
 
   abbrev Turns : ℕ → Type 0
-  Turns k = (l : List ℕ) (i kept met : ℕ) → size ≤ length l → i + k ≤ 1024 → kept ≤ i → met ≤ i → Trims l (trimOn k l number most i kept met) k i kept met
+  Turns k = (l : List ℕ) (i kept met : ℕ) → size ≤ length l → i + k ≤ 1024 → kept ≤ i → met ≤ i → Trims l
+      (trimOn k l number most i kept met) k i kept met
 
   -- a turn, by whether the entry is of the dialogue, and whether so many stood before it
-  turn : (k : ℕ) → Turns k → (l : List ℕ) (i kept met : ℕ) → size ≤ length l → i + suc k ≤ 1024 → kept ≤ i → met ≤ i → (of fits : Bool) → isOf l i number ≡ of → ltb met most ≡ fits
-      → Trims l (trimOn k (settled l i kept (cond of fits true)) number most (i + 1) (countedIf kept (cond of fits true)) (countedIf met of)) (suc k) i kept met
+  turn : (k : ℕ) → Turns k → (l : List ℕ) (i kept met : ℕ) → size ≤ length l → i + suc k ≤ 1024 → kept ≤ i → met ≤ i
+      → (of fits : Bool) → isOf l i number ≡ of → ltb met most ≡ fits
+      → Trims l (trimOn k (settled l i kept (cond of fits true)) number most (i + 1)
+      (countedIf kept (cond of fits true)) (countedIf met of)) (suc k) i kept met
   turn k f l i kept met full h g p false fits a b =
       let c = more-counted kept (omega (arith, h, g)) in
       let x : List ℕ = setEntry l kept (entryIn l i 0) (entryIn l i 1) (entryIn l i 2) in
-      subst (λ (y : List ℕ). Trims l (trimOn k y number most (i + 1) (countedIf kept true) met) (suc k) i kept met) (sym (settled-here l i kept))
+      subst (λ (y : List ℕ). Trims l (trimOn k y number most (i + 1) (countedIf kept true) met) (suc k) i kept met)
+      (sym (settled-here l i kept))
       (stays-on l (trimOn k x number most (i + 1) (countedIf kept true) met) k i kept met (countedIf kept true) met full h g c
       (trim-other number (most - met) (entryAt text sd l i) (lineFrom text sd l k (suc i)) a)
-      (f x (i + 1) (countedIf kept true) met (omega (arith, full, length-entry l kept (entryIn l i 0) (entryIn l i 1) (entryIn l i 2))) (omega (arith, h)) (omega (arith, c, g)) (omega (arith, p))))
+      (f x (i + 1) (countedIf kept true) met
+      (omega (arith, full, length-entry l kept (entryIn l i 0) (entryIn l i 1) (entryIn l i 2)))
+      (omega (arith, h)) (omega (arith, c, g)) (omega (arith, p))))
   turn k f l i kept met full h g p true true a b =
       let c = more-counted kept (omega (arith, h, g)) in
       let w = more-counted met (omega (arith, h, p)) in
       let j : most - met ≡ suc (most - countedIf met true) = omega (arith, w, ltb-true met most b) in
       let x : List ℕ = setEntry l kept (entryIn l i 0) (entryIn l i 1) (entryIn l i 2) in
-      subst (λ (y : List ℕ). Trims l (trimOn k y number most (i + 1) (countedIf kept true) (countedIf met true)) (suc k) i kept met) (sym (settled-here l i kept))
+      subst (λ (y : List ℕ). Trims l (trimOn k y number most (i + 1) (countedIf kept true) (countedIf met true))
+      (suc k) i kept met) (sym (settled-here l i kept))
       (stays-on l (trimOn k x number most (i + 1) (countedIf kept true) (countedIf met true)) k i kept met (countedIf kept true) (countedIf met true) full h g c
       (trim-kept number (most - met) (most - countedIf met true) (entryAt text sd l i) (lineFrom text sd l k (suc i)) j a)
-      (f x (i + 1) (countedIf kept true) (countedIf met true) (omega (arith, full, length-entry l kept (entryIn l i 0) (entryIn l i 1) (entryIn l i 2))) (omega (arith, h)) (omega (arith, c, g)) (omega (arith, w, p))))
+      (f x (i + 1) (countedIf kept true) (countedIf met true)
+      (omega (arith, full, length-entry l kept (entryIn l i 0) (entryIn l i 1) (entryIn l i 2)))
+      (omega (arith, h)) (omega (arith, c, g)) (omega (arith, w, p))))
   turn k f l i kept met full h g p true false a b =
       let w = more-counted met (omega (arith, h, p)) in
       let y : most - met ≡ 0 = omega (arith, ltb-false met most b) in
       let j : most - countedIf met true ≡ 0 = omega (arith, w, ltb-false met most b) in
-      subst (λ (y : List ℕ). Trims l (trimOn k y number most (i + 1) kept (countedIf met true)) (suc k) i kept met) (sym (settled-gone l i kept))
+      subst (λ (y : List ℕ). Trims l (trimOn k y number most (i + 1) kept (countedIf met true)) (suc k) i kept met)
+      (sym (settled-gone l i kept))
       (goes-off l (trimOn k l number most (i + 1) kept (countedIf met true)) k i kept met (countedIf met true)
       (trim-lost number (most - met) (most - countedIf met true) (entryAt text sd l i) (lineFrom text sd l k (suc i)) y j a)
       (f l (i + 1) kept (countedIf met true) full (omega (arith, h)) (omega (arith, g)) (omega (arith, w, p))))
@@ -202,12 +230,16 @@ module _ (b : List ℕ) (v : ℕ) (c : Counted b) where
       let p = length-set b (1 + n) v in
       let q : getD m 0 0 ≡ n + 1 = get-same x 0 (n + 1) (omega (arith, c .full, p)) in
       let q′ : getD m 0 0 ≡ suc n = q ∙ omega arith in
-      let g : getD m (1 + n) 0 ≡ v = get-other x 0 (1 + n) (n + 1) (λ (e : 1 + n ≡ 0). omega (arith, e)) ∙ get-same b (1 + n) v (omega (arith, c .full, room)) in
-      let there : member m 1 n ≡ v = ap (λ (w : Bool). cond (ltb 4294967296 1) 0 (cond w 0 (getD m (1 + n) 0))) (le-ltb 4294967296 n (omega (arith, room))) ∙ g in
+      let g : getD m (1 + n) 0 ≡ v = get-other x 0 (1 + n) (n + 1) (λ (e : 1 + n ≡ 0). omega (arith, e)) ∙ get-same b
+      (1 + n) v (omega (arith, c .full, room)) in
+      let there : member m 1 n ≡ v = ap (λ (w : Bool). cond (ltb 4294967296 1) 0 (cond w 0 (getD m (1 + n) 0)))
+      (le-ltb 4294967296 n (omega (arith, room))) ∙ g in
       record {
         counted = record { full = omega (arith, c .full, p, length-set x 0 (n + 1)); count = omega (arith, q, room) };
         broken = λ (j : ℕ). ap (λ (k : ℕ). among m 1 k j) q′
-            ∙ ap (λ (w : Bool). w || eqb (member m 1 n) j) (among-same b m 1 j n (λ (i : ℕ) (u : 1 ≤ i) (w : i < 1 + n). same-above x 0 (n + 1) 1 (1 + n) (omega arith) i u w ∙ same-below b (1 + n) v 1 i u w))
+            ∙ ap (λ (w : Bool). w || eqb (member m 1 n) j) (among-same b m 1 j n (λ (i : ℕ) (u : 1 ≤ i)
+            (w : i < 1 + n). same-above x 0 (n + 1) 1 (1 + n) (omega arith) i u w ∙ same-below b (1 + n) v
+            1 i u w))
             ∙ ap (λ (w : ℕ). among b 1 n j || eqb w j) there
             ∙ or-swap (among b 1 n j) (eqb v j);
       }
@@ -225,7 +257,8 @@ breaks-one b v c h = go (among b 1 (getD b 0 0) v) refl h
 
 -- ---- a D-ABORT
 
-pub trims-sound : (text : Side → ℕ → Body) (sd : Side) (d : ℕ → Decision) (l : List ℕ) (number most : ℕ) → Sound d l → Sound d (trimmed l number most)
+pub trims-sound : (text : Side → ℕ → Body) (sd : Side) (d : ℕ → Decision) (l : List ℕ) (number most : ℕ) → Sound d l
+    → Sound d (trimmed l number most)
 trims-sound text sd d l number most s =
     let a = trims-line text sd number most l (s .full) (s .entries) in
     let m : List ℕ = trimmed l number most in
@@ -240,20 +273,24 @@ trims-sound text sd d l number most s =
       decided = omega (arith, g8, s .decided);
       opened = omega (arith, g9, s .opened);
       notices = omega (arith, g10, s .notices);
-      known = λ (j : ℕ). s .known j ∙ sym (decided-stays d l m s (λ (i : ℕ) (u : 8 ≤ i) (v : i < 9). a .between i u (omega (arith, v))) (λ (i : ℕ) (u : 3088 ≤ i) (v : i < 19472). a .above 19472 i u v) j);
+      known = λ (j : ℕ). s .known j ∙ sym (decided-stays d l m s
+          (λ (i : ℕ) (u : 8 ≤ i) (v : i < 9). a .between i u (omega (arith, v)))
+          (λ (i : ℕ) (u : 3088 ≤ i) (v : i < 19472). a .above 19472 i u v) j);
       powered = omega (arith, g4, s .powered);
       rests = λ (e : getD m 4 0 ≡ 2). g5 ∙ s .rests (sym g4 ∙ e);
     }
 
 pub record AbortsOne (text : Side → ℕ → Body) (sd : Side) (d : ℕ → Decision) (l b m c : List ℕ) (r : Holds) (most : ℕ) : Type 0 where
-  pub page-is : pageOf text sd d m ≡ page r (nCut M most (lineOf text sd l) (mark (r .number) (ent DAbort []))) (tells told-broken (notesOf text d l)) (suc (getD l 6 0)) (not (eqb (getD l 5 0) 0)) (powerOf (getD l 4 0))
+  pub page-is : pageOf text sd d m ≡ page r (nCut M most (lineOf text sd l) (mark (r .number) (ent DAbort [])))
+      (tells told-broken (notesOf text d l)) (suc (getD l 6 0)) (not (eqb (getD l 5 0) 0)) (powerOf (getD l 4 0))
   pub sound : Sound d m
   pub breaks : Breaks b c (r .number)
 
 abbrev rule2 : Two → ℕ
 rule2 o = o .rule
 
-pub aborts-one : (text : Side → ℕ → Body) (sd : Side) (d : ℕ → Decision) (l b : List ℕ) (r : Holds) (most : ℕ) → Sound d l → Counted b → aborted l b r most .rule ≡ 0
+pub aborts-one : (text : Side → ℕ → Body) (sd : Side) (d : ℕ → Decision) (l b : List ℕ) (r : Holds) (most : ℕ)
+    → Sound d l → Counted b → aborted l b r most .rule ≡ 0
     → AbortsOne text sd d l b (aborted l b r most .here) (aborted l b r most .broken) r most
 unfolding aborted
 aborts-one text sd d l b r most s k h =
@@ -277,7 +314,8 @@ aborts-one text sd d l b r most s k h =
     let high : Same l w 4 53264 = hold-same l r 53264 in
     let lists : Same l w 7 53264 = λ (i : ℕ) (u : 7 ≤ i) (v : i < 53264). high i (omega (arith, u)) v in
     let m0 : most - 0 ≡ most = omega arith in
-    let cut : lineOf text sd x ≡ trim M n most (lineOf text sd l) = ax .line ∙ ap (λ (i : ℕ). trim M n i (lineOf text sd w)) m0 ∙ ap (trim M n most) (low-line d l w s text sd lists) in
+    let cut : lineOf text sd x ≡ trim M n most (lineOf text sd l) = ax .line ∙ ap
+    (λ (i : ℕ). trim M n i (lineOf text sd w)) m0 ∙ ap (trim M n most) (low-line d l w s text sd lists) in
     subst (λ (o : Two). AbortsOne text sd d l b (o .here) (o .broken) r most) (sym all)
     record {
       page-is =
@@ -286,11 +324,16 @@ aborts-one text sd d l b r most s k h =
           ∙ held-same w x (λ (i : ℕ) (u : 0 ≤ i) (v : i < 4). ax .below i u (omega (arith, v))) ∙ held-back l r (omega (arith, s .full)))
           (am .line ∙ ay .line ∙ ap (λ (i : List (Numbered Ent)). i ++ (mark n (ent DAbort []) ∷ [])) cut)
           (am .notes ∙ ap (tells told-broken) (ay .notes
-          ∙ notes-stay d w x sw text (λ (i : ℕ) (u : 9 ≤ i) (v : i < 11). ax .between i (omega (arith, u)) (omega (arith, v))) (λ (i : ℕ) (u : 19472 ≤ i) (v : i < 53264). ax .above 53264 i (omega (arith, u)) v)
+          ∙ notes-stay d w x sw text
+          (λ (i : ℕ) (u : 9 ≤ i) (v : i < 11). ax .between i (omega (arith, u)) (omega (arith, v)))
+          (λ (i : ℕ) (u : 19472 ≤ i) (v : i < 53264). ax .above 53264 i (omega (arith, u)) v)
           ∙ low-notes d l w s text lists))
-          (am .low 6 (omega arith) (omega arith) ∙ ay .unsent ∙ ap suc (ax .below 6 (omega arith) (omega arith) ∙ high 6 (omega arith) (omega arith)))
-          (ap (λ (v : ℕ). not (eqb v 0)) (am .low 5 (omega arith) (omega arith) ∙ ay .low 5 (omega arith) (omega arith) ∙ ax .below 5 (omega arith) (omega arith) ∙ high 5 (omega arith) (omega arith)))
-          (ap powerOf (am .low 4 (omega arith) (omega arith) ∙ ay .low 4 (omega arith) (omega arith) ∙ ax .below 4 (omega arith) (omega arith) ∙ high 4 (omega arith) (omega arith)));
+          (am .low 6 (omega arith) (omega arith) ∙ ay .unsent ∙ ap suc
+          (ax .below 6 (omega arith) (omega arith) ∙ high 6 (omega arith) (omega arith)))
+          (ap (λ (v : ℕ). not (eqb v 0)) (am .low 5 (omega arith) (omega arith) ∙ ay .low 5 (omega arith) (omega arith)
+          ∙ ax .below 5 (omega arith) (omega arith) ∙ high 5 (omega arith) (omega arith)))
+          (ap powerOf (am .low 4 (omega arith) (omega arith) ∙ ay .low 4 (omega arith) (omega arith) ∙ ax .below 4
+          (omega arith) (omega arith) ∙ high 4 (omega arith) (omega arith)));
       sound = am .sound;
       breaks = breaks-one b n k (a2 .0);
     }

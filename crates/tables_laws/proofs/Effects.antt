@@ -43,7 +43,8 @@ hold-same l r b =
     let z : List ℕ = set y 3 (r .highest) in
     same-then l y z 4 b
     (same-then l x y 4 b
-    (same-then l w x 4 b (same-above l 0 (number (r .control .state)) 4 b (omega arith)) (same-above w 1 (flagOf (r .control .dsc)) 4 b (omega arith)))
+    (same-then l w x 4 b (same-above l 0 (number (r .control .state)) 4 b (omega arith))
+    (same-above w 1 (flagOf (r .control .dsc)) 4 b (omega arith)))
     (same-above x 2 (r .number) 4 b (omega arith)))
     (same-above y 3 (r .highest) 4 b (omega arith))
 
@@ -53,7 +54,8 @@ length-hold l r =
     let w : List ℕ = set l 0 (number (r .control .state)) in
     let x : List ℕ = set w 1 (flagOf (r .control .dsc)) in
     let y : List ℕ = set x 2 (r .number) in
-    length-set y 3 (r .highest) ∙ length-set x 2 (r .number) ∙ length-set w 1 (flagOf (r .control .dsc)) ∙ length-set l 0 (number (r .control .state))
+    length-set y 3 (r .highest) ∙ length-set x 2 (r .number) ∙ length-set w 1 (flagOf (r .control .dsc)) ∙ length-set l
+    0 (number (r .control .state))
 
 -- ---- an entry
 
@@ -61,7 +63,8 @@ kept-if : (b : Bool) (x l : List ℕ) (p : ℕ) → getD x p 0 ≡ getD l p 0 �
 kept-if true x l p e = e
 kept-if false x l p e = refl
 
-pub entry-apart : (l : List ℕ) (i kind number job p : ℕ) → ((f : ℕ) → f ≤ 2 → p ≡ 16 + 3 * i + f → ⊥) → getD (setEntry l i kind number job) p 0 ≡ getD l p 0
+pub entry-apart : (l : List ℕ) (i kind number job p : ℕ) → ((f : ℕ) → f ≤ 2 → p ≡ 16 + 3 * i + f → ⊥)
+    → getD (setEntry l i kind number job) p 0 ≡ getD l p 0
 unfolding setEntry
 entry-apart l i kind number job p h =
     let x : List ℕ = set l (16 + 3 * i) kind in
@@ -125,11 +128,14 @@ module _ (text : Side → ℕ → Body) (sd : Side) (l : List ℕ) (kind number 
       let p = length-entry l n kind number job in
       let q = length-set x 7 (n + 1) in
       let t = entry-there l n kind number job full room in
-      let c : getD z 7 0 ≡ n + 1 = get-other y 6 7 (getD l 6 0 + 1) (λ (e : 7 ≡ 6). omega (arith, e)) ∙ get-same x 7 (n + 1) (omega (arith, full, p)) in
-      let above16 : (b : ℕ) → Same x z 8 b = λ (b : ℕ). same-then x y z 8 b (same-above x 7 (n + 1) 8 b (omega arith)) (same-above y 6 (getD l 6 0 + 1) 8 b (omega arith)) in
+      let c : getD z 7 0 ≡ n + 1 = get-other y 6 7 (getD l 6 0 + 1) (λ (e : 7 ≡ 6). omega (arith, e)) ∙ get-same x 7
+      (n + 1) (omega (arith, full, p)) in
+      let above16 : (b : ℕ) → Same x z 8 b = λ (b : ℕ). same-then x y z 8 b (same-above x 7 (n + 1) 8 b (omega arith))
+      (same-above y 6 (getD l 6 0 + 1) 8 b (omega arith)) in
       let field : (i f : ℕ) → i < 1024 → f ≤ 2 → entryIn z i f ≡ entryIn x i f = λ (i f : ℕ) (h : i < 1024) (g : f ≤ 2).
       entry-same x z (λ (i : ℕ) (u : 16 ≤ i) (v : i < 3088). above16 3088 i (omega (arith, u)) v) i f h g in
-      let s : Same l z 16 (16 + 3 * n) = λ (i : ℕ) (u : 16 ≤ i) (v : i < 16 + 3 * n). above16 (16 + 3 * n) i (omega (arith, u)) v ∙ entry-before l n kind number job 16 (16 + 3 * n) (omega arith) i u v in
+      let s : Same l z 16 (16 + 3 * n) = λ (i : ℕ) (u : 16 ≤ i) (v : i < 16 + 3 * n). above16 (16 + 3 * n) i
+      (omega (arith, u)) v ∙ entry-before l n kind number job 16 (16 + 3 * n) (omega arith) i u v in
       let e : n + 1 ≡ suc n = omega arith in
       record {
         room = room;
@@ -140,11 +146,15 @@ module _ (text : Side → ℕ → Body) (sd : Side) (l : List ℕ) (kind number 
             ∙ line-last text sd z n
             ∙ ap (λ (w : List (Numbered Ent)). w ++ (entryAt text sd z n ∷ []))
             (line-within text sd l z 16 (16 + 3 * n) s n 0 (omega arith) (omega arith) (omega (arith, room)))
-            ∙ ap (λ (w : Numbered Ent). lineFrom text sd l n 0 ++ (w ∷ [])) (entry-path text sd (field n 0 room (omega arith) ∙ t .kind-there) (field n 1 room (omega arith) ∙ t .number-there) (field n 2 room (omega arith) ∙ t .entry-job-there));
+            ∙ ap (λ (w : Numbered Ent). lineFrom text sd l n 0 ++ (w ∷ [])) (entry-path text sd
+            (field n 0 room (omega arith) ∙ t .kind-there) (field n 1 room (omega arith) ∙ t .number-there)
+            (field n 2 room (omega arith) ∙ t .entry-job-there));
         below = λ (i : ℕ) (u : 0 ≤ i) (v : i < 6).
-            same-below y 6 (getD l 6 0 + 1) 0 i u v ∙ same-below x 7 (n + 1) 0 i u (omega (arith, v)) ∙ entry-before l n kind number job 0 16 (omega arith) i u (omega (arith, v));
+            same-below y 6 (getD l 6 0 + 1) 0 i u v ∙ same-below x 7 (n + 1) 0 i u (omega (arith, v)) ∙ entry-before l n
+            kind number job 0 16 (omega arith) i u (omega (arith, v));
         between = λ (i : ℕ) (u : 8 ≤ i) (v : i < 16). above16 16 i u v ∙ entry-before l n kind number job 8 16 (omega arith) i u v;
-        above = λ (b i : ℕ) (u : 3088 ≤ i) (v : i < b). above16 b i (omega (arith, u)) v ∙ entry-behind l n kind number job 3088 b (omega (arith, room)) i u v;
+        above = λ (b i : ℕ) (u : 3088 ≤ i) (v : i < b). above16 b i (omega (arith, u)) v ∙ entry-behind l n kind number
+            job 3088 b (omega (arith, room)) i u v;
         size-same = length-set y 6 (getD l 6 0 + 1) ∙ q ∙ p;
       }
 
@@ -184,10 +194,14 @@ module _ (l : List ℕ) (job fate : ℕ) (full : size ≤ length l) (room : getD
       let q = length-set x (20496 + 2 * n + 1) fate in
       let c : getD z 10 0 ≡ n + 1 = get-same y 10 (n + 1) (omega (arith, full, p, q)) in
       let s : Same l z 11 (20496 + 2 * n) = λ (i : ℕ) (u : 11 ≤ i) (v : i < 20496 + 2 * n).
-      same-above y 10 (n + 1) 11 (20496 + 2 * n) (omega arith) i u v ∙ same-below x (20496 + 2 * n + 1) fate 11 i u (omega (arith, v)) ∙ same-below l (20496 + 2 * n) job 11 i u v in
+      same-above y 10 (n + 1) 11 (20496 + 2 * n) (omega arith) i u v ∙ same-below x (20496 + 2 * n + 1) fate 11 i u
+      (omega (arith, v)) ∙ same-below l (20496 + 2 * n) job 11 i u v in
       let j : getD z (20496 + 2 * n) 0 ≡ job = get-other y 10 (20496 + 2 * n) (n + 1) (λ (e : 20496 + 2 * n ≡ 10). omega (arith, e))
-      ∙ get-other x (20496 + 2 * n + 1) (20496 + 2 * n) fate (λ (e : 20496 + 2 * n ≡ 20496 + 2 * n + 1). omega (arith, e)) ∙ get-same l (20496 + 2 * n) job (omega (arith, full, room)) in
-      let f : getD z (20496 + 2 * n + 1) 0 ≡ fate = get-other y 10 (20496 + 2 * n + 1) (n + 1) (λ (e : 20496 + 2 * n + 1 ≡ 10). omega (arith, e))
+      ∙ get-other x (20496 + 2 * n + 1) (20496 + 2 * n) fate
+      (λ (e : 20496 + 2 * n ≡ 20496 + 2 * n + 1). omega (arith, e)) ∙ get-same l (20496 + 2 * n) job
+      (omega (arith, full, room)) in
+      let f : getD z (20496 + 2 * n + 1) 0 ≡ fate = get-other y 10 (20496 + 2 * n + 1) (n + 1)
+      (λ (e : 20496 + 2 * n + 1 ≡ 10). omega (arith, e))
       ∙ get-same x (20496 + 2 * n + 1) fate (omega (arith, full, room, p)) in
       let e : n + 1 ≡ suc n = omega arith in
       record {
@@ -200,7 +214,8 @@ module _ (l : List ℕ) (job fate : ℕ) (full : size ≤ length l) (room : getD
             (notices-same l z 11 (20496 + 2 * n) s n 20496 (omega arith) (omega arith))
             ∙ ap (λ (w : Notice). noticesFrom l n 20496 ++ (w ∷ [])) (notice-path j f);
         below = λ (i : ℕ) (u : 0 ≤ i) (v : i < 10).
-            same-below y 10 (n + 1) 0 i u v ∙ same-below x (20496 + 2 * n + 1) fate 0 i u (omega (arith, v)) ∙ same-below l (20496 + 2 * n) job 0 i u (omega (arith, v));
+            same-below y 10 (n + 1) 0 i u v ∙ same-below x (20496 + 2 * n + 1) fate 0 i u (omega (arith, v)) ∙
+            same-below l (20496 + 2 * n) job 0 i u (omega (arith, v));
         between = λ (i : ℕ) (u : 11 ≤ i) (v : i < 20496). s i u (omega (arith, v));
         size-same = length-set y 10 (n + 1) ∙ q ∙ p;
       }
@@ -244,7 +259,8 @@ tell-none l i fate full room =
       size-same = length-set l 9 0;
     }
 
-tell-next : (l x m : List ℕ) (k i fate : ℕ) → i + suc k ≤ 1024 → Noted l x (getD l (19472 + i) 0) fate → Told x m k (i + 1) fate → Told l m (suc k) i fate
+tell-next : (l x m : List ℕ) (k i fate : ℕ) → i + suc k ≤ 1024 → Noted l x (getD l (19472 + i) 0) fate
+    → Told x m k (i + 1) fate → Told l m (suc k) i fate
 tell-next l x m k i fate h a b =
     let f : Fate = fateIn fate in
     let e : 19472 + (i + 1) ≡ suc (19472 + i) = omega arith in
@@ -268,13 +284,15 @@ tell-turns : (k : ℕ) (l : List ℕ) (i fate : ℕ) → size ≤ length l → g
 unfolding tellOn
 tell-turns zero l i fate full room h w = tell-none l i fate full room
 tell-turns (suc k) l i fate full room h w =
-    go (leb 1024 i) (noted l (getD l (19472 + i) 0) fate .answer) refl (tell-turns k (noted l (getD l (19472 + i) 0) fate .page) (i + 1) fate) w
+    go (leb 1024 i) (noted l (getD l (19472 + i) 0) fate .answer) refl
+    (tell-turns k (noted l (getD l (19472 + i) 0) fate .page) (i + 1) fate) w
   where
     x : Leaves
     x = noted l (getD l (19472 + i) 0) fate
 
     go : (a b : Bool) → x .answer ≡ b
-        → (size ≤ length (x .page) → getD (x .page) 10 0 ≤ 16384 → i + 1 + k ≤ 1024 → tellOn k (x .page) (i + 1) fate .answer ≡ true → Told (x .page) (tellOn k (x .page) (i + 1) fate .page) k (i + 1) fate)
+        → (size ≤ length (x .page) → getD (x .page) 10 0 ≤ 16384 → i + 1 + k ≤ 1024 → tellOn k (x .page) (i + 1)
+        fate .answer ≡ true → Told (x .page) (tellOn k (x .page) (i + 1) fate .page) k (i + 1) fate)
         → cond a (left false l) (cond b (tellOn k (x .page) (i + 1) fate) (left false (x .page))) .answer ≡ true
         → Told l (cond a (left false l) (cond b (tellOn k (x .page) (i + 1) fate) (left false (x .page))) .page) (suc k) i fate
     go true b e f v = never v

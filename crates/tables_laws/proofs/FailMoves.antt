@@ -71,7 +71,8 @@ pub record Marks (b m : List ℕ) (f : ℕ → Bool) : Type 0 where
   pub broken : (j : ℕ) → brokenOf m j ≡ (f j || brokenOf b j)
 
 module _ (text : Side → ℕ → Body) (sd : Side) (l : List ℕ) where
-  mark-turns : (k : ℕ) (b : List ℕ) (i : ℕ) → Counted b → markOn k b l i .answer ≡ true → Marks b (markOn k b l i .page) (onLine M (lineFrom text sd l k i))
+  mark-turns : (k : ℕ) (b : List ℕ) (i : ℕ) → Counted b → markOn k b l i .answer ≡ true
+      → Marks b (markOn k b l i .page) (onLine M (lineFrom text sd l k i))
   unfolding markOn
   mark-turns zero b i c h = record { counted = c; broken = λ (j : ℕ). refl }
   mark-turns (suc k) b i c h = go (markBroken b (entryIn l i 1) .answer) refl (mark-turns k (markBroken b (entryIn l i 1) .page) (i + 1)) h
@@ -80,7 +81,8 @@ module _ (text : Side → ℕ → Body) (sd : Side) (l : List ℕ) where
       x = markBroken b (entryIn l i 1)
 
       go : (a : Bool) → x .answer ≡ a
-          → (Counted (x .page) → markOn k (x .page) l (i + 1) .answer ≡ true → Marks (x .page) (markOn k (x .page) l (i + 1) .page) (onLine M (lineFrom text sd l k (i + 1))))
+          → (Counted (x .page) → markOn k (x .page) l (i + 1) .answer ≡ true → Marks (x .page)
+          (markOn k (x .page) l (i + 1) .page) (onLine M (lineFrom text sd l k (i + 1))))
           → cond a (markOn k (x .page) l (i + 1)) (left false (x .page)) .answer ≡ true
           → Marks b (cond a (markOn k (x .page) l (i + 1)) (left false (x .page)) .page) (onLine M (lineFrom text sd l (suc k) i))
       go false e f w = never w
@@ -107,8 +109,10 @@ module _ (text : Side → ℕ → Body) (sd : Side) (l : List ℕ) where
   abbrev pub busyIn : Bool → ℕ → Bool
   busyIn i j = not i && eqb (getD l 2 0) j
 
-  mark-by : (b : List ℕ) (i : Bool) → Counted b → cond i (markedLine b l) (andThen (markBroken b (getD l 2 0)) (λ (c : List ℕ). markedLine c l)) .answer ≡ true
-      → Marks b (cond i (markedLine b l) (andThen (markBroken b (getD l 2 0)) (λ (c : List ℕ). markedLine c l)) .page) (λ (j : ℕ). aliveIn j || busyIn i j)
+  mark-by : (b : List ℕ) (i : Bool) → Counted b
+      → cond i (markedLine b l) (andThen (markBroken b (getD l 2 0)) (λ (c : List ℕ). markedLine c l)) .answer ≡ true
+      → Marks b (cond i (markedLine b l) (andThen (markBroken b (getD l 2 0)) (λ (c : List ℕ). markedLine c l)) .page)
+      (λ (j : ℕ). aliveIn j || busyIn i j)
   mark-by b true c h =
       let a = mark-line b c h in
       record { counted = a .counted; broken = λ (j : ℕ). a .broken j ∙ ap (λ (v : Bool). v || brokenOf b j) (sym (or-none (aliveIn j))) }
@@ -133,15 +137,19 @@ module _ (text : Side → ℕ → Body) (sd : Side) (l : List ℕ) where
           let n = mark-line (x .page) (a .counted) w in
           record {
             counted = n .counted;
-            broken = λ (j : ℕ). n .broken j ∙ ap (λ (v : Bool). aliveIn j || v) (a .broken j) ∙ or-shift (aliveIn j) (eqb (getD l 2 0) j) (brokenOf b j);
+            broken = λ (j : ℕ). n .broken j ∙ ap (λ (v : Bool). aliveIn j || v) (a .broken j) ∙ or-shift (aliveIn j)
+                (eqb (getD l 2 0) j) (brokenOf b j);
           }
 
-  pub mark-alive : (b : List ℕ) → Counted b → markedAlive b l .answer ≡ true → Marks b (markedAlive b l .page) (λ (j : ℕ). aliveIn j || busyIn (steps.isIdle l) j)
+  pub mark-alive : (b : List ℕ) → Counted b → markedAlive b l .answer ≡ true
+      → Marks b (markedAlive b l .page) (λ (j : ℕ). aliveIn j || busyIn (steps.isIdle l) j)
   unfolding markedAlive
   mark-alive b c h = mark-by b (steps.isIdle l) c h
 
-busy-is : (text : Side → ℕ → Body) (sd : Side) (l : List ℕ) (j : ℕ) → busyIn text sd l (steps.isIdle l) j ≡ (not (isIdle (heldIn l .control)) && eqb (heldIn l .number) j)
-busy-is text sd l j = ap (λ (v : Bool). not v && eqb (getD l 2 0) j) (sym (idle-is l)) ∙ ap (λ (v : ℕ). not (isIdle (heldIn l .control)) && eqb v j) (sym (number-is l))
+busy-is : (text : Side → ℕ → Body) (sd : Side) (l : List ℕ) (j : ℕ)
+    → busyIn text sd l (steps.isIdle l) j ≡ (not (isIdle (heldIn l .control)) && eqb (heldIn l .number) j)
+busy-is text sd l j = ap (λ (v : Bool). not v && eqb (getD l 2 0) j) (sym (idle-is l)) ∙ ap
+    (λ (v : ℕ). not (isIdle (heldIn l .control)) && eqb v j) (sym (number-is l))
 
 -- ---- one end hears of it
 
@@ -150,7 +158,8 @@ pub record Closes (d : ℕ → Decision) (x c : List ℕ) (i : Bool) : Type 0 wh
   pub held : heldIn c ≡ lostOf i (heldIn x)
   pub sound : Sound d c
 
-closes-by : (d : ℕ → Decision) (x : List ℕ) (i : Bool) → Sound d x → Closes d x (cond i x (holding x (recordOf closed (heldIn x .number) (heldIn x .highest)))) i
+closes-by : (d : ℕ → Decision) (x : List ℕ) (i : Bool) → Sound d x
+    → Closes d x (cond i x (holding x (recordOf closed (heldIn x .number) (heldIn x .highest)))) i
 closes-by d x true s = record { high = λ (n : ℕ) (u : 4 ≤ n) (v : n < 53264). refl; held = refl; sound = s }
 closes-by d x false s =
     let r : Holds = recordOf closed (heldIn x .number) (heldIn x .highest) in
@@ -161,7 +170,8 @@ unfolding closedIn
 closes d x s = closes-by d x (steps.isIdle x) s
 
 pub record Loses (text : Side → ℕ → Body) (sd : Side) (d : ℕ → Decision) (l m : List ℕ) : Type 0 where
-  pub page-is : pageOf text sd d m ≡ page (lostOf (isIdle (heldIn l .control)) (heldIn l)) [] (tells told-broken (notesOf text d l)) 0 (not (eqb (getD l 5 0) 0)) (powerOf (getD l 4 0))
+  pub page-is : pageOf text sd d m ≡ page (lostOf (isIdle (heldIn l .control)) (heldIn l)) []
+      (tells told-broken (notesOf text d l)) 0 (not (eqb (getD l 5 0) 0)) (powerOf (getD l 4 0))
   pub sound : Sound d m
 
 module _ (text : Side → ℕ → Body) (sd : Side) (d : ℕ → Decision) (l : List ℕ) (s : Sound d l) where
@@ -193,7 +203,9 @@ module _ (text : Side → ℕ → Body) (sd : Side) (d : ℕ → Decision) (l : 
         decided = omega (arith, g8, s .decided);
         opened = omega (arith, g9, s .opened);
         notices = omega (arith, g10, s .notices);
-        known = λ (j : ℕ). s .known j ∙ sym (decided-stays d l x₁ s (λ (i : ℕ) (u : 8 ≤ i) (v : i < 9). high₁ i u (omega (arith, v))) (λ (i : ℕ) (u : 3088 ≤ i) (v : i < 19472). high₁ i (omega (arith, u)) (omega (arith, v))) j);
+        known = λ (j : ℕ). s .known j ∙ sym (decided-stays d l x₁ s
+            (λ (i : ℕ) (u : 8 ≤ i) (v : i < 9). high₁ i u (omega (arith, v)))
+            (λ (i : ℕ) (u : 3088 ≤ i) (v : i < 19472). high₁ i (omega (arith, u)) (omega (arith, v))) j);
         powered = omega (arith, g4, s .powered);
         rests = λ (w : getD x₁ 4 0 ≡ 2). g5 ∙ s .rests (sym g4 ∙ w);
       }
@@ -210,12 +222,18 @@ module _ (text : Side → ℕ → Body) (sd : Side) (d : ℕ → Decision) (l : 
       record {
         page-is =
             page-path
-            (held-same c m (λ (i : ℕ) (u : 0 ≤ i) (v : i < 4). o .low i u (omega (arith, v))) ∙ a .held ∙ ap (λ (i : Bool). lostOf i (heldIn x₁)) (sym (idle-is x₁)) ∙ ap (λ (r : Holds). lostOf (isIdle (r .control)) r) hx)
+            (held-same c m (λ (i : ℕ) (u : 0 ≤ i) (v : i < 4). o .low i u (omega (arith, v))) ∙ a .held ∙ ap
+            (λ (i : Bool). lostOf i (heldIn x₁)) (sym (idle-is x₁)) ∙ ap
+            (λ (r : Holds). lostOf (isIdle (r .control)) r) hx)
             (o .line ∙ low-line d x₁ c sound₁ text sd lists ∙ ap (λ (n : ℕ). lineFrom text sd x₁ n 0) none₁)
-            (o .notes ∙ ap (tells told-broken) (low-notes d x₁ c sound₁ text lists ∙ notes-stay d l x₁ s text (λ (i : ℕ) (u : 9 ≤ i) (v : i < 11). high₁ i (omega (arith, u)) (omega (arith, v))) (λ (i : ℕ) (u : 19472 ≤ i) (v : i < 53264). high₁ i (omega (arith, u)) v)))
+            (o .notes ∙ ap (tells told-broken) (low-notes d x₁ c sound₁ text lists ∙ notes-stay d l x₁ s text
+            (λ (i : ℕ) (u : 9 ≤ i) (v : i < 11). high₁ i (omega (arith, u)) (omega (arith, v)))
+            (λ (i : ℕ) (u : 19472 ≤ i) (v : i < 53264). high₁ i (omega (arith, u)) v)))
             (o .low 6 (omega arith) (omega arith) ∙ a .high 6 (omega arith) (omega arith) ∙ unsent₁)
-            (ap (λ (v : ℕ). not (eqb v 0)) (o .low 5 (omega arith) (omega arith) ∙ a .high 5 (omega arith) (omega arith) ∙ low₁ 5 (omega arith) (omega arith)))
-            (ap powerOf (o .low 4 (omega arith) (omega arith) ∙ a .high 4 (omega arith) (omega arith) ∙ low₁ 4 (omega arith) (omega arith)));
+            (ap (λ (v : ℕ). not (eqb v 0)) (o .low 5 (omega arith) (omega arith) ∙ a .high 5 (omega arith)
+            (omega arith) ∙ low₁ 5 (omega arith) (omega arith)))
+            (ap powerOf (o .low 4 (omega arith) (omega arith) ∙ a .high 4 (omega arith) (omega arith) ∙ low₁ 4
+            (omega arith) (omega arith)));
         sound = o .sound;
       }
 
@@ -245,9 +263,11 @@ module _ (text : Side → ℕ → Body) (fresh : Side → Numbered Held) where
   abbrev again : Power → Power
   again = rejoins M right (letters text) fresh answersYes
 
-  rejoins-by : (sd : Side) (d : ℕ → Decision) (l : List ℕ) → Sound d l → (c : Bool) → eqb (getD l 4 0) 1 ≡ c → Rejoins text sd d l (cond c (set l 4 0) l) (again (powerOf (getD l 4 0)))
+  rejoins-by : (sd : Side) (d : ℕ → Decision) (l : List ℕ) → Sound d l → (c : Bool) → eqb (getD l 4 0) 1 ≡ c
+      → Rejoins text sd d l (cond c (set l 4 0) l) (again (powerOf (getD l 4 0)))
   rejoins-by sd d l s true e =
-      subst (λ (q : Power). Rejoins text sd d l (set l 4 0) q) (sym (ap (λ (v : ℕ). again (powerOf v)) (eqb-true (getD l 4 0) 1 e))) (up-again text sd d l s)
+      subst (λ (q : Power). Rejoins text sd d l (set l 4 0) q)
+      (sym (ap (λ (v : ℕ). again (powerOf v)) (eqb-true (getD l 4 0) 1 e))) (up-again text sd d l s)
   rejoins-by sd d l s false e = record { held = refl; notes = refl; waiting = refl; power = go (getD l 4 0) e; sound = s }
     where
       go : (x : ℕ) → eqb x 1 ≡ false → powerOf x ≡ again (powerOf x)
@@ -261,11 +281,14 @@ module _ (text : Side → ℕ → Body) (fresh : Side → Numbered Held) where
 
   -- the page of an end that lost its line, by the page before
   lost-page : (sd : Side) (d : ℕ → Decision) (l m n : List ℕ) (q : Power) → Rejoins text sd d l m q → Loses text sd d m n
-      → pageOf text sd d n ≡ page (lostOf (isIdle (heldIn l .control)) (heldIn l)) [] (tells told-broken (notesOf text d l)) 0 (not (eqb (getD l 5 0) 0)) q
+      → pageOf text sd d n ≡ page (lostOf (isIdle (heldIn l .control)) (heldIn l)) []
+      (tells told-broken (notesOf text d l)) 0 (not (eqb (getD l 5 0) 0)) q
   lost-page sd d l m n q a o =
-      o .page-is ∙ page-path (ap (λ (r : Holds). lostOf (isIdle (r .control)) r) (a .held)) refl (ap (tells told-broken) (a .notes)) refl (ap (λ (v : ℕ). not (eqb v 0)) (a .waiting)) (a .power)
+      o .page-is ∙ page-path (ap (λ (r : Holds). lostOf (isIdle (r .control)) r) (a .held)) refl
+      (ap (tells told-broken) (a .notes)) refl (ap (λ (v : ℕ). not (eqb v 0)) (a .waiting)) (a .power)
 
-  pub failed-follows : (from : Side) (sd : Side) (d e : ℕ → Decision) (l z b : List ℕ) → Sound d l → Sound e z → Counted b → carrierFailed l z b .rule ≡ 0
+  pub failed-follows : (from : Side) (sd : Side) (d e : ℕ → Decision) (l z b : List ℕ) → Sound d l → Sound e z
+      → Counted b → carrierFailed l z b .rule ≡ 0
       → Follows text fresh from sd d e l z b (carrierFailed l z b .here) (carrierFailed l z b .there) (carrierFailed l z b .broken)
   unfolding carrierFailed
   failed-follows from sd d e l z b s t k h =
@@ -275,8 +298,10 @@ module _ (text : Side → ℕ → Body) (fresh : Side → Numbered Held) where
       let o1 : One = lost (set l 4 0) in
       let o2 : One = lost (rejoined z) in
       let a1 = upon rule3 (w1 .answer) (onThere w2 l z) (all 23 l z (w1 .page)) (λ (v : 23 ≡ 0). omega (arith, v)) h in
-      let a2 = upon rule3 (w2 .answer) (onLost o1 (rejoined z) c) (all 23 l z c) (λ (v : 23 ≡ 0). omega (arith, v)) (ap rule3 (sym (a1 .1)) ∙ h) in
-      let a3 = first-rule rule3 (o1 .rule) (lostToo o2 (o1 .here) c) (all (o1 .rule) (o1 .here) (rejoined z) c) refl (ap rule3 (sym (a1 .1 ∙ a2 .1)) ∙ h) in
+      let a2 = upon rule3 (w2 .answer) (onLost o1 (rejoined z) c) (all 23 l z c) (λ (v : 23 ≡ 0). omega (arith, v))
+      (ap rule3 (sym (a1 .1)) ∙ h) in
+      let a3 = first-rule rule3 (o1 .rule) (lostToo o2 (o1 .here) c) (all (o1 .rule) (o1 .here) (rejoined z) c) refl
+      (ap rule3 (sym (a1 .1 ∙ a2 .1)) ∙ h) in
       let q = a1 .1 ∙ a2 .1 ∙ a3 .1 in
       let m1 = mark-alive text sd l b k (a1 .0) in
       let m2 = mark-alive text (other sd) z (w1 .page) (m1 .counted) (a2 .0) in
@@ -284,9 +309,13 @@ module _ (text : Side → ℕ → Body) (fresh : Side → Numbered Held) where
       let j2 = rejoined-is (other sd) e z t in
       let n1 = loses text sd d (set l 4 0) (j1 .sound) (a3 .0) in
       let n2 = loses text (other sd) e (rejoined z) (j2 .sound) (ap rule3 (sym q) ∙ h) in
-      let p1 : Page = page (lostOf (isIdle (heldIn l .control)) (heldIn l)) [] (tells told-broken (notesOf text d l)) 0 (not (eqb (getD l 5 0) 0)) up in
-      let p2 : Page = page (lostOf (isIdle (heldIn z .control)) (heldIn z)) [] (tells told-broken (notesOf text e z)) 0 (not (eqb (getD z 5 0) 0)) (again (powerOf (getD z 4 0))) in
-      let cr : ℕ → Bool = λ (j : ℕ). ((not (isIdle (heldIn l .control)) && eqb (heldIn l .number) j) || ((not (isIdle (heldIn z .control)) && eqb (heldIn z .number) j) || (onLine M (lineOf text sd l) j || onLine M (lineOf text (other sd) z) j))) || brokenOf b j in
+      let p1 : Page = page (lostOf (isIdle (heldIn l .control)) (heldIn l)) [] (tells told-broken (notesOf text d l)) 0
+      (not (eqb (getD l 5 0) 0)) up in
+      let p2 : Page = page (lostOf (isIdle (heldIn z .control)) (heldIn z)) [] (tells told-broken (notesOf text e z)) 0
+      (not (eqb (getD z 5 0) 0)) (again (powerOf (getD z 4 0))) in
+      let cr : ℕ → Bool = λ (j : ℕ). ((not (isIdle (heldIn l .control)) && eqb (heldIn l .number) j) || (
+      (not (isIdle (heldIn z .control)) && eqb (heldIn z .number) j) ||
+      (onLine M (lineOf text sd l) j || onLine M (lineOf text (other sd) z) j))) || brokenOf b j in
       subst (λ (o : All). Follows text fresh from sd d e l z b (o .here) (o .there) (o .broken)) (sym q)
       record {
         moves = moveOf text fresh from sd carrier-fails ∷ [];
@@ -295,13 +324,24 @@ module _ (text : Side → ℕ → Body) (fresh : Side → Numbered Held) where
         far = n2 .sound;
         counted = m2 .counted;
         makes =
-            as-pages text fresh from sd (moveOf text fresh from sd carrier-fails ∷ []) (pageOf text sd d l) (pageOf text sd d l) (pageOf text (other sd) e z) (pageOf text (other sd) e z) (pageOf text sd d (o1 .here)) p1 (pageOf text (other sd) e (o2 .here)) p2 (brokenOf b) (brokenOf c) cr
-            refl refl (lost-page sd d l (set l 4 0) (o1 .here) up j1 n1) (lost-page (other sd) e z (rejoined z) (o2 .here) (again (powerOf (getD z 4 0))) j2 n2)
+            as-pages text fresh from sd (moveOf text fresh from sd carrier-fails ∷ []) (pageOf text sd d l)
+            (pageOf text sd d l) (pageOf text (other sd) e z) (pageOf text (other sd) e z)
+            (pageOf text sd d (o1 .here)) p1 (pageOf text (other sd) e (o2 .here)) p2 (brokenOf b) (brokenOf c) cr
+            refl refl (lost-page sd d l (set l 4 0) (o1 .here) up j1 n1)
+            (lost-page (other sd) e z (rejoined z) (o2 .here) (again (powerOf (getD z 4 0))) j2 n2)
             (fun-ext (λ (j : ℕ). m2 .broken j
             ∙ ap (λ (v : Bool). (onLine M (lineOf text (other sd) z) j || busyIn text (other sd) z (steps.isIdle z) j) || v) (m1 .broken j)
-            ∙ five-or (onLine M (lineOf text (other sd) z) j) (busyIn text (other sd) z (steps.isIdle z) j) (onLine M (lineOf text sd l) j) (busyIn text sd l (steps.isIdle l) j) (brokenOf b j)
-            ∙ ap (λ (v : Bool). (v || (busyIn text (other sd) z (steps.isIdle z) j || (onLine M (lineOf text sd l) j || onLine M (lineOf text (other sd) z) j))) || brokenOf b j) (busy-is text sd l j)
-            ∙ ap (λ (v : Bool). ((not (isIdle (heldIn l .control)) && eqb (heldIn l .number) j) || (v || (onLine M (lineOf text sd l) j || onLine M (lineOf text (other sd) z) j))) || brokenOf b j) (busy-is text (other sd) z j)))
+            ∙ five-or (onLine M (lineOf text (other sd) z) j) (busyIn text (other sd) z (steps.isIdle z) j)
+            (onLine M (lineOf text sd l) j) (busyIn text sd l (steps.isIdle l) j) (brokenOf b j)
+            ∙ ap (λ (v : Bool). (v || (busyIn text (other sd) z (steps.isIdle z) j ||
+            (onLine M (lineOf text sd l) j || onLine M (lineOf text (other sd) z) j))) || brokenOf b j)
+            (busy-is text sd l j)
+            ∙ ap (λ (v : Bool). ((not (isIdle (heldIn l .control)) && eqb (heldIn l .number) j) ||
+            (v || (onLine M (lineOf text sd l) j || onLine M (lineOf text (other sd) z) j))) || brokenOf b j)
+            (busy-is text (other sd) z j)))
             (one-act text fresh from sd carrier-fails (pageOf text sd d l) (pageOf text (other sd) e z) p1 p2 (brokenOf b) cr
-            (λ (g i : Beside). fail-lands text fresh (starter from sd) sd (heldIn l) (lineOf text sd l) (notesOf text d l) (getD l 6 0) (not (eqb (getD l 5 0) 0)) (heldIn z) (lineOf text (other sd) z) (notesOf text e z) (getD z 6 0) (not (eqb (getD z 5 0) 0)) (powerOf (getD z 4 0)) (brokenOf b) g i (powerOf (getD l 4 0))));
+            (λ (g i : Beside). fail-lands text fresh (starter from sd) sd (heldIn l) (lineOf text sd l)
+            (notesOf text d l) (getD l 6 0) (not (eqb (getD l 5 0) 0)) (heldIn z) (lineOf text (other sd) z)
+            (notesOf text e z) (getD z 6 0) (not (eqb (getD z 5 0) 0)) (powerOf (getD z 4 0)) (brokenOf b) g i
+            (powerOf (getD l 4 0))));
       }

@@ -107,11 +107,13 @@ module _ (d : ℕ → Decision) (l m : List ℕ) (s : Sound d l) where
 
   pub low-line : (text : Side → ℕ → Body) (sd : Side) → Same l m 7 53264 → lineOf text sd m ≡ lineOf text sd l
   low-line text sd a =
-      line-stays text sd (λ (i : ℕ) (u : 7 ≤ i) (v : i < 8). a i u (omega (arith, v))) (λ (i : ℕ) (u : 16 ≤ i) (v : i < 3088). a i (omega (arith, u)) (omega (arith, v)))
+      line-stays text sd (λ (i : ℕ) (u : 7 ≤ i) (v : i < 8). a i u (omega (arith, v)))
+      (λ (i : ℕ) (u : 16 ≤ i) (v : i < 3088). a i (omega (arith, u)) (omega (arith, v)))
 
   pub low-notes : (text : Side → ℕ → Body) → Same l m 7 53264 → notesOf text d m ≡ notesOf text d l
   low-notes text a =
-      notes-stay text (λ (i : ℕ) (u : 9 ≤ i) (v : i < 11). a i (omega (arith, u)) (omega (arith, v))) (λ (i : ℕ) (u : 19472 ≤ i) (v : i < 53264). a i (omega (arith, u)) v)
+      notes-stay text (λ (i : ℕ) (u : 9 ≤ i) (v : i < 11). a i (omega (arith, u)) (omega (arith, v)))
+      (λ (i : ℕ) (u : 19472 ≤ i) (v : i < 53264). a i (omega (arith, u)) v)
 
 -- ---- the open jobs were told
 
@@ -169,7 +171,8 @@ module _ (text : Side → ℕ → Body) (fresh : Side → Numbered Held) (from :
   abbrev pub Made : Side → List (Move (Numbered Ask)) → Page → Page → (ℕ → Bool) → Page → Page → (ℕ → Bool) → Type 0
   Made sd vs p z br q y cr = MakesAll M (letters text) fresh answersYes from vs (sheetOf sd p z br) (sheetOf sd q y cr)
 
-  pub one-act : (sd : Side) (a : Act (Numbered Ask)) (p z q y : Page) (br cr : ℕ → Bool) → Lands1 sd p z br a q y cr → Made sd (moveOf sd a ∷ []) p z br q y cr
+  pub one-act : (sd : Side) (a : Act (Numbered Ask)) (p z q y : Page) (br cr : ℕ → Bool) → Lands1 sd p z br a q y cr
+      → Made sd (moveOf sd a ∷ []) p z br q y cr
   unfolding MakesAll
   one-act Air a p z q y br cr h = record { at = sheetOf Air q y cr; first = h; rest = refl }
   one-act Ground a p z q y br cr h = record { at = sheetOf Ground q y cr; first = h; rest = refl }
@@ -192,10 +195,12 @@ module _ (text : Side → ℕ → Body) (fresh : Side → Numbered Held) (from :
     pub near : Sound then m
     pub far : Sound e y
     pub counted : Counted c
-    pub makes : Made sd moves (pageOf text sd d l) (pageOf text (other sd) e z) (brokenOf b) (pageOf text sd then m) (pageOf text (other sd) e y) (brokenOf c)
+    pub makes : Made sd moves (pageOf text sd d l) (pageOf text (other sd) e z) (brokenOf b) (pageOf text sd then m)
+        (pageOf text (other sd) e y) (brokenOf c)
 
   -- pages by another name
-  pub as-pages : (sd : Side) (vs : List (Move (Numbered Ask))) (p p′ z z′ q q′ y y′ : Page) (br cr cr′ : ℕ → Bool) → p ≡ p′ → z ≡ z′ → q ≡ q′ → y ≡ y′ → cr ≡ cr′
+  pub as-pages : (sd : Side) (vs : List (Move (Numbered Ask))) (p p′ z z′ q q′ y y′ : Page) (br cr cr′ : ℕ → Bool)
+      → p ≡ p′ → z ≡ z′ → q ≡ q′ → y ≡ y′ → cr ≡ cr′
       → Made sd vs p′ z′ br q′ y′ cr′ → Made sd vs p z br q y cr
   as-pages sd vs p p′ z z′ q q′ y y′ br cr cr′ a b c e f w =
       subst (λ (x : Page). Made sd vs x z br q y cr) (sym a)

@@ -56,9 +56,12 @@ module _ (text : Side → ℕ → Body) (fresh : Side → Numbered Held) (from :
   -- ---- a job is refused
 
   refuses-any : (j : ℕ) → isDecided (d j) ≡ false → (q : Power) (w : Bool) → live q ≡ true
-      → Lands1 text fresh from sd (p₀ q w) far₀ (brokenOf b) (lay-aside j) (page (heldIn l) (lineOf text sd l) (declines j (notesOf text d l)) (getD l 6 0) w q) far₀ (brokenOf b)
-  refuses-any j a up w h g i = refuses-lands text fresh (starter from sd) sd (heldIn l) (lineOf text sd l) (notesOf text d l) (getD l 6 0) w far₀ (brokenOf b) g i j a
-  refuses-any j a apart w h g i = refuses-apart-lands text fresh (starter from sd) sd (heldIn l) (lineOf text sd l) (notesOf text d l) (getD l 6 0) w far₀ (brokenOf b) g i j a
+      → Lands1 text fresh from sd (p₀ q w) far₀ (brokenOf b) (lay-aside j)
+      (page (heldIn l) (lineOf text sd l) (declines j (notesOf text d l)) (getD l 6 0) w q) far₀ (brokenOf b)
+  refuses-any j a up w h g i = refuses-lands text fresh (starter from sd) sd (heldIn l) (lineOf text sd l)
+      (notesOf text d l) (getD l 6 0) w far₀ (brokenOf b) g i j a
+  refuses-any j a apart w h g i = refuses-apart-lands text fresh (starter from sd) sd (heldIn l) (lineOf text sd l)
+      (notesOf text d l) (getD l 6 0) w far₀ (brokenOf b) g i j a
   refuses-any j a down w h g i = dead h
 
   pub refused-follows : (j : ℕ) → refusedJob l j .rule ≡ 0 → Follows text fresh from sd d e l z b (refusedJob l j .here) z b
@@ -69,7 +72,8 @@ module _ (text : Side → ℕ → Body) (fresh : Side → Numbered Held) (from :
       let o2 : One = onRefused w j in
       let a1 = past rule (isDown l) (one 3 l) (cond (decidedIn l j) (one 6 l) o2) (λ (v : 3 ≡ 0). omega (arith, v)) h in
       let a2 = past rule (decidedIn l j) (one 6 l) o2 (λ (v : 6 ≡ 0). omega (arith, v)) (ap rule (sym (a1 .1)) ∙ h) in
-      let a3 = upon rule (w .answer) (asRule (noted x j 1)) (one 23 x) (λ (v : 23 ≡ 0). omega (arith, v)) (ap rule (sym (a1 .1 ∙ a2 .1)) ∙ h) in
+      let a3 = upon rule (w .answer) (asRule (noted x j 1)) (one 23 x) (λ (v : 23 ≡ 0). omega (arith, v))
+      (ap rule (sym (a1 .1 ∙ a2 .1)) ∙ h) in
       let all = a1 .1 ∙ a2 .1 ∙ a3 .1 in
       let f : ℕ → Decision = decide j job-refused d in
       let c = decides-one text sd d l j job-refused refl s (a3 .0) in
@@ -87,16 +91,21 @@ module _ (text : Side → ℕ → Body) (fresh : Side → Numbered Held) (from :
         decided = omega (arith, g8, c .sound .decided);
         opened = omega (arith, g9, c .sound .opened);
         notices = omega (arith, n .count, n .room);
-        known = λ (i : ℕ). c .sound .known i ∙ sym (decided-stays f x m (c .sound) (λ (y : ℕ) (u : 8 ≤ y) (v : y < 9). n .below y (omega arith) (omega (arith, v))) (λ (y : ℕ) (u : 3088 ≤ y) (v : y < 19472). n .between y (omega (arith, u)) (omega (arith, v))) i);
+        known = λ (i : ℕ). c .sound .known i ∙ sym (decided-stays f x m (c .sound)
+            (λ (y : ℕ) (u : 8 ≤ y) (v : y < 9). n .below y (omega arith) (omega (arith, v)))
+            (λ (y : ℕ) (u : 3088 ≤ y) (v : y < 19472). n .between y (omega (arith, u)) (omega (arith, v))) i);
         powered = omega (arith, g4, c .sound .powered);
         rests = λ (v : getD m 4 0 ≡ 2). g5 ∙ c .sound .rests (sym g4 ∙ v);
       } in
       subst (λ (o : One). Follows text fresh from sd d e l z b (o .here) z b) (sym all)
       (alone-follows text fresh from sd d e l z b s t k (lay-aside j) m f (pageOf text sd d l) (page (heldIn l) (lineOf text sd l) (declines j (notesOf text d l)) (getD l 6 0) (not (eqb (getD l 5 0) 0)) (powerOf (getD l 4 0))) sound refl
       (page-path (held-same x m (λ (i : ℕ) (u : 0 ≤ i) (v : i < 4). n .below i u (omega (arith, v))) ∙ c .held)
-      (line-stays f x m (c .sound) text sd (λ (i : ℕ) (u : 7 ≤ i) (v : i < 8). n .below i (omega arith) (omega (arith, v))) (λ (i : ℕ) (u : 16 ≤ i) (v : i < 3088). n .between i (omega (arith, u)) (omega (arith, v))) ∙ c .line)
+      (line-stays f x m (c .sound) text sd
+      (λ (i : ℕ) (u : 7 ≤ i) (v : i < 8). n .below i (omega arith) (omega (arith, v)))
+      (λ (i : ℕ) (u : 16 ≤ i) (v : i < 3088). n .between i (omega (arith, u)) (omega (arith, v))) ∙ c .line)
       (notes-path
-      (ap (λ (i : ℕ). jobsFrom m i 19472) g9 ∙ jobs-same x m 11 20496 (n .between) (getD x 9 0) 19472 (omega arith) (omega (arith, c .sound .opened)) ∙ c .opened-same)
+      (ap (λ (i : ℕ). jobsFrom m i 19472) g9 ∙ jobs-same x m 11 20496 (n .between) (getD x 9 0) 19472 (omega arith)
+      (omega (arith, c .sound .opened)) ∙ c .opened-same)
       (n .notices ∙ ap (λ (i : List Notice). i ++ (note j told-refused ∷ [])) (c .notices-same′)))
       (g6 ∙ c .low 6 (omega arith) (omega arith))
       (ap (λ (v : ℕ). not (eqb v 0)) (g5 ∙ c .low 5 (omega arith) (omega arith)))
@@ -120,7 +129,8 @@ module _ (text : Side → ℕ → Body) (fresh : Side → Numbered Held) (from :
       let v : Leaves = pushed x 9 19472 1024 j in
       let y : List ℕ = v .page in
       let a1 = upon rule (w .answer) (onOpened v j r) (one 23 x) (λ (i : 23 ≡ 0). omega (arith, i)) h in
-      let a2 = upon rule (v .answer) (sent y MessageRequest r j) (one 23 y) (λ (i : 23 ≡ 0). omega (arith, i)) (ap rule (sym (a1 .1)) ∙ h) in
+      let a2 = upon rule (v .answer) (sent y MessageRequest r j) (one 23 y) (λ (i : 23 ≡ 0). omega (arith, i))
+      (ap rule (sym (a1 .1)) ∙ h) in
       let f : ℕ → Decision = decide j job-taken d in
       let c = decides-one text sd d l j job-taken refl s (a1 .0) in
       let o = opens-one text sd f x j (c .sound) (a2 .0) in
@@ -128,14 +138,16 @@ module _ (text : Side → ℕ → Body) (fresh : Side → Numbered Held) (from :
       let u = ready-is l ready in
       subst (λ (i : One). Follows text fresh from sd d e l z b (i .here) z b) (sym (a1 .1 ∙ a2 .1))
       (alone-follows text fresh from sd d e l z b s t k (deliver j) (sent y MessageRequest r j .here) f (p₀ up false)
-      (page r (lineOf text sd l ++ (mark (heldIn l .number) (ent DData (text sd j)) ∷ [])) (memory.takes j (notesOf text d l)) (suc (getD l 6 0)) false up) (n .sound) (ready-page ready)
+      (page r (lineOf text sd l ++ (mark (heldIn l .number) (ent DData (text sd j)) ∷ []))
+      (memory.takes j (notesOf text d l)) (suc (getD l 6 0)) false up) (n .sound) (ready-page ready)
       (n .page-is
       ∙ page-path refl (ap (λ (i : List (Numbered Ent)). i ++ (mark (heldIn l .number) (ent DData (text sd j)) ∷ [])) (o .line ∙ c .line))
       (notes-path (o .jobs ∙ ap (λ (i : List ℕ). i ++ (j ∷ [])) (c .opened-same)) (o .notices-same′ ∙ c .notices-same′))
       (ap suc (o .low 6 (omega arith) (omega arith) ∙ c .low 6 (omega arith) (omega arith)))
       (ap (λ (i : ℕ). not (eqb i 0)) (o .low 5 (omega arith) (omega arith) ∙ c .low 5 (omega arith) (omega arith)) ∙ ap not (u .shown))
       (ap powerOf (o .low 4 (omega arith) (omega arith) ∙ c .low 4 (omega arith) (omega arith)) ∙ up-power l (u .is-up)))
-      (λ (g i : Beside). takes-lands text fresh (starter from sd) sd (heldIn l) (lineOf text sd l) (notesOf text d l) (getD l 6 0) far₀ (brokenOf b) g i j new may))
+      (λ (g i : Beside). takes-lands text fresh (starter from sd) sd (heldIn l) (lineOf text sd l) (notesOf text d l)
+      (getD l 6 0) far₀ (brokenOf b) g i j new may))
 
   take-done : (j : ℕ) (c : Bool) → mayDo sd (heldIn l) MessageRequest 0 j ≡ c → readyRule l ≡ 0 → isDecided (d j) ≡ false
       → takeDone l j (cond c (Sends (movedBy (heldIn l) MessageRequest 0 j)) Refused) .rule ≡ 0
@@ -159,7 +171,8 @@ module _ (text : Side → ℕ → Body) (fresh : Side → Numbered Held) (from :
   start-entry true n = refl
   start-entry false n = refl
 
-  starts-follow : (dsc : Bool) (n : ℕ) → starter from sd ≡ true → readyRule l ≡ 0 → steps.isIdle z ≡ true → mayDo sd (heldIn l) (StartRequest dsc) n 0 ≡ true
+  starts-follow : (dsc : Bool) (n : ℕ) → starter from sd ≡ true → readyRule l ≡ 0 → steps.isIdle z ≡ true
+      → mayDo sd (heldIn l) (StartRequest dsc) n 0 ≡ true
       → startTold l dsc (movedBy (heldIn l) (StartRequest dsc) n 0) .rule ≡ 0
       → Follows text fresh from sd d e l z b (startTold l dsc (movedBy (heldIn l) (StartRequest dsc) n 0) .here) z b
   unfolding startTold
@@ -171,24 +184,30 @@ module _ (text : Side → ℕ → Body) (fresh : Side → Numbered Held) (from :
       let c = tells-all text sd d l 3 s (a1 .0) in
       let o = sends-one text sd d x (StartRequest dsc) r 0 (c .sound) (ap rule (sym (a1 .1)) ∙ h) in
       let u = ready-is l ready in
-      let here-idle : isIdle (heldIn l .control) ≡ true = and-left (isIdle (heldIn l .control)) (mayStart sd dsc) (and-left (takes sd (heldIn l .control) (StartRequest dsc)) (ltb (heldIn l .number) n) may) in
+      let here-idle : isIdle (heldIn l .control) ≡ true = and-left (isIdle (heldIn l .control)) (mayStart sd dsc)
+      (and-left (takes sd (heldIn l .control) (StartRequest dsc)) (ltb (heldIn l .number) n) may) in
       subst (λ (i : One). Follows text fresh from sd d e l z b (i .here) z b) (sym (a1 .1))
       (alone-follows text fresh from sd d e l z b s t k (happens (user-call (mark n (ask (StartRequest dsc) [] 0)) 0)) (sent x (StartRequest dsc) r 0 .here) d (p₀ up false)
-      (page r (lineOf text sd l ++ (mark n (ent (DStart dsc) []) ∷ [])) (tells told-broken (notesOf text d l)) (suc (getD l 6 0)) false up) (o .sound) (ready-page ready)
+      (page r (lineOf text sd l ++ (mark n (ent (DStart dsc) []) ∷ [])) (tells told-broken (notesOf text d l))
+      (suc (getD l 6 0)) false up) (o .sound) (ready-page ready)
       (o .page-is
       ∙ page-path refl
-      (ap (λ (i : List (Numbered Ent)). i ++ (entryOf text sd (kindSent (StartRequest dsc)) n 0 ∷ [])) (c .line) ∙ ap (λ (i : Numbered Ent). lineOf text sd l ++ (i ∷ [])) (start-entry dsc n))
+      (ap (λ (i : List (Numbered Ent)). i ++ (entryOf text sd (kindSent (StartRequest dsc)) n 0 ∷ [])) (c .line) ∙ ap
+      (λ (i : Numbered Ent). lineOf text sd l ++ (i ∷ [])) (start-entry dsc n))
       (c .notes) (ap suc (c .low 6 (omega arith) (omega arith)))
       (ap (λ (i : ℕ). not (eqb i 0)) (c .low 5 (omega arith) (omega arith)) ∙ ap not (u .shown))
       (ap powerOf (c .low 4 (omega arith) (omega arith)) ∙ up-power l (u .is-up)))
       (λ (g i : Beside). subst (λ (v : Bool). Lands text fresh v sd (p₀ up false) far₀ (brokenOf b) (happens (user-call (mark n (ask (StartRequest dsc) [] 0)) 0)) (page r (lineOf text sd l ++ (mark n (ent (DStart dsc) []) ∷ [])) (tells told-broken (notesOf text d l)) (suc (getD l 6 0)) false up) far₀ (brokenOf b) g i) (sym from-here)
       (start-lands text fresh sd (heldIn l) (lineOf text sd l) (notesOf text d l) (getD l 6 0) (heldIn z) (lineOf text (other sd) z) (notesOf text e z) (getD z 6 0) (not (eqb (getD z 5 0) 0)) (powerOf (getD z 4 0)) (brokenOf b) g i dsc n
-      (and-right (takes sd (heldIn l .control) (StartRequest dsc)) (ltb (heldIn l .number) n) may) (ap (λ (v : Bool). v && isIdle (heldIn z .control)) here-idle ∙ idle-is z ∙ idle)
+      (and-right (takes sd (heldIn l .control) (StartRequest dsc)) (ltb (heldIn l .number) n) may)
+      (ap (λ (v : Bool). v && isIdle (heldIn z .control)) here-idle ∙ idle-is z ∙ idle)
       (ap (λ (v : Bool). cond v (Sends r) Refused) may))))
 
-  start-done : (dsc : Bool) (n : ℕ) (c : Bool) → mayDo sd (heldIn l) (StartRequest dsc) n 0 ≡ c → starter from sd ≡ true → readyRule l ≡ 0 → steps.isIdle z ≡ true
+  start-done : (dsc : Bool) (n : ℕ) (c : Bool) → mayDo sd (heldIn l) (StartRequest dsc) n 0 ≡ c → starter from sd ≡ true
+      → readyRule l ≡ 0 → steps.isIdle z ≡ true
       → startDone l dsc (cond c (Sends (movedBy (heldIn l) (StartRequest dsc) n 0)) Refused) .rule ≡ 0
-      → Follows text fresh from sd d e l z b (startDone l dsc (cond c (Sends (movedBy (heldIn l) (StartRequest dsc) n 0)) Refused) .here) z b
+      → Follows text fresh from sd d e l z b
+      (startDone l dsc (cond c (Sends (movedBy (heldIn l) (StartRequest dsc) n 0)) Refused) .here) z b
   unfolding startDone
   start-done dsc n true c from-here ready idle h = starts-follow dsc n from-here ready idle c h
   start-done dsc n false c from-here ready idle h = absurd (omega (arith, h))
@@ -203,13 +222,16 @@ module _ (text : Side → ℕ → Body) (fresh : Side → Numbered Held) (from :
       let a1 = first-rule rule (readyRule l) (cond (starter from sd) o2 (one 12 l)) (one (readyRule l) l) refl h in
       let a2 = upon rule (starter from sd) o2 (one 12 l) (λ (v : 12 ≡ 0). omega (arith, v)) (ap rule (sym (a1 .1)) ∙ h) in
       let a3 = upon rule (steps.isIdle z) o3 (one 3 l) (λ (v : 3 ≡ 0). omega (arith, v)) (ap rule (sym (a1 .1 ∙ a2 .1)) ∙ h) in
-      let a4 = past rule (leb n (heldIn l .number)) (one 12 l) o4 (λ (v : 12 ≡ 0). omega (arith, v)) (ap rule (sym (a1 .1 ∙ a2 .1 ∙ a3 .1)) ∙ h) in
+      let a4 = past rule (leb n (heldIn l .number)) (one 12 l) o4 (λ (v : 12 ≡ 0). omega (arith, v))
+      (ap rule (sym (a1 .1 ∙ a2 .1 ∙ a3 .1)) ∙ h) in
       subst (λ (o : One). Follows text fresh from sd d e l z b (o .here) z b) (sym (a1 .1 ∙ a2 .1 ∙ a3 .1 ∙ a4 .1))
-      (start-done dsc n (mayDo sd (heldIn l) (StartRequest dsc) n 0) refl (a2 .0) (a1 .0) (a3 .0) (ap rule (sym (a1 .1 ∙ a2 .1 ∙ a3 .1 ∙ a4 .1)) ∙ h))
+      (start-done dsc n (mayDo sd (heldIn l) (StartRequest dsc) n 0) refl (a2 .0) (a1 .0) (a3 .0)
+      (ap rule (sym (a1 .1 ∙ a2 .1 ∙ a3 .1 ∙ a4 .1)) ∙ h))
 
   -- ---- the user's other calls that send
 
-  plain-follow : (u : Call) (most : ℕ) (r : Holds) → isMessage u ≡ false → sortOf (sends u) ≡ plain → r ≡ recordOf (goes (heldIn l .control) u) (heldIn l .number) (heldIn l .highest)
+  plain-follow : (u : Call) (most : ℕ) (r : Holds) → isMessage u ≡ false → sortOf (sends u) ≡ plain
+      → r ≡ recordOf (goes (heldIn l .control) u) (heldIn l .number) (heldIn l .highest)
       → ((n : ℕ) → entryOf text sd (kindSent u) n 0 ≡ mark n (ent (sends u) [])) → readyRule l ≡ 0 → calledOf sd (heldIn l) u 0 0 ≡ Sends r
       → sent l u r 0 .rule ≡ 0 → Follows text fresh from sd d e l z b (sent l u r 0 .here) z b
   plain-follow u most r m p q en ready called h =
@@ -219,21 +241,29 @@ module _ (text : Side → ℕ → Body) (fresh : Side → Numbered Held) (from :
       let v = ready-is l ready in
       subst (λ (i : Holds). Follows text fresh from sd d e l z b (sent l u i 0 .here) z b) (sym q)
       (alone-follows text fresh from sd d e l z b s t k (happens (user-call (mark 0 (ask u [] 0)) most)) (sent l u f 0 .here) d (p₀ up false)
-      (page f (lineOf text sd l ++ (mark (heldIn l .number) (ent (sends u) []) ∷ [])) (notesOf text d l) (suc (getD l 6 0)) false up) (o .sound) (ready-page ready)
-      (o .page-is ∙ page-path refl (ap (λ (i : Numbered Ent). lineOf text sd l ++ (i ∷ [])) (en (heldIn l .number))) refl refl (ap not (v .shown)) (up-power l (v .is-up)))
-      (λ (g i : Beside). call-lands text fresh (starter from sd) sd (heldIn l) (lineOf text sd l) (notesOf text d l) (getD l 6 0) far₀ (brokenOf b) g i u (goes (heldIn l .control) u) most m p (called ∙ ap Sends q)))
+      (page f (lineOf text sd l ++ (mark (heldIn l .number) (ent (sends u) []) ∷ [])) (notesOf text d l)
+      (suc (getD l 6 0)) false up) (o .sound) (ready-page ready)
+      (o .page-is ∙ page-path refl (ap (λ (i : Numbered Ent). lineOf text sd l ++ (i ∷ [])) (en (heldIn l .number)))
+      refl refl (ap not (v .shown)) (up-power l (v .is-up)))
+      (λ (g i : Beside). call-lands text fresh (starter from sd) sd (heldIn l) (lineOf text sd l) (notesOf text d l)
+      (getD l 6 0) far₀ (brokenOf b) g i u (goes (heldIn l .control) u) most m p (called ∙ ap Sends q)))
 
-  call-done : (u : Call) (most : ℕ) (r : Holds) (c : Bool) → isMessage u ≡ false → sortOf (sends u) ≡ plain → r ≡ recordOf (goes (heldIn l .control) u) (heldIn l .number) (heldIn l .highest)
-      → ((n : ℕ) → entryOf text sd (kindSent u) n 0 ≡ mark n (ent (sends u) [])) → readyRule l ≡ 0 → calledOf sd (heldIn l) u 0 0 ≡ cond c (Sends r) Refused
+  call-done : (u : Call) (most : ℕ) (r : Holds) (c : Bool) → isMessage u ≡ false → sortOf (sends u) ≡ plain
+      → r ≡ recordOf (goes (heldIn l .control) u) (heldIn l .number) (heldIn l .highest)
+      → ((n : ℕ) → entryOf text sd (kindSent u) n 0 ≡ mark n (ent (sends u) [])) → readyRule l ≡ 0 → calledOf sd
+      (heldIn l) u 0 0 ≡ cond c (Sends r) Refused
       → callDone l b u most (cond c (Sends r) Refused) .rule ≡ 0
-      → Follows text fresh from sd d e l z b (callDone l b u most (cond c (Sends r) Refused) .here) z (callDone l b u most (cond c (Sends r) Refused) .broken)
+      → Follows text fresh from sd d e l z b (callDone l b u most (cond c (Sends r) Refused) .here) z
+      (callDone l b u most (cond c (Sends r) Refused) .broken)
   unfolding callDone
   call-done u most r true m p q en ready called h = plain-follow u most r m p q en ready called h
   call-done u most r false m p q en ready called h = absurd (omega (arith, h))
 
-  called-follows : (u : Call) (most : ℕ) (r : Holds) (c : Bool) → isMessage u ≡ false → sortOf (sends u) ≡ plain → r ≡ recordOf (goes (heldIn l .control) u) (heldIn l .number) (heldIn l .highest)
+  called-follows : (u : Call) (most : ℕ) (r : Holds) (c : Bool) → isMessage u ≡ false → sortOf (sends u) ≡ plain
+      → r ≡ recordOf (goes (heldIn l .control) u) (heldIn l .number) (heldIn l .highest)
       → ((n : ℕ) → entryOf text sd (kindSent u) n 0 ≡ mark n (ent (sends u) [])) → calledOf sd (heldIn l) u 0 0 ≡ cond c (Sends r) Refused
-      → madeCall l b sd u most .rule ≡ 0 → Follows text fresh from sd d e l z b (madeCall l b sd u most .here) z (madeCall l b sd u most .broken)
+      → madeCall l b sd u most .rule ≡ 0 → Follows text fresh from sd d e l z b (madeCall l b sd u most .here) z
+      (madeCall l b sd u most .broken)
   unfolding madeCall
   called-follows u most r c m p q en called h =
       let a1 = first-rule rule2 (readyRule l) (callDone l b u most (calledOf sd (heldIn l) u 0 0)) (two (readyRule l) l b) refl h in
@@ -242,24 +272,34 @@ module _ (text : Side → ℕ → Body) (fresh : Side → Numbered Held) (from :
       (call-done u most r c m p q en (a1 .0) called (ap rule2 (sym all) ∙ h))
 
   pub start-answer-follows : (m : Bool) (a : Reply) (most : ℕ) → madeCall l b sd (StartResponse m a) most .rule ≡ 0
-      → Follows text fresh from sd d e l z b (madeCall l b sd (StartResponse m a) most .here) z (madeCall l b sd (StartResponse m a) most .broken)
+      → Follows text fresh from sd d e l z b (madeCall l b sd (StartResponse m a) most .here) z
+      (madeCall l b sd (StartResponse m a) most .broken)
   start-answer-follows m a most h =
-      called-follows (StartResponse m a) most (recordOf (goes (heldIn l .control) (StartResponse m a)) (heldIn l .number) (heldIn l .highest)) (takes sd (heldIn l .control) (StartResponse m a)) refl refl refl (entries m a) refl h
+      called-follows (StartResponse m a) most
+      (recordOf (goes (heldIn l .control) (StartResponse m a)) (heldIn l .number) (heldIn l .highest))
+      (takes sd (heldIn l .control) (StartResponse m a)) refl refl refl (entries m a) refl h
     where
-      entries : (m : Bool) (a : Reply) (n : ℕ) → entryOf text sd (kindSent (StartResponse m a)) n 0 ≡ mark n (ent (sends (StartResponse m a)) [])
+      entries : (m : Bool) (a : Reply) (n : ℕ)
+          → entryOf text sd (kindSent (StartResponse m a)) n 0 ≡ mark n (ent (sends (StartResponse m a)) [])
       entries m Accepted n = refl
       entries m Rejected n = refl
 
   pub end-request-follows : (m : Bool) (most : ℕ) → madeCall l b sd (EndRequest m) most .rule ≡ 0
       → Follows text fresh from sd d e l z b (madeCall l b sd (EndRequest m) most .here) z (madeCall l b sd (EndRequest m) most .broken)
   end-request-follows m most h =
-      called-follows (EndRequest m) most (recordOf (goes (heldIn l .control) (EndRequest m)) (heldIn l .number) (heldIn l .highest)) (takes sd (heldIn l .control) (EndRequest m)) refl refl refl (λ (n : ℕ). refl) refl h
+      called-follows (EndRequest m) most
+      (recordOf (goes (heldIn l .control) (EndRequest m)) (heldIn l .number) (heldIn l .highest))
+      (takes sd (heldIn l .control) (EndRequest m)) refl refl refl (λ (n : ℕ). refl) refl h
 
   pub end-answer-follows : (m : Bool) (a : Reply) (most : ℕ) → madeCall l b sd (EndResponse m a) most .rule ≡ 0
-      → Follows text fresh from sd d e l z b (madeCall l b sd (EndResponse m a) most .here) z (madeCall l b sd (EndResponse m a) most .broken)
+      → Follows text fresh from sd d e l z b (madeCall l b sd (EndResponse m a) most .here) z
+      (madeCall l b sd (EndResponse m a) most .broken)
   end-answer-follows m a most h =
-      called-follows (EndResponse m a) most (recordOf (goes (heldIn l .control) (EndResponse m a)) (heldIn l .number) (heldIn l .highest)) (takes sd (heldIn l .control) (EndResponse m a)) refl refl refl (entries m a) refl h
+      called-follows (EndResponse m a) most
+      (recordOf (goes (heldIn l .control) (EndResponse m a)) (heldIn l .number) (heldIn l .highest))
+      (takes sd (heldIn l .control) (EndResponse m a)) refl refl refl (entries m a) refl h
     where
-      entries : (m : Bool) (a : Reply) (n : ℕ) → entryOf text sd (kindSent (EndResponse m a)) n 0 ≡ mark n (ent (sends (EndResponse m a)) [])
+      entries : (m : Bool) (a : Reply) (n : ℕ)
+          → entryOf text sd (kindSent (EndResponse m a)) n 0 ≡ mark n (ent (sends (EndResponse m a)) [])
       entries m Accepted n = refl
       entries m Rejected n = refl

@@ -10,3 +10,4 @@ pub mod AbortMoves
 pub mod Removes
 pub mod HearMoves
 pub mod FailMoves
+pub mod TurnMoves

@@ -46,7 +46,8 @@ held-sound d l r s =
     let high : Same l m 4 53264 = hold-same l r 53264 in
     let g4 = high 4 (omega arith) (omega arith) in
     let g5 = high 5 (omega arith) (omega arith) in
-    low-sound d l m s (λ (i : ℕ) (u : 7 ≤ i) (v : i < 53264). high i (omega (arith, u)) v) (length-hold l r) (omega (arith, g4, s .powered)) (λ (w : getD m 4 0 ≡ 2). g5 ∙ s .rests (sym g4 ∙ w))
+    low-sound d l m s (λ (i : ℕ) (u : 7 ≤ i) (v : i < 53264). high i (omega (arith, u)) v) (length-hold l r)
+    (omega (arith, g4, s .powered)) (λ (w : getD m 4 0 ≡ 2). g5 ∙ s .rests (sym g4 ∙ w))
 
 -- ---- an entry goes on the line
 
@@ -69,7 +70,9 @@ puts-one text sd d l kind number job s w =
     let g10 = a .between 10 (omega arith) (omega arith) in
     record {
       line = a .line;
-      notes = notes-stay d l m s text (λ (i : ℕ) (u : 9 ≤ i) (v : i < 11). a .between i (omega (arith, u)) (omega (arith, v))) (λ (i : ℕ) (u : 19472 ≤ i) (v : i < 53264). a .above 53264 i (omega (arith, u)) v);
+      notes = notes-stay d l m s text
+          (λ (i : ℕ) (u : 9 ≤ i) (v : i < 11). a .between i (omega (arith, u)) (omega (arith, v)))
+          (λ (i : ℕ) (u : 19472 ≤ i) (v : i < 53264). a .above 53264 i (omega (arith, u)) v);
       unsent = omega (arith, a .unsent);
       low = a .below;
       sound =
@@ -89,10 +92,12 @@ puts-one text sd d l kind number job s w =
 -- ---- a call that sends
 
 pub record SendsOne (text : Side → ℕ → Body) (sd : Side) (d : ℕ → Decision) (l m : List ℕ) (u : Call) (r : Holds) (job : ℕ) : Type 0 where
-  pub page-is : pageOf text sd d m ≡ page r (lineOf text sd l ++ (entryOf text sd (kindSent u) (r .number) job ∷ [])) (notesOf text d l) (suc (getD l 6 0)) (not (eqb (getD l 5 0) 0)) (powerOf (getD l 4 0))
+  pub page-is : pageOf text sd d m ≡ page r (lineOf text sd l ++ (entryOf text sd (kindSent u) (r .number) job ∷ []))
+      (notesOf text d l) (suc (getD l 6 0)) (not (eqb (getD l 5 0) 0)) (powerOf (getD l 4 0))
   pub sound : Sound d m
 
-pub sends-one : (text : Side → ℕ → Body) (sd : Side) (d : ℕ → Decision) (l : List ℕ) (u : Call) (r : Holds) (job : ℕ) → Sound d l → sent l u r job .rule ≡ 0
+pub sends-one : (text : Side → ℕ → Body) (sd : Side) (d : ℕ → Decision) (l : List ℕ) (u : Call) (r : Holds) (job : ℕ)
+    → Sound d l → sent l u r job .rule ≡ 0
     → SendsOne text sd d l (sent l u r job .here) u r job
 unfolding sent
 sends-one text sd d l u r job s h =
@@ -104,8 +109,10 @@ sends-one text sd d l u r job s h =
     let a = puts-one text sd d x (kindSent u) (r .number) job n (roomy (putOnLine x (kindSent u) (r .number) job .answer) h) in
     record {
       page-is =
-          page-path (held-same x m (λ (i : ℕ) (p : 0 ≤ i) (v : i < 4). a .low i p (omega (arith, v))) ∙ held-back l r (omega (arith, s .full)))
-          (a .line ∙ ap (λ (t : List (Numbered Ent)). t ++ (entryOf text sd (kindSent u) (r .number) job ∷ [])) (low-line d l x s text sd lists))
+          page-path (held-same x m (λ (i : ℕ) (p : 0 ≤ i) (v : i < 4). a .low i p (omega (arith, v))) ∙ held-back l r
+          (omega (arith, s .full)))
+          (a .line ∙ ap (λ (t : List (Numbered Ent)). t ++ (entryOf text sd (kindSent u) (r .number) job ∷ []))
+          (low-line d l x s text sd lists))
           (a .notes ∙ low-notes d l x s text lists)
           (a .unsent ∙ ap suc (high 6 (omega arith) (omega arith)))
           (ap (λ (v : ℕ). not (eqb v 0)) (a .low 5 (omega arith) (omega arith) ∙ high 5 (omega arith) (omega arith)))
@@ -139,7 +146,8 @@ module _ (text : Side → ℕ → Body) (sd : Side) (d : ℕ → Decision) (l : 
   member-there =
       let n : ℕ = getD l 8 0 in
       let x : List ℕ = set l (3088 + n) job in
-      let g : getD m₀ (3088 + n) 0 ≡ job = get-other x 8 (3088 + n) (n + 1) (λ (e : 3088 + n ≡ 8). omega (arith, e)) ∙ get-same l (3088 + n) job (omega (arith, s .full, room)) in
+      let g : getD m₀ (3088 + n) 0 ≡ job = get-other x 8 (3088 + n) (n + 1) (λ (e : 3088 + n ≡ 8). omega (arith, e)) ∙
+      get-same l (3088 + n) job (omega (arith, s .full, room)) in
       ap (λ (v : Bool). cond (ltb 4294967296 3088) 0 (cond v 0 (getD m₀ (3088 + n) 0))) (le-ltb 4294967296 n (omega (arith, room))) ∙ g
 
   among-more : (j : ℕ) → among m₀ 3088 (getD m₀ 8 0) j ≡ (among l 3088 (getD l 8 0) j || eqb job j)
@@ -150,24 +158,30 @@ module _ (text : Side → ℕ → Body) (sd : Side) (d : ℕ → Decision) (l : 
       let q : getD m₀ 8 0 ≡ suc n = get-same x 8 (n + 1) (omega (arith, s .full, p)) ∙ omega arith in
       ap (λ (k : ℕ). among m₀ 3088 k j) q
       ∙ ap (λ (b : Bool). b || eqb (member m₀ 3088 n) j)
-      (among-same l m₀ 3088 j n (λ (i : ℕ) (u : 3088 ≤ i) (v : i < 3088 + n). same-above x 8 (n + 1) 3088 (3088 + n) (omega arith) i u v ∙ same-below l (3088 + n) job 3088 i u v))
+      (among-same l m₀ 3088 j n (λ (i : ℕ) (u : 3088 ≤ i) (v : i < 3088 + n). same-above x 8 (n + 1) 3088 (3088 + n)
+      (omega arith) i u v ∙ same-below l (3088 + n) job 3088 i u v))
       ∙ ap (λ (v : ℕ). among l 3088 n j || eqb v j) member-there
 
   known-more : (j : ℕ) → isDecided (decide job c d j) ≡ among m₀ 3088 (getD m₀ 8 0) j
   known-more j = go (eqb j job) refl ∙ sym (among-more j)
     where
       go : (b : Bool) → eqb j job ≡ b → isDecided (cond b c (d j)) ≡ (among l 3088 (getD l 8 0) j || eqb job j)
-      go true e = yes ∙ sym (ap (λ (v : Bool). among l 3088 (getD l 8 0) j || v) (eq-eqb job j (sym (eqb-true j job e))) ∙ or-true (among l 3088 (getD l 8 0) j))
-      go false e = s .known j ∙ sym (ap (λ (v : Bool). among l 3088 (getD l 8 0) j || v) (ne-eqb job j (λ (w : job ≡ j). eqb-false j job e (sym w))) ∙ or-false (among l 3088 (getD l 8 0) j))
+      go true e = yes ∙ sym (ap (λ (v : Bool). among l 3088 (getD l 8 0) j || v)
+          (eq-eqb job j (sym (eqb-true j job e))) ∙ or-true (among l 3088 (getD l 8 0) j))
+      go false e = s .known j ∙ sym (ap (λ (v : Bool). among l 3088 (getD l 8 0) j || v)
+          (ne-eqb job j (λ (w : job ≡ j). eqb-false j job e (sym w))) ∙ or-false (among l 3088 (getD l 8 0) j))
 
   decides-there : Decides text sd d (decide job c d) l m₀
   decides-there =
       let n : ℕ = getD l 8 0 in
       let x : List ℕ = set l (3088 + n) job in
       let p = length-set l (3088 + n) job in
-      let low : Same l m₀ 0 8 = λ (i : ℕ) (u : 0 ≤ i) (v : i < 8). same-below x 8 (n + 1) 0 i u v ∙ same-below l (3088 + n) job 0 i u (omega (arith, v)) in
-      let mid : Same l m₀ 9 3088 = λ (i : ℕ) (u : 9 ≤ i) (v : i < 3088). same-above x 8 (n + 1) 9 3088 (omega arith) i u v ∙ same-below l (3088 + n) job 9 i u (omega (arith, v)) in
-      let top : Same l m₀ 19472 53264 = λ (i : ℕ) (u : 19472 ≤ i) (v : i < 53264). same-above x 8 (n + 1) 19472 53264 (omega arith) i u v ∙ same-above l (3088 + n) job 19472 53264 (omega (arith, room)) i u v in
+      let low : Same l m₀ 0 8 = λ (i : ℕ) (u : 0 ≤ i) (v : i < 8). same-below x 8 (n + 1) 0 i u v ∙ same-below l
+      (3088 + n) job 0 i u (omega (arith, v)) in
+      let mid : Same l m₀ 9 3088 = λ (i : ℕ) (u : 9 ≤ i) (v : i < 3088). same-above x 8 (n + 1) 9 3088 (omega arith) i
+      u v ∙ same-below l (3088 + n) job 9 i u (omega (arith, v)) in
+      let top : Same l m₀ 19472 53264 = λ (i : ℕ) (u : 19472 ≤ i) (v : i < 53264). same-above x 8 (n + 1) 19472 53264
+      (omega arith) i u v ∙ same-above l (3088 + n) job 19472 53264 (omega (arith, room)) i u v in
       let q : getD m₀ 8 0 ≡ n + 1 = get-same x 8 (n + 1) (omega (arith, s .full, p)) in
       let g4 = low 4 (omega arith) (omega arith) in
       let g5 = low 5 (omega arith) (omega arith) in
@@ -177,7 +191,8 @@ module _ (text : Side → ℕ → Body) (sd : Side) (d : ℕ → Decision) (l : 
       let notes = notes-stay d l m₀ s text (λ (i : ℕ) (u : 9 ≤ i) (v : i < 11). mid i u (omega (arith, v))) top in
       record {
         held = held-same l m₀ (λ (i : ℕ) (u : 0 ≤ i) (v : i < 4). low i u (omega (arith, v)));
-        line = line-stays d l m₀ s text sd (λ (i : ℕ) (u : 7 ≤ i) (v : i < 8). low i (omega arith) v) (λ (i : ℕ) (u : 16 ≤ i) (v : i < 3088). mid i (omega (arith, u)) v);
+        line = line-stays d l m₀ s text sd (λ (i : ℕ) (u : 7 ≤ i) (v : i < 8). low i (omega arith) v)
+            (λ (i : ℕ) (u : 16 ≤ i) (v : i < 3088). mid i (omega (arith, u)) v);
         opened-same = ap (λ (v : Notes). v .opened) notes;
         notices-same′ = ap (λ (v : Notes). v .notices) notes;
         low = low;
@@ -194,7 +209,8 @@ module _ (text : Side → ℕ → Body) (sd : Side) (d : ℕ → Decision) (l : 
             };
       }
 
-pub decides-one : (text : Side → ℕ → Body) (sd : Side) (d : ℕ → Decision) (l : List ℕ) (job : ℕ) (c : Decision) → isDecided c ≡ true → Sound d l
+pub decides-one : (text : Side → ℕ → Body) (sd : Side) (d : ℕ → Decision) (l : List ℕ) (job : ℕ) (c : Decision)
+    → isDecided c ≡ true → Sound d l
     → pushed l 8 3088 16384 job .answer ≡ true → Decides text sd d (decide job c d) l (pushed l 8 3088 16384 job .page)
 decides-one text sd d l job c y s w =
     let a = put-pushed l 8 3088 16384 job w in
@@ -218,19 +234,24 @@ module _ (text : Side → ℕ → Body) (sd : Side) (d : ℕ → Decision) (l : 
       let n : ℕ = getD l 9 0 in
       let x : List ℕ = set l (19472 + n) job in
       let p = length-set l (19472 + n) job in
-      let low : Same l o₀ 0 9 = λ (i : ℕ) (u : 0 ≤ i) (v : i < 9). same-below x 9 (n + 1) 0 i u v ∙ same-below l (19472 + n) job 0 i u (omega (arith, v)) in
-      let mid : Same l o₀ 10 (19472 + n) = λ (i : ℕ) (u : 10 ≤ i) (v : i < 19472 + n). same-above x 9 (n + 1) 10 (19472 + n) (omega arith) i u v ∙ same-below l (19472 + n) job 10 i u v in
-      let top : Same l o₀ 20496 53264 = λ (i : ℕ) (u : 20496 ≤ i) (v : i < 53264). same-above x 9 (n + 1) 20496 53264 (omega arith) i u v ∙ same-above l (19472 + n) job 20496 53264 (omega (arith, room)) i u v in
+      let low : Same l o₀ 0 9 = λ (i : ℕ) (u : 0 ≤ i) (v : i < 9). same-below x 9 (n + 1) 0 i u v ∙ same-below l
+      (19472 + n) job 0 i u (omega (arith, v)) in
+      let mid : Same l o₀ 10 (19472 + n) = λ (i : ℕ) (u : 10 ≤ i) (v : i < 19472 + n). same-above x 9 (n + 1) 10
+      (19472 + n) (omega arith) i u v ∙ same-below l (19472 + n) job 10 i u v in
+      let top : Same l o₀ 20496 53264 = λ (i : ℕ) (u : 20496 ≤ i) (v : i < 53264). same-above x 9 (n + 1) 20496 53264
+      (omega arith) i u v ∙ same-above l (19472 + n) job 20496 53264 (omega (arith, room)) i u v in
       let q : getD o₀ 9 0 ≡ n + 1 = get-same x 9 (n + 1) (omega (arith, s .full, p)) in
       let q′ : getD o₀ 9 0 ≡ suc n = q ∙ omega arith in
-      let g : getD o₀ (19472 + n) 0 ≡ job = get-other x 9 (19472 + n) (n + 1) (λ (e : 19472 + n ≡ 9). omega (arith, e)) ∙ get-same l (19472 + n) job (omega (arith, s .full, room)) in
+      let g : getD o₀ (19472 + n) 0 ≡ job = get-other x 9 (19472 + n) (n + 1) (λ (e : 19472 + n ≡ 9). omega (arith, e))
+      ∙ get-same l (19472 + n) job (omega (arith, s .full, room)) in
       let g4 = low 4 (omega arith) (omega arith) in
       let g5 = low 5 (omega arith) (omega arith) in
       let g7 = low 7 (omega arith) (omega arith) in
       let g8 = low 8 (omega arith) (omega arith) in
       let g10 = mid 10 (omega arith) (omega arith) in
       record {
-        line = line-stays d l o₀ s text sd (λ (i : ℕ) (u : 7 ≤ i) (v : i < 8). low i (omega arith) (omega (arith, v))) (λ (i : ℕ) (u : 16 ≤ i) (v : i < 3088). mid i (omega (arith, u)) (omega (arith, v)));
+        line = line-stays d l o₀ s text sd (λ (i : ℕ) (u : 7 ≤ i) (v : i < 8). low i (omega arith) (omega (arith, v)))
+            (λ (i : ℕ) (u : 16 ≤ i) (v : i < 3088). mid i (omega (arith, u)) (omega (arith, v)));
         jobs =
             ap (λ (k : ℕ). jobsFrom o₀ k 19472) q′
             ∙ jobs-more o₀ n 19472
@@ -247,7 +268,9 @@ module _ (text : Side → ℕ → Body) (sd : Side) (d : ℕ → Decision) (l : 
               decided = omega (arith, g8, s .decided);
               opened = omega (arith, q, room);
               notices = omega (arith, g10, s .notices);
-              known = λ (j : ℕ). s .known j ∙ sym (decided-stays d l o₀ s (λ (i : ℕ) (u : 8 ≤ i) (v : i < 9). low i (omega arith) v) (λ (i : ℕ) (u : 3088 ≤ i) (v : i < 19472). mid i (omega (arith, u)) (omega (arith, v))) j);
+              known = λ (j : ℕ). s .known j ∙ sym (decided-stays d l o₀ s
+                  (λ (i : ℕ) (u : 8 ≤ i) (v : i < 9). low i (omega arith) v)
+                  (λ (i : ℕ) (u : 3088 ≤ i) (v : i < 19472). mid i (omega (arith, u)) (omega (arith, v))) j);
               powered = omega (arith, g4, s .powered);
               rests = λ (e : getD o₀ 4 0 ≡ 2). g5 ∙ s .rests (sym g4 ∙ e);
             };

@@ -99,7 +99,8 @@ module _ (text : Side → ℕ → Body) (sd : Side) where
       ap (λ (x : ℕ). entryOf text sd x c e) p ∙ ap (λ (x : ℕ). entryOf text sd b x e) q ∙ ap (λ (x : ℕ). entryOf text sd b d x) r
 
   -- three fields are the entry
-  pub entry-fields : (l m : List ℕ) (i j : ℕ) → ((f : ℕ) → f ≤ 2 → entryIn m i f ≡ entryIn l j f) → entryAt text sd m i ≡ entryAt text sd l j
+  pub entry-fields : (l m : List ℕ) (i j : ℕ) → ((f : ℕ) → f ≤ 2 → entryIn m i f ≡ entryIn l j f)
+      → entryAt text sd m i ≡ entryAt text sd l j
   entry-fields l m i j h = entry-path (h 0 (omega arith)) (h 1 (omega arith)) (h 2 (omega arith))
 
   pub line-fields : (l m : List ℕ) (k i j : ℕ) → ((n f : ℕ) → n < k → f ≤ 2 → entryIn m (i + n) f ≡ entryIn l (j + n) f)

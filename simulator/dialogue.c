@@ -119,13 +119,19 @@ static uint64_t number_given(const struct end *to, const struct entry *e)
     return fault(FORGETS_NUMBERS) ? number(to) + (e->primitive.kind == PEAT_D_START_REQUEST) : e->primitive.number;
 }
 
-/* A primitive that one end invoked reaches the other, with user data where it has any. */
-static struct peat_answer arrives(struct end *to, const struct entry *e)
+/* what is handed over of it */
+static struct peat_primitive handed(const struct end *to, const struct entry *e)
 {
     struct peat_primitive came = e->primitive;
     came.number = number_given(to, e);
     if (fault(DROPS_VERSIONS))
         came.version = PEAT_NO_VERSION;
+    return came;
+}
+
+/* A primitive that one end invoked reaches the other, with user data where it has any. */
+static struct peat_answer arrives(struct end *to, const struct entry *e, struct peat_primitive came)
+{
     return peat_hand_over(REC(to), came, to->peer->setting.side == PEAT_AIR ? PEAT_AIRCRAFT : PEAT_FACILITY, e->apdu, BUFFERS);
 }
 
@@ -134,7 +140,7 @@ static struct peat_answer arrives(struct end *to, const struct entry *e)
 static void discard(struct end *to, const struct entry *e)
 {
     story_arrives(to->peer, e, 1);
-    moves_hears(to, e, e->primitive.number);
+    moves_hears(to, e, &e->primitive);
     if (e->primitive.kind == PEAT_D_ABORT_REQUEST && e->primitive.number == number(to))
         end_settles(to, BROKEN);
     moves_nothing_kept(to);
@@ -154,9 +160,10 @@ static void stale(struct end *to, const struct entry *e)
 
 static void receive(struct end *to, const struct entry *e)
 {
-    struct peat_answer answer = arrives(to, e);
+    const struct peat_primitive came = handed(to, e);
+    struct peat_answer answer = arrives(to, e, came);
     char what[64];
-    moves_hears(to, e, number_given(to, e));
+    moves_hears(to, e, &came);
     if (peat_refusal(answer) == PEAT_STALE) {
         stale(to, e);
         return;

@@ -103,6 +103,8 @@ static void keep(struct end *e, const struct change *c, const struct call *call)
         exit(2);
     }
     memory_apply(&e->memory, c);
+    if (call != NULL)
+        moves_position(e, position_opens(call->by, call->answer), position_closes(call->by, call->answer));
     moves_kept(e, c, call != NULL ? call->answer : (struct peat_answer){0});
     watch_dialogue(e);
     if (call != NULL)
@@ -207,6 +209,7 @@ static void deliver(struct end *e, const uint8_t *message, unsigned bits)
     outbox_post(&m, fault(MIXES_KINDS) ? PEAT_ENVELOPE_TO_SEND : PEAT_ENVELOPE_DELIVERED, ++e->watch.delivered, bits, message);
     while (outbox_next(&m, &a, &l)) {
         recording_got(e, &l);
+        moves_posts(e, l.kind);
         if (l.kind == PEAT_ENVELOPE_DELIVERED)
             show(e, l.body, l.bits);
         else
@@ -254,7 +257,10 @@ static void tell(struct end *e, struct peat_answer answer)
         hear_beside(e, answer);
     switch (peat_told(answer)) {
     case PEAT_MESSAGE_INDICATION: hear(e, answer); break;
-    case PEAT_FORWARD_INDICATION: forward_shown(e, answer); break;
+    case PEAT_FORWARD_INDICATION:
+        moves_shows(e);
+        forward_shown(e, answer);
+        break;
     case PEAT_START_CONFIRMATION:
         account.opened += accepted;
         e->user.talking = (int)accepted;
@@ -306,13 +312,20 @@ static int breaks(struct peat_answer answer)
 /* whether a dialogue begins with this call */
 static int begins(struct peat_answer answer) { return peat_invoked(answer) == PEAT_D_START_REQUEST || peat_told(answer) == PEAT_START_INDICATION; }
 
-/* the number that the message of a flight deck replies to, where it is open */
-static unsigned number_replied(const struct end *e, struct peat_answer answer)
+/* The number that a message names: a flight deck's, the one that it replies to. What was told is recorded. */
+static unsigned number_named(const struct end *e, struct peat_answer answer)
 {
     static struct clearance c;
     uint8_t message[PEAT_BUFFER_LEAST];
     unsigned bits = message_told(e, answer, PEAT_ARRAY(message));
-    unsigned number = clearance_read(&c, PEAT_AIR, message, bits) ? clearance_numbered(&c, PEAT_AIR) : NO_NUMBER;
+    unsigned number = !is_air(e) && clearance_read(&c, PEAT_AIR, message, bits) ? clearance_numbered(&c, PEAT_AIR) : NO_NUMBER;
+    moves_told(e, message, bits, number);
+    return number;
+}
+
+/* the number that it replies to, where it is open */
+static unsigned number_replied(const struct end *e, unsigned number)
+{
     if (fault(CLOSES_ANOTHER_NUMBER) && number != NO_NUMBER)
         number ^= 1;
     return peat_book_job(PEAT_ARRAY(e->memory.book), number) != 0 ? number : NO_NUMBER;
@@ -322,13 +335,14 @@ static unsigned number_replied(const struct end *e, struct peat_answer answer)
    reply is shown. */
 static void keep_book(const struct end *e, struct change *c, struct peat_answer answer)
 {
+    unsigned named = peat_told(answer) == PEAT_MESSAGE_INDICATION ? number_named(e, answer) : NO_NUMBER;
     if (is_air(e))
         return;
     if (begins(answer))
         c->book = BOOK_EMPTIED;
     if (peat_told(answer) != PEAT_MESSAGE_INDICATION || fault(CLOSES_NONE))
         return;
-    c->number = number_replied(e, answer);
+    c->number = number_replied(e, named);
     if (c->number != NO_NUMBER)
         c->book = NUMBER_CLOSED;
 }
@@ -378,6 +392,7 @@ void end_forwards(struct end *e, uint64_t job, struct peat_answer answer)
 {
     struct change c = no_change(&e->memory);
     story_took(e, job, answer);
+    moves_forwards(e, job);
     c.job = job;
     conclude(e, &c, STARTS, answer);
 }
@@ -409,6 +424,7 @@ void end_shows_abort(struct end *e)
 {
     const struct call call = {NO_INVOCATION, {(uint64_t)PEAT_PROVIDER_ABORT_INDICATION << PEAT_TOLD_AT}};
     watch_position(e, &call);
+    moves_shows_closed(e);
 }
 
 /* ---- the power is back */

@@ -5,6 +5,7 @@
 #include "account.h"
 #include "chance.h"
 #include "faults.h"
+#include "moves.h"
 #include "notices.h"
 #include "power.h"
 #include "story.h"
@@ -33,6 +34,7 @@ int forward_begin(struct dialogue *link, int number, unsigned type, const char *
     if (end_begin(sender(link), number, &sends, receiver(link), folder) != 0 || end_begin(receiver(link), number, &gets, sender(link), folder) != 0)
         return -1;
     sender(link)->user.apart = LINKS;
+    moves_centres(sender(link));
     return 0;
 }
 
@@ -105,6 +107,7 @@ static void decide(struct end *e, uint64_t job)
     }
     power_point(e);
     broker_acknowledge(&e->broker, job);
+    moves_acknowledges(e, job);
 }
 
 /* The controller gives its broker a forward, and the broker hands one out. It waits for its turn, and for a record that is IDLE. */

@@ -47,6 +47,7 @@ static struct peat_answer request(struct end *e, uint64_t job, unsigned number, 
     if (!is_plain(e))
         data.check = check, data.check_len = sizeof check, data.check_bits = 8 * sizeof check;
     recording_asked(c.bit, c.bits);
+    moves_asked(e, c.bit, c.bits);
     data.message_len = (c.bits + 7) / 8;
     data.message_bits = c.bits - (unsigned)fault(DROPS_A_BIT);
     return peat_message_request(REC(e), job, PEAT_DATA(data), BUFFERS);

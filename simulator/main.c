@@ -168,7 +168,7 @@ int main(int argc, char **argv)
         return fail("it can not be written", o.pcap);
     if (o.record != NULL && recording_begin(o.record) != 0)
         return fail("no recordings can be written there", o.record);
-    if (o.moves != NULL && moves_begin(o.moves, DIALOGUES) != 0)
+    if (o.moves != NULL && moves_begin(o.moves) != 0)
         return fail("no moves can be written there", o.moves);
     chance_begin(o.seed);
     if (begin(o.state != NULL ? o.state : made, o.type) != 0)

@@ -28,7 +28,7 @@ static void usage(FILE *to)
           "  --pcap-pad     with it, the bytes that tshark 4.0 needs to show a D-END and a D-ABORT\n"
           "  --type 2|22    every dialogue and link of one application type (without it both, side by side)\n"
           "  --record DIR   writes recordings of both ends to DIR/air and DIR/ground, for peat-compare\n"
-          "  --moves DIR    writes the moves of each dialogue's two hosts to DIR/00 .. DIR/47, for replay\n"
+          "  --moves DIR    writes the moves of each dialogue's two hosts to DIR/00 .. DIR/47, and of each link's to DIR/48 .. DIR/55, for replay\n"
           "  --state DIR    keeps the journals in DIR, which must be empty; without it in a folder that is removed\n"
           "  --version      the version\n"
           "  --fault NAME   runs a host that is wrong on purpose:",

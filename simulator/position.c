@@ -20,9 +20,13 @@ static int closed_by(struct peat_answer answer)
     }
 }
 
+int position_opens(enum invocation by, struct peat_answer answer) { return by == STARTS || opened_by(answer); }
+
+int position_closes(enum invocation by, struct peat_answer answer) { return by == CLOSES || closed_by(answer); }
+
 void position_shows(struct position *p, enum invocation by, struct peat_answer answer)
 {
-    int opens = by == STARTS || opened_by(answer), closes = by == CLOSES || closed_by(answer);
+    int opens = position_opens(by, answer), closes = position_closes(by, answer);
     account.abort_after_call += (p->called || by == CLOSES) && aborts(answer);
     account.closed_wrong += (opens && closes) || (opens && p->activations > 0 && p->since != 1);
     account.activations += (unsigned long)opens;

@@ -17,6 +17,10 @@ struct position {
     int called;          /* the last closing was a call of its user, and no activation came since */
 };
 
+/* what an event does to what it shows: it opens the dialogue, it closes it */
+int position_opens(enum invocation by, struct peat_answer answer);
+int position_closes(enum invocation by, struct peat_answer answer);
+
 /* It is shown an event: what its user invoked, and what the answer of the call told. */
 void position_shows(struct position *p, enum invocation by, struct peat_answer answer);
 

@@ -12,13 +12,22 @@ import subprocess
 import sys
 import tempfile
 
-IDLE, START_REQ, START_IND, DIALOGUE, END = range(5)
-CARD, CARRIER, UNREAD = 20, 21, 22
-SAYS = {CARD: "the card does not do this", CARRIER: "the carrier does not do this", UNREAD: "the line can not be read"}
+IDLE, START_REQ, START_IND, DIALOGUE, END, FORWARD = range(6)
+CARD, CARRIER, UNREAD, ANOTHER, KIND, BEHIND = 20, 21, 22, 24, 25, 26
+SAYS = {CARD: "the card does not do this", CARRIER: "the carrier does not do this", UNREAD: "the line can not be read", ANOTHER: "the message is another",
+        KIND: "the envelope is not one", BEHIND: "this line stands behind another"}
+DELIVERED = 2  # the kind of an envelope with a delivered message
+NUMBERS = 64  # of a book
 NEEDS = {"from": 4, "takes": 1, "refuses": 1, "acknowledges": 1, "tells-refused": 2, "tells-ended": 2, "tells-broken": 2, "starts-cpdlc": 1, "starts-dsc": 1, "accepts-start": 0,
          "rejects-start": 0, "asks-end": 0, "accepts-end": 0, "rejects-end": 0, "aborts": 1, "expires": 1, "error": 1, "turned-back": 0, "shows": 0, "sends": 0, "released": 0,
          "gives-up": 0, "power-fails": 0, "cut-off": 0, "carrier-fails": 0, "record": 4, "quiet": 0, "hears-start": 2, "hears-start-accepted": 2, "hears-start-rejected": 2,
-         "hears-data": 3, "hears-end": 2, "hears-end-accepted": 2, "hears-end-rejected": 2, "hears-abort": 2, "hears-end-confirmed": 2}
+         "hears-data": 3, "hears-end": 2, "hears-end-accepted": 2, "hears-end-rejected": 2, "hears-abort": 2, "hears-end-confirmed": 2,
+         "bits": 1, "reason": 1, "posts": 1, "opens": 1, "replies": 1, "closes": 1, "discards": 1, "opened": 0, "closed": 0,
+         "centre": 3, "forwards": 2, "hears-forward": 2, "hears-answer": 1, "tells-answered": 3}
+SAID = {"bits", "reason", "posts", "opens", "replies", "closes", "discards", "opened", "closed"}  # no moves: they say something of one
+OF_LINKS = {"forwards", "hears-forward", "hears-answer", "tells-answered"}
+OF_DIALOGUES = {"takes", "starts-cpdlc", "starts-dsc", "accepts-start", "rejects-start", "asks-end", "accepts-end", "rejects-end", "hears-start", "hears-start-accepted",
+                "hears-start-rejected", "hears-data", "hears-end", "hears-end-accepted", "hears-end-rejected", "hears-end-confirmed"}
 LINE = re.compile(r"([ag]) ([a-z-]+)((?: [0-9]+)*)")
 
 
@@ -31,6 +40,7 @@ class End:
         self.side, self.state, self.dsc, self.number, self.highest = side, IDLE, False, number, highest
         self.line, self.decided, self.open, self.notices = [], set(), [], []
         self.unsent, self.power, self.waiting = 0, "up", False
+        self.watch = Watch()
 
     def may_start(self, dsc):
         return self.side == "a" or not dsc
@@ -50,6 +60,25 @@ class End:
         self.unsent += 1
 
 
+class Watch:
+    """What the lines that are no moves said of an end."""
+
+    def __init__(self):
+        self.last, self.job = "", 0  # the last move, and its job
+        self.known = {}  # of a job: the digest of its message, or the reason of its refusal
+        self.book, self.book_of, self.reply = set(), 0, None
+        self.is_shown, self.was_open, self.was_closed = False, False, False
+
+    def moved(self, word, numbers):
+        self.last = word
+        self.job = numbers[2] if word == "hears-data" else numbers[1] if word == "tells-refused" else numbers[0] if word in ("takes", "refuses") else 0
+
+    def look(self, end):
+        closed = end.state == IDLE or end.power != "up"
+        self.was_open |= not closed
+        self.was_closed |= closed
+
+
 def need(right, rule):
     if not right:
         raise Breaks(rule)
@@ -58,6 +87,7 @@ def need(right, rule):
 class Model:
     def __init__(self):
         self.ends, self.broken, self.starts = None, set(), None
+        self.links, self.whole = False, False  # two centres; both have said what they are
 
     def abort(self, end, left):
         end.close()
@@ -77,13 +107,45 @@ class Model:
         side, word, numbers = found.group(1), found.group(2), [int(n) for n in found.group(3).split()]
         need(len(numbers) == NEEDS[word] and all(n < 2 ** 64 for n in numbers), UNREAD)
         if self.ends is None:
-            need(word == "from", UNREAD)
-            need(numbers[0] >= numbers[2] if side == "a" else numbers[2] >= numbers[0], 12)
-            self.starts, self.ends = side, {"a": End("a", *numbers[:2]), "g": End("g", *numbers[2:])}
+            self.first(side, word, numbers)
             return
-        need(word != "from", UNREAD)
         here, there = self.ends[side], self.ends["g" if side == "a" else "a"]
-        if word.startswith("hears-"):
+        if self.links and not self.whole:
+            need(word == "centre" and side != self.starts, UNREAD)
+            need(numbers[0] <= there.number, 12)
+            here.number, here.version, here.answers = numbers
+            self.whole = True
+            return
+        need(word not in ("from", "centre"), UNREAD)
+        if word in SAID:
+            getattr(self, "says_" + word)(here, there, *numbers)
+            return
+        need(here.watch.reply is None, 11)
+        need(word not in (OF_DIALOGUES if self.links else OF_LINKS), CARD)
+        self.moves(here, there, side, word, numbers)
+        here.watch.moved(word, numbers)
+        for end in (here, there):
+            end.watch.look(end)
+
+    def first(self, side, word, numbers):
+        need(word in ("from", "centre"), UNREAD)
+        self.starts = side
+        if word == "from":
+            need(numbers[0] >= numbers[2] if side == "a" else numbers[2] >= numbers[0], 12)
+            self.ends = {"a": End("a", *numbers[:2]), "g": End("g", *numbers[2:])}
+            return
+        self.links, self.ends = True, {"a": End("a", 0, 0), "g": End("g", 0, 0)}
+        end = self.ends[side]
+        end.number, end.version, end.answers = numbers
+
+    def moves(self, here, there, side, word, numbers):
+        need(not self.links or word != "released", 4)
+        if word in ("hears-forward", "hears-answer") or self.links and word in ("aborts", "expires", "turned-back", "sends", "cut-off", "hears-abort"):
+            getattr(self, "link_" + word.replace("-", "_"))(here, there, *numbers)
+        elif word == "tells-answered":
+            need(here.power != "down", 3)
+            need(1 <= numbers[0] <= len(here.notices) and here.notices[numbers[0] - 1] == (numbers[1], numbers[2]), 4)
+        elif word.startswith("hears-"):
             need(word != "hears-start" or side != self.starts, 17)
             self.ready(here)
             self.hears(here, there, word[6:], *numbers)
@@ -161,7 +223,10 @@ class Model:
     def error(self, here, there, word, left):
         need(here.power != "down", 3)
         if here.state != IDLE and here.power == "up":
-            self.aborts(here, there, word, left)
+            if self.links:
+                self.link_aborts(here, there, left)
+            else:
+                self.aborts(here, there, word, left)
 
     def turned(self, here, there, word):
         self.ready(here)
@@ -254,6 +319,145 @@ class Model:
 
     def quiet(self, here, there, word):
         need(not here.line and not there.line, CARRIER)
+
+    # ---- two centres
+
+    def forwards(self, here, there, word, job, number):
+        self.ready(here)
+        need(here.side == self.starts, 12)
+        need(job not in here.decided, 13)
+        need(number > here.number, 12)
+        need(here.state == IDLE, CARD)
+        here.decided.add(job)
+        here.open.append(job)
+        here.number, here.state = number, FORWARD
+        here.put("starts", job)
+
+    def arrived(self, here, there, kinds, number):
+        self.ready(here)
+        need(len(there.line) > there.unsent, 7)
+        need(there.line[0][0] in kinds, 7)
+        need(there.line[0][1] == number, 12)
+
+    def link_hears_forward(self, here, there, number, version):
+        need(here.side != self.starts, 17)
+        self.arrived(here, there, ("starts",), number)
+        need(version == there.version, 15)
+        there.line.pop(0)
+        if number <= here.number:
+            return
+        here.number = number
+        result = 1 if not here.answers else 2 if here.version != version else 0
+        here.put(result)
+        here.waiting = result == 0
+
+    def link_hears_answer(self, here, there, number):
+        self.arrived(here, there, (0, 1, 2), number)
+        result = there.line.pop(0)[0]
+        if here.state == FORWARD and number == here.number:
+            here.close()
+            here.tell(result)
+
+    def link_hears_abort(self, here, there, number, left):
+        self.arrived(here, there, ("abort",), number)
+        there.line.pop(0)
+        if here.state == FORWARD and number == here.number:
+            here.close()
+            here.tell("broken")
+
+    def link_aborts(self, here, there, left):
+        self.ready(here)
+        need(here.state == FORWARD, CARD)
+        self.abort(here, left)
+
+    link_expires = link_aborts
+
+    def link_turned_back(self, here, there):
+        self.ready(here)
+        starts = [e for e in here.line if e[0] == "starts" and e[1] == here.number]
+        need(here.state == FORWARD and starts, CARRIER)
+        here.line.remove(starts[0])
+        here.close()
+        here.tell("broken")
+
+    def link_sends(self, here, there):
+        need(here.power == "up", 3)
+        need(not here.waiting, 14)
+        need(here.unsent > 0, 1)
+        here.unsent -= 1
+
+    @staticmethod
+    def link_cut_off(here, there):
+        if here.power != "apart":
+            here.tell("broken")
+            here.power = "apart"
+
+    # ---- what is said of a move
+
+    @staticmethod
+    def says_bits(here, there, digest):
+        watch = here.watch
+        need(watch.last in ("takes", "hears-data"), BEHIND)
+        known = (here if watch.last == "takes" else there).watch.known
+        need(known.get(watch.job, digest) == digest, ANOTHER)
+        if watch.last == "takes":
+            known[watch.job] = digest
+
+    @staticmethod
+    def says_reason(here, there, reason):
+        watch = here.watch
+        need(watch.last in ("refuses", "tells-refused"), BEHIND)
+        need(watch.known.get(watch.job, reason) == reason, 4)
+        if watch.last == "refuses":
+            watch.known[watch.job] = reason
+
+    @staticmethod
+    def says_posts(here, there, kind):
+        need(here.watch.last == "shows", BEHIND)
+        need(kind == DELIVERED, KIND)
+
+    @staticmethod
+    def book(here):
+        """That of this dialogue."""
+        watch = here.watch
+        if watch.book_of != here.number:
+            watch.book, watch.book_of = set(), here.number
+        return watch.book
+
+    def says_opens(self, here, there, number):
+        need(here.watch.last == "takes", BEHIND)
+        book = self.book(here)
+        need(number < NUMBERS and number not in book, 11)
+        book.add(number)
+
+    def says_replies(self, here, there, number):
+        need(here.watch.last.startswith("hears-"), BEHIND)
+        need(here.watch.reply is None, 11)
+        if number in self.book(here):
+            here.watch.reply = number
+
+    def says_closes(self, here, there, number):
+        need(here.watch.reply == number, 11)
+        here.watch.reply = None
+        self.book(here).discard(number)
+
+    def says_discards(self, here, there, number):
+        need(here.watch.reply is None and number in self.book(here), 11)
+        self.book(here).discard(number)
+
+    @staticmethod
+    def says_opened(here, there):
+        watch = here.watch
+        need(not watch.is_shown and watch.was_open, 16)
+        watch.is_shown, watch.was_closed = True, False
+        watch.look(here)
+
+    @staticmethod
+    def says_closed(here, there):
+        watch = here.watch
+        need(watch.is_shown and watch.was_closed, 16)
+        watch.is_shown, watch.was_open = False, False
+        watch.look(here)
 
 
 def says(lines):

@@ -231,6 +231,57 @@ fn word_heard(s: &[u8], from: usize, to: usize) -> u64 {
     if same(s, from, to, b"hears-end-confirmed") {
         return 39;
     }
+    word_said(s, from, to)
+}
+
+// What is no move, and says something of one.
+fn word_said(s: &[u8], from: usize, to: usize) -> u64 {
+    if same(s, from, to, b"bits") {
+        return 40;
+    }
+    if same(s, from, to, b"reason") {
+        return 41;
+    }
+    if same(s, from, to, b"posts") {
+        return 42;
+    }
+    if same(s, from, to, b"opens") {
+        return 43;
+    }
+    if same(s, from, to, b"replies") {
+        return 44;
+    }
+    if same(s, from, to, b"closes") {
+        return 45;
+    }
+    if same(s, from, to, b"discards") {
+        return 46;
+    }
+    if same(s, from, to, b"opened") {
+        return 47;
+    }
+    if same(s, from, to, b"closed") {
+        return 48;
+    }
+    word_of_centres(s, from, to)
+}
+
+fn word_of_centres(s: &[u8], from: usize, to: usize) -> u64 {
+    if same(s, from, to, b"centre") {
+        return 50;
+    }
+    if same(s, from, to, b"forwards") {
+        return 51;
+    }
+    if same(s, from, to, b"hears-forward") {
+        return 52;
+    }
+    if same(s, from, to, b"hears-answer") {
+        return 53;
+    }
+    if same(s, from, to, b"tells-answered") {
+        return 54;
+    }
     0
 }
 
@@ -315,6 +366,18 @@ fn needed(word: u64) -> u64 {
         37 => 2,
         38 => 2,
         39 => 2,
+        40 => 1,
+        41 => 1,
+        42 => 1,
+        43 => 1,
+        44 => 1,
+        45 => 1,
+        46 => 1,
+        50 => 3,
+        51 => 2,
+        52 => 2,
+        53 => 1,
+        54 => 3,
         _ => 0,
     }
 }

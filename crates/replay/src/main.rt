@@ -5,10 +5,12 @@
 // Each line of FILE is a move of one of the two hosts, or shows something of it. The program makes the same moves on the model of which the theorem of the
 // duties holds, and names the first line that the model does not make, with the rule that it breaks; or says that every line is a move of the model.
 // A line has at most 127 bytes.
+mod forwards;
 mod lines;
 mod page;
 mod rules;
 mod steps;
+mod watched;
 
 use control::Call;
 use control::Reply;
@@ -29,6 +31,10 @@ fn new_page() -> [u64; 53264] {
 
 fn new_broken() -> [u64; 4097] {
     [0u64; 4097]
+}
+
+fn new_watch() -> [u64; 65792] {
+    [0u64; 65792]
 }
 
 fn say(words: &[u8]) {
@@ -139,10 +145,7 @@ fn move_on(here: &mut [u64], there: &mut [u64], broken: &mut [u64], may: bool, l
 
 // The first line says from which side all starts come, and what the two records hold at the beginning: number and highest job of the air's, of the ground's. The
 // end that starts has no lower number than the other.
-fn begin(air: &mut [u64], ground: &mut [u64], l: Line) -> u64 {
-    if l.word != 1 {
-        return Rule::UNREADABLE;
-    }
+fn begin_dialogue(air: &mut [u64], ground: &mut [u64], l: Line) -> u64 {
     if l.air && l.a < l.c {
         return 12;
     }
@@ -156,17 +159,107 @@ fn begin(air: &mut [u64], ground: &mut [u64], l: Line) -> u64 {
     0
 }
 
+// Of two centres the first line is that of the one that forwards, and the second that of the other.
+fn begin(air: &mut [u64], ground: &mut [u64], watch: &mut [u64], l: Line) -> u64 {
+    if l.word == 1 {
+        return begin_dialogue(air, ground, l);
+    }
+    if l.word != 50 {
+        return Rule::UNREADABLE;
+    }
+    if l.air {
+        forwards::join(air, watch, l);
+        return 0;
+    }
+    forwards::join(ground, watch, l);
+    0
+}
+
+fn begin_other(
+    air: &mut [u64],
+    ground: &mut [u64],
+    watch: &mut [u64],
+    from_air: bool,
+    l: Line,
+) -> u64 {
+    if l.word != 50 {
+        return Rule::UNREADABLE;
+    }
+    if l.air == from_air {
+        return Rule::UNREADABLE;
+    }
+    if l.air {
+        if get(ground, Place::NUMBER) < l.a {
+            return 12;
+        }
+        forwards::join(air, watch, l);
+        return 0;
+    }
+    if get(air, Place::NUMBER) < l.a {
+        return 12;
+    }
+    forwards::join(ground, watch, l);
+    0
+}
+
+// The end whose host makes the move comes first.
+fn make(
+    here: &mut [u64],
+    there: &mut [u64],
+    broken: &mut [u64],
+    watch: &[u64],
+    r: Run,
+    may: bool,
+    l: Line,
+) -> u64 {
+    if watched::owes(watch, l.air) {
+        return 11;
+    }
+    if r.centres {
+        return forwards::move_on(here, there, broken, watch, may, l);
+    }
+    if 49 < l.word {
+        return Rule::CARD;
+    }
+    move_on(here, there, broken, may, l)
+}
+
 fn advance(
     air: &mut [u64],
     ground: &mut [u64],
     broken: &mut [u64],
-    from_air: bool,
+    watch: &mut [u64],
+    r: Run,
     l: Line,
 ) -> u64 {
     if l.air {
-        return move_on(air, ground, broken, from_air, l);
+        if watched::is_said(l.word) {
+            return watched::says(watch, air, l);
+        }
+        return make(air, ground, broken, watch, r, r.from_air, l);
     }
-    move_on(ground, air, broken, !from_air, l)
+    if watched::is_said(l.word) {
+        return watched::says(watch, ground, l);
+    }
+    make(ground, air, broken, watch, r, !r.from_air, l)
+}
+
+fn go_on(
+    air: &mut [u64],
+    ground: &mut [u64],
+    broken: &mut [u64],
+    watch: &mut [u64],
+    r: Run,
+    l: Line,
+) -> u64 {
+    if l.word < 2 || l.word == 50 {
+        return Rule::UNREADABLE;
+    }
+    let rule = advance(air, ground, broken, watch, r, l);
+    if rule == 0 && !watched::is_said(l.word) {
+        watched::moved(watch, air, ground, l);
+    }
+    rule
 }
 
 // ---- the file
@@ -196,33 +289,47 @@ fn finish(r: Run) {
     agree(r.count);
 }
 
-// What is known between two lines: the side that starts; how many lines there were; how many bytes of the next one are there; whether it is over.
+// What is known between two lines: the side that starts, or forwards; that there are two centres; how many lines there were; how many bytes of the next one are
+// there; whether it is over.
 struct Run {
     from_air: bool,
+    centres: bool,
     count: u64,
     bytes: usize,
     over: bool,
 }
 
 // One line more.
-fn one_line(air: &mut [u64], ground: &mut [u64], broken: &mut [u64], r: Run, text: &[u8]) -> Run {
+fn one_line(
+    air: &mut [u64],
+    ground: &mut [u64],
+    broken: &mut [u64],
+    watch: &mut [u64],
+    r: Run,
+    text: &[u8],
+) -> Run {
     let l = lines::read(text);
     if r.count == 0 {
-        let rule = begin(air, ground, l);
-        return counted(r, l.air, rule, text);
+        let rule = begin(air, ground, watch, l);
+        return counted(r, l.air, l.word == 50, rule, text);
     }
-    let rule = advance(air, ground, broken, r.from_air, l);
-    counted(r, r.from_air, rule, text)
+    if r.centres && r.count == 1 {
+        let rule = begin_other(air, ground, watch, r.from_air, l);
+        return counted(r, r.from_air, true, rule, text);
+    }
+    let rule = go_on(air, ground, broken, watch, r, l);
+    counted(r, r.from_air, r.centres, rule, text)
 }
 
 // A line that breaks a rule is named, and that is the end.
-fn counted(r: Run, from_air: bool, rule: u64, text: &[u8]) -> Run {
+fn counted(r: Run, from_air: bool, centres: bool, rule: u64, text: &[u8]) -> Run {
     let count = next(r.count);
     if rule != 0 {
         name(count, rule, text);
     }
     Run {
         from_air,
+        centres,
         count,
         bytes: 0,
         over: rule != 0,
@@ -241,6 +348,7 @@ fn one_byte(
     air: &mut [u64],
     ground: &mut [u64],
     broken: &mut [u64],
+    watch: &mut [u64],
     text: &mut [u8],
     r: Run,
     x: u8,
@@ -248,7 +356,7 @@ fn one_byte(
     let n = r.bytes;
     if x == 10 {
         if n <= text.len() {
-            return one_line(air, ground, broken, r, &text[..n]);
+            return one_line(air, ground, broken, watch, r, &text[..n]);
         }
         return r;
     }
@@ -256,6 +364,7 @@ fn one_byte(
         text[n] = x;
         return Run {
             from_air: r.from_air,
+            centres: r.centres,
             count: r.count,
             bytes: n + 1,
             over: false,
@@ -264,6 +373,7 @@ fn one_byte(
     name(r.count, Rule::UNREADABLE, text);
     Run {
         from_air: r.from_air,
+        centres: r.centres,
         count: r.count,
         bytes: 0,
         over: true,
@@ -275,6 +385,7 @@ fn some(
     air: &mut [u64],
     ground: &mut [u64],
     broken: &mut [u64],
+    watch: &mut [u64],
     text: &mut [u8],
     r: Run,
     s: &[u8],
@@ -282,7 +393,7 @@ fn some(
     let mut run = r;
     let mut i: usize = 0;
     while i < s.len() {
-        run = one_byte(air, ground, broken, text, run, s[i]);
+        run = one_byte(air, ground, broken, watch, text, run, s[i]);
         if run.over {
             return run;
         }
@@ -297,11 +408,13 @@ fn read_on(
     air: &mut [u64],
     ground: &mut [u64],
     broken: &mut [u64],
+    watch: &mut [u64],
     text: &mut [u8],
     chunk: &mut [u8],
 ) {
     let mut run = Run {
         from_air: true,
+        centres: false,
         count: 0,
         bytes: 0,
         over: false,
@@ -313,7 +426,7 @@ fn read_on(
             finish(run);
             return;
         }
-        run = some(air, ground, broken, text, run, &chunk[..n]);
+        run = some(air, ground, broken, watch, text, run, &chunk[..n]);
         if run.over {
             return;
         }
@@ -326,6 +439,7 @@ fn replay(fd: i32) {
     let mut air = new_page();
     let mut ground = new_page();
     let mut broken = new_broken();
+    let mut watch = new_watch();
     let mut text = [0u8; 127];
     let mut chunk = io::large_buffer();
     read_on(
@@ -333,6 +447,7 @@ fn replay(fd: i32) {
         &mut air,
         &mut ground,
         &mut broken,
+        &mut watch,
         &mut text,
         &mut chunk,
     );

@@ -36,8 +36,8 @@ returns-2 c = search needs
 slice-write-text : tie.Need-slice-write-text
 slice-write-text c = search needs
 
-add-t21 : tie.Need-add-t21
-add-t21 c = search needs
+add-t24 : tie.Need-add-t24
+add-t24 c = search needs
 
 same-length-5 : tie.Need-same-length-5
 same-length-5 c = search needs
@@ -50,6 +50,9 @@ name-requires c κs = search needs
 
 same-length-6 : tie.Need-same-length-6
 same-length-6 c = search needs
+
+same-length-7 : tie.Need-same-length-7
+same-length-7 c = search needs
 
 returns-4 : tie.Need-returns-4
 returns-4 c = search needs
@@ -65,12 +68,13 @@ one-byte-spec =
     same-length-2
     same-length-3
     same-length-4
+    same-length-5
     returns
     returns-2
     slice-write-text
-    add-t21
-    same-length-5
+    add-t24
+    same-length-6
     returns-3
     name-requires
-    same-length-6
+    same-length-7
     returns-4)

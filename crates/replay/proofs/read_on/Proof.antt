@@ -7,10 +7,11 @@ use Rattle.replay.proofs.read_on.Statement.{statement}
 use Rattle.replay.proofs.read_on.Tie as tie
 
 abbrev Inv-loop : tie.InvT-loop
-Inv-loop fd air₀ ground₀ broken₀ text₀ chunk₀ run₀ left₀ t10 air ground broken text chunk run left = (length air ≡ length air₀) × (length ground ≡ length ground₀) × (length broken ≡ length broken₀) × (length text ≡ length text₀) × (length chunk ≡ length chunk₀)
+Inv-loop fd air₀ ground₀ broken₀ watch₀ text₀ chunk₀ run₀ left₀ t11 air ground broken watch text chunk run left =
+    (length air ≡ length air₀) × (length ground ≡ length ground₀) × (length broken ≡ length broken₀) × (length watch ≡ length watch₀) × (length text ≡ length text₀) × (length chunk ≡ length chunk₀)
 
 abbrev μ-loop : tie.MeasureT-loop
-μ-loop fd air₀ ground₀ broken₀ text₀ chunk₀ run₀ left₀ t10 air ground broken text chunk run left = left
+μ-loop fd air₀ ground₀ broken₀ watch₀ text₀ chunk₀ run₀ left₀ t11 air ground broken watch text chunk run left = left
 
 loop-holds : tie.Need-loop-holds Inv-loop μ-loop
 loop-holds c = search needs
@@ -96,6 +97,15 @@ same-length-14 c = search needs
 same-length-15 : tie.Need-same-length-15 Inv-loop μ-loop
 same-length-15 c = search needs
 
+same-length-16 : tie.Need-same-length-16 Inv-loop μ-loop
+same-length-16 c = search needs
+
+same-length-17 : tie.Need-same-length-17 Inv-loop μ-loop
+same-length-17 c = search needs
+
+same-length-18 : tie.Need-same-length-18 Inv-loop μ-loop
+same-length-18 c = search needs
+
 returns-3 : tie.Need-returns-3 Inv-loop μ-loop
 returns-3 c = search needs
 
@@ -113,24 +123,27 @@ read-on-spec =
     same-length-3
     same-length-4
     same-length-5
+    same-length-6
     returns
     slice-reshare-prefix-some
     slice-aggregate-some
     some-requires
-    same-length-6
     same-length-7
     same-length-8
     same-length-9
     same-length-10
+    same-length-11
+    same-length-12
     returns-2
     sub-left
     loop-less
     loop-again
     slice-aggregate-say
     say-requires
-    same-length-11
-    same-length-12
     same-length-13
     same-length-14
     same-length-15
+    same-length-16
+    same-length-17
+    same-length-18
     returns-3)

@@ -8,10 +8,11 @@ use Rattle.replay.proofs.some.Statement.{statement}
 use Rattle.replay.proofs.some.Tie as tie
 
 abbrev Inv-loop : tie.InvT-loop
-Inv-loop air₀ ground₀ broken₀ text₀ s run₀ i₀ air ground broken text run i = (length air ≡ length air₀) × (length ground ≡ length ground₀) × (length broken ≡ length broken₀) × (length text ≡ length text₀)
+Inv-loop air₀ ground₀ broken₀ watch₀ text₀ s run₀ i₀ air ground broken watch text run i =
+    (length air ≡ length air₀) × (length ground ≡ length ground₀) × (length broken ≡ length broken₀) × (length watch ≡ length watch₀) × (length text ≡ length text₀)
 
 abbrev μ-loop : tie.MeasureT-loop
-μ-loop air₀ ground₀ broken₀ text₀ s run₀ i₀ air ground broken text run i = length s - i
+μ-loop air₀ ground₀ broken₀ watch₀ text₀ s run₀ i₀ air ground broken watch text run i = length s - i
 
 loop-holds : tie.Need-loop-holds Inv-loop μ-loop
 loop-holds c = search needs
@@ -58,6 +59,12 @@ same-length-7 c = search needs
 same-length-8 : tie.Need-same-length-8 Inv-loop μ-loop
 same-length-8 c = search needs
 
+same-length-9 : tie.Need-same-length-9 Inv-loop μ-loop
+same-length-9 c = search needs
+
+same-length-10 : tie.Need-same-length-10 Inv-loop μ-loop
+same-length-10 c = search needs
+
 returns-2 : tie.Need-returns-2 Inv-loop μ-loop
 returns-2 c = search needs
 
@@ -74,12 +81,14 @@ some-spec =
     same-length-2
     same-length-3
     same-length-4
+    same-length-5
     returns
     add-i
     loop-less
     loop-again
-    same-length-5
     same-length-6
     same-length-7
     same-length-8
+    same-length-9
+    same-length-10
     returns-2)

@@ -44,7 +44,8 @@ void call_letter(struct bridge *b, const struct dialogue *d, const char *type, c
     post(b, d, type, "", heads, body, bytes);
 }
 
-static void post_envelope(
+/* Its kind is what the day says of it. */
+static unsigned post_envelope(
     struct bridge *b, const struct dialogue *d, const char *type, const char *heads, unsigned kind, uint64_t job, unsigned bits, const uint8_t *body)
 {
     uint8_t e[PEAT_BUFFER_LEAST];
@@ -52,6 +53,7 @@ static void post_envelope(
     if (peat_refusal(written) != PEAT_TAKEN)
         the_card_refuses("peat_write_envelope", peat_refusal(written));
     post(b, d, type, "", heads, e, peat_written_bytes(written));
+    return kind;
 }
 
 /* What became of the jobs taken in a dialogue that is over. Ended: all were handed to the flight deck. Broken: each may or
@@ -139,6 +141,16 @@ void call_add_refusal(char *heads, struct verdict v)
         call_add_number(heads, "x-peat-bit", v.position);
 }
 
+/* A reply ends the exchange of a number. */
+static void close_number(struct bridge *b, struct dialogue *d, unsigned number)
+{
+    day_keeps(d, "replies %u", number);
+    if (!book_close(d->kept.book, number))
+        return;
+    b->metrics.numbers_closed++;
+    day_keeps(d, "closes %u", number);
+}
+
 /* What a message that came down says of itself: its number, the job that it replies to, whose number it may close, and all of it as JSON. It is
    passed on also where the card can not read it; then the letter says why. */
 static void describe(struct bridge *b, struct dialogue *d, const uint8_t *bits, unsigned count, char *heads)
@@ -155,8 +167,8 @@ static void describe(struct bridge *b, struct dialogue *d, const uint8_t *bits, 
     job = message_replies(&m) ? book_job(d->kept.book, message_reference(&m)) : 0;
     if (job != 0)
         call_add_number(heads, "x-peat-job", job);
-    if (message_closes(&m) && book_close(d->kept.book, message_reference(&m)))
-        b->metrics.numbers_closed++;
+    if (message_closes(&m))
+        close_number(b, d, message_reference(&m));
     if (b->config->delivered_json) {
         message_json(&m, json, sizeof json);
         call_add_head(heads, "x-peat-json", json);
@@ -165,12 +177,14 @@ static void describe(struct bridge *b, struct dialogue *d, const uint8_t *bits, 
 
 void call_delivered(struct bridge *b, struct dialogue *d, const char *type, const char *heads, unsigned bits, const uint8_t *message)
 {
-    post_envelope(b, d, type, heads, PEAT_ENVELOPE_DELIVERED, ++d->kept.deliveries, bits, message);
+    d->day.posted = post_envelope(b, d, type, heads, PEAT_ENVELOPE_DELIVERED, ++d->kept.deliveries, bits, message);
 }
 
 /* The controllers get the message in an envelope, numbered among those of this dialogue's queue. */
-static void pass_message(struct bridge *b, struct dialogue *d, const uint8_t *message, unsigned bits, char *heads)
+static void pass_message(struct bridge *b, struct dialogue *d, struct peat_answer answer, const uint8_t *message, unsigned bits, char *heads)
 {
+    if (peat_told(answer) == PEAT_MESSAGE_INDICATION)
+        day_bits(d, message, bits);
     if (!b->config->opaque)
         describe(b, d, message, bits, heads);
     b->metrics.delivered++;
@@ -185,7 +199,7 @@ static void pass_on(struct bridge *b, struct dialogue *d, struct peat_answer ans
     struct peat_part_answer part;
     heads[0] = '\0';
     if (peat_record_type(d->kept.record) == PEAT_PLAIN) {
-        pass_message(b, d, call_data, peat_data_bits(answer), heads);
+        pass_message(b, d, answer, call_data, peat_data_bits(answer), heads);
         return;
     }
     part = peat_data_part(PEAT_PART_MESSAGE, call_data, peat_data_bytes(answer), message, sizeof message);
@@ -194,7 +208,7 @@ static void pass_on(struct bridge *b, struct dialogue *d, struct peat_answer ans
     if (!peat_part_given(part))
         return; /* a start or an end without one */
     given_write(call_data, peat_data_bytes(answer), heads, sizeof heads);
-    pass_message(b, d, message, peat_part_bits(part), heads);
+    pass_message(b, d, answer, message, peat_part_bits(part), heads);
 }
 
 static void keep_timer(struct bridge *b, struct dialogue *d)
@@ -412,6 +426,7 @@ void call_primitive(struct bridge *b, struct dialogue *d, const struct primitive
     answer = peat_hand_over(RECORD(d), p->is, PEAT_AIRCRAFT, p->data, BUFFERS);
     day_hears(d, p, answer);
     refusal = call_act(b, d, before, answer, "abort");
+    day_shows(d, answer);
     if (refusal == PEAT_STALE)
         b->metrics.stale++; /* of an old dialogue: it changes nothing */
     else if (refusal != PEAT_TAKEN)
@@ -423,12 +438,6 @@ void call_primitive(struct bridge *b, struct dialogue *d, const struct primitive
 }
 
 /* ---- jobs */
-
-static void note_refusal(struct dialogue *d, uint64_t job)
-{
-    day_keeps(d, "refuses %llu", (unsigned long long)job);
-    day_tells(d, "refused", job);
-}
 
 /* By the card's verdict: the letter has its number, its name, and the bit. */
 void call_refused(struct bridge *b, struct dialogue *d, uint64_t job, struct verdict v)
@@ -444,7 +453,7 @@ void call_refused(struct bridge *b, struct dialogue *d, uint64_t job, struct ver
     b->metrics.overtaken += v.refusal == PEAT_REPEAT; /* it is not decided, so it was never sent: a later job was */
     log_line(LOG_INFO, "refused", ABOUT(d), NUMBER("job", job), NUMBER("refusal", v.refusal));
     decide(b, d, job, v.refusal);
-    note_refusal(d, job);
+    day_refuses(d, job, v.refusal, number);
     post_envelope(b, d, "refused", heads, PEAT_ENVELOPE_REFUSAL, job, 8, &number);
 }
 
@@ -453,7 +462,7 @@ static void lay_aside(struct bridge *b, struct dialogue *d, const struct envelop
     if (e->kind == PEAT_ENVELOPE_TO_SEND)
         decide(b, d, e->job, LAID_ASIDE); /* its fate is told: it is not sent when it comes again */
     if (e->kind == PEAT_ENVELOPE_TO_SEND)
-        note_refusal(d, e->job);
+        day_refuses(d, e->job, LAID_ASIDE, LAID_ASIDE);
     call_dead(b, d, reason, bytes, count);
 }
 
@@ -461,6 +470,9 @@ static void lay_aside(struct bridge *b, struct dialogue *d, const struct envelop
 struct offer {
     struct peat_data data;
     uint8_t out[PEAT_BUFFER_LEAST], book[PEAT_BOOK_BYTES]; /* the message with its number, and the book with that number */
+    unsigned opens;                                        /* that number; BOOK_NONE: none stays open */
+    const uint8_t *asked;                                  /* the message that the envelope asks for, with its number */
+    unsigned asked_bits;
 };
 
 /* The message is read, and gets its number from the book: it stands there when the card has taken the job. A message with an integrity check
@@ -486,10 +498,12 @@ static struct verdict number_message(struct dialogue *d, const struct envelope *
         return v;
     }
     if (!own) {
-        o->data.message_bits = message_write(&m, number, o->out);
+        o->asked = o->out;
+        o->data.message_bits = o->asked_bits = message_write(&m, number, o->out);
         o->data.message_len = (o->data.message_bits + 7u) / 8u;
         o->data.message = o->out;
     }
+    o->opens = closes ? BOOK_NONE : number;
     if (closes)
         memcpy(o->book, d->kept.book, sizeof o->book); /* it allows no reply, so the number is in use until the message is sent (Doc 9705, 2.3.7.4.2.2) */
     return v;
@@ -518,6 +532,9 @@ static void offer(struct bridge *b, struct dialogue *d, const struct envelope *e
     o.data = (struct peat_data){.identifier = g->identifier, .identifier_len = g->identifier_len, .message = e->body, .message_len = (e->bits + 7u) / 8u,
         .message_bits = e->bits, .check = g->check, .check_len = (g->check_bits + 7u) / 8u, .check_bits = g->check_bits};
     memcpy(o.book, d->kept.book, sizeof o.book);
+    o.opens = BOOK_NONE;
+    o.asked = e->body;
+    o.asked_bits = e->bits;
     if (!b->config->opaque)
         v = number_message(d, e, heads, &o, why);
     if (*why != NULL)
@@ -527,6 +544,9 @@ static void offer(struct bridge *b, struct dialogue *d, const struct envelope *e
     if (v.refusal == PEAT_TAKEN) {
         memcpy(d->kept.book, o.book, sizeof o.book);
         call_taken(b, d, e->job);
+        day_bits(d, o.asked, o.asked_bits);
+        if (o.opens != BOOK_NONE)
+            day_keeps(d, "opens %u", o.opens);
     } else {
         call_refused(b, d, e->job, v);
     }

@@ -10,6 +10,7 @@
 
 #include "bridge.h"
 #include "calls.h"
+#include "digest.h"
 #include "log.h"
 
 #define LINE 96 /* more than a line has */
@@ -228,8 +229,31 @@ void day_hears(struct dialogue *d, const struct primitive *p, struct peat_answer
 {
     int taken = peat_refusal(answer) == PEAT_TAKEN;
     day_keeps(d, "hears-%s %llu%s", word_of(p, answer), (unsigned long long)p->is.number, taken && peat_invoked(answer) == PEAT_D_ABORT_REQUEST ? " aborts" : "");
-    if (taken && peat_told(answer) == PEAT_MESSAGE_INDICATION)
-        day_keeps(d, "shows"); /* its letter is kept in the same commit */
+    d->day.posted = 0;
+}
+
+/* Its letter is kept in the same commit. */
+void day_shows(struct dialogue *d, struct peat_answer answer)
+{
+    if (peat_refusal(answer) != PEAT_TAKEN || peat_told(answer) != PEAT_MESSAGE_INDICATION)
+        return;
+    day_keeps(d, "shows");
+    if (d->day.posted != 0)
+        day_keeps(d, "posts %u", d->day.posted);
+}
+
+void day_bits(struct dialogue *d, const uint8_t *message, unsigned bits)
+{
+    if (is_recorded(d))
+        day_keeps(d, "bits %llu", (unsigned long long)digest_of(message, bits));
+}
+
+void day_refuses(struct dialogue *d, uint64_t job, unsigned reason, unsigned told)
+{
+    day_keeps(d, "refuses %llu", (unsigned long long)job);
+    day_keeps(d, "reason %u", reason);
+    day_tells(d, "refused", job);
+    day_keeps(d, "reason %u", told);
 }
 
 void day_reads(struct dialogue *d, uint64_t job)

@@ -22,6 +22,7 @@ struct day {
     int is_connected;                        /* the last connection is not lost */
     int is_left;                             /* the file that is there is left alone */
     uint64_t notices;                        /* that were made */
+    unsigned posted;                         /* the kind of the envelope in which the last message went to its user; 0: none did */
     char *waiting;                           /* lines for the next commit */
     size_t count, room;
     uint64_t *job;                           /* of envelopes that were read and whose payload has no receipt yet */
@@ -43,8 +44,15 @@ void day_tells(struct dialogue *, const char *fate, uint64_t job);
 void day_meets(struct dialogue *);
 void day_loses(struct dialogue *);
 
-/* A primitive reaches the record, or a record that is IDLE; the card's answer. */
+/* A primitive reaches the record, or a record that is IDLE; the card's answer. When what that asks for is done, a message of it is kept to be shown. */
 void day_hears(struct dialogue *, const struct primitive *, struct peat_answer);
+void day_shows(struct dialogue *, struct peat_answer);
+
+/* The bits of the message that the card took, or handed out. */
+void day_bits(struct dialogue *, const uint8_t *message, unsigned bits);
+
+/* A job is refused for this reason, and that is told. */
+void day_refuses(struct dialogue *, uint64_t job, unsigned reason, unsigned told);
 
 /* An envelope was read and decided; its payload was read to its end; it is acknowledged; it comes again. */
 void day_reads(struct dialogue *, uint64_t job);

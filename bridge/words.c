@@ -61,11 +61,26 @@ struct closing {
     int only_look;
 };
 
+/* The numbers of these jobs, for the recorded day. */
+static void note_numbers(struct dialogue *d, uint64_t first, uint64_t last)
+{
+    unsigned n;
+    for (n = 0; n < PEAT_BOOK_NUMBERS; n++) {
+        uint64_t job = book_job(d->kept.book, n);
+        if (job != 0 && first <= job && job <= last)
+            day_keeps(d, "discards %u", n);
+    }
+}
+
 static void close_range(void *with, uint64_t first, uint64_t last)
 {
     struct closing *c = with;
     struct dialogue *d = c->dialogue;
-    unsigned closed = c->only_look ? 0 : book_close_jobs(d->kept.book, first, last);
+    unsigned closed;
+    if (c->only_look)
+        return;
+    note_numbers(d, first, last);
+    closed = book_close_jobs(d->kept.book, first, last);
     if (closed == 0)
         return;
     c->bridge->metrics.numbers_closed += closed;

@@ -24,6 +24,7 @@
 
 #include "../clock.h"
 #include "../config.h"
+#include "../digest.h"
 #include "../jobs.h"
 #include "../link.h"
 #include "clearance.h"
@@ -131,6 +132,7 @@ static void see(struct aircraft *a, const uint8_t *data, struct peat_answer answ
     uint8_t message[PEAT_BUFFER_LEAST];
     unsigned bits = message_in(a, data, answer, message);
     uint64_t given = 0, job = bits > 0 ? pattern_job(message, (bits + 7u) / 8u, a->number, &given) : 0;
+    note(a, "bits %llu", (unsigned long long)digest_of(message, bits));
     if (job == 0 && bits > 0)
         job = see_clearance(a, message, bits);
     if (job == 0 || job > JOBS_MOST) {
@@ -209,8 +211,10 @@ static void lose(struct aircraft *a)
 static void say(struct aircraft *a, uint64_t job, const struct peat_data *data)
 {
     struct peat_answer answer = peat_message_request(RECORD(a), job, PEAT_DATA(*data), BUFFERS);
-    if (peat_refusal(answer) == PEAT_TAKEN)
+    if (peat_refusal(answer) == PEAT_TAKEN) {
         note(a, "takes %llu", (unsigned long long)job);
+        note(a, "bits %llu", (unsigned long long)digest_of(data->message, (unsigned)data->message_bits));
+    }
     act(a, answer);
 }
 

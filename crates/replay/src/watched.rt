@@ -1,5 +1,9 @@
 // What the lines say that are no moves: the bits of a message, the reason of a refusal, the kind of an envelope, the book of message numbers, what a position
 // shows. Each speaks of the last move of its host, and is held against what was said before. One range of numbers has a part for each side.
+ghost use mathlib.Core.Path.{_≡_};
+ghost use mathlib.Core.Bool.{false, not, cond};
+ghost use lib.Dec.{eqb, leb, ltb};
+ghost use Rattle.replay.specs.Watched.{held, ofSide, looked, kept, jobAt, saidAt, foundIn, isKnown, agreesWith, learned, bitsHeld, reasonHeld, postsRule, isOpenIn, marked, opensHeld, isHeard, repliesHeld, closesHeld, discardsHeld, saw, openedHeld, closedHeld, saidHeld, jobOf, movedOn};
 use crate::lines::Line;
 use crate::page::Place;
 use crate::page::get;
@@ -41,7 +45,9 @@ impl Spot {
 }
 
 // The place of one side.
-fn of_side(air: bool, at: usize) -> usize {
+fn of_side(air: bool, at: usize) -> usize
+    ensures { λ r. ⌜ r ≡ ofSide air at ⌝ }
+{
     if air {
         return at;
     }
@@ -51,25 +57,47 @@ fn of_side(air: bool, at: usize) -> usize {
     at + 32896
 }
 
-pub(crate) fn look(w: &[u64], air: bool, at: usize) -> u64 {
+pub(crate) fn look(w: &[u64], air: bool, at: usize) -> u64
+    ensures { λ r. ⌜ r ≡ looked (now (w .entry)) air at ⌝ }
+{
     get(w, of_side(air, at))
 }
 
-pub(crate) fn keep(w: &mut [u64], air: bool, at: usize, v: u64) {
+pub(crate) fn keep(w: &mut [u64], air: bool, at: usize, v: u64)
+    ensures { λ r. ⌜ now (w .exit) ≡ kept (now (w .entry)) air at v ⌝ }
+{
     put(w, of_side(air, at), v);
 }
 
 // ---- what was said of a job
 
-// Which of the known ones a job is; their count where it is none.
-fn find(w: &[u64], air: bool, job: u64) -> u64 {
-    let n = look(w, air, Spot::KNOWN);
+// The i-th job of which something was said.
+fn job_at(w: &[u64], air: bool, i: u64) -> u64
+    ensures { λ r. ⌜ r ≡ jobAt (now (w .entry)) air i ⌝ }
+{
+    if Spot::KNOWN_MOST <= i {
+        return 0;
+    }
+    look(w, air, Spot::JOBS_AT + i as usize)
+}
+
+// What was said of it.
+fn said_at(w: &[u64], air: bool, i: u64) -> u64
+    ensures { λ r. ⌜ r ≡ saidAt (now (w .entry)) air i ⌝ }
+{
+    if Spot::KNOWN_MOST <= i {
+        return 0;
+    }
+    look(w, air, Spot::SAID_AT + i as usize)
+}
+
+// Which of the first n a job is; n where it is none.
+fn find(w: &[u64], air: bool, job: u64, n: u64) -> u64
+    ensures { λ r. ⌜ r ≡ foundIn (now (w .entry)) air job n ⌝ }
+{
     let mut i: u64 = 0;
     while i < n {
-        if Spot::KNOWN_MOST <= i {
-            return n;
-        }
-        if look(w, air, Spot::JOBS_AT + i as usize) == job {
+        if job_at(w, air, i) == job {
             return i;
         }
         i += 1;
@@ -77,23 +105,27 @@ fn find(w: &[u64], air: bool, job: u64) -> u64 {
     n
 }
 
-fn is_known(w: &[u64], air: bool, job: u64) -> bool {
-    find(w, air, job) < look(w, air, Spot::KNOWN)
+fn is_known(w: &[u64], air: bool, job: u64) -> bool
+    ensures { λ r. ⌜ r ≡ isKnown (now (w .entry)) air job ⌝ }
+{
+    let n = look(w, air, Spot::KNOWN);
+    find(w, air, job, n) < n
 }
 
 // Was this said of the job, or nothing?
-fn agrees(w: &[u64], air: bool, job: u64, said: u64) -> bool {
-    let i = find(w, air, job);
-    if look(w, air, Spot::KNOWN) <= i {
+fn agrees(w: &[u64], air: bool, job: u64, said: u64) -> bool
+    ensures { λ r. ⌜ r ≡ agreesWith (now (w .entry)) air job said ⌝ }
+{
+    if !is_known(w, air, job) {
         return true;
     }
-    if Spot::KNOWN_MOST <= i {
-        return true;
-    }
-    look(w, air, Spot::SAID_AT + i as usize) == said
+    let n = look(w, air, Spot::KNOWN);
+    said_at(w, air, find(w, air, job, n)) == said
 }
 
-fn learn(w: &mut [u64], air: bool, job: u64, said: u64) -> u64 {
+fn learn(w: &mut [u64], air: bool, job: u64, said: u64) -> u64
+    ensures { λ r. ⌜ held r (now (w .exit)) ≡ learned (now (w .entry)) air job said ⌝ }
+{
     if is_known(w, air, job) {
         return 0;
     }
@@ -108,7 +140,9 @@ fn learn(w: &mut [u64], air: bool, job: u64, said: u64) -> u64 {
 }
 
 // The bits of a message: behind `takes` what was asked for, behind `hears-data` what was handed out.
-fn bits(w: &mut [u64], air: bool, digest: u64) -> u64 {
+fn bits(w: &mut [u64], air: bool, digest: u64) -> u64
+    ensures { λ r. ⌜ held r (now (w .exit)) ≡ bitsHeld (now (w .entry)) air digest ⌝ }
+{
     let word = look(w, air, Spot::WORD);
     let job = look(w, air, Spot::JOB);
     if word == 34 {
@@ -127,23 +161,30 @@ fn bits(w: &mut [u64], air: bool, digest: u64) -> u64 {
 }
 
 // The reason of a refusal: behind `refuses` why, behind `tells-refused` what is told.
-fn reason(w: &mut [u64], air: bool, why: u64) -> u64 {
+fn reason(w: &mut [u64], air: bool, why: u64) -> u64
+    ensures { λ r. ⌜ held r (now (w .exit)) ≡ reasonHeld (now (w .entry)) air why ⌝ }
+{
     let word = look(w, air, Spot::WORD);
     let job = look(w, air, Spot::JOB);
-    if word != 3 && word != 5 {
+    if word == 5 {
+        if agrees(w, air, job, why) {
+            return 0;
+        }
+        return 4;
+    }
+    if word != 3 {
         return Rule::BEHIND;
     }
     if !agrees(w, air, job, why) {
         return 4;
     }
-    if word == 5 {
-        return 0;
-    }
     learn(w, air, job, why)
 }
 
 // A message goes to its user as one that was delivered.
-fn posts(w: &[u64], air: bool, kind: u64) -> u64 {
+fn posts(w: &[u64], air: bool, kind: u64) -> u64
+    ensures { λ r. ⌜ r ≡ postsRule (now (w .entry)) air kind ⌝ }
+{
     if look(w, air, Spot::WORD) != 19 {
         return Rule::BEHIND;
     }
@@ -155,7 +196,9 @@ fn posts(w: &[u64], air: bool, kind: u64) -> u64 {
 
 // ---- the book. Its numbers are those of a dialogue: with the next one all of them are free.
 
-fn is_open(w: &[u64], air: bool, dialogue: u64, number: u64) -> bool {
+fn is_open(w: &[u64], air: bool, dialogue: u64, number: u64) -> bool
+    ensures { λ r. ⌜ r ≡ isOpenIn (now (w .entry)) air dialogue number ⌝ }
+{
     if Spot::NUMBERS <= number {
         return false;
     }
@@ -165,20 +208,23 @@ fn is_open(w: &[u64], air: bool, dialogue: u64, number: u64) -> bool {
     look(w, air, Spot::BOOK_AT + number as usize) == dialogue
 }
 
-fn mark(w: &mut [u64], air: bool, number: u64, dialogue: u64) {
+fn mark(w: &mut [u64], air: bool, number: u64, dialogue: u64)
+    ensures { λ r. ⌜ now (w .exit) ≡ marked (now (w .entry)) air number dialogue ⌝ }
+{
     if number < Spot::NUMBERS {
         keep(w, air, Spot::BOOK_AT + number as usize, dialogue);
     }
 }
 
-fn opens(w: &mut [u64], here: &[u64], air: bool, number: u64) -> u64 {
+fn opens(w: &mut [u64], air: bool, dialogue: u64, number: u64) -> u64
+    ensures { λ r. ⌜ held r (now (w .exit)) ≡ opensHeld (now (w .entry)) air dialogue number ⌝ }
+{
     if look(w, air, Spot::WORD) != 2 {
         return Rule::BEHIND;
     }
     if Spot::NUMBERS <= number {
         return 11;
     }
-    let dialogue = get(here, Place::NUMBER);
     if is_open(w, air, dialogue, number) {
         return 11;
     }
@@ -186,7 +232,9 @@ fn opens(w: &mut [u64], here: &[u64], air: bool, number: u64) -> u64 {
     0
 }
 
-fn is_heard(word: u64) -> bool {
+fn is_heard(word: u64) -> bool
+    ensures { λ r. ⌜ r ≡ isHeard word ⌝ }
+{
     if 49 < word {
         return word == 52 || word == 53;
     }
@@ -194,7 +242,9 @@ fn is_heard(word: u64) -> bool {
 }
 
 // A message that was heard names a number. If it is open, it is closed with it.
-fn replies(w: &mut [u64], here: &[u64], air: bool, number: u64) -> u64 {
+fn replies(w: &mut [u64], air: bool, dialogue: u64, number: u64) -> u64
+    ensures { λ r. ⌜ held r (now (w .exit)) ≡ repliesHeld (now (w .entry)) air dialogue number ⌝ }
+{
     if !is_heard(look(w, air, Spot::WORD)) {
         return Rule::BEHIND;
     }
@@ -204,13 +254,16 @@ fn replies(w: &mut [u64], here: &[u64], air: bool, number: u64) -> u64 {
     if Spot::NUMBERS <= number {
         return 0;
     }
-    if is_open(w, air, get(here, Place::NUMBER), number) {
-        keep(w, air, Spot::REPLY, number + 1);
+    if !is_open(w, air, dialogue, number) {
+        return 0;
     }
+    keep(w, air, Spot::REPLY, number + 1);
     0
 }
 
-fn closes(w: &mut [u64], air: bool, number: u64) -> u64 {
+fn closes(w: &mut [u64], air: bool, number: u64) -> u64
+    ensures { λ r. ⌜ held r (now (w .exit)) ≡ closesHeld (now (w .entry)) air number ⌝ }
+{
     if Spot::NUMBERS <= number {
         return 11;
     }
@@ -223,11 +276,13 @@ fn closes(w: &mut [u64], air: bool, number: u64) -> u64 {
 }
 
 // A position says that a number is free, without a reply.
-fn discards(w: &mut [u64], here: &[u64], air: bool, number: u64) -> u64 {
+fn discards(w: &mut [u64], air: bool, dialogue: u64, number: u64) -> u64
+    ensures { λ r. ⌜ held r (now (w .exit)) ≡ discardsHeld (now (w .entry)) air dialogue number ⌝ }
+{
     if look(w, air, Spot::REPLY) != 0 {
         return 11;
     }
-    if !is_open(w, air, get(here, Place::NUMBER), number) {
+    if !is_open(w, air, dialogue, number) {
         return 11;
     }
     mark(w, air, number, 0);
@@ -237,20 +292,27 @@ fn discards(w: &mut [u64], here: &[u64], air: bool, number: u64) -> u64 {
 // ---- what a position shows
 
 // An end without the carrier is closed, or will be.
-fn is_closed(p: &[u64]) -> bool {
-    get(p, Place::STATE) == 0 || get(p, Place::POWER) != 0
-}
-
-fn see(w: &mut [u64], p: &[u64], air: bool) {
-    if is_closed(p) {
+fn see(w: &mut [u64], p: &[u64], air: bool)
+    ensures { λ r. ⌜ now (w .exit) ≡ saw (now (w .entry)) (now (p .entry)) air ⌝ }
+{
+    if get(p, Place::POWER) != 0 {
+        keep(w, air, Spot::WAS_CLOSED, 1);
+        return;
+    }
+    if get(p, Place::STATE) == 0 {
         keep(w, air, Spot::WAS_CLOSED, 1);
         return;
     }
     keep(w, air, Spot::WAS_OPEN, 1);
 }
 
-fn opened(w: &mut [u64], here: &[u64], air: bool) -> u64 {
-    if look(w, air, Spot::SHOWN) != 0 || look(w, air, Spot::WAS_OPEN) == 0 {
+fn opened(w: &mut [u64], here: &[u64], air: bool) -> u64
+    ensures { λ r. ⌜ held r (now (w .exit)) ≡ openedHeld (now (w .entry)) (now (here .entry)) air ⌝ }
+{
+    if look(w, air, Spot::SHOWN) != 0 {
+        return 16;
+    }
+    if look(w, air, Spot::WAS_OPEN) == 0 {
         return 16;
     }
     keep(w, air, Spot::SHOWN, 1);
@@ -259,8 +321,13 @@ fn opened(w: &mut [u64], here: &[u64], air: bool) -> u64 {
     0
 }
 
-fn closed(w: &mut [u64], here: &[u64], air: bool) -> u64 {
-    if look(w, air, Spot::SHOWN) == 0 || look(w, air, Spot::WAS_CLOSED) == 0 {
+fn closed(w: &mut [u64], here: &[u64], air: bool) -> u64
+    ensures { λ r. ⌜ held r (now (w .exit)) ≡ closedHeld (now (w .entry)) (now (here .entry)) air ⌝ }
+{
+    if look(w, air, Spot::SHOWN) == 0 {
+        return 16;
+    }
+    if look(w, air, Spot::WAS_CLOSED) == 0 {
         return 16;
     }
     keep(w, air, Spot::SHOWN, 0);
@@ -271,33 +338,42 @@ fn closed(w: &mut [u64], here: &[u64], air: bool) -> u64 {
 
 // ---- a line
 
-pub(crate) fn is_said(word: u64) -> bool {
+pub(crate) fn is_said(word: u64) -> bool
+    ensures { λ r. ⌜ r ≡ cond (leb 40 word) (ltb word 50) false ⌝ }
+{
     40 <= word && word < 50
 }
 
 // One of these lines; `here` is the page of its side.
-pub(crate) fn says(w: &mut [u64], here: &[u64], l: Line) -> u64 {
+pub(crate) fn says(w: &mut [u64], here: &[u64], l: Line) -> u64
+    ensures { λ r. ⌜ held r (now (w .exit)) ≡ saidHeld (now (w .entry)) (now (here .entry)) (l .air) (l .word) (l .a) ⌝ }
+{
     let word = l.word;
+    let dialogue = get(here, Place::NUMBER);
     match word {
         40 => bits(w, l.air, l.a),
         41 => reason(w, l.air, l.a),
         42 => posts(w, l.air, l.a),
-        43 => opens(w, here, l.air, l.a),
-        44 => replies(w, here, l.air, l.a),
+        43 => opens(w, l.air, dialogue, l.a),
+        44 => replies(w, l.air, dialogue, l.a),
         45 => closes(w, l.air, l.a),
-        46 => discards(w, here, l.air, l.a),
+        46 => discards(w, l.air, dialogue, l.a),
         47 => opened(w, here, l.air),
         _ => closed(w, here, l.air),
     }
 }
 
 // The number that a reply has named is to be closed before the host's next move.
-pub(crate) fn owes(w: &[u64], air: bool) -> bool {
+pub(crate) fn owes(w: &[u64], air: bool) -> bool
+    ensures { λ r. ⌜ r ≡ not (eqb (looked (now (w .entry)) air 2) 0) ⌝ }
+{
     look(w, air, Spot::REPLY) != 0
 }
 
 // The job of a move.
-fn job_of(l: Line) -> u64 {
+fn job_of(l: Line) -> u64
+    ensures { λ r. ⌜ r ≡ jobOf (l .word) (l .a) (l .b) (l .c) ⌝ }
+{
     let word = l.word;
     match word {
         2 => l.a,
@@ -309,7 +385,9 @@ fn job_of(l: Line) -> u64 {
 }
 
 // A move was made. The failure of the carrier is one at both ends.
-pub(crate) fn moved(w: &mut [u64], air: &[u64], ground: &[u64], l: Line) {
+pub(crate) fn moved(w: &mut [u64], air: &[u64], ground: &[u64], l: Line)
+    ensures { λ r. ⌜ now (w .exit) ≡ movedOn (now (w .entry)) (now (air .entry)) (now (ground .entry)) (l .air) (l .word) (jobOf (l .word) (l .a) (l .b) (l .c)) ⌝ }
+{
     keep(w, l.air, Spot::WORD, l.word);
     keep(w, l.air, Spot::JOB, job_of(l));
     see(w, air, true);

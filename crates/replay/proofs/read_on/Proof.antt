@@ -8,7 +8,8 @@ use Rattle.replay.proofs.read_on.Tie as tie
 
 abbrev Inv-loop : tie.InvT-loop
 Inv-loop fd air₀ ground₀ broken₀ watch₀ text₀ chunk₀ run₀ left₀ t11 air ground broken watch text chunk run left =
-    (length air ≡ length air₀) × (length ground ≡ length ground₀) × (length broken ≡ length broken₀) × (length watch ≡ length watch₀) × (length text ≡ length text₀) × (length chunk ≡ length chunk₀)
+    (length air ≡ length air₀) × (length ground ≡ length ground₀) × (length broken ≡ length broken₀)
+    × (length watch ≡ length watch₀) × (length text ≡ length text₀) × (length chunk ≡ length chunk₀)
 
 abbrev μ-loop : tie.MeasureT-loop
 μ-loop fd air₀ ground₀ broken₀ watch₀ text₀ chunk₀ run₀ left₀ t11 air ground broken watch text chunk run left = left

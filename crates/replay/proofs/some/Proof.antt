@@ -9,7 +9,8 @@ use Rattle.replay.proofs.some.Tie as tie
 
 abbrev Inv-loop : tie.InvT-loop
 Inv-loop air₀ ground₀ broken₀ watch₀ text₀ s run₀ i₀ air ground broken watch text run i =
-    (length air ≡ length air₀) × (length ground ≡ length ground₀) × (length broken ≡ length broken₀) × (length watch ≡ length watch₀) × (length text ≡ length text₀)
+    (length air ≡ length air₀) × (length ground ≡ length ground₀) × (length broken ≡ length broken₀)
+    × (length watch ≡ length watch₀) × (length text ≡ length text₀)
 
 abbrev μ-loop : tie.MeasureT-loop
 μ-loop air₀ ground₀ broken₀ watch₀ text₀ s run₀ i₀ air ground broken watch text run i = length s - i

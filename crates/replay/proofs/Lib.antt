@@ -1,3 +1,4 @@
 pub mod Loops
 pub mod Calls
 pub mod Found
+pub mod Said

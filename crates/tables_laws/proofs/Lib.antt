@@ -11,3 +11,4 @@ pub mod Removes
 pub mod HearMoves
 pub mod FailMoves
 pub mod TurnMoves
+pub mod Days

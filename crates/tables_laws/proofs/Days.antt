@@ -3,10 +3,10 @@
 use mathlib.Core.Path.{_≡_, refl, ap, sym, subst, fun-ext, _∙_}
 use mathlib.Core.Bool.{Bool, true, false, not}
 use mathlib.Core.List.{List, [], _∷_, _++_}
-use Prim.Native.Nat.{ℕ, zero, suc, _≤_}
+use Prim.Native.Nat.{ℕ, zero, suc, _≤_, _<_}
 use native.Mathlib.Omega.{arith}
 use lib.Dec.{eqb}
-use lib.ListN.{length, getD}
+use lib.ListN.{length, getD, set, replicate, length-set, length-replicate}
 use Rattle.pair.specs.Names.{Side, Air, Ground, other, Reply, StartResponse, EndRequest, EndResponse, UserAbort, TimerExpiry, closed}
 use Rattle.pair.specs.Carrier.{Body}
 use Rattle.pair.specs.Numbered.{Numbered, starter, notBelow}
@@ -21,8 +21,9 @@ use Rattle.moves_laws.proofs.Steps.{M, Page, page}
 use Rattle.moves_laws.proofs.Day.{begun, day-holds}
 use Rattle.tables.specs.Tables.{stateOf, heldIn, among}
 use Rattle.tables.specs.Steps.{One, Two, All, all, facing, beside, shownTo, departed, powerFailed, cutOff, gaveUp, releasedBy, carrierFailed, refusedJob, taken, acknowledged, startedBy, madeCall, reported, turnedBack, heard, heardEnd}
-use Rattle.tables.proofs.Tables.{size}
+use Rattle.tables.proofs.Tables.{size, get-same, get-other}
 use Rattle.tables_laws.proofs.Reading.{jobsFrom, noticesFrom, powerOf, lineFrom, lineOf, notesOf, pageOf, brokenOf, Sound, Counted}
+use Rattle.tables_laws.proofs.Places.{Same, same-then, same-below, same-above}
 use Rattle.tables_laws.proofs.Follow.{page-path, notes-path, Follows, sheetOf}
 use Rattle.tables_laws.proofs.HostMoves.{shown-follows, left-follows, power-follows, cut-follows, gives-up-follows, acknowledged-follows, released-follows}
 use Rattle.tables_laws.proofs.JobMoves.{refused-follows, taken-follows, started-follows, start-answer-follows, end-request-follows, end-answer-follows}
@@ -254,3 +255,52 @@ module _ (text : Side → ℕ → Body) (fresh : Side → Numbered Held) (from :
             (subst (λ (c : Sheet M). MakesAll M (letters text) fresh answersYes from (r .moves) c
             (sheetAt text fresh from (r .near) (r .far) (lastBooks from vs t))) q (r .makes));
       }
+
+-- ---- the tables that the program begins with: all 0, and in each page the number and the highest job
+
+abbrev pub zeros : ℕ → List ℕ
+zeros n = replicate n 0
+
+zero-there : (n k : ℕ) → getD (zeros n) k 0 ≡ 0
+zero-there zero k = refl
+zero-there (suc n) zero = refl
+zero-there (suc n) (suc k) = zero-there n k
+
+abbrev pub beginning : List ℕ → ℕ → ℕ → List ℕ
+beginning l n i = set (set l 2 n) 3 i
+
+begins-empty : (l : List ℕ) (n i : ℕ) → size ≤ length l → ((k : ℕ) → getD l k 0 ≡ 0) → Empty (beginning l n i) n i
+begins-empty l n i full z =
+    let x : List ℕ = set l 2 n in
+    let m : List ℕ = set x 3 i in
+    let p = length-set l 2 n in
+    let low : Same l m 0 2 = λ (k : ℕ) (u : 0 ≤ k) (v : k < 2). same-below x 3 i 0 k u (omega (arith, v)) ∙ same-below l 2 n 0 k u v in
+    let high : Same l m 4 53264 = same-then l x m 4 53264 (same-above l 2 n 4 53264 (omega arith))
+    (same-above x 3 i 4 53264 (omega arith)) in
+    record {
+      full = omega (arith, full, p, length-set x 3 i);
+      state = low 0 (omega arith) (omega arith) ∙ z 0;
+      dsc = low 1 (omega arith) (omega arith) ∙ z 1;
+      number = get-other x 3 2 i (λ (e : 2 ≡ 3). omega (arith, e)) ∙ get-same l 2 n (omega (arith, full));
+      highest = get-same x 3 i (omega (arith, full, p));
+      power = high 4 (omega arith) (omega arith) ∙ z 4;
+      waiting = high 5 (omega arith) (omega arith) ∙ z 5;
+      unsent = high 6 (omega arith) (omega arith) ∙ z 6;
+      entries = high 7 (omega arith) (omega arith) ∙ z 7;
+      decided = high 8 (omega arith) (omega arith) ∙ z 8;
+      opened = high 9 (omega arith) (omega arith) ∙ z 9;
+      notices = high 10 (omega arith) (omega arith) ∙ z 10;
+    }
+
+-- page, books: so many numbers as the tables have, or more
+pub begun-hold : (text : Side → ℕ → Body) (fresh : Side → Numbered Held) (from : Side) (page books : ℕ) → size ≤ page
+    → 4097 ≤ books → (n i k j : ℕ) → notBelow from n k
+    → (vs : List Turn) → Clean from vs (record { air = beginning (zeros page) n i; ground = beginning (zeros page) k j; broken = zeros books })
+    → Kept text fresh from (lastBooks from vs (record { air = beginning (zeros page) n i; ground = beginning (zeros page) k j; broken = zeros books }))
+begun-hold text fresh from page books a c n i k j low vs w =
+    let e : length (zeros page) ≡ page = length-replicate {A = ℕ} page 0 in
+    let f : length (zeros books) ≡ books = length-replicate {A = ℕ} books 0 in
+    tables-hold text fresh from n i k j low (record { air = beginning (zeros page) n i; ground = beginning (zeros page) k j; broken = zeros books })
+    (begins-empty (zeros page) n i (omega (arith, a, e)) (zero-there page))
+    (begins-empty (zeros page) k j (omega (arith, a, e)) (zero-there page)) (omega (arith, c, f))
+    (zero-there books 0) vs w

@@ -1,1 +1,2 @@
 pub mod Watched
+pub mod Centres

@@ -1,5 +1,8 @@
 // One move of two centres, beside the model of crate forward_duties: all forwards go one way. A record is IDLE or FORWARD, and the one that gets forwards stays
 // IDLE. The pages are those of the two ends of a dialogue. Each function answers the rule that the move breaks, or 0.
+ghost use mathlib.Core.Path.{_≡_};
+ghost use Rattle.replay.specs.Watched.{held};
+ghost use Rattle.replay.specs.Centres.{readyRule, resultOf, isAwaited, firstRule, roomOf, forwardHeld};
 use crate::lines::Line;
 use crate::page::Fate;
 use crate::page::Place;
@@ -31,12 +34,16 @@ impl Link {
     pub const ANSWERED: u64 = 4;
 }
 
-fn room(b: bool) -> u64 {
+fn room(b: bool) -> u64
+    ensures { λ r. ⌜ r ≡ roomOf b ⌝ }
+{
     if b { 0 } else { Rule::ROOM }
 }
 
 // May the next call be made?
-fn ready(p: &[u64]) -> u64 {
+fn ready(p: &[u64]) -> u64
+    ensures { λ r. ⌜ r ≡ readyRule (now (p .entry)) ⌝ }
+{
     if get(p, Place::POWER) != 0 {
         return 3;
     }
@@ -56,7 +63,9 @@ pub(crate) fn join(here: &mut [u64], w: &mut [u64], l: Line) {
 // ---- the centre that forwards
 
 // What was taken is not forwarded again.
-fn forward(here: &mut [u64], may: bool, job: u64, number: u64) -> u64 {
+fn forward(here: &mut [u64], may: bool, job: u64, number: u64) -> u64
+    ensures { λ r. ⌜ held r (now (here .exit)) ≡ forwardHeld (now (here .entry)) may job number ⌝ }
+{
     let rule = ready(here);
     if rule != 0 {
         return rule;
@@ -133,7 +142,9 @@ fn turn_back(here: &mut [u64]) -> u64 {
 // ---- what is handed over
 
 // The first on the other centre's line that has left is one of these kinds.
-fn check_first(here: &[u64], there: &[u64], lowest: u64, highest: u64, number: u64) -> u64 {
+fn check_first(here: &[u64], there: &[u64], lowest: u64, highest: u64, number: u64) -> u64
+    ensures { λ r. ⌜ r ≡ firstRule (now (here .entry)) (now (there .entry)) lowest highest number ⌝ }
+{
     let rule = ready(here);
     if rule != 0 {
         return rule;
@@ -142,7 +153,10 @@ fn check_first(here: &[u64], there: &[u64], lowest: u64, highest: u64, number: u
         return 7;
     }
     let first = entry(there, 0, 0);
-    if first < lowest || highest < first {
+    if first < lowest {
+        return 7;
+    }
+    if highest < first {
         return 7;
     }
     if entry(there, 0, 1) != number {
@@ -152,14 +166,16 @@ fn check_first(here: &[u64], there: &[u64], lowest: u64, highest: u64, number: u
 }
 
 // How a forward is answered: the service is not supported, the versions are not equal, success.
-fn result(answers: u64, own: u64, version: u64) -> u64 {
+fn result(answers: u64, own: u64, version: u64) -> u64
+    ensures { λ r. ⌜ r ≡ resultOf answers own version ⌝ }
+{
     if answers == 0 {
         return 1;
     }
-    if own != version {
-        return 2;
+    if own == version {
+        return 0;
     }
-    0
+    2
 }
 
 // Its message is for the user. A number that is not above the record's is of an old forward.
@@ -196,7 +212,9 @@ fn hear_forward(here: &mut [u64], there: &mut [u64], w: &[u64], may: bool, l: Li
 }
 
 // It is of the forward that waits.
-fn is_awaited(here: &[u64], number: u64) -> bool {
+fn is_awaited(here: &[u64], number: u64) -> bool
+    ensures { λ r. ⌜ r ≡ isAwaited (now (here .entry)) number ⌝ }
+{
     get(here, Place::STATE) == Link::FORWARD && get(here, Place::NUMBER) == number
 }
 

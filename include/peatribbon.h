@@ -117,9 +117,9 @@ extern "C" {
  * VERSION of the project: what the header is of, as a string and in three numbers. CHANGELOG.md says what changed.
  */
 
-#define PEAT_VERSION "0.15.0"
+#define PEAT_VERSION "0.16.0"
 #define PEAT_VERSION_MAJOR 0
-#define PEAT_VERSION_MINOR 15
+#define PEAT_VERSION_MINOR 16
 #define PEAT_VERSION_PATCH 0
 
 /* What the archive is of: "peatribbon VERSION, rattle logic HASH", where the hash names the logic in which its card was proved.

@@ -52,19 +52,20 @@ learned w air job said =
     (cond (leb 16384 (looked w air 8)) (held 23 w)
     (held 0 (kept (kept (kept w air (128 + looked w air 8) job) air (16512 + looked w air 8) said) air 8 (looked w air 8 + 1))))
 
+-- what a line says of the job of a move: behind one word it is learned, behind another it is what the side `of` has learned, or the rule is broken
+unfoldable pub aboutJob : List ℕ → Bool → Bool → ℕ → ℕ → ℕ → ℕ → Held
+aboutJob w air of learns checks rule said =
+    cond (eqb (looked w air 0) checks) (cond (agreesWith w of (looked w air 1) said) (held 0 w) (held rule w))
+    (cond (eqb (looked w air 0) learns)
+    (cond (agreesWith w air (looked w air 1) said) (learned w air (looked w air 1) said) (held rule w)) (held 26 w))
+
 -- `bits`: behind `takes` (2), and behind `hears-data` (34), where the other side took the job
-unfoldable pub bitsHeld : List ℕ → Bool → ℕ → Held
-bitsHeld w air digest =
-    cond (eqb (looked w air 0) 34) (cond (agreesWith w (not air) (looked w air 1) digest) (held 0 w) (held 24 w))
-    (cond (eqb (looked w air 0) 2)
-    (cond (agreesWith w air (looked w air 1) digest) (learned w air (looked w air 1) digest) (held 24 w)) (held 26 w))
+abbrev pub bitsHeld : List ℕ → Bool → ℕ → Held
+bitsHeld w air digest = aboutJob w air (not air) 2 34 24 digest
 
 -- `reason`: behind `refuses` (3), and behind `tells-refused` (5)
-unfoldable pub reasonHeld : List ℕ → Bool → ℕ → Held
-reasonHeld w air why =
-    cond (eqb (looked w air 0) 5) (cond (agreesWith w air (looked w air 1) why) (held 0 w) (held 4 w))
-    (cond (eqb (looked w air 0) 3)
-    (cond (agreesWith w air (looked w air 1) why) (learned w air (looked w air 1) why) (held 4 w)) (held 26 w))
+abbrev pub reasonHeld : List ℕ → Bool → ℕ → Held
+reasonHeld w air why = aboutJob w air air 3 5 4 why
 
 -- `posts`: behind `shows` (19), and the envelope's kind is 2
 abbrev pub postsRule : List ℕ → Bool → ℕ → ℕ

@@ -3,7 +3,7 @@
 ghost use mathlib.Core.Path.{_≡_};
 ghost use mathlib.Core.Bool.{false, not, cond};
 ghost use lib.Dec.{eqb, leb, ltb};
-ghost use Rattle.replay.specs.Watched.{held, ofSide, looked, kept, jobAt, saidAt, foundIn, isKnown, agreesWith, learned, bitsHeld, reasonHeld, postsRule, isOpenIn, marked, opensHeld, isHeard, repliesHeld, closesHeld, discardsHeld, saw, openedHeld, closedHeld, saidHeld, jobOf, movedOn};
+ghost use Rattle.replay.specs.Watched.{held, ofSide, looked, kept, jobAt, saidAt, foundIn, isKnown, agreesWith, learned, aboutJob, bitsHeld, reasonHeld, postsRule, isOpenIn, marked, opensHeld, isHeard, repliesHeld, closesHeld, discardsHeld, saw, openedHeld, closedHeld, saidHeld, jobOf, movedOn};
 use crate::lines::Line;
 use crate::page::Place;
 use crate::page::get;
@@ -139,46 +139,47 @@ fn learn(w: &mut [u64], air: bool, job: u64, said: u64) -> u64
     0
 }
 
+// What a line says of the job of a move. Behind the word `learns` it is learned; behind `checks` it is held against what the side `of` has learned.
+fn about_job(
+    w: &mut [u64],
+    air: bool,
+    of: bool,
+    learns: u64,
+    checks: u64,
+    rule: u64,
+    said: u64,
+) -> u64
+    ensures { λ r. ⌜ held r (now (w .exit)) ≡ aboutJob (now (w .entry)) air of learns checks rule said ⌝ }
+{
+    let word = look(w, air, Spot::WORD);
+    let job = look(w, air, Spot::JOB);
+    if word == checks {
+        if agrees(w, of, job, said) {
+            return 0;
+        }
+        return rule;
+    }
+    if word != learns {
+        return Rule::BEHIND;
+    }
+    if !agrees(w, air, job, said) {
+        return rule;
+    }
+    learn(w, air, job, said)
+}
+
 // The bits of a message: behind `takes` what was asked for, behind `hears-data` what was handed out.
 fn bits(w: &mut [u64], air: bool, digest: u64) -> u64
     ensures { λ r. ⌜ held r (now (w .exit)) ≡ bitsHeld (now (w .entry)) air digest ⌝ }
 {
-    let word = look(w, air, Spot::WORD);
-    let job = look(w, air, Spot::JOB);
-    if word == 34 {
-        if agrees(w, !air, job, digest) {
-            return 0;
-        }
-        return Rule::ANOTHER;
-    }
-    if word != 2 {
-        return Rule::BEHIND;
-    }
-    if !agrees(w, air, job, digest) {
-        return Rule::ANOTHER;
-    }
-    learn(w, air, job, digest)
+    about_job(w, air, !air, 2, 34, Rule::ANOTHER, digest)
 }
 
 // The reason of a refusal: behind `refuses` why, behind `tells-refused` what is told.
 fn reason(w: &mut [u64], air: bool, why: u64) -> u64
     ensures { λ r. ⌜ held r (now (w .exit)) ≡ reasonHeld (now (w .entry)) air why ⌝ }
 {
-    let word = look(w, air, Spot::WORD);
-    let job = look(w, air, Spot::JOB);
-    if word == 5 {
-        if agrees(w, air, job, why) {
-            return 0;
-        }
-        return 4;
-    }
-    if word != 3 {
-        return Rule::BEHIND;
-    }
-    if !agrees(w, air, job, why) {
-        return 4;
-    }
-    learn(w, air, job, why)
+    about_job(w, air, air, 3, 5, 4, why)
 }
 
 // A message goes to its user as one that was delivered.

@@ -1,10 +1,10 @@
--- `replay::watched::reason` meets its contract.
+-- `replay::watched::about_job` meets its contract.
 -- Assumes nothing.
 use borrow.Author.Tests.{lt-ltb, le-ltb, eq-eqb, ne-eqb, le-leb, lt-leb, not-true, not-false}
-use Rattle.replay.specs.Watched.{reasonHeld}
+use Rattle.replay.specs.Watched.{aboutJob}
 use borrow.Author.Needs.{needs}
-use Rattle.replay.proofs.watched.reason.Statement.{statement}
-use Rattle.replay.proofs.watched.reason.Tie as tie
+use Rattle.replay.proofs.watched.about_job.Statement.{statement}
+use Rattle.replay.proofs.watched.about_job.Tie as tie
 
 look-requires : tie.Need-look-requires
 look-requires c κs = search needs
@@ -19,7 +19,7 @@ same-length : tie.Need-same-length
 same-length c = search needs
 
 returns : tie.Need-returns
-unfolding reasonHeld
+unfolding aboutJob
 returns c =
     let c3 = c .before .before .before in
     let c6 = c3 .before .before .before in
@@ -35,7 +35,7 @@ same-length-2 : tie.Need-same-length-2
 same-length-2 c = search needs
 
 returns-2 : tie.Need-returns-2
-unfolding reasonHeld
+unfolding aboutJob
 returns-2 c =
     let c3 = c .before .before .before in
     let c6 = c3 .before .before .before in
@@ -51,7 +51,7 @@ same-length-3 : tie.Need-same-length-3
 same-length-3 c = search needs
 
 returns-3 : tie.Need-returns-3
-unfolding reasonHeld
+unfolding aboutJob
 returns-3 c =
     let c4 = c .before .before .before .before in
     rw (← c4 .look .ensures, ne-eqb _ _ (c .before .if1 .left), ne-eqb _ _ (c .if3 .taken))
@@ -63,7 +63,7 @@ same-length-4 : tie.Need-same-length-4
 same-length-4 c = search needs
 
 returns-4 : tie.Need-returns-4
-unfolding reasonHeld
+unfolding aboutJob
 returns-4 c =
     let c3 = c .before .before .before in
     let c7 = c3 .before .before .before .before in
@@ -84,7 +84,7 @@ same-length-5 : tie.Need-same-length-5
 same-length-5 c = search needs
 
 returns-5 : tie.Need-returns-5
-unfolding reasonHeld
+unfolding aboutJob
 returns-5 c =
     let c4 = c .before .before .before .before in
     let c7 = c4 .before .before .before in
@@ -100,8 +100,8 @@ returns-5 c =
       not-false (c4 .before .agrees2 .result) (c4 .if4 .left),
     )
 
-pub reason-spec : {M : Type 1} → statement M
-reason-spec =
+pub about-job-spec : {M : Type 1} → statement M
+about-job-spec =
     tie.close
     (tie.spec
     look-requires

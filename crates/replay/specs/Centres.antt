@@ -6,11 +6,8 @@ use mathlib.Core.List.{List}
 use lib.Dec.{eqb, leb, ltb}
 use lib.ListN.{getD, set}
 use Rattle.tables.specs.Tables.{Leaves, among, pushed, entryIn, putOnLine}
+use Rattle.tables.specs.Steps.{room, readyRule}
 use Rattle.replay.specs.Watched.{Held, held}
-
--- the next call may be made: the host has its power and the carrier (duty 3), and its user was shown what was handed out (duty 14)
-abbrev pub readyRule : List ℕ → ℕ
-readyRule p = cond (eqb (getD p 4 0) 0) (cond (eqb (getD p 5 0) 0) 0 14) 3
 
 -- Doc 9705 2.3.5.5.2.3 and 2.3.5.5.2.4: how a centre answers a forward of this version
 abbrev pub resultOf : ℕ → ℕ → ℕ → ℕ
@@ -28,12 +25,8 @@ firstRule p q lowest highest number =
     (cond (ltb (entryIn q 0 0) lowest) 7
     (cond (ltb highest (entryIn q 0 0)) 7 (cond (eqb (entryIn q 0 1) number) 0 12)))) (readyRule p)
 
--- 23: there is no room for it
-abbrev pub roomOf : Bool → ℕ
-roomOf b = cond b 0 23
-
 abbrev pub putHeld : Leaves → Held
-putHeld x = held (roomOf (x .answer)) (x .page)
+putHeld x = held (room (x .answer)) (x .page)
 
 -- the start goes on the line, and the record waits for its answer
 abbrev pub started : List ℕ → ℕ → ℕ → Held

@@ -2,7 +2,7 @@
 // IDLE. The pages are those of the two ends of a dialogue. Each function answers the rule that the move breaks, or 0.
 ghost use mathlib.Core.Path.{_≡_};
 ghost use Rattle.replay.specs.Watched.{held};
-ghost use Rattle.replay.specs.Centres.{readyRule, resultOf, isAwaited, firstRule, roomOf, forwardHeld};
+ghost use Rattle.replay.specs.Centres.{resultOf, isAwaited, firstRule, forwardHeld};
 use crate::lines::Line;
 use crate::page::Fate;
 use crate::page::Place;
@@ -19,6 +19,8 @@ use crate::page::tell;
 use crate::page::trim;
 use crate::rules::Rule;
 use crate::steps;
+use crate::steps::ready;
+use crate::steps::room;
 use crate::watched::Spot;
 use crate::watched::keep;
 use crate::watched::look;
@@ -32,25 +34,6 @@ impl Link {
     pub const ANSWER: u64 = 9;
 
     pub const ANSWERED: u64 = 4;
-}
-
-fn room(b: bool) -> u64
-    ensures { λ r. ⌜ r ≡ roomOf b ⌝ }
-{
-    if b { 0 } else { Rule::ROOM }
-}
-
-// May the next call be made?
-fn ready(p: &[u64]) -> u64
-    ensures { λ r. ⌜ r ≡ readyRule (now (p .entry)) ⌝ }
-{
-    if get(p, Place::POWER) != 0 {
-        return 3;
-    }
-    if get(p, Place::WAITING) != 0 {
-        return 14;
-    }
-    0
 }
 
 // A centre by its record: number, version, whether it answers forwards. The one that forwards comes first, with no lower number than the other.

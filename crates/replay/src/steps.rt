@@ -34,7 +34,7 @@ use control::Side;
 use moves::Done;
 use moves::Held;
 
-fn room(b: bool) -> u64
+pub(crate) fn room(b: bool) -> u64
     ensures { λ r. ⌜ r ≡ room b ⌝ }
 {
     if b { 0 } else { Rule::ROOM }
@@ -53,7 +53,7 @@ fn is_down(p: &[u64]) -> bool
 }
 
 // May the next call be made?
-fn ready(p: &[u64]) -> u64
+pub(crate) fn ready(p: &[u64]) -> u64
     ensures { λ r. ⌜ r ≡ readyRule (now (p .entry)) ⌝ }
 {
     if !is_up(p) {

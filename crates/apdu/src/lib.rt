@@ -1,6 +1,8 @@
 // AircraftPDUs and GroundPDUs (Doc 9705, 2.3.4.2), read from lent bytes and written to a lent buffer in unaligned PER. No state is in here.
 // Reading tells the kind, its numbers, and where the parts of the message data stand in the lent bytes; nothing is copied.
 // Writing takes the parts from where they stand, and writes once everything that can be refused is decided.
+#![tactic(auto)]
+
 ghost use Rattle.std.specs.Prelude.{◌≡◌};
 ghost use Rattle.apdu.specs.Pdus.{lent};
 ghost use Rattle.apdu.specs.Reading.{apdu_at};
@@ -36,7 +38,7 @@ pub use shape::data_fits;
 use words::Limit;
 
 // The alternatives of both types. Start is startdown (AircraftPDUs) or startup (GroundPDUs).
-#[derive(Drop)]
+#[derive(Clone, Copy)]
 pub enum Kind {
     AbortUser,
     AbortProvider,
@@ -47,7 +49,7 @@ pub enum Kind {
 }
 
 // A field that may be absent.
-#[derive(Drop)]
+#[derive(Clone, Copy)]
 pub enum Part {
     Absent,
     Given(Span),
@@ -55,7 +57,7 @@ pub enum Part {
 
 // Message data (ProtectedUplinkMessage, ProtectedDownlinkMessage): the algorithm identifier in octets, the CPDLC message and the integrity
 // check in bits.
-#[derive(Drop)]
+#[derive(Clone, Copy)]
 pub struct Data {
     pub identifier: Part,
     pub message: Part,
@@ -77,7 +79,7 @@ impl Data {
 }
 
 // Three whole numbers: a date is year, month, day; a time is hours, minutes, seconds.
-#[derive(Drop)]
+#[derive(Clone, Copy)]
 pub struct Triple {
     pub first: u64,
     pub second: u64,
@@ -85,7 +87,7 @@ pub struct Triple {
 }
 
 // What stands before the message's bits in a forward message (ATCForwardMessage).
-#[derive(Drop)]
+#[derive(Clone, Copy)]
 pub struct Heading {
     pub date: Triple,
     pub time: Triple,
@@ -137,7 +139,7 @@ impl Heading {
 }
 
 // A forward message: its heading, and where the message's bits stand.
-#[derive(Drop)]
+#[derive(Clone, Copy)]
 pub struct Forward {
     pub heading: Heading,
     pub message: Span,
@@ -211,7 +213,7 @@ pub enum Decoded {
 
 // What writing finds: the count of bits before the padding; or, with every byte as it was, a buffer under the least size, or an argument
 // that breaks a size, its type or its codes, or is more than the lent bytes hold.
-#[derive(Drop)]
+#[derive(Clone, Copy)]
 pub enum Written {
     Bits(usize),
     Room,

@@ -1,5 +1,7 @@
 // Answers requests about APDUs, a line for each, so that they can be held to an independent coder: tests/apdu/PROTOCOL.md says how requests
 // and answers are written. Input past 65,536 bytes is not looked at.
+#![tactic(auto)]
+
 ghost use Rattle.std.specs.Prelude.{◌^◌, ◌<◌, ◌≤◌};
 
 use apdu::{Apdu, Data, Decoded, Forward, Heading, Part, Triple, Written};

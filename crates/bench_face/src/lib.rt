@@ -1,4 +1,6 @@
 // The reader and the copier of bits as calls from C, for counting their instructions. No card exports them.
+#![tactic(auto)]
+
 ghost use Rattle.std.specs.Prelude.{◌≡◌};
 ghost use Rattle.bench_face.specs.Bench.{bench_copy, bench_read, copied};
 

@@ -1,6 +1,8 @@
 // Bits of lent bytes: a run of bits read as a number, written, or copied, at any bit position.
 // Every function takes every argument. Only the first `end` bits of a slice count (all that there are, where `end` is more):
 // what does not lie within them is refused, and then no byte changes.
+#![tactic(auto)]
+
 mod common;
 mod copier;
 mod eight_bytes;

@@ -2,6 +2,8 @@
 // the job that each belongs to. The host keeps it in a lent range of a fixed size, beside the record of the dialogue, and the book does not
 // look at that.
 // Every function takes every argument; what it refuses changes nothing.
+#![tactic(auto)]
+
 ghost use Rattle.std.specs.Prelude.{◌≡◌};
 ghost use Rattle.book.specs.Books.{refusal_number};
 

@@ -1,5 +1,7 @@
 // The card: what the host calls from C, with numbers and byte ranges only. A number of eight bytes answers each call: a refusal, or what
 // the call did (crate step, specs/Packed.antt, and this crate's specs).
+#![tactic(auto)]
+
 mod arriving; // arriving.rt: the broker's envelopes as they arrive
 mod compared; // compared.rt: two recordings compared
 mod data; // data.rt: the parts of message data

@@ -1,4 +1,6 @@
 // The APDUs of a record's edition: each function asks which edition it is, and crate apdu (type 22) or crate plain (type 2) does it.
+#![tactic(auto)]
+
 mod reading;
 mod writing;
 

@@ -4,6 +4,8 @@
 //
 // It prints what peat-compare prints. The first word says what was found (equal, differs, rest, refused), since the kit gives a program no
 // status. What is found is what the library answers, whose contract is proved; this program reads the files and writes the words.
+#![tactic(auto)]
+
 use bits::Read;
 use libc::{STDERR_FILENO, STDOUT_FILENO};
 use recordings::Compared;

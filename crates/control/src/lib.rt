@@ -1,17 +1,19 @@
 // The finite control of both machines, once over the side: state and DSC, and what a call or a primitive does to them.
 // It decides every next state and every entry on the line; security, reasons, message data and jobs ride beside it.
+#![tactic(auto)]
+
 ghost use Rattle.std.specs.Prelude.{◌≡◌};
 ghost use Rattle.control.specs.Control.{number, is, same, within, other, may_start, ender, marked, started, ended, takes, goes, takes_forward, forwarding, awaits_response, waits, expects, after};
 
 // The side that a machine stands at.
-#[derive(Drop)]
+#[derive(Clone, Copy)]
 pub enum Side {
     Air,
     Ground,
 }
 
 // Doc 9880 3.5.5.1.5. FORWARD is the ground machine's alone.
-#[derive(Drop)]
+#[derive(Clone, Copy)]
 pub enum State {
     Idle,
     StartReq,
@@ -21,7 +23,7 @@ pub enum State {
     Forward,
 }
 
-#[derive(Drop)]
+#[derive(Clone, Copy)]
 pub struct Control {
     pub state: State,
     pub dsc: bool,
@@ -35,14 +37,14 @@ impl Control {
     };
 }
 
-#[derive(Drop)]
+#[derive(Clone, Copy)]
 pub enum Reply {
     Accepted,
     Rejected,
 }
 
 // What the user asks and the host reports; a flag says whether a primitive is the DSC- (true) or the CPDLC- one, of a start its mode.
-#[derive(Drop)]
+#[derive(Clone, Copy)]
 pub enum Call {
     StartRequest(bool),
     StartResponse(bool, Reply),
@@ -56,7 +58,7 @@ pub enum Call {
 
 // The dialogue-service primitives that reach an end. A D-START indication tells its mode (true: dsc);
 // DTurnedAway is a D-START confirmation that the dialogue service makes itself, or "rejected (transient)".
-#[derive(Drop)]
+#[derive(Clone, Copy)]
 pub enum Primitive {
     DStart(bool),
     DStartCnf(Reply),

@@ -1,8 +1,10 @@
 // The editions of CPDLC that a record may be of, and what the clauses ask of one.
+#![tactic(auto)]
+
 ghost use Rattle.std.specs.Prelude.{◌≡◌};
 ghost use Rattle.editions.specs.Editions.{edition_of, is_type, secures, spares, type_of, user_reasons};
 
-#[derive(Drop)]
+#[derive(Clone, Copy)]
 pub enum Edition {
     // Application type 2.
     Plain,

@@ -1,4 +1,6 @@
 // The message elements of a CPDLC message (Doc 9705 2.3.4.3): an element with its argument read, measured and written.
+#![tactic(auto)]
+
 pub mod arguments;
 pub mod measuring;
 pub mod numbers;

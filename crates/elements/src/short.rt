@@ -11,7 +11,7 @@ use crate::values::{Element, Level, LevelType, Time};
 use kinds::ArgumentKind;
 
 // Known where the argument is of its type, and one number.
-#[derive(Drop)]
+#[derive(Clone, Copy)]
 pub struct Short {
     pub known: bool,
     pub bits: usize,

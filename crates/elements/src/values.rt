@@ -7,28 +7,28 @@ use fields::{Field, Refusal};
 
 // A level in one unit: 0 feet (tens), 1 metres, 2 flight level, 3 metric flight level (tens of metres).
 // Feet and metres, which may be below zero, are counted from the lowest that the type has: -60 and -30.
-#[derive(Drop)]
+#[derive(Clone, Copy)]
 pub struct LevelType {
     pub unit: u8,
     pub number: u16,
 }
 
 // A level, or the two between which a block lies.
-#[derive(Drop)]
+#[derive(Clone, Copy)]
 pub struct Level {
     pub block: bool,
     pub first: LevelType,
     pub second: LevelType,
 }
 
-#[derive(Drop)]
+#[derive(Clone, Copy)]
 pub struct Time {
     pub hours: u8,
     pub minutes: u8,
 }
 
 // An element and its argument. The characters of an argument stand in a text beside the message; a place holds how many are its own.
-#[derive(Drop)]
+#[derive(Clone, Copy)]
 pub struct Element {
     pub number: u8,
     pub level: Level,
@@ -119,7 +119,7 @@ pub enum TimeRead {
     Refused(Refusal),
 }
 
-#[derive(Drop)]
+#[derive(Clone, Copy)]
 pub enum Step {
     Next(usize),
     Refused(Refusal),
@@ -138,7 +138,7 @@ pub struct ElementRead {
 }
 
 // What measuring finds: how many bits a value takes, or that it is none of its type.
-#[derive(Drop)]
+#[derive(Clone, Copy)]
 pub enum Size {
     Bits(usize),
     Shape,

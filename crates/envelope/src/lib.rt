@@ -1,5 +1,7 @@
 // The broker's envelope (document 01, "The broker envelope"): kind, job number and bit count, each in groups of seven
 // bits, and a body of that many bits. An envelope is read at a byte position of lent bytes and written into a lent buffer.
+#![tactic(auto)]
+
 ghost use Rattle.std.specs.Prelude.{◌≡◌};
 ghost use Rattle.envelope.specs.Envelopes.{refusal_number, written_number};
 
@@ -11,7 +13,7 @@ mod putting; // putting.rt: bytes and numbers into a buffer
 use words::Limit;
 
 // Why an envelope is refused.
-#[derive(Drop)]
+#[derive(Clone, Copy)]
 pub enum EnvelopeRefusal {
     // it ends inside
     Cut,
@@ -50,7 +52,7 @@ impl Number {
 }
 
 // An envelope in lent bytes: what it says, where its body begins, and where the next envelope begins.
-#[derive(Drop)]
+#[derive(Clone, Copy)]
 pub struct Envelope {
     pub kind: u64,
     pub job: u64,

@@ -1,12 +1,14 @@
 // Prints the envelopes of standard input: a header, a line for each, and the end or the refusal (document 01, "The broker
 // envelope"). The input is read fragment by fragment, as it arrives. The texts are made by the library, which proves that together
 // they are the text of the whole input (`printed_whole`, fragments/Printed); this program reads, and writes what the library made.
+#![tactic(auto)]
+
 use fragments::Reported;
 use fragments::reporting::{is_refused, report_end, report_lines, report_title};
 use fragments::stored::{Loaded, make_fresh};
 
 // What follows a fragment: another; the last line; or nothing, since a read or a write failed.
-#[derive(Drop)]
+#[derive(Clone, Copy)]
 enum Next {
     More,
     Last,

@@ -11,6 +11,8 @@
 // refusal with its bit and a mark under the byte. Whether it is accepted, and where it is refused, is what the card's own readers answer; the fields
 // before that are read by the same readers of fields.
 // Input of more than 65,536 bytes is not looked at, and the program says so.
+#![tactic(auto)]
+
 mod alternatives;
 mod forwards;
 mod lines;

@@ -1,6 +1,8 @@
 // Fields of X.691, unaligned: a reader and a writer for each kind of field, at any bit position of lent bytes.
 // Readers look at the first `end` bits of the slice; a fault is the field's own, and is handed up unchanged.
 // Writers write the whole field, or refuse and change nothing.
+#![tactic(auto)]
+
 ghost use Rattle.std.specs.Prelude.{◌≡◌};
 ghost use Rattle.fields.specs.Refusals.{number_of, packed};
 
@@ -18,7 +20,7 @@ pub use numbers::{
 pub use strings::{Lead, contents, put_led_string, put_string, sized, string};
 
 // What a decoder refuses for: document 01, 10 to 17.
-#[derive(Drop)]
+#[derive(Clone, Copy)]
 pub enum Fault {
     Short,
     Range,
@@ -32,7 +34,7 @@ pub enum Fault {
 
 // A refusal: the fault, and the bit at which its field begins. Of TAIL it is the first bit that should not be there. The count begins with the first
 // bit of the lent bytes. `refused_at` makes it, and every decoder hands it up unchanged.
-#[derive(Drop)]
+#[derive(Clone, Copy)]
 pub struct Refusal {
     pub fault: Fault,
     pub at: usize,

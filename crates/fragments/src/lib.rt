@@ -1,5 +1,7 @@
 // Envelopes as they arrive (document 02, E4): a reader that keeps an unfinished envelope between calls, in a lent range of one
 // size, and hands out each finished one. A fragment is read together with what is held, by the reader of whole strings.
+#![tactic(auto)]
+
 use envelope::{Envelope, EnvelopeRefusal};
 
 pub mod ending; // ending.rt: the input has ended
@@ -11,7 +13,7 @@ mod missing; // missing.rt: what an unfinished envelope lacks
 mod putting; // putting.rt: bytes and zeros into the record
 
 // What a call answers.
-#[derive(Drop)]
+#[derive(Clone, Copy)]
 pub enum Taken {
     // an envelope is finished: where it stands in the record, and the bytes of the fragment that it took
     Whole(Envelope, usize),

@@ -1,5 +1,7 @@
 // The front of an APDU: the alternative of AircraftPDUs or GroundPDUs, and the padding at its end. What stands between is a body, of which this
 // crate knows no more than `Body` says. No function is in here.
+#![tactic(auto)]
+
 use fields::Refusal;
 use machine::event::UserData;
 use pdus::Content;

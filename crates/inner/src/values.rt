@@ -6,7 +6,7 @@ use elements::values::{Element, Step, Time};
 use fields::Refusal;
 use words::Limit;
 
-#[derive(Drop)]
+#[derive(Clone, Copy)]
 pub struct DateTime {
     pub year: u16,
     pub month: u8,
@@ -16,7 +16,7 @@ pub struct DateTime {
 }
 
 // The reference is zero where there is none. `acknowledged` says that a logical acknowledgement is required.
-#[derive(Drop)]
+#[derive(Clone, Copy)]
 pub struct Header {
     pub identification: u8,
     pub referenced: bool,

@@ -1,9 +1,11 @@
 // The argument kind of a message element, by direction and element number (Doc 9705 2.3.4.3).
+#![tactic(auto)]
+
 ghost use Rattle.std.specs.Prelude.{◌≡◌, ◌<◌, length};
 ghost use Rattle.kinds.specs.Elements.{rows, kind_at, kind_of};
 
 // Which way a message goes: a downlink from the aircraft, an uplink to it.
-#[derive(Drop)]
+#[derive(Clone, Copy)]
 pub enum Direction {
     Downlink,
     Uplink,
@@ -21,7 +23,7 @@ impl Direction {
 }
 
 // What an element carries: a kind of argument that document 01 lists, or one that is not carried.
-#[derive(Drop)]
+#[derive(Clone, Copy)]
 pub enum ArgumentKind {
     NotCarried,
     None,

@@ -1,4 +1,6 @@
 // An inner message in a lent range of one fixed size, as a host keeps it that has numbers and byte ranges only.
+#![tactic(auto)]
+
 mod bytes;
 pub mod calls;
 mod characters;

@@ -10,7 +10,7 @@ use control::{Side, may_start};
 use editions::Edition;
 
 // The user data of a primitive: none, not a valid PDU, or an APDU with its numbers. Message data is not held here.
-#[derive(Drop)]
+#[derive(Clone, Copy)]
 pub enum UserData {
     Absent,
     NotValid,
@@ -25,7 +25,7 @@ pub enum UserData {
     ForwardResponse(u64),
 }
 
-#[derive(Drop)]
+#[derive(Clone, Copy)]
 pub struct Qos {
     pub priority: u64,
     // Residual error rate.
@@ -35,7 +35,7 @@ pub struct Qos {
 }
 
 // The user's requests and responses. A flag before the other parameters says whether it is the DSC- (true) or the CPDLC- one.
-#[derive(Drop)]
+#[derive(Clone, Copy)]
 pub enum UserPrimitive {
     // Mode, Class of Communication, Security Required.
     StartServiceRequest(u64, u64, u64),
@@ -52,7 +52,7 @@ pub enum UserPrimitive {
 }
 
 // The dialogue service's indications and confirmations, but for their user data. Peer identifiers stay with the host.
-#[derive(Drop)]
+#[derive(Clone, Copy)]
 pub enum ServicePrimitive {
     // What the Calling Peer ID is, security, quality of service, version (0: none).
     DStartIndication(u64, u64, Qos, u64),
@@ -67,7 +67,7 @@ pub enum ServicePrimitive {
     DPAbortIndication,
 }
 
-#[derive(Drop)]
+#[derive(Clone, Copy)]
 pub enum Event {
     User(UserPrimitive),
     // CPDLC-forward request, which begins no dialogue: Class of Communication, Security Required.

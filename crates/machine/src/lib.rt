@@ -1,5 +1,7 @@
 // The CPDLC air machine and ground machine: Doc 9880 3.5.3 and 3.5.4, Doc 9705 2.3.5, as document 01 settles them.
 // Steps over a record by value. An APDU is a value here, and no bytes are handled.
+#![tactic(auto)]
+
 mod calls;
 pub mod event;
 mod exceptions;

@@ -5,7 +5,7 @@ ghost use Rattle.machine.specs.Outcome.{refusal_number, is_none, refused, outcom
 use crate::event::{Qos, UserData};
 use crate::record::Record;
 
-#[derive(Drop)]
+#[derive(Clone, Copy)]
 pub enum StepRefusal {
     None,
     Shape,
@@ -16,7 +16,7 @@ pub enum StepRefusal {
 }
 
 // The dialogue-service primitive that is invoked; its user data is the outcome's APDU.
-#[derive(Drop)]
+#[derive(Clone, Copy)]
 pub enum Invoked {
     Silent,
     // Quality of Service, Security Requirements.
@@ -36,7 +36,7 @@ pub enum Invoked {
 }
 
 // The user primitive that is invoked; a flag says whether it is the DSC- (true) or the CPDLC- one.
-#[derive(Drop)]
+#[derive(Clone, Copy)]
 pub enum Told {
     Untold,
     // Class of Communication.
@@ -55,7 +55,7 @@ pub enum Told {
     ForwardConfirmation(u64, u64),
 }
 
-#[derive(Drop)]
+#[derive(Clone, Copy)]
 pub struct Outcome {
     pub refusal: StepRefusal,
     pub next: Record,

@@ -18,7 +18,7 @@ pub struct Configuration {
     pub edition: Edition,
 }
 
-#[derive(Drop)]
+#[derive(Clone, Copy)]
 pub struct Record {
     pub control: Control,
     // t-start runs.

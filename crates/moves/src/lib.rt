@@ -1,12 +1,14 @@
 // What a call of the user and a primitive that is handed over do to what a record holds: the machine on which the theorem of the duties runs (crates pair and
 // duties), as functions. The program replay makes the moves of a recorded day with them (docs/HOST.md, "A recorded day").
+#![tactic(auto)]
+
 ghost use Rattle.std.specs.Prelude.{◌≡◌};
 ghost use Rattle.moves.specs.Machine.{is_message, is_start, is_abort, is_opening, is_data, may_do, moved_by, called_of, met_by, received_of};
 
 use control::{Call, Control, Primitive, Side, State};
 
 // What a record holds: state and DSC, the number of its dialogue, the highest job that it took.
-#[derive(Drop)]
+#[derive(Clone, Copy)]
 pub struct Held {
     pub control: Control,
     pub number: u64,

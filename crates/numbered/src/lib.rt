@@ -1,5 +1,7 @@
 // The machine's step with a dialogue number (document 02, E9): the check, the step as it is, and the number that the record holds
 // afterwards.
+#![tactic(auto)]
+
 ghost use Rattle.std.specs.Prelude.{◌≡◌};
 ghost use Rattle.numbered.specs.Numbers.{user_starts, service_starts, is_start, is_service, is_stale, held_after, numbered_step};
 

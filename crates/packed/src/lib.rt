@@ -1,4 +1,6 @@
 // The number that a call answers.
+#![tactic(auto)]
+
 ghost use Rattle.std.specs.Prelude.{◌≡◌, ◌+◌, ◌*◌, ◌<◌};
 ghost use Rattle.packed.specs.Packed.{codes, invoked_number, invoked_version, packed, primitives, three, told_number, told_version, version_number};
 ghost use Rattle.stored.specs.Stored.{flag};

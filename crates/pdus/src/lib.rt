@@ -1,14 +1,16 @@
 // What is known of an APDU between its bytes and the machine: which type it is of, and where its content stands. No function is in here.
 
+#![tactic(auto)]
+
 // Which of the two types an APDU is of: the air end writes AircraftPDUs, the ground end GroundPDUs.
-#[derive(Drop)]
+#[derive(Clone, Copy)]
 pub enum PduType {
     AircraftPdus,
     GroundPdus,
 }
 
 // Contents in lent bytes: the place where they begin, and their count of items.
-#[derive(Drop)]
+#[derive(Clone, Copy)]
 pub struct Span {
     pub at: usize,
     pub count: usize,

@@ -1,4 +1,6 @@
 // Message data of application type 2: a message in place, without a length before it; in a start, a message or none; in a forward, elements in place.
+#![tactic(auto)]
+
 mod giving;
 mod reading;
 

@@ -1,5 +1,7 @@
 // Asks the functions of `bits` and `fields` one by one: reads requests from standard input, and prints a line for each.
 // tests/fields/PROTOCOL.md says what a request is and what is printed. Input past 65,536 bytes is not looked at.
+#![tactic(auto)]
+
 ghost use Rattle.std.specs.Prelude.{◌≤◌, length};
 
 mod readers;

@@ -1,5 +1,7 @@
 // The APDUs of application type 22 (Doc 9880) as the step takes them: what arrived is a `Found`, what goes out is a PDU and its content. The codec
 // is crate apdu's; here its answers are brought to the form that the front has.
+#![tactic(auto)]
+
 mod places;
 mod reading;
 mod writing;

@@ -1,4 +1,6 @@
 // What an APDU is, from its first bits (document 02, E11): for whoever routes it. Its leading fields lie within the first byte.
+#![tactic(auto)]
+
 ghost use Rattle.std.specs.Prelude.{◌≡◌};
 ghost use Rattle.pdus.specs.declared.PduType.TheVariants.{AircraftPdus, GroundPdus};
 ghost use Rattle.quick.specs.Leading.{byte_lead, leading_call};

@@ -1,7 +1,7 @@
 // A line of a recorded day: the side, a word, and up to four numbers, with one space before each.
 
 // The side is the air; the word by its number, 0 where it is none; how many numbers there are; the numbers.
-#[derive(Drop)]
+#[derive(Clone, Copy)]
 pub struct Line {
     pub air: bool,
     pub word: u64,

@@ -5,6 +5,8 @@
 // Each line of FILE is a move of one of the two hosts, or shows something of it. The program makes the same moves on the model of which the theorem of the
 // duties holds, and names the first line that the model does not make, with the rule that it breaks; or says that every line is a move of the model.
 // A line has at most 127 bytes.
+#![tactic(auto)]
+
 mod forwards;
 mod lines;
 mod page;
@@ -284,7 +286,7 @@ fn finish(r: Run) {
 
 // What is known between two lines: the side that starts, or forwards; that there are two centres; how many lines there were; how many bytes of the next one are
 // there; whether it is over.
-#[derive(Drop)]
+#[derive(Clone, Copy)]
 struct Run {
     from_air: bool,
     centres: bool,

@@ -1,4 +1,6 @@
 // The state tables of Doc 9705 as rows (table.rt), and a plain engine that walks them (document 02, E10). Crate rows has what it gives.
+#![tactic(auto)]
+
 mod codes;
 mod effects;
 mod events;

@@ -1,4 +1,6 @@
 // A record as the host keeps it: a lent range of a fixed size, of which every byte has its meaning.
+#![tactic(auto)]
+
 ghost use Rattle.std.specs.Prelude.{◌≡◌, ◌<◌, length};
 ghost use Rattle.bits.specs.Bits.{bits_of};
 ghost use Rattle.bits.specs.Put.{put_bits};

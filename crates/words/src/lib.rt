@@ -1,8 +1,10 @@
 // What every crate may know: laws of the words that every definition uses (a choice by a test, tests joined, a contract that is one equation), and
 // the limits and refusals of document 01 that more than one crate keeps.
 
+#![tactic(auto)]
+
 // A number that a call is held to.
-#[derive(Drop)]
+#[derive(Clone, Copy)]
 pub struct Limit {
     pub most: usize,
 }

@@ -1,0 +1,117 @@
+use Rattle.apdu.proofs.Writers.{identifier_room}
+use Rattle.apdu.specs.Pdus.{lent}
+use native.Mathlib.Omega.{arith}
+use Prim.Native.Nat.{◌+◌, ◌*◌, ◌<◌, ◌≤◌, ◌^◌}
+use lib.Pow.{pow_mono}
+use Rattle.apdu.specs.Sizes.{identifier_least, identifier_most, message_most, check_most, octet, bit}
+use Rattle.apdu.proofs.Bounds.{data_fits_is}
+use Rattle.apdu.proofs.Writers.{wider, part_wider, identifier_fits, there_lt, front_lt, no_identifier, an_identifier, no_identifier_room, an_identifier_room, room_behind, behind, same_bits, from_start}
+use Rattle.apdu.proofs.data_writer.put_content.Goals as goal
+
+pub overflow_mul-v : goal.overflow_mul-v
+overflow_mul-v c =
+    let few : 2 ^ c.args.lead ≤ 2 ^ 5 = pow_mono {i = c.args.lead} {j = 5} c.requires.0 in
+    omega (arith, few, c.requires.1)
+
+pub overflow_mul-v-2 : goal.overflow_mul-v-2
+overflow_mul-v-2 c = omega (arith, c.presence.ensures, there_lt c.args.d.identifier)
+
+pub overflow_add-v : goal.overflow_add-v
+overflow_add-v c =
+    let small : 2 * c.presence.result + c.presence-2.result < 4 = omega (
+      arith,
+      c.presence.ensures,
+      c.presence-2.ensures,
+      there_lt c.args.d.identifier,
+      there_lt
+          c.args.d.message,
+    ) in
+    omega (arith, small)
+
+pub overflow_add-v-2 : goal.overflow_add-v-2
+overflow_add-v-2 c =
+    let few : 2 ^ c.args.lead ≤ 2 ^ 5 = pow_mono {i = c.args.lead} {j = 5} c.requires.0 in
+    let small : 2 * c.presence.result + c.presence-2.result < 4 = omega (
+      arith,
+      c.presence.ensures,
+      c.presence-2.ensures,
+      there_lt c.args.d.identifier,
+      there_lt
+          c.args.d.message,
+    ) in
+    omega (arith, small, few, c.requires.1)
+
+pub put_message-requires : goal.put_message-requires
+put_message-requires c =
+    let small : 2 * c.presence.result + c.presence-2.result < 4 = omega (
+      arith,
+      c.presence.ensures,
+      c.presence-2.ensures,
+      there_lt c.args.d.identifier,
+      there_lt
+          c.args.d.message,
+    ) in (
+      omega (arith, c.requires.0),
+      front_lt c.args.lead c.args.led _ c.requires.1 small,
+      part_wider
+          (lent c.args.msgs.now) bit 0 message_most _ (data_fits_is _ _ _ _ c.requires.2).message,
+      wider
+          (lent c.args.checks.now) bit 0 check_most _ (data_fits_is _ _ _ _ c.requires.2).check,
+      no_identifier_room (lent c.args.ids.now) (lent c.args.msgs.now)
+          (lent c.args.checks.now) c.args.d c.args.lead c.args.led
+          c.presence.result c.presence-2.result c.presence.ensures
+          c.presence-2.ensures _ c.in-Absent.is c.requires.3,
+    )
+
+pub put_items-p-requires : goal.put_items-p-requires
+put_items-p-requires c =
+    let small : 2 * c.presence.result + c.presence-2.result < 4 = omega (
+      arith,
+      c.presence.ensures,
+      c.presence-2.ensures,
+      there_lt c.args.d.identifier,
+      there_lt
+          c.args.d.message,
+    ) in (
+      omega (arith, c.requires.0),
+      front_lt c.args.lead c.args.led _ c.requires.1 small,
+      omega arith,
+      omega arith,
+      identifier_fits (lent c.args.ids.now) octet identifier_least identifier_most _ _
+          c.in-Given.is (data_fits_is _ _ _ _ c.requires.2).identifier,
+      identifier_room
+          (lent c.args.ids.now) (lent c.args.msgs.now) (lent c.args.checks.now) c.args.d
+          c.args.lead c.args.led c.presence.result c.presence-2.result
+          c.presence.ensures c.presence-2.ensures c.args.buf.now _
+          c.in-Given.is c.requires.3,
+    )
+
+pub put_message-requires-in-Given : goal.put_message-requires-in-Given
+put_message-requires-in-Given c = (
+  omega arith,
+  omega arith,
+  part_wider (lent c.args.msgs.now) bit 0 message_most _
+      (data_fits_is _ _ _ _ c.requires.2).message,
+  wider (lent c.args.checks.now) bit 0 check_most _
+      (data_fits_is _ _ _ _ c.requires.2).check,
+  room_behind c.args.buf.now _ 0 _ _ _ (an_identifier_room
+      (lent c.args.ids.now) (lent c.args.msgs.now) (lent c.args.checks.now)
+      c.args.d c.args.lead c.args.led c.presence.result
+      c.presence-2.result c.presence.ensures c.presence-2.ensures
+      _ _ c.in-Given.is c.requires.3) c.put_items-p.ensures,
+)
+
+pub returns-in-Absent : goal.returns-in-Absent
+returns-in-Absent c =
+    from_start _ _ _ _ (same_bits _ _ 0 _ _ _ (no_identifier (lent c.args.ids.now) (lent c.args.msgs.now)
+    (lent c.args.checks.now) c.args.d c.args.lead c.args.led c.presence.result
+    c.presence-2.result c.presence.ensures c.presence-2.ensures
+    c.in-Absent.is) c.put_message.ensures)
+
+pub returns-in-Given : goal.returns-in-Given
+returns-in-Given c =
+    from_start _ _ _ _ (same_bits _ _ 0 _ _ _ (an_identifier (lent c.args.ids.now) (lent c.args.msgs.now)
+    (lent c.args.checks.now) c.args.d c.args.lead c.args.led
+    c.presence.result c.presence-2.result c.presence.ensures
+    c.presence-2.ensures _ c.in-Given.is) (behind c.args.buf.now _ _
+    0 _ _ _ _ c.put_items-p.ensures c.put_message-in-Given.ensures))

@@ -1,0 +1,7 @@
+use mathlib.Core.Path.{ap, ◌∙◌}
+use Rattle.apdu.specs.Writing.{write_out}
+use Rattle.apdu.proofs.Writers.{unled}
+use Rattle.apdu.proofs.heading_writer.put_forward.Goals as goal
+
+pub returns : goal.returns
+returns c = c.write_forward.ensures ∙ ap (write_out _ _) (unled _)

@@ -1,0 +1,21 @@
+use borrow.Author.Rules.{rules}
+use Prim.Native.Nat.{◌-◌}
+use mathlib.Core.Path.{refl, sym, ◌∙◌}
+use native.Mathlib.Omega.{arith}
+use lib.ListN.{length-set}
+use Rattle.book.proofs.Eights.{write_start, write_turn, write_done}
+use Rattle.card.proofs.mail.put_eight.Goals as goal
+
+pub loop-i-init : goal.loop-i-init
+loop-i-init c = (search rules, refl, write_start _ _ _)
+
+pub loop-i-preserved : goal.loop-i-preserved
+loop-i-preserved c = (
+  search rules,
+  simp length-set c.loop-i.invariant.1,
+  write_turn _ _ _ _ _ (omega arith)
+      c.loop-i.invariant.2,
+)
+
+pub returns : goal.returns
+returns c = sym (write_done _ _ _ _ (omega arith)) ∙ c.loop-i.invariant.2

@@ -1,0 +1,12 @@
+use native.Mathlib.Omega.{arith}
+use Rattle.fields.proofs.Writers.{refused, above_high}
+use Rattle.fields.proofs.Joined.{index_put_once}
+use Rattle.fields.proofs.numbers.put_extensible_index.Goals as goal
+
+pub returns-then-last-i : goal.returns-then-last-i
+returns-then-last-i c = refused _ _ _ _ _ (above_high 0 _ _ (omega arith) c.if-last-i.true)
+
+pub returns-then-n-lt64 : goal.returns-then-n-lt64
+returns-then-n-lt64 c =
+    index_put_once _ _ _ _ _ _ _ (omega arith) c.width-n.ensures c.if-n-lt64.true
+    c.if-last-i.false c.put_bits.ensures

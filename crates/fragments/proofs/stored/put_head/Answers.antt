@@ -1,0 +1,8 @@
+use mathlib.Core.Path.{refl}
+use Rattle.fragments.proofs.Storing.{head_put}
+use Rattle.fragments.proofs.stored.put_head.Goals as goal
+
+pub returns : goal.returns
+returns c =
+    head_put _ _ _ _ _ _ _ _ refl c.eight_bytes-back.ensures c.put_bytes.ensures
+    c.put_bytes-2.ensures

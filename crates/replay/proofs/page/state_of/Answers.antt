@@ -1,0 +1,7 @@
+use Rattle.replay.proofs.Loops.{other_state}
+use Rattle.replay.proofs.page.state_of.Goals as goal
+
+pub returns-in_default : goal.returns-in_default
+returns-in_default c =
+    other_state _ c.in_default.rest.0.0.0.0.1 c.in_default.rest.0.0.0.1 c.in_default.rest.0.0.1
+    c.in_default.rest.0.1 c.in_default.rest.1

@@ -1,0 +1,27 @@
+use mathlib.Core.Path.{refl}
+use Prim.Native.Nat.{◌-◌}
+use Rattle.replay.proofs.Loops.{tell_begins, tell_full, tell_refused, tell_turn, tell_ends}
+use borrow.Author.Rules.{rules}
+use Rattle.replay.proofs.page.tell.Goals as goal
+
+pub loop-i-init : goal.loop-i-init
+loop-i-init c = (refl, tell_begins _ _ _ c.get-n.ensures)
+
+pub returns-then-i-ge-OPENED_MOST : goal.returns-then-i-ge-OPENED_MOST
+returns-then-i-ge-OPENED_MOST c =
+    tell_full _ _ _ _ _ c.loop-i-test.true c.if-i-ge-OPENED_MOST.true c.loop-i.invariant.1
+
+pub returns-then-not-note : goal.returns-then-not-note
+returns-then-not-note c =
+    tell_refused _ _ _ _ _ _ _ _ c.loop-i-test.true c.if-i-ge-OPENED_MOST.false c.get-job.ensures
+    c.note.ensures c.if-not-note.true c.loop-i.invariant.1
+
+pub loop-i-preserved : goal.loop-i-preserved
+loop-i-preserved c = (
+  search rules,
+  tell_turn _ _ _ _ _ _ _ _ c.loop-i-test.true c.if-i-ge-OPENED_MOST.false
+      c.get-job.ensures c.note.ensures c.if-not-note.false c.loop-i.invariant.1,
+)
+
+pub returns : goal.returns
+returns c = tell_ends _ _ _ _ _ _ c.loop-i-test.false c.put.ensures c.loop-i.invariant.1

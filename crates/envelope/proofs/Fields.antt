@@ -85,14 +85,14 @@ module _ (s : List ℕ) (kind job bits at : ℕ) (t : Bool) (e : t ≡ ltb (leng
   unfolding body_at
   body_cut h = rw (← e, h)
 
-  pub body_is : (p : Bool) (n : ℕ) → t ≡ false → p ≡ is_padded bits (drop at s) → not p ≡ false → n ≡ bytes_for bits
+  pub body_is : (p : Bool) (n : ℕ) → t ≡ false → p ≡ is_padded bits (drop at s) → p ≡ true → n ≡ bytes_for bits
       → Is (at_body kind job bits at n) ≡ body_at s kind job bits at
   unfolding body_at
-  body_is p n h q k m = rw (← e, h, ← q, not-false p k, m)
+  body_is p n h q k m = rw (← e, h, ← q, k, m)
 
-  pub body_loud : (p : Bool) → t ≡ false → p ≡ is_padded bits (drop at s) → not p ≡ true → Refused Size ≡ body_at s kind job bits at
+  pub body_loud : (p : Bool) → t ≡ false → p ≡ is_padded bits (drop at s) → p ≡ false → Refused Size ≡ body_at s kind job bits at
   unfolding body_at
-  body_loud p h q k = rw (← e, h, ← q, not-true p k)
+  body_loud p h q k = rw (← e, h, ← q, k)
 
 -- ---- a number is taken apart: its refusal goes up unchanged, or its value goes on
 
@@ -106,13 +106,13 @@ went f g a v n k p q e = e ∙ rw (← p, q)
 -- ---- the three fields, by the code's tests
 
 module _ (limit : ℕ) (s : List ℕ) (kind at : ℕ) (t : Bool) (e : t ≡ is_kind kind) where
-  pub kind_refused : not t ≡ true → Refused Kind ≡ kind_at limit s kind at
+  pub kind_refused : t ≡ false → Refused Kind ≡ kind_at limit s kind at
   unfolding kind_at
-  kind_refused h = cond_no (is_kind kind) _ _ _ (sym e ∙ not-true t h) refl
+  kind_refused h = cond_no (is_kind kind) _ _ _ (sym e ∙ h) refl
 
-  pub kind_taken : (a : EnvelopeRead) → not t ≡ false → a ≡ then (number_at s at) (job_at limit s kind) → a ≡ kind_at limit s kind at
+  pub kind_taken : (a : EnvelopeRead) → t ≡ true → a ≡ then (number_at s at) (job_at limit s kind) → a ≡ kind_at limit s kind at
   unfolding kind_at
-  kind_taken a h p = cond_yes (is_kind kind) _ _ _ (sym e ∙ not-false t h) p
+  kind_taken a h p = cond_yes (is_kind kind) _ _ _ (sym e ∙ h) p
 
 module _ (limit : ℕ) (s : List ℕ) (kind job at : ℕ) where
   pub job_refused : job ≡ 0 → Refused Groups ≡ job_at limit s kind job at
@@ -124,10 +124,10 @@ module _ (limit : ℕ) (s : List ℕ) (kind job at : ℕ) where
   job_taken a h p = cond_no (eqb job 0) _ _ _ (ne_eqb job 0 h) p
 
 module _ (limit : ℕ) (s : List ℕ) (kind job bits at : ℕ) (t : Bool) (e : t ≡ size_fits limit kind bits) where
-  pub size_refused : not t ≡ true → Refused Size ≡ size_at limit s kind job bits at
+  pub size_refused : t ≡ false → Refused Size ≡ size_at limit s kind job bits at
   unfolding size_at
-  size_refused h = cond_no (size_fits limit kind bits) _ _ _ (sym e ∙ not-true t h) refl
+  size_refused h = cond_no (size_fits limit kind bits) _ _ _ (sym e ∙ h) refl
 
-  pub size_taken : (a : EnvelopeRead) → not t ≡ false → a ≡ body_at s kind job bits at → a ≡ size_at limit s kind job bits at
+  pub size_taken : (a : EnvelopeRead) → t ≡ true → a ≡ body_at s kind job bits at → a ≡ size_at limit s kind job bits at
   unfolding size_at
-  size_taken a h p = cond_yes (size_fits limit kind bits) _ _ _ (sym e ∙ not-false t h) p
+  size_taken a h p = cond_yes (size_fits limit kind bits) _ _ _ (sym e ∙ h) p

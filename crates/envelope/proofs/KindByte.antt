@@ -38,7 +38,7 @@ module _ (limit : ℕ) (s : List ℕ) (at : ℕ) where
   kind_cut h = rw (← cut_here s at 0 at 0 1 0 (gathers_none s at) h)
 
   module _ (b : ℕ) (t : Bool) (g : at < length s) (e : b ≡ get_or s at 0) (f : t ≡ is_kind b) where
-    pub kind_none : (a : EnvelopeRead) (n : Number) → not t ≡ true → n ≡ number_at s at → a ≡ refused_by n → a ≡ envelope_at limit s at
+    pub kind_none : (a : EnvelopeRead) (n : Number) → t ≡ false → n ≡ number_at s at → a ≡ refused_by n → a ≡ envelope_at limit s at
     unfolding envelope_at
     kind_none a n h p q =
         q ∙ rw p (elim (dec_lt b 128) [
@@ -46,8 +46,8 @@ module _ (limit : ℕ) (s : List ℕ) (at : ℕ) where
           | no k ↦ rw (long_number s at b g e (omega arith)) (long_none limit s at (b - 128) (number_in 8 (drop (at + 1) s)))
         ])
 
-    pub kind_went : (a : EnvelopeRead) → not t ≡ false → a ≡ then (number_at s (at + 1)) (job_at limit s b) → a ≡ envelope_at limit s at
+    pub kind_went : (a : EnvelopeRead) → t ≡ true → a ≡ then (number_at s (at + 1)) (job_at limit s b) → a ≡ envelope_at limit s at
     unfolding envelope_at
     kind_went a h p =
-        let k = kind_small b (sym f ∙ not-false t h) in
+        let k = kind_small b (sym f ∙ h) in
         rw (← one_byte s at b g e (omega (arith, k))) (kind_taken limit s b (at + 1) t f a h p)

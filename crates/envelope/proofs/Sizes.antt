@@ -154,13 +154,13 @@ module _ (room limit : ℕ) (out : List ℕ) (kind job bits : ℕ) (body : List 
   unfolding write_envelope
   no_room h = rw (lt-ltb (length out) room h)
 
-  pub no_shape : (t : Bool) → room ≤ length out → t ≡ fits limit kind job bits body → not t ≡ true
+  pub no_shape : (t : Bool) → room ≤ length out → t ≡ fits limit kind job bits body → t ≡ false
       → left Shape out ≡ write_envelope room limit out kind job bits body
   unfolding write_envelope
-  no_shape t h p q = rw (le-ltb (length out) room h, ← p, not-true t q)
+  no_shape t h p q = rw (le-ltb (length out) room h, ← p, q)
 
   pub is_written : (z : List ℕ) (end : ℕ) (t : Bool) → room ≤ length out → t ≡ fits limit kind job bits body
-      → not t ≡ false → length (bytes_of (content kind job bits body)) ≤ length out
+      → t ≡ true → length (bytes_of (content kind job bits body)) ≤ length out
       → Put out z 0 end (bytes_of (content kind job bits body))
       → left (Bytes end) z ≡ write_envelope room limit out kind job bits body
   unfolding write_envelope
@@ -169,7 +169,7 @@ module _ (room limit : ℕ) (out : List ℕ) (kind job bits : ℕ) (body : List 
       rw (
         le-ltb (length out) room h,
         ← p,
-        not-false t q,
+        q,
         r.bytes,
         sets-eq (bytes_of (content kind job bits body)) out 0
             (omega arith),
@@ -184,10 +184,10 @@ pub record Roomy (out : List ℕ) (kind job bits : ℕ) (body : List ℕ) : Type
   pub there : bytes_for bits ≤ length body
 
 pub is_roomy : (room limit : ℕ) (out : List ℕ) (kind job bits : ℕ) (body : List ℕ) (t : Bool) → largest limit ≤ room
-    → room ≤ length out → job < 2 ^ 64 → t ≡ fits limit kind job bits body → not t ≡ false
+    → room ≤ length out → job < 2 ^ 64 → t ≡ fits limit kind job bits body → t ≡ true
     → Roomy out kind job bits body
 is_roomy room limit out kind job bits body t l h w p q =
-    let e : fits limit kind job bits body ≡ true = sym p ∙ not-false t q in
+    let e : fits limit kind job bits body ≡ true = sym p ∙ q in
     let f = is_fit limit kind job bits body e w in
     let n = length_bytes (content kind job bits body) in
     let m = within_largest limit (content kind job bits body) f in

@@ -276,6 +276,7 @@ module _ (limit : ℕ) (z : Sized limit) where
   unfolding end_at loaded_by cut_short
   end_quiet (part p h) none g = rw (loads (part p []) g)
   end_quiet (whole p h) done g = rw (loads (whole p h) g)
+  end_quiet (refused r p) q g = elim q [ ]
 
   end_cut : (p x : ℕ) (xs : List ℕ) → Good limit (part p (x ∷ xs))
       → end_at limit (record_of limit (part p (x ∷ xs))) ≡ after (taken.Refused Cut) (record_of limit (refused Cut p))

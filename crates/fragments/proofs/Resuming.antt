@@ -7,7 +7,6 @@ use Prim.Native.Nat.{ℕ, ◌+◌, ◌-◌, ◌≤◌, ◌<◌}
 use native.Mathlib.Omega.{arith}
 use lib.ListN.{length, take, drop, length-append, length-drop, take-append-drop}
 use lib.Seq.{sets, length-sets, take-add, take_at, take-append-add, take_all, length-take-le}
-use borrow.Author.Tests.{not-true, not-false}
 use Rattle.envelope.specs.Envelopes.{envelope_at, largest}
 use Rattle.envelope.specs.declared.EnvelopeRefusal.{EnvelopeRefusal}
 use Rattle.envelope.specs.declared.EnvelopeRefusal.TheVariants.{Cut, Groups, Kind, Size}
@@ -28,8 +27,8 @@ use Rattle.fragments.proofs.Unfinished.{Sized, lacks, still_cut, takes_all, body
 is_live : (e : Envelope) → Is e ≡ Refused Cut → ⊥
 is_live e q = let o : ◌≡◌ {A = ℕ} 0 1 = cc in omega arith
 
-pub not_cut : (r : EnvelopeRefusal) (t : Bool) → t ≡ is_cut r → not t ≡ true → r ≡ Cut → ⊥
-not_cut r t e h p = let o : t ≡ true = e ∙ rw p in let q : t ≡ false = not-true t h in let z : ◌≡◌ {A = ℕ} 0 1 = cc in omega arith
+pub not_cut : (r : EnvelopeRefusal) (t : Bool) → t ≡ is_cut r → t ≡ false → r ≡ Cut → ⊥
+not_cut r t e h p = let o : t ≡ true = e ∙ rw p in let q : t ≡ false = h in let z : ◌≡◌ {A = ℕ} 0 1 = cc in omega arith
 
 refused_live : (r : EnvelopeRefusal) → (r ≡ Cut → ⊥) → Refused r ≡ Refused Cut → ⊥
 refused_live r h q = h (cc)
@@ -144,9 +143,9 @@ module _ (limit : ℕ) (b₀ f : List ℕ) (n : ℕ) (room : head + n ≤ length
           rw e (held_then (i + lack) y (omega (arith, r.within)) (omega (arith, o.long, r.same, r.count)) on)
 
       pub still_open : (x : EnvelopeRead) (q : EnvelopeRefusal) (t : Bool)
-          → x ≡ envelope_at limit (held_in (m + lack) y) 0 → x ≡ Refused q → t ≡ is_cut q → not t ≡ false
+          → x ≡ envelope_at limit (held_in (m + lack) y) 0 → x ≡ Refused q → t ≡ is_cut q → t ≡ true
           → envelope_at limit (held_in (m + lack) y) 0 ≡ Refused Cut
-      still_open x q t g h k v = sym g ∙ (h ∙ ap Refused (cut_is q (sym k ∙ not-false t v)))
+      still_open x q t g h k v = sym g ∙ (h ∙ ap Refused (cut_is q (sym k ∙ v)))
 
       pub resuming_more : (k : ℕ) → envelope_at limit (held_in (m + lack) y) 0 ≡ Refused Cut
           → k ≡ missing (held_in (m + lack) y) → Resuming limit b₀ y f n (m + lack) (i + lack) k
@@ -215,11 +214,11 @@ module _ (limit : ℕ) (b₀ f : List ℕ) (n : ℕ) (room : head + n ≤ length
 
       pub resume_refused : (p : ℕ) (w : List ℕ) (x : EnvelopeRead) (q : EnvelopeRefusal) (t : Bool) (o : Taken)
           → unfinished limit (held_in n b₀) ≡ true → x ≡ envelope_at limit (held_in (m + lack) y) 0 → x ≡ Refused q
-          → t ≡ is_cut q → not t ≡ true → after o w ≡ after (taken.Refused q) (record_of limit (refused q p))
+          → t ≡ is_cut q → t ≡ false → after o w ≡ after (taken.Refused q) (record_of limit (refused q p))
           → after o w ≡ resumed limit b₀ n p f
       unfolding resumed joined kept
       resume_refused p w x q t o u g h k v e =
-          e ∙ rw (u, whole_stays (Refused q) (refused_live q (not_cut q t k v)) (sym g ∙ h), ← k, not-true t v)
+          e ∙ rw (u, whole_stays (Refused q) (refused_live q (not_cut q t k v)) (sym g ∙ h), ← k, v)
 
     -- the rest of the fragment is put, and it is unfinished still
     pub resume_part : (p : ℕ) (y w : List ℕ) → unfinished limit (held_in n b₀) ≡ true → length f - i < lack
@@ -236,7 +235,7 @@ module _ (limit : ℕ) (b₀ f : List ℕ) (n : ℕ) (room : head + n ≤ length
         let q : y ≡ sets b₀ (head + n) f = put_on i (length f - i) b y r.within r.bytes (rw r.count at h) ∙ rw v in
         rw (u, s, padded_none n (held_in n b₀ ++ f) (omega arith), sets_behind b₀ head n f room, ← q, a, ← k)
 
-pub resume_shape : (limit : ℕ) (b f : List ℕ) (n p : ℕ) (t : Bool) → t ≡ unfinished limit (held_in n b) → not t ≡ true
+pub resume_shape : (limit : ℕ) (b f : List ℕ) (n p : ℕ) (t : Bool) → t ≡ unfinished limit (held_in n b) → t ≡ false
     → after taken.Shape b ≡ resumed limit b n p f
 unfolding resumed
-resume_shape limit b f n p t e h = rw (← e, not-true t h)
+resume_shape limit b f n p t e h = rw (← e, h)

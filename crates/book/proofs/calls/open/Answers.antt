@@ -14,17 +14,17 @@ returns-in_default c = open_none _ _ c.if-job-eq0.false (not_known _ _ c.load.en
 
 pub returns-then-n-eq-NUMBERS : goal.returns-then-n-eq-NUMBERS
 returns-then-n-eq-NUMBERS c =
-    let known : Known c.before.before.before.before.before.before.before.args.b.now c.in-Open.opened = is_known _ _ _ c.load.ensures c.in-Open.is in
+    let known : Known c.args.b.now c.in-Open.opened = is_known _ _ _ c.load.ensures c.in-Open.is in
     open_full _ _ c.if-job-eq0.false _ _ known c.lowest_free-n.ensures c.if-n-eq-NUMBERS.true
 
 pub bit_of-requires : goal.bit_of-requires
 bit_of-requires c =
-    let known : Known c.before.before.before.before.before.before.before.args.b.now c.in-Open.opened = is_known _ _ _ c.load.ensures c.in-Open.is in
+    let known : Known c.args.b.now c.in-Open.opened = is_known _ _ _ c.load.ensures c.in-Open.is in
     omega (arith, open_le _ _ c.if-job-eq0.false _ _ known c.lowest_free-n.ensures)
 
 pub overflow_add-opened : goal.overflow_add-opened
 overflow_add-opened c =
-    let known : Known c.before.before.before.before.before.before.before.args.b.now c.in-Open.opened = is_known _ _ _ c.load.ensures c.in-Open.is in
+    let known : Known c.args.b.now c.in-Open.opened = is_known _ _ _ c.load.ensures c.in-Open.is in
     omega (
       arith,
       open_fits _ _ c.if-job-eq0.false _ _ known c.lowest_free-n.ensures
@@ -34,22 +34,22 @@ overflow_add-opened c =
 
 pub put_eight-requires : goal.put_eight-requires
 put_eight-requires c =
-    let known : Known c.before.before.before.before.before.before.before.args.b.now c.in-Open.opened = is_known _ _ _ c.load.ensures c.in-Open.is in
+    let known : Known c.args.b.now c.in-Open.opened = is_known _ _ _ c.load.ensures c.in-Open.is in
     omega (arith, book_long _ known.book)
 
 pub overflow_add-n : goal.overflow_add-n
 overflow_add-n c =
-    let known : Known c.before.before.before.before.before.before.before.args.b.now c.in-Open.opened = is_known _ _ _ c.load.ensures c.in-Open.is in
+    let known : Known c.args.b.now c.in-Open.opened = is_known _ _ _ c.load.ensures c.in-Open.is in
     omega (arith, open_le _ _ c.if-job-eq0.false _ _ known c.lowest_free-n.ensures)
 
 pub overflow_mul-n : goal.overflow_mul-n
 overflow_mul-n c =
-    let known : Known c.before.before.before.before.before.before.before.args.b.now c.in-Open.opened = is_known _ _ _ c.load.ensures c.in-Open.is in
+    let known : Known c.args.b.now c.in-Open.opened = is_known _ _ _ c.load.ensures c.in-Open.is in
     omega (arith, open_le _ _ c.if-job-eq0.false _ _ known c.lowest_free-n.ensures)
 
 pub put_eight-requires-2 : goal.put_eight-requires-2
 put_eight-requires-2 c =
-    let known : Known c.before.before.before.before.before.before.before.args.b.now c.in-Open.opened = is_known _ _ _ c.load.ensures c.in-Open.is in
+    let known : Known c.args.b.now c.in-Open.opened = is_known _ _ _ c.load.ensures c.in-Open.is in
     omega (
       arith,
       simp length-sets at (ap length c.put_eight.ensures),
@@ -59,5 +59,5 @@ put_eight-requires-2 c =
 
 pub returns : goal.returns
 returns c =
-    let known : Known c.before.before.before.before.before.before.before.args.b.now c.in-Open.opened = is_known _ _ _ c.load.ensures c.in-Open.is in
+    let known : Known c.args.b.now c.in-Open.opened = is_known _ _ _ c.load.ensures c.in-Open.is in
     open_is _ _ c.if-job-eq0.false _ _ known c.lowest_free-n.ensures c.if-n-eq-NUMBERS.false _ _ _ (λ (m : ℕ). (c.slice_known-1.given m).fits) c.bit_of.ensures c.put_eight.ensures c.put_eight-2.ensures

@@ -11,7 +11,7 @@ overflow_add-index c = omega (arith, c.whole_bits-index.ensures, width_small (c.
 pub argument_bits-requires : goal.argument_bits-requires
 argument_bits-requires c =
     let its_test : c.both.result ≡ element_fits_as c.args.direction c.args.kind c.args.e c.args.text.now = element_fits_by c.args.direction c.args.e c.args.text.now _ _ _ _ _ _ c.both.ensures
-    c.both-own.ensures c.fits2.ensures c.argument_fits.ensures
+    c.both-own.ensures c.fits.ensures c.argument_fits.ensures
     c.last_of-last.ensures in
     few_as c.args.direction c.args.kind c.args.e c.args.text.now
     (sym its_test ∙ c.if-both.true)
@@ -19,7 +19,7 @@ argument_bits-requires c =
 pub overflow_add-result : goal.overflow_add-result
 overflow_add-result c =
     let its_test : c.both.result ≡ element_fits_as c.args.direction c.args.kind c.args.e c.args.text.now = element_fits_by c.args.direction c.args.e c.args.text.now _ _ _ _ _ _ c.both.ensures
-    c.both-own.ensures c.fits2.ensures c.argument_fits.ensures
+    c.both-own.ensures c.fits.ensures c.argument_fits.ensures
     c.last_of-last.ensures in
     omega (
       arith,
@@ -28,22 +28,22 @@ overflow_add-result c =
       c.argument_bits.ensures,
       small_as c.args.direction c.args.kind
           c.args.e c.args.text.now
-          (sym (its_test ((c))) ∙ c.if-both.true),
+          (sym its_test ∙ c.if-both.true),
     )
 
 pub returns-then-both : goal.returns-then-both
 returns-then-both c =
     let its_test : c.both.result ≡ element_fits_as c.args.direction c.args.kind c.args.e c.args.text.now = element_fits_by c.args.direction c.args.e c.args.text.now _ _ _ _ _ _ c.both.ensures
-    c.both-own.ensures c.fits2.ensures c.argument_fits.ensures
+    c.both-own.ensures c.fits.ensures c.argument_fits.ensures
     c.last_of-last.ensures in
     measured c.args.direction c.args.kind c.args.e
-    c.args.text.now _ (its_test ((c))) _ _ _ c.if-both.true
+    c.args.text.now _ its_test _ _ _ c.if-both.true
     c.whole_bits-index.ensures c.last_of-last.ensures c.argument_bits.ensures
 
 pub returns : goal.returns
 returns c =
     let its_test : c.both.result ≡ element_fits_as c.args.direction c.args.kind c.args.e c.args.text.now = element_fits_by c.args.direction c.args.e c.args.text.now _ _ _ _ _ _ c.both.ensures
-    c.both-own.ensures c.fits2.ensures c.argument_fits.ensures
+    c.both-own.ensures c.fits.ensures c.argument_fits.ensures
     c.last_of-last.ensures in
     no_shape c.args.direction c.args.kind c.args.e c.args.text.now _ its_test
     c.if-both.false

@@ -8,7 +8,7 @@ pub returns-then-used : goal.returns-then-used
 unfolding time_fits_use time_fits
 returns-then-used c =
     rw c.if-used.true
-    (both_as _ _ _ _ _ c.both.ensures c.fits-then-used.ensures c.fits3.ensures)
+    (both_as _ _ _ _ _ c.both.ensures c.fits.ensures c.fits-then-used.ensures)
 
 pub returns : goal.returns
 unfolding time_fits_use time_unused

@@ -31,7 +31,7 @@ overflow_add-at c = omega (arith, c.requires.1)
 pub loop-i-preserved : goal.loop-i-preserved
 loop-i-preserved c = (
   omega arith,
-  c.put_bits.auto.0 ∙ c.loop-i.invariant.1,
+  c.put_bits.auto.buf ∙ c.loop-i.invariant.1,
   part_next _ _ _
       (c.args.at + 7 * c.loop-i.i) c.loop-i.i (c.loop-i.i + 8 - c.loop-i.i) 56 _ _ _ c.requires.0
       (omega arith) (omega arith) (omega (arith, c.requires.1)) c.gathered-v.ensures (omega arith)
@@ -60,7 +60,7 @@ pub overflow_mul-items : goal.overflow_mul-items
 overflow_mul-items c = omega (arith, c.requires.1)
 
 pub shape_of-buf : goal.shape_of-buf
-shape_of-buf c = c.put_bits-2.auto.0 ∙ c.loop-i.invariant.1
+shape_of-buf c = c.put_bits-2.auto.buf ∙ c.loop-i.invariant.1
 
 pub returns : goal.returns
 returns c =

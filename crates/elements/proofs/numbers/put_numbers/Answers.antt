@@ -8,7 +8,7 @@ pub loop-i-init : goal.loop-i-init
 loop-i-init c = (search rules, refl, refl)
 
 pub shape_of-buf-in_default : goal.shape_of-buf-in_default
-shape_of-buf-in_default c = c.put_whole-one.auto.0 ∙ c.loop-i.invariant.1
+shape_of-buf-in_default c = c.put_whole-one.auto.buf ∙ c.loop-i.invariant.1
 
 pub returns-in_default : goal.returns-in_default
 returns-in_default c =
@@ -18,7 +18,7 @@ returns-in_default c =
 pub loop-i-preserved : goal.loop-i-preserved
 loop-i-preserved c = (
   search rules,
-  c.put_whole-one.auto.0 ∙ c.loop-i.invariant.1,
+  c.put_whole-one.auto.buf ∙ c.loop-i.invariant.1,
   numbers_turn _ _ _ _ _ _ _
       c.loop-i.invariant.2 c.loop-i-test.true _ _
       (put_as _ _ _ _ _ _ _ _ c.put_whole-one.ensures c.wide.ensures) _ c.in-Next.is,

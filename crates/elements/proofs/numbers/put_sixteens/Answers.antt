@@ -34,7 +34,7 @@ put_sixteen-requires c = (
 pub loop-i-preserved : goal.loop-i-preserved
 loop-i-preserved c = (
   omega arith,
-  c.put_sixteen.auto.0 ∙ c.loop-i.invariant.1,
+  c.put_sixteen.auto.buf ∙ c.loop-i.invariant.1,
   sixteen_next _ _ _
       (c.args.at + 7 * c.loop-i.i) c.loop-i.i (c.loop-i.i + 16 - c.loop-i.i) _ c.requires.0 (omega arith)
       (omega (arith, c.requires.1, c.loop-i.invariant.1)) c.put_sixteen.ensures (c.loop-i.i + 16)
@@ -61,7 +61,7 @@ put_eights-requires c = (
 )
 
 pub shape_of-buf : goal.shape_of-buf
-shape_of-buf c = c.put_eights.auto.0 ∙ c.loop-i.invariant.1
+shape_of-buf c = c.put_eights.auto.buf ∙ c.loop-i.invariant.1
 
 pub returns : goal.returns
 returns c =

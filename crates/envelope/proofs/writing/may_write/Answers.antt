@@ -4,14 +4,14 @@ use Rattle.envelope.proofs.writing.may_write.Goals as goal
 
 pub returns-then-not-is_kind : goal.returns-then-not-is_kind
 unfolding fits
-returns-then-not-is_kind c = rw (← c.is_kind.ensures, not-true c.is_kind.result c.if-not-is_kind.true)
+returns-then-not-is_kind c = rw (← c.is_kind.ensures, c.if-not-is_kind.true)
 
 pub returns-then-job-eq0 : goal.returns-then-job-eq0
 unfolding fits
 returns-then-job-eq0 c =
     rw (
       ← c.is_kind.ensures,
-      not-false c.is_kind.result c.if-not-is_kind.false,
+      c.if-not-is_kind.false,
       eq-eqb _ _ c.if-job-eq0.true,
     )
 
@@ -20,12 +20,11 @@ unfolding fits
 returns-then-not-size_fits c =
     rw (
       ← c.is_kind.ensures,
-      not-false c.is_kind.result c.if-not-is_kind.false,
+      c.if-not-is_kind.false,
       ne_eqb _ _
           c.if-job-eq0.false,
       ← c.size_fits.ensures,
-      not-true c.size_fits.result
-          c.if-not-size_fits.true,
+      c.if-not-size_fits.true,
     )
 
 pub returns-then-body-bytes_for : goal.returns-then-body-bytes_for
@@ -33,12 +32,11 @@ unfolding fits
 returns-then-body-bytes_for c =
     rw (
       ← c.is_kind.ensures,
-      not-false c.is_kind.result c.if-not-is_kind.false,
+      c.if-not-is_kind.false,
       ne_eqb _ _
           c.if-job-eq0.false,
       ← c.size_fits.ensures,
-      not-false c.size_fits.result
-          c.if-not-size_fits.false,
+      c.if-not-size_fits.false,
       ← c.bytes_for.ensures,
       lt-leb _ _ c.if-body-bytes_for.true,
     )
@@ -48,12 +46,11 @@ unfolding fits
 returns c =
     rw (
       ← c.is_kind.ensures,
-      not-false c.is_kind.result c.if-not-is_kind.false,
+      c.if-not-is_kind.false,
       ne_eqb _ _
           c.if-job-eq0.false,
       ← c.size_fits.ensures,
-      not-false c.size_fits.result
-          c.if-not-size_fits.false,
+      c.if-not-size_fits.false,
       ← c.bytes_for.ensures,
       le-leb _ _ c.if-body-bytes_for.false,
     )

@@ -8,12 +8,12 @@ returns-then-n-eq0 c = end_none most_bits _ _ c.load-held.ensures _ _ c.in-Part.
 
 pub is_unfinished-requires : goal.is_unfinished-requires
 is_unfinished-requires c =
-    let held : Holds most_bits c.before.before.before.before.before.args.rec.now c.in-Part.n = holds_part most_bits _ _ c.load-held.ensures _ _ c.in-Part.is in
+    let held : Holds most_bits c.args.rec.now c.in-Part.n = holds_part most_bits _ _ c.load-held.ensures _ _ c.in-Part.is in
     omega (arith, held)
 
 pub refuse-requires : goal.refuse-requires
 refuse-requires c =
-    let held : Holds most_bits c.before.before.before.before.before.args.rec.now c.in-Part.n = holds_part most_bits _ _ c.load-held.ensures _ _ c.in-Part.is in
+    let held : Holds most_bits c.args.rec.now c.in-Part.n = holds_part most_bits _ _ c.load-held.ensures _ _ c.in-Part.is in
     held.size
 
 pub returns-then-is_unfinished : goal.returns-then-is_unfinished

@@ -10,7 +10,7 @@ put_text-a-requires c = omega (arith, length_end c.args.read)
 
 pub put_decimal-b-requires : goal.put_decimal-b-requires
 put_decimal-b-requires c =
-    omega (arith, length_end c.args.read, c.put_text-a.ensures.place, c.put_text-a.auto.0)
+    omega (arith, length_end c.args.read, c.put_text-a.ensures.place, c.put_text-a.auto.out)
 
 pub put_text-requires : goal.put_text-requires
 put_text-requires c =
@@ -18,13 +18,13 @@ put_text-requires c =
       arith,
       length_end c.args.read,
       c.put_text-a.ensures.place,
-      c.put_text-a.auto.0,
+      c.put_text-a.auto.out,
       c.put_decimal-b.ensures.place,
-      c.put_decimal-b.auto.0,
+      c.put_decimal-b.auto.out,
     )
 
 pub shape_of-out : goal.shape_of-out
-shape_of-out c = c.put_text.auto.0 ∙ (c.put_decimal-b.auto.0 ∙ c.put_text-a.auto.0)
+shape_of-out c = c.put_text.auto.out ∙ (c.put_decimal-b.auto.out ∙ c.put_text-a.auto.out)
 
 pub returns : goal.returns
 unfolding end_of

@@ -19,7 +19,7 @@ put_text-b-requires c =
       arith,
       length_line c.args.kind c.args.job c.args.bits,
       c.put_decimal-a.ensures.place,
-      c.put_decimal-a.auto.0,
+      c.put_decimal-a.auto.out,
     )
 
 pub put_decimal-c-requires : goal.put_decimal-c-requires
@@ -28,9 +28,9 @@ put_decimal-c-requires c =
       arith,
       length_line c.args.kind c.args.job c.args.bits,
       c.put_decimal-a.ensures.place,
-      c.put_decimal-a.auto.0,
+      c.put_decimal-a.auto.out,
       c.put_text-b.ensures.place,
-      c.put_text-b.auto.0,
+      c.put_text-b.auto.out,
     )
 
 pub put_text-d-requires : goal.put_text-d-requires
@@ -39,11 +39,11 @@ put_text-d-requires c =
       arith,
       length_line c.args.kind c.args.job c.args.bits,
       c.put_decimal-a.ensures.place,
-      c.put_decimal-a.auto.0,
+      c.put_decimal-a.auto.out,
       c.put_text-b.ensures.place,
-      c.put_text-b.auto.0,
+      c.put_text-b.auto.out,
       c.put_decimal-c.ensures.place,
-      c.put_decimal-c.auto.0,
+      c.put_decimal-c.auto.out,
     )
 
 pub put_decimal-e-requires : goal.put_decimal-e-requires
@@ -52,13 +52,13 @@ put_decimal-e-requires c =
       arith,
       length_line c.args.kind c.args.job c.args.bits,
       c.put_decimal-a.ensures.place,
-      c.put_decimal-a.auto.0,
+      c.put_decimal-a.auto.out,
       c.put_text-b.ensures.place,
-      c.put_text-b.auto.0,
+      c.put_text-b.auto.out,
       c.put_decimal-c.ensures.place,
-      c.put_decimal-c.auto.0,
+      c.put_decimal-c.auto.out,
       c.put_text-d.ensures.place,
-      c.put_text-d.auto.0,
+      c.put_text-d.auto.out,
     )
 
 pub put_text-requires : goal.put_text-requires
@@ -67,21 +67,21 @@ put_text-requires c =
       arith,
       length_line c.args.kind c.args.job c.args.bits,
       c.put_decimal-a.ensures.place,
-      c.put_decimal-a.auto.0,
+      c.put_decimal-a.auto.out,
       c.put_text-b.ensures.place,
-      c.put_text-b.auto.0,
+      c.put_text-b.auto.out,
       c.put_decimal-c.ensures.place,
-      c.put_decimal-c.auto.0,
+      c.put_decimal-c.auto.out,
       c.put_text-d.ensures.place,
-      c.put_text-d.auto.0,
+      c.put_text-d.auto.out,
       c.put_decimal-e.ensures.place,
-      c.put_decimal-e.auto.0,
+      c.put_decimal-e.auto.out,
     )
 
 pub shape_of-out : goal.shape_of-out
 shape_of-out c =
-    c.put_text.auto.0 ∙ (c.put_decimal-e.auto.0 ∙ (c.put_text-d.auto.0 ∙
-    (c.put_decimal-c.auto.0 ∙ (c.put_text-b.auto.0 ∙ c.put_decimal-a.auto.0))))
+    c.put_text.auto.out ∙ (c.put_decimal-e.auto.out ∙ (c.put_text-d.auto.out ∙
+    (c.put_decimal-c.auto.out ∙ (c.put_text-b.auto.out ∙ c.put_decimal-a.auto.out))))
 
 pub returns : goal.returns
 unfolding line_of

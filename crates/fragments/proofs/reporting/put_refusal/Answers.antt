@@ -12,24 +12,24 @@ put_text-a-requires c = omega (arith, length_refusal c.args.r c.args.begin)
 
 pub put_decimal-b-requires : goal.put_decimal-b-requires
 put_decimal-b-requires c =
-    omega (arith, length_refusal c.args.r c.args.begin, c.number.ensures, c.put_text-a.ensures.place, c.put_text-a.auto.0, ap (λ (n : ℕ). length (decimal n)) c.number.ensures)
+    omega (arith, length_refusal c.args.r c.args.begin, c.number.ensures, c.put_text-a.ensures.place, c.put_text-a.auto.out, ap (λ (n : ℕ). length (decimal n)) c.number.ensures)
 
 pub put_text-c-requires : goal.put_text-c-requires
 put_text-c-requires c =
-    omega (arith, length_refusal c.args.r c.args.begin, c.put_text-a.ensures.place, c.put_text-a.auto.0, c.put_decimal-b.ensures.place, c.put_decimal-b.auto.0, ap (λ (n : ℕ). length (decimal n)) c.number.ensures)
+    omega (arith, length_refusal c.args.r c.args.begin, c.put_text-a.ensures.place, c.put_text-a.auto.out, c.put_decimal-b.ensures.place, c.put_decimal-b.auto.out, ap (λ (n : ℕ). length (decimal n)) c.number.ensures)
 
 pub put_decimal-d-requires : goal.put_decimal-d-requires
 put_decimal-d-requires c =
-    omega (arith, length_refusal c.args.r c.args.begin, c.put_text-a.ensures.place, c.put_text-a.auto.0, c.put_decimal-b.ensures.place, c.put_decimal-b.auto.0, c.put_text-c.ensures.place, c.put_text-c.auto.0, ap (λ (n : ℕ). length (decimal n)) c.number.ensures)
+    omega (arith, length_refusal c.args.r c.args.begin, c.put_text-a.ensures.place, c.put_text-a.auto.out, c.put_decimal-b.ensures.place, c.put_decimal-b.auto.out, c.put_text-c.ensures.place, c.put_text-c.auto.out, ap (λ (n : ℕ). length (decimal n)) c.number.ensures)
 
 pub put_text-requires : goal.put_text-requires
 put_text-requires c =
-    omega (arith, length_refusal c.args.r c.args.begin, c.put_text-a.ensures.place, c.put_text-a.auto.0, c.put_decimal-b.ensures.place, c.put_decimal-b.auto.0, c.put_text-c.ensures.place, c.put_text-c.auto.0, c.put_decimal-d.ensures.place, c.put_decimal-d.auto.0, ap (λ (n : ℕ). length (decimal n)) c.number.ensures)
+    omega (arith, length_refusal c.args.r c.args.begin, c.put_text-a.ensures.place, c.put_text-a.auto.out, c.put_decimal-b.ensures.place, c.put_decimal-b.auto.out, c.put_text-c.ensures.place, c.put_text-c.auto.out, c.put_decimal-d.ensures.place, c.put_decimal-d.auto.out, ap (λ (n : ℕ). length (decimal n)) c.number.ensures)
 
 pub shape_of-out : goal.shape_of-out
 shape_of-out c =
-    c.put_text.auto.0 ∙
-    (c.put_decimal-d.auto.0 ∙ (c.put_text-c.auto.0 ∙ (c.put_decimal-b.auto.0 ∙ c.put_text-a.auto.0)))
+    c.put_text.auto.out ∙
+    (c.put_decimal-d.auto.out ∙ (c.put_text-c.auto.out ∙ (c.put_decimal-b.auto.out ∙ c.put_text-a.auto.out)))
 
 pub returns : goal.returns
 unfolding refusal_of

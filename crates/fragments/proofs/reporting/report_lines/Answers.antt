@@ -52,7 +52,7 @@ overflow_add-at c =
     )
 
 pub shape_of-rec-in-Part : goal.shape_of-rec-in-Part
-shape_of-rec-in-Part c = c.take-x.auto.0 ∙ c.loop-turns.invariant.kept
+shape_of-rec-in-Part c = c.take-x.auto.rec ∙ c.loop-turns.invariant.kept
 
 pub shape_of-out-in-Part : goal.shape_of-out-in-Part
 shape_of-out-in-Part c = c.loop-turns.invariant.same
@@ -62,7 +62,7 @@ returns-in-Part c =
     reporting_done most_bits _ _ _ _ _ _ _ _ c.loop-turns.invariant _ _ c.loop-turns-test.true (omega (arith, c.if-out-fragment.false)) c.take-x.ensures (λ (k : ℕ → Fed). rw c.in-Part.is)
 
 pub shape_of-rec-in-Refused : goal.shape_of-rec-in-Refused
-shape_of-rec-in-Refused c = c.take-x.auto.0 ∙ c.loop-turns.invariant.kept
+shape_of-rec-in-Refused c = c.take-x.auto.rec ∙ c.loop-turns.invariant.kept
 
 pub shape_of-out-in-Refused : goal.shape_of-out-in-Refused
 shape_of-out-in-Refused c = c.loop-turns.invariant.same
@@ -72,7 +72,7 @@ returns-in-Refused c =
     reporting_done most_bits _ _ _ _ _ _ _ _ c.loop-turns.invariant _ _ c.loop-turns-test.true (omega (arith, c.if-out-fragment.false)) c.take-x.ensures (λ (k : ℕ → Fed). rw c.in-Refused.is)
 
 pub shape_of-rec-in-Shape : goal.shape_of-rec-in-Shape
-shape_of-rec-in-Shape c = c.take-x.auto.0 ∙ c.loop-turns.invariant.kept
+shape_of-rec-in-Shape c = c.take-x.auto.rec ∙ c.loop-turns.invariant.kept
 
 pub shape_of-out-in-Shape : goal.shape_of-out-in-Shape
 shape_of-out-in-Shape c = c.loop-turns.invariant.same
@@ -84,7 +84,7 @@ returns-in-Shape c =
 pub loop-turns-preserved : goal.loop-turns-preserved
 loop-turns-preserved c =
     let bytes : AllBytes c.args.fragment.now = λ k. omega (arith, c.type_inv.fragment k) in
-    reporting_more most_bits _ _ _ _ _ _ _ _ c.loop-turns.invariant c.loop-turns-test.true _ _ c.take-x.ensures _ _ _ _ c.in-Whole.is c.take-x.auto.0 (λ k. (c.type_inv.rec k).fits) (steps most_bits c.loop-turns.rec c.args.fragment.now _ c.loop-turns.at _ _ _ sized (lit< tt) c.loop-turns.invariant.small bytes c.take-x.ensures c.in-Whole.is) c.put_line-p.ensures
+    reporting_more most_bits _ _ _ _ _ _ _ _ c.loop-turns.invariant c.loop-turns-test.true _ _ c.take-x.ensures _ _ _ _ c.in-Whole.is c.take-x.auto.rec (λ k. (c.type_inv.rec k).fits) (steps most_bits c.loop-turns.rec c.args.fragment.now _ c.loop-turns.at _ _ _ sized (lit< tt) c.loop-turns.invariant.small bytes c.take-x.ensures c.in-Whole.is) c.put_line-p.ensures
 
 pub shape_of-rec : goal.shape_of-rec
 shape_of-rec c = c.loop-turns.invariant.kept

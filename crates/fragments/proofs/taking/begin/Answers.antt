@@ -20,8 +20,7 @@ put_bytes-requires c =
     let bytes : AllBytes c.args.fragment.now = λ k. omega (arith, c.type_inv.fragment k) in
     let within : c.in-Is.e.next ≤ length c.args.fragment.now = next_within most_bits sized _ bytes _ (sym c.read_envelope-x.ensures ∙ c.in-Is.is) in
     let fits : c.in-Is.e.next ≤ largest most_bits = next_largest most_bits sized _ bytes _ (sym c.read_envelope-x.ensures ∙ c.in-Is.is) in
-    let c8 = c3.before.before.before.before.before in
-    omega (arith, length-take-le _ c8.args.fragment.now within, fits, c8.requires)
+    omega (arith, length-take-le _ c.args.fragment.now within, fits, c.requires)
 
 pub in_record-requires : goal.in_record-requires
 in_record-requires c =

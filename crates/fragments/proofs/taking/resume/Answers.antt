@@ -3,7 +3,6 @@ use mathlib.Core.Path.{◌≡◌, sym, ◌∙◌}
 use mathlib.Core.Bool.{true}
 use Prim.Native.Nat.{◌+◌, ◌-◌, ◌≤◌}
 use lib.ListN.{length}
-use borrow.Author.Tests.{not-false}
 use Rattle.envelope.specs.Envelopes.{most_bits}
 use Rattle.envelope.proofs.Numbers.{AllBytes}
 use Rattle.envelope.proofs.Sizes.{largest_is}
@@ -14,7 +13,7 @@ use Rattle.fragments.proofs.Resuming.{Room, has_room, resuming_none, put_fits, r
 use Rattle.fragments.proofs.taking.resume.Goals as goal
 
 pub is_unfinished-requires : goal.is_unfinished-requires
-is_unfinished-requires c = omega (arith, c.before.before.before.requires.0, c.before.before.before.requires.1)
+is_unfinished-requires c = omega (arith, c.requires.0, c.requires.1)
 
 pub returns-then-not-is_unfinished : goal.returns-then-not-is_unfinished
 returns-then-not-is_unfinished c =
@@ -22,13 +21,12 @@ returns-then-not-is_unfinished c =
 
 pub held_lacks-lacks-requires : goal.held_lacks-lacks-requires
 held_lacks-lacks-requires c =
-    let c6 = c.before.before.before.before.before.before in
-    omega (arith, c6.requires.0, c6.requires.1)
+    omega (arith, c.requires.0, c.requires.1)
 
 pub loop-lacks-init : goal.loop-lacks-init
 loop-lacks-init c =
     let space : 11 + c.args.n ≤ length c.args.rec.now = omega (arith, c.requires.0, c.requires.1) in
-    let begins : unfinished most_bits (held_in c.before.before.before.before.before.args.n c.before.before.before.before.before.args.rec.now) ≡ true = sym c.is_unfinished.ensures ∙ not-false _ c.if-not-is_unfinished.false in
+    let begins : unfinished most_bits (held_in c.args.n c.args.rec.now) ≡ true = sym c.is_unfinished.ensures ∙ c.if-not-is_unfinished.false in
     resuming_none most_bits _ _ _ space _ begins c.held_lacks-lacks.ensures
 
 pub overflow_sub-fragment : goal.overflow_sub-fragment
@@ -39,10 +37,10 @@ overflow_add-to c = omega (arith, c.loop-lacks.invariant.within)
 
 pub overflow_add-m : goal.overflow_add-m
 overflow_add-m c =
-    let bytes_rec : AllBytes c.args.rec.now = λ k. (c.type_inv.rec k).fits in
+    let bytes_rec : AllBytes c.args.rec.now = λ k. omega (arith, c.slice_known-1.given k) in
     let bytes_fragment : AllBytes c.args.fragment.now = λ k. omega (arith, c.type_inv.fragment k) in
     let space : 11 + c.args.n ≤ length c.args.rec.now = omega (arith, c.requires.0, c.requires.1) in
-    let roomy : Room most_bits c.loop-lacks.rec c.loop-lacks.m c.loop-lacks.lacks = has_room most_bits _ _ _ space sized c6.before.before.requires.0 bytes_rec
+    let roomy : Room most_bits c.loop-lacks.rec c.loop-lacks.m c.loop-lacks.lacks = has_room most_bits _ _ _ space sized c.requires.0 bytes_rec
     bytes_fragment _ _ _ _ c.loop-lacks.invariant in
     omega (arith, roomy, largest_is)
 
@@ -51,121 +49,116 @@ slice_bounds-put_bytes-end c = omega (arith, c.loop-lacks.invariant.within, c.lo
 
 pub put_bytes-requires : goal.put_bytes-requires
 put_bytes-requires c =
-    let bytes_rec : AllBytes c.args.rec.now = λ k. (c.type_inv.rec k).fits in
+    let bytes_rec : AllBytes c.args.rec.now = λ k. omega (arith, c.slice_known-1.given k) in
     let bytes_fragment : AllBytes c.args.fragment.now = λ k. omega (arith, c.type_inv.fragment k) in
     let space : 11 + c.args.n ≤ length c.args.rec.now = omega (arith, c.requires.0, c.requires.1) in
-    put_fits most_bits _ _ _ space sized c9.before.before.requires.0 bytes_rec
+    put_fits most_bits _ _ _ space sized c.requires.0 bytes_rec
     bytes_fragment _ _ _ _ c.loop-lacks.invariant c.loop-lacks-test.true
 
 pub overflow_add-m-in-loop-lacks : goal.overflow_add-m-in-loop-lacks
 overflow_add-m-in-loop-lacks c =
-    let bytes_rec : AllBytes c.args.rec.now = λ k. (c.type_inv.rec k).fits in
+    let bytes_rec : AllBytes c.args.rec.now = λ k. omega (arith, c.slice_known-1.given k) in
     let bytes_fragment : AllBytes c.args.fragment.now = λ k. omega (arith, c.type_inv.fragment k) in
     let space : 11 + c.args.n ≤ length c.args.rec.now = omega (arith, c.requires.0, c.requires.1) in
-    let roomy : Room most_bits c.loop-lacks.rec c.loop-lacks.m c.loop-lacks.lacks = has_room most_bits _ _ _ space sized c6.before.before.requires.0 bytes_rec
+    let roomy : Room most_bits c.loop-lacks.rec c.loop-lacks.m c.loop-lacks.lacks = has_room most_bits _ _ _ space sized c.requires.0 bytes_rec
     bytes_fragment _ _ _ _ c.loop-lacks.invariant in
     omega (arith, roomy, largest_is)
 
 pub read_held-x-requires : goal.read_held-x-requires
 read_held-x-requires c =
-    let bytes_rec : AllBytes c.args.rec.now = λ k. (c.type_inv.rec k).fits in
+    let bytes_rec : AllBytes c.args.rec.now = λ k. omega (arith, c.slice_known-1.given k) in
     let bytes_fragment : AllBytes c.args.fragment.now = λ k. omega (arith, c.type_inv.fragment k) in
     let space : 11 + c.args.n ≤ length c.args.rec.now = omega (arith, c.requires.0, c.requires.1) in
-    let roomy : Room most_bits c.loop-lacks.rec c.loop-lacks.m c.loop-lacks.lacks = has_room most_bits _ _ _ space sized c6.before.before.requires.0 bytes_rec
+    let roomy : Room most_bits c.loop-lacks.rec c.loop-lacks.m c.loop-lacks.lacks = has_room most_bits _ _ _ space sized c.requires.0 bytes_rec
     bytes_fragment _ _ _ _ c.loop-lacks.invariant in
-    omega (arith, roomy, c.put_bytes.auto.0)
+    omega (arith, roomy, c.put_bytes.auto.out)
 
 pub put_head-requires : goal.put_head-requires
 put_head-requires c =
-    let bytes_rec : AllBytes c.args.rec.now = λ k. (c.type_inv.rec k).fits in
+    let bytes_rec : AllBytes c.args.rec.now = λ k. omega (arith, c.slice_known-1.given k) in
     let bytes_fragment : AllBytes c.args.fragment.now = λ k. omega (arith, c.type_inv.fragment k) in
     let space : 11 + c.args.n ≤ length c.args.rec.now = omega (arith, c.requires.0, c.requires.1) in
-    let roomy : Room most_bits c.loop-lacks.rec c.loop-lacks.m c.loop-lacks.lacks = has_room most_bits _ _ _ space sized c6.before.before.requires.0 bytes_rec
+    let roomy : Room most_bits c.loop-lacks.rec c.loop-lacks.m c.loop-lacks.lacks = has_room most_bits _ _ _ space sized c.requires.0 bytes_rec
     bytes_fragment _ _ _ _ c.loop-lacks.invariant in
-    omega (arith, roomy, c.put_bytes.auto.0)
+    omega (arith, roomy, c.put_bytes.auto.out)
 
 pub in_record-requires : goal.in_record-requires
 in_record-requires c =
-    let bytes_rec : AllBytes c.args.rec.now = λ k. (c.type_inv.rec k).fits in
+    let bytes_rec : AllBytes c.args.rec.now = λ k. omega (arith, c.slice_known-1.given k) in
     let bytes_fragment : AllBytes c.args.fragment.now = λ k. omega (arith, c.type_inv.fragment k) in
     let space : 11 + c.args.n ≤ length c.args.rec.now = omega (arith, c.requires.0, c.requires.1) in
-    let c21 = c14.before.before.before.before.before.before.before in
-    whole_fits most_bits _ _ _ space sized c21.before.before.requires.0 bytes_rec
+    whole_fits most_bits _ _ _ space sized c.requires.0 bytes_rec
     bytes_fragment _ _ _ _ c.loop-lacks.invariant _ c.loop-lacks-test.true c.put_bytes.ensures _ _
     c.read_held-x.ensures c.in-Is.is
 
 pub shape_of-rec-in-Is : goal.shape_of-rec-in-Is
-shape_of-rec-in-Is c = c.put_head.auto.0 ∙ (c.put_bytes.auto.0 ∙ c.loop-lacks.invariant.same)
+shape_of-rec-in-Is c = c.put_head.auto.rec ∙ (c.put_bytes.auto.out ∙ c.loop-lacks.invariant.same)
 
 pub returns-in-Is : goal.returns-in-Is
 returns-in-Is c =
-    let bytes_rec : AllBytes c.args.rec.now = λ k. (c.type_inv.rec k).fits in
+    let bytes_rec : AllBytes c.args.rec.now = λ k. omega (arith, c.slice_known-1.given k) in
     let bytes_fragment : AllBytes c.args.fragment.now = λ k. omega (arith, c.type_inv.fragment k) in
     let space : 11 + c.args.n ≤ length c.args.rec.now = omega (arith, c.requires.0, c.requires.1) in
-    let begins : unfinished most_bits (held_in c.before.before.before.before.before.args.n c.before.before.before.before.before.args.rec.now) ≡ true = sym c.is_unfinished.ensures ∙ not-false _ c.if-not-is_unfinished.false in
-    let c22 = c19.before.before.before in
-    resume_whole most_bits _ _ _ space sized c22.before.before.requires.0 bytes_rec
+    let begins : unfinished most_bits (held_in c.args.n c.args.rec.now) ≡ true = sym c.is_unfinished.ensures ∙ c.if-not-is_unfinished.false in
+    resume_whole most_bits _ _ _ space sized c.requires.0 bytes_rec
     bytes_fragment _ _ _ _ c.loop-lacks.invariant _ c.loop-lacks-test.true c.put_bytes.ensures _ _
     _ _ _ begins c.read_held-x.ensures c.in-Is.is c.put_head.ensures
     c.in_record.ensures
 
 pub refuse-requires : goal.refuse-requires
 refuse-requires c =
-    let c22 = c14.before.before.before.before.before.before.before.before in
-    c.put_bytes.auto.0 ∙ (c.loop-lacks.invariant.same ∙ c22.requires.0)
+    c.put_bytes.auto.out ∙ (c.loop-lacks.invariant.same ∙ c.requires.0)
 
 pub shape_of-rec-then-not-is_cut : goal.shape_of-rec-then-not-is_cut
-shape_of-rec-then-not-is_cut c = c.refuse.auto.0 ∙ (c.put_bytes.auto.0 ∙ c.loop-lacks.invariant.same)
+shape_of-rec-then-not-is_cut c = c.refuse.auto.rec ∙ (c.put_bytes.auto.out ∙ c.loop-lacks.invariant.same)
 
 pub returns-then-not-is_cut : goal.returns-then-not-is_cut
 returns-then-not-is_cut c =
-    let bytes_rec : AllBytes c.args.rec.now = λ k. (c.type_inv.rec k).fits in
+    let bytes_rec : AllBytes c.args.rec.now = λ k. omega (arith, c.slice_known-1.given k) in
     let bytes_fragment : AllBytes c.args.fragment.now = λ k. omega (arith, c.type_inv.fragment k) in
     let space : 11 + c.args.n ≤ length c.args.rec.now = omega (arith, c.requires.0, c.requires.1) in
-    let begins : unfinished most_bits (held_in c.before.before.before.before.before.args.n c.before.before.before.before.before.args.rec.now) ≡ true = sym c.is_unfinished.ensures ∙ not-false _ c.if-not-is_unfinished.false in
-    let c23 = c20.before.before.before in
-    resume_refused most_bits _ _ _ space sized c23.before.before.requires.0 bytes_rec
+    let begins : unfinished most_bits (held_in c.args.n c.args.rec.now) ≡ true = sym c.is_unfinished.ensures ∙ c.if-not-is_unfinished.false in
+    resume_refused most_bits _ _ _ space sized c.requires.0 bytes_rec
     bytes_fragment _ _ _ _ c.loop-lacks.invariant _ c.loop-lacks-test.true c.put_bytes.ensures _ _
     _ _ _ _ begins c.read_held-x.ensures c.in-Refused.is c.is_cut.ensures
     c.if-not-is_cut.true c.refuse.ensures
 
 pub held_lacks-lacks-requires-in-loop-lacks : goal.held_lacks-lacks-requires-in-loop-lacks
 held_lacks-lacks-requires-in-loop-lacks c =
-    let bytes_rec : AllBytes c.args.rec.now = λ k. (c.type_inv.rec k).fits in
+    let bytes_rec : AllBytes c.args.rec.now = λ k. omega (arith, c.slice_known-1.given k) in
     let bytes_fragment : AllBytes c.args.fragment.now = λ k. omega (arith, c.type_inv.fragment k) in
     let space : 11 + c.args.n ≤ length c.args.rec.now = omega (arith, c.requires.0, c.requires.1) in
-    let roomy : Room most_bits c.loop-lacks.rec c.loop-lacks.m c.loop-lacks.lacks = has_room most_bits _ _ _ space sized c6.before.before.requires.0 bytes_rec
+    let roomy : Room most_bits c.loop-lacks.rec c.loop-lacks.m c.loop-lacks.lacks = has_room most_bits _ _ _ space sized c.requires.0 bytes_rec
     bytes_fragment _ _ _ _ c.loop-lacks.invariant in
-    omega (arith, roomy, c.put_bytes.auto.0)
+    omega (arith, roomy, c.put_bytes.auto.out)
 
 pub loop-lacks-smaller : goal.loop-lacks-smaller
 loop-lacks-smaller c =
-    let bytes_rec : AllBytes c.args.rec.now = λ k. (c.type_inv.rec k).fits in
+    let bytes_rec : AllBytes c.args.rec.now = λ k. omega (arith, c.slice_known-1.given k) in
     let bytes_fragment : AllBytes c.args.fragment.now = λ k. omega (arith, c.type_inv.fragment k) in
     let space : 11 + c.args.n ≤ length c.args.rec.now = omega (arith, c.requires.0, c.requires.1) in
-    let roomy : Room most_bits c.loop-lacks.rec c.loop-lacks.m c.loop-lacks.lacks = has_room most_bits _ _ _ space sized c6.before.before.requires.0 bytes_rec
+    let roomy : Room most_bits c.loop-lacks.rec c.loop-lacks.m c.loop-lacks.lacks = has_room most_bits _ _ _ space sized c.requires.0 bytes_rec
     bytes_fragment _ _ _ _ c.loop-lacks.invariant in
     omega (arith, roomy, c.loop-lacks-test.true)
 
 pub loop-lacks-preserved : goal.loop-lacks-preserved
 loop-lacks-preserved c =
-    let bytes_rec : AllBytes c.args.rec.now = λ k. (c.type_inv.rec k).fits in
+    let bytes_rec : AllBytes c.args.rec.now = λ k. omega (arith, c.slice_known-1.given k) in
     let bytes_fragment : AllBytes c.args.fragment.now = λ k. omega (arith, c.type_inv.fragment k) in
     let space : 11 + c.args.n ≤ length c.args.rec.now = omega (arith, c.requires.0, c.requires.1) in
-    let c21 = c14.before.before.before.before.before.before.before in
-    resuming_more most_bits _ _ _ space sized c21.before.before.requires.0 bytes_rec
+    resuming_more most_bits _ _ _ space sized c.requires.0 bytes_rec
     bytes_fragment _ _ _ _ c.loop-lacks.invariant _ c.loop-lacks-test.true c.put_bytes.ensures _ (
-    still_open most_bits _ _ _ space sized c21.before.before.requires.0 bytes_rec
+    still_open most_bits _ _ _ space sized c.requires.0 bytes_rec
     bytes_fragment _ _ _ _ c.loop-lacks.invariant _ c.loop-lacks-test.true c.put_bytes.ensures
     _ _ _ c.read_held-x.ensures c.in-Refused.is c.is_cut.ensures
     c.if-not-is_cut.false) c.held_lacks-lacks-in-loop-lacks.ensures
 
 pub overflow_add-m-2 : goal.overflow_add-m-2
 overflow_add-m-2 c =
-    let bytes_rec : AllBytes c.args.rec.now = λ k. (c.type_inv.rec k).fits in
+    let bytes_rec : AllBytes c.args.rec.now = λ k. omega (arith, c.slice_known-1.given k) in
     let bytes_fragment : AllBytes c.args.fragment.now = λ k. omega (arith, c.type_inv.fragment k) in
     let space : 11 + c.args.n ≤ length c.args.rec.now = omega (arith, c.requires.0, c.requires.1) in
-    let roomy : Room most_bits c.loop-lacks.rec c.loop-lacks.m c.loop-lacks.lacks = has_room most_bits _ _ _ space sized c6.before.before.requires.0 bytes_rec
+    let roomy : Room most_bits c.loop-lacks.rec c.loop-lacks.m c.loop-lacks.lacks = has_room most_bits _ _ _ space sized c.requires.0 bytes_rec
     bytes_fragment _ _ _ _ c.loop-lacks.invariant in
     omega (arith, roomy, largest_is)
 
@@ -180,39 +173,39 @@ slice_bounds-put_bytes-end-2 c = omega (arith, c.loop-lacks.invariant.within)
 
 pub put_bytes-requires-2 : goal.put_bytes-requires-2
 put_bytes-requires-2 c =
-    let bytes_rec : AllBytes c.args.rec.now = λ k. (c.type_inv.rec k).fits in
+    let bytes_rec : AllBytes c.args.rec.now = λ k. omega (arith, c.slice_known-1.given k) in
     let bytes_fragment : AllBytes c.args.fragment.now = λ k. omega (arith, c.type_inv.fragment k) in
     let space : 11 + c.args.n ≤ length c.args.rec.now = omega (arith, c.requires.0, c.requires.1) in
-    rest_fits most_bits _ _ _ space sized c9.before.before.requires.0 bytes_rec
+    rest_fits most_bits _ _ _ space sized c.requires.0 bytes_rec
     bytes_fragment _ _ _ _ c.loop-lacks.invariant c.loop-lacks-test.false
 
 pub overflow_add-n : goal.overflow_add-n
 overflow_add-n c =
-    let bytes_rec : AllBytes c.args.rec.now = λ k. (c.type_inv.rec k).fits in
+    let bytes_rec : AllBytes c.args.rec.now = λ k. omega (arith, c.slice_known-1.given k) in
     let bytes_fragment : AllBytes c.args.fragment.now = λ k. omega (arith, c.type_inv.fragment k) in
     let space : 11 + c.args.n ≤ length c.args.rec.now = omega (arith, c.requires.0, c.requires.1) in
-    let roomy : Room most_bits c.loop-lacks.rec c.loop-lacks.m c.loop-lacks.lacks = has_room most_bits _ _ _ space sized c6.before.before.requires.0 bytes_rec
+    let roomy : Room most_bits c.loop-lacks.rec c.loop-lacks.m c.loop-lacks.lacks = has_room most_bits _ _ _ space sized c.requires.0 bytes_rec
     bytes_fragment _ _ _ _ c.loop-lacks.invariant in
     omega (arith, roomy, largest_is, c.loop-lacks.invariant.count, c.loop-lacks-test.false)
 
 pub put_head-requires-2 : goal.put_head-requires-2
 put_head-requires-2 c =
-    let bytes_rec : AllBytes c.args.rec.now = λ k. (c.type_inv.rec k).fits in
+    let bytes_rec : AllBytes c.args.rec.now = λ k. omega (arith, c.slice_known-1.given k) in
     let bytes_fragment : AllBytes c.args.fragment.now = λ k. omega (arith, c.type_inv.fragment k) in
     let space : 11 + c.args.n ≤ length c.args.rec.now = omega (arith, c.requires.0, c.requires.1) in
-    let roomy : Room most_bits c.loop-lacks.rec c.loop-lacks.m c.loop-lacks.lacks = has_room most_bits _ _ _ space sized c6.before.before.requires.0 bytes_rec
+    let roomy : Room most_bits c.loop-lacks.rec c.loop-lacks.m c.loop-lacks.lacks = has_room most_bits _ _ _ space sized c.requires.0 bytes_rec
     bytes_fragment _ _ _ _ c.loop-lacks.invariant in
-    omega (arith, roomy, c.put_bytes-2.auto.0)
+    omega (arith, roomy, c.put_bytes-2.auto.out)
 
 pub shape_of-rec : goal.shape_of-rec
-shape_of-rec c = c.put_head-2.auto.0 ∙ (c.put_bytes-2.auto.0 ∙ c.loop-lacks.invariant.same)
+shape_of-rec c = c.put_head-2.auto.rec ∙ (c.put_bytes-2.auto.out ∙ c.loop-lacks.invariant.same)
 
 pub returns : goal.returns
 returns c =
-    let bytes_rec : AllBytes c.args.rec.now = λ k. (c.type_inv.rec k).fits in
+    let bytes_rec : AllBytes c.args.rec.now = λ k. omega (arith, c.slice_known-1.given k) in
     let bytes_fragment : AllBytes c.args.fragment.now = λ k. omega (arith, c.type_inv.fragment k) in
     let space : 11 + c.args.n ≤ length c.args.rec.now = omega (arith, c.requires.0, c.requires.1) in
-    let begins : unfinished most_bits (held_in c.before.before.before.before.before.args.n c.before.before.before.before.before.args.rec.now) ≡ true = sym c.is_unfinished.ensures ∙ not-false _ c.if-not-is_unfinished.false in
-    resume_part most_bits _ _ _ space sized c16.before.before.requires.0 bytes_rec
+    let begins : unfinished most_bits (held_in c.args.n c.args.rec.now) ≡ true = sym c.is_unfinished.ensures ∙ c.if-not-is_unfinished.false in
+    resume_part most_bits _ _ _ space sized c.requires.0 bytes_rec
     bytes_fragment _ _ _ _ c.loop-lacks.invariant _ _ _ begins c.loop-lacks-test.false
     c.put_bytes-2.ensures c.put_head-2.ensures

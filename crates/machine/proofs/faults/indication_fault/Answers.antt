@@ -7,7 +7,7 @@ returns-then-not-is c = rw (← c.is.ensures, c.if-not-is.true)
 
 pub returns-then-not-fits : goal.returns-then-not-fits
 unfolding indication_fault
-returns-then-not-fits c = rw (← c.is.ensures, c.if-not-is.false, ← c.fits2.ensures, c.if-not-fits.true)
+returns-then-not-fits c = rw (← c.is.ensures, c.if-not-is.false, ← c.fits.ensures, c.if-not-fits.true)
 
 pub returns-then-differs : goal.returns-then-differs
 unfolding indication_fault
@@ -15,7 +15,7 @@ returns-then-differs c =
     rw (
       ← c.is.ensures,
       c.if-not-is.false,
-      ← c.fits2.ensures,
+      ← c.fits.ensures,
       c.if-not-fits.false,
       ←
           c.differs.ensures,
@@ -28,7 +28,7 @@ returns-then-peer_fits c =
     rw (
       ← c.is.ensures,
       c.if-not-is.false,
-      ← c.fits2.ensures,
+      ← c.fits.ensures,
       c.if-not-fits.false,
       ←
           c.differs.ensures,
@@ -45,7 +45,7 @@ returns c =
     rw (
       ← c.is.ensures,
       c.if-not-is.false,
-      ← c.fits2.ensures,
+      ← c.fits.ensures,
       c.if-not-fits.false,
       ←
           c.differs.ensures,

@@ -1,3 +1,4 @@
+use borrow.Author.Tests.{ne_eqb}
 use Rattle.machine.specs.Faults.{response_fault}
 use Rattle.machine.proofs.faults.response_fault.Goals as goal
 
@@ -29,6 +30,6 @@ returns c =
       c.if-turned_away.false,
       ← c.differs.ensures,
       c.if-differs.false,
-      c.if-open.false,
+      ne_eqb c.args.res 0 c.if-open.false,
       ← c.kind-response.ensures,
     ) c.pdu_fault-2.ensures

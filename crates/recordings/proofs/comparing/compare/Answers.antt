@@ -26,21 +26,19 @@ lacks_room-requires c =
 
 pub returns-then-lacks_room : goal.returns-then-lacks_room
 returns-then-lacks_room c =
-    let c22 = c15.before.before.before.before.before.before.before in
-    room most_bits c22.args.first.now c22.args.second.now c22.args.left.now c22.args.right.now
-    c22.args.twice.now _ c.search-s.result c.lacks_room.result
+    room most_bits c.args.first.now c.args.second.now c.args.left.now c.args.right.now
+    c.args.twice.now _ c.search-s.result c.lacks_room.result
     c.if-first-gt-MOST.false c.if-second-gt-MOST.false c.search-s.ensures c.in-Whole.is
     c.lacks_room.ensures c.if-lacks_room.true c.refused_with-then-lacks_room.ensures
 
 pub write_jobs-c-requires : goal.write_jobs-c-requires
 write_jobs-c-requires c =
-    let f = all_fit (jobs most_bits c.before.before.before.before.before.before.before.before.before.before.before.before.before.before.before.before.before.before.before.before.before.before.before.before.before.before.before.args.first.now) (jobs most_bits c.before.before.before.before.before.before.before.before.before.before.before.before.before.before.before.before.before.before.before.before.before.before.before.before.before.before.before.args.second.now) c.before.before.before.before.before.before.before.before.before.before.before.before.before.before.before.before.before.before.before.before.before.before.before.before.before.before.before.args.left.now c.before.before.before.before.before.before.before.before.before.before.before.before.before.before.before.before.before.before.before.before.before.before.before.before.before.before.before.args.right.now c.before.before.before.before.before.before.before.before.before.before.before.before.before.before.before.before.before.before.before.before.before.before.before.before.before.before.before.args.twice.now c.lacks_room.result c.lacks_room.ensures c.if-lacks_room.false in (c.if-first-gt-MOST.false, c.if-second-gt-MOST.false, search rules, search rules, search rules, f.first, f.second, f.third)
+    let f = all_fit (jobs most_bits c.args.first.now) (jobs most_bits c.args.second.now) c.args.left.now c.args.right.now c.args.twice.now c.lacks_room.result c.lacks_room.ensures c.if-lacks_room.false in (c.if-first-gt-MOST.false, c.if-second-gt-MOST.false, search rules, search rules, search rules, f.first, f.second, f.third)
 
 pub returns : goal.returns
 returns c =
-    let c39 = c32.before.before.before.before.before.before.before in
-    done most_bits c39.args.first.now c39.args.second.now c39.args.left.now c39.args.right.now
-    c39.args.twice.now _ c.search-s.result c.lacks_room.result
+    done most_bits c.args.first.now c.args.second.now c.args.left.now c.args.right.now
+    c.args.twice.now _ c.search-s.result c.lacks_room.result
     c.write_jobs-c.result c.first_difference-d.result _ _ _ c.if-first-gt-MOST.false c.if-second-gt-MOST.false
     c.search-s.ensures c.in-Whole.is c.lacks_room.ensures c.if-lacks_room.false
     c.write_jobs-c.ensures.0 c.write_jobs-c.ensures.1 c.write_jobs-c.ensures.2

@@ -4,7 +4,7 @@ use Rattle.machine.proofs.event.Event.fits.Goals as goal
 
 pub returns-in-User : goal.returns-in-User
 unfolding event_fits
-returns-in-User c = rw c.in-User.is c.fits-in-Service.ensures
+returns-in-User c = rw c.in-User.is c.fits.ensures
 
 pub returns-then-class-lt-ROUTING_CLASSES : goal.returns-then-class-lt-ROUTING_CLASSES
 unfolding event_fits
@@ -16,11 +16,12 @@ returns-else-class-lt-ROUTING_CLASSES c = rw (c.in-Forward.is, le-ltb _ _ c.if-c
 
 pub returns-then-fits : goal.returns-then-fits
 unfolding event_fits
-returns-then-fits c = rw (c.in-Service.is, ← c.fits-then-fits.ensures, c.if-fits.true) c.fits4.ensures
+returns-then-fits c =
+    rw (c.in-Service.is, ← c.fits-in-Service.ensures, c.if-fits.true) c.fits-then-fits.ensures
 
 pub returns-else-fits : goal.returns-else-fits
 unfolding event_fits
-returns-else-fits c = rw (c.in-Service.is, ← c.fits-then-fits.ensures, c.if-fits.false)
+returns-else-fits c = rw (c.in-Service.is, ← c.fits-in-Service.ensures, c.if-fits.false)
 
 pub returns-in-TimerExpires : goal.returns-in-TimerExpires
 unfolding event_fits

@@ -1,11 +1,11 @@
 use Rattle.machine.specs.Event.{user_fits}
-use borrow.Author.Tests.{lt-ltb, le-ltb, not-true, not-false}
+use borrow.Author.Tests.{lt-ltb, le-ltb}
 use Rattle.machine.proofs.event.UserPrimitive.fits.Goals as goal
 
 pub returns-then-not-has_mode : goal.returns-then-not-has_mode
 unfolding user_fits
 returns-then-not-has_mode c =
-    rw (c.in-StartServiceRequest.is, ← c.has_mode.ensures, not-true c.has_mode.result c.if-not-has_mode.true)
+    rw (c.in-StartServiceRequest.is, ← c.has_mode.ensures, c.if-not-has_mode.true)
 
 pub returns-then-class-lt-ROUTING_CLASSES : goal.returns-then-class-lt-ROUTING_CLASSES
 unfolding user_fits
@@ -13,8 +13,7 @@ returns-then-class-lt-ROUTING_CLASSES c =
     rw (
       c.in-StartServiceRequest.is,
       ← c.has_mode.ensures,
-      not-false c.has_mode.result
-          c.if-not-has_mode.false,
+      c.if-not-has_mode.false,
       lt-ltb _ _ c.if-class-lt-ROUTING_CLASSES.true,
     )
 
@@ -24,8 +23,7 @@ returns-else-class-lt-ROUTING_CLASSES c =
     rw (
       c.in-StartServiceRequest.is,
       ← c.has_mode.ensures,
-      not-false c.has_mode.result
-          c.if-not-has_mode.false,
+      c.if-not-has_mode.false,
       le-ltb _ _ c.if-class-lt-ROUTING_CLASSES.false,
     )
 

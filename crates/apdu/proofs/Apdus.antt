@@ -368,14 +368,14 @@ start_stood pdus l at p q n m d b s f g =
     let sw = s.within in
     let v = mode_read pdus l p m q b (omega arith) f in
     let w = data_read l q n d b g in
-    record { placed_fits = rw v.fits w.placed-fits; stands = record { place = q; lead = stands_join l at p q _ _ s v.stands; held = w } }
+    record { placed_fits = rw v.fits w.placed_fits; stands = record { place = q; lead = stands_join l at p q _ _ s v.stands; held = w } }
 
 pub send_stood : (pdus : PduType) (l : List ℕ) (at p n : ℕ) (d : Data) → Bits l
     → Stands l at (index_bits (last_of pdus) 3) p → data_at l p ≡ taken.Is d n → Stood pdus l at (apdu.Send d) n
 unfolding apdu_fits
 send_stood pdus l at p n d b s g =
     let w = data_read l p n d b g in
-    record { placed_fits = w.placed-fits; stands = record { place = p; lead = s; held = w } }
+    record { placed_fits = w.placed_fits; stands = record { place = p; lead = s; held = w } }
 
 pub value_place : (p m q : ℕ) → Value 0 p ≡ Value m q → p ≡ q
 value_place p m q e = cc
@@ -396,7 +396,7 @@ pub forward_stood : (pdus : PduType) (l : List ℕ) (at p n : ℕ) (f : Forward)
 unfolding apdu_fits
 forward_stood pdus l at p n f b y s g =
     let w = forward_read l p f n b g in
-    record { placed_fits = rw y w.placed-fits; stands = stands_join l at p n _ _ s w.stands }
+    record { placed_fits = rw y w.placed_fits; stands = stands_join l at p n _ _ s w.stands }
 
 pub response_stood : (pdus : PduType) (l : List ℕ) (at p n r : ℕ) → Bits l → forwards pdus ≡ true
     → Stands l at (index_bits (last_of pdus) 5) p → extensible_index l p response_last ≡ Value r n

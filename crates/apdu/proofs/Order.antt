@@ -183,7 +183,7 @@ module _ (wrong : ℕ) where
 
   only : (pdus : PduType) (l : List ℕ) (at n : ℕ) (a : Apdu) → Stood pdus l at a n
       → ended_at l n a ≡ decoded.Refused tail_refusal → TailOnly pdus l at
-  only pdus l at n a s e = record { value = a; place = n; placed_fits = s.placed-fits; stands = s.stands; tail = ended_tail l n a e }
+  only pdus l at n a s e = record { value = a; place = n; placed_fits = s.placed_fits; stands = s.stands; tail = ended_tail l n a e }
 
   rest_tail : (pdus : PduType) (l : List ℕ) (at p : ℕ) (c : Kind) (m q : ℕ) → Bits l → index_of c ≤ last_of pdus
       → Stands l at (index_bits (last_of pdus) (index_of c)) p → kind_mode pdus l c p ≡ Value m q

@@ -447,7 +447,7 @@ read_written pdus s t a hs ht g x e =
     let z = length_bits_is s in
     let p : put_bits t 0 (padded (pdu_bits pdus (pdu_in (lent s) (lent s) (lent s) a))) ≡ s ++ drop (length s) t = ap
     (put_bits t 0) q ∙ put_bytes t s ht hs (omega arith) in
-    rw (le-ltb (length t) buffer_least g, c.placed-fits, p)
+    rw (le-ltb (length t) buffer_least g, c.placed_fits, p)
 
 -- ---- with additions or without
 
@@ -458,7 +458,7 @@ pub read_stripped : (pdus : PduType) (s t : List ℕ) (a : Apdu) → buffer_leas
 unfolding write_out
 read_stripped pdus s t a g e =
     let c = accepted_encoding pdus (lent s) a (bits_to_is s all_bits) e in
-    rw (le-ltb (length t) buffer_least g, c.placed-fits, c.bits)
+    rw (le-ltb (length t) buffer_least g, c.placed_fits, c.bits)
 
 -- ---- the writer's refusals, and no others
 

@@ -251,7 +251,7 @@ module _ (ed : Edition) (k : Contents ed) where
       let z : q ≡ length (alternative t kind.Start ++ mode_bits t m) = omega
       (arith, v.stands.place, length-append (alternative t kind.Start) (mode_bits t m)) in
       record {
-        placed_fits = both_hold _ _ v.fits w.placed-fits;
+        placed_fits = both_hold _ _ v.fits w.placed_fits;
         fits = both_hold _ _ v.fits w.fits;
         stands = λ (e : extended ed t l (is.Start m d) ≡ false).
             stands_join l 0 p n (index_bits (last_of t) 2) _ s (stands_join l p q n (mode_bits t m)
@@ -266,7 +266,7 @@ module _ (ed : Edition) (k : Contents ed) where
       let w = k.send_read t l p n d b g in
       let z : p ≡ length (alternative t kind.Send) = omega (arith, s.place) in
       record {
-        placed_fits = w.placed-fits;
+        placed_fits = w.placed_fits;
         fits = both_hold _ _ w.fits (k.send_holds t l p n d g);
         stands = λ (e : extended ed t l (is.Send d) ≡ false). stands_join l 0 p n (index_bits (last_of t) 3)
             (content_bits ed (content_in l l l d)) s (w.stands (marked_send ed t l p d z e));
@@ -279,7 +279,7 @@ module _ (ed : Edition) (k : Contents ed) where
   forward_stood t l p n f b y s g =
       let w = k.forward_read l p f n b g in
       record {
-        placed_fits = both_hold _ _ y w.placed-fits;
+        placed_fits = both_hold _ _ y w.placed_fits;
         fits = both_hold _ _ y w.fits;
         stands = λ e. stands_join l 0 p n (index_bits (last_of t) 4) (forward_bits ed f.heading (items_in l bit f.message)) s w.stands;
         end = w.end;

@@ -2,11 +2,12 @@
 // and answers are written. Input past 65,536 bytes is not looked at.
 #![tactic(auto)]
 
-ghost use Rattle.std.specs.Prelude.{◌^◌, ◌<◌, ◌≤◌};
+ghost use Rattle.std.specs.Prelude.{◌^◌, ◌<◌, ◌≤◌, length};
 
 use apdu::{Apdu, Data, Decoded, Forward, Heading, Part, Triple, Written};
 use bits::Read;
 use pdus::{PduType, Span};
+use std::io;
 
 // The bytes of a request before its body, and the end of a slice that means all of it.
 const HEADER: usize = 65;
@@ -100,137 +101,150 @@ fn asked(h: &[u8]) -> Apdu {
     }
 }
 
-fn show_span(x: Span) {
-    io::write_all(1, b" ");
-    io::print_decimal(1, x.at as u64);
-    io::write_all(1, b":");
-    io::print_decimal(1, x.count as u64);
+// What cannot be written is left out, as to a reader that is gone.
+fn say(rt: &impl Print, words: &[u8]) {
+    let _ = rt.write_all(words);
 }
 
-fn show_part(p: Part) {
+fn say_number(rt: &impl Print, n: u64) {
+    let _ = rt.print(n);
+}
+
+fn say_word(rt: &impl Print, n: u64) {
+    let _ = print!(rt; "{n:016x}");
+}
+
+fn show_span(rt: &impl Print, x: Span) {
+    say(rt, b" ");
+    say_number(rt, x.at as u64);
+    say(rt, b":");
+    say_number(rt, x.count as u64);
+}
+
+fn show_part(rt: &impl Print, p: Part) {
     match p {
         Part::Absent => {
-            io::write_all(1, b" -");
+            say(rt, b" -");
         }
         Part::Given(x) => {
-            show_span(x);
+            show_span(rt, x);
         }
     }
 }
 
-fn show_data(d: Data) {
+fn show_data(rt: &impl Print, d: Data) {
     let identifier = d.identifier;
     let message = d.message;
     let check = d.check;
-    show_part(identifier);
-    show_part(message);
-    show_span(check);
-    io::write_all(1, b"\n");
+    show_part(rt, identifier);
+    show_part(rt, message);
+    show_span(rt, check);
+    say(rt, b"\n");
 }
 
-fn show_number(n: u64) {
-    io::print_decimal(1, n);
-    io::write_all(1, b"\n");
+fn show_number(rt: &impl Print, n: u64) {
+    say_number(rt, n);
+    say(rt, b"\n");
 }
 
-fn show_triple(t: Triple) {
-    io::write_all(1, b" ");
-    io::print_decimal(1, t.first);
-    io::write_all(1, b" ");
-    io::print_decimal(1, t.second);
-    io::write_all(1, b" ");
-    io::print_decimal(1, t.third);
+fn show_triple(rt: &impl Print, t: Triple) {
+    say(rt, b" ");
+    say_number(rt, t.first);
+    say(rt, b" ");
+    say_number(rt, t.second);
+    say(rt, b" ");
+    say_number(rt, t.third);
 }
 
-fn show_forward(f: Forward) {
+fn show_forward(rt: &impl Print, f: Forward) {
     let h = f.heading;
     let date = h.date;
     let time = h.time;
     let message = f.message;
-    show_triple(date);
-    show_triple(time);
-    show_triple(triple(h.characters, h.flight, h.address));
-    io::write_all(1, b" ");
-    io::print_decimal(1, h.direction);
-    show_span(message);
-    io::write_all(1, b"\n");
+    show_triple(rt, date);
+    show_triple(rt, time);
+    show_triple(rt, triple(h.characters, h.flight, h.address));
+    say(rt, b" ");
+    say_number(rt, h.direction);
+    show_span(rt, message);
+    say(rt, b"\n");
 }
 
-fn show(a: Apdu) {
+fn show(rt: &impl Print, a: Apdu) {
     match a {
         Apdu::AbortUser(r) => {
-            io::write_all(1, b"abort-user ");
-            show_number(r);
+            say(rt, b"abort-user ");
+            show_number(rt, r);
         }
         Apdu::AbortProvider(r) => {
-            io::write_all(1, b"abort-provider ");
-            show_number(r);
+            say(rt, b"abort-provider ");
+            show_number(rt, r);
         }
         Apdu::Start(m, d) => {
-            io::write_all(1, b"start ");
-            io::print_decimal(1, m);
-            show_data(d);
+            say(rt, b"start ");
+            say_number(rt, m);
+            show_data(rt, d);
         }
         Apdu::Send(d) => {
-            io::write_all(1, b"send");
-            show_data(d);
+            say(rt, b"send");
+            show_data(rt, d);
         }
         Apdu::Forward(f) => {
-            io::write_all(1, b"forward");
-            show_forward(f);
+            say(rt, b"forward");
+            show_forward(rt, f);
         }
         Apdu::ForwardResponse(r) => {
-            io::write_all(1, b"forward-response ");
-            show_number(r);
+            say(rt, b"forward-response ");
+            show_number(rt, r);
         }
     }
 }
 
-fn show_answer(r: Decoded) {
+fn show_answer(rt: &impl Print, r: Decoded) {
     match r {
         Decoded::Is(a) => {
-            show(a);
+            show(rt, a);
         }
         Decoded::Refused(e) => {
-            io::write_all(1, b"refused ");
+            say(rt, b"refused ");
             let fault = e.fault;
             let at = e.at;
-            io::print_decimal(1, fields::number(fault));
-            io::write_all(1, b" at ");
-            show_number(at as u64);
+            say_number(rt, fields::number(fault));
+            say(rt, b" at ");
+            show_number(rt, at as u64);
         }
     }
 }
 
 // The buffer, eight bytes at a time.
-fn show_bytes(s: &[u8], words: usize)
+fn show_bytes(rt: &impl Print, s: &[u8], words: usize)
     requires { words ≤ 512 }
 {
     let mut i: usize = 0;
     while i < words {
-        io::print_hex(1, number(s, 64 * i, 64), 16);
+        say_word(rt, number(s, 64 * i, 64));
         i += 1;
     }
-    io::write_all(1, b"\n");
+    say(rt, b"\n");
 }
 
-fn show_written(w: Written, s: &[u8], words: usize)
+fn show_written(rt: &impl Print, w: Written, s: &[u8], words: usize)
     requires { words ≤ 512 }
 {
     match w {
         Written::Bits(n) => {
-            io::write_all(1, b"bits ");
-            io::print_decimal(1, n as u64);
+            say(rt, b"bits ");
+            say_number(rt, n as u64);
         }
         Written::Room => {
-            io::write_all(1, b"room");
+            say(rt, b"room");
         }
         Written::Shape => {
-            io::write_all(1, b"shape");
+            say(rt, b"shape");
         }
     }
-    io::write_all(1, b" ");
-    show_bytes(s, words);
+    say(rt, b" ");
+    show_bytes(rt, s, words);
 }
 
 fn fill(out: &mut [u8]) {
@@ -242,39 +256,39 @@ fn fill(out: &mut [u8]) {
 }
 
 // What is written to a buffer of so many times eight bytes, each of them A5 before.
-fn write(h: &[u8], body: &[u8], out: &mut [u8], words: usize, whole: bool)
+fn write(rt: &impl Print, h: &[u8], body: &[u8], out: &mut [u8], words: usize, whole: bool)
     requires { words ≤ 512 }
 {
     fill(out);
     if whole {
         let w = apdu::put_apdu(out, pdus(h), asked(h), body, body, body);
-        show_written(w, out, words);
+        show_written(rt, w, out, words);
         return;
     }
     let w = apdu::put_data(out, asked_data(h), body, body, body);
-    show_written(w, out, words);
+    show_written(rt, w, out, words);
 }
 
-fn answer(h: &[u8], body: &[u8], out: &mut [u8]) {
+fn answer(rt: &impl Print, h: &[u8], body: &[u8], out: &mut [u8]) {
     let op = number(h, 0, 8);
     if op == 0 {
-        show_answer(apdu::read_apdu(body, pdus(h)));
+        show_answer(rt, apdu::read_apdu(body, pdus(h)));
         return;
     }
     let words = number(h, 488, 16) as usize;
     if 512 < words {
-        io::write_all(1, b"bad\n");
+        say(rt, b"bad\n");
         return;
     }
     let n = 8 * words;
     if out.len() < n {
-        io::write_all(1, b"bad\n");
+        say(rt, b"bad\n");
         return;
     }
-    write(h, body, &mut out[..n], words, op == 1);
+    write(rt, h, body, &mut out[..n], words, op == 1);
 }
 
-fn answers(s: &[u8], out: &mut [u8]) {
+fn answers(rt: &impl Print, s: &[u8], out: &mut [u8]) {
     let mut at: usize = 0;
     let mut turns = s.len();
     while 0 < turns {
@@ -288,15 +302,40 @@ fn answers(s: &[u8], out: &mut [u8]) {
             break;
         }
         let next = from + len;
-        answer(h, &s[from..next], out);
+        answer(rt, h, &s[from..next], out);
         at = next;
         turns -= 1;
     }
 }
 
-fn main() {
-    let mut buf = io::large_buffer();
-    let mut out = io::buffer();
-    let n = io::read_full(0, &mut buf);
-    answers(&buf[..n], &mut out);
+fn large_buffer() -> [u8; 65536] {
+    [0u8; 65536]
+}
+
+fn out_buffer() -> [u8; 4096] {
+    [0u8; 4096]
+}
+
+// Reads until the buffer is full, the input ends or a read fails, and answers how many bytes it put at the buffer's start.
+fn read_full(input: &mut impl io::Read, buf: &mut [u8]) -> usize
+    ensures { result ≤ length buf.new }
+{
+    let mut done: usize = 0;
+    while done < buf.len() {
+        let Ok(n) = input.read(&mut buf[done..]) else {
+            break;
+        };
+        if n == 0 {
+            break;
+        }
+        done += n;
+    }
+    done
+}
+
+fn main(rt: HostRuntime) {
+    let mut buf = large_buffer();
+    let mut out = out_buffer();
+    let n = read_full(&mut rt.stdin(), &mut buf);
+    answers(&rt, &buf[..n], &mut out);
 }

@@ -6,11 +6,18 @@
 // status. What is found is what the library answers, whose contract is proved; this program reads the files and writes the words.
 #![tactic(auto)]
 
+ghost use Rattle.std.specs.Prelude.{◌≤◌, length, IfOk};
+
 use bits::Read;
-use libc::{STDERR_FILENO, STDOUT_FILENO};
 use recordings::Compared;
 use recordings::comparing::compare;
 use recordings::differing::rest;
+use std::env::FillError;
+use std::fs::File;
+use std::io;
+use std::io::Read as _;
+use std::rt::{Env, Files};
+use std::str::from_utf8;
 
 // What became of a file: how many bytes were read; or nothing, since it cannot be read.
 #[derive(Drop)]
@@ -29,44 +36,50 @@ fn list_buffer() -> [u8; 65792] {
     [0u8; 65792]
 }
 
-fn say(words: &[u8]) {
-    io::write_all(STDOUT_FILENO, words);
+// The longest path that is opened.
+fn path_buffer() -> [u8; 4096] {
+    [0u8; 4096]
 }
 
-fn say_number(n: u64) {
-    io::print_decimal(STDOUT_FILENO, n);
+// What cannot be written is left out, as to a reader that is gone.
+fn say(rt: &impl Print, words: &[u8]) {
+    let _ = rt.write_all(words);
 }
 
-fn say_recording(recording: u64) {
+fn say_number(rt: &impl Print, n: u64) {
+    let _ = rt.print(n);
+}
+
+fn say_recording(rt: &impl Print, recording: u64) {
     if recording == 1 {
-        say(b"first");
+        say(rt, b"first");
         return;
     }
-    say(b"second");
+    say(rt, b"second");
 }
 
-fn say_field(field: u64) {
+fn say_field(rt: &impl Print, field: u64) {
     match field {
-        1 => say(b"kind"),
-        2 => say(b"job"),
-        3 => say(b"bit count"),
-        _ => say(b"body"),
+        1 => say(rt, b"kind"),
+        2 => say(rt, b"job"),
+        3 => say(rt, b"bit count"),
+        _ => say(rt, b"body"),
     }
 }
 
-fn say_refusal(number: u64) {
+fn say_refusal(rt: &impl Print, number: u64) {
     match number {
-        2 => say(b"SHAPE"),
-        20 => say(b"CUT"),
-        21 => say(b"GROUPS"),
-        22 => say(b"KIND"),
-        23 => say(b"SIZE"),
-        _ => say(b"ROOM"),
+        2 => say(rt, b"SHAPE"),
+        20 => say(rt, b"CUT"),
+        21 => say(rt, b"GROUPS"),
+        22 => say(rt, b"KIND"),
+        23 => say(rt, b"SIZE"),
+        _ => say(rt, b"ROOM"),
     }
 }
 
 // The first so many jobs of a list, the others behind the first with words between.
-fn say_jobs(list: &[u8], count: usize, between: &[u8]) {
+fn say_jobs(rt: &impl Print, list: &[u8], count: usize, between: &[u8]) {
     let mut at: usize = 0;
     let mut left = count;
     while 0 < left {
@@ -75,9 +88,9 @@ fn say_jobs(list: &[u8], count: usize, between: &[u8]) {
             return;
         };
         if at != 0 {
-            say(between);
+            say(rt, between);
         }
-        say_number(job);
+        say_number(rt, job);
         at = next;
         left -= 1;
     }
@@ -85,187 +98,218 @@ fn say_jobs(list: &[u8], count: usize, between: &[u8]) {
 
 // ---- for people
 
-fn say_list(words: &[u8], list: &[u8], count: usize) {
+fn say_list(rt: &impl Print, words: &[u8], list: &[u8], count: usize) {
     if count == 0 {
         return;
     }
-    say(words);
-    say(b" ");
-    say_jobs(list, count, b" ");
-    say(b"\n");
+    say(rt, words);
+    say(rt, b" ");
+    say_jobs(rt, list, count, b" ");
+    say(rt, b"\n");
 }
 
-fn say_verdict(r: Compared, left_over: usize) {
+fn say_verdict(rt: &impl Print, r: Compared, left_over: usize) {
     if r.refusal != 0 {
-        say(b"refused ");
-        say_number(r.refusal);
-        say(b" (");
-        say_refusal(r.refusal);
-        say(b")");
+        say(rt, b"refused ");
+        say_number(rt, r.refusal);
+        say(rt, b" (");
+        say_refusal(rt, r.refusal);
+        say(rt, b")");
         if r.recording != 0 {
-            say(b" in ");
-            say_recording(r.recording);
-            say(b" at ");
-            say_number(r.byte as u64);
+            say(rt, b" in ");
+            say_recording(rt, r.recording);
+            say(rt, b" at ");
+            say_number(rt, r.byte as u64);
         }
-        say(b"\n");
+        say(rt, b"\n");
         return;
     }
     if r.field != 0 {
-        say(b"differs at ");
-        say_number(r.index as u64);
-        say(b" byte ");
-        say_number(r.byte as u64);
-        say(b": ");
-        say_field(r.field);
-        say(b"\n");
+        say(rt, b"differs at ");
+        say_number(rt, r.index as u64);
+        say(rt, b" byte ");
+        say_number(rt, r.byte as u64);
+        say(rt, b": ");
+        say_field(rt, r.field);
+        say(rt, b"\n");
         return;
     }
     if r.recording != 0 {
-        say(b"rest of ");
-        say_recording(r.recording);
-        say(b" from byte ");
-        say_number(r.byte as u64);
-        say(b": ");
-        say_number(left_over as u64);
-        say(b" bytes\n");
+        say(rt, b"rest of ");
+        say_recording(rt, r.recording);
+        say(rt, b" from byte ");
+        say_number(rt, r.byte as u64);
+        say(rt, b": ");
+        say_number(rt, left_over as u64);
+        say(rt, b" bytes\n");
         return;
     }
-    say(b"equal\n");
+    say(rt, b"equal\n");
 }
 
 // ---- for programs
 
-fn json_list(words: &[u8], list: &[u8], count: usize) {
-    say(b", \"");
-    say(words);
-    say(b"\": [");
-    say_jobs(list, count, b", ");
-    say(b"]");
+fn json_list(rt: &impl Print, words: &[u8], list: &[u8], count: usize) {
+    say(rt, b", \"");
+    say(rt, words);
+    say(rt, b"\": [");
+    say_jobs(rt, list, count, b", ");
+    say(rt, b"]");
 }
 
-fn json_recording(r: Compared) {
-    say(b", \"recording\": \"");
-    say_recording(r.recording);
-    say(b"\", \"byte\": ");
-    say_number(r.byte as u64);
+fn json_recording(rt: &impl Print, r: Compared) {
+    say(rt, b", \"recording\": \"");
+    say_recording(rt, r.recording);
+    say(rt, b"\", \"byte\": ");
+    say_number(rt, r.byte as u64);
 }
 
-fn json_verdict(r: Compared, left_over: usize) {
+fn json_verdict(rt: &impl Print, r: Compared, left_over: usize) {
     if r.refusal != 0 {
-        say(b"refused\", \"refusal\": ");
-        say_number(r.refusal);
+        say(rt, b"refused\", \"refusal\": ");
+        say_number(rt, r.refusal);
         if r.recording != 0 {
-            json_recording(r);
+            json_recording(rt, r);
         }
         return;
     }
     if r.field != 0 {
-        say(b"differs\", \"byte\": ");
-        say_number(r.byte as u64);
-        say(b", \"envelopes\": ");
-        say_number(r.index as u64);
-        say(b", \"field\": \"");
-        say_field(r.field);
-        say(b"\"");
+        say(rt, b"differs\", \"byte\": ");
+        say_number(rt, r.byte as u64);
+        say(rt, b", \"envelopes\": ");
+        say_number(rt, r.index as u64);
+        say(rt, b", \"field\": \"");
+        say_field(rt, r.field);
+        say(rt, b"\"");
         return;
     }
     if r.recording != 0 {
-        say(b"rest\"");
-        json_recording(r);
-        say(b", \"bytes\": ");
-        say_number(left_over as u64);
+        say(rt, b"rest\"");
+        json_recording(rt, r);
+        say(rt, b", \"bytes\": ");
+        say_number(rt, left_over as u64);
         return;
     }
-    say(b"equal\"");
+    say(rt, b"equal\"");
 }
 
 // ---- the two files
 
 // Compares what was read.
-fn show<'a>(json: bool, first: &'a [u8], second: &'a [u8]) {
+fn show<'a>(rt: &impl Print, json: bool, first: &'a [u8], second: &'a [u8]) {
     let mut left = list_buffer();
     let mut right = list_buffer();
     let mut twice = list_buffer();
     let r = compare(first, second, &mut left, &mut right, &mut twice);
     let left_over = rest(first, second).len();
     if json {
-        say(b"{\"verdict\": \"");
-        json_verdict(r, left_over);
+        say(rt, b"{\"verdict\": \"");
+        json_verdict(rt, r, left_over);
         if r.refusal == 0 {
-            json_list(b"only_first", &left, r.first);
-            json_list(b"only_second", &right, r.second);
-            json_list(b"repeated", &twice, r.repeated);
+            json_list(rt, b"only_first", &left, r.first);
+            json_list(rt, b"only_second", &right, r.second);
+            json_list(rt, b"repeated", &twice, r.repeated);
         }
-        say(b"}\n");
+        say(rt, b"}\n");
         return;
     }
-    say_verdict(r, left_over);
-    say_list(b"only first", &left, r.first);
-    say_list(b"only second", &right, r.second);
-    say_list(b"repeated", &twice, r.repeated);
+    say_verdict(rt, r, left_over);
+    say_list(rt, b"only first", &left, r.first);
+    say_list(rt, b"only second", &right, r.second);
+    say_list(rt, b"repeated", &twice, r.repeated);
 }
 
-fn show_parts<'a>(json: bool, first: &'a [u8], m: usize, second: &'a [u8], n: usize) {
+fn show_parts<'a>(
+    rt: &impl Print,
+    json: bool,
+    first: &'a [u8],
+    m: usize,
+    second: &'a [u8],
+    n: usize,
+) {
     if first.len() < m {
         return;
     }
     if second.len() < n {
         return;
     }
-    show(json, &first[..m], &second[..n]);
+    show(rt, json, &first[..m], &second[..n]);
 }
 
-// Whether the end of a file was met behind what was read: the buffer is full, or nothing follows. A read that failed is no end.
-fn met_end(got: usize, room: usize, more: isize) -> bool {
-    if more < 0 {
-        return false;
+// Reads until the buffer is full or the input ends, and answers how many bytes it put at the buffer's start.
+fn read_full(input: &mut impl io::Read, buf: &mut [u8]) -> io::Result<usize>
+    ensures { IfOk result (λ n. n ≤ length buf.new) }
+{
+    let mut done: usize = 0;
+    while done < buf.len() {
+        let n = input.read(&mut buf[done..])?;
+        if n == 0 {
+            break;
+        }
+        done += n;
     }
-    if got == room {
-        return true;
+    Ok(done)
+}
+
+// The argument of this number, at the buffer's start, and how many bytes it has: none where it is missing or the buffer is too small.
+fn argument(rt: &impl Env, number: usize, buf: &mut [u8]) -> usize
+    ensures { result ≤ length buf.new }
+{
+    match rt.arg(number, buf) {
+        Ok(n) => n,
+        Err(_) => 0,
     }
-    more == 0
+}
+
+// A file that is open, into a buffer: what it holds, as far as the buffer goes. A read that fails, also behind a full buffer, is no end.
+fn fill_from(file: &mut impl io::Read, buf: &mut [u8]) -> io::Result<usize> {
+    let got = read_full(file, buf)?;
+    let mut one = [0u8; 1];
+    file.read(&mut one)?;
+    Ok(got)
+}
+
+// The file of this name, into a buffer.
+fn fill_named(rt: &impl Files, name: &str, buf: &mut [u8]) -> io::Result<usize> {
+    let mut file = File::open(rt, name)?;
+    fill_from(&mut file, buf)
 }
 
 // The file that an argument names, into a buffer.
-fn fill(argument: usize, buf: &mut [u8]) -> Filled {
-    let mut path = io::buffer();
-    let n = os::arg(argument, &mut path);
-    let fd = os::open_read(&path[..n]);
-    if fd < 0 {
-        os::fail(&path[..n]);
+fn fill(rt: &(impl Env + Files + Eprint), number: usize, buf: &mut [u8]) -> Filled {
+    let mut path = path_buffer();
+    let n = argument(rt, number, &mut path);
+    let Ok(name) = from_utf8(&path[..n]) else {
+        let _ = eprintln!(rt; "a path is not text");
         return Filled::Not;
+    };
+    match fill_named(rt, name, buf) {
+        Ok(got) => Filled::Bytes(got),
+        Err(e) => {
+            let _ = eprintln!(rt; "{name}: {e}");
+            Filled::Not
+        }
     }
-    let got = io::read_full(fd, buf);
-    let mut one = [0u8; 1];
-    let more = libc::read(fd, &mut one);
-    if met_end(got, buf.len(), more) {
-        libc::close(fd);
-        return Filled::Bytes(got);
-    }
-    os::fail(&path[..n]);
-    libc::close(fd);
-    Filled::Not
 }
 
-fn run(json: bool, one: usize, other: usize) {
+fn run(rt: &(impl Env + Files + Print + Eprint), json: bool, one: usize, other: usize) {
     let mut first = recording_buffer();
     let mut second = recording_buffer();
-    let read = fill(one, &mut first);
+    let read = fill(rt, one, &mut first);
     let Filled::Bytes(m) = read else {
         return;
     };
-    let read = fill(other, &mut second);
+    let read = fill(rt, other, &mut second);
     let Filled::Bytes(n) = read else {
         return;
     };
-    show_parts(json, &first, m, &second, n);
+    show_parts(rt, json, &first, m, &second, n);
 }
 
 // Whether the first argument asks for JSON.
-fn asks_json() -> bool {
+fn asks_json(rt: &impl Env) -> bool {
     let mut word = [0u8; 8];
-    let n = os::arg(1, &mut word);
+    let n = argument(rt, 1, &mut word);
     if n != 6 {
         return false;
     }
@@ -277,18 +321,23 @@ fn asks_json() -> bool {
         && word[5] == b'n'
 }
 
-fn main() {
-    let count = os::arg_count();
-    if asks_json() {
-        if count == 4 {
-            run(true, 2, 3);
+// Whether there is an argument of this number.
+fn is_there(rt: &impl Env, number: usize) -> bool {
+    let mut none = [0u8; 0];
+    !matches!(rt.arg(number, &mut none), Err(FillError::NotPresent))
+}
+
+fn main(rt: HostRuntime) {
+    if asks_json(&rt) {
+        if is_there(&rt, 3) && !is_there(&rt, 4) {
+            run(&rt, true, 2, 3);
             return;
         }
     } else {
-        if count == 3 {
-            run(false, 1, 2);
+        if is_there(&rt, 2) && !is_there(&rt, 3) {
+            run(&rt, false, 1, 2);
             return;
         }
     }
-    io::write_all(STDERR_FILENO, b"usage: compare [--json] FIRST SECOND\n");
+    let _ = eprintln!(rt; "usage: compare [--json] FIRST SECOND");
 }

@@ -6,6 +6,7 @@
 use fragments::Reported;
 use fragments::reporting::{is_refused, report_end, report_lines, report_title};
 use fragments::stored::{Loaded, make_fresh};
+use std::io::Read;
 
 // What follows a fragment: another; the last line; or nothing, since a read or a write failed.
 #[derive(Clone, Copy)]
@@ -24,30 +25,33 @@ fn record_buffer() -> [u8; Loaded::SIZE] {
     [0u8; Loaded::SIZE]
 }
 
+fn text_buffer() -> [u8; 65536] {
+    [0u8; 65536]
+}
+
 // Writes a text that was made in a buffer, and answers whether it was written.
-fn show(told: Reported, text: &[u8]) -> bool {
+fn show(rt: &impl Print, told: Reported, text: &[u8]) -> bool {
     let Reported::Bytes(n) = told else {
         return false;
     };
     if text.len() < n {
         return false;
     }
-    io::write_all(1, &text[..n])
+    rt.write_all(&text[..n]).is_ok()
 }
 
 // The next fragment of the input: what is there, if it is not more than the buffer holds.
-fn show_fragment(rec: &mut [u8], input: &mut [u8], text: &mut [u8]) -> Next {
-    let got = libc::read(0, input);
-    if got < 0 {
-        io::write_all(1, b"a read failed, and what follows is not read\n");
+fn show_fragment(rt: &HostRuntime, rec: &mut [u8], input: &mut [u8], text: &mut [u8]) -> Next {
+    let mut source = rt.stdin();
+    let Ok(n) = source.read(input) else {
+        let _ = rt.write_all(b"a read failed, and what follows is not read\n");
         return Next::Nothing;
-    }
-    if got == 0 {
+    };
+    if n == 0 {
         return Next::Last;
     }
-    let n = io::count(got, input);
     let told = report_lines(rec, &input[..n], text);
-    if !show(told, text) {
+    if !show(rt, told, text) {
         return Next::Nothing;
     }
     if is_refused(rec) {
@@ -58,10 +62,10 @@ fn show_fragment(rec: &mut [u8], input: &mut [u8], text: &mut [u8]) -> Next {
 
 // Every fragment, to the end or a refusal; whether the last line follows. A proved loop has to end, and nothing says that the
 // input does: so it counts down, from a number of fragments that no run reads.
-fn show_fragments(rec: &mut [u8], input: &mut [u8], text: &mut [u8]) -> bool {
+fn show_fragments(rt: &HostRuntime, rec: &mut [u8], input: &mut [u8], text: &mut [u8]) -> bool {
     let mut turns = u64::MAX;
     while 0 < turns {
-        let next = show_fragment(rec, input, text);
+        let next = show_fragment(rt, rec, input, text);
         match next {
             Next::More => {}
             Next::Last => {
@@ -76,21 +80,21 @@ fn show_fragments(rec: &mut [u8], input: &mut [u8], text: &mut [u8]) -> bool {
     true
 }
 
-fn show_all(rec: &mut [u8], input: &mut [u8], text: &mut [u8]) {
+fn show_all(rt: &HostRuntime, rec: &mut [u8], input: &mut [u8], text: &mut [u8]) {
     make_fresh(rec);
     let title = report_title(text);
-    if !show(title, text) {
+    if !show(rt, title, text) {
         return;
     }
-    if show_fragments(rec, input, text) {
+    if show_fragments(rt, rec, input, text) {
         let last = report_end(rec, text);
-        show(last, text);
+        show(rt, last, text);
     }
 }
 
-fn main() {
+fn main(rt: HostRuntime) {
     let mut rec = record_buffer();
     let mut input = input_buffer();
-    let mut text = io::large_buffer();
-    show_all(&mut rec, &mut input, &mut text);
+    let mut text = text_buffer();
+    show_all(&rt, &mut rec, &mut input, &mut text);
 }

@@ -12,16 +12,17 @@ use pdus::PduType;
 const ALL: usize = 18446744073709551615;
 
 // An index behind its extension bit.
-fn walk_index(s: &[u8], at: usize, name: &[u8], last: u64) -> Field {
-    let extension = row(b"extension bit", at, fields::extension_bit(s, ALL, at));
+fn walk_index(rt: &impl Print, s: &[u8], at: usize, name: &[u8], last: u64) -> Field {
+    let extension = row(rt, b"extension bit", at, fields::extension_bit(s, ALL, at));
     let Field::Value(_, p) = extension else {
         return extension;
     };
-    row(name, p, fields::whole(s, ALL, p, 0, last))
+    row(rt, name, p, fields::whole(s, ALL, p, 0, last))
 }
 
 // A length, and the items that it counts.
 fn walk_string(
+    rt: &impl Print,
     s: &[u8],
     at: usize,
     name: &[u8],
@@ -31,6 +32,7 @@ fn walk_string(
     most: usize,
 ) -> Field {
     let length = row(
+        rt,
         name,
         at,
         fields::length_within(s, ALL, at, least as u64, most as u64),
@@ -38,16 +40,22 @@ fn walk_string(
     let Field::Value(n, p) = length else {
         return length;
     };
-    row(counted, p, fields::contents(s, ALL, p, unit, n as usize))
+    row(
+        rt,
+        counted,
+        p,
+        fields::contents(s, ALL, p, unit, n as usize),
+    )
 }
 
 // An addition: its length in octets, and the octets, which are not looked at.
-fn walk_addition(s: &[u8], at: usize) -> Field {
-    let length = row(b"length of an addition", at, fields::length(s, ALL, at));
+fn walk_addition(rt: &impl Print, s: &[u8], at: usize) -> Field {
+    let length = row(rt, b"length of an addition", at, fields::length(s, ALL, at));
     let Field::Value(n, p) = length else {
         return length;
     };
     row(
+        rt,
         b"addition",
         p,
         fields::contents(s, ALL, p, Data::OCTET, n as usize),
@@ -55,11 +63,11 @@ fn walk_addition(s: &[u8], at: usize) -> Field {
 }
 
 // So many additions, one after the other.
-fn walk_each(s: &[u8], at: usize, count: u32) {
+fn walk_each(rt: &impl Print, s: &[u8], at: usize, count: u32) {
     let mut p = at;
     let mut left = count;
     while 0 < left {
-        let one = walk_addition(s, p);
+        let one = walk_addition(rt, s, p);
         let Field::Value(_, next) = one else {
             return;
         };
@@ -69,8 +77,9 @@ fn walk_each(s: &[u8], at: usize, count: u32) {
 }
 
 // What a later edition added: how many additions it has, which of them are there, and those.
-fn walk_additions(s: &[u8], at: usize) {
+fn walk_additions(rt: &impl Print, s: &[u8], at: usize) {
     let count = row(
+        rt,
         b"count of additions",
         at,
         fields::addition_count(s, ALL, at),
@@ -79,6 +88,7 @@ fn walk_additions(s: &[u8], at: usize) {
         return;
     };
     let there = row(
+        rt,
         b"presence of additions",
         p,
         fields::additions_there(s, ALL, p, n as usize),
@@ -86,12 +96,13 @@ fn walk_additions(s: &[u8], at: usize) {
     let Field::Value(v, q) = there else {
         return;
     };
-    walk_each(s, q, u64::count_ones(v));
+    walk_each(rt, s, q, u64::count_ones(v));
 }
 
 // The check, which is always there, and what was added behind it.
-fn walk_check(s: &[u8], extended: bool, at: usize) {
+fn walk_check(rt: &impl Print, s: &[u8], extended: bool, at: usize) {
     let check = walk_string(
+        rt,
         s,
         at,
         b"length of the check",
@@ -104,14 +115,15 @@ fn walk_check(s: &[u8], extended: bool, at: usize) {
         return;
     };
     if extended {
-        walk_additions(s, p);
+        walk_additions(rt, s, p);
     }
 }
 
 // What follows the identifier.
-fn walk_opaque(s: &[u8], extended: bool, there: bool, at: usize) {
+fn walk_opaque(rt: &impl Print, s: &[u8], extended: bool, there: bool, at: usize) {
     if there {
         let message = walk_string(
+            rt,
             s,
             at,
             b"length of the message",
@@ -123,29 +135,30 @@ fn walk_opaque(s: &[u8], extended: bool, there: bool, at: usize) {
         let Field::Value(_, p) = message else {
             return;
         };
-        walk_check(s, extended, p);
+        walk_check(rt, s, extended, p);
         return;
     }
-    walk_check(s, extended, at);
+    walk_check(rt, s, extended, at);
 }
 
 // Message data: the extension bit, the presence bits, the parts that are there, and what was added.
-fn walk_data(s: &[u8], at: usize) {
-    let extension = row(b"extension bit", at, fields::bit_field(s, ALL, at, 1));
+fn walk_data(rt: &impl Print, s: &[u8], at: usize) {
+    let extension = row(rt, b"extension bit", at, fields::bit_field(s, ALL, at, 1));
     let Field::Value(e, p) = extension else {
         return;
     };
     let extended = 0 < e;
-    let presence = row(b"presence bits", p, fields::bit_field(s, ALL, p, 2));
+    let presence = row(rt, b"presence bits", p, fields::bit_field(s, ALL, p, 2));
     let Field::Value(v, q) = presence else {
         return;
     };
     let messaged = v % 2 == 1;
     if v < 2 {
-        walk_opaque(s, extended, messaged, q);
+        walk_opaque(rt, s, extended, messaged, q);
         return;
     }
     let identifier = walk_string(
+        rt,
         s,
         q,
         b"length of the identifier",
@@ -157,7 +170,7 @@ fn walk_data(s: &[u8], at: usize) {
     let Field::Value(_, r) = identifier else {
         return;
     };
-    walk_opaque(s, extended, messaged, r);
+    walk_opaque(rt, s, extended, messaged, r);
 }
 
 // AircraftPDUs hold downlink messages, GroundPDUs uplink messages.
@@ -169,35 +182,36 @@ fn sent_by(pdus: PduType) -> Direction {
 }
 
 // What a send holds: message data, or in type 2 a message in place.
-fn walk_send(s: &[u8], edition: Edition, pdus: PduType, at: usize) {
+fn walk_send(rt: &impl Print, s: &[u8], edition: Edition, pdus: PduType, at: usize) {
     match edition {
-        Edition::Protected => walk_data(s, at),
-        Edition::Plain => walk_message(sent_by(pdus), s, ALL, at),
+        Edition::Protected => walk_data(rt, s, at),
+        Edition::Plain => walk_message(rt, sent_by(pdus), s, ALL, at),
     }
 }
 
 // A message in place, or none.
-fn walk_perhaps(s: &[u8], pdus: PduType, at: usize) {
-    let choice = row(b"message or none", at, fields::bit_field(s, ALL, at, 1));
+fn walk_perhaps(rt: &impl Print, s: &[u8], pdus: PduType, at: usize) {
+    let choice = row(rt, b"message or none", at, fields::bit_field(s, ALL, at, 1));
     let Field::Value(v, p) = choice else {
         return;
     };
     if 0 < v {
-        walk_message(sent_by(pdus), s, ALL, p);
+        walk_message(rt, sent_by(pdus), s, ALL, p);
     }
 }
 
 // What a start holds behind its mode.
-fn walk_started(s: &[u8], edition: Edition, pdus: PduType, at: usize) {
+fn walk_started(rt: &impl Print, s: &[u8], edition: Edition, pdus: PduType, at: usize) {
     match edition {
-        Edition::Protected => walk_data(s, at),
-        Edition::Plain => walk_perhaps(s, pdus, at),
+        Edition::Protected => walk_data(rt, s, at),
+        Edition::Plain => walk_perhaps(rt, s, pdus, at),
     }
 }
 
 // A startdown has a mode, or leaves it out.
-fn walk_start_down(s: &[u8], edition: Edition, at: usize) {
+fn walk_start_down(rt: &impl Print, s: &[u8], edition: Edition, at: usize) {
     let presence = row(
+        rt,
         b"presence of the mode",
         at,
         fields::bit_field(s, ALL, at, 1),
@@ -206,22 +220,22 @@ fn walk_start_down(s: &[u8], edition: Edition, at: usize) {
         return;
     };
     if v == 0 {
-        walk_started(s, edition, PduType::AircraftPdus, p);
+        walk_started(rt, s, edition, PduType::AircraftPdus, p);
         return;
     }
-    let mode = row(b"mode", p, fields::whole(s, ALL, p, 0, Apdu::MODE_LAST));
+    let mode = row(rt, b"mode", p, fields::whole(s, ALL, p, 0, Apdu::MODE_LAST));
     let Field::Value(m, q) = mode else {
         return;
     };
     if 0 < m {
-        walk_started(s, edition, PduType::AircraftPdus, q);
+        walk_started(rt, s, edition, PduType::AircraftPdus, q);
     }
 }
 
-fn walk_start(s: &[u8], edition: Edition, pdus: PduType, at: usize) {
+fn walk_start(rt: &impl Print, s: &[u8], edition: Edition, pdus: PduType, at: usize) {
     match pdus {
-        PduType::AircraftPdus => walk_start_down(s, edition, at),
-        PduType::GroundPdus => walk_started(s, edition, PduType::GroundPdus, at),
+        PduType::AircraftPdus => walk_start_down(rt, s, edition, at),
+        PduType::GroundPdus => walk_started(rt, s, edition, PduType::GroundPdus, at),
     }
 }
 
@@ -240,36 +254,36 @@ fn user_last(edition: Edition) -> u64 {
     }
 }
 
-fn walk(s: &[u8], edition: Edition, pdus: PduType) {
-    let index = walk_index(s, 0, b"alternative", last_of(pdus));
+fn walk(rt: &impl Print, s: &[u8], edition: Edition, pdus: PduType) {
+    let index = walk_index(rt, s, 0, b"alternative", last_of(pdus));
     let Field::Value(i, p) = index else {
         return;
     };
     if i == 0 {
-        walk_index(s, p, b"reason of the user", user_last(edition));
+        walk_index(rt, s, p, b"reason of the user", user_last(edition));
     }
     if i == 1 {
-        walk_index(s, p, b"reason of the provider", Apdu::PROVIDER_LAST);
+        walk_index(rt, s, p, b"reason of the provider", Apdu::PROVIDER_LAST);
     }
     if i == 2 {
-        walk_start(s, edition, pdus, p);
+        walk_start(rt, s, edition, pdus, p);
     }
     if i == 3 {
-        walk_send(s, edition, pdus, p);
+        walk_send(rt, s, edition, pdus, p);
     }
     if i == 4 {
-        walk_forward(s, edition, p);
+        walk_forward(rt, s, edition, p);
     }
     if i == 5 {
-        walk_index(s, p, b"result of the forward", Apdu::RESPONSE_LAST);
+        walk_index(rt, s, p, b"result of the forward", Apdu::RESPONSE_LAST);
     }
 }
 
-pub(crate) fn explain_apdu(s: &[u8], edition: Edition, pdus: PduType) {
-    walk(s, edition, pdus);
+pub(crate) fn explain_apdu(rt: &impl Print, s: &[u8], edition: Edition, pdus: PduType) {
+    walk(rt, s, edition, pdus);
     let answer = codec::read_apdu(edition, s, pdus);
     match answer {
-        Decoded::Is(_) => accepted(),
-        Decoded::Refused(r) => refused(r, s),
+        Decoded::Is(_) => accepted(rt),
+        Decoded::Refused(r) => refused(rt, r, s),
     }
 }

@@ -10,6 +10,7 @@ use kinds::Direction;
 const ALL: usize = 18446744073709551615;
 
 fn walk_three(
+    rt: &impl Print,
     s: &[u8],
     at: usize,
     from: Triple,
@@ -18,20 +19,31 @@ fn walk_three(
     second: &[u8],
     third: &[u8],
 ) -> Field {
-    let one = row(first, at, fields::whole(s, ALL, at, from.first, to.first));
+    let one = row(
+        rt,
+        first,
+        at,
+        fields::whole(s, ALL, at, from.first, to.first),
+    );
     let Field::Value(_, p) = one else {
         return one;
     };
-    let two = row(second, p, fields::whole(s, ALL, p, from.second, to.second));
+    let two = row(
+        rt,
+        second,
+        p,
+        fields::whole(s, ALL, p, from.second, to.second),
+    );
     let Field::Value(_, q) = two else {
         return two;
     };
-    row(third, q, fields::whole(s, ALL, q, from.third, to.third))
+    row(rt, third, q, fields::whole(s, ALL, q, from.third, to.third))
 }
 
 // The count of the flight identification's characters, then they, seven bits each, as one field.
-fn walk_flight(s: &[u8], at: usize) -> Field {
+fn walk_flight(rt: &impl Print, s: &[u8], at: usize) -> Field {
     let count = row(
+        rt,
         b"count of characters",
         at,
         fields::whole(
@@ -46,6 +58,7 @@ fn walk_flight(s: &[u8], at: usize) -> Field {
         return count;
     };
     row(
+        rt,
         b"characters",
         p,
         fields::contents(s, ALL, p, Heading::CHARACTER, n as usize),
@@ -53,8 +66,9 @@ fn walk_flight(s: &[u8], at: usize) -> Field {
 }
 
 // The aircraft's address, and what the message's bits are.
-fn walk_address(s: &[u8], at: usize) -> Field {
+fn walk_address(rt: &impl Print, s: &[u8], at: usize) -> Field {
     let address = row(
+        rt,
         b"address",
         at,
         fields::contents(s, ALL, at, Data::BIT, Heading::ADDRESS_BITS),
@@ -63,6 +77,7 @@ fn walk_address(s: &[u8], at: usize) -> Field {
         return address;
     };
     row(
+        rt,
         b"direction",
         p,
         fields::whole(s, ALL, p, 0, Heading::DIRECTION_LAST),
@@ -70,8 +85,9 @@ fn walk_address(s: &[u8], at: usize) -> Field {
 }
 
 // What stands before the message.
-fn walk_heading(s: &[u8], at: usize) -> Field {
+fn walk_heading(rt: &impl Print, s: &[u8], at: usize) -> Field {
     let date = walk_three(
+        rt,
         s,
         at,
         Heading::DATE_FROM,
@@ -84,6 +100,7 @@ fn walk_heading(s: &[u8], at: usize) -> Field {
         return date;
     };
     let time = walk_three(
+        rt,
         s,
         p,
         Heading::TIME_FROM,
@@ -95,16 +112,17 @@ fn walk_heading(s: &[u8], at: usize) -> Field {
     let Field::Value(_, q) = time else {
         return time;
     };
-    let flight = walk_flight(s, q);
+    let flight = walk_flight(rt, s, q);
     let Field::Value(_, r) = flight else {
         return flight;
     };
-    walk_address(s, r)
+    walk_address(rt, s, r)
 }
 
 // The bits that are forwarded, with their length.
-fn walk_forwarded(s: &[u8], at: usize) {
+fn walk_forwarded(rt: &impl Print, s: &[u8], at: usize) {
     let length = row(
+        rt,
         b"length of the message",
         at,
         fields::length_within(s, ALL, at, 0, Data::MESSAGE_MOST as u64),
@@ -113,6 +131,7 @@ fn walk_forwarded(s: &[u8], at: usize) {
         return;
     };
     row(
+        rt,
         b"message",
         q,
         fields::contents(s, ALL, q, Data::BIT, n as usize),
@@ -127,13 +146,13 @@ fn direction_of(z: u64) -> Direction {
     Direction::Downlink
 }
 
-pub(crate) fn walk_forward(s: &[u8], edition: Edition, at: usize) {
-    let heading = walk_heading(s, at);
+pub(crate) fn walk_forward(rt: &impl Print, s: &[u8], edition: Edition, at: usize) {
+    let heading = walk_heading(rt, s, at);
     let Field::Value(z, p) = heading else {
         return;
     };
     match edition {
-        Edition::Protected => walk_forwarded(s, p),
-        Edition::Plain => walk_body(direction_of(z), s, ALL, p),
+        Edition::Protected => walk_forwarded(rt, s, p),
+        Edition::Plain => walk_body(rt, direction_of(z), s, ALL, p),
     }
 }

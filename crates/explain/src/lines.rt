@@ -1,6 +1,7 @@
 // A line of standard input: the word that says what it is, and its bytes.
 use crate::alternatives::explain_apdu;
 use crate::messages::explain_message;
+use crate::rows::say;
 use editions::Edition;
 use kinds::Direction;
 use pdus::PduType;
@@ -117,67 +118,80 @@ fn bytes(line: &[u8], from: usize, out: &mut [u8]) -> Taken {
     Taken::Bytes(n)
 }
 
-fn not_read() {
-    io::write_all(
-        1,
+fn not_read(rt: &impl Print) {
+    say(
+        rt,
         b"not read: a line is `air BYTES`, `ground BYTES`, `air2 BYTES`, `ground2 BYTES`, `down COUNT BYTES` or `up COUNT BYTES`\n",
     );
 }
 
-fn explain_pdu_line(line: &[u8], from: usize, edition: Edition, pdus: PduType, out: &mut [u8]) {
+fn explain_pdu_line(
+    rt: &impl Print,
+    line: &[u8],
+    from: usize,
+    edition: Edition,
+    pdus: PduType,
+    out: &mut [u8],
+) {
     let taken = bytes(line, from, out);
     let Taken::Bytes(n) = taken else {
-        not_read();
+        not_read(rt);
         return;
     };
     if n <= out.len() {
-        explain_apdu(&out[..n], edition, pdus);
+        explain_apdu(rt, &out[..n], edition, pdus);
     }
 }
 
-fn explain_message_line(line: &[u8], from: usize, direction: Direction, out: &mut [u8]) {
+fn explain_message_line(
+    rt: &impl Print,
+    line: &[u8],
+    from: usize,
+    direction: Direction,
+    out: &mut [u8],
+) {
     let counted = count(line, from);
     let Number::Is(bits, at) = counted else {
-        not_read();
+        not_read(rt);
         return;
     };
     let taken = bytes(line, at, out);
     let Taken::Bytes(n) = taken else {
-        not_read();
+        not_read(rt);
         return;
     };
     if n <= out.len() {
-        explain_message(&out[..n], bits, direction);
+        explain_message(rt, &out[..n], bits, direction);
     }
 }
 
 // A line, and what is said of it.
-pub(crate) fn explain_line(line: &[u8], out: &mut [u8]) {
-    io::write_all(1, line);
-    io::write_all(1, b"\n");
+pub(crate) fn explain_line(rt: &impl Print, line: &[u8], out: &mut [u8]) {
+    say(rt, line);
+    say(rt, b"\n");
     if begins(line, b"air ") {
-        explain_pdu_line(line, 4, Edition::Protected, PduType::AircraftPdus, out);
+        explain_pdu_line(rt, line, 4, Edition::Protected, PduType::AircraftPdus, out);
         return;
     }
     if begins(line, b"ground ") {
-        explain_pdu_line(line, 7, Edition::Protected, PduType::GroundPdus, out);
+        explain_pdu_line(rt, line, 7, Edition::Protected, PduType::GroundPdus, out);
         return;
     }
     if begins(line, b"air2 ") {
-        explain_pdu_line(line, 5, Edition::Plain, PduType::AircraftPdus, out);
+        explain_pdu_line(rt, line, 5, Edition::Plain, PduType::AircraftPdus, out);
         return;
     }
     if begins(line, b"ground2 ") {
-        explain_pdu_line(line, 8, Edition::Plain, PduType::GroundPdus, out);
+        explain_pdu_line(rt, line, 8, Edition::Plain, PduType::GroundPdus, out);
         return;
     }
     if begins(line, b"down ") {
-        explain_message_line(line, 5, Direction::Downlink, out);
+        explain_message_line(rt, line, 5, Direction::Downlink, out);
         return;
     }
     if begins(line, b"up ") {
-        explain_message_line(line, 3, Direction::Uplink, out);
+        explain_message_line(rt, line, 3, Direction::Uplink, out);
         return;
     }
-    not_read();
+    not_read(rt);
 }

@@ -19,12 +19,37 @@ mod lines;
 mod messages;
 mod rows;
 
-use lines::explain_line;
+ghost use Rattle.std.specs.Prelude.{◌≤◌, length};
 
-// Whether standard input has a byte more.
-fn has_more() -> bool {
+use lines::explain_line;
+use rows::say;
+use std::io;
+
+fn large_buffer() -> [u8; 65536] {
+    [0u8; 65536]
+}
+
+// Reads until the buffer is full, the input ends or a read fails, and answers how many bytes it put at the buffer's start.
+fn read_full(input: &mut impl io::Read, buf: &mut [u8]) -> usize
+    ensures { result ≤ length buf.new }
+{
+    let mut done: usize = 0;
+    while done < buf.len() {
+        let Ok(n) = input.read(&mut buf[done..]) else {
+            break;
+        };
+        if n == 0 {
+            break;
+        }
+        done += n;
+    }
+    done
+}
+
+// Whether the input has a byte more.
+fn has_more(input: &mut impl io::Read) -> bool {
     let mut one = [0u8; 1];
-    0 < io::read_full(0, &mut one)
+    0 < read_full(input, &mut one)
 }
 
 // The place of the line's end, from a place on.
@@ -40,7 +65,7 @@ fn line_end(s: &[u8], from: usize) -> usize {
 }
 
 // Each line in turn.
-fn explain_all(s: &[u8], bytes: &mut [u8]) {
+fn explain_all(rt: &impl Print, s: &[u8], bytes: &mut [u8]) {
     let mut at: usize = 0;
     while at < s.len() {
         let end = line_end(s, at);
@@ -50,7 +75,7 @@ fn explain_all(s: &[u8], bytes: &mut [u8]) {
         if s.len() < end {
             return;
         }
-        explain_line(&s[at..end], bytes);
+        explain_line(rt, &s[at..end], bytes);
         if s.len() <= end {
             return;
         }
@@ -58,15 +83,15 @@ fn explain_all(s: &[u8], bytes: &mut [u8]) {
     }
 }
 
-fn main() {
-    let mut input = io::large_buffer();
-    let n = io::read_full(0, &mut input);
+fn main(rt: HostRuntime) {
+    let mut input = large_buffer();
+    let n = read_full(&mut rt.stdin(), &mut input);
     if n == input.len() {
-        if has_more() {
-            io::write_all(1, b"input of more than 65536 bytes, not read\n");
+        if has_more(&mut rt.stdin()) {
+            say(&rt, b"input of more than 65536 bytes, not read\n");
             return;
         }
     }
-    let mut bytes = io::large_buffer();
-    explain_all(&input[..n], &mut bytes);
+    let mut bytes = large_buffer();
+    explain_all(&rt, &input[..n], &mut bytes);
 }

@@ -1,13 +1,13 @@
 // The fields of a CPDLC message, and what its reader answers.
-use crate::rows::{accepted, refused, row};
+use crate::rows::{accepted, refused, row, say};
 use elements::values::{Element, LevelType, Step, Time};
 use fields::Field;
 use inner::message::read_exactly;
 use inner::values::{DateTime, Header, Message};
 use kinds::{ArgumentKind, Direction, kind_of};
 
-fn whole(s: &[u8], end: usize, at: usize, name: &[u8], lo: u64, hi: u64) -> Field {
-    row(name, at, fields::whole(s, end, at, lo, hi))
+fn whole(rt: &impl Print, s: &[u8], end: usize, at: usize, name: &[u8], lo: u64, hi: u64) -> Field {
+    row(rt, name, at, fields::whole(s, end, at, lo, hi))
 }
 
 // The range of a unit's numbers.
@@ -25,75 +25,77 @@ fn highest(unit: u64) -> u64 {
     0
 }
 
-fn walk_level_type(s: &[u8], end: usize, at: usize) -> Field {
-    let choice = whole(s, end, at, b"unit", 0, LevelType::LAST_UNIT);
+fn walk_level_type(rt: &impl Print, s: &[u8], end: usize, at: usize) -> Field {
+    let choice = whole(rt, s, end, at, b"unit", 0, LevelType::LAST_UNIT);
     let Field::Value(unit, p) = choice else {
         return choice;
     };
-    whole(s, end, p, b"level", lowest(unit), highest(unit))
+    whole(rt, s, end, p, b"level", lowest(unit), highest(unit))
 }
 
-fn walk_level(s: &[u8], end: usize, at: usize) -> Field {
-    let choice = whole(s, end, at, b"level or block", 0, 1);
+fn walk_level(rt: &impl Print, s: &[u8], end: usize, at: usize) -> Field {
+    let choice = whole(rt, s, end, at, b"level or block", 0, 1);
     let Field::Value(block, p) = choice else {
         return choice;
     };
-    let first = walk_level_type(s, end, p);
+    let first = walk_level_type(rt, s, end, p);
     let Field::Value(_, q) = first else {
         return first;
     };
     if block == 0 {
         return first;
     }
-    walk_level_type(s, end, q)
+    walk_level_type(rt, s, end, q)
 }
 
-fn walk_two_levels(s: &[u8], end: usize, at: usize) -> Field {
-    let first = walk_level(s, end, at);
+fn walk_two_levels(rt: &impl Print, s: &[u8], end: usize, at: usize) -> Field {
+    let first = walk_level(rt, s, end, at);
     let Field::Value(_, p) = first else {
         return first;
     };
-    walk_level(s, end, p)
+    walk_level(rt, s, end, p)
 }
 
-fn walk_time(s: &[u8], end: usize, at: usize) -> Field {
-    let hours = whole(s, end, at, b"hours", 0, Time::LAST_HOUR);
+fn walk_time(rt: &impl Print, s: &[u8], end: usize, at: usize) -> Field {
+    let hours = whole(rt, s, end, at, b"hours", 0, Time::LAST_HOUR);
     let Field::Value(_, p) = hours else {
         return hours;
     };
-    whole(s, end, p, b"minutes", 0, Time::LAST_MINUTE)
+    whole(rt, s, end, p, b"minutes", 0, Time::LAST_MINUTE)
 }
 
-fn walk_two_digits(s: &[u8], end: usize, at: usize) -> Field {
-    let first = whole(s, end, at, b"digit", 0, Element::LAST_DIGIT);
+fn walk_two_digits(rt: &impl Print, s: &[u8], end: usize, at: usize) -> Field {
+    let first = whole(rt, s, end, at, b"digit", 0, Element::LAST_DIGIT);
     let Field::Value(_, p) = first else {
         return first;
     };
-    whole(s, end, p, b"digit", 0, Element::LAST_DIGIT)
+    whole(rt, s, end, p, b"digit", 0, Element::LAST_DIGIT)
 }
 
-fn walk_code(s: &[u8], end: usize, at: usize) -> Field {
-    let first = walk_two_digits(s, end, at);
+fn walk_code(rt: &impl Print, s: &[u8], end: usize, at: usize) -> Field {
+    let first = walk_two_digits(rt, s, end, at);
     let Field::Value(_, p) = first else {
         return first;
     };
-    walk_two_digits(s, end, p)
+    walk_two_digits(rt, s, end, p)
 }
 
-fn walk_text(s: &[u8], end: usize, at: usize, least: u64, most: u64) -> Field {
-    let size = whole(s, end, at, b"size of the text", least, most);
+fn walk_text(rt: &impl Print, s: &[u8], end: usize, at: usize, least: u64, most: u64) -> Field {
+    let size = whole(rt, s, end, at, b"size of the text", least, most);
     let Field::Value(n, p) = size else {
         return size;
     };
     row(
+        rt,
         b"characters",
         p,
         fields::contents(s, end, p, Element::CHARACTER_BITS, n as usize),
     )
 }
 
-fn walk_designation(s: &[u8], end: usize, at: usize) -> Field {
+fn walk_designation(rt: &impl Print, s: &[u8], end: usize, at: usize) -> Field {
     walk_text(
+        rt,
         s,
         end,
         at,
@@ -102,36 +104,38 @@ fn walk_designation(s: &[u8], end: usize, at: usize) -> Field {
     )
 }
 
-fn walk_facility(s: &[u8], end: usize, at: usize) -> Field {
-    let choice = whole(s, end, at, b"facility or none", 0, 1);
+fn walk_facility(rt: &impl Print, s: &[u8], end: usize, at: usize) -> Field {
+    let choice = whole(rt, s, end, at, b"facility or none", 0, 1);
     let Field::Value(designated, p) = choice else {
         return choice;
     };
     if designated == 0 {
         return choice;
     }
-    walk_designation(s, end, p)
+    walk_designation(rt, s, end, p)
 }
 
 // The argument; of an element that is not carried nothing more is read.
-fn walk_argument(kind: ArgumentKind, s: &[u8], end: usize, at: usize) -> Field {
+fn walk_argument(rt: &impl Print, kind: ArgumentKind, s: &[u8], end: usize, at: usize) -> Field {
     match kind {
         ArgumentKind::NotCarried => fields::refused_at(at, fields::Fault::NotCarried),
         ArgumentKind::None => Field::Value(0, at),
-        ArgumentKind::Level => walk_level(s, end, at),
-        ArgumentKind::TwoLevels => walk_two_levels(s, end, at),
-        ArgumentKind::Time => walk_time(s, end, at),
-        ArgumentKind::Code => walk_code(s, end, at),
+        ArgumentKind::Level => walk_level(rt, s, end, at),
+        ArgumentKind::TwoLevels => walk_two_levels(rt, s, end, at),
+        ArgumentKind::Time => walk_time(rt, s, end, at),
+        ArgumentKind::Code => walk_code(rt, s, end, at),
         ArgumentKind::FreeText => walk_text(
+            rt,
             s,
             end,
             at,
             Element::FREE_TEXT_LEAST,
             Element::FREE_TEXT_MOST,
         ),
-        ArgumentKind::Facility => walk_facility(s, end, at),
-        ArgumentKind::FacilityDesignation => walk_designation(s, end, at),
+        ArgumentKind::Facility => walk_facility(rt, s, end, at),
+        ArgumentKind::FacilityDesignation => walk_designation(rt, s, end, at),
         ArgumentKind::AtisCode => row(
+            rt,
             b"characters",
             at,
             fields::contents(s, end, at, Element::CHARACTER_BITS, 1),
@@ -146,24 +150,24 @@ fn last_of(direction: Direction) -> u64 {
     }
 }
 
-fn walk_element(direction: Direction, s: &[u8], end: usize, at: usize) -> Field {
-    let extension = row(b"extension bit", at, fields::extension_bit(s, end, at));
+fn walk_element(rt: &impl Print, direction: Direction, s: &[u8], end: usize, at: usize) -> Field {
+    let extension = row(rt, b"extension bit", at, fields::extension_bit(s, end, at));
     let Field::Value(_, p) = extension else {
         return extension;
     };
-    let index = whole(s, end, p, b"element", 0, last_of(direction));
+    let index = whole(rt, s, end, p, b"element", 0, last_of(direction));
     let Field::Value(i, q) = index else {
         return index;
     };
     let kind = kind_of(direction, (i % 256) as u8);
-    walk_argument(kind, s, end, q)
+    walk_argument(rt, kind, s, end, q)
 }
 
-fn walk_elements(direction: Direction, s: &[u8], end: usize, at: usize, n: u64) {
+fn walk_elements(rt: &impl Print, direction: Direction, s: &[u8], end: usize, at: usize, n: u64) {
     let mut i: u64 = 0;
     let mut p = at;
     while i < n {
-        let element = walk_element(direction, s, end, p);
+        let element = walk_element(rt, direction, s, end, p);
         let Field::Value(_, next) = element else {
             return;
         };
@@ -173,22 +177,23 @@ fn walk_elements(direction: Direction, s: &[u8], end: usize, at: usize, n: u64) 
 }
 
 // What follows the header.
-pub(crate) fn walk_body(direction: Direction, s: &[u8], end: usize, at: usize) {
-    let presence = whole(s, end, at, b"presence of constrained data", 0, 1);
+pub(crate) fn walk_body(rt: &impl Print, direction: Direction, s: &[u8], end: usize, at: usize) {
+    let presence = whole(rt, s, end, at, b"presence of constrained data", 0, 1);
     let Field::Value(constrained, p) = presence else {
         return;
     };
     if constrained == 0 {
-        let count = whole(s, end, p, b"count of elements", 1, 5);
+        let count = whole(rt, s, end, p, b"count of elements", 1, 5);
         let Field::Value(n, q) = count else {
             return;
         };
-        walk_elements(direction, s, end, q, n);
+        walk_elements(rt, direction, s, end, q, n);
     }
 }
 
-fn walk_date(s: &[u8], end: usize, at: usize) -> Field {
+fn walk_date(rt: &impl Print, s: &[u8], end: usize, at: usize) -> Field {
     let year = whole(
+        rt,
         s,
         end,
         at,
@@ -199,80 +204,87 @@ fn walk_date(s: &[u8], end: usize, at: usize) -> Field {
     let Field::Value(_, p) = year else {
         return year;
     };
-    let month = whole(s, end, p, b"month", 1, DateTime::LAST_MONTH);
+    let month = whole(rt, s, end, p, b"month", 1, DateTime::LAST_MONTH);
     let Field::Value(_, q) = month else {
         return month;
     };
-    whole(s, end, q, b"day", 1, DateTime::LAST_DAY)
+    whole(rt, s, end, q, b"day", 1, DateTime::LAST_DAY)
 }
 
-fn walk_date_time(s: &[u8], end: usize, at: usize) -> Field {
-    let date = walk_date(s, end, at);
+fn walk_date_time(rt: &impl Print, s: &[u8], end: usize, at: usize) -> Field {
+    let date = walk_date(rt, s, end, at);
     let Field::Value(_, p) = date else {
         return date;
     };
-    let time = walk_time(s, end, p);
+    let time = walk_time(rt, s, end, p);
     let Field::Value(_, q) = time else {
         return time;
     };
-    whole(s, end, q, b"seconds", 0, DateTime::LAST_SECOND)
+    whole(rt, s, end, q, b"seconds", 0, DateTime::LAST_SECOND)
 }
 
 // What follows the reference: date and time, the acknowledgement where it is present, and the body.
-fn walk_dated(direction: Direction, s: &[u8], end: usize, acknowledged: bool, at: usize) {
-    let dated = walk_date_time(s, end, at);
+fn walk_dated(
+    rt: &impl Print,
+    direction: Direction,
+    s: &[u8],
+    end: usize,
+    acknowledged: bool,
+    at: usize,
+) {
+    let dated = walk_date_time(rt, s, end, at);
     let Field::Value(_, p) = dated else {
         return;
     };
     if acknowledged {
-        let acknowledgement = whole(s, end, p, b"acknowledgement", 0, 1);
+        let acknowledgement = whole(rt, s, end, p, b"acknowledgement", 0, 1);
         let Field::Value(v, q) = acknowledgement else {
             return;
         };
         if v == 0 {
-            walk_body(direction, s, end, q);
+            walk_body(rt, direction, s, end, q);
         }
         return;
     }
-    walk_body(direction, s, end, p);
+    walk_body(rt, direction, s, end, p);
 }
 
 // The message that begins at a place.
-pub(crate) fn walk_message(direction: Direction, s: &[u8], end: usize, at: usize) {
-    let presence = whole(s, end, at, b"presence bits", 0, 3);
+pub(crate) fn walk_message(rt: &impl Print, direction: Direction, s: &[u8], end: usize, at: usize) {
+    let presence = whole(rt, s, end, at, b"presence bits", 0, 3);
     let Field::Value(v, p) = presence else {
         return;
     };
-    let number = whole(s, end, p, b"identification", 0, Header::LAST_NUMBER);
+    let number = whole(rt, s, end, p, b"identification", 0, Header::LAST_NUMBER);
     let Field::Value(_, q) = number else {
         return;
     };
     if v < 2 {
-        walk_dated(direction, s, end, v % 2 == 1, q);
+        walk_dated(rt, direction, s, end, v % 2 == 1, q);
         return;
     }
-    let reference = whole(s, end, q, b"reference", 0, Header::LAST_NUMBER);
+    let reference = whole(rt, s, end, q, b"reference", 0, Header::LAST_NUMBER);
     let Field::Value(_, r) = reference else {
         return;
     };
-    walk_dated(direction, s, end, v % 2 == 1, r);
+    walk_dated(rt, direction, s, end, v % 2 == 1, r);
 }
 
 // The first `count` bits, which a message may have and the bytes hold.
-pub(crate) fn explain_message(s: &[u8], count: usize, direction: Direction) {
+pub(crate) fn explain_message(rt: &impl Print, s: &[u8], count: usize, direction: Direction) {
     if Message::BITS < count {
-        io::write_all(1, b"not read: a message has at most 16383 bits\n");
+        say(rt, b"not read: a message has at most 16383 bits\n");
         return;
     }
     if s.len() < count / 8 + (count % 8 + 7) / 8 {
-        io::write_all(1, b"not read: more bits than the bytes hold\n");
+        say(rt, b"not read: more bits than the bytes hold\n");
         return;
     }
-    walk_message(direction, s, count, 0);
+    walk_message(rt, direction, s, count, 0);
     let read = read_exactly(direction, s, count);
     let step = read.step;
     match step {
-        Step::Next(_) => accepted(),
-        Step::Refused(r) => refused(r, s),
+        Step::Next(_) => accepted(rt),
+        Step::Refused(r) => refused(rt, r, s),
     }
 }

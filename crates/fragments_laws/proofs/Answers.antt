@@ -303,6 +303,7 @@ module _ (limit : ℕ) (z : Sized limit) where
       still : (m : Mail) → Quiet limit z m → mail_says m ≡ goes_on
       still (part p h) none = refl
       still (whole p h) done = refl
+      still (refused r p) q = elim q [ ]
 
       stop : (r : EnvelopeRefusal) (n : ℕ) → mail_says (stopped_at s r n) ≡ cond (is_cut r) goes_on (refuses r)
       stop Cut n = refl

@@ -12,6 +12,7 @@ mod writers;
 use bits::Put;
 use fields::Field;
 use request::{HEADER, Request};
+use std::io;
 
 // The ops of writers begin here.
 const WRITERS: u64 = 128;
@@ -44,17 +45,17 @@ fn ask(q: Request, lent: &mut [u8], source: &[u8]) -> Answer {
 }
 
 // Asks with a copy of the body for the lent bytes, and prints the answer; false where there is none.
-fn answered(q: Request, lent: &mut [u8], body: &[u8], source: &[u8]) -> bool
+fn answered(rt: &impl Print, q: Request, lent: &mut [u8], body: &[u8], source: &[u8]) -> bool
     requires { length body.now ≤ length lent.old }
 {
     paste(lent, body);
     let a = ask(q, lent, source);
-    shown::answer_line(a, lent)
+    shown::answer_line(rt, a, lent)
 }
 
 // Answers the request that the input begins with, and says how many bytes it took: none where the input ends inside it, or its
 // op is unknown.
-fn answer_next(s: &[u8], room: &mut [u8]) -> usize
+fn answer_next(rt: &impl Print, s: &[u8], room: &mut [u8]) -> usize
     requires { length s.now ≤ length room.old }
     ensures { result ≤ length s.now }
 {
@@ -73,29 +74,50 @@ fn answer_next(s: &[u8], room: &mut [u8]) -> usize
     }
     let from = HEADER + n;
     let next = from + m;
-    if answered(q, &mut room[..n], &s[HEADER..from], &s[from..next]) {
+    if answered(rt, q, &mut room[..n], &s[HEADER..from], &s[from..next]) {
         return next;
     }
     0
 }
 
-fn answer_all(s: &[u8], room: &mut [u8])
+fn answer_all(rt: &impl Print, s: &[u8], room: &mut [u8])
     requires { length s.now ≤ length room.old }
 {
     let mut at: usize = 0;
     while at < s.len() {
-        let took = answer_next(&s[at..], room);
+        let took = answer_next(rt, &s[at..], room);
         if took == 0 {
-            io::write_all(1, b"bad\n");
+            shown::say(rt, b"bad\n");
             return;
         }
         at += took;
     }
 }
 
-fn main() {
-    let mut input = io::large_buffer();
-    let mut room = io::large_buffer();
-    let n = io::read_full(0, &mut input);
-    answer_all(&input[..n], &mut room);
+fn large_buffer() -> [u8; 65536] {
+    [0u8; 65536]
+}
+
+// Reads until the buffer is full, the input ends or a read fails, and answers how many bytes it put at the buffer's start.
+fn read_full(input: &mut impl io::Read, buf: &mut [u8]) -> usize
+    ensures { result ≤ length buf.new }
+{
+    let mut done: usize = 0;
+    while done < buf.len() {
+        let Ok(n) = input.read(&mut buf[done..]) else {
+            break;
+        };
+        if n == 0 {
+            break;
+        }
+        done += n;
+    }
+    done
+}
+
+fn main(rt: HostRuntime) {
+    let mut input = large_buffer();
+    let mut room = large_buffer();
+    let n = read_full(&mut rt.stdin(), &mut input);
+    answer_all(&rt, &input[..n], &mut room);
 }

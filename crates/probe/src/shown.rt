@@ -3,62 +3,71 @@ use crate::Answer;
 use bits::Put;
 use fields::Field;
 
-fn ok(n: u64) {
-    io::write_all(1, b"ok ");
-    io::print_decimal(1, n);
-    io::write_all(1, b" ");
+// What cannot be written is left out, as to a reader that is gone.
+pub(crate) fn say(rt: &impl Print, words: &[u8]) {
+    let _ = rt.write_all(words);
 }
 
-fn field_line(f: Field) {
+fn say_number(rt: &impl Print, n: u64) {
+    let _ = rt.print(n);
+}
+
+fn ok(rt: &impl Print, n: u64) {
+    say(rt, b"ok ");
+    say_number(rt, n);
+    say(rt, b" ");
+}
+
+fn field_line(rt: &impl Print, f: Field) {
     match f {
         Field::Value(v, next) => {
-            ok(v);
-            io::print_decimal(1, next as u64);
+            ok(rt, v);
+            say_number(rt, next as u64);
         }
         Field::Refused(r) => {
-            io::write_all(1, b"refused ");
+            say(rt, b"refused ");
             let fault = r.fault;
             let at = r.at;
-            io::print_decimal(1, fields::number(fault));
-            io::write_all(1, b" at ");
-            io::print_decimal(1, at as u64);
+            say_number(rt, fields::number(fault));
+            say(rt, b" at ");
+            say_number(rt, at as u64);
         }
     }
 }
 
-fn wide(x: u8) -> u64 {
-    x as u64
+fn say_byte(rt: &impl Print, x: u8) {
+    let _ = print!(rt; "{x:02x}");
 }
 
 // Two small digits a byte; a dash for no bytes.
-fn bytes(s: &[u8]) {
+fn bytes(rt: &impl Print, s: &[u8]) {
     if s.len() == 0 {
-        io::write_all(1, b"-");
+        say(rt, b"-");
     }
     let mut i: usize = 0;
     while i < s.len() {
-        io::print_hex(1, wide(s[i]), 2);
+        say_byte(rt, s[i]);
         i += 1;
     }
 }
 
-fn put_line(p: Put, s: &[u8]) {
+fn put_line(rt: &impl Print, p: Put, s: &[u8]) {
     match p {
-        Put::Next(next) => ok(next as u64),
+        Put::Next(next) => ok(rt, next as u64),
         Put::Full => {
-            io::write_all(1, b"full ");
+            say(rt, b"full ");
         }
     }
-    bytes(s);
+    bytes(rt, s);
 }
 
 // Prints an answer and, after a writer, the lent bytes; false where there is none.
-pub(crate) fn answer_line(a: Answer, s: &[u8]) -> bool {
+pub(crate) fn answer_line(rt: &impl Print, a: Answer, s: &[u8]) -> bool {
     match a {
-        Answer::Read(f) => field_line(f),
-        Answer::Wrote(p) => put_line(p, s),
+        Answer::Read(f) => field_line(rt, f),
+        Answer::Wrote(p) => put_line(rt, p, s),
         Answer::Unknown => return false,
     }
-    io::write_all(1, b"\n");
+    say(rt, b"\n");
     true
 }

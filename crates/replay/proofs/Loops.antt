@@ -1,11 +1,11 @@
 -- The turns of the loops over a page: how each begins, goes on and ends, in the words of the code.
 -- Assumes nothing.
 use mathlib.Core.Path.{◌≡◌, refl, ap, sym, ◌∙◌}
-use mathlib.Core.Bool.{Bool, true, false, not, cond}
+use mathlib.Core.Bool.{Bool, true, false, cond}
 use mathlib.Core.List.{List}
 use Prim.Native.Nat.{ℕ, zero, suc, ◌+◌, ◌-◌, ◌≤◌, ◌<◌}
 use native.Mathlib.Omega.{arith}
-use borrow.Author.Tests.{le-leb, lt-leb, not-true, not-false}
+use borrow.Author.Tests.{le-leb, lt-leb}
 use lib.Dec.{eqb, leb}
 use lib.ListN.{length, get_or, set}
 use Rattle.control.specs.declared.State.TheVariants.{Forward}
@@ -64,15 +64,15 @@ pub tell_full : (l : List ℕ) (n i fate : ℕ) (z : Leaves) → i < n → 1024 
 tell_full l n i fate z h f w = sym (rw (tell_more l n i fate h, le-leb 1024 i f)) ∙ w
 
 pub tell_refused : (l m : List ℕ) (n i fate job : ℕ) (t : Bool) (z : Leaves) → i < n → i < 1024
-    → job ≡ get_or l (19472 + i) 0 → left t m ≡ noted l job fate → not t ≡ true → tell_on (n - i) l i fate ≡ z → left false m ≡ z
+    → job ≡ get_or l (19472 + i) 0 → left t m ≡ noted l job fate → t ≡ false → tell_on (n - i) l i fate ≡ z → left false m ≡ z
 tell_refused l m n i fate job t z h f j a b w =
-    sym (rw (tell_more l n i fate h, lt-leb 1024 i f, ← j, ← a, not-true t b)) ∙ w
+    sym (rw (tell_more l n i fate h, lt-leb 1024 i f, ← j, ← a, b)) ∙ w
 
 pub tell_turn : (l m : List ℕ) (n i fate job : ℕ) (t : Bool) (z : Leaves) → i < n → i < 1024
-    → job ≡ get_or l (19472 + i) 0 → left t m ≡ noted l job fate → not t ≡ false → tell_on (n - i) l i fate ≡ z
+    → job ≡ get_or l (19472 + i) 0 → left t m ≡ noted l job fate → t ≡ true → tell_on (n - i) l i fate ≡ z
     → tell_on (n - (i + 1)) m (i + 1) fate ≡ z
 tell_turn l m n i fate job t z h f j a b w =
-    sym (rw (tell_more l n i fate h, lt-leb 1024 i f, ← j, ← a, not-false t b)) ∙ w
+    sym (rw (tell_more l n i fate h, lt-leb 1024 i f, ← j, ← a, b)) ∙ w
 
 pub tell_ends : (l m : List ℕ) (n i fate : ℕ) (z : Leaves) → n ≤ i → m ≡ set l 9 0 → tell_on (n - i) l i fate ≡ z → left true m ≡ z
 tell_ends l m n i fate z h e w =
@@ -225,17 +225,17 @@ mark_next b c l n i v t h e a =
     ∙ ap (λ (x : Leaves). and_then x (λ (d : List ℕ). mark_on (n - (i + 1)) d l (i + 1))) (ap (mark_broken b) (sym e) ∙ sym a)
 
 pub mark_refused : (b c l : List ℕ) (n i v : ℕ) (t : Bool) (z : Leaves) → i < n → v ≡ entry_in l i 1 → left t c ≡ mark_broken b v
-    → not t ≡ true → mark_on (n - i) b l i ≡ z → left false c ≡ z
+    → t ≡ false → mark_on (n - i) b l i ≡ z → left false c ≡ z
 mark_refused b c l n i v t z h e a r w =
     sym (mark_next b c l n i v t h e a
-    ∙ ap (λ (x : Bool). cond x (mark_on (n - (i + 1)) c l (i + 1)) (left false c)) (not-true t r))
+    ∙ ap (λ (x : Bool). cond x (mark_on (n - (i + 1)) c l (i + 1)) (left false c)) r)
     ∙ w
 
 pub mark_turn : (b c l : List ℕ) (n i v : ℕ) (t : Bool) (z : Leaves) → i < n → v ≡ entry_in l i 1 → left t c ≡ mark_broken b v
-    → not t ≡ false → mark_on (n - i) b l i ≡ z → mark_on (n - (i + 1)) c l (i + 1) ≡ z
+    → t ≡ true → mark_on (n - i) b l i ≡ z → mark_on (n - (i + 1)) c l (i + 1) ≡ z
 mark_turn b c l n i v t z h e a r w =
     sym (mark_next b c l n i v t h e a
-    ∙ ap (λ (x : Bool). cond x (mark_on (n - (i + 1)) c l (i + 1)) (left false c)) (not-false t r))
+    ∙ ap (λ (x : Bool). cond x (mark_on (n - (i + 1)) c l (i + 1)) (left false c)) r)
     ∙ w
 
 pub mark_ends : (b l : List ℕ) (n i : ℕ) (z : Leaves) → n ≤ i → mark_on (n - i) b l i ≡ z → left true b ≡ z

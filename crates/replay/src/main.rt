@@ -14,11 +14,17 @@ mod rules;
 mod steps;
 mod watched;
 
+ghost use Rattle.std.specs.Prelude.{◌≤◌, length};
+
 use control::{Call, Reply, Side};
-use libc::{STDERR_FILENO, STDOUT_FILENO};
 use lines::Line;
 use page::{Fate, Place, get, put};
 use rules::{Rule, say_rule};
+use std::env::FillError;
+use std::fs::File;
+use std::io;
+use std::rt::{Env, Files};
+use std::str::from_utf8;
 
 fn new_page() -> [u64; 53264] {
     [0u64; 53264]
@@ -32,8 +38,19 @@ fn new_watch() -> [u64; 65792] {
     [0u64; 65792]
 }
 
-fn say(words: &[u8]) {
-    io::write_all(STDOUT_FILENO, words);
+// What cannot be written is left out, as to a reader that is gone.
+fn say(rt: &impl Print, words: &[u8]) {
+    let _ = rt.write_all(words);
+}
+
+// The bytes of one read.
+fn chunk_buffer() -> [u8; 65536] {
+    [0u8; 65536]
+}
+
+// The longest path that is opened.
+fn path_buffer() -> [u8; 4096] {
+    [0u8; 4096]
 }
 
 // ---- one line
@@ -259,29 +276,33 @@ fn go_on(
 
 // ---- the file
 
-fn name(count: u64, rule: u64, text: &[u8]) {
-    say(b"line ");
-    io::print_decimal(STDOUT_FILENO, count);
-    say(b": ");
-    say(text);
-    say(b"\n");
-    say_rule(rule);
-    say(b"\n");
+fn say_number(rt: &impl Print, n: u64) {
+    let _ = rt.print(n);
 }
 
-fn agree(count: u64) {
-    say(b"every line is a move of the model: ");
-    io::print_decimal(STDOUT_FILENO, count);
-    say(b" lines\n");
+fn name(rt: &impl Print, count: u64, rule: u64, text: &[u8]) {
+    say(rt, b"line ");
+    say_number(rt, count);
+    say(rt, b": ");
+    say(rt, text);
+    say(rt, b"\n");
+    say_rule(rt, rule);
+    say(rt, b"\n");
+}
+
+fn agree(rt: &impl Print, count: u64) {
+    say(rt, b"every line is a move of the model: ");
+    say_number(rt, count);
+    say(rt, b" lines\n");
 }
 
 // The file ends.
-fn finish(r: Run) {
+fn finish(rt: &impl Print, r: Run) {
     if r.bytes != 0 {
-        say(b"the last line has no end\n");
+        say(rt, b"the last line has no end\n");
         return;
     }
-    agree(r.count);
+    agree(rt, r.count);
 }
 
 // What is known between two lines: the side that starts, or forwards; that there are two centres; how many lines there were; how many bytes of the next one are
@@ -297,6 +318,7 @@ struct Run {
 
 // One line more.
 fn one_line(
+    rt: &impl Print,
     air: &mut [u64],
     ground: &mut [u64],
     broken: &mut [u64],
@@ -307,21 +329,21 @@ fn one_line(
     let l = lines::read(text);
     if r.count == 0 {
         let rule = begin(air, ground, watch, l);
-        return counted(r, l.air, l.word == 50, rule, text);
+        return counted(rt, r, l.air, l.word == 50, rule, text);
     }
     if r.centres && r.count == 1 {
         let rule = begin_other(air, ground, watch, r.from_air, l);
-        return counted(r, r.from_air, true, rule, text);
+        return counted(rt, r, r.from_air, true, rule, text);
     }
     let rule = go_on(air, ground, broken, watch, r, l);
-    counted(r, r.from_air, r.centres, rule, text)
+    counted(rt, r, r.from_air, r.centres, rule, text)
 }
 
 // A line that breaks a rule is named, and that is the end.
-fn counted(r: Run, from_air: bool, centres: bool, rule: u64, text: &[u8]) -> Run {
+fn counted(rt: &impl Print, r: Run, from_air: bool, centres: bool, rule: u64, text: &[u8]) -> Run {
     let count = next(r.count);
     if rule != 0 {
-        name(count, rule, text);
+        name(rt, count, rule, text);
     }
     Run {
         from_air,
@@ -341,6 +363,7 @@ fn next(count: u64) -> u64 {
 
 // One byte more.
 fn one_byte(
+    rt: &impl Print,
     air: &mut [u64],
     ground: &mut [u64],
     broken: &mut [u64],
@@ -352,7 +375,7 @@ fn one_byte(
     let n = r.bytes;
     if x == 10 {
         if n <= text.len() {
-            return one_line(air, ground, broken, watch, r, &text[..n]);
+            return one_line(rt, air, ground, broken, watch, r, &text[..n]);
         }
         return r;
     }
@@ -366,7 +389,7 @@ fn one_byte(
             over: false,
         };
     }
-    name(r.count, Rule::UNREADABLE, text);
+    name(rt, r.count, Rule::UNREADABLE, text);
     Run {
         from_air: r.from_air,
         centres: r.centres,
@@ -378,6 +401,7 @@ fn one_byte(
 
 // The bytes of one read.
 fn some(
+    rt: &impl Print,
     air: &mut [u64],
     ground: &mut [u64],
     broken: &mut [u64],
@@ -389,7 +413,7 @@ fn some(
     let mut run = r;
     let mut i: usize = 0;
     while i < s.len() {
-        run = one_byte(air, ground, broken, watch, text, run, s[i]);
+        run = one_byte(rt, air, ground, broken, watch, text, run, s[i]);
         if run.over {
             return run;
         }
@@ -398,9 +422,27 @@ fn some(
     run
 }
 
+// Reads until the buffer is full, the input ends or a read fails, and answers how many bytes it put at the buffer's start.
+fn read_full(input: &mut impl io::Read, buf: &mut [u8]) -> usize
+    ensures { result ≤ length buf.new }
+{
+    let mut done: usize = 0;
+    while done < buf.len() {
+        let Ok(n) = input.read(&mut buf[done..]) else {
+            break;
+        };
+        if n == 0 {
+            break;
+        }
+        done += n;
+    }
+    done
+}
+
 // Up to four gigabytes of a file.
 fn read_on(
-    fd: i32,
+    rt: &impl Print,
+    input: &mut impl io::Read,
     air: &mut [u64],
     ground: &mut [u64],
     broken: &mut [u64],
@@ -417,29 +459,30 @@ fn read_on(
     };
     let mut left: u64 = 65536;
     while 0 < left {
-        let n = io::read_full(fd, chunk);
+        let n = read_full(input, chunk);
         if n == 0 {
-            finish(run);
+            finish(rt, run);
             return;
         }
-        run = some(air, ground, broken, watch, text, run, &chunk[..n]);
+        run = some(rt, air, ground, broken, watch, text, run, &chunk[..n]);
         if run.over {
             return;
         }
         left -= 1;
     }
-    say(b"the file is too long\n");
+    say(rt, b"the file is too long\n");
 }
 
-fn replay(fd: i32) {
+fn replay(rt: &impl Print, input: &mut impl io::Read) {
     let mut air = new_page();
     let mut ground = new_page();
     let mut broken = new_broken();
     let mut watch = new_watch();
     let mut text = [0u8; 127];
-    let mut chunk = io::large_buffer();
+    let mut chunk = chunk_buffer();
     read_on(
-        fd,
+        rt,
+        input,
         &mut air,
         &mut ground,
         &mut broken,
@@ -449,18 +492,47 @@ fn replay(fd: i32) {
     );
 }
 
-fn main() {
-    if os::arg_count() != 2 {
-        io::write_all(STDERR_FILENO, b"usage: replay FILE\n");
+// The argument of this number, at the buffer's start, and how many bytes it has: none where it is missing or the buffer is too small.
+fn argument(rt: &impl Env, number: usize, buf: &mut [u8]) -> usize
+    ensures { result ≤ length buf.new }
+{
+    match rt.arg(number, buf) {
+        Ok(n) => n,
+        Err(_) => 0,
+    }
+}
+
+// Whether there is an argument of this number.
+fn is_there(rt: &impl Env, number: usize) -> bool {
+    let mut none = [0u8; 0];
+    !matches!(rt.arg(number, &mut none), Err(FillError::NotPresent))
+}
+
+// The file of this name.
+fn replay_named(rt: &(impl Files + Print + Eprint), name: &str) {
+    match File::open(rt, name) {
+        Ok(mut file) => replay(rt, &mut file),
+        Err(e) => {
+            let _ = eprintln!(rt; "{name}: {e}");
+        }
+    }
+}
+
+// The file that the first argument names.
+fn replay_first(rt: &(impl Env + Files + Print + Eprint)) {
+    let mut path = path_buffer();
+    let n = argument(rt, 1, &mut path);
+    let Ok(name) = from_utf8(&path[..n]) else {
+        let _ = eprintln!(rt; "a path is not text");
+        return;
+    };
+    replay_named(rt, name);
+}
+
+fn main(rt: HostRuntime) {
+    if is_there(&rt, 1) && !is_there(&rt, 2) {
+        replay_first(&rt);
         return;
     }
-    let mut path = io::buffer();
-    let n = os::arg(1, &mut path);
-    let fd = os::open_read(&path[..n]);
-    if fd < 0 {
-        os::fail(&path[..n]);
-        return;
-    }
-    replay(fd);
-    libc::close(fd);
+    let _ = eprintln!(rt; "usage: replay FILE");
 }

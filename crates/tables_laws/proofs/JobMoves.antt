@@ -105,8 +105,8 @@ module _ (text : Side → ℕ → Body) (fresh : Side → Numbered Held) (from :
       (λ (i : ℕ) (u : 16 ≤ i) (v : i < 3088). n.between i (omega (arith, u)) (omega (arith, v))) ∙ c.line)
       (notes_path
       (ap (λ (i : ℕ). jobs_from m i 19472) g9 ∙ jobs_same x m 11 20496 n.between (get_or x 9 0) 19472 (omega arith)
-      (omega (arith, c.sound.opened)) ∙ c.opened-same)
-      (n.notices ∙ ap (λ (i : List Notice). i ++ (note j told_refused ∷ [])) c.notices-same'))
+      (omega (arith, c.sound.opened)) ∙ c.opened_same)
+      (n.notices ∙ ap (λ (i : List Notice). i ++ (note j told_refused ∷ [])) c.notices_same'))
       (g6 ∙ c.low 6 (omega arith) (omega arith))
       (ap (λ (v : ℕ). not (eqb v 0)) (g5 ∙ c.low 5 (omega arith) (omega arith)))
       (ap power_of (g4 ∙ c.low 4 (omega arith) (omega arith))))
@@ -142,7 +142,7 @@ module _ (text : Side → ℕ → Body) (fresh : Side → Numbered Held) (from :
       (memory.takes j (notes_of text d l)) (suc (get_or l 6 0)) false up) n.sound (ready_page ready)
       (n.page_is
       ∙ page_path refl (ap (λ (i : List (Numbered Ent)). i ++ (mark (held_in l).number (ent DData (text sd j)) ∷ [])) (o.line ∙ c.line))
-      (notes_path (o.jobs ∙ ap (λ (i : List ℕ). i ++ (j ∷ [])) c.opened-same) (o.notices_same' ∙ c.notices-same'))
+      (notes_path (o.jobs ∙ ap (λ (i : List ℕ). i ++ (j ∷ [])) c.opened_same) (o.notices_same' ∙ c.notices_same'))
       (ap suc (o.low 6 (omega arith) (omega arith) ∙ c.low 6 (omega arith) (omega arith)))
       (ap (λ (i : ℕ). not (eqb i 0)) (o.low 5 (omega arith) (omega arith) ∙ c.low 5 (omega arith) (omega arith)) ∙ ap not u.shown)
       (ap power_of (o.low 4 (omega arith) (omega arith) ∙ c.low 4 (omega arith) (omega arith)) ∙ up_power l u.is_up))

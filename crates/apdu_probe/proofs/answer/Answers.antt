@@ -3,4 +3,4 @@ use lib.ListN.{length-take}
 use Rattle.apdu_probe.proofs.answer.Goals as goal
 
 pub slice_bounds-write-end-2 : goal.slice_bounds-write-end-2
-slice_bounds-write-end-2 c = simp length-take (omega arith)
+slice_bounds-write-end-2 g c = simp length-take (omega arith)

@@ -11,13 +11,13 @@ loop-i-init c = (search rules, refl)
 pub returns-then-fits : goal.returns-then-fits
 returns-then-fits c =
     found _ _ _ _ _ _ _ c.loop-i-test.true c.loop-i.invariant.1 c.row_at-row.ensures
-    c.fits2.ensures c.if-fits.true
+    c.fits.ensures c.if-fits.true
 
 pub loop-i-preserved : goal.loop-i-preserved
 loop-i-preserved c = (
   omega arith,
   turn _ _ _ _ _ _ _ c.loop-i-test.true c.loop-i.invariant.1
-      c.row_at-row.ensures c.fits2.ensures c.if-fits.false,
+      c.row_at-row.ensures c.fits.ensures c.if-fits.false,
 )
 
 pub returns : goal.returns

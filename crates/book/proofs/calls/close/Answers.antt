@@ -47,4 +47,4 @@ put_eight-requires-2 c =
 pub returns : goal.returns
 returns c =
     let known : Known c.args.b.now c.in-Open.opened = is_known _ _ _ c.load.ensures c.in-Open.is in
-    close_is _ _ _ known c.if-number.false _ c.eight_at-job.ensures c.if-job-eq0.false _ _ _ (λ (m : ℕ). (c.slice-known.given m).fits) c.bit_of.ensures c.put_eight.ensures c.put_eight-2.ensures
+    close_is _ _ _ known c.if-number.false _ c.eight_at-job.ensures c.if-job-eq0.false _ _ _ (λ (m : ℕ). (c.slice_known-1.given m).fits) c.bit_of.ensures c.put_eight.ensures c.put_eight-2.ensures

@@ -33,7 +33,7 @@ put_if-k-requires c =
 
 pub loop-i-preserved : goal.loop-i-preserved
 loop-i-preserved c = (
-  c.put_if-k.auto.1.0 ∙ c.loop-i.invariant.0,
+  c.put_if-k.auto.list ∙ c.loop-i.invariant.0,
   search rules,
   behind_more c.args.which
       c.args.x.now c.args.y.now c.args.n c.args.p c.loop-i.k _

@@ -21,7 +21,7 @@ loop-at-smaller c =
 pub loop-at-preserved : goal.loop-at-preserved
 loop-at-preserved c =
     let bytes : AllBytes c.args.s.now = λ k. omega (arith, c.type_inv.s k) in (
-      c.tally_one.auto.1.1.0 ∙ c.loop-at.invariant.0,
+      c.tally_one.auto.tallies ∙ c.loop-at.invariant.0,
       tally_more most_bits _ _ _ _ _ _ _ _
           bytes c.loop-at-test.true c.read_envelope-x.ensures c.in-Is.is
           c.tally_one.ensures c.loop-at.invariant.1,

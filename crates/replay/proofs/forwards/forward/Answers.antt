@@ -1,4 +1,4 @@
-use borrow.Author.Tests.{eq-eqb, ne_eqb, le-leb, lt-leb, not-true, not-false}
+use borrow.Author.Tests.{eq-eqb, ne_eqb, le-leb, lt-leb}
 use Rattle.replay.specs.Centres.{forward_held}
 use Rattle.replay.proofs.forwards.forward.Goals as goal
 
@@ -9,18 +9,15 @@ returns-then-rule-ne0 c = rw (← c.ready-rule.ensures, ne_eqb _ _ c.if-rule-ne0
 pub returns-then-not-may : goal.returns-then-not-may
 unfolding forward_held
 returns-then-not-may c =
-    let c5 = c.before.before.before.before.before in
-    rw (← c.ready-rule.ensures, eq-eqb _ _ c.if-rule-ne0.false, not-true c5.args.may c.if-not-may.true)
+    rw (← c.ready-rule.ensures, eq-eqb _ _ c.if-rule-ne0.false, c.if-not-may.true)
 
 pub returns-then-is_decided : goal.returns-then-is_decided
 unfolding forward_held
 returns-then-is_decided c =
-    let c8 = c3.before.before.before.before.before in
     rw (
       ← c.ready-rule.ensures,
       eq-eqb _ _ c.if-rule-ne0.false,
-      not-false c8.args.may
-          c.if-not-may.false,
+      c.if-not-may.false,
       ← c.is_decided.ensures,
       c.if-is_decided.true,
     )
@@ -28,12 +25,10 @@ returns-then-is_decided c =
 pub returns-then-number-get : goal.returns-then-number-get
 unfolding forward_held
 returns-then-number-get c =
-    let c11 = c6.before.before.before.before.before in
     rw (
       ← c.ready-rule.ensures,
       eq-eqb _ _ c.if-rule-ne0.false,
-      not-false c11.args.may
-          c.if-not-may.false,
+      c.if-not-may.false,
       ← c.is_decided.ensures,
       c.if-is_decided.false,
       ← c.get.ensures,
@@ -44,12 +39,10 @@ returns-then-number-get c =
 pub returns-then-get-ne0 : goal.returns-then-get-ne0
 unfolding forward_held
 returns-then-get-ne0 c =
-    let c14 = c9.before.before.before.before.before in
     rw (
-      ← c9.before.before.ready.ensures,
+      ← c.ready-rule.ensures,
       eq-eqb _ _ c.if-rule-ne0.false,
-      not-false c14.args.may
-          c.if-not-may.false,
+      c.if-not-may.false,
       ← c.is_decided.ensures,
       c.if-is_decided.false,
       ← c.get.ensures,
@@ -62,12 +55,10 @@ returns-then-get-ne0 c =
 pub returns-then-not-decide : goal.returns-then-not-decide
 unfolding forward_held
 returns-then-not-decide c =
-    let c19 = c15.before.before.before.before in
     rw (
-      ← c15.before.ready.ensures,
+      ← c.ready-rule.ensures,
       eq-eqb _ _ c.if-rule-ne0.false,
-      not-false c19.args.may
-          c.if-not-may.false,
+      c.if-not-may.false,
       ← c.is_decided.ensures,
       c.if-is_decided.false,
       ←
@@ -77,18 +68,16 @@ returns-then-not-decide c =
       eq-eqb _ _
           c.if-get-ne0.false,
       ← c.decide.ensures,
-      not-true c.decide.result c.if-not-decide.true,
+      c.if-not-decide.true,
     )
 
 pub returns-then-not-open_job : goal.returns-then-not-open_job
 unfolding forward_held
 returns-then-not-open_job c =
-    let c24 = c20.before.before.before.before in
     rw (
-      ← c20.before.ready.ensures,
+      ← c.ready-rule.ensures,
       eq-eqb _ _ c.if-rule-ne0.false,
-      not-false c24.args.may
-          c.if-not-may.false,
+      c.if-not-may.false,
       ← c.is_decided.ensures,
       c.if-is_decided.false,
       ←
@@ -98,21 +87,19 @@ returns-then-not-open_job c =
       eq-eqb _ _
           c.if-get-ne0.false,
       ← c.decide.ensures,
-      not-false c.decide.result c.if-not-decide.false,
+      c.if-not-decide.false,
       ←
           c.open_job.ensures,
-      not-true c.open_job.result c.if-not-open_job.true,
+      c.if-not-open_job.true,
     )
 
 pub returns : goal.returns
 unfolding forward_held
 returns c =
-    let c37 = c33.before.before.before.before in
     rw (
-      ← c33.before.ready.ensures,
+      ← c.ready-rule.ensures,
       eq-eqb _ _ c.if-rule-ne0.false,
-      not-false c37.args.may
-          c.if-not-may.false,
+      c.if-not-may.false,
       ← c.is_decided.ensures,
       c.if-is_decided.false,
       ←
@@ -122,9 +109,9 @@ returns c =
       eq-eqb _ _
           c.if-get-ne0.false,
       ← c.decide.ensures,
-      not-false c.decide.result c.if-not-decide.false,
+      c.if-not-decide.false,
       ← c.open_job.ensures,
-      not-false c.open_job.result c.if-not-open_job.false,
+      c.if-not-open_job.false,
       ← c.put.ensures,
       ←
           c.put-2.ensures,

@@ -9,9 +9,8 @@ returns-then-i-ge-LINE_MOST c = rw (le-leb _ _ c.if-i-ge-LINE_MOST.true)
 pub returns : goal.returns
 unfolding drawn
 returns c =
-    let c10 = c7.before.before.before in
     rw (
-      lt-leb _ _ c10.if1.false,
+      lt-leb _ _ c.if-i-ge-LINE_MOST.false,
       ← c.entry.ensures,
       ← c.entry-2.ensures,
       ← c.entry-3.ensures,

@@ -4,9 +4,8 @@ use Rattle.replay.proofs.page.settle.Goals as goal
 pub returns-then-stays : goal.returns-then-stays
 unfolding settled
 returns-then-stays c =
-    let c10 = c7.before.before.before in
     rw (
-      c10.if1.true,
+      c.if-stays.true,
       ← c.entry.ensures,
       ← c.entry-then-stays.ensures,
       ← c.entry-then-stays-2.ensures,

@@ -1,4 +1,3 @@
-use borrow.Author.Tests.{not-true, not-false}
 use Rattle.tables.specs.Steps.{aborted}
 use Rattle.replay.proofs.steps.abort.Goals as goal
 
@@ -9,8 +8,7 @@ returns-then-not-put_on_line c =
       ← c.hold.ensures,
       ← c.trim.ensures,
       ← c.put_on_line.ensures,
-      not-true c.put_on_line.result
-          c.if-not-put_on_line.true,
+      c.if-not-put_on_line.true,
     )
 
 pub returns-then-not-mark_broken : goal.returns-then-not-mark_broken
@@ -20,11 +18,9 @@ returns-then-not-mark_broken c =
       ← c.hold.ensures,
       ← c.trim.ensures,
       ← c.put_on_line.ensures,
-      not-false c.put_on_line.result
-          c.if-not-put_on_line.false,
+      c.if-not-put_on_line.false,
       ← c.mark_broken.ensures,
-      not-true c.mark_broken.result
-          c.if-not-mark_broken.true,
+      c.if-not-mark_broken.true,
     )
 
 pub returns : goal.returns
@@ -34,11 +30,9 @@ returns c =
       ← c.hold.ensures,
       ← c.trim.ensures,
       ← c.put_on_line.ensures,
-      not-false c.put_on_line.result
-          c.if-not-put_on_line.false,
+      c.if-not-put_on_line.false,
       ← c.mark_broken.ensures,
-      not-false c.mark_broken.result
-          c.if-not-mark_broken.false,
+      c.if-not-mark_broken.false,
       ← c.tell.ensures,
       c.room.ensures,
     )

@@ -1,4 +1,4 @@
-use borrow.Author.Tests.{eq-eqb, ne_eqb, lt-leb, le-leb, not-true, not-false}
+use borrow.Author.Tests.{eq-eqb, ne_eqb, lt-leb, le-leb}
 use Rattle.tables.specs.Steps.{first_rule}
 use Rattle.replay.proofs.steps.check_first.Goals as goal
 
@@ -16,8 +16,7 @@ returns-then-not-is_kind c =
       ←
           c.entry.ensures,
       ← c.is_kind.ensures,
-      not-true c.is_kind.result
-          c.if-not-is_kind.true,
+      c.if-not-is_kind.true,
     )
 
 pub returns-then-entry-number : goal.returns-then-entry-number
@@ -30,8 +29,7 @@ returns-then-entry-number c =
       ←
           c.entry.ensures,
       ← c.is_kind.ensures,
-      not-false c.is_kind.result
-          c.if-not-is_kind.false,
+      c.if-not-is_kind.false,
       ← c.entry-2.ensures,
       ne_eqb _ _ c.if-entry-number.true,
     )
@@ -46,13 +44,12 @@ returns-then-not-is_job c =
       ←
           c.entry.ensures,
       ← c.is_kind.ensures,
-      not-false c.is_kind.result
-          c.if-not-is_kind.false,
+      c.if-not-is_kind.false,
       ← c.entry-2.ensures,
       eq-eqb _ _ c.if-entry-number.false,
       ←
           c.is_job.ensures,
-      not-true c.is_job.result c.if-not-is_job.true,
+      c.if-not-is_job.true,
     )
 
 pub returns : goal.returns
@@ -65,11 +62,10 @@ returns c =
       ←
           c.entry.ensures,
       ← c.is_kind.ensures,
-      not-false c.is_kind.result
-          c.if-not-is_kind.false,
+      c.if-not-is_kind.false,
       ← c.entry-2.ensures,
       eq-eqb _ _ c.if-entry-number.false,
       ←
           c.is_job.ensures,
-      not-false c.is_job.result c.if-not-is_job.false,
+      c.if-not-is_job.false,
     )

@@ -1,4 +1,3 @@
-use borrow.Author.Tests.{not-true, not-false}
 use Rattle.tables.specs.Steps.{reported}
 use Rattle.replay.proofs.steps.error.Goals as goal
 
@@ -20,7 +19,7 @@ returns-then-not-is_up c =
       c.if-is_idle.false,
       ←
           c.is_up.ensures,
-      not-true c.is_up.result c.if-not-is_up.true,
+      c.if-not-is_up.true,
     )
 
 pub returns : goal.returns
@@ -33,6 +32,6 @@ returns c =
       c.if-is_idle.false,
       ←
           c.is_up.ensures,
-      not-false c.is_up.result c.if-not-is_up.false,
+      c.if-not-is_up.false,
       ← c.make_call.ensures,
     )

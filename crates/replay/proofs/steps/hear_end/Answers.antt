@@ -1,4 +1,4 @@
-use borrow.Author.Tests.{eq-eqb, ne_eqb, not-true, not-false}
+use borrow.Author.Tests.{eq-eqb, ne_eqb}
 use Rattle.tables.specs.Steps.{heard_end}
 use Rattle.replay.proofs.steps.hear_end.Goals as goal
 
@@ -43,7 +43,7 @@ returns-then-not-expects c =
       eq-eqb _ _ c.if-number-r.false,
       ←
           c.expects.ensures,
-      not-true c.expects.result c.if-not-expects.true,
+      c.if-not-expects.true,
     )
 
 pub returns : goal.returns
@@ -59,7 +59,7 @@ returns c =
       eq-eqb _ _ c.if-number-r.false,
       ←
           c.expects.ensures,
-      not-false c.expects.result c.if-not-expects.false,
+      c.if-not-expects.false,
       ←
           c.meet.ensures,
       ← c.remove.ensures,

@@ -1,4 +1,3 @@
-use borrow.Author.Tests.{not-true, not-false}
 use Rattle.tables.specs.Steps.{marked_alive}
 use Rattle.replay.proofs.steps.mark_alive.Goals as goal
 
@@ -14,7 +13,7 @@ returns-then-not-mark_broken c =
       c.if-is_idle.false,
       ← c.get.ensures,
       ← c.mark_broken.ensures,
-      not-true c.mark_broken.result c.if-not-mark_broken.true,
+      c.if-not-mark_broken.true,
     )
 
 pub returns : goal.returns
@@ -25,6 +24,6 @@ returns c =
       c.if-is_idle.false,
       ← c.get.ensures,
       ← c.mark_broken.ensures,
-      not-false c.mark_broken.result c.if-not-mark_broken.false,
+      c.if-not-mark_broken.false,
       ← c.mark_line-2.ensures,
     )

@@ -1,3 +1,4 @@
+use Rattle.std.proofs.Common.{◌≡◌, arith}
 use Rattle.replay.proofs.Loops.{other_primitive}
 use Rattle.replay.proofs.steps.primitive_of.Goals as goal
 
@@ -15,6 +16,5 @@ returns-in-7 c = rw c.in-7.is
 
 pub returns-in_default : goal.returns-in_default
 returns-in_default c =
-    other_primitive _ c.in_default.rest.0.0.0.0.0.0.0.1 c.in_default.rest.0.0.0.0.0.0.1
-    c.in_default.rest.0.0.0.0.0.1 c.in_default.rest.0.0.0.0.1 c.in_default.rest.0.0.0.1
-    c.in_default.rest.0.0.1 c.in_default.rest.0.1 c.in_default.rest.1
+    let x = c.args.kind in
+    other_primitive x (λ (e : x ≡ 0). omega arith) (λ (e : x ≡ 1). omega arith) (λ (e : x ≡ 2). omega arith) (λ (e : x ≡ 3). omega arith) (λ (e : x ≡ 4). omega arith) (λ (e : x ≡ 5). omega arith) (λ (e : x ≡ 6). omega arith) (λ (e : x ≡ 7). omega arith)

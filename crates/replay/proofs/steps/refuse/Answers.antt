@@ -1,4 +1,3 @@
-use borrow.Author.Tests.{not-true, not-false}
 use Rattle.tables.specs.Steps.{refused_job}
 use Rattle.replay.proofs.steps.refuse.Goals as goal
 
@@ -20,7 +19,7 @@ returns-then-not-decide c =
       ← c.is_decided.ensures,
       c.if-is_decided.false,
       ← c.decide.ensures,
-      not-true c.decide.result c.if-not-decide.true,
+      c.if-not-decide.true,
     )
 
 pub returns : goal.returns
@@ -32,8 +31,7 @@ returns c =
       ← c.is_decided.ensures,
       c.if-is_decided.false,
       ← c.decide.ensures,
-      not-false c.decide.result
-          c.if-not-decide.false,
+      c.if-not-decide.false,
       ← c.note.ensures,
       c.room.ensures,
     )

@@ -1,17 +1,17 @@
-use borrow.Author.Tests.{lt-ltb, le-ltb, not-true, not-false}
+use borrow.Author.Tests.{lt-ltb, le-ltb}
 use Rattle.tables.specs.Steps.{released_by}
 use Rattle.replay.proofs.steps.release.Goals as goal
 
 pub returns-then-not-is_up : goal.returns-then-not-is_up
 unfolding released_by
-returns-then-not-is_up c = rw (← c.is_up.ensures, not-true c.is_up.result c.if-not-is_up.true)
+returns-then-not-is_up c = rw (← c.is_up.ensures, c.if-not-is_up.true)
 
 pub returns-then-get-gt0 : goal.returns-then-get-gt0
 unfolding released_by
 returns-then-get-gt0 c =
     rw (
       ← c.is_up.ensures,
-      not-false c.is_up.result c.if-not-is_up.false,
+      c.if-not-is_up.false,
       ← c.get.ensures,
       lt-ltb _ _ c.if-get-gt0.true,
     )
@@ -21,7 +21,7 @@ unfolding released_by
 returns-then-get-gt0-2 c =
     rw (
       ← c.is_up.ensures,
-      not-false c.is_up.result c.if-not-is_up.false,
+      c.if-not-is_up.false,
       ← c.get.ensures,
       le-ltb
           _ _ c.if-get-gt0.false,
@@ -34,7 +34,7 @@ unfolding released_by
 returns-then-not-is_idle c =
     rw (
       ← c.is_up.ensures,
-      not-false c.is_up.result c.if-not-is_up.false,
+      c.if-not-is_up.false,
       ← c.get.ensures,
       le-ltb
           _ _ c.if-get-gt0.false,
@@ -42,7 +42,7 @@ returns-then-not-is_idle c =
       le-ltb _ _ c.if-get-gt0-2.false,
       ←
           c.is_idle.ensures,
-      not-true c.is_idle.result c.if-not-is_idle.true,
+      c.if-not-is_idle.true,
     )
 
 pub returns-then-not-is_idle-2 : goal.returns-then-not-is_idle-2
@@ -50,7 +50,7 @@ unfolding released_by
 returns-then-not-is_idle-2 c =
     rw (
       ← c.is_up.ensures,
-      not-false c.is_up.result c.if-not-is_up.false,
+      c.if-not-is_up.false,
       ←
           c.get.ensures,
       le-ltb _ _ c.if-get-gt0.false,
@@ -58,11 +58,9 @@ returns-then-not-is_idle-2 c =
       le-ltb _ _
           c.if-get-gt0-2.false,
       ← c.is_idle.ensures,
-      not-false c.is_idle.result
-          c.if-not-is_idle.false,
+      c.if-not-is_idle.false,
       ← c.is_idle-2.ensures,
-      not-true c.is_idle-2.result
-          c.if-not-is_idle-2.true,
+      c.if-not-is_idle-2.true,
     )
 
 pub returns-then-is_broken : goal.returns-then-is_broken
@@ -70,7 +68,7 @@ unfolding released_by
 returns-then-is_broken c =
     rw (
       ← c.is_up.ensures,
-      not-false c.is_up.result c.if-not-is_up.false,
+      c.if-not-is_up.false,
       ←
           c.get.ensures,
       le-ltb _ _ c.if-get-gt0.false,
@@ -78,11 +76,9 @@ returns-then-is_broken c =
       le-ltb _ _
           c.if-get-gt0-2.false,
       ← c.is_idle.ensures,
-      not-false c.is_idle.result
-          c.if-not-is_idle.false,
+      c.if-not-is_idle.false,
       ← c.is_idle-2.ensures,
-      not-false c.is_idle-2.result
-          c.if-not-is_idle-2.false,
+      c.if-not-is_idle-2.false,
       ← c.get-3.ensures,
       ← c.is_broken.ensures,
       c.if-is_broken.true,
@@ -93,7 +89,7 @@ unfolding released_by
 returns c =
     rw (
       ← c.is_up.ensures,
-      not-false c.is_up.result c.if-not-is_up.false,
+      c.if-not-is_up.false,
       ←
           c.get.ensures,
       le-ltb _ _ c.if-get-gt0.false,
@@ -101,11 +97,9 @@ returns c =
       le-ltb _ _
           c.if-get-gt0-2.false,
       ← c.is_idle.ensures,
-      not-false c.is_idle.result
-          c.if-not-is_idle.false,
+      c.if-not-is_idle.false,
       ← c.is_idle-2.ensures,
-      not-false c.is_idle-2.result
-          c.if-not-is_idle-2.false,
+      c.if-not-is_idle-2.false,
       ← c.get-3.ensures,
       ← c.is_broken.ensures,
       c.if-is_broken.false,

@@ -1,17 +1,17 @@
-use borrow.Author.Tests.{eq-eqb, ne_eqb, not-true, not-false}
+use borrow.Author.Tests.{eq-eqb, ne_eqb}
 use Rattle.tables.specs.Steps.{record_rule}
 use Rattle.replay.proofs.steps.show_record.Goals as goal
 
 pub returns-then-not-is_up : goal.returns-then-not-is_up
 unfolding record_rule
-returns-then-not-is_up c = rw (← c.is_up.ensures, not-true c.is_up.result c.if-not-is_up.true)
+returns-then-not-is_up c = rw (← c.is_up.ensures, c.if-not-is_up.true)
 
 pub returns-then-get-state : goal.returns-then-get-state
 unfolding record_rule
 returns-then-get-state c =
     rw (
       ← c.is_up.ensures,
-      not-false c.is_up.result c.if-not-is_up.false,
+      c.if-not-is_up.false,
       ← c.get.ensures,
       ne_eqb _ _ c.if-get-state.true,
     )
@@ -21,7 +21,7 @@ unfolding record_rule
 returns-then-get-dsc c =
     rw (
       ← c.is_up.ensures,
-      not-false c.is_up.result c.if-not-is_up.false,
+      c.if-not-is_up.false,
       ←
           c.get.ensures,
       eq-eqb _ _ c.if-get-state.false,
@@ -35,7 +35,7 @@ unfolding record_rule
 returns-then-get-number c =
     rw (
       ← c.is_up.ensures,
-      not-false c.is_up.result c.if-not-is_up.false,
+      c.if-not-is_up.false,
       ←
           c.get.ensures,
       eq-eqb _ _ c.if-get-state.false,
@@ -51,7 +51,7 @@ unfolding record_rule
 returns-then-get-highest c =
     rw (
       ← c.is_up.ensures,
-      not-false c.is_up.result c.if-not-is_up.false,
+      c.if-not-is_up.false,
       ← c.get.ensures,
       eq-eqb _ _ c.if-get-state.false,
       ← c.get-2.ensures,
@@ -69,7 +69,7 @@ unfolding record_rule
 returns c =
     rw (
       ← c.is_up.ensures,
-      not-false c.is_up.result c.if-not-is_up.false,
+      c.if-not-is_up.false,
       ← c.get.ensures,
       eq-eqb _ _ c.if-get-state.false,
       ← c.get-2.ensures,

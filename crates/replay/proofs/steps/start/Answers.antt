@@ -1,4 +1,4 @@
-use borrow.Author.Tests.{eq-eqb, ne_eqb, le-leb, not-true, not-false}
+use borrow.Author.Tests.{eq-eqb, ne_eqb, le-leb}
 use Rattle.tables.specs.Steps.{started_by}
 use Rattle.replay.proofs.Calls.{began, start_refused, start_quiet, start_shows, start_sends, start_aborts}
 use Rattle.replay.proofs.steps.start.Goals as goal
@@ -10,76 +10,64 @@ returns-then-rule-ne0 c = rw (← c.ready-rule.ensures, ne_eqb _ _ c.if-rule-ne0
 pub returns-then-not-may : goal.returns-then-not-may
 unfolding started_by
 returns-then-not-may c =
-    let c6 = c.before.before.before.before.before.before in
-    rw (← c.ready-rule.ensures, eq-eqb _ _ c.if-rule-ne0.false, not-true c6.args.may c.if-not-may.true)
+    rw (← c.ready-rule.ensures, eq-eqb _ _ c.if-rule-ne0.false, c.if-not-may.true)
 
 pub returns-then-not-is_idle : goal.returns-then-not-is_idle
 unfolding started_by
 returns-then-not-is_idle c =
-    let c8 = c3.before.before.before.before.before in
     rw (
       ← c.ready-rule.ensures,
       eq-eqb _ _ c.if-rule-ne0.false,
-      not-false c8.args.may
-          c.if-not-may.false,
+      c.if-not-may.false,
       ← c.is_idle.ensures,
-      not-true c.is_idle.result
-          c.if-not-is_idle.true,
+      c.if-not-is_idle.true,
     )
 
 pub returns-then-number-r : goal.returns-then-number-r
 unfolding started_by
 returns-then-number-r c =
-    let c12 = c7.before.before.before.before.before in
     rw (
       ← c.ready-rule.ensures,
       eq-eqb _ _ c.if-rule-ne0.false,
-      not-false c12.args.may
-          c.if-not-may.false,
+      c.if-not-may.false,
       ← c.is_idle.ensures,
-      not-false c.is_idle.result
-          c.if-not-is_idle.false,
+      c.if-not-is_idle.false,
       ← c.held-r.ensures,
       le-leb _ _ c.if-number-r.true,
     )
 
 pub returns-in-Refused : goal.returns-in-Refused
 returns-in-Refused c =
-    let c15 = c10.before.before.before.before.before in
     began _ _ _ _ _ _ _ _ _ _ _ _ c.ready-rule.ensures c.if-rule-ne0.false
-    (not-false c15.args.may c.if-not-may.false) c.is_idle.ensures
-    (not-false c.is_idle.result c.if-not-is_idle.false) c.held-r.ensures c.if-number-r.false
+    c.if-not-may.false c.is_idle.ensures
+    c.if-not-is_idle.false c.held-r.ensures c.if-number-r.false
     c.called-done.ensures c.in-Refused.is (start_refused _ _)
 
 pub returns-in-Quiet : goal.returns-in-Quiet
 returns-in-Quiet c =
-    let c15 = c10.before.before.before.before.before in
     began _ _ _ _ _ _ _ _ _ _ _ _ c.ready-rule.ensures c.if-rule-ne0.false
-    (not-false c15.args.may c.if-not-may.false) c.is_idle.ensures
-    (not-false c.is_idle.result c.if-not-is_idle.false) c.held-r.ensures c.if-number-r.false
+    c.if-not-may.false c.is_idle.ensures
+    c.if-not-is_idle.false c.held-r.ensures c.if-number-r.false
     c.called-done.ensures c.in-Quiet.is (start_quiet _ _ _)
 
 pub returns-in-Shows : goal.returns-in-Shows
 returns-in-Shows c =
-    let c15 = c10.before.before.before.before.before in
     began _ _ _ _ _ _ _ _ _ _ _ _ c.ready-rule.ensures c.if-rule-ne0.false
-    (not-false c15.args.may c.if-not-may.false) c.is_idle.ensures
-    (not-false c.is_idle.result c.if-not-is_idle.false) c.held-r.ensures c.if-number-r.false
+    c.if-not-may.false c.is_idle.ensures
+    c.if-not-is_idle.false c.held-r.ensures c.if-number-r.false
     c.called-done.ensures c.in-Shows.is (start_shows _ _ _)
 
 pub returns-in-Sends : goal.returns-in-Sends
 returns-in-Sends c =
-    let c20 = c15.before.before.before.before.before in
     began _ _ _ _ _ _ _ _ _ _ _ _ c.ready-rule.ensures c.if-rule-ne0.false
-    (not-false c20.args.may c.if-not-may.false) c.is_idle.ensures
-    (not-false c.is_idle.result c.if-not-is_idle.false) c.held-r.ensures c.if-number-r.false
+    c.if-not-may.false c.is_idle.ensures
+    c.if-not-is_idle.false c.held-r.ensures c.if-number-r.false
     c.called-done.ensures c.in-Sends.is
     (start_sends _ _ _ _ c.start_with.ensures)
 
 pub returns-in-Aborts : goal.returns-in-Aborts
 returns-in-Aborts c =
-    let c15 = c10.before.before.before.before.before in
     began _ _ _ _ _ _ _ _ _ _ _ _ c.ready-rule.ensures c.if-rule-ne0.false
-    (not-false c15.args.may c.if-not-may.false) c.is_idle.ensures
-    (not-false c.is_idle.result c.if-not-is_idle.false) c.held-r.ensures c.if-number-r.false
+    c.if-not-may.false c.is_idle.ensures
+    c.if-not-is_idle.false c.held-r.ensures c.if-number-r.false
     c.called-done.ensures c.in-Aborts.is (start_aborts _ _ _)

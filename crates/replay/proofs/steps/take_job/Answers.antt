@@ -1,19 +1,18 @@
-use borrow.Author.Tests.{not-true, not-false}
 use Rattle.tables.specs.Steps.{taken_job}
 use Rattle.replay.proofs.steps.take_job.Goals as goal
 
 pub returns-then-not-decide : goal.returns-then-not-decide
 unfolding taken_job
-returns-then-not-decide c = rw (← c.decide.ensures, not-true c.decide.result c.if-not-decide.true)
+returns-then-not-decide c = rw (← c.decide.ensures, c.if-not-decide.true)
 
 pub returns-then-not-open_job : goal.returns-then-not-open_job
 unfolding taken_job
 returns-then-not-open_job c =
     rw (
       ← c.decide.ensures,
-      not-false c.decide.result c.if-not-decide.false,
+      c.if-not-decide.false,
       ← c.open_job.ensures,
-      not-true c.open_job.result c.if-not-open_job.true,
+      c.if-not-open_job.true,
     )
 
 pub returns : goal.returns
@@ -21,9 +20,9 @@ unfolding taken_job
 returns c =
     rw (
       ← c.decide.ensures,
-      not-false c.decide.result c.if-not-decide.false,
+      c.if-not-decide.false,
       ←
           c.open_job.ensures,
-      not-false c.open_job.result c.if-not-open_job.false,
+      c.if-not-open_job.false,
       ← c.send.ensures,
     )

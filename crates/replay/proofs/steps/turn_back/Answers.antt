@@ -9,48 +9,42 @@ returns-then-rule-ne0 c = rw (← c.ready-rule.ensures, ne_eqb _ _ c.if-rule-ne0
 
 pub returns-then-get-ne1 : goal.returns-then-get-ne1
 returns-then-get-ne1 c =
-    not_start _ _ _ _ c7.before.ready.ensures c.if-rule-ne0.false c.get.ensures c.if-get-ne1.true
+    not_start _ _ _ _ c.ready-rule.ensures c.if-rule-ne0.false c.get.ensures c.if-get-ne1.true
 
 pub returns-then-get-at : goal.returns-then-get-at
 returns-then-get-at c =
-    let c10 = c6.before.before.before.before in
-    no_start _ _ _ _ _ _ _ c10.before.ready.ensures c10.if1.false c.get.ensures c.if-get-ne1.false
+    no_start _ _ _ _ _ _ _ c.ready-rule.ensures c.if-rule-ne0.false c.get.ensures c.if-get-ne1.false
     c.held-r.ensures c.start_at-at.ensures c.get-2.ensures
     (le-leb _ _ c.if-get-at.true)
 
 pub returns-in-Refused : goal.returns-in-Refused
 returns-in-Refused c =
-    let c13 = c9.before.before.before.before in
-    turned _ _ _ _ _ _ _ _ _ _ c13.before.ready.ensures c13.if1.false c.get.ensures c.if-get-ne1.false
+    turned _ _ _ _ _ _ _ _ _ _ c.ready-rule.ensures c.if-rule-ne0.false c.get.ensures c.if-get-ne1.false
     c.held-r.ensures c.start_at-at.ensures c.get-2.ensures
     (lt-leb _ _ c.if-get-at.false) c.received-done.ensures c.in-Refused.is (turn_refused _ _)
 
 pub returns-in-Quiet : goal.returns-in-Quiet
 returns-in-Quiet c =
-    let c18 = c14.before.before.before.before in
-    turned _ _ _ _ _ _ _ _ _ _ c18.before.ready.ensures c18.if1.false c.get.ensures
+    turned _ _ _ _ _ _ _ _ _ _ c.ready-rule.ensures c.if-rule-ne0.false c.get.ensures
     c.if-get-ne1.false c.held-r.ensures c.start_at-at.ensures c.get-2.ensures
     (lt-leb _ _ c.if-get-at.false) c.received-done.ensures c.in-Quiet.is
     (turn_quiet _ _ _ _ c.turn_to.ensures)
 
 pub returns-in-Shows : goal.returns-in-Shows
 returns-in-Shows c =
-    let c13 = c9.before.before.before.before in
-    turned _ _ _ _ _ _ _ _ _ _ c13.before.ready.ensures c13.if1.false c.get.ensures c.if-get-ne1.false
+    turned _ _ _ _ _ _ _ _ _ _ c.ready-rule.ensures c.if-rule-ne0.false c.get.ensures c.if-get-ne1.false
     c.held-r.ensures c.start_at-at.ensures c.get-2.ensures
     (lt-leb _ _ c.if-get-at.false) c.received-done.ensures c.in-Shows.is (turn_shows _ _ _)
 
 pub returns-in-Sends : goal.returns-in-Sends
 returns-in-Sends c =
-    let c13 = c9.before.before.before.before in
-    turned _ _ _ _ _ _ _ _ _ _ c13.before.ready.ensures c13.if1.false c.get.ensures c.if-get-ne1.false
+    turned _ _ _ _ _ _ _ _ _ _ c.ready-rule.ensures c.if-rule-ne0.false c.get.ensures c.if-get-ne1.false
     c.held-r.ensures c.start_at-at.ensures c.get-2.ensures
     (lt-leb _ _ c.if-get-at.false) c.received-done.ensures c.in-Sends.is (turn_sends _ _ _)
 
 pub returns-in-Aborts : goal.returns-in-Aborts
 returns-in-Aborts c =
-    let c13 = c9.before.before.before.before in
-    turned _ _ _ _ _ _ _ _ _ _ c13.before.ready.ensures c13.if1.false c.get.ensures c.if-get-ne1.false
+    turned _ _ _ _ _ _ _ _ _ _ c.ready-rule.ensures c.if-rule-ne0.false c.get.ensures c.if-get-ne1.false
     c.held-r.ensures c.start_at-at.ensures c.get-2.ensures
     (lt-leb _ _ c.if-get-at.false) c.received-done.ensures c.in-Aborts.is
     (turn_aborts _ _ _)

@@ -1,4 +1,4 @@
-use borrow.Author.Tests.{eq-eqb, ne_eqb, not-true, not-false}
+use borrow.Author.Tests.{eq-eqb, ne_eqb}
 use Rattle.replay.specs.Watched.{about_job}
 use Rattle.replay.proofs.watched.about_job.Goals as goal
 
@@ -39,7 +39,7 @@ returns-then-not-agrees c =
       ne_eqb _ _
           c.if-word-checks.false,
       eq-eqb _ _ c.if-word-learns.false,
-      not-true c.agrees-2.result c.if-not-agrees.true,
+      c.if-not-agrees.true,
     )
 
 pub returns : goal.returns
@@ -53,5 +53,5 @@ returns c =
           c.learn.ensures,
       ne_eqb _ _ c.if-word-checks.false,
       eq-eqb _ _ c.if-word-learns.false,
-      not-false c.agrees-2.result c.if-not-agrees.false,
+      c.if-not-agrees.false,
     )

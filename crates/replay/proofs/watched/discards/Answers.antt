@@ -1,4 +1,4 @@
-use borrow.Author.Tests.{eq-eqb, ne_eqb, not-true, not-false}
+use borrow.Author.Tests.{eq-eqb, ne_eqb}
 use Rattle.replay.specs.Watched.{discards_held}
 use Rattle.replay.proofs.watched.discards.Goals as goal
 
@@ -13,8 +13,7 @@ returns-then-not-is_open c =
       ← c.is_open.ensures,
       ← c.look.ensures,
       eq-eqb _ _ c.if-look-ne0.false,
-      not-true
-          c.is_open.result c.if-not-is_open.true,
+      c.if-not-is_open.true,
     )
 
 pub returns : goal.returns
@@ -26,5 +25,5 @@ returns c =
       ← c.mark.ensures,
       eq-eqb _ _
           c.if-look-ne0.false,
-      not-false c.is_open.result c.if-not-is_open.false,
+      c.if-not-is_open.false,
     )

@@ -1,3 +1,4 @@
+use Rattle.std.proofs.Common.{◌≡◌, arith}
 use borrow.Author.Tests.{ne_eqb}
 use Rattle.replay.proofs.watched.job_of.Goals as goal
 
@@ -15,11 +16,10 @@ returns-in-34 c = rw c.in-34.is
 
 pub returns-in_default : goal.returns-in_default
 returns-in_default c =
+    let w = c.args.l.word in
     rw (
-      ne_eqb c.args.l.word 2 c.in_default.rest.0.0.0.1,
-      ne_eqb c.args.l.word 3
-          c.in_default.rest.0.0.1,
-      ne_eqb c.args.l.word 5 c.in_default.rest.0.1,
-      ne_eqb
-          c.args.l.word 34 c.in_default.rest.1,
+      ne_eqb w 2 (λ (e : w ≡ 2). omega arith),
+      ne_eqb w 3 (λ (e : w ≡ 3). omega arith),
+      ne_eqb w 5 (λ (e : w ≡ 5). omega arith),
+      ne_eqb w 34 (λ (e : w ≡ 34). omega arith),
     )

@@ -1,4 +1,4 @@
-use borrow.Author.Tests.{eq-eqb, ne_eqb, le-leb, lt-leb, not-true, not-false}
+use borrow.Author.Tests.{eq-eqb, ne_eqb, le-leb, lt-leb}
 use Rattle.replay.specs.Watched.{replies_held}
 use Rattle.replay.proofs.watched.replies.Goals as goal
 
@@ -8,8 +8,7 @@ returns-then-not-is_heard c =
     rw (
       ← c.look.ensures,
       ← c.is_heard.ensures,
-      not-true c.is_heard.result
-          c.if-not-is_heard.true,
+      c.if-not-is_heard.true,
     )
 
 pub returns-then-look-ne0 : goal.returns-then-look-ne0
@@ -18,8 +17,7 @@ returns-then-look-ne0 c =
     rw (
       ← c.look.ensures,
       ← c.is_heard.ensures,
-      not-false c.is_heard.result
-          c.if-not-is_heard.false,
+      c.if-not-is_heard.false,
       ← c.look-2.ensures,
       ne_eqb _ _ c.if-look-ne0.true,
     )
@@ -30,8 +28,7 @@ returns-then-number-ge-NUMBERS c =
     rw (
       ← c.look.ensures,
       ← c.is_heard.ensures,
-      not-false c.is_heard.result
-          c.if-not-is_heard.false,
+      c.if-not-is_heard.false,
       ← c.look-2.ensures,
       eq-eqb _ _ c.if-look-ne0.false,
       le-leb _ _
@@ -45,13 +42,12 @@ returns-then-not-is_open c =
       ← c.is_open.ensures,
       ← c.look.ensures,
       ← c.is_heard.ensures,
-      not-false
-          c.is_heard.result c.if-not-is_heard.false,
+      c.if-not-is_heard.false,
       ← c.look-2.ensures,
       eq-eqb _ _
           c.if-look-ne0.false,
       lt-leb _ _ c.if-number-ge-NUMBERS.false,
-      not-true c.is_open.result c.if-not-is_open.true,
+      c.if-not-is_open.true,
     )
 
 pub returns : goal.returns
@@ -61,12 +57,11 @@ returns c =
       ← c.is_open.ensures,
       ← c.look.ensures,
       ← c.is_heard.ensures,
-      not-false c.is_heard.result c.if-not-is_heard.false,
+      c.if-not-is_heard.false,
       ← c.look-2.ensures,
       ←
           c.keep.ensures,
       eq-eqb _ _ c.if-look-ne0.false,
       lt-leb _ _ c.if-number-ge-NUMBERS.false,
-      not-false
-          c.is_open.result c.if-not-is_open.false,
+      c.if-not-is_open.false,
     )

@@ -1,3 +1,4 @@
+use Rattle.std.proofs.Common.{◌≡◌, arith}
 use borrow.Author.Tests.{ne_eqb}
 use Rattle.replay.specs.Watched.{said_held}
 use Rattle.replay.proofs.watched.says.Goals as goal
@@ -37,16 +38,15 @@ returns-in-47 c = rw (c.in-47.is, ← c.opened.ensures)
 pub returns-in_default : goal.returns-in_default
 unfolding said_held
 returns-in_default c =
-    let m = c.in_default.rest in
     let w = c.args.l.word in
     rw (
-      ne_eqb w 40 m.0.0.0.0.0.0.0.1,
-      ne_eqb w 41 m.0.0.0.0.0.0.1,
-      ne_eqb w 42 m.0.0.0.0.0.1,
-      ne_eqb w 43 m.0.0.0.0.1,
-      ne_eqb w 44 m.0.0.0.1,
-      ne_eqb w 45 m.0.0.1,
-      ne_eqb w 46 m.0.1,
-      ne_eqb w 47 m.1,
+      ne_eqb w 40 (λ (e : w ≡ 40). omega arith),
+      ne_eqb w 41 (λ (e : w ≡ 41). omega arith),
+      ne_eqb w 42 (λ (e : w ≡ 42). omega arith),
+      ne_eqb w 43 (λ (e : w ≡ 43). omega arith),
+      ne_eqb w 44 (λ (e : w ≡ 44). omega arith),
+      ne_eqb w 45 (λ (e : w ≡ 45). omega arith),
+      ne_eqb w 46 (λ (e : w ≡ 46). omega arith),
+      ne_eqb w 47 (λ (e : w ≡ 47). omega arith),
       ← c.closed.ensures,
     )

@@ -61,7 +61,7 @@ use Rattle.card_pair.proofs.Entries.{KeepsAt, Carries, sent_plain, sent_message,
 
 module _ (ed : Edition) (r : List ℕ) (w : Buffers) (sd : Side) (q : Record) (h : ℕ) (keeps : Keeps ed sd r q h) where
   pub entered : (k : Side → Record → ℕ → Called) → entering r w.first w.second k ≡ k sd q h
-  entered k = sym (with_record_is r w.first w.second k w.first-full w.second-full (load_at r) refl sd q h
+  entered k = sym (with_record_is r w.first w.second k w.first_full w.second_full (load_at r) refl sd q h
       (k sd q h) keeps.load refl)
 
   pub user_entered : (e : Event) (v : ℕ) (ids msgs checks : List ℕ) (d : Data)
@@ -274,26 +274,26 @@ module _ (p n : ℕ) (r : List ℕ) (w : Buffers) (sd : Side) (q : Record) (h : 
   called_rel : (a : Asked)
       → Follows (KeepsAt at sd) (Carries at sd) (left n (answered p w r a) (sent_for at a (answered p w r a))) (mark h q) ((step_numbered (card_codec at) p).at.call sd (mark h q))
   called_rel (start_request_of v m k g) = simple_rel (StartServiceRequest m k p) v.number v.low g
-      (S.start-request m k (body_given at g)) tt (λ sh. refl) (λ sh. refl) (λ sh e. never e) refl
+      (S.start_request_of m k (body_given at g)) tt (λ sh. refl) (λ sh. refl) (λ sh e. never e) refl
   called_rel (start_response_of m x g) = simple_rel (StartServiceResponse m x (holds_message g.bits)) 0 none_low g
-      (S.start-response m x (body_given at g)) tt (λ sh. ap (StartServiceResponse m x) (given_carries at sd g sh))
+      (S.start_response_of m x (body_given at g)) tt (λ sh. ap (StartServiceResponse m x) (given_carries at sd g sh))
       (spared g) (λ sh e. given_carries at sd g sh ∙ e) refl
   called_rel (message_request_of j g) =
       asked_rel p n r w sd q h keeps (message_requested g.bits j.number) 0 none_low g.ids g.msgs g.checks
-      (given_data (length g.ids) g.bits g.check) (S.message-request (body_given at g) j.number)
+      (given_data (length g.ids) g.bits g.check) (S.message_request_of (body_given at g) j.number)
       (λ (c : Called). C.message (marked_entry c) (body_given at g) j.number) j.low
       (λ sh. ap (λ (b : Bool). MessageServiceRequest b j.number) (given_carries at sd g sh)) (λ sh. refl)
       (λ sh e. given_carries at sd g sh ∙ e)
       (λ c m i z ys e k d f. sent_message at sd true z (marked_entry c) m ys (body_given at g) j.number i k d f)
   called_rel (end_request_of m g) = simple_rel (EndServiceRequest m (holds_message g.bits)) 0 none_low g
-      (S.end-request m (body_given at g)) tt (λ sh. ap (EndServiceRequest m) (given_carries at sd g sh)) (spared g)
+      (S.end_request_of m (body_given at g)) tt (λ sh. ap (EndServiceRequest m) (given_carries at sd g sh)) (spared g)
       (λ sh e. given_carries at sd g sh ∙ e) refl
   called_rel (end_response_of m x g) = simple_rel (EndServiceResponse m x (holds_message g.bits)) 0 none_low g
-      (S.end-response m x (body_given at g)) tt (λ sh. ap (EndServiceResponse m x) (given_carries at sd g sh)) (spared g)
+      (S.end_response_of m x (body_given at g)) tt (λ sh. ap (EndServiceResponse m x) (given_carries at sd g sh)) (spared g)
       (λ sh e. given_carries at sd g sh ∙ e) refl
   called_rel (user_abort_of x) =
       asked_rel p n r w sd q h keeps (abort_requested x) 0 none_low [] [] [] no_data
-      (S.user-abort (not (eqb x no_count)) (cond (eqb x no_count) 0 x)) sent_of tt (λ sh. refl) (λ sh. refl)
+      (S.user_abort_of (not (eqb x no_count)) (cond (eqb x no_count) 0 x)) sent_of tt (λ sh. refl) (λ sh. refl)
       (λ sh e. never e)
       (λ c m i z ys e k d f. sent_plain at sd true z (marked_entry c) m ys [] 0 i e k d f)
 

@@ -207,7 +207,7 @@ module _ (r : List ℕ) (w : Buffers) (sd : Side) (q : Record) (h : ℕ) (e : Ev
       (content_bits q.edition (content_in li lm lc d.content))
       (concluded r w.first w.second q.edition sd (held_after h e v) (numbered_step sd q h e v) li lm lc d)
   ended j n = concluded_is r w.first w.second q.edition sd (brings q.edition e) M O li lm lc d
-      w.first-full w.second-full keeps.size (held_low h e v keeps.low lv) hi hm hc sh own n
+      w.first_full w.second_full keeps.size (held_low h e v keeps.low lv) hi hm hc sh own n
       (numbered_fits sd q keeps.coded keeps.dialogue h e v j n)
 
   -- it is no user primitive

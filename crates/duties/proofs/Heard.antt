@@ -192,7 +192,7 @@ module _ (m : NMachine) where
       let a : NSys m = n_told_lost m sd (n_emptied m s) in
       let v : Event m (n_emptied m s) a = told_event sd (n_emptied m s) h.p_abort_is in
       let q : None m (m.at.p_abort (other sd) a.there.rec) = subst
-      (λ (r : m.at.R). None m (m.at.p_abort (other sd) r)) (sym v.rec) g.p-abort in
+      (λ (r : m.at.R). None m (m.at.p_abort (other sd) r)) (sym v.rec) g.p_abort_is in
       let w : Event m (n_swap m a) (n_told_lost m (other sd) (n_swap m a)) = told_event (other sd) (n_swap m a) q in
       record {
         here = λ (n : ℕ). ap length (w.far n) ∙ told_none sd (n_emptied m s) h.p_abort_is n;

@@ -99,7 +99,7 @@ module _ (m : NMachine) (letter : Side → ℕ → m.at.A) (fresh : Side → m.a
   lost_stays : (sd : Side) (s : Hosts m) → DGood m s → Stays m s (lost m right letter fresh accepts sd s)
   lost_stays sd s g = alone_stays s (lost m right letter fresh accepts sd s).ends
       (lost m right letter fresh accepts sd s).here (subst
-      (λ (n : Notes). Grows s.here.notes.notices n.notices) (sym g.near.notes-kept)
+      (λ (n : Notes). Grows s.here.notes.notices n.notices) (sym g.near.notes_kept)
       (grows_refl s.here.notes.notices))
 
   acted_stays : (may : Bool) (sd : Side) (s : Hosts m) (a : Act m.at.A) → DGood m s

@@ -167,14 +167,14 @@ module _ (m n : NMachine) (g : NAgree m n) where
   hush_out sd (acts r [] p) z x h = tt
   hush_out sd (acts r (b ∷ l) p) refused x h = absurd x
   hush_out sd (acts r (b ∷ l) p) (acts q [] o) x h = absurd (subst (λ (k : List Body). T (is_cons k)) x.1 tt)
-  hush_out sd (acts r (b ∷ l) p) (acts q (c ∷ k) o) x h = ap is_idle (g.agree.ctl-is sd r q x.0) ∙ h
+  hush_out sd (acts r (b ∷ l) p) (acts q (c ∷ k) o) x h = ap is_idle (g.agree.ctl_is sd r q x.0) ∙ h
 
   first_too : (sd : Side) (r : m.at.R) (q : n.at.R) (l : List m.at.E) (k : List n.at.E)
       → g.agree.RR sd r q → LL (g.agree.EE (other sd)) l k → First n sd q k → First m sd r l
   first_too sd r q [] k x y h = tt
   first_too sd r q (e ∷ l) [] x y h = absurd y
   first_too sd r q (e ∷ l) (f ∷ k) x y h = hush_out sd (m.at.receive sd r e) (n.at.receive sd q f)
-      (g.agree.receive-is sd r q e f x y.0) h
+      (g.agree.receive_is sd r q e f x y.0) h
 
   hands_too : (sd : Side) (s : NSys m) (t : NSys n) → NSysRel m n g sd s t → Hands n sd t → Hands m sd s
   hands_too sd s t h w =
@@ -182,12 +182,12 @@ module _ (m n : NMachine) (g : NAgree m n) where
       let q = t.here.rec in
       record {
         call = λ (a : m.at.A). none_follows sd (m.at.call sd r a) q (n.at.call sd q)
-            (g.agree.call-is sd r q a h.here.rec) w.call;
+            (g.agree.call_is sd r q a h.here.rec) w.call;
         receive = first_too sd r q s.there.line t.there.line h.here.rec h.there.line w.receive;
-        expiry = none_follows sd (m.at.expiry sd r) q (λ (x : Unit {0}). n.at.expiry sd q) (g.agree.expiry-is sd r q h.here.rec) (λ (x : Unit {0}). w.expiry);
-        error = none_follows sd (m.at.error sd r) q (λ (x : Unit {0}). n.at.error sd q) (g.agree.error-is sd r q h.here.rec) (λ (x : Unit {0}). w.error);
-        away = none_out sd (m.at.away sd r) (n.at.away sd q) (g.agree.away-is sd r q h.here.rec) w.away;
-        p_abort_is = none_out sd (m.at.p_abort sd r) (n.at.p_abort sd q) (g.agree.p-abort-is sd r q h.here.rec) w.p-abort;
+        expiry = none_follows sd (m.at.expiry sd r) q (λ (x : Unit {0}). n.at.expiry sd q) (g.agree.expiry_is sd r q h.here.rec) (λ (x : Unit {0}). w.expiry);
+        error = none_follows sd (m.at.error sd r) q (λ (x : Unit {0}). n.at.error sd q) (g.agree.error_is sd r q h.here.rec) (λ (x : Unit {0}). w.error);
+        away = none_out sd (m.at.away sd r) (n.at.away sd q) (g.agree.away_is sd r q h.here.rec) w.away;
+        p_abort_is = none_out sd (m.at.p_abort sd r) (n.at.p_abort sd q) (g.agree.p_abort_is_law sd r q h.here.rec) w.p_abort_is;
       }
 
   pub both_hands_too : (s : NSys m) (t : NSys n) → NSysRel m n g Air s t → Hands n Air t × Hands n Ground (n_swap n t)
@@ -208,15 +208,15 @@ module _ (m n : NMachine) (g : NAgree m n) (am : m.at.E → Bool) (an : n.at.E �
   arrives_too sd r q (e ∷ l) (f ∷ k) x y t =
       let v = and_r (am e) _ t in
       let a : T (eqb (n.carries f) (m.holds r)) = subst (λ (z : ℕ). T (eqb z (m.holds r)))
-      (g.carries-is (other sd) e f y.0) (and_l (eqb (m.carries e) (m.holds r)) _ v) in
+      (g.carries_is (other sd) e f y.0) (and_l (eqb (m.carries e) (m.holds r)) _ v) in
       both (an f) _ (c (other sd) e f y.0 (and_l (am e) _ t))
-      (both (eqb (n.carries f) (n.holds q)) _ (subst (λ (z : ℕ). T (eqb (n.carries f) z)) (g.holds-is sd r q x) a)
-      (subst (λ (z : Control). T (expects sd z (DEndCnf Accepted))) (g.agree.ctl-is sd r q x)
+      (both (eqb (n.carries f) (n.holds q)) _ (subst (λ (z : ℕ). T (eqb (n.carries f) z)) (g.holds_is sd r q x) a)
+      (subst (λ (z : Control). T (expects sd z (DEndCnf Accepted))) (g.agree.ctl_is sd r q x)
       (and_r (eqb (m.carries e) (m.holds r)) _ v)))
 
   whole_too : (sd : Side) (s : NSys m) (t : NSys n) → NSysRel m n g sd s t → Whole n an sd t → Whole m am sd s
   whole_too sd s t h w u =
-      let i : m.holds s.here.rec ≡ n.holds t.here.rec = g.holds-is sd s.here.rec t.here.rec h.here.rec in
+      let i : m.holds s.here.rec ≡ n.holds t.here.rec = g.holds_is sd s.here.rec t.here.rec h.here.rec in
       let c : Closed n t = w (arrives_too sd s.here.rec t.here.rec s.there.line t.there.line
       h.here.rec h.there.line u) in
       record {
@@ -224,9 +224,9 @@ module _ (m n : NMachine) (g : NAgree m n) (am : m.at.E → Bool) (an : n.at.E �
             (ap (λ (z : ℕ). t.here.taken z) i) ∙ sym (h.here.taken (m.holds s.here.rec));
         unbroken = h.broken (m.holds s.here.rec) ∙ ap (λ (z : ℕ). t.broken z) i ∙ c.unbroken;
         away = ap (λ (x : Control). not (is_idle x) && eqb (m.holds s.there.rec) (m.holds s.here.rec))
-            (g.agree.ctl-is (other sd) s.there.rec t.there.rec h.there.rec)
+            (g.agree.ctl_is (other sd) s.there.rec t.there.rec h.there.rec)
             ∙ ap (λ (x : ℕ). not (idle n.at t.there.rec) && eqb x (m.holds s.here.rec))
-            (g.holds-is (other sd) s.there.rec t.there.rec h.there.rec)
+            (g.holds_is (other sd) s.there.rec t.there.rec h.there.rec)
             ∙ ap (λ (x : ℕ). not (idle n.at t.there.rec) && eqb (n.holds t.there.rec) x) i
             ∙ c.away;
       }

@@ -75,7 +75,7 @@ module _ (m : NMachine) (c : Centre m) (w : Words m) (k : Truth m c w) (order : 
       acked : is_decided (s.here.kept.decision j) ≡ true → (i : ℕ) (b : Bool) → eqb i j ≡ b
           → (b || s.here.done i) ≡ true → is_decided (s.here.notes.decision i) ≡ true
       acked d i true e f = subst (λ (n : ℕ). is_decided (s.here.notes.decision n) ≡ true) (sym (eqb-true i j e))
-          (subst (λ (n : Notes). is_decided (n.decision j) ≡ true) g.near.notes-kept d)
+          (subst (λ (n : Notes). is_decided (n.decision j) ≡ true) g.near.notes_kept d)
       acked d i false e f = g.near.tally.book.acked i f
 
       go : (b : Bool) → is_decided (s.here.kept.decision j) ≡ b → Holds m c w k s.ends (cond b more s.here) s.there dl
@@ -86,8 +86,8 @@ module _ (m : NMachine) (c : Centre m) (w : Words m) (k : Truth m c w) (order : 
           record {
             ways = g.ways;
             near = record {
-              rec_kept = g.near.rec-kept;
-              notes_kept = g.near.notes-kept;
+              rec_kept = g.near.rec_kept;
+              notes_kept = g.near.notes_kept;
               tally = record { book = record { logged = b.logged; ledger = b.ledger; turned = b.turned; acked = λ (i : ℕ) (f : (eqb i j || s.here.done i) ≡ true). acked e i (eqb i j) refl f }; present = y.present; ended = y.ended; told = y.told; declined = y.declined };
               none_open = g.near.none_open;
             };
@@ -99,7 +99,7 @@ module _ (m : NMachine) (c : Centre m) (w : Words m) (k : Truth m c w) (order : 
   -- ---- a job is taken
 
   apart_from : (r : m.at.R) → c.Rest r → c.Away r → ⊥
-  apart_from r p q = clash (sym (c.rest-idle r p) ∙ c.away-idle r q)
+  apart_from r p q = clash (sym (c.rest_idle r p) ∙ c.away_idle r q)
 
   -- the call's outcome is o
   abbrev taking_by : Hosts m → ℕ → m.at.E → Outcome m.at.R m.at.E → Hosts m
@@ -215,9 +215,9 @@ module _ (m : NMachine) (c : Centre m) (w : Words m) (k : Truth m c w) (order : 
       go : is_decided (s.here.notes.decision j) ≡ false → Who m c w k s.ends.here.rec
           → HoldsOf m c w k (offered m w right order fresh s j (m.at.call Ground s.ends.here.rec (order s.ends.here.rec j))) dl
       go d (rests r) = offered_rest s dl j (m.at.call Ground s.ends.here.rec (order s.ends.here.rec j)) refl
-          g d r (c.call-rest s.ends.here.rec (order s.ends.here.rec j) r)
+          g d r (c.call_rest s.ends.here.rec (order s.ends.here.rec j) r)
       go d (gone a) = offered_away s dl j (m.at.call Ground s.ends.here.rec (order s.ends.here.rec j)) g d
-          (c.call-away s.ends.here.rec (order s.ends.here.rec j) a)
+          (c.call_away s.ends.here.rec (order s.ends.here.rec j) a)
 
   pub served_holds : (d : Power) (s : Hosts m) (dl : List ℕ) (b : Job) → HoldsOf m c w k s dl
       → HoldsOf m c w k (served m w right order fresh d s b) dl
@@ -325,14 +325,14 @@ module _ (m : NMachine) (c : Centre m) (w : Words m) (k : Truth m c w) (order : 
       go true false p = clash p
       go false true p = clash (sym p)
       go false false p = record { tally = g.near.tally; none_open = λ (r : c.Rest q). g.near.none_open (subst c.Rest (sym x) r) }
-  after_notes e a z dl q g (back r) = go g.who (idle m.at e.here.rec) refl (idle m.at q) (c.rest-idle q r)
+  after_notes e a z dl q g (back r) = go g.who (idle m.at e.here.rec) refl (idle m.at q) (c.rest_idle q r)
     where
       go : Who m c w k e.here.rec → (b : Bool) → idle m.at e.here.rec ≡ b → (d : Bool) → d ≡ true
           → Noted (m.holds e.here.rec) q (cond (not b && d) (tells told_broken a.notes) a.notes) a.log a.done e.there.rec z dl
       go x b p false f = clash (sym f)
       go (rests y) true p true f = record { tally = g.near.tally; none_open = λ (r : c.Rest q). g.near.none_open y }
-      go (rests y) false p true f = clash (sym (c.rest-idle e.here.rec y) ∙ p)
-      go (gone y) true p true f = clash (sym p ∙ c.away-idle e.here.rec y)
+      go (rests y) false p true f = clash (sym (c.rest_idle e.here.rec y) ∙ p)
+      go (gone y) true p true f = clash (sym p ∙ c.away_idle e.here.rec y)
       go (gone y) false p true f = record { tally = tally_broken m (m.holds e.here.rec) a.notes a.log a.done e.there.rec z dl g.near.tally (m.holds e.here.rec); none_open = λ (r : c.Rest q). refl }
 
   who_after : (h q : m.at.R) → How h q → Who m c w k h → Who m c w k q
@@ -443,10 +443,10 @@ module _ (m : NMachine) (c : Centre m) (w : Words m) (k : Truth m c w) (order : 
     -- the record is IDLE: what comes is discarded
     thrown : (f : m.at.E) (l : List m.at.E) → e.there.line ≡ f ∷ l → c.Rest e.here.rec
         → discards m.at e.here.rec f ≡ true
-    thrown f l p r = rw (c.rest-idle e.here.rec r, (heads f l p).1.0)
+    thrown f l p r = rw (c.rest_idle e.here.rec r, (heads f l p).1.0)
 
     busy : (f : m.at.E) → c.Away e.here.rec → discards m.at e.here.rec f ≡ false
-    busy f r = ap (λ (b : Bool). b && not (is_start m.at f)) (c.away-idle e.here.rec r)
+    busy f r = ap (λ (b : Bool). b && not (is_start m.at f)) (c.away_idle e.here.rec r)
 
     refuses_is : (o : Outcome m.at.R m.at.E) → Refuses m o → o ≡ refused
     refuses_is refused b = refl
@@ -465,11 +465,11 @@ module _ (m : NMachine) (c : Centre m) (w : Words m) (k : Truth m c w) (order : 
             → After e (n_did m (n_off m e l) (m.at.receive Ground e.here.rec f) keep) a z dl more out
         again true q r = returned (n_off m e l) a z dl more out o (m.at.receive Ground e.here.rec f) keep (
             comes_returns e.here.rec (m.at.receive Ground e.here.rec f)
-            (c.answer-taken e.here.rec f r (heads f l p).0 (heads f l p).1.0 (eqb-true _ _ q)))
+            (c.answer_taken e.here.rec f r (heads f l p).0 (heads f l p).1.0 (eqb-true _ _ q)))
         again false q r =
             subst (λ (v : Outcome m.at.R m.at.E). After e (n_did m (n_off m e l) v keep) a z dl more out) (sym (
             refuses_is (m.at.receive Ground e.here.rec f)
-            (c.answer-stale e.here.rec f r (heads f l p).0 (heads f l p).1.0 (eqb-false _ _ q))))
+            (c.answer_stale e.here.rec f r (heads f l p).0 (heads f l p).1.0 (eqb-false _ _ q))))
             (unmoved (n_off m e l) a z dl more out o)
 
         go : Who m c w k e.here.rec → After e (n_handed_over m Ground e (f ∷ l) keep) a z dl more out
@@ -484,10 +484,10 @@ module _ (m : NMachine) (c : Centre m) (w : Words m) (k : Truth m c w) (order : 
     turned keep more out =
         choose (may_recall m e) (λ (t : NSys m). After e t a z dl more out)
         (n_did m (n_recalled m e) (m.at.away Ground e.here.rec) keep) e
-        (λ (b : may_recall m e ≡ true). by_who e a z dl more out g (After e (n_did m (n_recalled m e) (m.at.away Ground e.here.rec) keep) a z dl more out) (λ (r : c.Rest e.here.rec). clash (sym (and_first (waits (m.at.ctl e.here.rec).state) (n_has_start m (m.holds e.here.rec) e.here.line) b) ∙ c.rest-waits e.here.rec r))
+        (λ (b : may_recall m e ≡ true). by_who e a z dl more out g (After e (n_did m (n_recalled m e) (m.at.away Ground e.here.rec) keep) a z dl more out) (λ (r : c.Rest e.here.rec). clash (sym (and_first (waits (m.at.ctl e.here.rec).state) (n_has_start m (m.holds e.here.rec) e.here.line) b) ∙ c.rest_waits e.here.rec r))
         (λ (r : c.Away e.here.rec). returned (n_recalled m e) a z dl more out (recalled e a z dl more out g)
         (m.at.away Ground e.here.rec) keep
-        (comes_returns e.here.rec (m.at.away Ground e.here.rec) (c.away-away e.here.rec r))))
+        (comes_returns e.here.rec (m.at.away Ground e.here.rec) (c.away_away e.here.rec r))))
         (λ (b : may_recall m e ≡ false). unmoved e a z dl more out g)
 
   pub happened_holds : (s : Hosts m) (dl : List ℕ) (v : Step m.at.A) → may_happen m w right order fresh s v ≡ true
@@ -495,24 +495,24 @@ module _ (m : NMachine) (c : Centre m) (w : Words m) (k : Truth m c w) (order : 
   happened_holds s dl (user_call x keep) b g =
       called s.ends s.here s.there dl (suc s.here.unsent) false g
       (m.at.call Ground s.ends.here.rec x) keep b
-      (λ (r : c.Rest s.ends.here.rec). c.call-rest s.ends.here.rec x r)
-      (λ (r : c.Away s.ends.here.rec). c.call-away s.ends.here.rec x r)
+      (λ (r : c.Rest s.ends.here.rec). c.call_rest s.ends.here.rec x r)
+      (λ (r : c.Away s.ends.here.rec). c.call_away s.ends.here.rec x r)
   happened_holds s dl (hand_over keep) b g = handed s.ends s.here s.there dl g s.ends.there.line keep
       (suc s.here.unsent) (hands_out m w right order fresh s.ends (hand_over keep)) refl
   happened_holds s dl (timer_expires_of keep) b g =
       by_who s.ends s.here s.there dl 0 false g _
       (λ (r : c.Rest s.ends.here.rec). returned s.ends s.here s.there dl (suc s.here.unsent) false g
       (m.at.expiry Ground s.ends.here.rec) keep (quiet_returns s.ends.here.rec
-      (m.at.expiry Ground s.ends.here.rec) (c.expiry-rest s.ends.here.rec r)))
+      (m.at.expiry Ground s.ends.here.rec) (c.expiry_rest s.ends.here.rec r)))
       (λ (r : c.Away s.ends.here.rec). returned s.ends s.here s.there dl (suc s.here.unsent) false g
-      (m.at.expiry Ground s.ends.here.rec) keep (c.expiry-away s.ends.here.rec r))
+      (m.at.expiry Ground s.ends.here.rec) keep (c.expiry_away s.ends.here.rec r))
   happened_holds s dl (error_reported keep) b g =
       by_who s.ends s.here s.there dl 0 false g _
       (λ (r : c.Rest s.ends.here.rec). returned s.ends s.here s.there dl (suc s.here.unsent) false g
       (m.at.error Ground s.ends.here.rec) keep (quiet_returns s.ends.here.rec
-      (m.at.error Ground s.ends.here.rec) (c.error-rest s.ends.here.rec r)))
+      (m.at.error Ground s.ends.here.rec) (c.error_rest s.ends.here.rec r)))
       (λ (r : c.Away s.ends.here.rec). returned s.ends s.here s.there dl (suc s.here.unsent) false g
-      (m.at.error Ground s.ends.here.rec) keep (c.error-away s.ends.here.rec r))
+      (m.at.error Ground s.ends.here.rec) keep (c.error_away s.ends.here.rec r))
   happened_holds s dl (turn_away keep) b g = turned s.ends s.here s.there dl g keep (suc s.here.unsent) false
   happened_holds s dl fail b g = clash (sym b)
 
@@ -569,7 +569,7 @@ module _ (m : NMachine) (c : Centre m) (w : Words m) (k : Truth m c w) (order : 
         (did_came (n_off m e l) v 0 d.both.here.log o.ways (comes_returns h v b)) (record { tally = t (m.holds h); none_open = λ (z : c.Rest (n_did m (n_off m e l) v 0).here.rec). refl })
 
     answer_comes : Comes m c.Rest h (m.at.receive Ground h f)
-    answer_comes = c.answer-taken h f r x.0 x.1.0 n
+    answer_comes = c.answer_taken h f r x.0 x.1.0 n
 
     done_is : (v : Outcome m.at.R m.at.E) → Comes m c.Rest h v → is_done m w right order fresh v ≡ true
     done_is refused b = absurd b
@@ -634,7 +634,7 @@ module _ (m : NMachine) (c : Centre m) (w : Words m) (k : Truth m c w) (order : 
           → c.Away d.both.ends.here.rec
           → DeskHolds (told_on (f ∷ l) (heard_result m w right order fresh d.both.ends.here.rec (f ∷ l)) d)
       by true q r = answer_holds d g f l p r (eqb-true _ _ q) a
-      by false q r = nothing_told (stale (c.answer-stale d.both.ends.here.rec f r x.0 x.1.0 (eqb-false _ _ q)) r)
+      by false q r = nothing_told (stale (c.answer_stale d.both.ends.here.rec f r x.0 x.1.0 (eqb-false _ _ q)) r)
 
       go : Who m c w k d.both.ends.here.rec
           → DeskHolds (told_on (f ∷ l) (heard_result m w right order fresh d.both.ends.here.rec (f ∷ l)) d)
@@ -664,7 +664,7 @@ module _ (m : NMachine) (c : Centre m) (w : Words m) (k : Truth m c w) (order : 
   pub lost_holds : (s : Hosts m) (dl : List ℕ) → HoldsOf m c w k s dl → HoldsOf m c w k (lost m right L fresh A Ground s) dl
   lost_holds s dl g = subst
       (λ (r : m.at.R). Holds m c w k (with_rec m right L fresh A s.ends r) (from_kept r) s.there dl)
-      (sym g.near.rec-kept) base
+      (sym g.near.rec_kept) base
     where
       from_kept : m.at.R → Host m
       from_kept r = record { notes = s.here.kept; kept = s.here.kept; kept_rec = r; unsent = s.here.unsent; power = down; done = s.here.done; log = s.here.log; waiting = false; seen = s.here.seen }
@@ -677,9 +677,9 @@ module _ (m : NMachine) (c : Centre m) (w : Words m) (k : Truth m c w) (order : 
               rec_kept = refl;
               notes_kept = refl;
               tally = subst (λ (n : Notes). Tally m (m.holds s.ends.here.rec) n s.here.log s.here.done
-                  s.ends.there.rec s.there dl) (sym g.near.notes-kept) g.near.tally;
+                  s.ends.there.rec s.there dl) (sym g.near.notes_kept) g.near.tally;
               none_open = λ (r : c.Rest s.ends.here.rec). subst (λ (n : Notes). n.opened ≡ [])
-                  (sym g.near.notes-kept) (g.near.none_open r);
+                  (sym g.near.notes_kept) (g.near.none_open r);
             };
             far = g.far;
             rest = g.rest;
@@ -703,8 +703,8 @@ module _ (m : NMachine) (c : Centre m) (w : Words m) (k : Truth m c w) (order : 
       record {
         ways = subst (Ways m c w k e.here.rec e.there.rec e.here.line) (sym t) g.ways;
         near = record {
-          rec_kept = p ∙ g.near.rec-kept;
-          notes_kept = q ∙ (g.near.notes-kept ∙ sym r);
+          rec_kept = p ∙ g.near.rec_kept;
+          notes_kept = q ∙ (g.near.notes_kept ∙ sym r);
           tally = subst (λ (d : ℕ → Bool). Tally m (m.holds e.here.rec) b.notes b.log d e.there.rec z dl) (sym u)
               (subst (λ (l : List Took). Tally m (m.holds e.here.rec) b.notes l a.done e.there.rec z dl)
               (sym t) (subst
@@ -762,7 +762,7 @@ module _ (m : NMachine) (c : Centre m) (w : Words m) (k : Truth m c w) (order : 
 
   -- an end that rests is told nothing
   pub untold : (x : NSys m) → c.Rest x.here.rec → n_told_lost m Ground x ≡ x
-  untold x r = ap (λ (b : Bool). cond b x (n_did m x (m.at.p_abort Ground x.here.rec) 0)) (c.rest-idle x.here.rec r)
+  untold x r = ap (λ (b : Bool). cond b x (n_did m x (m.at.p_abort Ground x.here.rec) 0)) (c.rest_idle x.here.rec r)
 
   record Fallen (e t : NSys m) (log : List Took) : Type 0 where
     came_to : Came e t log
@@ -772,8 +772,8 @@ module _ (m : NMachine) (c : Centre m) (w : Words m) (k : Truth m c w) (order : 
       → Who m c w k e.here.rec → Fallen e (n_told_lost m Ground e) log
   fallen e log g (rests r) = subst (λ (t : NSys m). Fallen e t log) (sym (untold e r)) (record { came_to = did_came e refused 0 log g tt; rest_here = r })
   fallen e log g (gone a) =
-      subst (λ (b : Bool). Fallen e (cond b e (n_did m e (m.at.p_abort Ground e.here.rec) 0)) log) (sym (c.away-idle e.here.rec a))
-      (go (m.at.p_abort Ground e.here.rec) (c.p-abort-away e.here.rec a))
+      subst (λ (b : Bool). Fallen e (cond b e (n_did m e (m.at.p_abort Ground e.here.rec) 0)) log) (sym (c.away_idle e.here.rec a))
+      (go (m.at.p_abort Ground e.here.rec) (c.p_abort_away e.here.rec a))
     where
       go : (o : Outcome m.at.R m.at.E) → Comes m c.Rest e.here.rec o → Fallen e (n_did m e o 0) log
       go refused b = absurd b

@@ -203,9 +203,9 @@ module _ (m : NMachine) (c : Centre m) (w : Words m) (k : Truth m c w) (order : 
       where
         go : (b : Bool) → ltb (m.holds e.there.rec) (m.carries f) ≡ b → After (m.at.receive Ground e.there.rec f)
         go true r = answers (m.at.receive Ground e.there.rec f) refl (ltb-true _ _ r)
-            (c.start-answered e.there.rec f g.rest out_is.0 st (ltb-true _ _ r))
+            (c.start_answered e.there.rec f g.rest out_is.0 st (ltb-true _ _ r))
         go false r = refuses (m.at.receive Ground e.there.rec f)
-            (c.start-stale e.there.rec f g.rest out_is.0 st (ltb-false _ _ r))
+            (c.start_stale e.there.rec f g.rest out_is.0 st (ltb-false _ _ r))
 
   handed_there : (e : NSys m) (a z : Host m) (dl : List ℕ) (n : m.at.R → Notes) (keep : ℕ) (x : List m.at.E)
       → e.here.line ≡ x → z.waiting ≡ false → Holds m c w k e a z dl
@@ -214,7 +214,7 @@ module _ (m : NMachine) (c : Centre m) (w : Words m) (k : Truth m c w) (order : 
   handed_there e a z dl n keep (f ∷ l) p r g = go (is_start m.at f) refl
     where
       idle_there : is_idle (m.at.ctl e.there.rec) ≡ true
-      idle_there = c.rest-idle e.there.rec g.rest
+      idle_there = c.rest_idle e.there.rec g.rest
 
       Handed : Bool → Type 0
       Handed b =
@@ -245,24 +245,24 @@ module _ (m : NMachine) (c : Centre m) (w : Words m) (k : Truth m c w) (order : 
       fresh s.ends.there.rec
       (n_called m false (n_swap m s.ends) (m.at.call Ground s.ends.there.rec x) keep).here.rec
       s.there.notes) g (m.at.call Ground s.ends.there.rec x) keep b
-      (c.call-rest s.ends.there.rec x g.rest)
+      (c.call_rest s.ends.there.rec x g.rest)
   got_holds s dl (hand_over keep) r b g = handed_there s.ends s.here s.there dl
       (λ (q : m.at.R). afterwards m w right order fresh s.ends.there.rec q s.there.notes) keep
       s.ends.here.line refl r g
   got_holds s dl (timer_expires_of keep) r b g = quiet_there s.ends s.here s.there dl (afterwards m w right order
       fresh s.ends.there.rec
       (n_did m (n_swap m s.ends) (m.at.expiry Ground s.ends.there.rec) keep).here.rec s.there.notes) g
-      (m.at.expiry Ground s.ends.there.rec) keep (c.expiry-rest s.ends.there.rec g.rest)
+      (m.at.expiry Ground s.ends.there.rec) keep (c.expiry_rest s.ends.there.rec g.rest)
   got_holds s dl (error_reported keep) r b g = quiet_there s.ends s.here s.there dl (afterwards m w right order
       fresh s.ends.there.rec
       (n_did m (n_swap m s.ends) (m.at.error Ground s.ends.there.rec) keep).here.rec s.there.notes) g
-      (m.at.error Ground s.ends.there.rec) keep (c.error-rest s.ends.there.rec g.rest)
+      (m.at.error Ground s.ends.there.rec) keep (c.error_rest s.ends.there.rec g.rest)
   got_holds s dl (turn_away keep) r b g =
       subst (λ (d : Bool). Turned (cond d
       (n_did m (n_recalled m (n_swap m s.ends)) (m.at.away Ground s.ends.there.rec) keep)
       (n_swap m s.ends))) (sym (ap
       (λ (d : Bool). d && n_has_start m (m.holds s.ends.there.rec) s.ends.there.line)
-      (c.rest-waits s.ends.there.rec g.rest)))
+      (c.rest_waits s.ends.there.rec g.rest)))
       (let u = unmoved s.ends s.here s.there dl (afterwards m w right order fresh s.ends.there.rec s.ends.there.rec s.there.notes) g in record { ways = u.ways; near = u.near; far = u.far; rest = u.rest; who = u.who })
     where
       Turned : NSys m → Type 0

@@ -87,7 +87,7 @@ module _ (m : NMachine) (c : Centre m) (w : Words m) (k : Truth m c w) where
   -- ---- the other centre goes on and this one does not
 
   pub near_later : (h t u : m.at.R) (a z v : Host m) (dl : List ℕ) → Later m t u z v → Near h t a z dl → Near h u a v dl
-  near_later h t u a z v dl l g = record { rec_kept = g.rec-kept; notes_kept = g.notes-kept; tally = tally_later m (m.holds h) a.notes a.log a.done t u z v dl l g.tally; none_open = g.none_open }
+  near_later h t u a z v dl l g = record { rec_kept = g.rec_kept; notes_kept = g.notes_kept; tally = tally_later m (m.holds h) a.notes a.log a.done t u z v dl l g.tally; none_open = g.none_open }
 
   -- its host z becomes v and its record u: nothing was shown, and no answer left
   pub record Still (t u : m.at.R) (z v : Host m) : Type 0 where

@@ -239,7 +239,7 @@ module _ (m : NMachine) (c : Centre m) (w : Words m) (k : Truth m c w) (order : 
   move_follows : (d : Desks m) (v : Move m.at.A) → GoodDesks d → Follows d.both.ends (f_moved m w right order fresh d v).both.ends
   move_follows d (job b) g = served_follows d.both.here.power d.both b
   move_follows d answered g = answer_follows d
-  move_follows d (at true a) g = here_follows d.both.here.power d.both a g.near.rec-kept
+  move_follows d (at true a) g = here_follows d.both.here.power d.both a g.near.rec_kept
   move_follows d (at false a) g = there_follows d.both.there.power d.both a g.far.kept
 
   promised : (d : Desks m) → GoodDesks d
@@ -264,10 +264,10 @@ module _ (m : NMachine) (c : Centre m) (w : Words m) (k : Truth m c w) (order : 
             (e : eqb x.job j ≡ true). (f e).unseen) d.both.here.log (y.declined j p));
         declined_answered = y.told;
         acknowledged_decided = λ (j : ℕ) (p : d.both.here.done j ≡ true). subst
-            (λ (n : Notes). is_decided (n.decision j) ≡ true) (sym g.near.notes-kept) (b.acked j p);
+            (λ (n : Notes). is_decided (n.decision j) ≡ true) (sym g.near.notes_kept) (b.acked j p);
         one_fate = λ (j : ℕ). subst
             (λ (n : Notes). fates j n.notices + count j n.opened ≡ one (is_decided (n.decision j)))
-            (sym g.near.notes-kept) (b.ledger j);
+            (sym g.near.notes_kept) (b.ledger j);
         both_idle = i;
       }
     where

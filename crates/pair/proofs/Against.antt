@@ -96,7 +96,7 @@ module _ (m : Machine) (i j : ℕ) (s : Sys m) (c : Claims m i j s) where
   whole_given : T (at_rest m i j s && not s.broken) → T (whole m i j s)
   whole_given t =
       let r = and_l (at_rest m i j s) (not s.broken) t in
-      let w = c.handed-all (here_empty r) (there_empty r) (no_T s.broken (and_r (at_rest m i j s) (not s.broken) t)) in
+      let w = c.handed_all (here_empty r) (there_empty r) (no_T s.broken (and_r (at_rest m i j s) (not s.broken) t)) in
       both (is_prefix s.here.taken s.there.handed) (is_prefix s.there.taken s.here.handed)
       (is_whole s.there.handed s.here.taken w.0) (is_whole s.here.handed s.there.taken w.1)
 
@@ -104,12 +104,12 @@ module _ (m : Machine) (i j : ℕ) (s : Sys m) (c : Claims m i j s) where
   claims_tested =
       rw (
         is_t (match? m i j s) (if_then (at_rest m i j s) (matching (m.ctl s.here.rec) (m.ctl s.there.rec))
-            (λ (t : T (at_rest m i j s)). c.ends-match (here_empty t) (there_empty t))),
-        is_t (is_prefix s.there.handed s.here.taken) (is_prefix_is s.there.handed s.here.taken c.handed-in-order.0),
-        is_t (is_prefix s.here.handed s.there.taken) (is_prefix_is s.here.handed s.there.taken c.handed-in-order.1),
+            (λ (t : T (at_rest m i j s)). c.ends_match (here_empty t) (there_empty t))),
+        is_t (is_prefix s.there.handed s.here.taken) (is_prefix_is s.there.handed s.here.taken c.handed_in_order.0),
+        is_t (is_prefix s.here.handed s.there.taken) (is_prefix_is s.here.handed s.there.taken c.handed_in_order.1),
         is_t (all? m i j s) (if_then (at_rest m i j s && not s.broken) (whole m i j s) whole_given),
-        is_t (rising i s.here.jobs) c.jobs-rise.0,
-        is_t (rising j s.there.jobs) c.jobs-rise.1,
+        is_t (rising i s.here.jobs) c.jobs_rise.0,
+        is_t (rising j s.there.jobs) c.jobs_rise.1,
       )
 
 -- ---- the runs

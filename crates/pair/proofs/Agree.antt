@@ -55,7 +55,7 @@ pub record Agree (m n : Machine) : Type 1 where
 -- what one sends begins a dialogue where what the other sends does
 module _ (m n : Machine) (g : Agree m n) where
   pub start_rel : (sd : Side) (e : m.E) (f : n.E) → g.EE sd e f → is_start m e ≡ is_start n f
-  start_rel sd e f x = ap begins? (g.sort-is sd e f x)
+  start_rel sd e f x = ap begins? (g.sort_is sd e f x)
 
   pub starts_rel : (sd : Side) (p : Sent m.E) (o : Sent n.E) → SentRel (g.EE sd) p o → starts m p ≡ starts n o
   starts_rel sd nothing nothing x = refl

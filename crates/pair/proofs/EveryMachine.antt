@@ -33,15 +33,15 @@ module _ (m n : Machine) (g : Agree m n) (s : Sys m) (t : Sys n) (h : SysRel m n
       record {
         ends_match = λ (p : s.here.line ≡ []) (q : s.there.line ≡ []).
             rw (
-              g.ctl-is Air s.here.rec t.here.rec h.here.rec,
-              g.ctl-is Ground s.there.rec
+              g.ctl_is Air s.here.rec t.here.rec h.here.rec,
+              g.ctl_is Ground s.there.rec
                   t.there.rec h.there.rec,
-            ) (c.ends-match (empty_here p) (empty_there q));
-        handed_in_order = rw (h.there.handed, h.here.taken, h.here.handed, h.there.taken) c.handed-in-order;
+            ) (c.ends_match (empty_here p) (empty_there q));
+        handed_in_order = rw (h.there.handed, h.here.taken, h.here.handed, h.there.taken) c.handed_in_order;
         handed_all = λ (p : s.here.line ≡ []) (q : s.there.line ≡ []) (b : s.broken ≡ false).
             rw (h.there.handed, h.here.taken, h.here.handed, h.there.taken)
-            (c.handed-all (empty_here p) (empty_there q) (sym h.broken ∙ b));
-        jobs_rise = rw (h.here.jobs, h.there.jobs) c.jobs-rise;
+            (c.handed_all (empty_here p) (empty_there q) (sym h.broken ∙ b));
+        jobs_rise = rw (h.here.jobs, h.there.jobs) c.jobs_rise;
       }
 
 module _ (m n : Machine) (g : Agree m n) (r q : m.R) (x y : n.R) (near : g.RR Air r x) (far : g.RR Ground q y) where
@@ -69,7 +69,7 @@ machine_holds m g i j r q near far ts = holds_through m control g r q (held clos
 -- so no job is taken twice at an end
 pub taken_once : {f g : ℕ} (m : Machine) (s : Sys m) → Claims m f g s → (xs ys zs : List ℕ) (j : ℕ) → (s.here.jobs ≡ xs ++ (j ∷ (ys ++ (j ∷ zs))) → ⊥) × (s.there.jobs ≡ xs ++ (j ∷ (ys ++ (j ∷ zs))) → ⊥)
 taken_once {f} {g} m s c xs ys zs j = (
-  λ (e : s.here.jobs ≡ xs ++ (j ∷ (ys ++ (j ∷ zs)))). no_repeat f xs ys zs j (subst (λ (l : List ℕ). T (rising f l)) e c.jobs-rise.0),
+  λ (e : s.here.jobs ≡ xs ++ (j ∷ (ys ++ (j ∷ zs)))). no_repeat f xs ys zs j (subst (λ (l : List ℕ). T (rising f l)) e c.jobs_rise.0),
   λ (e : s.there.jobs ≡ xs ++ (j ∷ (ys ++ (j ∷ zs)))). no_repeat g xs ys zs j
-      (subst (λ (l : List ℕ). T (rising g l)) e c.jobs-rise.1),
+      (subst (λ (l : List ℕ). T (rising g l)) e c.jobs_rise.1),
 )

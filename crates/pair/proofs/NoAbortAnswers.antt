@@ -57,9 +57,9 @@ module _ (m n : Machine) (g : Agree m n) where
   head_quiet sd r q [] k x y h = tt
   head_quiet sd r q (e ∷ l) [] x y h = absurd y
   head_quiet sd r q (e ∷ l) (f ∷ k) x y h = λ (d : discards m r e ≡ false).
-      same_quiet sd (m.receive sd r e) (n.receive sd q f) (g.receive-is sd r q e f x y.0)
-      (h (ap (λ (c : Control). is_idle c && not (begins? (n.sort f))) (sym (g.ctl-is sd r q x)) ∙ ap
-      (λ (so : Sort). is_idle (m.ctl r) && not (begins? so)) (sym (g.sort-is (other sd) e f y.0)) ∙ d))
+      same_quiet sd (m.receive sd r e) (n.receive sd q f) (g.receive_is sd r q e f x y.0)
+      (h (ap (λ (c : Control). is_idle c && not (begins? (n.sort f))) (sym (g.ctl_is sd r q x)) ∙ ap
+      (λ (so : Sort). is_idle (m.ctl r) && not (begins? so)) (sym (g.sort_is (other sd) e f y.0)) ∙ d))
 
   -- where the second answers nothing that is handed over, the first does not
   pub quiet_through : (s : Sys m) (t : Sys n) → SysRel m n g Air s t → BothQuiet n t → BothQuiet m s

@@ -112,31 +112,31 @@ module _ (m n : Machine) (g : Agree m n) where
       (subst (λ (u : ℕ). NOut sd (meets_no m sd r e) (cond (is_start m e.it) (cond (ltb r.no u) (leaves f.no z) refused) (cond (eqb u r.no) (leaves q.no z) refused))) y.0
       (three_rel (g.RR sd) (g.EE sd) (is_start m e.it) (ltb r.no e.no) (eqb e.no r.no) e.no r.no
       f.no q.no (m.receive sd r.it e.it) z y.0 x.0
-      (g.receive-is sd r.it q.it e.it f.it x.1 y.1))))
+      (g.receive_is sd r.it q.it e.it f.it x.1 y.1))))
 
   abbrev pub with_number : NAgree (numbered m) (numbered n)
   with_number = record {
     agree = record {
       RR = λ (sd : Side) (r : Numbered m.R) (q : Numbered n.R). With (g.RR sd) r q;
       EE = λ (sd : Side) (e : Numbered m.E) (f : Numbered n.E). With (g.EE sd) e f;
-      ctl_is = λ (sd : Side) (r : Numbered m.R) (q : Numbered n.R) (x : With (g.RR sd) r q). g.ctl-is sd r.it q.it x.1;
-      sort_is = λ (sd : Side) (e : Numbered m.E) (f : Numbered n.E) (x : With (g.EE sd) e f). g.sort-is sd e.it f.it x.1;
+      ctl_is = λ (sd : Side) (r : Numbered m.R) (q : Numbered n.R) (x : With (g.RR sd) r q). g.ctl_is sd r.it q.it x.1;
+      sort_is = λ (sd : Side) (e : Numbered m.E) (f : Numbered n.E) (x : With (g.EE sd) e f). g.sort_is sd e.it f.it x.1;
       call_is = λ (sd : Side) (r : Numbered m.R) (q : Numbered n.R) (a : Numbered m.A)
           (x : With (g.RR sd) r q). call_rel sd a.no (m.call sd r.it a.it) r.no q x.0
-          (g.call-is sd r.it q.it a.it x.1);
+          (g.call_is sd r.it q.it a.it x.1);
       receive_is = receive_rel;
       expiry_is = λ (sd : Side) (r : Numbered m.R) (q : Numbered n.R) (x : With (g.RR sd) r q). report_rel
           (g.RR sd) (g.EE sd) r.no (m.expiry sd r.it) (n.expiry sd q.it) q x.0
-          (g.expiry-is sd r.it q.it x.1);
+          (g.expiry_is sd r.it q.it x.1);
       error_is = λ (sd : Side) (r : Numbered m.R) (q : Numbered n.R) (x : With (g.RR sd) r q). report_rel
           (g.RR sd) (g.EE sd) r.no (m.error sd r.it) (n.error sd q.it) q x.0
-          (g.error-is sd r.it q.it x.1);
+          (g.error_is sd r.it q.it x.1);
       away_is = λ (sd : Side) (r : Numbered m.R) (q : Numbered n.R) (x : With (g.RR sd) r q). leaves_rel
           (g.RR sd) (g.EE sd) r.no q.no (m.away sd r.it) (n.away sd q.it) x.0
-          (g.away-is sd r.it q.it x.1);
+          (g.away_is sd r.it q.it x.1);
       p_abort_is_law = λ (sd : Side) (r : Numbered m.R) (q : Numbered n.R) (x : With (g.RR sd) r q). leaves_rel
           (g.RR sd) (g.EE sd) r.no q.no (m.p_abort sd r.it) (n.p_abort sd q.it) x.0
-          (g.p-abort-is sd r.it q.it x.1);
+          (g.p_abort_is_law sd r.it q.it x.1);
     };
     holds_is = λ (sd : Side) (r : Numbered m.R) (q : Numbered n.R) (x : With (g.RR sd) r q). x.0;
     carries_is = λ (sd : Side) (e : Numbered m.E) (f : Numbered n.E) (x : With (g.EE sd) e f). x.0;

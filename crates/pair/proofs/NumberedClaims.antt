@@ -171,7 +171,7 @@ control_numbered_quiet from n k i j h ts = numbered_quiet control control_base f
 -- no job is taken twice at an end
 pub n_taken_once : {f g : ℕ} (m : NMachine) (s : NSys m) → NClaims m f g s → (xs ys zs : List ℕ) (j : ℕ) → (s.here.jobs ≡ xs ++ (j ∷ (ys ++ (j ∷ zs))) → ⊥) × (s.there.jobs ≡ xs ++ (j ∷ (ys ++ (j ∷ zs))) → ⊥)
 n_taken_once {f} {g} m s c xs ys zs j = (
-  λ (e : s.here.jobs ≡ xs ++ (j ∷ (ys ++ (j ∷ zs)))). no_repeat f xs ys zs j (subst (λ (l : List ℕ). T (rising f l)) e c.jobs-rise.0),
+  λ (e : s.here.jobs ≡ xs ++ (j ∷ (ys ++ (j ∷ zs)))). no_repeat f xs ys zs j (subst (λ (l : List ℕ). T (rising f l)) e c.jobs_rise.0),
   λ (e : s.there.jobs ≡ xs ++ (j ∷ (ys ++ (j ∷ zs)))). no_repeat g xs ys zs j
-      (subst (λ (l : List ℕ). T (rising g l)) e c.jobs-rise.1),
+      (subst (λ (l : List ℕ). T (rising g l)) e c.jobs_rise.1),
 )

@@ -79,6 +79,7 @@ closed_only StartReq d i w = absurd i
 closed_only StartInd d i w = absurd i
 closed_only Dialogue d i w = absurd i
 closed_only End d i w = absurd i
+closed_only Rattle.pair.specs.Names.Forward d i w = absurd i
 
 control_closed : (c : Control) → T (is_idle c) → T (wf c) → c ≡ closed
 control_closed c i w = closed_only c.state c.dsc i w
@@ -98,7 +99,7 @@ control_core s h =
       ends_match = λ (p : s.here.line ≡ []) (q : s.there.line ≡ []). rest s p q h;
       handed_in_order = (pre_trans _ _ _ (pre_front _ _) h.data_o.pre, pre_trans _ _ _ (pre_front _ _) h.data_i.pre);
       handed_all = λ (p : s.here.line ≡ []) (q : s.there.line ≡ []) (b : s.broken ≡ false).
-          (full _ _ _ _ _ _ p b h.data_o, full _ _ _ _ _ _ q b h.data_i);
+          (full (other Air) s.there.rec.ctl _ _ _ _ p b h.data_o, full Air s.here.rec.ctl _ _ _ _ q b h.data_i);
     }
 
 met_calm : (q : Held) (d : Did) (l : List Body) → Calm control (met q d l)

@@ -63,7 +63,7 @@ module _ (m n : NMachine) (g : NAgree m n) where
   trim_rel sd v (suc i) (e ∷ l) [] x = absurd x
   trim_rel sd v zero (e ∷ l) (f ∷ k) x =
       subst (λ (c : ℕ). LL (g.agree.EE sd) (cond (eqb (m.carries e) v) (trim m v zero l) (e ∷ trim m v zero l))
-      (cond (eqb c v) (trim n v zero k) (f ∷ trim n v zero k))) (g.carries-is sd e f x.0)
+      (cond (eqb c v) (trim n v zero k) (f ∷ trim n v zero k))) (g.carries_is sd e f x.0)
       (go (eqb (m.carries e) v) (trim_rel sd v zero l k x.1))
     where
       go : (b : Bool) → LL (g.agree.EE sd) (trim m v zero l) (trim n v zero k)
@@ -72,7 +72,7 @@ module _ (m n : NMachine) (g : NAgree m n) where
       go false h = (x.0, h)
   trim_rel sd v (suc i) (e ∷ l) (f ∷ k) x =
       subst (λ (c : ℕ). LL (g.agree.EE sd) (cond (eqb (m.carries e) v) (e ∷ trim m v i l) (e ∷ trim m v (suc i) l))
-      (cond (eqb c v) (f ∷ trim n v i k) (f ∷ trim n v (suc i) k))) (g.carries-is sd e f x.0)
+      (cond (eqb c v) (f ∷ trim n v i k) (f ∷ trim n v (suc i) k))) (g.carries_is sd e f x.0)
       (go (eqb (m.carries e) v) (trim_rel sd v i l k x.1) (trim_rel sd v (suc i) l k x.1))
     where
       go : (b : Bool) → LL (g.agree.EE sd) (trim m v i l) (trim n v i k)
@@ -86,7 +86,7 @@ module _ (m n : NMachine) (g : NAgree m n) where
       → LL (g.agree.EE sd) (trim m (m.carries e) keep l ++ (e ∷ [])) (trim n (n.carries f) keep k ++ (f ∷ []))
   cut_rel sd keep l k e f h y = ll_snoc (g.agree.EE sd) (trim m (m.carries e) keep l) (trim n (n.carries f) keep k)
       e f (subst (λ (v : ℕ). LL (g.agree.EE sd) (trim m (m.carries e) keep l) (trim n v keep k))
-      (g.carries-is sd e f y) (trim_rel sd (m.carries e) keep l k h)) y
+      (g.carries_is sd e f y) (trim_rel sd (m.carries e) keep l k h)) y
 
   put_rel : (sd : Side) (so : Sort) (s : NSys m) (t : NSys n) (e : m.at.E) (f : n.at.E) (keep : ℕ) → Rel sd s t
       → g.agree.EE sd e f → Rel sd (n_put m so s e keep) (n_put n so t f keep)
@@ -100,7 +100,7 @@ module _ (m n : NMachine) (g : NAgree m n) where
       record {
         here = record { rec = h.here.rec; line = cut_rel sd keep s.here.line t.here.line e f h.here.line y; taken = h.here.taken; handed = h.here.handed; jobs = h.here.jobs };
         there = h.there;
-        broken = λ (j : ℕ). ap (λ (v : ℕ). eqb v j || s.broken j) (g.carries-is sd e f y) ∙ ap
+        broken = λ (j : ℕ). ap (λ (v : ℕ). eqb v j || s.broken j) (g.carries_is sd e f y) ∙ ap
             (λ (b : Bool). eqb (n.carries f) j || b) (h.broken j);
       }
   put_rel sd plain s t e f keep h y =
@@ -113,7 +113,7 @@ module _ (m n : NMachine) (g : NAgree m n) where
   puts_rel : (sd : Side) (s : NSys m) (t : NSys n) (e : m.at.E) (f : n.at.E) (keep : ℕ) → Rel sd s t
       → g.agree.EE sd e f → Rel sd (n_put m (m.at.sort e) s e keep) (n_put n (n.at.sort f) t f keep)
   puts_rel sd s t e f keep h y = subst (λ (so : Sort). Rel sd (n_put m (m.at.sort e) s e keep) (n_put n so t f keep))
-      (g.agree.sort-is sd e f y) (put_rel sd (m.at.sort e) s t e f keep h y)
+      (g.agree.sort_is sd e f y) (put_rel sd (m.at.sort e) s t e f keep h y)
 
   -- histories, dialogue by dialogue
   more_rel : (x y : ℕ → List Body) (v w : ℕ) (l k : List Body) → ((j : ℕ) → x j ≡ y j) → v ≡ w → l ≡ k → (j : ℕ)
@@ -148,13 +148,13 @@ module _ (m n : NMachine) (g : NAgree m n) where
   sent_rel sd s t (message e b i) (puts f) keep h x = absurd x
   sent_rel sd s t (message e b i) (message f c j) keep h x = took_rel sd (n_put m (m.at.sort e) s e keep)
       (n_put n (n.at.sort f) t f keep) (m.carries e) (n.carries f) b c i j (puts_rel sd s t e f keep h x.0)
-      (g.carries-is sd e f x.0) x.1 x.2
+      (g.carries_is sd e f x.0) x.1 x.2
 
   left_rel : (sd : Side) (s : NSys m) (t : NSys n) (r : m.at.R) (q : n.at.R) (l k : List Body) → Rel sd s t
       → g.agree.RR sd r q → l ≡ k → Rel sd (n_left m s r l) (n_left n t q k)
   left_rel sd s t r q l k h x e =
       record {
-        here = record { rec = x; line = h.here.line; taken = h.here.taken; handed = more_rel s.here.handed t.here.handed (m.holds r) (n.holds q) l k h.here.handed (g.holds-is sd r q x) e; jobs = h.here.jobs };
+        here = record { rec = x; line = h.here.line; taken = h.here.taken; handed = more_rel s.here.handed t.here.handed (m.holds r) (n.holds q) l k h.here.handed (g.holds_is sd r q x) e; jobs = h.here.jobs };
         there = h.there;
         broken = h.broken;
       }
@@ -170,7 +170,7 @@ module _ (m n : NMachine) (g : NAgree m n) where
   -- ---- a user call
 
   idle_rel : (sd : Side) (r : m.at.R) (q : n.at.R) → g.agree.RR sd r q → idle m.at r ≡ idle n.at q
-  idle_rel sd r q x = ap is_idle (g.agree.ctl-is sd r q x)
+  idle_rel sd r q x = ap is_idle (g.agree.ctl_is sd r q x)
 
   ready_rel : (sd : Side) (s : NSys m) (t : NSys n) → Rel sd s t → n_ready m s ≡ n_ready n t
   ready_rel sd s t h = ap (λ (b : Bool). b && idle m.at s.there.rec)
@@ -252,14 +252,14 @@ module _ (m n : NMachine) (g : NAgree m n) where
       (off_rel sd s t l k h x.1)
       (did_rel sd (n_off m s l) (n_off n t k) (m.at.receive sd s.here.rec e) (n.at.receive sd t.here.rec f)
       keep (off_rel sd s t l k h x.1)
-      (g.agree.receive-is sd s.here.rec t.here.rec e f h.here.rec x.0))
+      (g.agree.receive_is sd s.here.rec t.here.rec e f h.here.rec x.0))
 
   -- ---- the carrier by itself
 
   start_of_rel : (sd : Side) (v : ℕ) (e : m.at.E) (f : n.at.E) → g.agree.EE sd e f → start_of m v e ≡ start_of n v f
   start_of_rel sd v e f x = ap (λ (b : Bool). b && eqb (m.carries e) v)
       (start_rel m.at n.at g.agree sd e f x) ∙ ap (λ (u : ℕ). is_start n.at f && eqb u v)
-      (g.carries-is sd e f x)
+      (g.carries_is sd e f x)
 
   has_rel : (sd : Side) (v : ℕ) (l : List m.at.E) (k : List n.at.E) → LL (g.agree.EE sd) l k → n_has_start m v l ≡ n_has_start n v k
   has_rel sd v [] [] x = refl
@@ -289,7 +289,7 @@ module _ (m n : NMachine) (g : NAgree m n) where
         here = record {
           rec = h.here.rec;
           line = subst (λ (v : ℕ). LL (g.agree.EE sd) (n_without_start m (m.holds s.here.rec) s.here.line)
-              (n_without_start n v t.here.line)) (g.holds-is sd s.here.rec t.here.rec h.here.rec)
+              (n_without_start n v t.here.line)) (g.holds_is sd s.here.rec t.here.rec h.here.rec)
               (without_rel sd (m.holds s.here.rec) s.here.line t.here.line h.here.line);
           taken = h.here.taken;
           handed = h.here.handed;
@@ -303,13 +303,13 @@ module _ (m n : NMachine) (g : NAgree m n) where
   away_rel sd s t keep h =
       either sd (n_may_turn_away m s) (n_may_turn_away n t) (n_did m (n_recalled m s) (m.at.away sd s.here.rec) keep) s
       (n_did n (n_recalled n t) (n.at.away sd t.here.rec) keep) t
-      (ap (λ (c : Control). is c.state StartReq && n_has_start m (m.holds s.here.rec) s.here.line) (g.agree.ctl-is sd s.here.rec t.here.rec h.here.rec)
+      (ap (λ (c : Control). is c.state StartReq && n_has_start m (m.holds s.here.rec) s.here.line) (g.agree.ctl_is sd s.here.rec t.here.rec h.here.rec)
       ∙ ap (λ (b : Bool). is (n.at.ctl t.here.rec).state StartReq && b)
       (has_rel sd (m.holds s.here.rec) s.here.line t.here.line h.here.line)
       ∙ ap (λ (v : ℕ). is (n.at.ctl t.here.rec).state StartReq && n_has_start n v t.here.line)
-      (g.holds-is sd s.here.rec t.here.rec h.here.rec))
+      (g.holds_is sd s.here.rec t.here.rec h.here.rec))
       (did_rel sd (n_recalled m s) (n_recalled n t) (m.at.away sd s.here.rec) (n.at.away sd t.here.rec) keep
-      (recalled_rel sd s t h) (g.agree.away-is sd s.here.rec t.here.rec h.here.rec))
+      (recalled_rel sd s t h) (g.agree.away_is sd s.here.rec t.here.rec h.here.rec))
       h
 
   told_rel : (sd : Side) (s : NSys m) (t : NSys n) → Rel sd s t → Rel sd (n_told_lost m sd s) (n_told_lost n sd t)
@@ -318,7 +318,7 @@ module _ (m n : NMachine) (g : NAgree m n) where
       (n_did m s (m.at.p_abort sd s.here.rec) 0) t (n_did n t (n.at.p_abort sd t.here.rec) 0)
       (idle_rel sd s.here.rec t.here.rec h.here.rec) h (did_rel sd s t (m.at.p_abort sd s.here.rec)
       (n.at.p_abort sd t.here.rec) 0 h
-      (g.agree.p-abort-is sd s.here.rec t.here.rec h.here.rec))
+      (g.agree.p_abort_is_law sd s.here.rec t.here.rec h.here.rec))
 
   swap_rel : (sd : Side) (s : NSys m) (t : NSys n) → Rel sd s t → Rel (other sd) (n_swap m s) (n_swap n t)
   swap_rel Air s t h = record { here = h.there; there = h.here; broken = h.broken }
@@ -332,14 +332,14 @@ module _ (m n : NMachine) (g : NAgree m n) where
   on_rel sd j [] [] x = refl
   on_rel sd j [] (f ∷ k) x = absurd x
   on_rel sd j (e ∷ l) [] x = absurd x
-  on_rel sd j (e ∷ l) (f ∷ k) x = ap (λ (v : ℕ). eqb v j || on_line m l j) (g.carries-is sd e f x.0) ∙ ap
+  on_rel sd j (e ∷ l) (f ∷ k) x = ap (λ (v : ℕ). eqb v j || on_line m l j) (g.carries_is sd e f x.0) ∙ ap
       (λ (b : Bool). eqb (n.carries f) j || b) (on_rel sd j l k x.1)
 
   within_rel : (sd : Side) (r : m.at.R) (q : n.at.R) (j : ℕ) → g.agree.RR sd r q
       → not (idle m.at r) && eqb (m.holds r) j ≡ not (idle n.at q) && eqb (n.holds q) j
   within_rel sd r q j x =
       ap (λ (b : Bool). not b && eqb (m.holds r) j) (idle_rel sd r q x) ∙ ap
-      (λ (v : ℕ). not (idle n.at q) && eqb v j) (g.holds-is sd r q x)
+      (λ (v : ℕ). not (idle n.at q) && eqb v j) (g.holds_is sd r q x)
 
   alive_rel : (sd : Side) (s : NSys m) (t : NSys n) (j : ℕ) → Rel sd s t → alive m s j ≡ alive n t j
   alive_rel sd s t j h =
@@ -373,15 +373,15 @@ module _ (m n : NMachine) (g : NAgree m n) where
   step_rel : (may : Bool) (sd : Side) (s : NSys m) (t : NSys n) (c : Step m.at.A) → Rel sd s t
       → NFollow m n g may sd (n_stepped m may sd s c) t
   step_rel may sd s t (user_call a keep) h = called_rel may sd s t (m.at.call sd s.here.rec a) keep h
-      (g.agree.call-is sd s.here.rec t.here.rec a h.here.rec)
+      (g.agree.call_is sd s.here.rec t.here.rec a h.here.rec)
   step_rel may sd s t (hand_over keep) h = steps (hand_over keep)
       (over_rel sd s t s.there.line t.there.line keep h h.there.line)
   step_rel may sd s t (timer_expires_of keep) h = report_rel may sd s t (m.at.expiry sd s.here.rec)
       (n.at.expiry sd t.here.rec) keep (timer_expires_of keep) refl h
-      (g.agree.expiry-is sd s.here.rec t.here.rec h.here.rec)
+      (g.agree.expiry_is sd s.here.rec t.here.rec h.here.rec)
   step_rel may sd s t (error_reported keep) h = report_rel may sd s t (m.at.error sd s.here.rec)
       (n.at.error sd t.here.rec) keep (error_reported keep) refl h
-      (g.agree.error-is sd s.here.rec t.here.rec h.here.rec)
+      (g.agree.error_is sd s.here.rec t.here.rec h.here.rec)
   step_rel may sd s t (turn_away keep) h = steps (turn_away keep) (away_rel sd s t keep h)
   step_rel may sd s t fail h = steps fail (fail_rel sd s t h)
 
@@ -435,18 +435,18 @@ module _ (m n : NMachine) (g : NAgree m n) where
       record {
         ends_match = λ (p : s.here.line ≡ []) (q : s.there.line ≡ []).
             rw (
-              g.agree.ctl-is Air s.here.rec t.here.rec h.here.rec,
-              g.agree.ctl-is Ground
+              g.agree.ctl_is Air s.here.rec t.here.rec h.here.rec,
+              g.agree.ctl_is Ground
                   s.there.rec t.there.rec h.there.rec,
-            ) (c.ends-match
+            ) (c.ends_match
             (nil_rel Air s.here.line t.here.line h.here.line p)
             (nil_rel Ground s.there.line t.there.line h.there.line q));
-        handed_in_order = λ (j : ℕ). rw (h.there.handed j, h.here.taken j, h.here.handed j, h.there.taken j) (c.handed-in-order j);
+        handed_in_order = λ (j : ℕ). rw (h.there.handed j, h.here.taken j, h.here.handed j, h.there.taken j) (c.handed_in_order j);
         handed_all = λ (j : ℕ) (p : s.here.line ≡ []) (q : s.there.line ≡ []) (b : s.broken j ≡ false).
-            rw (h.there.handed j, h.here.taken j, h.here.handed j, h.there.taken j) (c.handed-all j
+            rw (h.there.handed j, h.here.taken j, h.here.handed j, h.there.taken j) (c.handed_all j
             (nil_rel Air s.here.line t.here.line h.here.line p)
             (nil_rel Ground s.there.line t.there.line h.there.line q) (sym (h.broken j) ∙ b));
-        jobs_rise = rw (h.here.jobs, h.there.jobs) c.jobs-rise;
+        jobs_rise = rw (h.here.jobs, h.there.jobs) c.jobs_rise;
       }
 
   -- what is claimed of every run of the second holds of every run of the first

@@ -30,6 +30,7 @@ match_left a t = go a.state a.dsc t
     go StartInd d t = t
     go Dialogue d t = t
     go End d t = t
+    go Rattle.pair.specs.Names.Forward d t = absurd t
 
 pub match_right : (g : Control) → T (matching closed g) → T (is_idle g)
 match_right g t = go g.state g.dsc t
@@ -40,6 +41,7 @@ match_right g t = go g.state g.dsc t
     go StartInd d t = t
     go Dialogue d t = t
     go End d t = t
+    go Rattle.pair.specs.Names.Forward d t = absurd t
 
 module _ (m : Machine) (B : Base m) where
   pub record NInv (sd : Side) (lead : Bool) (s : NSys (numbered m)) : Type 0 where

@@ -5,7 +5,7 @@ use mathlib.Core.Bool.{Bool, true, false, ◌||◌}
 use mathlib.Core.List.{List, [], ◌∷◌, ◌++◌, append-nil}
 use Prim.Native.Nat.{ℕ}
 use lib.Dec.{T}
-use Rattle.pair.specs.Names.{Side, Air, Ground, Control, expects}
+use Rattle.pair.specs.Names.{Side, Air, Ground, Control, expects, other}
 use Rattle.pair.specs.Carrier.{Body, Turn}
 use Rattle.pair.proofs.OneDialogue.{Sys, run, Claims}
 use Rattle.pair.specs.Claims.{matching}
@@ -37,7 +37,7 @@ held_to s h j =
       ends_match = λ (p : s.here.line ≡ []) (q : s.there.line ≡ []). rest s p q h;
       handed_in_order = (pre_trans _ _ _ (pre_front _ _) h.data_o.pre, pre_trans _ _ _ (pre_front _ _) h.data_i.pre);
       handed_all = λ (p : s.here.line ≡ []) (q : s.there.line ≡ []) (b : s.broken ≡ false).
-          (full _ _ _ _ _ _ p b h.data_o, full _ _ _ _ _ _ q b h.data_i);
+          (full (other Air) s.there.rec.ctl _ _ _ _ p b h.data_o, full Air s.here.rec.ctl _ _ _ _ q b h.data_i);
       jobs_rise = (j.near.up, j.far.up);
     }
 

@@ -70,7 +70,7 @@ module _ (m n : Machine) (g : Agree m n) where
   puts_rel : (sd : Side) (s : Sys m) (t : Sys n) (e : m.E) (f : n.E) (keep : ℕ) → Rel sd s t → g.EE sd e f
       → Rel sd (put m (m.sort e) s e keep) (put n (n.sort f) t f keep)
   puts_rel sd s t e f keep h y = subst (λ (so : Sort). Rel sd (put m (m.sort e) s e keep) (put n so t f keep))
-      (g.sort-is sd e f y) (put_rel sd (m.sort e) s t e f keep h y)
+      (g.sort_is sd e f y) (put_rel sd (m.sort e) s t e f keep h y)
 
   took_rel : (sd : Side) (s : Sys m) (t : Sys n) (b c : Body) (i j : ℕ) → Rel sd s t → b ≡ c → i ≡ j → Rel sd (took m s b i) (took n t c j)
   took_rel sd s t b c i j h p q =
@@ -119,7 +119,7 @@ module _ (m n : Machine) (g : Agree m n) where
   -- ---- a user call
 
   idle_rel : (sd : Side) (r : m.R) (q : n.R) → g.RR sd r q → idle m r ≡ idle n q
-  idle_rel sd r q x = ap is_idle (g.ctl-is sd r q x)
+  idle_rel sd r q x = ap is_idle (g.ctl_is sd r q x)
 
   ready_rel : (sd : Side) (s : Sys m) (t : Sys n) → Rel sd s t → ready m s ≡ ready n t
   ready_rel sd s t h =
@@ -199,7 +199,7 @@ module _ (m n : Machine) (g : Agree m n) where
       (λ (b : Bool). idle n t.here.rec && not b) (start_rel m n g (other sd) e f x.0))
       (off_rel sd s t l k h x.1)
       (did_rel sd (off m s l) (off n t k) (m.receive sd s.here.rec e) (n.receive sd t.here.rec f) keep
-      (off_rel sd s t l k h x.1) (g.receive-is sd s.here.rec t.here.rec e f h.here.rec x.0))
+      (off_rel sd s t l k h x.1) (g.receive_is sd s.here.rec t.here.rec e f h.here.rec x.0))
 
   -- ---- the carrier by itself
 
@@ -233,11 +233,11 @@ module _ (m n : Machine) (g : Agree m n) where
       either sd (may_turn_away m s) (may_turn_away n t) (did m (recalled m s) (m.away sd s.here.rec) keep) s
       (did n (recalled n t) (n.away sd t.here.rec) keep) t
       (ap (λ (c : Control). is c.state StartReq && has_start m s.here.line)
-      (g.ctl-is sd s.here.rec t.here.rec h.here.rec) ∙ ap
+      (g.ctl_is sd s.here.rec t.here.rec h.here.rec) ∙ ap
       (λ (b : Bool). is (n.ctl t.here.rec).state StartReq && b)
       (has_rel sd s.here.line t.here.line h.here.line))
       (did_rel sd (recalled m s) (recalled n t) (m.away sd s.here.rec) (n.away sd t.here.rec) keep
-      (recalled_rel sd s t h) (g.away-is sd s.here.rec t.here.rec h.here.rec))
+      (recalled_rel sd s t h) (g.away_is sd s.here.rec t.here.rec h.here.rec))
       h
 
   told_rel : (sd : Side) (s : Sys m) (t : Sys n) → Rel sd s t → Rel sd (told_lost m sd s) (told_lost n sd t)
@@ -245,7 +245,7 @@ module _ (m n : Machine) (g : Agree m n) where
       either sd (idle m s.here.rec) (idle n t.here.rec) s (did m s (m.p_abort sd s.here.rec) 0) t
       (did n t (n.p_abort sd t.here.rec) 0)
       (idle_rel sd s.here.rec t.here.rec h.here.rec) h (did_rel sd s t (m.p_abort sd s.here.rec)
-      (n.p_abort sd t.here.rec) 0 h (g.p-abort-is sd s.here.rec t.here.rec h.here.rec))
+      (n.p_abort sd t.here.rec) 0 h (g.p_abort_is_law sd s.here.rec t.here.rec h.here.rec))
 
   swap_rel : (sd : Side) (s : Sys m) (t : Sys n) → Rel sd s t → Rel (other sd) (swap m s) (swap n t)
   swap_rel Air s t h = record { here = h.there; there = h.here; broken = h.broken }
@@ -274,12 +274,12 @@ module _ (m n : Machine) (g : Agree m n) where
 
   step_rel : (sd : Side) (s : Sys m) (t : Sys n) (c : Step m.A) → Rel sd s t → Follow m n g sd (stepped m sd s c) t
   step_rel sd s t (user_call a keep) h = called_rel sd s t (m.call sd s.here.rec a) keep h
-      (g.call-is sd s.here.rec t.here.rec a h.here.rec)
+      (g.call_is sd s.here.rec t.here.rec a h.here.rec)
   step_rel sd s t (hand_over keep) h = steps (hand_over keep) (over_rel sd s t s.there.line t.there.line keep h h.there.line)
   step_rel sd s t (timer_expires_of keep) h = report_rel sd s t (m.expiry sd s.here.rec) (n.expiry sd t.here.rec)
-      keep (timer_expires_of keep) refl h (g.expiry-is sd s.here.rec t.here.rec h.here.rec)
+      keep (timer_expires_of keep) refl h (g.expiry_is sd s.here.rec t.here.rec h.here.rec)
   step_rel sd s t (error_reported keep) h = report_rel sd s t (m.error sd s.here.rec) (n.error sd t.here.rec)
-      keep (error_reported keep) refl h (g.error-is sd s.here.rec t.here.rec h.here.rec)
+      keep (error_reported keep) refl h (g.error_is sd s.here.rec t.here.rec h.here.rec)
   step_rel sd s t (turn_away keep) h = steps (turn_away keep) (away_rel sd s t keep h)
   step_rel sd s t fail h = steps fail (fail_rel sd s t h)
 

@@ -119,7 +119,8 @@ module _ (K : Codec) (ed : Edition) (p : ℕ) where
       let z = sent_is r fair h in
       rw z
       (does (ask (StartRequest (is_dsc m)) b 0)
-      (same_call sd r (with_request (with_user (with_timer r true) true) p) (StartRequest (is_dsc m)) b 0 _ h v.1 tt refl refl (λ (x : T true). refl) refl
+      (same_call sd r (with_request (with_user (with_timer r true) true) p) (StartRequest (is_dsc m)) b 0
+      (C.puts (record { primitive = DStartRequest (qos_asked k) p; bytes = K.enc sd (Start (is_dsc m)) b })) h v.1 tt refl refl (λ (x : T true). refl) refl
       (written K ed p sd (DStartRequest (qos_asked k) p) (Start (is_dsc m)) b _ (T_is _ q)
       (start_means ed p k (is_dsc m) b (and_l (ltb k routing_classes) _ (and_r (has_mode sd m) _ v.0))))))
   acted fair sd r (start_response_of m x b) h e false q = stays tt
@@ -130,7 +131,8 @@ module _ (K : Codec) (ed : Edition) (p : ℕ) where
       let z : security_sent (secures r.edition) r.policy ≡ p = ap (security_sent (secures r.edition)) h.policy
       ∙ sent_is r fair h in
       does (ask (StartResponse m (reply_of x)) b 0)
-      (same_call sd r r (StartResponse m (reply_of x)) b 0 _ h v.1 tt refl refl (λ (y : T (is (started (reply_of x) r.control.dsc).state StartReq)). absurd (started_not (reply_of x) r.control.dsc y)) refl
+      (same_call sd r r (StartResponse m (reply_of x)) b 0
+      (C.puts (record { primitive = DStartResponse x (security_sent (secures r.edition) r.policy); bytes = K.enc sd (unless_spared (spares r.edition) (K.carries b)) b })) h v.1 tt refl refl (λ (y : T (is (started (reply_of x) r.control.dsc).state StartReq)). absurd (started_not (reply_of x) r.control.dsc y)) refl
       (written K ed p sd (DStartResponse x (security_sent (secures r.edition) r.policy))
       (unless_spared (spares r.edition) (K.carries b)) b _ (T_is _ q) (subst (λ (c : Edition). meant ed p
       (DStartResponse x (security_sent (secures r.edition) r.policy))
@@ -140,12 +142,13 @@ module _ (K : Codec) (ed : Edition) (p : ℕ) where
   acted fair sd r (message_request_of b j) h e true q =
       let v = order (ltb 0 j) (takes sd r.control MessageRequest) _ e in
       does (ask MessageRequest b j)
-      (same_call sd r (with_job r j) MessageRequest b j _ h v.1 (above j r.highest (message_fine (K.carries b) _ v.2)) refl refl h.request refl
+      (same_call sd r (with_job r j) MessageRequest b j (C.message (record { primitive = DDataRequest; bytes = K.enc sd Send b }) b j) h v.1 (above j r.highest (message_fine (K.carries b) _ v.2)) refl refl h.request refl
       (written K ed p sd DDataRequest Send b _ (T_is _ q) refl, refl, refl))
   acted fair sd r (end_request_of m b) h e false q = stays tt
   acted fair sd r (end_request_of m b) h e true q =
       let v = order true (takes sd r.control (EndRequest m)) None e in
-      does (ask (EndRequest m) b 0) (same_call sd r r (EndRequest m) b 0 _ h v.1 tt refl refl
+      does (ask (EndRequest m) b 0) (same_call sd r r (EndRequest m) b 0
+      (C.puts (record { primitive = DEndRequest; bytes = K.enc sd (unless_spared (spares r.edition) (K.carries b)) b })) h v.1 tt refl refl
       (λ (y : T false). absurd y) refl (written K ed p sd DEndRequest
       (unless_spared (spares r.edition) (K.carries b)) b _ (T_is _ q) (subst (λ (c : Edition). meant ed
       p DEndRequest (unless_spared (spares c) (K.carries b)) b ≡ known (ent DEnd b))
@@ -154,7 +157,8 @@ module _ (K : Codec) (ed : Edition) (p : ℕ) where
   acted fair sd r (end_response_of m x b) h e true q =
       let v = order (ltb x results) (takes sd r.control (EndResponse m (reply_of x))) None e in
       does (ask (EndResponse m (reply_of x)) b 0)
-      (same_call sd r r (EndResponse m (reply_of x)) b 0 _ h v.1 tt refl refl (λ
+      (same_call sd r r (EndResponse m (reply_of x)) b 0
+      (C.puts (record { primitive = DEndResponse x; bytes = K.enc sd (unless_spared (spares r.edition) (K.carries b)) b })) h v.1 tt refl refl (λ
       (y : T (is (ended (reply_of x) r.control.dsc).state StartReq)). absurd
       (ended_not (reply_of x) r.control.dsc y)) refl (written K ed p sd (DEndResponse x)
       (unless_spared (spares r.edition) (K.carries b)) b _ (T_is _ q) (subst (λ (c : Edition). meant ed
@@ -164,7 +168,8 @@ module _ (K : Codec) (ed : Edition) (p : ℕ) where
   acted fair sd r (user_abort_of g x) h e true q =
       let v = order (ltb x (user_reasons r.edition)) (takes sd r.control UserAbort) None e in
       does (ask UserAbort [] 0)
-      (same_call sd r r UserAbort [] 0 _ h v.1 tt refl refl (λ (y : T false). absurd y) refl (written K ed p sd
+      (same_call sd r r UserAbort [] 0
+      (C.puts (record { primitive = DAbortRequest user; bytes = K.enc sd (AbortUser (reason_sent g x)) [] })) h v.1 tt refl refl (λ (y : T false). absurd y) refl (written K ed p sd
       (DAbortRequest user) (AbortUser (reason_sent g x)) [] _ (T_is _ q) (user_means ed p (reason_sent g x)
       (reason g (subst (λ (c : Edition). T (ltb x (user_reasons c))) h.edition v.0)))))
     where

@@ -330,10 +330,10 @@ module _ (m : NMachine) (c : Centre m) where
       go : (b : Bool) → eqb (m.carries e) (m.holds s.here.rec) ≡ b
           → Inv (n_did m (n_off m s l) (m.at.receive Ground s.here.rec e) keep)
       go true q = come (n_off m s l) (m.at.receive Ground s.here.rec e) keep i
-          (c.answer-taken s.here.rec e a x.0 x.1 (eqb-true _ _ q))
+          (c.answer_taken s.here.rec e a x.0 x.1 (eqb-true _ _ q))
       go false q =
           refusal (n_off m s l) (m.at.receive Ground s.here.rec e) keep
-          (c.answer-stale s.here.rec e a x.0 x.1 (eqb-false _ _ q))
+          (c.answer_stale s.here.rec e a x.0 x.1 (eqb-false _ _ q))
           (record { lines = i; waits = passed s.here.rec s.there.rec s.here.line e l (eqb-false _ _ q) w })
 
   hand_here : (s : NSys m) (k : List m.at.E) (keep : ℕ) → s.there.line ≡ k → Inv s → Inv (n_handed_over m Ground s k keep)
@@ -350,14 +350,14 @@ module _ (m : NMachine) (c : Centre m) where
       rest = record { rest = i.lines.rest; below = i.lines.below; out = i.lines.out; back = ins.1 }
 
       busy : c.Away s.here.rec → discards m.at s.here.rec e ≡ false
-      busy a = ap (λ (b : Bool). b && not (is_start m.at e)) (c.away-idle s.here.rec a)
+      busy a = ap (λ (b : Bool). b && not (is_start m.at e)) (c.away_idle s.here.rec a)
 
       away : c.Away s.here.rec → Inv (n_handed_over m Ground s (e ∷ l) keep)
       away a = nay (discards m.at s.here.rec e) (n_off m s l) _ (busy a) (take_away s e l keep a ins.0 rest w)
 
       go : Waits s.here.rec s.there.rec s.here.line (e ∷ l) → Inv (n_handed_over m Ground s (e ∷ l) keep)
       go (at_rest r) =
-          yes (discards m.at s.here.rec e) (n_off m s l) _ (rw (c.rest-idle s.here.rec r, ins.0.1)) (record { lines = rest; waits = at_rest r })
+          yes (discards m.at s.here.rec e) (n_off m s l) _ (rw (c.rest_idle s.here.rec r, ins.0.1)) (record { lines = rest; waits = at_rest r })
       go (waiting a h b) = away a
       go (answered a o) = away a
 
@@ -369,12 +369,12 @@ module _ (m : NMachine) (c : Centre m) where
 
       away : c.Away s.here.rec → Inv (recall m s keep)
       away a = either (may_recall m s) _ _
-          (come (n_recalled m s) (m.at.away Ground s.here.rec) keep lines (c.away-away s.here.rec a)) i
+          (come (n_recalled m s) (m.at.away Ground s.here.rec) keep lines (c.away_away s.here.rec a)) i
 
       go : Waits s.here.rec s.there.rec s.here.line s.there.line → Inv (recall m s keep)
       go (at_rest r) = nay (may_recall m s) _ s (ap
           (λ (b : Bool). b && n_has_start m (m.holds s.here.rec) s.here.line)
-          (c.rest-waits s.here.rec r)) i
+          (c.rest_waits s.here.rec r)) i
       go (waiting a h b) = away a
       go (answered a o) = away a
 
@@ -391,13 +391,13 @@ module _ (m : NMachine) (c : Centre m) where
 
   told_here : (x : NSys m) → Lines x.here.rec x.there.rec x.here.line x.there.line → Who x.here.rec
       → Inv (n_told_lost m Ground x)
-  told_here x i (rests r) = yes (is_idle (m.at.ctl x.here.rec)) x _ (c.rest-idle x.here.rec r) (record { lines = i; waits = at_rest r })
-  told_here x i (gone a) = nay (is_idle (m.at.ctl x.here.rec)) x _ (c.away-idle x.here.rec a)
-      (come x (m.at.p_abort Ground x.here.rec) 0 i (c.p-abort-away x.here.rec a))
+  told_here x i (rests r) = yes (is_idle (m.at.ctl x.here.rec)) x _ (c.rest_idle x.here.rec r) (record { lines = i; waits = at_rest r })
+  told_here x i (gone a) = nay (is_idle (m.at.ctl x.here.rec)) x _ (c.away_idle x.here.rec a)
+      (come x (m.at.p_abort Ground x.here.rec) 0 i (c.p_abort_away x.here.rec a))
 
   -- an end that rests is told nothing
   untold : (x : NSys m) → c.Rest x.here.rec → n_told_lost m Ground x ≡ x
-  untold x r = ap (λ (b : Bool). cond b x (n_did m x (m.at.p_abort Ground x.here.rec) 0)) (c.rest-idle x.here.rec r)
+  untold x r = ap (λ (b : Bool). cond b x (n_did m x (m.at.p_abort Ground x.here.rec) 0)) (c.rest_idle x.here.rec r)
 
   emptied : (s : NSys m) → Inv s → Lines s.here.rec s.there.rec [] []
   emptied s i = record { rest = i.lines.rest; below = i.lines.below; out = tt; back = tt }
@@ -448,7 +448,7 @@ module _ (m : NMachine) (c : Centre m) where
   recall_there s keep i =
       subst (λ (b : Bool). Inv (n_swap m (cond b (n_did m (n_recalled m (n_swap m s)) (m.at.away Ground s.there.rec) keep) (n_swap m s))))
       (sym (ap (λ (b : Bool). b && n_has_start m (m.holds s.there.rec) s.there.line)
-      (c.rest-waits s.there.rec i.lines.rest)))
+      (c.rest_waits s.there.rec i.lines.rest)))
       (record { lines = i.lines; waits = i.waits })
 
   -- a start is answered, and its answer goes back
@@ -531,15 +531,15 @@ module _ (m : NMachine) (c : Centre m) where
         go : (b : Bool) → ltb (m.holds s.there.rec) (m.carries e) ≡ b
             → Inv (n_swap m (n_did m (n_off m (n_swap m s) l) (m.at.receive Ground s.there.rec e) keep))
         go true p = answers (m.at.receive Ground s.there.rec e) x.1
-            (c.start-answered s.there.rec e i.rest x.0 t (ltb-true _ _ p))
+            (c.start_answered s.there.rec e i.rest x.0 t (ltb-true _ _ p))
         go false p = let z = ltb-false (m.holds s.there.rec) (m.carries e) p in refuses
-            (m.at.receive Ground s.there.rec e) (c.start-stale s.there.rec e i.rest x.0 t z) z
+            (m.at.receive Ground s.there.rec e) (c.start_stale s.there.rec e i.rest x.0 t z) z
 
     hand_entry : Inv (n_swap m (n_handed_over m Ground (n_swap m s) (e ∷ l) keep))
     hand_entry = go (is_start m.at e) refl
       where
         idle : is_idle (m.at.ctl s.there.rec) ≡ true
-        idle = c.rest-idle s.there.rec i.rest
+        idle = c.rest_idle s.there.rec i.rest
 
         Handed : Bool → Type 0
         Handed b = Inv (n_swap m (cond b (n_off m (n_swap m s) l)
@@ -569,26 +569,26 @@ module _ (m : NMachine) (c : Centre m) where
 
   turned_inv : (b : Bool) (s : NSys m) (k : Step m.at.A) → Inv s → Inv (centre_turned m b s k)
   turned_inv true s (user_call a keep) i = by_who s _ i
-      (λ r. call_begins s (m.at.call Ground s.here.rec a) keep i (c.call-rest s.here.rec a r))
-      (λ x. call_returns s (m.at.call Ground s.here.rec a) keep i (c.call-away s.here.rec a x))
+      (λ r. call_begins s (m.at.call Ground s.here.rec a) keep i (c.call_rest s.here.rec a r))
+      (λ x. call_returns s (m.at.call Ground s.here.rec a) keep i (c.call_away s.here.rec a x))
   turned_inv true s (hand_over keep) i = hand_here s s.there.line keep refl i
   turned_inv true s (timer_expires_of keep) i =
       by_who s _ i (λ r. returned s (m.at.expiry Ground s.here.rec) keep i
-      (quiet_returns s.here.rec (m.at.expiry Ground s.here.rec) (c.expiry-rest s.here.rec r)))
-      (λ x. returned s (m.at.expiry Ground s.here.rec) keep i (c.expiry-away s.here.rec x))
+      (quiet_returns s.here.rec (m.at.expiry Ground s.here.rec) (c.expiry_rest s.here.rec r)))
+      (λ x. returned s (m.at.expiry Ground s.here.rec) keep i (c.expiry_away s.here.rec x))
   turned_inv true s (error_reported keep) i =
       by_who s _ i (λ r. returned s (m.at.error Ground s.here.rec) keep i
-      (quiet_returns s.here.rec (m.at.error Ground s.here.rec) (c.error-rest s.here.rec r)))
-      (λ x. returned s (m.at.error Ground s.here.rec) keep i (c.error-away s.here.rec x))
+      (quiet_returns s.here.rec (m.at.error Ground s.here.rec) (c.error_rest s.here.rec r)))
+      (λ x. returned s (m.at.error Ground s.here.rec) keep i (c.error_away s.here.rec x))
   turned_inv true s (turn_away keep) i = recall_here s keep i
   turned_inv true s fail i = fails_here s i
   turned_inv false s (user_call a keep) i = call_there s (m.at.call Ground s.there.rec a) keep i
-      (c.call-rest s.there.rec a i.lines.rest)
+      (c.call_rest s.there.rec a i.lines.rest)
   turned_inv false s (hand_over keep) i = hand_there s s.here.line keep refl i
   turned_inv false s (timer_expires_of keep) i = quiet_there s (m.at.expiry Ground s.there.rec) keep i
-      (c.expiry-rest s.there.rec i.lines.rest)
+      (c.expiry_rest s.there.rec i.lines.rest)
   turned_inv false s (error_reported keep) i = quiet_there s (m.at.error Ground s.there.rec) keep i
-      (c.error-rest s.there.rec i.lines.rest)
+      (c.error_rest s.there.rec i.lines.rest)
   turned_inv false s (turn_away keep) i = recall_there s keep i
   turned_inv false s fail i = fails_there s i
 
@@ -622,7 +622,7 @@ module _ (m : NMachine) (c : Centre m) where
         → (is_idle (m.at.ctl (centres_after ts).here.rec) ≡ true) × (is_idle (m.at.ctl (centres_after ts).there.rec) ≡ true)
     centres_idle ts x y =
         let z = centres_rest ts x y in
-        (c.rest-idle (centres_after ts).here.rec z.0, c.rest-idle (centres_after ts).there.rec z.1)
+        (c.rest_idle (centres_after ts).here.rec z.0, c.rest_idle (centres_after ts).there.rec z.1)
 
     -- E8's sentence, which says less
     pub centres_pair : (ts : List (CentreTurn m.at.A)) → (centres_after ts).here.line ≡ []

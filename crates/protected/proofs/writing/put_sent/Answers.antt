@@ -14,7 +14,7 @@ returns-in-NotValid c = rw c.in-NotValid.is refl
 pub returns-in-Start : goal.returns-in-Start
 returns-in-Start c =
     rw c.in-Start.is (c.put_start.ensures ∙ start_sends _ _ _ _ _ _ _
-    c.Mode-of.ensures c.data_of.ensures)
+    c.mode_of.ensures c.data_of.ensures)
 
 pub returns-in-Send : goal.returns-in-Send
 returns-in-Send c =

@@ -5,7 +5,7 @@
 --   8 (n + 1) and the seven bytes after it   the job of number n
 -- each number of eight bytes the most significant byte first. The jobs decide which numbers are open, so the first eight bytes have one
 -- value, and books with the same open numbers and jobs have the same bytes.
-use Rattle.std.specs.Prelude.{ℕ, zero, suc, ◌+◌, ◌*◌, ◌/◌, ◌%◌, ◌^◌, Bool, true, false, cond, ◌&&◌, List, [], ◌∷◌, ◌++◌, eqb, length, take, drop, get_or, set, replicate}
+use Rattle.std.specs.Prelude.{ℕ, zero, suc, ◌+◌, ◌*◌, ◌/◌, ◌%◌, ◌^◌, Bool, cond, ◌&&◌, List, [], ◌∷◌, ◌++◌, eqb, length, take, drop, get_or, set, replicate}
 use Rattle.words.specs.Limits.{shape}
 use Rattle.book.specs.declared.BookRefusal.{BookRefusal}
 use Rattle.book.specs.declared.BookRefusal.TheVariants.{Shape, AllOpen, NotOpen}

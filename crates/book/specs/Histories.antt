@@ -1,7 +1,7 @@
 -- The history of a book: document 02, E2, "After any calls the book's open numbers, their jobs and the open count are those of the history
 -- of openings and closings since it was last emptied." The history is made of what the calls answered, and says by itself which numbers are
 -- open and for which jobs.
-use Rattle.std.specs.Prelude.{ℕ, zero, suc, ◌^◌, ◌<◌, ◌≡◌, Bool, true, false, cond, ◌||◌, List, [], ◌∷◌, eqb}
+use Rattle.std.specs.Prelude.{ℕ, zero, suc, ◌^◌, ◌<◌, ◌≡◌, Bool, false, cond, ◌||◌, List, [], ◌∷◌, eqb}
 use Rattle.book.specs.Books.{numbers, book_of, open_count, Left, empty_at, open_at, close_at, count_at, job_at}
 use Rattle.book.specs.declared.Answer.{Answer}
 use Rattle.book.specs.declared.Answer.TheVariants.{Is, Refused}

@@ -1,7 +1,7 @@
 -- Laws of the fields of an envelope in the terms of the code, and of an answer that is taken apart.
 -- Assumes nothing.
 use mathlib.Core.Path.{◌≡◌, refl, sym, ◌∙◌}
-use mathlib.Core.Bool.{Bool, true, false, not}
+use mathlib.Core.Bool.{Bool, true, false}
 use mathlib.Core.List.{List}
 use Prim.Native.Nat.{ℕ, zero, suc, ◌+◌, ◌-◌, ◌*◌, ◌/◌, ◌%◌, ◌^◌, ◌≤◌, ◌<◌}
 use native.Mathlib.Omega.{arith}
@@ -9,7 +9,7 @@ use lib.Dec.{eqb, ltb}
 use lib.ListN.{length, get_or, drop}
 use lib.Seq.{get_or-drop}
 use lib.Pow.{pow_pos}
-use borrow.Author.Tests.{ltb-true, ltb-false, le-ltb, lt-ltb, eq-eqb, ne_eqb, not-true, not-false}
+use borrow.Author.Tests.{ltb-true, ltb-false, le-ltb, lt-ltb, eq-eqb, ne_eqb}
 use Rattle.words.proofs.Laws.{cond_yes, cond_no}
 use Rattle.envelope.specs.Numbers.{number_at}
 use Rattle.envelope.specs.Envelopes.{is_kind, size_fits, bytes_for, is_padded, then, refused_by, body_at, size_at, job_at, kind_at}

@@ -1,20 +1,20 @@
 -- The kind of an envelope in the terms of the code: it is one byte, and a longer number is no kind.
 -- Assumes nothing.
 use mathlib.Core.Path.{◌≡◌, refl, sym, ◌∙◌}
-use mathlib.Core.Bool.{Bool, true, false, not}
+use mathlib.Core.Bool.{Bool, true, false}
 use mathlib.Core.List.{List}
 use Prim.Native.Nat.{ℕ, zero, suc, ◌+◌, ◌-◌, ◌*◌, ◌≤◌, ◌<◌}
 use native.Mathlib.Omega.{arith}
 use native.Mathlib.Decide.{dec_lt}
 use lib.ListN.{length, get_or, drop}
-use borrow.Author.Tests.{le-leb, lt-leb, ne_eqb, not-false}
+use borrow.Author.Tests.{le-leb, lt-leb, ne_eqb}
 use Rattle.envelope.specs.Numbers.{below, number_in, onward, number_at}
 use Rattle.envelope.specs.Envelopes.{is_kind, then, refused_by, job_at, kind_at, envelope_at}
-use Rattle.envelope.specs.declared.EnvelopeRefusal.TheVariants.{Cut, Kind}
+use Rattle.envelope.specs.declared.EnvelopeRefusal.TheVariants.{Cut}
 use Rattle.envelope.specs.declared.Number.{Number}
 use Rattle.envelope.specs.declared.Number.TheVariants as num
 use Rattle.envelope.specs.declared.EnvelopeRead.{EnvelopeRead}
-use Rattle.envelope.specs.declared.EnvelopeRead.TheVariants.{Is, Refused}
+use Rattle.envelope.specs.declared.EnvelopeRead.TheVariants.{Refused}
 use Rattle.envelope.proofs.Numbers.{gathers_none, cut_here, one_byte, long_number}
 use Rattle.envelope.proofs.Fields.{kind_refused, kind_taken}
 use Rattle.envelope.proofs.Sizes.{kind_small}

@@ -9,7 +9,7 @@ use native.Mathlib.Decide.{dec_lt}
 use lib.Dec.{leb, eqb, lit≤}
 use lib.ListN.{length, take, drop, length-append, take-append-drop, get_or-append}
 use lib.Seq.{length-take-le, sets-eq}
-use borrow.Author.Tests.{leb-true, le-ltb, lt-ltb, not-true, not-false}
+use borrow.Author.Tests.{leb-true, le-ltb, lt-ltb, not-true}
 use Rattle.words.proofs.Laws.{both_left, both_right}
 use Rattle.envelope.specs.Numbers.{groups, number, Put}
 use Rattle.envelope.specs.Envelopes.{is_kind, size_fits, bytes_for, is_padded, most_bits, least_room, Content, content, bytes_of, fits, left, write_envelope, Fit, largest}

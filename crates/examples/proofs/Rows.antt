@@ -14,7 +14,7 @@ use Rattle.fields.specs.Fields.{length_at}
 use Rattle.fields.specs.Encodings.{length_bits}
 use Rattle.fields.specs.declared.Field.{Field}
 use Rattle.fields.specs.declared.Field.TheVariants.{Value, Refused}
-use Rattle.examples.specs.Examples.{Says, value, a_length, same, are, field_says, holds}
+use Rattle.examples.specs.Examples.{value, a_length, same, are, field_says, holds}
 
 never : {A : Type 0} → ◌≡◌ {A = ℕ} 0 1 → A
 never z = absurd (omega arith)

@@ -3,22 +3,22 @@
 use mathlib.Core.Path.{◌≡◌, refl, ap, sym, ◌∙◌}
 use mathlib.Core.Bool.{cond}
 use mathlib.Core.List.{List, [], ◌∷◌, ◌++◌, append_assoc}
-use Prim.Native.Nat.{ℕ, suc, ◌+◌, ◌-◌, min, ◌≤◌}
+use Prim.Native.Nat.{ℕ, suc, ◌+◌, ◌-◌, min}
 use native.Mathlib.Omega.{arith}
 use native.Mathlib.Nat.{add-zero}
 use lib.ListN.{length, take, drop, length-append}
 use lib.Seq.{length-take-le, drop-drop, drop-append_seam}
 use Rattle.envelope.specs.Envelopes.{Content, bytes_of, most_bits}
-use Rattle.envelope.specs.Strings.{ended, stopped, Walk, walk, string_of, all_placed, Told as Says, whole as Says-All, broken as says-part}
+use Rattle.envelope.specs.Strings.{ended, Walk, walk, string_of, all_placed, Told as Says, whole as Says-All, broken as says-part}
 use Rattle.envelope.specs.declared.EnvelopeRefusal.{EnvelopeRefusal}
 use Rattle.envelope.specs.declared.EnvelopeRefusal.TheVariants.{Cut, Groups, Kind, Size}
 use Rattle.envelope.proofs.Numbers.{AllBytes}
 use Rattle.envelope.proofs.Strings.{every_string, placed_next}
 use Rattle.fragments.specs.Mail.{Mail, part, whole, refused, fresh, top, later}
-use Rattle.fragments.specs.Record.{place_of, held_of, record_of, count_in, place_in, loaded_by, load_at, end_at}
+use Rattle.fragments.specs.Record.{place_of, held_of, record_of, loaded_by, load_at, end_at}
 use Rattle.fragments.specs.Cuts.{Fed, joined_up, leaves, whole_mail, whole_read, whole_end}
 use Rattle.fragments.specs.Texts.{title, line_of, lines_of, end_of, refusal_of, last_line, text_of}
-use Rattle.fragments.specs.Reports.{fragment_by, end_text, is_refused, printed_from}
+use Rattle.fragments.specs.Reports.{end_text, is_refused, printed_from}
 use Rattle.fragments.proofs.Ranges.{bytes_front, bytes_back}
 use Rattle.fragments.proofs.Unfinished.{Sized}
 use Rattle.fragments.proofs.Storing.{count_record, place_record}

@@ -13,7 +13,7 @@ use Rattle.envelope.specs.Envelopes.{refusal_number, largest}
 use Rattle.envelope.specs.declared.EnvelopeRefusal.{EnvelopeRefusal}
 use Rattle.envelope.specs.declared.EnvelopeRefusal.TheVariants.{Cut, Groups, Kind, Size}
 use Rattle.fragments.specs.declared.stored.Loaded.{Loaded}
-use Rattle.fragments.specs.declared.stored.Loaded.TheVariants.{Part, Refused, NoRecord}
+use Rattle.fragments.specs.declared.stored.Loaded.TheVariants.{NoRecord}
 use Rattle.fragments.specs.declared.Taken.TheVariants as taken
 use Rattle.fragments.specs.Mail.{Mail, refused, head, top}
 use Rattle.fragments.specs.Record.{record_bytes, eight_of, of_two, of_eight, head_at, state_of, place_of, held_of, head_of, zeros, padded, record_of, empty_of, count_in, place_in, held_in, loaded_by, load_at, laid, after, fresh_at}

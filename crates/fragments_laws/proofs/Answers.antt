@@ -1,35 +1,33 @@
 -- What a call answers, and what its record then holds.
 -- Assumes nothing.
-use mathlib.Core.Path.{◌≡◌, refl, ap, sym, subst, ◌∙◌}
+use mathlib.Core.Path.{◌≡◌, refl, ap, sym, ◌∙◌}
 use mathlib.Core.Bool.{Bool, true, false, cond, ◌&&◌}
 use mathlib.Core.List.{List, [], ◌∷◌, ◌++◌}
-use Prim.Native.Nat.{ℕ, zero, suc, ◌+◌, ◌-◌, min, ◌≤◌, ◌<◌}
+use Prim.Native.Nat.{ℕ, zero, suc, ◌-◌, ◌≤◌, ◌<◌}
 use native.Mathlib.Omega.{arith}
 use lib.Dec.{leb, eqb}
 use lib.ListN.{length, take, drop, get_or, length-append, length-drop}
-use lib.Seq.{length-take-le, drop-append-add}
-use borrow.Author.Tests.{eqb-true, ne_eqb}
+use lib.Seq.{length-take-le}
+use borrow.Author.Tests.{eqb-true}
 use Rattle.envelope.specs.Envelopes.{envelope_at, refusal_number, largest, most_bits}
 use Rattle.envelope.specs.Strings.{Ending, ended, stopped, walk}
 use Rattle.envelope.specs.declared.EnvelopeRefusal.{EnvelopeRefusal}
 use Rattle.envelope.specs.declared.EnvelopeRefusal.TheVariants.{Cut, Groups, Kind, Size}
-use Rattle.envelope.specs.declared.Envelope.{Envelope}
 use Rattle.envelope.specs.declared.EnvelopeRead.{EnvelopeRead}
 use Rattle.envelope.specs.declared.EnvelopeRead.TheVariants as read
 use Rattle.envelope.proofs.Numbers.{AllBytes}
-use Rattle.fragments.specs.declared.Taken.{Taken}
-use Rattle.fragments.specs.declared.Taken.TheVariants.{Whole, Part, Refused, Shape}
+use Rattle.fragments.specs.declared.Taken.TheVariants.{Part, Refused, Shape}
 use Rattle.fragments.specs.declared.stored.Loaded.{Loaded}
 use Rattle.fragments.specs.declared.stored.Loaded.TheVariants as loaded
 use Rattle.fragments.specs.Mail.{Mail, part, whole, refused, fresh, is_cut, unfinished, onward, joined, top, later}
 use Rattle.fragments.specs.Record.{after, head_at, record_of, state_of, held_in, count_in, place_in, loaded_by, load_at, kept, resumed, begun, taken_by, take_at, cut_short, ended_by, end_at, record_bytes}
-use Rattle.fragments.specs.Cuts.{Fed, go_on, hand_over, hand_all, joined_up, leaves, whole_mail, stopped_at, whole_read}
+use Rattle.fragments.specs.Cuts.{Fed, go_on, hand_over, hand_all, joined_up, leaves, whole_mail, stopped_at}
 use Rattle.fragments.proofs.Ranges.{bytes_append, bytes_front, bytes_back, bytes_drop}
 use Rattle.fragments.proofs.Unfinished.{Sized, next_within, next_largest, takes_some, none_open}
 use Rattle.fragments.proofs.Calls.{sized}
-use Rattle.fragments.proofs.Whole.{Good, follow, follow_all, good_follow}
-use Rattle.fragments.proofs.EveryCut.{stepped, take_held, take_behind, take_nothing, take_refused, hand_one, hand_all_is, every_cut, good_fresh, Quiet, none, done, leaves_quiet, leaves_stopped, whole_mail_is}
-use Rattle.fragments_laws.specs.Claims.{Said, goes_on, refuses, no_record, said_by, said_of, said_last, whole_says_of, Seen, seen, by_calls, by_whole}
+use Rattle.fragments.proofs.Whole.{Good, follow, good_follow}
+use Rattle.fragments.proofs.EveryCut.{stepped, take_held, take_behind, take_nothing, take_refused, hand_one, every_cut, good_fresh, Quiet, none, done, leaves_quiet, leaves_stopped, whole_mail_is}
+use Rattle.fragments_laws.specs.Claims.{Said, goes_on, refuses, no_record, said_by, said_of, said_last, whole_says_of, by_calls, by_whole}
 
 -- ---- one call, on any range and any fragment
 

@@ -2,7 +2,7 @@
 -- carrier makes a claim false; with the rules as they are none is. (The modules are checked in the order of their names. So a changed rule is
 -- refused here, by the claims, before it is refused at the laws that restate it.)
 -- Assumes nothing.
-use mathlib.Core.Path.{◌≡◌, refl, sym, subst}
+use mathlib.Core.Path.{◌≡◌, refl, subst}
 use mathlib.Core.Bool.{Bool, true, false, not, ◌&&◌, ◌||◌}
 use mathlib.Core.List.{List, [], ◌∷◌, ◌++◌}
 use Prim.Native.Nat.{ℕ}

@@ -1,19 +1,18 @@
 -- Where one machine agrees with another, so it does with a number beside it. So request E9's pair statement holds of crate
 -- machine's step with a number beside the record.
 -- Assumes nothing.
-use mathlib.Core.Path.{◌≡◌, refl, ap, sym, ◌∙◌, subst}
-use mathlib.Core.Bool.{Bool, true, false, not, cond, ◌&&◌, ◌||◌}
-use mathlib.Core.List.{List, [], ◌∷◌}
+use mathlib.Core.Path.{◌≡◌, refl, subst}
+use mathlib.Core.Bool.{Bool, true, false, cond}
+use mathlib.Core.List.{List}
 use Prim.Native.Nat.{ℕ}
 use lib.Dec.{T, eqb, ltb}
-use Rattle.editions.specs.Editions.{secures, spares, user_reasons}
+use Rattle.editions.specs.Editions.{secures}
 use Rattle.editions.specs.declared.Edition.{Edition}
-use Rattle.editions.specs.declared.Edition.TheVariants.{Plain, Protected}
 use Rattle.machine.specs.Calls.{security_sent}
 use Rattle.machine.specs.Codes.{security_values}
 use Rattle.machine.specs.declared.record.Record.{Record}
 use Rattle.pair.specs.Names.{Side, Air, Ground, is_idle, closed, other}
-use Rattle.pair.specs.Carrier.{Body, Sent, nothing, puts, message, Outcome, refused, acts, Machine, is_start, starts, Turn}
+use Rattle.pair.specs.Carrier.{Sent, nothing, puts, message, Outcome, refused, acts, Machine, is_start, starts, Turn}
 use Rattle.pair.specs.Numbered.{NClaims, Numbered, mark, not_below, n_fresh, n_run}
 use Rattle.pair.proofs.NumberedMachine.{tag, numbered, leaves, numbers, meets_no}
 use Rattle.pair.proofs.ControlMachine.{held, control}

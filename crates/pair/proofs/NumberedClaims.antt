@@ -2,24 +2,24 @@
 -- hold by number. For any machine that has what NumberedNeeds asks, so for the control of both machines.
 -- Assumes nothing.
 use mathlib.Core.Path.{◌≡◌, refl, ap, sym, ◌∙◌, subst}
-use mathlib.Core.Bool.{Bool, true, false, not, cond, ◌&&◌, ◌||◌}
+use mathlib.Core.Bool.{Bool, true, false, not, cond, ◌&&◌}
 use mathlib.Core.List.{List, [], ◌∷◌, ◌++◌}
-use Prim.Native.Nat.{ℕ, ◌<◌, ◌≤◌}
+use Prim.Native.Nat.{ℕ, ◌<◌}
 use lib.Dec.{T, eqb, le→leb}
 use Rattle.pair.specs.Names.{Side, Air, Ground, Control, closed, is_idle}
-use Rattle.pair.specs.Carrier.{Body, Machine, Step, Turn}
-use Rattle.pair.proofs.OneDialogue.{Sys, fresh}
-use Rattle.pair.specs.Claims.{matching, Prefix, rising}
+use Rattle.pair.specs.Carrier.{Machine, Step, Turn}
+use Rattle.pair.proofs.OneDialogue.{fresh}
+use Rattle.pair.specs.Claims.{matching, rising}
 use Rattle.pair.proofs.ControlMachine.{Ask, held, control}
 use Rattle.pair.specs.Numbered.{NMachine, NSys, NClaims, Numbered, mark, starter, not_below, n_swap, n_fresh, n_stepped, n_turned, n_run}
 use Rattle.pair.proofs.NumberedMachine.{numbered}
 use Rattle.pair.proofs.Finite.{both, or_l}
 use Rattle.pair.proofs.Jobs.{no_repeat}
 use Rattle.pair.proofs.NoAbortAnswers.{HeadQuiet}
-use Rattle.pair.proofs.NumberedLines.{yes, nay, self, differ, eq_no, pick}
-use Rattle.pair.proofs.NumberedNeeds.{Core, Base, control_base}
-use Rattle.pair.proofs.NumberedView.{seen_rec, Seen, Most, Sim, Got, New}
-use Rattle.pair.proofs.NumberedOrder.{Lead, Led}
+use Rattle.pair.proofs.NumberedLines.{yes, nay, self, differ, pick}
+use Rattle.pair.proofs.NumberedNeeds.{Base, control_base}
+use Rattle.pair.proofs.NumberedView.{seen_rec, Got}
+use Rattle.pair.proofs.NumberedOrder.{Led}
 use Rattle.pair.proofs.NumberedStepsKeep.{NInv, flip_inv, n_step_keeps, n_quiet, match_left, match_right}
 use Rattle.pair.proofs.NumberedJobs.{Tallies, control_tallies, NBoth, n_run_jobs, n_fresh_jobs}
 

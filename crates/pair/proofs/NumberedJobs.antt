@@ -1,13 +1,13 @@
 -- On the numbered carrier too each end takes its jobs in rising order, over all its dialogues.
 -- Assumes nothing.
-use mathlib.Core.Path.{◌≡◌, refl, sym, subst}
+use mathlib.Core.Path.{◌≡◌, refl, subst}
 use mathlib.Core.Bool.{Bool, true, false, not, cond, ◌&&◌, ◌||◌}
 use mathlib.Core.List.{List, [], ◌∷◌, ◌++◌}
 use Prim.Native.Nat.{ℕ}
 use lib.Dec.{T, eqb, ltb}
 use Rattle.pair.specs.Names.{Side, Air, Ground, TimerExpiry, SystemError, DTurnedAway, DPAbort, other}
-use Rattle.pair.specs.Carrier.{Body, Sent, nothing, puts, message, Outcome, refused, acts, Sort, begins, breaks, plain, Machine, Step, user_call, hand_over, timer_expires_of, error_reported, turn_away, fail, Turn, idle, is_start, starts, discards}
-use Rattle.pair.proofs.ControlMachine.{Held, Ent, ent, Ask, ask, control}
+use Rattle.pair.specs.Carrier.{Body, nothing, puts, message, Outcome, refused, acts, Sort, begins, breaks, plain, Machine, Step, user_call, hand_over, timer_expires_of, error_reported, turn_away, fail, Turn, idle, is_start, starts, discards}
+use Rattle.pair.proofs.ControlMachine.{Held, ent, ask, control}
 use Rattle.pair.specs.Numbered.{NSys, Numbered, mark, starter, n_swap, n_fresh, n_put, n_took, n_left, n_did, n_ready, n_called, n_off, n_handed_over, n_may_turn_away, n_recalled, n_turned_away, n_emptied, n_told_lost, n_failed, n_stepped, n_turned, n_run}
 use Rattle.pair.proofs.NumberedMachine.{tag, numbered, leaves, numbers, meets_no}
 use Rattle.pair.proofs.Jobs.{Jobs, jobs_more, Rises, call_moves, receive_moves}

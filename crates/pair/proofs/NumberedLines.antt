@@ -8,7 +8,7 @@ use native.Mathlib.Omega.{arith}
 use lib.Dec.{T, eqb, ltb, leb, eqb→eq, eqb_refl, ltb→lt, lt→ltb, leb→le, le→leb}
 use lib.ListN.{take}
 use Rattle.pair.specs.Carrier.{Machine, is_start}
-use Rattle.pair.proofs.OneDialogue.{is_nil, has_start, without_start}
+use Rattle.pair.proofs.OneDialogue.{has_start, without_start}
 use Rattle.pair.specs.Numbered.{Numbered, trim, start_of, n_has_start, n_without_start, on_line}
 use Rattle.pair.proofs.NumberedMachine.{numbered}
 use Rattle.pair.proofs.Finite.{and_l, and_r, both, is_t, T_is}

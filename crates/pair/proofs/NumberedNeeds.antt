@@ -1,19 +1,17 @@
 -- What the numbered carrier needs of a machine on the base carrier; the control has it.
 -- Assumes nothing.
-use mathlib.Core.Path.{◌≡◌, refl, ap, sym, ◌∙◌, subst}
+use mathlib.Core.Path.{◌≡◌, refl, sym, subst}
 use mathlib.Core.Bool.{Bool, true, false, not, cond, ◌&&◌, ◌||◌}
-use mathlib.Core.List.{List, [], ◌∷◌, ◌++◌}
-use Prim.Native.Nat.{ℕ}
+use mathlib.Core.List.{List, []}
 use lib.Dec.{T}
 use Rattle.pair.specs.Names.{Side, Air, Ground, State, Idle, StartReq, StartInd, Dialogue, End, Control, Call, Primitive, TimerExpiry, SystemError, DTurnedAway, DPAbort, Did, quiet, aborts, closed, entered, is, is_idle, other, takes, meets, hands}
-use Rattle.pair.specs.Carrier.{Body, Sent, nothing, puts, message, Outcome, refused, acts, Machine, Step, starts, idle, is_start}
-use Rattle.pair.proofs.OneDialogue.{Party, Sys, swap, fresh, stepped}
+use Rattle.pair.specs.Carrier.{Body, puts, Outcome, refused, acts, Machine, Step, starts, idle, is_start}
+use Rattle.pair.proofs.OneDialogue.{Sys, swap, fresh, stepped}
 use Rattle.pair.specs.Claims.{matching, Prefix}
-use Rattle.pair.proofs.ControlMachine.{Held, held, Ent, ent, Ask, ask, call_of, met, handed, receives, control}
-use Rattle.pair.proofs.Finite.{ok, and_l, and_r, is_t}
-use Rattle.pair.proofs.Drain.{wf, front, sound, sound_left, strong}
+use Rattle.pair.proofs.ControlMachine.{Held, held, Ent, ent, ask, call_of, met, handed, receives, control}
+use Rattle.pair.proofs.Drain.{wf, front, sound, sound_left}
 use Rattle.pair.proofs.Flow.{flow, pre_trans, pre_front}
-use Rattle.pair.proofs.Invariant.{Data, Inv, no_data}
+use Rattle.pair.proofs.Invariant.{Data, Inv}
 use Rattle.pair.proofs.Steps.{step_keeps, flip, idle_inv}
 use Rattle.pair.proofs.Pair.{rest, full, head_fits_is}
 use Rattle.pair.proofs.NoAbortAnswers.{HeadQuiet, control_quiet}

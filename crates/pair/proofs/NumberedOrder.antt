@@ -1,17 +1,17 @@
 -- How the numbers stand on the lines: along that of the starting end they rise from the number that the other end holds to its own,
 -- strictly at a start; the other line has no start and no higher number; nothing has happened in a dialogue that is still to come.
 -- Assumes nothing.
-use mathlib.Core.Path.{◌≡◌, refl, ap, sym, ◌∙◌, subst}
+use mathlib.Core.Path.{◌≡◌, refl, sym, ◌∙◌, subst}
 use mathlib.Core.Bool.{Bool, true, false, not, cond, ◌&&◌, ◌||◌}
 use mathlib.Core.List.{List, [], ◌∷◌, ◌++◌}
 use Prim.Native.Nat.{ℕ, ◌<◌, ◌≤◌}
 use native.Mathlib.Omega.{arith}
-use lib.Dec.{T, eqb, leb, le→leb, lt→ltb}
+use lib.Dec.{T, eqb, le→leb, lt→ltb}
 use Rattle.pair.specs.Carrier.{Body, Sent, nothing, puts, message, Outcome, refused, acts, Sort, begins, breaks, plain, begins?, Machine, idle, is_start, starts}
-use Rattle.pair.specs.Numbered.{NParty, NSys, Numbered, mark, trim, on_line, n_swap, n_put, n_took, n_sent, n_left, n_did, n_off, n_recalled, n_emptied}
-use Rattle.pair.proofs.NumberedMachine.{tag, numbered, leaves}
+use Rattle.pair.specs.Numbered.{NParty, NSys, Numbered, mark, trim, on_line, n_swap, n_put, n_took, n_left, n_did, n_off, n_recalled, n_emptied}
+use Rattle.pair.proofs.NumberedMachine.{numbered, leaves}
 use Rattle.pair.proofs.Finite.{no_T, is_t}
-use Rattle.pair.proofs.NumberedLines.{nay, below_differ, pick, past, orderly, orderly_le, orderly_past, orderly_tail, orderly_snoc, orderly_trim, orderly_without, orderly_above, tame, tame_tail, tame_snoc, tame_up, tame_trim, tame_without, tame_above}
+use Rattle.pair.proofs.NumberedLines.{nay, below_differ, pick, past, orderly, orderly_le, orderly_tail, orderly_snoc, orderly_trim, orderly_without, orderly_above, tame, tame_tail, tame_snoc, tame_up, tame_trim, tame_without, tame_above}
 use Rattle.pair.proofs.NumberedNeeds.{Calm}
 use Rattle.pair.proofs.NumberedView.{New}
 

@@ -9,7 +9,7 @@ use Rattle.pair.specs.Names.{Side, Air, Ground, StartReq, Control, is, is_idle, 
 use Rattle.pair.specs.Carrier.{Body, Sent, nothing, puts, message, Outcome, refused, acts, Sort, begins, breaks, plain, Step, user_call, hand_over, timer_expires_of, error_reported, turn_away, fail, Turn, idle, is_start, starts, discards}
 use Rattle.pair.specs.Numbered.{NMachine, NParty, NSys, NClaims, more, starter, n_swap, n_fresh, trim, n_put, n_took, n_sent, n_left, n_did, n_ready, n_called, n_off, n_handed_over, start_of, n_has_start, n_without_start, n_may_turn_away, n_recalled, n_turned_away, on_line, within, alive, n_emptied, n_told_lost, n_failed, n_stepped, n_turned, n_run}
 use Rattle.pair.proofs.Lines.{LL, ll_snoc}
-use Rattle.pair.proofs.NoAbortAnswers.{HeadQuiet, head_quiet}
+use Rattle.pair.proofs.NoAbortAnswers.{head_quiet}
 use Rattle.pair.proofs.NumberedClaims.{NQuiet}
 use Rattle.pair.proofs.Agree.{SentRel, OutRel, Still, Follows, stays, does, Agree, start_rel, starts_rel}
 

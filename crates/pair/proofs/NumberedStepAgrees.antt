@@ -1,13 +1,12 @@
 -- Crate numbered's step on the numbered carrier: it is crate machine's step with a number beside it. So E9's pair statement holds of it.
 -- Assumes nothing.
 use mathlib.Core.Path.{◌≡◌, refl, ap, sym, ◌∙◌, subst}
-use mathlib.Core.Bool.{Bool, true, false, not, cond, ◌&&◌, ◌||◌}
-use mathlib.Core.List.{List, [], ◌∷◌}
+use mathlib.Core.Bool.{Bool, true, false, not, cond, ◌&&◌}
+use mathlib.Core.List.{List, []}
 use Prim.Native.Nat.{ℕ}
 use lib.Dec.{T, eqb, ltb}
-use Rattle.editions.specs.Editions.{secures, spares, user_reasons}
+use Rattle.editions.specs.Editions.{secures}
 use Rattle.editions.specs.declared.Edition.{Edition}
-use Rattle.editions.specs.declared.Edition.TheVariants.{Plain, Protected}
 use Rattle.machine.specs.Calls.{security_sent}
 use Rattle.machine.specs.Codes.{security_values}
 use Rattle.machine.specs.Calls.{sent, start_request, start_response, message_request, end_request, end_response, user_abort, called}
@@ -27,15 +26,15 @@ use Rattle.machine.specs.declared.outcome.StepRefusal.TheVariants.{Shape, Stale}
 use Rattle.machine.specs.declared.outcome.Outcome as O
 use Rattle.numbered.specs.Numbers.{user_starts, service_starts, is_start, is_service, is_stale, held_after, numbered_step}
 use Rattle.numbered.proofs.Laws.{shape_first, then_stale, then_step}
-use Rattle.pair.specs.Names.{Side, Air, Ground, is_idle, closed, other}
-use Rattle.pair.specs.Carrier.{Body, Sent, nothing, puts, message, Outcome, refused, acts, begins?, Machine, starts, Turn}
+use Rattle.pair.specs.Names.{Side, is_idle, closed, other}
+use Rattle.pair.specs.Carrier.{Body, Sent, nothing, puts, message, Outcome, refused, acts, begins?, starts, Turn}
 use Rattle.pair.specs.Numbered.{NMachine, NSys, NClaims, Numbered, mark, not_below, n_fresh, n_run}
 use Rattle.pair.specs.Wires.{Wire, sort_of, arrives, rejects}
-use Rattle.pair.proofs.NumberedMachine.{tag, numbered, leaves, numbers, meets_no}
+use Rattle.pair.proofs.NumberedMachine.{numbered, leaves, numbers, meets_no}
 use Rattle.pair.proofs.ControlMachine.{held, control}
 use Rattle.pair.proofs.StepMachine.{Codec, apdu_of, body_of, happens, taken, Order, start_request_of, start_response_of, message_request_of, end_request_of, end_response_of, user_abort_of, asked, data_of, job_of, calls, step_machine}
 use Rattle.pair.proofs.Finite.{is_t, no_T}
-use Rattle.pair.proofs.Agree.{SentRel, OutRel, Follows, stays, does, Agree}
+use Rattle.pair.proofs.Agree.{SentRel, OutRel, does}
 use Rattle.pair.proofs.StepLocal.{Local}
 use Rattle.pair.proofs.StepAgrees.{agrees, idle_same}
 use Rattle.pair.proofs.NumberedLines.{self, yes, nay}

@@ -2,7 +2,7 @@
 -- Assumes nothing.
 use mathlib.Core.Path.{◌≡◌, refl, ap, sym, ◌∙◌, subst}
 use mathlib.Core.Bool.{Bool, true, false, not, cond, ◌&&◌, ◌||◌}
-use mathlib.Core.List.{List, [], ◌∷◌, ◌++◌}
+use mathlib.Core.List.{List, [], ◌∷◌}
 use Prim.Native.Nat.{ℕ, ◌<◌, ◌≤◌}
 use native.Mathlib.Omega.{arith}
 use lib.Dec.{T, eqb, ltb, ltb→lt, lt→ltb}
@@ -14,10 +14,10 @@ use Rattle.pair.specs.Numbered.{NParty, NSys, Numbered, mark, on_line, alive, n_
 use Rattle.pair.proofs.NumberedMachine.{tag, numbered, leaves, numbers, meets_no}
 use Rattle.pair.proofs.Finite.{and_l, and_r, is_t, T_is, no_T}
 use Rattle.pair.proofs.NoAbortAnswers.{Quiet, HeadQuiet}
-use Rattle.pair.proofs.NumberedLines.{yes, nay, eq_no, self, differ, below_differ, above_differ, pick, has_at, without_same, without_other, none_on, orderly, orderly_head, orderly_past, orderly_start, orderly_below, orderly_le, orderly_above, tame, tame_head, tame_above}
-use Rattle.pair.proofs.NumberedNeeds.{Calm, re_rec, Core, Base}
-use Rattle.pair.proofs.NumberedView.{seen_rec, Seen, Most, Sim, Got, New, swap_sim, did_same, did_start, did_other, event}
-use Rattle.pair.proofs.NumberedOrder.{Lead, Led, led_swap, start_led, did_low, event_led, off_led, recalled_led, emptied_led}
+use Rattle.pair.proofs.NumberedLines.{yes, nay, eq_no, self, differ, below_differ, above_differ, pick, has_at, without_same, without_other, none_on, orderly, orderly_past, orderly_start, orderly_below, orderly_le, orderly_above, tame, tame_head, tame_above}
+use Rattle.pair.proofs.NumberedNeeds.{Calm, re_rec, Base}
+use Rattle.pair.proofs.NumberedView.{Most, Sim, Got, swap_sim, did_same, did_start, did_other, event}
+use Rattle.pair.proofs.NumberedOrder.{Led, led_swap, start_led, did_low, event_led, off_led, recalled_led, emptied_led}
 
 -- ---- matching with an IDLE end
 

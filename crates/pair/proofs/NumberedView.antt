@@ -2,7 +2,7 @@
 -- number counted as IDLE. What an event does to it.
 -- Assumes nothing.
 use mathlib.Core.Path.{◌≡◌, refl, ap, sym, ◌∙◌, subst}
-use mathlib.Core.Bool.{Bool, true, false, not, cond, ◌&&◌, ◌||◌}
+use mathlib.Core.Bool.{Bool, true, false, not, cond, ◌||◌}
 use mathlib.Core.List.{List, [], ◌∷◌, ◌++◌}
 use Prim.Native.Nat.{ℕ}
 use lib.Dec.{T, eqb}
@@ -10,7 +10,7 @@ use lib.ListN.{take}
 use Rattle.pair.specs.Names.{Side}
 use Rattle.pair.specs.Carrier.{Body, Sent, nothing, puts, message, Outcome, refused, acts, Sort, begins, breaks, plain, begins?, Machine, Step, starts}
 use Rattle.pair.proofs.OneDialogue.{Party, Sys, swap, put, took, sent, left, did, stepped}
-use Rattle.pair.specs.Numbered.{NParty, NSys, Numbered, mark, more, trim, n_swap, n_put, n_took, n_sent, n_left, n_did}
+use Rattle.pair.specs.Numbered.{NParty, NSys, Numbered, mark, trim, n_swap, n_put, n_took, n_sent, n_left, n_did}
 use Rattle.pair.proofs.NumberedMachine.{tag, numbered, leaves}
 use Rattle.pair.proofs.NumberedLines.{yes, nay, pick, snoc_same, snoc_other, trim_same, trim_other}
 use Rattle.pair.proofs.NumberedNeeds.{Calm, Base}

@@ -4,10 +4,10 @@ use mathlib.Core.Path.{◌≡◌, refl}
 use mathlib.Core.Bool.{Bool, true, false}
 use mathlib.Core.List.{List, [], ◌∷◌, ◌++◌}
 use Prim.Native.Nat.{ℕ}
-use Rattle.pair.specs.Names.{Side, Air, Ground, StartReq, StartInd, Dialogue, End, Control, Accepted, Rejected, Primitive, DStart, DStartCnf, DData, DAbort, Call, StartRequest, StartResponse, MessageRequest, EndRequest, EndResponse, UserAbort, entered, closed}
-use Rattle.pair.specs.Carrier.{Body, Step, user_call, hand_over, timer_expires_of, error_reported, turn_away, fail, Turn}
+use Rattle.pair.specs.Names.{Side, Air, Ground, StartReq, Dialogue, Control, Accepted, Primitive, DStart, DStartCnf, DData, DAbort, Call, StartRequest, StartResponse, MessageRequest, EndRequest, EndResponse, UserAbort, entered, closed}
+use Rattle.pair.specs.Carrier.{Body, Step, user_call, hand_over, turn_away, fail, Turn}
 use Rattle.pair.proofs.ControlMachine.{Ent, Ask, ask, new, control}
-use Rattle.pair.specs.Numbered.{NParty, NSys, Numbered, mark, n_fresh, n_run}
+use Rattle.pair.specs.Numbered.{NParty, Numbered, mark, n_fresh, n_run}
 use Rattle.pair.proofs.NumberedMachine.{numbered}
 
 abbrev turn : Side → Step (Numbered Ask) → Turn (Numbered Ask)

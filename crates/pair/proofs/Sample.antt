@@ -10,9 +10,9 @@ use Rattle.editions.specs.declared.Edition.TheVariants.{Plain, Protected}
 use Rattle.machine.specs.Codes.{dsc_mode, provider_reasons}
 use Rattle.machine.specs.Record.{enter}
 use Rattle.machine.specs.UserData.{user_data_fits}
-use Rattle.machine.specs.Event.{answer_fits, has_mode, qos_fits, user_fits, service_fits, event_fits}
+use Rattle.machine.specs.Event.{has_mode, qos_fits, user_fits, service_fits, event_fits}
 use Rattle.machine.specs.Exceptions.{tell, aborts, excepts, timer_expires}
-use Rattle.machine.specs.Calls.{security_sent, unless_spared, reply_of, sent, start_request, start_response, message_request, end_request, call_of, unsent, called, end_response}
+use Rattle.machine.specs.Calls.{reply_of, sent, start_request, start_response, message_request, end_request, call_of, unsent, called, end_response}
 use Rattle.machine.specs.Faults.{pdu_fault, send_fault, start_fits_of, indication_fault, confirmation_fault, first_fault}
 use Rattle.machine.specs.Primitives.{handed, instructed, answered, reached}
 use Rattle.machine.specs.Step.{permitted, message_refusal, refusal_of, acts, step}

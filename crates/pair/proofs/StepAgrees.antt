@@ -4,9 +4,8 @@ use mathlib.Core.Path.{◌≡◌, ap, sym, subst}
 use mathlib.Core.List.{List, []}
 use Prim.Native.Nat.{ℕ}
 use lib.Dec.{T, ltb}
-use Rattle.editions.specs.Editions.{secures, spares, user_reasons}
+use Rattle.editions.specs.Editions.{secures}
 use Rattle.editions.specs.declared.Edition.{Edition}
-use Rattle.editions.specs.declared.Edition.TheVariants.{Plain, Protected}
 use Rattle.machine.specs.Codes.{security_values}
 use Rattle.machine.specs.Step.{step}
 use Rattle.machine.specs.declared.record.Record.{Record}

@@ -6,15 +6,12 @@ use mathlib.Core.Bool.{Bool, true, false, cond, ◌&&◌}
 use mathlib.Core.List.{[]}
 use Prim.Native.Nat.{ℕ}
 use lib.Dec.{T, ltb}
-use Rattle.editions.specs.Editions.{secures, spares, user_reasons}
 use Rattle.editions.specs.declared.Edition.{Edition}
-use Rattle.editions.specs.declared.Edition.TheVariants.{Plain, Protected}
 use Rattle.machine.specs.Codes.{provider_reasons, protocol_error}
 use Rattle.machine.specs.Exceptions.{tell, closes, aborts, excepts, no_instruction}
 use Rattle.machine.specs.declared.record.Record.{Record}
 use Rattle.machine.specs.declared.outcome.Told.{Told}
 use Rattle.machine.specs.declared.outcome.Told.TheVariants.{Untold, ProviderAbortIndication}
-use Rattle.machine.specs.declared.outcome.Outcome.{Outcome}
 use Rattle.pair.specs.Names.{Side, DAbort, is_idle, closed, quiet}
 use Rattle.pair.specs.Names as N
 use Rattle.pair.specs.Carrier.{Body, nothing, puts}

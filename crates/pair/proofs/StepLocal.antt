@@ -7,16 +7,13 @@ use mathlib.Core.List.{[]}
 use Prim.Native.Nat.{ℕ}
 use lib.Dec.{T}
 use Rattle.clauses.proofs.Laws.{step_formed}
-use Rattle.editions.specs.Editions.{secures, spares, user_reasons}
 use Rattle.editions.specs.declared.Edition.{Edition}
-use Rattle.editions.specs.declared.Edition.TheVariants.{Plain, Protected}
 use Rattle.machine.specs.Outcome.{is_none}
 use Rattle.machine.specs.Record.{enter}
 use Rattle.machine.specs.Run.{Formed}
 use Rattle.machine.specs.Step.{step}
 use Rattle.machine.specs.declared.record.Record.{Record}
 use Rattle.machine.specs.declared.event.Event.{Event}
-use Rattle.machine.specs.declared.outcome.Outcome.{Outcome}
 use Rattle.pair.specs.Names.{Side, State, Idle, StartReq, StartInd, Dialogue, End, Forward, is, is_idle, awaits_response, entered, closed}
 use Rattle.pair.specs.Carrier.{Body, nothing, puts, message}
 use Rattle.pair.specs.Carrier as C

@@ -7,9 +7,8 @@ use mathlib.Core.List.{[]}
 use Prim.Native.Nat.{ℕ}
 use lib.Dec.{T, ltb, eqb}
 use borrow.Author.Tests.{eq-eqb}
-use Rattle.editions.specs.Editions.{secures, spares, user_reasons}
+use Rattle.editions.specs.Editions.{spares, user_reasons}
 use Rattle.editions.specs.declared.Edition.{Edition}
-use Rattle.editions.specs.declared.Edition.TheVariants.{Plain, Protected}
 use Rattle.machine.specs.Codes.{user, accepted, provider, results, provider_reasons, routing_classes}
 use Rattle.machine.specs.Event.{qos_fits, answer_fits}
 use Rattle.machine.specs.Calls.{reply_of, qos_asked, unless_spared}

@@ -10,7 +10,6 @@ use lib.Dec.{T, ltb, eqb, eqb→eq, ltb→lt}
 use borrow.Author.Tests.{eq-eqb}
 use Rattle.editions.specs.Editions.{secures, spares, user_reasons}
 use Rattle.editions.specs.declared.Edition.{Edition}
-use Rattle.editions.specs.declared.Edition.TheVariants.{Plain, Protected}
 use Rattle.machine.specs.Codes.{accepted, no_security, no_version, transient, ds_provider, user, provider, results, start_results, originators, provider_reasons, security_values, protocol_error, communication_service_error, communication_service_failure}
 use Rattle.control.specs.Control.{started, ended}
 use Rattle.control.proofs.Moves.{after_awaits}

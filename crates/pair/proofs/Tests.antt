@@ -3,7 +3,7 @@
 use mathlib.Core.Path.{◌≡◌, refl, sym, subst}
 use mathlib.Core.Bool.{Bool, true, false, not, ◌&&◌, ◌||◌}
 use lib.Dec.{T}
-use Rattle.pair.specs.Names.{Side, Air, StartReq, StartInd, Control, Primitive, DTurnedAway, Call, same, is, is_idle, closed, other, takes, goes, sends, expects, after, is_data, hands}
+use Rattle.pair.specs.Names.{Side, Air, StartReq, StartInd, Control, Primitive, DTurnedAway, Call, same, is, is_idle, other, takes, goes, sends, expects, after, is_data, hands}
 use Rattle.pair.specs.Carrier.{Sort, begins, breaks, plain}
 use Rattle.pair.proofs.ControlMachine.{sort_of}
 use Rattle.control.proofs.Finite.{imp, all_bool, at_bool, all_side, at_side, all_state, all_answer, all_control, at_control, all_primitive, at_primitive, all_call, at_call, all_response}

@@ -12,7 +12,7 @@ use lib.Dec.{T, eqb, ltb}
 use Rattle.pair.specs.Names.{Ground, is_idle, waits, awaits_response}
 use Rattle.pair.specs.Carrier.{Body, Sent, nothing, puts, message, Outcome, refused, acts, Sort, begins, breaks, plain, begins?, Step, user_call, hand_over, timer_expires_of, error_reported, turn_away, fail, is_start, starts, discards}
 use Rattle.pair.specs.Numbered.{NMachine, NSys, n_swap, n_fresh, trim, n_put, n_sent, n_left, n_did, n_ready, n_called, n_off, n_handed_over, start_of, n_has_start, n_without_start, n_recalled, on_line, n_emptied, n_told_lost}
-use Rattle.pair.specs.Centres.{CentreTurn, may_recall, recall, both_fail, centre_stepped, centre_turned, centre_run, forward_pair}
+use Rattle.pair.specs.Centres.{CentreTurn, may_recall, recall, both_fail, centre_turned, centre_run, forward_pair}
 
 -- ---- what is asked of a machine
 

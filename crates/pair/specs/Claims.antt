@@ -1,5 +1,5 @@
 -- What the claims of demand 3 speak of: matching pairs, the beginning of a list, numbers that rise.
-use Rattle.std.specs.Prelude.{ℕ, ◌≡◌, Bool, true, false, ◌&&◌, ◌||◌, List, [], ◌∷◌, ◌++◌, ltb}
+use Rattle.std.specs.Prelude.{ℕ, ◌≡◌, Bool, true, ◌&&◌, ◌||◌, List, [], ◌∷◌, ◌++◌, ltb}
 use Rattle.pair.specs.Names.{StartReq, StartInd, Dialogue, End, Control, same, is, is_idle}
 use Rattle.pair.specs.Carrier.{Body}
 

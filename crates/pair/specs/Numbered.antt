@@ -1,6 +1,6 @@
 -- Two ends joined by two lines, one each way, first in first out: document 01, "The carrier in the pair statement", as document 02, E9,
 -- words it. The records hold a dialogue number and the entries carry one; an entry of an old dialogue may be handed over after a new start.
-use Rattle.std.specs.Prelude.{ℕ, zero, suc, ◌≤◌, ◌≡◌, Bool, true, false, not, cond, ◌&&◌, ◌||◌, List, [], ◌∷◌, ◌++◌, T, eqb, ltb}
+use Rattle.std.specs.Prelude.{ℕ, zero, suc, ◌≤◌, ◌≡◌, Bool, true, false, not, cond, ◌&&◌, ◌||◌, List, [], ◌∷◌, ◌++◌, T, eqb}
 use Rattle.pair.specs.Names.{Side, Air, Ground, StartReq, is, other}
 use Rattle.pair.specs.Carrier.{Body, Sent, nothing, puts, message, Outcome, refused, acts, Sort, begins, breaks, plain, Machine, Step, user_call, hand_over, timer_expires_of, error_reported, turn_away, fail, Turn, idle, is_start, starts, discards}
 use Rattle.pair.specs.Claims.{matching, Prefix, rising}

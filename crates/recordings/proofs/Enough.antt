@@ -1,7 +1,7 @@
 -- Lists that are long enough whatever the recordings say: an envelope has three bytes with a job of one group, and four or more with any other.
 -- Assumes nothing.
 use mathlib.Core.Path.{◌≡◌, refl, ap, sym, ◌∙◌, subst}
-use mathlib.Core.Bool.{Bool, true, false, cond, ◌&&◌, ◌||◌}
+use mathlib.Core.Bool.{Bool, true, false, cond, ◌||◌}
 use mathlib.Core.List.{List, [], ◌∷◌, map}
 use Prim.Native.Nat.{ℕ, zero, suc, ◌+◌, ◌-◌, ◌*◌, ◌/◌, ◌%◌, ◌≤◌, ◌<◌}
 use native.Mathlib.Omega.{arith}
@@ -20,7 +20,7 @@ use Rattle.envelope.proofs.Puts.{groups_pos}
 use Rattle.envelope.proofs.RoundTrip.{read_written, length_header, length_whole}
 use Rattle.envelope.proofs.Strings.{walk_none, walk_end, walk_on, Onward, goes_on}
 use Rattle.recordings.specs.Jobs.{times, rising, keep, only, repeats, only_first, only_second, repeated}
-use Rattle.recordings.specs.Blocks.{Above, none, more, Rising, empty, next, enough}
+use Rattle.recordings.specs.Blocks.{Above, more, Rising, next, enough}
 use Rattle.recordings.specs.Recordings.{jobs}
 use Rattle.recordings.specs.Showing.{counts, lacks}
 use Rattle.recordings.specs.declared.Counts.{Counts}

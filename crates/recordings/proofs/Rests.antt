@@ -3,7 +3,7 @@
 use mathlib.Core.Path.{◌≡◌, refl}
 use mathlib.Core.Bool.{Bool, true, false, cond}
 use mathlib.Core.List.{List, []}
-use Prim.Native.Nat.{ℕ, ◌≤◌}
+use Prim.Native.Nat.{ℕ}
 use native.Mathlib.Omega.{arith}
 use lib.Dec.{ltb, eqb}
 use lib.ListN.{length, drop, drop_of_length-le}
@@ -13,7 +13,7 @@ use Rattle.envelope.specs.declared.EnvelopeRefusal.{EnvelopeRefusal}
 use Rattle.envelope.specs.declared.EnvelopeRefusal.TheVariants.{Cut, Groups, Kind, Size}
 use Rattle.recordings.specs.Jobs.{only_first, only_second, repeated}
 use Rattle.recordings.specs.Recordings.{most_bytes, jobs, chosen, searched, difference, rest_by, rest_in, rest_of, handed_back}
-use Rattle.recordings.specs.Showing.{Shown, shown, refused_with, longer, rest_at, reported, counts, lacks, listed, showing, searched_by, compared}
+use Rattle.recordings.specs.Showing.{shown, refused_with, longer, rest_at, reported, lacks, showing, searched_by, compared}
 use Rattle.recordings.specs.declared.Searched.{Searched}
 use Rattle.recordings.specs.declared.Searched.TheVariants.{Whole, Stopped}
 use Rattle.recordings.specs.declared.Difference.{Difference}

@@ -3,10 +3,10 @@
 use mathlib.Core.Path.{◌≡◌, refl, ap, sym, ◌∙◌}
 use mathlib.Core.Bool.{Bool, true, false, cond}
 use mathlib.Core.List.{List, [], ◌∷◌, ◌++◌, map}
-use Prim.Native.Nat.{ℕ, zero, suc, ◌+◌, ◌-◌, ◌≤◌, ◌<◌, min}
+use Prim.Native.Nat.{ℕ, ◌+◌, ◌-◌, ◌≤◌, ◌<◌, min}
 use native.Mathlib.Omega.{arith}
-use lib.Dec.{leb, ltb, eqb}
-use lib.ListN.{length, get_or, take, drop, set}
+use lib.Dec.{ltb, eqb}
+use lib.ListN.{length, get_or, take, set}
 use lib.Seq.{get_or-take, length-take-le, set-get_or}
 use borrow.Author.Tests.{eq-eqb, ne_eqb, lt-ltb, le-ltb, ltb-true, ltb-false}
 use Rattle.envelope.specs.Envelopes.{envelope_at}
@@ -17,7 +17,7 @@ use Rattle.envelope.specs.declared.EnvelopeRead.{EnvelopeRead}
 use Rattle.envelope.specs.declared.EnvelopeRead.TheVariants.{Is, Refused}
 use Rattle.envelope.proofs.Numbers.{AllBytes}
 use Rattle.recordings.specs.Jobs.{times}
-use Rattle.recordings.specs.Blocks.{Above, none, more, Rising, empty, next, Block, below, bump, tallied, tallied_all}
+use Rattle.recordings.specs.Blocks.{Above, more, Rising, next, Block, below, bump, tallied, tallied_all}
 use Rattle.recordings.specs.Recordings.{jobs}
 use Rattle.recordings.proofs.Walks.{from_end, from_read, from_refused}
 use Rattle.recordings.proofs.Rising.{Order, less, same, above, order, below_none, below_more, above_lower}

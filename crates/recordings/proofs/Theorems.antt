@@ -3,23 +3,22 @@
 use mathlib.Core.Path.{◌≡◌, refl, ap, sym, ◌∙◌}
 use mathlib.Core.Bool.{Bool, true, false, cond, ◌&&◌}
 use mathlib.Core.List.{List, [], ◌∷◌, ◌++◌, append_assoc, append-nil}
-use Prim.Native.Nat.{ℕ, zero, suc, ◌+◌, ◌-◌, ◌^◌, ◌≤◌, ◌<◌}
+use Prim.Native.Nat.{ℕ, zero, suc, ◌+◌, ◌-◌}
 use native.Mathlib.Omega.{arith}
 use lib.Dec.{ltb, eqb}
 use lib.ListN.{length, drop, length-append, length-drop}
 use lib.Seq.{drop-length}
 use borrow.Author.Tests.{lt-ltb, le-ltb, ne_eqb, ltb-true, ltb-false}
 use Rattle.envelope.specs.Envelopes.{Content, bytes_of}
-use Rattle.envelope.specs.Strings.{string_of, AllFit, Ending, ended, stopped, Walk, walk, Told, whole, broken, contents_of}
+use Rattle.envelope.specs.Strings.{string_of, Ending, ended, stopped, Walk, walk, Told, whole, broken, contents_of}
 use Rattle.envelope.specs.declared.EnvelopeRefusal.{EnvelopeRefusal}
 use Rattle.envelope.proofs.Numbers.{AllBytes}
 use Rattle.envelope.proofs.Both.{contents_back}
 use Rattle.envelope.proofs.Strings.{every_string}
 use Rattle.recordings.specs.Jobs.{times, only, only_first, only_second, rising}
-use Rattle.recordings.specs.Recordings.{contents, jobs, stop_in, searched, field_of, differ, difference, rest_by, rest_in, rest_of}
+use Rattle.recordings.specs.Recordings.{contents, stop_in, searched, field_of, differ, difference, rest_by, rest_in, rest_of}
 use Rattle.recordings.specs.declared.Searched.{Searched}
 use Rattle.recordings.specs.declared.Searched.TheVariants.{Whole, Stopped}
-use Rattle.recordings.specs.declared.Difference.{Difference}
 use Rattle.recordings.specs.declared.Difference.TheVariants.{Nowhere, At}
 use Rattle.recordings.proofs.Differences.{never, field_none, field_refl, differ_none, differ_on, differ_here}
 use Rattle.recordings.proofs.Members.{Alike, alike, apart, alike?, keep_none}

@@ -1,4 +1,4 @@
-use borrow.Author.Tests.{le-leb, lt-leb, eq-eqb, ne_eqb, not-true, not-false}
+use borrow.Author.Tests.{le-leb, lt-leb, eq-eqb, ne_eqb}
 use Rattle.envelope.specs.Envelopes.{fits}
 use Rattle.envelope.proofs.writing.may_write.Goals as goal
 

@@ -1,5 +1,4 @@
 use native.Mathlib.Omega.{arith}
-use Prim.Native.Nat.{◌-◌}
 use Rattle.envelope.proofs.Puts.{copying_all, copying_more}
 use Rattle.fragments.proofs.Ranges.{put_done}
 use Rattle.fragments.proofs.putting.put_bytes.Goals as goal

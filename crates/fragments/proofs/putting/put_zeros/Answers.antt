@@ -1,5 +1,4 @@
 use native.Mathlib.Omega.{arith}
-use Prim.Native.Nat.{◌-◌}
 use Rattle.envelope.proofs.Puts.{copying_all}
 use Rattle.fragments.proofs.Ranges.{zero_more, zero_done}
 use Rattle.fragments.proofs.putting.put_zeros.Goals as goal

@@ -9,10 +9,10 @@ returns-then-message-ne-BYTES c = read_size _ _ _ _ _ c.if-text-lt-ROOM.false c.
 
 pub returns-in_default : goal.returns-in_default
 returns-in_default c =
-    read_no_way _ _ _ _ _ c.if-text-lt-ROOM.false c.if-message-ne-BYTES.false _ c.Way-of.ensures
+    read_no_way _ _ _ _ _ c.if-text-lt-ROOM.false c.if-message-ne-BYTES.false _ c.way_of-way.ensures
     c.in_default.is
 
 pub returns : goal.returns
 returns c =
-    read_way _ _ _ _ _ c.if-text-lt-ROOM.false c.if-message-ne-BYTES.false _ c.Way-of.ensures _
+    read_way _ _ _ _ _ c.if-text-lt-ROOM.false c.if-message-ne-BYTES.false _ c.way_of-way.ensures _
     c.in-Is.is _ _ _ c.read_laid.ensures

@@ -5,5 +5,5 @@ use Rattle.layout.proofs.characters.copy_few.Goals as goal
 
 pub returns : goal.returns
 returns c =
-    few_are _ _ _ _ _ _ _ _ (bits_to_is _ _) refl c.requires.0 c.number_of_lem.ensures
+    few_are _ _ _ _ _ _ _ _ (bits_to_is _ _) refl c.requires.0 c.number_of-v.ensures
     c.spread.ensures

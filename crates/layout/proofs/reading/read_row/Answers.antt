@@ -56,7 +56,7 @@ pub front_bytes-front-requires : goal.front_bytes-front-requires
 front_bytes-front-requires c = omega (arith, c.loop-i.invariant.1)
 
 pub put_bytes-requires : goal.put_bytes-requires
-put_bytes-requires c = omega (arith, c.requires.1, ap length c.front_Bytes.ensures ∙ length_front _ _)
+put_bytes-requires c = omega (arith, c.requires.1, ap length c.front_bytes-front.ensures ∙ length_front _ _)
 
 pub loop-k-init : goal.loop-k-init
 loop-k-init c = putting_start _ _
@@ -69,7 +69,7 @@ put_bytes-requires-in-loop-k c =
     omega (
       arith,
       c.requires.1,
-      c.put_bytes.auto.0,
+      c.put_bytes.auto.out,
       c.loop-k.invariant.same,
       ap length
           c.place_bytes-b.ensures ∙ length_place _,
@@ -78,7 +78,7 @@ put_bytes-requires-in-loop-k c =
 pub loop-k-preserved : goal.loop-k-preserved
 loop-k-preserved c =
     putting_more _ _ _ _ _ _ _ c.loop-i.invariant.2.five c.loop-k-test.true
-    c.place_bytes-b.ensures c.put_bytes-in-loop-k.ensures c.put_bytes-in-loop-k.auto.0
+    c.place_bytes-b.ensures c.put_bytes-in-loop-k.ensures c.put_bytes-in-loop-k.auto.out
     c.loop-k.invariant
 
 pub copy_texts-characters-requires : goal.copy_texts-characters-requires
@@ -104,13 +104,13 @@ overflow_mul-result c =
     )
 
 pub shape_of-message : goal.shape_of-message
-shape_of-message c = c.loop-k.invariant.same ∙ c.put_bytes.auto.0
+shape_of-message c = c.loop-k.invariant.same ∙ c.put_bytes.auto.out
 
 pub returns : goal.returns
 returns c =
     row_taken _ _ _ _ _ _ _ _ _ c.loop-i.invariant.2 _ _ _ c.loop-i-test.false c.loop-i.invariant.0
     c.loop-i.invariant.1 (bits_to_is _ _)
     (not_within _ _ _ _ _ c.within.ensures c.if-within.false) c.requires.1
-    c.requires.2 _ _ _ c.front_Bytes.ensures c.put_bytes.ensures
+    c.requires.2 _ _ _ c.front_bytes-front.ensures c.put_bytes.ensures
     (putting_done _ _ _ _ c.loop-i.invariant.2.five c.loop-k-test.false c.loop-k.invariant) _ _
     c.copy_texts-characters.ensures

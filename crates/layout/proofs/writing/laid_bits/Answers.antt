@@ -1,3 +1,4 @@
+use Rattle.std.proofs.lemmas.Bool.{not_from_false, not_from_true}
 use mathlib.Core.Path.{refl}
 use native.Mathlib.Omega.{arith}
 use lib.ListN.{drop}
@@ -12,13 +13,13 @@ overflow_cast-n c = omega (arith, c.shared_slice_known-1.given 11)
 pub returns-then-not-is_count : goal.returns-then-not-is_count
 unfolding message_of
 returns-then-not-is_count c =
-    no_count _ (message_of c.args.b.now) _ _ c.requires.3 _ refl _ c.is_count.ensures c.if-not-is_count.true
+    no_count _ (message_of c.args.b.now) _ _ c.requires.3 _ refl _ c.is_count.ensures (not_from_false _ c.if-not-is_count.true)
 
 pub row_bits-rest-requires : goal.row_bits-rest-requires
 unfolding message_of
 row_bits-rest-requires c = (
   count_few c.args.direction (message_of c.args.b.now) c.args.text.now _ c.requires.3 _ refl _
-      c.is_count.ensures c.if-not-is_count.false,
+      c.is_count.ensures (not_from_true _ c.if-not-is_count.false),
   omega arith,
   c.requires.2,
 )
@@ -26,7 +27,7 @@ row_bits-rest-requires c = (
 pub returns-in_default : goal.returns-in_default
 unfolding message_of
 returns-in_default c =
-    no_row _ (message_of c.args.b.now) _ _ c.requires.3 _ refl _ c.is_count.ensures c.if-not-is_count.false
+    no_row _ (message_of c.args.b.now) _ _ c.requires.3 _ refl _ c.is_count.ensures (not_from_true _ c.if-not-is_count.false)
     (length_elements 5 (drop 12 c.args.b.now)) _ c.row_bits-rest.ensures
     c.in_default.is
 
@@ -34,7 +35,7 @@ pub rest_empty-requires : goal.rest_empty-requires
 unfolding message_of
 rest_empty-requires c = (
   count_few c.args.direction (message_of c.args.b.now) c.args.text.now _ c.requires.3 _ refl _
-      c.is_count.ensures c.if-not-is_count.false,
+      c.is_count.ensures (not_from_true _ c.if-not-is_count.false),
   c.requires.0,
   c.requires.1,
 )
@@ -42,9 +43,9 @@ rest_empty-requires c = (
 pub returns-then-not-rest_empty : goal.returns-then-not-rest_empty
 unfolding message_of
 returns-then-not-rest_empty c =
-    no_rest _ (message_of c.args.b.now) _ _ c.requires.3 _ refl _ c.is_count.ensures c.if-not-is_count.false
+    no_rest _ (message_of c.args.b.now) _ _ c.requires.3 _ refl _ c.is_count.ensures (not_from_true _ c.if-not-is_count.false)
     (length_elements 5 (drop 12 c.args.b.now)) _ c.row_bits-rest.ensures _
-    c.in-Bits.is _ c.rest_empty.ensures c.if-not-rest_empty.true
+    c.in-Bits.is _ c.rest_empty.ensures (not_from_false _ c.if-not-rest_empty.true)
 
 pub overflow_add-all : goal.overflow_add-all
 unfolding message_of
@@ -52,7 +53,7 @@ overflow_add-all c =
     omega (
       arith,
       (sum_small c.args.direction (message_of c.args.b.now) c.args.text.now _
-          c.requires.3 _ refl _ c.is_count.ensures c.if-not-is_count.false
+          c.requires.3 _ refl _ c.is_count.ensures (not_from_true _ c.if-not-is_count.false)
           (length_elements 5 (drop 12 c.args.b.now)) _ c.row_bits-rest.ensures _
           c.in-Bits.is).0,
     )
@@ -63,11 +64,11 @@ overflow_add-all-2 c =
     omega (
       arith,
       (sum_small c.args.direction (message_of c.args.b.now) c.args.text.now _
-          c.requires.3 _ refl _ c.is_count.ensures c.if-not-is_count.false
+          c.requires.3 _ refl _ c.is_count.ensures (not_from_true _ c.if-not-is_count.false)
           (length_elements 5 (drop 12 c.args.b.now)) _ c.row_bits-rest.ensures _
           c.in-Bits.is).0,
       (sum_small c.args.direction (message_of c.args.b.now)
-          c.args.text.now _ c.requires.3 _ refl _ c.is_count.ensures c.if-not-is_count.false
+          c.args.text.now _ c.requires.3 _ refl _ c.is_count.ensures (not_from_true _ c.if-not-is_count.false)
           (length_elements 5 (drop 12 c.args.b.now)) _ c.row_bits-rest.ensures _
           c.in-Bits.is).1,
     )
@@ -76,12 +77,12 @@ pub returns-then-all-gt-BITS : goal.returns-then-all-gt-BITS
 unfolding message_of
 returns-then-all-gt-BITS c =
     too_long _ (message_of c.args.b.now) _ _ c.requires.3 _ refl _ c.is_count.ensures
-    c.if-not-is_count.false (length_elements 5 (drop 12 c.args.b.now)) _ c.row_bits-rest.ensures _
-    c.in-Bits.is _ c.rest_empty.ensures c.if-not-rest_empty.false c.if-all-gt-BITS.true
+    (not_from_true _ c.if-not-is_count.false) (length_elements 5 (drop 12 c.args.b.now)) _ c.row_bits-rest.ensures _
+    c.in-Bits.is _ c.rest_empty.ensures (not_from_true _ c.if-not-rest_empty.false) c.if-all-gt-BITS.true
 
 pub returns : goal.returns
 unfolding message_of
 returns c =
     measured_message _ (message_of c.args.b.now) _ _ c.requires.3 _ refl _ c.is_count.ensures
-    c.if-not-is_count.false (length_elements 5 (drop 12 c.args.b.now)) _ c.row_bits-rest.ensures _
-    c.in-Bits.is _ c.rest_empty.ensures c.if-not-rest_empty.false c.if-all-gt-BITS.false
+    (not_from_true _ c.if-not-is_count.false) (length_elements 5 (drop 12 c.args.b.now)) _ c.row_bits-rest.ensures _
+    c.in-Bits.is _ c.rest_empty.ensures (not_from_true _ c.if-not-rest_empty.false) c.if-all-gt-BITS.false

@@ -20,7 +20,7 @@ pub slice_bounds-put_element-count : goal.slice_bounds-put_element-count
 slice_bounds-put_element-count c = omega (arith, c.part_end-to.ensures)
 
 pub shape_of-buf-in_default : goal.shape_of-buf-in_default
-shape_of-buf-in_default c = c.put_element-one.auto.0 ∙ c.loop-i.invariant.3
+shape_of-buf-in_default c = c.put_element-one.auto.buf ∙ c.loop-i.invariant.3
 
 pub returns-in_default : goal.returns-in_default
 returns-in_default c =
@@ -36,7 +36,7 @@ loop-i-preserved c = (
   search rules,
   search rules,
   omega (arith, c.part_end-to.ensures),
-  c.put_element-one.auto.0 ∙
+  c.put_element-one.auto.buf ∙
       c.loop-i.invariant.3,
   row_turn _ (elements_of 5 (drop 12 c.args.b.now)) c.args.n _ _ _
       c.loop-i.i _ _ _ c.loop-i.invariant.4 _ (row_next _ _ (omega arith) _

@@ -1,5 +1,4 @@
 use borrow.Author.Rules.{rules}
-use Prim.Native.Nat.{◌-◌}
 use Rattle.recordings.proofs.Sames.{sames_all, sames_more, sames_not, sames_out}
 use Rattle.recordings.proofs.differing.same_bytes.Goals as goal
 

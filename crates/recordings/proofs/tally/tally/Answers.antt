@@ -1,5 +1,4 @@
 use mathlib.Core.Path.{refl, ◌∙◌}
-use Prim.Native.Nat.{◌-◌}
 use native.Mathlib.Omega.{arith}
 use Rattle.envelope.specs.Envelopes.{most_bits}
 use Rattle.envelope.proofs.Numbers.{AllBytes}

@@ -20,23 +20,20 @@ returns-in_default c =
 
 pub put_reply-sent-requires : goal.put_reply-sent-requires
 put_reply-sent-requires c =
-    let c14 = c3.before.before.before.before.before.before.before.before.before.before.before in
-    host_answers _ _ c14.args.expiry _ c.host_step-o.ensures
+    host_answers _ _ c.args.expiry _ c.host_step-o.ensures
 
 pub returns-then-is_none : goal.returns-then-is_none
 unfolding user_by
 returns-then-is_none c =
-    let c21 = c16.before.before.before.before.before in
     with_record_is _ _ _ _ c.if-first-lt-BUFFER.false c.if-second-lt-BUFFER.false _ c.load.ensures _ _ _ _
-    c.in-Is.is (host_taken _ _ _ c21.args.expiry (lent []) (lent []) (lent []) _ _ _ _
+    c.in-Is.is (host_taken _ _ _ c.args.expiry (lent []) (lent []) (lent []) _ _ _ _
     c.host_step-o.ensures _ c.is_none.ensures c.if-is_none.true _ _
     c.put_reply-sent.ensures _ _ c.settle.ensures)
 
 pub returns : goal.returns
 unfolding user_by
 returns c =
-    let c14 = c10.before.before.before.before in
     with_record_is _ _ _ _ c.if-first-lt-BUFFER.false c.if-second-lt-BUFFER.false _ c.load.ensures _ _ _ _
-    c.in-Is.is (host_refused _ _ _ c14.args.expiry (lent []) (lent []) (lent []) _ _ _
+    c.in-Is.is (host_refused _ _ _ c.args.expiry (lent []) (lent []) (lent []) _ _ _
     _ c.host_step-o.ensures _ c.is_none.ensures _ c.if-is_none.false
     c.number.ensures)

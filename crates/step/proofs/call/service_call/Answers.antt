@@ -1,4 +1,3 @@
-use borrow.Author.Tests.{not-false, not-true}
 use Rattle.step.specs.Call.{service_by}
 use Rattle.step.proofs.Fitting.{read_fits}
 use Rattle.step.proofs.Runs.{stands_there}
@@ -30,14 +29,14 @@ unfolding service_by
 returns-then-not-fits c =
     with_record_is _ _ _ _ c.if-first-lt-BUFFER.false c.if-second-lt-BUFFER.false _ c.load.ensures _ _ _ _
     c.in-Is.is (codes_odd _ _ _ _ _ _ _ _ _ (read_fits _ _ _ _ _) _ c.if-given-gt1.false _
-    c.fits2.ensures (not-true _ c.if-not-fits.true))
+    c.fits.ensures c.if-not-fits.true)
 
 pub returns-then-is_stale : goal.returns-then-is_stale
 unfolding service_by
 returns-then-is_stale c =
     with_record_is _ _ _ _ c.if-first-lt-BUFFER.false c.if-second-lt-BUFFER.false _ c.load.ensures _ _ _ _
     c.in-Is.is (number_odd _ _ _ _ _ _ _ _ _ (read_fits _ _ _ _ _) _ c.if-given-gt1.false _
-    c.fits2.ensures (not-false _ c.if-not-fits.false) _ c.is_stale.ensures
+    c.fits.ensures c.if-not-fits.false _ c.is_stale.ensures
     c.if-is_stale.true)
 
 pub conclude-requires : goal.conclude-requires
@@ -53,6 +52,6 @@ pub returns : goal.returns
 unfolding service_by
 returns c =
     with_record_is _ _ _ _ c.if-first-lt-BUFFER.false c.if-second-lt-BUFFER.false _ c.load.ensures _ _ _ _
-    c.in-Is.is (served _ _ _ _ _ _ _ _ _ _ c.if-given-gt1.false _ c.fits2.ensures
-    (not-false _ c.if-not-fits.false) _ c.is_stale.ensures c.if-is_stale.false _
+    c.in-Is.is (served _ _ _ _ _ _ _ _ _ _ c.if-given-gt1.false _ c.fits.ensures
+    c.if-not-fits.false _ c.is_stale.ensures c.if-is_stale.false _
     c.arrived-x.ensures _ c.service_fitting-o.ensures _ c.conclude.ensures)

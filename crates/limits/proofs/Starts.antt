@@ -132,20 +132,20 @@ module _ (r a b : List ℕ) (sd : Side) (x : Record) (n v : ℕ) (load : load_at
   unfolding store_at
   stored_holds z k = record { rec = z; load = rw (eq-eqb (length r) record_bytes size, lt-ltb z.request security_values k.request, lt-ltb z.policy security_values k.policy, le-leb 1 z.version k.least, lt-ltb z.version versions k.most) (loaded_stored sd z v k top) }
 
-  taken : (u : UserData) → user_data_fits x.edition u ≡ true
+  taken : n < v → (u : UserData) → user_data_fits x.edition u ≡ true
       → (numbered_step sd x n (Service p u) v ≡ reached sd x p u) × (held_after n (Service p u) v ≡ v)
   unfolding event_fits service_starts
-  taken u g = higher_start sd x n p u v (rw (fits, g)) refl above
+  taken higher u g = higher_start sd x n p u v (rw (fits, g)) refl higher
 
   concluded_holds : (o : Outcome) → Fine o → (li lm lc : List ℕ) (d : Carried)
       → Holds sd (concluded r a b x.edition sd v o li lm lc d).kept v
   unfolding concluded finished
   concluded_holds o f li lm lc d = rw f.0 (stored_holds o.next f.1)
 
-  event_holds : (u : UserData) → user_data_fits x.edition u ≡ true → (li lm lc : List ℕ) (d : Carried)
+  event_holds : n < v → (u : UserData) → user_data_fits x.edition u ≡ true → (li lm lc : List ℕ) (d : Carried)
       → Holds sd (event_step numbered_step r a b (Service p u) v li lm lc d sd x n).kept v
-  event_holds u g li lm lc d =
-      let t = taken u g in
+  event_holds higher u g li lm lc d =
+      let t = taken higher u g in
       rw (t.0, t.1) (concluded_holds (reached sd x p u) (reached_fine sd x coded y s q w u) li lm lc d)
 
   -- WHATEVER IS DONE ABOUT IT, THE RECORD THEN HOLDS THE NUMBER
@@ -156,6 +156,6 @@ module _ (r a b : List ℕ) (sd : Side) (x : Record) (n v : ℕ) (load : load_at
     where
       go : (t : Bool)
           → Holds sd (cond t (data_step numbered_step r a b p v (lent bytes) sd x n) (bare_step numbered_step r a b p v (lent bytes) sd x n)).kept v
-      go true = event_holds (meaning (read_pdu x.edition sd x.control p (lent bytes)))
+      go true = event_holds above (meaning (read_pdu x.edition sd x.control p (lent bytes)))
           (read_fits x.edition sd x.control p bytes) (lent bytes) (lent bytes) (lent bytes) _
-      go false = event_holds Absent refl (lent bytes) (lent bytes) (lent bytes) _
+      go false = event_holds above Absent refl (lent bytes) (lent bytes) (lent bytes) _

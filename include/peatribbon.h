@@ -87,7 +87,7 @@
  *   - data, from its first byte on, peat_data_bytes(answer) bytes; likewise.
  * Every other byte stays. A buffer with nothing to take stays whole.
  *
- * The archive is for x86-64 Linux, needs no library, and takes less than 4 KiB of stack in a call.
+ * The archive is for x86-64 Linux, needs nothing but C's memset, and takes less than 4 KiB of stack in a call.
  *
  * The host keeps the clock: it starts t-start when a record's timer (peat_record_timer) begins to run, stops it when it no
  * longer runs, and reports the expiry. The host also keeps the names of the peers.
